@@ -1,0 +1,5 @@
+pub mod Bag
+pub mod Instant
+pub mod Event
+pub mod Rows
+pub mod RowOrder

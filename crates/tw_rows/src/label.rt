@@ -1,0 +1,37 @@
+// Texts of rows, names and queries.
+ghost use Rattle.std.specs.Prelude.{◌≡◌, IfOk};
+
+use crate::memory::Memory;
+use std::alloc::Global;
+use std::marker::Model;
+
+/// A text that is owned: a name, or a text value of a row.
+#[derive(Drop)]
+pub struct Label {
+    text: String,
+}
+
+impl Model for Label {
+    ghost use Rattle.std.specs.Prelude.{List, ℕ, string_bytes};
+
+    ghost Value = { List ℕ };
+
+    ghost view = { λ l. string_bytes l.text };
+}
+
+impl Label {
+    /// A copy of the text.
+    pub fn new(alloc: Global, text: &str) -> Result<Label, Memory>
+        ensures { IfOk result (λ label. label ≡ text.now) }
+    {
+        Ok(Label {
+            text: text.to_string(alloc)?,
+        })
+    }
+
+    pub fn as_str(&self) -> &str
+        ensures { result.now ≡ self.now }
+    {
+        self.text.as_str()
+    }
+}
