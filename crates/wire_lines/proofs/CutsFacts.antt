@@ -72,6 +72,7 @@ Cuts-line bytes s given c within room = record {
 gives_line : (bytes : List ℕ) (s : CutterState) (given : List (List ℕ)) (number : ℕ) (line : List ℕ) → Cuts bytes s given → IsGiven s number line → GivesLine bytes s given number line
 gives_line bytes s given number line c g = record {
   number_is = omega (arith, g.number_is, c.number_is);
+  one_line = rw g.bytes_is (free_take s.rest);
   short = omega (arith, ap length g.bytes_is, length-take (line_len s.rest) s.rest, g.not_long, g.room, g.within);
   among_whole = (
     whole (drop (suc (line_len s.rest)) s.rest),
@@ -135,7 +136,7 @@ has_given_all : (bytes : List ℕ) (s : CutterState) (given : List (List ℕ)) �
 has_given_all bytes s given c w =
     let settled = settles bytes s given c w in
     let all = whole_are_given bytes s given c settled.one_line in
-    record { whole_are = all.0; rest_is = all.1; after = rw w.after (Cuts-settled bytes s given c settled) }
+    record { whole_are = all.0; rest_is = all.1; settled = settled; asks = ap (λ (x : CutterState). x.hungry) w.after; after = rw w.after (Cuts-settled bytes s given c settled) }
 
 -- what each answer says
 pub tells_line : (bytes : List ℕ) (s : CutterState) (lines : List (List ℕ)) (number : ℕ) (line : List ℕ) → Given number line ≡ next s → Cuts bytes s lines → GivesLine bytes s lines number line

@@ -1,12 +1,14 @@
 -- Bytes cut into lines.
-use Rattle.std.proofs.Common.{◌⊎◌, inl, inr, ◌≡◌, ◌≤◌, ◌<◌, ℕ, zero, suc, List, [], ◌∷◌, ◌++◌, length, take, drop, Bool, true, false, cond, refl, sym, ◌∙◌, ap, arith, append_assoc}
+use Rattle.std.proofs.Common.{◌⊎◌, inl, inr, ◌≡◌, ◌≤◌, ◌<◌, ℕ, zero, suc, List, [], ◌∷◌, ◌++◌, length, take, drop, Bool, true, false, cond, refl, sym, ◌∙◌, ap, subst, arith, append_assoc}
 use Rattle.std.proofs.lemmas.Bool.Decides.{nat_tests, Decides-ltb, eqb_tells, leb_tells}
+use Rattle.std.proofs.lemmas.Bool.{eqb-false}
+use Rattle.std.proofs.lemmas.List.Elements.{All-nil, All-cons}
 use Rattle.std.specs.List.{All}
 use Rattle.std.specs.Prelude.{◌==◌}
 use Rattle.std.proofs.lemmas.Grind.{flat_map-append}
 use Rattle.std.proofs.lemmas.List.{append-nil, take_all}
-use Rattle.std.specs.Prelude.{nat_lt, ◌||◌}
-use Rattle.wire_lines.specs.Lines.{line_len, IsOneLine, cut, whole, rest, last_of, with_last, lines, joined}
+use Rattle.std.specs.Prelude.{nat_lt, ◌||◌, ◌≢◌}
+use Rattle.wire_lines.specs.Lines.{line_len, IsOneLine, HasNoLf, onto_first, cut, whole, rest, last_of, with_last, lines, joined}
 use Rattle.wire_lines.proofs.LineLength.{line_len-le}
 
 free_by : (t : Bool) (n m : ℕ) → cond t 0 (suc n) ≡ suc m → (t ≡ false) × (n ≡ m)
@@ -113,3 +115,62 @@ lines_long xs at_end long = elim (le_or_lt (length xs) (line_len xs)) [
 
 pub joined-push : (given : List (List ℕ)) (line : List ℕ) → joined (given ++ line ∷ []) ≡ joined given ++ (line ++ 10 ∷ [])
 joined-push given line = flat_map-append (λ line. line ++ 10 ∷ []) given (line ∷ []) ∙ ap (λ x. joined given ++ x) (append-nil (line ++ 10 ∷ []))
+
+-- the two ways to say that no LF is among the bytes
+pub IsOneLine-free : (xs : List ℕ) → HasNoLf xs → IsOneLine xs
+IsOneLine-free [] free = refl
+IsOneLine-free (b ∷ bs) free = elim (eqb_tells b 10) [
+  | inl t ↦ absurd (free 0 b (omega arith) t.1)
+  | inr t ↦ rw t.0 (ap suc (IsOneLine-free bs (λ k d h. free (suc k) d (omega arith))))
+]
+
+pub HasNoLf-one_line : (xs : List ℕ) → IsOneLine xs → HasNoLf xs
+HasNoLf-one_line [] one = All-nil (λ b. b ≢ 10)
+HasNoLf-one_line (b ∷ bs) one =
+    let f = free_cons b bs one in
+    All-cons (λ b. b ≢ 10) b bs (eqb-false b 10 f.0) (HasNoLf-one_line bs f.1)
+
+onto_joined : (b : ℕ) (parts : List (List ℕ) × List ℕ) → joined (onto_first b parts).0 ++ (onto_first b parts).1 ≡ b ∷ (joined parts.0 ++ parts.1)
+onto_joined b ([], rest) = refl
+onto_joined b (line ∷ lines, rest) = refl
+
+cut_lf : (b : ℕ) (bs : List ℕ) → (b == 10) ≡ true → cut (b ∷ bs) ≡ ([] ∷ whole bs, rest bs)
+cut_lf b bs t = rw t refl
+
+cut_other : (b : ℕ) (bs : List ℕ) → (b == 10) ≡ false → cut (b ∷ bs) ≡ onto_first b (cut bs)
+cut_other b bs t = rw t refl
+
+abbrev put_together : List (List ℕ) × List ℕ → List ℕ
+put_together parts = joined parts.0 ++ parts.1
+
+pub joined-whole : (bytes : List ℕ) → joined (whole bytes) ++ rest bytes ≡ bytes
+joined-whole [] = refl
+joined-whole (b ∷ bs) = elim (eqb_tells b 10) [
+  | inl t ↦ ap put_together (cut_lf b bs t.0) ∙ ap (λ (x : List ℕ). 10 ∷ x) (joined-whole bs) ∙ ap (λ (x : ℕ). x ∷ bs) (sym t.1)
+  | inr t ↦ ap put_together (cut_other b bs t.0) ∙ onto_joined b (cut bs) ∙ ap (λ (x : List ℕ). b ∷ x) (joined-whole bs)
+]
+
+onto_free : (b : ℕ) (parts : List (List ℕ) × List ℕ) → b ≢ 10 → All HasNoLf parts.0 → HasNoLf parts.1 → All HasNoLf (onto_first b parts).0 × HasNoLf (onto_first b parts).1
+onto_free b ([], rest) other lines_free rest_free = (All-nil HasNoLf, All-cons (λ b. b ≢ 10) b rest other rest_free)
+onto_free b (line ∷ lines, rest) other lines_free rest_free =
+    (All-cons HasNoLf (b ∷ line) lines (All-cons (λ b. b ≢ 10) b line other (lines_free 0 [] (omega arith))) (λ k d h. lines_free (suc k) d (omega arith)), rest_free)
+
+-- no LF stands in a line or in the rest
+abbrev AreFree : List (List ℕ) × List ℕ → Type 0
+AreFree parts = All HasNoLf parts.0 × HasNoLf parts.1
+
+pub cut_is_free : (bytes : List ℕ) → All HasNoLf (whole bytes) × HasNoLf (rest bytes)
+cut_is_free [] = (All-nil HasNoLf, All-nil (λ b. b ≢ 10))
+cut_is_free (b ∷ bs) = elim (eqb_tells b 10) [
+  | inl t ↦ subst AreFree (sym (cut_lf b bs t.0)) (All-cons HasNoLf [] (whole bs) (All-nil (λ b. b ≢ 10)) (cut_is_free bs).0, (cut_is_free bs).1)
+  | inr t ↦ subst AreFree (sym (cut_other b bs t.0)) (onto_free b (cut bs) t.1 (cut_is_free bs).0 (cut_is_free bs).1)
+]
+
+lines_are_free : (given : List (List ℕ)) → All HasNoLf given → All IsOneLine given
+lines_are_free [] free = All-nil IsOneLine
+lines_are_free (line ∷ given) free = All-cons IsOneLine line given (IsOneLine-free line (free 0 [] (omega arith))) (lines_are_free given (λ k d h. free (suc k) d (omega arith)))
+
+pub whole-joined : (given : List (List ℕ)) (more : List ℕ) → All HasNoLf given → HasNoLf more → whole (joined given ++ more) ≡ given
+whole-joined given more free more_free =
+    ap (λ (p : List (List ℕ) × List ℕ). p.0) (cut_joined given more (lines_are_free given free) ∙ ap (λ (p : List (List ℕ) × List ℕ). (given ++ p.0, p.1)) (cut_free more (IsOneLine-free more more_free)))
+    ∙ append-nil given

@@ -23,6 +23,7 @@ pub record Cuts (bytes : List ℕ) (s : CutterState) (given : List (List ℕ)) :
 -- the line is the next one of the bytes, whatever follows and whether or not the input has ended
 pub record GivesLine (bytes : List ℕ) (s : CutterState) (given : List (List ℕ)) (number : ℕ) (line : List ℕ) : Type 0 where
   pub number_is : number ≡ length given + 1
+  pub one_line : IsOneLine line
   pub short : length line ≤ s.longest
   pub among_whole : (others : List (List ℕ)) × (whole bytes ≡ given ++ line ∷ others)
   pub among_lines : (at_end : Bool) → (others : List (List ℕ)) × (lines bytes at_end ≡ given ++ line ∷ others)
@@ -50,6 +51,8 @@ pub record FindsTooMany (bytes : List ℕ) (s : CutterState) (given : List (List
 pub record HasGivenAll (bytes : List ℕ) (s : CutterState) (given : List (List ℕ)) : Type 0 where
   pub whole_are : whole bytes ≡ given
   pub rest_is : rest bytes ≡ s.rest
+  pub settled : IsSettled bytes s
+  pub asks : IsTrue (after_next s).hungry
   pub after : Cuts bytes (after_next s) given
 
 -- what an answer of `next_line` says of the bytes

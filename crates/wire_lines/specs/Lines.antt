@@ -1,5 +1,6 @@
 -- Bytes and their lines. An LF ends a line and is none of its bytes; the number of a line is its place, counted from 1.
-use Rattle.std.specs.Prelude.{◌≡◌, ℕ, suc, List, [], ◌∷◌, ◌++◌, Bool, if◌then◌else◌, ◌==◌, ◌||◌, ◌&&◌, nat_lt, length, flat_map}
+use Rattle.std.specs.Prelude.{◌≡◌, ◌≢◌, ℕ, suc, List, [], ◌∷◌, ◌++◌, Bool, if◌then◌else◌, ◌==◌, ◌||◌, ◌&&◌, nat_lt, length, flat_map}
+use Rattle.std.specs.List.{All}
 
 -- how many bytes stand before the first LF, or all of them
 abbrev pub line_len : List ℕ → ℕ
@@ -42,3 +43,7 @@ lines bytes ended = with_last (cut bytes) ended
 -- the lines, each with its LF
 abbrev pub joined : List (List ℕ) → List ℕ
 joined lines = flat_map (λ line. line ++ 10 ∷ []) lines
+
+-- no byte is an LF
+abbrev pub HasNoLf : List ℕ → Type 0
+HasNoLf bytes = All (λ b. b ≢ 10) bytes

@@ -1,9 +1,20 @@
 // Laws of the line cutter over all bytes that it was fed. They run nothing.
 ghost use Rattle.std.specs.Prelude.{◌≡◌, ◌++◌, ℕ, List, IsTrue, true};
-ghost use Rattle.wire_lines.specs.Lines.{lines, last_of};
+ghost use Rattle.std.specs.List.{All};
+ghost use Rattle.wire_lines.specs.Lines.{HasNoLf, joined, whole, rest, lines, last_of};
 ghost use Rattle.wire_lines.specs.Cutter.{CutterState, IsRefusal};
 ghost use Rattle.wire_lines.specs.Next.{next, after_next};
 ghost use Rattle.wire_lines.specs.Cuts.{Cuts, Tells};
+
+/// Bytes are their whole lines, each with an LF after it, and then their rest, where no line and
+/// no rest holds an LF; and they are so in one way only.
+pub fn bytes_are_their_lines()
+    ensures joined { (bytes : List ℕ) → joined (whole bytes) ++ rest bytes ≡ bytes }
+    ensures lines { (bytes : List ℕ) → All HasNoLf (whole bytes) }
+    ensures rest { (bytes : List ℕ) → HasNoLf (rest bytes) }
+    ensures alone { (given : List (List ℕ)) (more : List ℕ) → All HasNoLf given → HasNoLf more → whole (joined given ++ more) ≡ given }
+{
+}
 
 /// Each answer of `next_line` says where the lines of the bytes stand, whatever the pieces were.
 pub fn answers_tell_lines()
