@@ -1,0 +1,6 @@
+pub mod Growth
+pub mod Told
+pub mod LineLength
+pub mod Cutting
+pub mod NextFacts
+pub mod CutsFacts

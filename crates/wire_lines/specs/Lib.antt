@@ -1,0 +1,9 @@
+pub mod Journal
+pub mod Faults
+pub mod Memory
+pub mod Lines
+pub mod Cutter
+pub mod Cut
+pub mod Found
+pub mod Next
+pub mod Cuts
