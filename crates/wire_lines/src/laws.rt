@@ -13,8 +13,7 @@ pub fn bytes_are_their_lines()
     ensures lines { (bytes : List ℕ) → All HasNoLf (whole bytes) }
     ensures rest { (bytes : List ℕ) → HasNoLf (rest bytes) }
     ensures alone { (given : List (List ℕ)) (more : List ℕ) → All HasNoLf given → HasNoLf more → whole (joined given ++ more) ≡ given }
-{
-}
+{}
 
 /// Each answer of `next_line` says where the lines of the bytes stand, whatever the pieces were.
 pub fn answers_tell_lines()

@@ -99,17 +99,112 @@ impl<W: Write> ErrWire<W> {
 }
 
 impl<W: Write> Wire for ErrWire<W> {
+    ghost use Rattle.std.specs.Prelude.{None, Ok, ◌≡◌, ◌≤◌, ◌<◌, length, IfOk};
+    ghost use Rattle.wire_lines.specs.Journal.{Reads};
+    ghost use Rattle.wire_lines.specs.Faults.{HasCause, IsOther};
+
     ghost journal = { λ _. None };
 
     ghost read_faults = { λ _. 0 };
 
     ghost write_faults = { λ s. s.write_faults };
 
-    fn read(&mut self, _into: &mut [u8]) -> Result<usize, ReadFailed> {
+    fn read(&mut self, _into: &mut [u8]) -> Result<usize, ReadFailed>
+        requires { 0 < length _into.old }
+        ensures bound { IfOk result (λ n. n ≤ length _into.new) }
+        ensures told { Reads None None result _into.new }
+        ensures cause { HasCause 0 0 result }
+        ensures other { IsOther self.old.write_faults self.new.write_faults result }
+        ensures nothing { result ≡ Ok 0 }
+        ensures unchanged { self.new ≡ self.old }
+    {
         Ok(0)
     }
 
     fn write(&mut self, piece: &[u8]) -> Result<usize, WriteFailed> {
         write_through(&mut self.output, piece, &mut self.write_faults)
+    }
+}
+
+#[cfg(test)]
+mod tests {
+    use super::*;
+    use std::io::{self, ErrorKind};
+
+    // Takes as many bytes as it has room for.
+    #[derive(Drop)]
+    struct Sink {
+        room: usize,
+        flushes: u64,
+    }
+
+    impl Write for Sink {
+        fn write(&mut self, piece: &[u8]) -> io::Result<usize> {
+            let count = piece.len().min(self.room);
+            self.room -= count;
+            Ok(count)
+        }
+
+        fn flush(&mut self) -> io::Result<()> {
+            self.flushes = self.flushes.saturating_add(1);
+            Ok(())
+        }
+    }
+
+    // Fails, whatever is asked of it.
+    #[derive(Drop)]
+    struct Broken;
+
+    impl Read for Broken {
+        fn read(&mut self, _into: &mut [u8]) -> io::Result<usize> {
+            Err(ErrorKind::ConnectionReset.into())
+        }
+    }
+
+    impl Write for Broken {
+        fn write(&mut self, _piece: &[u8]) -> io::Result<usize> {
+            Err(ErrorKind::BrokenPipe.into())
+        }
+
+        fn flush(&mut self) -> io::Result<()> {
+            Err(ErrorKind::BrokenPipe.into())
+        }
+    }
+
+    #[test]
+    fn streams_are_a_wire(rt: HostRuntime) {
+        let sink = Sink {
+            room: 3,
+            flushes: 0,
+        };
+        let mut wire = StdWire::new(b"ab".as_slice(), sink);
+        let mut into = [0u8; 4];
+        assert_eq!(rt; wire.read(&mut into), Ok(2));
+        assert_eq!(rt; into, *b"ab\0\0");
+        assert_eq!(rt; wire.read(&mut into), Ok(0));
+        assert_eq!(rt; wire.write(b"hey!"), Ok(3));
+        assert_eq!(rt; (wire.read_faults, wire.write_faults), (0, 0));
+        assert_eq!(rt; wire.write(b"!"), Err(WriteFailed), "it takes nothing");
+        assert_eq!(rt; (wire.read_faults, wire.write_faults), (0, 1));
+        assert_eq!(rt; wire.output.flushes, 1);
+
+        let mut broken = StdWire::new(Broken, Broken);
+        assert_eq!(rt; broken.read(&mut into), Err(ReadFailed));
+        assert_eq!(rt; broken.read(&mut into), Err(ReadFailed));
+        assert_eq!(rt; broken.write(b"a"), Err(WriteFailed));
+        assert_eq!(rt; (broken.read_faults, broken.write_faults), (2, 1));
+    }
+
+    #[test]
+    fn errors_go_to_a_writer_alone(rt: HostRuntime) {
+        let sink = Sink {
+            room: 2,
+            flushes: 0,
+        };
+        let mut wire = ErrWire::new(sink);
+        assert_eq!(rt; wire.read(&mut [0u8; 4]), Ok(0));
+        assert_eq!(rt; wire.write(b"ab"), Ok(2));
+        assert_eq!(rt; wire.write(b"c"), Err(WriteFailed));
+        assert_eq!(rt; (wire.write_faults, wire.output.flushes), (1, 1));
     }
 }
