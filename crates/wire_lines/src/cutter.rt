@@ -113,7 +113,8 @@ impl LineCutter {
     ghost use Rattle.wire_lines.specs.Cuts.{Cuts};
     ghost use Rattle.wire_lines.specs.contracts.cutter.LineCutter.{the_row};
 
-    /// Takes all the memory that it will use: `longest` and 65,536 bytes.
+    /// Takes all the memory that it will use: `longest` and 65,536 bytes. Where the two together
+    /// are no `usize`, that is want of memory too.
     pub fn new(alloc: Global, longest: usize, total: u64) -> Result<LineCutter, Memory>
         ensures state { IfOk result (λ c. c ≡ opening longest total) }
         ensures lines { IfOk result (λ c. Cuts [] c []) }
@@ -138,8 +139,10 @@ impl LineCutter {
     pub fn feed(&mut self, piece: &[u8])
         requires fits { length piece.now ≤ 65536 }
         requires hungry { IsTrue self.old.hungry }
-        ensures state { self.new ≡ record self.old { rest = self.old.rest ++ piece.now; hungry = false } }
-        ensures lines { (bytes : List ℕ) (given : List (List ℕ)) → Cuts bytes self.old given → Cuts (bytes ++ piece.now) self.new given }
+        ensures state { self.new ≡
+            record self.old { rest = self.old.rest ++ piece.now; hungry = false } }
+        ensures lines { (bytes : List ℕ) (given : List (List ℕ)) →
+            Cuts bytes self.old given → Cuts (bytes ++ piece.now) self.new given }
     {
         let from = self.from;
         let kept = self.buffer.len() - from;
@@ -155,7 +158,9 @@ impl LineCutter {
 
     /// The next line, or why there is none. After `TooLong` and `TooMany` it gives the same again.
     pub fn next_line(&mut self) -> Cut<'_>
-        ensures* after { sem 𝓛 (follows_so the_row the_row self.entry.ghost_name none (λ _ _. ⊤) (λ c. c ≡ after_next self.old)) }
+        // Once the answer is let go, the cutter is the one after the next line.
+        ensures* after { sem 𝓛 (follows_so the_row the_row self.entry.ghost_name none
+            (λ _ _. ⊤) (λ c. c ≡ after_next self.old)) }
         ensures value { cut_view result ≡ next self.old }
     {
         let from = self.from;
@@ -193,9 +198,12 @@ impl LineCutter {
     /// nothing was fed since. They are a last line, where there are any.
     pub fn last_line(&mut self) -> Option<Line<'_>>
         requires { IsTrue self.old.hungry }
-        ensures* after { sem 𝓛 (follows_so the_row the_row self.entry.ghost_name none (λ _ _. ⊤) (λ c. c ≡ self.old)) }
+        // Once the answer is let go, the cutter is as it was.
+        ensures* after { sem 𝓛 (follows_so the_row the_row self.entry.ghost_name none
+            (λ _ _. ⊤) (λ c. c ≡ self.old)) }
         ensures none { IsNone result ↔ (self.old.rest ≡ []) }
-        ensures some { IfSome result (λ l. (l.number ≡ self.old.number + 1) × (l.bytes.now ≡ self.old.rest)) }
+        ensures some { IfSome result (λ l.
+            (l.number ≡ self.old.number + 1) × (l.bytes.now ≡ self.old.rest)) }
     {
         let rest = &self.buffer[self.from..];
         if rest.is_empty() {

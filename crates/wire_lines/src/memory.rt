@@ -133,7 +133,8 @@ impl Wire for MemoryWire {
         // Beyond what every wire does: when it fails, how much it gives, and what it leaves.
         ensures fails { is_ok result ≡ not (call_fails self.old) }
         ensures count { IfOk result (λ n. n ≡ read_count self.old (length into.old)) }
-        ensures bytes { IfOk result (λ n. into.new ≡ take n (drop self.old.taken self.old.input) ++ drop n into.old) }
+        ensures bytes { IfOk result (λ n.
+            into.new ≡ take n (drop self.old.taken self.old.input) ++ drop n into.old) }
         ensures ok { IfOk result (λ n. self.new ≡ after_read self.old n) }
         ensures err { OnErr result (self.new ≡ after_failed_read self.old) }
     {

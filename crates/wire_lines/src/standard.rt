@@ -1,11 +1,13 @@
 // Wires over readers and writers, such as the standard streams.
-ghost use Rattle.std.specs.Prelude.{None, ◌≡◌, ◌≤◌, ◌<◌, length, IfOk};
-ghost use Rattle.wire_lines.specs.Faults.{HasCause, raised};
+ghost use Rattle.std.specs.Prelude.{◌≡◌, ◌≤◌, ◌<◌, length, IfOk, take};
+ghost use Rattle.std.specs.Io.KnownBytes.{Appends};
+ghost use Rattle.wire_lines.specs.Faults.{HasCause};
 
 use crate::{ReadFailed, Wire, WriteFailed};
 use std::io::{Read, Write};
 
 /// Writes a front of the piece and flushes. Every error counts, and a write that takes nothing.
+/// After a failure a front of the piece may have gone out all the same.
 fn write_through<W: Write>(
     output: &mut W,
     piece: &[u8],
@@ -14,19 +16,16 @@ fn write_through<W: Write>(
     ensures some { IfOk result (λ n. 0 < n) }
     ensures bound { IfOk result (λ n. n ≤ length piece.now) }
     ensures cause { HasCause faults.old faults.new result }
+    ensures bytes { IfOk result (λ n.
+        Appends (W.contents output.old) (W.contents output.new) (take n piece.now)) }
 {
-    let written = match output.write(piece) {
-        Ok(count) if count > 0 => output.flush().map(|()| count),
-        Ok(count) => Ok(count),
-        Err(error) => Err(error),
-    };
-    match written {
-        Ok(count) if count > 0 => Ok(count),
-        _ => {
-            *faults = faults.saturating_add(1);
-            Err(WriteFailed)
+    if let Ok(count) = output.write(piece) {
+        if count > 0 && output.flush().is_ok() {
+            return Ok(count);
         }
     }
+    *faults = faults.saturating_add(1);
+    Err(WriteFailed)
 }
 
 /// A wire over a reader and a writer: standard input and output in the program. It flushes after
@@ -56,13 +55,29 @@ impl<R: Read, W: Write> StdWire<R, W> {
 }
 
 impl<R: Read, W: Write> Wire for StdWire<R, W> {
+    ghost use Rattle.std.specs.Prelude.{None, ◌≡◌, ◌≤◌, ◌<◌, length, IfOk, take};
+    ghost use Rattle.std.specs.Io.KnownBytes.{Appends, ReadConsumes};
+    ghost use Rattle.wire_lines.specs.Journal.{Reads, Writes};
+    ghost use Rattle.wire_lines.specs.Faults.{HasCause, IsOther};
+
     ghost journal = { λ _. None };
 
     ghost read_faults = { λ s. s.read_faults };
 
     ghost write_faults = { λ s. s.write_faults };
 
-    fn read(&mut self, into: &mut [u8]) -> Result<usize, ReadFailed> {
+    fn read(&mut self, into: &mut [u8]) -> Result<usize, ReadFailed>
+        requires { 0 < length into.old }
+        ensures bound { IfOk result (λ n. n ≤ length into.new) }
+        ensures told { Reads None None result into.new }
+        ensures cause { HasCause self.old.read_faults self.new.read_faults result }
+        ensures other { IsOther self.old.write_faults self.new.write_faults result }
+
+        // Of a reader that knows its bytes, as one over a slice does.
+        ensures bytes { ReadConsumes
+            (R.remaining self.old.input) (R.remaining self.new.input) result into.new }
+        ensures output { self.new.output ≡ self.old.output }
+    {
         match self.input.read(into) {
             Ok(count) => Ok(count),
             Err(_) => {
@@ -72,7 +87,19 @@ impl<R: Read, W: Write> Wire for StdWire<R, W> {
         }
     }
 
-    fn write(&mut self, piece: &[u8]) -> Result<usize, WriteFailed> {
+    fn write(&mut self, piece: &[u8]) -> Result<usize, WriteFailed>
+        requires { 0 < length piece.now }
+        ensures some { IfOk result (λ n. 0 < n) }
+        ensures bound { IfOk result (λ n. n ≤ length piece.now) }
+        ensures told { Writes None None result piece.now }
+        ensures cause { HasCause self.old.write_faults self.new.write_faults result }
+        ensures other { IsOther self.old.read_faults self.new.read_faults result }
+
+        // Of a writer that knows its bytes, as a vector does.
+        ensures bytes { IfOk result (λ n.
+            Appends (W.contents self.old.output) (W.contents self.new.output) (take n piece.now)) }
+        ensures input { self.new.input ≡ self.old.input }
+    {
         write_through(&mut self.output, piece, &mut self.write_faults)
     }
 }
@@ -99,8 +126,9 @@ impl<W: Write> ErrWire<W> {
 }
 
 impl<W: Write> Wire for ErrWire<W> {
-    ghost use Rattle.std.specs.Prelude.{None, Ok, ◌≡◌, ◌≤◌, ◌<◌, length, IfOk};
-    ghost use Rattle.wire_lines.specs.Journal.{Reads};
+    ghost use Rattle.std.specs.Prelude.{None, Ok, ◌≡◌, ◌≤◌, ◌<◌, length, IfOk, take};
+    ghost use Rattle.std.specs.Io.KnownBytes.{Appends};
+    ghost use Rattle.wire_lines.specs.Journal.{Reads, Writes};
     ghost use Rattle.wire_lines.specs.Faults.{HasCause, IsOther};
 
     ghost journal = { λ _. None };
@@ -109,19 +137,30 @@ impl<W: Write> Wire for ErrWire<W> {
 
     ghost write_faults = { λ s. s.write_faults };
 
-    fn read(&mut self, _into: &mut [u8]) -> Result<usize, ReadFailed>
-        requires { 0 < length _into.old }
-        ensures bound { IfOk result (λ n. n ≤ length _into.new) }
-        ensures told { Reads None None result _into.new }
+    fn read(&mut self, into: &mut [u8]) -> Result<usize, ReadFailed>
+        requires { 0 < length into.old }
+        ensures bound { IfOk result (λ n. n ≤ length into.new) }
+        ensures told { Reads None None result into.new }
         ensures cause { HasCause 0 0 result }
         ensures other { IsOther self.old.write_faults self.new.write_faults result }
-        ensures nothing { result ≡ Ok 0 }
+        ensures ended { result ≡ Ok 0 }
         ensures unchanged { self.new ≡ self.old }
     {
         Ok(0)
     }
 
-    fn write(&mut self, piece: &[u8]) -> Result<usize, WriteFailed> {
+    fn write(&mut self, piece: &[u8]) -> Result<usize, WriteFailed>
+        requires { 0 < length piece.now }
+        ensures some { IfOk result (λ n. 0 < n) }
+        ensures bound { IfOk result (λ n. n ≤ length piece.now) }
+        ensures told { Writes None None result piece.now }
+        ensures cause { HasCause self.old.write_faults self.new.write_faults result }
+        ensures other { IsOther 0 0 result }
+
+        // Of a writer that knows its bytes, as a vector does.
+        ensures bytes { IfOk result (λ n.
+            Appends (W.contents self.old.output) (W.contents self.new.output) (take n piece.now)) }
+    {
         write_through(&mut self.output, piece, &mut self.write_faults)
     }
 }
