@@ -1,5 +1,6 @@
 // Bytes in pieces of any size, cut into lines.
-ghost use Rattle.std.specs.Prelude.{◌≡◌, ◌≤◌, ◌<◌, ◌+◌, ◌-◌, ℕ, List, length, drop, IsTrue};
+ghost use Rattle.std.specs.Bool.{OnTrue};
+ghost use Rattle.std.specs.Prelude.{IfOk, ◌≡◌, ◌≤◌, ◌<◌, ◌+◌, ◌-◌, ℕ, List, length, drop, IsTrue};
 ghost use Rattle.wire_lines.specs.Lines.{line_len};
 ghost use Rattle.wire_lines.specs.Found.{found, FoundFits};
 
@@ -112,7 +113,8 @@ impl LineCutter {
     ghost use Rattle.wire_lines.specs.Cuts.{Cuts};
     ghost use Rattle.wire_lines.specs.contracts.cutter.LineCutter.{the_row};
 
-    /// Takes all the memory that it will use: `longest` and 65,536 bytes.
+    /// Takes all the memory that it will use: `longest` and 65,536 bytes. Where the two together
+    /// are no `usize`, that is want of memory too.
     pub fn new(alloc: Global, longest: usize, total: u64) -> Result<LineCutter, Memory>
         ensures state { IfOk result (λ c. c ≡ opening longest total) }
         ensures lines { IfOk result (λ c. Cuts [] c []) }
@@ -137,8 +139,10 @@ impl LineCutter {
     pub fn feed(&mut self, piece: &[u8])
         requires fits { length piece.now ≤ 65536 }
         requires hungry { IsTrue self.old.hungry }
-        ensures state { self.new ≡ record self.old { rest = self.old.rest ++ piece.now; hungry = false } }
-        ensures lines { (bytes : List ℕ) (given : List (List ℕ)) → Cuts bytes self.old given → Cuts (bytes ++ piece.now) self.new given }
+        ensures state { self.new ≡
+            record self.old { rest = self.old.rest ++ piece.now; hungry = false } }
+        ensures lines { (bytes : List ℕ) (given : List (List ℕ)) →
+            Cuts bytes self.old given → Cuts (bytes ++ piece.now) self.new given }
     {
         let from = self.from;
         let kept = self.buffer.len() - from;
@@ -154,7 +158,9 @@ impl LineCutter {
 
     /// The next line, or why there is none. After `TooLong` and `TooMany` it gives the same again.
     pub fn next_line(&mut self) -> Cut<'_>
-        ensures* after { sem 𝓛 (follows_so the_row the_row self.entry.ghost_name none (λ _ _. ⊤) (λ c. c ≡ after_next self.old)) }
+        // Once the answer is let go, the cutter is the one after the next line.
+        ensures* after { sem 𝓛 (follows_so the_row the_row self.entry.ghost_name none
+            (λ _ _. ⊤) (λ c. c ≡ after_next self.old)) }
         ensures value { cut_view result ≡ next self.old }
     {
         let from = self.from;
@@ -192,9 +198,12 @@ impl LineCutter {
     /// nothing was fed since. They are a last line, where there are any.
     pub fn last_line(&mut self) -> Option<Line<'_>>
         requires { IsTrue self.old.hungry }
-        ensures* after { sem 𝓛 (follows_so the_row the_row self.entry.ghost_name none (λ _ _. ⊤) (λ c. c ≡ self.old)) }
+        // Once the answer is let go, the cutter is as it was.
+        ensures* after { sem 𝓛 (follows_so the_row the_row self.entry.ghost_name none
+            (λ _ _. ⊤) (λ c. c ≡ self.old)) }
         ensures none { IsNone result ↔ (self.old.rest ≡ []) }
-        ensures some { IfSome result (λ l. (l.number ≡ self.old.number + 1) × (l.bytes.now ≡ self.old.rest)) }
+        ensures some { IfSome result (λ l.
+            (l.number ≡ self.old.number + 1) × (l.bytes.now ≡ self.old.rest)) }
     {
         let rest = &self.buffer[self.from..];
         if rest.is_empty() {
@@ -205,5 +214,93 @@ impl LineCutter {
             bytes: rest,
         };
         Some(line)
+    }
+}
+
+#[cfg(test)]
+mod tests {
+    use super::*;
+    use std::test::Fail;
+
+    // Writes down the lines that are given, and whether more bytes are asked for after them.
+    fn note_lines(cutter: &mut LineCutter, notes: &mut Vec<u8>) -> Result<bool, Memory>
+        ensures { IfOk result (λ asks. OnTrue asks (IsTrue cutter.new.hungry)) }
+    {
+        for _ in 0..9 {
+            match cutter.next_line() {
+                Cut::Line(line) => note(line, notes)?,
+                Cut::TooLong { number } => {
+                    notes.extend_from_slice(&[b'0' + (number % 10) as u8])?;
+                    notes.extend_from_slice(b" is too long;")?;
+                    return Ok(false);
+                }
+                Cut::TooMany => {
+                    notes.extend_from_slice(b"too many;")?;
+                    return Ok(false);
+                }
+                Cut::More => return Ok(true),
+            }
+        }
+        Ok(false)
+    }
+
+    fn note(line: Line<'_>, notes: &mut Vec<u8>) -> Result<(), Memory> {
+        notes.extend_from_slice(&[b'0' + (line.number % 10) as u8, b':'])?;
+        notes.extend_from_slice(line.bytes)?;
+        notes.extend_from_slice(b";")?;
+        Ok(())
+    }
+
+    #[test]
+    fn lines_do_not_depend_on_the_pieces(rt: HostRuntime) -> Result<(), Fail> {
+        let alloc = rt.alloc();
+        let bytes = b"ab\r\n\ncd\n\rx";
+        for size in [1, 2, 3, 5, 11] {
+            let mut cutter = LineCutter::new(alloc, 100, 100)?;
+            let mut notes = Vec::new(alloc);
+            for piece in bytes.chunks(size) {
+                assert!(rt; piece.len() <= 65536);
+                cutter.feed(piece);
+                assert!(rt; note_lines(&mut cutter, &mut notes)?);
+            }
+            if let Some(line) = cutter.last_line() {
+                note(line, &mut notes)?;
+            }
+            assert_eq!(rt;
+                notes.as_slice(),
+                b"1:ab\r;2:;3:cd;4:\rx;".as_slice(),
+                "pieces of {size}"
+            );
+        }
+        Ok(())
+    }
+
+    #[test]
+    fn long_lines_and_too_many_bytes_are_told(rt: HostRuntime) -> Result<(), Fail> {
+        let alloc = rt.alloc();
+        let table = [
+            (
+                100,
+                10,
+                b"aaaa\nbbbbbbb".as_slice(),
+                b"1:aaaa;too many;too many;".as_slice(),
+            ),
+            (3, 100, b"abc\nabcd", b"1:abc;2 is too long;2 is too long;"),
+            (3, 100, b"abcd\n", b"1 is too long;1 is too long;"),
+            (3, 3, b"abc\n", b"too many;too many;"),
+            (3, 4, b"abc\n", b"1:abc;"),
+        ];
+        for (longest, total, bytes, want) in table {
+            let mut cutter = LineCutter::new(alloc, longest, total)?;
+            let mut notes = Vec::new(alloc);
+            assert!(rt; bytes.len() <= 65536);
+            cutter.feed(bytes);
+            let asks = note_lines(&mut cutter, &mut notes)?;
+            if !asks {
+                note_lines(&mut cutter, &mut notes)?;
+            }
+            assert_eq!(rt; notes.as_slice(), want);
+        }
+        Ok(())
     }
 }

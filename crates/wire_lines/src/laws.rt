@@ -12,9 +12,9 @@ pub fn bytes_are_their_lines()
     ensures joined { (bytes : List ℕ) → joined (whole bytes) ++ rest bytes ≡ bytes }
     ensures lines { (bytes : List ℕ) → All HasNoLf (whole bytes) }
     ensures rest { (bytes : List ℕ) → HasNoLf (rest bytes) }
-    ensures alone { (given : List (List ℕ)) (more : List ℕ) → All HasNoLf given → HasNoLf more → whole (joined given ++ more) ≡ given }
-{
-}
+    ensures alone { (given : List (List ℕ)) (more : List ℕ) →
+        All HasNoLf given → HasNoLf more → whole (joined given ++ more) ≡ given }
+{}
 
 /// Each answer of `next_line` says where the lines of the bytes stand, whatever the pieces were.
 pub fn answers_tell_lines()
@@ -25,19 +25,23 @@ pub fn answers_tell_lines()
 /// Once the bytes have ended, the lines given and what `last_line` gives are the lines of the bytes.
 pub fn rest_is_last_line()
     ensures { (bytes : List ℕ) (cutter : CutterState) (given : List (List ℕ)) →
-        Cuts bytes cutter given → IsTrue cutter.hungry → lines bytes true ≡ given ++ last_of cutter.rest true }
+        Cuts bytes cutter given → IsTrue cutter.hungry →
+        lines bytes true ≡ given ++ last_of cutter.rest true }
 {}
 
 /// Two cutters that were fed the same bytes in other pieces gave the same lines, once both ask
 /// for more bytes, and hold the same rest.
 pub fn pieces_make_no_difference()
     ensures lines { (bytes : List ℕ) (one other : CutterState) (given given' : List (List ℕ)) →
-        Cuts bytes one given → Cuts bytes other given' → IsTrue one.hungry → IsTrue other.hungry → given ≡ given' }
+        Cuts bytes one given → Cuts bytes other given' →
+        IsTrue one.hungry → IsTrue other.hungry → given ≡ given' }
     ensures rest { (bytes : List ℕ) (one other : CutterState) (given given' : List (List ℕ)) →
-        Cuts bytes one given → Cuts bytes other given' → IsTrue one.hungry → IsTrue other.hungry → one.rest ≡ other.rest }
+        Cuts bytes one given → Cuts bytes other given' →
+        IsTrue one.hungry → IsTrue other.hungry → one.rest ≡ other.rest }
 {}
 
 /// After `TooLong` and after `TooMany` the answer is the same again.
 pub fn refusals_stay()
-    ensures { (cutter : CutterState) → IsRefusal (next cutter) → next (after_next cutter) ≡ next cutter }
+    ensures { (cutter : CutterState) →
+        IsRefusal (next cutter) → next (after_next cutter) ≡ next cutter }
 {}

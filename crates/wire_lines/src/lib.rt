@@ -8,7 +8,10 @@ mod standard;
 mod wire;
 
 pub use cutter::{Cut, Line, LineCutter};
-pub use laws::{answers_tell_lines, bytes_are_their_lines, pieces_make_no_difference, refusals_stay, rest_is_last_line};
+pub use laws::{
+    answers_tell_lines, bytes_are_their_lines, pieces_make_no_difference, refusals_stay,
+    rest_is_last_line,
+};
 pub use memory::{MemoryWire, WireStep};
 pub use standard::{ErrWire, StdWire};
 pub use wire::{ReadFailed, Wire, WriteFailed};

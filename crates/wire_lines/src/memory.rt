@@ -133,7 +133,8 @@ impl Wire for MemoryWire {
         // Beyond what every wire does: when it fails, how much it gives, and what it leaves.
         ensures fails { is_ok result ≡ not (call_fails self.old) }
         ensures count { IfOk result (λ n. n ≡ read_count self.old (length into.old)) }
-        ensures bytes { IfOk result (λ n. into.new ≡ take n (drop self.old.taken self.old.input) ++ drop n into.old) }
+        ensures bytes { IfOk result (λ n.
+            into.new ≡ take n (drop self.old.taken self.old.input) ++ drop n into.old) }
         ensures ok { IfOk result (λ n. self.new ≡ after_read self.old n) }
         ensures err { OnErr result (self.new ≡ after_failed_read self.old) }
     {
@@ -180,5 +181,62 @@ impl Wire for MemoryWire {
         }
         self.steps.push_reserved(WireStep::Out { from, to });
         Ok(piece.len())
+    }
+}
+
+#[cfg(test)]
+mod tests {
+    use super::*;
+    use std::test::Fail;
+
+    #[test]
+    fn reads_and_writes_are_told(rt: HostRuntime) -> Result<(), Fail> {
+        let alloc = rt.alloc();
+        let input = Vec::from_slice(alloc, b"hello")?;
+        let mut wire = MemoryWire::new(alloc, input, 3, 8, Vec::new(alloc))?;
+        let mut into = [0u8; 4];
+        assert_eq!(rt; wire.read(&mut into), Ok(3));
+        assert_eq!(rt; into, *b"hel\0");
+        assert_eq!(rt; wire.write(b"ab"), Ok(2));
+        assert_eq!(rt; wire.read(&mut into), Ok(2));
+        assert_eq!(rt; into, *b"lol\0");
+        assert_eq!(rt; wire.read(&mut into), Ok(0));
+        assert_eq!(rt; wire.write(b"c"), Ok(1));
+        assert_eq!(rt; wire.output(), b"abc".as_slice());
+        let steps = [
+            WireStep::In { from: 0, to: 3 },
+            WireStep::Out { from: 0, to: 2 },
+            WireStep::In { from: 3, to: 5 },
+            WireStep::In { from: 5, to: 5 },
+            WireStep::Out { from: 2, to: 3 },
+        ];
+        assert_eq!(rt; wire.steps(), steps.as_slice());
+        Ok(())
+    }
+
+    #[test]
+    fn calls_fail_where_they_are_told_to(rt: HostRuntime) -> Result<(), Fail> {
+        let alloc = rt.alloc();
+        let table = [
+            (8, 9, 9, (true, true, true, true)),
+            (8, 1, 3, (true, false, true, false)),
+            (8, 0, 2, (false, true, false, true)),
+            (3, 9, 9, (true, true, false, true)),
+            (1, 9, 9, (true, false, false, false)),
+        ];
+        for (room, one, other, want) in table {
+            let input = Vec::from_slice(alloc, b"xy")?;
+            let failing = Vec::from_slice(alloc, &[one, other])?;
+            let mut wire = MemoryWire::new(alloc, input, 1, room, failing)?;
+            let mut into = [0u8; 4];
+            let went = (
+                wire.read(&mut into).is_ok(),
+                wire.write(b"ab").is_ok(),
+                wire.write(b"cd").is_ok(),
+                wire.read(&mut into).is_ok(),
+            );
+            assert_eq!(rt; went, want, "room {room}, calls {one} and {other}");
+        }
+        Ok(())
     }
 }
