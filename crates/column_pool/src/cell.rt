@@ -1,5 +1,5 @@
 // What a column holds: values that fit into one word of 64 bits.
-ghost use Rattle.std.specs.Prelude.{◌≡◌, ℕ, ◌<◌, ◌^◌, ◌↔◌, ℤ, IsTrue};
+ghost use Rattle.std.specs.Prelude.{◌≡◌, ℕ, ◌<◌, ◌^◌, ◌↔◌, IsTrue};
 ghost use Rattle.std.proofs.Common.{sym, ap, ◌∙◌};
 ghost use Rattle.column_pool.specs.Word.{int_word, int_of, IsInt, int_of-int_word};
 
@@ -26,8 +26,10 @@ pub trait Cell: Copy {
     fn fits(self)
         ensures { Fits self };
 
+    // A value is got back from its word.
     ghost round_trip: { (x : Self) → Fits x → value_of (word_of x) ≡ x };
 
+    // Two values with one word are the same value.
     ghost one_word: { (x y : Self) → Fits x → Fits y → word_of x ≡ word_of y → x ≡ y } = { λ x y fits_x fits_y same. sym (round_trip x fits_x) ∙ ap value_of same ∙ round_trip y fits_y };
 }
 
