@@ -1,0 +1,4 @@
+pub mod Folds
+pub mod Plans
+pub mod NodeLaws
+pub mod PlanLaws

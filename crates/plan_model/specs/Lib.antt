@@ -1,0 +1,4 @@
+pub mod Fold
+pub mod IsExpr
+pub mod Expr
+pub mod Meaning

@@ -1,0 +1,10 @@
+//! Plans of queries: the expressions of their tests, their nodes, what each node means, and the laws of that meaning.
+#![tactic(auto)]
+
+mod expr;
+mod laws;
+mod node;
+
+pub use expr::{ArithOp, CompareOp, Expr, ExprNode};
+pub use laws::{nodes_are_causal, result_is, snapshots_agree, snapshots_are_final};
+pub use node::Node;
