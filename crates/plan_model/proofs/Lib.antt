@@ -2,3 +2,5 @@ pub mod Folds
 pub mod Plans
 pub mod NodeLaws
 pub mod PlanLaws
+pub mod FilterPlans
+mod Computed

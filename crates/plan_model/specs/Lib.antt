@@ -2,3 +2,4 @@ pub mod Fold
 pub mod IsExpr
 pub mod Expr
 pub mod Meaning
+pub mod FilterPlan
