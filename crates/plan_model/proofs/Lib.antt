@@ -1,4 +1,5 @@
 pub mod Folds
+pub mod Exprs
 pub mod Plans
 pub mod NodeLaws
 pub mod PlanLaws

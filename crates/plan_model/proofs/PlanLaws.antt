@@ -3,7 +3,7 @@ use Rattle.std.specs.Prelude.{◌≡◌, ℕ, ◌<◌, ◌≤◌, List, [], true
 use Rattle.std.proofs.Common.{arith}
 use Rattle.tw_rows.specs.Instant.{inf}
 use Rattle.tw_rows.specs.Bag.{SameBag}
-use Rattle.tw_rows.specs.Event.{Event, alive, Known}
+use Rattle.tw_rows.specs.Event.{Event, alive, AreEvents, Known}
 use Rattle.tw_rows.specs.Rows.{Row}
 use Rattle.tw_rows.proofs.Bags.{SameBag-refl, SameBag-sym, SameBag-trans}
 use Rattle.tw_rows.proofs.Lives.{alive_known}
@@ -29,6 +29,11 @@ all_known p source later_source nodes ordered known =
     (record { low = omega arith; left_valid = tt; right_valid = tt; same = SameBag-refl [] })
     known
     (λ i n there left right. node_known n _ _ _ _ _ _ left right)
+
+-- the events of each node are events, where those of the sources are
+pub AreEvents-events : (source : Sources) (nodes : List Node) → IsOrdered nodes → ((s : ℕ) → AreEvents (source s)) → (n : ℕ) → AreEvents (events source nodes n)
+AreEvents-events source nodes ordered valid n =
+    (all_known 0 source source nodes ordered (λ s. record { low = omega arith; left_valid = valid s; right_valid = valid s; same = SameBag-refl _ }) n).left_valid
 
 -- what each node is below its closing hangs on what is known of the sources at p
 pub snapshots_final : (p : ℕ) (source later_source : Sources) (nodes : List Node) → IsOrdered nodes → IsLevelled nodes → ((s : ℕ) → Known p (source s) (later_source s)) →
