@@ -61,10 +61,10 @@ module _ {R S T : Type 0} (rnone : R) (snone : S) (tnone : T) (rsource : ℕ →
       ((i : ℕ) (n : Node) → slice_get nodes i ≡ Some n → HoldsLeft n → HoldsRight n → HoldsMade n) → (i : ℕ) → Holds i
   by_nodes ordered none source step = by_lower Holds (λ i below. elim (cases_lt i (length nodes)) [
     | inl low ↦
-      let n = slice_index_or nodes i (Source 0) in
-      let there = slice_get-get_or nodes i (Source 0) low in
-      rw (over_nodes-is rnone rsource rnode nodes ordered i n there, over_nodes-is snone ssource snode nodes ordered i n there, over_nodes-is tnone tsource tnode nodes ordered i n there)
-      (step i n there (left_holds source i below n (ordered i n there).0) (child_holds none i below (right_child n) (ordered i n there).1))
+        let n = slice_index_or nodes i (Source 0) in
+        let there = slice_get-get_or nodes i (Source 0) low in
+        rw (over_nodes-is rnone rsource rnode nodes ordered i n there, over_nodes-is snone ssource snode nodes ordered i n there, over_nodes-is tnone tsource tnode nodes ordered i n there)
+        (step i n there (left_holds source i below n (ordered i n there).0) (child_holds none i below (right_child n) (ordered i n there).1))
     | inr past ↦
-      rw (result-past rnone (λ n at. rnode n (left_of rnone rsource at n) (right_of rnone at n)) nodes i past, result-past snone (λ n at. snode n (left_of snone ssource at n) (right_of snone at n)) nodes i past, result-past tnone (λ n at. tnode n (left_of tnone tsource at n) (right_of tnone at n)) nodes i past) none
+        rw (result-past rnone (λ n at. rnode n (left_of rnone rsource at n) (right_of rnone at n)) nodes i past, result-past snone (λ n at. snode n (left_of snone ssource at n) (right_of snone at n)) nodes i past, result-past tnone (λ n at. tnode n (left_of tnone tsource at n) (right_of tnone at n)) nodes i past) none
   ])

@@ -6,5 +6,8 @@ mod laws;
 mod node;
 
 pub use expr::{ArithOp, CompareOp, Expr, ExprNode};
-pub use laws::{events_have_lives, nodes_are_causal, result_is, snapshots_agree, snapshots_are_final, source_is, value_is, where_is};
+pub use laws::{
+    events_have_lives, nodes_are_causal, result_is, snapshots_agree, snapshots_are_final,
+    source_is, value_is, where_is,
+};
 pub use node::Node;

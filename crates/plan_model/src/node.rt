@@ -7,12 +7,7 @@ use crate::expr::Expr;
 #[derive(Drop)]
 pub enum Node {
     /// The rows of the stream of that number.
-    Source {
-        stream: usize,
-    },
+    Source { stream: usize },
     /// The rows of the child for which the test is true.
-    Where {
-        of: usize,
-        test: Expr,
-    },
+    Where { of: usize, test: Expr },
 }
