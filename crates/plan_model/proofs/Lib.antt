@@ -4,4 +4,7 @@ pub mod Plans
 pub mod NodeLaws
 pub mod PlanLaws
 pub mod FilterPlans
+pub mod Wrapping
+pub mod Dividing
+pub mod Comparing
 mod Computed

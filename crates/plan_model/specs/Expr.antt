@@ -63,6 +63,13 @@ node_value row (Compare op left right) at = Flag (is_met op (value_cmp (at left)
 node_value row (And left right) at = Flag (flag_of (at left) && flag_of (at right))
 node_value row (Or left right) at = Flag (flag_of (at left) || flag_of (at right))
 
+-- the number, and the truth value, that the value of a node is
+abbrev pub int_node : Row → (ℕ → Value) → ExprNode → ℤ
+int_node row at n = int_of (node_value row n at)
+
+abbrev pub flag_node : Row → (ℕ → Value) → ExprNode → Bool
+flag_node row at n = flag_of (node_value row n at)
+
 -- the value of the node of number i
 abbrev pub value_at : List ExprNode → Row → ℕ → Value
 value_at expr row = result zero_value (node_value row) expr

@@ -3,3 +3,4 @@ pub mod IsExpr
 pub mod Expr
 pub mod Meaning
 pub mod FilterPlan
+pub mod Arithmetic
