@@ -1,14 +1,12 @@
 -- What the comparisons of values say.
-use Rattle.std.specs.Prelude.{◌≡◌, ◌≢◌, ◌↔◌, ℕ, ◌<◌, ℤ, ◌<ℤ◌, ◌⊎◌, Bool, true, false, not, ◌&&◌, ◌||◌, List, [], ◌∷◌, ◌++◌, IsTrue, refl}
-use Rattle.std.proofs.Common.{sym, ◌∙◌, ap, subst, arith, inl, inr, true≢false}
-use Rattle.std.proofs.lemmas.Int.{ints}
-use Rattle.std.specs.Ordering.{is_eq, is_ne, is_lt, is_le, is_gt, is_ge, int_cmp, nat_cmp, bool_cmp, ordering_then, ordering_reverse, MatchOrdering}
-use Rattle.std.specs.Cmp.{tied_itself, ranks, int_ranks, nat_cmp_total, nat_cmp_is}
+use Rattle.std.specs.Prelude.{◌≡◌, ◌≢◌, ◌↔◌, ℕ, ◌<◌, Bool, true, false, not, List, [], ◌∷◌, ◌++◌, IsTrue, refl}
+use Rattle.std.proofs.Common.{sym, ◌∙◌, ap, subst, inl, inr, true≢false}
+use Rattle.std.specs.Ordering.{is_eq, is_ne, is_lt, is_le, is_gt, nat_cmp, ordering_then, ordering_reverse, MatchOrdering}
+use Rattle.std.specs.Cmp.{tied_itself, ranks, nat_cmp_total, nat_cmp_is}
 use Rattle.std.specs.Cmp.Lexicographic.{slice_cmp}
 use Rattle.std.specs.declared.cmp.Ordering.{Ordering}
 use Rattle.std.specs.declared.cmp.Ordering.TheVariants.{Less, Equal, Greater}
 use Rattle.tw_rows.specs.declared.row.Value.{Value}
-use Rattle.tw_rows.specs.declared.row.Value.TheVariants.{Int, Bool as Flag, Text}
 use Rattle.tw_rows.specs.Rows.{value_cmp}
 use Rattle.tw_rows.specs.RowOrder.{value_cmp_total, value_cmp-IsAntisymmetric}
 use Rattle.plan_model.specs.Arithmetic.{StandsBefore}
@@ -48,27 +46,6 @@ is_le-not Less = refl
 is_le-not Equal = refl
 is_le-not Greater = refl
 
-pub is_ge-not : (o : Ordering) → is_ge o ≡ not (is_lt o)
-is_ge-not Less = refl
-is_ge-not Equal = refl
-is_ge-not Greater = refl
-
--- "before" of numbers
-int_before : (x y : ℤ) (o : Ordering) → MatchOrdering o (x <ℤ y) (x ≡ y) (y <ℤ x) → IsTrue (is_lt o) ↔ (x <ℤ y)
-int_before x y Less h = (λ e. h, λ l. refl)
-int_before x y Equal h = (λ e. absurd (cc), λ l. absurd (omega (arith, ints, h, l)))
-int_before x y Greater h = (λ e. absurd (cc), λ l. absurd (omega (arith, ints, h, l)))
-
-pub is_lt-int : (x y : ℤ) → IsTrue (is_lt (int_cmp x y)) ↔ (x <ℤ y)
-is_lt-int x y = int_before x y (int_cmp x y) (int_ranks x y)
-
--- "before" of truth values
-pub is_lt-bool : (a b : Bool) → IsTrue (is_lt (bool_cmp a b)) ↔ ((a ≡ false) × (b ≡ true))
-is_lt-bool false false = (λ e. absurd (cc), λ h. absurd (true≢false (sym h.1)))
-is_lt-bool false true = (λ e. (refl, refl), λ h. refl)
-is_lt-bool true false = (λ e. absurd (cc), λ h. absurd (true≢false h.0))
-is_lt-bool true true = (λ e. absurd (cc), λ h. absurd (true≢false h.0))
-
 -- "before" of texts
 after_same : (x : ℕ) (s t : List ℕ) → slice_cmp nat_cmp (x ∷ s) (x ∷ t) ≡ slice_cmp nat_cmp s t
 after_same x s t = ap (λ o. ordering_then o (slice_cmp nat_cmp s t)) (tied_itself nat_cmp_total x)
@@ -103,14 +80,6 @@ before_to s t (inr h) = ap is_lt (ap (slice_cmp nat_cmp s) h.7 ∙ (ap (λ l. sl
 pub is_lt-text : (s t : List ℕ) → IsTrue (is_lt (slice_cmp nat_cmp s t)) ↔ StandsBefore s t
 is_lt-text s t = (before_from s t, before_to s t)
 
--- the truth values
+-- a truth value turned
 pub IsTrue-not : (b : Bool) → IsTrue (not b) ↔ (IsTrue b → ⊥)
 IsTrue-not b = not_true b (λ e. e) (λ e. e)
-
-pub IsTrue-and : (a b : Bool) → IsTrue (a && b) ↔ (IsTrue a × IsTrue b)
-IsTrue-and true b = (λ e. (refl, e), λ h. h.1)
-IsTrue-and false b = (λ e. absurd (cc), λ h. absurd (true≢false (sym h.0)))
-
-pub IsTrue-or : (a b : Bool) → IsTrue (a || b) ↔ (IsTrue a ⊎ IsTrue b)
-IsTrue-or true b = (λ e. inl refl, λ h. refl)
-IsTrue-or false b = (λ e. inr e, λ h. elim h [ | inl e ↦ absurd (true≢false (sym e)) | inr e ↦ e ])

@@ -1,13 +1,12 @@
 -- Examples that are computed, with their results worked out by hand.
-use Rattle.std.specs.Prelude.{◌≡◌, ℕ, zero, ◌^◌, ◌-◌, ◌+◌, ℤ, pos, negsuc, Bool, true, false, List, [], ◌∷◌, codes, refl}
+use Rattle.std.specs.Prelude.{◌≡◌, ℕ, ℤ, pos, negsuc, true, false, List, [], ◌∷◌, codes, refl}
 use Rattle.std.specs.Int.{int_wrap}
 use Rattle.tw_rows.specs.Instant.{inf}
 use Rattle.tw_rows.specs.Event.{Event, alive}
 use Rattle.tw_rows.specs.Rows.{Row}
-use Rattle.tw_rows.specs.declared.row.Value.{Value}
 use Rattle.tw_rows.specs.declared.row.Value.TheVariants.{Int, Bool as Flag, Text}
 use Rattle.plan_model.specs.declared.expr.ArithOp.TheVariants.{Add, Sub, Mul}
-use Rattle.plan_model.specs.declared.expr.CompareOp.TheVariants.{Eq, Ne, Lt, Le, Gt, Ge}
+use Rattle.plan_model.specs.declared.expr.CompareOp.TheVariants.{Eq, Lt, Le, Gt}
 use Rattle.plan_model.specs.declared.expr.ExprNode.{ExprNode}
 use Rattle.plan_model.specs.declared.expr.ExprNode.TheVariants.{Column, Int as ConstInt, Bool as ConstBool, Text as ConstText, Neg, Not, Arith, Div, Mod, Compare, And, Or}
 use Rattle.plan_model.specs.Expr.{value}

@@ -1,13 +1,12 @@
 -- The nodes of an expression, and the equation of their values.
 use Rattle.std.specs.Prelude.{◌≡◌, ℕ, zero, suc, ◌+◌, ◌<◌, Some, List, [], ◌∷◌, slice_get, unwrap_or, refl}
-use Rattle.std.proofs.Common.{◌∙◌, ap, subst, arith, zero-add}
+use Rattle.std.proofs.Common.{ap, subst, arith, zero-add}
 use Rattle.tw_rows.specs.declared.row.Value.{Value}
-use Rattle.tw_rows.specs.declared.row.Value.TheVariants.{Int, Bool as Flag}
-use Rattle.tw_rows.specs.Rows.{Row, value_cmp}
+use Rattle.tw_rows.specs.Rows.{Row}
 use Rattle.plan_model.specs.declared.expr.ExprNode.{ExprNode}
 use Rattle.plan_model.specs.declared.expr.ExprNode.TheVariants.{Column, Int as ConstInt, Bool as ConstBool, Text as ConstText, Neg, Not, Arith, Div, Mod, Compare, And, Or}
 use Rattle.plan_model.specs.IsExpr.{IsExprNode, AreExprNodes, IsExpr}
-use Rattle.plan_model.specs.Expr.{zero_value, node_value, value_at, arith_value, is_met, int_of, flag_of}
+use Rattle.plan_model.specs.Expr.{zero_value, node_value, value_at}
 use Rattle.plan_model.proofs.Folds.{result-is}
 
 IsExprNode-from : (first : ℕ) (ns : List ExprNode) (i : ℕ) (n : ExprNode) → AreExprNodes first ns → slice_get ns i ≡ Some n → IsExprNode (first + i) n

@@ -1,11 +1,10 @@
 -- What the plan of one stream and one test means.
-use Rattle.std.specs.Prelude.{◌≡◌, ℕ, zero, suc, ◌<◌, ℤ, int_lt, Bool, true, false, cond, Option, Some, None, List, [], ◌∷◌, filter, slice_get, unwrap_or, refl}
-use Rattle.std.proofs.Common.{sym, ◌∙◌, ap, subst, arith}
+use Rattle.std.specs.Prelude.{◌≡◌, ℕ, zero, suc, ℤ, int_lt, List, ◌∷◌, filter, unwrap_or, refl}
+use Rattle.std.proofs.Common.{ap, subst, arith}
 use Rattle.std.proofs.lemmas.Int.{ints}
 use Rattle.std.specs.Ordering.{int_cmp, is_gt}
-use Rattle.tw_rows.specs.Event.{Event, alive}
+use Rattle.tw_rows.specs.Event.{alive}
 use Rattle.tw_rows.specs.Rows.{Row}
-use Rattle.tw_rows.specs.declared.row.Value.{Value}
 use Rattle.tw_rows.specs.declared.row.Value.TheVariants.{Int, Bool as Flag}
 use Rattle.plan_model.specs.declared.expr.ExprNode.{ExprNode}
 use Rattle.plan_model.specs.declared.node.Node.{Node}
@@ -13,7 +12,7 @@ use Rattle.plan_model.specs.declared.node.Node.TheVariants.{Source, Where}
 use Rattle.plan_model.specs.Expr.{value, holds}
 use Rattle.plan_model.specs.IsExpr.{IsExpr}
 use Rattle.plan_model.specs.FilterPlan.{filter_plan, first_above}
-use Rattle.plan_model.specs.Meaning.{Sources, filtered, events, closes, snapshots, IsOrdered, IsLevelled, HasLower, left_child, right_child, reads_events}
+use Rattle.plan_model.specs.Meaning.{Sources, events, closes, snapshots, IsOrdered, IsLevelled, HasLower, left_child, right_child}
 
 pub IsOrdered-filter_plan : (test : List ExprNode) → IsOrdered (filter_plan test)
 IsOrdered-filter_plan test zero n there = subst HasChildrenBelow (ap (λ o. unwrap_or o n) there) (tt, tt)

@@ -1,10 +1,9 @@
 -- The laws over whole plans.
-use Rattle.std.specs.Prelude.{◌≡◌, ℕ, ◌<◌, ◌≤◌, List, [], true, refl}
+use Rattle.std.specs.Prelude.{ℕ, ◌<◌, List, [], refl}
 use Rattle.std.proofs.Common.{arith}
 use Rattle.tw_rows.specs.Instant.{inf}
 use Rattle.tw_rows.specs.Bag.{SameBag}
-use Rattle.tw_rows.specs.Event.{Event, alive, AreEvents, Known}
-use Rattle.tw_rows.specs.Rows.{Row}
+use Rattle.tw_rows.specs.Event.{AreEvents, Known}
 use Rattle.tw_rows.proofs.Bags.{SameBag-refl, SameBag-sym, SameBag-trans}
 use Rattle.tw_rows.proofs.Lives.{alive_known}
 use Rattle.plan_model.specs.declared.node.Node.{Node}

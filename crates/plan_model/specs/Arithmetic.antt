@@ -1,5 +1,5 @@
 -- Arithmetic in its own words, in which the laws of expressions are stated.
-use Rattle.std.specs.Prelude.{◌≡◌, ℕ, ◌^◌, ◌<◌, ℤ, pos, ◌+ℤ◌, ◌*ℤ◌, ◌≤ℤ◌, ◌<ℤ◌, ◌⊎◌, List, [], ◌∷◌, ◌++◌, FitsSigned}
+use Rattle.std.specs.Prelude.{◌≡◌, ℕ, ◌^◌, ◌<◌, ℤ, pos, ◌+ℤ◌, ◌*ℤ◌, ◌≤ℤ◌, ◌<ℤ◌, ◌⊎◌, List, ◌∷◌, ◌++◌, FitsSigned}
 use Rattle.std.specs.Int.{w64}
 
 -- a and b differ by a multiple of 2^64

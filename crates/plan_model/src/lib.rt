@@ -6,7 +6,9 @@ mod expr;
 mod laws;
 mod node;
 
-pub use arith_laws::{arithmetic_wraps, comparisons_agree, connectives_are_logical, division_is_euclidean};
+pub use arith_laws::{
+    arithmetic_wraps, comparisons_agree, connectives_are_logical, division_is_euclidean,
+};
 pub use expr::{ArithOp, CompareOp, Expr, ExprNode};
 pub use laws::{
     events_have_lives, nodes_are_causal, result_is, snapshots_agree, snapshots_are_final,

@@ -1,8 +1,8 @@
-use Rattle.std.specs.Prelude.{◌↔◌, IsTrue, not, refl}
-use Rattle.std.proofs.Common.{sym, ◌∙◌, ap, subst}
-use Rattle.std.specs.Ordering.{is_lt, is_gt, is_le, is_ge}
+use Rattle.std.specs.Prelude.{not}
+use Rattle.std.proofs.Common.{◌∙◌, ap}
+use Rattle.std.specs.Ordering.{is_lt}
 use Rattle.tw_rows.specs.Rows.{value_cmp}
-use Rattle.plan_model.proofs.Comparing.{is_eq-value_cmp, is_ne-value_cmp, is_gt-turned, is_le-not, is_ge-not, is_lt-text, is_lt-int, is_lt-bool, IsTrue-not}
+use Rattle.plan_model.proofs.Comparing.{is_eq-value_cmp, is_ne-value_cmp, is_gt-turned, is_le-not, is_lt-text, IsTrue-not}
 use Rattle.plan_model.proofs.arith_laws.comparisons_agree.Goals as goal
 
 pub returns-clause-equal : goal.returns-clause-equal
@@ -10,12 +10,6 @@ returns-clause-equal c = λ row at left right. is_eq-value_cmp (at left) (at rig
 
 pub returns-clause-not_equal : goal.returns-clause-not_equal
 returns-clause-not_equal c = λ row at left right. is_ne-value_cmp (at left) (at right)
-
-pub returns-clause-less_int : goal.returns-clause-less_int
-returns-clause-less_int c = λ row at left right x y l r. rw (l, r) (is_lt-int x y)
-
-pub returns-clause-less_bool : goal.returns-clause-less_bool
-returns-clause-less_bool c = λ row at left right a b l r. rw (l, r) (is_lt-bool a b)
 
 pub returns-clause-less_text : goal.returns-clause-less_text
 returns-clause-less_text c = λ row at left right s t l r. rw (l, r) (is_lt-text s t)
@@ -25,6 +19,3 @@ returns-clause-greater c = λ row at left right. rw (is_gt-turned (at left) (at 
 
 pub returns-clause-at_most : goal.returns-clause-at_most
 returns-clause-at_most c = λ row at left right. rw (is_le-not (value_cmp (at left) (at right)) ∙ ap not (is_gt-turned (at left) (at right))) (IsTrue-not (is_lt (value_cmp (at right) (at left))))
-
-pub returns-clause-at_least : goal.returns-clause-at_least
-returns-clause-at_least c = λ row at left right. rw (is_ge-not (value_cmp (at left) (at right))) (IsTrue-not (is_lt (value_cmp (at left) (at right))))
