@@ -1,0 +1,76 @@
+-- Of each kind of node: its events agree with its rows, and what is known of its events hangs on what is known of its
+-- children's.
+use Rattle.std.specs.Prelude.{◌≡◌, ℕ, ◌<◌, Bool, true, false, cond, List, [], ◌∷◌, filter, refl}
+use Rattle.std.proofs.Common.{sym, ◌∙◌, ap, arith, add-zero}
+use Rattle.std.proofs.lemmas.Bool.Decides.{nat_tests}
+use Rattle.tw_rows.specs.Instant.{inf}
+use Rattle.tw_rows.specs.Bag.{total, SameBag}
+use Rattle.tw_rows.specs.Event.{Event, lives_at, alive, AreEvents, cut_one, cut, Known}
+use Rattle.tw_rows.specs.Rows.{Row}
+use Rattle.tw_rows.proofs.Bags.{total-filter, total_same}
+use Rattle.tw_rows.proofs.Lives.{total-alive, causal_from_one}
+use Rattle.plan_model.specs.declared.expr.ExprNode.{ExprNode}
+use Rattle.plan_model.specs.declared.node.Node.{Node}
+use Rattle.plan_model.specs.declared.node.Node.TheVariants.{Source, Where}
+use Rattle.plan_model.specs.Expr.{holds}
+use Rattle.plan_model.specs.Meaning.{Meaning, filtered, node_events, node_meaning, node_closes, reads_events}
+
+-- the events of a node are its meaning: they are its own events where it has them, and alive they are its rows
+pub record AgreesWith (es : List (Event Row)) (m : Meaning) : Type 0 where
+  pub same_events : m.has_events ≡ true → es ≡ m.events
+  pub same_rows : (t : ℕ) → t < inf → SameBag (alive es t) (m.rows t)
+
+cond_both_ways : (p q : Bool) (n : ℕ) → cond p (cond q n 0) 0 ≡ cond q (cond p n 0) 0
+cond_both_ways true true n = refl
+cond_both_ways true false n = refl
+cond_both_ways false true n = refl
+cond_both_ways false false n = refl
+
+-- the rows that are alive of the events that pass a test, where r holds those of all events
+pub alive-filtered : (test : List ExprNode) (es : List (Event Row)) (rows : List Row) (t : ℕ) → SameBag (alive es t) rows → SameBag (alive (filtered test es) t) (filter (holds test) rows)
+alive-filtered test es rows t h = record {
+  weigh = λ w.
+      total-alive w (filtered test es) t
+      ∙ (total-filter (λ e. cond (lives_at t e) (w e.row) 0) (λ e. holds test e.row) es
+      ∙ (total_same _ _ es (λ e. cond_both_ways (holds test e.row) (lives_at t e) (w e.row))
+      ∙ (sym (total-alive (λ r. cond (holds test r) (w r) 0) es t)
+      ∙ (h.weigh (λ r. cond (holds test r) (w r) 0)
+      ∙ sym (total-filter w (holds test) rows)))));
+}
+
+pub node_agrees : (n : Node) (a b : List (Event Row)) (x y : Meaning) → AgreesWith a x → AgreesWith b y → (reads_events n ≡ true → x.has_events ≡ true) → AgreesWith (node_events n a b) (node_meaning n x y)
+node_agrees (Source stream) a b x y h k fits = h
+node_agrees (Where of test) a b x y h k fits = record {
+  same_events = λ has. ap (filtered test) (h.same_events has);
+  same_rows = λ t low. alive-filtered test a (x.rows t) t (h.same_rows t low);
+}
+
+filtered_by_one : (test : List ExprNode) (w : Event Row → ℕ) (es : List (Event Row)) → total w (filtered test es) ≡ total (λ e. total w (cond (holds test e.row) (e ∷ []) [])) es
+filtered_by_one test w es = total-filter w (λ e. holds test e.row) es ∙ total_same _ _ es (λ e. one (holds test e.row) e)
+  where
+    one : (b : Bool) (e : Event Row) → cond b (w e) 0 ≡ total w (cond b (e ∷ []) [])
+    one true e = sym (add-zero (w e))
+    one false e = refl
+
+filtered_known : (w : Event Row → ℕ) (test : List ExprNode) (c : ℕ) (e : Event Row) → total w (cut c (cond (holds test e.row) (e ∷ []) [])) ≡ total (λ x. total w (cut c (cond (holds test x.row) (x ∷ []) []))) (cut_one c e)
+filtered_known w test c e = one (holds test) c e
+  where
+    one : (p : Row → Bool) (c : ℕ) (e : Event Row) → total w (cut c (cond (p e.row) (e ∷ []) [])) ≡ total (λ x. total w (cut c (cond (p x.row) (x ∷ []) []))) (cut_one c e)
+    one p c e = grind (arith, nat_tests)
+
+pub AreEvents-filtered : (test : List ExprNode) (es : List (Event Row)) → AreEvents es → AreEvents (filtered test es)
+AreEvents-filtered test [] v = tt
+AreEvents-filtered test (e ∷ es) v = pick (holds test e.row) (AreEvents-filtered test es v.2)
+  where
+    pick : (b : Bool) → AreEvents (filtered test es) → AreEvents (cond b (e ∷ filtered test es) (filtered test es))
+    pick true rest = (v.0, v.1, rest)
+    pick false rest = rest
+
+pub node_known : (n : Node) (x y : ℕ) (a b c d : List (Event Row)) → Known x a c → Known y b d → Known (node_closes n x y) (node_events n a b) (node_events n c d)
+node_known (Source stream) x y a b c d h k = h
+node_known (Where of test) x y a b c d h k = record {
+  low = h.low;
+  left_valid = AreEvents-filtered test a h.left_valid;
+  right_valid = AreEvents-filtered test c h.right_valid;
+  same = causal_from_one (filtered test) (λ e. cond (holds test e.row) (e ∷ []) []) x x (filtered_by_one test) (λ w e _. filtered_known w test x e) a c h.left_valid h.right_valid h.same;
+}

@@ -1,0 +1,14 @@
+use Rattle.std.specs.Prelude.{[]}
+use Rattle.tw_rows.specs.Instant.{inf}
+use Rattle.plan_model.specs.Meaning.{node_events, node_closes, nothing, by_events, node_meaning}
+use Rattle.plan_model.proofs.Plans.{over_nodes-is}
+use Rattle.plan_model.proofs.laws.result_is.Goals as goal
+
+pub returns-clause-events : goal.returns-clause-events
+returns-clause-events c = λ source nodes i n ordered there. over_nodes-is [] source node_events nodes ordered i n there
+
+pub returns-clause-meaning : goal.returns-clause-meaning
+returns-clause-meaning c = λ source nodes i n ordered there. over_nodes-is nothing (λ s. by_events (source s)) node_meaning nodes ordered i n there
+
+pub returns-clause-closing : goal.returns-clause-closing
+returns-clause-closing c = λ nodes i p n ordered there. over_nodes-is inf (λ s. p) node_closes nodes ordered i n there

@@ -1,0 +1,6 @@
+pub mod Fold
+pub mod IsExpr
+pub mod Expr
+pub mod Meaning
+pub mod FilterPlan
+pub mod Arithmetic

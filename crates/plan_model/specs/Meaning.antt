@@ -1,0 +1,111 @@
+-- What a plan means: the events and the rows of each node, and the time below which they are final.
+use Rattle.std.specs.Prelude.{◌≡◌, ℕ, ◌<◌, Bool, true, false, Option, Some, None, List, [], filter, slice_get}
+use Rattle.tw_rows.specs.Instant.{inf}
+use Rattle.tw_rows.specs.Event.{Event, alive}
+use Rattle.tw_rows.specs.Rows.{Row}
+use Rattle.plan_model.specs.declared.expr.ExprNode.{ExprNode}
+use Rattle.plan_model.specs.declared.node.Node.{Node}
+use Rattle.plan_model.specs.declared.node.Node.TheVariants.{Source, Where}
+use Rattle.plan_model.specs.Expr.{holds}
+use Rattle.plan_model.specs.Fold.{result}
+
+-- the events of each stream, by its number
+abbrev pub Sources : Type 0
+Sources = ℕ → List (Event Row)
+
+-- the number of the only or left child
+abbrev pub left_child : Node → Option ℕ
+left_child (Source stream) = None
+left_child (Where of test) = Some of
+
+-- the number of the right child
+abbrev pub right_child : Node → Option ℕ
+right_child (Source stream) = None
+right_child (Where of test) = None
+
+-- what stands at a child's number, and `none` where there is no child
+abbrev pub at_child : {R : Type 0} → R → (ℕ → R) → Option ℕ → R
+at_child none at None = none
+at_child none at (Some i) = at i
+
+-- what a node reads on the left: a source its stream, every other node its child
+abbrev pub left_of : {R : Type 0} → R → (ℕ → R) → (ℕ → R) → Node → R
+left_of none source at (Source stream) = source stream
+left_of none source at n = at_child none at (left_child n)
+
+-- what a node reads on the right
+abbrev pub right_of : {R : Type 0} → R → (ℕ → R) → Node → R
+right_of none at n = at_child none at (right_child n)
+
+-- over a plan: the result of each node is made from what it reads on the left and on the right. `none` stands for a
+-- child that is not there, and `source` gives what the sources read
+abbrev pub over_nodes : {R : Type 0} → R → (ℕ → R) → (Node → R → R → R) → List Node → ℕ → R
+over_nodes none source node = result none (λ n at. node n (left_of none source at n) (right_of none at n))
+
+-- the child, if there is one, has a number below i
+abbrev pub HasLower : ℕ → Option ℕ → Type 0
+HasLower i None = Unit {0}
+HasLower i (Some child) = child < i
+
+-- children have lower numbers than their parents
+abbrev pub IsOrdered : List Node → Type 0
+IsOrdered nodes = (i : ℕ) (n : Node) → slice_get nodes i ≡ Some n → HasLower i (left_child n) × HasLower i (right_child n)
+
+-- the events whose rows pass the test
+abbrev pub filtered : List ExprNode → List (Event Row) → List (Event Row)
+filtered test events = filter (λ e. holds test e.row) events
+
+-- the events of a node, from those of its children
+abbrev pub node_events : Node → List (Event Row) → List (Event Row) → List (Event Row)
+node_events (Source stream) a b = a
+node_events (Where of test) a b = filtered test a
+
+-- the events of the node of number n
+abbrev pub events : Sources → List Node → ℕ → List (Event Row)
+events source nodes n = over_nodes [] source node_events nodes n
+
+-- the time below which a node is final, from those of its children
+abbrev pub node_closes : Node → ℕ → ℕ → ℕ
+node_closes (Source stream) x y = x
+node_closes (Where of test) x y = x
+
+-- the closing of the node of number n at the punctuation p, up to which all rows of the sources are known
+abbrev pub closes : List Node → ℕ → ℕ → ℕ
+closes nodes n p = over_nodes inf (λ s. p) node_closes nodes n
+
+-- what a node means: its events where it has events of its own, whether it has them, and its rows at each instant
+pub record Meaning : Type 0 where
+  pub events : List (Event Row)
+  pub has_events : Bool
+  pub rows : ℕ → List Row
+
+-- no rows at any instant
+abbrev pub nothing : Meaning
+nothing = record { events = []; has_events = true; rows = λ t. [] }
+
+-- the meaning whose rows are those of events: at each instant the rows that are alive
+abbrev pub by_events : List (Event Row) → Meaning
+by_events events = record { events = events; has_events = true; rows = alive events }
+
+-- the meaning of a node, from those of its children
+abbrev pub node_meaning : Node → Meaning → Meaning → Meaning
+node_meaning (Source stream) a b = a
+node_meaning (Where of test) a b = record { events = filtered test a.events; has_events = a.has_events; rows = λ t. filter (holds test) (a.rows t) }
+
+-- the meaning of the node of number n
+abbrev pub meaning : Sources → List Node → ℕ → Meaning
+meaning source nodes n = over_nodes nothing (λ s. by_events (source s)) node_meaning nodes n
+
+-- the rows of the node of number n at the instant t
+abbrev pub snapshots : Sources → List Node → ℕ → ℕ → List Row
+snapshots source nodes n t = (meaning source nodes n).rows t
+
+-- the node reads the events of its child, and not its rows at each instant alone
+abbrev pub reads_events : Node → Bool
+reads_events (Source stream) = false
+reads_events (Where of test) = false
+
+-- a node that reads events has a child with events
+abbrev pub IsLevelled : List Node → Type 0
+IsLevelled nodes = (source : Sources) (i : ℕ) (n : Node) → slice_get nodes i ≡ Some n → reads_events n ≡ true →
+    (left_of nothing (λ s. by_events (source s)) (meaning source nodes) n).has_events ≡ true

@@ -1,0 +1,102 @@
+// The laws of what expressions and plans mean. Each is a function that does nothing; its clauses are the law.
+ghost use Rattle.std.specs.Prelude.{◌≡◌, ℕ, ◌-◌, ◌<◌, List, [], length, filter, slice_get, true};
+ghost use Rattle.tw_rows.specs.Bag.{SameBag};
+ghost use Rattle.tw_rows.specs.Event.{Event, alive, AreEvents, Known};
+ghost use Rattle.tw_rows.specs.Instant.{inf};
+ghost use Rattle.tw_rows.specs.Rows.{Row};
+ghost use Rattle.plan_model.specs.declared.expr.ExprNode.{ExprNode};
+ghost use Rattle.plan_model.specs.declared.node.Node.{Node};
+ghost use Rattle.plan_model.specs.IsExpr.{IsExpr};
+ghost use Rattle.plan_model.specs.Expr.{node_value, value_at, value, holds};
+ghost use Rattle.plan_model.specs.Meaning.{Sources, left_of, right_of, node_events, events, node_closes, closes, nothing, by_events, node_meaning, meaning, snapshots, IsOrdered, IsLevelled};
+
+/// Each node of an expression has the value that its kind makes of its operands' values, and the expression has the
+/// value of its last node.
+pub fn value_is()
+    ensures node { (expr : List ExprNode) (row : Row) (i : ℕ) (n : ExprNode) →
+        IsExpr expr → slice_get expr i ≡ Some n →
+        value_at expr row i ≡ node_value row n (value_at expr row) }
+    ensures root { (expr : List ExprNode) (row : Row) → value expr row ≡ value_at expr row (length expr - 1) }
+{}
+
+/// A Source has the events of its stream, its rows are those that are alive, and it is closed up to the punctuation `p`.
+pub fn source_is()
+    ensures events { (source : Sources) (nodes : List Node) (i stream : ℕ) →
+        IsOrdered nodes → slice_get nodes i ≡ Some (Node.Source stream) →
+        events source nodes i ≡ source stream }
+    ensures rows { (source : Sources) (nodes : List Node) (i stream t : ℕ) →
+        IsOrdered nodes → slice_get nodes i ≡ Some (Node.Source stream) →
+        snapshots source nodes i t ≡ alive (source stream) t }
+    ensures closing { (nodes : List Node) (i stream p : ℕ) →
+        IsOrdered nodes → slice_get nodes i ≡ Some (Node.Source stream) →
+        closes nodes i p ≡ p }
+{}
+
+/// A Where has those events and, at each instant, those rows of its child for which the test is true, and is closed where
+/// the child is.
+pub fn where_is()
+    ensures events { (source : Sources) (nodes : List Node) (i child : ℕ) (test : List ExprNode) →
+        IsOrdered nodes → slice_get nodes i ≡ Some (Node.Where child test) →
+        events source nodes i ≡ filter (λ e. holds test e.row) (events source nodes child) }
+    ensures rows { (source : Sources) (nodes : List Node) (i child t : ℕ) (test : List ExprNode) →
+        IsOrdered nodes → slice_get nodes i ≡ Some (Node.Where child test) →
+        snapshots source nodes i t ≡ filter (holds test) (snapshots source nodes child t) }
+    ensures closing { (nodes : List Node) (i child p : ℕ) (test : List ExprNode) →
+        IsOrdered nodes → slice_get nodes i ≡ Some (Node.Where child test) →
+        closes nodes i p ≡ closes nodes child p }
+{}
+
+/// Each node, of any kind, is its own case over its children: its events, its meaning and its closing are made of what it
+/// reads from its stream or from its children.
+pub fn result_is()
+    ensures events { (source : Sources) (nodes : List Node) (i : ℕ) (n : Node) →
+        IsOrdered nodes → slice_get nodes i ≡ Some n →
+        events source nodes i
+        ≡ node_events n (left_of [] source (events source nodes) n)
+        (right_of [] (events source nodes) n) }
+    ensures meaning { (source : Sources) (nodes : List Node) (i : ℕ) (n : Node) →
+        IsOrdered nodes → slice_get nodes i ≡ Some n →
+        meaning source nodes i
+        ≡ node_meaning n
+        (left_of nothing (λ s. by_events (source s)) (meaning source nodes) n)
+        (right_of nothing (meaning source nodes) n) }
+    ensures closing { (nodes : List Node) (i p : ℕ) (n : Node) →
+        IsOrdered nodes → slice_get nodes i ≡ Some n →
+        closes nodes i p
+        ≡ node_closes n (left_of inf (λ s. p) (λ j. closes nodes j p) n)
+        (right_of inf (λ j. closes nodes j p) n) }
+{}
+
+/// The events of each node have lives that begin before they end, where those of the sources have.
+pub fn events_have_lives()
+    ensures { (source : Sources) (nodes : List Node) → IsOrdered nodes →
+        ((s : ℕ) → AreEvents (source s)) → (n : ℕ) → AreEvents (events source nodes n) }
+{}
+
+/// Snapshots: at each instant the events of a node that are alive are the rows of the node. A node that has events of its
+/// own has just these.
+pub fn snapshots_agree()
+    ensures rows { (source : Sources) (nodes : List Node) → IsOrdered nodes → IsLevelled nodes →
+        (n t : ℕ) → t < inf →
+        SameBag (alive (events source nodes n) t) (snapshots source nodes n t) }
+    ensures events { (source : Sources) (nodes : List Node) → IsOrdered nodes → IsLevelled nodes →
+        (n : ℕ) → (meaning source nodes n).has_events ≡ true →
+        events source nodes n ≡ (meaning source nodes n).events }
+{}
+
+/// Causality: what is known of a node's events below its closing hangs only on what is known of its children's events
+/// below theirs. `x` and `y` are the closings of the children.
+pub fn nodes_are_causal()
+    ensures { (n : Node) (x y : ℕ) (a b c d : List (Event Row)) → Known x a c → Known y b d →
+        Known (node_closes n x y) (node_events n a b) (node_events n c d) }
+{}
+
+/// Finality: where later lines leave what is known of the sources below the punctuation `p`, they leave the rows of each
+/// node at each instant below the node's closing.
+pub fn snapshots_are_final()
+    ensures { (p : ℕ) (source later_source : Sources) (nodes : List Node) →
+        IsOrdered nodes → IsLevelled nodes →
+        ((s : ℕ) → Known p (source s) (later_source s)) →
+        (n t : ℕ) → t < closes nodes n p →
+        SameBag (snapshots source nodes n t) (snapshots later_source nodes n t) }
+{}

@@ -1,0 +1,13 @@
+// Nodes of plans.
+
+use crate::expr::Expr;
+
+/// A node of a plan. It names its children by their numbers in the plan's list of nodes, which are lower than its own.
+/// The list of kinds of node grows: a `match` outside this crate is to expect more of them.
+#[derive(Drop)]
+pub enum Node {
+    /// The rows of the stream of that number.
+    Source { stream: usize },
+    /// The rows of the child for which the test is true.
+    Where { of: usize, test: Expr },
+}
