@@ -8,3 +8,10 @@ pub mod Wrapping
 pub mod Dividing
 pub mod Comparing
 mod Computed
+pub mod Examples
+pub mod InOrder
+pub mod Each
+pub mod Counting
+pub mod LineOrder
+pub mod FirstOpen
+pub mod Steady

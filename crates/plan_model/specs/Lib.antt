@@ -4,3 +4,6 @@ pub mod Expr
 pub mod Meaning
 pub mod FilterPlan
 pub mod Arithmetic
+pub mod Opens
+pub mod Changes
+pub mod ChangeWords

@@ -1,13 +1,19 @@
-//! Plans of queries: the expressions of their tests, their nodes, what each node means, and the laws of that meaning.
+//! Plans of queries: the expressions of their tests, their nodes, what each node means, and the changes of its rows from
+//! instant to instant, with the laws of all of these.
 #![tactic(auto)]
 
 mod arith_laws;
+mod changes_laws;
 mod expr;
 mod laws;
 mod node;
 
 pub use arith_laws::{
     arithmetic_wraps, comparisons_agree, connectives_are_logical, division_is_euclidean,
+};
+pub use changes_laws::{
+    ends_name_first_open_start, lines_count_rows, lines_follow_rows, lines_stand_in_order,
+    same_rows_same_changes,
 };
 pub use expr::{ArithOp, CompareOp, Expr, ExprNode};
 pub use laws::{
