@@ -4,3 +4,4 @@ pub mod LineLength
 pub mod Cutting
 pub mod NextFacts
 pub mod CutsFacts
+pub mod Limits
