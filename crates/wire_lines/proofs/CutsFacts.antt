@@ -15,6 +15,7 @@ use Rattle.wire_lines.proofs.Cutting.{cut_free, cut_go_on, cut_first, free_take,
 never : false ≡ true → ⊥
 never e = cc
 
+-- nothing was fed
 pub Cuts-opening : (longest total : ℕ) → Cuts [] (opening longest total) []
 Cuts-opening longest total = record {
   all = refl;
@@ -25,6 +26,7 @@ Cuts-opening longest total = record {
   settled = λ _. record { one_line = refl; short = omega arith; few = omega arith };
 }
 
+-- after a piece was fed
 pub Cuts-fed : (bytes piece : List ℕ) (s : CutterState) (given : List (List ℕ)) → Cuts bytes s given → Cuts (bytes ++ piece) (record s { rest = s.rest ++ piece; hungry = false }) given
 Cuts-fed bytes piece s given c = record {
   all = ap (λ x. x ++ piece) c.all ∙ append_assoc (joined given) s.rest piece;
@@ -46,6 +48,7 @@ Cuts-stopped bytes s given c = record {
   settled = λ t. absurd (never t);
 }
 
+-- after more bytes were asked for
 pub Cuts-settled : (bytes : List ℕ) (s : CutterState) (given : List (List ℕ)) → Cuts bytes s given → IsSettled bytes s → Cuts bytes (record s { hungry = true }) given
 Cuts-settled bytes s given c settled = record {
   all = c.all;
@@ -69,6 +72,7 @@ Cuts-line bytes s given c within room = record {
   settled = λ t. absurd (never t);
 }
 
+-- a line that is given is the next line of the bytes
 gives_line : (bytes : List ℕ) (s : CutterState) (given : List (List ℕ)) (number : ℕ) (line : List ℕ) → Cuts bytes s given → IsGiven s number line → GivesLine bytes s given number line
 gives_line bytes s given number line c g = record {
   number_is = omega (arith, g.number_is, c.number_is);
@@ -84,6 +88,7 @@ gives_line bytes s given number line c g = record {
   after = rw (g.after, g.bytes_is) (Cuts-line bytes s given c g.within g.room);
 }
 
+-- a line that is too long is the next line of the bytes, as far as they go
 finds_too_long : (bytes : List ℕ) (s : CutterState) (given : List (List ℕ)) (number : ℕ) → Cuts bytes s given → IsOverlong s number → FindsTooLong bytes s given number
 finds_too_long bytes s given number c over = record {
   number_is = omega (arith, over.number_is, c.number_is);
@@ -109,6 +114,7 @@ front_cut bytes s given c no_line =
     (ap (take s.total) c.all ∙ ap (λ n. take n (joined given ++ s.rest)) (split_total s.total (length (joined given)) (omega (arith, c.passed_is, c.fits))) ∙ take-append-add (joined given) s.rest (s.total - length (joined given)) ∙ ap (λ n. joined given ++ take (s.total - n) s.rest) (sym c.passed_is)) in
     cut_go_on (take s.total bytes) (take room s.rest) given front c.each ∙ ap (λ (p : List (List ℕ) × List ℕ). (given ++ p.0, p.1)) (cut_free (take room s.rest) (free_front s.rest room no_line))
 
+-- more bytes came than may, and what may come holds the lines given
 finds_too_many : (bytes : List ℕ) (s : CutterState) (given : List (List ℕ)) → Cuts bytes s given → IsOverfull s → FindsTooMany bytes s given
 finds_too_many bytes s given c o =
     let e = front_cut bytes s given c o.no_line in
@@ -125,6 +131,7 @@ whole_are_given bytes s given c free =
     let e : cut bytes ≡ (given ++ [], s.rest) = (cut_go_on bytes s.rest given c.all c.each ∙ ap (λ (p : List (List ℕ) × List ℕ). (given ++ p.0, p.1)) (cut_free s.rest free)) in
     (ap (λ (p : List (List ℕ) × List ℕ). p.0) e ∙ append-nil given, ap (λ (p : List (List ℕ) × List ℕ). p.1) e)
 
+-- where more bytes are asked for, the rest holds no LF
 settles : (bytes : List ℕ) (s : CutterState) (given : List (List ℕ)) → Cuts bytes s given → IsWanting s → IsSettled bytes s
 settles bytes s given c w = record {
   one_line = omega (arith, w.no_line, line_len-le s.rest);
@@ -132,6 +139,7 @@ settles bytes s given c w = record {
   few = omega (arith, ap length c.all, length-append (joined given) s.rest, w.room, c.passed_is, c.fits);
 }
 
+-- where more bytes are asked for, all whole lines were given
 has_given_all : (bytes : List ℕ) (s : CutterState) (given : List (List ℕ)) → Cuts bytes s given → IsWanting s → HasGivenAll bytes s given
 has_given_all bytes s given c w =
     let settled = settles bytes s given c w in

@@ -25,12 +25,14 @@ cut_line (b ∷ bs) more free =
     let f = free_cons b bs free in
     rw (f.0, cut_line bs more f.1) refl
 
+-- bytes without an LF are all rest
 pub cut_free : (xs : List ℕ) → line_len xs ≡ length xs → cut xs ≡ ([], xs)
 cut_free [] free = refl
 cut_free (b ∷ bs) free =
     let f = free_cons b bs free in
     rw (f.0, cut_free bs f.1) refl
 
+-- lines, each with its LF, and more
 pub cut_joined : (given : List (List ℕ)) (more : List ℕ) → All IsOneLine given → cut (joined given ++ more) ≡ (given ++ (cut more).0, (cut more).1)
 cut_joined [] more free = refl
 cut_joined (line ∷ given) more free =
@@ -45,6 +47,7 @@ free_take (b ∷ bs) = elim (eqb_tells b 10) [
   | inr t ↦ rw (t.0, t.0) (ap suc (free_take bs))
 ]
 
+-- nor in a shorter front
 pub free_front : (xs : List ℕ) (n : ℕ) → n ≤ line_len xs → line_len (take n xs) ≡ length (take n xs)
 free_front [] zero h = refl
 free_front [] (suc n) h = refl
@@ -76,6 +79,7 @@ lines_go_on bytes more given at_end all each =
 pub cut_first : (xs : List ℕ) → line_len xs < length xs → cut xs ≡ (take (line_len xs) xs ∷ whole (drop (suc (line_len xs)) xs), rest (drop (suc (line_len xs)) xs))
 cut_first xs within = ap cut (at_end_of_line xs within) ∙ cut_line _ _ (free_take xs)
 
+-- the lines begin with the first line
 pub lines_first : (xs : List ℕ) (at_end : Bool) → line_len xs < length xs → (others : List (List ℕ)) × (lines xs at_end ≡ take (line_len xs) xs ∷ others)
 unfolding lines
 lines_first xs at_end within =
@@ -87,9 +91,11 @@ pub lines_free : (xs : List ℕ) (at_end : Bool) → IsOneLine xs → lines xs a
 unfolding lines
 lines_free xs at_end free = ap (λ (p : List (List ℕ) × List ℕ). with_last p at_end) (cut_free xs free)
 
+-- the rest is a last line where it is too long
 pub last_of-long : (xs : List ℕ) (at_end : Bool) → 65536 < length xs → last_of xs at_end ≡ xs ∷ []
 last_of-long xs at_end long = let t : nat_lt 65536 (length xs) ≡ true = (Decides-ltb _ _).1 long in rw t refl
 
+-- and is none while the input goes on and it is not
 pub last_of-not_yet : (xs : List ℕ) → length xs ≤ 65536 → last_of xs false ≡ []
 last_of-not_yet xs short = let t : nat_lt 65536 (length xs) ≡ false = grind (arith, nat_tests) in rw t refl
 
@@ -97,6 +103,7 @@ or_true : (b : Bool) (x : List (List ℕ)) → cond (b || true) x [] ≡ x
 or_true true x = refl
 or_true false x = refl
 
+-- and is one at the end where it isn't empty
 pub last_of-end : (xs : List ℕ) → 0 < length xs → last_of xs true ≡ xs ∷ []
 last_of-end xs some = let t : nat_lt 0 (length xs) ≡ true = (Decides-ltb _ _).1 some in rw (t) (or_true (nat_lt 65536 (length xs)) (xs ∷ []))
 
@@ -113,6 +120,7 @@ lines_long xs at_end long = elim (le_or_lt (length xs) (line_len xs)) [
   | inr within ↦ lines_first xs at_end within
 ]
 
+-- one more line
 pub joined-push : (given : List (List ℕ)) (line : List ℕ) → joined (given ++ line ∷ []) ≡ joined given ++ (line ++ 10 ∷ [])
 joined-push given line = flat_map-append (λ line. line ++ 10 ∷ []) given (line ∷ []) ∙ ap (λ x. joined given ++ x) (append-nil (line ++ 10 ∷ []))
 
@@ -143,6 +151,7 @@ cut_other b bs t = rw t refl
 abbrev put_together : List (List ℕ) × List ℕ → List ℕ
 put_together parts = joined parts.0 ++ parts.1
 
+-- the whole lines and the rest are the bytes
 pub joined-whole : (bytes : List ℕ) → joined (whole bytes) ++ rest bytes ≡ bytes
 joined-whole [] = refl
 joined-whole (b ∷ bs) = elim (eqb_tells b 10) [
@@ -170,6 +179,7 @@ lines_are_free : (given : List (List ℕ)) → All HasNoLf given → All IsOneLi
 lines_are_free [] free = All-nil IsOneLine
 lines_are_free (line ∷ given) free = All-cons IsOneLine line given (IsOneLine-free line (free 0 [] (omega arith))) (lines_are_free given (λ k d h. free (suc k) d (omega arith)))
 
+-- bytes are put together from lines and a rest in one way only
 pub whole-joined : (given : List (List ℕ)) (more : List ℕ) → All HasNoLf given → HasNoLf more → whole (joined given ++ more) ≡ given
 whole-joined given more free more_free =
     ap (λ (p : List (List ℕ) × List ℕ). p.0) (cut_joined given more (lines_are_free given free) ∙ ap (λ (p : List (List ℕ) × List ℕ). (given ++ p.0, p.1)) (cut_free more (IsOneLine-free more more_free)))

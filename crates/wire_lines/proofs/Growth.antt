@@ -7,9 +7,11 @@ use Rattle.std.specs.List.{between}
 use Rattle.std.specs.List.{All}
 use Rattle.wire_lines.specs.Journal.{Entry, In, Out, ins, outs, IsOut, Adds, Grows, SentAll, SentFront}
 
+-- nothing was added
 pub Grows-none : {P : List Entry → Type 0} (x : Option (List Entry)) → P [] → Grows x x P
 Grows-none {P} x p = record { grown = λ told e. ([], e ∙ ap Some (sym (append-nil told)), p) }
 
+-- and then these entries were added
 pub Grows-adds : {a b c : Option (List Entry)} {P Q : List Entry → Type 0} {K : List Entry} → Grows a b P → Adds b c K → ((J : List Entry) → P J → Q (J ++ K)) → Grows a c Q
 Grows-adds {a} {b} {c} {P} {Q} {K} grows adds step = record {
   grown = λ told e.
@@ -17,6 +19,7 @@ Grows-adds {a} {b} {c} {P} {Q} {K} grows adds step = record {
       (before.0 ++ K, adds.added (told ++ before.0) before.1 ∙ ap Some (append_assoc told before.0 K), step before.0 before.2);
 }
 
+-- a property that follows
 pub Grows-weaker : {a b : Option (List Entry)} {P Q : List Entry → Type 0} → Grows a b P → ((J : List Entry) → P J → Q J) → Grows a b Q
 Grows-weaker {a} {b} {P} {Q} grows step = record { grown = λ told e. let before = grows.grown told e in (before.0, before.1, step before.0 before.2) }
 
@@ -52,9 +55,11 @@ pub record SentBefore (bytes rest : List ℕ) (entries : List Entry) : Type 0 wh
   pub outs_alone : All IsOut entries
   pub so_far : bytes ≡ outs entries ++ rest
 
+-- at first nothing went out
 pub sent_none : (bytes : List ℕ) → SentBefore bytes bytes []
 sent_none bytes = record { outs_alone = All-nil IsOut; so_far = refl }
 
+-- and then n bytes of the rest
 pub sent_more : {bytes rest : List ℕ} (n : ℕ) (J : List Entry) → SentBefore bytes rest J → SentBefore bytes (between n (length rest) rest) (J ++ Out (take n rest) ∷ [])
 sent_more {bytes} {rest} n J s = rw (between_to_end rest n (length rest) (omega arith)) (record {
   outs_alone = All-push IsOut J (Out (take n rest)) s.outs_alone tt;
@@ -62,12 +67,11 @@ sent_more {bytes} {rest} n J s = rw (between_to_end rest n (length rest) (omega 
       ∙ ap (λ x. x ++ drop n rest) (sym (outs-append J (Out (take n rest) ∷ []) ∙ ap (λ x. outs J ++ x) (append-nil (take n rest))));
 })
 
+-- what went out is a front of the bytes
 pub sent_front : {bytes rest : List ℕ} (J : List Entry) → SentBefore bytes rest J → SentFront bytes J
 sent_front {bytes} {rest} J s = record { outs_alone = s.outs_alone; after = rest; front = s.so_far }
 
+-- and all of them where nothing is left
 pub sent_all : {bytes : List ℕ} (rest : List ℕ) (J : List Entry) → length rest ≡ 0 → SentBefore bytes rest J → SentAll bytes J
 sent_all {bytes} [] J e s = record { outs_alone = s.outs_alone; all = sym (s.so_far ∙ append-nil (outs J)) }
 sent_all {bytes} (x ∷ rest) J e s = absurd (omega arith)
-
-pub adds_none : (J : List Entry) → J ++ [] ≡ J
-adds_none J = append-nil J

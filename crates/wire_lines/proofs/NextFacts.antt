@@ -28,6 +28,7 @@ given_by false true t3 s n number bytes h = (refl, refl, cc, cc, refl)
 given_by false false true s n number bytes h = absurd (cc)
 given_by false false false s n number bytes h = absurd (cc)
 
+-- so it is where the answer is a line
 pub given : (s : CutterState) (number : ℕ) (bytes : List ℕ) → Given number bytes ≡ next s → IsGiven s number bytes
 given s number bytes h =
     let g = given_by (ltb s.longest (min (s.total - s.passed) (line_len s.rest))) (ltb (line_len s.rest) (min (s.total - s.passed) (length s.rest))) (ltb (s.total - s.passed) (length s.rest)) s (line_len s.rest) number bytes h in
@@ -46,6 +47,7 @@ overlong_by false true t3 s n number h = absurd (cc)
 overlong_by false false true s n number h = absurd (cc)
 overlong_by false false false s n number h = absurd (cc)
 
+-- so it is where the answer is a line that is too long
 pub overlong : (s : CutterState) (number : ℕ) → Overlong number ≡ next s → IsOverlong s number
 overlong s number h =
     let g = overlong_by (ltb s.longest (min (s.total - s.passed) (line_len s.rest))) (ltb (line_len s.rest) (min (s.total - s.passed) (length s.rest))) (ltb (s.total - s.passed) (length s.rest)) s (line_len s.rest) number h in
@@ -64,6 +66,7 @@ overfull_by false true t3 s n h = absurd (cc)
 overfull_by false false true s n h = (refl, refl, refl, refl)
 overfull_by false false false s n h = absurd (cc)
 
+-- so it is where the answer is too many bytes
 pub overfull : (s : CutterState) → Overfull ≡ next s → IsOverfull s
 overfull s h =
     let g = overfull_by (ltb s.longest (min (s.total - s.passed) (line_len s.rest))) (ltb (line_len s.rest) (min (s.total - s.passed) (length s.rest))) (ltb (s.total - s.passed) (length s.rest)) s (line_len s.rest) h in
@@ -85,6 +88,7 @@ wanting_by false true t3 s n h = absurd (cc)
 wanting_by false false true s n h = absurd (cc)
 wanting_by false false false s n h = (refl, refl, refl, refl)
 
+-- so it is where the answer is a wish for more bytes
 pub wanting : (s : CutterState) → Wanting ≡ next s → IsWanting s
 wanting s h =
     let g = wanting_by (ltb s.longest (min (s.total - s.passed) (line_len s.rest))) (ltb (line_len s.rest) (min (s.total - s.passed) (length s.rest))) (ltb (s.total - s.passed) (length s.rest)) s (line_len s.rest) h in

@@ -33,6 +33,7 @@ rest bytes = (cut bytes).1
 abbrev pub last_of : List ℕ → Bool → List (List ℕ)
 last_of rest ended = if nat_lt 65536 (length rest) || (ended && nat_lt 0 (length rest)) then rest ∷ [] else []
 
+-- the whole lines, and the rest where it is a last line
 abbrev pub with_last : List (List ℕ) × List ℕ → Bool → List (List ℕ)
 with_last parts ended = parts.0 ++ last_of parts.1 ended
 

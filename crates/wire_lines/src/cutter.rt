@@ -66,6 +66,7 @@ impl Model for LineCutter {
         × (IsTrue c.hungry → c.passed + (length c.buffer.items - c.from) ≤ c.total) };
 }
 
+// How many bytes stand before the first LF, or all of them.
 #[tactic(auto, using(crate::proofs::LineLength::steps))]
 fn line_length(bytes: &[u8]) -> usize
     ensures { result ≡ line_len bytes.now }
@@ -78,7 +79,7 @@ fn line_length(bytes: &[u8]) -> usize
     bytes.len()
 }
 
-/// What stands next.
+// What stands next in the rest.
 enum Found {
     TooLong,
     Line(usize),
@@ -86,6 +87,7 @@ enum Found {
     More,
 }
 
+// `room` is how many more bytes of the input may come.
 fn look(rest: &[u8], longest: usize, room: u64) -> Found
     ensures which { result ≡ found longest room rest.now }
     ensures fits { FoundFits longest room rest.now result }
@@ -134,8 +136,8 @@ impl LineCutter {
         })
     }
 
-    /// Takes the next bytes. The last `next_line` gave `More` and nothing was fed since; or
-    /// nothing was fed at all.
+    /// Takes the next bytes, 65,536 at most. It needs that the last `next_line` gave `More` and
+    /// nothing was fed since; or that nothing was fed at all. It takes no memory.
     pub fn feed(&mut self, piece: &[u8])
         requires fits { length piece.now ≤ 65536 }
         requires hungry { IsTrue self.old.hungry }
@@ -157,6 +159,7 @@ impl LineCutter {
     }
 
     /// The next line, or why there is none. After `TooLong` and `TooMany` it gives the same again.
+    /// `answers_tell_lines` is the law that ties each answer to all bytes fed. It takes no memory.
     pub fn next_line(&mut self) -> Cut<'_>
         // Once the answer is let go, the cutter is the one after the next line.
         ensures* after { sem 𝓛 (follows_so the_row the_row self.entry.ghost_name none
