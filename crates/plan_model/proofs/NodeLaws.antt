@@ -26,7 +26,7 @@ cond_both_ways true false n = refl
 cond_both_ways false true n = refl
 cond_both_ways false false n = refl
 
--- the rows that are alive of the events that pass a test, where r holds those of all events
+-- the rows that are alive of the events that pass a test, where `rows` are those of all events
 pub alive-filtered : (test : List ExprNode) (es : List (Event Row)) (rows : List Row) (t : ℕ) → SameBag (alive es t) rows → SameBag (alive (filtered test es) t) (filter (holds test) rows)
 alive-filtered test es rows t h = record {
   weigh = λ w.

@@ -18,6 +18,7 @@ use Rattle.plan_model.specs.Fold.{result}
 abbrev pub wrapped : ℤ → ℤ
 wrapped z = int_wrap w64 z
 
+-- the exact sum, difference or product, wrapped
 abbrev pub arith_value : ArithOp → ℤ → ℤ → ℤ
 arith_value Add x y = wrapped (x +ℤ y)
 arith_value Sub x y = wrapped (x -ℤ y)
