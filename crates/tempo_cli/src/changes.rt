@@ -275,38 +275,80 @@ mod tests {
     use std::alloc::Global;
     use tw_rows::{Life, Memory, Row, Time, Value};
 
-    fn time(n: u64) -> Time {
-        match Time::new(n) {
+    /// An instant, or infinity for a number that is none.
+    #[tactic(auto, unfolding(tw_rows::specs::Instant::inf))]
+    fn time(number: u64) -> Time {
+        match Time::new(number) {
             Some(t) => t,
             None => Time::INF,
         }
     }
 
-    fn event(alloc: Global, value: i64, start: u64, end: u64) -> Result<Event, Memory> {
-        let mut values = Vec::new(alloc);
-        values.push(Value::Int(value))?;
-        let life = Life {
-            start: time(start),
-            end: time(end),
-        };
-        Ok(Event::new(Row::from_vec(values), life))
-    }
-
-    fn events(alloc: Global, table: &[(i64, u64, u64)]) -> Result<Vec<Event>, Memory> {
-        let mut all = Vec::new(alloc);
-        for row in table {
-            all.push(event(alloc, row.0, row.1, row.2)?)?;
+    fn push_event(
+        alloc: Global,
+        events: &mut Vec<Event>,
+        value: i64,
+        life: Life,
+    ) -> Result<(), Memory>
+        requires { AreEvents events.old.items }
+        ensures { OnOk result (AreEvents events.new.items) }
+    {
+        if life.start < life.end {
+            let mut values = Vec::new(alloc);
+            values.push(Value::Int(value))?;
+            events.push(Event::new(Row::from_vec(values), life))?;
         }
-        Ok(all)
+        Ok(())
     }
 
-    fn prints(alloc: Global, table: &[(i64, u64, u64)], expected: &str) -> bool {
-        match events(alloc, table) {
-            Ok(all) => match print_changes(alloc, all) {
-                Ok(out) => out.as_slice() == expected.as_bytes(),
-                Err(_) => false,
-            },
-            Err(_) => false,
+    /// An event of one int for each value, start and end.
+    fn events_of(alloc: Global, table: &[(i64, u64, u64)]) -> Result<Vec<Event>, Memory>
+        ensures { IfOk result (λ events. AreEvents events.items) }
+    {
+        let mut events = Vec::new(alloc);
+        for (value, start, end) in table {
+            let life = Life {
+                start: time(*start),
+                end: time(*end),
+            };
+            push_event(alloc, &mut events, *value, life)?;
+        }
+        Ok(events)
+    }
+
+    fn text_of(alloc: Global, table: &[(i64, u64, u64)]) -> Result<Vec<u8>, Memory> {
+        print_changes(alloc, events_of(alloc, table)?)
+    }
+
+    const NEVER: u64 = u64::MAX;
+
+    #[test]
+    fn worked_events(rt: HostRuntime) {
+        let cases: [(&[(i64, u64, u64)], &str); 6] = [
+            (&[], ""),
+            (
+                &[(12, 1, 5), (7, 2, 4)],
+                "out,start,1,inf,12\nout,start,2,inf,7\nout,end,4,2,7\nout,end,5,1,12\n",
+            ),
+            (
+                &[(5, 1, 9), (5, 3, 6)],
+                "out,start,1,inf,5\nout,start,3,inf,5\nout,end,6,1,5\nout,end,9,3,5\n",
+            ),
+            (
+                &[(5, 3, 5), (5, 1, 3)],
+                "out,start,1,inf,5\nout,end,5,1,5\n",
+            ),
+            (&[(-5, 2, NEVER)], "out,start,2,inf,-5\n"),
+            (
+                &[(9, 1, 4), (7, 4, 6), (-2, 4, 6)],
+                "out,start,1,inf,9\nout,end,4,1,9\nout,start,4,inf,-2\nout,start,4,inf,7\nout,end,6,4,-2\nout,end,6,4,7\n",
+            ),
+        ];
+        for (table, expected) in cases {
+            match text_of(rt.alloc(), table) {
+                Ok(out) => assert!(rt; out.as_slice() == expected.as_bytes(), "{expected}"),
+                Err(_) => panic!(rt; "no memory"),
+            }
         }
     }
 }

@@ -79,3 +79,34 @@ pub fn push_punctuation(out: &mut Vec<u8>, t: Time) -> Result<(), Memory>
     out.extend_from_slice(b"\n")?;
     Ok(())
 }
+
+#[cfg(test)]
+mod tests {
+    use super::{push_punctuation, start_line};
+    use std::alloc::Global;
+    use tw_rows::{Label, Memory, Row, Time, Value};
+
+    /// A start line at infinity of a row of each kind of value, and a punctuation line at the first instant.
+    #[tactic(auto, unfolding(tw_rows::specs::Instant::inf))]
+    fn lines(alloc: Global) -> Result<Vec<u8>, Memory> {
+        let mut values = Vec::new(alloc);
+        values.push(Value::Int(-3))?;
+        values.push(Value::Bool(true))?;
+        values.push(Value::Bool(false))?;
+        values.push(Value::Text(Label::new(alloc, "ab")?))?;
+        let mut out = start_line(alloc, Time::INF, &Row::from_vec(values))?;
+        push_punctuation(&mut out, Time::ZERO)?;
+        Ok(out)
+    }
+
+    #[test]
+    fn each_kind_of_value(rt: HostRuntime) {
+        match lines(rt.alloc()) {
+            Ok(out) => {
+                let expected = "out,start,inf,inf,-3,true,false,ab\n*,punct,0\n";
+                assert!(rt; out.as_slice() == expected.as_bytes());
+            }
+            Err(_) => panic!(rt; "no memory"),
+        }
+    }
+}
