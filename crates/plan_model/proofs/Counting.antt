@@ -132,10 +132,10 @@ no_starts_of_map : (r q : Row) (t : ℕ) (ss : List ℕ) → start_times r (map 
 no_starts_of_map r q t [] = refl
 no_starts_of_map r q t (s ∷ ss) = no_starts_of_map r q t ss
 
-no_rise : (rows : ℕ → List Row) (r : Row) (t : ℕ) → member r (rows t) ≡ false → rise rows r t ≡ 0
+pub no_rise : (rows : ℕ → List Row) (r : Row) (t : ℕ) → member r (rows t) ≡ false → rise rows r t ≡ 0
 no_rise rows r t m = let z = none_of r (rows t) m in omega (arith, z)
 
-no_fall : (rows : ℕ → List Row) (r : Row) (t : ℕ) → member r (before rows t) ≡ false → fall rows r t ≡ 0
+pub no_fall : (rows : ℕ → List Row) (r : Row) (t : ℕ) → member r (before rows t) ≡ false → fall rows r t ≡ 0
 no_fall rows r t m = let z = none_of r (before rows t) m in omega (arith, z)
 
 pub no_row_starts : (rows : ℕ → List Row) (r : Row) (t : ℕ) → rise rows r t ≡ 0 → row_starts rows t r ≡ []

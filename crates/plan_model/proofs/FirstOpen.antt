@@ -20,7 +20,7 @@ use Rattle.plan_model.proofs.LineOrder.{Follows, NamesBefore, all_in_order, ends
 nat_less : (a b : ℕ) → a < b → nat_cmp a b ≡ Less
 nat_less a b h = grind (arith, nat_tests)
 
-not_earlier : (x y : Line) → Follows x y → time_of x ≤ time_of y
+pub not_earlier : (x y : Line) → Follows x y → time_of x ≤ time_of y
 not_earlier x y h = pick (nat_lt (time_of y) (time_of x)) refl
   where
     pick : (b : Bool) → nat_lt (time_of y) (time_of x) ≡ b → time_of x ≤ time_of y

@@ -26,11 +26,11 @@ same_row q x e = row_cmp-IsAntisymmetric q x ((Equal-is (row_cmp q x)).0 e)
 pub row_itself : (q : Row) → eq_by_cmp row_cmp q q ≡ true
 row_itself q = ap is_eq (tied_itself row_cmp_total q)
 
-or_left : (b c : Bool) → b ≡ true → (b || c) ≡ true
+pub or_left : (b c : Bool) → b ≡ true → (b || c) ≡ true
 or_left true c h = refl
 or_left false c h = absurd (cc)
 
-or_right : (b c : Bool) → c ≡ true → (b || c) ≡ true
+pub or_right : (b c : Bool) → c ≡ true → (b || c) ≡ true
 or_right true c h = refl
 or_right false c h = h
 

@@ -1,7 +1,7 @@
 -- The order of the lines, and that an end line names an earlier start line.
 use Rattle.std.specs.Prelude.{◌≡◌, ℕ, zero, suc, ◌<◌, ◌≤◌, true, false, List, [], ◌∷◌, replicate, flat_map, IsSorted, refl}
 use Rattle.std.specs.Ordering.{is_lt, nat_cmp, ordering_then, ordering_reverse}
-use Rattle.std.specs.Cmp.{tied_itself, IsTotalOrder, on_total, then_total, nat_cmp_total}
+use Rattle.std.specs.Cmp.{tied_itself}
 use Rattle.std.specs.declared.cmp.Ordering.TheVariants.{Less, Equal, Greater}
 use Rattle.std.proofs.Common.{sym, ◌∙◌, ap, arith}
 use Rattle.std.proofs.lemmas.Bool.Decides.{nat_tests}
@@ -16,9 +16,6 @@ use Rattle.plan_model.proofs.Each.{Each, Pairs, each_append, each_replicate, eac
 -- the later line isn't below the earlier one
 abbrev pub Follows : Line → Line → Type 0
 Follows x y = is_lt (line_cmp y x) ≡ false
-
-line_cmp_total : IsTotalOrder line_cmp
-line_cmp_total = then_total (on_total time_of nat_cmp_total) (then_total (on_total kind_of nat_cmp_total) (on_total row_of row_cmp_total))
 
 nat_greater : (a b : ℕ) → a < b → nat_cmp b a ≡ Greater
 nat_greater a b h = grind (arith, nat_tests)
@@ -52,6 +49,12 @@ ends_of rows t r = each_map (Of t 0 r) (λ s. Ended t s r) (named_at rows r t) (
 
 starts_of : (rows : ℕ → List Row) (t : ℕ) (r : Row) → Each (Of t 1 r) (row_starts rows t r)
 starts_of rows t r = each_replicate (Of t 1 r) (rise rows r t) (Started t r) (refl, refl, refl)
+
+pub ends_at_time : (rows : ℕ → List Row) (t : ℕ) (r : Row) → Each (λ l. time_of l ≡ t) (row_ends rows t r)
+ends_at_time rows t r = each_more (Of t 0 r) _ (row_ends rows t r) (λ l h. h.0) (ends_of rows t r)
+
+pub starts_at_time : (rows : ℕ → List Row) (t : ℕ) (r : Row) → Each (λ l. time_of l ≡ t) (row_starts rows t r)
+starts_at_time rows t r = each_more (Of t 1 r) _ (row_starts rows t r) (λ l h. h.0) (starts_of rows t r)
 
 equal_follows : (r : Row) → is_lt (row_cmp r r) ≡ false
 equal_follows r = ap is_lt (tied_itself row_cmp_total r)

@@ -25,7 +25,7 @@ member_by_count q (x ∷ xs) = step (eq_by_cmp row_cmp q x) (member q xs) (how_o
 pub member_same : (q : Row) (xs ys : List Row) → SameBag xs ys → member q xs ≡ member q ys
 member_same q xs ys h = member_by_count q xs ∙ (ap (nat_lt 0) (often_same q xs ys h) ∙ sym (member_by_count q ys))
 
-flat_map_same : {X Y : Type 0} (f g : X → List Y) (xs : List X) → ((x : X) → f x ≡ g x) → flat_map f xs ≡ flat_map g xs
+pub flat_map_same : {X Y : Type 0} (f g : X → List Y) (xs : List X) → ((x : X) → f x ≡ g x) → flat_map f xs ≡ flat_map g xs
 flat_map_same f g [] h = refl
 flat_map_same f g (x ∷ xs) h = ap (λ l. l ++ flat_map f xs) (h x) ∙ ap (λ l. g x ++ l) (flat_map_same f g xs h)
 
@@ -52,48 +52,54 @@ quiet rows a (suc n) h =
     ap (λ l. l ++ changes rows (suc a) n) (quiet_at rows a (h a (omega arith) (omega arith)))
     ∙ quiet rows (suc a) n (λ t low high. h t (omega arith) (omega arith))
 
+-- the lines of a row hang on how often the row stands there, and on nothing else
+module _ (f g : ℕ → List Row) (r : Row) (c : ℕ) (h : (u : ℕ) → u < c → how_often r (f u) ≡ how_often r (g u)) where
+  before_alike : (t : ℕ) → t ≤ c → how_often r (before f t) ≡ how_often r (before g t)
+  before_alike zero low = refl
+  before_alike (suc t) low = h t (omega arith)
+
+  rise_alike : (t : ℕ) → t < c → rise f r t ≡ rise g r t
+  rise_alike t low = let a = h t low in let b = before_alike t (omega arith) in omega (arith, a, b)
+
+  fall_alike : (t : ℕ) → t < c → fall f r t ≡ fall g r t
+  fall_alike t low = let a = h t low in let b = before_alike t (omega arith) in omega (arith, a, b)
+
+  starts_alike : (t : ℕ) → t ≤ c → starts_before f r t ≡ starts_before g r t
+  starts_alike zero low = refl
+  starts_alike (suc t) low =
+      ap (λ l. l ++ replicate (rise f r t) t) (starts_alike t (omega arith))
+      ∙ ap (λ n. starts_before g r t ++ replicate n t) (rise_alike t (omega arith))
+
+  ends_alike : (t : ℕ) → t ≤ c → ends_before f r t ≡ ends_before g r t
+  ends_alike zero low = refl
+  ends_alike (suc t) low = let a = ends_alike t (omega arith) in let b = fall_alike t (omega arith) in omega (arith, a, b)
+
+  named_alike : (t : ℕ) → t < c → named_at f r t ≡ named_at g r t
+  named_alike t low =
+      ap (λ n. take n (open_before f r t)) (fall_alike t low)
+      ∙ (ap (λ n. take (fall g r t) (drop n (starts_before f r t))) (ends_alike t (omega arith))
+      ∙ ap (λ l. take (fall g r t) (drop (ends_before g r t) l)) (starts_alike t (omega arith)))
+
+  pub row_ends_alike : (t : ℕ) → t < c → row_ends f t r ≡ row_ends g t r
+  row_ends_alike t low = ap (map (λ s. Ended t s r)) (named_alike t low)
+
+  pub row_starts_alike : (t : ℕ) → t < c → row_starts f t r ≡ row_starts g t r
+  row_starts_alike t low = ap (λ n. replicate n (Started t r)) (rise_alike t low)
+
 before_same : (f g : ℕ → List Row) (c t : ℕ) → ((u : ℕ) → u < c → SameBag (f u) (g u)) → t ≤ c → SameBag (before f t) (before g t)
 before_same f g c zero h low = record { weigh = λ w. refl }
 before_same f g c (suc t) h low = h t (omega arith)
 
 module _ (f g : ℕ → List Row) (c : ℕ) (h : (u : ℕ) → u < c → SameBag (f u) (g u)) where
-  rise_same : (r : Row) (t : ℕ) → t < c → rise f r t ≡ rise g r t
-  rise_same r t low =
-      let a = often_same r (f t) (g t) (h t low) in
-      let b = often_same r (before f t) (before g t) (before_same f g c t h (omega arith)) in
-      omega (arith, a, b)
-
-  fall_same : (r : Row) (t : ℕ) → t < c → fall f r t ≡ fall g r t
-  fall_same r t low =
-      let a = often_same r (f t) (g t) (h t low) in
-      let b = often_same r (before f t) (before g t) (before_same f g c t h (omega arith)) in
-      omega (arith, a, b)
-
-  starts_same : (r : Row) (t : ℕ) → t ≤ c → starts_before f r t ≡ starts_before g r t
-  starts_same r zero low = refl
-  starts_same r (suc t) low =
-      ap (λ l. l ++ replicate (rise f r t) t) (starts_same r t (omega arith))
-      ∙ ap (λ n. starts_before g r t ++ replicate n t) (rise_same r t (omega arith))
-
-  ends_same : (r : Row) (t : ℕ) → t ≤ c → ends_before f r t ≡ ends_before g r t
-  ends_same r zero low = refl
-  ends_same r (suc t) low = let a = ends_same r t (omega arith) in let b = fall_same r t (omega arith) in omega (arith, a, b)
-
-  named_same : (r : Row) (t : ℕ) → t < c → named_at f r t ≡ named_at g r t
-  named_same r t low =
-      ap (λ n. take n (open_before f r t)) (fall_same r t low)
-      ∙ (ap (λ n. take (fall g r t) (drop n (starts_before f r t))) (ends_same r t (omega arith))
-      ∙ ap (λ l. take (fall g r t) (drop (ends_before g r t) l)) (starts_same r t (omega arith)))
-
   changes_at_same : (t : ℕ) → t < c → changes_at f t ≡ changes_at g t
   unfolding changes_at
   changes_at_same t low =
       ap (λ l. l ++ flat_map (row_starts f t) (in_row_order (f t)))
       (order_same (row_ends f t) (before f t) (before g t) (before_same f g c t h (omega arith))
-      ∙ flat_map_same (row_ends f t) (row_ends g t) (in_row_order (before g t)) (λ r. ap (map (λ s. Ended t s r)) (named_same r t low)))
+      ∙ flat_map_same (row_ends f t) (row_ends g t) (in_row_order (before g t)) (λ r. row_ends_alike f g r c (λ u k. often_same r (f u) (g u) (h u k)) t low))
       ∙ ap (λ l. flat_map (row_ends g t) (in_row_order (before g t)) ++ l)
       (order_same (row_starts f t) (f t) (g t) (h t low)
-      ∙ flat_map_same (row_starts f t) (row_starts g t) (in_row_order (g t)) (λ r. ap (λ n. replicate n (Started t r)) (rise_same r t low)))
+      ∙ flat_map_same (row_starts f t) (row_starts g t) (in_row_order (g t)) (λ r. row_starts_alike f g r c (λ u k. often_same r (f u) (g u) (h u k)) t low))
 
   -- finality of what is written: the same rows below c have the same changes below c
   pub changes_same : (a n : ℕ) → a + n ≤ c → changes f a n ≡ changes g a n

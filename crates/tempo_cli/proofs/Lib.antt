@@ -1,0 +1,3 @@
+pub mod RowWalk
+pub mod RowByRow
+pub mod InTime
