@@ -1,3 +1,15 @@
+pub mod Numbers
+pub mod SignedNumbers
+pub mod Commas
+pub mod Fields
+pub mod Spelled
+pub mod Taking
+pub mod Journals
+pub mod Lives
+pub mod Answering
+pub mod Complete
+pub mod Pieces
+pub mod Asking
 pub mod RowWalk
 pub mod RowByRow
 pub mod InTime

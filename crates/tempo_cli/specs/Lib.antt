@@ -1,2 +1,15 @@
+pub mod Number
+pub mod Fields
+pub mod Split
+pub mod Entry
+pub mod Words
+pub mod Spelling
+pub mod Admission
 pub mod Print
+pub mod Text
+pub mod Table
+pub mod Status
+pub mod Holds
+pub mod Reading
+pub mod Stops
 pub mod Gathering
