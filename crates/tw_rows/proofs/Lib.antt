@@ -1,2 +1,5 @@
 pub mod Bags
 pub mod Lives
+pub mod TextTables
+pub mod CellReads
+pub mod CellEquality

@@ -1,14 +1,24 @@
 //! Times, values, rows and events: what every crate of tempo speaks of.
 #![tactic(auto)]
 
+mod cells;
+mod edge;
+mod kind;
 mod label;
 mod life;
 mod memory;
 mod row;
+mod schema;
+mod texts;
 mod time;
 
+pub use cells::{Cells, Datum, cells_keep_their_row, same_cells, to_cells, to_datum};
+pub use edge::Edge;
+pub use kind::{CellKind, Kind, cell_of};
 pub use label::Label;
 pub use life::{Life, floor_to, in_life};
 pub use memory::Memory;
 pub use row::{Row, Value, cmp_row};
+pub use schema::{ColumnDef, Schema, StreamDef};
+pub use texts::TextTable;
 pub use time::Time;

@@ -4,7 +4,9 @@ ghost use Rattle.std.specs.Ordering.{as_partial_cmp, eq_by_cmp};
 ghost use Rattle.std.specs.Cmp.{partial_order_from_total, partial_equiv_from_equiv, eq_by_cmp_equiv};
 ghost use Rattle.tw_rows.specs.RowOrder.{value_cmp_total, row_cmp_total};
 ghost use Rattle.tw_rows.specs.Rows.{value_cmp, row_cmp};
+ghost use Rattle.tw_rows.specs.Kinds.{value_kind};
 
+use crate::kind::Kind;
 use crate::label::Label;
 use std::cmp::Ordering;
 use std::marker::Model;
@@ -15,6 +17,19 @@ pub enum Value {
     Int(i64),
     Bool(bool),
     Text(Label),
+}
+
+impl Value {
+    /// What the value is.
+    pub fn kind(&self) -> Kind
+        ensures { result ≡ value_kind self.now }
+    {
+        match self {
+            Value::Int(_) => Kind::Int,
+            Value::Bool(_) => Kind::Bool,
+            Value::Text(_) => Kind::Text,
+        }
+    }
 }
 
 /// The values of an event, one for each column, in the order of the columns.

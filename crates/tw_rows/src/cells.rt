@@ -1,0 +1,142 @@
+// Data, and rows of them.
+ghost use Rattle.std.specs.Prelude.{◌≡◌, ◌≤◌, ◌↔◌, ℕ, pos, List, ◌++◌, IsTrue, IsOk, IfOk, OnOk, OnErr, length, take};
+ghost use Rattle.std.specs.Cmp.{partial_equiv_from_equiv};
+ghost use Rattle.std.specs.Cmp.Lexicographic.{pointwise, lists_per, lists_equiv};
+ghost use Rattle.tw_rows.specs.Kinds.{value_kind, cell_kind_of};
+ghost use Rattle.tw_rows.specs.Texts.{BeginsWith};
+ghost use Rattle.tw_rows.specs.Cells.{datum_kind, IsPlaced, ArePlaced, read_datum, read_cells, with_value, with_row};
+ghost use Rattle.tw_rows.specs.declared.cells.Datum.{Datum};
+ghost use Rattle.tw_rows.specs.contracts.cells.DatumPartialEq.TheImpl as datum_block;
+ghost use Rattle.tw_rows.specs.contracts.cells.DatumEq.TheImpl.Laws as datum_laws;
+
+use crate::kind::CellKind;
+use crate::memory::Memory;
+use crate::row::{Row, Value};
+use crate::texts::TextTable;
+use smallvec::SmallVec;
+use std::alloc::Global;
+use std::marker::Model;
+
+/// A value as cells hold it: a text is its place in the table of texts.
+#[derive(Clone, Copy, Debug, PartialEq, Eq)]
+pub enum Datum {
+    Int(i64),
+    Bool(bool),
+    Text(u64),
+}
+
+/// The int 0, with which unused room for cells is filled.
+impl Default for Datum {
+    ghost is_default = { λ d. d ≡ Datum.Int (pos 0) };
+
+    fn default() -> Datum {
+        Datum::Int(0)
+    }
+}
+
+impl Datum {
+    /// How the datum is stored.
+    pub fn cell_kind(self) -> CellKind
+        ensures { result ≡ datum_kind self }
+    {
+        match self {
+            Datum::Int(_) => CellKind::Whole,
+            Datum::Bool(_) => CellKind::Bit,
+            Datum::Text(_) => CellKind::Place,
+        }
+    }
+}
+
+/// How many cells are kept without memory of their own.
+const SHORT: usize = 4;
+
+/// A row of data, in the order of the columns.
+#[derive(Drop)]
+pub struct Cells {
+    data: SmallVec<Datum, SHORT>,
+}
+
+impl Model for Cells {
+    ghost use Rattle.std.specs.Prelude.{List};
+    ghost use Rattle.tw_rows.specs.declared.cells.Datum.{Datum as Item};
+
+    ghost Value = { List Item };
+
+    ghost view = { λ c. c.data.items };
+}
+
+impl Cells {
+    /// The cells with these data. Memory is taken only for more than 4.
+    pub fn from_slice(alloc: Global, items: &[Datum]) -> Result<Cells, Memory>
+        ensures ok { IfOk result (λ cells. cells ≡ items.now) }
+        ensures succeeds { length items.now ≤ 4 → IsOk result }
+    {
+        Ok(Cells {
+            data: SmallVec::from_slice(alloc, items)?,
+        })
+    }
+
+    pub fn items(&self) -> &[Datum]
+        ensures { result.now ≡ self.now }
+    {
+        self.data.as_slice()
+    }
+}
+
+impl PartialEq for Cells {
+    ghost eq = { pointwise datum_block.ghosts.eq };
+
+    ghost laws = { lists_per (partial_equiv_from_equiv datum_laws.laws-law) };
+
+    fn eq(&self, other: &Cells) -> bool {
+        self.items() == other.items()
+    }
+}
+
+impl Eq for Cells {
+    ghost laws = { lists_equiv datum_laws.laws-law };
+}
+
+/// Whether the cells are the same, as `==` has it.
+pub fn same_cells(a: &Cells, b: &Cells) -> bool
+    ensures { IsTrue result ↔ (a.now ≡ b.now) }
+{
+    a == b
+}
+
+/// The datum of a value. Its text is in the table then.
+pub fn to_datum(value: &Value, texts: &mut TextTable) -> Result<Datum, Memory>
+    ensures read { IfOk result (λ datum. read_datum texts.new datum ≡ value.now) }
+    ensures placed { IfOk result (λ datum. IsPlaced texts.new datum) }
+    ensures table { OnOk result (texts.new ≡ with_value texts.old value.now) }
+    ensures err { OnErr result (texts.new ≡ texts.old) }
+{
+    Ok(match value {
+        Value::Int(number) => Datum::Int(*number),
+        Value::Bool(flag) => Datum::Bool(*flag),
+        Value::Text(text) => Datum::Text(texts.intern(text.as_str())?),
+    })
+}
+
+/// The cells of a row. Its texts are in the table then; after a refusal those of the values so far.
+pub fn to_cells(alloc: Global, row: &Row, texts: &mut TextTable) -> Result<Cells, Memory>
+    ensures read { IfOk result (λ cells. read_cells texts.new cells ≡ row.now) }
+    ensures placed { IfOk result (λ cells. ArePlaced texts.new cells) }
+    ensures table { OnOk result (texts.new ≡ with_row texts.old row.now) }
+    ensures err { OnErr result ((n : ℕ) × (texts.new ≡ with_row texts.old (take n row.now))) }
+    ensures begins { BeginsWith texts.new texts.old }
+{
+    let mut data = SmallVec::new(alloc);
+    for value in row.values() {
+        data.push(to_datum(value, texts)?)?;
+    }
+    Ok(Cells { data })
+}
+
+/// Cells stand for the same row for good: where texts come after those of a table, each datum keeps its place and its value.
+/// A datum is stored as values of its kind are.
+pub fn cells_keep_their_row()
+    ensures placed { (texts more : List (List ℕ)) (cells : List Datum) → ArePlaced texts cells → ArePlaced (texts ++ more) cells }
+    ensures read { (texts more : List (List ℕ)) (cells : List Datum) → ArePlaced texts cells → read_cells (texts ++ more) cells ≡ read_cells texts cells }
+    ensures stored { (texts : List (List ℕ)) (datum : Datum) → datum_kind datum ≡ cell_kind_of (value_kind (read_datum texts datum)) }
+{}
