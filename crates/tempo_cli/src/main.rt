@@ -13,6 +13,8 @@ mod run;
 mod send;
 mod session;
 mod status;
+#[cfg(test)]
+mod tests;
 mod words;
 
 pub use event::{Event, Events};
