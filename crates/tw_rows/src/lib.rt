@@ -22,3 +22,6 @@ pub use row::{Row, Value, cmp_row};
 pub use schema::{ColumnDef, Schema, StreamDef};
 pub use texts::TextTable;
 pub use time::Time;
+
+#[cfg(test)]
+mod tests;

@@ -1,0 +1,137 @@
+use crate::{
+    CellKind, Cells, ColumnDef, Datum, Edge, Kind, Label, Row, Schema, TextTable, Time, Value,
+    cell_of, cmp_row, floor_to, same_cells, to_cells,
+};
+use std::cmp::Ordering;
+use std::test::Fail;
+
+/// The last instant, 2^61 - 1.
+const LAST: u64 = 2305843009213693951;
+
+// The time of a number, and infinity for a number of no instant.
+#[tactic(auto, unfolding(crate::specs::Instant::inf))]
+fn at(number: u64) -> Time {
+    Time::new(number).unwrap_or(Time::INF)
+}
+
+#[test]
+fn times_stop_at_infinity(rt: HostRuntime) {
+    for (number, got) in [
+        (0, Some(0)),
+        (LAST, Some(LAST)),
+        (2305843009213693952, None),
+        (u64::MAX, None),
+    ] {
+        assert_eq!(rt; at(number).get(), got);
+    }
+    for (number, by, later, earlier, floor) in [
+        (0, LAST, LAST, 0, 0),
+        (LAST, 0, LAST, LAST, 2305843009213693950),
+        (LAST, 1, u64::MAX, 2305843009213693950, 2305843009213693950),
+        (LAST, u64::MAX, u64::MAX, 0, 2305843009213693950),
+        (7, 8, 15, 0, 6),
+        (u64::MAX, 5, u64::MAX, u64::MAX, u64::MAX),
+    ] {
+        assert_eq!(rt; at(number).plus(by), at(later), "{number} and {by}");
+        assert_eq!(rt; at(number).less(by), at(earlier), "{number} less {by}");
+        assert_eq!(rt; floor_to(at(number), 2), at(floor), "{number}");
+    }
+}
+
+#[test]
+fn rows_are_in_order(rt: HostRuntime) -> Result<(), Fail> {
+    let alloc = rt.alloc();
+    let rows = [
+        Row::from_vec(Vec::new(alloc)),
+        Row::from_vec(vec![in alloc; Value::Int(i64::MIN)]?),
+        Row::from_vec(vec![in alloc; Value::Int(2)]?),
+        Row::from_vec(vec![in alloc; Value::Int(2), Value::Int(-1)]?),
+        Row::from_vec(vec![in alloc; Value::Int(10)]?),
+        Row::from_vec(vec![in alloc; Value::Bool(false)]?),
+        Row::from_vec(vec![in alloc; Value::Bool(true)]?),
+        Row::from_vec(vec![in alloc; Value::Text(Label::new(alloc, "")?)]?),
+        Row::from_vec(vec![in alloc; Value::Text(Label::new(alloc, "10")?)]?),
+        Row::from_vec(vec![in alloc; Value::Text(Label::new(alloc, "2")?)]?),
+        Row::from_vec(vec![in alloc; Value::Text(Label::new(alloc, "2a")?)]?),
+    ];
+    for (i, a) in rows.iter().enumerate() {
+        for (j, b) in rows.iter().enumerate() {
+            assert_eq!(rt; cmp_row(a, b), i.cmp(&j), "rows {i} and {j}");
+        }
+    }
+    Ok(())
+}
+
+#[test]
+fn texts_keep_their_places(rt: HostRuntime) -> Result<(), Fail> {
+    let mut texts = TextTable::new(rt.alloc());
+    assert_eq!(rt; texts.find("a"), None);
+    assert_eq!(rt; texts.intern("a")?, 0);
+    assert_eq!(rt; texts.intern("")?, 1);
+    assert_eq!(rt; texts.intern("ab")?, 2);
+    assert_eq!(rt; texts.intern("")?, 1);
+    assert_eq!(rt; texts.len(), 3);
+    assert_eq!(rt; texts.find("a"), Some(0));
+    assert_eq!(rt; texts.find("ab"), Some(2));
+    assert_eq!(rt; texts.find("b"), None);
+    assert!(rt; texts.len() == 3 && texts.text(2) == "ab");
+    Ok(())
+}
+
+#[test]
+fn rows_become_cells(rt: HostRuntime) -> Result<(), Fail> {
+    let alloc = rt.alloc();
+    let mut texts = TextTable::new(alloc);
+    assert_eq!(rt; texts.intern("y")?, 0);
+    let row = Row::from_vec(vec![in alloc;
+        Value::Text(Label::new(alloc, "x")?),
+        Value::Int(-3),
+        Value::Bool(true),
+        Value::Text(Label::new(alloc, "y")?),
+        Value::Text(Label::new(alloc, "x")?),
+    ]?);
+    let cells = to_cells(alloc, &row, &mut texts)?;
+    let want = [
+        Datum::Text(1),
+        Datum::Int(-3),
+        Datum::Bool(true),
+        Datum::Text(0),
+        Datum::Text(1),
+    ];
+    assert_eq!(rt; cells.items(), want.as_slice());
+    assert_eq!(rt; texts.len(), 2);
+    assert!(rt; same_cells(&cells, &Cells::from_slice(alloc, &want)?));
+    assert!(rt; !same_cells(&cells, &Cells::from_slice(alloc, &want[..4])?));
+    Ok(())
+}
+
+#[test]
+fn edges_end_where_they_look_back(rt: HostRuntime) -> Result<(), Fail> {
+    for (sync, other, end) in [(0, u64::MAX, false), (5, 4, true), (5, 6, false)] {
+        let edge = Edge {
+            sync: at(sync),
+            other: at(other),
+            cells: Cells::from_slice(rt.alloc(), &[])?,
+        };
+        assert_eq!(rt; edge.is_end(), end, "{sync} and {other}");
+    }
+    Ok(())
+}
+
+#[test]
+fn columns_have_kinds(rt: HostRuntime) -> Result<(), Fail> {
+    let alloc = rt.alloc();
+    let name = Label::new(alloc, "v")?;
+    let schema = Schema::from_vec(vec![in alloc;
+        ColumnDef {
+            name,
+            kind: Kind::Bool
+        },
+    ]?);
+    for column in schema.items() {
+        assert_eq!(rt; column.name.as_str(), "v");
+        assert_eq!(rt; cell_of(column.kind), CellKind::Bit);
+    }
+    assert_eq!(rt; Value::Int(1).kind(), Kind::Int);
+    Ok(())
+}
