@@ -1,7 +1,7 @@
 use Rattle.std.proofs.Common.{◌≡◌, ◌∙◌, ◌-◌, ◌++◌, ap, subst, sym, arith}
 use Rattle.tempo_cli.specs.Gathering.{IsOpen}
 use Rattle.tw_rows.specs.Event.{alive}
-use Rattle.std.specs.Prelude.{suc, ◌+◌, map, replicate}
+use Rattle.std.specs.Prelude.{suc, ◌+◌, map}
 use Rattle.plan_model.specs.Changes.{Ended}
 use Rattle.tempo_cli.specs.Gathering.{printed}
 use Rattle.tempo_cli.proofs.RowWalk.{ups, downs, room, ends_now, starts_now, open_next}
