@@ -81,6 +81,9 @@ balance r es (suc t) h =
     let d = total-is-sum_by (ending (suc t)) es in
     omega (arith, a, b, c, d, k)
 
+pub same_difference : (n a b a' b' : ℕ) → n ≡ a - b → a ≡ a' → b ≡ b' → n ≡ a' - b'
+same_difference n a b a' b' e f g = e ∙ (ap (λ x. x - b) f ∙ ap (λ x. a' - x) g)
+
 pub fall_is : (r : Row) (es : List (Event Row)) (t : ℕ) → IsGroup r es → fall (alive es) r t ≡ downs es t - ups es t
 fall_is r es t h = let a = balance r es t h in omega (arith, a)
 
