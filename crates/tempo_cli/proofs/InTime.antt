@@ -3,22 +3,21 @@ use Rattle.std.specs.Prelude.{◌≡◌, ℕ, zero, suc, ◌+◌, ◌<◌, ◌�
 use Rattle.std.specs.List.Sorted.{IsStableByKey, ties}
 use Rattle.std.specs.Ordering.{eq_by_cmp, is_lt, nat_cmp}
 use Rattle.std.specs.Cmp.{nat_cmp_total}
-use Rattle.std.proofs.Common.{sym, ◌∙◌, ap, subst, arith, zero-add, add-zero}
+use Rattle.std.proofs.Common.{sym, ◌∙◌, ap, arith}
 use Rattle.std.proofs.lemmas.Bool.Decides.{nat_tests}
 use Rattle.std.proofs.lemmas.Bool.{eqb-true, eq-eqb, ltb-false}
 use Rattle.std.specs.declared.cmp.Ordering.TheVariants.{Less, Equal, Greater}
-use Rattle.std.proofs.lemmas.List.{append-nil, append_assoc, map-append}
+use Rattle.std.proofs.lemmas.List.{append-nil, map-append}
 use Rattle.std.proofs.lemmas.List.Sorted.{sorted_far, ranks_by}
 use Rattle.tw_rows.specs.Instant.{inf, instants}
-use Rattle.tw_rows.specs.Bag.{SameBag}
-use Rattle.tw_rows.specs.Event.{Event, AreEvents, alive, lives_at}
+use Rattle.tw_rows.specs.Event.{Event, alive, lives_at}
 use Rattle.tw_rows.specs.Rows.{Row, row_cmp}
 use Rattle.tw_rows.proofs.Bags.{SameBag-map, SameBag-filter, SameBag-from_IsPermutation}
 use Rattle.plan_model.specs.Opens.{before}
 use Rattle.plan_model.specs.Changes.{Line, in_row_order, row_ends, row_starts, changes_at, changes}
 use Rattle.plan_model.specs.ChangeWords.{time_of}
 use Rattle.plan_model.proofs.Each.{Each, Pairs, each_more, each_map}
-use Rattle.plan_model.proofs.InOrder.{member, or_left, or_right, member-in_row_order, Rises-in_row_order, IsWithin, flat_map_within}
+use Rattle.plan_model.proofs.InOrder.{member, or_right, member-in_row_order, Rises-in_row_order, flat_map_within}
 use Rattle.plan_model.proofs.Counting.{no_rise, no_fall, no_row_ends, no_row_starts}
 use Rattle.plan_model.proofs.LineOrder.{Follows, instant_times, all_in_order, ends_at_time, starts_at_time}
 use Rattle.plan_model.proofs.FirstOpen.{not_earlier}

@@ -1,13 +1,13 @@
 -- Events in row order, row by row: each row's own events, and what has been gathered of those before.
-use Rattle.std.specs.Prelude.{◌≡◌, ◌≢◌, ℕ, zero, suc, ◌+◌, ◌-◌, ◌<◌, ◌≤◌, Bool, true, false, ◌||◌, cond, List, [], ◌∷◌, ◌++◌, take, drop, length, get_or, map, filter, flat_map, IsSortedByKey, IsPermutation, refl}
-use Rattle.std.specs.List.{All, list_any}
+use Rattle.std.specs.Prelude.{◌≡◌, ◌≢◌, ℕ, zero, suc, ◌+◌, ◌-◌, ◌<◌, ◌≤◌, Bool, true, false, ◌||◌, cond, List, [], ◌∷◌, ◌++◌, take, drop, length, get_or, map, flat_map, IsSortedByKey, IsPermutation, refl}
+use Rattle.std.specs.List.{All}
 use Rattle.std.specs.Ordering.{eq_by_cmp, is_lt, is_eq, ordering_reverse}
 use Rattle.std.specs.Cmp.{tied_itself}
 use Rattle.std.specs.declared.cmp.Ordering.{Ordering}
 use Rattle.std.specs.declared.cmp.Ordering.TheVariants.{Less, Equal, Greater}
-use Rattle.std.proofs.Common.{inl, inr, sym, ◌∙◌, ap, subst, arith, zero-add, add-zero, add-one}
+use Rattle.std.proofs.Common.{inl, inr, sym, ◌∙◌, ap, arith}
 use Rattle.std.proofs.lemmas.Bool.{or_cases}
-use Rattle.std.proofs.lemmas.List.{append-nil, append_assoc, map-append, take_all, take-append-drop, get_or-take, get_or-drop, get_or_default, length-take-le, length-drop, length-take, drop-drop}
+use Rattle.std.proofs.lemmas.List.{append-nil, map-append, take_all, take-append-drop, get_or-take, get_or-drop, get_or_default, length-take-le, length-drop}
 use Rattle.std.proofs.lemmas.List.Concat.{flat_map-append}
 use Rattle.std.proofs.lemmas.List.Sorted.{sorted_far, ranks_by, All-permutation}
 use Rattle.tw_rows.specs.Instant.{inf, instants}
@@ -18,10 +18,10 @@ use Rattle.tw_rows.specs.RowOrder.{row_cmp_total, row_cmp-IsAntisymmetric}
 use Rattle.tw_rows.proofs.Bags.{total-append}
 use Rattle.tw_rows.proofs.Lives.{total-alive}
 use Rattle.plan_model.specs.Opens.{how_often}
-use Rattle.plan_model.specs.Changes.{Line, in_row_order, row_ends, row_starts}
-use Rattle.plan_model.proofs.InOrder.{member, Rises, same_row, row_itself, or_right, member-in_row_order, Rises-in_row_order, IsWithin, flat_map_within}
+use Rattle.plan_model.specs.Changes.{Line, row_ends, row_starts}
+use Rattle.plan_model.proofs.InOrder.{member, Rises, same_row, row_itself, or_right, member-in_row_order, Rises-in_row_order, flat_map_within}
 use Rattle.plan_model.proofs.Counting.{take_add}
-use Rattle.plan_model.proofs.Steady.{flat_map_same, row_ends_alike, row_starts_alike}
+use Rattle.plan_model.proofs.Steady.{row_ends_alike, row_starts_alike}
 use Rattle.tempo_cli.specs.Gathering.{Printed, printed, row_ends_below, row_starts_below, IsGroup, rows_of}
 
 abbrev row : Event Row → Row

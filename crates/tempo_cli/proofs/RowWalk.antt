@@ -1,8 +1,8 @@
 -- A row's lines, instant by instant: what its events' starts and ends at an instant say of them.
-use Rattle.std.specs.Prelude.{◌≡◌, ℕ, zero, suc, ◌+◌, ◌-◌, ◌<◌, ◌≤◌, nat_le, nat_lt, ◌==◌, ◌&&◌, Bool, true, false, cond, List, [], ◌∷◌, ◌++◌, take, drop, length, get_or, map, filter, flat_map, replicate, count_by, refl}
+use Rattle.std.specs.Prelude.{◌≡◌, ℕ, zero, suc, ◌+◌, ◌-◌, ◌<◌, ◌≤◌, nat_le, nat_lt, ◌==◌, ◌&&◌, Bool, false, cond, List, [], ◌∷◌, ◌++◌, take, drop, length, get_or, map, flat_map, replicate, count_by, refl}
 use Rattle.std.specs.List.{All}
 use Rattle.std.specs.Ordering.{eq_by_cmp}
-use Rattle.std.proofs.Common.{sym, ◌∙◌, ap, subst, arith, zero-add, add-zero, add-one}
+use Rattle.std.proofs.Common.{sym, ◌∙◌, ap, subst, arith, zero-add, add-zero}
 use Rattle.std.proofs.lemmas.Bool.Decides.{nat_tests}
 use Rattle.std.proofs.lemmas.List.{append-nil, append_assoc, map-append, take_all, replicate_more}
 use Rattle.std.proofs.lemmas.List.Concat.{flat_map-append}
@@ -13,8 +13,8 @@ use Rattle.tw_rows.specs.Event.{Event, AreEvents, alive, lives_at}
 use Rattle.tw_rows.specs.Rows.{Row, row_cmp}
 use Rattle.tw_rows.proofs.Bags.{total-is-sum_by}
 use Rattle.tw_rows.proofs.Lives.{total-alive}
-use Rattle.plan_model.specs.Opens.{how_often, before, rise, fall, starts_before, ends_before, open_before, named_at}
-use Rattle.plan_model.specs.Changes.{Line, Started, Ended, row_ends, row_starts}
+use Rattle.plan_model.specs.Opens.{how_often, before, rise, fall, starts_before, open_before, named_at}
+use Rattle.plan_model.specs.Changes.{Started, Ended, row_ends, row_starts}
 use Rattle.plan_model.proofs.InOrder.{row_itself}
 use Rattle.plan_model.proofs.Counting.{counts, instants-add, no_row_ends, no_row_starts}
 use Rattle.tempo_cli.specs.Gathering.{Printed, printed, row_ends_below, row_starts_below, IsGroup, IsOpen, IsQuiet}
@@ -80,6 +80,9 @@ balance r es (suc t) h =
     let c = total-is-sum_by (starting (suc t)) es in
     let d = total-is-sum_by (ending (suc t)) es in
     omega (arith, a, b, c, d, k)
+
+pub same_difference : (n a b a' b' : ℕ) → n ≡ a - b → a ≡ a' → b ≡ b' → n ≡ a' - b'
+same_difference n a b a' b' e f g = e ∙ (ap (λ x. x - b) f ∙ ap (λ x. a' - x) g)
 
 pub fall_is : (r : Row) (es : List (Event Row)) (t : ℕ) → IsGroup r es → fall (alive es) r t ≡ downs es t - ups es t
 fall_is r es t h = let a = balance r es t h in omega (arith, a)

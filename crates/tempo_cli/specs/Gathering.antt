@@ -1,5 +1,5 @@
 -- The lines of changes as they are gathered: row by row, and printed one by one.
-use Rattle.std.specs.Prelude.{◌≡◌, ℕ, suc, ◌<◌, ◌≤◌, List, [], ◌∷◌, ◌++◌, map, flat_map}
+use Rattle.std.specs.Prelude.{◌≡◌, ℕ, ◌<◌, ◌≤◌, List, map, flat_map}
 use Rattle.std.specs.List.{All}
 use Rattle.tw_rows.specs.Instant.{instants}
 use Rattle.tw_rows.specs.Event.{Event, AreEvents}

@@ -1,5 +1,5 @@
 // The bytes of change lines and punctuation lines.
-ghost use Rattle.std.specs.Prelude.{◌≡◌, ◌++◌, IfOk, OnOk};
+ghost use Rattle.std.specs.Prelude.{◌≡◌, ◌++◌, ◌∷◌, [], IfOk, OnOk};
 ghost use Rattle.plan_model.specs.Changes.{Started, Ended};
 ghost use Rattle.tempo_cli.specs.Print.{value_text, time_text, values_text, line_text, punctuation_text};
 
@@ -45,6 +45,15 @@ fn push_values(out: &mut Vec<u8>, row: &Row) -> Result<(), Memory>
     Ok(())
 }
 
+/// The line with the values of its row, ended.
+fn with_values(mut line: Vec<u8>, row: &Row) -> Result<Vec<u8>, Memory>
+    ensures { IfOk result (λ whole. whole.items ≡ line.items ++ values_text row.now ++ 10 ∷ []) }
+{
+    push_values(&mut line, row)?;
+    line.extend_from_slice(b"\n")?;
+    Ok(line)
+}
+
 /// The line that says that a row started.
 pub fn start_line(alloc: Global, at: Time, row: &Row) -> Result<Vec<u8>, Memory>
     ensures { IfOk result (λ line. line.items ≡ line_text (Started at row.now)) }
@@ -52,9 +61,7 @@ pub fn start_line(alloc: Global, at: Time, row: &Row) -> Result<Vec<u8>, Memory>
     let mut line = Vec::from_slice(alloc, b"out,start,")?;
     push_time(&mut line, at)?;
     line.extend_from_slice(b",inf")?;
-    push_values(&mut line, row)?;
-    line.extend_from_slice(b"\n")?;
-    Ok(line)
+    with_values(line, row)
 }
 
 /// The line that says that the row ended that had started at that time.
@@ -65,9 +72,7 @@ pub fn end_line(alloc: Global, at: Time, start: Time, row: &Row) -> Result<Vec<u
     push_time(&mut line, at)?;
     line.extend_from_slice(b",")?;
     push_time(&mut line, start)?;
-    push_values(&mut line, row)?;
-    line.extend_from_slice(b"\n")?;
-    Ok(line)
+    with_values(line, row)
 }
 
 /// The line that says that what is written is final below a time.

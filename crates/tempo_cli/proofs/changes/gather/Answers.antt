@@ -1,4 +1,4 @@
-use Rattle.tempo_cli.proofs.RowByRow.{IsRowByRow, none_yet, next_of, group_of, row_more, all_ends, all_starts}
+use Rattle.tempo_cli.proofs.RowByRow.{none_yet, next_of, group_of, row_more, all_ends, all_starts}
 use Rattle.tempo_cli.proofs.changes.gather.Goals as goal
 
 pub loop-from-init : goal.loop-from-init

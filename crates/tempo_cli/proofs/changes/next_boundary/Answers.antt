@@ -1,5 +1,5 @@
-use Rattle.std.proofs.Common.{◌≡◌, ◌∙◌, ◌<◌, ap, arith, get_or}
-use Rattle.tempo_cli.proofs.RowWalk.{quiet_more, quiet_none, quiet_all}
+use Rattle.std.proofs.Common.{◌≡◌, ◌∙◌, ap, arith, get_or}
+use Rattle.tempo_cli.proofs.RowWalk.{quiet_more, quiet_none}
 use Rattle.tempo_cli.proofs.changes.next_boundary.Goals as goal
 
 pub loop-event-init : goal.loop-event-init

@@ -1,6 +1,4 @@
-use Rattle.std.proofs.Common.{◌≡◌, subst, sym, ◌∙◌, ap, IfOk, IsPermutation, IsSortedByKey, flat_map}
-use Rattle.std.specs.List.Sorted.{IsStableByKey}
-use Rattle.std.specs.Ordering.{nat_cmp}
+use Rattle.std.proofs.Common.{◌≡◌, subst, sym, ◌∙◌, ap, IfOk, IsPermutation, flat_map}
 use Rattle.tw_rows.specs.Event.{AreEvents, alive}
 use Rattle.tw_rows.specs.Instant.{inf}
 use Rattle.plan_model.specs.Changes.{changes}

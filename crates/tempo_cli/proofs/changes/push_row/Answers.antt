@@ -1,7 +1,7 @@
-use Rattle.std.proofs.Common.{suc, arith, refl}
+use Rattle.std.proofs.Common.{refl}
 use Rattle.tw_rows.specs.Event.{alive}
 use Rattle.tw_rows.specs.Instant.{inf}
-use Rattle.tempo_cli.proofs.RowWalk.{IsGathered, gathered_none, gathered_more, gathered_to, some_instant}
+use Rattle.tempo_cli.proofs.RowWalk.{gathered_none, gathered_more, gathered_to, some_instant}
 use Rattle.tempo_cli.proofs.changes.push_row.Goals as goal
 
 pub instants-init : goal.instants-init

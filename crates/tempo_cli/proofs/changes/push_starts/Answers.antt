@@ -1,4 +1,4 @@
-use Rattle.std.proofs.Common.{◌≡◌, ap, refl}
+use Rattle.std.proofs.Common.{ap, refl}
 use Rattle.tempo_cli.specs.Gathering.{Printed}
 use Rattle.tempo_cli.proofs.RowWalk.{one_more}
 use Rattle.tempo_cli.proofs.changes.push_starts.Goals as goal

@@ -1,4 +1,4 @@
-use Rattle.std.proofs.Common.{subst, sym, arith, rules, ◌<◌, ◌≤◌, ◌∷◌, []}
+use Rattle.std.proofs.Common.{subst, sym, rules, ◌<◌, ◌≤◌, ◌∷◌, []}
 use Rattle.tw_rows.specs.Event.{AreEvents}
 use Rattle.tw_rows.specs.Instant.{inf}
 use Rattle.tw_rows.proofs.Lives.{AreEvents-append}
