@@ -183,3 +183,18 @@ fn other_words_are_refused(rt: HostRuntime) -> Result<(), Memory> {
     }
     Ok(())
 }
+
+/// Under `rt try --test --fail-alloc N` an allocation of the run fails: then the status is Memory, and the output a front.
+#[test]
+fn want_of_memory_leaves_a_front(rt: HostRuntime) {
+    let whole = b"out,start,1,inf,12\nout,end,5,1,12\n*,punct,inf\n".as_slice();
+    let input = b"s,interval,1,5,12\ns,interval,2,4,7\n";
+    let Ok(ran) = run_over(rt.alloc(), &["tempo", "--query", QUERY], input, 65536, None) else {
+        return;
+    };
+    match ran.status {
+        Status::Done => assert!(rt; ran.output.as_slice() == whole),
+        Status::Memory => assert!(rt; whole.starts_with(&ran.output)),
+        status => panic!(rt; "{status:?}"),
+    }
+}
