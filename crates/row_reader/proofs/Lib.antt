@@ -1,0 +1,5 @@
+pub mod Numbers
+pub mod SignedNumbers
+pub mod Fields
+pub mod OddQuotes
+pub mod Records

@@ -1,0 +1,13 @@
+//! Lines of input: one line to one entry, or to the first cause by which the line is bad.
+#![tactic(auto)]
+
+mod entry;
+mod line;
+mod number;
+mod quotes;
+mod read;
+mod record;
+mod value;
+
+pub use entry::{BadLine, Entry, Form, RowFault};
+pub use read::read_row;
