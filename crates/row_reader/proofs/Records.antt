@@ -64,7 +64,7 @@ pub IsSplit-start : (line : List ℕ) (place : Place) (fields : List (List ℕ))
 unfolding record_of
 IsSplit-start [] place fields field partial h r n e f g p = absurd (omega arith)
 IsSplit-start (b ∷ bs) place fields field partial h r n e f g p = record {
-  reads = rw (e, f, g) (ap fields_read (record-same [] [] b bs (other b 13 r.0) (other b 10 n.0)));
+  reads = rw (e, f, g) (ap fields_read (record-same [] [] b bs (other b 13 (r 0 b (omega arith))) (other b 10 (n 0 b (omega arith)))));
   no_partial = p;
 }
 
@@ -81,7 +81,7 @@ IsSplit-next line n b place place' fields fields' field field' partial partial' 
   no_partial = p;
 }
 
-read_at_end : (place : Place) (fields : List (List ℕ)) (field : List ℕ) → fields_read (next_record default_config (state_at place) fields field []) ≡ fields ++ field ∷ []
+pub read_at_end : (place : Place) (fields : List (List ℕ)) (field : List ℕ) → fields_read (next_record default_config (state_at place) fields field []) ≡ fields ++ field ∷ []
 unfolding next_record
 read_at_end Start fields field = refl
 read_at_end Plain fields field = refl

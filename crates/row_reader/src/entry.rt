@@ -1,4 +1,7 @@
 // What a line says, and why a line is bad.
+ghost use Rattle.std.specs.Prelude.{◌≡◌};
+ghost use Rattle.row_reader.specs.declared.entry.RowFault.TheVariants as faults;
+
 use std::alloc::{AllocError, AllocFailed};
 use std::error::Error;
 use std::fmt;
@@ -87,18 +90,24 @@ pub enum RowFault {
 }
 
 impl From<Memory> for RowFault {
+    ghost from_gives = { λ _ fault. fault ≡ faults.Memory };
+
     fn from(_memory: Memory) -> RowFault {
         RowFault::Memory
     }
 }
 
 impl From<AllocError> for RowFault {
+    ghost from_gives = { λ _ fault. fault ≡ faults.Memory };
+
     fn from(_error: AllocError) -> RowFault {
         RowFault::Memory
     }
 }
 
 impl<T: Drop> From<AllocFailed<T>> for RowFault {
+    ghost from_gives = { λ _ fault. fault ≡ faults.Memory };
+
     fn from(_failed: AllocFailed<T>) -> RowFault {
         RowFault::Memory
     }

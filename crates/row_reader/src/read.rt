@@ -1,5 +1,6 @@
 // A line to its entry.
-ghost use Rattle.std.specs.Prelude.{◌≡◌, ◌≢◌, ◌≤◌, length};
+ghost use Rattle.std.specs.Str.{IsUtf8, is_utf8};
+ghost use Rattle.std.specs.Prelude.{IsTrue, IfNone, ◌≡◌, ◌≢◌, ◌≤◌, length};
 ghost use Rattle.std.specs.List.{All};
 ghost use Rattle.csv.specs.Records.{fields_of};
 ghost use Rattle.row_reader.specs.Record.{field_of};
@@ -114,12 +115,22 @@ fn read_entry(
     }
 }
 
+#[tactic(auto, using(crate::proofs::Reading::utf8_steps))]
+fn is_text(bytes: &[u8]) -> bool
+    ensures value { result ≡ is_utf8 bytes.now }
+    ensures text { IsTrue result → IsUtf8 bytes.now }
+{
+    str::from_utf8(bytes).is_ok()
+}
+
 /// The first cause for which the bytes of a line are bad before any field is looked at.
 #[tactic(auto, unfolding(crate::specs::Entry::text_fault))]
 fn find_text_fault(text: &[u8]) -> Option<BadLine>
-    ensures { result ≡ text_fault text.now }
+    ensures value { result ≡ text_fault text.now }
+    ensures text { IfNone result (IsUtf8 text.now) }
+    ensures no_return { IfNone result (All (λ b. b ≢ 13) text.now) }
 {
-    if str::from_utf8(text).is_err() {
+    if !is_text(text) {
         return Some(BadLine::NotUtf8);
     }
     if text.contains(&b'\r') {
