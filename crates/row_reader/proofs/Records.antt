@@ -52,6 +52,7 @@ unfolding next_record
 ReadsOn-again b fs fs' f f' e p q more = rw (p, q, e) refl
 
 pub ruleset plain_steps = (ReadsOn-comma, ReadsOn-plain)
+
 pub ruleset record_steps = (ReadsOn-start, ReadsOn-closed, ReadsOn-open, ReadsOn-close, ReadsOn-quoted, ReadsOn-again)
 
 -- so many bytes of the line are read into the fields and the field at hand

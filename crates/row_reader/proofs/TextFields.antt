@@ -58,9 +58,21 @@ without f xs b e u = let p = at_ascii f xs b (omega (arith, e)) u in IsUtf8-appe
 goes_plain : (b : ℕ) (fs : List (List ℕ)) (f xs : List ℕ) → b ≢ 13 → b ≢ 10 → AllText fs → IsUtf8 (f ++ b ∷ xs) → Goes Plain b fs f xs
 goes_plain b fs f xs r n t u = elim (eqb_tells b 44) [
   | inl e ↦ (let p = at_ascii f xs b (omega (arith, e.1)) u in record {
-      place' = Start; fs' = fs ++ f ∷ []; f' = []; reads = ReadsOn-comma b fs _ f _ e.1 refl refl; texts = AllText-push fs f t p.0; rest = p.1 })
+    place' = Start;
+    fs' = fs ++ f ∷ [];
+    f' = [];
+    reads = ReadsOn-comma b fs _ f _ e.1 refl refl;
+    texts = AllText-push fs f t p.0;
+    rest = p.1;
+  })
   | inr e ↦ record {
-      place' = Plain; fs' = fs; f' = f ++ b ∷ []; reads = ReadsOn-plain b fs _ f _ e.1 r n refl refl; texts = t; rest = joined f xs b u }
+    place' = Plain;
+    fs' = fs;
+    f' = f ++ b ∷ [];
+    reads = ReadsOn-plain b fs _ f _ e.1 r n refl refl;
+    texts = t;
+    rest = joined f xs b u;
+  }
 ]
 
 goes : (place : Place) (b : ℕ) (fs : List (List ℕ)) (f xs : List ℕ) → b ≢ 13 → b ≢ 10 → AllText fs → IsUtf8 (f ++ b ∷ xs) → Goes place b fs f xs

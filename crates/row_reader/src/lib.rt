@@ -7,6 +7,8 @@ mod number;
 mod quotes;
 mod read;
 mod record;
+#[cfg(test)]
+mod tests;
 mod value;
 
 pub use entry::{BadLine, Entry, Form, RowFault};

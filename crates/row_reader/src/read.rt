@@ -17,11 +17,7 @@ use std::alloc::Global;
 use tw_rows::{Row, Schema, StreamDef};
 
 /// The row of an event line, or its first value that is not of its column's kind.
-fn read_values(
-    alloc: Global,
-    schema: &Schema,
-    fields: &StringRecord,
-) -> Result<Row, RowFault>
+fn read_values(alloc: Global, schema: &Schema, fields: &StringRecord) -> Result<Row, RowFault>
     ensures { AnswersRow result (row_of (fields_of fields.now) 1 schema.now) }
 {
     let mut values = Vec::new(alloc);

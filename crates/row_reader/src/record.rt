@@ -11,11 +11,7 @@ use std::alloc::{AllocError, Global};
 
 /// Takes a byte that stands in a field without quotes, and answers where the next byte stands.
 #[tactic(auto, using(crate::proofs::Records::plain_steps))]
-fn take_plain(
-    byte: u8,
-    field: &mut Vec<u8>,
-    fields: &mut ByteRecord,
-) -> Result<Place, AllocError>
+fn take_plain(byte: u8, field: &mut Vec<u8>, fields: &mut ByteRecord) -> Result<Place, AllocError>
     requires no_return { byte ≢ 13 }
     requires no_feed { byte ≢ 10 }
     requires partial { partial_of fields.old ≡ [] }
