@@ -6,3 +6,4 @@ pub mod Records
 pub mod TextFields
 pub mod Reading
 pub mod Lines
+pub mod Spelling

@@ -5,3 +5,4 @@ pub mod Record
 pub mod Values
 pub mod Entry
 pub mod Answers
+pub mod Spelled

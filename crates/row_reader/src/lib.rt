@@ -2,6 +2,7 @@
 #![tactic(auto)]
 
 mod entry;
+mod laws;
 mod line;
 mod number;
 mod quotes;
@@ -12,4 +13,5 @@ mod tests;
 mod value;
 
 pub use entry::{BadLine, Entry, Form, RowFault};
+pub use laws::lines_are_fields;
 pub use read::read_row;
