@@ -1,5 +1,5 @@
 -- What is read of a line has no byte that the line has not.
-use Rattle.std.proofs.Common.{◌≡◌, ◌<◌, ◌≤◌, ℕ, zero, suc, ◌-◌, List, [], ◌∷◌, length, take, drop, get_or, Bool, true, false, cond, refl, arith, subst}
+use Rattle.std.proofs.Common.{ℕ, ◌-◌, List, length, take, drop, get_or, Bool, true, false, cond}
 use Rattle.std.specs.Prelude.{◌≢◌, ◌&&◌, nat_lt, ◌==◌}
 use Rattle.std.specs.List.{All}
 use Rattle.std.proofs.lemmas.List.Elements.{All-take, All-drop}

@@ -1,5 +1,5 @@
 -- Whether quotes are odd, byte by byte.
-use Rattle.std.proofs.Common.{◌≡◌, ◌<◌, ℕ, zero, suc, ◌+◌, List, [], ◌∷◌, length, drop, get_or, Bool, true, false, Option, Some, None, refl, sym, ◌∙◌, ap, arith}
+use Rattle.std.proofs.Common.{◌≡◌, ◌<◌, ℕ, zero, suc, ◌+◌, List, [], ◌∷◌, length, drop, get_or, true, Option, Some, None, refl, sym, ◌∙◌, ap, arith}
 use Rattle.row_reader.specs.Quotes.{odd_from, next_place, then_next, is_odd_end}
 use Rattle.row_reader.specs.declared.quotes.Place.{Place}
 

@@ -1,10 +1,10 @@
 -- The signed number that a text spells.
-use Rattle.std.proofs.Common.{◌≡◌, ◌≤◌, ◌<◌, ◌^◌, ℕ, ℤ, suc, List, [], ◌∷◌, Bool, true, false, cond, Option, Some, None, Result, Ok, Err, refl, sym, ◌∙◌, ap, arith, ltb}
-use Rattle.std.proofs.lemmas.Bool.Decides.{nat_tests, Decides-ltb}
-use Rattle.std.proofs.lemmas.Fmt.{parse-signed_decimal, IsAscii-signed}
+use Rattle.std.proofs.Common.{◌≡◌, ◌<◌, ◌^◌, ℕ, ℤ, suc, List, [], ◌∷◌, Bool, true, false, cond, Some, None, Result, Ok, refl, sym, ◌∙◌, ap, arith}
+use Rattle.std.proofs.lemmas.Bool.Decides.{Decides-ltb}
+use Rattle.std.proofs.lemmas.Fmt.{parse-signed_decimal}
 use Rattle.std.proofs.lemmas.Result.{OkIff-at_ok}
 use Rattle.std.proofs.lemmas.Int.{ints}
-use Rattle.std.specs.Prelude.{◌&&◌, nat_lt, pos, negsuc}
+use Rattle.std.specs.Prelude.{◌&&◌, pos, negsuc}
 use mir.Val.{SFits}
 use mir.Syntax.{w64}
 use lib.Signed.{mag}

@@ -1,13 +1,13 @@
 -- Quotes are even exactly where the bytes spell fields, and csv reads these fields.
-use Rattle.std.proofs.Common.{◌≡◌, ◌<◌, ℕ, zero, suc, ◌+◌, List, [], ◌∷◌, ◌++◌, length, Bool, true, false, Option, Some, None, refl, sym, ◌∙◌, ap, arith, inl, inr, subst, append_assoc}
-use Rattle.std.specs.Prelude.{◌≢◌, ◌==◌, ◌⊎◌, ◌↔◌}
+use Rattle.std.proofs.Common.{◌≡◌, ◌<◌, ℕ, suc, List, [], ◌∷◌, ◌++◌, length, false, Some, None, refl, sym, ◌∙◌, ap, arith, inl, inr, subst, append_assoc}
+use Rattle.std.specs.Prelude.{◌≢◌, ◌⊎◌, ◌↔◌}
 use Rattle.std.specs.List.{All}
 use Rattle.std.proofs.lemmas.List.{append-nil}
 use Rattle.std.proofs.lemmas.Bool.Decides.{eqb_tells}
 use Rattle.csv.specs.Machine.{next_record}
 use Rattle.csv.specs.Reading.{default_config}
 use Rattle.row_reader.specs.Record.{state_at, ReadsOn, record_of, fields_read}
-use Rattle.row_reader.specs.Quotes.{next_place, then_next, odd_from, odd_quotes, is_odd_end}
+use Rattle.row_reader.specs.Quotes.{next_place, odd_from, odd_quotes}
 use Rattle.row_reader.specs.Spelled.{doubled, IsBare, SpellsField, SpellsFields}
 use Rattle.row_reader.specs.declared.quotes.Place.{Place}
 use Rattle.row_reader.specs.declared.quotes.Place.TheVariants.{Start, Plain, Quoted, Closed}

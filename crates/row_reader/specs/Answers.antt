@@ -1,5 +1,5 @@
 -- How answers of the code stand to what a line says.
-use Rattle.std.specs.Prelude.{◌≡◌, ℕ, List, Option, Some, None, Result, Ok, Err}
+use Rattle.std.specs.Prelude.{◌≡◌, ℕ, Option, Some, None, Result, Ok, Err}
 use Rattle.std.specs.Borrow.{Bor}
 use Rattle.tw_rows.specs.Rows.{Row}
 use Rattle.tw_rows.specs.declared.schema.StreamDef.{StreamDef}

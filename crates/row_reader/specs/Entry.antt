@@ -11,7 +11,6 @@ use Rattle.row_reader.specs.Line.{text_of, has_mark}
 use Rattle.row_reader.specs.Quotes.{odd_quotes}
 use Rattle.row_reader.specs.Record.{record_of, field_of}
 use Rattle.row_reader.specs.Values.{end_of, form_of, times_of, is_alive, value_of}
-use Rattle.row_reader.specs.declared.entry.Form.{Form}
 use Rattle.row_reader.specs.declared.entry.Entry.{Entry}
 use Rattle.row_reader.specs.declared.entry.Entry.TheVariants.{Skip, Punct, Event}
 use Rattle.row_reader.specs.declared.entry.BadLine.{BadLine}

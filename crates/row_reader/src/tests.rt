@@ -53,31 +53,27 @@ fn push_row(alloc: Global, out: &mut String, row: &Row) -> Result<(), Memory> {
     Ok(())
 }
 
-/// What was read, in words.
-fn told(alloc: Global, read: Result<Entry, RowFault>) -> Result<String, Memory> {
+/// An entry in words.
+fn told(alloc: Global, entry: &Entry) -> Result<String, Memory> {
     let mut out = String::new(alloc);
-    match read {
-        Ok(Entry::Skip) => out.push_str("skip")?,
-        Ok(Entry::Punct(time)) => {
+    match entry {
+        Entry::Skip => out.push_str("skip")?,
+        Entry::Punct(time) => {
             out.push_str("punct")?;
-            push_time(alloc, &mut out, time)?;
+            push_time(alloc, &mut out, *time)?;
         }
-        Ok(
-            Entry::Event {
-                stream,
-                form,
-                sync,
-                other,
-                row,
-            },
-        ) => {
+        Entry::Event {
+            stream,
+            form,
+            sync,
+            other,
+            row,
+        } => {
             out.push_str(format!(in alloc; "{stream} {form:?}")?.as_str())?;
-            push_time(alloc, &mut out, sync)?;
-            push_time(alloc, &mut out, other)?;
-            push_row(alloc, &mut out, &row)?;
+            push_time(alloc, &mut out, *sync)?;
+            push_time(alloc, &mut out, *other)?;
+            push_row(alloc, &mut out, row)?;
         }
-        Err(RowFault::Bad(cause)) => out.push_str(format!(in alloc; "{cause}")?.as_str())?,
-        Err(RowFault::Memory) => return Err(Memory),
     }
     Ok(out)
 }
@@ -88,132 +84,100 @@ fn read(alloc: Global, line: &[u8], first: bool) -> Result<String, Memory> {
         return Ok("no line".to_string(alloc)?);
     }
     let streams = streams(alloc)?;
-    told(alloc, read_row(alloc, line, first, streams.as_slice()))
+    match read_row(alloc, line, first, streams.as_slice()) {
+        Ok(entry) => told(alloc, &entry),
+        Err(RowFault::Bad(cause)) => Ok(format!(in alloc; "{cause}")?),
+        Err(RowFault::Memory) => Err(Memory),
+    }
 }
 
-/// Lines that are not the first of the input.
-const LINES: [(&str, &str); 86] = [
-    // No entry.
-    ("", "skip"),
-    ("\r", "skip"),
-    ("\u{feff}", "unknown stream"),
-    // Intervals, and their times at the borders.
-    ("s,interval,1,5,a,12", "0 Interval 1 5 [a] 12"),
-    ("s,interval,1,5,a,12\r", "0 Interval 1 5 [a] 12"),
-    ("s,interval,0,1,,0", "0 Interval 0 1 [] 0"),
-    ("s,interval,7,inf,a,1", "0 Interval 7 inf [a] 1"),
-    (
-        "s,interval,1152921504606846974,1152921504606846975,a,1",
-        "0 Interval 1152921504606846974 1152921504606846975 [a] 1",
-    ),
-    (
-        "s,interval,1152921504606846975,inf,a,1",
-        "0 Interval 1152921504606846975 inf [a] 1",
-    ),
-    ("s,interval,1152921504606846976,inf,a,1", "bad time"),
-    ("s,interval,1,1152921504606846976,a,1", "bad time"),
-    ("s,interval,1,18446744073709551617,a,1", "bad time"),
-    ("s,interval,inf,inf,a,1", "bad time"),
-    ("s,interval,01,2,a,1", "bad time"),
-    ("s,interval,1,02,a,1", "bad time"),
-    ("s,interval,+1,2,a,1", "bad time"),
-    ("s,interval,1,+2,a,1", "bad time"),
-    ("s,interval,-0,2,a,1", "bad time"),
-    ("s,interval,-1,2,a,1", "bad time"),
-    ("s,interval, 1,2,a,1", "bad time"),
-    ("s,interval,1 ,2,a,1", "bad time"),
-    ("s,interval,,2,a,1", "bad time"),
-    ("s,interval,1,,a,1", "bad time"),
-    ("s,interval,1,Inf,a,1", "bad time"),
-    ("s,interval,1,infinity,a,1", "bad time"),
-    ("s,interval,00,2,a,1", "bad time"),
-    ("s,interval,2,2,a,1", "bad life"),
-    ("s,interval,3,2,a,1", "bad life"),
-    ("s,interval,1,2,a,1", "0 Interval 1 2 [a] 1"),
-    // Starts and ends.
-    ("s,start,4,inf,a,1", "0 Start 4 inf [a] 1"),
-    ("s,start,1,5,a,1", "bad time"),
-    ("s,start,inf,inf,a,1", "bad time"),
-    ("s,start,4,Inf,a,1", "bad time"),
-    ("s,end,5,1,a,1", "0 End 5 1 [a] 1"),
-    ("s,end,1,1,a,1", "bad life"),
-    ("s,end,1,5,a,1", "bad life"),
-    ("s,end,inf,1,a,1", "bad time"),
-    ("s,end,5,inf,a,1", "bad time"),
-    // Punctuations.
-    ("*,punct,0", "punct 0"),
-    ("*,punct,inf", "punct inf"),
-    ("\"*\",\"punct\",\"17\"", "punct 17"),
-    ("*,punct,1152921504606846975", "punct 1152921504606846975"),
-    ("*,punct,1152921504606846976", "bad time"),
-    ("*,punct,007", "bad time"),
-    ("*,punct,", "bad time"),
-    ("*,punct", "wrong number of fields"),
-    ("*,punct,1,2", "wrong number of fields"),
-    ("*", "unknown kind"),
-    ("*,interval,1,2,a,1", "unknown kind"),
-    ("*,Punct,1", "unknown kind"),
-    // Streams, kinds and numbers of fields.
-    ("S,interval,1,2,a,1", "unknown stream"),
-    ("s ,interval,1,2,a,1", "unknown stream"),
-    (",interval,1,2,a,1", "unknown stream"),
-    ("\u{feff}s,interval,1,2,a,1", "unknown stream"),
-    (
-        "\"s\",\"interval\",\"1\",\"2\",\"a\",\"1\"",
-        "0 Interval 1 2 [a] 1",
-    ),
-    ("s", "unknown kind"),
-    ("s,", "unknown kind"),
-    ("s,punct,1", "unknown kind"),
-    ("s,jump,1,2,a,1", "unknown kind"),
-    ("s,interval", "wrong number of fields"),
-    ("s,interval,1,2,a", "wrong number of fields"),
-    ("s,interval,1,2,a,1,", "wrong number of fields"),
-    ("s,interval,x,2,a", "wrong number of fields"),
-    ("u,interval,1,2", "2 Interval 1 2"),
-    ("u,interval,1,2,", "wrong number of fields"),
-    // Values.
-    (
-        "s,interval,1,2,a,9223372036854775807",
-        "0 Interval 1 2 [a] 9223372036854775807",
-    ),
-    (
-        "s,interval,1,2,a,-9223372036854775808",
-        "0 Interval 1 2 [a] -9223372036854775808",
-    ),
-    (
-        "s,interval,1,2,a,9223372036854775808",
-        "bad value in column 2",
-    ),
-    (
-        "s,interval,1,2,a,-9223372036854775809",
-        "bad value in column 2",
-    ),
-    ("s,interval,1,2,a,x", "bad value in column 2"),
-    ("s,interval,1,2,a,+1", "bad value in column 2"),
-    ("s,interval,1,2,a,01", "bad value in column 2"),
-    ("s,interval,1,2,a,-0", "bad value in column 2"),
-    ("s,interval,1,2,a,inf", "bad value in column 2"),
-    ("s,interval,1,2,a,", "bad value in column 2"),
-    (
-        "t,interval,1,2,true,false,x y",
-        "1 Interval 1 2 true false [x y]",
-    ),
-    ("t,interval,1,2,True,0,x", "bad value in column 1"),
-    ("t,interval,1,2,true,0,x", "bad value in column 2"),
-    // Quotes.
-    ("s,interval,1,2,\"a,b\",-3", "0 Interval 1 2 [a,b] -3"),
-    ("s,interval,1,2,\"a\"\"b\",1", "0 Interval 1 2 [a\"b] 1"),
-    ("s,interval,1,2,\"\"\"\",1", "0 Interval 1 2 [\"] 1"),
-    ("s,interval,1,2,a\"b\"c,1", "odd quotes"),
-    ("s,interval,1,2,\"a,1", "odd quotes"),
-    ("s,interval,1,2,\"a\"b,1", "odd quotes"),
-    (
-        "s,interval,1,2,\u{feff}\u{e9}\0 ,1",
-        "0 Interval 1 2 [\u{feff}\u{e9}\0 ] 1",
-    ),
-    ("s,interval,1,2,a,1\r\r", "stray return"),
-];
+/// Lines that are not the first of the input, each with what it says.
+const LINES: &str = " -> skip\n\
+\r -> skip\n\
+\u{feff} -> unknown stream\n\
+s,interval,1,5,a,12 -> 0 Interval 1 5 [a] 12\n\
+s,interval,1,5,a,12\r -> 0 Interval 1 5 [a] 12\n\
+s,interval,0,1,,0 -> 0 Interval 0 1 [] 0\n\
+s,interval,7,inf,a,1 -> 0 Interval 7 inf [a] 1\n\
+s,interval,1152921504606846974,1152921504606846975,a,1 -> 0 Interval 1152921504606846974 1152921504606846975 [a] 1\n\
+s,interval,1152921504606846975,inf,a,1 -> 0 Interval 1152921504606846975 inf [a] 1\n\
+s,interval,1152921504606846976,inf,a,1 -> bad time\n\
+s,interval,1,1152921504606846976,a,1 -> bad time\n\
+s,interval,1,18446744073709551617,a,1 -> bad time\n\
+s,interval,inf,inf,a,1 -> bad time\n\
+s,interval,01,2,a,1 -> bad time\n\
+s,interval,1,02,a,1 -> bad time\n\
+s,interval,+1,2,a,1 -> bad time\n\
+s,interval,1,+2,a,1 -> bad time\n\
+s,interval,-0,2,a,1 -> bad time\n\
+s,interval,-1,2,a,1 -> bad time\n\
+s,interval, 1,2,a,1 -> bad time\n\
+s,interval,1 ,2,a,1 -> bad time\n\
+s,interval,,2,a,1 -> bad time\n\
+s,interval,1,,a,1 -> bad time\n\
+s,interval,1,Inf,a,1 -> bad time\n\
+s,interval,1,infinity,a,1 -> bad time\n\
+s,interval,00,2,a,1 -> bad time\n\
+s,interval,2,2,a,1 -> bad life\n\
+s,interval,3,2,a,1 -> bad life\n\
+s,interval,1,2,a,1 -> 0 Interval 1 2 [a] 1\n\
+s,start,4,inf,a,1 -> 0 Start 4 inf [a] 1\n\
+s,start,1,5,a,1 -> bad time\n\
+s,start,inf,inf,a,1 -> bad time\n\
+s,start,4,Inf,a,1 -> bad time\n\
+s,end,5,1,a,1 -> 0 End 5 1 [a] 1\n\
+s,end,1,1,a,1 -> bad life\n\
+s,end,1,5,a,1 -> bad life\n\
+s,end,inf,1,a,1 -> bad time\n\
+s,end,5,inf,a,1 -> bad time\n\
+*,punct,0 -> punct 0\n\
+*,punct,inf -> punct inf\n\
+\"*\",\"punct\",\"17\" -> punct 17\n\
+*,punct,1152921504606846975 -> punct 1152921504606846975\n\
+*,punct,1152921504606846976 -> bad time\n\
+*,punct,007 -> bad time\n\
+*,punct, -> bad time\n\
+*,punct -> wrong number of fields\n\
+*,punct,1,2 -> wrong number of fields\n\
+* -> unknown kind\n\
+*,interval,1,2,a,1 -> unknown kind\n\
+*,Punct,1 -> unknown kind\n\
+S,interval,1,2,a,1 -> unknown stream\n\
+s ,interval,1,2,a,1 -> unknown stream\n\
+,interval,1,2,a,1 -> unknown stream\n\
+\u{feff}s,interval,1,2,a,1 -> unknown stream\n\
+\"s\",\"interval\",\"1\",\"2\",\"a\",\"1\" -> 0 Interval 1 2 [a] 1\n\
+s -> unknown kind\n\
+s, -> unknown kind\n\
+s,punct,1 -> unknown kind\n\
+s,jump,1,2,a,1 -> unknown kind\n\
+s,interval -> wrong number of fields\n\
+s,interval,1,2,a -> wrong number of fields\n\
+s,interval,1,2,a,1, -> wrong number of fields\n\
+s,interval,x,2,a -> wrong number of fields\n\
+u,interval,1,2 -> 2 Interval 1 2\n\
+u,interval,1,2, -> wrong number of fields\n\
+s,interval,1,2,a,9223372036854775807 -> 0 Interval 1 2 [a] 9223372036854775807\n\
+s,interval,1,2,a,-9223372036854775808 -> 0 Interval 1 2 [a] -9223372036854775808\n\
+s,interval,1,2,a,9223372036854775808 -> bad value in column 2\n\
+s,interval,1,2,a,-9223372036854775809 -> bad value in column 2\n\
+s,interval,1,2,a,x -> bad value in column 2\n\
+s,interval,1,2,a,+1 -> bad value in column 2\n\
+s,interval,1,2,a,01 -> bad value in column 2\n\
+s,interval,1,2,a,-0 -> bad value in column 2\n\
+s,interval,1,2,a,inf -> bad value in column 2\n\
+s,interval,1,2,a, -> bad value in column 2\n\
+t,interval,1,2,true,false,x y -> 1 Interval 1 2 true false [x y]\n\
+t,interval,1,2,True,0,x -> bad value in column 1\n\
+t,interval,1,2,true,0,x -> bad value in column 2\n\
+s,interval,1,2,\"a,b\",-3 -> 0 Interval 1 2 [a,b] -3\n\
+s,interval,1,2,\"a\"\"b\",1 -> 0 Interval 1 2 [a\"b] 1\n\
+s,interval,1,2,\"\"\"\",1 -> 0 Interval 1 2 [\"] 1\n\
+s,interval,1,2,a\"b\"c,1 -> odd quotes\n\
+s,interval,1,2,\"a,1 -> odd quotes\n\
+s,interval,1,2,\"a\"b,1 -> odd quotes\n\
+s,interval,1,2,\u{feff}\u{e9}\0 ,1 -> 0 Interval 1 2 [\u{feff}\u{e9}\0 ] 1\n\
+s,interval,1,2,a,1\r\r -> stray return";
 
 /// Lines of any bytes: the line, whether it is the first of the input, and what it says.
 const MORE: [(&[u8], bool, &str); 22] = [
@@ -255,7 +219,10 @@ const MORE: [(&[u8], bool, &str); 22] = [
 
 #[test]
 fn lines_say_what_the_table_says(rt: HostRuntime) {
-    for (line, expected) in LINES {
+    for row in LINES.split('\n') {
+        let Some((line, expected)) = row.split_once(" -> ") else {
+            panic!(rt; "no row: {row}");
+        };
         match read(rt.alloc(), line.as_bytes(), false) {
             Ok(said) => assert!(rt; said.as_str() == expected, "{line}: {said}"),
             Err(_) => panic!(rt; "no memory"),
@@ -267,7 +234,7 @@ fn lines_say_what_the_table_says(rt: HostRuntime) {
 fn bytes_and_first_lines(rt: HostRuntime) {
     for (line, first, expected) in MORE {
         match read(rt.alloc(), line, first) {
-            Ok(said) => assert!(rt; said.as_str() == expected, "{expected}: {said}"),
+            Ok(said) => assert!(rt; said.as_str() == expected, "{said}"),
             Err(_) => panic!(rt; "no memory"),
         }
     }

@@ -1,12 +1,10 @@
-use Rattle.std.proofs.Common.{◌≡◌, ◌<◌, ◌≤◌, ◌^◌, ℕ, ℤ, Bool, true, false, not, List, Ok, Err, Result, refl, sym, ◌∙◌, ap, arith}
+use Rattle.std.proofs.Common.{◌≡◌, Bool, true, false, not, refl, sym, ◌∙◌, ap}
 use Rattle.std.specs.Fmt.{signed_decimal}
-use mir.Val.{SFits}
 use mir.Syntax.{w64}
-use Rattle.std.specs.Str.Parse.{ParsesSigned, signed_digits_value}
+use Rattle.std.specs.Str.Parse.{signed_digits_value}
 use Rattle.std.proofs.lemmas.Fmt.{parse-signed_decimal, IsAscii-signed}
 use Rattle.std.proofs.lemmas.Int.{to_z-of_z}
 use Rattle.std.proofs.lemmas.Str.{IsUtf8-from_ascii}
-use Rattle.row_reader.specs.Number.{int_of, fits_i64, same_text}
 use Rattle.row_reader.proofs.Numbers.{same_text-Decides}
 use Rattle.row_reader.proofs.SignedNumbers.{int_of-none, int_of-some, fits_from, fits_to, small, parsed, read_as}
 use Rattle.row_reader.proofs.number.read_int.Goals as goal

@@ -1,4 +1,4 @@
-use Rattle.std.proofs.Common.{◌≡◌, ◌<◌, Bool, true, false, not, ap, refl, sym, ◌∙◌, arith}
+use Rattle.std.proofs.Common.{ap, sym, ◌∙◌}
 use Rattle.row_reader.specs.Number.{same_text}
 use Rattle.row_reader.proofs.Reading.{named-past, named-here, named-end}
 use Rattle.row_reader.proofs.read.find_stream.Goals as goal

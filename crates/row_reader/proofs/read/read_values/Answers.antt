@@ -2,7 +2,7 @@ use Rattle.std.proofs.Common.{◌≡◌, ◌<◌, ◌≤◌, ◌+◌, Ok, ℕ, L
 use Rattle.tw_rows.specs.Rows.{Row}
 use Rattle.tw_rows.specs.declared.schema.ColumnDef.{ColumnDef}
 use Rattle.row_reader.specs.Values.{value_of}
-use Rattle.row_reader.proofs.Reading.{AreRead, AreRead-next, AreRead-bad, AreRead-end}
+use Rattle.row_reader.proofs.Reading.{AreRead-next, AreRead-bad, AreRead-end}
 use Rattle.row_reader.proofs.read.read_values.Goals as goal
 
 item_of : (xs columns : List ColumnDef) (n : ℕ) (d : ColumnDef) → xs ≡ columns → d ≡ get_or xs n d → d ≡ get_or columns n d

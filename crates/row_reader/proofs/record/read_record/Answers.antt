@@ -1,4 +1,4 @@
-use Rattle.std.proofs.Common.{◌≡◌, subst, sym}
+use Rattle.std.proofs.Common.{subst, sym}
 use Rattle.csv.specs.Records.{AllText}
 use Rattle.row_reader.proofs.TextFields.{record_of-AllText}
 use Rattle.row_reader.proofs.record.read_record.Goals as goal

@@ -1,4 +1,4 @@
-use Rattle.std.proofs.Common.{◌≡◌, ◌++◌, ◌∷◌, [], ap, sym, ◌∙◌, List, ℕ, arith}
+use Rattle.std.proofs.Common.{◌++◌, ◌∷◌, [], ap, sym, ◌∙◌, List, ℕ, arith}
 use Rattle.csv.specs.Records.{fields_of}
 use Rattle.row_reader.proofs.Records.{IsSplit-end}
 use Rattle.row_reader.proofs.record.split.Goals as goal
