@@ -7,3 +7,4 @@ pub mod TextFields
 pub mod Reading
 pub mod Lines
 pub mod Spelling
+pub mod ReadBack

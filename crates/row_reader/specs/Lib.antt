@@ -6,3 +6,4 @@ pub mod Values
 pub mod Entry
 pub mod Answers
 pub mod Spelled
+pub mod Printed

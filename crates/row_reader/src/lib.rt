@@ -13,5 +13,5 @@ mod tests;
 mod value;
 
 pub use entry::{BadLine, Entry, Form, RowFault};
-pub use laws::lines_are_fields;
+pub use laws::{events_read_back, lines_are_fields};
 pub use read::read_row;
