@@ -1,11 +1,9 @@
 -- What is printed of an event is read as that event.
-use Rattle.std.proofs.Common.{◌≡◌, ◌≤◌, ◌<◌, inl, inr, ℕ, zero, suc, ◌+◌, List, [], ◌∷◌, ◌++◌, length, map, Bool, true, false, cond, Option, Some, None, Ok, refl, sym, ◌∙◌, ap, arith, append_assoc, subst}
-use Rattle.std.specs.Prelude.{◌⊎◌, ◌^◌, ◌==◌, nat_lt, codes, decimal, option_map, not}
+use Rattle.std.proofs.Common.{◌≡◌, ◌<◌, inl, inr, ℕ, zero, suc, ◌+◌, List, [], ◌∷◌, ◌++◌, length, map, Bool, true, false, cond, Some, Ok, refl, sym, ◌∙◌, ap, arith, append_assoc, subst}
+use Rattle.std.specs.Prelude.{◌⊎◌, ◌^◌, ◌==◌, nat_lt, codes, decimal}
 use Rattle.std.specs.Fmt.{signed_decimal}
-use Rattle.std.specs.Str.Parse.{digits_value}
 use Rattle.std.proofs.lemmas.Bool.Decides.{nat_tests, Decides-ltb, eqb_tells}
-use Rattle.std.proofs.lemmas.Fmt.{decimal_is_IsNumeral}
-use Rattle.std.proofs.lemmas.List.{length-append, append-nil}
+use Rattle.std.proofs.lemmas.List.{length-append}
 use Rattle.csv.specs.Records.{field_at}
 use Rattle.tw_rows.specs.Instant.{inf}
 use Rattle.tw_rows.specs.Rows.{Row}
@@ -19,11 +17,11 @@ use Rattle.row_reader.specs.declared.entry.Entry.TheVariants.{Event}
 use Rattle.row_reader.specs.Number.{same_text}
 use Rattle.row_reader.specs.Record.{field_of}
 use Rattle.row_reader.specs.Values.{time_of, end_of, inf_of, form_of, times_of, is_alive, value_of}
-use Rattle.row_reader.specs.Entry.{row_of, with_value, event}
+use Rattle.row_reader.specs.Entry.{row_of, event}
 use Rattle.row_reader.specs.Printed.{value_text, time_text, form_text, event_fields, IsValue, IsRowOf, AreTimes}
 use Rattle.row_reader.proofs.Numbers.{number_of-spelled, same_text-Decides}
 use Rattle.row_reader.proofs.SignedNumbers.{int_of-spelled}
-use Rattle.row_reader.proofs.Fields.{AreAbove, are_digits, AllBelow, digits_low}
+use Rattle.row_reader.proofs.Fields.{AllBelow, digits_low}
 
 inf-is : inf ≡ 2 ^ 61
 unfolding inf
