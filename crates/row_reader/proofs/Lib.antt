@@ -1,0 +1,10 @@
+pub mod Numbers
+pub mod SignedNumbers
+pub mod Fields
+pub mod OddQuotes
+pub mod Records
+pub mod TextFields
+pub mod Reading
+pub mod Lines
+pub mod Spelling
+pub mod ReadBack

@@ -1,0 +1,17 @@
+//! Lines of input: one line to one entry, or to the first cause by which the line is bad.
+#![tactic(auto)]
+
+mod entry;
+mod laws;
+mod line;
+mod number;
+mod quotes;
+mod read;
+mod record;
+#[cfg(test)]
+mod tests;
+mod value;
+
+pub use entry::{BadLine, Entry, Form, RowFault};
+pub use laws::{events_read_back, lines_are_fields};
+pub use read::read_row;
