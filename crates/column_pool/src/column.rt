@@ -38,6 +38,16 @@ impl<T: Cell> Column<T> {
         })
     }
 
+    /// An empty column with room for no cell, which takes no memory.
+    pub fn without_room(alloc: Global) -> Column<T>
+        ensures { result ≡ record { items = []; capacity = 0 } }
+    {
+        Column {
+            items: Vec::new(alloc),
+            capacity: 0,
+        }
+    }
+
     /// Adds the cell last.
     pub fn push(&mut self, item: T)
         requires { length self.old.items < self.old.capacity }

@@ -50,6 +50,7 @@ impl Time {
     pub fn get(self) -> Option<u64>
         ensures none { IsNone result ↔ (self ≡ inf) }
         ensures some { IfSome result (λ n. n ≡ self) }
+        ensures within { self ≤ inf }
     {
         if self.number < INFINITY {
             Some(self.number)

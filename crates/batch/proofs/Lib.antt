@@ -1,0 +1,4 @@
+pub mod Pushing
+pub mod Tables
+pub mod Views
+pub mod Stocks

@@ -1,0 +1,69 @@
+-- What is free in pools while columns are taken and given one after another.
+use Rattle.std.proofs.Common.{◌≡◌, ℕ, ◌+◌, ◌<◌, List, [], ◌∷◌, ◌++◌, map, length, take, get_or, Result, Ok, Err, OnErr, refl, ap, sym, ◌∙◌, subst, arith}
+use Rattle.std.specs.Prelude.{All}
+use Rattle.std.proofs.lemmas.List.{map-append, take_more, length-append, get_or_append_left}
+use Rattle.tw_rows.specs.Kinds.{cell_kind_of}
+use Rattle.tw_rows.specs.declared.kind.Kind.{Kind}
+use Rattle.batch.specs.declared.payload.Payload.{Payload}
+use Rattle.batch.specs.Payloads.{payload_kind, payload_capacity}
+use Rattle.tw_rows.specs.declared.kind.CellKind.{CellKind}
+use Rattle.tw_rows.specs.declared.kind.CellKind.TheVariants.{Whole, Bit, Place}
+use Rattle.batch.specs.Shelves.{Shelves, taken, given, all_taken, all_given, NoMore}
+
+pub all_taken-push : (s : Shelves) (ks : List CellKind) (k : CellKind) → all_taken s (ks ++ k ∷ []) ≡ taken (all_taken s ks) k
+all_taken-push s [] k = refl
+all_taken-push s (j ∷ ks) k = all_taken-push (taken s j) ks k
+
+pub all_given-push : (s : Shelves) (ks : List CellKind) (k : CellKind) → all_given s (ks ++ k ∷ []) ≡ all_given (given s k) ks
+all_given-push s [] k = refl
+all_given-push s (j ∷ ks) k = ap (λ t. given t j) (all_given-push s ks k)
+
+pub NoMore-refl : (s : Shelves) → NoMore s s
+NoMore-refl s = record { words = omega arith; ints = omega arith; bits = omega arith; occupancies = omega arith; limit = refl; capacity = refl }
+
+pub NoMore-trans : (a b c : Shelves) → NoMore a b → NoMore b c → NoMore a c
+NoMore-trans a b c p q = record {
+  words = omega (arith, p.words, q.words);
+  ints = omega (arith, p.ints, q.ints);
+  bits = omega (arith, p.bits, q.bits);
+  occupancies = omega (arith, p.occupancies, q.occupancies);
+  limit = q.limit ∙ p.limit;
+  capacity = q.capacity ∙ p.capacity;
+}
+
+pub NoMore-taken : (s : Shelves) (k : CellKind) → NoMore s (taken s k)
+NoMore-taken s Whole = record { words = omega arith; ints = omega arith; bits = omega arith; occupancies = omega arith; limit = refl; capacity = refl }
+NoMore-taken s Bit = record { words = omega arith; ints = omega arith; bits = omega arith; occupancies = omega arith; limit = refl; capacity = refl }
+NoMore-taken s Place = record { words = omega arith; ints = omega arith; bits = omega arith; occupancies = omega arith; limit = refl; capacity = refl }
+
+pub NoMore-all : (s : Shelves) (ks : List CellKind) → NoMore s (all_taken s ks)
+NoMore-all s [] = NoMore-refl s
+NoMore-all s (k ∷ ks) = NoMore-trans s (taken s k) (all_taken (taken s k) ks) (NoMore-taken s k) (NoMore-all (taken s k) ks)
+
+pub given-capacity : (s : Shelves) (k : CellKind) → (given s k).capacity ≡ s.capacity
+given-capacity s Whole = refl
+given-capacity s Bit = refl
+given-capacity s Place = refl
+
+-- columns that were taken one after another, and one more
+pub NoMore-told : (a b c : Shelves) (ks : List CellKind) (k : CellKind) → b ≡ all_taken a ks → c ≡ taken b k → NoMore a c
+NoMore-told a b c ks k so_far one =
+    subst (NoMore a) (sym (one ∙ ap (λ s. taken s k) so_far)) (NoMore-trans a (all_taken a ks) (taken (all_taken a ks) k) (NoMore-all a ks) (NoMore-taken (all_taken a ks) k))
+
+pub always : {A E : Type 0} (r : Result A E) (P : Type 0) → P → OnErr r P
+always (Ok x) P p = tt
+always (Err e) P p = p
+
+pub kinds_next : (ks : List Kind) (n : ℕ) (d : Kind) (k : CellKind) → n < length ks → k ≡ cell_kind_of (get_or ks n d) → map cell_kind_of (take (n + 1) ks) ≡ map cell_kind_of (take n ks) ++ k ∷ []
+kinds_next ks n d k lt e =
+    ap (map cell_kind_of) (take_more ks n d lt) ∙ map-append cell_kind_of (take n ks) (get_or ks n d ∷ []) ∙ ap (λ x. map cell_kind_of (take n ks) ++ x ∷ []) (sym e)
+
+pub columns_next : (ps new : List Payload) (p : Payload) (k : CellKind) → new ≡ ps ++ p ∷ [] → payload_kind p ≡ k → map payload_kind new ≡ map payload_kind ps ++ k ∷ []
+columns_next ps new p k e is = ap (map payload_kind) e ∙ map-append payload_kind ps (p ∷ []) ∙ ap (λ x. map payload_kind ps ++ x ∷ []) is
+
+-- the columns before the last one are of the capacity too
+pub room_left : (xs old : List Payload) (x : Payload) (m n : ℕ) → old ≡ xs ++ x ∷ [] → n ≡ m → All (λ p. payload_capacity p ≡ m) old → All (λ p. payload_capacity p ≡ n) xs
+room_left xs old x m n e same all k d lt =
+    let long = length-append xs (x ∷ []) in
+    let long' = ap length e in
+    ap payload_capacity (sym (get_or_append_left xs (x ∷ []) d k lt)) ∙ ap (λ l. payload_capacity (get_or l k d)) (sym e) ∙ all k d (omega (arith, lt, long, long')) ∙ sym same

@@ -1,0 +1,8 @@
+-- The columns before this one have their cell, and the others are as they were.
+use Rattle.std.proofs.Common.{◌≡◌}
+use Rattle.batch.specs.Payloads.{cells_at}
+use Rattle.batch.proofs.Pushing.{pushed_first}
+use Rattle.batch.proofs.columns.copy_cells.Given as goal
+
+abbrev pub invariant-loop-c : goal.invariant-loop-c
+invariant-loop-c l = l.columns ≡ pushed_first l.c l.fn.columns (cells_at l.from l.i)

@@ -1,0 +1,60 @@
+-- What contracts see of `Pools`.
+use Rattle.std.specs.Prelude.{◌≡◌, ℕ, ◌+◌, ◌-◌, ◌≤◌, min, List, [], ◌∷◌}
+use Rattle.tw_rows.specs.declared.kind.CellKind.{CellKind}
+use Rattle.tw_rows.specs.declared.kind.CellKind.TheVariants.{Whole, Bit, Place}
+
+-- how many columns of words, of ints and of bits and how many bit vectors are free, how many of each may be, and the capacity of each
+pub record Shelves : Type 0 where
+  pub words : ℕ
+  pub ints : ℕ
+  pub bits : ℕ
+  pub occupancies : ℕ
+  pub limit : ℕ
+  pub capacity : ℕ
+
+-- how many columns for cells that are stored so are free
+abbrev pub free_of : Shelves → CellKind → ℕ
+free_of s Whole = s.ints
+free_of s Bit = s.bits
+free_of s Place = s.words
+
+-- with so many free columns for cells that are stored so
+abbrev pub with_free : Shelves → CellKind → ℕ → Shelves
+with_free s Whole n = record s { ints = n }
+with_free s Bit n = record s { bits = n }
+with_free s Place n = record s { words = n }
+
+-- once a column is taken, or made where none is free
+abbrev pub taken : Shelves → CellKind → Shelves
+taken s k = with_free s k (free_of s k - 1)
+
+-- once a column is given back, or dropped where the limit is reached
+abbrev pub given : Shelves → CellKind → Shelves
+given s k = with_free s k (min (free_of s k + 1) s.limit)
+
+-- once a column of each kind is taken, in order
+abbrev pub all_taken : Shelves → List CellKind → Shelves
+all_taken s [] = s
+all_taken s (k ∷ ks) = all_taken (taken s k) ks
+
+-- once a column of each kind is given back, the last one first
+abbrev pub all_given : Shelves → List CellKind → Shelves
+all_given s [] = s
+all_given s (k ∷ ks) = given (all_given s ks) k
+
+-- once the columns of a batch of these kinds are taken: four of words, a bit vector, and one for each kind
+abbrev pub batch_taken : Shelves → List CellKind → Shelves
+batch_taken s kinds = all_taken (record s { words = s.words - 4; occupancies = s.occupancies - 1 }) kinds
+
+-- once the columns of a batch of these kinds are given back
+abbrev pub batch_given : Shelves → List CellKind → Shelves
+batch_given s kinds = all_given (record s { words = min (s.words + 4) s.limit; occupancies = min (s.occupancies + 1) s.limit }) kinds
+
+-- with the limit and the capacity of old, and of each no more free than there were
+pub record NoMore (old new : Shelves) : Type 0 where
+  pub words : new.words ≤ old.words
+  pub ints : new.ints ≤ old.ints
+  pub bits : new.bits ≤ old.bits
+  pub occupancies : new.occupancies ≤ old.occupancies
+  pub limit : new.limit ≡ old.limit
+  pub capacity : new.capacity ≡ old.capacity

@@ -1,0 +1,236 @@
+// A batch of edges, in columns.
+ghost use Rattle.std.specs.Prelude.{◌≡◌, ◌+◌, ◌<◌, ◌≤◌, ◌↔◌, true, [], ◌∷◌, ◌++◌, length, map, Some, slice_get, slice_set, slice_index_or, All, IsOk, IsErr, IfOk, OnOk, OnErr};
+ghost use Rattle.tw_rows.specs.Cells.{datum_kind};
+ghost use Rattle.batch.specs.Rows.{Row, Table, edge_of, edges_of, occupied_rows, row_of, kept, cell_column};
+ghost use Rattle.batch.specs.Payloads.{payload_kind, payload_data, payload_capacity};
+ghost use Rattle.batch.specs.Columns.{IsColumn, with_cells};
+
+use crate::columns::{clear_columns, copy_cells, push_cells};
+use crate::payload::Payload;
+use crate::times::{time_of, word_of};
+use column_pool::Column;
+use occupancy::Occupancy;
+use smallvec::SmallVec;
+use std::alloc::Global;
+use std::error::Error;
+use std::fmt;
+use std::marker::Model;
+use tw_rows::{Cells, Datum, Edge, Memory};
+
+/// How many payload columns are kept without memory of their own.
+pub(crate) const WIDTH: usize = 32;
+
+/// A batch holds as many rows as it has room for.
+#[derive(Clone, Copy, Debug, PartialEq, Eq)]
+pub struct Full;
+
+impl fmt::Display for Full {
+    fn fmt<W: fmt::Write>(&self, f: &mut fmt::Formatter<W>) -> fmt::Result {
+        write!(f, "the batch is full")
+    }
+}
+
+impl Error for Full {}
+
+/// Edges in columns: their times, a key and a hash, and their cells. A row that is not occupied keeps
+/// its place and holds no edge. Contracts see the batch as its rows, its capacity, and how the cells of
+/// each payload column are stored.
+#[derive(Drop)]
+pub struct Batch {
+    pub(crate) sync: Column<u64>,
+    pub(crate) other: Column<u64>,
+    pub(crate) key: Column<u64>,
+    pub(crate) hash: Column<u64>,
+    pub(crate) payload: SmallVec<Payload, WIDTH>,
+    pub(crate) occupied: Occupancy,
+}
+
+impl Model for Batch {
+    ghost use Rattle.std.specs.Prelude.{map};
+    ghost use Rattle.batch.specs.Rows.{Table};
+    ghost use Rattle.batch.specs.Payloads.{payload_kind};
+    ghost use Rattle.batch.specs.Columns.{Columns, rows_of, IsBatch};
+
+    ghost Value = { Table };
+
+    ghost view = { λ b. record {
+      rows = rows_of (record {
+        sync = b.sync.items;
+        other = b.other.items;
+        key = b.key.items;
+        hash = b.hash.items;
+        payload = b.payload.items;
+        occupied = b.occupied.items;
+      });
+      capacity = b.sync.capacity;
+      kinds = map payload_kind b.payload.items;
+    } };
+
+    ghost invariant = { λ b. IsBatch b.sync.capacity b.other.capacity b.key.capacity b.hash.capacity b.occupied.capacity (record {
+      sync = b.sync.items;
+      other = b.other.items;
+      key = b.key.items;
+      hash = b.hash.items;
+      payload = b.payload.items;
+      occupied = b.occupied.items;
+    }) };
+}
+
+impl Batch {
+    /// How many rows there are, occupied or not.
+    pub fn rows(&self) -> usize
+        ensures rows { result ≡ length self.now.rows }
+        ensures within { length self.now.rows ≤ self.now.capacity }
+    {
+        self.sync.len()
+    }
+
+    /// How many rows there is room for in all.
+    pub fn capacity(&self) -> usize
+        ensures capacity { result ≡ self.now.capacity }
+        ensures within { length self.now.rows ≤ self.now.capacity }
+    {
+        self.sync.capacity()
+    }
+
+    /// How many rows are occupied.
+    pub fn occupied(&self) -> usize
+        ensures { result ≡ length (occupied_rows self.now.rows) }
+    {
+        self.occupied.count()
+    }
+
+    /// Which rows are occupied.
+    pub fn occupancy(&self) -> &Occupancy
+        ensures { result.now ≡ record { items = map (λ r. r.occupied) self.now.rows; capacity = self.now.capacity } }
+    {
+        &self.occupied
+    }
+
+    /// The payload column `c`, with a cell for each row, occupied or not.
+    pub fn column(&self, c: usize) -> &Payload
+        requires { c < length self.now.kinds }
+        ensures kind { slice_get self.now.kinds c ≡ Some (payload_kind result.now) }
+        ensures cells { payload_data result.now ≡ cell_column self.now.rows c }
+        ensures capacity { payload_capacity result.now ≡ self.now.capacity }
+    {
+        &self.payload.as_slice()[c]
+    }
+
+    /// The hash of the row `i`.
+    pub fn hash_at(&self, i: usize) -> u64
+        requires { i < length self.now.rows }
+        ensures { slice_get (map (λ r. r.hash) self.now.rows) i ≡ Some result }
+    {
+        self.hash.get(i)
+    }
+
+    /// Sets the key and the hash of the row `i`.
+    pub fn mark(&mut self, i: usize, key: u64, hash: u64)
+        requires { i < length self.old.rows }
+        ensures { (r : Row) → slice_get self.old.rows i ≡ Some r →
+            self.new ≡ record self.old { rows = slice_set self.old.rows i (record r { key = key; hash = hash }) } }
+    {
+        self.key.set(i, key);
+        self.hash.set(i, hash);
+    }
+
+    /// Adds a row with the edge, whose key and hash are 0.
+    pub fn push_edge(&mut self, edge: &Edge) -> Result<(), Full>
+        requires { map datum_kind edge.now.cells ≡ self.old.kinds }
+        ensures full { IsErr result ↔ (length self.old.rows ≡ self.old.capacity) }
+        ensures ok { OnOk result (self.new ≡ record self.old { rows = self.old.rows ++ row_of edge.now ∷ [] }) }
+        ensures err { OnErr result (self.new ≡ self.old) }
+    {
+        if self.sync.len() == self.sync.capacity() {
+            return Err(Full);
+        }
+        self.sync.push(word_of(edge.sync));
+        self.other.push(word_of(edge.other));
+        self.key.push(0);
+        self.hash.push(0);
+        self.occupied.push(true);
+        push_cells(self.payload.as_mut_slice(), edge.cells.items());
+        Ok(())
+    }
+
+    /// Leaves no row, and the room as it was.
+    pub fn reset(&mut self)
+        ensures { self.new ≡ record self.old { rows = [] } }
+    {
+        self.sync.clear();
+        self.other.clear();
+        self.key.clear();
+        self.hash.clear();
+        self.occupied.reset();
+        clear_columns(self.payload.as_mut_slice());
+    }
+
+    /// Leaves occupied just the occupied rows whose bit is set.
+    pub fn keep(&mut self, mask: &Occupancy)
+        requires { length mask.now.items ≡ length self.old.rows }
+        ensures { self.new ≡ record self.old { rows = kept self.old.rows mask.now.items } }
+    {
+        self.occupied.and_mask(mask);
+    }
+
+    /// The batch with these payload columns, and those that it had.
+    pub fn exchange(
+        mut self,
+        payload: SmallVec<Payload, WIDTH>,
+    ) -> (Batch, SmallVec<Payload, WIDTH>)
+        requires { All (IsColumn (length self.rows) self.capacity) payload.items }
+        ensures batch { result.0 ≡ record self { rows = with_cells payload.items 0 self.rows; kinds = map payload_kind payload.items } }
+        ensures kinds { map payload_kind result.1.items ≡ self.kinds }
+        ensures whole { All (IsColumn (length self.rows) self.capacity) result.1.items }
+        ensures cells { with_cells result.1.items 0 self.rows ≡ self.rows }
+    {
+        let old = std::mem::replace(&mut self.payload, payload);
+        (self, old)
+    }
+
+    /// The edge of the row `i`. Memory is taken only for more than 4 cells.
+    pub fn edge_at(&self, alloc: Global, i: usize) -> Result<Edge, Memory>
+        requires { i < length self.now.rows }
+        ensures ok { IfOk result (λ e. slice_get (map edge_of self.now.rows) i ≡ Some e) }
+        ensures succeeds { length self.now.kinds ≤ 4 → IsOk result }
+    {
+        let mut data: SmallVec<Datum, WIDTH> = SmallVec::new(alloc);
+        for column in self.payload.as_slice() {
+            data.push(column.datum(i))?;
+        }
+        Ok(Edge {
+            sync: time_of(self.sync.get(i)),
+            other: time_of(self.other.get(i)),
+            cells: Cells::from_slice(alloc, data.as_slice())?,
+        })
+    }
+
+    // Adds the row `i` of this batch to another one.
+    fn copy_row(&self, i: usize, to: &mut Batch)
+        requires place { i < length self.now.rows }
+        requires kinds { self.now.kinds ≡ to.old.kinds }
+        requires room { length to.old.rows < to.old.capacity }
+        ensures { (r : Row) → slice_get self.now.rows i ≡ Some r → to.new ≡ record to.old { rows = to.old.rows ++ r ∷ [] } }
+    {
+        to.sync.push(self.sync.get(i));
+        to.other.push(self.other.get(i));
+        to.key.push(self.key.get(i));
+        to.hash.push(self.hash.get(i));
+        to.occupied.push(self.occupied.is_set(i));
+        copy_cells(to.payload.as_mut_slice(), self.payload.as_slice(), i);
+    }
+
+    /// Adds the occupied rows, in order, to another batch of the same kinds that has room for them.
+    pub fn copy_into(&self, to: &mut Batch)
+        requires kinds { self.now.kinds ≡ to.old.kinds }
+        requires room { length to.old.rows + length (occupied_rows self.now.rows) ≤ to.old.capacity }
+        ensures { to.new ≡ record to.old { rows = to.old.rows ++ occupied_rows self.now.rows } }
+    {
+        for i in 0..self.rows() {
+            if self.occupied.is_set(i) {
+                self.copy_row(i, to);
+            }
+        }
+    }
+}
