@@ -1,7 +1,6 @@
 -- Numbers of digits.
-use Rattle.std.proofs.Common.{◌≡◌, ℕ, ◌+◌, ◌-◌, ◌*◌, ◌<◌, ◌≤◌, List, [], ◌∷◌, length, get_or, arith, refl, false, nat_le, ap, sym, ◌∙◌}
+use Rattle.std.proofs.Common.{◌≡◌, ℕ, ◌+◌, ◌-◌, ◌*◌, ◌<◌, ◌≤◌, List, [], ◌∷◌, length, get_or, arith, refl, false, nat_le}
 use Rattle.std.proofs.lemmas.Bool.{lt-leb}
-use Rattle.query_words.specs.declared.word.Word.{Word}
 use Rattle.query_words.specs.declared.word.Word.TheVariants as W
 use Rattle.query_words.specs.Words.{decimal_from, number_word}
 

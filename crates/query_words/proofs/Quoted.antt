@@ -1,5 +1,5 @@
 -- Texts in quotes.
-use Rattle.std.proofs.Common.{Bool, IfSome, if◌then◌else◌, ◌||◌, ◌≡◌, ◌⊎◌, inl, inr, add-one, lit<, ℕ, zero, suc, ◌+◌, ◌<◌, ◌≤◌, true, false, Option, Some, None, List, [], ◌∷◌, length, drop, get_or, refl, ap, sym, ◌∙◌, arith, drop-cons, option_map}
+use Rattle.std.proofs.Common.{Bool, IfSome, if◌then◌else◌, ◌||◌, ◌≡◌, ◌⊎◌, inl, inr, add-one, ℕ, suc, ◌+◌, ◌<◌, ◌≤◌, true, false, Option, Some, None, List, [], ◌∷◌, length, drop, get_or, refl, ap, sym, ◌∙◌, arith, drop-cons, option_map}
 use Rattle.std.proofs.lemmas.List.{drop_all}
 use Rattle.std.specs.Bool.{◌==◌}
 use Rattle.query_words.specs.Words.{quoted_rest, longer}

@@ -1,5 +1,5 @@
 -- Signs of the table.
-use Rattle.std.proofs.Common.{◌≡◌, ℕ, suc, ◌+◌, ◌<◌, ◌≤◌, Bool, true, false, List, [], ◌∷◌, length, take, arith, refl, if◌then◌else◌, lit<, ◌&&◌}
+use Rattle.std.proofs.Common.{◌≡◌, ℕ, suc, ◌<◌, ◌≤◌, Bool, true, false, List, [], ◌∷◌, length, arith, refl, if◌then◌else◌, lit<, ◌&&◌}
 use Rattle.std.specs.Bool.{◌==◌}
 use Rattle.std.specs.List.{starts_with}
 use Rattle.query_words.specs.declared.word.Sign.{Sign}

@@ -4,7 +4,7 @@ use Rattle.std.proofs.lemmas.List.{drop_all}
 use Rattle.std.proofs.Math.Seq.{take-length}
 use Rattle.query_words.specs.declared.word.Word.{Word}
 use Rattle.query_words.specs.declared.word.Spot.{Spot}
-use Rattle.query_words.specs.Words.{words_from, words_of, front_of, is_space}
+use Rattle.query_words.specs.Words.{words_from, front_of, is_space}
 
 words_skip : (at k : ℕ) (bs : List ℕ) → k ≤ length bs → words_from at k bs ≡ words_from (at + k) 0 (drop k bs)
 unfolding words_from

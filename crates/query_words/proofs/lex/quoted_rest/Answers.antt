@@ -1,4 +1,4 @@
-use Rattle.std.proofs.Common.{arith, sym, inl, inr, rules}
+use Rattle.std.proofs.Common.{arith, inl, inr, rules}
 use Rattle.query_words.proofs.Quoted.{at_end, at_line, at_other, at_last, at_closing, at_both, option_fits}
 use Rattle.query_words.proofs.lex.quoted_rest.Goals as goal
 

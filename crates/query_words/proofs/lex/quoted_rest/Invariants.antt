@@ -1,4 +1,4 @@
-use Rattle.std.proofs.Common.{◌≡◌, ◌≤◌, ◌+◌, ◌-◌, length, drop, option_map}
+use Rattle.std.proofs.Common.{◌≡◌, ◌≤◌, ◌-◌, length, drop}
 use Rattle.query_words.specs.Words.{quoted_rest}
 use Rattle.query_words.proofs.Quoted.{else_at}
 use Rattle.query_words.proofs.lex.quoted_rest.Given as goal
