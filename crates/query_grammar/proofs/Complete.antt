@@ -116,7 +116,7 @@ low_terms G.no_term z h = omega arith
 low_terms (G.plus p ts) z h = lit< tt
 low_terms (G.minus p ts) z h = lit< tt
 
-low_close : (z : List Token) → rank (fixed S.Close ∷ z) < 1
+pub low_close : (z : List Token) → rank (fixed S.Close ∷ z) < 1
 unfolding binds
 low_close z = lit< tt
 

@@ -7,3 +7,4 @@ pub mod Stops
 pub mod Did
 pub mod Places
 pub mod Steps
+pub mod Unique

@@ -74,7 +74,7 @@ end_skips s k (fixed S.Bar ∷ ts) h e b c = skips s k (fixed S.Bar ∷ ts) e b
 end_skips s k (fixed S.Semicolon ∷ ts) h e b c = skips s k (fixed S.Semicolon ∷ ts) e c
 end_skips s k (_ ∷ ts) h e b c = cc
 
-low_end : (z : List Token) → ends_step z ≡ true → rank z < 1
+pub low_end : (z : List Token) → ends_step z ≡ true → rank z < 1
 unfolding binds
 low_end [] h = lit< tt
 low_end (fixed S.Bar ∷ ts) h = lit< tt
@@ -145,7 +145,7 @@ aggs_read [] k z = refl
 aggs_read (a ∷ as_) k z = aggs_next k _ ∙ agg_read a (Y.Aggs ∷ k) _ ∙ aggs_read as_ k z
 
 -- what goes on with an expression, or names it
-abbrev goes : Kind → Bool
+abbrev pub goes : Kind → Bool
 goes (K.Fixed S.Star) = true
 goes (K.Fixed S.Div) = true
 goes (K.Fixed S.Mod) = true
@@ -162,19 +162,19 @@ goes (K.Fixed S.Or) = true
 goes (K.Fixed S.As) = true
 goes _ = false
 
-abbrev begins_on : List Token → Bool
+abbrev pub begins_on : List Token → Bool
 begins_on [] = false
 begins_on (t ∷ ts) = goes (kind t)
 
-on_ors : (os : G.Ors) (z : List Token) → begins_on z ≡ true → begins_on (ors_then os z) ≡ true
+pub on_ors : (os : G.Ors) (z : List Token) → begins_on z ≡ true → begins_on (ors_then os z) ≡ true
 on_ors G.no_or z h = h
 on_ors (G.or_ c os) z h = refl
 
-on_ands : (as_ : G.Ands) (z : List Token) → begins_on z ≡ true → begins_on (ands_then as_ z) ≡ true
+pub on_ands : (as_ : G.Ands) (z : List Token) → begins_on z ≡ true → begins_on (ands_then as_ z) ≡ true
 on_ands G.no_and z h = h
 on_ands (G.and_ n as_) z h = refl
 
-on_test : (t : G.Test) (z : List Token) → begins_on z ≡ true → begins_on (test_then t z) ≡ true
+pub on_test : (t : G.Test) (z : List Token) → begins_on z ≡ true → begins_on (test_then t z) ≡ true
 on_test G.no_test z h = h
 on_test (G.test G.equal s) z h = refl
 on_test (G.test G.differs s) z h = refl
@@ -183,12 +183,12 @@ on_test (G.test G.less_equal s) z h = refl
 on_test (G.test G.greater s) z h = refl
 on_test (G.test G.greater_equal s) z h = refl
 
-on_terms : (ts : G.Terms) (z : List Token) → begins_on z ≡ true → begins_on (terms_then ts z) ≡ true
+pub on_terms : (ts : G.Terms) (z : List Token) → begins_on z ≡ true → begins_on (terms_then ts z) ≡ true
 on_terms G.no_term z h = h
 on_terms (G.plus p ts) z h = refl
 on_terms (G.minus p ts) z h = refl
 
-on_factors : (fs : G.Factors) (z : List Token) → begins_on z ≡ true → begins_on (factors_then fs z) ≡ true
+pub on_factors : (fs : G.Factors) (z : List Token) → begins_on z ≡ true → begins_on (factors_then fs z) ≡ true
 on_factors G.no_factor z h = h
 on_factors (G.times u fs) z h = refl
 on_factors (G.div_ n fs) z h = refl
@@ -267,7 +267,7 @@ item_named (G.expr (G.conj (G.cmp (G.sum (G.prod (G.atom (G.column m)) fs) ts) t
     ∙ as_next n k z
 
 -- what may follow an item
-abbrev ends_item : List Token → Bool
+abbrev pub ends_item : List Token → Bool
 ends_item (fixed S.Comma ∷ ts) = true
 ends_item z = ends_step z
 
@@ -291,7 +291,7 @@ ends_both (fixed S.Bar ∷ ts) h = refl
 ends_both (fixed S.Semicolon ∷ ts) h = refl
 ends_both (_ ∷ ts) h = cc
 
-ends_items : (is : List G.Item) (z : List Token) → ends_step z ≡ true → ends_item (items_then is z) ≡ true
+pub ends_items : (is : List G.Item) (z : List Token) → ends_step z ≡ true → ends_item (items_then is z) ≡ true
 ends_items [] z h = ends_both z h
 ends_items (i ∷ is) z h = refl
 
@@ -378,7 +378,7 @@ steps_next : (k : List Symbol) (z : List Token) → stuck (Y.Steps ∷ k) (fixed
 unfolding stuck after at_steps
 steps_next k z = refl
 
-ends_steps : (ss : List G.Step) (z : List Token) → ends_step z ≡ true → ends_step (steps_then ss z) ≡ true
+pub ends_steps : (ss : List G.Step) (z : List Token) → ends_step z ≡ true → ends_step (steps_then ss z) ≡ true
 ends_steps [] z h = h
 ends_steps (s ∷ ss) z h = refl
 

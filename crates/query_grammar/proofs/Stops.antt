@@ -47,3 +47,8 @@ at_fault ts rest e =
     let s = stops start ts rest e in
     let d : drop (length ts - length rest) ts ≡ rest = rw s.whole (drop_front s.front rest) in
     (omega arith, rw d (fault_of ts rest e))
+
+-- a query has no fault
+pub no_fault : (tokens rest : List Token) → IsQuery tokens → IsFault tokens rest → ⊥
+no_fault tokens [] q f = f.ended refl q
+no_fault tokens (t ∷ more) q f = f.first t more refl (record { query = q.0; rest = more; begins = q.1 ∙ f.whole ∙ sym (append_assoc f.front (t ∷ []) more) })

@@ -4,8 +4,10 @@
 mod choose;
 mod fault;
 mod kind;
+mod laws;
 mod stack;
 mod symbol;
 
 pub use fault::first_fault;
 pub use kind::Kind;
+pub use laws::{queries_have_no_fault, tokens_spell_one_query};
