@@ -7,6 +7,8 @@ mod kind;
 mod laws;
 mod stack;
 mod symbol;
+#[cfg(test)]
+mod tests;
 
 pub use fault::first_fault;
 pub use kind::Kind;
