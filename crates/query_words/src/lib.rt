@@ -2,6 +2,8 @@
 #![tactic(auto)]
 
 mod lex;
+#[cfg(test)]
+mod tests;
 mod word;
 
 pub use lex::words;
