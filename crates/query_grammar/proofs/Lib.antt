@@ -1,0 +1,10 @@
+pub mod Derives
+pub mod Sound
+pub mod Reading
+pub mod Complete
+pub mod Queries
+pub mod Stops
+pub mod Did
+pub mod Places
+pub mod Steps
+pub mod Unique

@@ -1,0 +1,87 @@
+-- The place where the machine stops.
+use Rattle.std.proofs.Common.{◌≡◌, ◌≤◌, ◌<◌, ℕ, zero, suc, List, [], ◌∷◌, length, drop, map, get_or, Bool, true, false, cond, Option, Some, None, refl, ap, sym, ◌∙◌, arith, option_map}
+use Rattle.query_words.specs.declared.word.Word.{Word}
+use Rattle.query_words.specs.declared.word.Word.TheVariants as W
+use Rattle.query_words.specs.declared.word.Spot.{Spot}
+use Rattle.query_words.specs.Words.{words_of}
+use Rattle.query_grammar.specs.declared.symbol.Symbol.{Symbol}
+use Rattle.query_grammar.specs.Token.{Token, kind, token_at, token_of, tokens_of, word_kind}
+use Rattle.query_grammar.specs.Machine.{after, all_may_end, stuck, stuck_then, start}
+use Rattle.query_grammar.specs.Fault.{IsQuery}
+use Rattle.query_grammar.specs.Reading.{place, place_then, spot_kind, offset_of, IsFaultAt}
+use Rattle.query_grammar.proofs.Stops.{read_query, fault_of}
+
+-- the tokens from the place on
+abbrev pub FoundAt : List Token → Option ℕ → Option (List Token) → Type 0
+FoundAt ts None found = found ≡ None
+FoundAt ts (Some i) found = (i ≤ length ts) × (found ≡ Some (drop i ts))
+
+found_then : (t : Token) (ts : List Token) (k : Option (List Symbol)) → ((k' : List Symbol) → FoundAt ts (place k' (map kind ts)) (stuck k' ts))
+    → FoundAt (t ∷ ts) (place_then (λ k'. place k' (map kind ts)) k) (stuck_then (λ k'. stuck k' ts) k (t ∷ ts))
+found_then t ts None h = (omega arith, refl)
+found_then t ts (Some k) h = more (place k (map kind ts)) (h k)
+  where
+    more : (p : Option ℕ) → FoundAt ts p (stuck k ts) → FoundAt (t ∷ ts) (option_map (λ n. suc n) p) (stuck k ts)
+    more None f = f
+    more (Some i) f = (let g = f.0 in omega arith, f.1)
+
+pub found_at : (k : List Symbol) (ts : List Token) → FoundAt ts (place k (map kind ts)) (stuck k ts)
+unfolding place stuck
+found_at k [] = ends (all_may_end k)
+  where
+    ends : (b : Bool) → FoundAt [] (cond b None (Some 0)) (cond b None (Some []))
+    ends true = refl
+    ends false = (omega arith, refl)
+found_at k (t ∷ ts) = found_then t ts (after k (kind t)) (λ k'. found_at k' ts)
+
+kind_at : (text : List ℕ) (at : ℕ) (w : Word) → kind (token_at text at w) ≡ word_kind w
+kind_at text at (W.Name n) = refl
+kind_at text at (W.Number zero) = refl
+kind_at text at (W.Number (suc n)) = refl
+kind_at text at (W.Quoted n) = refl
+kind_at text at (W.Fixed s) = refl
+kind_at text at W.Bad = refl
+
+kinds_of : (text : List ℕ) (spots : List Spot) → map kind (map (token_of text) spots) ≡ map spot_kind spots
+kinds_of text [] = refl
+kinds_of text (s ∷ ss) = ap (λ k. k ∷ map kind (map (token_of text) ss)) (kind_at text s.at s.word) ∙ ap (λ ks. spot_kind s ∷ ks) (kinds_of text ss)
+
+-- the answer for the text, by the place among its words
+pub answer_none : (text : List ℕ) → None ≡ place start (map spot_kind (words_of text)) → IsQuery (tokens_of text)
+answer_none text e = read_query (tokens_of text) (here (place start (map kind (tokens_of text))) (ap (place start) (kinds_of text (words_of text)) ∙ sym e) (found_at start (tokens_of text)))
+  where
+    here : (p : Option ℕ) → p ≡ None → FoundAt (tokens_of text) p (stuck start (tokens_of text)) → stuck start (tokens_of text) ≡ None
+    here None e f = f
+    here (Some i) e f = cc
+
+pub answer_some : (text : List ℕ) (i at : ℕ) → Some i ≡ place start (map spot_kind (words_of text)) → at ≡ offset_of (length text) (words_of text) i → IsFaultAt text at
+answer_some text i at e s = here (place start (map kind (tokens_of text))) (ap (place start) (kinds_of text (words_of text)) ∙ sym e) (found_at start (tokens_of text))
+  where
+    here : (p : Option ℕ) → p ≡ Some i → FoundAt (tokens_of text) p (stuck start (tokens_of text)) → IsFaultAt text at
+    here None e f = cc
+    here (Some j) e f =
+        let q : j ≡ i = cc in
+        record { index = i; within = rw (← q) f.0; stands = s; fault = fault_of (tokens_of text) (drop i (tokens_of text)) (rw (← q) f.1) }
+
+pub offset_within : (end i d : ℕ) (spots : List Spot) (x : Spot) → i < length spots → get_or spots i x ≡ x → x.at ≡ offset_of end spots i
+offset_within end i d [] x h e = absurd (omega arith)
+offset_within end zero d (s ∷ ss) x h e = ap (λ y. y.at) (sym e)
+offset_within end (suc i) d (s ∷ ss) x h e = offset_within end i d ss x (omega arith) e
+
+pub offset_behind : (end i : ℕ) (spots : List Spot) → length spots ≤ i → end ≡ offset_of end spots i
+offset_behind end i [] h = refl
+offset_behind end zero (s ∷ ss) h = absurd (omega arith)
+offset_behind end (suc i) (s ∷ ss) h = offset_behind end i ss (omega arith)
+
+pub none_at : (text : List ℕ) (items seen : List Spot) (p : Option ℕ) → items ≡ words_of text → seen ≡ items → p ≡ place start (map spot_kind seen) → p ≡ None → IsQuery (tokens_of text)
+none_at text items seen p e f g h = answer_none text (sym h ∙ g ∙ ap (λ x. place start (map spot_kind x)) (f ∙ e))
+
+pub word_at : (text : List ℕ) (items seen : List Spot) (p : Option ℕ) (i : ℕ) (x : Spot) → items ≡ words_of text → seen ≡ items → p ≡ place start (map spot_kind seen) → p ≡ Some i → i < length seen → x ≡ get_or items i x → IsFaultAt text x.at
+word_at text items seen p i x e f g h l w =
+    answer_some text i x.at (sym h ∙ g ∙ ap (λ y. place start (map spot_kind y)) (f ∙ e))
+    (offset_within (length text) i 0 (words_of text) x (let k = ap length (f ∙ e) in omega arith) (ap (λ y. get_or y i x) (sym e) ∙ sym w))
+
+pub behind_at : (text : List ℕ) (items seen : List Spot) (p : Option ℕ) (i : ℕ) → items ≡ words_of text → seen ≡ items → p ≡ place start (map spot_kind seen) → p ≡ Some i → length seen ≤ i → IsFaultAt text (length text)
+behind_at text items seen p i e f g h l =
+    answer_some text i (length text) (sym h ∙ g ∙ ap (λ y. place start (map spot_kind y)) (f ∙ e))
+    (offset_behind (length text) i (words_of text) (let k = ap length (f ∙ e) in omega arith))

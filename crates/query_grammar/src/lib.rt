@@ -1,0 +1,15 @@
+//! The grammar of query texts, and where a list of words stops being the front of a query.
+#![tactic(auto)]
+
+mod choose;
+mod fault;
+mod kind;
+mod laws;
+mod stack;
+mod symbol;
+#[cfg(test)]
+mod tests;
+
+pub use fault::first_fault;
+pub use kind::Kind;
+pub use laws::{queries_have_no_fault, tokens_spell_one_query};

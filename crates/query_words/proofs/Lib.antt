@@ -1,0 +1,4 @@
+pub mod Quoted
+pub mod Numbers
+pub mod Skips
+pub mod Signs
