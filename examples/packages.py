@@ -33,7 +33,7 @@ def main(log_path, sizes_path):
     with open(log_path) as log:
         for start, end, name in sorted(lives(log)):
             if start < end:
-                print(f"s,interval,{start},{end},{size[name]}")
+                print(f"s,interval,{start},{end},{name},{size[name]}")
 
 
 if __name__ == "__main__":

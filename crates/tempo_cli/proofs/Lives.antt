@@ -1,6 +1,5 @@
 -- Lists of events whose lives begin before they end.
-use Rattle.std.proofs.Common.{◌≡◌, ◌<◌, ◌≤◌, ℕ, List, [], ◌∷◌, ◌++◌, Bool, true, false, cond, refl}
-use Rattle.std.specs.Prelude.{filter}
+use Rattle.std.proofs.Common.{◌<◌, ◌≤◌, List, [], ◌∷◌, ◌++◌}
 use Rattle.tw_rows.specs.Event.{Event, AreEvents}
 use Rattle.tw_rows.specs.Instant.{inf}
 use Rattle.tw_rows.proofs.Lives.{AreEvents-append}

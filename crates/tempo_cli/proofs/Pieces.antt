@@ -1,6 +1,5 @@
 -- Bytes that are sent in pieces.
-use Rattle.std.proofs.Common.{◌≡◌, ℕ, List, [], ◌∷◌, ◌++◌, refl, sym, ◌∙◌, ap, append_assoc}
-use Rattle.std.specs.List.{All}
+use Rattle.std.proofs.Common.{ℕ, List, ◌++◌, sym, ◌∙◌, ap, append_assoc}
 use Rattle.std.proofs.lemmas.List.Elements.{All-append}
 use Rattle.wire_lines.specs.Journal.{Entry, outs, IsOut, SentAll, SentFront}
 use Rattle.wire_lines.proofs.Growth.{outs-append}

@@ -1,9 +1,6 @@
 pub mod Number
-pub mod Fields
-pub mod Split
-pub mod Entry
-pub mod Words
-pub mod Spelling
+pub mod Command
+pub mod QueryForm
 pub mod Admission
 pub mod Print
 pub mod Text

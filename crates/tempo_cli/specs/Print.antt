@@ -1,8 +1,8 @@
 -- The bytes of change lines and punctuation lines.
-use Rattle.std.specs.Prelude.{ℕ, nat_lt, true, false, cond, List, [], ◌∷◌, ◌++◌, codes, decimal, flat_map}
+use Rattle.std.specs.Prelude.{ℕ, nat_lt, true, false, cond, List, [], ◌∷◌, codes, decimal, flat_map, map}
 use Rattle.std.specs.Fmt.{signed_decimal}
+use Rattle.csv.specs.Writing.{default_writer, row_text}
 use Rattle.tw_rows.specs.Instant.{inf}
-use Rattle.tw_rows.specs.Rows.{Row}
 use Rattle.tw_rows.specs.declared.row.Value.{Value}
 use Rattle.tw_rows.specs.declared.row.Value.TheVariants.{Int, Bool as Flag, Text}
 use Rattle.plan_model.specs.Changes.{Line, Started, Ended}
@@ -18,18 +18,22 @@ value_text (Text t) = t
 abbrev pub time_text : ℕ → List ℕ
 time_text t = cond (nat_lt t inf) (decimal t) (codes "inf")
 
--- the values of a row, a comma before each
-abbrev pub values_text : Row → List ℕ
-values_text row = flat_map (λ v. 44 ∷ value_text v) row
+-- a record of CSV: commas between the fields and a line feed at the end; a field with a comma, a quote, a line feed or a carriage return stands in quotes, each quote in it doubled, and any other field stands as it is: `out`, `a,b`, `c"d` and an empty field give `out,"a,b","c""d",` and the line feed
+abbrev pub record_text : List (List ℕ) → List ℕ
+record_text fields = row_text default_writer fields
 
--- a start line `out,start,START,inf,V..`, and an end line `out,end,END,START,V..`, each with its line feed
+-- the fields of a start line, `out`, `start`, START, `inf`, V.., and of an end line, `out`, `end`, END, START, V..
+abbrev pub line_fields : Line → List (List ℕ)
+line_fields (Started t row) = codes "out" ∷ codes "start" ∷ time_text t ∷ codes "inf" ∷ map value_text row
+line_fields (Ended t s row) = codes "out" ∷ codes "end" ∷ time_text t ∷ time_text s ∷ map value_text row
+
+-- a change line: `out,start,1,inf,"a,b",-3` and a line feed, of a row of a text and an int
 abbrev pub line_text : Line → List ℕ
-line_text (Started t row) = codes "out,start," ++ time_text t ++ codes ",inf" ++ values_text row ++ 10 ∷ []
-line_text (Ended t s row) = codes "out,end," ++ time_text t ++ 44 ∷ [] ++ time_text s ++ values_text row ++ 10 ∷ []
+line_text line = record_text (line_fields line)
 
 -- a punctuation line `*,punct,TIME`
 abbrev pub punctuation_text : ℕ → List ℕ
-punctuation_text t = codes "*,punct," ++ time_text t ++ 10 ∷ []
+punctuation_text t = record_text (codes "*" ∷ codes "punct" ∷ time_text t ∷ [])
 
 -- the lines, one after the other
 abbrev pub print : List Line → List ℕ

@@ -3,29 +3,43 @@
 
 mod answer;
 mod changes;
-mod entry;
+mod command;
 mod event;
+mod fault;
 mod laws;
 mod note;
 mod number;
 mod print;
+mod query_form;
 mod run;
 mod send;
 mod session;
 mod status;
 #[cfg(test)]
 mod tests;
-mod words;
 
+pub use command::{Command, read_command, words_spell_one_command};
 pub use event::{Event, Events};
-pub use laws::{lines_say_what_they_spell, runs_are_complete};
+pub use fault::Fault;
+pub use laws::runs_are_complete;
+use note::note;
 pub use run::run;
 pub use send::send;
 pub use status::Status;
 use std::alloc::{AllocError, Global};
 use std::env;
+use std::io::ErrorKind;
 use std::process::ExitCode;
 use wire_lines::{ErrWire, StdWire};
+
+/// The words of the command line. Where one is not UTF-8 none of them is ours, and there are none.
+fn read_words(rt: &HostRuntime) -> Result<Vec<String>, AllocError> {
+    match env::args(rt) {
+        Ok(args) => args.collect::<Vec<String>>(rt.alloc()),
+        Err(error) if error.kind() == ErrorKind::OutOfMemory => Err(AllocError),
+        Err(_) => Ok(Vec::new(rt.alloc())),
+    }
+}
 
 fn as_texts(alloc: Global, words: &[String]) -> Result<Vec<&str>, AllocError> {
     let mut texts = Vec::new(alloc);
@@ -42,15 +56,12 @@ fn main(rt: HostRuntime) -> ExitCode {
     let alloc = rt.alloc();
     let mut wire = StdWire::new(rt.stdin(), rt.stdout());
     let mut notes = ErrWire::new(rt.stderr());
-    // Words that are not UTF-8 are no words of ours: the run is asked with none.
-    let words = match env::args(&rt) {
-        Ok(args) => match args.collect::<Vec<String>>(alloc) {
-            Ok(words) => words,
-            Err(_) => return ExitCode::from(Status::Memory.number()),
-        },
-        Err(_) => Vec::new(alloc),
+    let Ok(words) = read_words(&rt) else {
+        note(&mut notes, &Status::Memory);
+        return ExitCode::from(Status::Memory.number());
     };
     let Ok(texts) = as_texts(alloc, &words) else {
+        note(&mut notes, &Status::Memory);
         return ExitCode::from(Status::Memory.number());
     };
     let status = run(alloc, &texts, &mut wire, &mut notes);

@@ -1,6 +1,6 @@
 // Numbers as they are spelled.
-ghost use Rattle.std.specs.Prelude.{◌≡◌, ◌≤◌, ◌^◌};
-ghost use Rattle.tempo_cli.specs.Number.{int_of, number_of};
+ghost use Rattle.std.specs.Prelude.{◌≡◌};
+ghost use Rattle.tempo_cli.specs.Number.{number_of};
 
 use itoa::Buffer;
 
@@ -17,24 +17,6 @@ pub fn read_number(bytes: &[u8], limit: u64) -> Option<u64>
     if number >= limit {
         return None;
     }
-    let mut buffer = Buffer::new();
-    let printed = buffer.format(number).as_bytes();
-    if printed != bytes {
-        return None;
-    }
-    Some(number)
-}
-
-/// The number with a sign that the text spells.
-pub fn read_int(bytes: &[u8]) -> Option<i64>
-    ensures { result ≡ int_of bytes.now }
-{
-    let Ok(text) = str::from_utf8(bytes) else {
-        return None;
-    };
-    let Ok(number) = text.parse::<i64>() else {
-        return None;
-    };
     let mut buffer = Buffer::new();
     let printed = buffer.format(number).as_bytes();
     if printed != bytes {

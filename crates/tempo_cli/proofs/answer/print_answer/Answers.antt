@@ -1,21 +1,18 @@
 use Rattle.std.proofs.Common.{◌++◌, ◌∙◌, ap, ℕ, List}
-use Rattle.std.specs.Prelude.{filter}
 use Rattle.tw_rows.specs.Event.{Event, alive}
 use Rattle.tw_rows.specs.Rows.{Row}
 use Rattle.tw_rows.specs.Instant.{inf}
-use Rattle.plan_model.specs.Expr.{holds}
-use Rattle.plan_model.specs.FilterPlan.{first_above}
 use Rattle.plan_model.specs.Changes.{changes}
-use Rattle.plan_model.proofs.NodeLaws.{AreEvents-filtered}
 use Rattle.tempo_cli.specs.Print.{print, punctuation_text}
-use Rattle.tempo_cli.proofs.Answering.{answered}
+use Rattle.tempo_cli.specs.Text.{kept_of}
+use Rattle.tempo_cli.proofs.Answering.{answered, kept_lives}
 use Rattle.tempo_cli.proofs.answer.print_answer.Goals as goal
 
 pub print_changes-requires : goal.print_changes-requires
-print_changes-requires c = rw c.keep_above.ensures (AreEvents-filtered (first_above c.args.above.now) _ c.into_vec-events.ensures.lives)
+print_changes-requires c = rw c.keep.ensures (kept_lives c.args.above.now _ c.into_vec-events.ensures.lives)
 
 pub returns : goal.returns
 returns c = answered c.args.above.now c.args.events _ (c.in_ok-push_last_punctuation.ensures
     ∙ ap (λ (l : List ℕ). l ++ punctuation_text inf) (c.in_ok-text.ensures
-    ∙ ap (λ (es : List (Event Row)). print (changes (alive es) 0 inf)) (c.keep_above.ensures
-    ∙ ap (filter (λ e. holds (first_above c.args.above.now) e.row)) c.into_vec-events.ensures.items)))
+    ∙ ap (λ (es : List (Event Row)). print (changes (alive es) 0 inf)) (c.keep.ensures
+    ∙ ap (kept_of c.args.above.now) c.into_vec-events.ensures.items)))
