@@ -14,3 +14,4 @@ pub mod Pieces
 pub mod RowWalk
 pub mod RowByRow
 pub mod InTime
+pub mod Printed
