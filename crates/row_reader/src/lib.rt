@@ -14,4 +14,5 @@ mod value;
 
 pub use entry::{BadLine, Entry, Form, RowFault};
 pub use laws::{events_read_back, lines_are_fields};
+pub use number::read_number;
 pub use read::read_row;

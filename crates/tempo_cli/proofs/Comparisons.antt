@@ -7,11 +7,11 @@ use Rattle.std.proofs.lemmas.Bool.{cases_order}
 use Rattle.tw_rows.specs.declared.kind.Kind.{Kind}
 use Rattle.tw_rows.specs.declared.kind.Kind.TheVariants.{Int}
 use Rattle.tw_rows.specs.declared.schema.ColumnDef.{ColumnDef}
-use Rattle.tempo_cli.specs.Number.{number_of}
+use Rattle.row_reader.specs.Number.{number_of}
 use Rattle.tempo_cli.specs.Command.{AreColumns}
 use Rattle.tempo_cli.specs.QueryForm.{ComparesWith}
 use Rattle.tempo_cli.specs.declared.query_form.Above.{Above}
-use Rattle.tempo_cli.proofs.Numbers.{number_of-spelled, number_of-is}
+use Rattle.row_reader.proofs.Numbers.{number_of-spelled, number_of-is}
 
 pub got : (columns : List ColumnDef) (i : ℕ) (c d : ColumnDef) → slice_get columns i ≡ Some c → (i < length columns) × (get_or columns i d ≡ c)
 got [] i c d e = absurd (cc)

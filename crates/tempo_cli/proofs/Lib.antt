@@ -1,4 +1,3 @@
-pub mod Numbers
 pub mod Cuts
 pub mod Columns
 pub mod Reading

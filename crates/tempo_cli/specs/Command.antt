@@ -4,7 +4,7 @@ use Rattle.std.specs.List.{AllByRecursion, AllPairs, join_by, list_all, list_any
 use Rattle.tw_rows.specs.declared.kind.Kind.{Kind}
 use Rattle.tw_rows.specs.declared.kind.Kind.TheVariants.{Int, Bool as Flag, Text}
 use Rattle.tw_rows.specs.declared.schema.ColumnDef.{ColumnDef}
-use Rattle.tempo_cli.specs.Number.{same_text}
+use Rattle.row_reader.specs.Number.{same_text}
 use Rattle.tempo_cli.specs.declared.query_form.Above.{Above}
 use Rattle.tempo_cli.specs.declared.command.Command.{Command}
 

@@ -1,4 +1,3 @@
-pub mod Number
 pub mod Command
 pub mod QueryForm
 pub mod Admission

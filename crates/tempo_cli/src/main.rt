@@ -8,7 +8,6 @@ mod event;
 mod fault;
 mod laws;
 mod note;
-mod number;
 mod print;
 mod query_form;
 mod run;

@@ -5,12 +5,12 @@ ghost use Rattle.tw_rows.specs.declared.kind.Kind.{Kind as SomeKind};
 ghost use Rattle.std.specs.Bool.{Decides};
 ghost use Rattle.tw_rows.specs.declared.kind.Kind.TheVariants.{Int};
 ghost use Rattle.tw_rows.specs.declared.schema.ColumnDef.{ColumnDef as SomeColumn};
-ghost use Rattle.tempo_cli.specs.Number.{same_text};
+ghost use Rattle.row_reader.specs.Number.{same_text};
 ghost use Rattle.tempo_cli.specs.Command.{is_letter, is_name_byte, is_word, is_name, reserved, kind_text, AreColumns, SpellsQuery};
 ghost use Rattle.tempo_cli.specs.QueryForm.{IsCut, Splits, DeclaresOne, DeclaresFirst, DeclaresColumns, ComparesWith, ComparesBy, SplitsQuery, text_of};
 ghost use Rattle.tempo_cli.specs.declared.query_form.Above.{Above as SomeAbove};
 
-use crate::number::read_number;
+use row_reader::read_number;
 use std::alloc::Global;
 use tw_rows::{ColumnDef, Kind, Label, Memory, Schema};
 

@@ -2,7 +2,7 @@ use Rattle.std.proofs.Common.{◌≡◌, ◌≤◌, ℕ, List, [], ◌∷◌, su
 use Rattle.std.specs.Prelude.{map, codes}
 use Rattle.tempo_cli.specs.Command.{header_words}
 use Rattle.tempo_cli.specs.QueryForm.{AsksBy}
-use Rattle.tempo_cli.proofs.Numbers.{same_text-Decides}
+use Rattle.row_reader.proofs.Numbers.{same_text-Decides}
 use Rattle.tempo_cli.proofs.command.read_asked.Goals as goal
 
 abbrev text_at : List (Bor (List ℕ)) → ℕ → List ℕ

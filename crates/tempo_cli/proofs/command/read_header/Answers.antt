@@ -1,6 +1,6 @@
 use Rattle.std.proofs.Common.{◌≡◌, ◌≤◌, ◌<◌, ℕ, List, [], ◌∷◌, length, sym, ap, arith, Bor, slice_index_or}
 use Rattle.std.specs.Prelude.{map, codes}
-use Rattle.tempo_cli.proofs.Numbers.{same_text-Decides}
+use Rattle.row_reader.proofs.Numbers.{same_text-Decides}
 use Rattle.tempo_cli.proofs.command.read_header.Goals as goal
 
 one_word : (words : List (Bor (List ℕ))) (text : List ℕ) → 1 ≤ length words → length words < 2 → (slice_index_or words 0 (record { ref_ptr = (0, 0); now = [] })).now ≡ text → map (λ w. w.now) words ≡ text ∷ []

@@ -1,7 +1,7 @@
 use Rattle.std.proofs.Common.{◌≡◌, length}
 use Rattle.std.specs.Prelude.{map}
 use Rattle.std.specs.List.{list_any}
-use Rattle.tempo_cli.specs.Number.{same_text}
+use Rattle.row_reader.specs.Number.{same_text}
 use Rattle.tempo_cli.proofs.query_form.is_among.Given as goal
 
 abbrev pub invariant-loop-words : goal.invariant-loop-words

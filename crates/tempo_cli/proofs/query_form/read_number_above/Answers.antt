@@ -1,5 +1,5 @@
 use Rattle.std.proofs.Common.{◌≡◌, ◌^◌, Bool, true, false, ◌∙◌, ap}
-use Rattle.tempo_cli.specs.Number.{number_of}
+use Rattle.row_reader.specs.Number.{number_of}
 use Rattle.tempo_cli.proofs.Comparisons.{no_number, no_place, some_number, other_kind}
 use Rattle.tempo_cli.proofs.query_form.read_number_above.Goals as goal
 
