@@ -8,3 +8,4 @@ pub mod Reading
 pub mod Lines
 pub mod Spelling
 pub mod ReadBack
+pub mod Printed

@@ -27,10 +27,10 @@ inf-is : inf ≡ 2 ^ 61
 unfolding inf
 inf-is = refl
 
-text_below : (t : ℕ) → t < 2 ^ 60 → time_text t ≡ decimal t
+pub text_below : (t : ℕ) → t < 2 ^ 60 → time_text t ≡ decimal t
 text_below t h = let low : nat_lt t inf ≡ true = (Decides-ltb t inf).1 (omega (arith, inf-is, h)) in rw low refl
 
-text_inf : time_text inf ≡ codes "inf"
+pub text_inf : time_text inf ≡ codes "inf"
 text_inf = let high : nat_lt inf inf ≡ false = grind (arith, nat_tests) in rw high refl
 
 not_inf : (n : ℕ) → n < 2 ^ 60 → same_text (decimal n) (codes "inf") ≡ true → ⊥
@@ -79,7 +79,7 @@ value_back (Flag true) h = refl
 value_back (Flag false) h = refl
 value_back (Text t) h = refl
 
-field_there : (front : List (List ℕ)) (f : List ℕ) (rest : List (List ℕ)) (n : ℕ) → n ≡ length front → field_of (front ++ f ∷ rest) n ≡ f
+pub field_there : (front : List (List ℕ)) (f : List ℕ) (rest : List (List ℕ)) (n : ℕ) → n ≡ length front → field_of (front ++ f ∷ rest) n ≡ f
 unfolding field_of field_at
 field_there [] f rest n e = rw e refl
 field_there (x ∷ front) f rest zero e = absurd (omega arith)

@@ -1,5 +1,5 @@
 // What holds of lines and of what they say.
-ghost use Rattle.std.specs.Prelude.{◌≡◌, ◌≢◌, ◌<◌, ◌↔◌, ℕ, List, Ok, false, length};
+ghost use Rattle.std.specs.Prelude.{◌≡◌, ◌≢◌, ◌<◌, ◌↔◌, ◌∷◌, ℕ, List, Ok, false, length};
 ghost use Rattle.std.specs.List.{All};
 ghost use Rattle.row_reader.specs.Quotes.{odd_quotes};
 ghost use Rattle.row_reader.specs.Record.{record_of};
@@ -21,9 +21,10 @@ pub fn lines_are_fields()
         SpellsFields text fields → record_of text ≡ fields }
 {}
 
-/// The fields that are printed of an event are read as that event: its form, its times and its row.
-#[tactic(auto, using(crate::proofs::ReadBack::events_read_back))]
-pub fn events_read_back()
-    ensures { (stream : ℕ) (columns : List ColumnDef) (name : List ℕ) (form : Form) (sync other : ℕ) (row : Row) → IsRowOf columns row → AreTimes form sync other →
-        event stream columns (event_fields name form sync other row) ≡ Ok (entries.Event stream form sync other row) }
+/// Behind the name of its stream, fields are read as an event exactly where they are what is printed of it: its form, both
+/// times and the values, of a row that fits the columns and of times that an event may have.
+pub fn events_are_printed()
+    ensures { (stream : ℕ) (columns : List ColumnDef) (name : List ℕ) (fields : List (List ℕ)) (form : Form) (sync other : ℕ) (row : Row) →
+        (event stream columns (name ∷ fields) ≡ Ok (entries.Event stream form sync other row)) ↔
+        ((name ∷ fields ≡ event_fields name form sync other row) × IsRowOf columns row × AreTimes form sync other) }
 {}

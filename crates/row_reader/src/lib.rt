@@ -13,6 +13,6 @@ mod tests;
 mod value;
 
 pub use entry::{BadLine, Entry, Form, RowFault};
-pub use laws::{events_read_back, lines_are_fields};
+pub use laws::{events_are_printed, lines_are_fields};
 pub use number::read_number;
 pub use read::read_row;

@@ -13,4 +13,3 @@ pub mod Pieces
 pub mod RowWalk
 pub mod RowByRow
 pub mod InTime
-pub mod Printed

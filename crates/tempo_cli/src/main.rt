@@ -20,7 +20,7 @@ mod tests;
 pub use command::{Command, read_command, words_spell_one_command};
 pub use event::{Event, Events};
 pub use fault::Fault;
-pub use laws::{events_are_printed, runs_are_complete};
+pub use laws::runs_are_complete;
 use note::note;
 pub use run::run;
 pub use send::send;

@@ -1,7 +1,7 @@
 -- The fields that are read as an event are those that are printed of it.
-use Rattle.std.proofs.Common.{◌≡◌, ◌<◌, inl, inr, ℕ, ℤ, zero, suc, ◌+◌, List, [], ◌∷◌, ◌++◌, length, map, Bool, true, false, cond, Option, Some, None, Result, Ok, Err, refl, sym, ◌∙◌, ap, arith, append_assoc, subst}
-use Rattle.std.specs.Prelude.{◌⊎◌, ◌^◌, ◌==◌, ◌↔◌, not, nat_lt, codes, decimal, option_map}
-use Rattle.std.proofs.lemmas.Bool.Decides.{nat_tests, Decides-ltb, eqb_tells}
+use Rattle.std.proofs.Common.{◌≡◌, ◌<◌, inl, inr, ℕ, ℤ, suc, ◌+◌, List, [], ◌∷◌, ◌++◌, length, map, Bool, true, false, cond, Option, Some, None, Result, Ok, Err, refl, sym, ◌∙◌, ap, arith, append_assoc, subst}
+use Rattle.std.specs.Prelude.{◌⊎◌, ◌^◌, ◌==◌, ◌↔◌, not, codes, option_map}
+use Rattle.std.proofs.lemmas.Bool.Decides.{Decides-ltb, eqb_tells}
 use Rattle.std.proofs.lemmas.List.{length-append}
 use Rattle.csv.specs.Records.{field_at}
 use Rattle.tw_rows.specs.Instant.{inf}
@@ -25,7 +25,7 @@ use Rattle.row_reader.specs.Entry.{Read, row_of, event, or_bad, with_row, with_v
 use Rattle.row_reader.specs.Printed.{value_text, time_text, form_text, event_fields, IsValue, IsRowOf, AreTimes}
 use Rattle.row_reader.proofs.Numbers.{number_of-is, same_text-Decides}
 use Rattle.row_reader.proofs.SignedNumbers.{int_of-is}
-use Rattle.row_reader.proofs.ReadBack.{events_read_back}
+use Rattle.row_reader.proofs.ReadBack.{text_below, text_inf, field_there, events_read_back}
 
 -- a text that is a value of a kind is what is printed of it
 abbrev Prints : Kind → List ℕ → Value → Type 0
@@ -46,16 +46,6 @@ unfolding value_of
 value_is kinds.Int text v h = int_is text (int_of text) refl v h
 value_is kinds.Bool text v h = truth_is text (same_text text (codes "true")) (same_text text (codes "false")) refl refl v h
 value_is kinds.Text text v h = let is : Text text ≡ v = cc in subst (Prints kinds.Text text) is (refl, tt, refl)
-
-inf_is_high : inf ≡ 2 ^ 61
-unfolding inf
-inf_is_high = refl
-
-text_below : (t : ℕ) → t < 2 ^ 60 → time_text t ≡ decimal t
-text_below t h = let low : nat_lt t inf ≡ true = (Decides-ltb t inf).1 (omega (arith, inf_is_high, h)) in rw low refl
-
-text_inf : time_text inf ≡ codes "inf"
-text_inf = let high : nat_lt inf inf ≡ false = grind (arith, nat_tests) in rw high refl
 
 time_is : (text : List ℕ) (t : ℕ) → time_of text ≡ Some t → (t < 2 ^ 60) × (text ≡ time_text t)
 time_is text t h = let p = number_of-is (2 ^ 60) text t h in (p.0, p.1 ∙ sym (text_below t p.0))
@@ -101,12 +91,6 @@ times_are forms.Start a b sync other h alive =
 times_are forms.End a b sync other h alive =
     let p = both_are (time_of a) (time_of b) sync other h in let s = time_is a sync p.0 in let o = time_is b other p.1 in ((s.0, (Decides-ltb other sync).0 alive), s.1, o.1)
 
-field_there : (front : List (List ℕ)) (f : List ℕ) (rest : List (List ℕ)) (n : ℕ) → n ≡ length front → field_of (front ++ f ∷ rest) n ≡ f
-unfolding field_of field_at
-field_there [] f rest n e = rw e refl
-field_there (x ∷ front) f rest zero e = absurd (omega arith)
-field_there (x ∷ front) f rest (suc n) e = field_there front f rest n (omega arith)
-
 with_value-is : (n : ℕ) (o : Option Value) (r : Result Row ℕ) (row : Row) → with_value n o r ≡ Ok row → (v : Value) × (vs : Row) × (o ≡ Some v) × (r ≡ Ok vs) × (row ≡ v ∷ vs)
 with_value-is n None r row h = absurd (cc)
 with_value-is n (Some v) (Ok vs) row h = (v, vs, refl, refl, cc)
@@ -129,11 +113,11 @@ row_is (c ∷ cs) front (t ∷ ts) n row e l h =
     let all : t ∷ ts ≡ value_text w.0 ∷ map value_text w.1 = cc in
     subst (λ (row : Row). (t ∷ ts ≡ map value_text row) × IsRowOf (c ∷ cs) row) (sym w.4) (all, (k.0, k.1, later.1))
 
-or_bad-is : {A : Type 0} (cause : BadLine) (o : Option A) (more : A → Read) (e : Entry) → or_bad cause o more ≡ Ok e → (x : A) × (o ≡ Some x) × (more x ≡ Ok e)
+pub or_bad-is : {A : Type 0} (cause : BadLine) (o : Option A) (more : A → Read) (e : Entry) → or_bad cause o more ≡ Ok e → (x : A) × (o ≡ Some x) × (more x ≡ Ok e)
 or_bad-is cause None more e h = absurd (cc)
 or_bad-is cause (Some x) more e h = (x, refl, h)
 
-passed : (b : Bool) (cause : BadLine) (read : Read) (e : Entry) → cond (not b) (Err cause) read ≡ Ok e → (b ≡ true) × (read ≡ Ok e)
+pub passed : (b : Bool) (cause : BadLine) (read : Read) (e : Entry) → cond (not b) (Err cause) read ≡ Ok e → (b ≡ true) × (read ≡ Ok e)
 passed true cause read e h = (refl, h)
 passed false cause read e h = absurd (cc)
 
@@ -151,26 +135,29 @@ record Parts (columns : List ColumnDef) (fields : List (List ℕ)) (form : Form)
   alive : is_alive form sync other ≡ true
   values : row_of fields 1 columns ≡ Ok row
 
-moved : (columns : List ColumnDef) (fields : List (List ℕ)) (stream : ℕ) (f form : Form) (s sync o other : ℕ) (r row : Row) → Parts columns fields f s o r →
-    ◌≡◌ {A = Read} (Ok (Event stream f s o r)) (Ok (Event stream form sync other row)) → Parts columns fields form sync other row
-moved columns fields stream f form s sync o other r row p h =
+moved : (columns : List ColumnDef) (fields : List (List ℕ)) (stream number : ℕ) (f form : Form) (s sync o other : ℕ) (r row : Row) → Parts columns fields f s o r →
+    ◌≡◌ {A = Read} (Ok (Event stream f s o r)) (Ok (Event number form sync other row)) → (stream ≡ number) × Parts columns fields form sync other row
+moved columns fields stream number f form s sync o other r row p h =
+    let same_stream : stream ≡ number = cc in
     let same_form : f ≡ form = cc in
     let same_sync : s ≡ sync = cc in
     let same_other : o ≡ other = cc in
     let same_row : r ≡ row = cc in
-    rw (← same_form, ← same_sync, ← same_other, ← same_row) p
+    (same_stream, rw (← same_form, ← same_sync, ← same_other, ← same_row) p)
 
-parts : (stream : ℕ) (columns : List ColumnDef) (fields : List (List ℕ)) (form : Form) (sync other : ℕ) (row : Row) → event stream columns fields ≡ Ok (Event stream form sync other row) → Parts columns fields form sync other row
+parts : (stream number : ℕ) (columns : List ColumnDef) (fields : List (List ℕ)) (form : Form) (sync other : ℕ) (row : Row) → event stream columns fields ≡ Ok (Event number form sync other row) →
+    (stream ≡ number) × Parts columns fields form sync other row
 unfolding event
-parts stream columns fields form sync other row h =
+parts stream number columns fields form sync other row h =
     let a = or_bad-is UnknownKind (form_of (field_of fields 1)) _ _ h in
     let b = passed (length fields == length columns + 4) WrongFields _ _ a.2 in
     let c = or_bad-is BadTime (times_of a.0 (field_of fields 2) (field_of fields 3)) _ _ b.1 in
     let d = passed (is_alive a.0 c.0.0 c.0.1) BadLife _ _ c.2 in
     let r = with_row-is (row_of fields 1 columns) _ _ d.1 in
-    moved columns fields stream a.0 form c.0.0 sync c.0.1 other r.0 row (record { form_is = a.1; many = equal _ _ b.0; times = c.1; alive = d.0; values = r.1 }) r.2
+    moved columns fields stream number a.0 form c.0.0 sync c.0.1 other r.0 row (record { form_is = a.1; many = equal _ _ b.0; times = c.1; alive = d.0; values = r.1 }) r.2
 
-abbrev IsPrinted : List ColumnDef → List ℕ → List (List ℕ) → Form → ℕ → ℕ → Row → Type 0
+-- the fields are those that are printed of an event
+abbrev pub IsPrinted : List ColumnDef → List ℕ → List (List ℕ) → Form → ℕ → ℕ → Row → Type 0
 IsPrinted columns name fields form sync other row = (name ∷ fields ≡ event_fields name form sync other row) × IsRowOf columns row × AreTimes form sync other
 
 printed : (columns : List ColumnDef) (name : List ℕ) (fields : List (List ℕ)) (form : Form) (sync other : ℕ) (row : Row) → Parts columns (name ∷ fields) form sync other row → IsPrinted columns name fields form sync other row
@@ -187,9 +174,16 @@ printed columns name (f ∷ a ∷ b ∷ texts) form sync other row p =
     let others : texts ≡ map value_text row = r.0 in
     (cc, r.1, t.0)
 
+-- what fields are read as is an event of that stream, and they are printed of it
+pub event_is : (stream number : ℕ) (columns : List ColumnDef) (name : List ℕ) (fields : List (List ℕ)) (form : Form) (sync other : ℕ) (row : Row) →
+    event stream columns (name ∷ fields) ≡ Ok (Event number form sync other row) → (stream ≡ number) × IsPrinted columns name fields form sync other row
+event_is stream number columns name fields form sync other row h =
+    let p = parts stream number columns (name ∷ fields) form sync other row h in
+    (p.0, printed columns name fields form sync other row p.1)
+
 pub events_are_printed : (stream : ℕ) (columns : List ColumnDef) (name : List ℕ) (fields : List (List ℕ)) (form : Form) (sync other : ℕ) (row : Row) →
     (event stream columns (name ∷ fields) ≡ Ok (Event stream form sync other row)) ↔ ((name ∷ fields ≡ event_fields name form sync other row) × IsRowOf columns row × AreTimes form sync other)
 events_are_printed stream columns name fields form sync other row = (
-  λ h. printed columns name fields form sync other row (parts stream columns (name ∷ fields) form sync other row h),
+  λ h. (event_is stream stream columns name fields form sync other row h).1,
   λ p. ap (event stream columns) p.0 ∙ events_read_back stream columns name form sync other row p.1 p.2,
 )
