@@ -9,3 +9,4 @@ pub mod Lines
 pub mod Spelling
 pub mod ReadBack
 pub mod Printed
+pub mod Spells

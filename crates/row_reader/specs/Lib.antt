@@ -7,3 +7,4 @@ pub mod Entry
 pub mod Answers
 pub mod Spelled
 pub mod Printed
+pub mod Spells

@@ -13,6 +13,6 @@ mod tests;
 mod value;
 
 pub use entry::{BadLine, Entry, Form, RowFault};
-pub use laws::{events_are_printed, lines_are_fields};
+pub use laws::{events_are_printed, lines_are_fields, lines_say_what_they_spell};
 pub use number::read_number;
 pub use read::read_row;

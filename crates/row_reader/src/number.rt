@@ -4,9 +4,9 @@ ghost use Rattle.row_reader.specs.Number.{int_of, number_of};
 
 use itoa::Buffer;
 
-/// The number below the limit that the text spells: its decimal digits alone, without a sign or a leading zero, as in `0` and
-/// `17`. `None` where the text spells no such number, and so for `+17`, `017`, the limit itself and bytes that are no UTF-8.
-/// It takes no memory.
+/// The number below the limit that the text spells: its decimal digits alone, without a sign or a leading zero, as in
+/// `0` and `17`. `None` where the text spells no such number, and so for `+17`, `017`, the limit itself and bytes that
+/// are no UTF-8. It takes no memory.
 pub fn read_number(bytes: &[u8], limit: u64) -> Option<u64>
     ensures { result ≡ number_of limit bytes.now }
 {
