@@ -1,0 +1,5 @@
+pub mod SameCells
+pub mod Order
+pub mod History
+pub mod Balance
+pub mod Side

@@ -1,0 +1,22 @@
+//! What lists of edges say of events: when a list may come, which events it tells of, and when it tells of given events all
+//! that is known below a time. The definitions stand in `specs/`; each function here does nothing, and its clauses are a law
+//! of them.
+#![tactic(auto)]
+
+mod history_laws;
+mod side_laws;
+mod standing_laws;
+mod telling_laws;
+
+pub use history_laws::{
+    edges_below_are_a_history, events_are_unique, events_have_lives, first_edges_are_a_history,
+    histories_have_their_events, later_edges_leave_what_is_known, more_edges_give_more_events,
+    same_cells_are_equal,
+};
+pub use side_laws::{new_edges_are_retained, retained_events_reach, retained_for_a_later_time};
+pub use standing_laws::{
+    forms_of_standing_agree, same_events_are_said_alike, standing_holds_below_less,
+};
+pub use telling_laws::{
+    news_comes_later, news_is_told, nothing_is_told_at_first, told_edges_are_a_history,
+};
