@@ -6,3 +6,4 @@ pub mod Retaining
 pub mod Standing
 pub mod Parts
 pub mod Examples
+pub mod Made

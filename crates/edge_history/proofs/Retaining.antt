@@ -20,7 +20,7 @@ use Rattle.edge_history.proofs.Telling.{is_event}
 taken_one : (w : CellEvent → ℕ) (x : Edge) → total w (taken x) ≡ took w x
 taken_one w x = grind arith
 
-took_open : (cells : List Datum) (start : ℕ) (x : Edge) → total (λ e. cond (is_open cells start e) 1 0) (taken x) ≡ cond {A = ℕ} (ends_it cells start x) 1 0
+pub took_open : (cells : List Datum) (start : ℕ) (x : Edge) → total (λ e. cond (is_open cells start e) 1 0) (taken x) ≡ cond {A = ℕ} (ends_it cells start x) 1 0
 took_open cells start x = grind (arith, nat_tests)
 
 given_open : (cells : List Datum) (start c : ℕ) (x : Edge) → c ≤ inf → is_real x ≡ true → cond {A = ℕ} (reaches c (given x)) (cond (is_open cells start (given x)) 1 0) 0 ≡ cond (starts_it cells start x) 1 0

@@ -69,7 +69,7 @@ pub stands_less : (c d : ℕ) (h : List Edge) (es : List CellEvent) → c ≤ d 
 stands_less c d h es low high real stands = stands_cut c h es (omega arith) real (cut_less c d (es ++ flat_map taken h) (map given h) low high stands)
 
 -- the edges below t of a history are a history
-rises_filter : (p : Edge → Bool) (r : ℕ) (xs : List Edge) → Rises r xs → Rises r (filter p xs)
+pub rises_filter : (p : Edge → Bool) (r : ℕ) (xs : List Edge) → Rises r xs → Rises r (filter p xs)
 rises_filter p r [] k = tt
 rises_filter p r (x ∷ xs) k = pick (p x) (rises_filter p (rank x) xs k.1)
   where

@@ -1,8 +1,8 @@
 // The laws of edges that stand for events below a time.
-ghost use Rattle.std.specs.Prelude.{◌≡◌, ◌↔◌, ℕ, ◌≤◌, List, filter};
+ghost use Rattle.std.specs.Prelude.{◌≡◌, ◌↔◌, ℕ, ◌<◌, ◌≤◌, List, filter};
 ghost use Rattle.tw_rows.specs.Instant.{inf};
 ghost use Rattle.tw_rows.specs.Bag.{SameBag};
-ghost use Rattle.tw_rows.specs.Event.{cut};
+ghost use Rattle.tw_rows.specs.Event.{alive, cut};
 ghost use Rattle.tw_rows.specs.declared.edge.Edge.{Edge};
 ghost use Rattle.edge_history.specs.Order.{failing, is_real, is_below, IsHistory};
 ghost use Rattle.edge_history.specs.History.{CellEvent, of, StandsBelow};
@@ -41,4 +41,10 @@ pub fn same_events_are_said_alike()
         StandsBelow c h events → StandsBelow c other events → SameBag (cut c (of h)) (cut c (of other)) }
     ensures each { (c : ℕ) (h other : List Edge) (events : List CellEvent) →
         StandsBelow c h events → StandsBelow c other events → StandsBelow c h (of other) }
+{}
+
+/// Where edges stand for events below a time, at each instant below it the same rows are alive.
+pub fn standing_edges_have_the_rows()
+    ensures { (c t : ℕ) (h : List Edge) (events : List CellEvent) → t < c → c ≤ inf → StandsBelow c h events →
+        SameBag (alive (of h) t) (alive events t) }
 {}
