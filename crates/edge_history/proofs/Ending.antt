@@ -1,8 +1,8 @@
 -- What it weighs that end edges end events.
-use Rattle.std.specs.Prelude.{◌≡◌, ℕ, ◌+◌, ◌<◌, ◌≤◌, ◌&&◌, nat_eq, Bool, true, false, cond, List, [], ◌∷◌, refl}
-use Rattle.std.proofs.Common.{ap, arith}
+use Rattle.std.specs.Prelude.{◌≡◌, ℕ, zero, suc, ◌+◌, ◌<◌, ◌≤◌, ◌&&◌, nat_eq, Bool, true, false, cond, List, [], ◌∷◌, ◌++◌, length, get_or, set, refl}
+use Rattle.std.proofs.Common.{sym, ap, arith}
 use Rattle.std.proofs.lemmas.Bool.Decides.{nat_tests}
-use Rattle.std.proofs.lemmas.Bool.{and_parts, eqb-true}
+use Rattle.std.proofs.lemmas.Bool.{and_parts, eqb-true, lt-ltb}
 use Rattle.tw_rows.specs.Bag.{total}
 use Rattle.tw_rows.specs.Instant.{inf}
 use Rattle.tw_rows.specs.declared.cells.Datum.{Datum}
@@ -79,3 +79,39 @@ end_all_weighs w (x ∷ xs) es real enough = pick (is_real x) refl (λ n m. end_
         omega (arith, a, b, c, d)) in
         omega (arith, now, later)
     pick false k rest = let z = ap (λ c. cond {A = ℕ} c 0 1) k in absurd (omega (arith, real, z))
+
+-- ends one after another
+pub end_all-append : (xs ys : List Edge) (es : List CellEvent) → end_all (xs ++ ys) es ≡ end_all ys (end_all xs es)
+end_all-append [] ys es = refl
+end_all-append (x ∷ xs) ys es = end_all-append xs ys (end_step x es)
+
+pub end_all_more : (xs : List Edge) (x : Edge) (es : List CellEvent) → end_all (xs ++ x ∷ []) es ≡ end_step x (end_all xs es)
+end_all_more xs x es = end_all-append xs (x ∷ []) es
+
+-- the event that an end edge ends stands at a place before which none is open; or no place is of such an event
+pub ended_here : (x : Edge) (es : List CellEvent) (i : ℕ) (d : CellEvent) → i < length es →
+    ((k : ℕ) → k < i → is_open x.cells x.other (get_or es k d) ≡ false) → is_open x.cells x.other (get_or es i d) ≡ true →
+    set es i (record { row = (get_or es i d).row; start = (get_or es i d).start; end = x.sync }) ≡ ended x es
+ended_here x [] i d low none h = absurd (omega arith)
+ended_here x (e ∷ es) zero d low none h = rw h refl
+ended_here x (e ∷ es) (suc i) d low none h =
+    rw (none 0 (omega arith)) (ap (λ l. e ∷ l) (ended_here x es i d (omega arith) (λ k b. none (suc k) (omega arith)) h))
+
+pub ended_none : (x : Edge) (es : List CellEvent) (d : CellEvent) →
+    ((k : ℕ) → k < length es → is_open x.cells x.other (get_or es k d) ≡ false) → ended x es ≡ es
+ended_none x [] d none = refl
+ended_none x (e ∷ es) d none =
+    rw (none 0 (omega arith)) (ap (λ l. e ∷ l) (ended_none x es d (λ k b. none (suc k) (omega arith))))
+
+pub end_step_here : (x : Edge) (es : List CellEvent) (i : ℕ) (d : CellEvent) → x.other < x.sync → i < length es →
+    ((k : ℕ) → k < i → is_open x.cells x.other (get_or es k d) ≡ false) → is_open x.cells x.other (get_or es i d) ≡ true →
+    set es i (record { row = (get_or es i d).row; start = (get_or es i d).start; end = x.sync }) ≡ end_step x es
+end_step_here x es i d late low none h = rw (lt-ltb x.other x.sync late) (ended_here x es i d low none h)
+
+pub end_step_none : (x : Edge) (es : List CellEvent) (d : CellEvent) →
+    ((k : ℕ) → k < length es → is_open x.cells x.other (get_or es k d) ≡ false) → es ≡ end_step x es
+end_step_none x es d none = pick (is_end x)
+  where
+    pick : (b : Bool) → es ≡ cond b (ended x es) es
+    pick true = sym (ended_none x es d none)
+    pick false = refl

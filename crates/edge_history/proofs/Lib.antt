@@ -7,3 +7,4 @@ pub mod Standing
 pub mod Parts
 pub mod Examples
 pub mod Made
+pub mod Rising

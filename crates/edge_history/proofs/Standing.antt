@@ -13,7 +13,7 @@ use Rattle.edge_history.specs.History.{CellEvent, of, StandsBelow}
 use Rattle.edge_history.specs.Balance.{given, taken, AreEventsOf, StandsFor, is_settled, is_single, Told}
 use Rattle.edge_history.proofs.Tests.{sum_le, sum_eq, weaker, failing-both, failing-filter, failing-kept}
 use Rattle.edge_history.proofs.Telling.{gain, loss, stands_by_weight, weight_of_standing, stands_same, told_below, told_history, rises_weaker}
-use Rattle.edge_history.proofs.Retaining.{events_of_are}
+use Rattle.edge_history.proofs.Retaining.{events_of_are, events_unique}
 
 -- of its events a list stands for what is known below any time
 pub stands_for_own : (c : ℕ) (h : List Edge) (a : List CellEvent) → AreEventsOf h a → StandsFor c h a
@@ -151,3 +151,12 @@ stands_below_same c h es fs same k = record { history = k.history; below = k.bel
 
 pub same_of_both : (c : ℕ) (h k : List Edge) (es : List CellEvent) → StandsBelow c h es → StandsBelow c k es → SameBag (cut c (of h)) (cut c (of k))
 same_of_both c h k es a b = SameBag-trans (cut c (of h)) (cut c es) (cut c (of k)) a.same (SameBag-sym (cut c (of k)) (cut c es) b.same)
+
+-- the edges of a history below c stand for its events
+pub stands_for_events : (c : ℕ) (h : List Edge) (a : List CellEvent) → c ≤ inf → IsHistory h → AreEventsOf h a → StandsBelow c (filter (is_below c) h) a
+stands_for_events c h a high k are = record {
+  history = history_below c h k;
+  below = failing-kept (is_below c) h;
+  same = SameBag-trans (cut c (of (filter (is_below c) h))) (cut c (of h)) (cut c a) (same_as_below c h high k)
+      (SameBag-flat_map (cut_one c) (cut_one c) (of h) a (events_unique h (of h) a (events_of_are h k) are) (λ e. SameBag-refl (cut_one c e)));
+}

@@ -183,3 +183,51 @@ told_nothing es = record {
   settled = refl;
   stands = stands_by_weight 0 [] es (λ w. let a = total-flat_map w (cut_one 0) es ∙ (total_same _ (λ e. 0) es (λ e. before_all w e) ∙ total_zero es) in omega (arith, a));
 }
+
+-- news in two parts
+split_one : (w : Edge → ℕ) (c t d : ℕ) (e : CellEvent) → c ≤ t → t ≤ d → total w (news_of c d e) ≡ total w (news_of c t e) + total w (news_of t d e)
+split_one w c t d e low high = grind (arith, nat_tests)
+
+pub news_in_parts : (c t d : ℕ) (es : List CellEvent) → c ≤ t → t ≤ d → SameBag (news c d es) (news c t es ++ news t d es)
+news_in_parts c t d es low high = record {
+  weigh = λ w.
+      let a = total-flat_map w (news_of c d) es in
+      let b = total_same _ (λ e. total w (news_of c t e) + total w (news_of t d e)) es (λ e. split_one w c t d e low high) in
+      let n = total-add (λ e. total w (news_of c t e)) (λ e. total w (news_of t d e)) es in
+      let x = total-flat_map w (news_of c t) es in
+      let y = total-flat_map w (news_of t d) es in
+      let z = total-append w (news c t es) (news t d es) in
+      omega (arith, a, b, n, x, y, z);
+}
+
+none_between : (c : ℕ) (e : CellEvent) → news_of c c e ≡ []
+none_between c e = grind (arith, nat_tests)
+
+pub news_none : (c : ℕ) (es : List CellEvent) → news c c es ≡ []
+news_none c [] = refl
+news_none c (e ∷ es) = ap (λ l. l ++ news c c es) (none_between c e) ∙ news_none c es
+
+-- news hangs on what is known of the events alone
+news_known : (w : Edge → ℕ) (c d : ℕ) (e : CellEvent) → d ≤ inf → is_event e ≡ true → total w (news_of c d e) ≡ total (λ x. total w (news_of c d x)) (cut_one d e)
+news_known w c d e high k = grind (arith, nat_tests)
+
+pub news_same : (c d : ℕ) (es fs : List CellEvent) → d ≤ inf → failing is_event es ≡ 0 → failing is_event fs ≡ 0 → SameBag (cut d es) (cut d fs) → SameBag (news c d es) (news c d fs)
+news_same c d es fs high v u same = record {
+  weigh = λ w.
+      let go : (es : List CellEvent) → failing is_event es ≡ 0 → total w (news c d es) ≡ total (λ x. total w (news_of c d x)) (cut d es) = λ es v.
+      total-flat_map w (news_of c d) es ∙ (sum_eq is_event _ _ es (λ e k. news_known w c d e high k) v ∙ sym (total-flat_map (λ x. total w (news_of c d x)) (cut_one d) es)) in
+      go es v ∙ (same.weigh (λ x. total w (news_of c d x)) ∙ sym (go fs u));
+}
+
+-- the edges of news are real
+news_real : (c d : ℕ) (e : CellEvent) → d ≤ inf → is_event e ≡ true → failing is_real (news_of c d e) ≡ 0
+news_real c d e high k = grind (arith, nat_tests)
+
+pub answer_real : (c d : ℕ) (answer : List Edge) (es : List CellEvent) → d ≤ inf → failing is_event es ≡ 0 → SameBag answer (news c d es) → failing is_real answer ≡ 0
+answer_real c d answer es high v same = same.weigh (λ x. cond (is_real x) 0 1) ∙ (total-flat_map (λ x. cond (is_real x) 0 1) (news_of c d) es ∙ (sum_eq is_event _ (λ e. 0) es (λ e k. news_real c d e high k) v ∙ total_zero es))
+
+news_below : (c d : ℕ) (e : CellEvent) → failing (is_below d) (news_of c d e) ≡ 0
+news_below c d e = grind (arith, nat_tests)
+
+pub answer_below : (c d : ℕ) (answer : List Edge) (es : List CellEvent) → SameBag answer (news c d es) → failing (is_below d) answer ≡ 0
+answer_below c d answer es same = same.weigh (λ x. cond (is_below d x) 0 1) ∙ (total-flat_map (λ x. cond (is_below d x) 0 1) (news_of c d) es ∙ (total_same _ (λ e. 0) es (λ e. news_below c d e) ∙ total_zero es))

@@ -1,6 +1,8 @@
 -- Sums over lists whose items all pass a test.
-use Rattle.std.specs.Prelude.{◌≡◌, ℕ, ◌+◌, ◌≤◌, ◌&&◌, Bool, true, false, cond, List, [], ◌∷◌, ◌++◌, filter, refl}
+use Rattle.std.specs.Prelude.{◌≡◌, ◌↔◌, ℕ, ◌+◌, ◌≤◌, ◌&&◌, Bool, true, false, cond, List, [], ◌∷◌, ◌++◌, filter, IsTrue, All, refl}
+use Rattle.std.specs.List.{AllByRecursion}
 use Rattle.std.proofs.Common.{◌∙◌, ap, arith}
+use Rattle.std.proofs.lemmas.List.Elements.{All-from_recursion, recursion_from_All}
 use Rattle.tw_rows.specs.Bag.{SameBag, total}
 use Rattle.tw_rows.proofs.Bags.{total-append, total-filter, total-add, total_same, total_zero}
 use Rattle.edge_history.specs.Order.{failing}
@@ -56,3 +58,19 @@ kept_passes b = grind arith
 
 pub failing-kept : {X : Type 0} (p : X → Bool) (xs : List X) → failing p (filter p xs) ≡ 0
 failing-kept p xs = total-filter (λ x. cond {A = ℕ} (p x) 0 1) p xs ∙ (total_same _ (λ x. 0) xs (λ x. kept_passes (p x)) ∙ total_zero xs)
+
+-- none fails where all pass
+none_fails : {X : Type 0} (p : X → Bool) (xs : List X) → AllByRecursion (λ x. IsTrue (p x)) xs → failing p xs ≡ 0
+none_fails p [] h = refl
+none_fails p (x ∷ xs) h = let z = ap (λ b. cond {A = ℕ} b 0 1) h.0 in let r = none_fails p xs h.1 in omega (arith, z, r)
+
+each_passes : {X : Type 0} (p : X → Bool) (xs : List X) → failing p xs ≡ 0 → AllByRecursion (λ x. IsTrue (p x)) xs
+each_passes p [] h = tt
+each_passes p (x ∷ xs) h = pick (p x) refl (λ n. each_passes p xs n)
+  where
+    pick : (b : Bool) → p x ≡ b → (failing p xs ≡ 0 → AllByRecursion (λ x. IsTrue (p x)) xs) → AllByRecursion (λ x. IsTrue (p x)) (x ∷ xs)
+    pick true k rest = let z = ap (λ c. cond {A = ℕ} c 0 1) k in (k, rest (omega (arith, h, z)))
+    pick false k rest = let z = ap (λ c. cond {A = ℕ} c 0 1) k in absurd (omega (arith, h, z))
+
+pub failing-All : {X : Type 0} (p : X → Bool) (xs : List X) → (failing p xs ≡ 0) ↔ All (λ x. IsTrue (p x)) xs
+failing-All p xs = (λ h. All-from_recursion _ xs (each_passes p xs h), λ h. none_fails p xs (recursion_from_All _ xs h))

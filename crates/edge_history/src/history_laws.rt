@@ -1,18 +1,29 @@
 // The laws of lists of edges and their events.
-ghost use Rattle.std.specs.Prelude.{◌≡◌, ◌↔◌, ℕ, ◌≤◌, List, ◌++◌, filter, IsTrue};
+ghost use Rattle.std.specs.Prelude.{◌≡◌, ◌↔◌, ℕ, ◌≤◌, Bool, List, ◌++◌, filter, IsTrue, All};
+ghost use Rattle.std.specs.List.Sorted.{IsNonDecreasingBy};
 ghost use Rattle.tw_rows.specs.Instant.{inf};
 ghost use Rattle.tw_rows.specs.Bag.{SameBag};
 ghost use Rattle.tw_rows.specs.Event.{AreEvents, cut};
 ghost use Rattle.tw_rows.specs.declared.cells.Datum.{Datum};
 ghost use Rattle.tw_rows.specs.declared.edge.Edge.{Edge};
 ghost use Rattle.edge_history.specs.SameCells.{same_cells};
-ghost use Rattle.edge_history.specs.Order.{failing, is_real, is_below, is_from, IsHistory};
+ghost use Rattle.edge_history.specs.Order.{failing, rank, Rises, is_real, is_below, is_from, IsHistory};
 ghost use Rattle.edge_history.specs.History.{CellEvent, begun, end_all, of};
 ghost use Rattle.edge_history.specs.Balance.{AreEventsOf};
 
 /// The test of rows of cells is true exactly where they are the same.
 pub fn same_cells_are_equal()
     ensures { (a b : List Datum) → IsTrue (same_cells a b) ↔ (a ≡ b) }
+{}
+
+/// None of the items fails a test exactly where all pass it.
+pub fn none_fails_where_all_pass()
+    ensures { (test : Edge → Bool) (h : List Edge) → (failing test h ≡ 0) ↔ All (λ e. IsTrue (test e)) h }
+{}
+
+/// A list is in order exactly where no edge has a greater rank than a later one.
+pub fn order_is_by_rank()
+    ensures { (h : List Edge) → Rises 0 h ↔ IsNonDecreasingBy rank h }
 {}
 
 /// The events of a history are its events by balance, too.

@@ -12,16 +12,20 @@ mod telling_laws;
 pub use history_laws::{
     edges_below_are_a_history, events_are_unique, events_have_lives, first_edges_are_a_history,
     histories_have_their_events, later_edges_leave_what_is_known, more_edges_give_more_events,
-    same_cells_are_equal,
+    none_fails_where_all_pass, order_is_by_rank, same_cells_are_equal,
 };
 pub use made_laws::{
     both_lists_stand_for_both, order_of_edges_is_free, paired_edges_have_events,
     replaced_edges_stand_for_replaced_events, tested_edges_stand_for_tested_events,
 };
-pub use side_laws::{new_edges_are_retained, retained_events_reach, retained_for_a_later_time};
+pub use side_laws::{
+    lists_are_taken_in_turn, new_edges_are_retained, retained_events_reach, retained_for_a_later_time,
+};
 pub use standing_laws::{
-    forms_of_standing_agree, same_events_are_said_alike, standing_edges_have_the_rows, standing_holds_below_less,
+    forms_of_standing_agree, histories_stand_for_their_events, same_events_are_said_alike,
+    standing_edges_have_the_rows, standing_holds_below_less,
 };
 pub use telling_laws::{
-    news_comes_later, news_is_told, nothing_is_told_at_first, told_edges_are_a_history,
+    known_events_have_the_same_news, news_comes_between, news_comes_in_parts, news_is_told,
+    nothing_is_told_at_first, told_edges_are_a_history,
 };

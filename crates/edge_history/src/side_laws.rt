@@ -30,3 +30,9 @@ pub fn retained_for_a_later_time()
     ensures { (c d : ℕ) (kept : List CellEvent) (h : List Edge) → c ≤ d → d ≤ inf → Retains c kept h →
         Retains d (filter (reaches d) kept) h }
 {}
+
+/// Edges begin and end events list after list.
+pub fn lists_are_taken_in_turn()
+    ensures ends { (h new : List Edge) (events : List CellEvent) → end_all (h ++ new) events ≡ end_all new (end_all h events) }
+    ensures begins { (h new : List Edge) → begun (h ++ new) ≡ begun h ++ begun new }
+{}

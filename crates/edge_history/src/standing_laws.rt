@@ -19,6 +19,12 @@ pub fn forms_of_standing_agree()
         Told c h events → StandsBelow c h events }
 {}
 
+/// The edges of a history below a time stand for its events below it.
+pub fn histories_stand_for_their_events()
+    ensures { (c : ℕ) (h : List Edge) (own : List CellEvent) → c ≤ inf → IsHistory h → AreEventsOf h own →
+        StandsBelow c (filter (is_below c) h) own }
+{}
+
 /// Where edges stand for events below a time, those below an earlier time stand for them below that. They are told so where
 /// each tells of a start or of an end, and not of both.
 pub fn standing_holds_below_less()

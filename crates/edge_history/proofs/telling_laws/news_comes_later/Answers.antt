@@ -1,9 +1,0 @@
-use Rattle.edge_history.proofs.Telling.{answer_from, answer_single}
-use Rattle.edge_history.proofs.Retaining.{AreEvents-none_fails}
-use Rattle.edge_history.proofs.telling_laws.news_comes_later.Goals as goal
-
-pub returns-clause-later : goal.returns-clause-later
-returns-clause-later c = answer_from
-
-pub returns-clause-single : goal.returns-clause-single
-returns-clause-single c = λ t d answer events valid same. answer_single t d answer events (AreEvents-none_fails events valid) same
