@@ -19,7 +19,9 @@ place_part (Flag b) = 0
 place_part (Text t) = t
 
 pub same_datum-Decides : (a b : Datum) → Decides (same_datum a b) (a ≡ b)
-same_datum-Decides (Int x) (Int y) = let d = Decides-int_eq x y in (λ h. ap Int (d.0 h), λ h. d.1 (ap (λ e. int_part e x) h))
+same_datum-Decides (Int x) (Int y) =
+    let d = Decides-int_eq x y in
+    (λ h. ap Int (d.0 h), λ h. d.1 (ap (λ e. int_part e x) h))
 same_datum-Decides (Int x) (Flag b) = (λ h. absurd (cc), λ h. absurd (cc))
 same_datum-Decides (Int x) (Text t) = (λ h. absurd (cc), λ h. absurd (cc))
 same_datum-Decides (Flag a) (Int y) = (λ h. absurd (cc), λ h. absurd (cc))

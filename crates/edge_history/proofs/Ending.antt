@@ -13,7 +13,8 @@ use Rattle.edge_history.specs.History.{CellEvent, is_open, ended, end_step, end_
 use Rattle.edge_history.proofs.CellTests.{cells_are_same, same_itself}
 
 -- an open event of those cells and that start is that very event
-open_is : (cells : List Datum) (start : ℕ) (e : CellEvent) → is_open cells start e ≡ true → e ≡ record { row = cells; start = start; end = inf }
+open_is : (cells : List Datum) (start : ℕ) (e : CellEvent) → is_open cells start e ≡ true →
+    e ≡ record { row = cells; start = start; end = inf }
 open_is cells start e k =
     let p = and_parts (same_cells e.row cells) (nat_eq e.start start && nat_eq e.end inf) k in
     let q = and_parts (nat_eq e.start start) (nat_eq e.end inf) p.1 in
@@ -24,13 +25,23 @@ open_is cells start e k =
 
 -- one end: what it takes back and what it gives
 pub ended_weighs : (w : CellEvent → ℕ) (x : Edge) (es : List CellEvent) → 0 < many (is_open x.cells x.other) es →
-    total w (ended x es) + w (record { row = x.cells; start = x.other; end = inf }) ≡ total w es + w (record { row = x.cells; start = x.other; end = x.sync })
+    total w (ended x es) + w (record { row = x.cells; start = x.other; end = inf })
+    ≡ total w es + w (record { row = x.cells; start = x.other; end = x.sync })
 ended_weighs w x [] h = absurd (omega arith)
 ended_weighs w x (e ∷ es) h = pick (is_open x.cells x.other e) refl (ended_weighs w x es)
   where
-    pick : (b : Bool) → is_open x.cells x.other e ≡ b → (0 < many (is_open x.cells x.other) es → total w (ended x es) + w (record { row = x.cells; start = x.other; end = inf }) ≡ total w es + w (record { row = x.cells; start = x.other; end = x.sync })) →
-        total w (cond b (record { row = e.row; start = e.start; end = x.sync } ∷ es) (e ∷ ended x es)) + w (record { row = x.cells; start = x.other; end = inf }) ≡ total w (e ∷ es) + w (record { row = x.cells; start = x.other; end = x.sync })
-    pick true k ih = let s = open_is x.cells x.other e k in let a = ap w s in let b = ap (λ (v : CellEvent). w (record { row = v.row; start = v.start; end = x.sync })) s in omega (arith, a, b)
+    pick : (b : Bool) → is_open x.cells x.other e ≡ b →
+        (0 < many (is_open x.cells x.other) es →
+        total w (ended x es) + w (record { row = x.cells; start = x.other; end = inf })
+        ≡ total w es + w (record { row = x.cells; start = x.other; end = x.sync })) →
+        total w (cond b (record { row = e.row; start = e.start; end = x.sync } ∷ es) (e ∷ ended x es))
+        + w (record { row = x.cells; start = x.other; end = inf })
+        ≡ total w (e ∷ es) + w (record { row = x.cells; start = x.other; end = x.sync })
+    pick true k ih =
+        let s = open_is x.cells x.other e k in
+        let a = ap w s in
+        let b = ap (λ (v : CellEvent). w (record { row = v.row; start = v.start; end = x.sync })) s in
+        omega (arith, a, b)
     pick false k ih = let a = ih (let z = ap (λ b. cond {A = ℕ} b 1 0) k in omega (arith, h, z)) in omega (arith, a)
 
 -- what an end edge takes back and gives
@@ -40,7 +51,8 @@ took w x = cond (is_end x) (w (record { row = x.cells; start = x.other; end = in
 abbrev pub gave : (CellEvent → ℕ) → Edge → ℕ
 gave w x = cond (is_end x) (w (record { row = x.cells; start = x.other; end = x.sync })) 0
 
-opened : (cells : List Datum) (start : ℕ) (x : Edge) → took (λ e. cond (is_open cells start e) 1 0) x ≡ cond {A = ℕ} (ends_it cells start x) 1 0
+opened : (cells : List Datum) (start : ℕ) (x : Edge) →
+    took (λ e. cond (is_open cells start e) 1 0) x ≡ cond {A = ℕ} (ends_it cells start x) 1 0
 opened cells start x = grind (arith, nat_tests)
 
 closed : (cells : List Datum) (start : ℕ) (x : Edge) → x.sync < inf → gave (λ e. cond (is_open cells start e) 1 0) x ≡ 0
@@ -49,11 +61,14 @@ closed cells start x low = grind (arith, nat_tests)
 self_counts : (x : Edge) → is_end x ≡ true → cond {A = ℕ} (ends_it x.cells x.other x) 1 0 ≡ 1
 self_counts x k = let same = same_itself x.cells in grind (arith, nat_tests, same)
 
-step_weighs : (w : CellEvent → ℕ) (x : Edge) (es : List CellEvent) (n : ℕ) → cond {A = ℕ} (ends_it x.cells x.other x) 1 0 + n ≤ many (is_open x.cells x.other) es →
+step_weighs : (w : CellEvent → ℕ) (x : Edge) (es : List CellEvent) (n : ℕ) →
+    cond {A = ℕ} (ends_it x.cells x.other x) 1 0 + n ≤ many (is_open x.cells x.other) es →
     total w (end_step x es) + took w x ≡ total w es + gave w x
 step_weighs w x es n enough = pick (is_end x) refl
   where
-    pick : (b : Bool) → is_end x ≡ b → total w (cond b (ended x es) es) + cond b (w (record { row = x.cells; start = x.other; end = inf })) 0 ≡ total w es + cond b (w (record { row = x.cells; start = x.other; end = x.sync })) 0
+    pick : (b : Bool) → is_end x ≡ b →
+        total w (cond b (ended x es) es) + cond b (w (record { row = x.cells; start = x.other; end = inf })) 0
+        ≡ total w es + cond b (w (record { row = x.cells; start = x.other; end = x.sync })) 0
     pick true k = ended_weighs w x es (let z = self_counts x k in omega (arith, enough, z))
     pick false k = refl
 
@@ -61,19 +76,25 @@ real_low : (x : Edge) → is_real x ≡ true → x.sync < inf
 real_low x k = grind (arith, nat_tests)
 
 -- all ends, where no more of them name an event than stand open
-pub end_all_weighs : (w : CellEvent → ℕ) (xs : List Edge) (es : List CellEvent) → failing is_real xs ≡ 0 → ((cells : List Datum) (start : ℕ) → many (ends_it cells start) xs ≤ many (is_open cells start) es) →
+pub end_all_weighs : (w : CellEvent → ℕ) (xs : List Edge) (es : List CellEvent) → failing is_real xs ≡ 0 →
+    ((cells : List Datum) (start : ℕ) → many (ends_it cells start) xs ≤ many (is_open cells start) es) →
     total w (end_all xs es) + total (took w) xs ≡ total w es + total (gave w) xs
 end_all_weighs w [] es real enough = refl
 end_all_weighs w (x ∷ xs) es real enough = pick (is_real x) refl (λ n m. end_all_weighs w xs (end_step x es) n m)
   where
-    pick : (b : Bool) → is_real x ≡ b → (failing is_real xs ≡ 0 → ((cells : List Datum) (start : ℕ) → many (ends_it cells start) xs ≤ many (is_open cells start) (end_step x es)) → total w (end_all xs (end_step x es)) + total (took w) xs ≡ total w (end_step x es) + total (gave w) xs) →
+    pick : (b : Bool) → is_real x ≡ b →
+        (failing is_real xs ≡ 0 →
+        ((cells : List Datum) (start : ℕ) →
+        many (ends_it cells start) xs ≤ many (is_open cells start) (end_step x es)) →
+        total w (end_all xs (end_step x es)) + total (took w) xs ≡ total w (end_step x es) + total (gave w) xs) →
         total w (end_all (x ∷ xs) es) + total (took w) (x ∷ xs) ≡ total w es + total (gave w) (x ∷ xs)
     pick true k rest =
         let z = ap (λ c. cond {A = ℕ} c 0 1) k in
         let now = step_weighs w x es (many (ends_it x.cells x.other) xs) (enough x.cells x.other) in
         let later = rest (omega (arith, real, z)) (λ cells start.
         let a = enough cells start in
-        let b = step_weighs (λ e. cond (is_open cells start e) 1 0) x es (many (ends_it x.cells x.other) xs) (enough x.cells x.other) in
+        let b = step_weighs (λ e. cond (is_open cells start e) 1 0) x es (many (ends_it x.cells x.other) xs)
+        (enough x.cells x.other) in
         let c = opened cells start x in
         let d = closed cells start x (real_low x k) in
         omega (arith, a, b, c, d)) in
@@ -85,17 +106,20 @@ pub end_all-append : (xs ys : List Edge) (es : List CellEvent) → end_all (xs +
 end_all-append [] ys es = refl
 end_all-append (x ∷ xs) ys es = end_all-append xs ys (end_step x es)
 
-pub end_all_more : (xs : List Edge) (x : Edge) (es : List CellEvent) → end_all (xs ++ x ∷ []) es ≡ end_step x (end_all xs es)
+pub end_all_more : (xs : List Edge) (x : Edge) (es : List CellEvent) →
+    end_all (xs ++ x ∷ []) es ≡ end_step x (end_all xs es)
 end_all_more xs x es = end_all-append xs (x ∷ []) es
 
 -- the event that an end edge ends stands at a place before which none is open; or no place is of such an event
 pub ended_here : (x : Edge) (es : List CellEvent) (i : ℕ) (d : CellEvent) → i < length es →
-    ((k : ℕ) → k < i → is_open x.cells x.other (get_or es k d) ≡ false) → is_open x.cells x.other (get_or es i d) ≡ true →
+    ((k : ℕ) → k < i → is_open x.cells x.other (get_or es k d) ≡ false) →
+    is_open x.cells x.other (get_or es i d) ≡ true →
     set es i (record { row = (get_or es i d).row; start = (get_or es i d).start; end = x.sync }) ≡ ended x es
 ended_here x [] i d low none h = absurd (omega arith)
 ended_here x (e ∷ es) zero d low none h = rw h refl
 ended_here x (e ∷ es) (suc i) d low none h =
-    rw (none 0 (omega arith)) (ap (λ l. e ∷ l) (ended_here x es i d (omega arith) (λ k b. none (suc k) (omega arith)) h))
+    rw (none 0 (omega arith))
+    (ap (λ l. e ∷ l) (ended_here x es i d (omega arith) (λ k b. none (suc k) (omega arith)) h))
 
 pub ended_none : (x : Edge) (es : List CellEvent) (d : CellEvent) →
     ((k : ℕ) → k < length es → is_open x.cells x.other (get_or es k d) ≡ false) → ended x es ≡ es
@@ -104,7 +128,8 @@ ended_none x (e ∷ es) d none =
     rw (none 0 (omega arith)) (ap (λ l. e ∷ l) (ended_none x es d (λ k b. none (suc k) (omega arith))))
 
 pub end_step_here : (x : Edge) (es : List CellEvent) (i : ℕ) (d : CellEvent) → x.other < x.sync → i < length es →
-    ((k : ℕ) → k < i → is_open x.cells x.other (get_or es k d) ≡ false) → is_open x.cells x.other (get_or es i d) ≡ true →
+    ((k : ℕ) → k < i → is_open x.cells x.other (get_or es k d) ≡ false) →
+    is_open x.cells x.other (get_or es i d) ≡ true →
     set es i (record { row = (get_or es i d).row; start = (get_or es i d).start; end = x.sync }) ≡ end_step x es
 end_step_here x es i d late low none h = rw (lt-ltb x.other x.sync late) (ended_here x es i d low none h)
 

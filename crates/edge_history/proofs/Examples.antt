@@ -49,12 +49,14 @@ other_variants : same_cells (Int (pos 1) ∷ []) (Text 1 ∷ []) ≡ false
 unfolding same_cells
 other_variants = refl
 
-which_are_ends : is_end (interval apple 1 5) ∷ is_end (start_at apple 2) ∷ is_end (end_at apple 5 2) ∷ [] ≡ false ∷ false ∷ true ∷ []
+which_are_ends : is_end (interval apple 1 5) ∷ is_end (start_at apple 2) ∷ is_end (end_at apple 5 2) ∷ []
+    ≡ false ∷ false ∷ true ∷ []
 unfolding inf
 which_are_ends = refl
 
 -- an interval, and a start with its end
-an_interval_and_a_start : of (interval apple 1 5 ∷ start_at pear 2 ∷ end_at pear 6 2 ∷ []) ≡ event apple 1 5 ∷ event pear 2 6 ∷ []
+an_interval_and_a_start : of (interval apple 1 5 ∷ start_at pear 2 ∷ end_at pear 6 2 ∷ [])
+    ≡ event apple 1 5 ∷ event pear 2 6 ∷ []
 unfolding same_cells inf
 an_interval_and_a_start = refl
 
@@ -63,21 +65,25 @@ unfolding same_cells inf
 a_start_without_its_end = refl
 
 -- of two starts at one time one ends. Which of them does not matter: as multisets the events are the same
-two_equal_starts : of (start_at apple 2 ∷ start_at apple 2 ∷ end_at apple 6 2 ∷ []) ≡ event apple 2 6 ∷ event apple 2 inf ∷ []
+two_equal_starts : of (start_at apple 2 ∷ start_at apple 2 ∷ end_at apple 6 2 ∷ [])
+    ≡ event apple 2 6 ∷ event apple 2 inf ∷ []
 unfolding same_cells inf
 two_equal_starts = refl
 
-either_of_them_ends : SameBag (of (start_at apple 2 ∷ start_at apple 2 ∷ end_at apple 6 2 ∷ [])) (event apple 2 inf ∷ event apple 2 6 ∷ [])
+either_of_them_ends : SameBag (of (start_at apple 2 ∷ start_at apple 2 ∷ end_at apple 6 2 ∷ []))
+    (event apple 2 inf ∷ event apple 2 6 ∷ [])
 unfolding same_cells inf
 either_of_them_ends = record { weigh = λ w. omega arith }
 
 -- an end names its start: the earlier start of the same cells stays open
-the_named_start_ends : of (start_at apple 1 ∷ start_at apple 3 ∷ end_at apple 7 3 ∷ []) ≡ event apple 1 inf ∷ event apple 3 7 ∷ []
+the_named_start_ends : of (start_at apple 1 ∷ start_at apple 3 ∷ end_at apple 7 3 ∷ [])
+    ≡ event apple 1 inf ∷ event apple 3 7 ∷ []
 unfolding same_cells inf
 the_named_start_ends = refl
 
 -- an end names its cells
-the_named_cells_end : of (start_at apple 1 ∷ start_at pear 1 ∷ end_at pear 7 1 ∷ []) ≡ event apple 1 inf ∷ event pear 1 7 ∷ []
+the_named_cells_end : of (start_at apple 1 ∷ start_at pear 1 ∷ end_at pear 7 1 ∷ [])
+    ≡ event apple 1 inf ∷ event pear 1 7 ∷ []
 unfolding same_cells inf
 the_named_cells_end = refl
 
@@ -111,7 +117,8 @@ an_end_without_its_start : ¬ (IsPaired (start_at apple 1 ∷ end_at apple 4 2 �
 unfolding same_cells inf
 an_end_without_its_start h = too_many (h apple 2)
   where
-    too_many : many (ends_it apple 2) (start_at apple 1 ∷ end_at apple 4 2 ∷ []) ≤ many (starts_it apple 2) (start_at apple 1 ∷ end_at apple 4 2 ∷ []) → ⊥
+    too_many : many (ends_it apple 2) (start_at apple 1 ∷ end_at apple 4 2 ∷ [])
+        ≤ many (starts_it apple 2) (start_at apple 1 ∷ end_at apple 4 2 ∷ []) → ⊥
     too_many k = omega (arith, k)
 
 -- an interval has its end, so no other edge may end it
@@ -137,7 +144,8 @@ unfolding inf
 settled_then = refl
 
 -- by balance: what the edges give, and what the end takes back
-what_edges_give : given (start_at apple 1) ∷ given (end_at apple 4 1) ∷ taken (end_at apple 4 1) ≡ event apple 1 inf ∷ event apple 1 4 ∷ event apple 1 inf ∷ []
+what_edges_give : given (start_at apple 1) ∷ given (end_at apple 4 1) ∷ taken (end_at apple 4 1)
+    ≡ event apple 1 inf ∷ event apple 1 4 ∷ event apple 1 inf ∷ []
 unfolding inf
 what_edges_give = refl
 

@@ -1,6 +1,7 @@
--- The events of edges by balance, where the order of the edges is free: what their ends take back is added on one side, and
--- what all of them give on the other.
-use Rattle.std.specs.Prelude.{◌≡◌, ℕ, ◌&&◌, ◌||◌, nat_eq, nat_lt, nat_le, not, Bool, cond, List, [], ◌∷◌, ◌++◌, map, flat_map}
+-- The events of edges by balance, where the order of the edges is free: what their ends take back is added on one side,
+-- and what all of them give on the other.
+use Rattle.std.specs.Prelude.{◌≡◌, ℕ, ◌&&◌, ◌||◌, nat_eq, nat_lt, nat_le, not, Bool, cond}
+use Rattle.std.specs.Prelude.{List, [], ◌∷◌, ◌++◌, map, flat_map}
 use Rattle.tw_rows.specs.Instant.{inf}
 use Rattle.tw_rows.specs.Bag.{SameBag}
 use Rattle.tw_rows.specs.Event.{cut}
@@ -49,7 +50,9 @@ end_edge e = record { sync = e.end; other = e.start; cells = e.row }
 -- the edges that tell of an event what happens from c on and below d: its start, and its end.
 -- Of the life [3, 5) from 4 on and below 9: its end at 5
 abbrev pub news_of : ℕ → ℕ → CellEvent → List Edge
-news_of c d e = cond (nat_le c e.start && nat_lt e.start d) (start_edge e ∷ []) [] ++ cond (nat_le c e.end && nat_lt e.end d) (end_edge e ∷ []) []
+news_of c d e =
+    cond (nat_le c e.start && nat_lt e.start d) (start_edge e ∷ []) []
+    ++ cond (nat_le c e.end && nat_lt e.end d) (end_edge e ∷ []) []
 
 abbrev pub news : ℕ → ℕ → List CellEvent → List Edge
 news c d events = flat_map (news_of c d) events

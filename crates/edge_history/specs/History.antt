@@ -28,7 +28,8 @@ is_open cells start e = same_cells e.row cells && (nat_eq e.start start && nat_e
 -- the same cells, an end edge with sync 7 and other 3 leaves [1, inf) and [3, 7)
 abbrev pub ended : Edge → List CellEvent → List CellEvent
 ended x [] = []
-ended x (e ∷ es) = cond (is_open x.cells x.other e) (record { row = e.row; start = e.start; end = x.sync } ∷ es) (e ∷ ended x es)
+ended x (e ∷ es) =
+    cond (is_open x.cells x.other e) (record { row = e.row; start = e.start; end = x.sync } ∷ es) (e ∷ ended x es)
 
 -- the events once the edge has ended one, if it is an end edge
 abbrev pub end_step : Edge → List CellEvent → List CellEvent
@@ -43,8 +44,8 @@ end_all (x ∷ xs) es = end_all xs (end_step x es)
 abbrev pub of : List Edge → List CellEvent
 of h = end_all h (begun h)
 
--- the edges stand for the events below c: they are a history with syncs below c alone, and of their events and of these the
--- same is known below c
+-- the edges stand for the events below c: they are a history with syncs below c alone, and of their own events the same
+-- is known below c as of these. Below 4 a start at 3 stands for the life [3, 5), and below 6 it needs an end at 5
 pub record StandsBelow (c : ℕ) (h : List Edge) (events : List CellEvent) : Type 0 where
   pub history : IsHistory h
   pub below : failing (is_below c) h ≡ 0

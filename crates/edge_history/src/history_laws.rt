@@ -42,8 +42,8 @@ pub fn events_have_lives()
     ensures balance { (h : List Edge) (a : List CellEvent) → IsHistory h → AreEventsOf h a → AreEvents a }
 {}
 
-/// The events of a longer history are those of its first edges and those that the new edges begin, once the new ends have
-/// ended theirs.
+/// The events of a longer history are those of its first edges and those that the new edges begin, once the new ends
+/// have ended theirs.
 pub fn more_edges_give_more_events()
     ensures balance { (h new : List Edge) (a : List CellEvent) →
         IsHistory (h ++ new) → AreEventsOf h a →
@@ -67,7 +67,8 @@ pub fn first_edges_are_a_history()
     ensures { (h new : List Edge) → IsHistory (h ++ new) → IsHistory h }
 {}
 
-/// The edges of a history below a time are its first edges and a history, which says the same of what is known below it.
+/// The edges of a history below a time are its first edges and a history, of whose events the same is known below that
+/// time.
 pub fn edges_below_are_a_history()
     ensures first { (t : ℕ) (h : List Edge) → IsHistory h → h ≡ filter (is_below t) h ++ filter (is_from t) h }
     ensures history { (t : ℕ) (h : List Edge) → IsHistory h → IsHistory (filter (is_below t) h) }

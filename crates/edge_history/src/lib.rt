@@ -1,6 +1,6 @@
-//! What lists of edges say of events: when a list may come, which events it tells of, and when it tells of given events all
-//! that is known below a time. The definitions stand in `specs/`; each function here does nothing, and its clauses are a law
-//! of them.
+//! What lists of edges say of events: when a list may come, which events it tells of, and when it tells of given events
+//! all that is known below a time. The definitions stand in `specs/`; each function here does nothing, and its clauses
+//! are a law of them.
 #![tactic(auto)]
 
 mod history_laws;
@@ -19,7 +19,8 @@ pub use made_laws::{
     replaced_edges_stand_for_replaced_events, tested_edges_stand_for_tested_events,
 };
 pub use side_laws::{
-    lists_are_taken_in_turn, new_edges_are_retained, retained_events_reach, retained_for_a_later_time,
+    lists_are_taken_in_turn, new_edges_are_retained, retained_events_reach,
+    retained_for_a_later_time,
 };
 pub use standing_laws::{
     forms_of_standing_agree, histories_stand_for_their_events, same_events_are_said_alike,

@@ -33,6 +33,7 @@ pub fn retained_for_a_later_time()
 
 /// Edges begin and end events list after list.
 pub fn lists_are_taken_in_turn()
-    ensures ends { (h new : List Edge) (events : List CellEvent) → end_all (h ++ new) events ≡ end_all new (end_all h events) }
+    ensures ends { (h new : List Edge) (events : List CellEvent) →
+        end_all (h ++ new) events ≡ end_all new (end_all h events) }
     ensures begins { (h new : List Edge) → begun (h ++ new) ≡ begun h ++ begun new }
 {}

@@ -25,8 +25,8 @@ pub fn histories_stand_for_their_events()
         StandsBelow c (filter (is_below c) h) own }
 {}
 
-/// Where edges stand for events below a time, those below an earlier time stand for them below that. They are told so where
-/// each tells of a start or of an end, and not of both.
+/// Where edges stand for events below a time, those below an earlier time stand for them below that. They are told so
+/// where each tells of a start or of an end, and not of both.
 pub fn standing_holds_below_less()
     ensures stands { (c d : ℕ) (h : List Edge) (events : List CellEvent) → c ≤ d → d ≤ inf →
         StandsBelow d h events → StandsBelow c (filter (is_below c) h) events }
@@ -36,7 +36,7 @@ pub fn standing_holds_below_less()
         failing is_single h ≡ 0 → Told d h events → Told c (filter (is_below c) h) events }
 {}
 
-/// Of events of which the same is known below a time, edges say the same below it. Two lists that stand for the same events
+/// Edges stand below a time for all events of which the same is known below it. Two lists that stand for the same events
 /// stand for each other's.
 pub fn same_events_are_said_alike()
     ensures stands { (c : ℕ) (h : List Edge) (a b : List CellEvent) → SameBag (cut c a) (cut c b) →

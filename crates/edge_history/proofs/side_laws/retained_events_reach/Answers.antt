@@ -8,4 +8,5 @@ returns-clause-plain c = λ t kept h high k.
     (λ r. retained t kept h (of h) high r are, λ same. retains_from t kept h (of h) high are same)
 
 pub returns-clause-balance : goal.returns-clause-balance
-returns-clause-balance c = λ t kept h a high are. (λ r. retained t kept h a high r are, λ same. retains_from t kept h a high are same)
+returns-clause-balance c =
+    λ t kept h a high are. (λ r. retained t kept h a high r are, λ same. retains_from t kept h a high are same)

@@ -5,7 +5,8 @@ pub returns-clause-plain : goal.returns-clause-plain
 returns-clause-plain c = stands_plain
 
 pub returns-clause-balance : goal.returns-clause-balance
-returns-clause-balance c = λ t h own events are. (cut_from_stands t h own events are, stands_from_cut t h own events are)
+returns-clause-balance c =
+    λ t h own events are. (cut_from_stands t h own events are, stands_from_cut t h own events are)
 
 pub returns-clause-told : goal.returns-clause-told
 returns-clause-told c = told_stands

@@ -15,4 +15,6 @@ pub returns-clause-known : goal.returns-clause-known
 returns-clause-known c = same_of_both
 
 pub returns-clause-each : goal.returns-clause-each
-returns-clause-each c = λ t h other events a b. stands_below_same t h events (of other) (SameBag-sym (cut t (of other)) (cut t events) b.same) a
+returns-clause-each c =
+    λ t h other events a b. stands_below_same t h events (of other)
+    (SameBag-sym (cut t (of other)) (cut t events) b.same) a
