@@ -1,5 +1,5 @@
 -- The definitions, worked out on a few edges.
-use Rattle.std.specs.Prelude.{◌≡◌, ℕ, ◌≤◌, pos, true, false, List, [], ◌∷◌, filter, refl}
+use Rattle.std.specs.Prelude.{◌≡◌, ℕ, ◌≤◌, pos, true, false, cond, List, [], ◌∷◌, filter, nat_eq, refl}
 use Rattle.std.proofs.Common.{arith}
 use Rattle.tw_rows.specs.Instant.{inf}
 use Rattle.tw_rows.specs.Bag.{SameBag}
@@ -9,8 +9,10 @@ use Rattle.tw_rows.specs.declared.cells.Datum.TheVariants.{Int, Text}
 use Rattle.tw_rows.specs.declared.edge.Edge.{Edge}
 use Rattle.edge_history.specs.SameCells.{same_cells}
 use Rattle.edge_history.specs.Order.{many, failing, is_end, Rises, is_real, is_below, ends_it, starts_it, IsPaired}
-use Rattle.edge_history.specs.History.{CellEvent, of}
+use Rattle.edge_history.specs.History.{CellEvent, end_all, of, StandsBelow}
 use Rattle.edge_history.specs.Balance.{given, taken, is_settled, news}
+use Rattle.edge_history.specs.Side.{reaches}
+use Rattle.edge_history.specs.Made.{edges_where, edges_with}
 
 -- two rows of cells
 abbrev apple : List Datum
@@ -166,3 +168,59 @@ news_of_its_end = refl
 no_news_of_an_end : news 4 inf (event apple 3 inf ∷ []) ≡ []
 unfolding inf
 no_news_of_an_end = refl
+
+-- below 4 it is known that the life [3, 5) has started, and below 6 that it has ended
+a_start_stands : StandsBelow 4 (start_at apple 3 ∷ []) (event apple 3 5 ∷ [])
+unfolding same_cells inf
+a_start_stands = record {
+  history = record { order = (omega arith, tt); real = refl; paired = λ cells start. omega arith };
+  below = refl;
+  same = record { weigh = λ w. refl };
+}
+
+a_start_does_not_stand_later : ¬ (StandsBelow 6 (start_at apple 3 ∷ []) (event apple 3 5 ∷ []))
+unfolding same_cells inf
+a_start_does_not_stand_later k = let z = k.same.weigh (λ e. cond (nat_eq e.end 5) 1 0) in omega (arith, z)
+
+its_end_stands : StandsBelow 6 (start_at apple 3 ∷ end_at apple 5 3 ∷ []) (event apple 3 5 ∷ [])
+unfolding same_cells inf
+its_end_stands = record {
+  history = record { order = (omega arith, (omega arith, tt)); real = refl; paired = λ cells start. omega arith };
+  below = refl;
+  same = record { weigh = λ w. refl };
+}
+
+-- an interval stands for its life at once, though its end is not known yet
+an_interval_stands : StandsBelow 4 (interval apple 3 5 ∷ []) (event apple 3 5 ∷ [])
+unfolding same_cells inf
+an_interval_stands = record {
+  history = record { order = (omega arith, tt); real = refl; paired = λ cells start. omega arith };
+  below = refl;
+  same = record { weigh = λ w. refl };
+}
+
+-- a start at 4 is no answer below 4
+a_later_start_does_not_stand : ¬ (StandsBelow 4 (start_at apple 4 ∷ []) (event apple 4 5 ∷ []))
+a_later_start_does_not_stand k = let z = k.below in absurd (cc)
+
+-- from 5 on a life that ends at 5 is retained, and from 6 on it is not
+retained_at_its_end : filter (reaches 5) (event apple 3 5 ∷ []) ≡ event apple 3 5 ∷ []
+retained_at_its_end = refl
+
+not_retained_later : filter (reaches 6) (event apple 3 5 ∷ []) ≡ []
+not_retained_later = refl
+
+-- an end edge ends one of the events that were retained
+an_end_comes_in : end_all (end_at apple 6 2 ∷ []) (event apple 2 inf ∷ event pear 2 inf ∷ [])
+    ≡ event apple 2 6 ∷ event pear 2 inf ∷ []
+unfolding same_cells inf
+an_end_comes_in = refl
+
+-- rows that pass a test, and rows that are replaced
+tested_edges : edges_where (same_cells pear) handed_over ≡ start_at pear 4 ∷ []
+unfolding same_cells
+tested_edges = refl
+
+replaced_edges : edges_with (λ cells. pear) (start_at apple 1 ∷ end_at apple 4 1 ∷ [])
+    ≡ start_at pear 1 ∷ end_at pear 4 1 ∷ []
+replaced_edges = refl
