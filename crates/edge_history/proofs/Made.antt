@@ -1,8 +1,9 @@
 -- Lists of edges in another order, of two lists, and row by row.
-use Rattle.std.specs.Prelude.{◌≡◌, ℕ, Bool, true, cond, List, [], ◌∷◌, ◌++◌}
+use Rattle.std.specs.Prelude.{◌≡◌, ℕ, ◌≤◌, Bool, true, cond, List, [], ◌∷◌, ◌++◌, filter}
 use Rattle.std.proofs.Common.{◌∙◌, sym, ap, arith}
 use Rattle.std.proofs.lemmas.Bool.Decides.{nat_tests}
 use Rattle.tw_rows.specs.Bag.{SameBag, total}
+use Rattle.tw_rows.specs.Instant.{inf}
 use Rattle.tw_rows.specs.Event.{cut_one, cut}
 use Rattle.tw_rows.specs.declared.cells.Datum.{Datum}
 use Rattle.tw_rows.specs.declared.edge.Edge.{Edge}
@@ -10,11 +11,12 @@ use Rattle.tw_rows.proofs.Bags.{SameBag-trans, SameBag-flat_map, SameBag-refl, S
 use Rattle.tw_rows.proofs.Lives.{total-cut, cut-append}
 use Rattle.edge_history.specs.Order.{failing, rank, Rises, is_real, is_below, ends_it, starts_it, IsPaired, IsHistory}
 use Rattle.edge_history.specs.History.{CellEvent, is_open, of, StandsBelow}
-use Rattle.edge_history.specs.Balance.{given, taken, AreEventsOf}
+use Rattle.edge_history.specs.Balance.{given, taken, AreEventsOf, StandsFor}
 use Rattle.edge_history.specs.Made.{edges_where, events_where, edge_with, event_with, edges_with, events_with}
-use Rattle.edge_history.proofs.Tests.{sum_eq, failing-append, failing-same, failing-filter}
+use Rattle.edge_history.proofs.Tests.{sum_eq, failing-append, failing-same, failing-filter, failing-kept}
 use Rattle.edge_history.proofs.Retaining.{left-total, took_open, events_of_are, events_unique}
-use Rattle.edge_history.proofs.Standing.{rises_filter}
+use Rattle.edge_history.proofs.Telling.{gain, loss, stands_by_weight, weight_of_standing}
+use Rattle.edge_history.proofs.Standing.{rises_filter, paired_below, stands_plain, stands_cut, stands_for_own}
 
 -- a list that has events is paired
 given_opens : (cells : List Datum) (start : ℕ) (x : Edge) → is_real x ≡ true →
@@ -193,3 +195,52 @@ module _ (f : List Datum → List Datum) where
       (total-map (λ x. cond {A = ℕ} (is_real x) 0 1) (edge_with f) h ∙ k.history.real)
       (total-map (λ x. cond {A = ℕ} (is_below c x) 0 1) (edge_with f) h ∙ k.below)
       (events_of_with h (of h) (events_of_are h k.history)) (cut_with c (of h) es k.same)
+
+-- edges in any order: those below c, in order, stand for the events of all
+pub paired_same : (h k : List Edge) → SameBag h k → IsPaired h → IsPaired k
+paired_same h k same paired cells start =
+    let p = paired cells start in
+    let a = same.weigh (λ x. cond (ends_it cells start x) 1 0) in
+    let b = same.weigh (λ x. cond (starts_it cells start x) 1 0) in
+    omega (arith, p, a, b)
+
+pub stands_same_edges : (c : ℕ) (h k : List Edge) (es : List CellEvent) → SameBag h k → StandsFor c h es →
+    StandsFor c k es
+stands_same_edges c h k es same stands = stands_by_weight c k es (λ w.
+    let a = weight_of_standing c h es stands w in
+    let b = same.weigh (loss w c) in
+    let g = same.weigh (gain w c) in
+    omega (arith, a, b, g))
+
+pub history_same : (h k : List Edge) → SameBag h k → Rises 0 k → failing is_real h ≡ 0 → IsPaired h → IsHistory k
+history_same h k same order real paired = record {
+  order = order;
+  real = failing-same is_real k h (SameBag-sym h k same) real;
+  paired = paired_same h k same paired;
+}
+
+pub stands_below_same_edges : (c : ℕ) (h k : List Edge) (es : List CellEvent) → SameBag h k → Rises 0 k →
+    StandsBelow c h es → StandsBelow c k es
+stands_below_same_edges c h k es same order stands =
+    let hist = history_same h k same order stands.history.real stands.history.paired in
+    record {
+      history = hist;
+      below = failing-same (is_below c) k h (SameBag-sym h k same) stands.below;
+      same = (stands_plain c k es hist).0
+          (stands_same_edges c h k es same ((stands_plain c h es stands.history).1 stands.same));
+    }
+
+pub stands_in_any_order : (c : ℕ) (h sorted : List Edge) (a : List CellEvent) → c ≤ inf → failing is_real h ≡ 0 →
+    AreEventsOf h a →
+    Rises 0 sorted → SameBag sorted (filter (is_below c) h) → StandsBelow c sorted a
+stands_in_any_order c h sorted a high real are order same =
+    let back = SameBag-sym sorted (filter (is_below c) h) same in
+    let hist = history_same (filter (is_below c) h) sorted back order (failing-filter (is_below c) is_real h real)
+    (paired_below c h (paired_from_events h a real are)) in
+    record {
+      history = hist;
+      below = failing-same (is_below c) sorted (filter (is_below c) h) same (failing-kept (is_below c) h);
+      same = (stands_plain c sorted a hist).0
+          (stands_same_edges c (filter (is_below c) h) sorted a back
+          (stands_cut c h a high real (stands_for_own c h a are)));
+    }

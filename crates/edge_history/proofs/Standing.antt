@@ -105,7 +105,7 @@ high_ends : (cells : List Datum) (start t : ℕ) (x : Edge) → t ≤ start →
     cond {A = ℕ} (is_below t x) (cond (ends_it cells start x) 1 0) 0 ≡ 0
 high_ends cells start t x high = grind (arith, nat_tests)
 
-paired_below : (t : ℕ) (h : List Edge) → IsPaired h → IsPaired (filter (is_below t) h)
+pub paired_below : (t : ℕ) (h : List Edge) → IsPaired h → IsPaired (filter (is_below t) h)
 paired_below t h paired cells start = pick (nat_lt start t) refl
   where
     a : many (ends_it cells start) (filter (is_below t) h)

@@ -23,8 +23,8 @@ pub use side_laws::{
     retained_for_a_later_time,
 };
 pub use standing_laws::{
-    forms_of_standing_agree, histories_stand_for_their_events, same_events_are_said_alike,
-    standing_edges_have_the_rows, standing_holds_below_less,
+    edges_stand_for_their_own_events, forms_of_standing_agree, standing_depends_on_known_events,
+    standing_edges_have_the_rows, standing_holds_below_earlier_times,
 };
 pub use telling_laws::{
     known_events_have_the_same_news, news_comes_between, news_comes_in_parts, news_is_told,

@@ -20,6 +20,8 @@ pub fn order_of_edges_is_free()
         AreEventsOf h events → AreEventsOf other events }
     ensures plain { (h other : List Edge) → IsHistory h → IsHistory other → SameBag h other →
         SameBag (of h) (of other) }
+    ensures stands { (c : ℕ) (h other : List Edge) (events : List CellEvent) → SameBag h other → Rises 0 other →
+        StandsBelow c h events → StandsBelow c other events }
 {}
 
 /// The edges of two lists, in order, stand for the events of both.

@@ -4,7 +4,7 @@ ghost use Rattle.tw_rows.specs.Instant.{inf};
 ghost use Rattle.tw_rows.specs.Bag.{SameBag};
 ghost use Rattle.tw_rows.specs.Event.{alive, cut};
 ghost use Rattle.tw_rows.specs.declared.edge.Edge.{Edge};
-ghost use Rattle.edge_history.specs.Order.{failing, is_real, is_below, IsHistory};
+ghost use Rattle.edge_history.specs.Order.{Rises, failing, is_real, is_below, IsHistory};
 ghost use Rattle.edge_history.specs.History.{CellEvent, of, StandsBelow};
 ghost use Rattle.edge_history.specs.Balance.{AreEventsOf, StandsFor, is_single, Told};
 
@@ -19,15 +19,19 @@ pub fn forms_of_standing_agree()
         Told c h events → StandsBelow c h events }
 {}
 
-/// The edges of a history below a time stand for its events below it.
-pub fn histories_stand_for_their_events()
-    ensures { (c : ℕ) (h : List Edge) (own : List CellEvent) → c ≤ inf → IsHistory h → AreEventsOf h own →
+/// The edges below a time of a history stand for its events below it. Those of a list in any order do so once they are in
+/// order.
+pub fn edges_stand_for_their_own_events()
+    ensures history { (c : ℕ) (h : List Edge) (own : List CellEvent) → c ≤ inf → IsHistory h → AreEventsOf h own →
         StandsBelow c (filter (is_below c) h) own }
+    ensures any_order { (c : ℕ) (h sorted : List Edge) (own : List CellEvent) → c ≤ inf →
+        failing is_real h ≡ 0 → AreEventsOf h own → Rises 0 sorted → SameBag sorted (filter (is_below c) h) →
+        StandsBelow c sorted own }
 {}
 
 /// Where edges stand for events below a time, those below an earlier time stand for them below that. They are told so
 /// where each tells of a start or of an end, and not of both.
-pub fn standing_holds_below_less()
+pub fn standing_holds_below_earlier_times()
     ensures stands { (c d : ℕ) (h : List Edge) (events : List CellEvent) → c ≤ d → d ≤ inf →
         StandsBelow d h events → StandsBelow c (filter (is_below c) h) events }
     ensures balance { (c d : ℕ) (h : List Edge) (events : List CellEvent) → c ≤ d → d ≤ inf →
@@ -38,7 +42,7 @@ pub fn standing_holds_below_less()
 
 /// Edges stand below a time for all events of which the same is known below it. Two lists that stand for the same events
 /// stand for each other's.
-pub fn same_events_are_said_alike()
+pub fn standing_depends_on_known_events()
     ensures stands { (c : ℕ) (h : List Edge) (a b : List CellEvent) → SameBag (cut c a) (cut c b) →
         StandsBelow c h a → StandsBelow c h b }
     ensures told { (c : ℕ) (h : List Edge) (a b : List CellEvent) → SameBag (cut c a) (cut c b) →

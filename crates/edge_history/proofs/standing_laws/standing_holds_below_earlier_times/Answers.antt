@@ -1,5 +1,5 @@
 use Rattle.edge_history.proofs.Standing.{stands_below_less, stands_less, told_less}
-use Rattle.edge_history.proofs.standing_laws.standing_holds_below_less.Goals as goal
+use Rattle.edge_history.proofs.standing_laws.standing_holds_below_earlier_times.Goals as goal
 
 pub returns-clause-stands : goal.returns-clause-stands
 returns-clause-stands c = stands_below_less

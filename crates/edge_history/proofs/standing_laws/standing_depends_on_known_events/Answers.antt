@@ -3,7 +3,7 @@ use Rattle.tw_rows.proofs.Bags.{SameBag-sym}
 use Rattle.edge_history.specs.History.{of}
 use Rattle.edge_history.proofs.Telling.{told_same}
 use Rattle.edge_history.proofs.Standing.{stands_below_same, same_of_both}
-use Rattle.edge_history.proofs.standing_laws.same_events_are_said_alike.Goals as goal
+use Rattle.edge_history.proofs.standing_laws.standing_depends_on_known_events.Goals as goal
 
 pub returns-clause-stands : goal.returns-clause-stands
 returns-clause-stands c = stands_below_same
