@@ -13,7 +13,7 @@ use Rattle.edge_history.specs.History.{CellEvent, is_open, ended, end_step, end_
 use Rattle.edge_history.proofs.CellTests.{cells_are_same, same_itself}
 
 -- an open event of those cells and that start is that very event
-open_is : (cells : List Datum) (start : ℕ) (e : CellEvent) → is_open cells start e ≡ true →
+pub open_is : (cells : List Datum) (start : ℕ) (e : CellEvent) → is_open cells start e ≡ true →
     e ≡ record { row = cells; start = start; end = inf }
 open_is cells start e k =
     let p = and_parts (same_cells e.row cells) (nat_eq e.start start && nat_eq e.end inf) k in
@@ -51,14 +51,15 @@ took w x = cond (is_end x) (w (record { row = x.cells; start = x.other; end = in
 abbrev pub gave : (CellEvent → ℕ) → Edge → ℕ
 gave w x = cond (is_end x) (w (record { row = x.cells; start = x.other; end = x.sync })) 0
 
-opened : (cells : List Datum) (start : ℕ) (x : Edge) →
+pub opened : (cells : List Datum) (start : ℕ) (x : Edge) →
     took (λ e. cond (is_open cells start e) 1 0) x ≡ cond {A = ℕ} (ends_it cells start x) 1 0
 opened cells start x = grind (arith, nat_tests)
 
-closed : (cells : List Datum) (start : ℕ) (x : Edge) → x.sync < inf → gave (λ e. cond (is_open cells start e) 1 0) x ≡ 0
+pub closed : (cells : List Datum) (start : ℕ) (x : Edge) → x.sync < inf →
+    gave (λ e. cond (is_open cells start e) 1 0) x ≡ 0
 closed cells start x low = grind (arith, nat_tests)
 
-self_counts : (x : Edge) → is_end x ≡ true → cond {A = ℕ} (ends_it x.cells x.other x) 1 0 ≡ 1
+pub self_counts : (x : Edge) → is_end x ≡ true → cond {A = ℕ} (ends_it x.cells x.other x) 1 0 ≡ 1
 self_counts x k = let same = same_itself x.cells in grind (arith, nat_tests, same)
 
 step_weighs : (w : CellEvent → ℕ) (x : Edge) (es : List CellEvent) (n : ℕ) →
@@ -72,7 +73,7 @@ step_weighs w x es n enough = pick (is_end x) refl
     pick true k = ended_weighs w x es (let z = self_counts x k in omega (arith, enough, z))
     pick false k = refl
 
-real_low : (x : Edge) → is_real x ≡ true → x.sync < inf
+pub real_low : (x : Edge) → is_real x ≡ true → x.sync < inf
 real_low x k = grind (arith, nat_tests)
 
 -- all ends, where no more of them name an event than stand open

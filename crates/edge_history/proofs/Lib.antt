@@ -8,3 +8,4 @@ pub mod Parts
 pub mod Examples
 pub mod Made
 pub mod Rising
+pub mod Holding

@@ -19,7 +19,7 @@ use Rattle.edge_history.proofs.Telling.{gain, loss, stands_by_weight, weight_of_
 use Rattle.edge_history.proofs.Standing.{rises_filter, paired_below, stands_plain, stands_cut, stands_for_own}
 
 -- a list that has events is paired
-given_opens : (cells : List Datum) (start : ℕ) (x : Edge) → is_real x ≡ true →
+pub given_opens : (cells : List Datum) (start : ℕ) (x : Edge) → is_real x ≡ true →
     cond {A = ℕ} (is_open cells start (given x)) 1 0 ≡ cond (starts_it cells start x) 1 0
 given_opens cells start x k = grind (arith, nat_tests)
 

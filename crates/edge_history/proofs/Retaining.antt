@@ -28,7 +28,7 @@ given_open : (cells : List Datum) (start c : ℕ) (x : Edge) → c ≤ inf → i
     cond {A = ℕ} (reaches c (given x)) (cond (is_open cells start (given x)) 1 0) 0 ≡ cond (starts_it cells start x) 1 0
 given_open cells start c x high k = grind (arith, nat_tests)
 
-begun_open : (cells : List Datum) (start : ℕ) (x : Edge) → is_real x ≡ true →
+pub begun_open : (cells : List Datum) (start : ℕ) (x : Edge) → is_real x ≡ true →
     cond {A = ℕ} (not (is_end x)) (cond (is_open cells start (begun_one x)) 1 0) 0 ≡ cond (starts_it cells start x) 1 0
 begun_open cells start x k = grind (arith, nat_tests)
 
@@ -36,7 +36,7 @@ new_one : (w : CellEvent → ℕ) (c : ℕ) (x : Edge) → (is_real x && is_from
     cond {A = ℕ} (reaches c (given x)) (w (given x)) 0 ≡ cond (not (is_end x)) (w (begun_one x)) 0 + gave w x
 new_one w c x k = grind (arith, nat_tests)
 
-begun-total : (w : CellEvent → ℕ) (h : List Edge) →
+pub begun-total : (w : CellEvent → ℕ) (h : List Edge) →
     total w (begun h) ≡ total (λ x. cond (not (is_end x)) (w (begun_one x)) 0) h
 begun-total w h =
     total-map w begun_one (filter (λ x. not (is_end x)) h) ∙ total-filter (λ x. w (begun_one x)) (λ x. not (is_end x)) h

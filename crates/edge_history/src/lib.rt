@@ -19,8 +19,8 @@ pub use made_laws::{
     replaced_edges_stand_for_replaced_events, tested_edges_stand_for_tested_events,
 };
 pub use side_laws::{
-    lists_are_taken_in_turn, new_edges_are_retained, retained_events_reach,
-    retained_for_a_later_time,
+    lists_are_taken_in_turn, new_edges_are_retained, new_edges_are_retained_under_a_test,
+    retained_events_reach, retained_for_a_later_time,
 };
 pub use standing_laws::{
     edges_stand_for_their_own_events, forms_of_standing_agree, standing_depends_on_known_events,

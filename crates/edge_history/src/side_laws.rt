@@ -1,12 +1,12 @@
 // The laws of what an operator keeps of the edges of one side.
-ghost use Rattle.std.specs.Prelude.{◌≡◌, ◌↔◌, ℕ, ◌≤◌, List, [], ◌++◌, filter};
+ghost use Rattle.std.specs.Prelude.{◌≡◌, ◌↔◌, ◌&&◌, Bool, IsTrue, ℕ, ◌≤◌, List, [], ◌++◌, filter};
 ghost use Rattle.tw_rows.specs.Instant.{inf};
 ghost use Rattle.tw_rows.specs.Bag.{SameBag};
 ghost use Rattle.tw_rows.specs.declared.edge.Edge.{Edge};
 ghost use Rattle.edge_history.specs.Order.{failing, is_from, IsHistory};
 ghost use Rattle.edge_history.specs.History.{CellEvent, begun, end_all, of};
 ghost use Rattle.edge_history.specs.Balance.{AreEventsOf};
-ghost use Rattle.edge_history.specs.Side.{reaches, Retains};
+ghost use Rattle.edge_history.specs.Side.{reaches, DependsOnNoEnd, Retains};
 
 /// What is retained of edges are their events that do not end before the time.
 pub fn retained_events_reach()
@@ -23,6 +23,16 @@ pub fn new_edges_are_retained()
     ensures more { (c : ℕ) (kept : List CellEvent) (h new : List Edge) → c ≤ inf → Retains c kept h →
         IsHistory (h ++ new) → failing (is_from c) new ≡ 0 →
         Retains c (end_all new (kept ++ begun new)) (h ++ new) }
+{}
+
+/// New edges are taken in alike where just those events are kept that pass a test, if the test depends on no event's end
+/// and passes each event that starts at c or later. The end of an event that was not kept then changes nothing.
+pub fn new_edges_are_retained_under_a_test()
+    ensures { (test : CellEvent → Bool) (c : ℕ) (kept : List CellEvent) (h new : List Edge) (a b : List CellEvent) →
+        c ≤ inf → DependsOnNoEnd test → ((e : CellEvent) → c ≤ e.start → IsTrue (test e)) →
+        IsHistory (h ++ new) → failing (is_from c) new ≡ 0 → AreEventsOf h a → AreEventsOf (h ++ new) b →
+        SameBag kept (filter (λ e. reaches c e && test e) a) →
+        SameBag (end_all new (kept ++ begun new)) (filter (λ e. reaches c e && test e) b) }
 {}
 
 /// For a later time the events that end before it may go.

@@ -19,8 +19,8 @@ pub fn forms_of_standing_agree()
         Told c h events → StandsBelow c h events }
 {}
 
-/// The edges below a time of a history stand for its events below it. Those of a list in any order do so once they are in
-/// order.
+/// The edges of a history below a time stand for its events below it. Those of a list in any order do so once they are
+/// put in order.
 pub fn edges_stand_for_their_own_events()
     ensures history { (c : ℕ) (h : List Edge) (own : List CellEvent) → c ≤ inf → IsHistory h → AreEventsOf h own →
         StandsBelow c (filter (is_below c) h) own }
@@ -40,8 +40,8 @@ pub fn standing_holds_below_earlier_times()
         failing is_single h ≡ 0 → Told d h events → Told c (filter (is_below c) h) events }
 {}
 
-/// Edges stand below a time for all events of which the same is known below it. Two lists that stand for the same events
-/// stand for each other's.
+/// Edges stand below a time for all events of which the same is known below it. Two lists that stand for the same
+/// events stand for each other's.
 pub fn standing_depends_on_known_events()
     ensures stands { (c : ℕ) (h : List Edge) (a b : List CellEvent) → SameBag (cut c a) (cut c b) →
         StandsBelow c h a → StandsBelow c h b }
