@@ -2,3 +2,5 @@ pub mod Quoted
 pub mod Numbers
 pub mod Skips
 pub mod Signs
+pub mod Inside
+pub mod Spots
