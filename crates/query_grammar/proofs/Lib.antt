@@ -8,3 +8,4 @@ pub mod Did
 pub mod Places
 pub mod Steps
 pub mod Unique
+pub mod TokenForm

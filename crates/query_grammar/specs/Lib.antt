@@ -1,4 +1,5 @@
 pub mod Token
+pub mod TokenForm
 pub mod Grammar
 pub mod Fault
 pub mod Machine

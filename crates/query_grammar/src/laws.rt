@@ -1,6 +1,7 @@
 // Laws of the grammar. They run nothing.
-ghost use Rattle.std.specs.Prelude.{◌≡◌, ℕ, List};
-ghost use Rattle.query_grammar.specs.Token.{Token};
+ghost use Rattle.std.specs.Prelude.{◌≡◌, ℕ, List, All, IsUtf8};
+ghost use Rattle.query_grammar.specs.Token.{Token, tokens_of};
+ghost use Rattle.query_grammar.specs.TokenForm.{IsSound};
 ghost use Rattle.query_grammar.specs.Grammar.{Query, query_tokens};
 ghost use Rattle.query_grammar.specs.Fault.{IsFault, IsQuery};
 
@@ -12,4 +13,9 @@ pub fn tokens_spell_one_query()
 /// A list of tokens that spells a query has no fault.
 pub fn queries_have_no_fault()
     ensures { (tokens rest : List Token) → IsQuery tokens → ¬ (IsFault tokens rest) }
+{}
+
+/// The names, numbers and texts among the tokens of a text keep their limits.
+pub fn tokens_are_sound()
+    ensures { (text : List ℕ) → IsUtf8 text → All IsSound (tokens_of text) }
 {}

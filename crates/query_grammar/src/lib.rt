@@ -12,4 +12,4 @@ mod tests;
 
 pub use fault::first_fault;
 pub use kind::Kind;
-pub use laws::{queries_have_no_fault, tokens_spell_one_query};
+pub use laws::{queries_have_no_fault, tokens_are_sound, tokens_spell_one_query};

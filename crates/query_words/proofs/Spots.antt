@@ -120,7 +120,7 @@ name_bytes text at n k h l =
     let long : k < length (take n (drop at text)) = rw (length-take-le n (drop at text) (omega (arith, length-drop at text))) l in
     ap is_name_byte (sym (get_or-drop at text k 0) ∙ sym (get_or-take n (drop at text) k 0 l)) ∙ AllPass-from_list_all is_name_byte (take n (drop at text)) h.bytes k 0 long
 
-name_ascii : (b : ℕ) → is_name_byte b ≡ true → b < 128
+pub name_ascii : (b : ℕ) → is_name_byte b ≡ true → b < 128
 name_ascii b e = grind (arith, nat_tests)
 
 between : (text : List ℕ) (at n : ℕ) → IsUtf8 text → IsCutAt text at n → IsUtf8 (take n (drop at text))
