@@ -9,3 +9,7 @@ pub mod Places
 pub mod Steps
 pub mod Unique
 pub mod TokenForm
+pub mod Runs
+pub mod Long
+pub mod Limits
+pub mod OneAnswer

@@ -7,8 +7,9 @@ use Rattle.query_words.specs.Words.{words_of}
 use Rattle.query_grammar.specs.declared.symbol.Symbol.{Symbol}
 use Rattle.query_grammar.specs.Token.{Token, kind, token_at, token_of, tokens_of, word_kind}
 use Rattle.query_grammar.specs.Machine.{after, all_may_end, stuck, stuck_then, start}
-use Rattle.query_grammar.specs.Fault.{IsQuery}
-use Rattle.query_grammar.specs.Reading.{place, place_then, spot_kind, offset_of, IsFaultAt}
+use Rattle.query_grammar.specs.Fault.{IsFault, IsQuery}
+use Rattle.query_grammar.specs.Reading.{place, place_then, spot_kind}
+use Rattle.query_grammar.specs.Answer.{offset_of}
 use Rattle.query_grammar.proofs.Stops.{read_query, fault_of}
 
 -- the tokens from the place on
@@ -42,46 +43,32 @@ kind_at text at (W.Quoted n) = refl
 kind_at text at (W.Fixed s) = refl
 kind_at text at W.Bad = refl
 
-kinds_of : (text : List ℕ) (spots : List Spot) → map kind (map (token_of text) spots) ≡ map spot_kind spots
+pub kinds_of : (text : List ℕ) (spots : List Spot) → map kind (map (token_of text) spots) ≡ map spot_kind spots
 kinds_of text [] = refl
 kinds_of text (s ∷ ss) = ap (λ k. k ∷ map kind (map (token_of text) ss)) (kind_at text s.at s.word) ∙ ap (λ ks. spot_kind s ∷ ks) (kinds_of text ss)
 
--- the answer for the text, by the place among its words
-pub answer_none : (text : List ℕ) → None ≡ place start (map spot_kind (words_of text)) → IsQuery (tokens_of text)
-answer_none text e = read_query (tokens_of text) (here (place start (map kind (tokens_of text))) (ap (place start) (kinds_of text (words_of text)) ∙ sym e) (found_at start (tokens_of text)))
+-- the place of the text's fault among its words
+pub fault_at : (text : List ℕ) (i : ℕ) → Some i ≡ place start (map spot_kind (words_of text)) → (i ≤ length (tokens_of text)) × IsFault (tokens_of text) (drop i (tokens_of text))
+fault_at text i e = here (place start (map kind (tokens_of text))) (ap (place start) (kinds_of text (words_of text)) ∙ sym e) (found_at start (tokens_of text))
   where
-    here : (p : Option ℕ) → p ≡ None → FoundAt (tokens_of text) p (stuck start (tokens_of text)) → stuck start (tokens_of text) ≡ None
+    here : (p : Option ℕ) → p ≡ Some i → FoundAt (tokens_of text) p (stuck start (tokens_of text)) → (i ≤ length (tokens_of text)) × IsFault (tokens_of text) (drop i (tokens_of text))
+    here None e f = cc
+    here (Some j) e f = let q : j ≡ i = cc in rw (← q) (f.0, fault_of (tokens_of text) (drop j (tokens_of text)) f.1)
+
+-- a text without a fault spells a query
+pub answer_none : (ts : List Token) → None ≡ place start (map kind ts) → IsQuery ts
+answer_none ts e = read_query ts (here (place start (map kind ts)) (sym e) (found_at start ts))
+  where
+    here : (p : Option ℕ) → p ≡ None → FoundAt ts p (stuck start ts) → stuck start ts ≡ None
     here None e f = f
     here (Some i) e f = cc
 
-pub answer_some : (text : List ℕ) (i at : ℕ) → Some i ≡ place start (map spot_kind (words_of text)) → at ≡ offset_of (length text) (words_of text) i → IsFaultAt text at
-answer_some text i at e s = here (place start (map kind (tokens_of text))) (ap (place start) (kinds_of text (words_of text)) ∙ sym e) (found_at start (tokens_of text))
-  where
-    here : (p : Option ℕ) → p ≡ Some i → FoundAt (tokens_of text) p (stuck start (tokens_of text)) → IsFaultAt text at
-    here None e f = cc
-    here (Some j) e f =
-        let q : j ≡ i = cc in
-        record { index = i; within = rw (← q) f.0; stands = s; fault = fault_of (tokens_of text) (drop i (tokens_of text)) (rw (← q) f.1) }
-
-pub offset_within : (end i d : ℕ) (spots : List Spot) (x : Spot) → i < length spots → get_or spots i x ≡ x → x.at ≡ offset_of end spots i
-offset_within end i d [] x h e = absurd (omega arith)
-offset_within end zero d (s ∷ ss) x h e = ap (λ y. y.at) (sym e)
-offset_within end (suc i) d (s ∷ ss) x h e = offset_within end i d ss x (omega arith) e
+pub offset_within : (end i : ℕ) (spots : List Spot) (d : Spot) → i < length spots → (get_or spots i d).at ≡ offset_of end spots i
+offset_within end i [] d h = absurd (omega arith)
+offset_within end zero (s ∷ ss) d h = refl
+offset_within end (suc i) (s ∷ ss) d h = offset_within end i ss d (omega arith)
 
 pub offset_behind : (end i : ℕ) (spots : List Spot) → length spots ≤ i → end ≡ offset_of end spots i
 offset_behind end i [] h = refl
 offset_behind end zero (s ∷ ss) h = absurd (omega arith)
 offset_behind end (suc i) (s ∷ ss) h = offset_behind end i ss (omega arith)
-
-pub none_at : (text : List ℕ) (items seen : List Spot) (p : Option ℕ) → items ≡ words_of text → seen ≡ items → p ≡ place start (map spot_kind seen) → p ≡ None → IsQuery (tokens_of text)
-none_at text items seen p e f g h = answer_none text (sym h ∙ g ∙ ap (λ x. place start (map spot_kind x)) (f ∙ e))
-
-pub word_at : (text : List ℕ) (items seen : List Spot) (p : Option ℕ) (i : ℕ) (x : Spot) → items ≡ words_of text → seen ≡ items → p ≡ place start (map spot_kind seen) → p ≡ Some i → i < length seen → x ≡ get_or items i x → IsFaultAt text x.at
-word_at text items seen p i x e f g h l w =
-    answer_some text i x.at (sym h ∙ g ∙ ap (λ y. place start (map spot_kind y)) (f ∙ e))
-    (offset_within (length text) i 0 (words_of text) x (let k = ap length (f ∙ e) in omega arith) (ap (λ y. get_or y i x) (sym e) ∙ sym w))
-
-pub behind_at : (text : List ℕ) (items seen : List Spot) (p : Option ℕ) (i : ℕ) → items ≡ words_of text → seen ≡ items → p ≡ place start (map spot_kind seen) → p ≡ Some i → length seen ≤ i → IsFaultAt text (length text)
-behind_at text items seen p i e f g h l =
-    answer_some text i (length text) (sym h ∙ g ∙ ap (λ y. place start (map spot_kind y)) (f ∙ e))
-    (offset_behind (length text) i (words_of text) (let k = ap length (f ∙ e) in omega arith))

@@ -1,5 +1,6 @@
 -- What the reader does word by word.
-use Rattle.std.proofs.Common.{◌≡◌, ◌≤◌, ◌<◌, ◌+◌, ℕ, suc, List, [], ◌∷◌, length, drop, map, get_or, Bool, true, false, Option, Some, None, refl, ap, sym, ◌∙◌, arith, option_map, drop-cons, add-one}
+use Rattle.std.proofs.Common.{◌≡◌, ◌≤◌, ◌<◌, ◌+◌, ℕ, suc, List, [], ◌∷◌, length, drop, map, get_or, Bool, true, false, Option, Some, None, refl, ap, sym, ◌∙◌, arith, option_map, drop-cons, add-one, nat_lt, if◌then◌else◌}
+use Rattle.std.proofs.lemmas.Bool.{lt-ltb, le-ltb}
 use Rattle.std.proofs.lemmas.List.{drop_all}
 use Rattle.query_words.specs.declared.word.Spot.{Spot}
 use Rattle.query_grammar.specs.declared.kind.Kind.{Kind}
@@ -7,7 +8,8 @@ use Rattle.query_grammar.specs.declared.symbol.Symbol.{Symbol}
 use Rattle.query_grammar.specs.declared.stack.Taken.{Taken}
 use Rattle.query_grammar.specs.declared.stack.Taken.TheVariants as R
 use Rattle.query_grammar.specs.Machine.{Choice, take, skip, no, pushed, choose, after, all_may_end}
-use Rattle.query_grammar.specs.Reading.{Did, Reads, place, spot_kind}
+use Rattle.query_grammar.specs.Reading.{Did, Reads, place, spot_kind, run_after, first_long}
+use Rattle.query_grammar.specs.Token.{in_expressions}
 
 pushed_word : (c : Choice) (rest new : List Symbol) (x : Option (List Symbol)) → Did c R.Word rest new → pushed c rest x ≡ Some new
 pushed_word (take g) rest new x d = ap (λ z. Some z) (sym d)
@@ -41,7 +43,7 @@ unfolding after
 read_empty t k e = rw e refl
 
 -- the kinds from a word on
-kinds_at : (spots : List Spot) (at : ℕ) (d : Spot) → at < length spots → map spot_kind (drop at spots) ≡ spot_kind (get_or spots at d) ∷ map spot_kind (drop (at + 1) spots)
+pub kinds_at : (spots : List Spot) (at : ℕ) (d : Spot) → at < length spots → map spot_kind (drop at spots) ≡ spot_kind (get_or spots at d) ∷ map spot_kind (drop (at + 1) spots)
 kinds_at spots at d h = rw (drop-cons spots at d h, add-one at) refl
 
 -- the word can't come
@@ -58,7 +60,7 @@ stops_here k new t spots at d all b h e f r w =
     fails true e r = cc
     fails false e r = r
 
-shifted : (at : ℕ) (p : Option ℕ) → option_map (λ n. at + 1 + n) p ≡ option_map (λ n. at + n) (option_map (λ n. suc n) p)
+pub shifted : (at : ℕ) (p : Option ℕ) → option_map (λ n. at + 1 + n) p ≡ option_map (λ n. at + n) (option_map (λ n. suc n) p)
 shifted at None = refl
 shifted at (Some n) = let e : at + 1 + n ≡ at + suc n = omega arith in ap (λ x. Some x) e
 
@@ -88,3 +90,33 @@ ends_early k spots at all h e w =
     let p : option_map (λ n. at + n) (place k (map spot_kind (drop at spots))) ≡ Some (at + 0) = rw (drop_all at spots h, e) refl in
     let z : at + 0 ≡ at = omega arith in
     ap (λ x. Some x) (sym z) ∙ sym p ∙ w
+
+run_at : (run r : ℕ) (spots : List Spot) (at : ℕ) (d : Spot) → at < length spots → r ≡ run_after run (spot_kind (get_or spots at d))
+    → first_long run (map spot_kind (drop at spots)) ≡ (if nat_lt 200 r then Some 0 else option_map (λ i. suc i) (first_long r (map spot_kind (drop (at + 1) spots))))
+unfolding first_long
+run_at run r spots at d h e = rw (kinds_at spots at d h, e) refl
+
+-- here the run is too long
+pub long_here : (run r : ℕ) (spots : List Spot) (at : ℕ) (d : Spot) (all : Option ℕ) → at < length spots → r ≡ run_after run (spot_kind (get_or spots at d)) → 200 < r
+    → option_map (λ n. at + n) (first_long run (map spot_kind (drop at spots))) ≡ all → Some at ≡ all
+long_here run r spots at d all h e l w =
+    let b : nat_lt 200 r ≡ true = lt-ltb 200 r l in
+    let p : option_map (λ n. at + n) (first_long run (map spot_kind (drop at spots))) ≡ Some (at + 0) = rw (run_at run r spots at d h e, b) refl in
+    let z : at + 0 ≡ at = omega arith in
+    ap (λ x. Some x) (sym z) ∙ sym p ∙ w
+
+-- here it isn't
+pub long_on : (run r : ℕ) (spots : List Spot) (at : ℕ) (d : Spot) (all : Option ℕ) → at < length spots → r ≡ run_after run (spot_kind (get_or spots at d)) → r ≤ 200
+    → option_map (λ n. at + n) (first_long run (map spot_kind (drop at spots))) ≡ all → option_map (λ n. at + 1 + n) (first_long r (map spot_kind (drop (at + 1) spots))) ≡ all
+long_on run r spots at d all h e l w =
+    let b : nat_lt 200 r ≡ false = le-ltb 200 r l in
+    let p : first_long run (map spot_kind (drop at spots)) ≡ option_map (λ i. suc i) (first_long r (map spot_kind (drop (at + 1) spots))) = rw (run_at run r spots at d h e, b) refl in
+    shifted at (first_long r (map spot_kind (drop (at + 1) spots))) ∙ ap (option_map (λ n. at + n)) (sym p) ∙ w
+
+pub long_end : (run : ℕ) (spots : List Spot) (at : ℕ) (all : Option ℕ) → length spots ≤ at → option_map (λ n. at + n) (first_long run (map spot_kind (drop at spots))) ≡ all → None ≡ all
+unfolding first_long
+long_end run spots at all h w = let p : option_map (λ n. at + n) (first_long run (map spot_kind (drop at spots))) ≡ None = rw (drop_all at spots h) refl in sym p ∙ w
+
+-- the run after a word
+pub run_is : (run r : ℕ) (b : Bool) (k k' : Kind) → b ≡ in_expressions k → k ≡ k' → r ≡ (if b then suc run else 0) → r ≡ run_after run k'
+run_is run r b k k' e f g = rw (← f, ← e) g

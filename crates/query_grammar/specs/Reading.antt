@@ -1,13 +1,11 @@
 -- What the reader of words does at a symbol.
-use Rattle.std.specs.Prelude.{◌≡◌, ◌≤◌, ℕ, zero, suc, List, [], ◌∷◌, ◌++◌, length, drop, Bool, true, false, cond, Option, Some, None, option_map}
+use Rattle.std.specs.Prelude.{◌≡◌, ℕ, suc, nat_lt, if◌then◌else◌, List, [], ◌∷◌, ◌++◌, Bool, true, false, cond, Option, Some, None, option_map}
 use Rattle.query_grammar.specs.declared.symbol.Symbol.{Symbol}
 use Rattle.query_grammar.specs.declared.stack.Taken.{Taken}
 use Rattle.query_grammar.specs.declared.stack.Taken.TheVariants as R
 use Rattle.query_words.specs.declared.word.Spot.{Spot}
-use Rattle.query_words.specs.Words.{words_of}
 use Rattle.query_grammar.specs.declared.kind.Kind.{Kind}
-use Rattle.query_grammar.specs.Token.{tokens_of, word_kind}
-use Rattle.query_grammar.specs.Fault.{IsFault, IsQuery}
+use Rattle.query_grammar.specs.Token.{word_kind, in_expressions}
 use Rattle.query_grammar.specs.Machine.{Choice, take, skip, no, after, all_may_end}
 
 -- the reader did what was chosen, which left this stack
@@ -37,20 +35,11 @@ place k (t ∷ ts) = place_then (λ k'. place k' ts) (after k t)
 abbrev pub spot_kind : Spot → Kind
 spot_kind spot = word_kind spot.word
 
--- the offset of the i-th word, or the length of the text behind the last
-abbrev pub offset_of : ℕ → List Spot → ℕ → ℕ
-offset_of end [] i = end
-offset_of end (spot ∷ spots) zero = spot.at
-offset_of end (spot ∷ spots) (suc i) = offset_of end spots i
+-- how many words of expressions stand together up to this one, n before it
+abbrev pub run_after : ℕ → Kind → ℕ
+run_after n k = if in_expressions k then suc n else 0
 
--- At this offset of the text stands the first token with which no query begins, or the text ends too early.
-pub record IsFaultAt (text : List ℕ) (at : ℕ) : Type 0 where
-  pub index : ℕ
-  pub within : index ≤ length (tokens_of text)
-  pub stands : at ≡ offset_of (length text) (words_of text) index
-  pub fault : IsFault (tokens_of text) (drop index (tokens_of text))
-
--- no fault where the text spells a query, or else the offset of the first
-abbrev pub IsAnswer : List ℕ → Option ℕ → Type 0
-IsAnswer text None = IsQuery (tokens_of text)
-IsAnswer text (Some at) = IsFaultAt text at
+-- The first word up to which more than 200 words of expressions stand together, after n of them.
+unfoldable pub first_long : ℕ → List Kind → Option ℕ
+first_long n [] = None
+first_long n (k ∷ ks) = if nat_lt 200 (run_after n k) then Some 0 else option_map (λ i. suc i) (first_long (run_after n k) ks)

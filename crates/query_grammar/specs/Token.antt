@@ -1,6 +1,7 @@
 -- Words as the grammar sees them.
-use Rattle.std.specs.Prelude.{ℕ, zero, suc, ◌+◌, ◌-◌, ◌==◌, if◌then◌else◌, List, [], ◌∷◌, take, drop, map}
+use Rattle.std.specs.Prelude.{ℕ, zero, suc, ◌+◌, ◌-◌, ◌==◌, Bool, true, false, if◌then◌else◌, List, [], ◌∷◌, take, drop, map}
 use Rattle.query_words.specs.declared.word.Sign.{Sign}
+use Rattle.query_words.specs.declared.word.Sign.TheVariants as S
 use Rattle.query_words.specs.declared.word.Word.{Word}
 use Rattle.query_words.specs.declared.word.Word.TheVariants as W
 use Rattle.query_words.specs.declared.word.Spot.{Spot}
@@ -33,6 +34,32 @@ word_kind (W.Number (suc n)) = K.Positive
 word_kind (W.Quoted n) = K.Quoted
 word_kind (W.Fixed s) = K.Fixed s
 word_kind W.Bad = K.Bad
+
+-- whether expressions may hold such a word
+unfoldable pub in_expressions : Kind → Bool
+in_expressions K.Name = true
+in_expressions K.Zero = true
+in_expressions K.Positive = true
+in_expressions K.Quoted = true
+in_expressions (K.Fixed S.True) = true
+in_expressions (K.Fixed S.False) = true
+in_expressions (K.Fixed S.Open) = true
+in_expressions (K.Fixed S.Close) = true
+in_expressions (K.Fixed S.Or) = true
+in_expressions (K.Fixed S.And) = true
+in_expressions (K.Fixed S.Not) = true
+in_expressions (K.Fixed S.Equal) = true
+in_expressions (K.Fixed S.Differs) = true
+in_expressions (K.Fixed S.Less) = true
+in_expressions (K.Fixed S.LessEqual) = true
+in_expressions (K.Fixed S.Greater) = true
+in_expressions (K.Fixed S.GreaterEqual) = true
+in_expressions (K.Fixed S.Plus) = true
+in_expressions (K.Fixed S.Minus) = true
+in_expressions (K.Fixed S.Star) = true
+in_expressions (K.Fixed S.Div) = true
+in_expressions (K.Fixed S.Mod) = true
+in_expressions _ = false
 
 -- the bytes of a text without its outer quotes: two quotes are one
 abbrev pub unquoted : List ℕ → List ℕ

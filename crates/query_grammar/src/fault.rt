@@ -1,14 +1,28 @@
 // The first fault of a query text.
-ghost use Rattle.std.specs.Prelude.{◌≡◌, map, IfOk};
+ghost use Rattle.std.specs.Prelude.{◌≡◌, ◌<◌, ◌≤◌, length, map, IfOk, Some, None};
+ghost use Rattle.query_words.specs.Words.{words_of};
 ghost use Rattle.query_grammar.specs.Machine.{start};
-ghost use Rattle.query_grammar.specs.Reading.{place, spot_kind, IsAnswer};
+ghost use Rattle.query_grammar.specs.Reading.{place, spot_kind, run_after, first_long};
+ghost use Rattle.query_grammar.specs.Answer.{offset_of, IsAnswer};
 
 use crate::kind::Kind;
 use crate::stack::Stack;
 use crate::symbol::Symbol;
-use query_words::{Spot, words};
+use query_words::Spot;
 use std::alloc::Global;
 use tw_rows::Memory;
+
+/// How many words an expression may have.
+const LONGEST: usize = 200;
+
+/// Why a text spells no query. `at` is an offset in bytes.
+#[derive(Clone, Copy, Debug, PartialEq, Eq)]
+pub enum Fault {
+    /// The first word with which no query begins stands at `at`, or the text ends there too early.
+    Syntax { at: usize },
+    /// The word at `at` is the 201st of one expression.
+    LongExpr { at: usize },
+}
 
 /// How many words come before the first that can't come; none where the words are a query's.
 fn stop(alloc: Global, words: &[Spot]) -> Result<Option<usize>, Memory>
@@ -30,18 +44,81 @@ fn stop(alloc: Global, words: &[Spot]) -> Result<Option<usize>, Memory>
     Ok(Some(at))
 }
 
-/// Where the text stops being the front of a query: the offset of the first word with which no query begins, or the
-/// text's length where it ends too early. None where the text spells a query, the limits on its length and on the
-/// words of an expression left aside.
-pub fn first_fault(alloc: Global, text: &str) -> Result<Option<usize>, Memory>
+/// How many words of expressions stand together up to this one, `run` of them before it.
+fn run_after(run: usize, kind: Kind) -> usize
+    requires { run ≤ 200 }
+    ensures { result ≡ run_after run kind }
+{
+    if kind.is_in_expressions() { run + 1 } else { 0 }
+}
+
+/// The first word up to which more words of expressions stand together than an expression may have. Elsewhere than in
+/// an expression at most three stand together, so this is the first word past the limit of an expression.
+fn long_at(words: &[Spot]) -> Option<usize>
+    ensures { result ≡ first_long 0 (map spot_kind words.now) }
+{
+    let mut run = 0;
+    let mut at = 0;
+    'words: while at < words.len() {
+        run = run_after(run, Kind::of(words[at].word));
+        if run > LONGEST {
+            return Some(at);
+        }
+        at += 1;
+    }
+    None
+}
+
+/// The offset of a word, or `end` behind the last.
+fn offset_of(words: &[Spot], index: usize, end: usize) -> usize
+    ensures { result ≡ offset_of end words.now index }
+{
+    if index < words.len() {
+        words[index].at
+    } else {
+        end
+    }
+}
+
+/// The first fault of a text whose expressions are short.
+fn short_fault(alloc: Global, text: &str, words: &[Spot]) -> Result<Option<Fault>, Memory>
+    requires words { words.now ≡ words_of text.now }
+    requires short { first_long 0 (map spot_kind words.now) ≡ None }
     ensures { IfOk result (λ r. IsAnswer text.now r) }
 {
-    let words = words(alloc, text)?;
-    let Some(index) = stop(alloc, &words)? else {
+    let Some(index) = stop(alloc, words)? else {
         return Ok(None);
     };
-    if index < words.len() {
-        return Ok(Some(words[index].at));
+    let at = offset_of(words, index, text.len());
+    Ok(Some(Fault::Syntax { at }))
+}
+
+/// The first fault of a text with too long an expression, whose first word past the limit has this index.
+fn long_fault(alloc: Global, text: &str, words: &[Spot], index: usize) -> Result<Fault, Memory>
+    requires words { words.now ≡ words_of text.now }
+    requires long { first_long 0 (map spot_kind words.now) ≡ Some index }
+    requires within { index < length words.now }
+    ensures { IfOk result (λ r. IsAnswer text.now (Some r)) }
+{
+    let stopped = stop(alloc, &words[..index + 1])?;
+    if let Some(place) = stopped {
+        if place <= index {
+            let at = words[place].at;
+            return Ok(Fault::Syntax { at });
+        }
     }
-    Ok(Some(text.len()))
+    let at = words[index].at;
+    Ok(Fault::LongExpr { at })
+}
+
+/// The fault of a text, whose words these are: where it stops being the front of a query, or where an expression
+/// becomes too long, whichever comes first. None where the text spells a query; the limit on its length is left aside.
+pub fn first_fault(alloc: Global, text: &str, words: &[Spot]) -> Result<Option<Fault>, Memory>
+    requires { words.now ≡ words_of text.now }
+    ensures { IfOk result (λ r. IsAnswer text.now r) }
+{
+    match long_at(words) {
+        None => short_fault(alloc, text, words),
+        Some(index) => Ok(Some(long_fault(alloc, text, words, index)?)),
+    }
 }

@@ -1,6 +1,6 @@
 // What the grammar asks of a word.
 ghost use Rattle.std.specs.Prelude.{◌≡◌};
-ghost use Rattle.query_grammar.specs.Token.{word_kind};
+ghost use Rattle.query_grammar.specs.Token.{word_kind, in_expressions};
 
 use query_words::{Sign, Word};
 
@@ -27,6 +27,38 @@ impl Kind {
             Word::Quoted(_) => Kind::Quoted,
             Word::Fixed(sign) => Kind::Fixed(sign),
             Word::Bad => Kind::Bad,
+        }
+    }
+
+    /// Whether expressions may hold such a word.
+    #[tactic(auto, unfolding(crate::specs::Token::in_expressions))]
+    pub(crate) fn is_in_expressions(self) -> bool
+        ensures { result ≡ in_expressions self }
+    {
+        match self {
+            Kind::Name | Kind::Zero | Kind::Positive | Kind::Quoted => true,
+            Kind::Fixed(sign) => matches!(
+                sign,
+                Sign::True
+                    | Sign::False
+                    | Sign::Open
+                    | Sign::Close
+                    | Sign::Or
+                    | Sign::And
+                    | Sign::Not
+                    | Sign::Equal
+                    | Sign::Differs
+                    | Sign::Less
+                    | Sign::LessEqual
+                    | Sign::Greater
+                    | Sign::GreaterEqual
+                    | Sign::Plus
+                    | Sign::Minus
+                    | Sign::Star
+                    | Sign::Div
+                    | Sign::Mod
+            ),
+            Kind::Bad => false,
         }
     }
 }

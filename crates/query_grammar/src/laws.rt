@@ -1,5 +1,7 @@
 // Laws of the grammar. They run nothing.
-ghost use Rattle.std.specs.Prelude.{◌≡◌, ℕ, List, All, IsUtf8};
+ghost use Rattle.std.specs.Prelude.{◌≡◌, ℕ, List, Option, All, IsUtf8};
+ghost use Rattle.query_grammar.specs.Answer.{IsAnswer};
+ghost use Rattle.query_grammar.specs.declared.fault.Fault.{Fault};
 ghost use Rattle.query_grammar.specs.Token.{Token, tokens_of};
 ghost use Rattle.query_grammar.specs.TokenForm.{IsSound};
 ghost use Rattle.query_grammar.specs.Grammar.{Query, query_tokens};
@@ -18,4 +20,9 @@ pub fn queries_have_no_fault()
 /// The names, numbers and texts among the tokens of a text keep their limits.
 pub fn tokens_are_sound()
     ensures { (text : List ℕ) → IsUtf8 text → All IsSound (tokens_of text) }
+{}
+
+/// A text has one answer: it spells a query within the limit, or has one fault.
+pub fn texts_have_one_answer()
+    ensures { (text : List ℕ) (a b : Option Fault) → IsAnswer text a → IsAnswer text b → a ≡ b }
 {}

@@ -10,6 +10,8 @@ mod symbol;
 #[cfg(test)]
 mod tests;
 
-pub use fault::first_fault;
+pub use fault::{Fault, first_fault};
 pub use kind::Kind;
-pub use laws::{queries_have_no_fault, tokens_are_sound, tokens_spell_one_query};
+pub use laws::{
+    queries_have_no_fault, texts_have_one_answer, tokens_are_sound, tokens_spell_one_query,
+};

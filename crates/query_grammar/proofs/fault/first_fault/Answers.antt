@@ -1,12 +1,5 @@
-use Rattle.std.proofs.Common.{arith}
-use Rattle.query_grammar.proofs.Places.{none_at, word_at, behind_at}
+use Rattle.query_grammar.proofs.Limits.{long_within}
 use Rattle.query_grammar.proofs.fault.first_fault.Goals as goal
 
-pub returns-in_default : goal.returns-in_default
-returns-in_default c = none_at c.args.text.now _ _ _ c.in_ok-words.ensures c.deref.ensures.value c.in_ok-index.ensures c.in_default.is
-
-pub returns-then-index-len : goal.returns-then-index-len
-returns-then-index-len c = word_at c.args.text.now _ _ _ c.in-Some.index c.index.result.now c.in_ok-words.ensures c.deref.ensures.value c.in_ok-index.ensures c.in-Some.is (omega (arith, c.deref.ensures.len, c.len.ensures, c.if-index-len.true)) c.index.ensures
-
-pub returns : goal.returns
-returns c = behind_at c.args.text.now _ _ _ c.in-Some.index c.in_ok-words.ensures c.deref.ensures.value c.in_ok-index.ensures c.in-Some.is (omega (arith, c.deref.ensures.len, c.len.ensures, c.if-index-len.false))
+pub long_fault-requires-clause-within : goal.long_fault-requires-clause-within
+long_fault-requires-clause-within c = long_within c.args.words.now c.long_at.result c.in-Some.index c.long_at.ensures c.in-Some.is
