@@ -5,6 +5,7 @@
 mod arith_laws;
 mod changes_laws;
 mod expr;
+mod fault;
 mod laws;
 mod node;
 
@@ -16,6 +17,7 @@ pub use changes_laws::{
     same_rows_same_changes,
 };
 pub use expr::{ArithOp, CompareOp, Expr, ExprNode};
+pub use fault::{QueryError, QueryFault};
 pub use laws::{
     events_have_lives, nodes_are_causal, result_is, snapshots_agree, snapshots_are_final,
     source_is, value_is, where_is,
