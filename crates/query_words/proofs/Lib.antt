@@ -4,3 +4,5 @@ pub mod Skips
 pub mod Signs
 pub mod Inside
 pub mod Spots
+pub mod Tables
+pub mod Forms

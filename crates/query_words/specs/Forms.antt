@@ -1,0 +1,68 @@
+-- Which bytes are a word, said of all its bytes and of nothing behind them; and what looks like a word, its limit left aside.
+use Rattle.std.specs.Prelude.{◌≡◌, ℕ, ◌^◌, ◌<◌, ◌≤◌, ◌⊎◌, true, List, [], ◌∷◌, ◌++◌, length, take, get_or, Some, None}
+use Rattle.std.specs.List.{list_all}
+use Rattle.query_words.specs.declared.word.Sign.{Sign}
+use Rattle.query_words.specs.declared.word.Word.{Word}
+use Rattle.query_words.specs.declared.word.Word.TheVariants as W
+use Rattle.query_words.specs.Words.{is_letter, is_digit, is_name_byte, reserved, signs, look_up, decimal_from}
+use Rattle.query_words.specs.Spots.{is_inside}
+
+-- spelled as a name or a reserved word, of any length: `join` and `_1`, and not `1a`
+pub record IsNameForm (bs : List ℕ) : Type 0 where
+  pub first : is_letter (get_or bs 0 0) ≡ true
+  pub all : list_all is_name_byte bs ≡ true
+
+-- spelled as a number, of any size: `0` and `105`, and not `00`
+pub record IsNumberForm (bs : List ℕ) : Type 0 where
+  pub some : 0 < length bs
+  pub all : list_all is_digit bs ≡ true
+  pub zero_alone : get_or bs 0 0 ≡ 48 → length bs ≡ 1
+
+-- a text with its quotes: `'it''s'`, and not `'it's'`
+pub record IsQuotedForm (bs : List ℕ) : Type 0 where
+  pub inner : List ℕ
+  pub quoted : bs ≡ 39 ∷ inner ++ 39 ∷ []
+  pub inside : is_inside inner ≡ true
+
+-- just the bytes of a sign
+pub record IsSignForm (bs : List ℕ) : Type 0 where
+  pub sign : Sign
+  pub found : look_up signs bs ≡ Some sign
+
+-- looks like a word: a limit is left aside
+abbrev pub HasForm : List ℕ → Type 0
+HasForm bs = IsNameForm bs ⊎ IsNumberForm bs ⊎ IsQuotedForm bs ⊎ IsSignForm bs
+
+-- a name of n bytes: at most 64, and no reserved word
+pub record IsName (bs : List ℕ) (n : ℕ) : Type 0 where
+  pub form : IsNameForm bs
+  pub size : length bs ≡ n
+  pub short : n ≤ 64
+  pub free : look_up reserved bs ≡ None
+
+-- the digits of n, at most 9223372036854775807
+pub record IsNumber (bs : List ℕ) (n : ℕ) : Type 0 where
+  pub form : IsNumberForm bs
+  pub spells : decimal_from 0 bs ≡ n
+  pub fits : n < 2 ^ 63
+
+-- these bytes, and no others with them, are this word
+abbrev pub IsWord : List ℕ → Word → Type 0
+IsWord bs (W.Name n) = IsName bs n
+IsWord bs (W.Number n) = IsNumber bs n
+IsWord bs (W.Quoted n) = IsQuotedForm bs × (length bs ≡ n)
+IsWord bs (W.Fixed s) = (look_up reserved bs ≡ Some s) ⊎ (look_up signs bs ≡ Some s)
+IsWord bs W.Bad = ⊥
+
+-- a name or a number past its limit
+abbrev pub IsPastLimit : List ℕ → Type 0
+IsPastLimit bs = (IsNameForm bs × (64 < length bs)) ⊎ (IsNumberForm bs × (2 ^ 63 ≤ decimal_from 0 bs))
+
+-- no more than the first n bytes look like a word
+abbrev pub IsLongest : List ℕ → ℕ → Type 0
+IsLongest bs n = (m : ℕ) → n < m → m ≤ length bs → HasForm (take m bs) → ⊥
+
+-- The first n bytes are a name or a number past its limit, and no longer front looks like a word;
+-- or no front looks like a word, and n is 1.
+abbrev pub IsBadFront : List ℕ → ℕ → Type 0
+IsBadFront bs n = ((n ≤ length bs) × IsPastLimit (take n bs) × IsLongest bs n) ⊎ ((n ≡ 1) × ((m : ℕ) → HasForm (take m bs) → ⊥))
