@@ -1,8 +1,8 @@
 -- The word that is taken first, against all that looks like a word.
-use Rattle.std.proofs.Common.{◌≡◌, ◌≢◌, ℕ, zero, suc, ◌<◌, ◌≤◌, Bool, true, false, ◌&&◌, ◌||◌, not, nat_le, if◌then◌else◌, Option, Some, None, option_map, List, [], ◌∷◌, ◌++◌, length, take, drop, get_or, ◌⊎◌, inl, inr, refl, ap, sym, subst, ◌∙◌, arith, true≢false, get_or-take, length-take-le, append_assoc, length-append}
+use Rattle.std.proofs.Common.{◌≡◌, ℕ, zero, suc, ◌<◌, ◌≤◌, Bool, true, false, ◌&&◌, ◌||◌, not, nat_le, if◌then◌else◌, Option, Some, None, option_map, List, [], ◌∷◌, ◌++◌, length, take, drop, get_or, ◌⊎◌, inl, inr, refl, ap, sym, subst, ◌∙◌, arith, true≢false, get_or-take, length-take-le, append_assoc, length-append}
 use Rattle.std.specs.Bool.{◌==◌}
 use Rattle.std.specs.List.{list_all, prefix_len, take_while}
-use Rattle.std.proofs.Math.Seq.{take-length, take-suc}
+use Rattle.std.proofs.Math.Seq.{take-suc}
 use Rattle.std.proofs.lemmas.Bool.{eqb-true, eq-eqb, and_parts}
 use Rattle.std.proofs.lemmas.Bool.Decides.{nat_tests}
 use Rattle.std.proofs.lemmas.List.{take-append-drop}
@@ -13,7 +13,7 @@ use Rattle.query_words.specs.declared.word.Word.{Word}
 use Rattle.query_words.specs.declared.word.Word.TheVariants as W
 use Rattle.query_words.specs.Words.{is_letter, is_digit, is_name_byte, short_name, name_word, name_length, number_word, number_length, decimal_from, quoted_rest, quoted_word, longer, first_of_table, signs, reserved, look_up, front_of}
 use Rattle.query_words.specs.Spots.{is_inside, is_plain}
-use Rattle.query_words.specs.Forms.{IsNameForm, IsNumberForm, IsQuotedForm, IsSignForm, HasForm, IsWord, IsPastLimit, IsLongest, IsBadFront}
+use Rattle.query_words.specs.Forms.{IsNameForm, IsNumberForm, IsQuotedForm, IsSignForm, HasForm, IsWord, IsPastLimit}
 use Rattle.query_words.proofs.Inside.{Closes, closes}
 use Rattle.query_words.proofs.Tables.{found_has, first_found, first_longest, first_either}
 
@@ -40,16 +40,16 @@ letter_no_quote b h e = grind (arith, nat_tests)
 digit_no_quote : (b : ℕ) → is_digit b ≡ true → b ≡ 39 → ⊥
 digit_no_quote b h e = grind (arith, nat_tests)
 
-number_head : (b : ℕ) (bs : List ℕ) → IsNumberForm (b ∷ bs) → is_digit b ≡ true
+pub number_head : (b : ℕ) (bs : List ℕ) → IsNumberForm (b ∷ bs) → is_digit b ≡ true
 number_head b bs h = (and_parts (is_digit b) (list_all is_digit bs) h.all).0
 
-quoted_head : (b : ℕ) (bs : List ℕ) → IsQuotedForm (b ∷ bs) → b ≡ 39
+pub quoted_head : (b : ℕ) (bs : List ℕ) → IsQuotedForm (b ∷ bs) → b ≡ 39
 quoted_head b bs h = let e = h.quoted in cc
 
-sign_head : (bs : List ℕ) → IsSignForm bs → starts_sign bs ≡ true
+pub sign_head : (bs : List ℕ) → IsSignForm bs → starts_sign bs ≡ true
 sign_head bs h = found_has starts_sign signs bs h.sign refl h.found
 
-no_empty : HasForm [] → ⊥
+pub no_empty : HasForm [] → ⊥
 no_empty (inl h) = let e = h.first in cc
 no_empty (inr (inl h)) = let e = h.some in omega arith
 no_empty (inr (inr (inl h))) = let e = h.quoted in cc
@@ -274,135 +274,3 @@ front (b ∷ bs) = here (is_letter b) (is_digit b) (b == 39) refl refl refl
     here false true z e f g = inl (number_front b bs f)
     here false false true e f g = quoted_front b bs g
     here false false false e f g = sign_front b bs e f g
-
--- how a reserved word is spelled
-abbrev pub is_reserved_form : List ℕ → Bool
-is_reserved_form bs = is_letter (get_or bs 0 0) && (list_all is_name_byte bs && nat_le (length bs) 64)
-
-reserved_form : (bs : List ℕ) (s : Sign) → look_up reserved bs ≡ Some s → IsNameForm bs × (length bs ≤ 64)
-reserved_form bs s e =
-    let t = and_parts (is_letter (get_or bs 0 0)) (list_all is_name_byte bs && nat_le (length bs) 64) (found_has is_reserved_form reserved bs s refl e) in
-    let u = and_parts (list_all is_name_byte bs) (nat_le (length bs) 64) t.1 in
-    (record { first = t.0; all = u.0 }, grind (arith, nat_tests))
-
--- a word has a form
-has_form : (bs : List ℕ) (w : Word) → IsWord bs w → HasForm bs
-has_form bs (W.Name n) h = inl h.form
-has_form bs (W.Number n) h = inr (inl h.form)
-has_form bs (W.Quoted n) h = inr (inr (inl h.0))
-has_form bs (W.Fixed s) (inl e) = inl (reserved_form bs s e).0
-has_form bs (W.Fixed s) (inr e) = inr (inr (inr (record { sign = s; found = e })))
-has_form bs W.Bad h = absurd h
-
-pub word_front : (bs : List ℕ) → (front_of bs).0 ≢ W.Bad → ((front_of bs).1 ≤ length bs) × IsWord (take (front_of bs).1 bs) (front_of bs).0
-word_front bs good = here (front bs)
-  where
-    here : IsFront bs (front_of bs) → ((front_of bs).1 ≤ length bs) × IsWord (take (front_of bs).1 bs) (front_of bs).0
-    here (inl (l, inl w, most)) = (l, w)
-    here (inl (l, inr b, most)) = absurd (good b.0)
-    here (inr b) = absurd (good b.0)
-
-longest_of : (bs : List ℕ) (n : ℕ) → ((m : ℕ) → HasForm (take m bs) → length (take m bs) ≤ n) → IsLongest bs n
-longest_of bs n most m l k h = let t = most m h in let e = length-take-le m bs k in omega arith
-
-pub longest_front : (bs : List ℕ) (m : ℕ) (w : Word) → (front_of bs).1 < m → m ≤ length bs → IsWord (take m bs) w → ⊥
-longest_front bs m w l k h = here (front bs)
-  where
-    here : IsFront bs (front_of bs) → ⊥
-    here (inl f) = longest_of bs (front_of bs).1 f.2 m l k (has_form (take m bs) w h)
-    here (inr f) = f.2 m (has_form (take m bs) w h)
-
-pub bad_front : (bs : List ℕ) → (front_of bs).0 ≡ W.Bad → IsBadFront bs (front_of bs).1
-bad_front bs bad = here (front bs)
-  where
-    here : IsFront bs (front_of bs) → IsBadFront bs (front_of bs).1
-    here (inl (l, inl w, most)) = absurd (subst (IsWord (take (front_of bs).1 bs)) bad w)
-    here (inl (l, inr p, most)) = inl (l, p.1, longest_of bs (front_of bs).1 most)
-    here (inr f) = inr (f.1, f.2)
-
-abbrev pub sign_or_bad : Option Sign → Word
-sign_or_bad None = W.Bad
-sign_or_bad (Some s) = W.Fixed s
-
--- the word that these bytes can be
-abbrev pub spelled : List ℕ → Word
-spelled [] = W.Bad
-spelled (b ∷ bs) = if is_letter b then name_word (b ∷ bs) else if is_digit b then number_word (b ∷ bs) else if b == 39 then W.Quoted (length (b ∷ bs)) else sign_or_bad (look_up signs (b ∷ bs))
-
-letter_spelled : (b : ℕ) (bs : List ℕ) → is_letter b ≡ true → spelled (b ∷ bs) ≡ name_word (b ∷ bs)
-letter_spelled b bs e = rw e refl
-
-digit_spelled : (b : ℕ) (bs : List ℕ) → is_digit b ≡ true → spelled (b ∷ bs) ≡ number_word (b ∷ bs)
-digit_spelled b bs e = let l : is_letter b ≡ false = grind (arith, nat_tests) in rw (l, e) refl
-
-quote_spelled : (b : ℕ) (bs : List ℕ) → b ≡ 39 → spelled (b ∷ bs) ≡ W.Quoted (length (b ∷ bs))
-quote_spelled b bs e = rw e refl
-
-sign_spelled : (b : ℕ) (bs : List ℕ) → starts_sign (b ∷ bs) ≡ true → spelled (b ∷ bs) ≡ sign_or_bad (look_up signs (b ∷ bs))
-sign_spelled b bs e =
-    let l : is_letter b ≡ false = grind (arith, nat_tests) in
-    let d : is_digit b ≡ false = grind (arith, nat_tests) in
-    let q : (b == 39) ≡ false = grind (arith, nat_tests) in
-    rw (l, d, q) refl
-
-is_spelled : (bs : List ℕ) (w : Word) → IsWord bs w → w ≡ spelled bs
-is_spelled [] w h = absurd (no_empty (has_form [] w h))
-is_spelled (b ∷ bs) (W.Name n) h =
-    let s = h.short in
-    let e = h.size in
-    let t : nat_le (length (b ∷ bs)) 64 ≡ true = grind (arith, nat_tests) in
-    let k : name_word (b ∷ bs) ≡ W.Name (length (b ∷ bs)) = rw (h.free, t) refl in
-    sym (letter_spelled b bs h.form.first ∙ k ∙ ap (λ m. W.Name m) e)
-is_spelled (b ∷ bs) (W.Number n) h =
-    let s = h.fits in
-    let e = h.spells in
-    let t : nat_le (decimal_from 0 (b ∷ bs)) 9223372036854775807 ≡ true = grind (arith, nat_tests) in
-    let k : number_word (b ∷ bs) ≡ W.Number (decimal_from 0 (b ∷ bs)) = rw t refl in
-    sym (digit_spelled b bs (number_head b bs h.form) ∙ k ∙ ap (λ m. W.Number m) e)
-is_spelled (b ∷ bs) (W.Quoted n) h = sym (quote_spelled b bs (quoted_head b bs h.0) ∙ ap (λ m. W.Quoted m) h.1)
-is_spelled (b ∷ bs) (W.Fixed s) (inl e) =
-    let k : name_word (b ∷ bs) ≡ W.Fixed s = rw e refl in
-    sym (letter_spelled b bs (reserved_form (b ∷ bs) s e).0.first ∙ k)
-is_spelled (b ∷ bs) (W.Fixed s) (inr e) = sym (sign_spelled b bs (sign_head (b ∷ bs) (record { sign = s; found = e })) ∙ ap sign_or_bad e)
-is_spelled (b ∷ bs) W.Bad h = absurd h
-
-pub one_word : (bs : List ℕ) (v w : Word) → IsWord bs v → IsWord bs w → v ≡ w
-one_word bs v w h k = is_spelled bs v h ∙ sym (is_spelled bs w k)
-
-long_is_bad : (bs : List ℕ) → 64 < length bs → name_word bs ≡ W.Bad
-long_is_bad bs l = here (look_up reserved bs) refl
-  where
-    here : (r : Option Sign) → look_up reserved bs ≡ r → short_name r (length bs) ≡ W.Bad
-    here (Some s) e = let t = (reserved_form bs s e).1 in absurd (omega arith)
-    here None e = let t : nat_le (length bs) 64 ≡ false = grind (arith, nat_tests) in rw t refl
-
-past_is_bad : (bs : List ℕ) → IsPastLimit bs → spelled bs ≡ W.Bad
-past_is_bad [] h = refl
-past_is_bad (b ∷ bs) (inl h) = letter_spelled b bs h.0.first ∙ long_is_bad (b ∷ bs) h.1
-past_is_bad (b ∷ bs) (inr h) =
-    let l = h.1 in
-    let t : nat_le (decimal_from 0 (b ∷ bs)) 9223372036854775807 ≡ false = grind (arith, nat_tests) in
-    let k : number_word (b ∷ bs) ≡ W.Bad = rw t refl in
-    digit_spelled b bs (number_head b bs h.0) ∙ k
-
-no_past : (bs : List ℕ) (w : Word) → IsWord bs w → IsPastLimit bs → ⊥
-no_past bs w h p = subst (IsWord bs) (is_spelled bs w h ∙ past_is_bad bs p) h
-
--- bytes that are a word are read as that word
-pub alone : (bs : List ℕ) (w : Word) → IsWord bs w → front_of bs ≡ (w, length bs)
-alone bs w h = here (front_of bs) (front bs)
-  where
-    f : HasForm (take (length bs) bs)
-    f = subst HasForm (sym (take-length bs)) (has_form bs w h)
-
-    here : (x : Word × ℕ) → IsFront bs x → x ≡ (w, length bs)
-    here (v, n) (inr k) = absurd (k.2 (length bs) f)
-    here (v, n) (inl (l, k, most)) =
-        let t = most (length bs) f in
-        let e : n ≡ length bs = (let a = ap length (take-length bs) in omega arith) in
-        let whole : take n bs ≡ bs = ap (λ m. take m bs) e ∙ take-length bs in
-        same k whole e
-      where
-        same : IsWord (take n bs) v ⊎ ((v ≡ W.Bad) × IsPastLimit (take n bs)) → take n bs ≡ bs → n ≡ length bs → ◌≡◌ {A = Word × ℕ} (v, n) (w, length bs)
-        same (inl g) whole e = rw (one_word bs v w (subst (λ z. IsWord z v) whole g) h, e) refl
-        same (inr g) whole e = absurd (no_past bs w h (subst IsPastLimit whole g.1))

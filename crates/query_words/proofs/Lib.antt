@@ -6,3 +6,5 @@ pub mod Inside
 pub mod Spots
 pub mod Tables
 pub mod Forms
+pub mod Taken
+mod Computed

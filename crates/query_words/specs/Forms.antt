@@ -58,7 +58,7 @@ IsWord bs W.Bad = ⊥
 abbrev pub IsPastLimit : List ℕ → Type 0
 IsPastLimit bs = (IsNameForm bs × (64 < length bs)) ⊎ (IsNumberForm bs × (2 ^ 63 ≤ decimal_from 0 bs))
 
--- no more than the first n bytes look like a word
+-- no front of more than n bytes looks like a word
 abbrev pub IsLongest : List ℕ → ℕ → Type 0
 IsLongest bs n = (m : ℕ) → n < m → m ≤ length bs → HasForm (take m bs) → ⊥
 
@@ -66,3 +66,8 @@ IsLongest bs n = (m : ℕ) → n < m → m ≤ length bs → HasForm (take m bs)
 -- or no front looks like a word, and n is 1.
 abbrev pub IsBadFront : List ℕ → ℕ → Type 0
 IsBadFront bs n = ((n ≤ length bs) × IsPastLimit (take n bs) × IsLongest bs n) ⊎ ((n ≡ 1) × ((m : ℕ) → HasForm (take m bs) → ⊥))
+
+-- What is taken at a place, and how many bytes it has: a word, where no longer front looks like a word; else what is bad.
+-- Of `<=b` it is `<=`, with 2 bytes; of `00` it is the number 0, with 1 byte; of `'a''` it is `'a'`, with 3 bytes.
+abbrev pub IsTaken : List ℕ → Word × ℕ → Type 0
+IsTaken bs x = ((x.1 ≤ length bs) × IsWord (take x.1 bs) x.0 × IsLongest bs x.1) ⊎ ((x.0 ≡ W.Bad) × IsBadFront bs x.1)

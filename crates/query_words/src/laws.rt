@@ -4,7 +4,7 @@ ghost use Rattle.query_words.specs.declared.word.Word.{Word};
 ghost use Rattle.query_words.specs.declared.word.Word.TheVariants as W;
 ghost use Rattle.query_words.specs.Words.{front_of, words_of};
 ghost use Rattle.query_words.specs.Spots.{IsSpotIn, IsSpotCut};
-ghost use Rattle.query_words.specs.Forms.{IsWord, IsBadFront};
+ghost use Rattle.query_words.specs.Forms.{HasForm, IsWord, IsBadFront, IsTaken};
 
 /// Each word of a text stands within it and has the bytes of its kind; and a text that is UTF-8 may be cut around
 /// each name, and around what stands between quotes.
@@ -22,8 +22,15 @@ pub fn words_are_longest()
     ensures bad { (bs : List ℕ) → (front_of bs).0 ≡ W.Bad → IsBadFront bs (front_of bs).1 }
 {}
 
-/// Bytes are one word at most, and they are read as that word where they stand alone.
+/// What is taken at a place, and how many bytes it has, is just what the rule says, and nothing else is.
+pub fn one_word_is_taken()
+    ensures taken { (bs : List ℕ) → IsTaken bs (front_of bs) }
+    ensures only { (bs : List ℕ) (taken : Word × ℕ) → IsTaken bs taken → taken ≡ front_of bs }
+{}
+
+/// Bytes are one word at most, and they look like a word. Where they stand alone, they are read as that word.
 pub fn bytes_are_one_word()
     ensures one { (bs : List ℕ) (v w : Word) → IsWord bs v → IsWord bs w → v ≡ w }
+    ensures form { (bs : List ℕ) (w : Word) → IsWord bs w → HasForm bs }
     ensures alone { (bs : List ℕ) (w : Word) → IsWord bs w → front_of bs ≡ (w, length bs) }
 {}

@@ -1,4 +1,4 @@
-use Rattle.query_words.proofs.Forms.{word_front, longest_front, bad_front}
+use Rattle.query_words.proofs.Taken.{word_front, longest_front, bad_front}
 use Rattle.query_words.proofs.laws.words_are_longest.Goals as goal
 
 pub returns-clause-word : goal.returns-clause-word
