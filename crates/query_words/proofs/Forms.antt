@@ -13,7 +13,7 @@ use Rattle.query_words.specs.declared.word.Word.{Word}
 use Rattle.query_words.specs.declared.word.Word.TheVariants as W
 use Rattle.query_words.specs.Words.{is_letter, is_digit, is_name_byte, short_name, name_word, name_length, number_word, number_length, decimal_from, quoted_rest, quoted_word, longer, first_of_table, signs, reserved, look_up, front_of}
 use Rattle.query_words.specs.Spots.{is_inside, is_plain}
-use Rattle.query_words.specs.Forms.{IsNameForm, IsNumberForm, IsQuotedForm, IsSignForm, HasForm, IsWord, IsPastLimit}
+use Rattle.query_words.specs.Forms.{IsNameForm, IsNumberForm, IsQuotedForm, IsSignForm, HasForm, IsWord, IsFormless, IsPastLimit}
 use Rattle.query_words.proofs.Inside.{Closes, closes}
 use Rattle.query_words.proofs.Tables.{found_has, first_found, first_longest, first_either}
 
@@ -96,12 +96,8 @@ run_some p b bs e = rw e (omega arith)
 abbrev pub IsFormed : List ℕ → Word → ℕ → Type 0
 IsFormed bs w n = (n ≤ length bs) × (IsWord (take n bs) w ⊎ ((w ≡ W.Bad) × IsPastLimit (take n bs))) × ((m : ℕ) → HasForm (take m bs) → length (take m bs) ≤ n)
 
--- no front has a form
-abbrev pub IsFormless : List ℕ → Word → ℕ → Type 0
-IsFormless bs w n = (w ≡ W.Bad) × (n ≡ 1) × ((m : ℕ) → HasForm (take m bs) → ⊥)
-
 abbrev pub IsFront : List ℕ → Word × ℕ → Type 0
-IsFront bs x = IsFormed bs x.0 x.1 ⊎ IsFormless bs x.0 x.1
+IsFront bs x = IsFormed bs x.0 x.1 ⊎ ((x.0 ≡ W.Bad) × (x.1 ≡ 1) × IsFormless bs)
 
 name_is : (run : List ℕ) → IsNameForm run → IsWord run (name_word run) ⊎ ((name_word run ≡ W.Bad) × IsPastLimit run)
 name_is run f = here (look_up reserved run) refl

@@ -1,4 +1,4 @@
--- Which bytes are a word, said of all its bytes and of nothing behind them; and what looks like a word, its limit left aside.
+-- Which bytes are a word, said of all its bytes and of nothing behind them; and what looks like one at any size.
 use Rattle.std.specs.Prelude.{◌≡◌, ℕ, ◌^◌, ◌<◌, ◌≤◌, ◌⊎◌, true, List, [], ◌∷◌, ◌++◌, length, take, get_or, Some, None}
 use Rattle.std.specs.List.{list_all}
 use Rattle.query_words.specs.declared.word.Sign.{Sign}
@@ -29,7 +29,7 @@ pub record IsSignForm (bs : List ℕ) : Type 0 where
   pub sign : Sign
   pub found : look_up signs bs ≡ Some sign
 
--- looks like a word: a limit is left aside
+-- looks like a word, whatever its limit
 abbrev pub HasForm : List ℕ → Type 0
 HasForm bs = IsNameForm bs ⊎ IsNumberForm bs ⊎ IsQuotedForm bs ⊎ IsSignForm bs
 
@@ -62,12 +62,17 @@ IsPastLimit bs = (IsNameForm bs × (64 < length bs)) ⊎ (IsNumberForm bs × (2 
 abbrev pub IsLongest : List ℕ → ℕ → Type 0
 IsLongest bs n = (m : ℕ) → n < m → m ≤ length bs → HasForm (take m bs) → ⊥
 
+-- no front looks like a word
+abbrev pub IsFormless : List ℕ → Type 0
+IsFormless bs = (m : ℕ) → HasForm (take m bs) → ⊥
+
 -- The first n bytes are a name or a number past its limit, and no longer front looks like a word;
 -- or no front looks like a word, and n is 1.
 abbrev pub IsBadFront : List ℕ → ℕ → Type 0
-IsBadFront bs n = ((n ≤ length bs) × IsPastLimit (take n bs) × IsLongest bs n) ⊎ ((n ≡ 1) × ((m : ℕ) → HasForm (take m bs) → ⊥))
+IsBadFront bs n = ((n ≤ length bs) × IsPastLimit (take n bs) × IsLongest bs n) ⊎ ((n ≡ 1) × IsFormless bs)
 
--- What is taken at a place, and how many bytes it has: a word, where no longer front looks like a word; else what is bad.
--- Of `<=b` it is `<=`, with 2 bytes; of `00` it is the number 0, with 1 byte; of `'a''` it is `'a'`, with 3 bytes.
+-- What is taken at a place, and how many bytes it has: a word, where no longer front looks like a word; else what is
+-- bad. Of `<=b` it is `<=`, with 2 bytes; of `00` the number 0, with 1 byte; of `'a''` the text `'a'`, with 3 bytes.
 abbrev pub IsTaken : List ℕ → Word × ℕ → Type 0
-IsTaken bs x = ((x.1 ≤ length bs) × IsWord (take x.1 bs) x.0 × IsLongest bs x.1) ⊎ ((x.0 ≡ W.Bad) × IsBadFront bs x.1)
+IsTaken bs x =
+    ((x.1 ≤ length bs) × IsWord (take x.1 bs) x.0 × IsLongest bs x.1) ⊎ ((x.0 ≡ W.Bad) × IsBadFront bs x.1)

@@ -18,7 +18,8 @@ pub fn spots_keep_their_form()
 pub fn words_are_longest()
     ensures word { (bs : List ℕ) → (front_of bs).0 ≢ W.Bad →
         ((front_of bs).1 ≤ length bs) × IsWord (take (front_of bs).1 bs) (front_of bs).0 }
-    ensures longest { (bs : List ℕ) (m : ℕ) (w : Word) → (front_of bs).1 < m → m ≤ length bs → ¬ (IsWord (take m bs) w) }
+    ensures longest { (bs : List ℕ) (m : ℕ) (w : Word) → (front_of bs).1 < m → m ≤ length bs →
+        ¬ (IsWord (take m bs) w) }
     ensures bad { (bs : List ℕ) → (front_of bs).0 ≡ W.Bad → IsBadFront bs (front_of bs).1 }
 {}
 
