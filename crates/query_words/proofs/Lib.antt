@@ -7,4 +7,5 @@ pub mod Spots
 pub mod Tables
 pub mod Forms
 pub mod Taken
+pub mod Between
 mod Computed

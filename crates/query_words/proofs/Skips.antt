@@ -6,13 +6,13 @@ use Rattle.query_words.specs.declared.word.Word.{Word}
 use Rattle.query_words.specs.declared.word.Spot.{Spot}
 use Rattle.query_words.specs.Words.{words_from, front_of, is_space}
 
-words_skip : (at k : ℕ) (bs : List ℕ) → k ≤ length bs → words_from at k bs ≡ words_from (at + k) 0 (drop k bs)
+pub words_skip : (at k : ℕ) (bs : List ℕ) → k ≤ length bs → words_from at k bs ≡ words_from (at + k) 0 (drop k bs)
 unfolding words_from
 words_skip at zero bs h = let e : at ≡ at + 0 = omega arith in ap (λ x. words_from x 0 bs) e
 words_skip at (suc k) [] h = absurd (omega arith)
 words_skip at (suc k) (b ∷ bs) h = words_skip (suc at) k bs (omega arith) ∙ (let e : suc at + k ≡ at + suc k = omega arith in ap (λ x. words_from x 0 (drop k bs)) e)
 
-word_step : (at n : ℕ) (w : Word) (d : ℕ) (bs : List ℕ) → 0 < n → n ≤ length bs → front_of bs ≡ (w, n) → is_space (get_or bs 0 d) ≡ false
+pub word_step : (at n : ℕ) (w : Word) (d : ℕ) (bs : List ℕ) → 0 < n → n ≤ length bs → front_of bs ≡ (w, n) → is_space (get_or bs 0 d) ≡ false
     → words_from at 0 bs ≡ record { at = at; word = w } ∷ words_from (at + n) 0 (drop n bs)
 unfolding words_from
 word_step at zero w d bs p h e s = absurd (omega arith)

@@ -141,7 +141,7 @@ pair : (x y : Word × ℕ) → x.0 ≡ y.0 → x.1 ≡ y.1 → x ≡ y
 pair (v, n) (w, m) e f = rw (e, f) refl
 
 -- what is taken, a word or past its limit, looks like a word
-held_form : (bs : List ℕ) (w : Word) → IsWord bs w ⊎ ((w ≡ W.Bad) × IsPastLimit bs) → HasForm bs
+pub held_form : (bs : List ℕ) (w : Word) → IsWord bs w ⊎ ((w ≡ W.Bad) × IsPastLimit bs) → HasForm bs
 held_form bs w (inl h) = has_form bs w h
 held_form bs w (inr (e, inl h)) = inl h.0
 held_form bs w (inr (e, inr h)) = inr (inl h.0)

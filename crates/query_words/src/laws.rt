@@ -1,10 +1,12 @@
 // Laws of the words of a text. They run nothing.
 ghost use Rattle.std.specs.Prelude.{◌≡◌, ◌≢◌, ℕ, ◌<◌, ◌≤◌, List, length, take, All, IsUtf8};
+ghost use Rattle.query_words.specs.declared.word.Spot.{Spot};
 ghost use Rattle.query_words.specs.declared.word.Word.{Word};
 ghost use Rattle.query_words.specs.declared.word.Word.TheVariants as W;
 ghost use Rattle.query_words.specs.Words.{front_of, words_of};
 ghost use Rattle.query_words.specs.Spots.{IsSpotIn, IsSpotCut};
 ghost use Rattle.query_words.specs.Forms.{HasForm, IsWord, IsBadFront, IsTaken};
+ghost use Rattle.query_words.specs.Between.{FallsInto};
 
 /// Each word of a text stands within it and has the bytes of its kind; and a text that is UTF-8 may be cut around
 /// each name, and around what stands between quotes.
@@ -34,4 +36,10 @@ pub fn bytes_are_one_word()
     ensures one { (bs : List ℕ) (v w : Word) → IsWord bs v → IsWord bs w → v ≡ w }
     ensures form { (bs : List ℕ) (w : Word) → IsWord bs w → HasForm bs }
     ensures alone { (bs : List ℕ) (w : Word) → IsWord bs w → front_of bs ≡ (w, length bs) }
+{}
+
+/// A text falls into spaces and its words, each the longest at its place, and into no other words.
+pub fn texts_fall_into_words()
+    ensures falls { (text : List ℕ) → FallsInto 0 text (words_of text) }
+    ensures only { (text : List ℕ) (spots : List Spot) → FallsInto 0 text spots → spots ≡ words_of text }
 {}

@@ -7,6 +7,9 @@ mod lex;
 mod tests;
 mod word;
 
-pub use laws::{bytes_are_one_word, one_word_is_taken, spots_keep_their_form, words_are_longest};
+pub use laws::{
+    bytes_are_one_word, one_word_is_taken, spots_keep_their_form, texts_fall_into_words,
+    words_are_longest,
+};
 pub use lex::words;
 pub use word::{Sign, Spot, Word};
