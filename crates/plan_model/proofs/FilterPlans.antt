@@ -1,6 +1,6 @@
 -- What the plan of one stream and one test means.
-use Rattle.std.specs.Prelude.{◌≡◌, ℕ, zero, suc, ℤ, int_lt, List, ◌∷◌, filter, unwrap_or, refl}
-use Rattle.std.proofs.Common.{ap, subst, arith}
+use Rattle.std.specs.Prelude.{◌≡◌, ℕ, zero, suc, ℤ, int_lt, List, ◌∷◌, true, filter, unwrap_or, refl}
+use Rattle.std.proofs.Common.{sym, ap, subst, arith}
 use Rattle.std.proofs.lemmas.Int.{ints}
 use Rattle.std.specs.Ordering.{int_cmp, is_gt}
 use Rattle.tw_rows.specs.Event.{alive}
@@ -8,11 +8,10 @@ use Rattle.tw_rows.specs.Rows.{Row}
 use Rattle.tw_rows.specs.declared.row.Value.TheVariants.{Int, Bool as Flag}
 use Rattle.plan_model.specs.declared.expr.ExprNode.{ExprNode}
 use Rattle.plan_model.specs.declared.node.Node.{Node}
-use Rattle.plan_model.specs.declared.node.Node.TheVariants.{Source, Where}
 use Rattle.plan_model.specs.Expr.{value, holds}
 use Rattle.plan_model.specs.IsExpr.{IsExpr}
 use Rattle.plan_model.specs.FilterPlan.{filter_plan, first_above}
-use Rattle.plan_model.specs.Meaning.{Sources, events, closes, snapshots, IsOrdered, IsLevelled, HasLower, left_child, right_child}
+use Rattle.plan_model.specs.Meaning.{Sources, events, closes, snapshots, IsOrdered, IsLevelled, HasLower, left_child, right_child, reads_events}
 
 pub IsOrdered-filter_plan : (test : List ExprNode) → IsOrdered (filter_plan test)
 IsOrdered-filter_plan test zero n there = subst HasChildrenBelow (ap (λ o. unwrap_or o n) there) (tt, tt)
@@ -26,8 +25,9 @@ IsOrdered-filter_plan test (suc zero) n there = subst HasChildrenBelow (ap (λ o
 IsOrdered-filter_plan test (suc (suc i)) n there = absurd (cc)
 
 pub IsLevelled-filter_plan : (test : List ExprNode) → IsLevelled (filter_plan test)
-IsLevelled-filter_plan test source i (Source stream) there reads = absurd (cc)
-IsLevelled-filter_plan test source i (Where of t) there reads = absurd (cc)
+IsLevelled-filter_plan test source zero n there reads = absurd (let of_source = subst (λ m. reads_events m ≡ true) (sym (ap (λ o. unwrap_or o n) there)) reads in cc)
+IsLevelled-filter_plan test source (suc zero) n there reads = absurd (let of_where = subst (λ m. reads_events m ≡ true) (sym (ap (λ o. unwrap_or o n) there)) reads in cc)
+IsLevelled-filter_plan test source (suc (suc i)) n there reads = absurd (cc)
 
 -- the events of the root are those of the stream whose rows pass
 pub events-filter_plan : (source : Sources) (test : List ExprNode) → events source (filter_plan test) 1 ≡ filter (λ e. holds test e.row) (source 0)

@@ -1,19 +1,20 @@
 -- Of each kind of node: its events agree with its rows, and what is known of its events hangs on what is known of its
 -- children's.
-use Rattle.std.specs.Prelude.{◌≡◌, ℕ, ◌<◌, Bool, true, false, cond, List, [], ◌∷◌, filter, refl}
+use Rattle.std.specs.Prelude.{◌≡◌, ℕ, ◌+◌, ◌<◌, ◌≤◌, min, Bool, true, false, cond, List, [], ◌∷◌, ◌++◌, map, filter, refl}
 use Rattle.std.proofs.Common.{sym, ◌∙◌, ap, arith, add-zero}
+use Rattle.std.proofs.lemmas.Bool.{and_parts}
 use Rattle.std.proofs.lemmas.Bool.Decides.{nat_tests}
 use Rattle.tw_rows.specs.Instant.{inf}
 use Rattle.tw_rows.specs.Bag.{total, SameBag}
 use Rattle.tw_rows.specs.Event.{Event, lives_at, alive, AreEvents, cut_one, cut, Known}
 use Rattle.tw_rows.specs.Rows.{Row}
-use Rattle.tw_rows.proofs.Bags.{total-filter, total_same}
-use Rattle.tw_rows.proofs.Lives.{total-alive, causal_from_one}
+use Rattle.tw_rows.proofs.Bags.{total-append, total-map, total-filter, total_same, SameBag-append}
+use Rattle.tw_rows.proofs.Lives.{total-alive, cut-append, AreEvents-append, causal_from_one}
 use Rattle.plan_model.specs.declared.expr.ExprNode.{ExprNode}
 use Rattle.plan_model.specs.declared.node.Node.{Node}
-use Rattle.plan_model.specs.declared.node.Node.TheVariants.{Source, Where}
+use Rattle.plan_model.specs.declared.node.Node.TheVariants.{Source, Where, Select, Union}
 use Rattle.plan_model.specs.Expr.{holds}
-use Rattle.plan_model.specs.Meaning.{Meaning, filtered, node_events, node_meaning, node_closes, reads_events}
+use Rattle.plan_model.specs.Meaning.{Meaning, filtered, selected_row, selected_event, selected, node_events, node_meaning, node_closes, reads_events}
 
 -- the events of a node are its meaning: they are its own events where it has them, and alive they are its rows
 pub record AgreesWith (es : List (Event Row)) (m : Meaning) : Type 0 where
@@ -38,11 +39,41 @@ alive-filtered test es rows t h = record {
       ∙ sym (total-filter w (holds test) rows)))));
 }
 
+-- the rows that are alive of the selected events
+alive-selected : (items : List (List ExprNode)) (es : List (Event Row)) (rows : List Row) (t : ℕ) → SameBag (alive es t) rows → SameBag (alive (selected items es) t) (map (selected_row items) rows)
+alive-selected items es rows t h = record {
+  weigh = λ w.
+      total-alive w (selected items es) t
+      ∙ (total-map (λ e. cond (lives_at t e) (w e.row) 0) (selected_event items) es
+      ∙ (sym (total-alive (λ r. w (selected_row items r)) es t)
+      ∙ (h.weigh (λ r. w (selected_row items r))
+      ∙ sym (total-map w (selected_row items) rows))));
+}
+
+-- the rows that are alive of two lists of events
+alive-union : (xs ys : List (Event Row)) (left right : List Row) (t : ℕ) → SameBag (alive xs t) left → SameBag (alive ys t) right → SameBag (alive (xs ++ ys) t) (left ++ right)
+alive-union xs ys left right t h k = record {
+  weigh = λ w.
+      total-alive w (xs ++ ys) t
+      ∙ (total-append (λ e. cond (lives_at t e) (w e.row) 0) xs ys
+      ∙ (ap (λ n. n + total (λ e. cond (lives_at t e) (w e.row) 0) ys) (sym (total-alive w xs t) ∙ h.weigh w)
+      ∙ (ap (λ n. total w left + n) (sym (total-alive w ys t) ∙ k.weigh w)
+      ∙ sym (total-append w left right))));
+}
+
 pub node_agrees : (n : Node) (a b : List (Event Row)) (x y : Meaning) → AgreesWith a x → AgreesWith b y → (reads_events n ≡ true → x.has_events ≡ true) → AgreesWith (node_events n a b) (node_meaning n x y)
 node_agrees (Source stream) a b x y h k fits = h
 node_agrees (Where of test) a b x y h k fits = record {
   same_events = λ has. ap (filtered test) (h.same_events has);
   same_rows = λ t low. alive-filtered test a (x.rows t) t (h.same_rows t low);
+}
+node_agrees (Select of items) a b x y h k fits = record {
+  same_events = λ has. ap (selected items) (h.same_events has);
+  same_rows = λ t low. alive-selected items a (x.rows t) t (h.same_rows t low);
+}
+node_agrees (Union left right) a b x y h k fits = record {
+  same_events = λ has. let both = and_parts x.has_events y.has_events has in ap (λ l. l ++ b) (h.same_events both.0) ∙ ap (λ l. x.events ++ l) (k.same_events both.1);
+  same_rows = λ t low. alive-union a b (x.rows t) (y.rows t) t (h.same_rows t low) (k.same_rows t low);
 }
 
 filtered_by_one : (test : List ExprNode) (w : Event Row → ℕ) (es : List (Event Row)) → total w (filtered test es) ≡ total (λ e. total w (cond (holds test e.row) (e ∷ []) [])) es
@@ -66,6 +97,23 @@ AreEvents-filtered test (e ∷ es) v = pick (holds test e.row) (AreEvents-filter
     pick true rest = (v.0, v.1, rest)
     pick false rest = rest
 
+selected_known : (w : Event Row → ℕ) (items : List (List ExprNode)) (c : ℕ) (e : Event Row) → total w (cut c (selected_event items e ∷ [])) ≡ total (λ x. total w (cut c (selected_event items x ∷ []))) (cut_one c e)
+selected_known w items c e = one (selected_row items) c e
+  where
+    one : (f : Row → Row) (c : ℕ) (e : Event Row) → total w (cut c (record { row = f e.row; start = e.start; end = e.end } ∷ [])) ≡ total (λ x. total w (cut c (record { row = f x.row; start = x.start; end = x.end } ∷ []))) (cut_one c e)
+    one f c e = grind (arith, nat_tests)
+
+AreEvents-selected : (items : List (List ExprNode)) (es : List (Event Row)) → AreEvents es → AreEvents (selected items es)
+AreEvents-selected items [] v = tt
+AreEvents-selected items (e ∷ es) v = (v.0, v.1, AreEvents-selected items es v.2)
+
+-- what is known below a time is known below each lower one
+less_known : (w : Event Row → ℕ) (c d : ℕ) (e : Event Row) → d ≤ c → c ≤ inf → total w (cut d (e ∷ [])) ≡ total (λ x. total w (cut d (x ∷ []))) (cut_one c e)
+less_known w c d e low high = grind (arith, nat_tests)
+
+pub cut_less : (c d : ℕ) (a b : List (Event Row)) → d ≤ c → c ≤ inf → AreEvents a → AreEvents b → SameBag (cut c a) (cut c b) → SameBag (cut d a) (cut d b)
+cut_less c d a b low high = causal_from_one (λ es. es) (λ e. e ∷ []) c d (λ w es. total_same _ _ es (λ e. sym (add-zero (w e)))) (λ w e _. less_known w c d e low high) a b
+
 pub node_known : (n : Node) (x y : ℕ) (a b c d : List (Event Row)) → Known x a c → Known y b d → Known (node_closes n x y) (node_events n a b) (node_events n c d)
 node_known (Source stream) x y a b c d h k = h
 node_known (Where of test) x y a b c d h k = record {
@@ -73,4 +121,17 @@ node_known (Where of test) x y a b c d h k = record {
   left_valid = AreEvents-filtered test a h.left_valid;
   right_valid = AreEvents-filtered test c h.right_valid;
   same = causal_from_one (filtered test) (λ e. cond (holds test e.row) (e ∷ []) []) x x (filtered_by_one test) (λ w e _. filtered_known w test x e) a c h.left_valid h.right_valid h.same;
+}
+node_known (Select of items) x y a b c d h k = record {
+  low = h.low;
+  left_valid = AreEvents-selected items a h.left_valid;
+  right_valid = AreEvents-selected items c h.right_valid;
+  same = causal_from_one (selected items) (λ e. selected_event items e ∷ []) x x (λ w es. total-map w (selected_event items) es ∙ total_same _ _ es (λ e. sym (add-zero (w (selected_event items e))))) (λ w e _. selected_known w items x e) a c h.left_valid h.right_valid h.same;
+}
+node_known (Union left right) x y a b c d h k = record {
+  low = (let below = h.low in omega arith);
+  left_valid = AreEvents-append a b h.left_valid k.left_valid;
+  right_valid = AreEvents-append c d h.right_valid k.right_valid;
+  same = rw (cut-append (min x y) a b, cut-append (min x y) c d)
+      (SameBag-append _ _ _ _ (cut_less x (min x y) a c (omega arith) h.low h.left_valid h.right_valid h.same) (cut_less y (min x y) b d (omega arith) k.low k.left_valid k.right_valid k.same));
 }

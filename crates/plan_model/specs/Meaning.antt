@@ -1,12 +1,12 @@
 -- What a plan means: the events and the rows of each node, and the time below which they are final.
-use Rattle.std.specs.Prelude.{◌≡◌, ℕ, ◌<◌, Bool, true, false, Option, Some, None, List, [], filter, slice_get}
+use Rattle.std.specs.Prelude.{◌≡◌, ℕ, ◌<◌, min, Bool, true, false, ◌&&◌, Option, Some, None, List, [], ◌++◌, map, filter, slice_get}
 use Rattle.tw_rows.specs.Instant.{inf}
 use Rattle.tw_rows.specs.Event.{Event, alive}
 use Rattle.tw_rows.specs.Rows.{Row}
 use Rattle.plan_model.specs.declared.expr.ExprNode.{ExprNode}
 use Rattle.plan_model.specs.declared.node.Node.{Node}
-use Rattle.plan_model.specs.declared.node.Node.TheVariants.{Source, Where}
-use Rattle.plan_model.specs.Expr.{holds}
+use Rattle.plan_model.specs.declared.node.Node.TheVariants.{Source, Where, Select, Union}
+use Rattle.plan_model.specs.Expr.{value, holds}
 use Rattle.plan_model.specs.Fold.{result}
 
 -- the events of each stream, by its number
@@ -17,11 +17,15 @@ Sources = ℕ → List (Event Row)
 abbrev pub left_child : Node → Option ℕ
 left_child (Source stream) = None
 left_child (Where of test) = Some of
+left_child (Select of items) = Some of
+left_child (Union left right) = Some left
 
 -- the number of the right child
 abbrev pub right_child : Node → Option ℕ
 right_child (Source stream) = None
 right_child (Where of test) = None
+right_child (Select of items) = None
+right_child (Union left right) = Some right
 
 -- what stands at a child's number, and `none` where there is no child
 abbrev pub at_child : {R : Type 0} → R → (ℕ → R) → Option ℕ → R
@@ -55,10 +59,24 @@ IsOrdered nodes = (i : ℕ) (n : Node) → slice_get nodes i ≡ Some n → HasL
 abbrev pub filtered : List ExprNode → List (Event Row) → List (Event Row)
 filtered test events = filter (λ e. holds test e.row) events
 
+-- the values of the items on a row, in order. The items a + b and a make of the row 3, 4 the row 7, 3
+abbrev pub selected_row : List (List ExprNode) → Row → Row
+selected_row items row = map (λ item. value item row) items
+
+-- the event with that row and the same life
+abbrev pub selected_event : List (List ExprNode) → Event Row → Event Row
+selected_event items e = record { row = selected_row items e.row; start = e.start; end = e.end }
+
+-- the events, each with its row replaced
+abbrev pub selected : List (List ExprNode) → List (Event Row) → List (Event Row)
+selected items events = map (selected_event items) events
+
 -- the events of a node, from those of its children
 abbrev pub node_events : Node → List (Event Row) → List (Event Row) → List (Event Row)
 node_events (Source stream) a b = a
 node_events (Where of test) a b = filtered test a
+node_events (Select of items) a b = selected items a
+node_events (Union left right) a b = a ++ b
 
 -- the events of the node of number n
 abbrev pub events : Sources → List Node → ℕ → List (Event Row)
@@ -68,6 +86,8 @@ events source nodes n = over_nodes [] source node_events nodes n
 abbrev pub node_closes : Node → ℕ → ℕ → ℕ
 node_closes (Source stream) x y = x
 node_closes (Where of test) x y = x
+node_closes (Select of items) x y = x
+node_closes (Union left right) x y = min x y
 
 -- the closing of the node of number n at the punctuation p, up to which all rows of the sources are known
 abbrev pub closes : List Node → ℕ → ℕ → ℕ
@@ -91,6 +111,8 @@ by_events events = record { events = events; has_events = true; rows = alive eve
 abbrev pub node_meaning : Node → Meaning → Meaning → Meaning
 node_meaning (Source stream) a b = a
 node_meaning (Where of test) a b = record { events = filtered test a.events; has_events = a.has_events; rows = λ t. filter (holds test) (a.rows t) }
+node_meaning (Select of items) a b = record { events = selected items a.events; has_events = a.has_events; rows = λ t. map (selected_row items) (a.rows t) }
+node_meaning (Union left right) a b = record { events = a.events ++ b.events; has_events = a.has_events && b.has_events; rows = λ t. a.rows t ++ b.rows t }
 
 -- the meaning of the node of number n
 abbrev pub meaning : Sources → List Node → ℕ → Meaning
@@ -104,6 +126,8 @@ snapshots source nodes n t = (meaning source nodes n).rows t
 abbrev pub reads_events : Node → Bool
 reads_events (Source stream) = false
 reads_events (Where of test) = false
+reads_events (Select of items) = false
+reads_events (Union left right) = false
 
 -- a node that reads events has a child with events
 abbrev pub IsLevelled : List Node → Type 0

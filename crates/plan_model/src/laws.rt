@@ -1,5 +1,5 @@
 // The laws of what expressions and plans mean. Each is a function that does nothing; its clauses are the law.
-ghost use Rattle.std.specs.Prelude.{◌≡◌, ℕ, ◌-◌, ◌<◌, List, [], length, filter, slice_get, true};
+ghost use Rattle.std.specs.Prelude.{◌≡◌, ℕ, ◌-◌, ◌<◌, min, List, [], ◌++◌, length, map, filter, slice_get, true};
 ghost use Rattle.tw_rows.specs.Bag.{SameBag};
 ghost use Rattle.tw_rows.specs.Event.{Event, alive, AreEvents, Known};
 ghost use Rattle.tw_rows.specs.Instant.{inf};
@@ -8,7 +8,7 @@ ghost use Rattle.plan_model.specs.declared.expr.ExprNode.{ExprNode};
 ghost use Rattle.plan_model.specs.declared.node.Node.{Node};
 ghost use Rattle.plan_model.specs.IsExpr.{IsExpr};
 ghost use Rattle.plan_model.specs.Expr.{node_value, value_at, value, holds};
-ghost use Rattle.plan_model.specs.Meaning.{Sources, left_of, right_of, node_events, events, node_closes, closes, nothing, by_events, node_meaning, meaning, snapshots, IsOrdered, IsLevelled};
+ghost use Rattle.plan_model.specs.Meaning.{Sources, left_of, right_of, selected_row, selected_event, node_events, events, node_closes, closes, nothing, by_events, node_meaning, meaning, snapshots, IsOrdered, IsLevelled};
 
 /// Each node of an expression has the value that its kind makes of its operands' values, and the expression has the
 /// value of its last node.
@@ -44,6 +44,34 @@ pub fn where_is()
     ensures closing { (nodes : List Node) (i child p : ℕ) (test : List ExprNode) →
         IsOrdered nodes → slice_get nodes i ≡ Some (Node.Where child test) →
         closes nodes i p ≡ closes nodes child p }
+{}
+
+/// A Select has the events and, at each instant, the rows of its child with each row replaced by the items' values, and is
+/// closed where the child is.
+pub fn select_is()
+    ensures events { (source : Sources) (nodes : List Node) (i child : ℕ) (items : List (List ExprNode)) →
+        IsOrdered nodes → slice_get nodes i ≡ Some (Node.Select child items) →
+        events source nodes i ≡ map (selected_event items) (events source nodes child) }
+    ensures rows { (source : Sources) (nodes : List Node) (i child t : ℕ) (items : List (List ExprNode)) →
+        IsOrdered nodes → slice_get nodes i ≡ Some (Node.Select child items) →
+        snapshots source nodes i t ≡ map (selected_row items) (snapshots source nodes child t) }
+    ensures closing { (nodes : List Node) (i child p : ℕ) (items : List (List ExprNode)) →
+        IsOrdered nodes → slice_get nodes i ≡ Some (Node.Select child items) →
+        closes nodes i p ≡ closes nodes child p }
+{}
+
+/// A Union has the events and, at each instant, the rows of both children, and is closed up to the lesser of their
+/// closings.
+pub fn union_is()
+    ensures events { (source : Sources) (nodes : List Node) (i left right : ℕ) →
+        IsOrdered nodes → slice_get nodes i ≡ Some (Node.Union left right) →
+        events source nodes i ≡ events source nodes left ++ events source nodes right }
+    ensures rows { (source : Sources) (nodes : List Node) (i left right t : ℕ) →
+        IsOrdered nodes → slice_get nodes i ≡ Some (Node.Union left right) →
+        snapshots source nodes i t ≡ snapshots source nodes left t ++ snapshots source nodes right t }
+    ensures closing { (nodes : List Node) (i left right p : ℕ) →
+        IsOrdered nodes → slice_get nodes i ≡ Some (Node.Union left right) →
+        closes nodes i p ≡ min (closes nodes left p) (closes nodes right p) }
 {}
 
 /// Each node, of any kind, is its own case over its children: its events, its meaning and its closing are made of what it

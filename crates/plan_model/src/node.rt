@@ -1,6 +1,7 @@
 // Nodes of plans.
 
 use crate::expr::Expr;
+use crate::lists::ExprList;
 
 /// A node of a plan. It names its children by their numbers in the plan's list of nodes, which are lower than its own.
 /// The list of kinds of node grows: a `match` outside this crate is to expect more of them.
@@ -10,4 +11,8 @@ pub enum Node {
     Source { stream: usize },
     /// The rows of the child for which the test is true.
     Where { of: usize, test: Expr },
+    /// Each row of the child replaced by the values of the items on it, in order.
+    Select { of: usize, items: ExprList },
+    /// The rows of both children; multiplicities add.
+    Union { left: usize, right: usize },
 }

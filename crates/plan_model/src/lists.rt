@@ -1,0 +1,35 @@
+// Lists that nodes of plans hold.
+ghost use Rattle.std.specs.Prelude.{◌≡◌};
+
+use crate::expr::Expr;
+use std::marker::Model;
+
+/// Expressions, in order.
+#[derive(Drop)]
+pub struct ExprList {
+    exprs: Vec<Expr>,
+}
+
+impl Model for ExprList {
+    ghost use Rattle.std.specs.Prelude.{List};
+    ghost use Rattle.plan_model.specs.declared.expr.ExprNode.{ExprNode};
+
+    ghost Value = { List (List ExprNode) };
+
+    ghost view = { λ e. e.exprs.items };
+}
+
+impl ExprList {
+    /// The list of these expressions. It takes no memory.
+    pub fn from_vec(items: Vec<Expr>) -> ExprList
+        ensures { result ≡ items.items }
+    {
+        ExprList { exprs: items }
+    }
+
+    pub fn items(&self) -> &[Expr]
+        ensures { result.now ≡ self.now }
+    {
+        self.exprs.as_slice()
+    }
+}
