@@ -1,6 +1,7 @@
 pub mod Folds
 pub mod Exprs
 pub mod Plans
+pub mod NewLives
 pub mod NodeLaws
 pub mod PlanLaws
 pub mod FilterPlans

@@ -1,20 +1,22 @@
 -- Of each kind of node: its events agree with its rows, and what is known of its events hangs on what is known of its
 -- children's.
 use Rattle.std.specs.Prelude.{◌≡◌, ℕ, ◌+◌, ◌<◌, ◌≤◌, min, Bool, true, false, cond, List, [], ◌∷◌, ◌++◌, map, filter, refl}
-use Rattle.std.proofs.Common.{sym, ◌∙◌, ap, arith, add-zero}
+use Rattle.std.proofs.Common.{sym, ◌∙◌, ap, subst, arith, add-zero}
 use Rattle.std.proofs.lemmas.Bool.{and_parts}
 use Rattle.std.proofs.lemmas.Bool.Decides.{nat_tests}
 use Rattle.tw_rows.specs.Instant.{inf}
 use Rattle.tw_rows.specs.Bag.{total, SameBag}
 use Rattle.tw_rows.specs.Event.{Event, lives_at, alive, AreEvents, cut_one, cut, Known}
 use Rattle.tw_rows.specs.Rows.{Row}
-use Rattle.tw_rows.proofs.Bags.{total-append, total-map, total-filter, total_same, SameBag-append}
+use Rattle.tw_rows.proofs.Bags.{total-append, total-map, total-filter, total_same, SameBag-refl, SameBag-append}
 use Rattle.tw_rows.proofs.Lives.{total-alive, cut-append, AreEvents-append, causal_from_one}
 use Rattle.plan_model.specs.declared.expr.ExprNode.{ExprNode}
 use Rattle.plan_model.specs.declared.node.Node.{Node}
-use Rattle.plan_model.specs.declared.node.Node.TheVariants.{Source, Where, Select, Union}
+use Rattle.plan_model.specs.declared.node.Node.TheVariants.{Source, Where, Select, Union, Delay, Hop, Duration, Extend}
 use Rattle.plan_model.specs.Expr.{holds}
-use Rattle.plan_model.specs.Meaning.{Meaning, filtered, selected_row, selected_event, selected, node_events, node_meaning, node_closes, reads_events}
+use Rattle.plan_model.specs.Lives.{moved, hopped, lasting, extended}
+use Rattle.plan_model.specs.Meaning.{Meaning, by_events, filtered, selected_row, selected_event, selected, node_events, node_meaning, node_closes, reads_events}
+use Rattle.plan_model.proofs.NewLives.{alive-moved, Known-moved, Known-hopped, Known-lasting, Known-extended}
 
 -- the events of a node are its meaning: they are its own events where it has them, and alive they are its rows
 pub record AgreesWith (es : List (Event Row)) (m : Meaning) : Type 0 where
@@ -61,6 +63,13 @@ alive-union xs ys left right t h k = record {
       ∙ sym (total-append w left right))));
 }
 
+-- a node that makes its events of those of its child
+agrees_by_events : (change : List (Event Row) → List (Event Row)) (a : List (Event Row)) (x : Meaning) → a ≡ x.events → AgreesWith (change a) (by_events (change x.events))
+agrees_by_events change a x same = record {
+  same_events = λ has. ap change same;
+  same_rows = λ t low. subst (λ es. SameBag (alive (change a) t) (alive (change es) t)) same (SameBag-refl _);
+}
+
 pub node_agrees : (n : Node) (a b : List (Event Row)) (x y : Meaning) → AgreesWith a x → AgreesWith b y → (reads_events n ≡ true → x.has_events ≡ true) → AgreesWith (node_events n a b) (node_meaning n x y)
 node_agrees (Source stream) a b x y h k fits = h
 node_agrees (Where of test) a b x y h k fits = record {
@@ -75,6 +84,13 @@ node_agrees (Union left right) a b x y h k fits = record {
   same_events = λ has. let both = and_parts x.has_events y.has_events has in ap (λ l. l ++ b) (h.same_events both.0) ∙ ap (λ l. x.events ++ l) (k.same_events both.1);
   same_rows = λ t low. alive-union a b (x.rows t) (y.rows t) t (h.same_rows t low) (k.same_rows t low);
 }
+node_agrees (Delay of by) a b x y h k fits = record {
+  same_events = λ has. ap (moved by) (h.same_events has);
+  same_rows = λ t low. alive-moved by a x.rows t low h.same_rows;
+}
+node_agrees (Hop of size period) a b x y h k fits = agrees_by_events (hopped size period) a x (h.same_events (fits refl))
+node_agrees (Duration of by) a b x y h k fits = agrees_by_events (lasting by) a x (h.same_events (fits refl))
+node_agrees (Extend of by) a b x y h k fits = agrees_by_events (extended by) a x (h.same_events (fits refl))
 
 filtered_by_one : (test : List ExprNode) (w : Event Row → ℕ) (es : List (Event Row)) → total w (filtered test es) ≡ total (λ e. total w (cond (holds test e.row) (e ∷ []) [])) es
 filtered_by_one test w es = total-filter w (λ e. holds test e.row) es ∙ total_same _ _ es (λ e. one (holds test e.row) e)
@@ -135,3 +151,7 @@ node_known (Union left right) x y a b c d h k = record {
   same = rw (cut-append (min x y) a b, cut-append (min x y) c d)
       (SameBag-append _ _ _ _ (cut_less x (min x y) a c (omega arith) h.low h.left_valid h.right_valid h.same) (cut_less y (min x y) b d (omega arith) k.low k.left_valid k.right_valid k.same));
 }
+node_known (Delay of by) x y a b c d h k = Known-moved by x a c h
+node_known (Hop of size period) x y a b c d h k = Known-hopped size period x a c h
+node_known (Duration of by) x y a b c d h k = Known-lasting by x a c h
+node_known (Extend of by) x y a b c d h k = Known-extended by x a c h

@@ -1,6 +1,7 @@
 pub mod Fold
 pub mod IsExpr
 pub mod Expr
+pub mod Lives
 pub mod Meaning
 pub mod FilterPlan
 pub mod Arithmetic

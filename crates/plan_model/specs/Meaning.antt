@@ -1,13 +1,14 @@
 -- What a plan means: the events and the rows of each node, and the time below which they are final.
-use Rattle.std.specs.Prelude.{◌≡◌, ℕ, ◌<◌, min, Bool, true, false, ◌&&◌, Option, Some, None, List, [], ◌++◌, map, filter, slice_get}
-use Rattle.tw_rows.specs.Instant.{inf}
+use Rattle.std.specs.Prelude.{◌≡◌, ℕ, ◌-◌, ◌<◌, min, nat_le, Bool, true, false, cond, ◌&&◌, Option, Some, None, List, [], ◌++◌, map, filter, slice_get}
+use Rattle.tw_rows.specs.Instant.{inf, later, floor_to}
 use Rattle.tw_rows.specs.Event.{Event, alive}
 use Rattle.tw_rows.specs.Rows.{Row}
 use Rattle.plan_model.specs.declared.expr.ExprNode.{ExprNode}
 use Rattle.plan_model.specs.declared.node.Node.{Node}
-use Rattle.plan_model.specs.declared.node.Node.TheVariants.{Source, Where, Select, Union}
+use Rattle.plan_model.specs.declared.node.Node.TheVariants.{Source, Where, Select, Union, Delay, Hop, Duration, Extend}
 use Rattle.plan_model.specs.Expr.{value, holds}
 use Rattle.plan_model.specs.Fold.{result}
+use Rattle.plan_model.specs.Lives.{moved, hopped, lasting, extended}
 
 -- the events of each stream, by its number
 abbrev pub Sources : Type 0
@@ -19,6 +20,10 @@ left_child (Source stream) = None
 left_child (Where of test) = Some of
 left_child (Select of items) = Some of
 left_child (Union left right) = Some left
+left_child (Delay of by) = Some of
+left_child (Hop of size period) = Some of
+left_child (Duration of by) = Some of
+left_child (Extend of by) = Some of
 
 -- the number of the right child
 abbrev pub right_child : Node → Option ℕ
@@ -26,6 +31,10 @@ right_child (Source stream) = None
 right_child (Where of test) = None
 right_child (Select of items) = None
 right_child (Union left right) = Some right
+right_child (Delay of by) = None
+right_child (Hop of size period) = None
+right_child (Duration of by) = None
+right_child (Extend of by) = None
 
 -- what stands at a child's number, and `none` where there is no child
 abbrev pub at_child : {R : Type 0} → R → (ℕ → R) → Option ℕ → R
@@ -77,6 +86,10 @@ node_events (Source stream) a b = a
 node_events (Where of test) a b = filtered test a
 node_events (Select of items) a b = selected items a
 node_events (Union left right) a b = a ++ b
+node_events (Delay of by) a b = moved by a
+node_events (Hop of size period) a b = hopped size period a
+node_events (Duration of by) a b = lasting by a
+node_events (Extend of by) a b = extended by a
 
 -- the events of the node of number n
 abbrev pub events : Sources → List Node → ℕ → List (Event Row)
@@ -88,6 +101,10 @@ node_closes (Source stream) x y = x
 node_closes (Where of test) x y = x
 node_closes (Select of items) x y = x
 node_closes (Union left right) x y = min x y
+node_closes (Delay of by) x y = later by x
+node_closes (Hop of size period) x y = floor_to period x
+node_closes (Duration of by) x y = x
+node_closes (Extend of by) x y = x
 
 -- the closing of the node of number n at the punctuation p, up to which all rows of the sources are known
 abbrev pub closes : List Node → ℕ → ℕ → ℕ
@@ -113,6 +130,10 @@ node_meaning (Source stream) a b = a
 node_meaning (Where of test) a b = record { events = filtered test a.events; has_events = a.has_events; rows = λ t. filter (holds test) (a.rows t) }
 node_meaning (Select of items) a b = record { events = selected items a.events; has_events = a.has_events; rows = λ t. map (selected_row items) (a.rows t) }
 node_meaning (Union left right) a b = record { events = a.events ++ b.events; has_events = a.has_events && b.has_events; rows = λ t. a.rows t ++ b.rows t }
+node_meaning (Delay of by) a b = record { events = moved by a.events; has_events = a.has_events; rows = λ t. cond (nat_le by t) (a.rows (t - by)) [] }
+node_meaning (Hop of size period) a b = by_events (hopped size period a.events)
+node_meaning (Duration of by) a b = by_events (lasting by a.events)
+node_meaning (Extend of by) a b = by_events (extended by a.events)
 
 -- the meaning of the node of number n
 abbrev pub meaning : Sources → List Node → ℕ → Meaning
@@ -128,6 +149,10 @@ reads_events (Source stream) = false
 reads_events (Where of test) = false
 reads_events (Select of items) = false
 reads_events (Union left right) = false
+reads_events (Delay of by) = false
+reads_events (Hop of size period) = true
+reads_events (Duration of by) = true
+reads_events (Extend of by) = true
 
 -- a node that reads events has a child with events
 abbrev pub IsLevelled : List Node → Type 0

@@ -1,13 +1,14 @@
 // The laws of what expressions and plans mean. Each is a function that does nothing; its clauses are the law.
-ghost use Rattle.std.specs.Prelude.{◌≡◌, ℕ, ◌-◌, ◌<◌, min, List, [], ◌++◌, length, map, filter, slice_get, true};
+ghost use Rattle.std.specs.Prelude.{◌≡◌, ℕ, ◌-◌, ◌<◌, ◌≤◌, min, List, [], ◌++◌, length, map, filter, slice_get, true};
 ghost use Rattle.tw_rows.specs.Bag.{SameBag};
 ghost use Rattle.tw_rows.specs.Event.{Event, alive, AreEvents, Known};
-ghost use Rattle.tw_rows.specs.Instant.{inf};
+ghost use Rattle.tw_rows.specs.Instant.{inf, later, floor_to};
 ghost use Rattle.tw_rows.specs.Rows.{Row};
 ghost use Rattle.plan_model.specs.declared.expr.ExprNode.{ExprNode};
 ghost use Rattle.plan_model.specs.declared.node.Node.{Node};
 ghost use Rattle.plan_model.specs.IsExpr.{IsExpr};
 ghost use Rattle.plan_model.specs.Expr.{node_value, value_at, value, holds};
+ghost use Rattle.plan_model.specs.Lives.{moved, hopped, lasting, extended};
 ghost use Rattle.plan_model.specs.Meaning.{Sources, left_of, right_of, selected_row, selected_event, node_events, events, node_closes, closes, nothing, by_events, node_meaning, meaning, snapshots, IsOrdered, IsLevelled};
 
 /// Each node of an expression has the value that its kind makes of its operands' values, and the expression has the
@@ -72,6 +73,65 @@ pub fn union_is()
     ensures closing { (nodes : List Node) (i left right p : ℕ) →
         IsOrdered nodes → slice_get nodes i ≡ Some (Node.Union left right) →
         closes nodes i p ≡ min (closes nodes left p) (closes nodes right p) }
+{}
+
+/// A Delay has the events of its child, each moved; at each instant it has the rows that its child has `by` earlier, and
+/// none before `by`; and it is closed `by` later than its child.
+pub fn delay_is()
+    ensures events { (source : Sources) (nodes : List Node) (i child by : ℕ) →
+        IsOrdered nodes → slice_get nodes i ≡ Some (Node.Delay child by) →
+        events source nodes i ≡ moved by (events source nodes child) }
+    ensures rows { (source : Sources) (nodes : List Node) (i child by t : ℕ) →
+        IsOrdered nodes → slice_get nodes i ≡ Some (Node.Delay child by) → by ≤ t →
+        snapshots source nodes i t ≡ snapshots source nodes child (t - by) }
+    ensures no_rows { (source : Sources) (nodes : List Node) (i child by t : ℕ) →
+        IsOrdered nodes → slice_get nodes i ≡ Some (Node.Delay child by) → t < by →
+        snapshots source nodes i t ≡ [] }
+    ensures closing { (nodes : List Node) (i child by p : ℕ) →
+        IsOrdered nodes → slice_get nodes i ≡ Some (Node.Delay child by) →
+        closes nodes i p ≡ later by (closes nodes child p) }
+{}
+
+/// A Hop has the events of its child, each over a life of that size from a multiple of the period on, its rows are those
+/// that are alive, and it is closed up to a multiple of the period.
+pub fn hop_is()
+    ensures events { (source : Sources) (nodes : List Node) (i child size period : ℕ) →
+        IsOrdered nodes → slice_get nodes i ≡ Some (Node.Hop child size period) →
+        events source nodes i ≡ hopped size period (events source nodes child) }
+    ensures rows { (source : Sources) (nodes : List Node) (i child size period t : ℕ) →
+        IsOrdered nodes → IsLevelled nodes → slice_get nodes i ≡ Some (Node.Hop child size period) →
+        snapshots source nodes i t ≡ alive (hopped size period (events source nodes child)) t }
+    ensures closing { (nodes : List Node) (i child size period p : ℕ) →
+        IsOrdered nodes → slice_get nodes i ≡ Some (Node.Hop child size period) →
+        closes nodes i p ≡ floor_to period (closes nodes child p) }
+{}
+
+/// A Duration has the events of its child, each over a life that lasts so long, its rows are those that are alive, and it
+/// is closed where the child is.
+pub fn duration_is()
+    ensures events { (source : Sources) (nodes : List Node) (i child by : ℕ) →
+        IsOrdered nodes → slice_get nodes i ≡ Some (Node.Duration child by) →
+        events source nodes i ≡ lasting by (events source nodes child) }
+    ensures rows { (source : Sources) (nodes : List Node) (i child by t : ℕ) →
+        IsOrdered nodes → IsLevelled nodes → slice_get nodes i ≡ Some (Node.Duration child by) →
+        snapshots source nodes i t ≡ alive (lasting by (events source nodes child)) t }
+    ensures closing { (nodes : List Node) (i child by p : ℕ) →
+        IsOrdered nodes → slice_get nodes i ≡ Some (Node.Duration child by) →
+        closes nodes i p ≡ closes nodes child p }
+{}
+
+/// An Extend has the events of its child, each with an end that is so much later, its rows are those that are alive, and
+/// it is closed where the child is.
+pub fn extend_is()
+    ensures events { (source : Sources) (nodes : List Node) (i child by : ℕ) →
+        IsOrdered nodes → slice_get nodes i ≡ Some (Node.Extend child by) →
+        events source nodes i ≡ extended by (events source nodes child) }
+    ensures rows { (source : Sources) (nodes : List Node) (i child by t : ℕ) →
+        IsOrdered nodes → IsLevelled nodes → slice_get nodes i ≡ Some (Node.Extend child by) →
+        snapshots source nodes i t ≡ alive (extended by (events source nodes child)) t }
+    ensures closing { (nodes : List Node) (i child by p : ℕ) →
+        IsOrdered nodes → slice_get nodes i ≡ Some (Node.Extend child by) →
+        closes nodes i p ≡ closes nodes child p }
 {}
 
 /// Each node, of any kind, is its own case over its children: its events, its meaning and its closing are made of what it

@@ -15,4 +15,14 @@ pub enum Node {
     Select { of: usize, items: ExprList },
     /// The rows of both children; multiplicities add.
     Union { left: usize, right: usize },
+    /// The rows of the child, each moved by so many units of time: at each instant its rows at the instant `by` earlier, and
+    /// none before `by`.
+    Delay { of: usize, by: u64 },
+    /// The rows of the child, each alive for `size` units from the greatest multiple of the period that is not above its
+    /// start.
+    Hop { of: usize, size: u64, period: u64 },
+    /// The rows of the child, each alive for `by` units from its start.
+    Duration { of: usize, by: u64 },
+    /// The rows of the child, each alive for `by` units more. One that is alive for ever stays so.
+    Extend { of: usize, by: u64 },
 }
