@@ -2,6 +2,7 @@ pub mod Folds
 pub mod Exprs
 pub mod Plans
 pub mod NewLives
+pub mod Joining
 pub mod NodeLaws
 pub mod PlanLaws
 pub mod FilterPlans

@@ -16,7 +16,7 @@ use Rattle.plan_model.specs.Lives.{with_life, moved_one, moved, hopped_one, hopp
 moved_one_alive : {R : Type 0} (w : R → ℕ) (by t : ℕ) (e : Event R) → t < inf → total (λ x. cond (lives_at t x) (w x.row) 0) (moved_one by e) ≡ cond (nat_le by t) (cond (lives_at (t - by) e) (w e.row) 0) 0
 moved_one_alive w by t e low = grind (arith, nat_tests)
 
-total_cond : {X : Type 0} (b : Bool) (w : X → ℕ) (xs : List X) → total (λ x. cond b (w x) 0) xs ≡ cond b (total w xs) 0
+pub total_cond : {X : Type 0} (b : Bool) (w : X → ℕ) (xs : List X) → total (λ x. cond b (w x) 0) xs ≡ cond b (total w xs) 0
 total_cond true w xs = refl
 total_cond false w xs = total_zero xs
 
@@ -36,11 +36,11 @@ alive-moved by es rows t low h = record {
       ∙ total_of_cond w (nat_le by t) (rows (t - by))))));
 }
 
-AreEvents-each : {R : Type 0} (one : Event R → List (Event R)) → ((e : Event R) → e.start < e.end → e.end ≤ inf → AreEvents (one e)) → (es : List (Event R)) → AreEvents es → AreEvents (flat_map one es)
+pub AreEvents-each : {Q R : Type 0} (one : Event Q → List (Event R)) → ((e : Event Q) → e.start < e.end → e.end ≤ inf → AreEvents (one e)) → (es : List (Event Q)) → AreEvents es → AreEvents (flat_map one es)
 AreEvents-each one h [] v = tt
 AreEvents-each one h (e ∷ es) v = AreEvents-append (one e) (flat_map one es) (h e v.0 v.1) (AreEvents-each one h es v.2)
 
-AreEvents-with_life : {R : Type 0} (row : R) (start end : ℕ) → end ≤ inf → AreEvents (with_life row start end)
+pub AreEvents-with_life : {R : Type 0} (row : R) (start end : ℕ) → end ≤ inf → AreEvents (with_life row start end)
 AreEvents-with_life {R} row start end high = one (nat_lt start end) (ltb-true start end)
   where
     one : (b : Bool) → (b ≡ true → start < end) → AreEvents (cond b (record { row = row; start = start; end = end } ∷ []) [])

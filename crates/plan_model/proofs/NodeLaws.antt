@@ -12,10 +12,12 @@ use Rattle.tw_rows.proofs.Bags.{total-append, total-map, total-filter, total_sam
 use Rattle.tw_rows.proofs.Lives.{total-alive, cut-append, AreEvents-append, causal_from_one}
 use Rattle.plan_model.specs.declared.expr.ExprNode.{ExprNode}
 use Rattle.plan_model.specs.declared.node.Node.{Node}
-use Rattle.plan_model.specs.declared.node.Node.TheVariants.{Source, Where, Select, Union, Delay, Hop, Duration, Extend}
+use Rattle.plan_model.specs.declared.node.Node.TheVariants.{Source, Where, Select, Union, Delay, Hop, Duration, Extend, Join}
 use Rattle.plan_model.specs.Expr.{holds}
+use Rattle.plan_model.specs.Keys.{keys_equal, paired_row}
 use Rattle.plan_model.specs.Lives.{moved, hopped, lasting, extended}
 use Rattle.plan_model.specs.Meaning.{Meaning, by_events, filtered, selected_row, selected_event, selected, node_events, node_meaning, node_closes, reads_events}
+use Rattle.plan_model.proofs.Joining.{alive-joined, Known-joined}
 use Rattle.plan_model.proofs.NewLives.{alive-moved, Known-moved, Known-hopped, Known-lasting, Known-extended}
 
 -- the events of a node are its meaning: they are its own events where it has them, and alive they are its rows
@@ -91,6 +93,10 @@ node_agrees (Delay of by) a b x y h k fits = record {
 node_agrees (Hop of size period) a b x y h k fits = agrees_by_events (hopped size period) a x (h.same_events (fits refl))
 node_agrees (Duration of by) a b x y h k fits = agrees_by_events (lasting by) a x (h.same_events (fits refl))
 node_agrees (Extend of by) a b x y h k fits = agrees_by_events (extended by) a x (h.same_events (fits refl))
+node_agrees (Join left right left_key right_key) a b x y h k fits = record {
+  same_events = λ has. absurd (cc);
+  same_rows = λ t low. alive-joined (keys_equal left_key right_key) (paired_row right_key) a b (x.rows t) (y.rows t) t (h.same_rows t low) (k.same_rows t low);
+}
 
 filtered_by_one : (test : List ExprNode) (w : Event Row → ℕ) (es : List (Event Row)) → total w (filtered test es) ≡ total (λ e. total w (cond (holds test e.row) (e ∷ []) [])) es
 filtered_by_one test w es = total-filter w (λ e. holds test e.row) es ∙ total_same _ _ es (λ e. one (holds test e.row) e)
@@ -155,3 +161,4 @@ node_known (Delay of by) x y a b c d h k = Known-moved by x a c h
 node_known (Hop of size period) x y a b c d h k = Known-hopped size period x a c h
 node_known (Duration of by) x y a b c d h k = Known-lasting by x a c h
 node_known (Extend of by) x y a b c d h k = Known-extended by x a c h
+node_known (Join left right left_key right_key) x y a b c d h k = Known-joined (keys_equal left_key right_key) (paired_row right_key) x y a c b d h k

@@ -2,6 +2,8 @@ pub mod Fold
 pub mod IsExpr
 pub mod Expr
 pub mod Lives
+pub mod Joins
+pub mod Keys
 pub mod Meaning
 pub mod FilterPlan
 pub mod Arithmetic

@@ -5,9 +5,11 @@ use Rattle.tw_rows.specs.Event.{Event, alive}
 use Rattle.tw_rows.specs.Rows.{Row}
 use Rattle.plan_model.specs.declared.expr.ExprNode.{ExprNode}
 use Rattle.plan_model.specs.declared.node.Node.{Node}
-use Rattle.plan_model.specs.declared.node.Node.TheVariants.{Source, Where, Select, Union, Delay, Hop, Duration, Extend}
+use Rattle.plan_model.specs.declared.node.Node.TheVariants.{Source, Where, Select, Union, Delay, Hop, Duration, Extend, Join}
 use Rattle.plan_model.specs.Expr.{value, holds}
 use Rattle.plan_model.specs.Fold.{result}
+use Rattle.plan_model.specs.Keys.{keys_equal, paired_row}
+use Rattle.plan_model.specs.Joins.{joined_rows, joined}
 use Rattle.plan_model.specs.Lives.{moved, hopped, lasting, extended}
 
 -- the events of each stream, by its number
@@ -24,6 +26,7 @@ left_child (Delay of by) = Some of
 left_child (Hop of size period) = Some of
 left_child (Duration of by) = Some of
 left_child (Extend of by) = Some of
+left_child (Join left right left_key right_key) = Some left
 
 -- the number of the right child
 abbrev pub right_child : Node → Option ℕ
@@ -35,6 +38,7 @@ right_child (Delay of by) = None
 right_child (Hop of size period) = None
 right_child (Duration of by) = None
 right_child (Extend of by) = None
+right_child (Join left right left_key right_key) = Some right
 
 -- what stands at a child's number, and `none` where there is no child
 abbrev pub at_child : {R : Type 0} → R → (ℕ → R) → Option ℕ → R
@@ -90,6 +94,7 @@ node_events (Delay of by) a b = moved by a
 node_events (Hop of size period) a b = hopped size period a
 node_events (Duration of by) a b = lasting by a
 node_events (Extend of by) a b = extended by a
+node_events (Join left right left_key right_key) a b = joined (keys_equal left_key right_key) (paired_row right_key) a b
 
 -- the events of the node of number n
 abbrev pub events : Sources → List Node → ℕ → List (Event Row)
@@ -105,6 +110,7 @@ node_closes (Delay of by) x y = later by x
 node_closes (Hop of size period) x y = floor_to period x
 node_closes (Duration of by) x y = x
 node_closes (Extend of by) x y = x
+node_closes (Join left right left_key right_key) x y = min x y
 
 -- the closing of the node of number n at the punctuation p, up to which all rows of the sources are known
 abbrev pub closes : List Node → ℕ → ℕ → ℕ
@@ -124,6 +130,10 @@ nothing = record { events = []; has_events = true; rows = λ t. [] }
 abbrev pub by_events : List (Event Row) → Meaning
 by_events events = record { events = events; has_events = true; rows = alive events }
 
+-- the meaning that has rows alone
+abbrev pub by_rows : (ℕ → List Row) → Meaning
+by_rows rows = record { events = []; has_events = false; rows = rows }
+
 -- the meaning of a node, from those of its children
 abbrev pub node_meaning : Node → Meaning → Meaning → Meaning
 node_meaning (Source stream) a b = a
@@ -134,6 +144,7 @@ node_meaning (Delay of by) a b = record { events = moved by a.events; has_events
 node_meaning (Hop of size period) a b = by_events (hopped size period a.events)
 node_meaning (Duration of by) a b = by_events (lasting by a.events)
 node_meaning (Extend of by) a b = by_events (extended by a.events)
+node_meaning (Join left right left_key right_key) a b = by_rows (λ t. joined_rows (keys_equal left_key right_key) (paired_row right_key) (a.rows t) (b.rows t))
 
 -- the meaning of the node of number n
 abbrev pub meaning : Sources → List Node → ℕ → Meaning
@@ -153,6 +164,7 @@ reads_events (Delay of by) = false
 reads_events (Hop of size period) = true
 reads_events (Duration of by) = true
 reads_events (Extend of by) = true
+reads_events (Join left right left_key right_key) = false
 
 -- a node that reads events has a child with events
 abbrev pub IsLevelled : List Node → Type 0

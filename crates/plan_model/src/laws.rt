@@ -1,5 +1,5 @@
 // The laws of what expressions and plans mean. Each is a function that does nothing; its clauses are the law.
-ghost use Rattle.std.specs.Prelude.{◌≡◌, ℕ, ◌-◌, ◌<◌, ◌≤◌, min, List, [], ◌++◌, length, map, filter, slice_get, true};
+ghost use Rattle.std.specs.Prelude.{◌≡◌, ◌↔◌, IsTrue, ℕ, ◌-◌, ◌<◌, ◌≤◌, min, List, [], ◌++◌, length, map, filter, slice_get, true};
 ghost use Rattle.tw_rows.specs.Bag.{SameBag};
 ghost use Rattle.tw_rows.specs.Event.{Event, alive, AreEvents, Known};
 ghost use Rattle.tw_rows.specs.Instant.{inf, later, floor_to};
@@ -8,6 +8,8 @@ ghost use Rattle.plan_model.specs.declared.expr.ExprNode.{ExprNode};
 ghost use Rattle.plan_model.specs.declared.node.Node.{Node};
 ghost use Rattle.plan_model.specs.IsExpr.{IsExpr};
 ghost use Rattle.plan_model.specs.Expr.{node_value, value_at, value, holds};
+ghost use Rattle.plan_model.specs.Keys.{key_values, keys_equal, paired_row};
+ghost use Rattle.plan_model.specs.Joins.{joined_rows, joined};
 ghost use Rattle.plan_model.specs.Lives.{moved, hopped, lasting, extended};
 ghost use Rattle.plan_model.specs.Meaning.{Sources, left_of, right_of, selected_row, selected_event, node_events, events, node_closes, closes, nothing, by_events, node_meaning, meaning, snapshots, IsOrdered, IsLevelled};
 
@@ -132,6 +134,27 @@ pub fn extend_is()
     ensures closing { (nodes : List Node) (i child by p : ℕ) →
         IsOrdered nodes → slice_get nodes i ≡ Some (Node.Extend child by) →
         closes nodes i p ≡ closes nodes child p }
+{}
+
+/// A Join has an event for each pair of a left and a right event with equal keys that are alive at one instant, over all
+/// such instants; at each instant it has the pairs of its children's rows; and it is closed up to the lesser of their
+/// closings. Keys are equal where their values are.
+pub fn join_is()
+    ensures events { (source : Sources) (nodes : List Node) (i left right : ℕ) (left_key right_key : List ℕ) →
+        IsOrdered nodes → slice_get nodes i ≡ Some (Node.Join left right left_key right_key) →
+        events source nodes i
+        ≡ joined (keys_equal left_key right_key) (paired_row right_key)
+        (events source nodes left) (events source nodes right) }
+    ensures rows { (source : Sources) (nodes : List Node) (i left right t : ℕ) (left_key right_key : List ℕ) →
+        IsOrdered nodes → slice_get nodes i ≡ Some (Node.Join left right left_key right_key) →
+        snapshots source nodes i t
+        ≡ joined_rows (keys_equal left_key right_key) (paired_row right_key)
+        (snapshots source nodes left t) (snapshots source nodes right t) }
+    ensures closing { (nodes : List Node) (i left right p : ℕ) (left_key right_key : List ℕ) →
+        IsOrdered nodes → slice_get nodes i ≡ Some (Node.Join left right left_key right_key) →
+        closes nodes i p ≡ min (closes nodes left p) (closes nodes right p) }
+    ensures keys { (left_key right_key : List ℕ) (a b : Row) →
+        IsTrue (keys_equal left_key right_key a b) ↔ (key_values left_key a ≡ key_values right_key b) }
 {}
 
 /// Each node, of any kind, is its own case over its children: its events, its meaning and its closing are made of what it
