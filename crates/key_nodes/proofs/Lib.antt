@@ -1,0 +1,9 @@
+pub mod Bags
+pub mod Lives
+pub mod RunSteps
+pub mod Grouping
+pub mod Alone
+pub mod Least
+pub mod Sessioning
+pub mod Clipping
+pub mod Examples

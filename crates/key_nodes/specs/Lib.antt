@@ -1,0 +1,5 @@
+pub mod Runs
+pub mod Groups
+pub mod Antis
+pub mod Sessions
+pub mod Clips
