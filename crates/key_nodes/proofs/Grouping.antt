@@ -22,7 +22,7 @@ module _ {R K S : Type 0} (key : R → K) (same : K → K → Bool) (tell : K �
   any_key es k = any_map (same k) (λ e. key e.row) es
 
   -- a key that no row has
-  none_told : IsGroupRow key same tell → (k : K) (rows : List R) → list_any (has_key key same k) rows ≡ false → tell k rows ≡ None
+  pub none_told : IsGroupRow key same tell → (k : K) (rows : List R) → list_any (has_key key same k) rows ≡ false → tell k rows ≡ None
   none_told is k rows none = is.none_without_rows k rows (filter_none (has_key key same k) rows none)
 
   same_told : IsGroupRow key same tell → (k : K) (xs ys : List R) → SameBag xs ys → tell k xs ≡ tell k ys

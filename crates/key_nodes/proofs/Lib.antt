@@ -7,3 +7,5 @@ pub mod Least
 pub mod Sessioning
 pub mod Clipping
 pub mod Examples
+pub mod Maximal
+pub mod Shards

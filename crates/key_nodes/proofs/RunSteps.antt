@@ -27,7 +27,7 @@ goes_on_within same_row (Some r) n (e ∷ es) k = pick (nat_eq e.end n && same_r
     pick true = (omega (arith, k), omega arith, within_later n (suc n) es (omega arith) k.2)
     pick false = (omega arith, omega arith, within_later n (suc n) (e ∷ es) (omega arith) k)
 
-runs_within : {R : Type 0} (same_row : R → R → Bool) (f : ℕ → Option R) (n : ℕ) → Within n (runs same_row f n)
+pub runs_within : {R : Type 0} (same_row : R → R → Bool) (f : ℕ → Option R) (n : ℕ) → Within n (runs same_row f n)
 runs_within same_row f zero = tt
 runs_within same_row f (suc n) = goes_on_within same_row (f n) n (runs same_row f n) (runs_within same_row f n)
 

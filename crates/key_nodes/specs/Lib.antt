@@ -3,3 +3,4 @@ pub mod Groups
 pub mod Antis
 pub mod Sessions
 pub mod Clips
+pub mod Shards

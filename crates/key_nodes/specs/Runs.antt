@@ -1,5 +1,5 @@
 -- Runs: the instants at which a row is there, put together into events.
-use Rattle.std.specs.Prelude.{◌≡◌, ◌↔◌, ℕ, zero, suc, nat_eq, Bool, cond, ◌&&◌, IsTrue, Option, Some, None, List, [], ◌∷◌}
+use Rattle.std.specs.Prelude.{◌≡◌, ◌↔◌, ℕ, zero, suc, ◌<◌, ◌⊎◌, nat_eq, Bool, cond, ◌&&◌, IsTrue, IsFalse, Option, Some, None, List, [], ◌∷◌}
 use Rattle.tw_rows.specs.Event.{Event}
 
 -- the test is true exactly of equal things
@@ -19,3 +19,13 @@ goes_on same_row (Some r) t (e ∷ es) =
 abbrev pub runs : {R : Type 0} → (R → R → Bool) → (ℕ → Option R) → ℕ → List (Event R)
 runs same_row f zero = []
 runs same_row f (suc t) = goes_on same_row (f t) t (runs same_row f t)
+
+-- nothing, or a latest event that ends before e starts, or where e starts and with another row
+abbrev pub IsApart : {R : Type 0} → (R → R → Bool) → Event R → List (Event R) → Type 0
+IsApart same_row e [] = Unit {0}
+IsApart same_row e (d ∷ es) = (d.end < e.start) ⊎ ((d.end ≡ e.start) × IsFalse (same_row d.row e.row))
+
+-- the latest first, no event goes on from the one before it in time
+abbrev pub AreMaximal : {R : Type 0} → (R → R → Bool) → List (Event R) → Type 0
+AreMaximal same_row [] = Unit {0}
+AreMaximal same_row (e ∷ es) = IsApart same_row e es × AreMaximal same_row es

@@ -3,13 +3,19 @@ ghost use Rattle.std.specs.Prelude.{◌≡◌, ℕ, ◌<◌, ◌≤◌, Bool, Op
 ghost use Rattle.tw_rows.specs.Instant.{inf};
 ghost use Rattle.tw_rows.specs.Bag.{SameBag};
 ghost use Rattle.tw_rows.specs.Event.{alive, AreEvents, cut};
-ghost use Rattle.key_nodes.specs.Runs.{Tells, runs};
+ghost use Rattle.key_nodes.specs.Runs.{Tells, runs, AreMaximal};
 
 /// At each instant below `n` the runs have the row that `f` gives there, or none where it gives none.
 pub fn runs_have_the_rows<R>()
     ensures { (same_row : R → R → Bool) (f : ℕ → Option R) (n t : ℕ) →
         Tells same_row → t < n →
         SameBag (alive (runs same_row f n) t) (option_to_list (f t)) }
+{}
+
+/// No run goes on from the one before it.
+pub fn runs_are_maximal<R>()
+    ensures { (same_row : R → R → Bool) (f : ℕ → Option R) (n : ℕ) →
+        AreMaximal same_row (runs same_row f n) }
 {}
 
 /// What runs tell below `c` depends on the rows below `c` alone.
