@@ -14,7 +14,8 @@ use Rattle.key_nodes.proofs.Bags.{any_of_same}
 use Rattle.key_nodes.proofs.Lives.{AreEvents-flat_map}
 use Rattle.key_nodes.proofs.RunSteps.{runs_valid, runs_known, runs_none, cut_runs, weight_of, alive_runs}
 
-split_weight : {L : Type 0} (w : L → ℕ) (p q : Bool) (r : L) → weight_of w (cond (p && q) (Some r) None) ≡ cond p (cond q (w r) 0) 0
+split_weight : {L : Type 0} (w : L → ℕ) (p q : Bool) (r : L) →
+    weight_of w (cond (p && q) (Some r) None) ≡ cond p (cond q (w r) 0) 0
 split_weight w true true r = refl
 split_weight w true false r = refl
 split_weight w false q r = refl
@@ -30,12 +31,15 @@ same_life u x e low high = grind (arith, nat_tests)
 
 module _ {L R : Type 0} (same_row : L → L → Bool) (meets : L → R → Bool) where
   pub alone_valid : (ls : List (Event L)) (rs : List (Event R)) → AreEvents (alone same_row meets ls rs)
-  alone_valid ls rs = AreEvents-flat_map (λ e. runs same_row (alone_at meets rs e) inf) ls (λ e. runs_valid same_row (alone_at meets rs e) inf (omega arith))
+  alone_valid ls rs =
+      AreEvents-flat_map (λ e. runs same_row (alone_at meets rs e) inf) ls
+      (λ e. runs_valid same_row (alone_at meets rs e) inf (omega arith))
 
   none_met : (l : L) (xs ys : List R) → SameBag xs ys → meets_none meets xs l ≡ meets_none meets ys l
   none_met l xs ys h = ap not (any_of_same (meets l) xs ys h)
 
-  pub alive_alone : Tells same_row → (ls : List (Event L)) (rs : List (Event R)) (la : List L) (ra : List R) (t : ℕ) → t < inf → SameBag (alive ls t) la → SameBag (alive rs t) ra →
+  pub alive_alone : Tells same_row → (ls : List (Event L)) (rs : List (Event R)) (la : List L) (ra : List R) (t : ℕ) →
+      t < inf → SameBag (alive ls t) la → SameBag (alive rs t) ra →
       SameBag (alive (alone same_row meets ls rs) t) (alone_rows meets la ra)
   alive_alone tells ls rs la ra t low h k = record {
     weigh = λ w.
@@ -57,30 +61,39 @@ module _ {L R : Type 0} (same_row : L → L → Bool) (meets : L → R → Bool)
   weight_known : (Event L → ℕ) → ℕ → List (Event R) → Event L → ℕ
   weight_known w m rs e = total w (cut m (runs same_row (alone_at meets rs e) inf))
 
-  one_known : (w : Event L → ℕ) (x m : ℕ) (rs qs : List (Event R)) (e : Event L) → m ≤ x → x ≤ inf → ((u : ℕ) → u < m → SameBag (alive rs u) (alive qs u)) →
+  one_known : (w : Event L → ℕ) (x m : ℕ) (rs qs : List (Event R)) (e : Event L) → m ≤ x → x ≤ inf →
+      ((u : ℕ) → u < m → SameBag (alive rs u) (alive qs u)) →
       weight_known w m rs e ≡ total (weight_known w m qs) (cut_one x e)
   unfolding weight_known
   one_known w x m rs qs e low high same = elim (cases_lt e.start x) [
     | inl early ↦ rw (lt-ltb e.start x early)
-        (ap (total w) (runs_known same_row (alone_at meets rs e) (alone_at meets qs (known_of x e)) m inf (omega arith) (λ u h.
+        (ap (total w)
+        (runs_known same_row (alone_at meets rs e) (alone_at meets qs (known_of x e)) m inf (omega arith) (λ u h.
         ap (λ b. cond (b && meets_none meets (alive rs u) e.row) (Some e.row) None) (same_life u x e (omega arith) high)
-        ∙ ap (λ b. cond (lives_at u (known_of x e) && b) (Some e.row) None) (none_met e.row (alive rs u) (alive qs u) (same u h))))
+        ∙ ap (λ b. cond (lives_at u (known_of x e) && b) (Some e.row) None)
+        (none_met e.row (alive rs u) (alive qs u) (same u h))))
         ∙ sym (add-zero _))
     | inr late ↦ rw (le-ltb e.start x late)
         (ap (total w) (cut_runs same_row (alone_at meets rs e) m inf (omega arith)
-        ∙ ap (cut m) (runs_none same_row (alone_at meets rs e) m (λ u h. ap (λ b. cond (b && meets_none meets (alive rs u) e.row) (Some e.row) None) (not_yet u e (omega arith))))))
+        ∙ ap (cut m)
+        (runs_none same_row (alone_at meets rs e) m
+        (λ u h. ap (λ b. cond (b && meets_none meets (alive rs u) e.row) (Some e.row) None)
+        (not_yet u e (omega arith))))))
   ]
 
-  by_known : (w : Event L → ℕ) (x m : ℕ) (ls : List (Event L)) (rs qs : List (Event R)) → m ≤ x → x ≤ inf → ((u : ℕ) → u < m → SameBag (alive rs u) (alive qs u)) →
+  by_known : (w : Event L → ℕ) (x m : ℕ) (ls : List (Event L)) (rs qs : List (Event R)) → m ≤ x → x ≤ inf →
+      ((u : ℕ) → u < m → SameBag (alive rs u) (alive qs u)) →
       total w (cut m (alone same_row meets ls rs)) ≡ total (weight_known w m qs) (cut x ls)
   unfolding weight_known
   by_known w x m ls rs qs low high same =
       total-cut w m (alone same_row meets ls rs)
       ∙ (total-flat_map (λ e. total w (cut_one m e)) (λ e. runs same_row (alone_at meets rs e) inf) ls
-      ∙ (total_same _ (λ e. total (weight_known w m qs) (cut_one x e)) ls (λ e. sym (total-cut w m (runs same_row (alone_at meets rs e) inf)) ∙ one_known w x m rs qs e low high same)
+      ∙ (total_same _ (λ e. total (weight_known w m qs) (cut_one x e)) ls
+      (λ e. sym (total-cut w m (runs same_row (alone_at meets rs e) inf)) ∙ one_known w x m rs qs e low high same)
       ∙ sym (total-flat_map (weight_known w m qs) (cut_one x) ls)))
 
-  pub alone_known : (x y : ℕ) (a c : List (Event L)) (b d : List (Event R)) → Known x a c → Known y b d → Known (min x y) (alone same_row meets a b) (alone same_row meets c d)
+  pub alone_known : (x y : ℕ) (a c : List (Event L)) (b d : List (Event R)) → Known x a c → Known y b d →
+      Known (min x y) (alone same_row meets a b) (alone same_row meets c d)
   alone_known x y a c b d h k =
       let xl = h.low in
       let yl = k.low in
@@ -96,11 +109,13 @@ module _ {L R : Type 0} (same_row : L → L → Bool) (meets : L → R → Bool)
         };
       }
 
-pub alone_rows_same : {L R : Type 0} (meets : L → R → Bool) (xs ys : List L) (us vs : List R) → SameBag xs ys → SameBag us vs → SameBag (alone_rows meets xs us) (alone_rows meets ys vs)
+pub alone_rows_same : {L R : Type 0} (meets : L → R → Bool) (xs ys : List L) (us vs : List R) → SameBag xs ys →
+    SameBag us vs → SameBag (alone_rows meets xs us) (alone_rows meets ys vs)
 alone_rows_same meets xs ys us vs h k = record {
   weigh = λ w.
       total-filter w (meets_none meets us) xs
-      ∙ (total_same _ (λ l. cond (meets_none meets vs l) (w l) 0) xs (λ l. ap (λ b. cond (not b) (w l) 0) (any_of_same (meets l) us vs k))
+      ∙ (total_same _ (λ l. cond (meets_none meets vs l) (w l) 0) xs
+      (λ l. ap (λ b. cond (not b) (w l) 0) (any_of_same (meets l) us vs k))
       ∙ (h.weigh (λ l. cond (meets_none meets vs l) (w l) 0)
       ∙ sym (total-filter w (meets_none meets vs) ys)));
 }

@@ -1,5 +1,5 @@
 -- The ends of clipped events.
-use Rattle.std.specs.Prelude.{◌≡◌, ℕ, suc, ◌<◌, ◌≤◌, min, nat_lt, nat_le, nat_eq, Bool, cond, ◌&&◌, ◌⊎◌, List, map, filter, refl}
+use Rattle.std.specs.Prelude.{◌≡◌, ℕ, suc, ◌<◌, ◌≤◌, min, nat_lt, nat_le, nat_eq, Bool, cond, ◌&&◌, List, filter, refl}
 use Rattle.std.proofs.Common.{inl, inr, sym, ◌∙◌, ap, arith, add-zero}
 use Rattle.std.proofs.lemmas.Bool.Decides.{nat_tests}
 use Rattle.std.proofs.lemmas.Bool.{cases_lt, lt-ltb, le-ltb}
@@ -18,37 +18,43 @@ end_cut t x n low high = grind (arith, nat_tests)
 
 module _ {L R : Type 0} (meets : L → R → Bool) where
   -- what one right event adds to the number of starts below t
-  abbrev adds : Event L → ℕ → R → ℕ → ℕ
-  adds e t r s = cond (meets e.row r) (cond (nat_lt e.start s) (cond (nat_lt s t) 1 0) 0) 0
+  abbrev pub adds : Event L → ℕ → R → ℕ → ℕ
+  adds e t r s = cond (meets e.row r && nat_lt e.start s) (cond (nat_lt s t) 1 0) 0
 
-  below_is : (e : Event L) (t : ℕ) (rs : List (Event R)) → below t (later_starts meets rs e) ≡ total (λ r. adds e t r.row r.start) rs
+  pub below_is : (e : Event L) (t : ℕ) (rs : List (Event R)) →
+      below t (later_starts meets rs e) ≡ total (λ r. adds e t r.row r.start) rs
   below_is e t rs =
-      total-filter (λ n. cond (nat_lt n t) 1 0) (nat_lt e.start) (map (λ r. r.start) (filter (λ r. meets e.row r.row) rs))
-      ∙ (total-map (λ s. cond (nat_lt e.start s) (cond (nat_lt s t) 1 0) 0) (λ r. r.start) (filter (λ r. meets e.row r.row) rs)
-      ∙ total-filter (λ r. cond (nat_lt e.start r.start) (cond (nat_lt r.start t) 1 0) 0) (λ r. meets e.row r.row) rs)
+      total-map (λ n. cond (nat_lt n t) 1 0) (λ r. r.start)
+      (filter (λ r. meets e.row r.row && nat_lt e.start r.start) rs)
+      ∙ total-filter (λ r. cond (nat_lt r.start t) 1 0) (λ r. meets e.row r.row && nat_lt e.start r.start) rs
 
-  adds_none : (e : Event L) (t : ℕ) (r : R) (s : ℕ) → (s ≤ e.start) ⊎ (t ≤ s) → adds e t r s ≡ 0
-  adds_none e t r s h = none (meets e.row r)
+  adds_late : (e : Event L) (t : ℕ) (r : R) (s : ℕ) → t ≤ s → adds e t r s ≡ 0
+  adds_late e t r s h = none (meets e.row r)
     where
-      none : (p : Bool) → cond {A = ℕ} p (cond (nat_lt e.start s) (cond (nat_lt s t) 1 0) 0) 0 ≡ 0
+      none : (p : Bool) → cond {A = ℕ} (p && nat_lt e.start s) (cond (nat_lt s t) 1 0) 0 ≡ 0
       none p = grind (arith, nat_tests)
 
-  below_known : (e : Event L) (t y : ℕ) (b d : List (Event R)) → t ≤ y → SameBag (cut y b) (cut y d) → below t (later_starts meets b e) ≡ below t (later_starts meets d e)
+  pub below_known : (e : Event L) (t y : ℕ) (b d : List (Event R)) → t ≤ y → SameBag (cut y b) (cut y d) →
+      below t (later_starts meets b e) ≡ below t (later_starts meets d e)
   below_known e t y b d low h =
-      below_is e t b ∙ (starts_known (adds e t) y b d (λ r s late. adds_none e t r s (inr (omega arith))) h ∙ sym (below_is e t d))
+      below_is e t b
+      ∙ (starts_known (adds e t) y b d (λ r s late. adds_late e t r s (omega arith)) h ∙ sym (below_is e t d))
 
-  clip_end_after : (e : Event L) (rs : List (Event R)) → e.start < e.end → e.start < least e.end (later_starts meets rs e)
+  clip_end_after : (e : Event L) (rs : List (Event R)) → e.start < e.end →
+      e.start < least e.end (later_starts meets rs e)
   clip_end_after e rs low = least_above (suc e.start) e.end (later_starts meets rs e) (omega arith)
       (below_is e (suc e.start) rs ∙ (total_same _ (λ r. 0) rs (λ r. none (meets e.row r.row) r.start) ∙ total_zero rs))
     where
-      none : (p : Bool) (s : ℕ) → cond {A = ℕ} p (cond (nat_lt e.start s) (cond (nat_lt s (suc e.start)) 1 0) 0) 0 ≡ 0
+      none : (p : Bool) (s : ℕ) → cond {A = ℕ} (p && nat_lt e.start s) (cond (nat_lt s (suc e.start)) 1 0) 0 ≡ 0
       none p s = grind (arith, nat_tests)
 
   abbrev known_of : ℕ → Event L → Event L
   known_of x e = record { row = e.row; start = e.start; end = cond (nat_lt e.end x) e.end inf }
 
-  one_known : (w : Event L → ℕ) (x y : ℕ) (e : Event L) (b d : List (Event R)) → x ≤ inf → y ≤ inf → SameBag (cut y b) (cut y d) →
-      total w (cut_one (min x y) (clip meets b e)) ≡ total (λ u. total w (cut_one (min x y) (clip meets d u))) (cut_one x e)
+  one_known : (w : Event L → ℕ) (x y : ℕ) (e : Event L) (b d : List (Event R)) → x ≤ inf → y ≤ inf →
+      SameBag (cut y b) (cut y d) →
+      total w (cut_one (min x y) (clip meets b e))
+      ≡ total (λ u. total w (cut_one (min x y) (clip meets d u))) (cut_one x e)
   one_known w x y e b d hx hy h = elim (cases_lt e.start x) [
     | inl early ↦ rw (lt-ltb e.start x early)
         (cut_alike w (min x y) e.start (clip meets b e).end (clip meets d (known_of x e)).end e.row
@@ -61,8 +67,10 @@ module _ {L R : Type 0} (meets : L → R → Bool) where
     | inr late ↦ rw (le-ltb e.start x late, le-ltb e.start (min x y) (omega arith)) refl
   ]
 
-  by_known : (w : Event L → ℕ) (x y : ℕ) (ls : List (Event L)) (rs d : List (Event R)) → x ≤ inf → y ≤ inf → SameBag (cut y rs) (cut y d) →
-      total w (cut (min x y) (clipped meets ls rs)) ≡ total (λ u. total w (cut_one (min x y) (clip meets d u))) (cut x ls)
+  by_known : (w : Event L → ℕ) (x y : ℕ) (ls : List (Event L)) (rs d : List (Event R)) → x ≤ inf → y ≤ inf →
+      SameBag (cut y rs) (cut y d) →
+      total w (cut (min x y) (clipped meets ls rs))
+      ≡ total (λ u. total w (cut_one (min x y) (clip meets d u))) (cut x ls)
   by_known w x y ls rs d hx hy h =
       total-cut w (min x y) (clipped meets ls rs)
       ∙ (total-map (λ e. total w (cut_one (min x y) e)) (clip meets rs) ls
@@ -75,7 +83,8 @@ module _ {L R : Type 0} (meets : L → R → Bool) where
     (let h = least_at_most e.end (later_starts meets rs e) in omega (arith, h, high)),
   )) valid
 
-  pub clipped_known : (x y : ℕ) (a c : List (Event L)) (b d : List (Event R)) → Known x a c → Known y b d → Known (min x y) (clipped meets a b) (clipped meets c d)
+  pub clipped_known : (x y : ℕ) (a c : List (Event L)) (b d : List (Event R)) → Known x a c → Known y b d →
+      Known (min x y) (clipped meets a b) (clipped meets c d)
   clipped_known x y a c b d h k =
       let xl = h.low in
       let yl = k.low in

@@ -9,7 +9,8 @@ use Rattle.key_nodes.specs.Sessions.{least}
 abbrev pub below : ℕ → List ℕ → ℕ
 below t ns = total (λ n. cond (nat_lt n t) 1 0) ns
 
-one_more : (t n m x k : ℕ) → nat_le t x ≡ (nat_le t m && nat_eq k 0) → nat_le t (min n x) ≡ (nat_le t m && nat_eq (cond (nat_lt n t) 1 0 + k) 0)
+one_more : (t n m x k : ℕ) → nat_le t x ≡ (nat_le t m && nat_eq k 0) →
+    nat_le t (min n x) ≡ (nat_le t m && nat_eq (cond (nat_lt n t) 1 0 + k) 0)
 one_more t n m x k h = grind (arith, nat_tests)
 
 -- t is not above the least exactly where none of the numbers lies below t

@@ -6,6 +6,7 @@ pub mod Alone
 pub mod Least
 pub mod Sessioning
 pub mod Clipping
+pub mod Ends
 pub mod Examples
 pub mod Maximal
 pub mod Shards

@@ -1,11 +1,11 @@
 -- Clips: a left row ends at the latest where a right row that it meets starts.
-use Rattle.std.specs.Prelude.{ℕ, nat_lt, Bool, List, map, filter}
+use Rattle.std.specs.Prelude.{ℕ, nat_lt, Bool, ◌&&◌, List, map, filter}
 use Rattle.tw_rows.specs.Event.{Event}
 use Rattle.key_nodes.specs.Sessions.{least}
 
--- the starts of the right events that the left one meets, strictly after its own
+-- the starts of the right events that the left one meets and that start strictly after it
 abbrev pub later_starts : {L R : Type 0} → (L → R → Bool) → List (Event R) → Event L → List ℕ
-later_starts meets rs e = filter (nat_lt e.start) (map (λ r. r.start) (filter (λ r. meets e.row r.row) rs))
+later_starts meets rs e = map (λ r. r.start) (filter (λ r. meets e.row r.row && nat_lt e.start r.start) rs)
 
 -- the event up to the least of its end and these starts. [3, 20) with starts at 3 and 8: [3, 8)
 abbrev pub clip : {L R : Type 0} → (L → R → Bool) → List (Event R) → Event L → Event L

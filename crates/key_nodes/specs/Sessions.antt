@@ -28,7 +28,8 @@ key_starts key same es k = map (λ e. e.start) (filter (λ e. same k (key e.row)
 
 -- the event up to the end of its session
 abbrev pub session : {R K : Type 0} → (R → K) → (K → K → Bool) → ℕ → List (Event R) → Event R → Event R
-session key same timeout es e = record { row = e.row; start = e.start; end = session_end timeout (key_starts key same es (key e.row)) e.start }
+session key same timeout es e =
+    record { row = e.row; start = e.start; end = session_end timeout (key_starts key same es (key e.row)) e.start }
 
 abbrev pub sessions : {R K : Type 0} → (R → K) → (K → K → Bool) → ℕ → List (Event R) → List (Event R)
 sessions key same timeout es = map (session key same timeout es) es

@@ -18,8 +18,8 @@ pub fn antis_have_the_rows<L, R>()
         SameBag (alone_rows meets left right) (alone_rows meets left2 right2) }
 {}
 
-/// Causality: what is known of the events of an anti-join below the lesser of `x` and `y` depends only on what is known of
-/// the left events below `x` and of the right events below `y`.
+/// Causality: what is known of the events of an anti-join below the lesser of `x` and `y` depends only on what is known
+/// of the left events below `x` and of the right events below `y`.
 pub fn antis_are_causal<L, R>()
     ensures { (same_row : L → L → Bool) (meets : L → R → Bool) →
         (x y : ℕ) (a c : List (Event L)) (b d : List (Event R)) → Known x a c → Known y b d →

@@ -1,13 +1,21 @@
 // The laws of groups.
-ghost use Rattle.std.specs.Prelude.{◌≡◌, ℕ, ◌<◌, Bool, Option, List};
+ghost use Rattle.std.specs.Prelude.{◌≡◌, ℕ, ◌<◌, Bool, Option, None, List, [], filter};
 ghost use Rattle.tw_rows.specs.Instant.{inf};
 ghost use Rattle.tw_rows.specs.Bag.{SameBag};
 ghost use Rattle.tw_rows.specs.Event.{Event, alive, AreEvents, Known};
 ghost use Rattle.key_nodes.specs.Runs.{Tells};
-ghost use Rattle.key_nodes.specs.Groups.{IsGroupRow, grouped_rows, grouped};
+ghost use Rattle.key_nodes.specs.Groups.{has_key, IsGroupRow, grouped_rows, grouped};
 
-/// Snapshots: at each instant the events of groups that are alive are the rows of the groups of what is alive, and these
-/// do not depend on the order of the rows.
+/// A function that makes a row of the rows of a key, in whatever order, and none of no rows, gives the row of a group.
+pub fn rows_of_a_key_give_a_group_row<R, K, S>()
+    ensures { (key : R → K) (same : K → K → Bool) (make : K → List R → Option S) →
+        ((k : K) (xs ys : List R) → SameBag xs ys → make k xs ≡ make k ys) →
+        ((k : K) → make k [] ≡ None) →
+        IsGroupRow key same (λ k rows. make k (filter (has_key key same k) rows)) }
+{}
+
+/// Snapshots: at each instant the events of groups that are alive are the rows of the groups of what is alive, and
+/// these do not depend on the order of the rows.
 pub fn groups_have_the_rows<R, K, S>()
     ensures alive { (key : R → K) (same : K → K → Bool) (same_row : S → S → Bool)
         (tell : K → List R → Option S) →
