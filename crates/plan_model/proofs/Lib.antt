@@ -11,6 +11,7 @@ pub mod Dividing
 pub mod Comparing
 mod Computed
 pub mod Examples
+pub mod LifeExamples
 pub mod InOrder
 pub mod Each
 pub mod Counting

@@ -1,7 +1,7 @@
 -- Of each change of lives: what is alive after it, and what is known of its events.
-use Rattle.std.specs.Prelude.{◌≡◌, ℕ, zero, suc, ◌-◌, ◌*◌, ◌/◌, ◌<◌, ◌≤◌, nat_lt, nat_le, Bool, true, false, cond, List, [], ◌∷◌, flat_map, refl}
+use Rattle.std.specs.Prelude.{◌≡◌, ℕ, ◌+◌, zero, suc, ◌-◌, ◌*◌, ◌/◌, ◌<◌, ◌≤◌, nat_lt, nat_le, Bool, true, false, cond, List, [], ◌∷◌, flat_map, refl}
 use Rattle.std.proofs.Common.{sym, ◌∙◌, ap, arith, inl, inr}
-use Rattle.std.proofs.lemmas.Bool.{cases_lt, ltb-true}
+use Rattle.std.proofs.lemmas.Bool.{cases_lt, ltb-true, lt-ltb}
 use Rattle.std.proofs.lemmas.Bool.Decides.{nat_tests}
 use Rattle.std.proofs.lemmas.Nat.{le-div}
 use Rattle.std.proofs.Common.{div-mul-le_self, mul-le-mul_left}
@@ -94,9 +94,37 @@ floor_rises p c s h low = let rises = multiple_rises p c s h in grind (arith, na
 multiple_low : (p c : ℕ) → p * (c / p) ≤ c
 multiple_low p c = let below = div-mul-le_self c p in omega (arith, below)
 
+floor_instant : (p s : ℕ) → s < inf → floor_to p s < inf
+floor_instant p s h = let low = multiple_low p s in grind (arith, nat_tests)
+
 floor_low : (p c : ℕ) → c ≤ inf → floor_to p c ≤ inf
 floor_low p c h = let low = multiple_low p c in grind (arith, nat_tests)
 
 pub Known-hopped : {R : Type 0} (size p c : ℕ) (a b : List (Event R)) → Known c a b → Known (floor_to p c) (hopped size p a) (hopped size p b)
 Known-hopped size p c a b h = known_each (hopped_one size p) c (floor_to p c) (floor_low p c h.low) (λ e. AreEvents-with_life e.row (floor_to p e.start) (later size (floor_to p e.start)) (omega arith))
     (λ w e low. start_known (floor_to p) (λ s. later size (floor_to p s)) w c (floor_to p c) e (λ late. floor_rises p c e.start late low)) a b h
+
+with_life-is : {R : Type 0} (row : R) (start end : ℕ) → start < end → with_life row start end ≡ record { row = row; start = start; end = end } ∷ []
+with_life-is {R} row start end before = ap (λ b. cond b (event ∷ []) []) (lt-ltb start end before)
+  where
+    event : Event R
+    event = record { row = row; start = start; end = end }
+
+-- where a new life is not empty there is one event
+pub moved_one-is : {R : Type 0} (by : ℕ) (e : Event R) → e.start < e.end → e.start + by < inf → moved_one by e ≡ record { row = e.row; start = e.start + by; end = later by e.end } ∷ []
+moved_one-is by e life low =
+    let start : later by e.start ≡ e.start + by = omega (arith, low) in
+    ap (λ s. with_life e.row s (later by e.end)) start ∙ with_life-is e.row (e.start + by) (later by e.end) (omega (arith, life, low))
+
+pub hopped_one-is : {R : Type 0} (size period : ℕ) (e : Event R) → 1 ≤ size → e.start < inf → hopped_one size period e ≡ record { row = e.row; start = floor_to period e.start; end = later size (floor_to period e.start) } ∷ []
+hopped_one-is size period e sized low = with_life-is e.row (floor_to period e.start) (later size (floor_to period e.start)) (let start = floor_instant period e.start low in omega (arith, start, sized))
+
+pub lasting_one-is : {R : Type 0} (by : ℕ) (e : Event R) → 1 ≤ by → e.start < inf → lasting_one by e ≡ record { row = e.row; start = e.start; end = later by e.start } ∷ []
+lasting_one-is by e sized low = with_life-is e.row e.start (later by e.start) (omega (arith, sized, low))
+
+pub extended_one-is : {R : Type 0} (by : ℕ) (e : Event R) → e.start < e.end → e.end ≤ inf → extended_one by e ≡ record { row = e.row; start = e.start; end = later by e.end } ∷ []
+extended_one-is by e life high = with_life-is e.row e.start (later by e.end) (omega (arith, life, high))
+
+-- an event that would start at infinity is none
+pub moved_one-none : {R : Type 0} (by : ℕ) (e : Event R) → inf ≤ e.start + by → moved_one by e ≡ []
+moved_one-none by e late = grind (arith, nat_tests)

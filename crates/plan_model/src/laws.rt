@@ -1,5 +1,5 @@
 // The laws of what expressions and plans mean. Each is a function that does nothing; its clauses are the law.
-ghost use Rattle.std.specs.Prelude.{◌≡◌, ◌↔◌, IsTrue, ℕ, ◌-◌, ◌<◌, ◌≤◌, min, List, [], ◌++◌, length, map, filter, slice_get, true};
+ghost use Rattle.std.specs.Prelude.{◌≡◌, ◌↔◌, IsTrue, ℕ, ◌+◌, ◌-◌, ◌<◌, ◌≤◌, min, List, [], ◌∷◌, ◌++◌, length, map, filter, slice_get, true};
 ghost use Rattle.tw_rows.specs.Bag.{SameBag};
 ghost use Rattle.tw_rows.specs.Event.{Event, alive, AreEvents, Known};
 ghost use Rattle.tw_rows.specs.Instant.{inf, later, floor_to};
@@ -10,7 +10,7 @@ ghost use Rattle.plan_model.specs.IsExpr.{IsExpr};
 ghost use Rattle.plan_model.specs.Expr.{node_value, value_at, value, holds};
 ghost use Rattle.plan_model.specs.Keys.{key_values, keys_equal, paired_row};
 ghost use Rattle.plan_model.specs.Joins.{joined_rows, joined};
-ghost use Rattle.plan_model.specs.Lives.{moved, hopped, lasting, extended};
+ghost use Rattle.plan_model.specs.Lives.{moved_one, moved, hopped_one, hopped, lasting_one, lasting, extended_one, extended};
 ghost use Rattle.plan_model.specs.Meaning.{Sources, left_of, right_of, selected_row, selected_event, node_events, events, node_closes, closes, nothing, by_events, node_meaning, meaning, snapshots, IsOrdered, IsLevelled};
 
 /// Each node of an expression has the value that its kind makes of its operands' values, and the expression has the
@@ -155,6 +155,21 @@ pub fn join_is()
         closes nodes i p ≡ min (closes nodes left p) (closes nodes right p) }
     ensures keys { (left_key right_key : List ℕ) (a b : Row) →
         IsTrue (keys_equal left_key right_key a b) ↔ (key_values left_key a ≡ key_values right_key b) }
+{}
+
+/// A change of lives makes one event of each event, where a size or a duration is at least 1; only one that would start at
+/// infinity is none.
+pub fn lives_change()
+    ensures moved { (by : ℕ) (e : Event Row) → e.start < e.end → e.start + by < inf →
+        moved_one by e ≡ record { row = e.row; start = e.start + by; end = later by e.end } ∷ [] }
+    ensures moved_past { (by : ℕ) (e : Event Row) → inf ≤ e.start + by → moved_one by e ≡ [] }
+    ensures hopped { (size period : ℕ) (e : Event Row) → 1 ≤ size → e.start < inf →
+        hopped_one size period e
+        ≡ record { row = e.row; start = floor_to period e.start; end = later size (floor_to period e.start) } ∷ [] }
+    ensures lasting { (by : ℕ) (e : Event Row) → 1 ≤ by → e.start < inf →
+        lasting_one by e ≡ record { row = e.row; start = e.start; end = later by e.start } ∷ [] }
+    ensures extended { (by : ℕ) (e : Event Row) → e.start < e.end → e.end ≤ inf →
+        extended_one by e ≡ record { row = e.row; start = e.start; end = later by e.end } ∷ [] }
 {}
 
 /// Each node, of any kind, is its own case over its children: its events, its meaning and its closing are made of what it

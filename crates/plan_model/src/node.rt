@@ -58,3 +58,64 @@ pub enum Node {
         right_key: Key,
     },
 }
+
+#[cfg(test)]
+mod tests {
+    use super::*;
+    use std::alloc::AllocError;
+
+    #[test]
+    fn nodes_keep_what_they_are_made_of(rt: HostRuntime) -> Result<(), AllocError> {
+        let items = ExprList::from_vec(Vec::new(rt.alloc()));
+        let left_key = Key::from_vec(vec![in rt.alloc(); 1]?);
+        let right_key = Key::from_vec(vec![in rt.alloc(); 2]?);
+        let nodes = vec![in rt.alloc();
+            Node::Source { stream: 3 },
+            Node::Select { of: 0, items },
+            Node::Union { left: 0, right: 1 },
+            Node::Delay { of: 2, by: 60 },
+            Node::Hop {
+                of: 3,
+                size: 10,
+                period: 5
+            },
+            Node::Duration { of: 4, by: 7 },
+            Node::Extend { of: 5, by: 8 },
+            Node::Join {
+                left: 6,
+                right: 4,
+                left_key,
+                right_key
+            },
+        ]?;
+        assert_eq!(rt; nodes.len(), 8);
+        assert!(rt; matches!(&nodes[0], Node::Source { stream: 3 }));
+        assert!(rt; matches!(&nodes[1], Node::Select { of: 0, .. }));
+        assert!(rt; matches!(&nodes[2], Node::Union { left: 0, right: 1 }));
+        assert!(rt; matches!(&nodes[3], Node::Delay { of: 2, by: 60 }));
+        assert!(rt;
+            matches!(
+                &nodes[4],
+                Node::Hop {
+                    of: 3,
+                    size: 10,
+                    period: 5
+                }
+            )
+        );
+        assert!(rt; matches!(&nodes[5], Node::Duration { of: 4, by: 7 }));
+        assert!(rt; matches!(&nodes[6], Node::Extend { of: 5, by: 8 }));
+        let Node::Join {
+            left: 6,
+            right: 4,
+            left_key,
+            right_key,
+        } = &nodes[7]
+        else {
+            panic!(rt; "no join of nodes 6 and 4");
+        };
+        assert_eq!(rt; left_key.items(), [1].as_slice());
+        assert_eq!(rt; right_key.items(), [2].as_slice());
+        Ok(())
+    }
+}
