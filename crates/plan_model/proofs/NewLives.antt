@@ -4,7 +4,7 @@ use Rattle.std.proofs.Common.{sym, ◌∙◌, ap, arith, inl, inr}
 use Rattle.std.proofs.lemmas.Bool.{cases_lt, ltb-true, lt-ltb}
 use Rattle.std.proofs.lemmas.Bool.Decides.{nat_tests}
 use Rattle.std.proofs.lemmas.Nat.{le-div}
-use Rattle.std.proofs.Common.{div-mul-le_self, mul-le-mul_left}
+use Rattle.std.proofs.Common.{div-mul-le_self, mul-le-mul_left, div-add-mod', mod-lt}
 use Rattle.tw_rows.specs.Instant.{inf, later, floor_to}
 use Rattle.tw_rows.specs.Bag.{total, SameBag}
 use Rattle.tw_rows.specs.Event.{Event, lives_at, alive, AreEvents, cut_one, cut, Known}
@@ -128,3 +128,11 @@ extended_one-is by e life high = with_life-is e.row e.start (later by e.end) (om
 -- an event that would start at infinity is none
 pub moved_one-none : {R : Type 0} (by : ℕ) (e : Event R) → inf ≤ e.start + by → moved_one by e ≡ []
 moved_one-none by e late = grind (arith, nat_tests)
+
+-- a time rounded down is the greatest multiple of the period that is not above it
+pub floor_to-is : (period t : ℕ) → 1 ≤ period → t < inf → (k : ℕ) × (floor_to period t ≡ period * k) × (floor_to period t ≤ t) × (t < floor_to period t + period)
+floor_to-is period t positive low =
+    let whole : floor_to period t ≡ period * (t / period) = ap (λ b. cond b (period * (t / period)) inf) (lt-ltb t inf low) in
+    let parts = div-add-mod' t period in
+    let rest = mod-lt t positive in
+    (t / period, whole, omega (arith, whole, parts), omega (arith, whole, parts, rest))

@@ -1,5 +1,5 @@
 // The laws of what expressions and plans mean. Each is a function that does nothing; its clauses are the law.
-ghost use Rattle.std.specs.Prelude.{◌≡◌, ◌↔◌, IsTrue, ℕ, ◌+◌, ◌-◌, ◌<◌, ◌≤◌, min, List, [], ◌∷◌, ◌++◌, length, map, filter, slice_get, true};
+ghost use Rattle.std.specs.Prelude.{◌≡◌, ◌↔◌, IsTrue, ℕ, ◌+◌, ◌-◌, ◌*◌, ◌<◌, ◌≤◌, min, List, [], ◌∷◌, ◌++◌, length, map, filter, slice_get, true};
 ghost use Rattle.tw_rows.specs.Bag.{SameBag};
 ghost use Rattle.tw_rows.specs.Event.{Event, alive, AreEvents, Known};
 ghost use Rattle.tw_rows.specs.Instant.{inf, later, floor_to};
@@ -158,7 +158,7 @@ pub fn join_is()
 {}
 
 /// A change of lives makes one event of each event, where a size or a duration is at least 1; only one that would start at
-/// infinity is none.
+/// infinity is none. A time rounded down is the greatest multiple of the period that is not above it.
 pub fn lives_change()
     ensures moved { (by : ℕ) (e : Event Row) → e.start < e.end → e.start + by < inf →
         moved_one by e ≡ record { row = e.row; start = e.start + by; end = later by e.end } ∷ [] }
@@ -166,6 +166,8 @@ pub fn lives_change()
     ensures hopped { (size period : ℕ) (e : Event Row) → 1 ≤ size → e.start < inf →
         hopped_one size period e
         ≡ record { row = e.row; start = floor_to period e.start; end = later size (floor_to period e.start) } ∷ [] }
+    ensures multiple { (period t : ℕ) → 1 ≤ period → t < inf →
+        (k : ℕ) × (floor_to period t ≡ period * k) × (floor_to period t ≤ t) × (t < floor_to period t + period) }
     ensures lasting { (by : ℕ) (e : Event Row) → 1 ≤ by → e.start < inf →
         lasting_one by e ≡ record { row = e.row; start = e.start; end = later by e.start } ∷ [] }
     ensures extended { (by : ℕ) (e : Event Row) → e.start < e.end → e.end ≤ inf →

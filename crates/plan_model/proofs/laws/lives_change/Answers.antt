@@ -1,4 +1,4 @@
-use Rattle.plan_model.proofs.NewLives.{moved_one-is, moved_one-none, hopped_one-is, lasting_one-is, extended_one-is}
+use Rattle.plan_model.proofs.NewLives.{moved_one-is, moved_one-none, hopped_one-is, lasting_one-is, extended_one-is, floor_to-is}
 use Rattle.plan_model.proofs.laws.lives_change.Goals as goal
 
 pub returns-clause-moved : goal.returns-clause-moved
@@ -15,3 +15,6 @@ returns-clause-lasting c = λ by e sized low. lasting_one-is by e sized low
 
 pub returns-clause-extended : goal.returns-clause-extended
 returns-clause-extended c = λ by e life high. extended_one-is by e life high
+
+pub returns-clause-multiple : goal.returns-clause-multiple
+returns-clause-multiple c = λ period t positive low. floor_to-is period t positive low
