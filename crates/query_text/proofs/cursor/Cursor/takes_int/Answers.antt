@@ -1,0 +1,9 @@
+use Rattle.std.proofs.Common.{sym, ◌∙◌}
+use Rattle.query_text.proofs.Cursors as P
+use Rattle.query_text.proofs.cursor.Cursor.takes_int.Goals as goal
+
+pub returns : goal.returns
+returns c = (
+  sym c.self.view_is ∙ P.first _ _ _ _ _ c.in-Some.ensures.lookup.3.0 c.in-Some.ensures.lookup.1 c.in-Number.is,
+  (P.form _ _ _ _ _ c.self.invariant.1 c.in-Some.ensures.lookup.3.0 c.in-Some.ensures.lookup.1 c.in-Number.is).1,
+)

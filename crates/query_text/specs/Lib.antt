@@ -1,0 +1,3 @@
+pub mod IsTree
+pub mod Spelling
+pub mod Reading

@@ -1,0 +1,14 @@
+//! Query texts: the query that a text spells, or the first cause by which it spells none.
+#![tactic(auto)]
+
+mod cursor;
+mod expression;
+mod query;
+mod stop;
+mod tree;
+
+pub use query::{
+    AggFun, AggList, Item, ItemList, Let, LetList, NameList, Pipe, Query, QueryAgg, QueryStep,
+    StepList, StreamList,
+};
+pub use tree::{Tree, TreeNode};
