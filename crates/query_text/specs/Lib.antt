@@ -1,3 +1,4 @@
 pub mod IsTree
 pub mod Spelling
 pub mod Reading
+pub mod IsParse

@@ -4,8 +4,9 @@ use Rattle.plan_model.specs.IsExpr.{IsOneLine, IsDivisor}
 use Rattle.plan_model.specs.declared.expr.ArithOp.{ArithOp}
 use Rattle.plan_model.specs.declared.expr.ArithOp.TheVariants as A
 use Rattle.plan_model.specs.declared.expr.CompareOp.{CompareOp}
+use Rattle.query_words.specs.declared.word.Sign.{Sign}
 use Rattle.query_words.specs.declared.word.Sign.TheVariants as S
-use Rattle.query_grammar.specs.Token.{Token, int, str, fixed}
+use Rattle.query_grammar.specs.Token.{Token, name, int, str, fixed}
 use Rattle.query_grammar.specs.Grammar as G
 use Rattle.query_grammar.specs.Grammar.{atom_then, comparison_sign}
 use Rattle.query_text.specs.declared.stop.Stop.{Stop}
@@ -38,6 +39,11 @@ Any v = Unit {0}
 -- an INT fits into 63 bits
 abbrev pub IsSmall : ℕ → Type 0
 IsSmall n = n < 2 ^ 63
+
+-- the name that stands first, or none
+abbrev pub IsAhead : Option (List ℕ) → List Token → Type 0
+IsAhead (Some n) ts = (z : List Token) × (ts ≡ name n ∷ z)
+IsAhead None ts = (n : List ℕ) → Lacks (name n) ts
 
 -- the sign of a comparison
 abbrev pub TakesCompare : Option CompareOp → List Token → List Token → Type 0
@@ -85,3 +91,85 @@ Going a_then Ends a_onto r_then r_onto old now old_nodes now_nodes = (a : _) (z 
 abbrev pub Shrinks : Bool → List Token → List Token → Type 0
 Shrinks true old new = length new < length old
 Shrinks false old new = length new ≤ length old
+
+-- what may follow a pipe: its end, or the end of its let
+abbrev pub ends_pipe : List Token → Bool
+ends_pipe [] = true
+ends_pipe (fixed S.Semicolon ∷ ts) = true
+ends_pipe (_ ∷ ts) = false
+
+-- what may follow a step: the end of the pipe, or the next step
+abbrev pub ends_step : List Token → Bool
+ends_step (fixed S.Bar ∷ ts) = true
+ends_step ts = ends_pipe ts
+
+-- what may follow an item: the end of the step, or the next item
+abbrev pub ends_item : List Token → Bool
+ends_item (fixed S.Comma ∷ ts) = true
+ends_item ts = ends_step ts
+
+-- A list is read so far: what is left are more of its elements, and these behind what was read are those of the whole.
+abbrev pub Listing : {A X V : Type 0} → (A → List Token → List Token) → (List Token → Type 0) → (A → List V) → (List X → List Token → List Token) → (List X → List V) → List Token → List Token → List V → Type 0
+Listing a_then Ends values x_then x_values old now items = (a : _) (z : List Token) → Ends z → old ≡ a_then a z → (xs : List _) × (now ≡ x_then xs z) × (values a ≡ items ++ x_values xs)
+
+-- a sign, and no value
+abbrev pub sign_then : Sign → Unit {0} → List Token → List Token
+sign_then sign u z = fixed sign ∷ z
+
+abbrev pub name_then : List ℕ → List Token → List Token
+name_then n z = name n ∷ z
+
+abbrev pub int_then : ℕ → List Token → List Token
+int_then n z = int n ∷ z
+
+-- "as" NAME
+abbrev pub as_then : List ℕ → List Token → List Token
+as_then n z = fixed S.As ∷ name n ∷ z
+
+-- NAME "as" NAME
+abbrev pub computed_then : List ℕ × List ℕ → List Token → List Token
+computed_then p z = name p.0 ∷ as_then p.1 z
+
+-- INT INT
+abbrev pub hop_then : ℕ × ℕ → List Token → List Token
+hop_then p z = int p.0 ∷ int p.1 ∷ z
+
+-- INT [ "by" names ]
+abbrev pub session_then : ℕ × G.By → List Token → List Token
+session_then p z = int p.0 ∷ G.by_then p.1 z
+
+-- NAME [ "on" names ]
+abbrev pub operand_then : List ℕ × G.On → List Token → List Token
+operand_then p z = name p.0 ∷ G.on_then p.1 z
+
+-- [ "by" names ] ":" agg { "," agg }
+abbrev pub group_then : G.By × G.Agg × List G.Agg → List Token → List Token
+group_then p z = G.by_then p.0 (fixed S.Colon ∷ G.agg_then p.1 (G.aggs_then p.2 z))
+
+-- item { "," item }
+abbrev pub select_then : G.Item × List G.Item → List Token → List Token
+select_then p z = G.item_then p.0 (G.items_then p.1 z)
+
+-- agg { "," agg }
+abbrev pub agg_list_then : G.Agg × List G.Agg → List Token → List Token
+agg_list_then p z = G.agg_then p.0 (G.aggs_then p.1 z)
+
+-- col { "," col }
+abbrev pub col_list_then : G.Col × List G.Col → List Token → List Token
+col_list_then p z = G.col_then p.0 (G.cols_then p.1 z)
+
+-- a stream behind the word "stream"
+abbrev pub stream_rest_then : G.Stream → List Token → List Token
+stream_rest_then s z = name s.called ∷ fixed S.Open ∷ G.col_then s.first (G.cols_then s.more (fixed S.Close ∷ fixed S.Semicolon ∷ z))
+
+-- stream { stream }
+abbrev pub stream_list_then : G.Stream × List G.Stream → List Token → List Token
+stream_list_then p z = G.stream_then p.0 (G.streams_then p.1 z)
+
+-- a let behind the word "let"
+abbrev pub let_rest_then : G.Let → List Token → List Token
+let_rest_then l z = name l.called ∷ fixed S.Equal ∷ G.pipe_then l.pipe (fixed S.Semicolon ∷ z)
+
+-- { let }
+abbrev pub lets_list_then : List G.Let → List Token → List Token
+lets_list_then ls z = G.lets_then ls z

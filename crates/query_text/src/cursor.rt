@@ -3,7 +3,7 @@ ghost use Rattle.std.specs.Prelude.{◌≡◌, ℕ, ◌<◌, ◌≤◌, length, 
 ghost use Rattle.plan_model.specs.IsExpr.{IsOneLine, IsDivisor};
 ghost use Rattle.query_words.specs.Words.{words_of};
 ghost use Rattle.query_grammar.specs.Token.{name, int, str, fixed, tokens_of, unquoted};
-ghost use Rattle.query_text.specs.Reading.{Takes, TakesValue, TakesPos, Any, IsSmall, TakesCompare, TakesTerm, TakesLeaf};
+ghost use Rattle.query_text.specs.Reading.{Takes, IsAhead, TakesValue, TakesPos, Any, IsSmall, TakesCompare, TakesTerm, TakesLeaf};
 ghost use Rattle.query_text.specs.IsTree.{IsTreeNode};
 
 use crate::tree::TreeNode;
@@ -167,6 +167,34 @@ impl<'a> Cursor<'a> {
         let label = Label::new(self.alloc, &self.text[spot.at..spot.at + length])?;
         self.at += 1;
         Ok(Some(label))
+    }
+
+    /// The name that stands first. It is not taken.
+    pub(crate) fn name_ahead(&self) -> Result<Option<Label>, Memory>
+        ensures { IfOk result (λ found. IsAhead found self.now) }
+    {
+        let Some(spot) = self.words.get(self.at) else {
+            return Ok(None);
+        };
+        let Word::Name(length) = spot.word else {
+            return Ok(None);
+        };
+        let label = Label::new(self.alloc, &self.text[spot.at..spot.at + length])?;
+        Ok(Some(label))
+    }
+
+    /// The sign or reserved word that stands first, taken.
+    pub(crate) fn takes_sign(&mut self) -> Option<Sign>
+        ensures { TakesValue fixed Any result self.old self.new }
+    {
+        let Some(spot) = self.words.get(self.at) else {
+            return None;
+        };
+        let Word::Fixed(found) = spot.word else {
+            return None;
+        };
+        self.at += 1;
+        Some(found)
     }
 
     /// The text that stands first, taken: without its quotes, and each quote in it once.

@@ -10,10 +10,12 @@ use crate::stop::Stop;
 use crate::tree::{Nodes, TreeNode};
 use plan_model::ArithOp;
 use query_words::Sign;
+use std::alloc::Global;
 
 /// The words of a query that are left, and the nodes of the expression that is being read.
 #[derive(Drop)]
 pub(crate) struct Parser<'a> {
+    pub(crate) alloc: Global,
     pub(crate) cursor: Cursor<'a>,
     pub(crate) nodes: Nodes,
 }

@@ -3,12 +3,15 @@
 
 mod cursor;
 mod expression;
+mod pipe;
 mod query;
 mod stop;
+mod text;
 mod tree;
 
 pub use query::{
     AggFun, AggList, Item, ItemList, Let, LetList, NameList, Pipe, Query, QueryAgg, QueryStep,
     StepList, StreamList,
 };
+pub use text::parse;
 pub use tree::{Tree, TreeNode};

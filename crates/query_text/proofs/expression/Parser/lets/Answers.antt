@@ -1,0 +1,19 @@
+use Rattle.std.proofs.Common.{◌≡◌, ◌∷◌, ◌++◌, [], List, true, map, refl, ap, sym, ◌∙◌}
+use Rattle.query_words.specs.declared.word.Sign.TheVariants as S
+use Rattle.query_grammar.specs.Token.{Token, fixed}
+use Rattle.query_grammar.specs.Grammar as G
+use Rattle.query_text.specs.Spelling as M
+use Rattle.query_text.specs.Reading as R
+use Rattle.query_text.specs.Reading.{Lacks, Any, ends_step, ends_item, ends_pipe}
+use Rattle.query_text.proofs.Steps as P
+use Rattle.query_text.proofs.Pipes as Q
+use Rattle.query_text.proofs.expression.Parser.lets.Goals as goal
+
+pub returns-in_err-next-clause-reads : goal.returns-in_err-next-clause-reads
+returns-in_err-next-clause-reads c = λ a z end e. P.failed c.in_err-next.field-0.0 _ _ c.from_residual.ensures.1 (Q.list_free R.lets_list_then (Lacks (fixed S.Let)) (map M.let_of) G.lets_then (map M.let_of) R.let_rest_then (λ _. Unit {0}) S.Let (λ z. refl) (λ x xs z. refl) (λ z h. h) (λ xs z h. tt) _ _ _ _ c.more.invariant.listing c.more-test.ensures (λ x w t s. P.not_stuck c.in_err-next.field-0.0 _ (c.in_err-next.ensures.reads x w t s)) a z end e)
+
+pub more-preserved : goal.more-preserved
+more-preserved c = record { listing = Q.list_more R.lets_list_then (Lacks (fixed S.Let)) (map M.let_of) G.lets_then (map M.let_of) R.let_rest_then (λ _. Unit {0}) M.let_of S.Let (λ z. refl) (λ x xs z. refl) (λ x xs. refl) (λ z h. h) (λ xs z h. tt) _ _ _ _ _ _ _ c.more.invariant.listing c.more-test.ensures c.in_ok-next.ensures.reads c.in_ok-push.ensures.items; fewer = Q.fewer_step _ _ _ _ _ c.more-test.ensures c.in_ok-next.ensures.fewer c.more.invariant.fewer }
+
+pub returns-clause-reads : goal.returns-clause-reads
+returns-clause-reads c = Q.list_end R.lets_list_then (Lacks (fixed S.Let)) (map M.let_of) G.lets_then (map M.let_of) R.let_rest_then S.Let (λ z. refl) (λ x xs z. refl) refl _ _ _ _ _ c.more.invariant.listing c.more-test.ensures c.from_vec.ensures

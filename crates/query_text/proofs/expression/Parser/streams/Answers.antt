@@ -1,0 +1,28 @@
+use Rattle.std.proofs.Common.{◌≡◌, ◌∷◌, ◌++◌, [], List, true, map, refl, ap, sym, ◌∙◌}
+use Rattle.query_words.specs.declared.word.Sign.TheVariants as S
+use Rattle.query_grammar.specs.Token.{Token, fixed}
+use Rattle.query_grammar.specs.Grammar as G
+use Rattle.query_text.specs.Spelling as M
+use Rattle.query_text.specs.Reading as R
+use Rattle.query_text.specs.Reading.{Lacks, Any, ends_step, ends_item, ends_pipe}
+use Rattle.query_text.proofs.Steps as P
+use Rattle.query_text.proofs.Pipes as Q
+use Rattle.query_text.proofs.expression.Parser.streams.Goals as goal
+
+pub returns-in_err-needs-clause-reads : goal.returns-in_err-needs-clause-reads
+returns-in_err-needs-clause-reads c = λ a z end e. P.failed c.in_err-needs.field-0.0 _ _ c.from_residual.ensures.1 (P.not_stuck c.in_err-needs.field-0.0 _ (c.in_err-needs.ensures.reads tt _ tt e))
+
+pub returns-in_err-first-clause-reads : goal.returns-in_err-first-clause-reads
+returns-in_err-first-clause-reads c = λ a z end e. let u = c.in_ok-needs.ensures.reads tt _ tt e in P.failed c.in_err-first.field-0.0 _ _ c.from_residual-in_err-first.ensures.1 (P.not_stuck c.in_err-first.field-0.0 _ (c.in_err-first.ensures.reads a.0 _ tt u.0))
+
+pub more-init : goal.more-init
+more-init c = record { listing = Q.list_begins R.stream_list_then (Lacks (fixed S.Stream)) (λ p. M.stream_of p.0 ∷ map M.stream_of p.1) G.streams_then (map M.stream_of) (λ s z. fixed S.Stream ∷ R.stream_rest_then s z) (λ _. Unit {0}) M.stream_of (λ p. p.0) (λ p. p.1) (λ a z. refl) (λ a. refl) (λ p z end. tt) _ _ _ _ (λ b w t e. c.in_ok-first.ensures.reads b w tt (c.in_ok-needs.ensures.reads tt _ tt e).0) (c.in_ok-push.ensures.items ∙ ap (λ xs. xs ++ c.in_ok-first.first ∷ []) c.new-items.ensures.items); fewer = Q.fewer_two _ _ _ c.in_ok-first.ensures.fewer c.in_ok-needs.ensures.fewer }
+
+pub returns-in_err-next-clause-reads : goal.returns-in_err-next-clause-reads
+returns-in_err-next-clause-reads c = λ a z end e. P.failed c.in_err-next.field-0.0 _ _ c.from_residual-in_err-next.ensures.1 (Q.list_free R.stream_list_then (Lacks (fixed S.Stream)) (λ p. M.stream_of p.0 ∷ map M.stream_of p.1) G.streams_then (map M.stream_of) R.stream_rest_then (λ _. Unit {0}) S.Stream (λ z. refl) (λ x xs z. refl) (λ z h. h) (λ xs z h. tt) _ _ _ _ c.more.invariant.listing c.more-test.ensures (λ x w t s. P.not_stuck c.in_err-next.field-0.0 _ (c.in_err-next.ensures.reads x w t s)) a z end e)
+
+pub more-preserved : goal.more-preserved
+more-preserved c = record { listing = Q.list_more R.stream_list_then (Lacks (fixed S.Stream)) (λ p. M.stream_of p.0 ∷ map M.stream_of p.1) G.streams_then (map M.stream_of) R.stream_rest_then (λ _. Unit {0}) M.stream_of S.Stream (λ z. refl) (λ x xs z. refl) (λ x xs. refl) (λ z h. h) (λ xs z h. tt) _ _ _ _ _ _ _ c.more.invariant.listing c.more-test.ensures c.in_ok-next.ensures.reads c.in_ok-push-2.ensures.items; fewer = Q.fewer_step _ _ _ _ _ c.more-test.ensures c.in_ok-next.ensures.fewer c.more.invariant.fewer }
+
+pub returns-clause-reads : goal.returns-clause-reads
+returns-clause-reads c = Q.list_end R.stream_list_then (Lacks (fixed S.Stream)) (λ p. M.stream_of p.0 ∷ map M.stream_of p.1) G.streams_then (map M.stream_of) R.stream_rest_then S.Stream (λ z. refl) (λ x xs z. refl) refl _ _ _ _ _ c.more.invariant.listing c.more-test.ensures c.from_vec.ensures
