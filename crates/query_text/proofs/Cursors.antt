@@ -1,5 +1,5 @@
 -- The word that stands first.
-use Rattle.std.proofs.Common.{◌≡◌, ℕ, zero, suc, ◌+◌, ◌-◌, ◌*◌, ◌^◌, ◌<◌, ◌≤◌, ◌≢◌, Bool, true, false, not, Option, Some, None, List, [], ◌∷◌, ◌++◌, length, take, drop, map, get_or, All, IsUtf8, IsCharBoundary, ℤ, pos, append_assoc, refl, ap, sym, subst, ◌∙◌, arith, rules, Fits, w64, to_z}
+use Rattle.std.proofs.Common.{◌≡◌, ℕ, zero, suc, ◌+◌, ◌-◌, ◌^◌, ◌<◌, ◌≤◌, Bool, true, false, not, Some, None, List, [], ◌∷◌, ◌++◌, length, take, drop, map, get_or, All, IsUtf8, IsCharBoundary, ℤ, pos, append_assoc, refl, ap, sym, subst, ◌∙◌, arith, rules, Fits, w64, to_z}
 use Rattle.std.proofs.lemmas.List.{drop-map, drop-drop}
 use Rattle.std.proofs.lemmas.Bool.{ne_eqb}
 use Rattle.std.specs.List.{slice_range}
@@ -8,24 +8,20 @@ use Rattle.std.proofs.Math.Seq.{drop-cons}
 use Rattle.std.proofs.lemmas.Int.{to_z_pos}
 use denote.Enum.Bare.{sameb, same_true}
 use Rattle.plan_model.specs.IsExpr.{IsOneLine}
-use Rattle.plan_model.specs.declared.expr.CompareOp.{CompareOp}
 use Rattle.query_words.specs.declared.word.Sign.{Sign}
 use Rattle.query_words.specs.declared.word.Sign.TheVariants as S
 use Rattle.query_words.specs.declared.word.Word.{Word}
-use Rattle.query_words.specs.declared.word.Word.TheVariants as W
 use Rattle.query_words.specs.declared.word.Spot.{Spot}
 use Rattle.query_words.specs.contracts.word.Sign.{the_type}
 use Rattle.query_words.specs.Words.{words_of}
 use Rattle.query_words.specs.Spots.{IsQuotedAt, IsSpotIn, IsSpotAt, IsSpotCut, IsSpotCutAt}
 use Rattle.query_words.proofs.Spots.{spots, spots_cut}
-use Rattle.query_grammar.specs.Token.{Token, name, int, str, fixed, bad, token_at, token_of, tokens_of, unquoted}
+use Rattle.query_grammar.specs.Token.{Token, name, int, str, fixed, token_at, token_of, unquoted}
 use Rattle.query_grammar.specs.TokenForm.{IsSound, IsLineText}
 use Rattle.query_grammar.proofs.TokenForm.{tokens_sound}
 use Rattle.query_grammar.specs.Grammar as G
 use Rattle.query_grammar.specs.Grammar.{atom_then}
-use Rattle.query_text.specs.declared.tree.TreeNode.{TreeNode}
 use Rattle.query_text.specs.declared.tree.TreeNode.TheVariants as N
-use Rattle.query_text.specs.Spelling.{atom_onto}
 use Rattle.query_text.specs.Reading.{Lacks, TakesValue, Any, IsSmall, IsParens, TakesLeaf}
 
 pub first : (text : List ℕ) (words : List Spot) (at : ℕ) (spot : Spot) (w : Word) → at < length words → spot ≡ get_or words at spot → spot.word ≡ w

@@ -3,3 +3,5 @@ pub mod Steps
 pub mod Cursors
 pub mod Pipes
 pub mod Columns
+pub mod Examples
+pub mod Spelled

@@ -1,18 +1,16 @@
 -- The steps of the parser of names, items, steps and pipes.
-use Rattle.std.proofs.Common.{◌≡◌, ℕ, ◌<◌, ◌≤◌, suc, length, Bool, true, false, Option, Some, None, List, [], ◌∷◌, ◌++◌, map, Result, Ok, Err, refl, ap, sym, subst, ◌∙◌, append_assoc, append-nil, arith, lit<}
+use Rattle.std.proofs.Common.{◌≡◌, ℕ, ◌<◌, ◌≤◌, suc, length, true, false, Some, None, List, [], ◌∷◌, ◌++◌, Result, refl, ap, sym, ◌∙◌, append_assoc, append-nil, arith, lit<}
 use Rattle.query_words.specs.declared.word.Sign.{Sign}
 use Rattle.query_words.specs.declared.word.Sign.TheVariants as S
-use Rattle.query_grammar.specs.Token.{Token, name, int, str, fixed, bad}
+use Rattle.query_grammar.specs.Token.{Token, name, fixed}
 use Rattle.query_grammar.specs.Grammar as G
 use Rattle.query_grammar.specs.Grammar.{expr_then, names_then, more_names_then, by_then, on_then, item_then, items_then, agg_then, aggs_then, step_then, steps_then, pipe_then, lets_then}
 use Rattle.query_grammar.specs.Machine.{rank, binds}
 use Rattle.query_grammar.proofs.Complete.{low_as}
 use Rattle.query_text.specs.declared.stop.Stop.{Stop}
 use Rattle.query_text.specs.declared.tree.TreeNode.{TreeNode}
-use Rattle.query_text.specs.declared.tree.TreeNode.TheVariants as N
-use Rattle.query_text.specs.declared.query.Item.{Item}
-use Rattle.query_text.specs.Spelling.{tree_of, names_of, by_of, on_of, item_of, agg_of, step_of}
-use Rattle.query_text.specs.Reading.{Lacks, Any, IsAhead, Outcome, Listing, ends_pipe, ends_step, ends_item, name_then, int_then, as_then, computed_then, hop_then, session_then, operand_then, group_then, select_then}
+use Rattle.query_text.specs.Spelling.{tree_of, names_of, by_of, on_of, item_of}
+use Rattle.query_text.specs.Reading.{Lacks, IsAhead, Outcome, Listing, ends_pipe, ends_step, ends_item, name_then, int_then, as_then, computed_then, hop_then, session_then, operand_then, group_then, select_then}
 
 -- what may follow
 

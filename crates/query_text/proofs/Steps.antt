@@ -1,13 +1,12 @@
 -- The steps of the parser of expressions.
-use Rattle.std.proofs.Common.{◌≡◌, ℕ, suc, ◌+◌, ◌-◌, ◌<◌, ◌≤◌, Bool, true, false, Option, Some, None, List, [], ◌∷◌, ◌++◌, length, Result, Ok, Err, refl, ap, sym, subst, ◌∙◌, arith}
+use Rattle.std.proofs.Common.{◌≡◌, ℕ, suc, ◌-◌, ◌<◌, Some, None, List, [], ◌∷◌, ◌++◌, length, Result, Ok, Err, refl, ap, sym, subst, ◌∙◌, arith}
 use Rattle.std.specs.Result.{IsErrAnd}
 use Rattle.std.proofs.lemmas.Result.{err_from_is_err_and}
-use Rattle.plan_model.specs.IsExpr.{IsDivisor}
 use Rattle.plan_model.specs.declared.expr.ArithOp.{ArithOp}
 use Rattle.plan_model.specs.declared.expr.ArithOp.TheVariants as A
 use Rattle.plan_model.specs.declared.expr.CompareOp.{CompareOp}
 use Rattle.query_words.specs.declared.word.Sign.TheVariants as S
-use Rattle.query_grammar.specs.Token.{Token, name, int, str, fixed}
+use Rattle.query_grammar.specs.Token.{Token, int, fixed}
 use Rattle.query_grammar.specs.Grammar as G
 use Rattle.query_grammar.specs.Grammar.{expr_then, ors_then, conj_then, ands_then, neg_then, test_then, sum_then, terms_then, prod_then, factors_then, unary_then, atom_then, comparison_sign}
 use Rattle.query_grammar.specs.Machine.{rank, binds}

@@ -1,12 +1,12 @@
 -- What a part of the parser reads.
 use Rattle.std.specs.Prelude.{◌≡◌, ℕ, suc, ◌<◌, ◌≤◌, ◌^◌, ◌++◌, List, [], ◌∷◌, length, Bool, true, false, Option, Some, None, Result, Ok, Err}
-use Rattle.plan_model.specs.IsExpr.{IsOneLine, IsDivisor}
+use Rattle.plan_model.specs.IsExpr.{IsDivisor}
 use Rattle.plan_model.specs.declared.expr.ArithOp.{ArithOp}
 use Rattle.plan_model.specs.declared.expr.ArithOp.TheVariants as A
 use Rattle.plan_model.specs.declared.expr.CompareOp.{CompareOp}
 use Rattle.query_words.specs.declared.word.Sign.{Sign}
 use Rattle.query_words.specs.declared.word.Sign.TheVariants as S
-use Rattle.query_grammar.specs.Token.{Token, name, int, str, fixed}
+use Rattle.query_grammar.specs.Token.{Token, name, int, fixed}
 use Rattle.query_grammar.specs.Grammar as G
 use Rattle.query_grammar.specs.Grammar.{atom_then, comparison_sign}
 use Rattle.query_text.specs.declared.stop.Stop.{Stop}

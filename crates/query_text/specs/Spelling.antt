@@ -1,5 +1,5 @@
 -- What a query means that is spelled by the grammar.
-use Rattle.std.specs.Prelude.{◌≡◌, ℕ, suc, ◌-◌, pos, true, false, Some, None, List, [], ◌∷◌, ◌++◌, length, map}
+use Rattle.std.specs.Prelude.{ℕ, suc, ◌-◌, pos, true, false, Some, None, List, [], ◌∷◌, ◌++◌, length, map}
 use Rattle.tw_rows.specs.declared.kind.Kind.TheVariants as K
 use Rattle.tw_rows.specs.declared.schema.ColumnDef.{ColumnDef}
 use Rattle.tw_rows.specs.declared.schema.StreamDef.{StreamDef}

@@ -3,12 +3,16 @@
 
 mod cursor;
 mod expression;
+mod laws;
 mod pipe;
 mod query;
 mod stop;
+#[cfg(test)]
+mod tests;
 mod text;
 mod tree;
 
+pub use laws::texts_spell_one_query;
 pub use query::{
     AggFun, AggList, Item, ItemList, Let, LetList, NameList, Pipe, Query, QueryAgg, QueryStep,
     StepList, StreamList,

@@ -1,4 +1,4 @@
-use Rattle.std.proofs.Common.{◌<◌, length, get_or, ap, sym, subst, arith}
+use Rattle.std.proofs.Common.{◌<◌, length, get_or, ap, subst, arith}
 use Rattle.query_text.proofs.Cursors as P
 use Rattle.query_text.proofs.cursor.unquoted.Goals.{then-b-eq39, else-b-eq39}
 use Rattle.query_text.proofs.cursor.unquoted.Goals as goal

@@ -1,4 +1,4 @@
-use Rattle.std.proofs.Common.{sym, ◌∙◌, ◌≤◌, arith}
+use Rattle.std.proofs.Common.{sym, ◌∙◌}
 use Rattle.query_text.proofs.Cursors as P
 use Rattle.query_text.proofs.cursor.Cursor.takes_pos.Goals as goal
 

@@ -1,9 +1,5 @@
-use Rattle.std.proofs.Common.{◌<◌, refl, sym, subst, length, IfSome, ℕ}
+use Rattle.std.proofs.Common.{subst, IfSome, ℕ}
 use Rattle.query_text.specs.IsTree.{IsTreeNode}
-use Rattle.query_grammar.specs.Grammar.{expr_then, ors_then, conj_then, ands_then, neg_then, test_then, sum_then, terms_then, prod_then, factors_then, unary_then, atom_then}
-use Rattle.query_grammar.specs.Machine.{rank}
-use Rattle.query_text.specs.Spelling.{expr_onto, ors_onto, conj_onto, ands_onto, neg_onto, test_onto, sum_onto, terms_onto, prod_onto, factors_onto, unary_onto, atom_onto}
-use Rattle.query_text.specs.Reading.{TakesLeaf}
 use Rattle.query_text.proofs.Steps as P
 use Rattle.query_text.proofs.expression.Parser.+expression.Goals as goal
 

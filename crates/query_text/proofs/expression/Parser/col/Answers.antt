@@ -1,4 +1,3 @@
-use Rattle.query_grammar.specs.Grammar as G
 use Rattle.query_text.proofs.Steps as P
 use Rattle.query_text.proofs.Columns as Q
 use Rattle.query_text.proofs.expression.Parser.col.Goals as goal

@@ -1,6 +1,4 @@
-use Rattle.std.proofs.Common.{◌≡◌, ◌≤◌, ◌∷◌, List, ℕ, true, map, length}
-use Rattle.query_words.specs.declared.word.Sign.TheVariants as S
-use Rattle.query_grammar.specs.Token.{fixed}
+use Rattle.std.proofs.Common.{◌≡◌, ◌≤◌, ◌∷◌, true, map, length}
 use Rattle.query_text.specs.Reading as R
 use Rattle.query_text.specs.Reading.{Lacks}
 use Rattle.query_grammar.specs.Grammar as G

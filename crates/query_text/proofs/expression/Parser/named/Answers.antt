@@ -1,4 +1,3 @@
-use Rattle.std.proofs.Common.{◌≡◌}
 use Rattle.query_text.proofs.Steps as P
 use Rattle.query_text.proofs.expression.Parser.named.Goals as goal
 

@@ -1,6 +1,6 @@
-use Rattle.std.proofs.Common.{◌≡◌, ◌∷◌, ◌++◌, [], List, true, map, refl, ap, sym, ◌∙◌}
+use Rattle.std.proofs.Common.{refl}
 use Rattle.query_words.specs.declared.word.Sign.TheVariants as S
-use Rattle.query_grammar.specs.Token.{Token, fixed}
+use Rattle.query_grammar.specs.Token.{fixed}
 use Rattle.query_grammar.specs.Grammar as G
 use Rattle.query_text.specs.Spelling as M
 use Rattle.query_text.specs.Reading as R

@@ -1,10 +1,4 @@
-use Rattle.std.proofs.Common.{◌≡◌, ◌∷◌, ◌++◌, [], List, true, map, refl, ap, sym, ◌∙◌}
-use Rattle.query_words.specs.declared.word.Sign.TheVariants as S
-use Rattle.query_grammar.specs.Token.{Token, fixed}
-use Rattle.query_grammar.specs.Grammar as G
-use Rattle.query_text.specs.Spelling as M
-use Rattle.query_text.specs.Reading as R
-use Rattle.query_text.specs.Reading.{Lacks, Any, ends_step, ends_item, ends_pipe}
+use Rattle.std.proofs.Common.{refl}
 use Rattle.query_text.proofs.Steps as P
 use Rattle.query_text.proofs.Pipes as Q
 use Rattle.query_text.proofs.expression.Parser.query.Goals as goal

@@ -1,4 +1,4 @@
-use Rattle.std.proofs.Common.{◌≡◌, ◌≤◌, ◌∷◌, List, ℕ, true, map, length}
+use Rattle.std.proofs.Common.{◌≤◌, ◌∷◌, map, length}
 use Rattle.query_words.specs.declared.word.Sign.TheVariants as S
 use Rattle.query_grammar.specs.Token.{fixed}
 use Rattle.query_text.specs.Reading as R

@@ -1,0 +1,500 @@
+// Texts with the queries that they spell, or with their faults, all found by hand.
+use crate::{
+    AggList, ItemList, LetList, NameList, QueryStep, StepList, StreamList, Tree, TreeNode, parse,
+    texts_spell_one_query,
+};
+use plan_model::{ArithOp, CompareOp, QueryError, QueryFault};
+use std::alloc::Global;
+use tw_rows::Memory;
+
+/// Texts of each production, each reserved word as a name, and texts that stop being a query at each of its parts.
+static TEXTS: [(&str, Option<usize>); 163] = [
+    ("stream s(v int); s", None),
+    ("stream s(v int, w bool, x text); s", None),
+    ("stream a(v int); stream b(w text); a", None),
+    ("stream s(v int); let m = s; m", None),
+    (
+        "stream s(v int); let m = s | where v > 3; let n = m | delay 1; n",
+        None,
+    ),
+    ("stream\ts(v\r\nint);s|where v>3", None),
+    (
+        "stream s(v int); s | where v = 1 or v = 2 and not v = 3",
+        None,
+    ),
+    (
+        "stream s(v int); s | where (v + 1) * 2 - -3 div 4 mod 5 < 6",
+        None,
+    ),
+    ("stream s(v int); s | where not not true", None),
+    ("stream s(v int); s | where false <> true", None),
+    ("stream s(v int); s | where x <> 'a''b'", None),
+    ("stream s(v int); s | where '' <= '''' ", None),
+    ("stream s(v int); s | where v >= 3", None),
+    ("stream s(v int); s | where v = 1and v = 2", None),
+    ("stream s(v int); s | where v = 9223372036854775807", None),
+    (
+        "stream s(v int); s | where aaaaaaaaaaaaaaaaaaaaaaaaaaaaaaaaaaaaaaaaaaaaaaaaaaaaaaaaaaaaaaaa",
+        None,
+    ),
+    ("stream s(v int); s | select v", None),
+    ("stream s(v int); s | select v, v + 1 as w", None),
+    ("stream s(v int); s | select v as w", None),
+    (
+        "stream s(v int); s | select (v) as w, -v as x, 1 as y, 'a' as z, not v as u, true as t, v and v as q, v or v as r, v = v as p",
+        None,
+    ),
+    ("stream s(v int); s | union t", None),
+    ("stream s(v int); s | delay 0", None),
+    ("stream s(v int); s | duration 7", None),
+    ("stream s(v int); s | extend 0", None),
+    ("stream s(v int); s | tumble 5", None),
+    ("stream s(v int); s | hop 5 10", None),
+    ("stream s(v int); s | hop 00", None),
+    ("stream s(v int); s | session 5", None),
+    ("stream s(v int); s | session 5 by v", None),
+    ("stream s(v int); s | session 5 by v, w", None),
+    ("stream s(v int); s | clip t", None),
+    ("stream s(v int); s | clip t on v", None),
+    ("stream s(v int); s | join t on v, w", None),
+    ("stream s(v int); s | join t", None),
+    ("stream s(v int); s | anti t", None),
+    ("stream s(v int); s | anti t on v", None),
+    ("stream s(v int); s | group : count as n", None),
+    (
+        "stream s(v int); s | group by v : sum v as a, min v as b, max v as c",
+        None,
+    ),
+    (
+        "stream s(v int); s | group by v, w : count as n | where n > 1",
+        None,
+    ),
+    ("", Some(0)),
+    ("s", Some(0)),
+    ("stream ", Some(7)),
+    ("select", Some(0)),
+    ("stream s v int); s", Some(9)),
+    ("stream s(); s", Some(9)),
+    ("stream s(v ); s", Some(11)),
+    ("stream s(v v); s", Some(11)),
+    ("stream s(v int int); s", Some(15)),
+    ("stream s(v int, ); s", Some(16)),
+    ("stream s(v int) s", Some(16)),
+    ("stream s(v int); ", Some(17)),
+    ("stream s(v int); s x", Some(19)),
+    ("stream s(v int); s;", Some(18)),
+    ("stream s(v int); 3", Some(17)),
+    ("stream s(v int); let = s; s", Some(21)),
+    ("stream s(v int); let m s; s", Some(23)),
+    ("stream s(v int); let m = ; s", Some(25)),
+    ("stream s(v int); let m = s m", Some(27)),
+    ("stream s(v int); let m = s; ;", Some(28)),
+    ("stream s(v int); let m = s; stream t(v int); m", Some(28)),
+    ("stream s(v int); let m = s; ", Some(28)),
+    ("stream s(v int); s | ", Some(21)),
+    ("stream s(v int); s | v", Some(21)),
+    ("stream s(v int); s | | where true", Some(21)),
+    ("stream s(v int); s | where v >", Some(30)),
+    ("stream s(v int); s | where )", Some(27)),
+    ("stream s(v int); s | where | union t", Some(27)),
+    ("stream s(v int); s | where (v", Some(29)),
+    ("stream s(v int); s | where (v | union t", Some(30)),
+    ("stream s(v int); s | where v)", Some(28)),
+    ("stream s(v int); s | where v v", Some(29)),
+    ("stream s(v int); s | where v = 1 = 2", Some(33)),
+    ("stream s(v int); s | where v < 1 >= 2", Some(33)),
+    ("stream s(v int); s | where not or", Some(31)),
+    ("stream s(v int); s | where v + * 2", Some(31)),
+    ("stream s(v int); s | where v and and v", Some(33)),
+    ("stream s(v int); s | where v = not v", Some(31)),
+    ("stream s(v int); s | where v div 0", Some(33)),
+    ("stream s(v int); s | where v mod v", Some(33)),
+    ("stream s(v int); s | where v div -1", Some(33)),
+    ("stream s(v int); s | where v div (2)", Some(33)),
+    ("stream s(v int); s | where 1 1", Some(29)),
+    ("stream s(v int); s | where 01", Some(28)),
+    ("stream s(v int); s | where 1a", Some(28)),
+    ("stream s(v int); s | where v = 'abc", Some(31)),
+    ("stream s(v int); s | where v = 'a\nb'", Some(31)),
+    ("stream s(v int); s | where v = 'a' 'b'", Some(35)),
+    (
+        "stream s(v int); s | where v = 9223372036854775808",
+        Some(31),
+    ),
+    (
+        "stream s(v int); s | where aaaaaaaaaaaaaaaaaaaaaaaaaaaaaaaaaaaaaaaaaaaaaaaaaaaaaaaaaaaaaaaaa",
+        Some(27),
+    ),
+    ("stream s(v int); s | where v ! 3", Some(29)),
+    ("stream s(v int); s | where v = @", Some(31)),
+    ("stream s(v int); s | where v = \"a\"", Some(31)),
+    ("stream s(v int); s | where v as w", Some(29)),
+    ("stream s(v int); s | select ", Some(28)),
+    ("stream s(v int); s | select v, ", Some(31)),
+    ("stream s(v int); s | select v + 1", Some(33)),
+    ("stream s(v int); s | select v + 1 , v", Some(34)),
+    ("stream s(v int); s | select v as 1", Some(33)),
+    ("stream s(v int); s | select 1 | delay 1", Some(30)),
+    ("stream s(v int); s | select v w", Some(30)),
+    ("stream s(v int); s | select v as w as x", Some(35)),
+    ("stream s(v int); s | select (v)", Some(31)),
+    ("stream s(v int); s | select v * as w", Some(32)),
+    ("stream s(v int); s | union 3", Some(27)),
+    ("stream s(v int); s | union ", Some(27)),
+    ("stream s(v int); s | union t t", Some(29)),
+    ("stream s(v int); s | delay v", Some(27)),
+    ("stream s(v int); s | delay -1", Some(27)),
+    ("stream s(v int); s | delay 1.5", Some(28)),
+    ("stream s(v int); s | hop 5 ", Some(27)),
+    ("stream s(v int); s | hop 105", Some(28)),
+    ("stream s(v int); s | hop v 5", Some(25)),
+    ("stream s(v int); s | hop 1 2 3", Some(29)),
+    ("stream s(v int); s | tumble 5 5", Some(30)),
+    ("stream s(v int); s | session by v", Some(29)),
+    ("stream s(v int); s | session 5 by ", Some(34)),
+    ("stream s(v int); s | session 5 on v", Some(31)),
+    ("stream s(v int); s | clip t by v", Some(28)),
+    ("stream s(v int); s | clip on v", Some(26)),
+    ("stream s(v int); s | join t on v, ", Some(34)),
+    ("stream s(v int); s | join t on 1", Some(31)),
+    ("stream s(v int); s | anti on v", Some(26)),
+    ("stream s(v int); s | group count as n", Some(27)),
+    ("stream s(v int); s | group : sum as s", Some(33)),
+    ("stream s(v int); s | group : count n", Some(35)),
+    ("stream s(v int); s | group : count as ", Some(38)),
+    ("stream s(v int); s | group by : count as n", Some(30)),
+    ("stream s(v int); s | group : count as n, ", Some(41)),
+    ("stream s(v int); s | group : v", Some(29)),
+    ("stream s(v int); s | group by v sum v as s", Some(32)),
+    (
+        "stream s(v int); s | group by v : min v , max v as m",
+        Some(40),
+    ),
+    ("stream stream(v int); s", Some(7)),
+    ("stream let(v int); s", Some(7)),
+    ("stream where(v int); s", Some(7)),
+    ("stream select(v int); s", Some(7)),
+    ("stream union(v int); s", Some(7)),
+    ("stream delay(v int); s", Some(7)),
+    ("stream hop(v int); s", Some(7)),
+    ("stream tumble(v int); s", Some(7)),
+    ("stream duration(v int); s", Some(7)),
+    ("stream extend(v int); s", Some(7)),
+    ("stream session(v int); s", Some(7)),
+    ("stream clip(v int); s", Some(7)),
+    ("stream join(v int); s", Some(7)),
+    ("stream anti(v int); s", Some(7)),
+    ("stream group(v int); s", Some(7)),
+    ("stream by(v int); s", Some(7)),
+    ("stream on(v int); s", Some(7)),
+    ("stream as(v int); s", Some(7)),
+    ("stream and(v int); s", Some(7)),
+    ("stream or(v int); s", Some(7)),
+    ("stream not(v int); s", Some(7)),
+    ("stream div(v int); s", Some(7)),
+    ("stream mod(v int); s", Some(7)),
+    ("stream true(v int); s", Some(7)),
+    ("stream false(v int); s", Some(7)),
+    ("stream int(v int); s", Some(7)),
+    ("stream bool(v int); s", Some(7)),
+    ("stream text(v int); s", Some(7)),
+    ("stream count(v int); s", Some(7)),
+    ("stream sum(v int); s", Some(7)),
+    ("stream min(v int); s", Some(7)),
+    ("stream max(v int); s", Some(7)),
+];
+
+/// Why a text spells no query.
+fn fault(alloc: Global, text: &str) -> Option<QueryError> {
+    parse(alloc, text).err()
+}
+
+#[test]
+fn faults_stand_where_the_grammar_says(rt: HostRuntime) {
+    for &(text, want) in TEXTS.iter() {
+        let want = match want {
+            Some(at) => Some(QueryError::Fault(QueryFault::Syntax { at })),
+            None => None,
+        };
+        assert_eq!(rt; fault(rt.alloc(), text), want, "of {text}");
+    }
+}
+
+/// A text of three parts, of which the second stands so many times.
+fn repeated(
+    alloc: Global,
+    front: &str,
+    part: &str,
+    times: usize,
+    end: &str,
+) -> Result<String, Memory> {
+    let mut text = String::new(alloc);
+    text.push_str(front)?;
+    for _ in 0..times {
+        text.push_str(part)?;
+    }
+    text.push_str(end)?;
+    Ok(text)
+}
+
+/// Long texts in three parts, the second of which stands so many times, with their faults.
+static LONG: [(&str, &str, usize, &str, Option<QueryFault>); 6] = [
+    ("stream s(v int); s", " ", 65_518, "", None),
+    (
+        "stream s(v int); s",
+        " ",
+        65_519,
+        "",
+        Some(QueryFault::TooLarge),
+    ),
+    ("stream s(v int); s | where ", "-", 199, "v", None),
+    (
+        "stream s(v int); s | where ",
+        "-",
+        200,
+        "v",
+        Some(QueryFault::LongExpr { at: 227 }),
+    ),
+    ("stream s(v int); s", " | delay 1", 300, "", None),
+    (
+        "stream s(v int); s | where v = 1",
+        ", v",
+        1,
+        "",
+        Some(QueryFault::Syntax { at: 32 }),
+    ),
+];
+
+#[test]
+fn long_texts_keep_the_limits(rt: HostRuntime) {
+    for &(front, part, times, end, want) in LONG.iter() {
+        let Ok(text) = repeated(rt.alloc(), front, part, times, end) else {
+            panic!(rt; "no memory");
+        };
+        let want = match want {
+            Some(fault) => Some(QueryError::Fault(fault)),
+            None => None,
+        };
+        assert_eq!(rt; fault(rt.alloc(), &text), want, "of {front}{part}..");
+    }
+}
+
+/// An expression in so many brackets, with 2 words within them.
+fn nested(alloc: Global, times: usize) -> Result<String, Memory> {
+    let front = repeated(alloc, "stream s(v int); s | where ", "(", times, "-v")?;
+    repeated(alloc, front.as_str(), ")", times, "")
+}
+
+#[test]
+fn brackets_nest_as_deep_as_the_limit(rt: HostRuntime) {
+    let Ok(text) = nested(rt.alloc(), 99) else {
+        panic!(rt; "no memory");
+    };
+    assert_eq!(rt; fault(rt.alloc(), &text), None);
+}
+
+/// What a node is, in a word, with its operands; of a name or a text, how many bytes it has.
+fn shape(node: &TreeNode) -> (&'static str, usize, usize) {
+    match node {
+        TreeNode::Name(name) => ("name", name.as_str().len(), 0),
+        TreeNode::Text(text) => ("text", text.as_str().len(), 0),
+        TreeNode::Int(value) => ("int", value.unsigned_abs() as usize, 0),
+        TreeNode::Bool(value) => ("bool", usize::from(*value), 0),
+        TreeNode::Neg(of) => ("neg", *of, 0),
+        TreeNode::Not(of) => ("not", *of, 0),
+        TreeNode::Div { of, by } => ("div", *of, *by as usize),
+        TreeNode::Mod { of, by } => ("mod", *of, *by as usize),
+        TreeNode::And { left, right } => ("and", *left, *right),
+        TreeNode::Or { left, right } => ("or", *left, *right),
+        TreeNode::Arith { op, left, right } => (arith(*op), *left, *right),
+        TreeNode::Compare { op, left, right } => (compare(*op), *left, *right),
+    }
+}
+
+fn arith(op: ArithOp) -> &'static str {
+    match op {
+        ArithOp::Add => "+",
+        ArithOp::Sub => "-",
+        ArithOp::Mul => "*",
+    }
+}
+
+fn compare(op: CompareOp) -> &'static str {
+    match op {
+        CompareOp::Eq => "=",
+        CompareOp::Ne => "<>",
+        CompareOp::Lt => "<",
+        CompareOp::Le => "<=",
+        CompareOp::Gt => ">",
+        CompareOp::Ge => ">=",
+    }
+}
+
+/// Texts of queries with one test, and the nodes of the test.
+static TREES: [(&str, &[(&str, usize, usize)]); 6] = [
+    (
+        "stream s(v int); s | where a - bb - ccc > 10",
+        &[
+            ("name", 1, 0),
+            ("name", 2, 0),
+            ("-", 0, 1),
+            ("name", 3, 0),
+            ("-", 2, 3),
+            ("int", 10, 0),
+            (">", 4, 5),
+        ],
+    ),
+    (
+        "stream s(v int); s | where a or bb and not ccc",
+        &[
+            ("name", 1, 0),
+            ("name", 2, 0),
+            ("name", 3, 0),
+            ("not", 2, 0),
+            ("and", 1, 3),
+            ("or", 0, 4),
+        ],
+    ),
+    (
+        "stream s(v int); s | where (a or bb) and (true)",
+        &[
+            ("name", 1, 0),
+            ("name", 2, 0),
+            ("or", 0, 1),
+            ("bool", 1, 0),
+            ("and", 2, 3),
+        ],
+    ),
+    (
+        "stream s(v int); s | where 'it''s' <> ''''",
+        &[("text", 4, 0), ("text", 1, 0), ("<>", 0, 1)],
+    ),
+    (
+        "stream s(v int); s | where a * bb div 7 mod 3 + 1 <= - - 2",
+        &[
+            ("name", 1, 0),
+            ("name", 2, 0),
+            ("*", 0, 1),
+            ("div", 2, 7),
+            ("mod", 3, 3),
+            ("int", 1, 0),
+            ("+", 4, 5),
+            ("int", 2, 0),
+            ("neg", 7, 0),
+            ("neg", 8, 0),
+            ("<=", 6, 9),
+        ],
+    ),
+    (
+        "stream s(v int); s | where false or a < bb or a >= bb or a = bb",
+        &[
+            ("bool", 0, 0),
+            ("name", 1, 0),
+            ("name", 2, 0),
+            ("<", 1, 2),
+            ("or", 0, 3),
+            ("name", 1, 0),
+            ("name", 2, 0),
+            (">=", 5, 6),
+            ("or", 4, 7),
+            ("name", 1, 0),
+            ("name", 2, 0),
+            ("=", 9, 10),
+            ("or", 8, 11),
+        ],
+    ),
+];
+
+#[test]
+fn tests_are_read_in_postfix_order(rt: HostRuntime) {
+    for &(text, want) in TREES.iter() {
+        let Ok(query) = parse(rt.alloc(), text) else {
+            panic!(rt; "no query: {text}");
+        };
+        let Some(QueryStep::Where(tree)) = query.body.steps.items().first() else {
+            panic!(rt; "no test: {text}");
+        };
+        assert_eq!(rt; tree.items().len(), want.len(), "nodes of {text}");
+        for (node, &nodes) in tree.items().iter().zip(want.iter()) {
+            assert_eq!(rt; shape(node), nodes, "a node of {text}");
+        }
+    }
+}
+
+/// What a step is, in a word, with its numbers, or how long its lists are.
+fn outline(step: &QueryStep) -> (&'static str, u64, u64) {
+    match step {
+        QueryStep::Where(tree) => ("where", tree.items().len() as u64, 0),
+        QueryStep::Select(items) => ("select", items.items().len() as u64, 0),
+        QueryStep::Union(_) => ("union", 0, 0),
+        QueryStep::Delay(by) => ("delay", *by, 0),
+        QueryStep::Duration(by) => ("duration", *by, 0),
+        QueryStep::Extend(by) => ("extend", *by, 0),
+        QueryStep::Hop { size, period } => ("hop", *size, *period),
+        QueryStep::Session { timeout, key } => ("session", *timeout, key.items().len() as u64),
+        QueryStep::Clip { right: _, key } => ("clip", key.items().len() as u64, 0),
+        QueryStep::Join { right: _, key } => ("join", key.items().len() as u64, 0),
+        QueryStep::Anti { right: _, key } => ("anti", key.items().len() as u64, 0),
+        QueryStep::Group { key, aggs } => (
+            "group",
+            key.items().len() as u64,
+            aggs.items().len() as u64,
+        ),
+    }
+}
+
+static STEPS: &str =
+    "stream s(v int); let m = s; m | where v | select v, v + 1 as q | union s | delay 0 | duration 3 | extend 4 | hop 10 5 | tumble 7 | session 6 by v, q | clip s | join s on v | anti s on v, q | group : count as n | group by v : sum q as a, min q as b, max q as c";
+
+static OUTLINES: [(&str, u64, u64); 14] = [
+    ("where", 1, 0),
+    ("select", 2, 0),
+    ("union", 0, 0),
+    ("delay", 0, 0),
+    ("duration", 3, 0),
+    ("extend", 4, 0),
+    ("hop", 10, 5),
+    ("hop", 7, 7),
+    ("session", 6, 2),
+    ("clip", 0, 0),
+    ("join", 1, 0),
+    ("anti", 2, 0),
+    ("group", 0, 1),
+    ("group", 1, 3),
+];
+
+#[test]
+fn each_step_is_read(rt: HostRuntime) {
+    texts_spell_one_query();
+    let Ok(query) = parse(rt.alloc(), STEPS) else {
+        panic!(rt; "no query");
+    };
+    assert_eq!(rt; query.streams.items().len(), 1);
+    assert_eq!(rt; query.lets.items().len(), 1);
+    assert_eq!(rt; query.body.base.as_str(), "m");
+    let steps = query.body.steps.items();
+    assert_eq!(rt; steps.len(), OUTLINES.len());
+    for (step, &want) in steps.iter().zip(OUTLINES.iter()) {
+        assert_eq!(rt; outline(step), want);
+    }
+}
+
+#[test]
+fn lists_keep_what_they_are_made_of(rt: HostRuntime) {
+    assert_eq!(rt; StreamList::from_vec(Vec::new(rt.alloc())).items().len(), 0);
+    assert_eq!(rt; LetList::from_vec(Vec::new(rt.alloc())).items().len(), 0);
+    assert_eq!(rt; StepList::from_vec(Vec::new(rt.alloc())).items().len(), 0);
+    assert_eq!(rt; ItemList::from_vec(Vec::new(rt.alloc())).items().len(), 0);
+    assert_eq!(rt; AggList::from_vec(Vec::new(rt.alloc())).items().len(), 0);
+    assert_eq!(rt; NameList::from_vec(Vec::new(rt.alloc())).items().len(), 0);
+}
+
+#[test]
+fn a_tree_keeps_its_nodes(rt: HostRuntime) {
+    let Ok(nodes) = vec![in rt.alloc(); TreeNode::Int(3), TreeNode::Neg(0)] else {
+        panic!(rt; "no memory");
+    };
+    let tree = Tree::from_vec(nodes);
+    assert_eq!(rt; tree.items().len(), 2);
+    assert!(rt; matches!(&tree.items()[1], TreeNode::Neg(0)));
+}
