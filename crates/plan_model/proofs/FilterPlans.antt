@@ -11,7 +11,7 @@ use Rattle.plan_model.specs.declared.node.Node.{Node}
 use Rattle.plan_model.specs.Expr.{value, holds}
 use Rattle.plan_model.specs.IsExpr.{IsExpr}
 use Rattle.plan_model.specs.FilterPlan.{filter_plan, first_above}
-use Rattle.plan_model.specs.Meaning.{Sources, events, closes, snapshots, IsOrdered, IsLevelled, HasLower, left_child, right_child, reads_events}
+use Rattle.plan_model.specs.Meaning.{Sources, events, closes, snapshots, IsOrdered, IsLevelled, HasLower, left_child, right_child, reads_events, reads_right_events}
 
 pub IsOrdered-filter_plan : (test : List ExprNode) → IsOrdered (filter_plan test)
 IsOrdered-filter_plan test zero n there = subst HasChildrenBelow (ap (λ o. unwrap_or o n) there) (tt, tt)
@@ -25,9 +25,15 @@ IsOrdered-filter_plan test (suc zero) n there = subst HasChildrenBelow (ap (λ o
 IsOrdered-filter_plan test (suc (suc i)) n there = absurd (cc)
 
 pub IsLevelled-filter_plan : (test : List ExprNode) → IsLevelled (filter_plan test)
-IsLevelled-filter_plan test source zero n there reads = absurd (let of_source = subst (λ m. reads_events m ≡ true) (sym (ap (λ o. unwrap_or o n) there)) reads in cc)
-IsLevelled-filter_plan test source (suc zero) n there reads = absurd (let of_where = subst (λ m. reads_events m ≡ true) (sym (ap (λ o. unwrap_or o n) there)) reads in cc)
-IsLevelled-filter_plan test source (suc (suc i)) n there reads = absurd (cc)
+IsLevelled-filter_plan test source zero n there = (
+  λ reads. absurd (let of_source = subst (λ m. reads_events m ≡ true) (sym (ap (λ o. unwrap_or o n) there)) reads in cc),
+  λ reads. absurd (let of_source = subst (λ m. reads_right_events m ≡ true) (sym (ap (λ o. unwrap_or o n) there)) reads in cc),
+)
+IsLevelled-filter_plan test source (suc zero) n there = (
+  λ reads. absurd (let of_where = subst (λ m. reads_events m ≡ true) (sym (ap (λ o. unwrap_or o n) there)) reads in cc),
+  λ reads. absurd (let of_where = subst (λ m. reads_right_events m ≡ true) (sym (ap (λ o. unwrap_or o n) there)) reads in cc),
+)
+IsLevelled-filter_plan test source (suc (suc i)) n there = absurd (cc)
 
 -- the events of the root are those of the stream whose rows pass
 pub events-filter_plan : (source : Sources) (test : List ExprNode) → events source (filter_plan test) 1 ≡ filter (λ e. holds test e.row) (source 0)

@@ -10,13 +10,15 @@ use Rattle.tw_rows.specs.Event.{Event, lives_at, alive, AreEvents, cut_one, cut,
 use Rattle.tw_rows.specs.Rows.{Row}
 use Rattle.tw_rows.proofs.Bags.{total-append, total-map, total-filter, total_same, SameBag-refl, SameBag-append}
 use Rattle.tw_rows.proofs.Lives.{total-alive, cut-append, AreEvents-append, causal_from_one}
+use Rattle.key_nodes.specs.Clips.{clipped}
+use Rattle.key_nodes.proofs.Clipping.{clipped_known}
 use Rattle.plan_model.specs.declared.expr.ExprNode.{ExprNode}
 use Rattle.plan_model.specs.declared.node.Node.{Node}
-use Rattle.plan_model.specs.declared.node.Node.TheVariants.{Source, Where, Select, Union, Delay, Hop, Duration, Extend, Join}
+use Rattle.plan_model.specs.declared.node.Node.TheVariants.{Source, Where, Select, Union, Delay, Hop, Duration, Extend, Clip, Join}
 use Rattle.plan_model.specs.Expr.{holds}
 use Rattle.plan_model.specs.Keys.{keys_equal, paired_row}
 use Rattle.plan_model.specs.Lives.{moved, hopped, lasting, extended}
-use Rattle.plan_model.specs.Meaning.{Meaning, by_events, filtered, selected_row, selected_event, selected, node_events, node_meaning, node_closes, reads_events}
+use Rattle.plan_model.specs.Meaning.{Meaning, by_events, filtered, selected_row, selected_event, selected, node_events, node_meaning, node_closes, reads_events, reads_right_events}
 use Rattle.plan_model.proofs.Joining.{alive-joined, Known-joined}
 use Rattle.plan_model.proofs.NewLives.{alive-moved, Known-moved, Known-hopped, Known-lasting, Known-extended}
 
@@ -72,7 +74,16 @@ agrees_by_events change a x same = record {
   same_rows = λ t low. subst (λ es. SameBag (alive (change a) t) (alive (change es) t)) same (SameBag-refl _);
 }
 
-pub node_agrees : (n : Node) (a b : List (Event Row)) (x y : Meaning) → AgreesWith a x → AgreesWith b y → (reads_events n ≡ true → x.has_events ≡ true) → AgreesWith (node_events n a b) (node_meaning n x y)
+-- a node that makes its events of those of both its children
+agrees_by_both : (change : List (Event Row) → List (Event Row) → List (Event Row)) (a b : List (Event Row)) (x y : Meaning) → a ≡ x.events → b ≡ y.events → AgreesWith (change a b) (by_events (change x.events y.events))
+agrees_by_both change a b x y left right =
+    let same = ap (λ es. change es b) left ∙ ap (change x.events) right in
+    record {
+      same_events = λ has. same;
+      same_rows = λ t low. subst (λ es. SameBag (alive (change a b) t) (alive es t)) same (SameBag-refl _);
+    }
+
+pub node_agrees : (n : Node) (a b : List (Event Row)) (x y : Meaning) → AgreesWith a x → AgreesWith b y → (reads_events n ≡ true → x.has_events ≡ true) × (reads_right_events n ≡ true → y.has_events ≡ true) → AgreesWith (node_events n a b) (node_meaning n x y)
 node_agrees (Source stream) a b x y h k fits = h
 node_agrees (Where of test) a b x y h k fits = record {
   same_events = λ has. ap (filtered test) (h.same_events has);
@@ -90,9 +101,10 @@ node_agrees (Delay of by) a b x y h k fits = record {
   same_events = λ has. ap (moved by) (h.same_events has);
   same_rows = λ t low. alive-moved by a x.rows t low h.same_rows;
 }
-node_agrees (Hop of size period) a b x y h k fits = agrees_by_events (hopped size period) a x (h.same_events (fits refl))
-node_agrees (Duration of by) a b x y h k fits = agrees_by_events (lasting by) a x (h.same_events (fits refl))
-node_agrees (Extend of by) a b x y h k fits = agrees_by_events (extended by) a x (h.same_events (fits refl))
+node_agrees (Hop of size period) a b x y h k fits = agrees_by_events (hopped size period) a x (h.same_events (fits.0 refl))
+node_agrees (Duration of by) a b x y h k fits = agrees_by_events (lasting by) a x (h.same_events (fits.0 refl))
+node_agrees (Extend of by) a b x y h k fits = agrees_by_events (extended by) a x (h.same_events (fits.0 refl))
+node_agrees (Clip left right left_key right_key) a b x y h k fits = agrees_by_both (clipped (keys_equal left_key right_key)) a b x y (h.same_events (fits.0 refl)) (k.same_events (fits.1 refl))
 node_agrees (Join left right left_key right_key) a b x y h k fits = record {
   same_events = λ has. absurd (cc);
   same_rows = λ t low. alive-joined (keys_equal left_key right_key) (paired_row right_key) a b (x.rows t) (y.rows t) t (h.same_rows t low) (k.same_rows t low);
@@ -161,4 +173,5 @@ node_known (Delay of by) x y a b c d h k = Known-moved by x a c h
 node_known (Hop of size period) x y a b c d h k = Known-hopped size period x a c h
 node_known (Duration of by) x y a b c d h k = Known-lasting by x a c h
 node_known (Extend of by) x y a b c d h k = Known-extended by x a c h
+node_known (Clip left right left_key right_key) x y a b c d h k = clipped_known (keys_equal left_key right_key) x y a c b d h k
 node_known (Join left right left_key right_key) x y a b c d h k = Known-joined (keys_equal left_key right_key) (paired_row right_key) x y a c b d h k

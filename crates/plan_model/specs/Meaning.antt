@@ -3,9 +3,10 @@ use Rattle.std.specs.Prelude.{◌≡◌, ℕ, ◌-◌, ◌<◌, min, nat_le, Boo
 use Rattle.tw_rows.specs.Instant.{inf, later, floor_to}
 use Rattle.tw_rows.specs.Event.{Event, alive}
 use Rattle.tw_rows.specs.Rows.{Row}
+use Rattle.key_nodes.specs.Clips.{clipped}
 use Rattle.plan_model.specs.declared.expr.ExprNode.{ExprNode}
 use Rattle.plan_model.specs.declared.node.Node.{Node}
-use Rattle.plan_model.specs.declared.node.Node.TheVariants.{Source, Where, Select, Union, Delay, Hop, Duration, Extend, Join}
+use Rattle.plan_model.specs.declared.node.Node.TheVariants.{Source, Where, Select, Union, Delay, Hop, Duration, Extend, Clip, Join}
 use Rattle.plan_model.specs.Expr.{value, holds}
 use Rattle.plan_model.specs.Fold.{result}
 use Rattle.plan_model.specs.Keys.{keys_equal, paired_row}
@@ -26,6 +27,7 @@ left_child (Delay of by) = Some of
 left_child (Hop of size period) = Some of
 left_child (Duration of by) = Some of
 left_child (Extend of by) = Some of
+left_child (Clip left right left_key right_key) = Some left
 left_child (Join left right left_key right_key) = Some left
 
 -- the number of the right child
@@ -38,6 +40,7 @@ right_child (Delay of by) = None
 right_child (Hop of size period) = None
 right_child (Duration of by) = None
 right_child (Extend of by) = None
+right_child (Clip left right left_key right_key) = Some right
 right_child (Join left right left_key right_key) = Some right
 
 -- what stands at a child's number, and `none` where there is no child
@@ -94,6 +97,7 @@ node_events (Delay of by) a b = moved by a
 node_events (Hop of size period) a b = hopped size period a
 node_events (Duration of by) a b = lasting by a
 node_events (Extend of by) a b = extended by a
+node_events (Clip left right left_key right_key) a b = clipped (keys_equal left_key right_key) a b
 node_events (Join left right left_key right_key) a b = joined (keys_equal left_key right_key) (paired_row right_key) a b
 
 -- the events of the node of number n
@@ -110,6 +114,7 @@ node_closes (Delay of by) x y = later by x
 node_closes (Hop of size period) x y = floor_to period x
 node_closes (Duration of by) x y = x
 node_closes (Extend of by) x y = x
+node_closes (Clip left right left_key right_key) x y = min x y
 node_closes (Join left right left_key right_key) x y = min x y
 
 -- the closing of the node of number n at the punctuation p, up to which all rows of the sources are known
@@ -144,6 +149,7 @@ node_meaning (Delay of by) a b = record { events = moved by a.events; has_events
 node_meaning (Hop of size period) a b = by_events (hopped size period a.events)
 node_meaning (Duration of by) a b = by_events (lasting by a.events)
 node_meaning (Extend of by) a b = by_events (extended by a.events)
+node_meaning (Clip left right left_key right_key) a b = by_events (clipped (keys_equal left_key right_key) a.events b.events)
 node_meaning (Join left right left_key right_key) a b = by_rows (λ t. joined_rows (keys_equal left_key right_key) (paired_row right_key) (a.rows t) (b.rows t))
 
 -- the meaning of the node of number n
@@ -154,7 +160,7 @@ meaning source nodes n = over_nodes nothing (λ s. by_events (source s)) node_me
 abbrev pub snapshots : Sources → List Node → ℕ → ℕ → List Row
 snapshots source nodes n t = (meaning source nodes n).rows t
 
--- the node reads the events of its child, and not its rows at each instant alone
+-- the node reads the events of its only or left child, and not its rows at each instant alone
 abbrev pub reads_events : Node → Bool
 reads_events (Source stream) = false
 reads_events (Where of test) = false
@@ -164,9 +170,16 @@ reads_events (Delay of by) = false
 reads_events (Hop of size period) = true
 reads_events (Duration of by) = true
 reads_events (Extend of by) = true
+reads_events (Clip left right left_key right_key) = true
 reads_events (Join left right left_key right_key) = false
 
--- a node that reads events has a child with events
+-- the node reads the events of its right child
+abbrev pub reads_right_events : Node → Bool
+reads_right_events (Clip left right left_key right_key) = true
+reads_right_events n = false
+
+-- a node that reads the events of a child has there a child with events
 abbrev pub IsLevelled : List Node → Type 0
-IsLevelled nodes = (source : Sources) (i : ℕ) (n : Node) → slice_get nodes i ≡ Some n → reads_events n ≡ true →
-    (left_of nothing (λ s. by_events (source s)) (meaning source nodes) n).has_events ≡ true
+IsLevelled nodes = (source : Sources) (i : ℕ) (n : Node) → slice_get nodes i ≡ Some n →
+    (reads_events n ≡ true → (left_of nothing (λ s. by_events (source s)) (meaning source nodes) n).has_events ≡ true)
+    × (reads_right_events n ≡ true → (right_of nothing (meaning source nodes) n).has_events ≡ true)

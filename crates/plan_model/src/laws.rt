@@ -4,6 +4,7 @@ ghost use Rattle.tw_rows.specs.Bag.{SameBag};
 ghost use Rattle.tw_rows.specs.Event.{Event, alive, AreEvents, Known};
 ghost use Rattle.tw_rows.specs.Instant.{inf, later, floor_to};
 ghost use Rattle.tw_rows.specs.Rows.{Row};
+ghost use Rattle.key_nodes.specs.Clips.{clipped};
 ghost use Rattle.plan_model.specs.declared.expr.ExprNode.{ExprNode};
 ghost use Rattle.plan_model.specs.declared.node.Node.{Node};
 ghost use Rattle.plan_model.specs.IsExpr.{IsExpr};
@@ -134,6 +135,22 @@ pub fn extend_is()
     ensures closing { (nodes : List Node) (i child by p : ℕ) →
         IsOrdered nodes → slice_get nodes i ≡ Some (Node.Extend child by) →
         closes nodes i p ≡ closes nodes child p }
+{}
+
+/// A Clip has the events of its left child, each up to the least of its end and the later starts of right events with an
+/// equal key; its rows are those that are alive; and it is closed up to the lesser of its children's closings.
+pub fn clip_is()
+    ensures events { (source : Sources) (nodes : List Node) (i left right : ℕ) (left_key right_key : List ℕ) →
+        IsOrdered nodes → slice_get nodes i ≡ Some (Node.Clip left right left_key right_key) →
+        events source nodes i
+        ≡ clipped (keys_equal left_key right_key) (events source nodes left) (events source nodes right) }
+    ensures rows { (source : Sources) (nodes : List Node) (i left right t : ℕ) (left_key right_key : List ℕ) →
+        IsOrdered nodes → IsLevelled nodes → slice_get nodes i ≡ Some (Node.Clip left right left_key right_key) →
+        snapshots source nodes i t
+        ≡ alive (clipped (keys_equal left_key right_key) (events source nodes left) (events source nodes right)) t }
+    ensures closing { (nodes : List Node) (i left right p : ℕ) (left_key right_key : List ℕ) →
+        IsOrdered nodes → slice_get nodes i ≡ Some (Node.Clip left right left_key right_key) →
+        closes nodes i p ≡ min (closes nodes left p) (closes nodes right p) }
 {}
 
 /// A Join has an event for each pair of a left and a right event with equal keys that are alive at one instant, over all

@@ -49,6 +49,14 @@ pub enum Node {
         of: usize,
         by: u64,
     },
+    /// The rows of the left child, each alive up to the first start of a right row with an equal key that is later than its
+    /// own start, where it does not end before.
+    Clip {
+        left: usize,
+        right: usize,
+        left_key: Key,
+        right_key: Key,
+    },
     /// For every pair of a left and a right row with equal keys the left row, followed by the values of the right row in the
     /// columns outside its key.
     Join {
@@ -87,8 +95,14 @@ mod tests {
                 left_key,
                 right_key
             },
+            Node::Clip {
+                left: 7,
+                right: 1,
+                left_key: Key::from_vec(vec![in rt.alloc(); 3]?),
+                right_key: Key::from_vec(vec![in rt.alloc(); 0]?)
+            },
         ]?;
-        assert_eq!(rt; nodes.len(), 8);
+        assert_eq!(rt; nodes.len(), 9);
         assert!(rt; matches!(&nodes[0], Node::Source { stream: 3 }));
         assert!(rt; matches!(&nodes[1], Node::Select { of: 0, .. }));
         assert!(rt; matches!(&nodes[2], Node::Union { left: 0, right: 1 }));
@@ -116,6 +130,16 @@ mod tests {
         };
         assert_eq!(rt; left_key.items(), [1].as_slice());
         assert_eq!(rt; right_key.items(), [2].as_slice());
+        let Node::Clip {
+            left: 7,
+            right: 1,
+            left_key,
+            ..
+        } = &nodes[8]
+        else {
+            panic!(rt; "no clip of nodes 7 and 1");
+        };
+        assert_eq!(rt; left_key.items(), [3].as_slice());
         Ok(())
     }
 }

@@ -15,7 +15,7 @@ returns-clause-events c = λ source nodes i child by ordered there. over_nodes-i
 pub returns-clause-rows : goal.returns-clause-rows
 returns-clause-rows c = λ source nodes i child by t ordered levelled there.
     ap (λ m. m.rows t) (over_nodes-is nothing (λ s. by_events (source s)) node_meaning nodes ordered i (Duration child by) there)
-    ∙ ap (λ es. alive (lasting by es) t) (sym ((events_agree source nodes ordered levelled child).same_events (levelled source i (Duration child by) there refl)))
+    ∙ ap (λ es. alive (lasting by es) t) (sym ((events_agree source nodes ordered levelled child).same_events ((levelled source i (Duration child by) there).0 refl)))
 
 pub returns-clause-closing : goal.returns-clause-closing
 returns-clause-closing c = λ nodes i child by p ordered there. over_nodes-is inf (λ s. p) node_closes nodes ordered i (Duration child by) there

@@ -15,7 +15,7 @@ returns-clause-events c = λ source nodes i child size period ordered there. ove
 pub returns-clause-rows : goal.returns-clause-rows
 returns-clause-rows c = λ source nodes i child size period t ordered levelled there.
     ap (λ m. m.rows t) (over_nodes-is nothing (λ s. by_events (source s)) node_meaning nodes ordered i (Hop child size period) there)
-    ∙ ap (λ es. alive (hopped size period es) t) (sym ((events_agree source nodes ordered levelled child).same_events (levelled source i (Hop child size period) there refl)))
+    ∙ ap (λ es. alive (hopped size period es) t) (sym ((events_agree source nodes ordered levelled child).same_events ((levelled source i (Hop child size period) there).0 refl)))
 
 pub returns-clause-closing : goal.returns-clause-closing
 returns-clause-closing c = λ nodes i child size period p ordered there. over_nodes-is inf (λ s. p) node_closes nodes ordered i (Hop child size period) there
