@@ -5,10 +5,12 @@ use Rattle.std.specs.Ordering.{eq_by_cmp, is_eq, ordering_reverse}
 use Rattle.std.specs.Cmp.{Equal-is, tied_itself}
 use Rattle.std.specs.declared.cmp.Ordering.{Ordering}
 use Rattle.std.specs.declared.cmp.Ordering.TheVariants.{Less, Equal, Greater}
-use Rattle.std.proofs.Common.{inl, inr, sym, ◌∙◌, ap}
+use Rattle.std.proofs.Common.{inl, inr, sym, ◌∙◌, ap, subst}
 use Rattle.std.proofs.lemmas.Bool.{or_cases}
 use Rattle.tw_rows.specs.Rows.{Row, row_cmp}
 use Rattle.tw_rows.specs.RowOrder.{row_cmp_total, row_cmp-IsAntisymmetric}
+use Rattle.key_nodes.specs.Runs.{Tells}
+use Rattle.plan_model.specs.Keys.{rows_equal}
 use Rattle.plan_model.specs.Changes.{place, insert_row, in_row_order}
 
 -- whether the list has the row
@@ -25,6 +27,10 @@ same_row q x e = row_cmp-IsAntisymmetric q x ((Equal-is (row_cmp q x)).0 e)
 
 pub row_itself : (q : Row) → eq_by_cmp row_cmp q q ≡ true
 row_itself q = ap is_eq (tied_itself row_cmp_total q)
+
+-- the test of rows tells them apart
+pub rows_equal_tells : Tells rows_equal
+rows_equal_tells a b = (same_row a b, λ same. subst (λ r. rows_equal a r ≡ true) same (row_itself a))
 
 pub or_left : (b c : Bool) → b ≡ true → (b || c) ≡ true
 or_left true c h = refl

@@ -1,16 +1,18 @@
 -- Of each change of lives: what is alive after it, and what is known of its events.
 use Rattle.std.specs.Prelude.{◌≡◌, ℕ, ◌+◌, zero, suc, ◌-◌, ◌*◌, ◌/◌, ◌<◌, ◌≤◌, nat_lt, nat_le, Bool, true, false, cond, List, [], ◌∷◌, flat_map, refl}
 use Rattle.std.proofs.Common.{sym, ◌∙◌, ap, arith, inl, inr}
-use Rattle.std.proofs.lemmas.Bool.{cases_lt, ltb-true, lt-ltb}
+use Rattle.std.proofs.lemmas.Bool.{cases_lt, ltb-true, lt-ltb, le-ltb}
 use Rattle.std.proofs.lemmas.Bool.Decides.{nat_tests}
 use Rattle.std.proofs.lemmas.Nat.{le-div}
 use Rattle.std.proofs.Common.{div-mul-le_self, mul-le-mul_left, div-add-mod', mod-lt}
 use Rattle.tw_rows.specs.Instant.{inf, later, floor_to}
 use Rattle.tw_rows.specs.Bag.{total, SameBag}
 use Rattle.tw_rows.specs.Event.{Event, lives_at, alive, AreEvents, cut_one, cut, Known}
-use Rattle.tw_rows.proofs.Bags.{total-flat_map, total_same, total_zero}
+use Rattle.tw_rows.proofs.Bags.{SameBag-refl, total-flat_map, total_same, total_zero}
 use Rattle.tw_rows.proofs.Lives.{total-alive, AreEvents-append, causal_from_one}
-use Rattle.plan_model.specs.Lives.{with_life, moved_one, moved, hopped_one, hopped, lasting_one, lasting, extended_one, extended}
+use Rattle.key_nodes.specs.Sessions.{sessions}
+use Rattle.key_nodes.proofs.Sessioning.{sessions_known}
+use Rattle.plan_model.specs.Lives.{with_life, moved_one, moved, hopped_one, hopped, lasting_one, lasting, extended_one, extended, in_sessions}
 
 -- what is alive of one moved event
 moved_one_alive : {R : Type 0} (w : R → ℕ) (by t : ℕ) (e : Event R) → t < inf → total (λ x. cond (lives_at t x) (w x.row) 0) (moved_one by e) ≡ cond (nat_le by t) (cond (lives_at (t - by) e) (w e.row) 0) 0
@@ -136,3 +138,13 @@ floor_to-is period t positive low =
     let parts = div-add-mod' t period in
     let rest = mod-lt t positive in
     (t / period, whole, omega (arith, whole, parts), omega (arith, whole, parts, rest))
+
+-- with a timeout of at least 1 they are the sessions, and with a timeout of 0 there are none
+pub in_sessions-is : {R K : Type 0} (key : R → K) (same : K → K → Bool) (timeout : ℕ) (es : List (Event R)) → 1 ≤ timeout → in_sessions key same timeout es ≡ sessions key same timeout es
+in_sessions-is key same timeout es pos = rw (lt-ltb 0 timeout pos) refl
+
+pub Known-in_sessions : {R K : Type 0} (key : R → K) (same : K → K → Bool) (timeout c : ℕ) (a b : List (Event R)) → Known c a b → Known c (in_sessions key same timeout a) (in_sessions key same timeout b)
+Known-in_sessions key same timeout c a b h = elim (cases_lt 0 timeout) [
+  | inl pos ↦ rw (lt-ltb 0 timeout pos) (sessions_known key same timeout pos c a b h)
+  | inr none ↦ rw (le-ltb 0 timeout none) (record { low = h.low; left_valid = tt; right_valid = tt; same = SameBag-refl [] })
+]

@@ -14,13 +14,13 @@ use Rattle.key_nodes.specs.Clips.{clipped}
 use Rattle.key_nodes.proofs.Clipping.{clipped_known}
 use Rattle.plan_model.specs.declared.expr.ExprNode.{ExprNode}
 use Rattle.plan_model.specs.declared.node.Node.{Node}
-use Rattle.plan_model.specs.declared.node.Node.TheVariants.{Source, Where, Select, Union, Delay, Hop, Duration, Extend, Clip, Join}
+use Rattle.plan_model.specs.declared.node.Node.TheVariants.{Source, Where, Select, Union, Delay, Hop, Duration, Extend, Session, Clip, Join}
 use Rattle.plan_model.specs.Expr.{holds}
-use Rattle.plan_model.specs.Keys.{keys_equal, paired_row}
-use Rattle.plan_model.specs.Lives.{moved, hopped, lasting, extended}
+use Rattle.plan_model.specs.Keys.{key_values, rows_equal, keys_equal, paired_row}
+use Rattle.plan_model.specs.Lives.{moved, hopped, lasting, extended, in_sessions}
 use Rattle.plan_model.specs.Meaning.{Meaning, by_events, filtered, selected_row, selected_event, selected, node_events, node_meaning, node_closes, reads_events, reads_right_events}
 use Rattle.plan_model.proofs.Joining.{alive-joined, Known-joined}
-use Rattle.plan_model.proofs.NewLives.{alive-moved, Known-moved, Known-hopped, Known-lasting, Known-extended}
+use Rattle.plan_model.proofs.NewLives.{alive-moved, Known-moved, Known-hopped, Known-lasting, Known-extended, Known-in_sessions}
 
 -- the events of a node are its meaning: they are its own events where it has them, and alive they are its rows
 pub record AgreesWith (es : List (Event Row)) (m : Meaning) : Type 0 where
@@ -104,6 +104,7 @@ node_agrees (Delay of by) a b x y h k fits = record {
 node_agrees (Hop of size period) a b x y h k fits = agrees_by_events (hopped size period) a x (h.same_events (fits.0 refl))
 node_agrees (Duration of by) a b x y h k fits = agrees_by_events (lasting by) a x (h.same_events (fits.0 refl))
 node_agrees (Extend of by) a b x y h k fits = agrees_by_events (extended by) a x (h.same_events (fits.0 refl))
+node_agrees (Session of timeout key) a b x y h k fits = agrees_by_events (in_sessions (key_values key) rows_equal timeout) a x (h.same_events (fits.0 refl))
 node_agrees (Clip left right left_key right_key) a b x y h k fits = agrees_by_both (clipped (keys_equal left_key right_key)) a b x y (h.same_events (fits.0 refl)) (k.same_events (fits.1 refl))
 node_agrees (Join left right left_key right_key) a b x y h k fits = record {
   same_events = λ has. absurd (cc);
@@ -173,5 +174,6 @@ node_known (Delay of by) x y a b c d h k = Known-moved by x a c h
 node_known (Hop of size period) x y a b c d h k = Known-hopped size period x a c h
 node_known (Duration of by) x y a b c d h k = Known-lasting by x a c h
 node_known (Extend of by) x y a b c d h k = Known-extended by x a c h
+node_known (Session of timeout key) x y a b c d h k = Known-in_sessions (key_values key) rows_equal timeout x a c h
 node_known (Clip left right left_key right_key) x y a b c d h k = clipped_known (keys_equal left_key right_key) x y a c b d h k
 node_known (Join left right left_key right_key) x y a b c d h k = Known-joined (keys_equal left_key right_key) (paired_row right_key) x y a c b d h k

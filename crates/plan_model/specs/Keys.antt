@@ -10,9 +10,13 @@ use Rattle.plan_model.specs.Expr.{zero_value}
 abbrev pub key_values : List ℕ → Row → Row
 key_values key row = map (λ column. slice_index_or row column zero_value) key
 
+-- whether two rows, or two lists of the values of a key, are equal
+abbrev pub rows_equal : Row → Row → Bool
+rows_equal a b = eq_by_cmp row_cmp a b
+
 -- whether the two rows have equal values in all key columns
 abbrev pub keys_equal : List ℕ → List ℕ → Row → Row → Bool
-keys_equal left_key right_key a b = eq_by_cmp row_cmp (key_values left_key a) (key_values right_key b)
+keys_equal left_key right_key a b = rows_equal (key_values left_key a) (key_values right_key b)
 
 -- of values of which the first stands in that column, those that stand in no key column
 abbrev pub outside_from : ℕ → List ℕ → Row → Row

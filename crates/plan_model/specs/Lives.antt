@@ -1,7 +1,8 @@
 -- Changes of the lives of events. R is the type of the rows.
-use Rattle.std.specs.Prelude.{ℕ, nat_lt, cond, List, [], ◌∷◌, flat_map}
+use Rattle.std.specs.Prelude.{ℕ, nat_lt, Bool, cond, List, [], ◌∷◌, flat_map}
 use Rattle.tw_rows.specs.Instant.{later, floor_to}
 use Rattle.tw_rows.specs.Event.{Event}
+use Rattle.key_nodes.specs.Sessions.{sessions}
 
 -- the row over the life [start, end), and no event where that life is empty. As no life ends after infinity, there is
 -- none that would start at infinity
@@ -36,3 +37,7 @@ extended_one by e = with_life e.row e.start (later by e.end)
 
 abbrev pub extended : {R : Type 0} → ℕ → List (Event R) → List (Event R)
 extended by events = flat_map (extended_one by) events
+
+-- the end is that of the session of the row's key. For a timeout of 0 it is the start, so that there is no event
+abbrev pub in_sessions : {R K : Type 0} → (R → K) → (K → K → Bool) → ℕ → List (Event R) → List (Event R)
+in_sessions key same timeout events = cond (nat_lt 0 timeout) (sessions key same timeout events) []

@@ -6,12 +6,12 @@ use Rattle.tw_rows.specs.Rows.{Row}
 use Rattle.key_nodes.specs.Clips.{clipped}
 use Rattle.plan_model.specs.declared.expr.ExprNode.{ExprNode}
 use Rattle.plan_model.specs.declared.node.Node.{Node}
-use Rattle.plan_model.specs.declared.node.Node.TheVariants.{Source, Where, Select, Union, Delay, Hop, Duration, Extend, Clip, Join}
+use Rattle.plan_model.specs.declared.node.Node.TheVariants.{Source, Where, Select, Union, Delay, Hop, Duration, Extend, Session, Clip, Join}
 use Rattle.plan_model.specs.Expr.{value, holds}
 use Rattle.plan_model.specs.Fold.{result}
-use Rattle.plan_model.specs.Keys.{keys_equal, paired_row}
+use Rattle.plan_model.specs.Keys.{key_values, rows_equal, keys_equal, paired_row}
 use Rattle.plan_model.specs.Joins.{joined_rows, joined}
-use Rattle.plan_model.specs.Lives.{moved, hopped, lasting, extended}
+use Rattle.plan_model.specs.Lives.{moved, hopped, lasting, extended, in_sessions}
 
 -- the events of each stream, by its number
 abbrev pub Sources : Type 0
@@ -27,6 +27,7 @@ left_child (Delay of by) = Some of
 left_child (Hop of size period) = Some of
 left_child (Duration of by) = Some of
 left_child (Extend of by) = Some of
+left_child (Session of timeout key) = Some of
 left_child (Clip left right left_key right_key) = Some left
 left_child (Join left right left_key right_key) = Some left
 
@@ -40,6 +41,7 @@ right_child (Delay of by) = None
 right_child (Hop of size period) = None
 right_child (Duration of by) = None
 right_child (Extend of by) = None
+right_child (Session of timeout key) = None
 right_child (Clip left right left_key right_key) = Some right
 right_child (Join left right left_key right_key) = Some right
 
@@ -97,6 +99,7 @@ node_events (Delay of by) a b = moved by a
 node_events (Hop of size period) a b = hopped size period a
 node_events (Duration of by) a b = lasting by a
 node_events (Extend of by) a b = extended by a
+node_events (Session of timeout key) a b = in_sessions (key_values key) rows_equal timeout a
 node_events (Clip left right left_key right_key) a b = clipped (keys_equal left_key right_key) a b
 node_events (Join left right left_key right_key) a b = joined (keys_equal left_key right_key) (paired_row right_key) a b
 
@@ -114,6 +117,7 @@ node_closes (Delay of by) x y = later by x
 node_closes (Hop of size period) x y = floor_to period x
 node_closes (Duration of by) x y = x
 node_closes (Extend of by) x y = x
+node_closes (Session of timeout key) x y = x
 node_closes (Clip left right left_key right_key) x y = min x y
 node_closes (Join left right left_key right_key) x y = min x y
 
@@ -149,6 +153,7 @@ node_meaning (Delay of by) a b = record { events = moved by a.events; has_events
 node_meaning (Hop of size period) a b = by_events (hopped size period a.events)
 node_meaning (Duration of by) a b = by_events (lasting by a.events)
 node_meaning (Extend of by) a b = by_events (extended by a.events)
+node_meaning (Session of timeout key) a b = by_events (in_sessions (key_values key) rows_equal timeout a.events)
 node_meaning (Clip left right left_key right_key) a b = by_events (clipped (keys_equal left_key right_key) a.events b.events)
 node_meaning (Join left right left_key right_key) a b = by_rows (λ t. joined_rows (keys_equal left_key right_key) (paired_row right_key) (a.rows t) (b.rows t))
 
@@ -170,6 +175,7 @@ reads_events (Delay of by) = false
 reads_events (Hop of size period) = true
 reads_events (Duration of by) = true
 reads_events (Extend of by) = true
+reads_events (Session of timeout key) = true
 reads_events (Clip left right left_key right_key) = true
 reads_events (Join left right left_key right_key) = false
 

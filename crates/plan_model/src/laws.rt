@@ -5,11 +5,12 @@ ghost use Rattle.tw_rows.specs.Event.{Event, alive, AreEvents, Known};
 ghost use Rattle.tw_rows.specs.Instant.{inf, later, floor_to};
 ghost use Rattle.tw_rows.specs.Rows.{Row};
 ghost use Rattle.key_nodes.specs.Clips.{clipped};
+ghost use Rattle.key_nodes.specs.Sessions.{sessions};
 ghost use Rattle.plan_model.specs.declared.expr.ExprNode.{ExprNode};
 ghost use Rattle.plan_model.specs.declared.node.Node.{Node};
 ghost use Rattle.plan_model.specs.IsExpr.{IsExpr};
 ghost use Rattle.plan_model.specs.Expr.{node_value, value_at, value, holds};
-ghost use Rattle.plan_model.specs.Keys.{key_values, keys_equal, paired_row};
+ghost use Rattle.plan_model.specs.Keys.{key_values, rows_equal, keys_equal, paired_row};
 ghost use Rattle.plan_model.specs.Joins.{joined_rows, joined};
 ghost use Rattle.plan_model.specs.Lives.{moved_one, moved, hopped_one, hopped, lasting_one, lasting, extended_one, extended};
 ghost use Rattle.plan_model.specs.Meaning.{Sources, left_of, right_of, selected_row, selected_event, node_events, events, node_closes, closes, nothing, by_events, node_meaning, meaning, snapshots, IsOrdered, IsLevelled};
@@ -135,6 +136,26 @@ pub fn extend_is()
     ensures closing { (nodes : List Node) (i child by p : ℕ) →
         IsOrdered nodes → slice_get nodes i ≡ Some (Node.Extend child by) →
         closes nodes i p ≡ closes nodes child p }
+{}
+
+/// A Session has the events of its child, each up to the end of the session of its key, where the timeout is at least 1; its
+/// rows are those that are alive; and it is closed where its child is. Keys are equal where their values are.
+pub fn session_is()
+    ensures events { (source : Sources) (nodes : List Node) (i child timeout : ℕ) (key : List ℕ) →
+        IsOrdered nodes → slice_get nodes i ≡ Some (Node.Session child timeout key) → 1 ≤ timeout →
+        events source nodes i ≡ sessions (key_values key) rows_equal timeout (events source nodes child) }
+    ensures no_timeout { (source : Sources) (nodes : List Node) (i child : ℕ) (key : List ℕ) →
+        IsOrdered nodes → slice_get nodes i ≡ Some (Node.Session child 0 key) →
+        events source nodes i ≡ [] }
+    ensures rows { (source : Sources) (nodes : List Node) (i child timeout t : ℕ) (key : List ℕ) →
+        IsOrdered nodes → IsLevelled nodes → slice_get nodes i ≡ Some (Node.Session child timeout key) →
+        1 ≤ timeout →
+        snapshots source nodes i t
+        ≡ alive (sessions (key_values key) rows_equal timeout (events source nodes child)) t }
+    ensures closing { (nodes : List Node) (i child timeout p : ℕ) (key : List ℕ) →
+        IsOrdered nodes → slice_get nodes i ≡ Some (Node.Session child timeout key) →
+        closes nodes i p ≡ closes nodes child p }
+    ensures keys { (a b : Row) → IsTrue (rows_equal a b) ↔ (a ≡ b) }
 {}
 
 /// A Clip has the events of its left child, each up to the least of its end and the later starts of right events with an

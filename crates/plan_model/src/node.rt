@@ -49,6 +49,13 @@ pub enum Node {
         of: usize,
         by: u64,
     },
+    /// The rows of the child, each alive up to the end of its session: the first time that is `timeout` units later than a
+    /// start of an equal key, not below its own, with no start of that key strictly between the two.
+    Session {
+        of: usize,
+        timeout: u64,
+        key: Key,
+    },
     /// The rows of the left child, each alive up to the first start of a right row with an equal key that is later than its
     /// own start, where it does not end before.
     Clip {
@@ -101,8 +108,13 @@ mod tests {
                 left_key: Key::from_vec(vec![in rt.alloc(); 3]?),
                 right_key: Key::from_vec(vec![in rt.alloc(); 0]?)
             },
+            Node::Session {
+                of: 8,
+                timeout: 30,
+                key: Key::from_vec(vec![in rt.alloc(); 4]?)
+            },
         ]?;
-        assert_eq!(rt; nodes.len(), 9);
+        assert_eq!(rt; nodes.len(), 10);
         assert!(rt; matches!(&nodes[0], Node::Source { stream: 3 }));
         assert!(rt; matches!(&nodes[1], Node::Select { of: 0, .. }));
         assert!(rt; matches!(&nodes[2], Node::Union { left: 0, right: 1 }));
@@ -140,6 +152,15 @@ mod tests {
             panic!(rt; "no clip of nodes 7 and 1");
         };
         assert_eq!(rt; left_key.items(), [3].as_slice());
+        let Node::Session {
+            of: 8,
+            timeout: 30,
+            key,
+        } = &nodes[9]
+        else {
+            panic!(rt; "no session of node 8");
+        };
+        assert_eq!(rt; key.items(), [4].as_slice());
         Ok(())
     }
 }
