@@ -4,9 +4,10 @@ use Rattle.tw_rows.specs.Instant.{inf, later, floor_to}
 use Rattle.tw_rows.specs.Event.{Event, alive}
 use Rattle.tw_rows.specs.Rows.{Row}
 use Rattle.key_nodes.specs.Clips.{clipped}
+use Rattle.key_nodes.specs.Antis.{alone_rows, alone}
 use Rattle.plan_model.specs.declared.expr.ExprNode.{ExprNode}
 use Rattle.plan_model.specs.declared.node.Node.{Node}
-use Rattle.plan_model.specs.declared.node.Node.TheVariants.{Source, Where, Select, Union, Delay, Hop, Duration, Extend, Session, Clip, Join}
+use Rattle.plan_model.specs.declared.node.Node.TheVariants.{Source, Where, Select, Union, Delay, Hop, Duration, Extend, Session, Clip, Join, Anti}
 use Rattle.plan_model.specs.Expr.{value, holds}
 use Rattle.plan_model.specs.Fold.{result}
 use Rattle.plan_model.specs.Keys.{key_values, rows_equal, keys_equal, paired_row}
@@ -30,6 +31,7 @@ left_child (Extend of by) = Some of
 left_child (Session of timeout key) = Some of
 left_child (Clip left right left_key right_key) = Some left
 left_child (Join left right left_key right_key) = Some left
+left_child (Anti left right left_key right_key) = Some left
 
 -- the number of the right child
 abbrev pub right_child : Node → Option ℕ
@@ -44,6 +46,7 @@ right_child (Extend of by) = None
 right_child (Session of timeout key) = None
 right_child (Clip left right left_key right_key) = Some right
 right_child (Join left right left_key right_key) = Some right
+right_child (Anti left right left_key right_key) = Some right
 
 -- what stands at a child's number, and `none` where there is no child
 abbrev pub at_child : {R : Type 0} → R → (ℕ → R) → Option ℕ → R
@@ -102,6 +105,7 @@ node_events (Extend of by) a b = extended by a
 node_events (Session of timeout key) a b = in_sessions (key_values key) rows_equal timeout a
 node_events (Clip left right left_key right_key) a b = clipped (keys_equal left_key right_key) a b
 node_events (Join left right left_key right_key) a b = joined (keys_equal left_key right_key) (paired_row right_key) a b
+node_events (Anti left right left_key right_key) a b = alone rows_equal (keys_equal left_key right_key) a b
 
 -- the events of the node of number n
 abbrev pub events : Sources → List Node → ℕ → List (Event Row)
@@ -120,6 +124,7 @@ node_closes (Extend of by) x y = x
 node_closes (Session of timeout key) x y = x
 node_closes (Clip left right left_key right_key) x y = min x y
 node_closes (Join left right left_key right_key) x y = min x y
+node_closes (Anti left right left_key right_key) x y = min x y
 
 -- the closing of the node of number n at the punctuation p, up to which all rows of the sources are known
 abbrev pub closes : List Node → ℕ → ℕ → ℕ
@@ -156,6 +161,7 @@ node_meaning (Extend of by) a b = by_events (extended by a.events)
 node_meaning (Session of timeout key) a b = by_events (in_sessions (key_values key) rows_equal timeout a.events)
 node_meaning (Clip left right left_key right_key) a b = by_events (clipped (keys_equal left_key right_key) a.events b.events)
 node_meaning (Join left right left_key right_key) a b = by_rows (λ t. joined_rows (keys_equal left_key right_key) (paired_row right_key) (a.rows t) (b.rows t))
+node_meaning (Anti left right left_key right_key) a b = by_rows (λ t. alone_rows (keys_equal left_key right_key) (a.rows t) (b.rows t))
 
 -- the meaning of the node of number n
 abbrev pub meaning : Sources → List Node → ℕ → Meaning
@@ -178,6 +184,7 @@ reads_events (Extend of by) = true
 reads_events (Session of timeout key) = true
 reads_events (Clip left right left_key right_key) = true
 reads_events (Join left right left_key right_key) = false
+reads_events (Anti left right left_key right_key) = false
 
 -- the node reads the events of its right child
 abbrev pub reads_right_events : Node → Bool

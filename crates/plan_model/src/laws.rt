@@ -4,6 +4,7 @@ ghost use Rattle.tw_rows.specs.Bag.{SameBag};
 ghost use Rattle.tw_rows.specs.Event.{Event, alive, AreEvents, Known};
 ghost use Rattle.tw_rows.specs.Instant.{inf, later, floor_to};
 ghost use Rattle.tw_rows.specs.Rows.{Row};
+ghost use Rattle.key_nodes.specs.Antis.{alone_rows, alone};
 ghost use Rattle.key_nodes.specs.Clips.{clipped};
 ghost use Rattle.key_nodes.specs.Sessions.{sessions};
 ghost use Rattle.plan_model.specs.declared.expr.ExprNode.{ExprNode};
@@ -193,6 +194,23 @@ pub fn join_is()
         closes nodes i p ≡ min (closes nodes left p) (closes nodes right p) }
     ensures keys { (left_key right_key : List ℕ) (a b : Row) →
         IsTrue (keys_equal left_key right_key a b) ↔ (key_values left_key a ≡ key_values right_key b) }
+{}
+
+/// An Anti has for each left event an event for each maximal run of instants of its life at which no right event with an
+/// equal key is alive; at each instant it has the left rows to whose key no right row is there; and it is closed up to the
+/// lesser of its children's closings.
+pub fn anti_is()
+    ensures events { (source : Sources) (nodes : List Node) (i left right : ℕ) (left_key right_key : List ℕ) →
+        IsOrdered nodes → slice_get nodes i ≡ Some (Node.Anti left right left_key right_key) →
+        events source nodes i
+        ≡ alone rows_equal (keys_equal left_key right_key) (events source nodes left) (events source nodes right) }
+    ensures rows { (source : Sources) (nodes : List Node) (i left right t : ℕ) (left_key right_key : List ℕ) →
+        IsOrdered nodes → slice_get nodes i ≡ Some (Node.Anti left right left_key right_key) →
+        snapshots source nodes i t
+        ≡ alone_rows (keys_equal left_key right_key) (snapshots source nodes left t) (snapshots source nodes right t) }
+    ensures closing { (nodes : List Node) (i left right p : ℕ) (left_key right_key : List ℕ) →
+        IsOrdered nodes → slice_get nodes i ≡ Some (Node.Anti left right left_key right_key) →
+        closes nodes i p ≡ min (closes nodes left p) (closes nodes right p) }
 {}
 
 /// A change of lives makes one event of each event, where a size or a duration is at least 1; only one that would start at

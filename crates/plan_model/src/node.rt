@@ -72,6 +72,13 @@ pub enum Node {
         left_key: Key,
         right_key: Key,
     },
+    /// The left rows to whose key no right row is there.
+    Anti {
+        left: usize,
+        right: usize,
+        left_key: Key,
+        right_key: Key,
+    },
 }
 
 #[cfg(test)]
@@ -113,8 +120,14 @@ mod tests {
                 timeout: 30,
                 key: Key::from_vec(vec![in rt.alloc(); 4]?)
             },
+            Node::Anti {
+                left: 9,
+                right: 3,
+                left_key: Key::from_vec(vec![in rt.alloc(); 5]?),
+                right_key: Key::from_vec(vec![in rt.alloc(); 0]?)
+            },
         ]?;
-        assert_eq!(rt; nodes.len(), 10);
+        assert_eq!(rt; nodes.len(), 11);
         assert!(rt; matches!(&nodes[0], Node::Source { stream: 3 }));
         assert!(rt; matches!(&nodes[1], Node::Select { of: 0, .. }));
         assert!(rt; matches!(&nodes[2], Node::Union { left: 0, right: 1 }));
@@ -161,6 +174,16 @@ mod tests {
             panic!(rt; "no session of node 8");
         };
         assert_eq!(rt; key.items(), [4].as_slice());
+        assert!(rt;
+            matches!(
+                &nodes[10],
+                Node::Anti {
+                    left: 9,
+                    right: 3,
+                    ..
+                }
+            )
+        );
         Ok(())
     }
 }
