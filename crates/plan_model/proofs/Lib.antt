@@ -3,6 +3,7 @@ pub mod Exprs
 pub mod Plans
 pub mod NewLives
 pub mod Joining
+pub mod Aggregates
 pub mod NodeLaws
 pub mod PlanLaws
 pub mod FilterPlans

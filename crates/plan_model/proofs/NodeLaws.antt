@@ -12,14 +12,17 @@ use Rattle.tw_rows.proofs.Bags.{total-append, total-map, total-filter, total_sam
 use Rattle.tw_rows.proofs.Lives.{total-alive, cut-append, AreEvents-append, causal_from_one}
 use Rattle.key_nodes.specs.Clips.{clipped}
 use Rattle.key_nodes.proofs.Clipping.{clipped_known}
+use Rattle.key_nodes.proofs.Grouping.{alive_grouped, grouped_known}
 use Rattle.key_nodes.proofs.Alone.{alive_alone, alone_known}
 use Rattle.plan_model.specs.declared.expr.ExprNode.{ExprNode}
 use Rattle.plan_model.specs.declared.node.Node.{Node}
-use Rattle.plan_model.specs.declared.node.Node.TheVariants.{Source, Where, Select, Union, Delay, Hop, Duration, Extend, Session, Clip, Join, Anti}
+use Rattle.plan_model.specs.declared.node.Node.TheVariants.{Source, Where, Select, Union, Delay, Hop, Duration, Extend, Session, Clip, Group, Join, Anti}
 use Rattle.plan_model.specs.Expr.{holds}
+use Rattle.plan_model.specs.Groups.{row_of_group}
 use Rattle.plan_model.specs.Keys.{key_values, rows_equal, keys_equal, paired_row}
 use Rattle.plan_model.specs.Lives.{moved, hopped, lasting, extended, in_sessions}
 use Rattle.plan_model.specs.Meaning.{Meaning, by_events, filtered, selected_row, selected_event, selected, node_events, node_meaning, node_closes, reads_events, reads_right_events}
+use Rattle.plan_model.proofs.Aggregates.{row_of_group_is}
 use Rattle.plan_model.proofs.InOrder.{rows_equal_tells}
 use Rattle.plan_model.proofs.Joining.{alive-joined, Known-joined}
 use Rattle.plan_model.proofs.NewLives.{alive-moved, Known-moved, Known-hopped, Known-lasting, Known-extended, Known-in_sessions}
@@ -108,6 +111,10 @@ node_agrees (Duration of by) a b x y h k fits = agrees_by_events (lasting by) a 
 node_agrees (Extend of by) a b x y h k fits = agrees_by_events (extended by) a x (h.same_events (fits.0 refl))
 node_agrees (Session of timeout key) a b x y h k fits = agrees_by_events (in_sessions (key_values key) rows_equal timeout) a x (h.same_events (fits.0 refl))
 node_agrees (Clip left right left_key right_key) a b x y h k fits = agrees_by_both (clipped (keys_equal left_key right_key)) a b x y (h.same_events (fits.0 refl)) (k.same_events (fits.1 refl))
+node_agrees (Group of key aggs) a b x y h k fits = record {
+  same_events = λ has. absurd (cc);
+  same_rows = λ t low. alive_grouped (key_values key) rows_equal rows_equal (row_of_group key aggs) rows_equal_tells rows_equal_tells (row_of_group_is key aggs) a (x.rows t) t low (h.same_rows t low);
+}
 node_agrees (Join left right left_key right_key) a b x y h k fits = record {
   same_events = λ has. absurd (cc);
   same_rows = λ t low. alive-joined (keys_equal left_key right_key) (paired_row right_key) a b (x.rows t) (y.rows t) t (h.same_rows t low) (k.same_rows t low);
@@ -182,5 +189,6 @@ node_known (Duration of by) x y a b c d h k = Known-lasting by x a c h
 node_known (Extend of by) x y a b c d h k = Known-extended by x a c h
 node_known (Session of timeout key) x y a b c d h k = Known-in_sessions (key_values key) rows_equal timeout x a c h
 node_known (Clip left right left_key right_key) x y a b c d h k = clipped_known (keys_equal left_key right_key) x y a c b d h k
+node_known (Group of key aggs) x y a b c d h k = grouped_known (key_values key) rows_equal rows_equal (row_of_group key aggs) rows_equal_tells (row_of_group_is key aggs) x a c h
 node_known (Join left right left_key right_key) x y a b c d h k = Known-joined (keys_equal left_key right_key) (paired_row right_key) x y a c b d h k
 node_known (Anti left right left_key right_key) x y a b c d h k = alone_known rows_equal (keys_equal left_key right_key) x y a c b d h k

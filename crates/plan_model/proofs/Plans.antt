@@ -4,7 +4,7 @@ use Rattle.std.proofs.Common.{◌∙◌, ap, inl, inr}
 use Rattle.std.proofs.lemmas.Bool.{cases_lt}
 use Rattle.std.proofs.lemmas.Option.{slice_get-get_or}
 use Rattle.plan_model.specs.declared.node.Node.{Node}
-use Rattle.plan_model.specs.declared.node.Node.TheVariants.{Source, Where, Select, Union, Delay, Hop, Duration, Extend, Session, Clip, Join, Anti}
+use Rattle.plan_model.specs.declared.node.Node.TheVariants.{Source, Where, Select, Union, Delay, Hop, Duration, Extend, Session, Clip, Group, Join, Anti}
 use Rattle.plan_model.specs.Meaning.{at_child, left_child, right_child, left_of, right_of, over_nodes, HasLower, IsOrdered}
 use Rattle.plan_model.proofs.Folds.{result-is, result-past, by_lower}
 
@@ -24,6 +24,7 @@ left_of_below none source f g i same (Duration of by) h = same of h
 left_of_below none source f g i same (Extend of by) h = same of h
 left_of_below none source f g i same (Session of timeout key) h = same of h
 left_of_below none source f g i same (Clip left right left_key right_key) h = same left h
+left_of_below none source f g i same (Group of key aggs) h = same of h
 left_of_below none source f g i same (Join left right left_key right_key) h = same left h
 left_of_below none source f g i same (Anti left right left_key right_key) h = same left h
 
@@ -72,6 +73,7 @@ module _ {R S T : Type 0} (rnone : R) (snone : S) (tnone : T) (rsource : ℕ →
   left_holds source i below (Extend of by) h = below of h
   left_holds source i below (Session of timeout key) h = below of h
   left_holds source i below (Clip left right left_key right_key) h = below left h
+  left_holds source i below (Group of key aggs) h = below of h
   left_holds source i below (Join left right left_key right_key) h = below left h
   left_holds source i below (Anti left right left_key right_key) h = below left h
 

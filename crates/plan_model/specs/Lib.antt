@@ -4,6 +4,7 @@ pub mod Expr
 pub mod Lives
 pub mod Joins
 pub mod Keys
+pub mod Groups
 pub mod Meaning
 pub mod FilterPlan
 pub mod Arithmetic

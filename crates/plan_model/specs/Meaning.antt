@@ -4,13 +4,15 @@ use Rattle.tw_rows.specs.Instant.{inf, later, floor_to}
 use Rattle.tw_rows.specs.Event.{Event, alive}
 use Rattle.tw_rows.specs.Rows.{Row}
 use Rattle.key_nodes.specs.Clips.{clipped}
+use Rattle.key_nodes.specs.Groups.{grouped_rows, grouped}
 use Rattle.key_nodes.specs.Antis.{alone_rows, alone}
 use Rattle.plan_model.specs.declared.expr.ExprNode.{ExprNode}
 use Rattle.plan_model.specs.declared.node.Node.{Node}
-use Rattle.plan_model.specs.declared.node.Node.TheVariants.{Source, Where, Select, Union, Delay, Hop, Duration, Extend, Session, Clip, Join, Anti}
+use Rattle.plan_model.specs.declared.node.Node.TheVariants.{Source, Where, Select, Union, Delay, Hop, Duration, Extend, Session, Clip, Group, Join, Anti}
 use Rattle.plan_model.specs.Expr.{value, holds}
 use Rattle.plan_model.specs.Fold.{result}
 use Rattle.plan_model.specs.Keys.{key_values, rows_equal, keys_equal, paired_row}
+use Rattle.plan_model.specs.Groups.{row_of_group}
 use Rattle.plan_model.specs.Joins.{joined_rows, joined}
 use Rattle.plan_model.specs.Lives.{moved, hopped, lasting, extended, in_sessions}
 
@@ -30,6 +32,7 @@ left_child (Duration of by) = Some of
 left_child (Extend of by) = Some of
 left_child (Session of timeout key) = Some of
 left_child (Clip left right left_key right_key) = Some left
+left_child (Group of key aggs) = Some of
 left_child (Join left right left_key right_key) = Some left
 left_child (Anti left right left_key right_key) = Some left
 
@@ -45,6 +48,7 @@ right_child (Duration of by) = None
 right_child (Extend of by) = None
 right_child (Session of timeout key) = None
 right_child (Clip left right left_key right_key) = Some right
+right_child (Group of key aggs) = None
 right_child (Join left right left_key right_key) = Some right
 right_child (Anti left right left_key right_key) = Some right
 
@@ -104,6 +108,7 @@ node_events (Duration of by) a b = lasting by a
 node_events (Extend of by) a b = extended by a
 node_events (Session of timeout key) a b = in_sessions (key_values key) rows_equal timeout a
 node_events (Clip left right left_key right_key) a b = clipped (keys_equal left_key right_key) a b
+node_events (Group of key aggs) a b = grouped (key_values key) rows_equal rows_equal (row_of_group key aggs) a
 node_events (Join left right left_key right_key) a b = joined (keys_equal left_key right_key) (paired_row right_key) a b
 node_events (Anti left right left_key right_key) a b = alone rows_equal (keys_equal left_key right_key) a b
 
@@ -123,6 +128,7 @@ node_closes (Duration of by) x y = x
 node_closes (Extend of by) x y = x
 node_closes (Session of timeout key) x y = x
 node_closes (Clip left right left_key right_key) x y = min x y
+node_closes (Group of key aggs) x y = x
 node_closes (Join left right left_key right_key) x y = min x y
 node_closes (Anti left right left_key right_key) x y = min x y
 
@@ -160,6 +166,7 @@ node_meaning (Duration of by) a b = by_events (lasting by a.events)
 node_meaning (Extend of by) a b = by_events (extended by a.events)
 node_meaning (Session of timeout key) a b = by_events (in_sessions (key_values key) rows_equal timeout a.events)
 node_meaning (Clip left right left_key right_key) a b = by_events (clipped (keys_equal left_key right_key) a.events b.events)
+node_meaning (Group of key aggs) a b = by_rows (λ t. grouped_rows (key_values key) rows_equal (row_of_group key aggs) (a.rows t))
 node_meaning (Join left right left_key right_key) a b = by_rows (λ t. joined_rows (keys_equal left_key right_key) (paired_row right_key) (a.rows t) (b.rows t))
 node_meaning (Anti left right left_key right_key) a b = by_rows (λ t. alone_rows (keys_equal left_key right_key) (a.rows t) (b.rows t))
 
@@ -183,6 +190,7 @@ reads_events (Duration of by) = true
 reads_events (Extend of by) = true
 reads_events (Session of timeout key) = true
 reads_events (Clip left right left_key right_key) = true
+reads_events (Group of key aggs) = false
 reads_events (Join left right left_key right_key) = false
 reads_events (Anti left right left_key right_key) = false
 

@@ -6,12 +6,15 @@ ghost use Rattle.tw_rows.specs.Instant.{inf, later, floor_to};
 ghost use Rattle.tw_rows.specs.Rows.{Row};
 ghost use Rattle.key_nodes.specs.Antis.{alone_rows, alone};
 ghost use Rattle.key_nodes.specs.Clips.{clipped};
+ghost use Rattle.key_nodes.specs.Groups.{has_key, IsGroupRow, grouped_rows, grouped};
 ghost use Rattle.key_nodes.specs.Sessions.{sessions};
+ghost use Rattle.plan_model.specs.declared.agg.Agg.{Agg};
 ghost use Rattle.plan_model.specs.declared.expr.ExprNode.{ExprNode};
 ghost use Rattle.plan_model.specs.declared.node.Node.{Node};
 ghost use Rattle.plan_model.specs.IsExpr.{IsExpr};
 ghost use Rattle.plan_model.specs.Expr.{node_value, value_at, value, holds};
 ghost use Rattle.plan_model.specs.Keys.{key_values, rows_equal, keys_equal, paired_row};
+ghost use Rattle.plan_model.specs.Groups.{row_of_group, is_undefined};
 ghost use Rattle.plan_model.specs.Joins.{joined_rows, joined};
 ghost use Rattle.plan_model.specs.Lives.{moved_one, moved, hopped_one, hopped, lasting_one, lasting, extended_one, extended};
 ghost use Rattle.plan_model.specs.Meaning.{Sources, left_of, right_of, selected_row, selected_event, node_events, events, node_closes, closes, nothing, by_events, node_meaning, meaning, snapshots, IsOrdered, IsLevelled};
@@ -173,6 +176,33 @@ pub fn clip_is()
     ensures closing { (nodes : List Node) (i left right p : ℕ) (left_key right_key : List ℕ) →
         IsOrdered nodes → slice_get nodes i ≡ Some (Node.Clip left right left_key right_key) →
         closes nodes i p ≡ min (closes nodes left p) (closes nodes right p) }
+{}
+
+/// A Group has for each key an event for each maximal run of instants at which its group has the same row; at each instant
+/// it has one row for each key that a row has; and it is closed where its child is. The rows of a group are those whose
+/// values in the key are its own, and their order is free.
+pub fn group_is()
+    ensures events { (source : Sources) (nodes : List Node) (i child : ℕ) (key : List ℕ) (aggs : List Agg) →
+        IsOrdered nodes → slice_get nodes i ≡ Some (Node.Group child key aggs) →
+        events source nodes i
+        ≡ grouped (key_values key) rows_equal rows_equal (row_of_group key aggs) (events source nodes child) }
+    ensures rows { (source : Sources) (nodes : List Node) (i child t : ℕ) (key : List ℕ) (aggs : List Agg) →
+        IsOrdered nodes → slice_get nodes i ≡ Some (Node.Group child key aggs) →
+        snapshots source nodes i t
+        ≡ grouped_rows (key_values key) rows_equal (row_of_group key aggs) (snapshots source nodes child t) }
+    ensures closing { (nodes : List Node) (i child p : ℕ) (key : List ℕ) (aggs : List Agg) →
+        IsOrdered nodes → slice_get nodes i ≡ Some (Node.Group child key aggs) →
+        closes nodes i p ≡ closes nodes child p }
+    ensures keys { (key : List ℕ) (values row : Row) →
+        IsTrue (has_key (key_values key) rows_equal values row) ↔ (values ≡ key_values key row) }
+    ensures order { (key : List ℕ) (aggs : List Agg) →
+        IsGroupRow (key_values key) rows_equal (row_of_group key aggs) }
+{}
+
+/// Whether one of the groups of some rows has too many rows, or a sum outside i64, hangs on the multiset of the rows alone.
+pub fn undefined_groups_have_no_order()
+    ensures { (key : List ℕ) (aggs : List Agg) (xs ys : List Row) → SameBag xs ys →
+        is_undefined key aggs xs ≡ is_undefined key aggs ys }
 {}
 
 /// A Join has an event for each pair of a left and a right event with equal keys that are alive at one instant, over all

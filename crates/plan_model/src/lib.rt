@@ -2,6 +2,7 @@
 //! instant to instant, with the laws of all of these.
 #![tactic(auto)]
 
+mod agg;
 mod arith_laws;
 mod changes_laws;
 mod expr;
@@ -10,6 +11,7 @@ mod laws;
 mod lists;
 mod node;
 
+pub use agg::Agg;
 pub use arith_laws::{
     arithmetic_wraps, comparisons_agree, connectives_are_logical, division_is_euclidean,
 };
@@ -20,9 +22,9 @@ pub use changes_laws::{
 pub use expr::{ArithOp, CompareOp, Expr, ExprNode};
 pub use fault::{QueryError, QueryFault};
 pub use laws::{
-    anti_is, clip_is, delay_is, duration_is, events_have_lives, extend_is, hop_is, join_is,
-    lives_change, nodes_are_causal, result_is, select_is, session_is, snapshots_agree,
-    snapshots_are_final, source_is, union_is, value_is, where_is,
+    anti_is, clip_is, delay_is, duration_is, events_have_lives, extend_is, group_is, hop_is,
+    join_is, lives_change, nodes_are_causal, result_is, select_is, session_is, snapshots_agree,
+    snapshots_are_final, source_is, undefined_groups_have_no_order, union_is, value_is, where_is,
 };
-pub use lists::{ExprList, Key};
+pub use lists::{AggList, ExprList, Key};
 pub use node::Node;

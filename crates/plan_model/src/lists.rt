@@ -1,6 +1,7 @@
 // Lists that nodes of plans hold.
 ghost use Rattle.std.specs.Prelude.{◌≡◌};
 
+use crate::agg::Agg;
 use crate::expr::Expr;
 use std::marker::Model;
 
@@ -65,6 +66,37 @@ impl Key {
     }
 }
 
+/// Aggregates, in order.
+#[derive(Drop)]
+pub struct AggList {
+    aggs: Vec<Agg>,
+}
+
+impl Model for AggList {
+    ghost use Rattle.std.specs.Prelude.{List};
+    ghost use Rattle.plan_model.specs.declared.agg.Agg.{Agg as Item};
+
+    ghost Value = { List Item };
+
+    ghost view = { λ a. a.aggs.items };
+}
+
+impl AggList {
+    /// The list of these aggregates. It takes no memory.
+    pub fn from_vec(items: Vec<Agg>) -> AggList
+        ensures { result ≡ items.items }
+    {
+        AggList { aggs: items }
+    }
+
+    /// The aggregates, in order.
+    pub fn items(&self) -> &[Agg]
+        ensures { result.now ≡ self.now }
+    {
+        self.aggs.as_slice()
+    }
+}
+
 #[cfg(test)]
 mod tests {
     use super::*;
@@ -82,6 +114,16 @@ mod tests {
         assert_eq!(rt; items.len(), 2);
         assert!(rt; matches!(&items[0].items()[0], ExprNode::Column(3)));
         assert!(rt; matches!(&items[1].items()[0], ExprNode::Int(7)));
+        let aggs = AggList::from_vec(vec![in rt.alloc();
+            Agg::Count,
+            Agg::Sum(2),
+            Agg::Least(1),
+            Agg::Greatest(0),
+        ]?);
+        let aggs = aggs.items();
+        assert_eq!(rt; aggs.len(), 4);
+        assert!(rt; matches!(&aggs[0], Agg::Count));
+        assert!(rt; matches!(&aggs[3], Agg::Greatest(0)));
         Ok(())
     }
 }

@@ -1,7 +1,7 @@
 // Nodes of plans.
 
 use crate::expr::Expr;
-use crate::lists::{ExprList, Key};
+use crate::lists::{AggList, ExprList, Key};
 
 /// A node of a plan. It names its children by their numbers in the plan's list of nodes, which are lower than its own.
 /// The list of kinds of node grows: a `match` outside this crate is to expect more of them.
@@ -64,6 +64,12 @@ pub enum Node {
         left_key: Key,
         right_key: Key,
     },
+    /// For each key that a row has one row: the values of the key, then the aggregates of the rows that have it.
+    Group {
+        of: usize,
+        key: Key,
+        aggs: AggList,
+    },
     /// For every pair of a left and a right row with equal keys the left row, followed by the values of the right row in the
     /// columns outside its key.
     Join {
@@ -84,6 +90,7 @@ pub enum Node {
 #[cfg(test)]
 mod tests {
     use super::*;
+    use crate::agg::Agg;
     use std::alloc::AllocError;
 
     #[test]
@@ -126,8 +133,13 @@ mod tests {
                 left_key: Key::from_vec(vec![in rt.alloc(); 5]?),
                 right_key: Key::from_vec(vec![in rt.alloc(); 0]?)
             },
+            Node::Group {
+                of: 10,
+                key: Key::from_vec(vec![in rt.alloc(); 6]?),
+                aggs: AggList::from_vec(vec![in rt.alloc(); Agg::Sum(4)]?)
+            },
         ]?;
-        assert_eq!(rt; nodes.len(), 11);
+        assert_eq!(rt; nodes.len(), 12);
         assert!(rt; matches!(&nodes[0], Node::Source { stream: 3 }));
         assert!(rt; matches!(&nodes[1], Node::Select { of: 0, .. }));
         assert!(rt; matches!(&nodes[2], Node::Union { left: 0, right: 1 }));
@@ -184,6 +196,11 @@ mod tests {
                 }
             )
         );
+        let Node::Group { of: 10, key, aggs } = &nodes[11] else {
+            panic!(rt; "no group of node 10");
+        };
+        assert_eq!(rt; key.items(), [6].as_slice());
+        assert!(rt; matches!(&aggs.items()[0], Agg::Sum(4)));
         Ok(())
     }
 }

@@ -1,0 +1,5 @@
+use Rattle.plan_model.proofs.Aggregates.{undefined_same}
+use Rattle.plan_model.proofs.laws.undefined_groups_have_no_order.Goals as goal
+
+pub returns : goal.returns
+returns c = undefined_same

@@ -1,0 +1,14 @@
+// Aggregates of groups.
+
+/// What a Group tells of the rows of a key. Each aggregate is an int.
+#[derive(Clone, Copy, Debug, PartialEq, Eq)]
+pub enum Agg {
+    /// How many rows there are.
+    Count,
+    /// The sum of the ints in the column of that number, counted from 0.
+    Sum(usize),
+    /// The least int in the column of that number.
+    Least(usize),
+    /// The greatest int in the column of that number.
+    Greatest(usize),
+}
