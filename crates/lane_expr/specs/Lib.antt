@@ -1,0 +1,4 @@
+pub mod Typed
+pub mod Steps
+pub mod Running
+pub mod Kernels
