@@ -1,2 +1,4 @@
 pub mod Typing
 pub mod Stepping
+pub mod Results
+pub mod Mapping

@@ -2,3 +2,4 @@ pub mod Typed
 pub mod Steps
 pub mod Running
 pub mod Kernels
+pub mod Hash

@@ -3,9 +3,14 @@
 
 mod compile;
 mod data;
+mod hash;
 mod kernel;
+mod laws;
+mod maps;
 mod row;
 mod step;
 
+pub use hash::hash_keys;
 pub use kernel::Kernel;
+pub use laws::kernels_keep_their_expression;
 pub use step::Step;

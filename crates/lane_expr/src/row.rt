@@ -13,8 +13,8 @@ use crate::step::Step;
 use batch::Batch;
 use tw_rows::{CellKind, Datum, Memory, TextTable};
 
-// The cell of the row in that column.
-fn cell_at(batch: &Batch, row: usize, column: usize) -> Datum
+/// The cell of the row in that column.
+pub(crate) fn cell_at(batch: &Batch, row: usize, column: usize) -> Datum
     requires row { row < length batch.now.rows }
     requires column { column < length batch.now.kinds }
     ensures cell { result ≡ slice_index_or (cells_of batch.now.rows row) column (Datum.Int (pos 0)) }

@@ -1,0 +1,13 @@
+-- The results of the rows before this one.
+use Rattle.std.proofs.Common.{◌≡◌, map, take, length}
+use Rattle.tw_rows.specs.declared.cells.Datum.TheVariants.{Int as IntDatum}
+use Rattle.lane_expr.specs.Steps.{expr_of}
+use Rattle.lane_expr.specs.Kernels.{AreResults}
+use Rattle.lane_expr.proofs.maps.fill_ints.Given as goal
+
+abbrev pub invariant-loop-row : goal.invariant-loop-row
+invariant-loop-row l = record {
+  results : AreResults l.texts (expr_of l.texts l.steps) (take l.row l.batch.rows) (map IntDatum l.out.items);
+  as_many : length l.out.items ≡ l.row;
+  room : l.out.capacity ≡ l.fn.out.capacity;
+}

@@ -1,0 +1,70 @@
+// The keys and hashes of rows.
+ghost use Rattle.std.specs.Prelude.{◌≡◌, ◌<◌, length, All};
+ghost use Rattle.lane_expr.specs.Running.{cells_of};
+ghost use Rattle.lane_expr.specs.Hash.{word_of, mixed, key_of, hash_of, hashed};
+
+use crate::row::cell_at;
+use batch::Batch;
+use tw_rows::Datum;
+
+/// What a hash begins with.
+const FIRST: u64 = 14695981039346656037;
+
+/// What a hash is multiplied by at each word.
+const FACTOR: u64 = 1099511628211;
+
+/// Sets the key and the hash of each row, occupied or not, by its key columns. Rows whose key columns are equal have equal
+/// hashes, whatever their batch.
+pub fn hash_keys(batch: &mut Batch, key: &[usize])
+    requires { All (λ column. column < length batch.old.kinds) key.now }
+    ensures { batch.new ≡ record batch.old { rows = hashed key.now batch.old.rows } }
+{
+    for row in 0..batch.rows() {
+        let first = first_word(batch, row, key);
+        let hash = hash_at(batch, row, key);
+        batch.mark(row, first, hash);
+    }
+}
+
+// The word of the first key column, or 0 where there is none.
+fn first_word(batch: &Batch, row: usize, key: &[usize]) -> u64
+    requires row { row < length batch.now.rows }
+    requires key { All (λ column. column < length batch.now.kinds) key.now }
+    ensures { result ≡ key_of (cells_of batch.now.rows row) key.now }
+{
+    match key.first() {
+        Some(column) => word(cell_at(batch, row, *column)),
+        None => 0,
+    }
+}
+
+// The hash of the key columns.
+fn hash_at(batch: &Batch, row: usize, key: &[usize]) -> u64
+    requires row { row < length batch.now.rows }
+    requires key { All (λ column. column < length batch.now.kinds) key.now }
+    ensures { result ≡ hash_of (cells_of batch.now.rows row) key.now }
+{
+    let mut hash = FIRST;
+    for column in key {
+        hash = mix(hash, word(cell_at(batch, row, *column)));
+    }
+    hash
+}
+
+// The hash once a word more is in it.
+fn mix(hash: u64, word: u64) -> u64
+    ensures { result ≡ mixed hash word }
+{
+    (hash ^ word).wrapping_mul(FACTOR)
+}
+
+// The word of a datum.
+fn word(datum: Datum) -> u64
+    ensures { result ≡ word_of datum }
+{
+    match datum {
+        Datum::Int(number) => number.cast_unsigned(),
+        Datum::Bool(flag) => u64::from(flag),
+        Datum::Text(place) => place,
+    }
+}
