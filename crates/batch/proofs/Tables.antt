@@ -98,6 +98,14 @@ occupied-rows_of capacity c whole =
     let within : i < length c.sync = omega (arith, lt, e) in
     get_or-map (λ r. r.occupied) (rows_of c) i (row_at c 0) false (omega (arith, within, length-rows_of c)) ∙ ap (λ r. r.occupied) (get_or-rows_of c i (row_at c 0) within))
 
+pub syncs-rows_of : (c : Columns) → map (λ r. r.sync) (rows_of c) ≡ c.sync
+syncs-rows_of c =
+    let e : length (map (λ r. r.sync) (rows_of c)) ≡ length c.sync = length-map (rows_of c) (λ r. r.sync) ∙ length-rows_of c in
+    ext_get_or 0 (map (λ r. r.sync) (rows_of c)) c.sync e
+    (λ i lt.
+    let within : i < length c.sync = omega (arith, lt, e) in
+    get_or-map (λ r. r.sync) (rows_of c) i (row_at c 0) 0 (omega (arith, within, length-rows_of c)) ∙ ap (λ r. r.sync) (get_or-rows_of c i (row_at c 0) within))
+
 pub hashes-rows_of : (capacity : ℕ) (c : Columns) → AreColumns capacity c → map (λ r. r.hash) (rows_of c) ≡ c.hash
 hashes-rows_of capacity c whole =
     let e : length (map (λ r. r.hash) (rows_of c)) ≡ length c.sync = length-map (rows_of c) (λ r. r.hash) ∙ length-rows_of c in

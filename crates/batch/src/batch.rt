@@ -15,7 +15,7 @@ use std::alloc::Global;
 use std::error::Error;
 use std::fmt;
 use std::marker::Model;
-use tw_rows::{Cells, Datum, Edge, Memory};
+use tw_rows::{Cells, Datum, Edge, Memory, Time};
 
 /// How many payload columns are kept without memory of their own.
 pub(crate) const WIDTH: usize = 32;
@@ -115,6 +115,14 @@ impl Batch {
         ensures capacity { payload_capacity result.now ≡ self.now.capacity }
     {
         &self.payload.as_slice()[c]
+    }
+
+    /// The sync time of the row `i`.
+    pub fn sync_at(&self, i: usize) -> Time
+        requires { i < length self.now.rows }
+        ensures { slice_get (map (λ r. r.sync) self.now.rows) i ≡ Some result }
+    {
+        time_of(self.sync.get(i))
     }
 
     /// The hash of the row `i`.
