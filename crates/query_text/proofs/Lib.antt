@@ -1,3 +1,4 @@
+pub mod OneAnswer
 pub mod Trees
 pub mod Steps
 pub mod Cursors

@@ -1,9 +1,17 @@
 // Laws of query texts. They run nothing.
 ghost use Rattle.std.specs.Prelude.{◌≡◌, ℕ, List};
+ghost use Rattle.plan_model.specs.declared.fault.QueryFault.{QueryFault};
 ghost use Rattle.query_text.specs.declared.query.Query.{Query};
-ghost use Rattle.query_text.specs.IsParse.{Spells};
+ghost use Rattle.query_text.specs.IsParse.{Spells, IsSmallText, IsTextFault};
 
 /// A text spells at most one query.
 pub fn texts_spell_one_query()
     ensures { (text : List ℕ) (a b : Query) → Spells text a → Spells text b → a ≡ b }
+{}
+
+/// A text that is not too large and spells a query has no fault, and no text has two.
+pub fn texts_have_one_fault()
+    ensures spelled { (text : List ℕ) (q : Query) (fault : QueryFault) → IsSmallText text → Spells text q →
+        ¬ (IsTextFault text fault) }
+    ensures one { (text : List ℕ) (f g : QueryFault) → IsTextFault text f → IsTextFault text g → f ≡ g }
 {}

@@ -12,7 +12,7 @@ mod tests;
 mod text;
 mod tree;
 
-pub use laws::texts_spell_one_query;
+pub use laws::{texts_have_one_fault, texts_spell_one_query};
 pub use query::{
     AggFun, AggList, Item, ItemList, Let, LetList, NameList, Pipe, Query, QueryAgg, QueryStep,
     StepList, StreamList,
