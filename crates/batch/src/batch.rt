@@ -201,6 +201,7 @@ impl Batch {
     pub fn edge_at(&self, alloc: Global, i: usize) -> Result<Edge, Memory>
         requires { i < length self.now.rows }
         ensures ok { IfOk result (λ e. slice_get (map edge_of self.now.rows) i ≡ Some e) }
+        ensures kinds { IfOk result (λ e. map datum_kind e.cells ≡ self.now.kinds) }
         ensures succeeds { length self.now.kinds ≤ 4 → IsOk result }
     {
         let mut data: SmallVec<Datum, WIDTH> = SmallVec::new(alloc);

@@ -1,10 +1,11 @@
-use Rattle.std.proofs.Common.{◌≡◌, ◌∙◌, ◌++◌, [], ◌∷◌, ◌<◌, length, ap, sym, subst, take, get_or, pos, arith}
+use Rattle.std.proofs.Common.{◌≡◌, ◌∙◌, ◌++◌, [], ◌∷◌, ◌<◌, length, ap, sym, subst, take, get_or, map, pos, arith}
 use Rattle.std.proofs.lemmas.List.{take_more, take_all, length-map}
 use Rattle.std.proofs.lemmas.Option.{get_or_from_slice_get}
 use Rattle.tw_rows.specs.declared.cells.Datum.TheVariants.{Int}
+use Rattle.tw_rows.specs.Cells.{datum_kind}
 use Rattle.batch.specs.Payloads.{payload_data, cells_at}
-use Rattle.batch.proofs.Pushing.{get_or-cells_at}
-use Rattle.batch.proofs.Views.{reaches_item, sync_place, other_place, sync_time, other_time, edge_of_row}
+use Rattle.batch.proofs.Pushing.{get_or-cells_at, kinds-cells_at}
+use Rattle.batch.proofs.Views.{reaches_item, sync_place, other_place, sync_time, other_time, payload_place, kinds_are, edge_of_row}
 use Rattle.batch.proofs.batch.Batch.edge_at.Goals as goal
 
 pub datum-requires : goal.datum-requires
@@ -46,3 +47,12 @@ returns-clause-ok c =
     (c.time_of-2.ensures ∙ sym (get_or_from_slice_get c.self.inside.other.items c.args.i c.get-2.result 0 c.get-2.ensures))
     (c.in_ok-from_slice.ensures.ok ∙ c.as_slice.ensures ∙ c.loop-column.invariant.read
     ∙ take_all c.loop-column.column-index (cells_at c.self.inside.payload.items c.args.i) (omega (arith, same, long, c.loop-column-test.false)))
+
+pub returns-clause-kinds : goal.returns-clause-kinds
+returns-clause-kinds c =
+    let same = ap length c.as_slice-column-items.ensures in
+    let long = length-map c.self.inside.payload.items (λ p. get_or (payload_data p) c.args.i (Int (pos 0))) in
+    ap (map datum_kind) (c.in_ok-from_slice.ensures.ok ∙ c.as_slice.ensures ∙ c.loop-column.invariant.read
+    ∙ take_all c.loop-column.column-index (cells_at c.self.inside.payload.items c.args.i) (omega (arith, same, long, c.loop-column-test.false)))
+    ∙ kinds-cells_at c.self.inside.payload.items c.args.i (payload_place c.self.inside c.args.self.now c.self.view_is c.self.invariant c.args.i c.requires)
+    ∙ kinds_are c.self.inside c.args.self.now c.self.view_is c.self.invariant

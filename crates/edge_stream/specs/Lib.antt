@@ -1,0 +1,4 @@
+pub mod Order
+pub mod Sides
+pub mod Listing
+pub mod Reading

@@ -1,0 +1,16 @@
+-- The edges on one side of a time.
+use Rattle.std.specs.Prelude.{ℕ, Bool, List, map}
+use Rattle.tw_rows.specs.declared.edge.Edge.{Edge}
+use Rattle.batch.specs.Rows.{Row, edge_of}
+use Rattle.edge_stream.specs.declared.cut.Side.{Side}
+use Rattle.edge_stream.specs.declared.cut.Side.TheVariants.{Below, From}
+use Rattle.edge_stream.specs.Order.{is_below, is_from}
+
+-- the edge lies on this side of t
+abbrev pub lies : Side → ℕ → Edge → Bool
+lies Below t e = is_below t e
+lies From t e = is_from t e
+
+-- for each row, whether its edge lies on this side of t
+abbrev pub side_bits : Side → ℕ → List Row → List Bool
+side_bits side t rows = map (λ r. lies side t (edge_of r)) rows

@@ -1,0 +1,12 @@
+//! Lists of edges in order, kept in batches.
+#![tactic(auto)]
+
+mod cursor;
+mod cut;
+mod list;
+mod order;
+mod plain;
+
+pub use cursor::Cursor;
+pub use list::{EdgeList, Refused};
+pub use order::{in_order, keeps_order};
