@@ -50,6 +50,7 @@ impl<'a> Cursor<'a> {
             match batch.occupancy().next_set(self.row) {
                 Some(row) => {
                     let edge = batch.edge_at(self.alloc, row)?;
+                    // There is such a row, so this is the next number.
                     self.row = batch.rows().min(row + 1);
                     return Ok(Some(edge));
                 }

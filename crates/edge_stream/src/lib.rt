@@ -10,3 +10,6 @@ mod plain;
 pub use cursor::Cursor;
 pub use list::{EdgeList, Refused};
 pub use order::{in_order, keeps_order};
+
+#[cfg(test)]
+mod tests;
