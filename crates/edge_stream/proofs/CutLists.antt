@@ -5,7 +5,7 @@ use Rattle.std.specs.List.{insert, list_all}
 use Rattle.std.proofs.lemmas.Option.{get_or_from_slice_get, slice_get-get_or}
 use Rattle.std.proofs.lemmas.List.Elements.{All-append, All-cons, All-take, All-drop, All-set}
 use Rattle.batch.specs.Rows.{Table, edges_of}
-use Rattle.edge_stream.specs.Order.{Rises, is_below, is_from}
+use Rattle.edge_history.specs.Order.{Rises, is_below, is_from}
 use Rattle.edge_stream.specs.Listing.{edges_in}
 use Rattle.edge_stream.proofs.Rising.{lower_clean, upper_clean, lower_parted, upper_parted, rest_from, parts_are_whole}
 use Rattle.edge_stream.proofs.Cutting.{edges_in-push, edges_in-parts, edges_in-at, take-parted, drop-parted}

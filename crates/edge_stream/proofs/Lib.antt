@@ -1,10 +1,9 @@
-pub mod Examples
 pub mod Parts
 pub mod Rising
 pub mod Rows
 pub mod Cutting
 pub mod Ahead
 pub mod Keeping
-pub mod Sorted
 pub mod Listings
 pub mod CutLists
+pub mod Agreeing

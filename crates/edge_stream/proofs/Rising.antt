@@ -1,12 +1,12 @@
 -- What the order of edges says of a cut at a time.
 use Rattle.std.proofs.Common.{◌≡◌, ◌≤◌, ℕ, ◌+◌, ◌*◌, ◌&&◌, Bool, true, false, List, [], ◌∷◌, ◌++◌, cond, refl, ap, sym, ◌∙◌, arith, append-nil}
-use Rattle.std.specs.Prelude.{nat_lt, not, filter}
+use Rattle.std.specs.Prelude.{nat_lt, filter}
 use Rattle.std.specs.List.{list_all}
 use Rattle.std.proofs.lemmas.List.Elements.{filter-append}
 use Rattle.std.proofs.lemmas.List.Folds.{list_all-append}
 use Rattle.std.proofs.lemmas.Bool.Decides.{nat_tests}
 use Rattle.tw_rows.specs.declared.edge.Edge.{Edge}
-use Rattle.edge_stream.specs.Order.{is_end, rank, Rises, is_below, is_from}
+use Rattle.edge_history.specs.Order.{is_end, rank, Rises, is_below, is_from}
 use Rattle.edge_stream.proofs.Parts.{filter-all, filter-none}
 
 rank-high : (e : Edge) → rank e ≤ 2 * e.sync + 1
@@ -28,7 +28,7 @@ rank-from t e h =
     omega (arith, le)
 
 pub below-not_from : (t : ℕ) (e : Edge) → is_below t e ≡ true → is_from t e ≡ false
-below-not_from t e h = ap not h
+below-not_from t e h = grind (arith, nat_tests)
 
 pub from-not_below : (t : ℕ) (e : Edge) → is_from t e ≡ true → is_below t e ≡ false
 from-not_below t e h = grind (arith, nat_tests)
@@ -66,16 +66,18 @@ later_from t r (x ∷ xs) ys h some = pick (nat_lt x.sync t) refl some (later_fr
 -- the edges below t are a front part, and the others the rest
 pub parts_are_whole : (t r : ℕ) (es : List Edge) → Rises r es → filter (is_below t) es ++ filter (is_from t) es ≡ es
 parts_are_whole t r [] h = refl
-parts_are_whole t r (e ∷ es) h = pick (nat_lt e.sync t) refl (parts_are_whole t (rank e) es h.1)
+parts_are_whole t r (e ∷ es) h = pick (is_below t e) (is_from t e) refl refl (parts_are_whole t (rank e) es h.1)
   where
-    pick : (b : Bool) → nat_lt e.sync t ≡ b → filter (is_below t) es ++ filter (is_from t) es ≡ es →
-        cond b (e ∷ filter (is_below t) es) (filter (is_below t) es) ++ cond (not b) (e ∷ filter (is_from t) es) (filter (is_from t) es) ≡ e ∷ es
-    pick true is rest = ap (λ l. e ∷ l) rest
-    pick false is rest =
+    pick : (b c : Bool) → is_below t e ≡ b → is_from t e ≡ c → filter (is_below t) es ++ filter (is_from t) es ≡ es →
+        cond b (e ∷ filter (is_below t) es) (filter (is_below t) es) ++ cond c (e ∷ filter (is_from t) es) (filter (is_from t) es) ≡ e ∷ es
+    pick true true is k rest = let apart : is_from t e ≡ false = below-not_from t e is in absurd (cc)
+    pick true false is k rest = ap (λ l. e ∷ l) rest
+    pick false true is k rest =
         let from : list_all (is_from t) es ≡ true = all_from-high t (rank e) es (rank-from t e is) h.1 in
         let none : filter (is_below t) es ≡ [] = filter-none (is_from t) (is_below t) (from-not_below t) es from in
         let all : filter (is_from t) es ≡ es = filter-all (is_from t) es from in
         rw (none, all) refl
+    pick false false is k rest = let from : is_from t e ≡ true = is_from-high t e (rank-from t e is) in absurd (cc)
 
 -- a front part that lies below t, and a rest that does not
 pub lower_clean : (t : ℕ) (a r : List Edge) → list_all (is_below t) a ≡ true → list_all (is_from t) r ≡ true → a ≡ filter (is_below t) (a ++ r)

@@ -4,7 +4,7 @@ use Rattle.tw_rows.specs.declared.edge.Edge.{Edge}
 use Rattle.batch.specs.Rows.{Row, edge_of}
 use Rattle.edge_stream.specs.declared.cut.Side.{Side}
 use Rattle.edge_stream.specs.declared.cut.Side.TheVariants.{Below, From}
-use Rattle.edge_stream.specs.Order.{is_below, is_from}
+use Rattle.edge_history.specs.Order.{is_below, is_from}
 
 -- the edge lies on this side of t
 abbrev pub lies : Side → ℕ → Edge → Bool

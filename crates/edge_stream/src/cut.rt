@@ -7,7 +7,7 @@ ghost use Rattle.tw_rows.specs.Cells.{datum_kind};
 ghost use Rattle.tw_rows.specs.declared.kind.CellKind.{CellKind};
 ghost use Rattle.batch.specs.Rows.{Table, edges_of};
 ghost use Rattle.batch.specs.Shelves.{NoMore};
-ghost use Rattle.edge_stream.specs.Order.{Rises, is_below, is_from};
+ghost use Rattle.edge_history.specs.Order.{Rises, is_below, is_from};
 ghost use Rattle.edge_stream.specs.Sides.{lies, side_bits};
 ghost use Rattle.edge_stream.specs.Listing.{IsOf, edges_in};
 

@@ -1,6 +1,6 @@
 use Rattle.std.proofs.Common.{◌≡◌, ◌<◌, ◌≤◌, ◌+◌, ◌∙◌, true, length, drop, sym, arith}
 use Rattle.std.specs.List.{list_all}
-use Rattle.edge_stream.specs.Order.{is_from}
+use Rattle.edge_history.specs.Order.{is_from}
 use Rattle.edge_stream.specs.Listing.{edges_in}
 use Rattle.edge_stream.proofs.CutLists.{whole_lower, whole_upper, none_left, rest_is_from, parts_same, at_place, found_at}
 use Rattle.edge_stream.proofs.cut.cut_at.Goals as goal

@@ -3,7 +3,7 @@ use Rattle.std.specs.Prelude.{filter}
 use Rattle.tw_rows.specs.Kinds.{cell_kind_of}
 use Rattle.batch.specs.Rows.{edges_of, occupied_rows, kept}
 use Rattle.batch.specs.Shelves.{NoMore}
-use Rattle.edge_stream.specs.Order.{is_from}
+use Rattle.edge_history.specs.Order.{is_from}
 use Rattle.edge_stream.specs.Sides.{lies}
 use Rattle.edge_stream.specs.declared.cut.Side.TheVariants.{From}
 use Rattle.edge_stream.proofs.Parts.{length-filter-le}

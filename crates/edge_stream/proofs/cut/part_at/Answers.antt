@@ -2,7 +2,7 @@ use Rattle.std.proofs.Common.{◌≡◌, ◌+◌, ◌∙◌, map, take, drop, se
 use Rattle.std.specs.Prelude.{All, filter}
 use Rattle.tw_rows.specs.Kinds.{cell_kind_of}
 use Rattle.batch.specs.Rows.{edges_of, kept}
-use Rattle.edge_stream.specs.Order.{is_below}
+use Rattle.edge_history.specs.Order.{is_below}
 use Rattle.edge_stream.specs.Sides.{lies}
 use Rattle.edge_stream.specs.declared.cut.Side.TheVariants.{Below}
 use Rattle.edge_stream.specs.Listing.{IsOf, edges_in}
