@@ -41,7 +41,7 @@ sum_same xs ys h =
 least_step : (z x m : ℤ) (any : Bool) → int_le z m ≡ not any → int_le z (int_min x m) ≡ not (int_lt x z || any)
 least_step z x m any h = grind (arith, ints)
 
-least_is : (z x : ℤ) (xs : List ℤ) → int_le z (least_from x xs) ≡ not (list_any (λ v. int_lt v z) (x ∷ xs))
+pub least_is : (z x : ℤ) (xs : List ℤ) → int_le z (least_from x xs) ≡ not (list_any (λ v. int_lt v z) (x ∷ xs))
 least_is z x [] = grind (arith, ints)
 least_is z x (y ∷ ys) = least_step z x (least_from y ys) (list_any (λ v. int_lt v z) (y ∷ ys)) (least_is z y ys)
 
@@ -66,7 +66,7 @@ least_same (x ∷ xs) (y ∷ ys) h =
 greatest_step : (z x m : ℤ) (any : Bool) → int_le m z ≡ not any → int_le (int_max x m) z ≡ not (int_lt z x || any)
 greatest_step z x m any h = grind (arith, ints)
 
-greatest_is : (z x : ℤ) (xs : List ℤ) → int_le (greatest_from x xs) z ≡ not (list_any (int_lt z) (x ∷ xs))
+pub greatest_is : (z x : ℤ) (xs : List ℤ) → int_le (greatest_from x xs) z ≡ not (list_any (int_lt z) (x ∷ xs))
 greatest_is z x [] = grind (arith, ints)
 greatest_is z x (y ∷ ys) = greatest_step z x (greatest_from y ys) (list_any (int_lt z) (y ∷ ys)) (greatest_is z y ys)
 

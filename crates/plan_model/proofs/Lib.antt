@@ -13,6 +13,7 @@ pub mod Comparing
 mod Computed
 pub mod Examples
 pub mod LifeExamples
+pub mod GroupExamples
 pub mod InOrder
 pub mod Each
 pub mod Counting

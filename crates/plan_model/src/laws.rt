@@ -1,5 +1,6 @@
 // The laws of what expressions and plans mean. Each is a function that does nothing; its clauses are the law.
-ghost use Rattle.std.specs.Prelude.{◌≡◌, ◌↔◌, IsTrue, ℕ, ◌+◌, ◌-◌, ◌*◌, ◌<◌, ◌≤◌, min, List, [], ◌∷◌, ◌++◌, length, map, filter, slice_get, true};
+ghost use Rattle.std.specs.Prelude.{◌≡◌, ◌↔◌, IsTrue, ℕ, ℤ, int_lt, int_le, not, ◌+◌, ◌-◌, ◌<◌, ◌≤◌, min, List, [], ◌∷◌, ◌++◌, length, map, filter, slice_get, true, ◌*◌};
+ghost use Rattle.std.specs.List.{list_any};
 ghost use Rattle.tw_rows.specs.Bag.{SameBag};
 ghost use Rattle.tw_rows.specs.Event.{Event, alive, AreEvents, Known};
 ghost use Rattle.tw_rows.specs.Instant.{inf, later, floor_to};
@@ -14,7 +15,7 @@ ghost use Rattle.plan_model.specs.declared.node.Node.{Node};
 ghost use Rattle.plan_model.specs.IsExpr.{IsExpr};
 ghost use Rattle.plan_model.specs.Expr.{node_value, value_at, value, holds};
 ghost use Rattle.plan_model.specs.Keys.{key_values, rows_equal, keys_equal, paired_row};
-ghost use Rattle.plan_model.specs.Groups.{row_of_group, is_undefined};
+ghost use Rattle.plan_model.specs.Groups.{least_int, greatest_int, agg_value, row_of_group, is_undefined};
 ghost use Rattle.plan_model.specs.Joins.{joined_rows, joined};
 ghost use Rattle.plan_model.specs.Lives.{moved_one, moved, hopped_one, hopped, lasting_one, lasting, extended_one, extended};
 ghost use Rattle.plan_model.specs.Meaning.{Sources, left_of, right_of, selected_row, selected_event, node_events, events, node_closes, closes, nothing, by_events, node_meaning, meaning, snapshots, IsOrdered, IsLevelled};
@@ -197,6 +198,16 @@ pub fn group_is()
         IsTrue (has_key (key_values key) rows_equal values row) ↔ (values ≡ key_values key row) }
     ensures order { (key : List ℕ) (aggs : List Agg) →
         IsGroupRow (key_values key) rows_equal (row_of_group key aggs) }
+{}
+
+/// The least int is at least `z` exactly where no int is below `z`, and the greatest is at most `z` exactly where no int is
+/// above it. What an aggregate makes of rows hangs on their multiset alone.
+pub fn aggregates_are()
+    ensures least { (z x : ℤ) (xs : List ℤ) →
+        int_le z (least_int (x ∷ xs)) ≡ not (list_any (λ v. int_lt v z) (x ∷ xs)) }
+    ensures greatest { (z x : ℤ) (xs : List ℤ) →
+        int_le (greatest_int (x ∷ xs)) z ≡ not (list_any (λ v. int_lt z v) (x ∷ xs)) }
+    ensures order { (a : Agg) (xs ys : List Row) → SameBag xs ys → agg_value a xs ≡ agg_value a ys }
 {}
 
 /// Whether one of the groups of some rows has too many rows, or a sum outside i64, hangs on the multiset of the rows alone.

@@ -22,9 +22,10 @@ pub use changes_laws::{
 pub use expr::{ArithOp, CompareOp, Expr, ExprNode};
 pub use fault::{QueryError, QueryFault};
 pub use laws::{
-    anti_is, clip_is, delay_is, duration_is, events_have_lives, extend_is, group_is, hop_is,
-    join_is, lives_change, nodes_are_causal, result_is, select_is, session_is, snapshots_agree,
-    snapshots_are_final, source_is, undefined_groups_have_no_order, union_is, value_is, where_is,
+    aggregates_are, anti_is, clip_is, delay_is, duration_is, events_have_lives, extend_is,
+    group_is, hop_is, join_is, lives_change, nodes_are_causal, result_is, select_is, session_is,
+    snapshots_agree, snapshots_are_final, source_is, undefined_groups_have_no_order, union_is,
+    value_is, where_is,
 };
 pub use lists::{AggList, ExprList, Key};
 pub use node::Node;
