@@ -11,3 +11,6 @@ mod times;
 pub use batch::{Batch, Full};
 pub use payload::Payload;
 pub use pools::Pools;
+
+#[cfg(test)]
+mod tests;
