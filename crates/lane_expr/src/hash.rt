@@ -13,8 +13,8 @@ const FIRST: u64 = 14695981039346656037;
 /// What a hash is multiplied by at each word.
 const FACTOR: u64 = 1099511628211;
 
-/// Sets the key and the hash of each row, occupied or not, by its key columns. Rows whose key columns are equal have equal
-/// hashes, whatever their batch.
+/// Sets the key and the hash of each row, occupied or not, by its key columns. Rows whose key columns are equal
+/// have equal hashes, whatever their batch.
 pub fn hash_keys(batch: &mut Batch, key: &[usize])
     requires { All (λ column. column < length batch.old.kinds) key.now }
     ensures { batch.new ≡ record batch.old { rows = hashed key.now batch.old.rows } }

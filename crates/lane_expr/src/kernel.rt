@@ -13,8 +13,8 @@ use occupancy::Occupancy;
 use std::marker::Model;
 use tw_rows::{CellKind, Datum, Kind, Memory, TextTable};
 
-/// An expression that is compiled for batches of some kinds of columns, with the texts of one table. Contracts see it as
-/// its steps, these kinds and the greatest number of rows.
+/// An expression that is compiled for batches of some kinds of columns, with the texts of one table. Contracts see
+/// it as its steps, these kinds and the greatest number of rows.
 #[derive(Drop)]
 pub struct Kernel {
     pub(crate) steps: Vec<Step>,

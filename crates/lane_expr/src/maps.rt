@@ -12,8 +12,9 @@ use batch::Batch;
 use column_pool::{Bit, Column};
 use tw_rows::{CellKind, Datum, Memory, TextTable};
 
-/// Each call adds a cell for each row of the batch. What stands at a row that is not occupied is free. They need a table of
-/// texts that begins with the one that `compile` left. Where memory is wanting, the cells of some first rows are left.
+/// Each call adds a cell for each row of the batch. What stands at a row that is not occupied is free. They need a
+/// table of texts that begins with the one that `compile` left. Where memory is wanting, the cells of some first
+/// rows are left.
 impl Kernel {
     /// The values of an expression of numbers.
     pub fn map_int(

@@ -44,8 +44,8 @@ impl Filter {
         })
     }
 
-    /// Leaves occupied just the occupied rows at which the test is true. It needs a table of texts that begins with the one
-    /// that the test was compiled with.
+    /// Leaves occupied just the occupied rows at which the test is true. It needs a table of texts that begins with
+    /// the one that the test was compiled with.
     pub fn apply(&mut self, batch: &mut Batch, texts: &TextTable) -> Result<(), Memory>
         requires reads { CanRead texts.now self.old.test batch.old }
         requires room { length batch.old.rows ≤ self.old.capacity }

@@ -1,4 +1,5 @@
-// What filters and projections do to the edges of batches. Each law is a function that does nothing; its clauses are the law.
+// What filters and projections do to the edges of batches. Each law is a function that does nothing; its clauses
+// are the law.
 ghost use Rattle.std.specs.Prelude.{◌≡◌, ℕ, List, map, filter};
 ghost use Rattle.tw_rows.specs.Cells.{read_cells};
 ghost use Rattle.plan_model.specs.declared.expr.ExprNode.{ExprNode};

@@ -65,9 +65,9 @@ impl Project {
         self.kinds.as_slice()
     }
 
-    /// The batch with the values of the items as its cells. Its columns are taken from the pools, those that the pools lack
-    /// are made, and its old columns are given to the pools. Where memory is wanting, the columns that were taken are
-    /// dropped. It needs a table of texts that begins with those that the items were compiled with.
+    /// The batch with the values of the items as its cells. Its columns are taken from the pools, those that the
+    /// pools lack are made, and its old columns are given to the pools. Where memory is wanting, the columns that
+    /// were taken are dropped. It needs a table of texts that begins with those that the items were compiled with.
     pub fn apply(
         &mut self,
         batch: Batch,
