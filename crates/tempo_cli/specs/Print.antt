@@ -1,22 +1,8 @@
 -- The bytes of change lines and punctuation lines.
-use Rattle.std.specs.Prelude.{ℕ, nat_lt, true, false, cond, List, [], ◌∷◌, codes, decimal, flat_map, map}
-use Rattle.std.specs.Fmt.{signed_decimal}
+use Rattle.std.specs.Prelude.{ℕ, List, [], ◌∷◌, codes, flat_map, map}
 use Rattle.csv.specs.Writing.{default_writer, row_text}
-use Rattle.tw_rows.specs.Instant.{inf}
-use Rattle.tw_rows.specs.declared.row.Value.{Value}
-use Rattle.tw_rows.specs.declared.row.Value.TheVariants.{Int, Bool as Flag, Text}
+use Rattle.row_reader.specs.Printed.{value_text, time_text}
 use Rattle.plan_model.specs.Changes.{Line, Started, Ended}
-
--- an int as its signed decimal, a truth value by its name, a text as it stands
-abbrev pub value_text : Value → List ℕ
-value_text (Int x) = signed_decimal x
-value_text (Flag true) = codes "true"
-value_text (Flag false) = codes "false"
-value_text (Text t) = t
-
--- an instant as its decimal, and infinity as `inf`
-abbrev pub time_text : ℕ → List ℕ
-time_text t = cond (nat_lt t inf) (decimal t) (codes "inf")
 
 -- a record of CSV: commas between the fields and a line feed at the end; a field with a comma, a quote, a line feed or a carriage return stands in quotes, each quote in it doubled, and any other field stands as it is: `out`, `a,b`, `c"d` and an empty field give `out,"a,b","c""d",` and the line feed
 abbrev pub record_text : List (List ℕ) → List ℕ

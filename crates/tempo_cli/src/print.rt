@@ -2,7 +2,8 @@
 ghost use Rattle.std.specs.Prelude.{◌≡◌, ◌++◌, ◌∷◌, [], IfOk, OnOk, codes, map};
 ghost use Rattle.csv.specs.Records.{fields_of, partial_of};
 ghost use Rattle.plan_model.specs.Changes.{Started, Ended};
-ghost use Rattle.tempo_cli.specs.Print.{value_text, time_text, record_text, line_fields, line_text, punctuation_text};
+ghost use Rattle.row_reader.specs.Printed.{value_text, time_text};
+ghost use Rattle.tempo_cli.specs.Print.{record_text, line_fields, line_text, punctuation_text};
 
 use csv::{ByteRecord, Writer};
 use itoa::Buffer;

@@ -1,6 +1,6 @@
 use Rattle.std.proofs.Common.{◌≡◌, ◌++◌, [], map, take}
 use Rattle.csv.specs.Records.{fields_of, partial_of}
-use Rattle.tempo_cli.specs.Print.{value_text}
+use Rattle.row_reader.specs.Printed.{value_text}
 use Rattle.tempo_cli.proofs.print.push_values.Given as goal
 
 abbrev pub invariant-loop-value : goal.invariant-loop-value
