@@ -1,0 +1,25 @@
+"""Builds a small program over the crates of this repository, in a folder of its own, and runs it."""
+import shutil
+import subprocess
+import sys
+import tempfile
+from pathlib import Path
+
+ROOT = Path(__file__).resolve().parent.parent
+
+
+def run_inside(name, crates, source, stdin=b""):
+    """What the program writes that has this `main.rt` and stands on these crates. Its crates are proved first."""
+    with tempfile.TemporaryDirectory() as folder:
+        copy = Path(folder)
+        shutil.copytree(ROOT / "crates", copy / "crates", ignore=shutil.ignore_patterns("out"))
+        shutil.copy(ROOT / "HANDLES", copy)
+        listed = (ROOT / "crates.txt").read_text()
+        (copy / "crates.txt").write_text(f"{listed}{name}: {' '.join(crates)}\n")
+        code = copy / "crates" / name / "src"
+        code.mkdir(parents=True)
+        (code / "main.rt").write_text(source)
+        run = subprocess.run(["rt", "run"], cwd=code.parent, input=stdin, capture_output=True)
+        if run.returncode != 0:
+            sys.exit(run.stdout.decode() + run.stderr.decode())
+        return run.stdout.decode()
