@@ -8,3 +8,6 @@ mod project;
 pub use filter::Filter;
 pub use laws::{filtered_edges_are, projected_edges_are};
 pub use project::{Project, Unprojected};
+
+#[cfg(test)]
+mod tests;
