@@ -8,8 +8,11 @@ from pathlib import Path
 ROOT = Path(__file__).resolve().parent.parent
 
 
-def run_inside(name, crates, source, stdin=b""):
-    """What the program writes that has this `main.rt` and stands on these crates. Its crates are proved first."""
+def run_inside(name, crates, source, stdin=b"", proofs=None):
+    """What the program writes that has this `main.rt` and these proof files, and stands on these crates.
+
+    It is proved first, and so are its crates.
+    """
     with tempfile.TemporaryDirectory() as folder:
         copy = Path(folder)
         shutil.copytree(ROOT / "crates", copy / "crates", ignore=shutil.ignore_patterns("out"))
@@ -19,6 +22,10 @@ def run_inside(name, crates, source, stdin=b""):
         code = copy / "crates" / name / "src"
         code.mkdir(parents=True)
         (code / "main.rt").write_text(source)
+        for path, text in (proofs or {}).items():
+            file = code.parent / "proofs" / path
+            file.parent.mkdir(parents=True)
+            file.write_text(text)
         run = subprocess.run(["rt", "run"], cwd=code.parent, input=stdin, capture_output=True)
         if run.returncode != 0:
             sys.exit(run.stdout.decode() + run.stderr.decode())
