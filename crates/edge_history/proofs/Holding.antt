@@ -13,7 +13,7 @@ use Rattle.edge_history.specs.Order.{is_end, failing, many, is_real, is_from, en
 use Rattle.edge_history.specs.History.{CellEvent, is_open, begun_one, ended, end_step, end_all, begun}
 use Rattle.edge_history.specs.Balance.{given, taken, AreEventsOf}
 use Rattle.edge_history.specs.Side.{reaches, DependsOnNoEnd}
-use Rattle.edge_history.proofs.Tests.{sum_eq, failing-both, failing-parts}
+use Rattle.edge_history.proofs.Sums.{sum_eq, failing-both, failing-parts}
 use Rattle.edge_history.proofs.Ending.{open_is, ended_weighs, took, gave, opened, closed, self_counts, real_low}
 use Rattle.edge_history.proofs.Retaining.{begun-total, left-total, took_open, begun_open}
 use Rattle.edge_history.proofs.Made.{given_opens}

@@ -1,5 +1,5 @@
 pub mod CellTests
-pub mod Tests
+pub mod Sums
 pub mod Ending
 pub mod Telling
 pub mod Retaining
@@ -9,3 +9,5 @@ pub mod Examples
 pub mod Made
 pub mod Rising
 pub mod Holding
+pub mod Keeping
+pub mod Agreeing

@@ -13,7 +13,7 @@ use Rattle.edge_history.specs.Order.{failing, rank, Rises, is_real, is_below, en
 use Rattle.edge_history.specs.History.{CellEvent, is_open, of, StandsBelow}
 use Rattle.edge_history.specs.Balance.{given, taken, AreEventsOf, StandsFor}
 use Rattle.edge_history.specs.Made.{edges_where, events_where, edge_with, event_with, edges_with, events_with}
-use Rattle.edge_history.proofs.Tests.{sum_eq, failing-append, failing-same, failing-filter, failing-kept}
+use Rattle.edge_history.proofs.Sums.{sum_eq, failing-append, failing-same, failing-filter, failing-kept}
 use Rattle.edge_history.proofs.Retaining.{left-total, took_open, events_of_are, events_unique}
 use Rattle.edge_history.proofs.Telling.{gain, loss, stands_by_weight, weight_of_standing}
 use Rattle.edge_history.proofs.Standing.{rises_filter, paired_below, stands_plain, stands_cut, stands_for_own}

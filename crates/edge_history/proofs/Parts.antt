@@ -6,7 +6,7 @@ use Rattle.tw_rows.specs.declared.cells.Datum.{Datum}
 use Rattle.tw_rows.specs.declared.edge.Edge.{Edge}
 use Rattle.tw_rows.proofs.Bags.{total-append}
 use Rattle.edge_history.specs.Order.{many, rank, Rises, is_real, is_below, is_from, ends_it, starts_it, IsHistory}
-use Rattle.edge_history.proofs.Tests.{failing-parts}
+use Rattle.edge_history.proofs.Sums.{failing-parts}
 
 pub rises_first : (r : ℕ) (h new : List Edge) → Rises r (h ++ new) → Rises r h
 rises_first r [] new k = tt

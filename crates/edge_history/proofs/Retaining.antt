@@ -12,7 +12,7 @@ use Rattle.edge_history.specs.Order.{is_end, failing, is_real, is_from, ends_it,
 use Rattle.edge_history.specs.History.{CellEvent, is_open, begun_one, begun, end_all, of}
 use Rattle.edge_history.specs.Balance.{given, taken, AreEventsOf}
 use Rattle.edge_history.specs.Side.{reaches, Retains}
-use Rattle.edge_history.proofs.Tests.{sum_eq, failing-both, failing-parts}
+use Rattle.edge_history.proofs.Sums.{sum_eq, failing-both, failing-parts}
 use Rattle.edge_history.proofs.Ending.{took, gave, end_all_weighs}
 use Rattle.edge_history.proofs.Telling.{is_event}
 

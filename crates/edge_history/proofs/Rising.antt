@@ -1,5 +1,5 @@
 -- The order of a list of edges is that of their ranks.
-use Rattle.std.specs.Prelude.{◌↔◌, ℕ, zero, suc, ◌<◌, ◌≤◌, List, [], ◌∷◌, length, get_or}
+use Rattle.std.specs.Prelude.{◌↔◌, ℕ, zero, suc, ◌<◌, ◌≤◌, List, [], ◌∷◌, ◌++◌, length, get_or}
 use Rattle.std.specs.List.Sorted.{IsNonDecreasingBy}
 use Rattle.std.proofs.Common.{arith}
 use Rattle.tw_rows.specs.declared.edge.Edge.{Edge}
@@ -39,3 +39,16 @@ sorted_from_rises xs k = λ i j d le low. rises_between 0 xs i j d k le low
 
 pub rises-sorted : (xs : List Edge) → Rises 0 xs ↔ IsNonDecreasingBy rank xs
 rises-sorted xs = (sorted_from_rises xs, rises_from_sorted xs)
+
+-- a list in order from a lower rank on, and its parts
+pub Rises-less : (r s : ℕ) (es : List Edge) → s ≤ r → Rises r es → Rises s es
+Rises-less r s [] le h = tt
+Rises-less r s (e ∷ es) le h = (omega (arith, le, h.0), h.1)
+
+pub Rises-front : (r : ℕ) (xs ys : List Edge) → Rises r (xs ++ ys) → Rises r xs
+Rises-front r [] ys h = tt
+Rises-front r (x ∷ xs) ys h = (h.0, Rises-front (rank x) xs ys h.1)
+
+pub Rises-back : (r : ℕ) (xs ys : List Edge) → Rises r (xs ++ ys) → Rises r ys
+Rises-back r [] ys h = h
+Rises-back r (x ∷ xs) ys h = Rises-less (rank x) r ys h.0 (Rises-back (rank x) xs ys h.1)

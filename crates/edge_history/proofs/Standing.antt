@@ -11,7 +11,7 @@ use Rattle.tw_rows.proofs.Bags.{SameBag-refl, SameBag-sym, SameBag-trans, SameBa
 use Rattle.edge_history.specs.Order.{failing, many, rank, Rises, is_real, is_below, ends_it, starts_it, IsPaired, IsHistory}
 use Rattle.edge_history.specs.History.{CellEvent, of, StandsBelow}
 use Rattle.edge_history.specs.Balance.{given, taken, AreEventsOf, StandsFor, is_settled, is_single, Told}
-use Rattle.edge_history.proofs.Tests.{sum_le, sum_eq, weaker, failing-both, failing-filter, failing-kept}
+use Rattle.edge_history.proofs.Sums.{sum_le, sum_eq, weaker, failing-both, failing-filter, failing-kept}
 use Rattle.edge_history.proofs.Telling.{gain, loss, stands_by_weight, weight_of_standing, stands_same, told_below, told_history, rises_weaker}
 use Rattle.edge_history.proofs.Retaining.{events_of_are, events_unique}
 

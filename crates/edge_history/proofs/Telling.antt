@@ -11,7 +11,7 @@ use Rattle.tw_rows.proofs.Bags.{total-append, total-map, total-flat_map, total_s
 use Rattle.edge_history.specs.Order.{failing, rank, Rises, is_real, is_below, is_from, ends_it, starts_it, IsHistory}
 use Rattle.edge_history.specs.History.{CellEvent, is_open}
 use Rattle.edge_history.specs.Balance.{given, taken, StandsFor, is_settled, is_single, Told, news_of, news}
-use Rattle.edge_history.proofs.Tests.{sum_le, sum_eq, weaker}
+use Rattle.edge_history.proofs.Sums.{sum_le, sum_eq, weaker}
 
 -- an event's life begins before it ends, and ends at infinity at the latest
 abbrev pub is_event : CellEvent → Bool

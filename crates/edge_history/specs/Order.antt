@@ -1,5 +1,6 @@
 -- Lists of edges as operators take and give them: in order, with real times, and with each end beside a start.
-use Rattle.std.specs.Prelude.{◌≡◌, ℕ, ◌+◌, ◌*◌, ◌≤◌, ◌&&◌, nat_eq, nat_lt, nat_le, not, Bool, cond, List, [], ◌∷◌}
+use Rattle.std.specs.Prelude.{◌≡◌, ℕ, ◌+◌, ◌*◌, ◌<◌, ◌≤◌, ◌&&◌, nat_eq, nat_lt, nat_le, not, Bool, cond}
+use Rattle.std.specs.Prelude.{List, [], ◌∷◌, All}
 use Rattle.tw_rows.specs.Instant.{inf}
 use Rattle.tw_rows.specs.Bag.{total}
 use Rattle.tw_rows.specs.declared.cells.Datum.{Datum}
@@ -54,3 +55,15 @@ pub record IsHistory (h : List Edge) : Type 0 where
   pub order : Rises 0 h
   pub real : failing is_real h ≡ 0
   pub paired : IsPaired h
+
+-- an edge stands at an instant, and its other time is another one, at most infinity. Sync 5 and other 5 are not real
+pub record IsReal (e : Edge) : Type 0 where
+  pub instant : e.sync < inf
+  pub bounded : e.other ≤ inf
+  pub apart : e.other ≡ e.sync → ⊥
+
+-- the rule of a list: syncs never fall, at one sync the ends stand first, and all edges are real. An end at 5 and then a
+-- start at 5 keep it, and the start before the end does not
+pub record KeepsOrder (es : List Edge) : Type 0 where
+  pub rises : Rises 0 es
+  pub real : All IsReal es

@@ -7,7 +7,7 @@ ghost use Rattle.tw_rows.specs.Event.{AreEvents, cut};
 ghost use Rattle.tw_rows.specs.declared.cells.Datum.{Datum};
 ghost use Rattle.tw_rows.specs.declared.edge.Edge.{Edge};
 ghost use Rattle.edge_history.specs.SameCells.{same_cells};
-ghost use Rattle.edge_history.specs.Order.{failing, rank, Rises, is_real, is_below, is_from, IsHistory};
+ghost use Rattle.edge_history.specs.Order.{failing, rank, Rises, is_real, is_below, is_from, KeepsOrder, IsHistory};
 ghost use Rattle.edge_history.specs.History.{CellEvent, begun, end_all, of};
 ghost use Rattle.edge_history.specs.Balance.{AreEventsOf};
 
@@ -24,6 +24,12 @@ pub fn none_fails_where_all_pass()
 /// A list is in order exactly where no edge has a greater rank than a later one.
 pub fn order_is_by_rank()
     ensures { (h : List Edge) → Rises 0 h ↔ IsNonDecreasingBy rank h }
+{}
+
+/// Edges keep the rule of a list exactly where they have the order and the times of a history. To be a history they
+/// only need to be paired, too.
+pub fn lists_are_ordered_as_histories()
+    ensures { (es : List Edge) → KeepsOrder es ↔ (Rises 0 es × (failing is_real es ≡ 0)) }
 {}
 
 /// The events of a history are its events by balance, too.

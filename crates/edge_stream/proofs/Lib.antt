@@ -3,7 +3,5 @@ pub mod Rising
 pub mod Rows
 pub mod Cutting
 pub mod Ahead
-pub mod Keeping
 pub mod Listings
 pub mod CutLists
-pub mod Agreeing

@@ -4,9 +4,9 @@ use Rattle.std.specs.Prelude.{All}
 use Rattle.std.proofs.lemmas.List.Elements.{All-push, All-take, All-drop}
 use Rattle.tw_rows.specs.declared.kind.CellKind.{CellKind}
 use Rattle.batch.specs.Rows.{Table, edges_of}
-use Rattle.edge_stream.specs.Order.{KeepsOrder}
+use Rattle.edge_history.specs.Order.{KeepsOrder}
 use Rattle.edge_stream.specs.Listing.{edges_in, IsOf, IsListing}
-use Rattle.edge_stream.proofs.Keeping.{KeepsOrder-front, KeepsOrder-back}
+use Rattle.edge_history.proofs.Keeping.{KeepsOrder-front, KeepsOrder-back}
 use Rattle.edge_stream.proofs.Cutting.{edges_in-push, edges_in-parts}
 
 module _ (kinds : List CellKind) (capacity : ℕ) (bs : List Table) (is : IsListing kinds capacity bs) where

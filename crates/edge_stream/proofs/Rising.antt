@@ -7,6 +7,7 @@ use Rattle.std.proofs.lemmas.List.Folds.{list_all-append}
 use Rattle.std.proofs.lemmas.Bool.Decides.{nat_tests}
 use Rattle.tw_rows.specs.declared.edge.Edge.{Edge}
 use Rattle.edge_history.specs.Order.{is_end, rank, Rises, is_below, is_from}
+use Rattle.edge_history.proofs.Rising.{Rises-back}
 use Rattle.edge_stream.proofs.Parts.{filter-all, filter-none}
 
 rank-high : (e : Edge) → rank e ≤ 2 * e.sync + 1
@@ -32,18 +33,6 @@ below-not_from t e h = grind (arith, nat_tests)
 
 pub from-not_below : (t : ℕ) (e : Edge) → is_from t e ≡ true → is_below t e ≡ false
 from-not_below t e h = grind (arith, nat_tests)
-
-pub Rises-less : (r s : ℕ) (es : List Edge) → s ≤ r → Rises r es → Rises s es
-Rises-less r s [] le h = tt
-Rises-less r s (e ∷ es) le h = (omega (arith, le, h.0), h.1)
-
-pub Rises-front : (r : ℕ) (xs ys : List Edge) → Rises r (xs ++ ys) → Rises r xs
-Rises-front r [] ys h = tt
-Rises-front r (x ∷ xs) ys h = (h.0, Rises-front (rank x) xs ys h.1)
-
-pub Rises-back : (r : ℕ) (xs ys : List Edge) → Rises r (xs ++ ys) → Rises r ys
-Rises-back r [] ys h = h
-Rises-back r (x ∷ xs) ys h = Rises-less (rank x) r ys h.0 (Rises-back (rank x) xs ys h.1)
 
 -- edges of high ranks lie from t on
 all_from-high : (t r : ℕ) (es : List Edge) → 2 * t ≤ r → Rises r es → list_all (is_from t) es ≡ true

@@ -1,4 +1,3 @@
-pub mod Order
 pub mod Sides
 pub mod Listing
 pub mod Reading

@@ -3,7 +3,7 @@ use Rattle.std.specs.Prelude.{◌≡◌, ℕ, ◌≤◌, List, length, All, flat
 use Rattle.tw_rows.specs.declared.edge.Edge.{Edge}
 use Rattle.tw_rows.specs.declared.kind.CellKind.{CellKind}
 use Rattle.batch.specs.Rows.{Table, edges_of}
-use Rattle.edge_stream.specs.Order.{KeepsOrder}
+use Rattle.edge_history.specs.Order.{KeepsOrder}
 
 -- the edges in order, how the cells of each column are stored, the capacity of the batches, and how many batches there are
 pub record Listing : Type 0 where

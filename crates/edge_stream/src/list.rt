@@ -5,7 +5,7 @@ ghost use Rattle.tw_rows.specs.Cells.{datum_kind};
 ghost use Rattle.batch.specs.Rows.{edges_of};
 ghost use Rattle.batch.specs.Shelves.{NoMore};
 ghost use Rattle.edge_history.specs.Order.{is_below, is_from};
-ghost use Rattle.edge_stream.specs.Order.{KeepsOrder};
+ghost use Rattle.edge_history.specs.Order.{KeepsOrder};
 ghost use Rattle.edge_stream.specs.Listing.{SameShape};
 
 use crate::cursor::Cursor;

@@ -3,7 +3,7 @@ ghost use Rattle.std.specs.Prelude.{◌≡◌, ◌≤◌, [], map, length, All, 
 ghost use Rattle.tw_rows.specs.Kinds.{cell_kind_of};
 ghost use Rattle.tw_rows.specs.Cells.{datum_kind};
 ghost use Rattle.batch.specs.Shelves.{NoMore};
-ghost use Rattle.edge_stream.specs.Order.{KeepsOrder};
+ghost use Rattle.edge_history.specs.Order.{KeepsOrder};
 
 use crate::list::EdgeList;
 use batch::Pools;

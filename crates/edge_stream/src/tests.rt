@@ -1,8 +1,9 @@
 ghost use Rattle.std.specs.Prelude.{◌≡◌, [], ◌∷◌, map, All, IfOk};
 ghost use Rattle.tw_rows.specs.Cells.{datum_kind};
 
-use crate::{EdgeList, in_order, keeps_order};
+use crate::EdgeList;
 use batch::Pools;
+use edge_history::keeps_order;
 use std::alloc::Global;
 use std::process::Abort;
 use std::test::Fail;
@@ -116,19 +117,6 @@ fn lists_are_split_at_a_time(rt: HostRuntime) -> Result<(), Fail> {
     split(&rt, &mut pools, &mut front, 2, wants)?;
     let wants = (wanted(&[(6, 3), (7, 4)], 2), wanted(&[], 0));
     split(&rt, &mut pools, &mut rest, u64::MAX, wants)?;
-    Ok(())
-}
-
-#[test]
-fn edges_are_put_in_order(rt: HostRuntime) -> Result<(), Fail> {
-    let alloc = rt.alloc();
-    let mut edges = edges(alloc, &[(5, 9), (5, 3), (2, u64::MAX), (5, 4)])?;
-    assert!(rt; !keeps_order(&edges));
-    in_order(&mut edges)?;
-    assert!(rt; keeps_order(&edges));
-    for (edge, number) in edges.iter().zip([2, 1, 3, 0]) {
-        assert_eq!(rt; edge.cells.items(), [Datum::Int(number)].as_slice());
-    }
     Ok(())
 }
 

@@ -1,7 +1,7 @@
 use Rattle.std.specs.Prelude.{◌++◌}
 use Rattle.edge_history.specs.Order.{is_real}
 use Rattle.edge_history.specs.History.{of}
-use Rattle.edge_history.proofs.Tests.{failing-parts}
+use Rattle.edge_history.proofs.Sums.{failing-parts}
 use Rattle.edge_history.proofs.Parts.{history_first}
 use Rattle.edge_history.proofs.Retaining.{events_of_are, same_below}
 use Rattle.edge_history.proofs.history_laws.later_edges_leave_what_is_known.Goals as goal

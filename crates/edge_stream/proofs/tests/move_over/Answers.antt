@@ -1,7 +1,7 @@
 use Rattle.std.proofs.Common.{◌++◌, ◌∙◌, ap, sym, subst, append_assoc}
 use Rattle.batch.specs.Rows.{edges_of}
-use Rattle.edge_stream.specs.Order.{KeepsOrder}
-use Rattle.edge_stream.proofs.Keeping.{KeepsOrder-front}
+use Rattle.edge_history.specs.Order.{KeepsOrder}
+use Rattle.edge_history.proofs.Keeping.{KeepsOrder-front}
 use Rattle.edge_stream.proofs.tests.move_over.Goals as goal
 
 pub put_batch-requires-clause-order : goal.put_batch-requires-clause-order

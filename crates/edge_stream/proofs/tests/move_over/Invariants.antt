@@ -1,5 +1,5 @@
 use Rattle.std.proofs.Common.{◌≡◌, ◌++◌}
-use Rattle.edge_stream.specs.Order.{KeepsOrder}
+use Rattle.edge_history.specs.Order.{KeepsOrder}
 use Rattle.edge_stream.proofs.tests.move_over.Given as goal
 
 abbrev pub invariant-loop-batch : goal.invariant-loop-batch

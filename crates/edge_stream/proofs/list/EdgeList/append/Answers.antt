@@ -2,7 +2,7 @@ use Rattle.std.proofs.Common.{◌≡◌, ◌++◌, ◌∷◌, [], ◌∙◌, map
 use Rattle.tw_rows.specs.Kinds.{cell_kind_of}
 use Rattle.batch.specs.Rows.{edges_of}
 use Rattle.batch.specs.Shelves.{NoMore}
-use Rattle.edge_stream.specs.Order.{KeepsOrder}
+use Rattle.edge_history.specs.Order.{KeepsOrder}
 use Rattle.edge_stream.specs.Listing.{edges_in, IsListing}
 use Rattle.edge_stream.proofs.Parts.{from_ok}
 use Rattle.edge_stream.proofs.Rows.{edges-push}

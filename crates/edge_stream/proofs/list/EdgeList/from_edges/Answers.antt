@@ -1,4 +1,4 @@
-use Rattle.edge_stream.proofs.Keeping.{KeepsOrder-next}
+use Rattle.edge_history.proofs.Keeping.{KeepsOrder-next}
 use Rattle.edge_stream.proofs.list.EdgeList.from_edges.Goals as goal
 
 pub append-requires-clause-order : goal.append-requires-clause-order

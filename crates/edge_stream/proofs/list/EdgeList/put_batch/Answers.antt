@@ -1,6 +1,6 @@
 use Rattle.std.proofs.Common.{◌++◌, ◌∙◌, ap, sym, subst}
 use Rattle.batch.specs.Rows.{edges_of}
-use Rattle.edge_stream.specs.Order.{KeepsOrder}
+use Rattle.edge_history.specs.Order.{KeepsOrder}
 use Rattle.edge_stream.proofs.Listings.{IsListing-pushed}
 use Rattle.edge_stream.proofs.list.EdgeList.put_batch.Goals as goal
 

@@ -1,6 +1,6 @@
 use Rattle.std.proofs.Common.{◌++◌, ◌∙◌, map, take, sym, ap, subst}
 use Rattle.tw_rows.specs.Kinds.{cell_kind_of}
-use Rattle.edge_stream.specs.Order.{KeepsOrder}
+use Rattle.edge_history.specs.Order.{KeepsOrder}
 use Rattle.edge_stream.specs.Listing.{IsListing, edges_in}
 use Rattle.edge_stream.proofs.Cutting.{edges_in-parts}
 use Rattle.edge_stream.proofs.Listings.{IsListing-other, IsListing-take, IsListing-drop, IsListing-same, All-same_kind}

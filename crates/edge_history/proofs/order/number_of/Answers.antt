@@ -1,6 +1,6 @@
 use Rattle.std.proofs.Common.{sym, refl}
 use Rattle.tw_rows.specs.Instant.{inf}
-use Rattle.edge_stream.proofs.order.number_of.Goals as goal
+use Rattle.edge_history.proofs.order.number_of.Goals as goal
 
 pub returns-in-None-clause-number : goal.returns-in-None-clause-number
 unfolding inf

@@ -5,9 +5,8 @@ use Rattle.std.proofs.Common.{[], ◌∷◌, arith}
 use Rattle.std.proofs.lemmas.Bool.Decides.{nat_tests}
 use Rattle.std.proofs.lemmas.List.Elements.{All-from_recursion, recursion_from_All}
 use Rattle.tw_rows.specs.declared.edge.Edge.{Edge}
-use Rattle.edge_history.specs.Order.{Rises, failing, is_real}
-use Rattle.edge_history.proofs.Tests.{failing-All}
-use Rattle.edge_stream.specs.Order.{IsReal, KeepsOrder}
+use Rattle.edge_history.specs.Order.{Rises, failing, is_real, IsReal, KeepsOrder}
+use Rattle.edge_history.proofs.Sums.{failing-All}
 
 test_passes : (e : Edge) → IsReal e → IsTrue (is_real e)
 test_passes e h = let a = h.instant in let b = h.bounded in let c = h.apart in grind (arith, nat_tests)

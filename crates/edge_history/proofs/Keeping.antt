@@ -4,9 +4,8 @@ use Rattle.std.specs.Prelude.{All, ◌↔◌}
 use Rattle.std.proofs.lemmas.List.Elements.{All-nil, All-cons, All-head, All-tail}
 use Rattle.std.proofs.lemmas.List.{take-append-drop, take_more}
 use Rattle.tw_rows.specs.declared.edge.Edge.{Edge}
-use Rattle.edge_history.specs.Order.{rank, Rises}
-use Rattle.edge_stream.specs.Order.{IsReal, KeepsOrder}
-use Rattle.edge_stream.proofs.Rising.{Rises-front, Rises-back}
+use Rattle.edge_history.specs.Order.{rank, Rises, IsReal, KeepsOrder}
+use Rattle.edge_history.proofs.Rising.{Rises-front, Rises-back}
 
 -- the edges keep the rule from a rank on
 pub record Goes (least : ℕ) (es : List Edge) : Type 0 where

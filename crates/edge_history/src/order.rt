@@ -2,8 +2,7 @@
 ghost use Rattle.std.specs.Prelude.{◌≡◌, ◌<◌, ◌≤◌, ◌↔◌, IsTrue, OnOk, OnErr};
 ghost use Rattle.tw_rows.specs.Bag.{SameBag};
 ghost use Rattle.tw_rows.specs.Instant.{inf};
-ghost use Rattle.edge_history.specs.Order.{rank, Rises};
-ghost use Rattle.edge_stream.specs.Order.{IsReal, KeepsOrder};
+ghost use Rattle.edge_history.specs.Order.{rank, Rises, IsReal, KeepsOrder};
 
 use tw_rows::{Edge, Memory, Time};
 

@@ -3,7 +3,7 @@ use Rattle.std.proofs.lemmas.List.Sorted.{IsNonDecreasingBy-from_sort_by_key}
 use Rattle.tw_rows.proofs.Bags.{SameBag-from_IsPermutation}
 use Rattle.edge_history.specs.Order.{rank}
 use Rattle.edge_history.proofs.Rising.{rises_from_sorted}
-use Rattle.edge_stream.proofs.order.in_order.Goals as goal
+use Rattle.edge_history.proofs.order.in_order.Goals as goal
 
 pub returns-clause-same : goal.returns-clause-same
 returns-clause-same c = SameBag-from_IsPermutation _ _ c.in_ok-sort_by_key.ensures.permutation

@@ -1,7 +1,7 @@
 use Rattle.std.proofs.Common.{rules}
-use Rattle.edge_stream.specs.Order.{IsReal}
-use Rattle.edge_stream.proofs.Keeping.{Goes-step}
-use Rattle.edge_stream.proofs.order.keeps_order.Goals as goal
+use Rattle.edge_history.specs.Order.{IsReal}
+use Rattle.edge_history.proofs.Keeping.{Goes-step}
+use Rattle.edge_history.proofs.order.keeps_order.Goals as goal
 
 pub loop-edge-preserved : goal.loop-edge-preserved
 loop-edge-preserved c =
