@@ -10,7 +10,7 @@ use Rattle.tw_rows.specs.Cells.{datum_kind, read_datum, read_cells, IsPlaced, Ar
 use Rattle.plan_model.specs.Fold.{results_from, by_number}
 use Rattle.plan_model.specs.Expr.{node_value, zero_value, value}
 use Rattle.lane_expr.specs.declared.step.Step.{Step}
-use Rattle.lane_expr.specs.Typed.{node_kind, kind_of}
+use Rattle.plan_model.specs.Typed.{node_kind, kind_of}
 use Rattle.lane_expr.specs.Steps.{node_of, expr_of, step_kind}
 use Rattle.lane_expr.specs.Running.{operand}
 use Rattle.lane_expr.proofs.Typing.{kinds-texts, length-expr_of}

@@ -12,7 +12,7 @@ use Rattle.tw_rows.specs.Texts.{BeginsWith}
 use Rattle.plan_model.specs.IsExpr.{IsExprNode, AreExprNodes, IsExpr}
 use Rattle.lane_expr.specs.declared.step.Step.{Step}
 use Rattle.lane_expr.specs.declared.step.Step.TheVariants.{Column, Constant, Neg, Not, Arith, Div, Mod, Compare, And, Or}
-use Rattle.lane_expr.specs.Typed.{node_kind, IsTypedNode, AreTyped, IsTyped, kind_of}
+use Rattle.plan_model.specs.Typed.{node_kind, IsTypedNode, AreTyped, IsTyped, kind_of}
 use Rattle.lane_expr.specs.Steps.{node_of, expr_of, step_kind, IsStepPlaced, AreStepsPlaced, IsStepWithin, AreSteps, with_node, with_texts}
 
 pub node_kind-texts : (columns : List CellKind) (texts : List (List ℕ)) (s : Step) → node_kind columns (node_of texts s) ≡ step_kind columns s

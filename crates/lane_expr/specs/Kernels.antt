@@ -10,7 +10,7 @@ use Rattle.plan_model.specs.declared.expr.ExprNode.{ExprNode}
 use Rattle.plan_model.specs.Expr.{value, holds}
 use Rattle.batch.specs.Rows.{Row, Table}
 use Rattle.lane_expr.specs.declared.step.Step.{Step}
-use Rattle.lane_expr.specs.Typed.{kind_of}
+use Rattle.plan_model.specs.Typed.{kind_of}
 use Rattle.lane_expr.specs.Steps.{expr_of, AreStepsPlaced}
 
 -- the steps of a kernel, how the cells of its columns are stored, and how many rows a batch may have

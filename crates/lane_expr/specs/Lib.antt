@@ -1,4 +1,3 @@
-pub mod Typed
 pub mod Steps
 pub mod Running
 pub mod Kernels

@@ -9,7 +9,7 @@ use Rattle.plan_model.specs.declared.expr.ExprNode.TheVariants.{Column, Int, Boo
 use Rattle.plan_model.specs.IsExpr.{IsExpr}
 use Rattle.lane_expr.specs.declared.step.Step.{Step}
 use Rattle.lane_expr.specs.declared.step.Step.TheVariants.{Column as ColumnStep, Constant, Neg as NegStep, Not as NotStep, Arith as ArithStep, Div as DivStep, Mod as ModStep, Compare as CompareStep, And as AndStep, Or as OrStep}
-use Rattle.lane_expr.specs.Typed.{node_kind, IsTyped}
+use Rattle.plan_model.specs.Typed.{node_kind, IsTyped}
 
 -- the node that a step stands for. With the texts `a` and `b` the constant of the place 1 is the text `b`
 abbrev pub node_of : List (List ℕ) → Step → ExprNode

@@ -2,7 +2,7 @@
 ghost use Rattle.std.specs.Prelude.{◌≡◌, ℕ, map, take, IfOk, OnOk, OnErr};
 ghost use Rattle.tw_rows.specs.Kinds.{cell_kind_of};
 ghost use Rattle.tw_rows.specs.Texts.{BeginsWith};
-ghost use Rattle.lane_expr.specs.Typed.{IsTyped, kind_of};
+ghost use Rattle.plan_model.specs.Typed.{IsTyped, kind_of};
 ghost use Rattle.lane_expr.specs.Steps.{node_of, expr_of, IsStepPlaced, AreStepsPlaced, with_node, with_texts};
 ghost use Rattle.lane_expr.specs.Kernels.{IsKernelOf, result_kind};
 

@@ -1,6 +1,6 @@
 // The columns that kernels compute.
 ghost use Rattle.std.specs.Prelude.{◌≡◌, ◌≤◌, [], length, map, OnOk, OnErr};
-ghost use Rattle.lane_expr.specs.Typed.{kind_of};
+ghost use Rattle.plan_model.specs.Typed.{kind_of};
 ghost use Rattle.lane_expr.specs.Steps.{expr_of, AreSteps, AreStepsPlaced};
 ghost use Rattle.lane_expr.specs.Kernels.{result_kind, CanRead, HoldsPlaces, AreResults};
 

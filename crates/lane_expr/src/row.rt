@@ -3,7 +3,7 @@ ghost use Rattle.std.specs.Prelude.{◌≡◌, ◌<◌, [], pos, true, false, le
 ghost use Rattle.tw_rows.specs.Cells.{datum_kind, read_datum, read_cells, IsPlaced, ArePlaced};
 ghost use Rattle.plan_model.specs.IsExpr.{IsExprNode};
 ghost use Rattle.plan_model.specs.Expr.{node_value, value};
-ghost use Rattle.lane_expr.specs.Typed.{kind_of};
+ghost use Rattle.plan_model.specs.Typed.{kind_of};
 ghost use Rattle.lane_expr.specs.Steps.{node_of, expr_of, step_kind, IsStepPlaced, AreStepsPlaced, IsStepWithin, AreSteps};
 ghost use Rattle.lane_expr.specs.Running.{operand, no_row, cells_of};
 ghost use Rattle.lane_expr.specs.Kernels.{HoldsPlaces, IsResult};

@@ -1,7 +1,7 @@
 ghost use Rattle.std.specs.Prelude.{◌≡◌, ◌<◌, ◌≤◌, [], ◌∷◌, map, length, All, IfOk, OnOk};
 ghost use Rattle.tw_rows.specs.Kinds.{cell_kind_of};
 ghost use Rattle.plan_model.specs.IsExpr.{IsExpr};
-ghost use Rattle.lane_expr.specs.Typed.{IsTyped, kind_of};
+ghost use Rattle.plan_model.specs.Typed.{IsTyped, kind_of};
 ghost use Rattle.lane_expr.specs.Kernels.{HoldsPlaces, CanRead, result_kind};
 
 use crate::{Kernel, hash_keys};

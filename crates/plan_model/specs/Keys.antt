@@ -18,13 +18,14 @@ rows_equal a b = eq_by_cmp row_cmp a b
 abbrev pub keys_equal : List ℕ → List ℕ → Row → Row → Bool
 keys_equal left_key right_key a b = rows_equal (key_values left_key a) (key_values right_key b)
 
--- of values of which the first stands in that column, those that stand in no key column
-abbrev pub outside_from : ℕ → List ℕ → Row → Row
+-- of items of which the first stands in that column, those that stand in no key column
+abbrev pub outside_from : {X : Type 0} → ℕ → List ℕ → List X → List X
 outside_from column key [] = []
-outside_from column key (v ∷ values) = cond (list_any (nat_eq column) key) (outside_from (suc column) key values) (v ∷ outside_from (suc column) key values)
+outside_from column key (x ∷ xs) = cond (list_any (nat_eq column) key) (outside_from (suc column) key xs) (x ∷ outside_from (suc column) key xs)
 
--- the values of a row that stand in no key column, in order. Of the row 5, 6, 7 and the column 1: 5, 7
-abbrev pub outside_key : List ℕ → Row → Row
+-- the values of a row, or what else stands in each of its columns, but for the key columns, in order. Of 5, 6, 7 and the
+-- column 1: 5, 7
+abbrev pub outside_key : {X : Type 0} → List ℕ → List X → List X
 outside_key key row = outside_from 0 key row
 
 -- the left row, followed by the values of the right row that stand in no column of its key

@@ -7,6 +7,9 @@ pub mod Keys
 pub mod Groups
 pub mod Meaning
 pub mod FilterPlan
+pub mod Typed
+pub mod Reach
+pub mod IsPlan
 pub mod Arithmetic
 pub mod Opens
 pub mod Changes

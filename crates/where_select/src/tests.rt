@@ -1,6 +1,6 @@
 ghost use Rattle.std.specs.Prelude.{◌≡◌, ◌≤◌, [], ◌∷◌, length, IfOk};
 ghost use Rattle.plan_model.specs.IsExpr.{IsExpr};
-ghost use Rattle.lane_expr.specs.Typed.{IsTyped, kind_of};
+ghost use Rattle.plan_model.specs.Typed.{IsTyped, kind_of};
 ghost use Rattle.lane_expr.specs.Kernels.{HoldsPlaces, CanRead, result_kind};
 
 use crate::{Filter, Project};

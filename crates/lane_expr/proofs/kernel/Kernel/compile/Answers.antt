@@ -1,6 +1,6 @@
 use Rattle.std.proofs.Common.{◌∙◌, [], map, ap, sym, subst}
 use Rattle.tw_rows.specs.Kinds.{cell_kind_of}
-use Rattle.lane_expr.specs.Typed.{kind_of}
+use Rattle.plan_model.specs.Typed.{kind_of}
 use Rattle.lane_expr.specs.Steps.{AreSteps, expr_of}
 use Rattle.lane_expr.proofs.Typing.{AreSteps-compiled, kind_of-texts}
 use Rattle.lane_expr.proofs.kernel.Kernel.compile.Goals as goal
