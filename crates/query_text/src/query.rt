@@ -2,8 +2,9 @@
 ghost use Rattle.std.specs.Prelude.{◌≡◌};
 
 use crate::tree::Tree;
+use plan_model::StreamList;
 use std::marker::Model;
-use tw_rows::{Label, StreamDef};
+use tw_rows::Label;
 
 /// A query: its streams, its lets, and the pipe whose rows are the result.
 #[derive(Drop)]
@@ -68,36 +69,6 @@ pub struct QueryAgg {
     pub fun: AggFun,
     pub column: Option<Label>,
     pub name: Label,
-}
-
-/// The streams of a query, in the order of its text.
-#[derive(Drop)]
-pub struct StreamList {
-    items: Vec<StreamDef>,
-}
-
-impl Model for StreamList {
-    ghost use Rattle.std.specs.Prelude.{List};
-    ghost use Rattle.tw_rows.specs.declared.schema.StreamDef.{StreamDef as Item};
-
-    ghost Value = { List Item };
-
-    ghost view = { λ l. l.items.items };
-}
-
-impl StreamList {
-    /// The list of these. It takes no memory.
-    pub fn from_vec(items: Vec<StreamDef>) -> StreamList
-        ensures { result ≡ items.items }
-    {
-        StreamList { items }
-    }
-
-    pub fn items(&self) -> &[StreamDef]
-        ensures { result.now ≡ self.now }
-    {
-        self.items.as_slice()
-    }
 }
 
 /// The lets of a query, in the order of its text.

@@ -1,9 +1,9 @@
 // Texts with the queries that they spell, or with their faults, all found by hand.
 use crate::{
-    AggList, ItemList, LetList, NameList, QueryStep, StepList, StreamList, Tree, TreeNode, parse,
+    AggList, ItemList, LetList, NameList, QueryStep, StepList, Tree, TreeNode, parse,
     texts_spell_one_query,
 };
-use plan_model::{ArithOp, CompareOp, QueryError, QueryFault};
+use plan_model::{ArithOp, CompareOp, QueryError, QueryFault, StreamList};
 use std::alloc::Global;
 use tw_rows::Memory;
 

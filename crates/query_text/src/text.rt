@@ -9,10 +9,10 @@ ghost use Rattle.query_text.specs.IsParse.{IsParse, fault_of};
 
 use crate::cursor::Cursor;
 use crate::expression::Parser;
-use crate::query::{Let, LetList, Query, StreamList};
+use crate::query::{Let, LetList, Query};
 use crate::stop::Stop;
 use crate::tree::Nodes;
-use plan_model::{QueryError, QueryFault};
+use plan_model::{QueryError, QueryFault, StreamList};
 use query_grammar::{Fault, first_fault};
 use query_words::{Sign, words};
 use std::alloc::Global;
