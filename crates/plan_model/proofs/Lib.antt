@@ -1,6 +1,7 @@
 pub mod Folds
 pub mod Exprs
 pub mod Plans
+pub mod Kept
 pub mod NewLives
 pub mod Joining
 pub mod Aggregates

@@ -1,6 +1,6 @@
 -- The equation of a plan, and the induction over its nodes.
 use Rattle.std.specs.Prelude.{◌≡◌, ℕ, ◌<◌, Option, Some, None, List, length, slice_get, slice_index_or, refl}
-use Rattle.std.proofs.Common.{◌∙◌, ap, inl, inr}
+use Rattle.std.proofs.Common.{sym, ◌∙◌, ap, inl, inr}
 use Rattle.std.proofs.lemmas.Bool.{cases_lt}
 use Rattle.std.proofs.lemmas.Option.{slice_get-get_or}
 use Rattle.plan_model.specs.declared.node.Node.{Node}
@@ -9,11 +9,11 @@ use Rattle.plan_model.specs.Meaning.{at_child, left_child, right_child, left_of,
 use Rattle.plan_model.proofs.Folds.{result-is, result-past, by_lower}
 
 -- a child's result is one of those below its parent
-at_child_below : {R : Type 0} (none : R) (f g : ℕ → R) (i : ℕ) → ((j : ℕ) → j < i → f j ≡ g j) → (child : Option ℕ) → HasLower i child → at_child none f child ≡ at_child none g child
+pub at_child_below : {R : Type 0} (none : R) (f g : ℕ → R) (i : ℕ) → ((j : ℕ) → j < i → f j ≡ g j) → (child : Option ℕ) → HasLower i child → at_child none f child ≡ at_child none g child
 at_child_below none f g i same None h = refl
 at_child_below none f g i same (Some j) h = same j h
 
-left_of_below : {R : Type 0} (none : R) (source f g : ℕ → R) (i : ℕ) → ((j : ℕ) → j < i → f j ≡ g j) → (n : Node) → HasLower i (left_child n) → left_of none source f n ≡ left_of none source g n
+pub left_of_below : {R : Type 0} (none : R) (source f g : ℕ → R) (i : ℕ) → ((j : ℕ) → j < i → f j ≡ g j) → (n : Node) → HasLower i (left_child n) → left_of none source f n ≡ left_of none source g n
 left_of_below none source f g i same (Source stream) h = refl
 left_of_below none source f g i same (Where of test) h = same of h
 left_of_below none source f g i same (Select of items) h = same of h
@@ -35,6 +35,15 @@ over_nodes-is none source node nodes ordered i n there =
     result-is none (λ n at. node n (left_of none source at n) (right_of none at n)) nodes i n there
     (λ f g same. ap (λ a. node n a (right_of none f n)) (left_of_below none source f g i same n (ordered i n there).0)
     ∙ ap (λ b. node n (left_of none source g n) b) (at_child_below none f g i same (right_child n) (ordered i n there).1))
+
+-- and so from what stands for those of the nodes before it, where that is the same
+pub over_nodes-from : {R : Type 0} (none : R) (source : ℕ → R) (node : Node → R → R → R) (nodes : List Node) → IsOrdered nodes → (i : ℕ) (n : Node) → slice_get nodes i ≡ Some n →
+    (done : ℕ → R) → ((j : ℕ) → j < i → done j ≡ over_nodes none source node nodes j) →
+    over_nodes none source node nodes i ≡ node n (left_of none source done n) (right_of none done n)
+over_nodes-from none source node nodes ordered i n there done same =
+    over_nodes-is none source node nodes ordered i n there
+    ∙ sym (ap (λ a. node n a (right_of none done n)) (left_of_below none source done (over_nodes none source node nodes) i same n (ordered i n there).0)
+    ∙ ap (λ b. node n (left_of none source (over_nodes none source node nodes) n) b) (at_child_below none done (over_nodes none source node nodes) i same (right_child n) (ordered i n there).1))
 
 -- three results that are made over one plan, and a relation between them
 module _ {R S T : Type 0} (rnone : R) (snone : S) (tnone : T) (rsource : ℕ → R) (ssource : ℕ → S) (tsource : ℕ → T)

@@ -1,5 +1,5 @@
 -- What a plan keeps. Kinds are those of cells: two kinds that are stored alike are one here.
-use Rattle.std.specs.Prelude.{◌≡◌, ℕ, ◌+◌, ◌*◌, ◌^◌, ◌<◌, ◌≤◌, nat_eq, Bool, true, IsTrue, Option, Some, None, List, [], ◌∷◌, ◌++◌, map, length, slice_get, slice_index_or, All}
+use Rattle.std.specs.Prelude.{◌≡◌, ℕ, ◌*◌, ◌^◌, ◌<◌, ◌≤◌, nat_eq, true, IsTrue, Option, Some, List, [], ◌++◌, map, length, slice_get, slice_index_or, All}
 use Rattle.std.specs.List.{list_any}
 use Rattle.tw_rows.specs.declared.kind.CellKind.{CellKind}
 use Rattle.tw_rows.specs.declared.kind.CellKind.TheVariants.{Whole, Bit}
@@ -8,7 +8,6 @@ use Rattle.tw_rows.specs.declared.schema.StreamDef.{StreamDef}
 use Rattle.tw_rows.specs.Kinds.{cell_kind_of}
 use Rattle.plan_model.specs.declared.agg.Agg.{Agg}
 use Rattle.plan_model.specs.declared.agg.Agg.TheVariants.{Count, Sum, Least, Greatest}
-use Rattle.plan_model.specs.declared.expr.ExprNode.{ExprNode}
 use Rattle.plan_model.specs.declared.node.Node.{Node}
 use Rattle.plan_model.specs.declared.node.Node.TheVariants.{Source, Where, Select, Union, Delay, Hop, Duration, Extend, Session, Clip, Group, Join, Anti}
 use Rattle.plan_model.specs.Keys.{outside_key}

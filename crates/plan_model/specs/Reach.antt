@@ -1,5 +1,5 @@
 -- What the nodes of a plan are like: whether their rows are events, how far they look back, and which of them are built.
-use Rattle.std.specs.Prelude.{ℕ, ◌+◌, max, Bool, true, false, ◌&&◌, List}
+use Rattle.std.specs.Prelude.{ℕ, ◌+◌, ◌≤◌, max, Bool, true, false, ◌&&◌, List}
 use Rattle.plan_model.specs.declared.node.Node.{Node}
 use Rattle.plan_model.specs.declared.node.Node.TheVariants.{Source, Where, Select, Union, Delay, Hop, Duration, Extend, Session, Clip, Group, Join, Anti}
 use Rattle.plan_model.specs.Meaning.{over_nodes}
@@ -48,6 +48,11 @@ node_is_event_level (Anti left right left_key right_key) a b = false
 -- whether the node of number n is event-level. A filter over a group is not, and a hop over a filter of a stream is
 abbrev pub event_level : List Node → ℕ → Bool
 event_level nodes n = over_nodes true (λ s. true) node_is_event_level nodes n
+
+-- a hop has a period of at least 1
+abbrev pub HasPeriod : Node → Type 0
+HasPeriod (Hop of size period) = 1 ≤ period
+HasPeriod n = Unit {0}
 
 -- the nodes that can be computed today
 abbrev pub is_built : Node → Bool

@@ -10,6 +10,8 @@ mod fault;
 mod laws;
 mod lists;
 mod node;
+mod over_nodes;
+mod plan;
 
 pub use agg::Agg;
 pub use arith_laws::{
@@ -27,5 +29,7 @@ pub use laws::{
     snapshots_agree, snapshots_are_final, source_is, undefined_groups_have_no_order, union_is,
     value_is, where_is,
 };
-pub use lists::{AggList, ExprList, Key};
-pub use node::Node;
+pub use lists::{AggList, ExprList, Key, NodeList, SchemaList, StreamList};
+pub use node::{Node, built};
+pub use over_nodes::{closes, event_level, reach};
+pub use plan::Plan;

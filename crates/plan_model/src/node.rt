@@ -1,4 +1,7 @@
 // Nodes of plans.
+ghost use Rattle.std.specs.Prelude.{◌≡◌};
+ghost use Rattle.plan_model.specs.Meaning.{left_child as left_child_of, right_child as right_child_of};
+ghost use Rattle.plan_model.specs.Reach.{own_duration as own_duration_of, is_built};
 
 use crate::expr::Expr;
 use crate::lists::{AggList, ExprList, Key};
@@ -84,6 +87,64 @@ pub enum Node {
         left_key: Key,
         right_key: Key,
     },
+}
+
+impl Node {
+    /// The number of the only or left child. A source has none.
+    pub fn left_child(&self) -> Option<usize>
+        ensures { result ≡ left_child_of self.now }
+    {
+        match self {
+            Node::Source { .. } => None,
+            Node::Where { of, .. }
+            | Node::Select { of, .. }
+            | Node::Delay { of, .. }
+            | Node::Hop { of, .. }
+            | Node::Duration { of, .. }
+            | Node::Extend { of, .. }
+            | Node::Session { of, .. }
+            | Node::Group { of, .. } => Some(*of),
+            Node::Union { left, .. }
+            | Node::Clip { left, .. }
+            | Node::Join { left, .. }
+            | Node::Anti { left, .. } => Some(*left),
+        }
+    }
+
+    /// The number of the right child.
+    pub fn right_child(&self) -> Option<usize>
+        ensures { result ≡ right_child_of self.now }
+    {
+        match self {
+            Node::Union { right, .. }
+            | Node::Clip { right, .. }
+            | Node::Join { right, .. }
+            | Node::Anti { right, .. } => Some(*right),
+            _ => None,
+        }
+    }
+
+    /// How far the node itself looks back, in units of time.
+    pub fn own_duration(&self) -> u64
+        ensures { result ≡ own_duration_of self.now }
+    {
+        match self {
+            Node::Delay { by, .. } | Node::Duration { by, .. } | Node::Extend { by, .. } => *by,
+            Node::Hop { size, .. } => *size,
+            Node::Session { timeout, .. } => *timeout,
+            _ => 0,
+        }
+    }
+}
+
+/// Whether the node can be computed today.
+pub fn built(node: &Node) -> bool
+    ensures { result ≡ is_built node.now }
+{
+    matches!(
+        node,
+        Node::Source { .. } | Node::Where { .. } | Node::Select { .. }
+    )
 }
 
 #[cfg(test)]
