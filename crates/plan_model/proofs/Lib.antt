@@ -2,6 +2,9 @@ pub mod Folds
 pub mod Exprs
 pub mod Plans
 pub mod Kept
+pub mod Growing
+pub mod Levels
+pub mod PlanExamples
 pub mod NewLives
 pub mod Joining
 pub mod Aggregates

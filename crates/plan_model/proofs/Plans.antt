@@ -66,12 +66,12 @@ module _ {R S T : Type 0} (rnone : R) (snone : S) (tnone : T) (rsource : ℕ →
       (snode n (left_of snone ssource (over_nodes snone ssource snode nodes) n) (right_of snone (over_nodes snone ssource snode nodes) n))
       (tnode n (left_of tnone tsource (over_nodes tnone tsource tnode nodes) n) (right_of tnone (over_nodes tnone tsource tnode nodes) n))
 
-  child_holds : Q rnone snone tnone → (i : ℕ) → ((j : ℕ) → j < i → Holds j) → (child : Option ℕ) → HasLower i child →
+  pub child_holds : Q rnone snone tnone → (i : ℕ) → ((j : ℕ) → j < i → Holds j) → (child : Option ℕ) → HasLower i child →
       Q (at_child rnone (over_nodes rnone rsource rnode nodes) child) (at_child snone (over_nodes snone ssource snode nodes) child) (at_child tnone (over_nodes tnone tsource tnode nodes) child)
   child_holds none i below None h = none
   child_holds none i below (Some j) h = below j h
 
-  left_holds : ((s : ℕ) → Q (rsource s) (ssource s) (tsource s)) → (i : ℕ) → ((j : ℕ) → j < i → Holds j) → (n : Node) → HasLower i (left_child n) → HoldsLeft n
+  pub left_holds : ((s : ℕ) → Q (rsource s) (ssource s) (tsource s)) → (i : ℕ) → ((j : ℕ) → j < i → Holds j) → (n : Node) → HasLower i (left_child n) → HoldsLeft n
   left_holds source i below (Source stream) h = source stream
   left_holds source i below (Where of test) h = below of h
   left_holds source i below (Select of items) h = below of h

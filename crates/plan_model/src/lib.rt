@@ -12,6 +12,7 @@ mod lists;
 mod node;
 mod over_nodes;
 mod plan;
+mod plan_laws;
 
 pub use agg::Agg;
 pub use arith_laws::{
@@ -33,3 +34,4 @@ pub use lists::{AggList, ExprList, Key, NodeList, SchemaList, StreamList};
 pub use node::{Node, built};
 pub use over_nodes::{closes, event_level, reach};
 pub use plan::Plan;
+pub use plan_laws::{levels_tell_events, plans_are_sound};
