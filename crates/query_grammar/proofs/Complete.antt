@@ -124,11 +124,6 @@ pub low_as : (z : List Token) → rank (fixed S.As ∷ z) < 1
 unfolding binds
 low_as z = lit< tt
 
--- the first token is no `not`
-abbrev begins_not : List Token → Bool
-begins_not (fixed S.Not ∷ ts) = true
-begins_not _ = false
-
 neg_is : (t : Kind) → (t ≡ K.Fixed S.Not → ⊥) → at_neg t ≡ before (at_sum t) (Y.Test ∷ [])
 unfolding at_neg
 neg_is (K.Fixed S.Not) h = absurd (h refl)

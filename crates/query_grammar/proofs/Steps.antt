@@ -116,7 +116,3 @@ long_on run r spots at d all h e l w =
 pub long_end : (run : ℕ) (spots : List Spot) (at : ℕ) (all : Option ℕ) → length spots ≤ at → option_map (λ n. at + n) (first_long run (map spot_kind (drop at spots))) ≡ all → None ≡ all
 unfolding first_long
 long_end run spots at all h w = let p : option_map (λ n. at + n) (first_long run (map spot_kind (drop at spots))) ≡ None = rw (drop_all at spots h) refl in sym p ∙ w
-
--- the run after a word
-pub run_is : (run r : ℕ) (b : Bool) (k k' : Kind) → b ≡ in_expressions k → k ≡ k' → r ≡ (if b then suc run else 0) → r ≡ run_after run k'
-run_is run r b k k' e f g = rw (← f, ← e) g

@@ -38,16 +38,6 @@ fault_of ts rest e =
       ended = λ h q. let read = query_read q.0 in let same = q.1 in cc;
     }
 
-drop_front : (front rest : List Token) → drop (length (front ++ rest) - length rest) (front ++ rest) ≡ rest
-drop_front front rest = let e : length (front ++ rest) - length rest ≡ length front = omega (arith, length-append front rest) in rw e (drop-append_seam front rest)
-
--- the place of the fault among the tokens
-pub at_fault : (ts rest : List Token) → stuck start ts ≡ Some rest → (length ts - length rest ≤ length ts) × IsFault ts (drop (length ts - length rest) ts)
-at_fault ts rest e =
-    let s = stops start ts rest e in
-    let d : drop (length ts - length rest) ts ≡ rest = rw s.whole (drop_front s.front rest) in
-    (omega arith, rw d (fault_of ts rest e))
-
 -- a query has no fault
 pub no_fault : (tokens rest : List Token) → IsQuery tokens → IsFault tokens rest → ⊥
 no_fault tokens [] q f = f.ended refl q

@@ -1,16 +1,15 @@
 -- The steps of the parser of names, items, steps and pipes.
-use Rattle.std.proofs.Common.{◌≡◌, ℕ, ◌<◌, ◌≤◌, suc, length, true, false, Some, None, List, [], ◌∷◌, ◌++◌, Result, refl, ap, sym, ◌∙◌, append_assoc, append-nil, arith, lit<}
+use Rattle.std.proofs.Common.{◌≡◌, ℕ, ◌<◌, ◌≤◌, suc, length, true, false, Some, None, List, [], ◌∷◌, ◌++◌, refl, ap, sym, ◌∙◌, append_assoc, append-nil, arith, lit<}
 use Rattle.query_words.specs.declared.word.Sign.{Sign}
 use Rattle.query_words.specs.declared.word.Sign.TheVariants as S
 use Rattle.query_grammar.specs.Token.{Token, name, fixed}
 use Rattle.query_grammar.specs.Grammar as G
-use Rattle.query_grammar.specs.Grammar.{expr_then, names_then, more_names_then, by_then, on_then, item_then, items_then, agg_then, aggs_then, step_then, steps_then, pipe_then, lets_then}
+use Rattle.query_grammar.specs.Grammar.{expr_then, item_then, items_then, agg_then, step_then, steps_then, pipe_then, lets_then}
 use Rattle.query_grammar.specs.Machine.{rank, binds}
 use Rattle.query_grammar.proofs.Complete.{low_as}
-use Rattle.query_text.specs.declared.stop.Stop.{Stop}
 use Rattle.query_text.specs.declared.tree.TreeNode.{TreeNode}
-use Rattle.query_text.specs.Spelling.{tree_of, names_of, by_of, on_of, item_of}
-use Rattle.query_text.specs.Reading.{Lacks, IsAhead, Outcome, Listing, ends_pipe, ends_step, ends_item, name_then, int_then, as_then, computed_then, hop_then, session_then, operand_then, group_then, select_then}
+use Rattle.query_text.specs.Spelling.{tree_of, item_of}
+use Rattle.query_text.specs.Reading.{Lacks, IsAhead, Listing, ends_pipe, ends_step, ends_item, name_then, int_then, as_then, computed_then, hop_then, session_then, operand_then, group_then, select_then}
 
 -- what may follow
 
@@ -132,26 +131,6 @@ pub list_end : {A X V : Type 0} (a_then : A → List Token → List Token) (Ends
     → (new ≡ now) × Lacks (fixed sep) now → v ≡ items → (a : A) (z : List Token) → Ends z → old ≡ a_then a z → (new ≡ z) × (v ≡ values a)
 list_end a_then Ends values x_then x_values one_then sep nil cons vnil old now new items v listing left is a z end e =
     let g = listing a z end e in all_read x_then x_values one_then sep nil cons vnil z now new (values a) items v left is g.0 g.1 g.2
-
--- a key
-
-pub key_by : (r : Result (List (List ℕ)) Stop) (old mid new : List Token) → old ≡ fixed S.By ∷ mid → ((ns : G.Names) (w : List Token) → Lacks (fixed S.Comma) w → mid ≡ names_then ns w → Outcome r (λ v. (new ≡ w) × (v ≡ names_of ns)))
-    → (b : G.By) (z : List Token) → Lacks (fixed S.By) z × Lacks (fixed S.Comma) z → old ≡ by_then b z → Outcome r (λ v. (new ≡ z) × (v ≡ by_of b))
-key_by r old mid new takes f G.no_by z ends e = absurd (ends.0 mid (sym e ∙ takes))
-key_by r old mid new takes f (G.by_names ns) z ends e = let s : mid ≡ names_then ns z = cc in f ns z ends.1 s
-
-pub key_on : (r : Result (List (List ℕ)) Stop) (old mid new : List Token) → old ≡ fixed S.On ∷ mid → ((ns : G.Names) (w : List Token) → Lacks (fixed S.Comma) w → mid ≡ names_then ns w → Outcome r (λ v. (new ≡ w) × (v ≡ names_of ns)))
-    → (b : G.On) (z : List Token) → Lacks (fixed S.On) z × Lacks (fixed S.Comma) z → old ≡ on_then b z → Outcome r (λ v. (new ≡ z) × (v ≡ on_of b))
-key_on r old mid new takes f G.no_on z ends e = absurd (ends.0 mid (sym e ∙ takes))
-key_on r old mid new takes f (G.on_names ns) z ends e = let s : mid ≡ names_then ns z = cc in f ns z ends.1 s
-
-pub no_key_by : (old new : List Token) (v : List (List ℕ)) → (new ≡ old) × Lacks (fixed S.By) old → v ≡ [] → (b : G.By) (z : List Token) → Lacks (fixed S.By) z × Lacks (fixed S.Comma) z → old ≡ by_then b z → (new ≡ z) × (v ≡ by_of b)
-no_key_by old new v h is G.no_by z ends e = (h.0 ∙ e, is)
-no_key_by old new v h is (G.by_names ns) z ends e = absurd (h.1 _ e)
-
-pub no_key_on : (old new : List Token) (v : List (List ℕ)) → (new ≡ old) × Lacks (fixed S.On) old → v ≡ [] → (b : G.On) (z : List Token) → Lacks (fixed S.On) z × Lacks (fixed S.Comma) z → old ≡ on_then b z → (new ≡ z) × (v ≡ on_of b)
-no_key_on old new v h is G.no_on z ends e = (h.0 ∙ e, is)
-no_key_on old new v h is (G.on_names ns) z ends e = absurd (h.1 _ e)
 
 -- an item
 

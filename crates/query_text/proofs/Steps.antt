@@ -42,26 +42,6 @@ joined_is op old mid new p left right pushed l r same = rw (pushed, l, r, same) 
 pub wrapped_is : (op : ℕ → TreeNode) (mid new p : List TreeNode) (of : ℕ) → new ≡ mid ++ op of ∷ [] → of ≡ length mid - 1 → mid ≡ p → new ≡ wrapped op p
 wrapped_is op mid new p of pushed l same = rw (pushed, l, same) refl
 
--- one more of a rest was read, or no more
-pub going_on : {A R : Type 0} (a_then : A → List Token → List Token) (Ends : List Token → Type 0) (a_onto : A → List TreeNode → List TreeNode) (r_then : R → List Token → List Token) (r_onto : R → List TreeNode → List TreeNode)
-    (old now new : List Token) (m n k : List TreeNode) → Going a_then Ends a_onto r_then r_onto old now m n
-    → ((r : R) (z : List Token) → Ends z → now ≡ r_then r z → (s : R) × (new ≡ r_then s z) × (r_onto s k ≡ r_onto r n)) → Going a_then Ends a_onto r_then r_onto old new m k
-going_on a_then Ends a_onto r_then r_onto old now new m n k going more = λ a z low e.
-    let g = going a z low e in
-    let w = more g.0 z low g.1 in (w.0, w.1, w.2 ∙ g.2)
-
-pub going_end : {A R : Type 0} (a_then : A → List Token → List Token) (Ends : List Token → Type 0) (a_onto : A → List TreeNode → List TreeNode) (r_then : R → List Token → List Token) (r_onto : R → List TreeNode → List TreeNode)
-    (old now new : List Token) (m n k : List TreeNode) → Going a_then Ends a_onto r_then r_onto old now m n
-    → ((r : R) (z : List Token) → Ends z → now ≡ r_then r z → (new ≡ z) × (k ≡ r_onto r n)) → (a : A) (z : List Token) → Ends z → old ≡ a_then a z → (new ≡ z) × (k ≡ a_onto a m)
-going_end a_then Ends a_onto r_then r_onto old now new m n k going more = λ a z low e.
-    let g = going a z low e in
-    let w = more g.0 z low g.1 in (w.0, w.1 ∙ g.2)
-
-pub going_free : {A R X : Type 0} (a_then : A → List Token → List Token) (Ends : List Token → Type 0) (a_onto : A → List TreeNode → List TreeNode) (r_then : R → List Token → List Token) (r_onto : R → List TreeNode → List TreeNode)
-    (old now : List Token) (m n : List TreeNode) → Going a_then Ends a_onto r_then r_onto old now m n
-    → ((r : R) (z : List Token) → Ends z → now ≡ r_then r z → X) → (a : A) (z : List Token) → Ends z → old ≡ a_then a z → X
-going_free a_then Ends a_onto r_then r_onto old now m n going more = λ a z low e. let g = going a z low e in more g.0 z low g.1
-
 -- the first part of an expression, and the rest of it
 
 pub expr_first : {X : Type 0} (old : List Token) → ((c : G.Conj) (w : List Token) → rank w < 2 → old ≡ conj_then c w → X) → (a : G.Expr) (z : List Token) → rank z < 1 → old ≡ expr_then a z → X
