@@ -297,7 +297,7 @@ pub cmp_free : {X : Type 0} (old mid : List Token) → (mid ≡ old) × Lacks (f
 cmp_free old mid h f (G.not_ n) z low e = absurd (h.1 _ e)
 cmp_free old mid h f (G.cmp s t) z low e = f s (test_then t z) (low_test t z low) (h.0 ∙ e)
 
-pub cmp_went : (r : Result Unit Stop) (old mid now new : List Token) (m n k : List TreeNode) → (mid ≡ old) × Lacks (fixed S.Not) old → ((s : G.Sum) (w : List Token) → rank w < 4 → mid ≡ sum_then s w → (now ≡ w) × (n ≡ sum_onto s m))
+pub cmp_went : (r : Result ℕ Stop) (old mid now new : List Token) (m n k : List TreeNode) → (mid ≡ old) × Lacks (fixed S.Not) old → ((s : G.Sum) (w : List Token) → rank w < 4 → mid ≡ sum_then s w → (now ≡ w) × (n ≡ sum_onto s m))
     → ((t : G.Test) (w : List Token) → rank w < 3 → now ≡ test_then t w → Outcome r (λ _. (new ≡ w) × (k ≡ test_onto t n))) → (a : G.Neg) (z : List Token) → rank z < 3 → old ≡ neg_then a z → Outcome r (λ _. (new ≡ z) × (k ≡ neg_onto a m))
 cmp_went r old mid now new m n k h f g (G.not_ x) z low e = absurd (h.1 _ e)
 cmp_went r old mid now new m n k h f g (G.cmp s t) z low e =
@@ -325,7 +325,7 @@ unary_minus old mid new m n k of takes f l pushed (G.negative x) z low e =
     let u = f x z tt s in (u.0, wrapped_is (λ i. N.Neg i) n k (unary_onto x m) of pushed l u.1)
 unary_minus old mid new m n k of takes f l pushed (G.atom a) z low e = absurd (not_atom a mid z (sym takes ∙ e))
 
-pub unary_atom : (r : Result Unit Stop) (old mid new : List Token) (m k : List TreeNode) → (mid ≡ old) × Lacks (fixed S.Minus) old
+pub unary_atom : (r : Result ℕ Stop) (old mid new : List Token) (m k : List TreeNode) → (mid ≡ old) × Lacks (fixed S.Minus) old
     → ((a : G.Atom) (w : List Token) → Unit {0} → mid ≡ atom_then a w → Outcome r (λ _. (new ≡ w) × (k ≡ atom_onto a m))) → (a : G.Unary) (z : List Token) → Unit {0} → old ≡ unary_then a z → Outcome r (λ _. (new ≡ z) × (k ≡ unary_onto a m))
 unary_atom r old mid new m k h f (G.negative x) z low e = absurd (h.1 _ e)
 unary_atom r old mid new m k h f (G.atom a) z low e = f a z tt (h.0 ∙ e)

@@ -1,5 +1,5 @@
 // The parser of expressions.
-ghost use Rattle.std.specs.Prelude.{◌≡◌, ◌<◌, ◌≤◌, length, Some, None, IfOk, IfErr};
+ghost use Rattle.std.specs.Prelude.{◌≡◌, ◌<◌, ◌≤◌, ◌-◌, length, Some, None, IfOk, IfErr};
 ghost use Rattle.query_grammar.specs.Grammar.{expr_then, ors_then, conj_then, ands_then, neg_then, test_then, sum_then, terms_then, prod_then, factors_then, unary_then, atom_then};
 ghost use Rattle.query_grammar.specs.Machine.{rank};
 ghost use Rattle.query_text.specs.Spelling.{expr_onto, ors_onto, conj_onto, ands_onto, neg_onto, test_onto, sum_onto, terms_onto, prod_onto, factors_onto, unary_onto, atom_onto};
@@ -12,7 +12,8 @@ use plan_model::ArithOp;
 use query_words::Sign;
 use std::alloc::Global;
 
-/// The words of a query that are left, and the nodes of the expression that is being read.
+/// The words of a query that are left, and the nodes of the expression that is being read. What reads a part of an
+/// expression gives the number of its root, the last node that is there then.
 #[derive(Drop)]
 pub(crate) struct Parser<'a> {
     pub(crate) alloc: Global,
@@ -34,38 +35,39 @@ impl<'a> Parser<'a> {
     }
 
     #[cycle(expression)]
-    fn atom(&mut self) -> Result<(), Stop>
+    fn atom(&mut self) -> Result<usize, Stop>
         ensures reads { Reads result atom_then (λ _. Unit {0}) (λ a _. self.new.nodes ≡ atom_onto a self.old.nodes) self.old.cursor self.new.cursor }
         ensures grows { IfOk result (λ _. length self.old.nodes < length self.new.nodes) }
+        ensures root { IfOk result (λ root. root ≡ length self.new.nodes - 1) }
         ensures shrinks { IfOk result (λ _. length self.new.cursor ≤ length self.old.cursor) }
     {
         if let Some(leaf) = self.cursor.takes_leaf()? {
             self.nodes.push(leaf)?;
-            return Ok(());
+            return Ok(self.nodes.last());
         }
         if !self.cursor.takes(Sign::Open) {
             return Err(Stop::Stuck);
         }
-        self.expr()?;
+        let root = self.expr()?;
         if !self.cursor.takes(Sign::Close) {
             return Err(Stop::Stuck);
         }
-        Ok(())
+        Ok(root)
     }
 
     #[cycle(expression)]
-    fn unary(&mut self) -> Result<(), Stop>
+    fn unary(&mut self) -> Result<usize, Stop>
         ensures reads { Reads result unary_then (λ _. Unit {0}) (λ a _. self.new.nodes ≡ unary_onto a self.old.nodes) self.old.cursor self.new.cursor }
         ensures grows { IfOk result (λ _. length self.old.nodes < length self.new.nodes) }
+        ensures root { IfOk result (λ root. root ≡ length self.new.nodes - 1) }
         ensures shrinks { IfOk result (λ _. length self.new.cursor ≤ length self.old.cursor) }
     {
         if !self.cursor.takes(Sign::Minus) {
             return self.atom();
         }
-        self.unary()?;
-        let of = self.nodes.last();
+        let of = self.unary()?;
         self.nodes.push(TreeNode::Neg(of))?;
-        Ok(())
+        Ok(self.nodes.last())
     }
 
     /// One more factor, if there is one.
@@ -78,8 +80,7 @@ impl<'a> Parser<'a> {
     {
         if self.cursor.takes(Sign::Star) {
             let left = self.nodes.last();
-            self.unary()?;
-            let right = self.nodes.last();
+            let right = self.unary()?;
             let op = ArithOp::Mul;
             self.nodes.push(TreeNode::Arith { op, left, right })?;
             return Ok(true);
@@ -100,14 +101,15 @@ impl<'a> Parser<'a> {
     }
 
     #[cycle(expression)]
-    fn prod(&mut self) -> Result<(), Stop>
+    fn prod(&mut self) -> Result<usize, Stop>
         ensures reads { Reads result prod_then (λ z. rank z < 5) (λ a _. self.new.nodes ≡ prod_onto a self.old.nodes) self.old.cursor self.new.cursor }
         ensures grows { IfOk result (λ _. length self.old.nodes < length self.new.nodes) }
+        ensures root { IfOk result (λ root. root ≡ length self.new.nodes - 1) }
         ensures shrinks { IfOk result (λ _. length self.new.cursor ≤ length self.old.cursor) }
     {
         self.unary()?;
         'factors: while self.factor()? {}
-        Ok(())
+        Ok(self.nodes.last())
     }
 
     /// One more term, if there is one.
@@ -122,55 +124,55 @@ impl<'a> Parser<'a> {
             return Ok(false);
         };
         let left = self.nodes.last();
-        self.prod()?;
-        let right = self.nodes.last();
+        let right = self.prod()?;
         self.nodes.push(TreeNode::Arith { op, left, right })?;
         Ok(true)
     }
 
     #[cycle(expression)]
-    fn sum(&mut self) -> Result<(), Stop>
+    fn sum(&mut self) -> Result<usize, Stop>
         ensures reads { Reads result sum_then (λ z. rank z < 4) (λ a _. self.new.nodes ≡ sum_onto a self.old.nodes) self.old.cursor self.new.cursor }
         ensures grows { IfOk result (λ _. length self.old.nodes < length self.new.nodes) }
+        ensures root { IfOk result (λ root. root ≡ length self.new.nodes - 1) }
         ensures shrinks { IfOk result (λ _. length self.new.cursor ≤ length self.old.cursor) }
     {
         self.prod()?;
         'terms: while self.term()? {}
-        Ok(())
+        Ok(self.nodes.last())
     }
 
     /// A comparison, if there is one, whose left side was read.
     #[cycle(expression)]
-    fn test(&mut self) -> Result<(), Stop>
+    fn test(&mut self) -> Result<usize, Stop>
         requires { 0 < length self.old.nodes }
         ensures reads { Reads result test_then (λ z. rank z < 3) (λ a _. self.new.nodes ≡ test_onto a self.old.nodes) self.old.cursor self.new.cursor }
         ensures grows { IfOk result (λ _. length self.old.nodes ≤ length self.new.nodes) }
+        ensures root { IfOk result (λ root. root ≡ length self.new.nodes - 1) }
         ensures shrinks { IfOk result (λ _. length self.new.cursor ≤ length self.old.cursor) }
     {
-        let Some(op) = self.cursor.takes_compare() else {
-            return Ok(());
-        };
         let left = self.nodes.last();
-        self.sum()?;
-        let right = self.nodes.last();
+        let Some(op) = self.cursor.takes_compare() else {
+            return Ok(left);
+        };
+        let right = self.sum()?;
         self.nodes.push(TreeNode::Compare { op, left, right })?;
-        Ok(())
+        Ok(self.nodes.last())
     }
 
     #[cycle(expression)]
-    fn neg(&mut self) -> Result<(), Stop>
+    fn neg(&mut self) -> Result<usize, Stop>
         ensures reads { Reads result neg_then (λ z. rank z < 3) (λ a _. self.new.nodes ≡ neg_onto a self.old.nodes) self.old.cursor self.new.cursor }
         ensures grows { IfOk result (λ _. length self.old.nodes < length self.new.nodes) }
+        ensures root { IfOk result (λ root. root ≡ length self.new.nodes - 1) }
         ensures shrinks { IfOk result (λ _. length self.new.cursor ≤ length self.old.cursor) }
     {
         if !self.cursor.takes(Sign::Not) {
             self.sum()?;
             return self.test();
         }
-        self.neg()?;
-        let of = self.nodes.last();
+        let of = self.neg()?;
         self.nodes.push(TreeNode::Not(of))?;
-        Ok(())
+        Ok(self.nodes.last())
     }
 
     /// One more operand of `and`, if there is one.
@@ -185,21 +187,21 @@ impl<'a> Parser<'a> {
             return Ok(false);
         }
         let left = self.nodes.last();
-        self.neg()?;
-        let right = self.nodes.last();
+        let right = self.neg()?;
         self.nodes.push(TreeNode::And { left, right })?;
         Ok(true)
     }
 
     #[cycle(expression)]
-    fn conj(&mut self) -> Result<(), Stop>
+    fn conj(&mut self) -> Result<usize, Stop>
         ensures reads { Reads result conj_then (λ z. rank z < 2) (λ a _. self.new.nodes ≡ conj_onto a self.old.nodes) self.old.cursor self.new.cursor }
         ensures grows { IfOk result (λ _. length self.old.nodes < length self.new.nodes) }
+        ensures root { IfOk result (λ root. root ≡ length self.new.nodes - 1) }
         ensures shrinks { IfOk result (λ _. length self.new.cursor ≤ length self.old.cursor) }
     {
         self.neg()?;
         'ands: while self.and()? {}
-        Ok(())
+        Ok(self.nodes.last())
     }
 
     /// One more operand of `or`, if there is one.
@@ -214,21 +216,21 @@ impl<'a> Parser<'a> {
             return Ok(false);
         }
         let left = self.nodes.last();
-        self.conj()?;
-        let right = self.nodes.last();
+        let right = self.conj()?;
         self.nodes.push(TreeNode::Or { left, right })?;
         Ok(true)
     }
 
     /// An expression. Its nodes come behind those that are there.
     #[cycle(expression)]
-    pub(crate) fn expr(&mut self) -> Result<(), Stop>
+    pub(crate) fn expr(&mut self) -> Result<usize, Stop>
         ensures reads { Reads result expr_then (λ z. rank z < 1) (λ a _. self.new.nodes ≡ expr_onto a self.old.nodes) self.old.cursor self.new.cursor }
         ensures grows { IfOk result (λ _. length self.old.nodes < length self.new.nodes) }
+        ensures root { IfOk result (λ root. root ≡ length self.new.nodes - 1) }
         ensures shrinks { IfOk result (λ _. length self.new.cursor ≤ length self.old.cursor) }
     {
         self.conj()?;
         'ors: while self.or()? {}
-        Ok(())
+        Ok(self.nodes.last())
     }
 }
