@@ -12,7 +12,7 @@ use Rattle.tw_rows.proofs.Bags.{SameBag-refl}
 use Rattle.plan_model.proofs.NodeLaws.{alive-filtered, AreEvents-filtered}
 use Rattle.plan_model.proofs.Steady.{changes_same}
 use Rattle.plan_model.proofs.FilterPlans.{snapshots-filter_plan, closes-filter_plan}
-use Rattle.tempo_cli.specs.Print.{print, punctuation_text}
+use Rattle.change_lines.specs.Print.{print, punctuation_text}
 use Rattle.tempo_cli.specs.Text.{text_from, rows_of, plan_of, root_of, test_of, kept_of, due}
 use Rattle.tempo_cli.specs.declared.query_form.Above.{Above}
 

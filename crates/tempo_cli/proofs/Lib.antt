@@ -6,10 +6,6 @@ pub mod Queries
 pub mod EntryLife
 pub mod Taking
 pub mod Journals
-pub mod Lives
 pub mod Answering
 pub mod Complete
 pub mod Pieces
-pub mod RowWalk
-pub mod RowByRow
-pub mod InTime

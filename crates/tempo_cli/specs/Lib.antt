@@ -1,11 +1,9 @@
 pub mod Command
 pub mod QueryForm
 pub mod Admission
-pub mod Print
 pub mod Text
 pub mod Table
 pub mod Status
 pub mod Holds
 pub mod Reading
 pub mod Stops
-pub mod Gathering

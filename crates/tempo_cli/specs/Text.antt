@@ -12,7 +12,7 @@ use Rattle.plan_model.specs.Expr.{holds}
 use Rattle.plan_model.specs.Meaning.{snapshots, closes}
 use Rattle.plan_model.specs.FilterPlan.{filter_plan}
 use Rattle.plan_model.specs.Changes.{changes}
-use Rattle.tempo_cli.specs.Print.{print, punctuation_text}
+use Rattle.change_lines.specs.Print.{print, punctuation_text}
 use Rattle.tempo_cli.specs.Admission.{Admitted, admitted}
 use Rattle.tempo_cli.specs.declared.command.Command.{Command}
 use Rattle.tempo_cli.specs.declared.query_form.Above.{Above}

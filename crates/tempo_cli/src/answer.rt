@@ -2,13 +2,11 @@
 ghost use Rattle.std.specs.Prelude.{◌≡◌, ◌++◌, ◌<◌, ◌^◌, IfOk, IfSome, OnOk, true, filter};
 ghost use Rattle.tw_rows.specs.Instant.{inf};
 ghost use Rattle.plan_model.specs.Expr.{holds};
-ghost use Rattle.tempo_cli.specs.Print.{punctuation_text};
+ghost use Rattle.change_lines.specs.Print.{punctuation_text};
 ghost use Rattle.tempo_cli.specs.Text.{text_from, due, test_of, kept_of};
 
-use crate::changes::print_changes;
-use crate::event::{Event, Events};
-use crate::print::push_punctuation;
 use crate::query_form::Above;
+use change_lines::{Event, Events, print_changes, push_punctuation};
 use std::alloc::Global;
 use tw_rows::{Memory, Row, Time, Value};
 

@@ -2,13 +2,10 @@
 #![tactic(auto)]
 
 mod answer;
-mod changes;
 mod command;
-mod event;
 mod fault;
 mod laws;
 mod note;
-mod print;
 mod query_form;
 mod run;
 mod send;
@@ -18,7 +15,6 @@ mod status;
 mod tests;
 
 pub use command::{Command, read_command, words_spell_one_command};
-pub use event::{Event, Events};
 pub use fault::Fault;
 pub use laws::runs_are_complete;
 use note::note;

@@ -8,9 +8,9 @@ ghost use Rattle.wire_lines.specs.Lines.{IsOneLine};
 ghost use Rattle.tempo_cli.specs.declared.command.Command.{Command as SomeCommand};
 
 use crate::answer::print_answer;
-use crate::event::Events;
 use crate::fault::Fault;
 use crate::query_form::Above;
+use change_lines::Events;
 use row_reader::{BadLine, Entry, Form, RowFault, read_row};
 use std::alloc::Global;
 use tw_rows::{Life, Memory, StreamDef, Time};

@@ -3,7 +3,7 @@ use Rattle.tw_rows.specs.Event.{Event, alive}
 use Rattle.tw_rows.specs.Rows.{Row}
 use Rattle.tw_rows.specs.Instant.{inf}
 use Rattle.plan_model.specs.Changes.{changes}
-use Rattle.tempo_cli.specs.Print.{print, punctuation_text}
+use Rattle.change_lines.specs.Print.{print, punctuation_text}
 use Rattle.tempo_cli.specs.Text.{kept_of}
 use Rattle.tempo_cli.proofs.Answering.{answered, kept_lives}
 use Rattle.tempo_cli.proofs.answer.print_answer.Goals as goal

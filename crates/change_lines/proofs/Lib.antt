@@ -1,0 +1,4 @@
+pub mod Lives
+pub mod RowWalk
+pub mod RowByRow
+pub mod InTime
