@@ -1,0 +1,16 @@
+//! Columns of queries: what names, trees, keys and aggregates of a query text stand for over the columns of a schema, of
+//! which kinds they are, and which columns a step makes.
+#![tactic(auto)]
+
+mod names;
+mod schemas;
+#[cfg(test)]
+mod tests;
+mod types;
+
+pub use names::{aggs_of, column_of, expr_of, exprs_of, key_of};
+pub use schemas::{
+    aggs_fit, copied, group_schema, join_schema, key_twice, keys_alike, name_twice, same_kinds,
+    select_schema,
+};
+pub use types::{type_of, types_of};
