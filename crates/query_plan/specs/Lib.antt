@@ -1,0 +1,7 @@
+pub mod Draft
+pub mod Answer
+pub mod Growing
+pub mod Checked
+pub mod Steps
+pub mod Planned
+pub mod Explained
