@@ -1,5 +1,5 @@
 -- Answers that hang on earlier answers.
-use Rattle.std.specs.Prelude.{◌≡◌, Bool, true, false, not, Result, Ok, Err, refl}
+use Rattle.std.specs.Prelude.{◌≡◌, Result, Ok, Err}
 use Rattle.std.specs.Result.{IsErrAnd}
 use Rattle.std.proofs.Common.{sym, ◌∙◌, ap, subst}
 use Rattle.std.proofs.lemmas.Result.{err_from_is_err_and}
@@ -7,7 +7,7 @@ use Rattle.plan_model.specs.declared.fault.QueryError.{QueryError}
 use Rattle.plan_model.specs.declared.fault.QueryError.TheVariants as E
 use Rattle.plan_model.specs.declared.fault.QueryFault.{QueryFault}
 use Rattle.query_plan.specs.Answer.{Is}
-use Rattle.query_plan.specs.Draft.{and_then, needs}
+use Rattle.query_plan.specs.Draft.{and_then}
 
 -- an answer is the same of what is equal
 pub Is-along : {X Y : Type 0} (view : X → Y) (x : Result X QueryError) (r s : Result Y QueryFault) → r ≡ s → Is view x s → Is view x r

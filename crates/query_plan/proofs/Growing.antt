@@ -1,5 +1,5 @@
 -- What is found of the nodes of a draft, as it grows, and the checks of what is put behind it.
-use Rattle.std.specs.Prelude.{◌≡◌, ℕ, suc, ◌+◌, nat_lt, Bool, true, false, not, ◌||◌, Option, Some, None, Result, Ok, Err, List, [], ◌∷◌, ◌++◌, map, length, slice_index_or, refl}
+use Rattle.std.specs.Prelude.{◌≡◌, ℕ, suc, ◌+◌, nat_lt, Bool, true, false, not, ◌||◌, Result, Ok, List, [], ◌∷◌, ◌++◌, map, length, slice_index_or, refl}
 use Rattle.std.specs.List.{list_any}
 use Rattle.std.proofs.Common.{sym, ◌∙◌, ap, arith, append_assoc, append-nil}
 use Rattle.std.proofs.lemmas.List.{length-append, map-append}
@@ -18,7 +18,7 @@ use Rattle.plan_model.proofs.Folds.{length-results_from}
 use Rattle.query_plan.specs.Checked.{is_wide, has_twice, has_unbuilt, checked}
 use Rattle.query_plan.specs.Draft.{Draft, Planned, and_then, needs, with_nodes, reaches_too_far, admitted}
 use Rattle.query_plan.proofs.Answering.{goes_on}
-use Rattle.query_plan.specs.Growing.{next_level, levels_of, next_reach, reaches_of, near_reach, reaches_with}
+use Rattle.query_plan.specs.Growing.{next_level, levels_of, next_reach, reaches_of, reaches_with}
 
 -- what a node reads on the left, where no source reads anything else than what stands for no child
 pub left_is : {R : Type 0} (none : R) (at : ℕ → R) (n : Node) → left_of none (λ s. none) at n ≡ at_child none at (left_child n)

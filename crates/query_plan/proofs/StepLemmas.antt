@@ -1,17 +1,16 @@
 -- Facts that the nodes of steps rest on.
-use Rattle.std.specs.Prelude.{◌≡◌, ℕ, ◌+◌, ok_or, Result, Ok, Err, List, [], ◌∷◌, ◌++◌, refl}
-use Rattle.std.proofs.Common.{sym, ◌∙◌, ap, zero-add}
+use Rattle.std.specs.Prelude.{◌≡◌, ℕ, ◌+◌, ok_or, Ok, List, [], ◌∷◌, ◌++◌}
+use Rattle.std.proofs.Common.{◌∙◌, ap, zero-add}
 use Rattle.tw_rows.specs.Instant.{instants}
 use Rattle.tw_rows.specs.declared.schema.ColumnDef.{ColumnDef}
 use Rattle.plan_model.specs.declared.agg.Agg.{Agg}
-use Rattle.plan_model.specs.declared.fault.QueryFault.{QueryFault}
 use Rattle.plan_model.specs.declared.fault.QueryFault.TheVariants as F
 use Rattle.plan_model.specs.declared.node.Node.TheVariants.{Group}
 use Rattle.plan_model.proofs.Counting.{instants-add}
 use Rattle.query_text.specs.declared.query.QueryAgg.{QueryAgg}
 use Rattle.query_columns.specs.Names.{key_of, aggs_of}
 use Rattle.query_columns.specs.Schemas.{group_schema, aggs_fit}
-use Rattle.query_plan.specs.Draft.{Draft, Planned, and_then, needs, schema_at}
+use Rattle.query_plan.specs.Draft.{Draft, and_then, needs, schema_at}
 use Rattle.query_plan.specs.Steps.{group_step}
 use Rattle.query_plan.proofs.Answering.{goes_on}
 

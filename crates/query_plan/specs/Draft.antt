@@ -1,5 +1,5 @@
 -- A plan that is being made, and what an item of a query has to keep to be put behind it.
-use Rattle.std.specs.Prelude.{ℕ, ◌+◌, nat_lt, nat_eq, Bool, false, ◌||◌, not, if◌then◌else◌, Option, Some, None, option_map, ok_or, Result, Ok, Err, List, [], ◌∷◌, ◌++◌, map, length, slice_index_or}
+use Rattle.std.specs.Prelude.{ℕ, ◌+◌, nat_lt, nat_eq, Bool, false, ◌||◌, not, if◌then◌else◌, Option, option_map, Result, Ok, Err, List, [], ◌∷◌, ◌++◌, map, length, slice_index_or}
 use Rattle.std.specs.List.{list_any, find}
 use lib.Pointwise.{pointwise}
 use Rattle.tw_rows.specs.Instant.{instants}

@@ -1,6 +1,6 @@
 -- The plan of a query, or its first fault. The items of a query are numbered from 0 in the order of its text: each stream,
 -- each let and then its steps, the head of the body and then its steps.
-use Rattle.std.specs.Prelude.{ℕ, suc, ◌+◌, ◌-◌, ok_or, not, Result, Ok, Err, List, [], ◌∷◌, length}
+use Rattle.std.specs.Prelude.{ℕ, suc, ◌+◌, ◌-◌, not, Result, Ok, List, [], ◌∷◌, length}
 use Rattle.tw_rows.specs.declared.schema.StreamDef.{StreamDef}
 use Rattle.plan_model.specs.declared.fault.QueryFault.{QueryFault}
 use Rattle.plan_model.specs.declared.fault.QueryFault.TheVariants as F
@@ -10,7 +10,7 @@ use Rattle.query_text.specs.declared.query.Let.{Let}
 use Rattle.query_text.specs.declared.query.Pipe.{Pipe}
 use Rattle.query_text.specs.declared.query.Query.{Query}
 use Rattle.query_text.specs.declared.query.QueryStep.{QueryStep}
-use Rattle.query_plan.specs.Draft.{Draft, Named, Planned, no_draft, and_then, needs, is_taken, with_name, admitted}
+use Rattle.query_plan.specs.Draft.{Draft, no_draft, and_then, needs, is_taken, with_name, admitted}
 use Rattle.query_plan.specs.Steps.{operand, step_nodes}
 
 -- the draft after an item, and the node whose rows the next step works on

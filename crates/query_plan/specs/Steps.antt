@@ -1,9 +1,8 @@
 -- The nodes that a step makes over the node before it, or its first fault: of names, then of kinds, then of levels, then of
 -- windows.
-use Rattle.std.specs.Prelude.{ℕ, nat_eq, nat_le, ◌&&◌, ◌%◌, Bool, not, Option, ok_or, option_map, Result, Ok, Err, List, [], ◌∷◌, length}
+use Rattle.std.specs.Prelude.{ℕ, nat_eq, nat_le, ◌&&◌, ◌%◌, Bool, ok_or, Result, Ok, List, [], ◌∷◌, length}
 use Rattle.tw_rows.specs.Instant.{instants}
 use Rattle.tw_rows.specs.declared.kind.Kind.TheVariants as K
-use Rattle.tw_rows.specs.declared.schema.ColumnDef.{ColumnDef}
 use Rattle.plan_model.specs.declared.fault.QueryFault.{QueryFault}
 use Rattle.plan_model.specs.declared.fault.QueryFault.TheVariants as F
 use Rattle.plan_model.specs.declared.node.Node.{Node}

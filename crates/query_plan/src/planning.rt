@@ -2,12 +2,11 @@
 ghost use Rattle.std.specs.Prelude.{◌≡◌, ◌+◌, [], IfOk};
 ghost use Rattle.query_plan.specs.Answer.{Is};
 ghost use Rattle.query_plan.specs.Draft.{no_draft};
-ghost use Rattle.query_plan.specs.Steps.{operand};
 ghost use Rattle.query_plan.specs.Planned.{stream_planned, streams_planned, step_planned, steps_planned, let_planned, lets_planned, planned};
 
 use crate::checks::needs;
 use crate::draft::{Draft, PlannedNode};
-use crate::steps::step_nodes;
+use crate::steps::{operand, step_nodes};
 use plan_model::{Node, Plan, QueryError, QueryFault, StreamList};
 use query_columns::copied;
 use query_text::{Let, Pipe, Query, QueryStep};
@@ -37,16 +36,6 @@ fn item_after(item: usize, count: usize) -> Result<usize, Memory>
     match item.checked_add(count) {
         Some(after) => Ok(after),
         None => Err(Memory),
-    }
-}
-
-/// The node that an operand names.
-fn operand(item: usize, draft: &Draft, name: &Label) -> Result<usize, QueryError>
-    ensures { Is (λ at. at) result (operand item draft.now name.now) }
-{
-    match draft.node_named(name.as_str()) {
-        Some(at) => Ok(at),
-        None => Err(QueryError::Fault(QueryFault::UnknownName { item })),
     }
 }
 

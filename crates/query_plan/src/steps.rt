@@ -46,8 +46,8 @@ fn found<T: Drop>(value: Option<T>, fault: QueryFault) -> Result<T, QueryError>
     }
 }
 
-/// The node that an operand names.
-fn operand(item: usize, draft: &Draft, name: &Label) -> Result<usize, QueryError>
+/// The node that an operand, or a base, names.
+pub(crate) fn operand(item: usize, draft: &Draft, name: &Label) -> Result<usize, QueryError>
     ensures { Is (λ n. n) result (operand item draft.now name.now) }
 {
     found(

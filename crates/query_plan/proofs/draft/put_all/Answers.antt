@@ -1,4 +1,4 @@
-use Rattle.std.proofs.Common.{◌≡◌, List, [], ◌∷◌, ◌++◌, ap, ◌∙◌}
+use Rattle.std.proofs.Common.{[], ◌∷◌, ◌++◌, ap, ◌∙◌}
 use Rattle.query_plan.specs.Draft.{Planned}
 use Rattle.query_plan.proofs.Growing.{mapped_more, levels_next}
 use Rattle.query_plan.proofs.draft.put_all.Goals as goal

@@ -2,7 +2,7 @@ use Rattle.std.proofs.Common.{◌≡◌, ℕ, ◌<◌, List, Ok, length, sym, ap
 use Rattle.tw_rows.specs.declared.schema.ColumnDef.{ColumnDef}
 use Rattle.tw_rows.specs.declared.schema.StreamDef.{StreamDef}
 use Rattle.plan_model.specs.declared.node.Node.{Node}
-use Rattle.plan_model.specs.IsPlan.{AreNodes, PlanParts, IsPlan}
+use Rattle.plan_model.specs.IsPlan.{AreNodes, PlanParts}
 use Rattle.query_text.specs.declared.query.Let.{Let}
 use Rattle.query_text.specs.declared.query.Query.{Query}
 use Rattle.query_plan.specs.Draft.{Draft, no_draft, and_then}
