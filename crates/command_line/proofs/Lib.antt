@@ -1,0 +1,7 @@
+pub mod Agreement
+pub mod Pointers
+pub mod Kept
+pub mod Rows
+pub mod Taken
+pub mod Faults
+pub mod Spelled

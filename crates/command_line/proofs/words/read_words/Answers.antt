@@ -1,0 +1,19 @@
+use Rattle.std.proofs.Common.{◌≡◌, ◌≤◌, map, sym, subst}
+use Rattle.clap.specs.Words.{found_of}
+use Rattle.command_line.specs.Words.{Asked, SpellsCommand, asked_by}
+use Rattle.command_line.proofs.Spelled.{spelled}
+use Rattle.command_line.proofs.words.read_words.Goals as goal
+
+pub returns-in-Ok-clause-spelled : goal.returns-in-Ok-clause-spelled
+returns-in-Ok-clause-spelled c =
+    let words = map (λ w. w.now) c.args.words.now in
+    let s = spelled words c.in-Ok.ensures.taken in
+    let is : asked_by c.command_of.result ≡ s.asked = c.command_of.ensures s.asked (s.shows (found_of c.in-Ok.matches) c.in-Ok.ensures.matches) in
+    subst (SpellsCommand words) (sym is) s.spells
+
+pub returns-in-Ok-clause-batch : goal.returns-in-Ok-clause-batch
+returns-in-Ok-clause-batch c =
+    let words = map (λ w. w.now) c.args.words.now in
+    let s = spelled words c.in-Ok.ensures.taken in
+    let is : asked_by c.command_of.result ≡ s.asked = c.command_of.ensures s.asked (s.shows (found_of c.in-Ok.matches) c.in-Ok.ensures.matches) in
+    (subst (λ (a : Asked). 1 ≤ a.batch) (sym is) s.least, subst (λ (a : Asked). a.batch ≤ 8192) (sym is) s.most)

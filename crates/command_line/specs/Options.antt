@@ -1,0 +1,45 @@
+-- The options of the command line, as the rules by which clap reads words.
+use Rattle.std.specs.Prelude.{true, List, [], ◌∷◌, map, codes, Some}
+use Rattle.std.specs.Borrow.{Bor}
+use Rattle.clap.specs.Walk.{Rule, Text}
+use Rattle.clap.specs.Simple.{App, new_app, new_rule, with_rule}
+use Rattle.clap.specs.declared.builder.action.ArgAction.TheVariants.{Set, SetTrue}
+use Rattle.clap.specs.declared.builder.value_parser.ValueParser.{ValueParser}
+use Rattle.clap.specs.declared.builder.value_parser.ValueParser.TheVariants as vp
+
+-- a reference to x, since clap keeps names behind references: (behind x).now is x, and where it points is of no account
+abbrev pub behind : {X : Type 0} → X → Bor X
+behind x = record { ref_ptr = (0, 0); now = x }
+
+-- the values are these texts: among (codes "run" ∷ codes "explain" ∷ []) takes run and explain, and no other
+abbrev pub among : List Text → ValueParser
+among names = vp.Names (behind (map (λ name. behind name) names))
+
+-- an option with a value, which may stand once: option_rule (codes "batch") is --batch 7 or --batch=7
+abbrev pub option_rule : Text → Rule
+option_rule name = record (new_rule name) { long = Some name; action = Some Set }
+
+-- --query: any text, and it has to stand: --query s, or --query="" for the empty one
+abbrev pub query_rule : Rule
+query_rule = record (option_rule (codes "query")) { required = true }
+
+-- --mode, of which the values are given by a parser: --mode explain; run where it does not stand
+abbrev pub mode_rule : ValueParser → Rule
+mode_rule modes = record (option_rule (codes "mode")) { parser = Some modes; defaults = codes "run" ∷ [] }
+
+-- --batch: a whole number from 1 to 8192, as --batch 7 or --batch=+007; 1024 where it does not stand
+abbrev pub batch_rule : Rule
+batch_rule = record (option_rule (codes "batch")) { parser = Some (vp.Unsigned 1 8192); defaults = codes "1024" ∷ [] }
+
+-- --header: it stands, or it does not
+abbrev pub header_rule : Rule
+header_rule = record (new_rule (codes "header")) { long = Some (codes "header"); action = Some SetTrue }
+
+-- the command tempo with its four options, where the values of --mode are given by a parser; clap adds --help itself
+abbrev pub tempo_app_with : ValueParser → App
+tempo_app_with modes =
+    with_rule (with_rule (with_rule (with_rule (new_app (codes "tempo")) query_rule) (mode_rule modes)) batch_rule) header_rule
+
+-- the command tempo, where the values of --mode are run and explain
+abbrev pub tempo_app : App
+tempo_app = tempo_app_with (among (codes "run" ∷ codes "explain" ∷ []))

@@ -1,0 +1,66 @@
+-- What words ask for, by what clap matches for the options.
+use Rattle.std.specs.Prelude.{◌≡◌, ℕ, Bool, true, false, List, codes, Option, Some, option_map, ⊤}
+use Rattle.std.specs.Str.Parse.{digits_value, without_leading_plus}
+use Rattle.clap.specs.Matches.{first_value, one_text}
+use Rattle.clap.specs.Values.{IsUnsignedIn, bool_text}
+use Rattle.clap.specs.Walk.{Text, first_of}
+use Rattle.clap.specs.Simple.{matches_of}
+use Rattle.clap.specs.Takes.{takes}
+use Rattle.clap.specs.declared.parser.matches.Found.{Found}
+use Rattle.command_line.specs.Options.{tempo_app}
+use Rattle.command_line.specs.declared.words.Mode.{Mode}
+use Rattle.command_line.specs.declared.words.Mode.TheVariants.{Run, Explain}
+use Rattle.command_line.specs.declared.words.CommandLine.{CommandLine}
+use Rattle.command_line.specs.declared.words.WordsFault.{WordsFault}
+use Rattle.command_line.specs.declared.words.WordsFault.TheVariants.{Refused, Memory}
+
+-- what is asked for: --query s asks for the query s in the mode Run, with batches of 1024 and no header
+pub record Asked : Type 0 where
+  pub query : Text
+  pub mode : Mode
+  pub batch : ℕ
+  pub header : Bool
+
+-- what a command line asks for, with the query as text
+abbrev pub asked_by : CommandLine → Asked
+asked_by c = record { query = c.query.now; mode = c.mode; batch = c.batch; header = c.header }
+
+-- the word for a mode: explain for Explain
+abbrev pub mode_text : Mode → Text
+mode_text Run = codes "run"
+mode_text Explain = codes "explain"
+
+-- the number that a text says: 7 for 7, +7 and 007
+abbrev pub number_said : Text → ℕ
+number_said text = digits_value 10 (without_leading_plus text)
+
+-- the value that clap matches for an option, by its name: after --mode explain, explain for mode and 1024 for batch
+unfoldable pub value_of : List Text → Text → Option Text
+value_of words name = first_of name (matches_of tempo_app words)
+
+-- clap takes the words for the command tempo: tempo --query s is taken, and tempo --query is not
+unfoldable pub are_taken : List Text → Bool
+are_taken words = takes tempo_app words
+
+-- the words spell what is asked for: tempo --query s --batch 7 asks for the query s in the mode Run, with batches of 7 and no header
+pub record SpellsCommand (words : List Text) (a : Asked) : Type 0 where
+  pub taken : are_taken words ≡ true
+  pub query : value_of words (codes "query") ≡ Some a.query
+  pub mode : value_of words (codes "mode") ≡ Some (mode_text a.mode)
+  pub batch : option_map number_said (value_of words (codes "batch")) ≡ Some a.batch
+  pub header : value_of words (codes "header") ≡ Some (bool_text a.header)
+
+-- the cause holds of the words: for Refused, clap does not take them; Memory may come with any words
+abbrev pub HasCause : List Text → WordsFault → Type 0
+HasCause words (Refused text) = are_taken words ≡ false
+HasCause words Memory = ⊤
+
+-- clap's getters give what is asked for: the first value of query is s where the query s is asked for
+pub record ShowsCommand (f : Found) (a : Asked) : Type 0 where
+  pub query : first_value f (codes "query") ≡ Some a.query
+  pub mode : first_value f (codes "mode") ≡ Some (mode_text a.mode)
+  pub number : Text
+  pub batch_text : one_text f (codes "batch") ≡ Some number
+  pub in_range : IsUnsignedIn 1 8192 number
+  pub batch : number_said number ≡ a.batch
+  pub header : one_text f (codes "header") ≡ Some (bool_text a.header)

@@ -1,0 +1,14 @@
+// Laws of what words ask for. The functions do nothing; their clauses are the laws.
+ghost use Rattle.std.specs.Prelude.{◌≡◌, ◌≤◌, List, true};
+ghost use Rattle.clap.specs.Words.{Text};
+ghost use Rattle.command_line.specs.Words.{Asked, SpellsCommand, are_taken};
+
+/// Words ask for one command at most.
+pub fn words_spell_one_command()
+    ensures { (words : List Text) (a b : Asked) → SpellsCommand words a → SpellsCommand words b → a ≡ b }
+{}
+
+/// Words that are taken ask for a command, with a batch of 1 to 8192.
+pub fn taken_words_spell_a_command()
+    ensures { (words : List Text) → are_taken words ≡ true → (a : Asked) × SpellsCommand words a × (1 ≤ a.batch) × (a.batch ≤ 8192) }
+{}

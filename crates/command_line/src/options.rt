@@ -1,0 +1,71 @@
+// The options of the command line.
+ghost use Rattle.std.specs.Prelude.{◌≡◌, ◌∷◌, [], IfOk, List, codes, false, map};
+ghost use Rattle.std.specs.Borrow.{Bor};
+ghost use Rattle.clap.specs.Words.{Text, app_of, rule_of};
+ghost use Rattle.clap.specs.declared.builder.value_parser.ValueParser.TheVariants.{Names};
+ghost use Rattle.command_line.specs.Options.{batch_rule, header_rule, mode_rule, query_rule, tempo_app_with};
+
+use clap::builder::ValueParser;
+use clap::{Arg, ArgAction, Command};
+use std::alloc::{AllocError, Global};
+
+static MODES: [&str; 2] = ["run", "explain"];
+
+fn query_option<'a>(alloc: Global) -> Arg<'a>
+    ensures rule { rule_of result ≡ query_rule }
+    ensures local { result.global ≡ false }
+{
+    Arg::new(alloc, "query")
+        .long("query")
+        .action(ArgAction::Set)
+        .required(true)
+        .help("The query")
+}
+
+fn mode_option<'a>(alloc: Global) -> Arg<'a>
+    ensures rule { (modes : Bor (List (Bor Text))) × (map (λ s. s.now) modes.now ≡ codes "run" ∷ codes "explain" ∷ [])
+        × (rule_of result ≡ mode_rule (Names modes)) }
+    ensures local { result.global ≡ false }
+{
+    Arg::new(alloc, "mode")
+        .long("mode")
+        .action(ArgAction::Set)
+        .value_parser(MODES.as_slice())
+        .default_value("run")
+        .help("Whether the query is answered or explained")
+}
+
+fn batch_option<'a>(alloc: Global) -> Arg<'a>
+    ensures rule { rule_of result ≡ batch_rule }
+    ensures local { result.global ≡ false }
+{
+    Arg::new(alloc, "batch")
+        .long("batch")
+        .action(ArgAction::Set)
+        .value_parser(ValueParser::unsigned(1, 8192))
+        .default_value("1024")
+        .help("How many rows a batch has at most, from 1 to 8192")
+}
+
+fn header_option<'a>(alloc: Global) -> Arg<'a>
+    ensures rule { rule_of result ≡ header_rule }
+    ensures local { result.global ≡ false }
+{
+    Arg::new(alloc, "header")
+        .long("header")
+        .action(ArgAction::SetTrue)
+        .help("Skips the first line of the input")
+}
+
+/// The command `tempo` with its options.
+pub(crate) fn tempo_command<'a>(alloc: Global) -> Result<Command<'a>, AllocError>
+    ensures { IfOk result (λ c. (modes : Bor (List (Bor Text)))
+        × (map (λ s. s.now) modes.now ≡ codes "run" ∷ codes "explain" ∷ [])
+        × (app_of c ≡ tempo_app_with (Names modes))) }
+{
+    Command::new(alloc, "tempo")
+        .arg(query_option(alloc))?
+        .arg(mode_option(alloc))?
+        .arg(batch_option(alloc))?
+        .arg(header_option(alloc))
+}

@@ -1,0 +1,92 @@
+// Words against what they ask for.
+use crate::{WordsFault, read_words};
+use std::alloc::{AllocError, Global};
+
+/// What the words of a text, with `|` between each two, give.
+fn told(alloc: Global, text: &str) -> Result<String, AllocError> {
+    let words: Vec<&str> = text.split('|').collect(alloc)?;
+    match read_words(alloc, words.as_slice()) {
+        Ok(asked) => format!(in alloc;
+            "[{}] {:?} {} {}",
+            asked.query, asked.mode, asked.batch, asked.header
+        ),
+        Err(WordsFault::Refused { .. }) => String::from_str(alloc, "refused"),
+        Err(WordsFault::Memory) => String::from_str(alloc, "memory"),
+    }
+}
+
+#[test]
+fn words_ask_for_their_command(rt: HostRuntime) {
+    let cases = [
+        ("tempo|--query|q", "[q] Run 1024 false"),
+        ("tempo|--query|", "[] Run 1024 false"),
+        ("tempo|--query=", "[] Run 1024 false"),
+        ("tempo|--query=-q", "[-q] Run 1024 false"),
+        ("tempo|--query|-", "[-] Run 1024 false"),
+        ("tempo|--query|q|--", "[q] Run 1024 false"),
+        ("tempo|--query|a b = c", "[a b = c] Run 1024 false"),
+        ("tempo|--query|q|--batch=+7", "[q] Run 7 false"),
+        ("tempo|--batch|007|--query|q", "[q] Run 7 false"),
+        ("tempo|--query|q|--batch|1", "[q] Run 1 false"),
+        ("tempo|--query|q|--batch|8192", "[q] Run 8192 false"),
+        ("tempo|--query|q|--mode|run", "[q] Run 1024 false"),
+        (
+            "tempo|--header|--query=q|--mode|explain",
+            "[q] Explain 1024 true",
+        ),
+        ("--query|--query|q", "[q] Run 1024 false"),
+    ];
+    for (text, wanted) in cases {
+        let given = told(rt.alloc(), text).expect(&rt, "memory");
+        assert_eq!(rt; given.as_str(), wanted, "at {text}");
+    }
+}
+
+#[test]
+fn other_words_are_refused(rt: HostRuntime) {
+    let cases = [
+        "tempo",
+        "tempo|--query",
+        "tempo|--query|-q",
+        "tempo|--query|q|--batch|0",
+        "tempo|--query|q|--batch|8193",
+        "tempo|--query|q|--batch|x",
+        "tempo|--query|q|--batch|",
+        "tempo|--query|q|--batch|18446744073709551617",
+        "tempo|--query|q|--mode|sample",
+        "tempo|--query|q|--mode|Run",
+        "tempo|--query|q|--header=true",
+        "tempo|--query|q|--header|--header",
+        "tempo|--query|q|--query|q",
+        "tempo|--query|q|--help",
+        "tempo|--query|q|-h",
+        "tempo|--query|q|--version",
+        "tempo|--query|q|--quer|q",
+        "tempo|--query|q|more",
+        "tempo|--query|q|--|more",
+        "tempo|--header",
+        "tempo|--mode|explain|--batch|7",
+    ];
+    for text in cases {
+        let given = told(rt.alloc(), text).expect(&rt, "memory");
+        assert_eq!(rt; given.as_str(), "refused", "at {text}");
+    }
+}
+
+/// The text of a refusal, if the words are refused.
+fn refusal(alloc: Global, words: &[&str]) -> Option<String> {
+    match read_words(alloc, words) {
+        Err(WordsFault::Refused { text }) => Some(text),
+        _ => None,
+    }
+}
+
+#[test]
+fn refusals_tell_what_is_wrong(rt: HostRuntime) {
+    let missing = refusal(rt.alloc(), &["tempo"]).expect(&rt, "a refusal");
+    assert!(rt; missing.as_str().contains("--query"));
+    let help = refusal(rt.alloc(), &["tempo", "--help"]).expect(&rt, "a refusal");
+    for option in ["--query", "--mode", "--batch", "--header"] {
+        assert!(rt; help.as_str().contains(option), "at {option}");
+    }
+}
