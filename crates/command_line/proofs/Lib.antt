@@ -5,3 +5,4 @@ pub mod Rows
 pub mod Taken
 pub mod Faults
 pub mod Spelled
+pub mod Printed

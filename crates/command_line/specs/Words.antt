@@ -1,5 +1,5 @@
 -- What words ask for, by what clap matches for the options.
-use Rattle.std.specs.Prelude.{◌≡◌, ℕ, Bool, true, false, List, codes, Option, Some, option_map, ⊤}
+use Rattle.std.specs.Prelude.{◌≡◌, ◌++◌, ℕ, Bool, true, false, List, [], ◌∷◌, codes, decimal, Option, Some, option_map, ⊤}
 use Rattle.std.specs.Str.Parse.{digits_value, without_leading_plus}
 use Rattle.clap.specs.Matches.{first_value, one_text}
 use Rattle.clap.specs.Values.{IsUnsignedIn, bool_text}
@@ -49,6 +49,16 @@ pub record SpellsCommand (words : List Text) (a : Asked) : Type 0 where
   pub mode : value_of words (codes "mode") ≡ Some (mode_text a.mode)
   pub batch : option_map number_said (value_of words (codes "batch")) ≡ Some a.batch
   pub header : value_of words (codes "header") ≡ Some (bool_text a.header)
+
+-- the word --header, where a header is asked for
+abbrev pub header_words : Bool → List Text
+header_words true = codes "--header" ∷ []
+header_words false = []
+
+-- words that print what is asked for: tempo --query=s --mode=run --batch=1024
+abbrev pub words_for : Asked → List Text
+words_for a =
+    codes "tempo" ∷ (codes "--query=" ++ a.query) ∷ (codes "--mode=" ++ mode_text a.mode) ∷ (codes "--batch=" ++ decimal a.batch) ∷ header_words a.header
 
 -- the cause holds of the words: for Refused, clap does not take them; Memory may come with any words
 abbrev pub HasCause : List Text → WordsFault → Type 0

@@ -1,7 +1,7 @@
 // Laws of what words ask for. The functions do nothing; their clauses are the laws.
 ghost use Rattle.std.specs.Prelude.{◌≡◌, ◌≤◌, List, true};
 ghost use Rattle.clap.specs.Words.{Text};
-ghost use Rattle.command_line.specs.Words.{Asked, SpellsCommand, are_taken};
+ghost use Rattle.command_line.specs.Words.{Asked, SpellsCommand, are_taken, words_for};
 
 /// Words ask for one command at most.
 pub fn words_spell_one_command()
@@ -11,4 +11,9 @@ pub fn words_spell_one_command()
 /// Words that are taken ask for a command, with a batch of 1 to 8192.
 pub fn taken_words_spell_a_command()
     ensures { (words : List Text) → are_taken words ≡ true → (a : Asked) × SpellsCommand words a × (1 ≤ a.batch) × (a.batch ≤ 8192) }
+{}
+
+/// Each command is asked for by the words that print it.
+pub fn commands_have_words()
+    ensures { (a : Asked) → 1 ≤ a.batch → a.batch ≤ 8192 → SpellsCommand (words_for a) a }
 {}
