@@ -7,4 +7,5 @@ mod options;
 mod tests;
 mod words;
 
+pub use laws::{commands_have_words, taken_words_spell_a_command, words_spell_one_command};
 pub use words::{CommandLine, Mode, WordsFault, read_words};

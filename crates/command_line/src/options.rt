@@ -1,7 +1,7 @@
 // The options of the command line.
 ghost use Rattle.std.specs.Prelude.{◌≡◌, ◌∷◌, [], IfOk, List, codes, false, map};
 ghost use Rattle.std.specs.Borrow.{Bor};
-ghost use Rattle.clap.specs.Words.{Text, app_of, rule_of};
+ghost use Rattle.clap.specs.Words.{Text, app_of, new_app, rule_of};
 ghost use Rattle.clap.specs.declared.builder.value_parser.ValueParser.TheVariants.{Names};
 ghost use Rattle.command_line.specs.Options.{batch_rule, header_rule, mode_rule, query_rule, tempo_app_with};
 
@@ -57,13 +57,19 @@ fn header_option<'a>(alloc: Global) -> Arg<'a>
         .help("Skips the first line of the input")
 }
 
+fn bare_command<'a>(alloc: Global) -> Command<'a>
+    ensures { app_of result ≡ new_app (codes "tempo") }
+{
+    Command::new(alloc, "tempo").about("Answers a query over streams of events")
+}
+
 /// The command `tempo` with its options.
 pub(crate) fn tempo_command<'a>(alloc: Global) -> Result<Command<'a>, AllocError>
     ensures { IfOk result (λ c. (modes : Bor (List (Bor Text)))
         × (map (λ s. s.now) modes.now ≡ codes "run" ∷ codes "explain" ∷ [])
         × (app_of c ≡ tempo_app_with (Names modes))) }
 {
-    Command::new(alloc, "tempo")
+    bare_command(alloc)
         .arg(query_option(alloc))?
         .arg(mode_option(alloc))?
         .arg(batch_option(alloc))?

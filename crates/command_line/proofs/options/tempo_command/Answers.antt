@@ -9,7 +9,7 @@ pub returns : goal.returns
 returns c =
     let mode = c.mode_option.ensures.rule in
     let one : app_of c.in_ok-arg.field-0 ≡ with_rule (new_app (codes "tempo")) query_rule =
-    c.in_ok-arg.ensures.shape c.query_option.ensures.local ∙ ap₂ with_rule c.new.ensures.app c.query_option.ensures.rule in
+    c.in_ok-arg.ensures.shape c.query_option.ensures.local ∙ ap₂ with_rule c.bare_command.ensures c.query_option.ensures.rule in
     let two : app_of c.in_ok-arg-2.field-0 ≡ with_rule (with_rule (new_app (codes "tempo")) query_rule) (mode_rule (vp.Names mode.0)) =
     c.in_ok-arg-2.ensures.shape c.mode_option.ensures.local ∙ ap₂ with_rule one mode.2 in
     let three : app_of c.in_ok-arg-3.field-0 ≡ with_rule (with_rule (with_rule (new_app (codes "tempo")) query_rule) (mode_rule (vp.Names mode.0))) batch_rule =
