@@ -6,3 +6,4 @@ pub mod Taken
 pub mod Faults
 pub mod Spelled
 pub mod Printed
+mod Examples
