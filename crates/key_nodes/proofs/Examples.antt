@@ -17,11 +17,11 @@ use Rattle.key_nodes.proofs.Grouping.{group_row_of}
 abbrev self : ℕ → ℕ
 self k = k
 
-abbrev event : ℕ → ℕ → ℕ → Event ℕ
+abbrev pub event : ℕ → ℕ → ℕ → Event ℕ
 event row start end = record { row = row; start = start; end = end }
 
 -- how many rows there are, if any
-abbrev number : List ℕ → Option ℕ
+abbrev pub number : List ℕ → Option ℕ
 number rows = let n = total (λ r. 1) rows in cond (nat_lt 0 n) (Some n) None
 
 -- how many rows the key has

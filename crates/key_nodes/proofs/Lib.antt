@@ -10,3 +10,4 @@ pub mod Ends
 pub mod Examples
 pub mod Maximal
 pub mod Shards
+pub mod EventExamples

@@ -1,5 +1,5 @@
 -- Runs: the instants at which a row is there, put together into events.
-use Rattle.std.specs.Prelude.{◌≡◌, ◌↔◌, ℕ, zero, suc, ◌<◌, ◌⊎◌, nat_eq, Bool, cond, ◌&&◌, IsTrue, IsFalse, Option, Some, None, List, [], ◌∷◌}
+use Rattle.std.specs.Prelude.{◌≡◌, ◌↔◌, ℕ, zero, suc, ◌<◌, ◌≤◌, ◌⊎◌, nat_eq, Bool, cond, ◌&&◌, IsTrue, IsFalse, Option, Some, None, List, [], ◌∷◌}
 use Rattle.tw_rows.specs.Event.{Event}
 
 -- the test is true exactly where both are equal
@@ -31,3 +31,9 @@ IsApart same_row e (d ∷ es) = (d.end < e.start) ⊎ ((d.end ≡ e.start) × Is
 abbrev pub AreMaximal : {R : Type 0} → (R → R → Bool) → List (Event R) → Type 0
 AreMaximal same_row [] = Unit {0}
 AreMaximal same_row (e ∷ es) = IsApart same_row e es × AreMaximal same_row es
+
+-- the events stand latest first: each but the last begins no sooner than the next one ends
+abbrev pub AreFalling : {R : Type 0} → List (Event R) → Type 0
+AreFalling [] = Unit {0}
+AreFalling (e ∷ []) = Unit {0}
+AreFalling (e ∷ d ∷ es) = (d.end ≤ e.start) × AreFalling (d ∷ es)
