@@ -1,8 +1,8 @@
-//! Which places of a list are occupied: a list of truth values whose room is made once.
+//! Which places of a list are occupied: a list of truth values, 64 to a word, whose room is made once.
 #![tactic(auto)]
 
-ghost use Rattle.std.specs.Prelude.{◌≡◌, ◌<◌, ◌≤◌, ◌↔◌, true, false, [], ◌∷◌, ◌++◌, length, count_by, slice_set, IfOk, IfSome, IfNone, IsTrue};
-ghost use Rattle.occupancy.specs.Bits.{is_set_at, IsNextSet, IsNoneSet, both};
+ghost use Rattle.std.specs.Prelude.{◌≡◌, ℕ, ◌+◌, ◌*◌, ◌^◌, ◌%◌, ◌<◌, ◌≤◌, ◌↔◌, true, false, [], ◌∷◌, ◌++◌, length, count_by, slice_set, IfOk, IfSome, IfNone, IsTrue};
+ghost use Rattle.occupancy.specs.Bits.{is_set_at, IsNextSet, IsNoneSet, both, test, word_bits};
 
 use std::alloc::{AllocError, Global};
 use std::marker::Model;
@@ -11,20 +11,22 @@ use std::marker::Model;
 /// takes memory. Contracts see it as its truth values and its capacity.
 #[derive(Drop)]
 pub struct Occupancy {
-    bits: Vec<bool>,
+    // 64 bits to a word, the first one lowest. The bits past `len` are 0.
+    words: Vec<u64>,
+    len: usize,
     // How many bits there is room for, as asked for.
     capacity: usize,
 }
 
 impl Model for Occupancy {
-    ghost use Rattle.std.specs.Prelude.{◌≤◌, vec_len, vec_capacity};
-    ghost use Rattle.occupancy.specs.Bits.{Bits};
+    ghost use Rattle.std.specs.Prelude.{◌≡◌, ◌≤◌, ◌+◌, ◌*◌, ◌/◌, vec_len, vec_capacity};
+    ghost use Rattle.occupancy.specs.Bits.{Bits, bits_of, IsClean, IsRoomy};
 
     ghost Value = { Bits };
 
-    ghost view = { λ o. record { items = o.bits.items; capacity = o.capacity } };
+    ghost view = { λ o. record { items = bits_of o.words.items o.len; capacity = o.capacity } };
 
-    ghost invariant = { λ o. (vec_len o.bits ≤ o.capacity) × (o.capacity ≤ vec_capacity o.bits) };
+    ghost invariant = { λ o. IsRoomy (vec_len o.words) (vec_capacity o.words) o.len o.capacity × IsClean o.words.items o.len };
 }
 
 impl Occupancy {
@@ -33,7 +35,8 @@ impl Occupancy {
         ensures { IfOk result (λ o. o ≡ record { items = []; capacity = capacity }) }
     {
         Ok(Occupancy {
-            bits: Vec::with_capacity(alloc, capacity)?,
+            words: Vec::with_capacity(alloc, capacity.div_ceil(64))?,
+            len: 0,
             capacity,
         })
     }
@@ -43,7 +46,27 @@ impl Occupancy {
         requires { length self.old.items < self.old.capacity }
         ensures { self.new ≡ record self.old { items = self.old.items ++ bit ∷ [] } }
     {
-        self.bits.push_reserved(bit);
+        let place = self.len % 64;
+        if place == 0 {
+            self.words.push_reserved(u64::from(bit));
+        } else {
+            let last = self.words.len() - 1;
+            self.words[last] |= u64::from(bit) << place;
+        }
+        self.len += 1;
+    }
+
+    /// Adds the lowest `count` bits of the word, where the list ends with a full word.
+    pub fn push_word(&mut self, word: u64, count: usize)
+        requires aligned { length self.old.items % 64 ≡ 0 }
+        requires some { 1 ≤ count }
+        requires few { count ≤ 64 }
+        requires clean { word < 2 ^ count }
+        requires room { length self.old.items + count ≤ self.old.capacity }
+        ensures { self.new ≡ record self.old { items = self.old.items ++ word_bits word count } }
+    {
+        self.words.push_reserved(word);
+        self.len += count;
     }
 
     /// Sets the bit at the place `i`.
@@ -51,7 +74,7 @@ impl Occupancy {
         requires { i < length self.old.items }
         ensures { self.new ≡ record self.old { items = slice_set self.old.items i true } }
     {
-        self.bits[i] = true;
+        self.words[i / 64] |= 1 << (i % 64);
     }
 
     /// Clears the bit at the place `i`.
@@ -59,7 +82,7 @@ impl Occupancy {
         requires { i < length self.old.items }
         ensures { self.new ≡ record self.old { items = slice_set self.old.items i false } }
     {
-        self.bits[i] = false;
+        self.words[i / 64] &= !(1 << (i % 64));
     }
 
     /// Tells whether the bit at the place `i` is set.
@@ -67,7 +90,15 @@ impl Occupancy {
         requires { i < length self.now.items }
         ensures { result ≡ is_set_at self.now.items i }
     {
-        self.bits[i]
+        (self.words[i / 64] >> (i % 64)) & 1 == 1
+    }
+
+    /// The bits from place 64 * w on, the first one lowest. Those past the end are 0.
+    pub fn word(&self, w: usize) -> u64
+        requires { 64 * w < length self.now.items }
+        ensures { (k : ℕ) → k < 64 → test result k ≡ is_set_at self.now.items (64 * w + k) }
+    {
+        self.words[w]
     }
 
     /// Leaves set just those bits that are set in the mask too.
@@ -75,10 +106,8 @@ impl Occupancy {
         requires { length mask.now.items ≡ length self.old.items }
         ensures { self.new ≡ record self.old { items = both self.old.items mask.now.items } }
     {
-        for (place, kept) in mask.bits.iter().enumerate() {
-            if !kept {
-                self.bits[place] = false;
-            }
+        for (w, kept) in mask.words.iter().enumerate() {
+            self.words[w] &= *kept;
         }
     }
 
@@ -86,7 +115,13 @@ impl Occupancy {
     pub fn count(&self) -> usize
         ensures { result ≡ count_by (λ b. b) self.now.items }
     {
-        self.bits.iter().filter(|bit| **bit).count()
+        // A read of the length tells the proof its range.
+        let _len = self.len;
+        let mut count = 0;
+        for word in &self.words {
+            count += word.count_ones() as usize;
+        }
+        count
     }
 
     /// The least place at `from` or later whose bit is set.
@@ -95,9 +130,18 @@ impl Occupancy {
         ensures within { IfSome result (λ place. place < length self.now.items) }
         ensures none { IfNone result (IsNoneSet self.now.items from) }
     {
-        for place in from..self.bits.len() {
-            if self.bits[place] {
-                return Some(place);
+        if from >= self.len {
+            return None;
+        }
+        let first = from / 64;
+        let low = self.words[first] & (u64::MAX << (from % 64));
+        if low != 0 {
+            return Some(64 * first + low.trailing_zeros() as usize);
+        }
+        for w in first + 1..self.words.len() {
+            let word = self.words[w];
+            if word != 0 {
+                return Some(64 * w + word.trailing_zeros() as usize);
             }
         }
         None
@@ -107,7 +151,8 @@ impl Occupancy {
     pub fn reset(&mut self)
         ensures { self.new ≡ record self.old { items = [] } }
     {
-        self.bits.clear();
+        self.words.clear();
+        self.len = 0;
     }
 
     /// How many bits the list holds, set or not.
@@ -115,14 +160,14 @@ impl Occupancy {
         ensures len { result ≡ length self.now.items }
         ensures within { length self.now.items ≤ self.now.capacity }
     {
-        self.bits.len()
+        self.len
     }
 
     /// Tells whether the list holds no bit.
     pub fn is_empty(&self) -> bool
         ensures { IsTrue result ↔ (self.now.items ≡ []) }
     {
-        self.bits.is_empty()
+        self.len == 0
     }
 
     /// How many bits there is room for in all.

@@ -1,7 +1,6 @@
--- No place from the first one on, and before this one, is set.
-use Rattle.std.proofs.Common.{◌≡◌, ℕ, ◌<◌, ◌≤◌, false}
-use Rattle.occupancy.specs.Bits.{is_set_at}
+use Rattle.std.proofs.Common.{◌*◌}
+use Rattle.occupancy.proofs.Found.{AreClear}
 use Rattle.occupancy.proofs.Occupancy.next_set.Given as goal
 
-abbrev pub invariant-loop-place : goal.invariant-loop-place
-invariant-loop-place l = (k : ℕ) → l.from ≤ k → k < l.place → is_set_at l.self.items k ≡ false
+abbrev pub invariant-loop-w : goal.invariant-loop-w
+invariant-loop-w l = AreClear l.self-inside.words.items l.from (64 * l.w)
