@@ -2,12 +2,13 @@
 use Rattle.std.specs.Prelude.{ℕ, suc, ◌<◌, List, [], ◌∷◌, length}
 use Rattle.plan_model.specs.IsExpr.{IsOneLine, IsDivisor}
 use Rattle.query_text.specs.declared.tree.TreeNode.{TreeNode}
-use Rattle.query_text.specs.declared.tree.TreeNode.TheVariants.{Name, Int, Bool, Text, Neg, Not, Arith, Div, Mod, Compare, And, Or}
+use Rattle.query_text.specs.declared.tree.TreeNode.TheVariants.{Name, Int, Dec, Bool, Text, Neg, Not, Arith, Div, Mod, Compare, And, Or}
 
 -- the node of number i has its operands before it, a divisor to divide by, and a text without a line break
 abbrev pub IsTreeNode : ℕ → TreeNode → Type 0
 IsTreeNode i (Name name) = Unit {0}
 IsTreeNode i (Int x) = Unit {0}
+IsTreeNode i (Dec units places) = Unit {0}
 IsTreeNode i (Bool b) = Unit {0}
 IsTreeNode i (Text text) = IsOneLine text
 IsTreeNode i (Neg of) = of < i

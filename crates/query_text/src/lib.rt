@@ -15,7 +15,7 @@ mod tree;
 pub use laws::{texts_have_one_fault, texts_spell_one_query};
 pub use query::{
     AggFun, AggList, Item, ItemList, Let, LetList, NameList, Pipe, Query, QueryAgg, QueryStep,
-    StepList,
+    StepList, TreeList,
 };
 pub use text::parse;
 pub use tree::{Tree, TreeNode};

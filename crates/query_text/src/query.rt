@@ -38,13 +38,49 @@ pub enum QueryStep {
     Duration(u64),
     Extend(u64),
     /// `tumble w` is the one with size and period w.
-    Hop { size: u64, period: u64 },
+    Hop {
+        size: u64,
+        period: u64,
+    },
     /// The key is empty where the text has none.
-    Session { timeout: u64, key: NameList },
-    Clip { right: Label, key: NameList },
-    Join { right: Label, key: NameList },
-    Anti { right: Label, key: NameList },
-    Group { key: NameList, aggs: AggList },
+    Session {
+        timeout: u64,
+        key: NameList,
+    },
+    Clip {
+        right: Label,
+        key: NameList,
+    },
+    Join {
+        right: Label,
+        key: NameList,
+    },
+    Anti {
+        right: Label,
+        key: NameList,
+    },
+    Group {
+        key: NameList,
+        aggs: AggList,
+    },
+    Coalesce,
+    /// The fills are literals: one for each column of the right side that is not in the key.
+    Left {
+        right: Label,
+        key: NameList,
+        fills: TreeList,
+    },
+    /// The rows with the greatest `count` values of the column `by`, for each value of the key.
+    Top {
+        count: u64,
+        key: NameList,
+        by: Label,
+    },
+    Follow {
+        right: Label,
+        key: NameList,
+        within: u64,
+    },
 }
 
 /// A column of a select: its name, and how its value is computed.
@@ -61,6 +97,7 @@ pub enum AggFun {
     Sum,
     Min,
     Max,
+    Avg,
 }
 
 /// An aggregate of a group: of which column, which only a count does without, and under which name.
@@ -214,6 +251,36 @@ impl NameList {
     }
 
     pub fn items(&self) -> &[Label]
+        ensures { result.now ≡ self.now }
+    {
+        self.items.as_slice()
+    }
+}
+
+/// The literals behind `else`, in the order of the text.
+#[derive(Drop)]
+pub struct TreeList {
+    items: Vec<Tree>,
+}
+
+impl Model for TreeList {
+    ghost use Rattle.std.specs.Prelude.{List};
+    ghost use Rattle.query_text.specs.declared.tree.TreeNode.{TreeNode as Item};
+
+    ghost Value = { List (List Item) };
+
+    ghost view = { λ l. l.items.items };
+}
+
+impl TreeList {
+    /// The list of these. It takes no memory.
+    pub fn from_vec(items: Vec<Tree>) -> TreeList
+        ensures { result ≡ items.items }
+    {
+        TreeList { items }
+    }
+
+    pub fn items(&self) -> &[Tree]
         ensures { result.now ≡ self.now }
     {
         self.items.as_slice()

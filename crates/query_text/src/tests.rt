@@ -1,6 +1,6 @@
 // Texts with the queries that they spell, or with their faults, all found by hand.
 use crate::{
-    AggList, ItemList, LetList, NameList, QueryStep, StepList, Tree, TreeNode, parse,
+    AggList, ItemList, LetList, NameList, QueryStep, StepList, Tree, TreeList, TreeNode, parse,
     texts_spell_one_query,
 };
 use plan_model::{ArithOp, CompareOp, QueryError, QueryFault, StreamList};
@@ -299,6 +299,9 @@ fn shape(node: &TreeNode) -> (&'static str, usize, usize) {
         TreeNode::Name(name) => ("name", name.as_str().len(), 0),
         TreeNode::Text(text) => ("text", text.as_str().len(), 0),
         TreeNode::Int(value) => ("int", value.unsigned_abs() as usize, 0),
+        TreeNode::Dec { units, places } => {
+            ("dec", units.unsigned_abs() as usize, usize::from(*places))
+        }
         TreeNode::Bool(value) => ("bool", usize::from(*value), 0),
         TreeNode::Neg(of) => ("neg", *of, 0),
         TreeNode::Not(of) => ("not", *of, 0),
@@ -440,6 +443,18 @@ fn outline(step: &QueryStep) -> (&'static str, u64, u64) {
             key.items().len() as u64,
             aggs.items().len() as u64,
         ),
+        QueryStep::Coalesce => ("coalesce", 0, 0),
+        QueryStep::Left {
+            right: _,
+            key,
+            fills,
+        } => ("left", key.items().len() as u64, fills.items().len() as u64),
+        QueryStep::Top { count, key, by: _ } => ("top", *count, key.items().len() as u64),
+        QueryStep::Follow {
+            right: _,
+            key,
+            within,
+        } => ("follow", *within, key.items().len() as u64),
     }
 }
 
@@ -487,6 +502,7 @@ fn lists_keep_what_they_are_made_of(rt: HostRuntime) {
     assert_eq!(rt; ItemList::from_vec(Vec::new(rt.alloc())).items().len(), 0);
     assert_eq!(rt; AggList::from_vec(Vec::new(rt.alloc())).items().len(), 0);
     assert_eq!(rt; NameList::from_vec(Vec::new(rt.alloc())).items().len(), 0);
+    assert_eq!(rt; TreeList::from_vec(Vec::new(rt.alloc())).items().len(), 0);
 }
 
 #[test]

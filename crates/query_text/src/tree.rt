@@ -14,6 +14,11 @@ pub enum TreeNode {
     /// The column of that name.
     Name(Label),
     Int(i64),
+    /// A decimal: `1.50` has 150 units and 2 places.
+    Dec {
+        units: i64,
+        places: u8,
+    },
     Bool(bool),
     /// A text, as it is without its quotes. It has neither CR nor LF.
     Text(Label),
