@@ -1,6 +1,7 @@
 -- The ends of sessions and of clipped events, as the least of some times.
 use Rattle.std.specs.Prelude.{◌≡◌, ◌↔◌, ◌⊎◌, ℕ, ◌+◌, ◌<◌, ◌≤◌, nat_lt, nat_le, Bool, true, false, cond, not, ◌&&◌, IsTrue, List, [], ◌∷◌, map, filter, All, refl}
-use Rattle.std.proofs.Common.{arith}
+use Rattle.std.specs.List.{list_any}
+use Rattle.std.proofs.Common.{sym, ◌∙◌, arith}
 use Rattle.std.proofs.lemmas.Bool.{and_from, and_parts, or_from, or_parts, not-true, not_from_false, leb-true, le-leb, ltb-true, lt-ltb}
 use Rattle.std.proofs.lemmas.Bool.Decides.{nat_tests}
 use Rattle.std.proofs.lemmas.List.Elements.{All-nil, All-cons, All-head, All-tail}
@@ -8,6 +9,7 @@ use Rattle.tw_rows.specs.Instant.{inf, later}
 use Rattle.tw_rows.specs.Event.{Event}
 use Rattle.key_nodes.specs.Sessions.{least, any_between, session_end}
 use Rattle.key_nodes.specs.Clips.{clip}
+use Rattle.key_nodes.specs.Follows.{starts_within, starts_next}
 
 module _ {X : Type 0} (f : X → ℕ) (p : X → Bool) (m t : ℕ) where
   abbrev Above : X → Type 0
@@ -39,17 +41,18 @@ outside a b u h = grind (arith, nat_tests)
 not_inside : (a b u : ℕ) → (u ≤ a) ⊎ (b ≤ u) → (nat_lt a u && nat_lt u b) ≡ false
 not_inside a b u h = grind (arith, nat_tests)
 
+-- none passes exactly where what a test that fails says holds of each
+pub none_passes : {X : Type 0} (p : X → Bool) (Q : X → Type 0) → ((x : X) → (p x ≡ false) ↔ Q x) → (xs : List X) →
+    (list_any p xs ≡ false) ↔ All Q xs
+none_passes p Q is [] = (λ h. All-nil Q, λ h. refl)
+none_passes p Q is (x ∷ xs) = let rest = none_passes p Q is xs in (
+  λ h. let k = or_parts (p x) (list_any p xs) h in All-cons Q x xs ((is x).0 k.0) (rest.0 k.1),
+  λ h. or_from (p x) (list_any p xs) ((is x).1 (All-head Q x xs h)) (rest.1 (All-tail Q x xs h)),
+)
+
 none_between : (starts : List ℕ) (a b : ℕ) → (any_between starts a b ≡ false) ↔ All (λ u. (u ≤ a) ⊎ (b ≤ u)) starts
-none_between [] a b = (λ h. All-nil (λ u. (u ≤ a) ⊎ (b ≤ u)), λ h. refl)
-none_between (u ∷ us) a b =
-    let P : ℕ → Type 0 = λ u. (u ≤ a) ⊎ (b ≤ u) in
-    let rest = none_between us a b in (
-      λ h. let k =
-          or_parts (nat_lt a u && nat_lt u b) (any_between us a b) h in
-          All-cons P u us (outside a b u k.0) (rest.0 k.1),
-      λ h. or_from (nat_lt a u && nat_lt u b) (any_between us a b) (not_inside a b u (All-head P u us h))
-          (rest.1 (All-tail P u us h)),
-    )
+none_between starts a b =
+    none_passes (λ u. nat_lt a u && nat_lt u b) (λ u. (u ≤ a) ⊎ (b ≤ u)) (λ u. (outside a b u, not_inside a b u)) starts
 
 pub session_end_least : (timeout from t : ℕ) (starts : List ℕ) →
     (t ≤ session_end timeout starts from)
@@ -81,3 +84,41 @@ clip_end_least {L} {R} meets right e t =
     g k.0 (ltb-true e.start r.start k.1) in
     let is = least_of (λ r. r.start) (λ r. meets e.row r.row && after r) e.end t right in
     (λ h. ((is.0 h).0, all_from P Q right to (is.0 h).1), λ h. is.1 (h.0, all_from Q P right back h.1))
+
+pub starts_next_is : {L R : Type 0} (meets : L → R → Bool) (within : ℕ) (rs : List (Event R)) (a : Event L)
+    (b : Event R) → IsTrue (starts_next meets within rs a b)
+    ↔ (IsTrue (meets a.row b.row) × (a.start < b.start) × (b.start < a.start + within)
+    × All (λ c. IsTrue (meets a.row c.row) → a.start < c.start → b.start ≤ c.start) rs)
+starts_next_is {L} {R} meets within rs a b =
+    let near : Event R → Bool = starts_within meets within a in
+    let sooner : Event R → Bool = λ c. near c && nat_lt c.start b.start in
+    let Q : Event R → Type 0 = λ c. IsTrue (meets a.row c.row) → a.start < c.start → b.start ≤ c.start in
+    let early : b.start < a.start + within → (list_any sooner rs ≡ false) ↔ All Q rs = λ low.
+    none_passes sooner Q (λ c. (one c (meets a.row c.row) refl low, back c (meets a.row c.row) refl)) rs in (
+      λ h. let k = and_parts (near b) (not (list_any sooner rs)) h in
+          let m = and_parts (meets a.row b.row) (nat_lt a.start b.start && nat_lt b.start (a.start + within)) k.0 in
+          let t = and_parts (nat_lt a.start b.start) (nat_lt b.start (a.start + within)) m.1 in
+          let low = ltb-true b.start (a.start + within) t.1 in
+          (m.0, ltb-true a.start b.start t.0, low, (early low).0 (not-true (list_any sooner rs) k.1)),
+      λ h. and_from (near b) (not (list_any sooner rs))
+          (and_from (meets a.row b.row) (nat_lt a.start b.start && nat_lt b.start (a.start + within)) h.0
+          (and_from (nat_lt a.start b.start) (nat_lt b.start (a.start + within)) (lt-ltb a.start b.start h.1)
+          (lt-ltb b.start (a.start + within) h.2)))
+          (not_from_false (list_any sooner rs) ((early h.2).1 h.3)),
+    )
+  where
+    one : (c : Event R) (m : Bool) → meets a.row c.row ≡ m → b.start < a.start + within →
+        ((m && (nat_lt a.start c.start && nat_lt c.start (a.start + within))) && nat_lt c.start b.start) ≡ false →
+        IsTrue (meets a.row c.row) → a.start < c.start → b.start ≤ c.start
+    one c m e low h met after = let k : m ≡ true = sym e ∙ met in grind (arith, nat_tests)
+
+    back : (c : Event R) (m : Bool) → meets a.row c.row ≡ m →
+        (IsTrue (meets a.row c.row) → a.start < c.start → b.start ≤ c.start) →
+        ((m && (nat_lt a.start c.start && nat_lt c.start (a.start + within))) && nat_lt c.start b.start) ≡ false
+    back c true e h = least (h e)
+      where
+        least : (a.start < c.start → b.start ≤ c.start) →
+            ((true && (nat_lt a.start c.start && nat_lt c.start (a.start + within))) && nat_lt c.start b.start)
+            ≡ false
+        least h = grind (arith, nat_tests)
+    back c false e h = refl

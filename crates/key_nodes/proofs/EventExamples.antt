@@ -1,12 +1,12 @@
 -- Coalesced events, tops, followed events and pairs, worked out.
-use Rattle.std.specs.Prelude.{◌≡◌, ℕ, ◌+◌, nat_eq, nat_lt, pos, true, cond, Some, List, [], ◌∷◌, refl}
-use Rattle.tw_rows.specs.Event.{Event, alive}
+use Rattle.std.specs.Prelude.{◌≡◌, ◌+◌, nat_eq, nat_lt, pos, true, cond, [], ◌∷◌, refl}
+use Rattle.tw_rows.specs.Event.{alive}
 use Rattle.tw_rows.specs.Instant.{inf}
 use Rattle.key_nodes.specs.Groups.{grouped_rows}
-use Rattle.key_nodes.specs.Coalesced.{rise_times, fall_times, paired_times, coalesced_below}
+use Rattle.key_nodes.specs.Coalesced.{rise_times, fall_times, coalesced_below}
 use Rattle.key_nodes.specs.Tops.{top_rows}
 use Rattle.key_nodes.specs.Follows.{followed}
-use Rattle.key_nodes.specs.Joins.{joined_rows, joined}
+use Rattle.key_nodes.specs.Joins.{joined}
 use Rattle.key_nodes.proofs.Examples.{event, number}
 
 -- lives that touch are one event: [1, 9) and [9, 12), and another row beside them

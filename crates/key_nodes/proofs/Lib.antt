@@ -11,3 +11,8 @@ pub mod Examples
 pub mod Maximal
 pub mod Shards
 pub mod EventExamples
+pub mod Coalescing
+pub mod CoalescedKnown
+pub mod CoalescedRows
+pub mod Topping
+pub mod Following

@@ -3,7 +3,7 @@ use Rattle.std.specs.Prelude.{◌≡◌, ℕ, zero, suc, ◌≤◌, nat_eq, Bool
 use Rattle.std.proofs.Common.{inl, inr, sym, ◌∙◌, ap, arith}
 use Rattle.std.proofs.lemmas.Bool.{cases_lt, eq-eqb}
 use Rattle.tw_rows.specs.Event.{Event}
-use Rattle.key_nodes.specs.Runs.{goes_on, runs, IsApart, AreMaximal}
+use Rattle.key_nodes.specs.Runs.{goes_on, runs, IsApart, AreMaximal, AreFalling}
 use Rattle.key_nodes.proofs.RunSteps.{Within, runs_within}
 
 apart : {R : Type 0} (same_row : R → R → Bool) (e : Event R) (es : List (Event R)) (r : R) (n : ℕ) → e.end ≤ n →
@@ -38,3 +38,18 @@ pub runs_maximal : {R : Type 0} (same_row : R → R → Bool) (f : ℕ → Optio
 runs_maximal same_row f zero = tt
 runs_maximal same_row f (suc n) =
     goes_on_maximal same_row (f n) n (runs same_row f n) (runs_within same_row f n) (runs_maximal same_row f n)
+
+-- as no run goes on from the one after it in the list, that one ends by the time at which it begins
+maximal_falls : {R : Type 0} (same_row : R → R → Bool) (es : List (Event R)) → AreMaximal same_row es → AreFalling es
+maximal_falls same_row [] h = tt
+maximal_falls same_row (e ∷ []) h = tt
+maximal_falls same_row (e ∷ d ∷ es) h = (
+  elim h.0 [
+    | inl before ↦ omega (arith, before)
+    | inr at ↦ let k = at.0 in omega (arith, k)
+  ],
+  maximal_falls same_row (d ∷ es) h.1,
+)
+
+pub runs_falling : {R : Type 0} (same_row : R → R → Bool) (f : ℕ → Option R) (n : ℕ) → AreFalling (runs same_row f n)
+runs_falling same_row f n = maximal_falls same_row (runs same_row f n) (runs_maximal same_row f n)

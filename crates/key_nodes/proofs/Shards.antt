@@ -12,6 +12,7 @@ use Rattle.tw_rows.proofs.Lives.{total-alive}
 use Rattle.key_nodes.specs.Runs.{Tells, runs}
 use Rattle.key_nodes.specs.Groups.{distinct, has_key, IsGroupRow, grouped}
 use Rattle.key_nodes.specs.Antis.{alone_at, alone}
+use Rattle.key_nodes.specs.Joins.{joined_one, joined}
 use Rattle.key_nodes.specs.Sessions.{least, session_end, session, sessions}
 use Rattle.key_nodes.specs.Clips.{clip, clipped}
 use Rattle.key_nodes.specs.Shards.{of_shard, over_shards}
@@ -21,11 +22,11 @@ use Rattle.key_nodes.proofs.RunSteps.{runs_same, runs_none}
 use Rattle.key_nodes.proofs.Grouping.{none_told}
 
 -- a sum over the shards
-sum_below : (ℕ → ℕ) → ℕ → ℕ
+pub sum_below : (ℕ → ℕ) → ℕ → ℕ
 sum_below f zero = 0
 sum_below f (suc n) = sum_below f n + f n
 
-total-over_shards : {X : Type 0} (w : X → ℕ) (f : ℕ → List X) (n : ℕ) →
+pub total-over_shards : {X : Type 0} (w : X → ℕ) (f : ℕ → List X) (n : ℕ) →
     total w (over_shards f n) ≡ sum_below (λ s. total w (f s)) n
 unfolding sum_below
 total-over_shards w f zero = refl
@@ -51,25 +52,26 @@ sum_total f xs zero = sym (total_zero xs)
 sum_total f xs (suc n) =
     ap (λ k. k + total (f n) xs) (sum_total f xs n) ∙ sym (total-add (λ x. sum_below (λ s. f s x) n) (f n) xs)
 
-sum_same : (f g : ℕ → ℕ) (n : ℕ) → ((s : ℕ) → f s ≡ g s) → sum_below f n ≡ sum_below g n
+pub sum_same : (f g : ℕ → ℕ) (n : ℕ) → ((s : ℕ) → f s ≡ g s) → sum_below f n ≡ sum_below g n
 unfolding sum_below
 sum_same f g zero h = refl
 sum_same f g (suc n) h = let a = sum_same f g n h in let b = h n in omega (arith, a, b)
 
-split_sum : {X : Type 0} (shard : X → ℕ) (n : ℕ) → ((x : X) → shard x < n) → (g : X → ℕ) (xs : List X) →
+pub split_sum : {X : Type 0} (shard : X → ℕ) (n : ℕ) → ((x : X) → shard x < n) → (g : X → ℕ) (xs : List X) →
     total g xs ≡ sum_below (λ s. total (λ x. cond (nat_eq (shard x) s) (g x) 0) xs) n
 split_sum shard n low g xs =
     sym (sum_total (λ s x. cond (nat_eq (shard x) s) (g x) 0) xs n
     ∙ total_same _ g xs (λ x. one_shard (g x) (shard x) n ∙ ap (λ b. cond b (g x) 0) (lt-ltb (shard x) n (low x))))
 
-cond_swap : (b : Bool) (n m : ℕ) → (b ≡ true → n ≡ m) → cond b n 0 ≡ cond b m 0
+pub cond_swap : (b : Bool) (n m : ℕ) → (b ≡ true → n ≡ m) → cond b n 0 ≡ cond b m 0
 cond_swap true n m h = h refl
 cond_swap false n m h = refl
 
--- where each event's part in its own shard is its part in the whole, the whole is that of all shards together
-by_event : {L S : Type 0} (shard : L → ℕ) (n : ℕ) → ((l : L) → shard l < n) →
+-- where each event's part in its own shard weighs as much as its part in the whole, the whole is that of all shards together
+pub by_event : {L S : Type 0} (shard : L → ℕ) (n : ℕ) → ((l : L) → shard l < n) →
     (whole : Event L → List S) (part : ℕ → Event L → List S) →
-    ((e : Event L) (s : ℕ) → shard e.row ≡ s → part s e ≡ whole e) → (ls : List (Event L)) →
+    ((w : S → ℕ) (e : Event L) (s : ℕ) → shard e.row ≡ s → total w (part s e) ≡ total w (whole e)) →
+    (ls : List (Event L)) →
     SameBag (flat_map whole ls) (over_shards (λ s. flat_map (part s) (of_shard shard s ls)) n)
 by_event shard n low whole part same ls = record {
   weigh = λ w.
@@ -80,11 +82,11 @@ by_event shard n low whole part same ls = record {
       ∙ (total-filter (λ e. total w (part s e)) (λ e. nat_eq (shard e.row) s) ls
       ∙ total_same _ _ ls
       (λ e. cond_swap (nat_eq (shard e.row) s) (total w (part s e)) (total w (whole e))
-      (λ t. ap (total w) (same e s (eqb-true (shard e.row) s t)))))))
+      (λ t. same w e s (eqb-true (shard e.row) s t))))))
       ∙ sym (total-over_shards w (λ s. flat_map (part s) (of_shard shard s ls)) n)));
 }
 
-by_event_map : {L S : Type 0} (shard : L → ℕ) (n : ℕ) → ((l : L) → shard l < n) →
+pub by_event_map : {L S : Type 0} (shard : L → ℕ) (n : ℕ) → ((l : L) → shard l < n) →
     (whole : Event L → S) (part : ℕ → Event L → S) →
     ((e : Event L) (s : ℕ) → shard e.row ≡ s → part s e ≡ whole e) → (ls : List (Event L)) →
     SameBag (map whole ls) (over_shards (λ s. map (part s) (of_shard shard s ls)) n)
@@ -109,7 +111,7 @@ both_step p x false true rest less e h k = rw (e) h
 both_step p x true false rest less e h k = let z = k refl in absurd (cc)
 both_step p x false false rest less e h k = h
 
-filter_both : {X : Type 0} (p q : X → Bool) (xs : List X) → ((x : X) → p x ≡ true → q x ≡ true) →
+pub filter_both : {X : Type 0} (p q : X → Bool) (xs : List X) → ((x : X) → p x ≡ true → q x ≡ true) →
     filter p (filter q xs) ≡ filter p xs
 filter_both p q [] h = refl
 filter_both p q (x ∷ xs) h = both_step p x (p x) (q x) (filter q xs) (filter p xs) refl (filter_both p q xs h) (h x)
@@ -135,6 +137,15 @@ alive_of_shard {R} p shard s rs t h = record {
     one false true false n k = refl
     one false false c n k = refl
 
+-- a filter loses no weight where what it drops weighs nothing
+pub weighs_all : {X : Type 0} (v : X → ℕ) (p : X → Bool) (xs : List X) → ((x : X) → p x ≡ false → v x ≡ 0) →
+    total v (filter p xs) ≡ total v xs
+weighs_all v p xs h = total-filter v p xs ∙ total_same _ v xs (λ x. one (p x) (v x) (h x))
+  where
+    one : (b : Bool) (n : ℕ) → (b ≡ false → n ≡ 0) → cond b n 0 ≡ n
+    one true n h = refl
+    one false n h = sym (h refl)
+
 any_by_filter : {X : Type 0} (p : X → Bool) (xs ys : List X) → SameBag (filter p xs) (filter p ys) →
     list_any p xs ≡ list_any p ys
 any_by_filter p xs ys h =
@@ -154,10 +165,29 @@ module _ {L R : Type 0} (meets : L → R → Bool) (left_shard : L → ℕ) (rig
   alone_shards same_row ls rs =
       by_event left_shard n low (λ e. runs same_row (alone_at meets rs e) inf)
       (λ s e. runs same_row (alone_at meets (of_shard right_shard s rs) e) inf)
-      (λ e s is. runs_same same_row (alone_at meets (of_shard right_shard s rs) e) (alone_at meets rs e) inf (λ t _.
+      (λ w e s is. ap (total w) (runs_same same_row (alone_at meets (of_shard right_shard s rs) e) (alone_at meets rs e) inf (λ t _.
       ap (λ b. cond (lives_at t e && not b) (Some e.row) None)
       (any_by_filter (meets e.row) (alive (of_shard right_shard s rs) t) (alive rs t)
-      (alive_of_shard (meets e.row) right_shard s rs t (λ r k. sym (agree e.row r k) ∙ is))))) ls
+      (alive_of_shard (meets e.row) right_shard s rs t (λ r k. sym (agree e.row r k) ∙ is)))))) ls
+
+  -- a right event of another shard makes no pair with the left one
+  no_pair : {P : Type 0} (pair : L → R → P) (w : Event P → ℕ) (a : Event L) (b : Event R) (s : ℕ) →
+      left_shard a.row ≡ s → nat_eq (right_shard b.row) s ≡ false → (m : Bool) → meets a.row b.row ≡ m →
+      total w (joined_one meets pair a b) ≡ 0
+  no_pair pair w a b s is other true k =
+      absurd (let x = eq-eqb (right_shard b.row) s (sym (agree a.row b.row k) ∙ is) in cc)
+  no_pair pair w a b s is other false k = rw (k) refl
+
+  pub joined_shards : {P : Type 0} (pair : L → R → P) (ls : List (Event L)) (rs : List (Event R)) →
+      SameBag (joined meets pair ls rs)
+      (over_shards (λ s. joined meets pair (of_shard left_shard s ls) (of_shard right_shard s rs)) n)
+  joined_shards pair ls rs =
+      by_event left_shard n low (λ a. flat_map (joined_one meets pair a) rs)
+      (λ s a. flat_map (joined_one meets pair a) (of_shard right_shard s rs))
+      (λ w a s is. total-flat_map w (joined_one meets pair a) (of_shard right_shard s rs)
+      ∙ (weighs_all (λ b. total w (joined_one meets pair a b)) (λ b. nat_eq (right_shard b.row) s) rs
+      (λ b other. no_pair pair w a b s is other (meets a.row b.row) refl)
+      ∙ sym (total-flat_map w (joined_one meets pair a) rs))) ls
 
   pub clipped_shards : (ls : List (Event L)) (rs : List (Event R)) →
       SameBag (clipped meets ls rs)

@@ -3,7 +3,7 @@ ghost use Rattle.std.specs.Prelude.{◌≡◌, ℕ, ◌<◌, ◌≤◌, Bool, Op
 ghost use Rattle.tw_rows.specs.Instant.{inf};
 ghost use Rattle.tw_rows.specs.Bag.{SameBag};
 ghost use Rattle.tw_rows.specs.Event.{alive, AreEvents, cut};
-ghost use Rattle.key_nodes.specs.Runs.{Tells, runs, AreMaximal};
+ghost use Rattle.key_nodes.specs.Runs.{Tells, runs, AreMaximal, AreFalling};
 
 /// At each instant below `n` the runs have the row that `f` gives there, or none where it gives none.
 pub fn runs_have_the_rows<R>()
@@ -12,9 +12,12 @@ pub fn runs_have_the_rows<R>()
         SameBag (alive (runs same_row f n) t) (option_to_list (f t)) }
 {}
 
-/// No run goes on from the one before it.
+/// The runs stand latest first, each after the one that is next in the list, and no run goes on from that one. So there
+/// is one event for each maximal run.
 pub fn runs_are_maximal<R>()
-    ensures { (same_row : R → R → Bool) (f : ℕ → Option R) (n : ℕ) →
+    ensures falling { (same_row : R → R → Bool) (f : ℕ → Option R) (n : ℕ) →
+        AreFalling (runs same_row f n) }
+    ensures apart { (same_row : R → R → Bool) (f : ℕ → Option R) (n : ℕ) →
         AreMaximal same_row (runs same_row f n) }
 {}
 

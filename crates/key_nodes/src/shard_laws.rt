@@ -4,6 +4,7 @@ ghost use Rattle.tw_rows.specs.Bag.{SameBag};
 ghost use Rattle.tw_rows.specs.Event.{Event};
 ghost use Rattle.key_nodes.specs.Runs.{Tells};
 ghost use Rattle.key_nodes.specs.Groups.{IsGroupRow, grouped};
+ghost use Rattle.key_nodes.specs.Joins.{joined};
 ghost use Rattle.key_nodes.specs.Antis.{alone};
 ghost use Rattle.key_nodes.specs.Sessions.{sessions};
 ghost use Rattle.key_nodes.specs.Clips.{clipped};
@@ -29,6 +30,18 @@ pub fn antis_by_shards<L, R>()
         (left : List (Event L)) (right : List (Event R)) →
         SameBag (alone same_row meets left right)
         (over_shards (λ s. alone same_row meets (of_shard left_shard s left) (of_shard right_shard s right)) n) }
+{}
+
+/// Keys: however rows are given shards such that rows that meet have one shard, joined events are those of each shard,
+/// together.
+pub fn joins_by_shards<L, R, P>()
+    ensures { (meets : L → R → Bool) (pair : L → R → P)
+        (left_shard : L → ℕ) (right_shard : R → ℕ) (n : ℕ) →
+        ((l : L) (r : R) → IsTrue (meets l r) → left_shard l ≡ right_shard r) →
+        ((l : L) → left_shard l < n) →
+        (left : List (Event L)) (right : List (Event R)) →
+        SameBag (joined meets pair left right)
+        (over_shards (λ s. joined meets pair (of_shard left_shard s left) (of_shard right_shard s right)) n) }
 {}
 
 /// Keys: however the keys are given shards, sessions are those of each shard, together.
