@@ -7,10 +7,10 @@ use Rattle.tw_rows.specs.Bag.{total}
 use Rattle.tw_rows.specs.Instant.{inf}
 use Rattle.tw_rows.specs.declared.cells.Datum.{Datum}
 use Rattle.tw_rows.specs.declared.edge.Edge.{Edge}
-use Rattle.edge_history.specs.SameCells.{same_cells}
+use Rattle.tw_rows.specs.SameCells.{same_cells}
 use Rattle.edge_history.specs.Order.{is_end, failing, many, is_real, ends_it}
 use Rattle.edge_history.specs.History.{CellEvent, is_open, ended, end_step, end_all}
-use Rattle.edge_history.proofs.CellTests.{cells_are_same, same_itself}
+use Rattle.tw_rows.specs.SameCells.{cells_are_same, same_itself}
 
 -- an open event of those cells and that start is that very event
 pub open_is : (cells : List Datum) (start : ℕ) (e : CellEvent) → is_open cells start e ≡ true →

@@ -7,7 +7,7 @@ use Rattle.tw_rows.specs.Event.{cut}
 use Rattle.tw_rows.specs.declared.cells.Datum.{Datum}
 use Rattle.tw_rows.specs.declared.cells.Datum.TheVariants.{Int, Text}
 use Rattle.tw_rows.specs.declared.edge.Edge.{Edge}
-use Rattle.edge_history.specs.SameCells.{same_cells}
+use Rattle.tw_rows.specs.SameCells.{same_cells}
 use Rattle.edge_history.specs.Order.{many, failing, is_end, Rises, is_real, is_below, ends_it, starts_it, IsPaired}
 use Rattle.edge_history.specs.History.{CellEvent, end_all, of, StandsBelow}
 use Rattle.edge_history.specs.Balance.{given, taken, is_settled, news}

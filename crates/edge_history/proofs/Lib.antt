@@ -1,4 +1,3 @@
-pub mod CellTests
 pub mod Sums
 pub mod Ending
 pub mod Telling

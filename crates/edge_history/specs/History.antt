@@ -5,7 +5,7 @@ use Rattle.tw_rows.specs.Bag.{SameBag}
 use Rattle.tw_rows.specs.Event.{Event, cut}
 use Rattle.tw_rows.specs.declared.cells.Datum.{Datum}
 use Rattle.tw_rows.specs.declared.edge.Edge.{Edge}
-use Rattle.edge_history.specs.SameCells.{same_cells}
+use Rattle.tw_rows.specs.SameCells.{same_cells}
 use Rattle.edge_history.specs.Order.{is_end, is_below, failing, IsHistory}
 
 -- an event whose row is a row of cells

@@ -1,4 +1,3 @@
-pub mod SameCells
 pub mod Order
 pub mod History
 pub mod Balance

@@ -5,7 +5,7 @@ use Rattle.tw_rows.specs.Instant.{inf}
 use Rattle.tw_rows.specs.Bag.{total}
 use Rattle.tw_rows.specs.declared.cells.Datum.{Datum}
 use Rattle.tw_rows.specs.declared.edge.Edge.{Edge}
-use Rattle.edge_history.specs.SameCells.{same_cells}
+use Rattle.tw_rows.specs.SameCells.{same_cells}
 
 -- how many items pass a test, and how many fail it
 abbrev pub many : {X : Type 0} → (X → Bool) → List X → ℕ

@@ -4,17 +4,10 @@ ghost use Rattle.std.specs.List.Sorted.{IsNonDecreasingBy};
 ghost use Rattle.tw_rows.specs.Instant.{inf};
 ghost use Rattle.tw_rows.specs.Bag.{SameBag};
 ghost use Rattle.tw_rows.specs.Event.{AreEvents, cut};
-ghost use Rattle.tw_rows.specs.declared.cells.Datum.{Datum};
 ghost use Rattle.tw_rows.specs.declared.edge.Edge.{Edge};
-ghost use Rattle.edge_history.specs.SameCells.{same_cells};
 ghost use Rattle.edge_history.specs.Order.{failing, rank, Rises, is_real, is_below, is_from, KeepsOrder, IsHistory};
 ghost use Rattle.edge_history.specs.History.{CellEvent, begun, end_all, of};
 ghost use Rattle.edge_history.specs.Balance.{AreEventsOf};
-
-/// The test of rows of cells is true exactly where they are the same.
-pub fn same_cells_are_equal()
-    ensures { (a b : List Datum) → IsTrue (same_cells a b) ↔ (a ≡ b) }
-{}
 
 /// None of the items fails a test exactly where all pass it.
 pub fn none_fails_where_all_pass()

@@ -13,7 +13,7 @@ mod telling_laws;
 pub use history_laws::{
     edges_below_are_a_history, events_are_unique, events_have_lives, first_edges_are_a_history,
     histories_have_their_events, later_edges_leave_what_is_known, lists_are_ordered_as_histories,
-    more_edges_give_more_events, none_fails_where_all_pass, order_is_by_rank, same_cells_are_equal,
+    more_edges_give_more_events, none_fails_where_all_pass, order_is_by_rank,
 };
 pub use made_laws::{
     both_lists_stand_for_both, order_of_edges_is_free, paired_edges_have_events,

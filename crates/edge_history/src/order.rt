@@ -1,30 +1,15 @@
 // The order of edges.
 ghost use Rattle.std.specs.Prelude.{◌≡◌, ◌<◌, ◌≤◌, ◌↔◌, IsTrue, OnOk, OnErr};
 ghost use Rattle.tw_rows.specs.Bag.{SameBag};
-ghost use Rattle.tw_rows.specs.Instant.{inf};
 ghost use Rattle.edge_history.specs.Order.{rank, Rises, IsReal, KeepsOrder};
 
-use tw_rows::{Edge, Memory, Time};
-
-/// The number of infinity, which is greater than that of every instant.
-const INFINITY: u64 = 2305843009213693952;
-
-// The number of the time.
-fn number_of(t: Time) -> u64
-    ensures number { result ≡ t }
-    ensures within { t ≤ inf }
-{
-    match t.get() {
-        Some(number) => number,
-        None => INFINITY,
-    }
-}
+use tw_rows::{Edge, Memory};
 
 // The place of the edge in a list: by its sync time, and at one time ends first.
 fn rank_of(edge: &Edge) -> u128
     ensures { result ≡ rank edge.now }
 {
-    let twice = 2 * u128::from(number_of(edge.sync));
+    let twice = 2 * u128::from(edge.sync.word());
     if edge.is_end() { twice } else { twice + 1 }
 }
 

@@ -1,7 +1,7 @@
 -- Events: rows with their lives. R is the type of the rows.
 use Rattle.std.specs.Prelude.{ℕ, ◌<◌, ◌≤◌, nat_lt, nat_le, Bool, cond, ◌&&◌, List, [], ◌∷◌, map, filter, flat_map}
 use Rattle.tw_rows.specs.Instant.{inf}
-use Rattle.tw_rows.specs.Bag.{SameBag}
+use Rattle.tw_rows.specs.Bag.{total, SameBag}
 
 -- a row, alive from its start on and before its end, which may be infinity
 pub record Event (R : Type 0) : Type 0 where
@@ -29,6 +29,10 @@ cut_one c e = cond (nat_lt e.start c) (record { row = e.row; start = e.start; en
 
 abbrev pub cut : {R : Type 0} → ℕ → List (Event R) → List (Event R)
 cut c events = flat_map (cut_one c) events
+
+-- the weight of what is known of an event below c. Below 4 the life [3, 5) weighs as [3, inf), and below 3 nothing
+abbrev pub seen : {R : Type 0} → (Event R → ℕ) → ℕ → Event R → ℕ
+seen w c e = total w (cut_one c e)
 
 -- of two lists of events the same is known below c
 pub record Known {R : Type 0} (c : ℕ) (a b : List (Event R)) : Type 0 where

@@ -1,24 +1,26 @@
 // Data, and rows of them.
 ghost use Rattle.std.specs.Prelude.{◌≡◌, ◌≤◌, ◌↔◌, ℕ, pos, List, ◌++◌, IsTrue, IsOk, IfOk, OnOk, OnErr, length, take};
 ghost use Rattle.std.specs.Cmp.{partial_equiv_from_equiv};
-ghost use Rattle.std.specs.Cmp.Lexicographic.{pointwise, lists_per, lists_equiv};
+ghost use Rattle.std.specs.Hash as fed;
+ghost use Rattle.std.specs.Hash.{same_Alike};
 ghost use Rattle.tw_rows.specs.Kinds.{value_kind, cell_kind_of};
 ghost use Rattle.tw_rows.specs.Texts.{BeginsWith};
 ghost use Rattle.tw_rows.specs.Cells.{datum_kind, IsPlaced, ArePlaced, read_datum, read_cells, with_value, with_row};
+ghost use Rattle.tw_rows.specs.SameCells.{same_cells as same, same_cells-Decides, same_cells_equiv};
 ghost use Rattle.tw_rows.specs.declared.cells.Datum.{Datum};
-ghost use Rattle.tw_rows.specs.contracts.cells.DatumPartialEq.TheImpl as datum_block;
-ghost use Rattle.tw_rows.specs.contracts.cells.DatumEq.TheImpl.Laws as datum_laws;
+ghost use Rattle.tw_rows.specs.contracts.cells.DatumHash.TheImpl as datum_hash;
 
 use crate::kind::CellKind;
 use crate::memory::Memory;
 use crate::row::{Row, Value};
 use crate::texts::TextTable;
 use smallvec::SmallVec;
-use std::alloc::Global;
+use std::alloc::{AllocError, Global};
+use std::hash::{Hash, Hasher};
 use std::marker::Model;
 
 /// A value as cells hold it: a text is its place in the table of texts.
-#[derive(Clone, Copy, Debug, PartialEq, Eq)]
+#[derive(Clone, Copy, Debug, PartialEq, Eq, Hash)]
 pub enum Datum {
     Int(i64),
     Bool(bool),
@@ -83,23 +85,48 @@ impl Cells {
     }
 }
 
+/// A copy is the same row. None of at most 4 cells fails.
+impl Clone for Cells {
+    ghost is_clone = { λ cells copy. copy ≡ cells };
+
+    ghost is_infallible = { λ cells. length cells ≤ 4 };
+
+    fn clone(&self) -> Result<Cells, AllocError> {
+        Ok(Cells {
+            data: SmallVec::from_slice(*self.data.allocator(), self.items())?,
+        })
+    }
+}
+
 impl PartialEq for Cells {
-    ghost eq = { pointwise datum_block.ghosts.eq };
+    ghost eq = { same };
 
-    ghost laws = { lists_per (partial_equiv_from_equiv datum_laws.laws-law) };
+    ghost laws = { partial_equiv_from_equiv same_cells_equiv };
 
+    #[tactic(auto, using(crate::proofs::CellEquality::cells_eq_same))]
     fn eq(&self, other: &Cells) -> bool {
         self.items() == other.items()
     }
 }
 
 impl Eq for Cells {
-    ghost laws = { lists_equiv datum_laws.laws-law };
+    ghost laws = { same_cells_equiv };
+}
+
+impl Hash for Cells {
+    ghost hash_input = { fed.slice datum_hash.ghosts.hash_input };
+
+    ghost respects_eq = { (same_Alike (fed.slice datum_hash.ghosts.hash_input) same_cells-Decides).fed };
+
+    fn hash<H: Hasher>(&self, state: &mut H) {
+        self.items().hash(state);
+    }
 }
 
 /// Whether the cells are the same, as `==` has it.
 pub fn same_cells(a: &Cells, b: &Cells) -> bool
-    ensures { IsTrue result ↔ (a.now ≡ b.now) }
+    ensures test { result ≡ same a.now b.now }
+    ensures same { IsTrue result ↔ (a.now ≡ b.now) }
 {
     a == b
 }
@@ -139,4 +166,9 @@ pub fn cells_keep_their_row()
     ensures placed { (texts more : List (List ℕ)) (cells : List Datum) → ArePlaced texts cells → ArePlaced (texts ++ more) cells }
     ensures read { (texts more : List (List ℕ)) (cells : List Datum) → ArePlaced texts cells → read_cells (texts ++ more) cells ≡ read_cells texts cells }
     ensures stored { (texts : List (List ℕ)) (datum : Datum) → datum_kind datum ≡ cell_kind_of (value_kind (read_datum texts datum)) }
+{}
+
+/// The test of cells is true exactly where they are the same.
+pub fn same_cells_are_equal()
+    ensures { (a b : List Datum) → IsTrue (same a b) ↔ (a ≡ b) }
 {}

@@ -1,8 +1,9 @@
 // Edges: where lives begin and end.
-ghost use Rattle.std.specs.Prelude.{◌<◌, ◌↔◌, IsTrue};
+ghost use Rattle.std.specs.Prelude.{◌≡◌, ◌<◌, ◌≤◌, ◌↔◌, IsTrue, length};
 
 use crate::cells::Cells;
 use crate::time::Time;
+use std::alloc::AllocError;
 
 /// An edge of an event. A whole event has its start as `sync` and its end as `other`. A start that waits for its end has
 /// infinity as `other`. An end has the event's end as `sync` and its start as `other`.
@@ -19,5 +20,20 @@ impl Edge {
         ensures { IsTrue result ↔ (self.now.other < self.now.sync) }
     {
         self.other < self.sync
+    }
+}
+
+/// A copy is the same edge. None of at most 4 cells fails.
+impl Clone for Edge {
+    ghost is_clone = { λ edge copy. copy ≡ edge };
+
+    ghost is_infallible = { λ edge. length edge.cells ≤ 4 };
+
+    fn clone(&self) -> Result<Edge, AllocError> {
+        Ok(Edge {
+            sync: self.sync,
+            other: self.other,
+            cells: self.cells.clone()?,
+        })
     }
 }

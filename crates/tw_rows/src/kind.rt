@@ -8,6 +8,9 @@ pub enum Kind {
     Int,
     Bool,
     Text,
+    /// A decimal with so many places behind the point. Its values are the numbers of its last place: with 2 places 125
+    /// stands for 1.25.
+    Dec(u8),
 }
 
 /// How a column stores its cells. Two kinds that are stored alike are one kind to whatever only moves or compares cells.
@@ -26,7 +29,7 @@ pub fn cell_of(kind: Kind) -> CellKind
     ensures { result ≡ cell_kind_of kind }
 {
     match kind {
-        Kind::Int => CellKind::Whole,
+        Kind::Int | Kind::Dec(_) => CellKind::Whole,
         Kind::Bool => CellKind::Bit,
         Kind::Text => CellKind::Place,
     }

@@ -2,7 +2,7 @@
 ghost use Rattle.std.specs.Prelude.{◌≡◌, IfOk};
 
 use crate::memory::Memory;
-use std::alloc::Global;
+use std::alloc::{AllocError, Global};
 use std::marker::Model;
 
 /// A text that is owned: a name, or a text value of a row.
@@ -33,5 +33,16 @@ impl Label {
         ensures { result.now ≡ self.now }
     {
         self.text.as_str()
+    }
+}
+
+/// A copy is the same text.
+impl Clone for Label {
+    ghost is_clone = { λ label copy. copy ≡ label };
+
+    fn clone(&self) -> Result<Label, AllocError> {
+        Ok(Label {
+            text: self.text.clone()?,
+        })
     }
 }

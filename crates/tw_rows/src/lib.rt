@@ -4,6 +4,7 @@
 mod cells;
 mod edge;
 mod kind;
+mod known_laws;
 mod label;
 mod life;
 mod memory;
@@ -12,9 +13,12 @@ mod schema;
 mod texts;
 mod time;
 
-pub use cells::{Cells, Datum, cells_keep_their_row, same_cells, to_cells, to_datum};
+pub use cells::{
+    Cells, Datum, cells_keep_their_row, same_cells, same_cells_are_equal, to_cells, to_datum,
+};
 pub use edge::Edge;
 pub use kind::{CellKind, Kind, cell_of};
+pub use known_laws::{known_events_are_alike, totals_grow_item_by_item};
 pub use label::Label;
 pub use life::{Life, floor_to, in_life};
 pub use memory::Memory;

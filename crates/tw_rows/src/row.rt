@@ -1,12 +1,12 @@
 // Values, and rows of them.
-ghost use Rattle.std.specs.Prelude.{◌≡◌, ◌↔◌, List, refl};
+ghost use Rattle.std.specs.Prelude.{◌≡◌, ◌↔◌, IsTrue, List, refl};
 ghost use Rattle.std.specs.Ordering.{as_partial_cmp, eq_by_cmp};
 ghost use Rattle.std.specs.Cmp.{partial_order_from_total, partial_equiv_from_equiv, eq_by_cmp_equiv};
 ghost use Rattle.tw_rows.specs.RowOrder.{value_cmp_total, row_cmp_total};
 ghost use Rattle.tw_rows.specs.Rows.{value_cmp, row_cmp};
-ghost use Rattle.tw_rows.specs.Kinds.{value_kind};
+ghost use Rattle.tw_rows.specs.Kinds.{value_kind, FitsKind};
 
-use crate::kind::Kind;
+use crate::kind::{Kind, cell_of};
 use crate::label::Label;
 use std::cmp::Ordering;
 use std::marker::Model;
@@ -20,7 +20,7 @@ pub enum Value {
 }
 
 impl Value {
-    /// What the value is.
+    /// What the value is by itself: a number is an int.
     pub fn kind(&self) -> Kind
         ensures { result ≡ value_kind self.now }
     {
@@ -29,6 +29,13 @@ impl Value {
             Value::Bool(_) => Kind::Bool,
             Value::Text(_) => Kind::Text,
         }
+    }
+
+    /// Whether the value can stand in a column of the kind. A number fits ints and decimals alike.
+    pub fn fits(&self, kind: Kind) -> bool
+        ensures { IsTrue result ↔ FitsKind self.now kind }
+    {
+        cell_of(self.kind()) == cell_of(kind)
     }
 }
 

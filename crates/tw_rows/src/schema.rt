@@ -3,6 +3,7 @@ ghost use Rattle.std.specs.Prelude.{◌≡◌};
 
 use crate::kind::Kind;
 use crate::label::Label;
+use std::alloc::AllocError;
 use std::marker::Model;
 
 /// A column: its name, and what its values are.
@@ -10,6 +11,18 @@ use std::marker::Model;
 pub struct ColumnDef {
     pub name: Label,
     pub kind: Kind,
+}
+
+/// A copy is the same column.
+impl Clone for ColumnDef {
+    ghost is_clone = { λ column copy. copy ≡ column };
+
+    fn clone(&self) -> Result<ColumnDef, AllocError> {
+        Ok(ColumnDef {
+            name: self.name.clone()?,
+            kind: self.kind,
+        })
+    }
 }
 
 /// The columns of a stream or of a node, in order.
@@ -41,9 +54,32 @@ impl Schema {
     }
 }
 
+/// A copy has the same columns.
+impl Clone for Schema {
+    ghost is_clone = { λ schema copy. copy ≡ schema };
+
+    fn clone(&self) -> Result<Schema, AllocError> {
+        Ok(Schema {
+            columns: self.columns.clone()?,
+        })
+    }
+}
+
 /// A stream of events: its name, and the columns of its rows.
 #[derive(Drop)]
 pub struct StreamDef {
     pub name: Label,
     pub schema: Schema,
+}
+
+/// A copy is the same stream.
+impl Clone for StreamDef {
+    ghost is_clone = { λ stream copy. copy ≡ stream };
+
+    fn clone(&self) -> Result<StreamDef, AllocError> {
+        Ok(StreamDef {
+            name: self.name.clone()?,
+            schema: self.schema.clone()?,
+        })
+    }
 }

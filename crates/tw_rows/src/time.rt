@@ -23,7 +23,7 @@ impl Model for Time {
     ghost inverse = { λ n. record { number = n } };
 }
 
-/// The number that stands for infinity.
+// The number that stands for infinity.
 const INFINITY: u64 = 2305843009213693952;
 
 #[tactic(auto, unfolding(crate::specs::Instant::inf))]
@@ -59,6 +59,22 @@ impl Time {
         }
     }
 
+    /// The number with which the time is kept: that of an instant is its own, and that of infinity is greater than each.
+    pub fn word(self) -> u64
+        ensures word { result ≡ self }
+        ensures within { self ≤ inf }
+    {
+        self.number
+    }
+
+    /// The time that is kept with that number.
+    pub fn from_word(word: u64) -> Time
+        requires { word ≤ inf }
+        ensures { result ≡ word }
+    {
+        Time { number: word }
+    }
+
     /// The time `d` later: infinity where the sum is no instant, and infinity stays.
     pub fn plus(self, d: u64) -> Time
         ensures { result ≡ later d self }
@@ -83,5 +99,13 @@ impl Time {
         } else {
             self
         }
+    }
+
+    /// The first instant and infinity, as `ZERO` and `INF` have them.
+    pub fn bounds() -> (Time, Time)
+        ensures zero { result.0 ≡ 0 }
+        ensures infinity { result.1 ≡ inf }
+    {
+        (Time::ZERO, Time::INF)
     }
 }

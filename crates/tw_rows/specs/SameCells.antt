@@ -1,12 +1,32 @@
--- The test of rows of cells decides whether they are the same.
-use Rattle.std.specs.Prelude.{◌≡◌, ℕ, ℤ, ◌&&◌, Bool, true, false, List, [], ◌∷◌, refl}
+-- A test of rows of cells that tells whether they are the same.
+use Rattle.std.specs.Prelude.{◌≡◌, ℕ, ℤ, Bool, true, false, not, ◌&&◌, cond, nat_eq, List, [], ◌∷◌, refl}
 use Rattle.std.proofs.Common.{ap, subst, arith}
 use Rattle.std.specs.Bool.{Decides}
+use Rattle.std.specs.Cmp.{IsEquivalence, decided}
+use Rattle.std.specs.Ordering.{int_eq}
 use Rattle.std.proofs.lemmas.Bool.{and_parts}
 use Rattle.std.proofs.lemmas.Bool.Decides.{Decides-int_eq, Decides-eqb}
 use Rattle.tw_rows.specs.declared.cells.Datum.{Datum}
 use Rattle.tw_rows.specs.declared.cells.Datum.TheVariants.{Int, Bool as Flag, Text}
-use Rattle.edge_history.specs.SameCells.{same_datum, same_cells}
+
+-- the data are of one variant and hold the same
+abbrev pub same_datum : Datum → Datum → Bool
+same_datum (Int x) (Int y) = int_eq x y
+same_datum (Int x) (Flag b) = false
+same_datum (Int x) (Text t) = false
+same_datum (Flag a) (Int y) = false
+same_datum (Flag a) (Flag b) = cond a b (not b)
+same_datum (Flag a) (Text t) = false
+same_datum (Text s) (Int y) = false
+same_datum (Text s) (Flag b) = false
+same_datum (Text s) (Text t) = nat_eq s t
+
+-- the rows are equally long and have the same datum at each place
+unfoldable pub same_cells : List Datum → List Datum → Bool
+same_cells [] [] = true
+same_cells [] (b ∷ bs) = false
+same_cells (a ∷ rest) [] = false
+same_cells (a ∷ rest) (b ∷ bs) = same_datum a b && same_cells rest bs
 
 abbrev int_part : Datum → ℤ → ℤ
 int_part (Int x) d = x
@@ -55,3 +75,6 @@ same_itself (x ∷ xs) = both_true (same_datum x x) (same_cells xs xs) ((same_da
 
 pub same_cells-Decides : (xs ys : List Datum) → Decides (same_cells xs ys) (xs ≡ ys)
 same_cells-Decides xs ys = (cells_are_same xs ys, λ e. subst (λ l. same_cells xs l ≡ true) e (same_itself xs))
+
+pub same_cells_equiv : IsEquivalence same_cells
+same_cells_equiv = decided same_cells same_cells-Decides
