@@ -10,7 +10,7 @@ use Rattle.tw_rows.specs.declared.schema.StreamDef.{StreamDef}
 use Rattle.plan_model.specs.declared.node.Node.{Node}
 use Rattle.plan_model.specs.declared.node.Node.TheVariants.{Source, Where, Select, Union, Delay, Hop, Duration, Extend, Session, Clip, Group, Join, Anti}
 use Rattle.plan_model.specs.Fold.{results_from, by_number}
-use Rattle.plan_model.specs.IsPlan.{kinds_of_schema, kinds_at, kinds_of_stream, node_kinds, IsSoundOver, IsOverEvents, IsOfKeysAlone, HasKeysOnRight, IsNode, AreNodes, IsNewNode, most_reach}
+use Rattle.plan_model.specs.IsPlan.{kinds_of_schema, kinds_at, kinds_of_stream, node_kinds, IsSoundOver, IsOverEvents, IsOfKeysAlone, HasKeysOnRight, IsNode, AreNarrow, AreNodes, IsNewNode, most_reach}
 use Rattle.plan_model.specs.Meaning.{left_child, right_child, left_of, right_of, over_nodes, HasLower}
 use Rattle.plan_model.specs.Reach.{node_reach, reach, node_is_event_level, event_level}
 use Rattle.plan_model.proofs.Folds.{length-results_from}
@@ -152,13 +152,14 @@ new_node streams nodes schemas n schema one_each h =
     }
 
 -- no nodes are the nodes of a plan so far
-pub no_nodes : (streams : List StreamDef) → AreNodes streams [] []
-no_nodes streams = record { few = omega arith; one_each = refl; each = λ i n there. absurd (cc) }
+pub no_nodes : (streams : List StreamDef) → AreNarrow streams → AreNodes streams [] []
+no_nodes streams narrow = record { narrow_streams = narrow; few = omega arith; one_each = refl; each = λ i n there. absurd (cc) }
 
 -- and a node that is as asked may be put behind those of a plan
 pub nodes_grow : (streams : List StreamDef) (nodes : List Node) (schemas : List (List ColumnDef)) (n : Node) (schema : List ColumnDef) →
     AreNodes streams nodes schemas → IsNewNode streams nodes schemas n schema → AreNodes streams (nodes ++ n ∷ []) (schemas ++ schema ∷ [])
 nodes_grow streams nodes schemas n schema kept new = record {
+  narrow_streams = kept.narrow_streams;
   few = (let more = length_more nodes n in let room = new.room in omega (arith, more, room));
   one_each = length_more schemas schema ∙ (ap (λ k. k + 1) kept.one_each ∙ sym (length_more nodes n));
   each = λ i m here. elim (cases_lt i (length nodes)) [

@@ -11,7 +11,7 @@ use Rattle.plan_model.specs.declared.agg.Agg.{Agg}
 use Rattle.plan_model.specs.declared.agg.Agg.TheVariants.{Count, Sum}
 use Rattle.plan_model.specs.declared.node.Node.{Node}
 use Rattle.plan_model.specs.declared.node.Node.TheVariants.{Source, Union, Delay, Hop, Clip, Group, Join}
-use Rattle.plan_model.specs.IsPlan.{kinds_of_schema, node_kinds, IsAggOver, AreNodes, IsNewNode, most_columns, most_reach}
+use Rattle.plan_model.specs.IsPlan.{kinds_of_schema, node_kinds, IsAggOver, AreNarrow, AreNodes, IsNewNode, most_columns, most_reach}
 use Rattle.plan_model.specs.Reach.{reach, event_level}
 use Rattle.plan_model.proofs.Growing.{no_nodes, nodes_grow}
 
@@ -112,8 +112,11 @@ module _ (s : StreamDef) (a b c d : List ColumnDef) (of_s : kinds_of_schema s.sc
     room = omega arith;
   }
 
+  narrow_stream : AreNarrow (s ∷ [])
+  narrow_stream = All-cons (λ stream. length stream.schema ≤ most_columns) s [] (one_column s.schema Whole of_s) (All-nil _)
+
   nodes_of_hop_counted : AreNodes (s ∷ []) hop_counted (a ∷ b ∷ c ∷ d ∷ [])
-  nodes_of_hop_counted = nodes_grow _ _ _ _ _ (nodes_grow _ _ _ _ _ (nodes_grow _ _ _ _ _ (nodes_grow _ _ _ _ _ (no_nodes (s ∷ [])) new_source) new_hop) new_group) new_delay
+  nodes_of_hop_counted = nodes_grow _ _ _ _ _ (nodes_grow _ _ _ _ _ (nodes_grow _ _ _ _ _ (nodes_grow _ _ _ _ _ (no_nodes (s ∷ []) narrow_stream) new_source) new_hop) new_group) new_delay
 
   -- these are the nodes of a plan
   pub AreNodes-hop_counted : (streams : List StreamDef) (nodes : List Node) (schemas : List (List ColumnDef)) (key : List ℕ) (aggs : List Agg) →

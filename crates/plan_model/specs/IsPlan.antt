@@ -9,7 +9,9 @@ use Rattle.tw_rows.specs.Kinds.{cell_kind_of}
 use Rattle.plan_model.specs.declared.agg.Agg.{Agg}
 use Rattle.plan_model.specs.declared.agg.Agg.TheVariants.{Count, Sum, Least, Greatest}
 use Rattle.plan_model.specs.declared.node.Node.{Node}
-use Rattle.plan_model.specs.declared.node.Node.TheVariants.{Source, Where, Select, Union, Delay, Hop, Duration, Extend, Session, Clip, Group, Join, Anti}
+use Rattle.plan_model.specs.declared.node.Node.TheVariants.{Source, Where, Select, Union, Hop, Duration, Session, Clip, Group, Join, Anti}
+use Rattle.plan_model.specs.declared.expr.ExprNode.{ExprNode}
+use Rattle.plan_model.specs.IsExpr.{IsExpr}
 use Rattle.plan_model.specs.Keys.{outside_key}
 use Rattle.plan_model.specs.Meaning.{left_child, right_child, left_of, right_of, HasLower, reads_events, reads_right_events}
 use Rattle.plan_model.specs.Reach.{node_reach, reach, event_level}
@@ -34,19 +36,10 @@ key_kinds kinds key = map (λ column. slice_index_or kinds column Whole) key
 -- the kinds of a node's columns, from those of what it reads on the left and on the right. A join of k, v and k, w by the
 -- first column of both has k, v, w
 abbrev pub node_kinds : Node → List CellKind → List CellKind → List CellKind
-node_kinds (Source stream) l r = l
-node_kinds (Where of test) l r = l
 node_kinds (Select of items) l r = map (λ item. kind_of item l) items
-node_kinds (Union left right) l r = l
-node_kinds (Delay of by) l r = l
-node_kinds (Hop of size period) l r = l
-node_kinds (Duration of by) l r = l
-node_kinds (Extend of by) l r = l
-node_kinds (Session of timeout key) l r = l
-node_kinds (Clip left right left_key right_key) l r = l
 node_kinds (Group of key aggs) l r = key_kinds l key ++ map (λ a. Whole) aggs
 node_kinds (Join left right left_key right_key) l r = l ++ outside_key right_key r
-node_kinds (Anti left right left_key right_key) l r = l
+node_kinds n l r = l
 
 -- the columns of the key are there
 abbrev pub IsKey : List CellKind → List ℕ → Type 0
@@ -71,21 +64,23 @@ pub record IsWindow (size period : ℕ) : Type 0 where
   pub repeats : 1 ≤ period
   pub divides : (k : ℕ) × (size ≡ period * k)
 
+-- the expression has a node, operands before their operators, and is well typed over columns of these kinds
+abbrev pub IsExprOver : List CellKind → List ExprNode → Type 0
+IsExprOver kinds expr = IsExpr expr × IsTyped kinds expr
+
 -- the node's expressions, keys, aggregates and windows are sound over columns of these kinds on the left and on the right
 abbrev pub IsSoundOver : Node → List CellKind → List CellKind → Type 0
-IsSoundOver (Source stream) l r = Unit {0}
-IsSoundOver (Where of test) l r = IsTyped l test × (kind_of test l ≡ Bit)
-IsSoundOver (Select of items) l r = All (IsTyped l) items
+IsSoundOver (Where of test) l r = IsExprOver l test × (kind_of test l ≡ Bit)
+IsSoundOver (Select of items) l r = All (IsExprOver l) items
 IsSoundOver (Union left right) l r = l ≡ r
-IsSoundOver (Delay of by) l r = Unit {0}
 IsSoundOver (Hop of size period) l r = IsWindow size period
 IsSoundOver (Duration of by) l r = 1 ≤ by
-IsSoundOver (Extend of by) l r = Unit {0}
 IsSoundOver (Session of timeout key) l r = (1 ≤ timeout) × IsKey l key
 IsSoundOver (Clip left right left_key right_key) l r = AreKeys l r left_key right_key
 IsSoundOver (Group of key aggs) l r = IsKey l key × All (IsAggOver l) aggs
 IsSoundOver (Join left right left_key right_key) l r = AreKeys l r left_key right_key
 IsSoundOver (Anti left right left_key right_key) l r = AreKeys l r left_key right_key
+IsSoundOver n l r = Unit {0}
 
 -- a source reads one of the streams
 abbrev pub ReadsStream : List StreamDef → Node → Type 0
@@ -129,8 +124,14 @@ pub record IsNode (streams : List StreamDef) (nodes : List Node) (schemas : List
   pub near : reach nodes i ≤ most_reach
   pub narrow : length schema ≤ most_columns
 
--- what a plan keeps of its nodes: there is a schema for each, and each is as stated
+-- no stream has too many columns
+abbrev pub AreNarrow : List StreamDef → Type 0
+AreNarrow streams = All (λ stream. length stream.schema ≤ most_columns) streams
+
+-- what a plan keeps of its streams and nodes: no stream is too wide, there is a schema for each node, and each node is as
+-- stated
 pub record AreNodes (streams : List StreamDef) (nodes : List Node) (schemas : List (List ColumnDef)) : Type 0 where
+  pub narrow_streams : AreNarrow streams
   pub few : length nodes ≤ most_nodes
   pub one_each : length schemas ≡ length nodes
   pub each : (i : ℕ) (n : Node) → slice_get nodes i ≡ Some n → IsNode streams nodes schemas i n (slice_index_or schemas i [])
