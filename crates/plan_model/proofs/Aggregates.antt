@@ -6,16 +6,14 @@ use Rattle.std.proofs.Common.{sym, ◌∙◌, ap, arith}
 use Rattle.std.proofs.lemmas.Int.{ints}
 use borrow.Author.Differences.{up, down}
 use Rattle.tw_rows.specs.Bag.{total, SameBag}
-use Rattle.tw_rows.specs.Rows.{Row}
-use Rattle.tw_rows.specs.declared.row.Value.TheVariants.{Int}
 use Rattle.tw_rows.proofs.Bags.{SameBag-map, SameBag-filter}
 use Rattle.key_nodes.specs.Groups.{IsGroupRow}
 use Rattle.key_nodes.proofs.Bags.{any_of_same}
 use Rattle.key_nodes.proofs.Grouping.{group_row_of}
 use Rattle.plan_model.specs.declared.agg.Agg.{Agg}
 use Rattle.plan_model.specs.declared.agg.Agg.TheVariants.{Count, Sum, Least, Greatest}
-use Rattle.plan_model.specs.Keys.{key_values, rows_equal}
-use Rattle.plan_model.specs.Groups.{ints_of, exact_sum, least_from, least_int, greatest_from, greatest_int, agg_value, group_row, rows_of_key, row_of_group, most_rows, is_outside_i64, has_large_sum, is_undefined_group, is_undefined}
+use Rattle.plan_model.specs.Amounts.{exact_sum, least_from, least_int, greatest_from, greatest_int, most_rows, is_outside_i64}
+use Rattle.plan_model.specs.RowOps.{RowOps, key_in, ints_in, agg_in, group_row_in, rows_of_key_in, row_of_group_in, has_large_sum_in, is_undefined_group_in, is_undefined_in}
 
 length_is : {X : Type 0} (xs : List X) → length xs ≡ total (λ x. 1) xs
 length_is [] = refl
@@ -82,16 +80,6 @@ greatest_same (x ∷ xs) (y ∷ ys) h =
     alike : (z : ℤ) → int_le (greatest_from x xs) z ≡ int_le (greatest_from y ys) z
     alike z = greatest_is z x xs ∙ (ap not (any_of_same (int_lt z) (x ∷ xs) (y ∷ ys) h) ∙ sym (greatest_is z y ys))
 
-ints_same : (column : ℕ) (xs ys : List Row) → SameBag xs ys → SameBag (ints_of column xs) (ints_of column ys)
-ints_same column xs ys h = SameBag-map _ xs ys h
-
--- an aggregate of equal multisets is equal
-pub agg_same : (a : Agg) (xs ys : List Row) → SameBag xs ys → agg_value a xs ≡ agg_value a ys
-agg_same Count xs ys h = ap pos (length_same xs ys h)
-agg_same (Sum column) xs ys h = sum_same _ _ (ints_same column xs ys h)
-agg_same (Least column) xs ys h = least_same _ _ (ints_same column xs ys h)
-agg_same (Greatest column) xs ys h = greatest_same _ _ (ints_same column xs ys h)
-
 map_same : {X Y : Type 0} (f g : X → Y) (xs : List X) → ((x : X) → f x ≡ g x) → map f xs ≡ map g xs
 map_same f g [] h = refl
 map_same f g (x ∷ xs) h = ap (λ y. y ∷ map f xs) (h x) ∙ ap (λ ys. g x ∷ ys) (map_same f g xs h)
@@ -100,29 +88,40 @@ any_same : {X : Type 0} (p q : X → Bool) (xs : List X) → ((x : X) → p x �
 any_same p q [] h = refl
 any_same p q (x ∷ xs) h = ap (λ b. b || list_any p xs) (h x) ∙ ap (λ b. q x || b) (any_same p q xs h)
 
-pub group_row_same : (aggs : List Agg) (values : Row) (xs ys : List Row) → SameBag xs ys → group_row aggs values xs ≡ group_row aggs values ys
-group_row_same aggs values [] [] h = refl
-group_row_same aggs values [] (y ∷ ys) h = absurd (let n = length_same [] (y ∷ ys) h in omega (arith, n))
-group_row_same aggs values (x ∷ xs) [] h = absurd (let n = length_same (x ∷ xs) [] h in omega (arith, n))
-group_row_same aggs values (x ∷ xs) (y ∷ ys) h =
-    ap (λ l. Some (values ++ l)) (map_same (λ a. Int (agg_value a (x ∷ xs))) (λ a. Int (agg_value a (y ∷ ys))) aggs (λ a. ap Int (agg_same a (x ∷ xs) (y ∷ ys) h)))
+module _ {X : Type 0} (ops : RowOps X) where
+  ints_same : (column : ℕ) (xs ys : List (List X)) → SameBag xs ys → SameBag (ints_in ops column xs) (ints_in ops column ys)
+  ints_same column xs ys h = SameBag-map _ xs ys h
 
-pub row_of_group_is : (key : List ℕ) (aggs : List Agg) → IsGroupRow (key_values key) rows_equal (row_of_group key aggs)
-row_of_group_is key aggs = group_row_of (key_values key) rows_equal (group_row aggs) (group_row_same aggs) (λ values. refl)
+  -- an aggregate of equal multisets is equal
+  pub agg_same : (a : Agg) (xs ys : List (List X)) → SameBag xs ys → agg_in ops a xs ≡ agg_in ops a ys
+  agg_same Count xs ys h = ap pos (length_same xs ys h)
+  agg_same (Sum column) xs ys h = sum_same _ _ (ints_same column xs ys h)
+  agg_same (Least column) xs ys h = least_same _ _ (ints_same column xs ys h)
+  agg_same (Greatest column) xs ys h = greatest_same _ _ (ints_same column xs ys h)
 
--- whether groups are undefined
-large_same : (a : Agg) (xs ys : List Row) → SameBag xs ys → has_large_sum xs a ≡ has_large_sum ys a
-large_same Count xs ys h = refl
-large_same (Sum column) xs ys h = ap is_outside_i64 (sum_same _ _ (ints_same column xs ys h))
-large_same (Least column) xs ys h = refl
-large_same (Greatest column) xs ys h = refl
+  pub group_row_same : (aggs : List Agg) (values : List X) (xs ys : List (List X)) → SameBag xs ys → group_row_in ops aggs values xs ≡ group_row_in ops aggs values ys
+  group_row_same aggs values [] [] h = refl
+  group_row_same aggs values [] (y ∷ ys) h = absurd (let n = length_same [] (y ∷ ys) h in omega (arith, n))
+  group_row_same aggs values (x ∷ xs) [] h = absurd (let n = length_same (x ∷ xs) [] h in omega (arith, n))
+  group_row_same aggs values (x ∷ xs) (y ∷ ys) h =
+      ap (λ l. Some (values ++ l)) (map_same (λ a. ops.of_int (agg_in ops a (x ∷ xs))) (λ a. ops.of_int (agg_in ops a (y ∷ ys))) aggs (λ a. ap ops.of_int (agg_same a (x ∷ xs) (y ∷ ys) h)))
 
-undefined_group_same : (aggs : List Agg) (xs ys : List Row) → SameBag xs ys → is_undefined_group aggs xs ≡ is_undefined_group aggs ys
-undefined_group_same aggs xs ys h =
-    ap (λ n. nat_lt most_rows n || list_any (has_large_sum xs) aggs) (length_same xs ys h)
-    ∙ ap (λ b. nat_lt most_rows (length ys) || b) (any_same (has_large_sum xs) (has_large_sum ys) aggs (λ a. large_same a xs ys h))
+  pub row_of_group_is : (key : List ℕ) (aggs : List Agg) → IsGroupRow (key_in ops key) ops.same (row_of_group_in ops key aggs)
+  row_of_group_is key aggs = group_row_of (key_in ops key) ops.same (group_row_in ops aggs) (group_row_same aggs) (λ values. refl)
 
-pub undefined_same : (key : List ℕ) (aggs : List Agg) (xs ys : List Row) → SameBag xs ys → is_undefined key aggs xs ≡ is_undefined key aggs ys
-undefined_same key aggs xs ys h =
-    any_same _ (λ row. is_undefined_group aggs (rows_of_key key (key_values key row) ys)) xs (λ row. undefined_group_same aggs _ _ (SameBag-filter _ xs ys h))
-    ∙ any_of_same (λ row. is_undefined_group aggs (rows_of_key key (key_values key row) ys)) xs ys h
+  -- whether groups are undefined
+  large_same : (a : Agg) (xs ys : List (List X)) → SameBag xs ys → has_large_sum_in ops xs a ≡ has_large_sum_in ops ys a
+  large_same Count xs ys h = refl
+  large_same (Sum column) xs ys h = ap is_outside_i64 (sum_same _ _ (ints_same column xs ys h))
+  large_same (Least column) xs ys h = refl
+  large_same (Greatest column) xs ys h = refl
+
+  pub undefined_group_same : (aggs : List Agg) (xs ys : List (List X)) → SameBag xs ys → is_undefined_group_in ops aggs xs ≡ is_undefined_group_in ops aggs ys
+  undefined_group_same aggs xs ys h =
+      ap (λ n. nat_lt most_rows n || list_any (has_large_sum_in ops xs) aggs) (length_same xs ys h)
+      ∙ ap (λ b. nat_lt most_rows (length ys) || b) (any_same (has_large_sum_in ops xs) (has_large_sum_in ops ys) aggs (λ a. large_same a xs ys h))
+
+  pub undefined_same : (key : List ℕ) (aggs : List Agg) (xs ys : List (List X)) → SameBag xs ys → is_undefined_in ops key aggs xs ≡ is_undefined_in ops key aggs ys
+  undefined_same key aggs xs ys h =
+      any_same _ (λ row. is_undefined_group_in ops aggs (rows_of_key_in ops key (key_in ops key row) ys)) xs (λ row. undefined_group_same aggs _ _ (SameBag-filter _ xs ys h))
+      ∙ any_of_same (λ row. is_undefined_group_in ops aggs (rows_of_key_in ops key (key_in ops key row) ys)) xs ys h

@@ -10,8 +10,12 @@ use Rattle.plan_model.specs.declared.expr.CompareOp.TheVariants.{Eq, Lt, Le, Gt}
 use Rattle.plan_model.specs.declared.expr.ExprNode.{ExprNode}
 use Rattle.plan_model.specs.declared.expr.ExprNode.TheVariants.{Column, Int as ConstInt, Bool as ConstBool, Text as ConstText, Neg, Not, Arith, Div, Mod, Compare, And, Or}
 use Rattle.plan_model.specs.Expr.{value}
-use Rattle.plan_model.specs.FilterPlan.{filter_plan, first_above}
+use Rattle.plan_model.specs.FilterPlan.{filter_plan}
 use Rattle.plan_model.specs.Meaning.{Sources, events, closes, snapshots}
+
+-- the first column is above the number, as in `v > 10`
+abbrev first_above : ℤ → List ExprNode
+first_above number = Column 0 ∷ ConstInt number ∷ Compare Gt 0 1 ∷ []
 
 abbrev row_of : ℕ → Row
 row_of v = Int (pos v) ∷ []

@@ -5,8 +5,10 @@ use Rattle.tw_rows.specs.declared.row.Value.TheVariants.{Int, Bool as Flag}
 use Rattle.key_nodes.specs.Groups.{grouped_rows}
 use Rattle.plan_model.specs.declared.agg.Agg.{Agg}
 use Rattle.plan_model.specs.declared.agg.Agg.TheVariants.{Count, Sum, Least, Greatest}
-use Rattle.plan_model.specs.Keys.{key_values, rows_equal}
-use Rattle.plan_model.specs.Groups.{ints_of, exact_sum, least_int, greatest_int, row_of_group, most_rows, is_outside_i64, is_undefined}
+use Rattle.plan_model.specs.Keys.{rows_equal, value_ops, key_values}
+use Rattle.plan_model.specs.Amounts.{exact_sum, least_int, greatest_int, most_rows, is_outside_i64}
+use Rattle.plan_model.specs.Groups.{row_of_group, is_undefined}
+use Rattle.plan_model.specs.RowOps.{ints_in}
 
 -- a row of two ints
 abbrev pair : ℕ → ℕ → Row
@@ -16,7 +18,7 @@ abbrev all_aggs : List Agg
 all_aggs = Count ∷ Sum 1 ∷ Least 1 ∷ Greatest 1 ∷ []
 
 -- a value that is no int, and one that is not there, read as 0
-ints_of_a_column : ints_of 1 (pair 7 2 ∷ (Int (pos 7) ∷ Flag true ∷ []) ∷ (Int (pos 7) ∷ []) ∷ []) ≡ pos 2 ∷ pos 0 ∷ pos 0 ∷ []
+ints_of_a_column : ints_in value_ops 1 (pair 7 2 ∷ (Int (pos 7) ∷ Flag true ∷ []) ∷ (Int (pos 7) ∷ []) ∷ []) ≡ pos 2 ∷ pos 0 ∷ pos 0 ∷ []
 ints_of_a_column = refl
 
 the_least : least_int (pos 3 ∷ negsuc 4 ∷ pos 9 ∷ []) ≡ negsuc 4

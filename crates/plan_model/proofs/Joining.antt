@@ -7,8 +7,7 @@ use Rattle.tw_rows.specs.Bag.{total, SameBag}
 use Rattle.tw_rows.specs.Event.{Event, lives_at, alive, AreEvents, cut_one, cut, Known}
 use Rattle.tw_rows.proofs.Bags.{total-flat_map, total_same, total_swap}
 use Rattle.tw_rows.proofs.Lives.{total-alive, total-cut}
-use Rattle.plan_model.specs.Lives.{with_life}
-use Rattle.plan_model.specs.Joins.{joined_row, joined_rows, joined_one, joined}
+use Rattle.key_nodes.specs.Joins.{with_life, joined_row, joined_rows, joined_one, joined}
 use Rattle.plan_model.proofs.NewLives.{total_cond, AreEvents-each, AreEvents-with_life}
 
 module _ {L R P : Type 0} (meets : L → R → Bool) (pair : L → R → P) where

@@ -8,6 +8,7 @@ pub mod PlanExamples
 pub mod NewLives
 pub mod Joining
 pub mod Aggregates
+pub mod Causal
 pub mod NodeLaws
 pub mod PlanLaws
 pub mod FilterPlans

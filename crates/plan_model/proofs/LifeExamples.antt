@@ -5,7 +5,7 @@ use Rattle.tw_rows.specs.Instant.{inf}
 use Rattle.tw_rows.specs.Rows.{Row}
 use Rattle.tw_rows.specs.declared.row.Value.TheVariants.{Int}
 use Rattle.plan_model.specs.Lives.{moved, hopped, lasting, extended}
-use Rattle.plan_model.specs.Joins.{joined_rows, joined}
+use Rattle.key_nodes.specs.Joins.{joined_rows, joined}
 use Rattle.plan_model.specs.Keys.{key_values, outside_key, paired_row}
 
 -- the events of these examples have a number as their row

@@ -10,9 +10,10 @@ use Rattle.tw_rows.specs.Bag.{total, SameBag}
 use Rattle.tw_rows.specs.Event.{Event, lives_at, alive, AreEvents, cut_one, cut, Known}
 use Rattle.tw_rows.proofs.Bags.{SameBag-refl, total-flat_map, total_same, total_zero}
 use Rattle.tw_rows.proofs.Lives.{total-alive, AreEvents-append, causal_from_one}
+use Rattle.key_nodes.specs.Joins.{with_life}
 use Rattle.key_nodes.specs.Sessions.{sessions}
 use Rattle.key_nodes.proofs.Sessioning.{sessions_known}
-use Rattle.plan_model.specs.Lives.{with_life, moved_one, moved, hopped_one, hopped, lasting_one, lasting, extended_one, extended, in_sessions}
+use Rattle.plan_model.specs.Lives.{moved_one, moved, hopped_one, hopped, lasting_one, lasting, extended_one, extended, in_sessions}
 
 -- what is alive of one moved event
 moved_one_alive : {R : Type 0} (w : R → ℕ) (by t : ℕ) (e : Event R) → t < inf → total (λ x. cond (lives_at t x) (w x.row) 0) (moved_one by e) ≡ cond (nat_le by t) (cond (lives_at (t - by) e) (w e.row) 0) 0

@@ -4,8 +4,8 @@ use Rattle.std.proofs.Common.{sym, ◌∙◌, ap, inl, inr}
 use Rattle.std.proofs.lemmas.Bool.{cases_lt}
 use Rattle.std.proofs.lemmas.Option.{slice_get-get_or}
 use Rattle.plan_model.specs.declared.node.Node.{Node}
-use Rattle.plan_model.specs.declared.node.Node.TheVariants.{Source, Where, Select, Union, Delay, Hop, Duration, Extend, Session, Clip, Group, Join, Anti}
-use Rattle.plan_model.specs.Meaning.{at_child, left_child, right_child, left_of, right_of, over_nodes, HasLower, IsOrdered}
+use Rattle.plan_model.specs.declared.node.Node.TheVariants.{Source}
+use Rattle.plan_model.specs.Shape.{Shape, Stream, One, Two, shape, left_in, at_child, left_child, right_child, read_left, left_of, right_of, over_nodes, HasLower, IsOrdered}
 use Rattle.plan_model.proofs.Folds.{result-is, result-past, by_lower}
 
 -- a child's result is one of those below its parent
@@ -13,20 +13,13 @@ pub at_child_below : {R : Type 0} (none : R) (f g : ℕ → R) (i : ℕ) → ((j
 at_child_below none f g i same None h = refl
 at_child_below none f g i same (Some j) h = same j h
 
+read_left_below : {R : Type 0} (none : R) (source f g : ℕ → R) (i : ℕ) → ((j : ℕ) → j < i → f j ≡ g j) → (s : Shape) → HasLower i (left_in s) → read_left none source f s ≡ read_left none source g s
+read_left_below none source f g i same (Stream stream) h = refl
+read_left_below none source f g i same (One child) h = same child h
+read_left_below none source f g i same (Two left right) h = same left h
+
 pub left_of_below : {R : Type 0} (none : R) (source f g : ℕ → R) (i : ℕ) → ((j : ℕ) → j < i → f j ≡ g j) → (n : Node) → HasLower i (left_child n) → left_of none source f n ≡ left_of none source g n
-left_of_below none source f g i same (Source stream) h = refl
-left_of_below none source f g i same (Where of test) h = same of h
-left_of_below none source f g i same (Select of items) h = same of h
-left_of_below none source f g i same (Union left right) h = same left h
-left_of_below none source f g i same (Delay of by) h = same of h
-left_of_below none source f g i same (Hop of size period) h = same of h
-left_of_below none source f g i same (Duration of by) h = same of h
-left_of_below none source f g i same (Extend of by) h = same of h
-left_of_below none source f g i same (Session of timeout key) h = same of h
-left_of_below none source f g i same (Clip left right left_key right_key) h = same left h
-left_of_below none source f g i same (Group of key aggs) h = same of h
-left_of_below none source f g i same (Join left right left_key right_key) h = same left h
-left_of_below none source f g i same (Anti left right left_key right_key) h = same left h
+left_of_below none source f g i same n h = read_left_below none source f g i same (shape n) h
 
 -- the equation of a plan: the result of a node is made from the results that it reads
 pub over_nodes-is : {R : Type 0} (none : R) (source : ℕ → R) (node : Node → R → R → R) (nodes : List Node) → IsOrdered nodes → (i : ℕ) (n : Node) → slice_get nodes i ≡ Some n →
@@ -71,20 +64,14 @@ module _ {R S T : Type 0} (rnone : R) (snone : S) (tnone : T) (rsource : ℕ →
   child_holds none i below None h = none
   child_holds none i below (Some j) h = below j h
 
+  left_shape_holds : ((s : ℕ) → Q (rsource s) (ssource s) (tsource s)) → (i : ℕ) → ((j : ℕ) → j < i → Holds j) → (s : Shape) → HasLower i (left_in s) →
+      Q (read_left rnone rsource (over_nodes rnone rsource rnode nodes) s) (read_left snone ssource (over_nodes snone ssource snode nodes) s) (read_left tnone tsource (over_nodes tnone tsource tnode nodes) s)
+  left_shape_holds source i below (Stream stream) h = source stream
+  left_shape_holds source i below (One child) h = below child h
+  left_shape_holds source i below (Two left right) h = below left h
+
   pub left_holds : ((s : ℕ) → Q (rsource s) (ssource s) (tsource s)) → (i : ℕ) → ((j : ℕ) → j < i → Holds j) → (n : Node) → HasLower i (left_child n) → HoldsLeft n
-  left_holds source i below (Source stream) h = source stream
-  left_holds source i below (Where of test) h = below of h
-  left_holds source i below (Select of items) h = below of h
-  left_holds source i below (Union left right) h = below left h
-  left_holds source i below (Delay of by) h = below of h
-  left_holds source i below (Hop of size period) h = below of h
-  left_holds source i below (Duration of by) h = below of h
-  left_holds source i below (Extend of by) h = below of h
-  left_holds source i below (Session of timeout key) h = below of h
-  left_holds source i below (Clip left right left_key right_key) h = below left h
-  left_holds source i below (Group of key aggs) h = below of h
-  left_holds source i below (Join left right left_key right_key) h = below left h
-  left_holds source i below (Anti left right left_key right_key) h = below left h
+  left_holds source i below n h = left_shape_holds source i below (shape n) h
 
   -- the induction over a plan: the relation holds at each number, if it holds where there is no node, of what sources
   -- read, and of each node where it holds of what the node reads

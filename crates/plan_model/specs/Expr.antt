@@ -1,5 +1,5 @@
 -- The value of an expression on a row.
-use Rattle.std.specs.Prelude.{ℕ, ◌-◌, ℤ, pos, ◌+ℤ◌, ◌-ℤ◌, ◌*ℤ◌, neg_ℤ, Bool, false, not, ◌&&◌, ◌||◌, List, length, slice_index_or}
+use Rattle.std.specs.Prelude.{ℕ, ◌-◌, ℤ, pos, ◌+ℤ◌, ◌-ℤ◌, ◌*ℤ◌, neg_ℤ, Bool, false, not, ◌&&◌, ◌||◌, List, length, map, slice_index_or}
 use Rattle.std.specs.Int.{w64, int_wrap, int_div_euclid, int_rem_euclid}
 use Rattle.std.specs.Ordering.{is_eq, is_ne, is_lt, is_le, is_gt, is_ge}
 use Rattle.std.specs.declared.cmp.Ordering.{Ordering}
@@ -82,3 +82,7 @@ value expr row = value_at expr row (length expr - 1)
 -- whether a test is true of a row
 abbrev pub holds : List ExprNode → Row → Bool
 holds test row = flag_of (value test row)
+
+-- the values of items on a row, in order. The items a + b and a make of the row 3, 4 the row 7, 3
+abbrev pub selected_row : List (List ExprNode) → Row → Row
+selected_row items row = map (λ item. value item row) items

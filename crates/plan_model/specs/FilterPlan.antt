@@ -1,15 +1,9 @@
 -- The plan of one stream and one test.
-use Rattle.std.specs.Prelude.{ℤ, List, [], ◌∷◌}
-use Rattle.plan_model.specs.declared.expr.CompareOp.TheVariants.{Gt}
+use Rattle.std.specs.Prelude.{List, [], ◌∷◌}
 use Rattle.plan_model.specs.declared.expr.ExprNode.{ExprNode}
-use Rattle.plan_model.specs.declared.expr.ExprNode.TheVariants.{Column, Int as ConstInt, Compare}
 use Rattle.plan_model.specs.declared.node.Node.{Node}
 use Rattle.plan_model.specs.declared.node.Node.TheVariants.{Source, Where}
 
 -- the rows of stream 0 that pass the test; its root is node 1
 abbrev pub filter_plan : List ExprNode → List Node
 filter_plan test = Source 0 ∷ Where 0 test ∷ []
-
--- the first column is above the number, as in `v > 10`
-abbrev pub first_above : ℤ → List ExprNode
-first_above number = Column 0 ∷ ConstInt number ∷ Compare Gt 0 1 ∷ []

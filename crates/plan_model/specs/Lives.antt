@@ -1,13 +1,9 @@
 -- Changes of the lives of events. R is the type of the rows.
-use Rattle.std.specs.Prelude.{ℕ, nat_lt, Bool, cond, List, [], ◌∷◌, flat_map}
+use Rattle.std.specs.Prelude.{ℕ, nat_lt, Bool, cond, List, [], flat_map}
 use Rattle.tw_rows.specs.Instant.{later, floor_to}
 use Rattle.tw_rows.specs.Event.{Event}
+use Rattle.key_nodes.specs.Joins.{with_life}
 use Rattle.key_nodes.specs.Sessions.{sessions}
-
--- the row over the life [start, end), and no event where that life is empty. As no life ends after infinity, there is
--- none that would start at infinity
-abbrev pub with_life : {R : Type 0} → R → ℕ → ℕ → List (Event R)
-with_life row start end = cond (nat_lt start end) (record { row = row; start = start; end = end } ∷ []) []
 
 -- start and end later by so much: by 2, [3, 5) becomes [5, 7)
 abbrev pub moved_one : {R : Type 0} → ℕ → Event R → List (Event R)

@@ -6,19 +6,12 @@ use Rattle.plan_model.specs.Meaning.{over_nodes}
 
 -- how far a node itself looks back, in units of time. A hop looks back by its size
 abbrev pub own_duration : Node → ℕ
-own_duration (Source stream) = 0
-own_duration (Where of test) = 0
-own_duration (Select of items) = 0
-own_duration (Union left right) = 0
 own_duration (Delay of by) = by
 own_duration (Hop of size period) = size
 own_duration (Duration of by) = by
 own_duration (Extend of by) = by
 own_duration (Session of timeout key) = timeout
-own_duration (Clip left right left_key right_key) = 0
-own_duration (Group of key aggs) = 0
-own_duration (Join left right left_key right_key) = 0
-own_duration (Anti left right left_key right_key) = 0
+own_duration n = 0
 
 -- the reach of a node, from those of its children: the greater of them, and how far it looks back itself
 abbrev pub node_reach : Node → ℕ → ℕ → ℕ
@@ -59,13 +52,4 @@ abbrev pub is_built : Node → Bool
 is_built (Source stream) = true
 is_built (Where of test) = true
 is_built (Select of items) = true
-is_built (Union left right) = false
-is_built (Delay of by) = false
-is_built (Hop of size period) = false
-is_built (Duration of by) = false
-is_built (Extend of by) = false
-is_built (Session of timeout key) = false
-is_built (Clip left right left_key right_key) = false
-is_built (Group of key aggs) = false
-is_built (Join left right left_key right_key) = false
-is_built (Anti left right left_key right_key) = false
+is_built n = false

@@ -13,12 +13,16 @@ ghost use Rattle.plan_model.specs.declared.agg.Agg.{Agg};
 ghost use Rattle.plan_model.specs.declared.expr.ExprNode.{ExprNode};
 ghost use Rattle.plan_model.specs.declared.node.Node.{Node};
 ghost use Rattle.plan_model.specs.IsExpr.{IsExpr};
-ghost use Rattle.plan_model.specs.Expr.{node_value, value_at, value, holds};
+ghost use Rattle.plan_model.specs.Expr.{node_value, value_at, value, holds, selected_row};
 ghost use Rattle.plan_model.specs.Keys.{key_values, rows_equal, keys_equal, paired_row};
-ghost use Rattle.plan_model.specs.Groups.{least_int, greatest_int, agg_value, row_of_group, is_undefined};
-ghost use Rattle.plan_model.specs.Joins.{joined_rows, joined};
+ghost use Rattle.plan_model.specs.Amounts.{least_int, greatest_int};
+ghost use Rattle.plan_model.specs.Groups.{agg_value, row_of_group, is_undefined};
+ghost use Rattle.plan_model.specs.RowOps.{RowOps};
+ghost use Rattle.plan_model.specs.Nodes.{event_to, events_to, node_in};
+ghost use Rattle.key_nodes.specs.Runs.{Tells};
+ghost use Rattle.key_nodes.specs.Joins.{joined_rows, joined};
 ghost use Rattle.plan_model.specs.Lives.{moved_one, moved, hopped_one, hopped, lasting_one, lasting, extended_one, extended};
-ghost use Rattle.plan_model.specs.Meaning.{Sources, left_of, right_of, selected_row, selected_event, node_events, events, node_closes, closes, nothing, by_events, node_meaning, meaning, snapshots, IsOrdered, IsLevelled};
+ghost use Rattle.plan_model.specs.Meaning.{Sources, left_of, right_of, node_events, events, node_closes, closes, nothing, by_events, node_meaning, meaning, snapshots, IsOrdered, IsLevelled};
 
 /// Each node of an expression has the value that its kind makes of its operands' values, and the expression has the
 /// value of its last node.
@@ -61,7 +65,7 @@ pub fn where_is()
 pub fn select_is()
     ensures events { (source : Sources) (nodes : List Node) (i child : ℕ) (items : List (List ExprNode)) →
         IsOrdered nodes → slice_get nodes i ≡ Some (Node.Select child items) →
-        events source nodes i ≡ map (selected_event items) (events source nodes child) }
+        events source nodes i ≡ events_to (selected_row items) (events source nodes child) }
     ensures rows { (source : Sources) (nodes : List Node) (i child t : ℕ) (items : List (List ExprNode)) →
         IsOrdered nodes → slice_get nodes i ≡ Some (Node.Select child items) →
         snapshots source nodes i t ≡ map (selected_row items) (snapshots source nodes child t) }
@@ -314,6 +318,13 @@ pub fn snapshots_agree()
 pub fn nodes_are_causal()
     ensures { (n : Node) (x y : ℕ) (a b c d : List (Event Row)) → Known x a c → Known y b d →
         Known (node_closes n x y) (node_events n a b) (node_events n c d) }
+{}
+
+/// The same holds over rows of any kind, of which `same` tells whether they are equal.
+pub fn nodes_are_causal_over<X>()
+    ensures { (ops : RowOps X) → Tells ops.same →
+        (n : Node) (x y : ℕ) (a b c d : List (Event (List X))) → Known x a c → Known y b d →
+        Known (node_closes n x y) (node_in ops n a b) (node_in ops n c d) }
 {}
 
 /// Finality: where later lines leave what is known of the sources below the punctuation `p`, they leave the rows of each

@@ -49,7 +49,8 @@ impl Plan {
 
     /// The streams of the query, in the order of its text.
     pub fn streams(&self) -> &[StreamDef]
-        ensures { result.now ≡ self.now.streams }
+        ensures streams { result.now ≡ self.now.streams }
+        ensures kept { IsPlan self.now }
     {
         self.streams.items()
     }

@@ -1,3 +1,4 @@
+use Rattle.plan_model.specs.Keys.{value_ops}
 use Rattle.plan_model.proofs.Aggregates.{least_is, greatest_is, agg_same}
 use Rattle.plan_model.proofs.laws.aggregates_are.Goals as goal
 
@@ -8,4 +9,4 @@ pub returns-clause-greatest : goal.returns-clause-greatest
 returns-clause-greatest c = greatest_is
 
 pub returns-clause-order : goal.returns-clause-order
-returns-clause-order c = agg_same
+returns-clause-order c = agg_same value_ops

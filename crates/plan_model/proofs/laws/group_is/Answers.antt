@@ -2,7 +2,7 @@ use Rattle.std.specs.Prelude.{[]}
 use Rattle.std.proofs.Common.{ap}
 use Rattle.tw_rows.specs.Instant.{inf}
 use Rattle.plan_model.specs.declared.node.Node.TheVariants.{Group}
-use Rattle.plan_model.specs.Keys.{key_values}
+use Rattle.plan_model.specs.Keys.{value_ops, key_values}
 use Rattle.plan_model.specs.Meaning.{node_events, node_closes, nothing, by_events, node_meaning}
 use Rattle.plan_model.proofs.Aggregates.{row_of_group_is}
 use Rattle.plan_model.proofs.InOrder.{rows_equal_tells}
@@ -22,4 +22,4 @@ pub returns-clause-keys : goal.returns-clause-keys
 returns-clause-keys c = λ key values row. rows_equal_tells values (key_values key row)
 
 pub returns-clause-order : goal.returns-clause-order
-returns-clause-order c = row_of_group_is
+returns-clause-order c = row_of_group_is value_ops
