@@ -32,11 +32,12 @@ impl Kernel {
         ensures begins { BeginsWith texts.new texts.old }
     {
         let steps = compile_nodes(alloc, expr.items(), texts)?;
+        let done = Vec::with_capacity(alloc, steps.len())?;
         Ok(Kernel {
             steps,
             kinds: cell_kinds(alloc, kinds)?,
             capacity,
-            done: Vec::new(alloc),
+            done,
         })
     }
 }

@@ -1,5 +1,5 @@
 // The computing of an expression on one row.
-ghost use Rattle.std.specs.Prelude.{◌≡◌, ◌<◌, [], pos, true, false, length, slice_index_or, IfOk};
+ghost use Rattle.std.specs.Prelude.{◌≡◌, ◌<◌, [], pos, true, false, length, slice_index_or, ◌≤◌, vec_capacity};
 ghost use Rattle.tw_rows.specs.Cells.{datum_kind, read_datum, read_cells, IsPlaced, ArePlaced};
 ghost use Rattle.plan_model.specs.IsExpr.{IsExprNode};
 ghost use Rattle.plan_model.specs.Expr.{node_value, value};
@@ -11,7 +11,7 @@ ghost use Rattle.lane_expr.specs.Kernels.{HoldsPlaces, IsResult};
 use crate::data::{arith, compare, divide, flag_at, is_true_of, negate, number_at, rest};
 use crate::step::Step;
 use batch::Batch;
-use tw_rows::{CellKind, Datum, Memory, TextTable};
+use tw_rows::{CellKind, Datum, TextTable};
 
 /// The cell of the row in that column.
 pub(crate) fn cell_at(batch: &Batch, row: usize, column: usize) -> Datum
@@ -54,28 +54,30 @@ fn run_step(step: Step, done: &[Datum], batch: &Batch, row: usize, texts: &TextT
 }
 
 /// The value of the steps' expression on a row. `done` is where the results of the steps are put; only its room is of
-/// use from row to row. Memory may be wanting only while this room grows: it is the one place that can answer so.
+/// use from row to row.
 pub(crate) fn evaluate(
     steps: &[Step],
     done: &mut Vec<Datum>,
     batch: &Batch,
     row: usize,
     texts: &TextTable,
-) -> Result<Datum, Memory>
+) -> Datum
+    requires done { length steps.now ≤ vec_capacity done.old }
     requires steps { AreSteps batch.now.kinds steps.now }
     requires placed { AreStepsPlaced texts.now steps.now }
     requires row { row < length batch.now.rows }
     requires cells { ArePlaced texts.now (cells_of batch.now.rows row) }
-    ensures value { IfOk result (λ d. read_datum texts.now d ≡ value (expr_of texts.now steps.now) (read_cells texts.now (cells_of batch.now.rows row))) }
-    ensures kind { IfOk result (λ d. datum_kind d ≡ kind_of (expr_of [] steps.now) batch.now.kinds) }
-    ensures placed { IfOk result (λ d. IsPlaced texts.now d) }
+    ensures value { read_datum texts.now result ≡ value (expr_of texts.now steps.now) (read_cells texts.now (cells_of batch.now.rows row)) }
+    ensures kind { datum_kind result ≡ kind_of (expr_of [] steps.now) batch.now.kinds }
+    ensures placed { IsPlaced texts.now result }
+    ensures done { vec_capacity done.new ≡ vec_capacity done.old }
 {
     done.clear();
     for step in steps {
         let datum = run_step(*step, done.as_slice(), batch, row, texts);
-        done.push(datum)?;
+        done.push_reserved(datum);
     }
-    Ok(done[steps.len() - 1])
+    done[steps.len() - 1]
 }
 
 /// The result at a row: the value of the steps' expression where the row is occupied, else the int 0.
@@ -85,18 +87,20 @@ pub(crate) fn result_at(
     batch: &Batch,
     row: usize,
     texts: &TextTable,
-) -> Result<Datum, Memory>
+) -> Datum
+    requires done { length steps.now ≤ vec_capacity done.old }
     requires steps { AreSteps batch.now.kinds steps.now }
     requires placed { AreStepsPlaced texts.now steps.now }
     requires row { row < length batch.now.rows }
     requires cells { HoldsPlaces texts.now batch.now.rows }
-    ensures result { IfOk result (λ d. IsResult texts.now (expr_of texts.now steps.now) (slice_index_or batch.now.rows row no_row) d) }
-    ensures kind { IfOk result (λ d. (slice_index_or batch.now.rows row no_row).occupied ≡ true → datum_kind d ≡ kind_of (expr_of [] steps.now) batch.now.kinds) }
-    ensures free { IfOk result (λ d. (slice_index_or batch.now.rows row no_row).occupied ≡ false → d ≡ Datum.Int (pos 0)) }
+    ensures result { IsResult texts.now (expr_of texts.now steps.now) (slice_index_or batch.now.rows row no_row) result }
+    ensures kind { (slice_index_or batch.now.rows row no_row).occupied ≡ true → datum_kind result ≡ kind_of (expr_of [] steps.now) batch.now.kinds }
+    ensures free { (slice_index_or batch.now.rows row no_row).occupied ≡ false → result ≡ Datum.Int (pos 0) }
+    ensures done { vec_capacity done.new ≡ vec_capacity done.old }
 {
     if batch.occupancy().is_set(row) {
         evaluate(steps, done, batch, row, texts)
     } else {
-        Ok(Datum::default())
+        Datum::default()
     }
 }

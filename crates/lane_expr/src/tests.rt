@@ -131,7 +131,7 @@ fn mask_over(
     let batch = batch_of(rt, alloc, texts, rows)?;
     let mut mask = Occupancy::new(alloc, batch.rows())?;
     assert!(rt; batch.rows() <= 67);
-    kernel.mask(&batch, texts, &mut mask)?;
+    kernel.mask(&batch, texts, &mut mask);
     Ok(mask)
 }
 
@@ -180,7 +180,7 @@ fn check_numbers(
     let batch = batch_of(rt, alloc, &texts, &rows)?;
     let mut column = Column::new(alloc, batch.rows())?;
     assert!(rt; batch.rows() <= 67);
-    kernel.map_int(&batch, &texts, &mut column)?;
+    kernel.map_int(&batch, &texts, &mut column);
     assert!(rt; column.len() == 4);
     assert_eq!(rt; [column.get(0), column.get(1), column.get(3)], want);
     Ok(())
@@ -251,7 +251,7 @@ fn places_over(
     let batch = batch_of(rt, alloc, texts, rows)?;
     let mut column = Column::new(alloc, batch.rows())?;
     assert!(rt; batch.rows() <= 67);
-    kernel.map_text(&batch, texts, &mut column)?;
+    kernel.map_text(&batch, texts, &mut column);
     Ok(column)
 }
 
@@ -271,7 +271,7 @@ fn bits_over(
     let batch = batch_of(rt, alloc, texts, rows)?;
     let mut column = Column::new(alloc, batch.rows())?;
     assert!(rt; batch.rows() <= 67);
-    kernel.map_bool(&batch, texts, &mut column)?;
+    kernel.map_bool(&batch, texts, &mut column);
     Ok(column)
 }
 

@@ -18,8 +18,9 @@ loop-row-preserved c =
     let long = length-append c.loop-row.out.items (c.new.result ∷ []) in
     record {
       results = subst (λ xs. AreResults texts expr (take (row + 1) rows) (map Datum xs)) (sym pushed)
-          (results_next Datum texts expr rows row no_row c.loop-row.out.items c.new.result c.in_ok-datum.datum c.loop-row.invariant.results within c.in_ok-datum.ensures.result
-          (λ o. c.truth_of.ensures.datum (c.in_ok-datum.ensures.kind o ∙ c.requires.kind) ∙ ap Datum (sym c.new.ensures)));
+          (results_next Datum texts expr rows row no_row c.loop-row.out.items c.new.result c.result_at-datum.result c.loop-row.invariant.results within c.result_at-datum.ensures.result
+          (λ o. c.truth_of.ensures.datum (c.result_at-datum.ensures.kind o ∙ c.requires.kind) ∙ ap Datum (sym c.new.ensures)));
+      done = c.result_at-datum.ensures.done ∙ c.loop-row.invariant.done;
       as_many = ap length pushed ∙ omega (arith, long, c.loop-row.invariant.as_many);
       room = ap (λ o. o.capacity) c.push.ensures ∙ c.loop-row.invariant.room;
     }

@@ -22,8 +22,9 @@ loop-row-preserved c =
     let long = length-append c.loop-row.out.items (c.number_of.result ∷ []) in
     record {
       results = subst (λ xs. AreResults texts expr (take (row + 1) rows) (map Datum xs)) (sym pushed)
-          (results_next Datum texts expr rows row no_row c.loop-row.out.items c.number_of.result c.in_ok-datum.datum c.loop-row.invariant.results within c.in_ok-datum.ensures.result
-          (λ o. c.number_of.ensures (c.in_ok-datum.ensures.kind o ∙ c.requires.kind)));
+          (results_next Datum texts expr rows row no_row c.loop-row.out.items c.number_of.result c.result_at-datum.result c.loop-row.invariant.results within c.result_at-datum.ensures.result
+          (λ o. c.number_of.ensures (c.result_at-datum.ensures.kind o ∙ c.requires.kind)));
+      done = c.result_at-datum.ensures.done ∙ c.loop-row.invariant.done;
       as_many = ap length pushed ∙ omega (arith, long, c.loop-row.invariant.as_many);
       room = ap (λ o. o.capacity) c.push.ensures ∙ c.loop-row.invariant.room;
     }
