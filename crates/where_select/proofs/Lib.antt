@@ -1,2 +1,3 @@
 pub mod Projected
 pub mod Edges
+pub mod Lacking

@@ -1,5 +1,5 @@
 -- Projections: the rows that one makes of rows.
-use Rattle.std.specs.Prelude.{◌≡◌, ℕ, true, List, [], ◌∷◌, map}
+use Rattle.std.specs.Prelude.{◌≡◌, ℕ, ◌<◌, Bool, true, false, List, [], ◌∷◌, map, ◌+◌, cond}
 use Rattle.tw_rows.specs.Cells.{ArePlaced, read_cells}
 use Rattle.tw_rows.specs.declared.edge.Edge.{Edge}
 use Rattle.tw_rows.specs.declared.row.Value.{Value}
@@ -8,6 +8,9 @@ use Rattle.plan_model.specs.Expr.{value}
 use Rattle.batch.specs.declared.payload.Payload.{Payload}
 use Rattle.batch.specs.Payloads.{payload_data, payload_capacity}
 use Rattle.batch.specs.Rows.{Row, Table}
+use Rattle.batch.specs.Shelves.{Shelves, free_of}
+use Rattle.tw_rows.specs.declared.kind.CellKind.{CellKind}
+use Rattle.tw_rows.specs.declared.kind.CellKind.TheVariants.{Whole, Bit, Place}
 use Rattle.lane_expr.specs.Kernels.{Program, AreResults}
 use Rattle.lane_expr.specs.Steps.{expr_of}
 
@@ -27,6 +30,22 @@ AreProjected texts exprs [] [] = Unit {0}
 AreProjected texts exprs [] (n ∷ ns) = ⊥
 AreProjected texts exprs (r ∷ rs) [] = ⊥
 AreProjected texts exprs (r ∷ rs) (n ∷ ns) = IsProjected texts exprs r n × AreProjected texts exprs rs ns
+
+-- two cells are stored alike
+abbrev pub is_same_kind : CellKind → CellKind → Bool
+is_same_kind Whole Whole = true
+is_same_kind Bit Bit = true
+is_same_kind Place Place = true
+is_same_kind _ _ = false
+
+-- how many of the kinds are the one: of Whole, Bit, Whole two are Whole
+abbrev pub many : CellKind → List CellKind → ℕ
+many kind [] = 0
+many kind (k ∷ ks) = cond (is_same_kind kind k) 1 0 + many kind ks
+
+-- for cells that are stored in one of the ways fewer columns are free than there are kinds: one free column of ints is too few for Whole, Bit, Whole
+abbrev pub Lacks : Shelves → List CellKind → Type 0
+Lacks pools kinds = (kind : CellKind) × (free_of pools kind < many kind kinds)
 
 -- a column of the batch's capacity for each expression, with its results at the batch's rows
 abbrev pub AreColumns : List (List ℕ) → Table → List (List ExprNode) → List Payload → Type 0

@@ -1,5 +1,5 @@
 // Filters.
-ghost use Rattle.std.specs.Prelude.{◌≡◌, ◌≤◌, length, IfOk, OnOk, OnErr};
+ghost use Rattle.std.specs.Prelude.{◌≡◌, ◌≤◌, length, IfOk};
 ghost use Rattle.lane_expr.specs.Steps.{expr_of};
 ghost use Rattle.lane_expr.specs.Kernels.{CanRead, result_kind};
 ghost use Rattle.where_select.specs.Filters.{filtered};
@@ -46,16 +46,14 @@ impl Filter {
 
     /// Leaves occupied just the occupied rows at which the test is true. It needs a table of texts that begins with
     /// the one that the test was compiled with.
-    pub fn apply(&mut self, batch: &mut Batch, texts: &TextTable) -> Result<(), Memory>
+    pub fn apply(&mut self, batch: &mut Batch, texts: &TextTable)
         requires reads { CanRead texts.now self.old.test batch.old }
         requires room { length batch.old.rows ≤ self.old.capacity }
-        ensures ok { OnOk result (batch.new ≡ record batch.old { rows = filtered texts.now (expr_of texts.now self.old.test.steps) batch.old.rows }) }
-        ensures err { OnErr result (batch.new ≡ batch.old) }
+        ensures batch { batch.new ≡ record batch.old { rows = filtered texts.now (expr_of texts.now self.old.test.steps) batch.old.rows } }
         ensures same { self.new ≡ self.old }
     {
         self.mask.reset();
-        self.test.mask(batch, texts, &mut self.mask)?;
+        self.test.mask(batch, texts, &mut self.mask);
         batch.keep(&self.mask);
-        Ok(())
     }
 }

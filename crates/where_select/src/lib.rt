@@ -7,7 +7,7 @@ mod project;
 
 pub use filter::Filter;
 pub use laws::{filtered_edges_are, projected_edges_are};
-pub use project::{Project, Unprojected};
+pub use project::{NoColumn, Project};
 
 #[cfg(test)]
 mod tests;

@@ -1,25 +1,25 @@
 // Projections.
-ghost use Rattle.std.specs.Prelude.{◌≡◌, ◌≤◌, [], length, map, All, IfOk, IfErr, OnOk, OnErr};
+ghost use Rattle.std.specs.Prelude.{◌≡◌, ◌<◌, ◌≤◌, ◌↔◌, [], length, map, All, IsTrue, IsErr, IfOk, IfErr, OnOk, OnErr};
 ghost use Rattle.tw_rows.specs.Kinds.{cell_kind_of};
 ghost use Rattle.batch.specs.Payloads.{payload_kind, payload_data, payload_capacity};
-ghost use Rattle.batch.specs.Shelves.{taken, all_taken, all_given, NoMore};
+ghost use Rattle.batch.specs.Shelves.{free_of, taken, all_taken, all_given};
 ghost use Rattle.lane_expr.specs.Steps.{expr_of};
 ghost use Rattle.lane_expr.specs.Kernels.{CanRead, AreResults, result_kind, kind_for};
-ghost use Rattle.where_select.specs.Projects.{exprs_of, AreColumns, AreProjected};
+ghost use Rattle.where_select.specs.Projects.{exprs_of, AreColumns, AreProjected, is_same_kind, many, Lacks};
 
 use batch::{Batch, Payload, Pools};
 use lane_expr::Kernel;
 use smallvec::SmallVec;
 use std::alloc::Global;
 use std::marker::Model;
-use tw_rows::{Kind, Memory, TextTable, cell_of};
+use tw_rows::{CellKind, Kind, Memory, TextTable, cell_of};
 
 /// How many payload columns are kept without memory of their own.
 const WIDTH: usize = 32;
 
-/// Memory was wanting. The batch is handed back as it was.
+/// Some pool has fewer free columns than the items need of it. The batch is handed back as it was.
 #[derive(Drop)]
-pub struct Unprojected {
+pub struct NoColumn {
     pub batch: Batch,
 }
 
@@ -43,12 +43,16 @@ impl Model for Project {
 
 impl Project {
     /// A projection to these items, which are compiled for batches of the kinds.
-    pub fn new(items: Vec<Kernel>, kinds: &[Kind]) -> Result<Project, Memory>
+    pub fn new(
+        alloc: Global,
+        items: Vec<Kernel>,
+        kinds: &[Kind],
+    ) -> Result<Project, Memory>
         requires few { length items.items ≤ 32 }
         requires compiled { All (λ k. k.kinds ≡ map cell_kind_of kinds.now) items.items }
         ensures { IfOk result (λ p. p ≡ items.items) }
     {
-        let mut results = Vec::new(*items.allocator());
+        let mut results = Vec::new(alloc);
         for item in &items {
             results.push(item.kind())?;
         }
@@ -65,35 +69,63 @@ impl Project {
         self.kinds.as_slice()
     }
 
-    /// The batch with the values of the items as its cells. Its columns are taken from the pools, those that the
-    /// pools lack are made, and its old columns are given to the pools. Where memory is wanting, the columns that
-    /// were taken are dropped. It needs a table of texts that begins with those that the items were compiled with.
+    /// The batch with the values of the items as its cells. Its columns are taken from the pools, which then get its
+    /// old ones. It needs a table of texts that begins with those that the items were compiled with.
     pub fn apply(
         &mut self,
         batch: Batch,
         pools: &mut Pools,
         texts: &TextTable,
-    ) -> Result<Batch, Unprojected>
+    ) -> Result<Batch, NoColumn>
         requires reads { All (λ k. CanRead texts.now k batch) self.old }
         requires pools { pools.old.capacity ≡ batch.capacity }
+        ensures lacking { IsErr result ↔ Lacks pools.old (map result_kind self.old) }
         ensures kinds { IfOk result (λ b. b.kinds ≡ map result_kind self.old) }
         ensures capacity { IfOk result (λ b. b.capacity ≡ batch.capacity) }
         ensures rows { IfOk result (λ b. AreProjected texts.now (exprs_of texts.now self.old) batch.rows b.rows) }
         ensures given { OnOk result (pools.new ≡ all_given (all_taken pools.old (map result_kind self.old)) batch.kinds) }
-        ensures err { IfErr result (λ u. u.batch ≡ batch) }
-        ensures dropped { OnErr result (NoMore pools.old pools.new) }
+        ensures err { IfErr result (λ n. n.batch ≡ batch) }
+        ensures kept { OnErr result (pools.new ≡ pools.old) }
         ensures same { self.new ≡ self.old }
     {
+        if lacks(pools, &self.kinds) {
+            return Err(NoColumn { batch });
+        }
         let alloc = *self.items.allocator();
-        match item_columns(alloc, self.items.as_mut_slice(), &batch, pools, texts) {
-            Ok(columns) => {
-                let (batch, old) = batch.exchange(columns);
-                give_columns(pools, old);
-                Ok(batch)
-            }
-            Err(_) => Err(Unprojected { batch }),
+        let columns = item_columns(alloc, self.items.as_mut_slice(), &batch, pools, texts);
+        let (batch, old) = batch.exchange(columns);
+        give_columns(pools, old);
+        Ok(batch)
+    }
+}
+
+// Whether some pool has fewer free columns than there are kinds that are stored so.
+fn lacks(pools: &Pools, kinds: &[Kind]) -> bool
+    ensures { IsTrue result ↔ Lacks pools.now (map cell_kind_of kinds.now) }
+{
+    pools.free(CellKind::Whole) < count_of(kinds, CellKind::Whole)
+        || pools.free(CellKind::Bit) < count_of(kinds, CellKind::Bit)
+        || pools.free(CellKind::Place) < count_of(kinds, CellKind::Place)
+}
+
+// How many of the kinds are stored so.
+fn count_of(kinds: &[Kind], stored: CellKind) -> usize
+    ensures { result ≡ many stored (map cell_kind_of kinds.now) }
+{
+    let mut count = 0;
+    for kind in kinds {
+        if is_same(stored, cell_of(*kind)) {
+            count += 1;
         }
     }
+    count
+}
+
+// Whether two cells are stored alike.
+fn is_same(left: CellKind, right: CellKind) -> bool
+    ensures { result ≡ is_same_kind left right }
+{
+    left == right
 }
 
 // The columns of the items' values over the batch.
@@ -103,75 +135,66 @@ fn item_columns(
     batch: &Batch,
     pools: &mut Pools,
     texts: &TextTable,
-) -> Result<SmallVec<Payload, WIDTH>, Memory>
+) -> SmallVec<Payload, WIDTH>
     requires reads { All (λ k. CanRead texts.now k batch.now) items.old }
+    requires few { length items.old ≤ 32 }
     requires pools { pools.old.capacity ≡ batch.now.capacity }
-    ensures columns { IfOk result (λ v. AreColumns texts.now batch.now (exprs_of texts.now items.old) v.items) }
-    ensures kinds { IfOk result (λ v. map payload_kind v.items ≡ map result_kind items.old) }
-    ensures taken { OnOk result (pools.new ≡ all_taken pools.old (map result_kind items.old)) }
-    ensures err { OnErr result (NoMore pools.old pools.new) }
+    requires free { ¬ (Lacks pools.old (map result_kind items.old)) }
+    ensures columns { AreColumns texts.now batch.now (exprs_of texts.now items.old) result.items }
+    ensures kinds { map payload_kind result.items ≡ map result_kind items.old }
+    ensures taken { pools.new ≡ all_taken pools.old (map result_kind items.old) }
     ensures same { items.new ≡ items.old }
 {
     let mut columns = SmallVec::new(alloc);
     for i in 0..items.len() {
-        columns.push(item_column(alloc, &mut items[i], batch, pools, texts)?)?;
+        columns.push_reserved(item_column(&mut items[i], batch, pools, texts));
     }
-    Ok(columns)
+    columns
 }
 
 // The column of an item's values over the batch.
 fn item_column(
-    alloc: Global,
     item: &mut Kernel,
     batch: &Batch,
     pools: &mut Pools,
     texts: &TextTable,
-) -> Result<Payload, Memory>
+) -> Payload
     requires reads { CanRead texts.now item.old batch.now }
     requires pools { pools.old.capacity ≡ batch.now.capacity }
-    ensures results { IfOk result (λ p. AreResults texts.now (expr_of texts.now item.old.steps) batch.now.rows (payload_data p)) }
-    ensures kind { IfOk result (λ p. payload_kind p ≡ result_kind item.old) }
-    ensures room { IfOk result (λ p. payload_capacity p ≡ batch.now.capacity) }
+    requires free { 0 < free_of pools.old (result_kind item.old) }
+    ensures results { AreResults texts.now (expr_of texts.now item.old.steps) batch.now.rows (payload_data result) }
+    ensures kind { payload_kind result ≡ result_kind item.old }
+    ensures room { payload_capacity result ≡ batch.now.capacity }
     ensures taken { pools.new ≡ taken pools.old (result_kind item.old) }
     ensures same { item.new ≡ item.old }
 {
-    let mut column = empty_column(alloc, pools, item.kind(), batch.capacity())?;
-    fill(item, batch, texts, &mut column)?;
-    Ok(column)
+    let mut column = empty_column(pools, cell_of(item.kind()));
+    prove!(batch.rows() <= column.capacity());
+    fill(item, batch, texts, &mut column);
+    column
 }
 
-// An empty column of the capacity for values of the kind, from the pools or newly made.
-fn empty_column(
-    alloc: Global,
-    pools: &mut Pools,
-    kind: Kind,
-    capacity: usize,
-) -> Result<Payload, Memory>
-    requires { capacity ≡ pools.old.capacity }
-    ensures kind { IfOk result (λ p. payload_kind p ≡ cell_kind_of kind) }
-    ensures empty { IfOk result (λ p. payload_data p ≡ []) }
-    ensures room { IfOk result (λ p. payload_capacity p ≡ capacity) }
-    ensures taken { pools.new ≡ taken pools.old (cell_kind_of kind) }
+// A free column for cells that are stored so.
+fn empty_column(pools: &mut Pools, kind: CellKind) -> Payload
+    requires { 0 < free_of pools.old kind }
+    ensures kind { payload_kind result ≡ kind }
+    ensures empty { payload_data result ≡ [] }
+    ensures room { payload_capacity result ≡ pools.old.capacity }
+    ensures taken { pools.new ≡ taken pools.old kind }
 {
-    let cell_kind = cell_of(kind);
-    match pools.take(cell_kind) {
-        Some(column) => Ok(column),
-        None => Ok(Payload::new(alloc, cell_kind, capacity)?),
+    match pools.take(kind) {
+        Some(column) => column,
+        None => unreachable!(),
     }
 }
 
 // Adds the item's value at each row to an empty column.
-fn fill(
-    item: &mut Kernel,
-    batch: &Batch,
-    texts: &TextTable,
-    column: &mut Payload,
-) -> Result<(), Memory>
+fn fill(item: &mut Kernel, batch: &Batch, texts: &TextTable, column: &mut Payload)
     requires reads { CanRead texts.now item.old batch.now }
     requires kind { payload_kind column.old ≡ result_kind item.old }
     requires empty { payload_data column.old ≡ [] }
     requires room { length batch.now.rows ≤ payload_capacity column.old }
-    ensures results { OnOk result (AreResults texts.now (expr_of texts.now item.old.steps) batch.now.rows (payload_data column.new)) }
+    ensures results { AreResults texts.now (expr_of texts.now item.old.steps) batch.now.rows (payload_data column.new) }
     ensures kind { payload_kind column.new ≡ payload_kind column.old }
     ensures room { payload_capacity column.new ≡ payload_capacity column.old }
     ensures same { item.new ≡ item.old }

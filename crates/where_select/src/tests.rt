@@ -96,7 +96,7 @@ fn left_by(
 {
     let mut filter = Filter::new(alloc, test, 8)?;
     assert!(rt; batch.rows() <= 8);
-    filter.apply(&mut batch, texts)?;
+    filter.apply(&mut batch, texts);
     Ok(batch.occupied())
 }
 
@@ -111,11 +111,13 @@ fn projected_by(
     requires kinds { item.kinds ≡ CellKind.Whole ∷ [] }
     requires reads { CanRead texts.now item batch }
 {
-    let mut project = Project::new(vec![in alloc; item]?, &[Kind::Int])?;
+    let mut project = Project::new(alloc, vec![in alloc; item]?, &[Kind::Int])?;
     assert_eq!(rt; project.kinds(), [Kind::Int].as_slice());
     let mut pools = Pools::new(alloc, 8, batch.capacity())?;
+    assert!(rt; pools.limit() >= 1);
+    pools.refill(1)?;
     let projected = project.apply(batch, &mut pools, texts).ok();
-    Ok(projected.ok_or("no memory for the columns")?)
+    Ok(projected.ok_or("no free column")?)
 }
 
 #[test]

@@ -12,4 +12,5 @@ invariant-loop-i l = record {
   kinds : map payload_kind l.columns.items ≡ map result_kind (take l.i l.fn.items);
   taken : l.pools ≡ all_taken l.fn.pools (map result_kind (take l.i l.fn.items));
   same : l.items ≡ l.fn.items;
+  room : l.columns.capacity ≡ 32;
 }
