@@ -2,3 +2,4 @@ pub mod Pushing
 pub mod Tables
 pub mod Views
 pub mod Stocks
+pub mod Keeping

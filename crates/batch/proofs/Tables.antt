@@ -8,7 +8,7 @@ use Rattle.std.proofs.lemmas.Bool.{cases_eq}
 use Rattle.occupancy.specs.Bits.{both}
 use Rattle.occupancy.proofs.Both.{is_set_at-both}
 use Rattle.std.proofs.lemmas.List.FromFn.{length-map-range_with_len, get_or-map-range_with_len, map-range_with_len_more, fill_by_all}
-use Rattle.std.proofs.lemmas.List.Elements.{All-push}
+use Rattle.std.proofs.lemmas.List.Elements.{All-push, All-set}
 use Rattle.tw_rows.specs.Instant.{inf}
 use Rattle.tw_rows.specs.Cells.{datum_kind}
 use Rattle.tw_rows.specs.declared.cells.Datum.TheVariants.{Int}
@@ -114,6 +114,14 @@ hashes-rows_of capacity c whole =
     let within : i < length c.sync = omega (arith, lt, e) in
     get_or-map (λ r. r.hash) (rows_of c) i (row_at c 0) 0 (omega (arith, within, length-rows_of c)) ∙ ap (λ r. r.hash) (get_or-rows_of c i (row_at c 0) within))
 
+pub others-rows_of : (capacity : ℕ) (c : Columns) → AreColumns capacity c → map (λ r. r.other) (rows_of c) ≡ c.other
+others-rows_of capacity c whole =
+    let e : length (map (λ r. r.other) (rows_of c)) ≡ length c.sync = length-map (rows_of c) (λ r. r.other) ∙ length-rows_of c in
+    ext_get_or 0 (map (λ r. r.other) (rows_of c)) c.other (e ∙ sym whole.other)
+    (λ i lt.
+    let within : i < length c.sync = omega (arith, lt, e) in
+    get_or-map (λ r. r.other) (rows_of c) i (row_at c 0) 0 (omega (arith, within, length-rows_of c)) ∙ ap (λ r. r.other) (get_or-rows_of c i (row_at c 0) within))
+
 -- the cells of a column are its data
 pub cell_column-rows_of : (capacity : ℕ) (c : Columns) (n : ℕ) (p : Payload) → AreColumns capacity c → n < length c.payload → p ≡ get_or c.payload n p → cell_column (rows_of c) n ≡ payload_data p
 cell_column-rows_of capacity c n p whole lt is =
@@ -130,12 +138,12 @@ cell_column-rows_of capacity c n p whole lt is =
 
 -- ---- changes of the rows
 
-length-kept : (rows : List Row) (bits : List Bool) → length bits ≡ length rows → length (kept rows bits) ≡ length rows
+pub length-kept : (rows : List Row) (bits : List Bool) → length bits ≡ length rows → length (kept rows bits) ≡ length rows
 length-kept [] bits e = refl
 length-kept (r ∷ rs) [] e = absurd (omega arith)
 length-kept (r ∷ rs) (b ∷ bs) e = ap suc (length-kept rs bs (omega arith))
 
-get_or-kept : (rows : List Row) (bits : List Bool) (i : ℕ) (d : Row) → i < length rows → length bits ≡ length rows →
+pub get_or-kept : (rows : List Row) (bits : List Bool) (i : ℕ) (d : Row) → i < length rows → length bits ≡ length rows →
     get_or (kept rows bits) i d ≡ record (get_or rows i d) { occupied = (get_or rows i d).occupied && get_or bits i false }
 get_or-kept [] bits i d lt e = absurd (omega arith)
 get_or-kept (r ∷ rs) [] i d lt e = absurd (omega arith)
@@ -169,6 +177,41 @@ rows_of-mark capacity c i key hash r whole lt found =
     at j within here (inr apart) =
         rw (get_or-set_other c.key i j key 0 apart, get_or-set_other c.hash i j hash 0 apart, get_or-set_other (rows_of c) i j (record r { key = key; hash = hash }) r apart)
         (get_or-rows_of c j r within)
+
+-- the rows once the times of one are written
+pub rows_of-times : (capacity : ℕ) (c : Columns) (i sync other : ℕ) (r : Row) → AreColumns capacity c → i < length c.sync → slice_get (rows_of c) i ≡ Some r →
+    rows_of (record c { sync = set c.sync i sync; other = set c.other i other }) ≡ set (rows_of c) i (record r { sync = sync; other = other })
+rows_of-times capacity c i sync other r whole lt found =
+    let here : row_at c i ≡ r = sym (get_or-rows_of c i r lt) ∙ get_or_from_slice_get (rows_of c) i r r found in
+    sym (rows_of-is (set (rows_of c) i (record r { sync = sync; other = other })) (record c { sync = set c.sync i sync; other = set c.other i other }) r
+    (length-set (rows_of c) i _ ∙ length-rows_of c ∙ sym (length-set c.sync i sync))
+    (λ j within. at j (omega (arith, within, length-set c.sync i sync)) here (cases_eq j i)))
+  where
+    at : (j : ℕ) → j < length c.sync → row_at c i ≡ r → (j ≡ i) ⊎ (j ≢ i) →
+        get_or (set (rows_of c) i (record r { sync = sync; other = other })) j r ≡ row_at (record c { sync = set c.sync i sync; other = set c.other i other }) j
+    at j within here (inl same) =
+        let sync_here : get_or (set c.sync i sync) i 0 ≡ sync = get_or-set_same c.sync i sync 0 lt in
+        let other_here : get_or (set c.other i other) i 0 ≡ other = get_or-set_same c.other i other 0 (omega (arith, lt, whole.other)) in
+        let row_here : get_or (set (rows_of c) i (record r { sync = sync; other = other })) i r ≡ record r { sync = sync; other = other } = get_or-set_same (rows_of c) i (record r { sync = sync; other = other }) r (omega (arith, lt, length-rows_of c)) in
+        rw (same, row_here, sync_here, other_here, ← here) refl
+    at j within here (inr apart) =
+        rw (get_or-set_other c.sync i j sync 0 apart, get_or-set_other c.other i j other 0 apart, get_or-set_other (rows_of c) i j (record r { sync = sync; other = other }) r apart)
+        (get_or-rows_of c j r within)
+
+-- with other times the columns are still those of a batch
+pub AreColumns-times : (capacity : ℕ) (c : Columns) (i sync other : ℕ) → AreColumns capacity c → sync ≤ inf → other ≤ inf →
+    AreColumns capacity (record c { sync = set c.sync i sync; other = set c.other i other })
+AreColumns-times capacity c i sync other whole sync_time other_time =
+    let long = length-set c.sync i sync in
+    record {
+      other = length-set c.other i other ∙ whole.other ∙ sym long;
+      key = whole.key ∙ sym long;
+      hash = whole.hash ∙ sym long;
+      occupied = whole.occupied ∙ sym long;
+      payload = subst (λ n. All (IsColumn n capacity) c.payload) (sym long) whole.payload;
+      sync_times = All-set (λ x. x ≤ inf) c.sync i sync sync_time whole.sync_times;
+      other_times = All-set (λ x. x ≤ inf) c.other i other other_time whole.other_times;
+    }
 
 length-with_cells : (ps : List Payload) (n : ℕ) (rows : List Row) → length (with_cells ps n rows) ≡ length rows
 length-with_cells ps n [] = refl

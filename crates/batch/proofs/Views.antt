@@ -18,7 +18,7 @@ use Rattle.batch.specs.Rows.{Row, Table, edge_of, occupied_rows, cell_column}
 use Rattle.batch.specs.Payloads.{payload_kind, payload_data, payload_clear, pushed, cells_at, HasRoom, Reaches}
 use Rattle.batch.specs.Columns.{Columns, row_at, rows_of, IsColumn, AreColumns, IsBatch}
 use Rattle.batch.proofs.Pushing.{All-HasRoom, All-Reaches, kinds-pushed, columns-cleared, kinds-cleared}
-use Rattle.batch.proofs.Tables.{length-rows_of, get_or-rows_of, with_row, rows_of-push, AreColumns-push, occupied-rows_of, syncs-rows_of, hashes-rows_of, cell_column-rows_of}
+use Rattle.batch.proofs.Tables.{length-rows_of, get_or-rows_of, with_row, rows_of-push, AreColumns-push, occupied-rows_of, syncs-rows_of, others-rows_of, hashes-rows_of, cell_column-rows_of}
 
 abbrev pub columns_of : Inside → Columns
 columns_of b = record { sync = b.sync.items; other = b.other.items; key = b.key.items; hash = b.hash.items; payload = b.payload.items; occupied = b.occupied.items }
@@ -131,6 +131,9 @@ module _ (b : Inside) (t : Table) (is : the_view b ≡ t) (holds : Holds b) wher
 
   pub hashes_of_rows : map (λ r. r.hash) t.rows ≡ b.hash.items
   hashes_of_rows = ap (map (λ r. r.hash)) (sym rows_are) ∙ hashes-rows_of b.sync.capacity (columns_of b) holds.columns
+
+  pub others_of_rows : map (λ r. r.other) t.rows ≡ b.other.items
+  others_of_rows = ap (map (λ r. r.other)) (sym rows_are) ∙ others-rows_of b.sync.capacity (columns_of b) holds.columns
 
   pub cells_of_rows : (n : ℕ) (p : Payload) → n < length b.payload.items → p ≡ get_or b.payload.items n p → payload_data p ≡ cell_column t.rows n
   cells_of_rows n p lt is' = sym (cell_column-rows_of b.sync.capacity (columns_of b) n p holds.columns lt is') ∙ ap (λ rs. cell_column rs n) rows_are

@@ -1,5 +1,5 @@
 -- What contracts see of `Pools`.
-use Rattle.std.specs.Prelude.{◌≡◌, ℕ, ◌+◌, ◌-◌, ◌≤◌, min, List, [], ◌∷◌}
+use Rattle.std.specs.Prelude.{◌≡◌, ℕ, ◌+◌, ◌-◌, ◌≤◌, min, List, [], ◌∷◌, take}
 use Rattle.tw_rows.specs.declared.kind.CellKind.{CellKind}
 use Rattle.tw_rows.specs.declared.kind.CellKind.TheVariants.{Whole, Bit, Place}
 
@@ -45,6 +45,21 @@ all_given s (k ∷ ks) = given (all_given s ks) k
 -- once the columns of a batch of these kinds are taken: four of words, a bit vector, and one for each kind
 abbrev pub batch_taken : Shelves → List CellKind → Shelves
 batch_taken s kinds = all_taken (record s { words = s.words - 4; occupancies = s.occupancies - 1 }) kinds
+
+-- once the first n of them are taken. With n = 2 two columns of words are taken, and with n = 6 four, a bit vector and the
+-- first payload column
+abbrev pub first_taken : ℕ → Shelves → List CellKind → Shelves
+first_taken n s kinds = all_taken (record s { words = s.words - min n 4; occupancies = s.occupancies - min (n - 4) 1 }) (take (n - 5) kinds)
+
+-- new is what is left of old once some first part of a batch of these kinds is taken: none of it, or all, or what lies between
+pub record IsPartTaken (old new : Shelves) (kinds : List CellKind) : Type 0 where
+  pub count : ℕ
+  pub is : new ≡ first_taken count old kinds
+
+-- new is what is left of old once columns of some first kinds are taken
+pub record AreSomeTaken (old new : Shelves) (kinds : List CellKind) : Type 0 where
+  pub count : ℕ
+  pub is : new ≡ all_taken old (take count kinds)
 
 -- once the columns of a batch of these kinds are given back
 abbrev pub batch_given : Shelves → List CellKind → Shelves

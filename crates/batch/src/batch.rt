@@ -1,5 +1,5 @@
 // A batch of edges, in columns.
-ghost use Rattle.std.specs.Prelude.{◌≡◌, ◌+◌, ◌<◌, ◌≤◌, ◌↔◌, true, [], ◌∷◌, ◌++◌, length, map, Some, slice_get, slice_set, slice_index_or, All, IsOk, IsErr, IfOk, OnOk, OnErr};
+ghost use Rattle.std.specs.Prelude.{◌≡◌, ◌+◌, ◌<◌, ◌≤◌, ◌↔◌, ◌&&◌, true, false, [], ◌∷◌, ◌++◌, length, map, Some, slice_get, slice_set, slice_index_or, All, IsOk, IsErr, IfOk, OnOk, OnErr};
 ghost use Rattle.tw_rows.specs.Cells.{datum_kind};
 ghost use Rattle.batch.specs.Rows.{Row, Table, edge_of, edges_of, occupied_rows, row_of, kept, cell_column};
 ghost use Rattle.batch.specs.Payloads.{payload_kind, payload_data, payload_capacity};
@@ -7,11 +7,9 @@ ghost use Rattle.batch.specs.Columns.{IsColumn, with_cells};
 
 use crate::columns::{clear_columns, copy_cells, push_cells};
 use crate::payload::Payload;
-use crate::times::{time_of, word_of};
 use column_pool::Column;
 use occupancy::Occupancy;
 use smallvec::SmallVec;
-use std::alloc::Global;
 use std::error::Error;
 use std::fmt;
 use std::marker::Model;
@@ -19,6 +17,9 @@ use tw_rows::{Cells, Datum, Edge, Memory, Time};
 
 /// How many payload columns are kept without memory of their own.
 pub(crate) const WIDTH: usize = 32;
+
+/// How many cells of one row are read without memory.
+const SHORT: usize = 4;
 
 /// A batch holds as many rows as it has room for.
 #[derive(Clone, Copy, Debug, PartialEq, Eq)]
@@ -122,7 +123,15 @@ impl Batch {
         requires { i < length self.now.rows }
         ensures { slice_get (map (λ r. r.sync) self.now.rows) i ≡ Some result }
     {
-        time_of(self.sync.get(i))
+        Time::from_word(self.sync.get(i))
+    }
+
+    /// The other time of the row `i`.
+    pub fn other_at(&self, i: usize) -> Time
+        requires { i < length self.now.rows }
+        ensures { slice_get (map (λ r. r.other) self.now.rows) i ≡ Some result }
+    {
+        Time::from_word(self.other.get(i))
     }
 
     /// The hash of the row `i`.
@@ -143,6 +152,16 @@ impl Batch {
         self.hash.set(i, hash);
     }
 
+    /// Sets the times of the row `i`, and leaves its cells where they are.
+    pub fn set_times(&mut self, i: usize, sync: Time, other: Time)
+        requires { i < length self.old.rows }
+        ensures { (r : Row) → slice_get self.old.rows i ≡ Some r →
+            self.new ≡ record self.old { rows = slice_set self.old.rows i (record r { sync = sync; other = other }) } }
+    {
+        self.sync.set(i, sync.word());
+        self.other.set(i, other.word());
+    }
+
     /// Adds a row with the edge, whose key and hash are 0.
     pub fn push_edge(&mut self, edge: &Edge) -> Result<(), Full>
         requires { map datum_kind edge.now.cells ≡ self.old.kinds }
@@ -153,8 +172,8 @@ impl Batch {
         if self.sync.len() == self.sync.capacity() {
             return Err(Full);
         }
-        self.sync.push(word_of(edge.sync));
-        self.other.push(word_of(edge.other));
+        self.sync.push(edge.sync.word());
+        self.other.push(edge.other.word());
         self.key.push(0);
         self.hash.push(0);
         self.occupied.push(true);
@@ -198,25 +217,26 @@ impl Batch {
     }
 
     /// The edge of the row `i`. Memory is taken only for more than 4 cells.
-    pub fn edge_at(&self, alloc: Global, i: usize) -> Result<Edge, Memory>
+    pub fn edge_at(&self, i: usize) -> Result<Edge, Memory>
         requires { i < length self.now.rows }
         ensures ok { IfOk result (λ e. slice_get (map edge_of self.now.rows) i ≡ Some e) }
         ensures kinds { IfOk result (λ e. map datum_kind e.cells ≡ self.now.kinds) }
         ensures succeeds { length self.now.kinds ≤ 4 → IsOk result }
     {
-        let mut data: SmallVec<Datum, WIDTH> = SmallVec::new(alloc);
+        let alloc = *self.payload.allocator();
+        let mut data: SmallVec<Datum, SHORT> = SmallVec::new(alloc);
         for column in self.payload.as_slice() {
             data.push(column.datum(i))?;
         }
         Ok(Edge {
-            sync: time_of(self.sync.get(i)),
-            other: time_of(self.other.get(i)),
+            sync: Time::from_word(self.sync.get(i)),
+            other: Time::from_word(self.other.get(i)),
             cells: Cells::from_slice(alloc, data.as_slice())?,
         })
     }
 
-    // Adds the row `i` of this batch to another one.
-    fn copy_row(&self, i: usize, to: &mut Batch)
+    /// Adds the row `i`, occupied or not, to another batch of the same kinds that has room for it.
+    pub fn copy_row(&self, i: usize, to: &mut Batch)
         requires place { i < length self.now.rows }
         requires kinds { self.now.kinds ≡ to.old.kinds }
         requires room { length to.old.rows < to.old.capacity }
@@ -238,6 +258,30 @@ impl Batch {
     {
         for i in 0..self.rows() {
             if self.occupied.is_set(i) {
+                self.copy_row(i, to);
+            }
+        }
+    }
+
+    // Whether the row `i` is occupied and its bit is set.
+    fn is_kept(&self, mask: &Occupancy, i: usize) -> bool
+        requires place { i < length self.now.rows }
+        requires mask { length mask.now.items ≡ length self.now.rows }
+        ensures { result ≡ (slice_index_or (map (λ r. r.occupied) self.now.rows) i false && slice_index_or mask.now.items i false) }
+    {
+        self.occupied.is_set(i) && mask.is_set(i)
+    }
+
+    /// Adds the occupied rows whose bit is set, in order, to another batch of the same kinds that has
+    /// room for them.
+    pub fn copy_kept(&self, mask: &Occupancy, to: &mut Batch)
+        requires kinds { self.now.kinds ≡ to.old.kinds }
+        requires mask { length mask.now.items ≡ length self.now.rows }
+        requires room { length to.old.rows + length (occupied_rows (kept self.now.rows mask.now.items)) ≤ to.old.capacity }
+        ensures { to.new ≡ record to.old { rows = to.old.rows ++ occupied_rows (kept self.now.rows mask.now.items) } }
+    {
+        for i in 0..self.rows() {
+            if self.is_kept(mask, i) {
                 self.copy_row(i, to);
             }
         }

@@ -6,7 +6,6 @@ mod columns;
 mod making;
 mod payload;
 mod pools;
-mod times;
 
 pub use batch::{Batch, Full};
 pub use payload::Payload;

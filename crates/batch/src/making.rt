@@ -3,7 +3,7 @@ ghost use Rattle.std.specs.Prelude.{◌≡◌, ◌≤◌, [], length, map, All, 
 ghost use Rattle.tw_rows.specs.Kinds.{cell_kind_of};
 ghost use Rattle.batch.specs.Payloads.{payload_kind, payload_capacity};
 ghost use Rattle.batch.specs.Columns.{IsColumn};
-ghost use Rattle.batch.specs.Shelves.{all_taken, all_given, batch_taken, batch_given, NoMore};
+ghost use Rattle.batch.specs.Shelves.{all_taken, all_given, batch_taken, batch_given, IsPartTaken, AreSomeTaken};
 
 use crate::batch::{Batch, WIDTH};
 use crate::payload::Payload;
@@ -14,12 +14,12 @@ use tw_rows::{Kind, Memory, cell_of};
 
 impl Batch {
     /// A batch with no row, of the pools' capacity. Its columns are taken from the pools, and those
-    /// that the pools lack are made.
+    /// that the pools lack are made. Where memory is wanting, those that were taken by then are dropped.
     pub fn new(alloc: Global, pools: &mut Pools, kinds: &[Kind]) -> Result<Batch, Memory>
         requires { length kinds.now ≤ 32 }
         ensures ok { IfOk result (λ b. b ≡ record { rows = []; capacity = pools.old.capacity; kinds = map cell_kind_of kinds.now }) }
         ensures taken { OnOk result (pools.new ≡ batch_taken pools.old (map cell_kind_of kinds.now)) }
-        ensures err { OnErr result (NoMore pools.old pools.new) }
+        ensures err { OnErr result (IsPartTaken pools.old pools.new (map cell_kind_of kinds.now)) }
     {
         let sync = pools.words_column()?;
         let other = pools.words_column()?;
@@ -61,7 +61,7 @@ fn payload_columns(
     ensures kinds { IfOk result (λ v. map payload_kind v.items ≡ map cell_kind_of kinds.now) }
     ensures empty { IfOk result (λ v. All (IsColumn 0 pools.old.capacity) v.items) }
     ensures taken { OnOk result (pools.new ≡ all_taken pools.old (map cell_kind_of kinds.now)) }
-    ensures err { OnErr result (NoMore pools.old pools.new) }
+    ensures err { OnErr result (AreSomeTaken pools.old pools.new (map cell_kind_of kinds.now)) }
 {
     let mut payload = SmallVec::new(alloc);
     for kind in kinds {

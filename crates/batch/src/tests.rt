@@ -45,17 +45,10 @@ fn filled(alloc: Global, pools: &mut Pools, lines: &[Line]) -> Result<Batch, Fai
     Ok(batch)
 }
 
-fn check_row(
-    rt: &impl Abort,
-    alloc: Global,
-    batch: &Batch,
-    i: usize,
-    times: (u64, u64),
-    cells: &[Datum],
-) {
+fn check_row(rt: &impl Abort, batch: &Batch, i: usize, times: (u64, u64), cells: &[Datum]) {
     assert!(rt; i < batch.rows());
     assert_eq!(rt; batch.sync_at(i), at(times.0), "row {i}");
-    let edge = batch.edge_at(alloc, i);
+    let edge = batch.edge_at(i);
     assert!(rt; edge.is_ok());
     if let Ok(edge) = edge {
         assert_eq!(rt; edge.sync, at(times.0), "row {i}");
@@ -154,9 +147,9 @@ fn occupied_rows_are_copied(rt: HostRuntime) -> Result<(), Fail> {
     check_counts(&rt, &batch, 3, 2);
     check_counts(&rt, &copy, 2, 2);
     let first = [Datum::Int(-1), Datum::Bool(true), Datum::Text(2)];
-    check_row(&rt, rt.alloc(), &copy, 0, (5, u64::MAX), &first);
+    check_row(&rt, &copy, 0, (5, u64::MAX), &first);
     let last = [Datum::Int(1), Datum::Bool(true), Datum::Text(1)];
-    check_row(&rt, rt.alloc(), &copy, 1, (7, 5), &last);
+    check_row(&rt, &copy, 1, (7, 5), &last);
     check_hash(&rt, &copy, 1, 9);
     Ok(())
 }
@@ -182,7 +175,7 @@ fn columns_are_exchanged(rt: HostRuntime) -> Result<(), Fail> {
     let batch = filled(rt.alloc(), &mut pools, &THREE)?;
     check_column(&rt, batch.column(1), CellKind::Bit, Datum::Bool(true));
     let (batch, old) = batch.exchange(SmallVec::new(rt.alloc()));
-    check_row(&rt, rt.alloc(), &batch, 2, (7, 5), &[]);
+    check_row(&rt, &batch, 2, (7, 5), &[]);
     let wants = [
         (CellKind::Whole, Datum::Int(1)),
         (CellKind::Bit, Datum::Bool(true)),

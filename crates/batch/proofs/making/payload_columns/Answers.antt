@@ -4,14 +4,14 @@ use Rattle.std.proofs.lemmas.List.Elements.{All-push}
 use Rattle.tw_rows.specs.Kinds.{cell_kind_of}
 use Rattle.batch.specs.Columns.{IsColumn}
 use Rattle.batch.specs.Shelves.{all_taken, taken}
-use Rattle.batch.proofs.Stocks.{NoMore-told, NoMore-all, always, kinds_next, columns_next, all_taken-push}
+use Rattle.batch.proofs.Stocks.{some_told, NoMore-all, always, kinds_next, columns_next, all_taken-push}
 use Rattle.batch.proofs.making.payload_columns.Goals as goal
 
 pub returns-in_err-payload_column-clause-err : goal.returns-in_err-payload_column-clause-err
-returns-in_err-payload_column-clause-err c = always c.from_residual.result _ (NoMore-told _ _ _ (map cell_kind_of (take c.loop-kind.kind-index c.args.kinds.now)) c.cell_of.result c.loop-kind.invariant.taken c.payload_column.ensures.left)
+returns-in_err-payload_column-clause-err c = always c.from_residual.result _ (some_told _ _ _ c.args.kinds.now c.loop-kind.kind-index _ c.cell_of.result c.loop-kind-test.true c.cell_of.ensures c.loop-kind.invariant.taken c.payload_column.ensures.left)
 
 pub returns-in_err-push-clause-err : goal.returns-in_err-push-clause-err
-returns-in_err-push-clause-err c = always c.from_residual-in_err-push.result _ (NoMore-told _ _ _ (map cell_kind_of (take c.loop-kind.kind-index c.args.kinds.now)) c.cell_of.result c.loop-kind.invariant.taken c.payload_column.ensures.left)
+returns-in_err-push-clause-err c = always c.from_residual-in_err-push.result _ (some_told _ _ _ c.args.kinds.now c.loop-kind.kind-index _ c.cell_of.result c.loop-kind-test.true c.cell_of.ensures c.loop-kind.invariant.taken c.payload_column.ensures.left)
 
 pub loop-kind-preserved : goal.loop-kind-preserved
 loop-kind-preserved c =

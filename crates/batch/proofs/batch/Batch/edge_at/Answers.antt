@@ -29,22 +29,22 @@ loop-column-preserved c =
 pub get-requires : goal.get-requires
 get-requires c = sync_place c.self.inside c.args.self.now c.self.view_is c.self.invariant c.args.i c.requires
 
-pub time_of-requires : goal.time_of-requires
-time_of-requires c = sync_time c.self.inside c.args.self.now c.self.view_is c.self.invariant c.args.i c.get.result c.requires c.get.ensures
+pub from_word-requires : goal.from_word-requires
+from_word-requires c = sync_time c.self.inside c.args.self.now c.self.view_is c.self.invariant c.args.i c.get.result c.requires c.get.ensures
 
 pub get-requires-2 : goal.get-requires-2
 get-requires-2 c = other_place c.self.inside c.args.self.now c.self.view_is c.self.invariant c.args.i c.requires
 
-pub time_of-requires-2 : goal.time_of-requires-2
-time_of-requires-2 c = other_time c.self.inside c.args.self.now c.self.view_is c.self.invariant c.args.i c.get-2.result c.requires c.get-2.ensures
+pub from_word-requires-2 : goal.from_word-requires-2
+from_word-requires-2 c = other_time c.self.inside c.args.self.now c.self.view_is c.self.invariant c.args.i c.get-2.result c.requires c.get-2.ensures
 
 pub returns-clause-ok : goal.returns-clause-ok
 returns-clause-ok c =
     let same = ap length c.as_slice-column-items.ensures in
     let long = length-map c.self.inside.payload.items (λ p. get_or (payload_data p) c.args.i (Int (pos 0))) in
     edge_of_row c.self.inside c.args.self.now c.self.view_is c.self.invariant c.args.i _ c.requires
-    (c.time_of.ensures ∙ sym (get_or_from_slice_get c.self.inside.sync.items c.args.i c.get.result 0 c.get.ensures))
-    (c.time_of-2.ensures ∙ sym (get_or_from_slice_get c.self.inside.other.items c.args.i c.get-2.result 0 c.get-2.ensures))
+    (c.from_word.ensures ∙ sym (get_or_from_slice_get c.self.inside.sync.items c.args.i c.get.result 0 c.get.ensures))
+    (c.from_word-2.ensures ∙ sym (get_or_from_slice_get c.self.inside.other.items c.args.i c.get-2.result 0 c.get-2.ensures))
     (c.in_ok-from_slice.ensures.ok ∙ c.as_slice.ensures ∙ c.loop-column.invariant.read
     ∙ take_all c.loop-column.column-index (cells_at c.self.inside.payload.items c.args.i) (omega (arith, same, long, c.loop-column-test.false)))
 

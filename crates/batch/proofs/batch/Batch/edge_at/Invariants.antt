@@ -6,5 +6,5 @@ use Rattle.batch.proofs.batch.Batch.edge_at.Given as goal
 abbrev pub invariant-loop-column : goal.invariant-loop-column
 invariant-loop-column l = record {
   read : l.data.items ≡ take l.column-index (cells_at l.self-inside.payload.items l.i);
-  room : 32 ≤ l.data.capacity;
+  room : 4 ≤ l.data.capacity;
 }

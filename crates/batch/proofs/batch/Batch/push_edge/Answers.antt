@@ -21,7 +21,7 @@ returns-clause-full c =
 
 pub invariant_of-self : goal.invariant_of-self
 invariant_of-self c =
-    let row : Row = record { sync = c.word_of.result; other = c.word_of-2.result; key = 0; hash = 0; cells = c.args.edge.now.cells; occupied = true } in
+    let row : Row = record { sync = c.word.result; other = c.word-2.result; key = 0; hash = 0; cells = c.args.edge.now.cells; occupied = true } in
     let more : Inside = record {
       sync = c.push.new.self;
       other = c.push-2.new.self;
@@ -33,12 +33,12 @@ invariant_of-self c =
     Holds-push c.self.inside c.args.self.now c.self.view_is c.self.invariant row more c.push.ensures c.push-2.ensures c.push-3.ensures c.push-4.ensures
     (refill-pushed c.self.inside.payload.items c.push_cells.new.columns c.as_mut_slice.result.now c.args.edge.now.cells c.items.result.now c.push_cells.ensures c.as_mut_slice.ensures.value c.items.ensures) c.push-5.ensures
     (c.requires ∙ sym (kinds_are c.self.inside c.args.self.now c.self.view_is c.self.invariant))
-    (subst (λ n. n ≤ inf) (sym c.word_of.ensures.word) c.word_of.ensures.within)
-    (subst (λ n. n ≤ inf) (sym c.word_of-2.ensures.word) c.word_of-2.ensures.within)
+    (subst (λ n. n ≤ inf) (sym c.word.ensures.word) c.word.ensures.within)
+    (subst (λ n. n ≤ inf) (sym c.word-2.ensures.word) c.word-2.ensures.within)
 
 pub returns-clause-ok : goal.returns-clause-ok
 returns-clause-ok c =
-    let row : Row = record { sync = c.word_of.result; other = c.word_of-2.result; key = 0; hash = 0; cells = c.args.edge.now.cells; occupied = true } in
+    let row : Row = record { sync = c.word.result; other = c.word-2.result; key = 0; hash = 0; cells = c.args.edge.now.cells; occupied = true } in
     let more : Inside = record {
       sync = c.push.new.self;
       other = c.push-2.new.self;
@@ -49,7 +49,7 @@ returns-clause-ok c =
     } in
     let with_last : Row → Table = (λ r. record c.args.self.now { rows = c.args.self.now.rows ++ r ∷ [] }) in
     let same_row : row ≡ record { sync = c.args.edge.now.sync; other = c.args.edge.now.other; key = 0; hash = 0; cells = c.args.edge.now.cells; occupied = true } =
-    (λ i. record { sync = c.word_of.ensures.word i; other = c.word_of-2.ensures.word i; key = 0; hash = 0; cells = c.args.edge.now.cells; occupied = true }) in
+    (λ i. record { sync = c.word.ensures.word i; other = c.word-2.ensures.word i; key = 0; hash = 0; cells = c.args.edge.now.cells; occupied = true }) in
     view-push c.self.inside c.args.self.now c.self.view_is c.self.invariant row more c.push.ensures c.push-2.ensures c.push-3.ensures c.push-4.ensures
     (refill-pushed c.self.inside.payload.items c.push_cells.new.columns c.as_mut_slice.result.now c.args.edge.now.cells c.items.result.now c.push_cells.ensures c.as_mut_slice.ensures.value c.items.ensures) c.push-5.ensures
     (c.requires ∙ sym (kinds_are c.self.inside c.args.self.now c.self.view_is c.self.invariant))
