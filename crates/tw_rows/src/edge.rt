@@ -37,3 +37,24 @@ impl Clone for Edge {
         })
     }
 }
+
+/// A row of cells that is alive, with the start of its life.
+#[derive(Drop)]
+pub struct HeldRow {
+    pub cells: Cells,
+    pub start: Time,
+}
+
+/// A copy is the same row. None of at most 4 cells fails.
+impl Clone for HeldRow {
+    ghost is_clone = { λ row copy. copy ≡ row };
+
+    ghost is_infallible = { λ row. length row.cells ≤ 4 };
+
+    fn clone(&self) -> Result<HeldRow, AllocError> {
+        Ok(HeldRow {
+            cells: self.cells.clone()?,
+            start: self.start,
+        })
+    }
+}

@@ -16,7 +16,7 @@ mod time;
 pub use cells::{
     Cells, Datum, cells_keep_their_row, same_cells, same_cells_are_equal, to_cells, to_datum,
 };
-pub use edge::Edge;
+pub use edge::{Edge, HeldRow};
 pub use kind::{CellKind, Kind, cell_of};
 pub use known_laws::{known_events_are_alike, totals_grow_item_by_item};
 pub use label::Label;

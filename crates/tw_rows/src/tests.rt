@@ -1,7 +1,8 @@
 use crate::{
-    CellKind, Cells, ColumnDef, Datum, Edge, Kind, Label, Row, Schema, TextTable, Time, Value,
-    cell_of, cmp_row, floor_to, same_cells, to_cells,
+    CellKind, Cells, ColumnDef, Datum, Edge, Kind, Label, Row, Schema, StreamDef, TextTable, Time,
+    Value, cell_of, cmp_row, floor_to, same_cells, to_cells,
 };
+use indexmap::IndexSet;
 use std::cmp::Ordering;
 use std::test::Fail;
 
@@ -113,25 +114,38 @@ fn edges_end_where_they_look_back(rt: HostRuntime) -> Result<(), Fail> {
             other: at(other),
             cells: Cells::from_slice(rt.alloc(), &[])?,
         };
-        assert_eq!(rt; edge.is_end(), end, "{sync} and {other}");
+        assert_eq!(rt; edge.clone()?.is_end(), end, "{sync} and {other}");
     }
     Ok(())
 }
 
 #[test]
-fn columns_have_kinds(rt: HostRuntime) -> Result<(), Fail> {
+fn copies_have_their_columns(rt: HostRuntime) -> Result<(), Fail> {
     let alloc = rt.alloc();
     let name = Label::new(alloc, "v")?;
-    let schema = Schema::from_vec(vec![in alloc;
-        ColumnDef {
-            name,
-            kind: Kind::Bool
-        },
-    ]?);
-    for column in schema.items() {
+    let kind = Kind::Dec(2);
+    let stream = StreamDef {
+        name: Label::new(alloc, "s")?,
+        schema: Schema::from_vec(vec![in alloc; ColumnDef { name, kind }]?),
+    };
+    let copy = stream.clone()?;
+    assert_eq!(rt; copy.name.as_str(), "s");
+    for column in copy.schema.items() {
         assert_eq!(rt; column.name.as_str(), "v");
-        assert_eq!(rt; cell_of(column.kind), CellKind::Bit);
+        assert_eq!(rt; column.kind, kind);
     }
-    assert_eq!(rt; Value::Int(1).kind(), Kind::Int);
+    assert_eq!(rt; cell_of(kind), CellKind::Whole);
+    assert!(rt; Value::Int(1).fits(kind) && !Value::Bool(true).fits(kind));
+    Ok(())
+}
+
+#[test]
+fn equal_cells_are_one_key(rt: HostRuntime) -> Result<(), Fail> {
+    let alloc = rt.alloc();
+    let mut keys = IndexSet::new(alloc);
+    let key = Cells::from_slice(alloc, &[Datum::Text(1)])?;
+    assert!(rt; keys.insert(key.clone()?)?);
+    assert!(rt; !keys.insert(key)?);
+    assert!(rt; keys.insert(Cells::from_slice(alloc, &[Datum::Int(1)])?)?);
     Ok(())
 }
