@@ -1,0 +1,10 @@
+pub mod Maps
+pub mod CoalescedMaps
+pub mod Reading
+pub mod Lanes
+pub mod Places
+pub mod Keys
+pub mod Standing
+pub mod Answers
+pub mod Steps
+pub mod WithoutPremises

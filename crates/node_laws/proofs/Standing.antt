@@ -1,0 +1,177 @@
+-- From a node's answer over cells to what stands, read.
+use Rattle.std.specs.Prelude.{◌≡◌, ℕ, ◌≤◌, nat_eq, not, Bool, true, false, cond, ◌&&◌, List, [], ◌∷◌, All, map, filter, refl}
+use Rattle.std.proofs.Common.{sym, ◌∙◌, ap, subst, arith}
+use Rattle.std.proofs.lemmas.List.Elements.{All-cons, All-head, All-tail, All-nil, All-weaker, All-filter, All-map}
+use Rattle.tw_rows.specs.Instant.{inf}
+use Rattle.tw_rows.specs.Bag.{total, SameBag}
+use Rattle.tw_rows.specs.Event.{Event, AreEvents, alive, cut, Known}
+use Rattle.tw_rows.specs.Rows.{Row}
+use Rattle.tw_rows.specs.Texts.{BeginsWith}
+use Rattle.tw_rows.specs.Cells.{ArePlaced, read_cells}
+use Rattle.tw_rows.specs.declared.cells.Datum.{Datum}
+use Rattle.tw_rows.specs.declared.edge.Edge.{Edge}
+use Rattle.tw_rows.proofs.Bags.{SameBag-refl, SameBag-map}
+use Rattle.tw_rows.proofs.Knowing.{Known-refl, Known-trans}
+use Rattle.tw_rows.proofs.CellReads.{read_cells-begins, ArePlaced-begins}
+use Rattle.plan_model.specs.declared.agg.Agg.{Agg}
+use Rattle.plan_model.specs.declared.expr.ExprNode.{ExprNode}
+use Rattle.plan_model.specs.declared.node.Node.{Node}
+use Rattle.plan_model.specs.Groups.{is_undefined}
+use Rattle.plan_model.specs.Meaning.{node_events, node_closes}
+use Rattle.plan_model.proofs.NodeLaws.{node_known}
+use Rattle.edge_history.specs.Order.{is_end, IsHistory}
+use Rattle.edge_history.specs.History.{CellEvent, begun_one, begun, is_open, ended, end_step, end_all, of, StandsBelow}
+use Rattle.edge_history.proofs.Retaining.{events_of_are, valid_from, AreEvents-from}
+use Rattle.plan_model.specs.RowOps.{RowOps, is_undefined_in}
+use Rattle.plan_model.specs.Nodes.{event_to, events_to, node_in}
+use Rattle.node_laws.specs.CellOps.{cell_ops}
+use Rattle.plan_model.specs.Keys.{value_ops}
+use Rattle.node_laws.specs.Readings.{has_expressions}
+use Rattle.node_laws.specs.Places.{AreDistinct, read_events, read_of, EventsArePlaced, EdgesArePlaced}
+use Rattle.node_laws.specs.Standing.{StandsRead}
+use Rattle.node_laws.proofs.Maps.{alive_to, cut_to, AreEvents-to}
+use Rattle.node_laws.proofs.Reading.{undefined_read}
+use Rattle.plan_model.specs.declared.node.Node.TheVariants.{Where, Select}
+use Rattle.plan_model.specs.Expr.{holds, selected_row}
+use Rattle.node_laws.proofs.Lanes.{where_read, select_read}
+use Rattle.node_laws.proofs.Answers.{answer_placed}
+use Rattle.node_laws.proofs.Places.{read_wide, place_law, node_placed, events_wide, wide_reads}
+
+placed_begun : (texts : List (List ℕ)) (h : List Edge) → EdgesArePlaced texts h → EventsArePlaced texts (begun h)
+placed_begun texts [] p = All-nil (λ e. ArePlaced texts e.row)
+placed_begun texts (x ∷ h) p = pick (not (is_end x)) (placed_begun texts h (All-tail (λ e. ArePlaced texts e.cells) x h p))
+  where
+    pick : (b : Bool) → EventsArePlaced texts (begun h) → EventsArePlaced texts (map begun_one (cond b (x ∷ filter (λ e. not (is_end e)) h) (filter (λ e. not (is_end e)) h)))
+    pick true rest = All-cons (λ e. ArePlaced texts e.row) (begun_one x) (begun h) (All-head (λ e. ArePlaced texts e.cells) x h p) rest
+    pick false rest = rest
+
+placed_ended : (texts : List (List ℕ)) (x : Edge) (es : List CellEvent) → EventsArePlaced texts es → EventsArePlaced texts (ended x es)
+placed_ended texts x [] p = p
+placed_ended texts x (e ∷ es) p = pick (is_open x.cells x.other e) (placed_ended texts x es (All-tail (λ e. ArePlaced texts e.row) e es p))
+  where
+    pick : (b : Bool) → EventsArePlaced texts (ended x es) → EventsArePlaced texts (cond b (record { row = e.row; start = e.start; end = x.sync } ∷ es) (e ∷ ended x es))
+    pick true rest = All-cons (λ e. ArePlaced texts e.row) (record { row = e.row; start = e.start; end = x.sync }) es (All-head (λ e. ArePlaced texts e.row) e es p) (All-tail (λ e. ArePlaced texts e.row) e es p)
+    pick false rest = All-cons (λ e. ArePlaced texts e.row) e (ended x es) (All-head (λ e. ArePlaced texts e.row) e es p) rest
+
+placed_step : (texts : List (List ℕ)) (x : Edge) (es : List CellEvent) → EventsArePlaced texts es → EventsArePlaced texts (end_step x es)
+placed_step texts x es p = pick (is_end x)
+  where
+    pick : (b : Bool) → EventsArePlaced texts (cond b (ended x es) es)
+    pick true = placed_ended texts x es p
+    pick false = p
+
+placed_all : (texts : List (List ℕ)) (h : List Edge) (es : List CellEvent) → EventsArePlaced texts es → EventsArePlaced texts (end_all h es)
+placed_all texts [] es p = p
+placed_all texts (x ∷ h) es p = placed_all texts h (end_step x es) (placed_step texts x es p)
+
+-- the events of placed edges are placed
+pub placed_of : (texts : List (List ℕ)) (h : List Edge) → EdgesArePlaced texts h → EventsArePlaced texts (of h)
+placed_of texts h p = placed_all texts h (begun h) (placed_begun texts h p)
+
+pub of_valid : (h : List Edge) → IsHistory h → AreEvents (of h)
+of_valid h is = AreEvents-from (of h) (valid_from h (of h) is.real (events_of_are h is))
+
+-- events read through a longer table
+pub read_longer : (new old : List (List ℕ)) → BeginsWith new old → (es : List CellEvent) → EventsArePlaced old es → read_events new es ≡ read_events old es
+read_longer new old b [] p = refl
+read_longer new old b (e ∷ es) p =
+    let x = read_cells-begins new old e.row b (All-head (λ e. ArePlaced old e.row) e es p) in
+    let y = read_longer new old b es (All-tail (λ e. ArePlaced old e.row) e es p) in
+    λ i. record { row = x i; start = e.start; end = e.end } ∷ y i
+
+pub placed_longer : (new old : List (List ℕ)) → BeginsWith new old → (h : List Edge) → EdgesArePlaced old h → EdgesArePlaced new h
+placed_longer new old b h p = All-weaker (λ e. ArePlaced old e.cells) (λ e. ArePlaced new e.cells) (λ e k. ArePlaced-begins new old e.cells b k) h p
+
+-- what stands through a table stands through each that begins with it
+pub stands_longer : (new old : List (List ℕ)) → BeginsWith new old → (c : ℕ) (h : List Edge) (es : List (Event Row)) → StandsRead old c h es → StandsRead new c h es
+stands_longer new old b c h es s = record {
+  history = s.history;
+  below = s.below;
+  known = subst (λ x. Known c x es) (sym (read_longer new old b (of h) (placed_of old h s.placed))) s.known;
+  placed = placed_longer new old b h s.placed;
+}
+
+-- edges that stand for events of placed cells stand, read, for what is read of these
+pub stands_by : (texts : List (List ℕ)) (c : ℕ) (out : List Edge) (es : List CellEvent) (rows : List (Event Row)) → c ≤ inf →
+    rows ≡ read_events texts es → EventsArePlaced texts es → AreEvents rows → StandsBelow c out es → StandsRead texts c out rows
+stands_by texts c out es rows low is placed valid s = record {
+  history = s.history;
+  below = s.below;
+  placed = answer_placed texts c out es s placed;
+  known = record {
+    low = low;
+    left_valid = AreEvents-to (read_cells texts) (of out) (of_valid out s.history);
+    right_valid = valid;
+    same = subst (λ x. SameBag (cut c (read_of texts out)) (cut c x)) (sym is)
+        (subst (λ x. SameBag x (cut c (read_events texts es))) (sym (cut_to (read_cells texts) c (of out)))
+        (subst (λ x. SameBag (events_to (read_cells texts) (cut c (of out))) x) (sym (cut_to (read_cells texts) c es))
+        (SameBag-map (event_to (read_cells texts)) _ _ s.same)));
+  };
+}
+
+node_valid : (texts : List (List ℕ)) (n : Node) (hl hr : List Edge) → IsHistory hl → IsHistory hr → AreEvents (node_events n (read_of texts hl) (read_of texts hr))
+node_valid texts n hl hr il ir =
+    (node_known n inf inf (read_of texts hl) (read_of texts hr) (read_of texts hl) (read_of texts hr)
+    (Known-refl inf (read_of texts hl) (omega arith) (AreEvents-to (read_cells texts) (of hl) (of_valid hl il)))
+    (Known-refl inf (read_of texts hr) (omega arith) (AreEvents-to (read_cells texts) (of hr) (of_valid hr ir)))).left_valid
+
+-- Where and Select, by a test and a selection of cells that agree with those of rows
+pub stands_where : (texts : List (List ℕ)) (child : ℕ) (test : List ExprNode) (p : List Datum → Bool) → ((ds : List Datum) → ArePlaced texts ds → p ds ≡ holds test (read_cells texts ds)) →
+    (c : ℕ) (h out : List Edge) → c ≤ inf → IsHistory h → EdgesArePlaced texts h → StandsBelow c out (filter (λ e. p e.row) (of h)) →
+    StandsRead texts c out (node_events (Where child test) (read_of texts h) [])
+stands_where texts child test p agree c h out low is placed s =
+    stands_by texts c out (filter (λ e. p e.row) (of h)) (filter (λ e. holds test e.row) (read_of texts h)) low (where_read texts test p agree (of h) (placed_of texts h placed))
+    (All-filter (λ e. p e.row) (λ e. ArePlaced texts e.row) (of h) (placed_of texts h placed))
+    (node_valid texts (Where child test) h [] is none) s
+  where
+    none : IsHistory []
+    none = record { order = tt; real = refl; paired = λ cells start. omega arith }
+
+pub stands_select : (texts : List (List ℕ)) (child : ℕ) (items : List (List ExprNode)) (f : List Datum → List Datum) →
+    ((ds : List Datum) → ArePlaced texts ds → read_cells texts (f ds) ≡ selected_row items (read_cells texts ds)) → ((ds : List Datum) → ArePlaced texts ds → ArePlaced texts (f ds)) →
+    (c : ℕ) (h out : List Edge) → c ≤ inf → IsHistory h → EdgesArePlaced texts h → StandsBelow c out (events_to f (of h)) →
+    StandsRead texts c out (node_events (Select child items) (read_of texts h) [])
+stands_select texts child items f agree keeps c h out low is placed s =
+    stands_by texts c out (events_to f (of h)) (events_to (selected_row items) (read_of texts h)) low (select_read texts items f agree (of h) (placed_of texts h placed))
+    (All-map (λ e. ArePlaced texts e.row) (event_to f) (of h) (All-weaker (λ e. ArePlaced texts e.row) (λ e. ArePlaced texts (f e.row)) (λ e k. keeps e.row k) (of h) (placed_of texts h placed)))
+    (node_valid texts (Select child items) h [] is none) s
+  where
+    none : IsHistory []
+    none = record { order = tt; real = refl; paired = λ cells start. omega arith }
+
+-- the sides may be the events for which they stand
+pub stands_of_sides : (texts : List (List ℕ)) (n : Node) (x y : ℕ) (hl hr out : List Edge) (a b : List (Event Row)) →
+    StandsRead texts x hl a → StandsRead texts y hr b →
+    StandsRead texts (node_closes n x y) out (node_events n (read_of texts hl) (read_of texts hr)) →
+    StandsRead texts (node_closes n x y) out (node_events n a b)
+stands_of_sides texts n x y hl hr out a b l r s = record {
+  history = s.history;
+  below = s.below;
+  placed = s.placed;
+  known = Known-trans (node_closes n x y) (read_of texts out) (node_events n (read_of texts hl) (read_of texts hr)) (node_events n a b)
+      s.known (node_known n x y (read_of texts hl) (read_of texts hr) a b l.known r.known);
+}
+
+module _ (test : List ExprNode → List Datum → Bool) (select : List (List ExprNode) → List Datum → List Datum) where
+  -- what stands for a node's answer over cells stands, read, for the node of what was read
+  pub stands_read : (texts : List (List ℕ)) → AreDistinct texts → (n : Node) → has_expressions n ≡ false → (c : ℕ) (hl hr out : List Edge) → c ≤ inf →
+      IsHistory hl → IsHistory hr → EdgesArePlaced texts hl → EdgesArePlaced texts hr →
+      StandsBelow c out (node_in (cell_ops test select) n (of hl) (of hr)) →
+      StandsRead texts c out (node_events n (read_of texts hl) (read_of texts hr))
+  stands_read texts apart n by c hl hr out low il ir pl pr s =
+      stands_by texts c out (node_in (cell_ops test select) n (of hl) (of hr)) (node_events n (read_of texts hl) (read_of texts hr)) low
+      (place_law test select texts apart n (of hl) (of hr) by (placed_of texts hl pl) (placed_of texts hr pr))
+      (node_placed test select texts n (of hl) (of hr) by (placed_of texts hl pl) (placed_of texts hr pr))
+      (node_valid texts n hl hr il ir) s
+
+  -- undefined instants are those of the cells
+  pub undefined_law : (texts : List (List ℕ)) → AreDistinct texts → (key : List ℕ) (aggs : List Agg) (a : List CellEvent) (t : ℕ) → EventsArePlaced texts a →
+      is_undefined key aggs (alive (read_events texts a) t) ≡ is_undefined_in (cell_ops test select) key aggs (alive a t)
+  undefined_law texts apart key aggs a t p =
+      ap (λ x. is_undefined key aggs (alive x t)) (sym (events_wide texts a p))
+      ∙ (ap (is_undefined key aggs) (alive_to (map (read_wide texts)) a t)
+      ∙ undefined_read (read_wide texts) (cell_ops test select) value_ops (wide_reads test select texts apart) key aggs (alive a t))
+
+  pub undefined_of_edges : (texts : List (List ℕ)) → AreDistinct texts → (key : List ℕ) (aggs : List Agg) (h : List Edge) (t : ℕ) → EdgesArePlaced texts h →
+      is_undefined key aggs (alive (read_of texts h) t) ≡ is_undefined_in (cell_ops test select) key aggs (alive (of h) t)
+  undefined_of_edges texts apart key aggs h t p = undefined_law texts apart key aggs (of h) t (placed_of texts h p)

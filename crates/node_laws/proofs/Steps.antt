@@ -1,0 +1,160 @@
+-- What an operator keeps of its node, what its answers stand for, and its step.
+use Rattle.std.specs.Prelude.{◌≡◌, ℕ, ◌+◌, ◌*◌, ◌/◌, zero, suc, ◌≤◌, nat_lt, Bool, true, false, cond, List, [], ◌++◌, refl}
+use Rattle.std.proofs.Common.{sym, ◌∙◌, ap, arith, div-mul-le_self, mul-le-mul_left}
+use Rattle.std.proofs.lemmas.Nat.{le-div}
+use Rattle.std.proofs.lemmas.Bool.Decides.{nat_tests}
+use Rattle.std.proofs.lemmas.List.Elements.{All-nil}
+use Rattle.tw_rows.specs.Instant.{inf, floor_to}
+use Rattle.tw_rows.specs.Bag.{total, SameBag}
+use Rattle.tw_rows.specs.Event.{Event, AreEvents, Known}
+use Rattle.tw_rows.specs.Texts.{BeginsWith}
+use Rattle.tw_rows.specs.Cells.{ArePlaced}
+use Rattle.tw_rows.specs.declared.cells.Datum.{Datum}
+use Rattle.tw_rows.specs.declared.edge.Edge.{Edge}
+use Rattle.tw_rows.proofs.Bags.{SameBag-refl}
+use Rattle.tw_rows.proofs.Knowing.{Known-refl}
+use Rattle.plan_model.specs.declared.expr.ExprNode.{ExprNode}
+use Rattle.plan_model.specs.declared.node.Node.{Node}
+use Rattle.plan_model.specs.declared.node.Node.TheVariants.{Source, Where, Select, Union, Delay, Hop, Duration, Extend, Session, Clip, Group, Join, Anti}
+use Rattle.plan_model.specs.Meaning.{node_events, node_closes}
+use Rattle.edge_history.specs.Order.{is_from, is_below, is_real, failing, Rises, IsHistory}
+use Rattle.edge_history.specs.History.{CellEvent, of, StandsBelow}
+use Rattle.edge_history.specs.Balance.{Told, news}
+use Rattle.tw_rows.specs.SameCells.{same_cells-Decides}
+use Rattle.edge_history.proofs.Retaining.{events_of_are, same_below, AreEvents-none_fails}
+use Rattle.edge_history.proofs.Standing.{told_stands}
+use Rattle.edge_history.proofs.Sums.{failing-parts}
+use Rattle.edge_history.proofs.Telling.{told_more, told_same, told_below, told_history, answer_from}
+use Rattle.plan_model.specs.Nodes.{node_in}
+use Rattle.node_laws.specs.CellOps.{cell_ops}
+use Rattle.node_laws.specs.Readings.{has_expressions}
+use Rattle.node_laws.specs.Places.{AreDistinct, read_of, EventsArePlaced, EdgesArePlaced}
+use Rattle.node_laws.specs.Standing.{StandsRead}
+use Rattle.node_laws.specs.Keeping.{Keeps}
+use Rattle.plan_model.specs.RowOps.{RowOps}
+use Rattle.plan_model.proofs.Causal.{node_in_known}
+use Rattle.node_laws.proofs.Places.{node_placed}
+use Rattle.node_laws.proofs.Answers.{answer_placed}
+use Rattle.node_laws.proofs.Standing.{of_valid, placed_of, placed_longer, stands_read}
+
+multiple_rises : (p c s : ℕ) → c ≤ s → p * (c / p) ≤ p * (s / p)
+multiple_rises zero c s h = omega arith
+multiple_rises (suc p) c s h = mul-le-mul_left (suc p) (le-div (c / suc p) s (suc p) (omega arith) (let below = div-mul-le_self c (suc p) in omega (arith, below)))
+
+floor_rises : (p c s : ℕ) → c ≤ s → s ≤ inf → floor_to p c ≤ floor_to p s
+floor_rises p c s h low = let rises = multiple_rises p c s h in let below = div-mul-le_self c p in grind (arith, nat_tests)
+
+pub node_rises : (n : Node) (x y u v : ℕ) → x ≤ u → y ≤ v → u ≤ inf → node_closes n x y ≤ node_closes n u v
+node_rises (Source stream) x y u v a b low = a
+node_rises (Where of_it test) x y u v a b low = a
+node_rises (Select of_it items) x y u v a b low = a
+node_rises (Union left right) x y u v a b low = omega arith
+node_rises (Delay of_it by) x y u v a b low = omega arith
+node_rises (Hop of_it size period) x y u v a b low = floor_rises period x u a low
+node_rises (Duration of_it by) x y u v a b low = a
+node_rises (Extend of_it by) x y u v a b low = a
+node_rises (Session of_it timeout key) x y u v a b low = a
+node_rises (Clip left right left_key right_key) x y u v a b low = omega arith
+node_rises (Group of_it key aggs) x y u v a b low = a
+node_rises (Join left right left_key right_key) x y u v a b low = omega arith
+node_rises (Anti left right left_key right_key) x y u v a b low = omega arith
+
+-- a node of no events has none
+pub node_of_none : {X : Type 0} (ops : RowOps X) (n : Node) → node_in ops n [] [] ≡ []
+node_of_none ops (Source stream) = refl
+node_of_none ops (Where of_it test) = refl
+node_of_none ops (Select of_it items) = refl
+node_of_none ops (Union left right) = refl
+node_of_none ops (Delay of_it by) = refl
+node_of_none ops (Hop of_it size period) = refl
+node_of_none ops (Duration of_it by) = refl
+node_of_none ops (Extend of_it by) = refl
+node_of_none {X} ops (Session of_it timeout key) = same (nat_lt 0 timeout)
+  where
+    same : (b : Bool) → cond {A = List (Event (List X))} b [] [] ≡ []
+    same true = refl
+    same false = refl
+node_of_none ops (Clip left right left_key right_key) = refl
+node_of_none ops (Group of_it key aggs) = refl
+node_of_none ops (Join left right left_key right_key) = refl
+node_of_none ops (Anti left right left_key right_key) = refl
+
+pub no_history : IsHistory []
+no_history = record { order = tt; real = refl; paired = λ cells start. omega arith }
+
+pub told_none : (c : ℕ) → Told c [] []
+told_none c = record { order = tt; settled = refl; stands = SameBag-refl [] }
+
+-- before anything came in, nothing was told
+pub keeps_first : (ops : RowOps Datum) (n : Node) (texts : List (List ℕ)) (x y : ℕ) → Keeps ops n texts x y [] [] []
+keeps_first ops n texts x y = record {
+  left_history = no_history;
+  right_history = no_history;
+  left_placed = All-nil (λ e. ArePlaced texts e.cells);
+  right_placed = All-nil (λ e. ArePlaced texts e.cells);
+  told = rw (node_of_none ops n) (told_none (node_closes n x y));
+}
+
+pub side_known : (x : ℕ) (h new : List Edge) → x ≤ inf → IsHistory h → IsHistory (h ++ new) → failing (is_from x) new ≡ 0 → Known x (of h) (of (h ++ new))
+side_known x h new low i j from = record {
+  low = low;
+  left_valid = of_valid h i;
+  right_valid = of_valid (h ++ new) j;
+  same = same_below x h new (of h) (of (h ++ new)) low (failing-parts is_real h new j.real).1 from (events_of_are h i) (events_of_are (h ++ new) j);
+}
+
+pub keeps_longer : (ops : RowOps Datum) (n : Node) (new old : List (List ℕ)) (x y : ℕ) (hl hr out : List Edge) → BeginsWith new old → Keeps ops n old x y hl hr out → Keeps ops n new x y hl hr out
+keeps_longer ops n new old x y hl hr out b k = record {
+  left_history = k.left_history;
+  right_history = k.right_history;
+  left_placed = placed_longer new old b hl k.left_placed;
+  right_placed = placed_longer new old b hr k.right_placed;
+  told = k.told;
+}
+
+module _ (test : List ExprNode → List Datum → Bool) (select : List (List ExprNode) → List Datum → List Datum) where
+  abbrev answer : Node → List Edge → List Edge → List CellEvent
+  answer n hl hr = node_in (cell_ops test select) n (of hl) (of hr)
+
+  -- the node's closing is no later than infinity
+  node_low : (n : Node) (x y : ℕ) (hl hr : List Edge) → x ≤ inf → y ≤ inf → IsHistory hl → IsHistory hr → node_closes n x y ≤ inf
+  node_low n x y hl hr lx ly il ir =
+      (node_in_known (cell_ops test select) same_cells-Decides n x y (of hl) (of hr) (of hl) (of hr) (Known-refl x (of hl) lx (of_valid hl il)) (Known-refl y (of hr) ly (of_valid hr ir))).low
+
+  -- what went out is a history below the closing, and stands for the node's events of the cells
+  pub keeps_stand : (n : Node) (texts : List (List ℕ)) (x y : ℕ) (hl hr out : List Edge) → x ≤ inf → y ≤ inf →
+      Keeps (cell_ops test select) n texts x y hl hr out → StandsBelow (node_closes n x y) out (node_in (cell_ops test select) n (of hl) (of hr))
+  keeps_stand n texts x y hl hr out lx ly k = told_stands (node_closes n x y) out (answer n hl hr) (node_low n x y hl hr lx ly k.left_history k.right_history) k.told
+
+  pub keeps_read : (n : Node) (texts : List (List ℕ)) (x y : ℕ) (hl hr out : List Edge) → has_expressions n ≡ false → AreDistinct texts → x ≤ inf → y ≤ inf →
+      Keeps (cell_ops test select) n texts x y hl hr out → StandsRead texts (node_closes n x y) out (node_events n (read_of texts hl) (read_of texts hr))
+  keeps_read n texts x y hl hr out plain apart lx ly k =
+      stands_read test select texts apart n plain (node_closes n x y) hl hr out (node_low n x y hl hr lx ly k.left_history k.right_history) k.left_history k.right_history k.left_placed k.right_placed
+      (keeps_stand n texts x y hl hr out lx ly k)
+
+  pub keeps_placed : (n : Node) (texts : List (List ℕ)) (x y : ℕ) (hl hr out : List Edge) → has_expressions n ≡ false → x ≤ inf → y ≤ inf →
+      Keeps (cell_ops test select) n texts x y hl hr out → EdgesArePlaced texts out
+  keeps_placed n texts x y hl hr out plain lx ly k =
+      answer_placed texts (node_closes n x y) out (answer n hl hr) (keeps_stand n texts x y hl hr out lx ly k)
+      (node_placed test select texts n (of hl) (of hr) plain (placed_of texts hl k.left_placed) (placed_of texts hr k.right_placed))
+
+  -- the step: what is left to show of an operator's code is that its answer is the news of the node's events, in order
+  pub keeps_more : (n : Node) (texts : List (List ℕ)) (x y u v : ℕ) (hl hr out l r more : List Edge) → x ≤ u → u ≤ inf → y ≤ v → v ≤ inf →
+      Keeps (cell_ops test select) n texts x y hl hr out →
+      IsHistory (hl ++ l) → IsHistory (hr ++ r) → EdgesArePlaced texts (hl ++ l) → EdgesArePlaced texts (hr ++ r) →
+      failing (is_from x) l ≡ 0 → failing (is_from y) r ≡ 0 → Rises 0 more →
+      SameBag more (news (node_closes n x y) (node_closes n u v) (node_in (cell_ops test select) n (of (hl ++ l)) (of (hr ++ r)))) →
+      Keeps (cell_ops test select) n texts u v (hl ++ l) (hr ++ r) (out ++ more)
+  keeps_more n texts x y u v hl hr out l r more xu lu yv lv k il ir pl pr fl fr order same =
+      let known = node_in_known (cell_ops test select) same_cells-Decides n x y (of hl) (of hr) (of (hl ++ l)) (of (hr ++ r))
+      (side_known x hl l (omega (arith, xu, lu)) k.left_history il fl) (side_known y hr r (omega (arith, yv, lv)) k.right_history ir fr) in
+      record {
+        left_history = il;
+        right_history = ir;
+        left_placed = pl;
+        right_placed = pr;
+        told = told_more (node_closes n x y) (node_closes n u v) out more (answer n (hl ++ l) (hr ++ r)) (node_rises n x y u v xu yv lu)
+            (node_low n u v (hl ++ l) (hr ++ r) lu lv il ir)
+            (AreEvents-none_fails (answer n (hl ++ l) (hr ++ r)) known.right_valid)
+            (told_same (node_closes n x y) out (answer n hl hr) (answer n (hl ++ l) (hr ++ r)) known.same k.told) order same;
+      }

@@ -1,0 +1,27 @@
+//! The laws of the nodes of a plan over rows of any kind: cells give, read, what the rows that they stand for give; nodes with
+//! a key are computed by shards; and what lists of edges of cells stand for, read through a table of texts. The definitions
+//! stand in `specs/`; each function here does nothing, and its clauses are a law of them.
+#![tactic(auto)]
+
+mod key_laws;
+mod map_laws;
+mod reading_laws;
+mod standing_laws;
+mod step_laws;
+
+pub use key_laws::nodes_by_shards;
+pub use map_laws::{
+    groups_follow_replaced_rows, lives_do_not_depend_on_rows, pairs_follow_replaced_rows,
+    runs_follow_replaced_rows,
+};
+pub use reading_laws::{
+    nodes_commute_with_readings, nodes_commute_with_tables, nodes_commute_with_texts_of_places,
+};
+pub use standing_laws::{
+    answers_stand_read, longer_tables_read_the_same, places_stay_in_the_table,
+    sides_may_be_what_they_stand_for, standing_edges_stand_read,
+};
+pub use step_laws::{
+    nothing_is_kept_at_first, steps_keep_what_they_tell, what_is_kept_stays_in_longer_tables,
+    what_is_told_stands_for_the_node,
+};
