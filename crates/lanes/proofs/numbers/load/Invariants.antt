@@ -1,0 +1,12 @@
+use Rattle.std.proofs.Common.{◌≡◌, ℕ, ◌+◌, ◌<◌, length, pos}
+use Rattle.std.specs.Int.{int_rem_euclid}
+use Rattle.lanes.specs.Lanes.{number}
+use Rattle.lanes.proofs.Signed.{IsWhole}
+use Rattle.lanes.proofs.numbers.load.Given as goal
+
+abbrev pub invariant-loop-k : goal.invariant-loop-k
+invariant-loop-k l = record {
+  long : length l.into.lanes ≡ 64;
+  value : (j : ℕ) → j < l.k → number l.into.lanes j ≡ number l.column (l.first + j);
+  whole : IsWhole l.into.lanes;
+}

@@ -1,0 +1,15 @@
+//! Blocks of 64 numbers or places, and what kernels do with them: each operation works on whole vectors, and writes its
+//! results in place.
+#![tactic(auto)]
+
+mod numbers;
+mod places;
+
+pub use numbers::{
+    Numbers, differences, fill, load, marks_below, marks_same, negations, products, quotients,
+    rests, sums,
+};
+pub use places::{Places, fill_places, load_places, marks_same_places};
+
+/// How many numbers a block has.
+pub const BLOCK: usize = 64;

@@ -1,0 +1,52 @@
+// Blocks of places.
+ghost use Rattle.std.specs.Prelude.{◌≡◌, ◌+◌, ◌≤◌, ◌<◌, ◌==◌, ℕ, length};
+ghost use Rattle.occupancy.specs.Bits.{test};
+ghost use Rattle.lanes.specs.Lanes.{place};
+
+use crate::BLOCK;
+use std::simd::prelude::*;
+
+/// 64 places.
+#[derive(Clone, Copy, Drop)]
+pub struct Places {
+    pub lanes: [u64; BLOCK],
+    ghost long: { length lanes ≡ 64 },
+}
+
+impl Places {
+    /// The same place 64 times.
+    pub fn filled(value: u64) -> Places
+        ensures { (k : ℕ) → k < 64 → place result.lanes k ≡ value }
+    {
+        Places {
+            lanes: [value; BLOCK],
+        }
+    }
+}
+
+/// Writes the same place 64 times.
+pub fn fill_places(into: &mut Places, value: u64)
+    ensures { (k : ℕ) → k < 64 → place into.new.lanes k ≡ value }
+{
+    *into = Places::filled(value);
+}
+
+/// Writes the places of the column from `first` on to the first `count` lanes.
+pub fn load_places(into: &mut Places, column: &[u64], first: usize, count: usize)
+    requires within { first + count ≤ length column.now }
+    requires few { count ≤ 64 }
+    ensures { (k : ℕ) → k < count → place into.new.lanes k ≡ place column.now (first + k) }
+{
+    for k in 0..count {
+        into.lanes[k] = column[first + k];
+    }
+}
+
+/// Tells by bit k of a word whether the places of lane k are the same.
+pub fn marks_same_places(left: &Places, right: &Places) -> u64
+    ensures { (k : ℕ) → k < 64 → test result k ≡ (place left.now.lanes k == place right.now.lanes k) }
+{
+    let left = u64x64::from_array(left.lanes);
+    let right = u64x64::from_array(right.lanes);
+    left.simd_eq(right).to_bitmask()
+}
