@@ -4,6 +4,9 @@ use Rattle.std.specs.Prelude.{◌&&◌, ◌||◌}
 use Rattle.std.specs.List.{list_any, list_all}
 use Rattle.std.proofs.lemmas.List.{drop_more, drop_all}
 use lib.Pointwise.{pointwise}
+use Rattle.tw_rows.specs.declared.kind.Kind.{Kind}
+use Rattle.tw_rows.specs.declared.schema.ColumnDef.{ColumnDef}
+use Rattle.query_columns.specs.Types.{same_kind, kinds}
 use Rattle.query_columns.specs.Schemas.{has_twice}
 
 here : {X : Type 0} (xs : List X) (i : ℕ) (x : X) → i < length xs → x ≡ get_or xs i x → drop i xs ≡ x ∷ drop (i + 1) xs
@@ -81,3 +84,29 @@ uneven same f g [] [] h = absurd (h refl)
 uneven same f g [] (y ∷ ys) h = refl
 uneven same f g (x ∷ xs) [] h = refl
 uneven same f g (x ∷ xs) (y ∷ ys) h = uneven_more (same (f x) (g y)) _ (uneven same f g xs ys (λ e. h (ap suc e)))
+
+-- the rests of columns and of kinds that are as many answer for all of them
+abbrev pub KindsLeft : List ColumnDef → List Kind → ℕ → Type 0
+KindsLeft columns wanted i = AreLeft same_kind (λ (c : ColumnDef). c.kind) (λ (k : Kind). k) columns wanted i
+
+map_itself : (ks : List Kind) → map (λ (k : Kind). k) ks ≡ ks
+map_itself [] = refl
+map_itself (k ∷ ks) = ap (λ l. k ∷ l) (map_itself ks)
+
+of_wanted : (b : Bool) (columns : List ColumnDef) (wanted : List Kind) → b ≡ pointwise same_kind (kinds columns) (map (λ (k : Kind). k) wanted) → b ≡ pointwise same_kind (kinds columns) wanted
+of_wanted b columns wanted e = e ∙ ap (pointwise same_kind (kinds columns)) (map_itself wanted)
+
+pub kinds_none : (columns : List ColumnDef) (wanted : List Kind) → length columns ≡ length wanted → KindsLeft columns wanted 0
+kinds_none columns wanted e = pairs_none same_kind (λ (c : ColumnDef). c.kind) (λ (k : Kind). k) columns wanted e
+
+pub kinds_differ : (columns : List ColumnDef) (wanted : List Kind) → (length columns ≡ length wanted → ⊥) → false ≡ pointwise same_kind (kinds columns) wanted
+kinds_differ columns wanted h = of_wanted false columns wanted (uneven same_kind (λ (c : ColumnDef). c.kind) (λ (k : Kind). k) columns wanted h)
+
+pub kind_here : (columns : List ColumnDef) (wanted : List Kind) (i : ℕ) (c : ColumnDef) (k : Kind) → KindsLeft columns wanted i → i < length columns → c ≡ get_or columns i c → k ≡ get_or wanted i k → false ≡ same_kind c.kind k → false ≡ pointwise same_kind (kinds columns) wanted
+kind_here columns wanted i c k h low ic ik e = of_wanted false columns wanted (pair_here same_kind (λ (c : ColumnDef). c.kind) (λ (k : Kind). k) columns wanted i c k h low ic ik e)
+
+pub kind_past : (columns : List ColumnDef) (wanted : List Kind) (i : ℕ) (c : ColumnDef) (k : Kind) → KindsLeft columns wanted i → i < length columns → c ≡ get_or columns i c → k ≡ get_or wanted i k → true ≡ same_kind c.kind k → KindsLeft columns wanted (i + 1)
+kind_past columns wanted i c k h low ic ik e = pair_past same_kind (λ (c : ColumnDef). c.kind) (λ (k : Kind). k) columns wanted i c k h low ic ik e
+
+pub kinds_all : (columns : List ColumnDef) (wanted : List Kind) (i : ℕ) → KindsLeft columns wanted i → length columns ≤ i → true ≡ pointwise same_kind (kinds columns) wanted
+kinds_all columns wanted i h past = of_wanted true columns wanted (pairs_all same_kind (λ (c : ColumnDef). c.kind) (λ (k : Kind). k) columns wanted i h past)

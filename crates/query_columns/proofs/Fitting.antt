@@ -1,9 +1,9 @@
 -- Keys, aggregates and schemas that fit over the columns of a schema are sound over the cells of these.
-use Rattle.std.specs.Prelude.{◌≡◌, ℕ, zero, suc, ◌+◌, ◌<◌, nat_eq, Bool, true, false, cond, ◌⊎◌, Option, Some, option_and_then, List, [], ◌∷◌, ◌++◌, map, length, slice_get, slice_index_or, All, refl}
+use Rattle.std.specs.Prelude.{◌≡◌, ℕ, zero, suc, ◌+◌, ◌<◌, nat_eq, Bool, true, false, cond, ◌⊎◌, Option, Some, option_map, option_and_then, List, [], ◌∷◌, ◌++◌, map, length, slice_get, slice_index_or, All, refl}
 use Rattle.std.specs.List.{AllZip, list_any, list_all}
 use lib.Pointwise.{pointwise, pointwise_decides}
 use Rattle.std.proofs.Common.{sym, ◌∙◌, ap, subst, arith, inl, inr}
-use Rattle.std.proofs.lemmas.Bool.{and_parts}
+use Rattle.std.proofs.lemmas.Bool.{and_parts, eq-eqb}
 use Rattle.std.proofs.lemmas.List.{map-append, length-map}
 use Rattle.std.proofs.lemmas.List.Elements.{All-nil, All-cons}
 use Rattle.std.proofs.lemmas.Option.{same_Some, slice_get-get_or, option_and_then_some}
@@ -22,10 +22,10 @@ use Rattle.query_text.specs.declared.query.AggFun.{AggFun}
 use Rattle.query_text.specs.declared.query.AggFun.TheVariants as F
 use Rattle.query_text.specs.declared.query.Item.{Item}
 use Rattle.query_text.specs.declared.query.QueryAgg.{QueryAgg}
-use Rattle.query_columns.specs.Names.{column_from, column_of, key_of, expr_of, exprs_of, agg_over, agg_of, aggs_of}
+use Rattle.query_columns.specs.Names.{column_from, column_of, key_of, exprs_of, agg_over, agg_of, aggs_of}
 use Rattle.query_columns.specs.Types.{same_kind, kinds, type_of, types_of}
-use Rattle.query_columns.specs.Schemas.{column_at, select_schema, agg_column, group_schema, join_schema, same_kinds, kinds_of_key, keys_alike, agg_fits, aggs_fit}
-use Rattle.query_columns.proofs.Typing.{same_kind-same, option_map_some, all_of_zip, zip_long, cells_of_schema, types_of-typed}
+use Rattle.query_columns.specs.Schemas.{column_at, named_columns, select_schema, agg_kind, agg_columns, group_schema, join_schema, same_kinds, kinds_of_key, keys_alike, fun_takes, fun_fits, agg_fits, aggs_fit}
+use Rattle.query_columns.proofs.Typing.{same_kind-same, number_is_whole, option_map_some, all_of_zip, zip_long, cells_of_schema, types_of-typed}
 
 found_cases : (b : Bool) (i : ℕ) (o : Option ℕ) (c : ℕ) → cond b (Some i) o ≡ Some c → (i ≡ c) ⊎ (o ≡ Some c)
 found_cases true i o c h = inl (same_Some i c h)
@@ -77,6 +77,7 @@ same_kind_decides a b = (same_kind-same a b, λ e. subst (λ k. same_kind a k �
     own K.Int = refl
     own K.Bool = refl
     own K.Text = refl
+    own (K.Dec places) = eq-eqb places places refl
 
 all_same : (xs ys : List Kind) → pointwise same_kind xs ys ≡ true → xs ≡ ys
 all_same xs ys h = (pointwise_decides {E = same_kind} same_kind_decides xs ys).0 h
@@ -91,83 +92,95 @@ keys_alike-same left right left_key right_key h =
 pub same_kinds-same : (left right : List ColumnDef) → same_kinds left right ≡ true → kinds_of_schema left ≡ kinds_of_schema right
 same_kinds-same left right h = sym (cells_of_schema left) ∙ (ap (map cell_kind_of) (all_same (kinds left) (kinds right) h) ∙ cells_of_schema right)
 
--- the column of the aggregate has a number below n
-abbrev HasColumn : ℕ → Agg → Type 0
-HasColumn n A.Count = Unit {0}
-HasColumn n (A.Sum column) = column < n
-HasColumn n (A.Least column) = column < n
-HasColumn n (A.Greatest column) = column < n
-
-agg_over_low : (n : ℕ) (fun : AggFun) (o : Option ℕ) (agg : Agg) → ((c : ℕ) → o ≡ Some c → c < n) → agg_over fun o ≡ Some agg → HasColumn n agg
-agg_over_low n F.Count o agg low h = subst (HasColumn n) (same_Some A.Count agg h) tt
-agg_over_low n F.Sum o agg low h = let there = option_map_some (λ c. A.Sum c) o agg h in subst (HasColumn n) there.2 (low there.0 there.1)
-agg_over_low n F.Min o agg low h = let there = option_map_some (λ c. A.Least c) o agg h in subst (HasColumn n) there.2 (low there.0 there.1)
-agg_over_low n F.Max o agg low h = let there = option_map_some (λ c. A.Greatest c) o agg h in subst (HasColumn n) there.2 (low there.0 there.1)
-
-int_column : (schema : List ColumnDef) (column : ℕ) → column < length schema → same_kind (column_at schema column).kind K.Int ≡ true → slice_get (kinds_of_schema schema) column ≡ Some Whole
-int_column schema column low fits =
+number_column : (schema : List ColumnDef) (column : ℕ) → column < length schema → cell_kind_of (column_at schema column).kind ≡ Whole → slice_get (kinds_of_schema schema) column ≡ Some Whole
+number_column schema column low whole =
     slice_get-get_or (kinds_of_schema schema) column Whole (let long = length_kinds schema in omega (arith, low, long))
-    ∙ ap Some (column_kind schema column ∙ ap cell_kind_of (same_kind-same (column_at schema column).kind K.Int fits))
+    ∙ ap Some (column_kind schema column ∙ whole)
 
-agg_is : (schema : List ColumnDef) (agg : Agg) → HasColumn (length schema) agg → agg_fits schema agg ≡ true → IsAggOver (kinds_of_schema schema) agg
-agg_is schema A.Count low fits = tt
-agg_is schema (A.Sum column) low fits = int_column schema column low fits
-agg_is schema (A.Least column) low fits = int_column schema column low fits
-agg_is schema (A.Greatest column) low fits = int_column schema column low fits
+-- an aggregate over the columns is sound, and is stored as a whole number
+record IsFitting (schema : List ColumnDef) (g : Agg) : Type 0 where
+  sound : IsAggOver (kinds_of_schema schema) g
+  whole : cell_kind_of (agg_kind schema g) ≡ Whole
 
-agg_of_low : (schema : List ColumnDef) (a : QueryAgg) (agg : Agg) → agg_of schema a ≡ Some agg → HasColumn (length schema) agg
-agg_of_low schema a agg h =
-    agg_over_low (length schema) a.fun (option_and_then (column_of schema) a.column) agg
+number_fits : (schema : List ColumnDef) (f : ℕ → Agg) (o : Option ℕ) (g : Agg) → ((c : ℕ) → o ≡ Some c → c < length schema) → ((c : ℕ) → slice_get (kinds_of_schema schema) c ≡ Some Whole → cell_kind_of (column_at schema c).kind ≡ Whole → IsFitting schema (f c)) →
+    ((c : ℕ) → o ≡ Some c → cell_kind_of (column_at schema c).kind ≡ Whole) → option_map f o ≡ Some g → IsFitting schema g
+number_fits schema f o g low fits whole h =
+    let there = option_map_some f o g h in
+    subst (IsFitting schema) there.2 (fits there.0 (number_column schema there.0 (low there.0 there.1) (whole there.0 there.1)) (whole there.0 there.1))
+
+taken : (schema : List ColumnDef) (fun : AggFun) (o : Option ℕ) (c : ℕ) → fun_fits schema fun o ≡ true → o ≡ Some c → fun_takes fun (column_at schema c).kind ≡ true
+taken schema fun o c h e = sym (ap (fun_fits schema fun) e) ∙ h
+
+agg_over_fits : (schema : List ColumnDef) (fun : AggFun) (o : Option ℕ) (g : Agg) → ((c : ℕ) → o ≡ Some c → c < length schema) → fun_fits schema fun o ≡ true → agg_over fun o ≡ Some g → IsFitting schema g
+agg_over_fits schema F.Count o g low fits h = subst (IsFitting schema) (same_Some A.Count g h) (record { sound = tt; whole = refl })
+agg_over_fits schema F.Sum o g low fits h =
+    number_fits schema (λ c. A.Sum c) o g low (λ c at whole. record { sound = at; whole = whole }) (λ c e. number_is_whole (column_at schema c).kind (taken schema F.Sum o c fits e)) h
+agg_over_fits schema F.Min o g low fits h =
+    number_fits schema (λ c. A.Least c) o g low (λ c at whole. record { sound = at; whole = whole }) (λ c e. number_is_whole (column_at schema c).kind (taken schema F.Min o c fits e)) h
+agg_over_fits schema F.Max o g low fits h =
+    number_fits schema (λ c. A.Greatest c) o g low (λ c at whole. record { sound = at; whole = whole }) (λ c e. number_is_whole (column_at schema c).kind (taken schema F.Max o c fits e)) h
+agg_over_fits schema F.Avg o g low fits h =
+    number_fits schema (λ c. A.Sum c) o g low (λ c at whole. record { sound = at; whole = whole }) (λ c e. ap cell_kind_of (same_kind-same (column_at schema c).kind K.Int (taken schema F.Avg o c fits e))) h
+
+agg_of_fits : (schema : List ColumnDef) (a : QueryAgg) (g : Agg) → agg_fits schema a ≡ true → agg_of schema a ≡ Some g → IsFitting schema g
+agg_of_fits schema a g fits h =
+    agg_over_fits schema a.fun (option_and_then (column_of schema) a.column) g
     (λ c found. option_and_then_some (column_of schema) a.column c found (λ name was is. column_of_low schema name c is))
-    h
+    fits h
 
-aggs_are : (schema : List ColumnDef) (aggs : List QueryAgg) (computed : List Agg) → AllZip (λ a g. agg_of schema a ≡ Some g) aggs computed → aggs_fit schema computed ≡ true →
-    All (IsAggOver (kinds_of_schema schema)) computed
-aggs_are schema [] [] h fits = All-nil (IsAggOver (kinds_of_schema schema))
+-- aggregates over the columns are sound, as many as their texts, and stored as whole numbers
+pub record AreFitting (schema : List ColumnDef) (aggs : List QueryAgg) (computed : List Agg) : Type 0 where
+  pub sound : All (IsAggOver (kinds_of_schema schema)) computed
+  pub long : length computed ≡ length aggs
+  pub whole : map (λ g. cell_kind_of (agg_kind schema g)) computed ≡ map (λ g. Whole) computed
+
+aggs_are : (schema : List ColumnDef) (aggs : List QueryAgg) (computed : List Agg) → AllZip (λ a g. agg_of schema a ≡ Some g) aggs computed → aggs_fit schema aggs ≡ true → AreFitting schema aggs computed
+aggs_are schema [] [] h fits = record { sound = All-nil (IsAggOver (kinds_of_schema schema)); long = refl; whole = refl }
 aggs_are schema [] (g ∷ gs) h fits = absurd h
 aggs_are schema (a ∷ as') [] h fits = absurd h
 aggs_are schema (a ∷ as') (g ∷ gs) h fits =
-    let both = and_parts (agg_fits schema g) (list_all (agg_fits schema) gs) fits in
-    All-cons (IsAggOver (kinds_of_schema schema)) g gs (agg_is schema g (agg_of_low schema a g h.0) both.0) (aggs_are schema as' gs h.1 both.1)
+    let both = and_parts (agg_fits schema a) (list_all (agg_fits schema) as') fits in
+    let it = agg_of_fits schema a g both.0 h.0 in
+    let rest = aggs_are schema as' gs h.1 both.1 in
+    record {
+      sound = All-cons (IsAggOver (kinds_of_schema schema)) g gs it.sound rest.sound;
+      long = ap suc rest.long;
+      whole = λ i. it.whole i ∷ rest.whole i;
+    }
 
--- aggregates whose columns are there and fit are sound, and as many as their texts
-pub aggs_of-are : (schema : List ColumnDef) (aggs : List QueryAgg) (computed : List Agg) → aggs_of schema aggs ≡ Some computed → aggs_fit schema computed ≡ true →
-    All (IsAggOver (kinds_of_schema schema)) computed × (length computed ≡ length aggs)
-aggs_of-are schema aggs computed h fits =
-    let zip = all_of_zip (agg_of schema) aggs computed h in
-    (aggs_are schema aggs computed zip fits, zip_long (λ a g. agg_of schema a ≡ Some g) aggs computed zip)
+pub aggs_of-are : (schema : List ColumnDef) (aggs : List QueryAgg) (computed : List Agg) → aggs_of schema aggs ≡ Some computed → aggs_fit schema aggs ≡ true → AreFitting schema aggs computed
+aggs_of-are schema aggs computed h fits = aggs_are schema aggs computed (all_of_zip (agg_of schema) aggs computed h) fits
 
-select_cells : (items : List Item) (ks : List Kind) → length items ≡ length ks → kinds_of_schema (select_schema items ks) ≡ map cell_kind_of ks
-select_cells [] [] same = refl
-select_cells [] (k ∷ ks) same = absurd (omega arith)
-select_cells (i ∷ is') [] same = absurd (omega arith)
-select_cells (i ∷ is') (k ∷ ks) same = ap (λ l. cell_kind_of k ∷ l) (select_cells is' ks (omega arith))
+named_cells : {X : Type 0} (name : X → List ℕ) (xs : List X) (ks : List Kind) → length xs ≡ length ks → kinds_of_schema (named_columns name xs ks) ≡ map cell_kind_of ks
+named_cells name [] [] same = refl
+named_cells name [] (k ∷ ks) same = absurd (omega arith)
+named_cells name (x ∷ xs) [] same = absurd (omega arith)
+named_cells name (x ∷ xs) (k ∷ ks) same = ap (λ l. cell_kind_of k ∷ l) (named_cells name xs ks (omega arith))
 
 -- the columns of a select have the kinds of its expressions
-pub kinds-select_schema : (schema : List ColumnDef) (items : List Item) (exprs : List (List ExprNode)) (ks : List Kind) → exprs_of schema items ≡ Some exprs → types_of (kinds schema) exprs ≡ Some ks →
+pub kinds-select_schema : (schema : List ColumnDef) (items : List Item) (exprs : List (List ExprNode)) (ks : List Kind) → exprs_of schema items ≡ Some exprs → types_of schema items ≡ Some ks →
     kinds_of_schema (select_schema items ks) ≡ map (λ item. kind_of item (kinds_of_schema schema)) exprs
 kinds-select_schema schema items exprs ks named typed =
-    let as_long = zip_long (λ i e. expr_of schema i.tree ≡ Some e) items exprs (all_of_zip (λ i. expr_of schema i.tree) items exprs named) in
-    let kinds_long = zip_long (λ e k. type_of (kinds schema) e ≡ Some k) exprs ks (all_of_zip (type_of (kinds schema)) exprs ks typed) in
-    select_cells items ks (sym (kinds_long ∙ as_long)) ∙ sym (types_of-typed schema exprs ks typed).1
+    let kinds_long = zip_long (λ i k. type_of schema i.tree ≡ Some k) items ks (all_of_zip (λ i. type_of schema i.tree) items ks typed) in
+    named_cells (λ i. i.name) items ks (sym kinds_long) ∙ sym (types_of-typed schema items exprs ks named typed).1
 
 key_columns : (schema : List ColumnDef) (key : List ℕ) → kinds_of_schema (map (column_at schema) key) ≡ key_kinds (kinds_of_schema schema) key
 key_columns schema [] = refl
 key_columns schema (c ∷ cs) = let here = column_kind schema c in let others = key_columns schema cs in λ i. sym here i ∷ others i
 
-agg_columns : (aggs : List QueryAgg) (computed : List Agg) → length computed ≡ length aggs → kinds_of_schema (map agg_column aggs) ≡ map (λ a. Whole) computed
-agg_columns [] [] same = refl
-agg_columns [] (g ∷ gs) same = absurd (omega arith)
-agg_columns (a ∷ as') [] same = absurd (omega arith)
-agg_columns (a ∷ as') (g ∷ gs) same = ap (λ l. Whole ∷ l) (agg_columns as' gs (omega arith))
+map_map_kinds : (schema : List ColumnDef) (gs : List Agg) → map cell_kind_of (map (agg_kind schema) gs) ≡ map (λ g. cell_kind_of (agg_kind schema g)) gs
+map_map_kinds schema [] = refl
+map_map_kinds schema (g ∷ gs) = ap (λ l. cell_kind_of (agg_kind schema g) ∷ l) (map_map_kinds schema gs)
 
--- the columns of a group have the kinds of its key, and then ints
-pub kinds-group_schema : (schema : List ColumnDef) (key : List ℕ) (aggs : List QueryAgg) (computed : List Agg) → length computed ≡ length aggs →
-    kinds_of_schema (group_schema schema key aggs) ≡ key_kinds (kinds_of_schema schema) key ++ map (λ a. Whole) computed
-kinds-group_schema schema key aggs computed same =
-    map-append (λ c. cell_kind_of c.kind) (map (column_at schema) key) (map agg_column aggs)
-    ∙ (ap (λ l. l ++ kinds_of_schema (map agg_column aggs)) (key_columns schema key)
-    ∙ ap (λ l. key_kinds (kinds_of_schema schema) key ++ l) (agg_columns aggs computed same))
+-- the columns of a group have the kinds of its key, and then whole numbers
+pub kinds-group_schema : (schema : List ColumnDef) (key : List ℕ) (aggs : List QueryAgg) (computed : List Agg) → AreFitting schema aggs computed →
+    kinds_of_schema (group_schema schema key aggs computed) ≡ key_kinds (kinds_of_schema schema) key ++ map (λ a. Whole) computed
+kinds-group_schema schema key aggs computed fit =
+    map-append (λ c. cell_kind_of c.kind) (map (column_at schema) key) (agg_columns schema aggs computed)
+    ∙ (ap (λ l. l ++ kinds_of_schema (agg_columns schema aggs computed)) (key_columns schema key)
+    ∙ ap (λ l. key_kinds (kinds_of_schema schema) key ++ l)
+    (named_cells (λ a. a.name) aggs (map (agg_kind schema) computed) (sym fit.long ∙ sym (length-map computed (agg_kind schema)))
+    ∙ (map_map_kinds schema computed ∙ fit.whole)))
 
 map_kept : {X Y : Type 0} (f : X → Y) (b : Bool) (x : X) (xs : List X) (ys : List Y) → map f xs ≡ ys → map f (cond b xs (x ∷ xs)) ≡ cond b ys (f x ∷ ys)
 map_kept f true x xs ys same = same

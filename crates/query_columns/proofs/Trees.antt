@@ -9,7 +9,9 @@ use Rattle.query_text.specs.declared.tree.TreeNode.{TreeNode}
 use Rattle.query_text.specs.declared.tree.TreeNode.TheVariants as N
 use Rattle.query_text.specs.IsTree.{IsTreeNode, AreTreeNodes, IsTree}
 use Rattle.query_text.specs.declared.query.Item.{Item}
+use Rattle.tw_rows.specs.declared.kind.Kind.{Kind}
 use Rattle.query_columns.specs.Names.{column_of, all_of, node_of, expr_of}
+use Rattle.query_columns.specs.Types.{type_of}
 
 IfSomeNode : ℕ → Option ExprNode → Type 0
 IfSomeNode i None = Unit {0}
@@ -24,6 +26,7 @@ node_kept : (schema : List ColumnDef) (i : ℕ) (t : TreeNode) → IsTreeNode i 
 unfolding IfSomeNode
 node_kept schema i (N.Name name) h = column_node i (column_of schema name)
 node_kept schema i (N.Int x) h = tt
+node_kept schema i (N.Dec units places) h = tt
 node_kept schema i (N.Bool b) h = tt
 node_kept schema i (N.Text text) h = h
 node_kept schema i (N.Neg of) h = h
@@ -60,3 +63,7 @@ expr_kept schema tree nodes h e =
 -- the expression of an item
 abbrev pub item_expr : List ColumnDef → Item → Option (List ExprNode)
 item_expr schema i = expr_of schema i.tree
+
+-- the kind of the tree of an item
+abbrev pub item_type : List ColumnDef → Item → Option Kind
+item_type schema i = type_of schema i.tree

@@ -32,10 +32,11 @@ all_of (Some x ∷ xs) = option_map (λ ys. x ∷ ys) (all_of xs)
 abbrev pub key_of : List ColumnDef → List (List ℕ) → Option (List ℕ)
 key_of schema names = all_of (map (column_of schema) names)
 
--- the node with the number of the column in place of its name
+-- the node with the number of the column in place of its name. A decimal is the number of its units: 1.50 is 150
 abbrev pub node_of : List ColumnDef → TreeNode → Option ExprNode
 node_of schema (N.Name name) = option_map (λ c. E.Column c) (column_of schema name)
 node_of schema (N.Int x) = Some (E.Int x)
+node_of schema (N.Dec units places) = Some (E.Int units)
 node_of schema (N.Bool b) = Some (E.Bool b)
 node_of schema (N.Text text) = Some (E.Text text)
 node_of schema (N.Neg of) = Some (E.Neg of)
@@ -55,12 +56,17 @@ expr_of schema tree = all_of (map (node_of schema) tree)
 abbrev pub exprs_of : List ColumnDef → List Item → Option (List (List ExprNode))
 exprs_of schema items = all_of (map (λ i. expr_of schema i.tree) items)
 
--- the aggregate of that column. Only a count does without one
+-- the expressions of several trees, as of the literals of a `left`
+abbrev pub tree_exprs : List ColumnDef → List (List TreeNode) → Option (List (List ExprNode))
+tree_exprs schema trees = all_of (map (expr_of schema) trees)
+
+-- the aggregate of that column. Only a count does without one. An average is the sum that is divided later
 abbrev pub agg_over : AggFun → Option ℕ → Option Agg
 agg_over F.Count column = Some A.Count
 agg_over F.Sum column = option_map (λ c. A.Sum c) column
 agg_over F.Min column = option_map (λ c. A.Least c) column
 agg_over F.Max column = option_map (λ c. A.Greatest c) column
+agg_over F.Avg column = option_map (λ c. A.Sum c) column
 
 -- the aggregates of a group over the columns of a schema; none where a name is no column's
 abbrev pub agg_of : List ColumnDef → QueryAgg → Option Agg

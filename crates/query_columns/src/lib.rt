@@ -8,9 +8,9 @@ mod schemas;
 mod tests;
 mod types;
 
-pub use names::{aggs_of, column_of, expr_of, exprs_of, key_of};
+pub use names::{aggs_of, column_of, expr_of, exprs_of, key_of, tree_exprs};
 pub use schemas::{
-    aggs_fit, copied, group_schema, join_schema, key_twice, keys_alike, name_twice, same_kinds,
-    select_schema,
+    aggs_fit, averages, copied, counted_schema, fills_fit, group_schema, join_schema, key_twice,
+    keys_alike, name_twice, same_kinds, select_schema,
 };
-pub use types::{type_of, types_of};
+pub use types::{is_number, same_kind, tree_types, type_of, types_of};

@@ -1,6 +1,6 @@
 // Names of columns, and what they stand for over the columns of a schema.
-ghost use Rattle.std.specs.Prelude.{◌≡◌, IfOk};
-ghost use Rattle.query_columns.specs.Names.{column_of, key_of, node_of, expr_of, exprs_of, agg_over, agg_of, aggs_of};
+ghost use Rattle.std.specs.Prelude.{◌≡◌, IfOk, option_map, option_and_then};
+ghost use Rattle.query_columns.specs.Names.{column_of, key_of, node_of, expr_of, exprs_of, tree_exprs, agg_over, agg_of, aggs_of};
 
 use plan_model::{Agg, AggList, Expr, ExprList, ExprNode, Key};
 use query_text::{AggFun, Item, QueryAgg, Tree, TreeNode};
@@ -33,8 +33,8 @@ pub fn key_of(alloc: Global, schema: &[ColumnDef], names: &[Label]) -> Result<Op
     Ok(Some(Key::from_vec(columns)))
 }
 
-/// The expression of a tree, with the numbers of the columns in place of their names and copies of its texts, or none
-/// where a name is no column's.
+/// The expression of a tree, with the numbers of the columns in place of their names, the units of decimals in place of
+/// these, and copies of its texts; or none where a name is no column's.
 pub fn expr_of(alloc: Global, schema: &[ColumnDef], tree: &Tree) -> Result<Option<Expr>, Memory>
     ensures { IfOk result (λ r. r ≡ expr_of schema.now tree.now) }
 {
@@ -55,6 +55,7 @@ fn node_of(alloc: Global, schema: &[ColumnDef], node: &TreeNode) -> Result<Optio
     Ok(Some(match node {
         TreeNode::Name(name) => return Ok(column_node(schema, name.as_str())),
         TreeNode::Int(number) => ExprNode::Int(*number),
+        TreeNode::Dec { units, .. } => ExprNode::Int(*units),
         TreeNode::Bool(flag) => ExprNode::Bool(*flag),
         TreeNode::Text(text) => ExprNode::Text(Label::new(alloc, text.as_str())?),
         TreeNode::Neg(of) => ExprNode::Neg(*of),
@@ -110,7 +111,26 @@ pub fn exprs_of(
     Ok(Some(ExprList::from_vec(exprs)))
 }
 
-/// The aggregates of a group, in their order, or none where a name is no column's. A count asks for no column.
+/// The expressions of several trees, in their order, or none where a name is no column's.
+pub fn tree_exprs(
+    alloc: Global,
+    schema: &[ColumnDef],
+    trees: &[Tree],
+) -> Result<Option<Vec<Expr>>, Memory>
+    ensures { IfOk result (λ r. option_map (λ v. v.items) r ≡ tree_exprs schema.now trees.now) }
+{
+    let mut exprs = Vec::new(alloc);
+    for tree in trees {
+        match expr_of(alloc, schema, tree)? {
+            Some(expr) => exprs.push(expr)?,
+            None => return Ok(None),
+        }
+    }
+    Ok(Some(exprs))
+}
+
+/// The aggregates of a group, in their order, or none where a name is no column's. A count asks for no column, and an
+/// average is planned as the sum that is divided later.
 pub fn aggs_of(
     alloc: Global,
     schema: &[ColumnDef],
@@ -132,11 +152,17 @@ pub fn aggs_of(
 fn agg_of(schema: &[ColumnDef], agg: &QueryAgg) -> Option<Agg>
     ensures { result ≡ agg_of schema.now agg.now }
 {
-    let column = match &agg.column {
+    agg_over(agg.fun, agg_column(schema, agg))
+}
+
+// The number of the column that an aggregate names.
+pub(crate) fn agg_column(schema: &[ColumnDef], agg: &QueryAgg) -> Option<usize>
+    ensures { result ≡ option_and_then (column_of schema.now) agg.now.column }
+{
+    match &agg.column {
         Some(name) => column_of(schema, name.as_str()),
         None => None,
-    };
-    agg_over(agg.fun, column)
+    }
 }
 
 // The aggregate of that column.
@@ -145,7 +171,7 @@ fn agg_over(fun: AggFun, column: Option<usize>) -> Option<Agg>
 {
     match (fun, column) {
         (AggFun::Count, _) => Some(Agg::Count),
-        (AggFun::Sum, Some(column)) => Some(Agg::Sum(column)),
+        (AggFun::Sum | AggFun::Avg, Some(column)) => Some(Agg::Sum(column)),
         (AggFun::Min, Some(column)) => Some(Agg::Least(column)),
         (AggFun::Max, Some(column)) => Some(Agg::Greatest(column)),
         (_, None) => None,

@@ -49,7 +49,7 @@ fn a_test_is_an_expression_of_kind_bool(rt: HostRuntime) -> Result<(), Memory> {
             }
         )
     );
-    assert!(rt; type_of(rt.alloc(), schema, nodes)? == Some(Kind::Bool));
+    assert!(rt; type_of(rt.alloc(), schema, tree)? == Some(Kind::Bool));
     Ok(())
 }
 
@@ -77,8 +77,8 @@ fn items_make_columns_and_texts_are_copied(rt: HostRuntime) -> Result<(), Memory
         panic!(rt; "no text");
     };
     assert_eq!(rt; text.as_str(), "it's");
-    assert!(rt; types_of(rt.alloc(), schema, exprs)?.is_none());
-    let Some(kinds) = types_of(rt.alloc(), schema, &exprs[..2])? else {
+    assert!(rt; types_of(rt.alloc(), schema, items)?.is_none());
+    let Some(kinds) = types_of(rt.alloc(), schema, &items[..2])? else {
         panic!(rt; "no kinds");
     };
     let made = select_schema(rt.alloc(), &items[..2], kinds.as_slice())?;
@@ -106,7 +106,13 @@ fn groups_and_joins_make_columns(rt: HostRuntime) -> Result<(), Memory> {
         panic!(rt; "no aggregates");
     };
     assert!(rt; matches!(list.items().first(), Some(Agg::Greatest(1))));
-    let grouped = group_schema(rt.alloc(), schema, columns.items(), aggs.items())?;
+    let grouped = group_schema(
+        rt.alloc(),
+        schema,
+        columns.items(),
+        aggs.items(),
+        list.items(),
+    )?;
     assert!(rt;
         are(
             grouped.items(),

@@ -1,5 +1,6 @@
-use Rattle.query_columns.proofs.Columns.{IsSelected}
+use Rattle.std.proofs.Common.{[]}
+use Rattle.query_columns.proofs.Columns.{AreNamed, item_name}
 use Rattle.query_columns.proofs.schemas.select_schema.Given as goal
 
 abbrev pub invariant-loop-i : goal.invariant-loop-i
-invariant-loop-i l = IsSelected l.items l.kinds l.i l.all.items
+invariant-loop-i l = AreNamed item_name [] l.items l.kinds l.i l.all.items

@@ -1,6 +1,5 @@
-use Rattle.query_columns.specs.Types.{kinds}
 use Rattle.query_columns.proofs.Clashes.{AreTypesSoFar}
 use Rattle.query_columns.proofs.types.type_of.Given as goal
 
 abbrev pub invariant-loop-node : goal.invariant-loop-node
-invariant-loop-node l = AreTypesSoFar (kinds l.schema) l.expr l.node-index l.types.items
+invariant-loop-node l = AreTypesSoFar l.schema l.tree l.node-index l.types.items
