@@ -10,3 +10,5 @@ pub mod Rising
 pub mod Holding
 pub mod Keeping
 pub mod Agreeing
+pub mod Opening
+pub mod Waiting

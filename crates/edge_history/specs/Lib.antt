@@ -3,3 +3,4 @@ pub mod History
 pub mod Balance
 pub mod Side
 pub mod Made
+pub mod Opens

@@ -5,6 +5,7 @@
 
 mod history_laws;
 mod made_laws;
+mod open_laws;
 mod order;
 mod side_laws;
 mod standing_laws;
@@ -18,6 +19,10 @@ pub use history_laws::{
 pub use made_laws::{
     both_lists_stand_for_both, order_of_edges_is_free, paired_edges_have_events,
     replaced_edges_stand_for_replaced_events, tested_edges_stand_for_tested_events,
+};
+pub use open_laws::{
+    edges_of_an_instant_change_the_open_rows, open_rows_follow_news, single_edges_are_news,
+    waiting_edges_become_due,
 };
 pub use order::{in_order, keeps_order};
 pub use side_laws::{

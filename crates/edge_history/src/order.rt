@@ -1,5 +1,7 @@
 // The order of edges.
 ghost use Rattle.std.specs.Prelude.{◌≡◌, ◌<◌, ◌≤◌, ◌↔◌, IsTrue, OnOk, OnErr};
+ghost use Rattle.std.specs.List.Sorted.{IsStableByKey};
+ghost use Rattle.std.specs.Ordering.{nat_cmp};
 ghost use Rattle.tw_rows.specs.Bag.{SameBag};
 ghost use Rattle.edge_history.specs.Order.{rank, Rises, IsReal, KeepsOrder};
 
@@ -42,6 +44,7 @@ pub fn keeps_order(edges: &[Edge]) -> bool
 pub fn in_order(edges: &mut Vec<Edge>) -> Result<(), Memory>
     ensures same { OnOk result (SameBag edges.old.items edges.new.items) }
     ensures order { OnOk result (Rises 0 edges.new.items) }
+    ensures stable { OnOk result (IsStableByKey rank nat_cmp edges.old.items edges.new.items) }
     ensures err { OnErr result (edges.new.items ≡ edges.old.items) }
 {
     edges.sort_by_key(|edge| rank_of(edge))?;
