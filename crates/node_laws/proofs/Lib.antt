@@ -7,4 +7,5 @@ pub mod Keys
 pub mod Standing
 pub mod Answers
 pub mod Steps
-pub mod WithoutPremises
+pub mod Through
+pub mod Examples

@@ -115,6 +115,9 @@ node_valid texts n hl hr il ir =
     (Known-refl inf (read_of texts hl) (omega arith) (AreEvents-to (read_cells texts) (of hl) (of_valid hl il)))
     (Known-refl inf (read_of texts hr) (omega arith) (AreEvents-to (read_cells texts) (of hr) (of_valid hr ir)))).left_valid
 
+pub no_history : IsHistory []
+no_history = record { order = tt; real = refl; paired = λ cells start. omega arith }
+
 -- Where and Select, by a test and a selection of cells that agree with those of rows
 pub stands_where : (texts : List (List ℕ)) (child : ℕ) (test : List ExprNode) (p : List Datum → Bool) → ((ds : List Datum) → ArePlaced texts ds → p ds ≡ holds test (read_cells texts ds)) →
     (c : ℕ) (h out : List Edge) → c ≤ inf → IsHistory h → EdgesArePlaced texts h → StandsBelow c out (filter (λ e. p e.row) (of h)) →
@@ -122,10 +125,7 @@ pub stands_where : (texts : List (List ℕ)) (child : ℕ) (test : List ExprNode
 stands_where texts child test p agree c h out low is placed s =
     stands_by texts c out (filter (λ e. p e.row) (of h)) (filter (λ e. holds test e.row) (read_of texts h)) low (where_read texts test p agree (of h) (placed_of texts h placed))
     (All-filter (λ e. p e.row) (λ e. ArePlaced texts e.row) (of h) (placed_of texts h placed))
-    (node_valid texts (Where child test) h [] is none) s
-  where
-    none : IsHistory []
-    none = record { order = tt; real = refl; paired = λ cells start. omega arith }
+    (node_valid texts (Where child test) h [] is no_history) s
 
 pub stands_select : (texts : List (List ℕ)) (child : ℕ) (items : List (List ExprNode)) (f : List Datum → List Datum) →
     ((ds : List Datum) → ArePlaced texts ds → read_cells texts (f ds) ≡ selected_row items (read_cells texts ds)) → ((ds : List Datum) → ArePlaced texts ds → ArePlaced texts (f ds)) →
@@ -134,10 +134,7 @@ pub stands_select : (texts : List (List ℕ)) (child : ℕ) (items : List (List 
 stands_select texts child items f agree keeps c h out low is placed s =
     stands_by texts c out (events_to f (of h)) (events_to (selected_row items) (read_of texts h)) low (select_read texts items f agree (of h) (placed_of texts h placed))
     (All-map (λ e. ArePlaced texts e.row) (event_to f) (of h) (All-weaker (λ e. ArePlaced texts e.row) (λ e. ArePlaced texts (f e.row)) (λ e k. keeps e.row k) (of h) (placed_of texts h placed)))
-    (node_valid texts (Select child items) h [] is none) s
-  where
-    none : IsHistory []
-    none = record { order = tt; real = refl; paired = λ cells start. omega arith }
+    (node_valid texts (Select child items) h [] is no_history) s
 
 -- the sides may be the events for which they stand
 pub stands_of_sides : (texts : List (List ℕ)) (n : Node) (x y : ℕ) (hl hr out : List Edge) (a b : List (Event Row)) →

@@ -35,7 +35,7 @@ use Rattle.plan_model.specs.RowOps.{RowOps}
 use Rattle.plan_model.proofs.Causal.{node_in_known}
 use Rattle.node_laws.proofs.Places.{node_placed}
 use Rattle.node_laws.proofs.Answers.{answer_placed}
-use Rattle.node_laws.proofs.Standing.{of_valid, placed_of, placed_longer, stands_read}
+use Rattle.node_laws.proofs.Standing.{of_valid, placed_of, placed_longer, no_history, stands_read}
 
 multiple_rises : (p c s : ℕ) → c ≤ s → p * (c / p) ≤ p * (s / p)
 multiple_rises zero c s h = omega arith
@@ -78,9 +78,6 @@ node_of_none ops (Clip left right left_key right_key) = refl
 node_of_none ops (Group of_it key aggs) = refl
 node_of_none ops (Join left right left_key right_key) = refl
 node_of_none ops (Anti left right left_key right_key) = refl
-
-pub no_history : IsHistory []
-no_history = record { order = tt; real = refl; paired = λ cells start. omega arith }
 
 pub told_none : (c : ℕ) → Told c [] []
 told_none c = record { order = tt; settled = refl; stands = SameBag-refl [] }

@@ -17,6 +17,10 @@ pub record StandsRead (texts : List (List ℕ)) (c : ℕ) (h : List Edge) (event
   pub placed : EdgesArePlaced texts h
   pub known : Known c (read_of texts h) events
 
+-- the list of each stream stands, read, for the events of the stream below the punctuation p
+abbrev pub SourcesStandRead : List (List ℕ) → ℕ → Sources → (ℕ → List Edge) → Type 0
+SourcesStandRead texts p source given = (stream : ℕ) → StandsRead texts p (given stream) (source stream)
+
 -- for each of the first n nodes there is a list of edges that stands, read, for the events of the node below its closing at
 -- the punctuation p
 abbrev pub AllStandRead : List (List ℕ) → List Node → ℕ → Sources → (ℕ → List Edge) → ℕ → Type 0

@@ -8,6 +8,7 @@ mod map_laws;
 mod reading_laws;
 mod standing_laws;
 mod step_laws;
+mod through_laws;
 
 pub use key_laws::nodes_by_shards;
 pub use map_laws::{
@@ -25,3 +26,4 @@ pub use step_laws::{
     nothing_is_kept_at_first, steps_keep_what_they_tell, what_is_kept_stays_in_longer_tables,
     what_is_told_stands_for_the_node,
 };
+pub use through_laws::nodes_stand_read_after_their_children;

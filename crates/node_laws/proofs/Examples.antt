@@ -1,0 +1,167 @@
+-- The definitions, worked out over a table with the text `a`, and over one with the texts `a` and `b`.
+use Rattle.std.specs.Prelude.{◌≡◌, ◌≢◌, ℕ, pos, negsuc, ◌<◌, nat_eq, cond, zero, Bool, true, false, List, [], ◌∷◌, ◌++◌, length, refl}
+use Rattle.std.proofs.Common.{arith}
+use Rattle.std.proofs.lemmas.List.Elements.{All-nil, All-cons}
+use Rattle.tw_rows.specs.Instant.{inf}
+use Rattle.tw_rows.specs.Bag.{SameBag}
+use Rattle.tw_rows.specs.Event.{Event}
+use Rattle.tw_rows.specs.Rows.{Row}
+use Rattle.tw_rows.specs.declared.row.Value.TheVariants.{Int as IntValue, Text as TextValue}
+use Rattle.tw_rows.specs.declared.cells.Datum.{Datum}
+use Rattle.tw_rows.specs.declared.cells.Datum.TheVariants.{Int, Bool as Flag, Text}
+use Rattle.tw_rows.specs.declared.edge.Edge.{Edge}
+use Rattle.tw_rows.specs.SameCells.{same_cells}
+use Rattle.tw_rows.specs.Cells.{ArePlaced, read_cells}
+use Rattle.tw_rows.proofs.Bags.{SameBag-refl}
+use Rattle.key_nodes.specs.Shards.{of_shard, over_shards}
+use Rattle.edge_history.specs.Order.{IsHistory}
+use Rattle.edge_history.specs.History.{CellEvent, of}
+use Rattle.edge_history.specs.Balance.{Told}
+use Rattle.plan_model.specs.declared.node.Node.{Node}
+use Rattle.plan_model.specs.declared.node.Node.TheVariants.{Duration, Join}
+use Rattle.plan_model.specs.RowOps.{RowOps, key_in}
+use Rattle.plan_model.specs.Nodes.{node_in}
+use Rattle.plan_model.specs.Meaning.{node_events}
+use Rattle.node_laws.specs.CellOps.{datum_int, cell_ops}
+use Rattle.node_laws.specs.Readings.{value_by}
+use Rattle.node_laws.specs.Places.{read_events, read_of, EventsArePlaced, EdgesArePlaced}
+use Rattle.node_laws.specs.Standing.{StandsRead}
+use Rattle.node_laws.specs.Keeping.{Keeps}
+use Rattle.node_laws.specs.Shards.{any_shard, rows_of_shard}
+
+abbrev a : List ℕ
+a = 97 ∷ []
+
+abbrev b : List ℕ
+b = 98 ∷ []
+
+-- a row of one place, over [start, end); the same row of a text
+abbrev placed : ℕ → ℕ → ℕ → CellEvent
+placed id start end = record { row = Text id ∷ []; start = start; end = end }
+
+abbrev text : List ℕ → ℕ → ℕ → Event Row
+text t start end = record { row = TextValue t ∷ []; start = start; end = end }
+
+ints : datum_int (Int (negsuc 4)) ∷ datum_int (Flag true) ∷ datum_int (Text 3) ∷ [] ≡ negsuc 4 ∷ pos 0 ∷ pos 0 ∷ []
+ints = refl
+
+-- the place 0 is `a`, and the place 1 is that of no text: past its end a table has the empty text
+one_text : read_events (a ∷ []) (placed 0 3 5 ∷ placed 1 4 6 ∷ []) ≡ text a 3 5 ∷ text [] 4 6 ∷ []
+one_text = refl
+
+-- a table grown by one text
+two_texts : read_events (a ∷ b ∷ []) (placed 0 3 5 ∷ placed 1 4 6 ∷ []) ≡ text a 3 5 ∷ text b 4 6 ∷ []
+two_texts = refl
+
+no_events : read_events (a ∷ []) [] ≡ []
+no_events = refl
+
+place_0 : ArePlaced (a ∷ []) (Text 0 ∷ Int (pos 7) ∷ [])
+place_0 = (omega arith, (tt, tt))
+
+place_1 : ArePlaced (a ∷ []) (Text 1 ∷ []) → ⊥
+place_1 h = omega (arith, h.0)
+
+-- a join of places that no texts have, and of one text at two places, has an event when it is read, and none of cells
+abbrev joined_read : List (List ℕ) → ℕ → ℕ → List (Event Row)
+joined_read texts i j = node_events (Join 0 1 (0 ∷ []) (0 ∷ [])) (read_events texts (placed i 1 5 ∷ [])) (read_events texts (placed j 1 5 ∷ []))
+
+abbrev cells : RowOps Datum
+cells = cell_ops (λ test row. false) (λ items row. row)
+
+abbrev joined_cells : ℕ → ℕ → List CellEvent
+joined_cells i j = node_in cells (Join 0 1 (0 ∷ []) (0 ∷ [])) (placed i 1 5 ∷ []) (placed j 1 5 ∷ [])
+
+without_places : joined_read (a ∷ []) 1 2 ≡ text [] 1 5 ∷ []
+without_places = refl
+
+with_one_text_twice : joined_read (a ∷ a ∷ []) 0 1 ≡ text a 1 5 ∷ []
+with_one_text_twice = refl
+
+neither_of_cells : joined_cells 1 2 ++ joined_cells 0 1 ≡ []
+unfolding same_cells
+neither_of_cells = refl
+
+-- where the table is distinct and has the places, both have the event or neither has
+of_equal_places : joined_cells 0 0 ≡ placed 0 1 5 ∷ []
+unfolding same_cells
+of_equal_places = refl
+
+of_their_text : joined_read (a ∷ b ∷ []) 0 0 ++ joined_read (a ∷ b ∷ []) 0 1 ≡ text a 1 5 ∷ []
+of_their_text = refl
+
+-- a join by shards of its keys, the place 0 in the shard 1 and the place 1 in the shard 0: the same events, shard by shard
+abbrev shard_of : List Datum → ℕ
+shard_of (Text zero ∷ rest) = 1
+shard_of row = 0
+
+abbrev sides : List CellEvent
+sides = placed 0 1 5 ∷ placed 1 2 6 ∷ []
+
+join_whole : node_in cells (Join 0 1 (0 ∷ []) (0 ∷ [])) sides sides ≡ placed 0 1 5 ∷ placed 1 2 6 ∷ []
+unfolding same_cells
+join_whole = refl
+
+join_by_shards : over_shards (λ s. node_in cells (Join 0 1 (0 ∷ []) (0 ∷ []))
+    (of_shard (λ r. shard_of (key_in cells (0 ∷ []) r)) s sides) (of_shard (λ r. shard_of (key_in cells (0 ∷ []) r)) s sides)) 2
+    ≡ placed 1 2 6 ∷ placed 0 1 5 ∷ []
+unfolding same_cells
+join_by_shards = refl
+
+-- with no key column all rows have one key, so that one shard has all of them
+join_without_key : over_shards (λ s. node_in cells (Join 0 1 [] []) (of_shard (λ r. shard_of (key_in cells [] r)) s (placed 0 1 5 ∷ []))
+    (of_shard (λ r. shard_of (key_in cells [] r)) s (placed 1 2 6 ∷ []))) 2
+    ≡ record { row = Text 0 ∷ Text 1 ∷ []; start = 2; end = 5 } ∷ []
+unfolding same_cells
+join_without_key = refl
+
+rows_of_1 : rows_of_shard (λ n. cond (nat_eq n 6) 0 1) 1 (5 ∷ 6 ∷ 7 ∷ []) ≡ 5 ∷ 7 ∷ []
+rows_of_1 = refl
+
+in_one_shard : any_shard (nat_eq 1) 2 ∷ any_shard (nat_eq 1) 1 ∷ any_shard (nat_eq 1) 0 ∷ [] ≡ true ∷ false ∷ false ∷ []
+in_one_shard = refl
+
+-- a start at 3 of the place 0, and its end at 5
+abbrev start_3 : Edge
+start_3 = record { sync = 3; other = inf; cells = Text 0 ∷ [] }
+
+abbrev end_5 : Edge
+end_5 = record { sync = 5; other = 3; cells = Text 0 ∷ [] }
+
+start_is_history : IsHistory (start_3 ∷ [])
+unfolding inf
+start_is_history = record { order = (omega arith, tt); real = refl; paired = λ row start. omega arith }
+
+start_has_place : EdgesArePlaced (a ∷ []) (start_3 ∷ [])
+start_has_place = All-cons (λ e. ArePlaced (a ∷ []) e.cells) start_3 [] (omega arith, tt) (All-nil (λ e. ArePlaced (a ∷ []) e.cells))
+
+-- below 4 the start stands, read, for `a` over [3, 5)
+start_stands : StandsRead (a ∷ []) 4 (start_3 ∷ []) (text a 3 5 ∷ [])
+unfolding inf
+start_stands = record {
+  history = start_is_history;
+  below = refl;
+  placed = start_has_place;
+  known = record { low = omega arith; left_valid = (omega arith, omega arith, tt); right_valid = (omega arith, omega arith, tt); same = SameBag-refl _ };
+}
+
+-- a duration of 2 over a start at 3: below 4 it tells the start, and below 6 the end at 5 too
+duration_tells_a_start : Keeps cells (Duration 0 2) (a ∷ []) 4 inf (start_3 ∷ []) [] (start_3 ∷ [])
+unfolding inf
+duration_tells_a_start = record {
+  left_history = start_is_history;
+  right_history = record { order = tt; real = refl; paired = λ row start. omega arith };
+  left_placed = start_has_place;
+  right_placed = All-nil (λ e. ArePlaced (a ∷ []) e.cells);
+  told = record { order = (omega arith, tt); settled = refl; stands = SameBag-refl _ };
+}
+
+duration_tells_an_end : Keeps cells (Duration 0 2) (a ∷ []) 6 inf (start_3 ∷ []) [] (start_3 ∷ end_5 ∷ [])
+unfolding inf
+duration_tells_an_end = record {
+  left_history = start_is_history;
+  right_history = record { order = tt; real = refl; paired = λ row start. omega arith };
+  left_placed = start_has_place;
+  right_placed = All-nil (λ e. ArePlaced (a ∷ []) e.cells);
+  told = record { order = (omega arith, (omega arith, tt)); settled = refl; stands = record { weigh = λ w. omega arith } };
+}
