@@ -11,7 +11,6 @@ use Rattle.plan_model.specs.declared.agg.Agg.TheVariants.{Count, Sum, Least, Gre
 use Rattle.plan_model.specs.declared.node.Node.{Node}
 use Rattle.plan_model.specs.declared.node.Node.TheVariants.{Source, Where, Select, Union, Hop, Duration, Session, Clip, Group, Join, Anti}
 use Rattle.plan_model.specs.declared.expr.ExprNode.{ExprNode}
-use Rattle.plan_model.specs.IsExpr.{IsExpr}
 use Rattle.plan_model.specs.Keys.{outside_key}
 use Rattle.plan_model.specs.Meaning.{left_child, right_child, left_of, right_of, HasLower, reads_events, reads_right_events}
 use Rattle.plan_model.specs.Reach.{node_reach, reach, event_level}
@@ -64,9 +63,9 @@ pub record IsWindow (size period : ℕ) : Type 0 where
   pub repeats : 1 ≤ period
   pub divides : (k : ℕ) × (size ≡ period * k)
 
--- the expression has a node, operands before their operators, and is well typed over columns of these kinds
+-- the expression has a node, and is well typed over columns of these kinds
 abbrev pub IsExprOver : List CellKind → List ExprNode → Type 0
-IsExprOver kinds expr = IsExpr expr × IsTyped kinds expr
+IsExprOver kinds expr = (0 < length expr) × IsTyped kinds expr
 
 -- the node's expressions, keys, aggregates and windows are sound over columns of these kinds on the left and on the right
 abbrev pub IsSoundOver : Node → List CellKind → List CellKind → Type 0
