@@ -1,0 +1,10 @@
+pub mod Ordering
+pub mod Instants
+pub mod Moving
+pub mod Sides
+pub mod Adding
+pub mod Pairing
+pub mod PairsTold
+pub mod JoinInstants
+pub mod JoinTelling
+pub mod Joins

@@ -1,0 +1,4 @@
+pub mod Sweeps
+pub mod Moves
+pub mod Pairs
+pub mod Joining

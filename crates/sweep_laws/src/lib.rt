@@ -1,0 +1,17 @@
+//! The laws on which every sweep over edges stands: how a list in order is cut at one instant, what is told of an instant,
+//! and how what is told and what is kept goes from instant to instant and from step to step. The definitions stand in
+//! `specs/`; each function does nothing, and its clauses are laws of them.
+#![tactic(auto)]
+
+mod answer_laws;
+mod instant_laws;
+mod join_laws;
+
+pub use answer_laws::{
+    answers_grow, answers_stay_in_order, moves_tell_the_news, news_are_told_in_parts,
+};
+pub use instant_laws::{edges_of_one_instant_come_first, sides_go_on_to_the_next_instant};
+pub use join_laws::{
+    a_join_goes_from_instant_to_instant, a_join_keeps_its_rows, a_join_tells_an_instant,
+    open_pairs_are_pairs_of_open_rows,
+};
