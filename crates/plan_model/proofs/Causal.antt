@@ -4,19 +4,22 @@ use Rattle.std.proofs.Common.{sym, ◌∙◌, arith, add-zero}
 use Rattle.std.proofs.lemmas.Bool.Decides.{nat_tests}
 use Rattle.tw_rows.specs.Instant.{inf}
 use Rattle.tw_rows.specs.Bag.{total, SameBag}
-use Rattle.tw_rows.specs.Event.{Event, AreEvents, cut_one, cut, Known}
+use Rattle.tw_rows.specs.Event.{Event, alive, AreEvents, cut_one, cut, Known}
 use Rattle.tw_rows.proofs.Bags.{total-map, total-filter, total_same, SameBag-append}
-use Rattle.tw_rows.proofs.Lives.{cut-append, AreEvents-append, causal_from_one}
+use Rattle.tw_rows.proofs.Lives.{alive_known, cut-append, AreEvents-append, causal_from_one}
 use Rattle.key_nodes.specs.Runs.{Tells}
 use Rattle.key_nodes.proofs.Clipping.{clipped_known}
 use Rattle.key_nodes.proofs.Grouping.{grouped_known}
 use Rattle.key_nodes.proofs.Alone.{alone_known}
+use Rattle.key_nodes.proofs.Topping.{coalesced_known_of, top_known}
+use Rattle.key_nodes.proofs.Following.{followed_known}
 use Rattle.plan_model.specs.declared.node.Node.{Node}
-use Rattle.plan_model.specs.declared.node.Node.TheVariants.{Source, Where, Select, Union, Delay, Hop, Duration, Extend, Session, Clip, Group, Join, Anti}
+use Rattle.plan_model.specs.declared.node.Node.TheVariants.{Source, Where, Select, Union, Delay, Hop, Duration, Extend, Session, Clip, Group, Join, Anti, Coalesce, Mean, Top, Follow}
 use Rattle.plan_model.specs.Keys.{paired_row}
 use Rattle.plan_model.specs.Meaning.{node_closes}
+use Rattle.plan_model.specs.Means.{mean_row}
 use Rattle.plan_model.specs.Nodes.{event_to, events_to, node_in}
-use Rattle.plan_model.specs.RowOps.{RowOps, key_in, keys_equal_in, row_of_group_in}
+use Rattle.plan_model.specs.RowOps.{RowOps, key_in, keys_equal_in, int_in, row_of_group_in}
 use Rattle.plan_model.proofs.Aggregates.{row_of_group_is}
 use Rattle.plan_model.proofs.Joining.{Known-joined}
 use Rattle.plan_model.proofs.NewLives.{Known-moved, Known-hopped, Known-lasting, Known-extended, Known-in_sessions}
@@ -47,6 +50,14 @@ module _ {X : Type 0} (ops : RowOps X) where
   AreEvents-mapped f [] v = tt
   AreEvents-mapped f (e ∷ es) v = (v.0, v.1, AreEvents-mapped f es v.2)
 
+  Known-mapped : (f : List X → List X) (c : ℕ) (a b : List (Event (List X))) → Known c a b → Known c (events_to f a) (events_to f b)
+  Known-mapped f c a b h = record {
+    low = h.low;
+    left_valid = AreEvents-mapped f a h.left_valid;
+    right_valid = AreEvents-mapped f b h.right_valid;
+    same = causal_from_one (events_to f) (λ e. event_to f e ∷ []) c c (λ v es. total-map v (event_to f) es ∙ total_same _ _ es (λ e. sym (add-zero (v (event_to f e))))) (λ v e _. mapped_known v f c e) a b h.left_valid h.right_valid h.same;
+  }
+
   less_known : (v : Event (List X) → ℕ) (c d : ℕ) (e : Event (List X)) → d ≤ c → c ≤ inf → total v (cut d (e ∷ [])) ≡ total (λ x. total v (cut d (x ∷ []))) (cut_one c e)
   less_known v c d e low high = grind (arith, nat_tests)
 
@@ -62,12 +73,7 @@ module _ {X : Type 0} (ops : RowOps X) where
     right_valid = AreEvents-filter (ops.holds test) c h.right_valid;
     same = causal_from_one (filter (λ e. ops.holds test e.row)) (λ e. cond (ops.holds test e.row) (e ∷ []) []) x x (filtered_by_one (ops.holds test)) (λ v e _. filtered_known v (ops.holds test) x e) a c h.left_valid h.right_valid h.same;
   }
-  node_in_known tells (Select of items) x y a b c d h k = record {
-    low = h.low;
-    left_valid = AreEvents-mapped (ops.select items) a h.left_valid;
-    right_valid = AreEvents-mapped (ops.select items) c h.right_valid;
-    same = causal_from_one (events_to (ops.select items)) (λ e. event_to (ops.select items) e ∷ []) x x (λ v es. total-map v (event_to (ops.select items)) es ∙ total_same _ _ es (λ e. sym (add-zero (v (event_to (ops.select items) e))))) (λ v e _. mapped_known v (ops.select items) x e) a c h.left_valid h.right_valid h.same;
-  }
+  node_in_known tells (Select of items) x y a b c d h k = Known-mapped (ops.select items) x a c h
   node_in_known tells (Union left right) x y a b c d h k = record {
     low = (let below = h.low in omega arith);
     left_valid = AreEvents-append a b h.left_valid k.left_valid;
@@ -84,3 +90,7 @@ module _ {X : Type 0} (ops : RowOps X) where
   node_in_known tells (Group of key aggs) x y a b c d h k = grouped_known (key_in ops key) ops.same ops.same (row_of_group_in ops key aggs) tells (row_of_group_is ops key aggs) x a c h
   node_in_known tells (Join left right left_key right_key) x y a b c d h k = Known-joined (keys_equal_in ops left_key right_key) (paired_row right_key) x y a c b d h k
   node_in_known tells (Anti left right left_key right_key) x y a b c d h k = alone_known ops.same (keys_equal_in ops left_key right_key) x y a c b d h k
+  node_in_known tells (Coalesce of) x y a b c d h k = coalesced_known_of ops.same (alive a) (alive c) x tells h.low (λ t early. alive_known x t a c early h.low h.same)
+  node_in_known tells (Mean of at) x y a b c d h k = Known-mapped (mean_row ops at) x a c h
+  node_in_known tells (Top of key by count) x y a b c d h k = top_known (keys_equal_in ops key key) (int_in ops by) count ops.same tells x a c h
+  node_in_known tells (Follow left right left_key right_key within) x y a b c d h k = followed_known (keys_equal_in ops left_key right_key) (paired_row right_key) within x y a c b d h k

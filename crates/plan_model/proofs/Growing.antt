@@ -8,9 +8,9 @@ use Rattle.std.proofs.Math.Seq.{get_or-append_seam}
 use Rattle.tw_rows.specs.declared.schema.ColumnDef.{ColumnDef}
 use Rattle.tw_rows.specs.declared.schema.StreamDef.{StreamDef}
 use Rattle.plan_model.specs.declared.node.Node.{Node}
-use Rattle.plan_model.specs.declared.node.Node.TheVariants.{Source, Where, Select, Union, Delay, Hop, Duration, Extend, Session, Clip, Group, Join, Anti}
+use Rattle.plan_model.specs.declared.node.Node.TheVariants.{Source, Where, Select, Union, Delay, Hop, Duration, Extend, Session, Clip, Group, Join, Anti, Coalesce, Mean, Top, Follow}
 use Rattle.plan_model.specs.Fold.{results_from, by_number}
-use Rattle.plan_model.specs.IsPlan.{kinds_of_schema, kinds_at, kinds_of_stream, node_kinds, IsSoundOver, IsOverEvents, IsOfKeysAlone, HasKeysOnRight, IsNode, AreNarrow, AreNodes, IsNewNode, most_reach}
+use Rattle.plan_model.specs.IsPlan.{kinds_of_schema, kinds_at, kinds_of_stream, node_kinds, IsSoundOver, IsOverEvents, IsOfKeysAlone, HasKeysOnRight, IsCountedGroup, HasCountBelow, IsNode, AreNarrow, AreNodes, IsNewNode, most_reach}
 use Rattle.plan_model.specs.Meaning.{left_child, right_child, left_of, right_of, over_nodes, HasLower}
 use Rattle.plan_model.specs.Reach.{node_reach, reach, node_is_event_level, event_level}
 use Rattle.plan_model.proofs.Folds.{length-results_from}
@@ -118,6 +118,30 @@ partner_grows nodes n i within (Group of key aggs) lower h = tt
 partner_grows nodes n i within (Join left right left_key right_key) lower h = tt
 partner_grows nodes n i within (Anti left right left_key right_key) lower h =
     subst (IsOfKeysAlone right_key) (sym (get_grows nodes n right (let low : right < i = lower in omega (arith, low, within)))) h
+partner_grows nodes n i within (Coalesce of) lower h = tt
+partner_grows nodes n i within (Mean of at) lower h = tt
+partner_grows nodes n i within (Top of key by count) lower h = tt
+partner_grows nodes n i within (Follow left right left_key right_key within_time) lower h = tt
+
+count_grows : (nodes : List Node) (n : Node) (i : ℕ) → i ≤ length nodes → (m : Node) → HasLower i (left_child m) → HasCountBelow nodes m → HasCountBelow (nodes ++ n ∷ []) m
+count_grows nodes n i within (Source stream) lower h = tt
+count_grows nodes n i within (Where of test) lower h = tt
+count_grows nodes n i within (Select of items) lower h = tt
+count_grows nodes n i within (Union left right) lower h = tt
+count_grows nodes n i within (Delay of by) lower h = tt
+count_grows nodes n i within (Hop of size period) lower h = tt
+count_grows nodes n i within (Duration of by) lower h = tt
+count_grows nodes n i within (Extend of by) lower h = tt
+count_grows nodes n i within (Session of timeout key) lower h = tt
+count_grows nodes n i within (Clip left right left_key right_key) lower h = tt
+count_grows nodes n i within (Group of key aggs) lower h = tt
+count_grows nodes n i within (Join left right left_key right_key) lower h = tt
+count_grows nodes n i within (Anti left right left_key right_key) lower h = tt
+count_grows nodes n i within (Coalesce of) lower h = tt
+count_grows nodes n i within (Mean of at) lower h =
+    subst IsCountedGroup (sym (get_grows nodes n of (let low : of < i = lower in omega (arith, low, within)))) h
+count_grows nodes n i within (Top of key by count) lower h = tt
+count_grows nodes n i within (Follow left right left_key right_key within_time) lower h = tt
 
 old_node : (streams : List StreamDef) (nodes : List Node) (schemas : List (List ColumnDef)) (n : Node) (schema : List ColumnDef) → length schemas ≡ length nodes →
     (i : ℕ) (m : Node) (s : List ColumnDef) → i < length nodes → IsNode streams nodes schemas i m s → IsNode streams (nodes ++ n ∷ []) (schemas ++ schema ∷ []) i m s
@@ -131,6 +155,7 @@ old_node streams nodes schemas n schema one_each i m s low h =
       sound = sound_grows streams nodes schemas n schema one_each i within m h.left_lower h.right_lower h.sound;
       kinds = h.kinds ∙ node_kinds_grow streams nodes schemas n schema one_each i within m h.left_lower h.right_lower;
       partnered = partner_grows nodes n i within m h.right_lower h.partnered;
+      counted = count_grows nodes n i within m h.left_lower h.counted;
       near = subst (λ r. r ≤ most_reach) (sym (reach_grows nodes n i low)) h.near;
       narrow = h.narrow;
     }
@@ -147,6 +172,7 @@ new_node streams nodes schemas n schema one_each h =
       sound = sound_grows streams nodes schemas n schema one_each (length nodes) within n h.left_lower h.right_lower h.sound;
       kinds = h.kinds ∙ node_kinds_grow streams nodes schemas n schema one_each (length nodes) within n h.left_lower h.right_lower;
       partnered = partner_grows nodes n (length nodes) within n h.right_lower h.partnered;
+      counted = count_grows nodes n (length nodes) within n h.left_lower h.counted;
       near = subst (λ r. r ≤ most_reach) (sym (reach_of_new nodes n)) h.near;
       narrow = h.narrow;
     }

@@ -7,7 +7,7 @@ use Rattle.tw_rows.specs.declared.schema.ColumnDef.{ColumnDef}
 use Rattle.tw_rows.specs.declared.schema.StreamDef.{StreamDef}
 use Rattle.tw_rows.specs.Instant.{inf}
 use Rattle.plan_model.specs.declared.node.Node.{Node}
-use Rattle.plan_model.specs.declared.node.Node.TheVariants.{Source, Where, Select, Union, Delay, Hop, Duration, Extend, Session, Clip, Group, Join, Anti}
+use Rattle.plan_model.specs.declared.node.Node.TheVariants.{Source, Where, Select, Union, Delay, Hop, Duration, Extend, Session, Clip, Group, Join, Anti, Coalesce, Mean, Top, Follow}
 use Rattle.plan_model.specs.IsPlan.{IsSoundOver, AreNodes, PlanParts, IsPlan, most_reach}
 use Rattle.plan_model.specs.Meaning.{left_child, right_child, left_of, right_of, HasLower, IsOrdered, node_closes, closes}
 use Rattle.plan_model.specs.Reach.{HasPeriod, node_reach, reach, node_is_event_level, event_level}
@@ -46,6 +46,10 @@ HasPeriod-sound (Clip left right left_key right_key) l r h = tt
 HasPeriod-sound (Group of key aggs) l r h = tt
 HasPeriod-sound (Join left right left_key right_key) l r h = tt
 HasPeriod-sound (Anti left right left_key right_key) l r h = tt
+HasPeriod-sound (Coalesce of) l r h = tt
+HasPeriod-sound (Mean of at) l r h = tt
+HasPeriod-sound (Top of key by count) l r h = tt
+HasPeriod-sound (Follow left right left_key right_key within) l r h = tt
 
 -- a node of a plan has a period where it is a hop
 pub period_at : (plan : PlanParts) (i : ℕ) (n : Node) → IsNodeAt plan i n → HasPeriod n

@@ -2,7 +2,7 @@
 use Rattle.std.specs.Prelude.{◌≡◌, ℕ, Bool, true, ◌&&◌, Some, List, slice_get, refl}
 use Rattle.std.proofs.Common.{sym, ◌∙◌, ap}
 use Rattle.plan_model.specs.declared.node.Node.{Node}
-use Rattle.plan_model.specs.declared.node.Node.TheVariants.{Source, Where, Select, Union, Delay, Hop, Duration, Extend, Session, Clip, Group, Join, Anti}
+use Rattle.plan_model.specs.declared.node.Node.TheVariants.{Source, Where, Select, Union, Delay, Hop, Duration, Extend, Session, Clip, Group, Join, Anti, Coalesce, Mean, Top, Follow}
 use Rattle.plan_model.specs.IsPlan.{PlanParts, IsPlan}
 use Rattle.plan_model.specs.Meaning.{Sources, Meaning, nothing, by_events, node_meaning, meaning, right_child, left_of, right_of, IsOrdered, IsLevelled}
 use Rattle.plan_model.specs.Reach.{node_is_event_level, event_level}
@@ -25,6 +25,10 @@ module _ (source : Sources) (level : ℕ → Bool) (at : ℕ → Meaning) where
   node_levels (Group of key aggs) h k = refl
   node_levels (Join left right left_key right_key) h k = refl
   node_levels (Anti left right left_key right_key) h k = refl
+  node_levels (Coalesce of) h k = refl
+  node_levels (Mean of at) h k = refl
+  node_levels (Top of key by count) h k = refl
+  node_levels (Follow left right left_key right_key within) h k = refl
 
 module _ (source : Sources) (nodes : List Node) (ordered : IsOrdered nodes) where
   -- the level of a node is whether it has events

@@ -9,6 +9,7 @@ pub mod NewLives
 pub mod Joining
 pub mod Aggregates
 pub mod Causal
+pub mod SameEvents
 pub mod NodeLaws
 pub mod PlanLaws
 pub mod FilterPlans
@@ -18,6 +19,7 @@ pub mod Comparing
 mod Computed
 pub mod Examples
 pub mod LifeExamples
+pub mod NodeExamples
 pub mod GroupExamples
 pub mod InOrder
 pub mod Each

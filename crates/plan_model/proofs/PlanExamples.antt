@@ -62,6 +62,7 @@ module _ (s : StreamDef) (a b c d : List ColumnDef) (of_s : kinds_of_schema s.sc
     sound = tt;
     kinds = of_a ∙ sym of_s;
     partnered = tt;
+    counted = tt;
     near = omega arith;
     narrow = one_column a Whole of_a;
     room = omega arith;
@@ -77,6 +78,7 @@ module _ (s : StreamDef) (a b c d : List ColumnDef) (of_s : kinds_of_schema s.sc
     sound = record { lasts = omega arith; repeats = omega arith; divides = (2, refl) };
     kinds = of_b ∙ sym of_a;
     partnered = tt;
+    counted = tt;
     near = omega arith;
     narrow = one_column b Whole of_b;
     room = omega arith;
@@ -92,6 +94,7 @@ module _ (s : StreamDef) (a b c d : List ColumnDef) (of_s : kinds_of_schema s.sc
     sound = (All-nil _, All-cons (IsAggOver (kinds_of_schema b)) Count [] tt (All-nil _));
     kinds = of_c;
     partnered = tt;
+    counted = tt;
     near = omega arith;
     narrow = one_column c Whole of_c;
     room = omega arith;
@@ -107,6 +110,7 @@ module _ (s : StreamDef) (a b c d : List ColumnDef) (of_s : kinds_of_schema s.sc
     sound = tt;
     kinds = of_d ∙ sym of_c;
     partnered = tt;
+    counted = tt;
     near = omega arith;
     narrow = one_column d Whole of_d;
     room = omega arith;

@@ -1,24 +1,35 @@
 -- The laws over whole plans.
-use Rattle.std.specs.Prelude.{ℕ, ◌<◌, List, [], refl}
-use Rattle.std.proofs.Common.{arith}
+use Rattle.std.specs.Prelude.{◌≡◌, ℕ, ◌<◌, true, List, []}
+use Rattle.std.proofs.Common.{sym, ap, subst, arith}
 use Rattle.tw_rows.specs.Instant.{inf}
 use Rattle.tw_rows.specs.Bag.{SameBag}
-use Rattle.tw_rows.specs.Event.{AreEvents, Known}
+use Rattle.tw_rows.specs.Event.{Event, alive, AreEvents, Known}
+use Rattle.tw_rows.specs.Rows.{Row}
 use Rattle.tw_rows.proofs.Bags.{SameBag-refl, SameBag-sym, SameBag-trans}
 use Rattle.tw_rows.proofs.Lives.{alive_known}
 use Rattle.plan_model.specs.declared.node.Node.{Node}
 use Rattle.plan_model.specs.Meaning.{Sources, node_events, events, node_closes, closes, nothing, by_events, node_meaning, meaning, snapshots, IsOrdered, IsLevelled}
 use Rattle.plan_model.proofs.Plans.{by_nodes}
 use Rattle.plan_model.proofs.NodeLaws.{AgreesWith, node_agrees, node_known}
+use Rattle.plan_model.proofs.SameEvents.{alive_same}
 
 -- the events of each node are its meaning
 pub events_agree : (source : Sources) (nodes : List Node) → IsOrdered nodes → IsLevelled nodes → (n : ℕ) → AgreesWith (events source nodes n) (meaning source nodes n)
 events_agree source nodes ordered levelled =
     by_nodes {T = Unit {0}} [] nothing tt source (λ s. by_events (source s)) (λ s. tt) node_events node_meaning (λ n a b. tt) (λ es m u. AgreesWith es m) nodes
     ordered
-    (record { same_events = λ has. refl; same_rows = λ t low. SameBag-refl [] })
-    (λ s. record { same_events = λ has. refl; same_rows = λ t low. SameBag-refl _ })
+    (record { same_events = λ has. SameBag-refl []; same_rows = λ t low. SameBag-refl [] })
+    (λ s. record { same_events = λ has. SameBag-refl _; same_rows = λ t low. SameBag-refl _ })
     (λ i n there left right. node_agrees n _ _ _ _ left right (levelled source i n there))
+
+-- a node whose rows are those of its events has, up to their order, those of its events that are alive
+pub rows_of_events : (source : Sources) (nodes : List Node) → IsOrdered nodes → IsLevelled nodes → (i t : ℕ) (made meant : List (Event Row)) →
+    events source nodes i ≡ made → meaning source nodes i ≡ by_events meant → SameBag (snapshots source nodes i t) (alive made t)
+rows_of_events source nodes ordered levelled i t made meant of_events of_meaning =
+    let has : (meaning source nodes i).has_events ≡ true = ap (λ m. m.has_events) of_meaning in
+    let same : SameBag made meant =
+    subst (λ es. SameBag es meant) of_events (subst (λ m. SameBag (events source nodes i) m.events) of_meaning ((events_agree source nodes ordered levelled i).same_events has)) in
+    subst (λ rows. SameBag rows (alive made t)) (sym (ap (λ m. m.rows t) of_meaning)) (SameBag-sym _ _ (alive_same made meant t same))
 
 -- of each node the same is known below its closing
 pub all_known : (p : ℕ) (source later_source : Sources) (nodes : List Node) → IsOrdered nodes → ((s : ℕ) → Known p (source s) (later_source s)) →

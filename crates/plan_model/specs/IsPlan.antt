@@ -1,5 +1,5 @@
 -- What a plan keeps. Kinds are those of cells: two kinds that are stored alike are one here.
-use Rattle.std.specs.Prelude.{◌≡◌, ℕ, ◌*◌, ◌^◌, ◌<◌, ◌≤◌, nat_eq, true, IsTrue, Option, Some, List, [], ◌++◌, map, length, slice_get, slice_index_or, All}
+use Rattle.std.specs.Prelude.{◌≡◌, ◌≢◌, ℕ, ◌+◌, ◌-◌, ◌*◌, ◌^◌, ◌<◌, ◌≤◌, nat_eq, true, IsTrue, Option, Some, List, [], ◌∷◌, ◌++◌, map, length, take, slice_get, slice_index_or, All, AllPairs}
 use Rattle.std.specs.List.{list_any}
 use Rattle.tw_rows.specs.declared.kind.CellKind.{CellKind}
 use Rattle.tw_rows.specs.declared.kind.CellKind.TheVariants.{Whole, Bit}
@@ -9,7 +9,7 @@ use Rattle.tw_rows.specs.Kinds.{cell_kind_of}
 use Rattle.plan_model.specs.declared.agg.Agg.{Agg}
 use Rattle.plan_model.specs.declared.agg.Agg.TheVariants.{Count, Sum, Least, Greatest}
 use Rattle.plan_model.specs.declared.node.Node.{Node}
-use Rattle.plan_model.specs.declared.node.Node.TheVariants.{Source, Where, Select, Union, Hop, Duration, Session, Clip, Group, Join, Anti}
+use Rattle.plan_model.specs.declared.node.Node.TheVariants.{Source, Where, Select, Union, Hop, Duration, Session, Clip, Group, Join, Anti, Mean, Top, Follow}
 use Rattle.plan_model.specs.declared.expr.ExprNode.{ExprNode}
 use Rattle.plan_model.specs.Keys.{outside_key}
 use Rattle.plan_model.specs.Meaning.{left_child, right_child, left_of, right_of, HasLower, reads_events, reads_right_events}
@@ -38,6 +38,8 @@ abbrev pub node_kinds : Node → List CellKind → List CellKind → List CellKi
 node_kinds (Select of items) l r = map (λ item. kind_of item l) items
 node_kinds (Group of key aggs) l r = key_kinds l key ++ map (λ a. Whole) aggs
 node_kinds (Join left right left_key right_key) l r = l ++ outside_key right_key r
+node_kinds (Mean of at) l r = take (length l - 1) l
+node_kinds (Follow left right left_key right_key within) l r = l ++ outside_key right_key r
 node_kinds n l r = l
 
 -- the columns of the key are there
@@ -63,6 +65,23 @@ pub record IsWindow (size period : ℕ) : Type 0 where
   pub repeats : 1 ≤ period
   pub divides : (k : ℕ) × (size ≡ period * k)
 
+-- as many rows of a key as a top may ask for
+abbrev pub most_top : ℕ
+most_top = 1000
+
+-- each of the columns stands before the last one and is an int's, and none is there twice
+pub record AreSums (kinds : List CellKind) (at : List ℕ) : Type 0 where
+  pub before_last : All (λ column. column + 1 < length kinds) at
+  pub whole : All (λ column. slice_get kinds column ≡ Some Whole) at
+  pub once : AllPairs (λ a b. a ≢ b) at
+
+-- the columns of the key are there, the column that decides is an int's, and from 1 to 1,000 rows are asked for
+pub record IsTop (kinds : List CellKind) (key : List ℕ) (by count : ℕ) : Type 0 where
+  pub keyed : IsKey kinds key
+  pub whole : slice_get kinds by ≡ Some Whole
+  pub some : 1 ≤ count
+  pub few : count ≤ most_top
+
 -- the expression has a node, and is well typed over columns of these kinds
 abbrev pub IsExprOver : List CellKind → List ExprNode → Type 0
 IsExprOver kinds expr = (0 < length expr) × IsTyped kinds expr
@@ -79,6 +98,9 @@ IsSoundOver (Clip left right left_key right_key) l r = AreKeys l r left_key righ
 IsSoundOver (Group of key aggs) l r = IsKey l key × All (IsAggOver l) aggs
 IsSoundOver (Join left right left_key right_key) l r = AreKeys l r left_key right_key
 IsSoundOver (Anti left right left_key right_key) l r = AreKeys l r left_key right_key
+IsSoundOver (Mean of at) l r = AreSums l at
+IsSoundOver (Top of key by count) l r = IsTop l key by count
+IsSoundOver (Follow left right left_key right_key within) l r = (1 ≤ within) × AreKeys l r left_key right_key
 IsSoundOver n l r = Unit {0}
 
 -- a source reads one of the streams
@@ -101,6 +123,16 @@ abbrev pub HasKeysOnRight : List Node → Node → Type 0
 HasKeysOnRight nodes (Anti left right left_key right_key) = IsOfKeysAlone right_key (slice_get nodes right)
 HasKeysOnRight nodes n = Unit {0}
 
+-- the node is a group whose last aggregate is a count
+abbrev pub IsCountedGroup : Option Node → Type 0
+IsCountedGroup (Some (Group of key aggs)) = (before : List Agg) × (aggs ≡ before ++ Count ∷ [])
+IsCountedGroup n = ⊥
+
+-- the child of a mean is such a group
+abbrev pub HasCountBelow : List Node → Node → Type 0
+HasCountBelow nodes (Mean of at) = IsCountedGroup (slice_get nodes of)
+HasCountBelow nodes n = Unit {0}
+
 -- how far a plan may look back, and how many nodes and columns it may have
 unfoldable pub most_reach : ℕ
 most_reach = 2 ^ 60
@@ -120,6 +152,7 @@ pub record IsNode (streams : List StreamDef) (nodes : List Node) (schemas : List
   pub sound : IsSoundOver n (left_of [] (kinds_of_stream streams) (kinds_at schemas) n) (right_of [] (kinds_at schemas) n)
   pub kinds : kinds_of_schema schema ≡ node_kinds n (left_of [] (kinds_of_stream streams) (kinds_at schemas) n) (right_of [] (kinds_at schemas) n)
   pub partnered : HasKeysOnRight nodes n
+  pub counted : HasCountBelow nodes n
   pub near : reach nodes i ≤ most_reach
   pub narrow : length schema ≤ most_columns
 
@@ -155,6 +188,7 @@ pub record IsNewNode (streams : List StreamDef) (nodes : List Node) (schemas : L
   pub sound : IsSoundOver n (left_of [] (kinds_of_stream streams) (kinds_at schemas) n) (right_of [] (kinds_at schemas) n)
   pub kinds : kinds_of_schema schema ≡ node_kinds n (left_of [] (kinds_of_stream streams) (kinds_at schemas) n) (right_of [] (kinds_at schemas) n)
   pub partnered : HasKeysOnRight nodes n
+  pub counted : HasCountBelow nodes n
   pub near : node_reach n (left_of 0 (λ s. 0) (reach nodes) n) (right_of 0 (reach nodes) n) ≤ most_reach
   pub narrow : length schema ≤ most_columns
   pub room : length nodes < most_nodes

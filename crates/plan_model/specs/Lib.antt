@@ -6,6 +6,8 @@ pub mod Lives
 pub mod Amounts
 pub mod RowOps
 pub mod Keys
+pub mod CellOps
+pub mod Means
 pub mod Groups
 pub mod Shape
 pub mod Nodes

@@ -5,15 +5,20 @@ use Rattle.tw_rows.specs.Event.{Event, alive}
 use Rattle.tw_rows.specs.Rows.{Row}
 use Rattle.key_nodes.specs.Antis.{alone_rows}
 use Rattle.key_nodes.specs.Clips.{clipped}
+use Rattle.key_nodes.specs.Coalesced.{coalesced}
+use Rattle.key_nodes.specs.Follows.{followed}
 use Rattle.key_nodes.specs.Groups.{grouped_rows}
 use Rattle.key_nodes.specs.Joins.{joined_rows}
+use Rattle.key_nodes.specs.Tops.{top_rows}
 use Rattle.plan_model.specs.declared.node.Node.{Node}
-use Rattle.plan_model.specs.declared.node.Node.TheVariants.{Source, Where, Select, Union, Delay, Hop, Duration, Extend, Session, Clip, Group, Join, Anti}
+use Rattle.plan_model.specs.declared.node.Node.TheVariants.{Source, Where, Select, Union, Delay, Hop, Duration, Extend, Session, Clip, Group, Join, Anti, Coalesce, Mean, Top, Follow}
 use Rattle.plan_model.specs.Expr.{holds, selected_row}
 use Rattle.plan_model.specs.Groups.{row_of_group}
 use Rattle.plan_model.specs.Keys.{rows_equal, value_ops, key_values, keys_equal, paired_row}
 use Rattle.plan_model.specs.Lives.{moved, hopped, lasting, extended, in_sessions}
+use Rattle.plan_model.specs.Means.{mean_row}
 use Rattle.plan_model.specs.Nodes.{events_to, node_in}
+use Rattle.plan_model.specs.RowOps.{int_in}
 use Rattle.plan_model.specs.Shape.{Shape, Stream, One, Two, shape}
 pub use Rattle.plan_model.specs.Shape.{left_child, right_child, at_child, left_of, right_of, over_nodes, HasLower, IsOrdered}
 
@@ -79,6 +84,10 @@ node_meaning (Clip left right left_key right_key) a b = by_events (clipped (keys
 node_meaning (Group of key aggs) a b = by_rows (λ t. grouped_rows (key_values key) rows_equal (row_of_group key aggs) (a.rows t))
 node_meaning (Join left right left_key right_key) a b = by_rows (λ t. joined_rows (keys_equal left_key right_key) (paired_row right_key) (a.rows t) (b.rows t))
 node_meaning (Anti left right left_key right_key) a b = by_rows (λ t. alone_rows (keys_equal left_key right_key) (a.rows t) (b.rows t))
+node_meaning (Coalesce of) a b = by_events (coalesced rows_equal a.rows)
+node_meaning (Mean of at) a b = by_rows (λ t. map (mean_row value_ops at) (a.rows t))
+node_meaning (Top of key by count) a b = by_rows (λ t. top_rows (keys_equal key key) (int_in value_ops by) count (a.rows t))
+node_meaning (Follow left right left_key right_key within) a b = by_events (followed (keys_equal left_key right_key) (paired_row right_key) within a.events b.events)
 
 -- the meaning of the node of number n
 abbrev pub meaning : Sources → List Node → ℕ → Meaning
@@ -95,11 +104,13 @@ reads_events (Duration of by) = true
 reads_events (Extend of by) = true
 reads_events (Session of timeout key) = true
 reads_events (Clip left right left_key right_key) = true
+reads_events (Follow left right left_key right_key within) = true
 reads_events n = false
 
 -- the node reads the events of its right child
 abbrev pub reads_right_events : Node → Bool
 reads_right_events (Clip left right left_key right_key) = true
+reads_right_events (Follow left right left_key right_key within) = true
 reads_right_events n = false
 
 -- a node that reads the events of a child has there a child with events

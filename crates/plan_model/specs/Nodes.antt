@@ -1,15 +1,19 @@
 -- The events of a node, over rows of any kind.
 use Rattle.std.specs.Prelude.{List, ◌++◌, map, filter}
-use Rattle.tw_rows.specs.Event.{Event}
+use Rattle.tw_rows.specs.Event.{Event, alive}
 use Rattle.key_nodes.specs.Antis.{alone}
 use Rattle.key_nodes.specs.Clips.{clipped}
+use Rattle.key_nodes.specs.Coalesced.{coalesced}
+use Rattle.key_nodes.specs.Follows.{followed}
 use Rattle.key_nodes.specs.Groups.{grouped}
 use Rattle.key_nodes.specs.Joins.{joined}
+use Rattle.key_nodes.specs.Tops.{top}
 use Rattle.plan_model.specs.declared.node.Node.{Node}
-use Rattle.plan_model.specs.declared.node.Node.TheVariants.{Source, Where, Select, Union, Delay, Hop, Duration, Extend, Session, Clip, Group, Join, Anti}
+use Rattle.plan_model.specs.declared.node.Node.TheVariants.{Source, Where, Select, Union, Delay, Hop, Duration, Extend, Session, Clip, Group, Join, Anti, Coalesce, Mean, Top, Follow}
 use Rattle.plan_model.specs.Keys.{paired_row}
 use Rattle.plan_model.specs.Lives.{moved, hopped, lasting, extended, in_sessions}
-use Rattle.plan_model.specs.RowOps.{RowOps, key_in, keys_equal_in, row_of_group_in}
+use Rattle.plan_model.specs.Means.{mean_row}
+use Rattle.plan_model.specs.RowOps.{RowOps, key_in, keys_equal_in, int_in, row_of_group_in}
 
 -- the event with its row replaced, and the same life
 abbrev pub event_to : {R S : Type 0} → (R → S) → Event R → Event S
@@ -34,3 +38,7 @@ node_in ops (Clip left right left_key right_key) a b = clipped (keys_equal_in op
 node_in ops (Group of key aggs) a b = grouped (key_in ops key) ops.same ops.same (row_of_group_in ops key aggs) a
 node_in ops (Join left right left_key right_key) a b = joined (keys_equal_in ops left_key right_key) (paired_row right_key) a b
 node_in ops (Anti left right left_key right_key) a b = alone ops.same (keys_equal_in ops left_key right_key) a b
+node_in ops (Coalesce of) a b = coalesced ops.same (alive a)
+node_in ops (Mean of at) a b = events_to (mean_row ops at) a
+node_in ops (Top of key by count) a b = top ops.same (keys_equal_in ops key key) (int_in ops by) count a
+node_in ops (Follow left right left_key right_key within) a b = followed (keys_equal_in ops left_key right_key) (paired_row right_key) within a b

@@ -1,7 +1,7 @@
 -- What the nodes of a plan are like: whether their rows are events, how far they look back, and which of them are built.
 use Rattle.std.specs.Prelude.{ℕ, ◌+◌, ◌≤◌, max, Bool, true, false, ◌&&◌, List}
 use Rattle.plan_model.specs.declared.node.Node.{Node}
-use Rattle.plan_model.specs.declared.node.Node.TheVariants.{Source, Where, Select, Union, Delay, Hop, Duration, Extend, Session, Clip, Group, Join, Anti}
+use Rattle.plan_model.specs.declared.node.Node.TheVariants.{Source, Where, Select, Union, Delay, Hop, Duration, Extend, Session, Group, Join, Anti, Mean, Top, Follow}
 use Rattle.plan_model.specs.Meaning.{over_nodes}
 
 -- how far a node itself looks back, in units of time. A hop looks back by its size
@@ -11,6 +11,7 @@ own_duration (Hop of size period) = size
 own_duration (Duration of by) = by
 own_duration (Extend of by) = by
 own_duration (Session of timeout key) = timeout
+own_duration (Follow left right left_key right_key within) = within
 own_duration n = 0
 
 -- the reach of a node, from those of its children: the greater of them, and how far it looks back itself
@@ -24,19 +25,16 @@ reach nodes n = over_nodes 0 (λ s. 0) node_reach nodes n
 -- whether the rows of a node are events, from whether those of its children are. Where they are not, the node has rows at
 -- each instant alone, and no step that changes lives may stand over it
 abbrev pub node_is_event_level : Node → Bool → Bool → Bool
-node_is_event_level (Source stream) a b = true
 node_is_event_level (Where of test) a b = a
 node_is_event_level (Select of items) a b = a
 node_is_event_level (Union left right) a b = a && b
 node_is_event_level (Delay of by) a b = a
-node_is_event_level (Hop of size period) a b = true
-node_is_event_level (Duration of by) a b = true
-node_is_event_level (Extend of by) a b = true
-node_is_event_level (Session of timeout key) a b = true
-node_is_event_level (Clip left right left_key right_key) a b = true
 node_is_event_level (Group of key aggs) a b = false
 node_is_event_level (Join left right left_key right_key) a b = false
 node_is_event_level (Anti left right left_key right_key) a b = false
+node_is_event_level (Mean of at) a b = false
+node_is_event_level (Top of key by count) a b = false
+node_is_event_level n a b = true
 
 -- whether the node of number n is event-level. A filter over a group is not, and a hop over a filter of a stream is
 abbrev pub event_level : List Node → ℕ → Bool

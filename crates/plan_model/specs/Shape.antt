@@ -1,7 +1,7 @@
 -- The children of a node: it reads a stream, one child, or two.
 use Rattle.std.specs.Prelude.{◌≡◌, ℕ, ◌<◌, Option, Some, None, List, slice_get}
 use Rattle.plan_model.specs.declared.node.Node.{Node}
-use Rattle.plan_model.specs.declared.node.Node.TheVariants.{Source, Where, Select, Union, Delay, Hop, Duration, Extend, Session, Clip, Group, Join, Anti}
+use Rattle.plan_model.specs.declared.node.Node.TheVariants.{Source, Where, Select, Union, Delay, Hop, Duration, Extend, Session, Clip, Group, Join, Anti, Coalesce, Mean, Top, Follow}
 use Rattle.plan_model.specs.Fold.{result}
 
 -- a node reads the stream of a number, the child of a number, or a left and a right child
@@ -25,6 +25,10 @@ shape (Clip left right left_key right_key) = Two left right
 shape (Group of key aggs) = One of
 shape (Join left right left_key right_key) = Two left right
 shape (Anti left right left_key right_key) = Two left right
+shape (Coalesce of) = One of
+shape (Mean of at) = One of
+shape (Top of key by count) = One of
+shape (Follow left right left_key right_key within) = Two left right
 
 abbrev pub left_in : Shape → Option ℕ
 left_in (Stream stream) = None

@@ -8,16 +8,20 @@ ghost use Rattle.tw_rows.specs.Rows.{Row};
 ghost use Rattle.key_nodes.specs.Antis.{alone_rows, alone};
 ghost use Rattle.key_nodes.specs.Clips.{clipped};
 ghost use Rattle.key_nodes.specs.Groups.{has_key, IsGroupRow, grouped_rows, grouped};
+ghost use Rattle.key_nodes.specs.Coalesced.{coalesced};
+ghost use Rattle.key_nodes.specs.Follows.{followed};
 ghost use Rattle.key_nodes.specs.Sessions.{sessions};
+ghost use Rattle.key_nodes.specs.Tops.{top_rows};
+ghost use Rattle.plan_model.specs.Means.{mean_row};
 ghost use Rattle.plan_model.specs.declared.agg.Agg.{Agg};
 ghost use Rattle.plan_model.specs.declared.expr.ExprNode.{ExprNode};
 ghost use Rattle.plan_model.specs.declared.node.Node.{Node};
 ghost use Rattle.plan_model.specs.IsExpr.{IsExpr};
 ghost use Rattle.plan_model.specs.Expr.{node_value, value_at, value, holds, selected_row};
-ghost use Rattle.plan_model.specs.Keys.{key_values, rows_equal, keys_equal, paired_row};
+ghost use Rattle.plan_model.specs.Keys.{key_values, rows_equal, value_ops, keys_equal, paired_row};
 ghost use Rattle.plan_model.specs.Amounts.{least_int, greatest_int};
 ghost use Rattle.plan_model.specs.Groups.{agg_value, row_of_group, is_undefined};
-ghost use Rattle.plan_model.specs.RowOps.{RowOps};
+ghost use Rattle.plan_model.specs.RowOps.{RowOps, int_in};
 ghost use Rattle.plan_model.specs.Nodes.{event_to, events_to, node_in};
 ghost use Rattle.key_nodes.specs.Runs.{Tells};
 ghost use Rattle.key_nodes.specs.Joins.{joined_rows, joined};
@@ -113,7 +117,7 @@ pub fn hop_is()
         events source nodes i ≡ hopped size period (events source nodes child) }
     ensures rows { (source : Sources) (nodes : List Node) (i child size period t : ℕ) →
         IsOrdered nodes → IsLevelled nodes → slice_get nodes i ≡ Some (Node.Hop child size period) →
-        snapshots source nodes i t ≡ alive (hopped size period (events source nodes child)) t }
+        SameBag (snapshots source nodes i t) (alive (hopped size period (events source nodes child)) t) }
     ensures closing { (nodes : List Node) (i child size period p : ℕ) →
         IsOrdered nodes → slice_get nodes i ≡ Some (Node.Hop child size period) →
         closes nodes i p ≡ floor_to period (closes nodes child p) }
@@ -127,7 +131,7 @@ pub fn duration_is()
         events source nodes i ≡ lasting by (events source nodes child) }
     ensures rows { (source : Sources) (nodes : List Node) (i child by t : ℕ) →
         IsOrdered nodes → IsLevelled nodes → slice_get nodes i ≡ Some (Node.Duration child by) →
-        snapshots source nodes i t ≡ alive (lasting by (events source nodes child)) t }
+        SameBag (snapshots source nodes i t) (alive (lasting by (events source nodes child)) t) }
     ensures closing { (nodes : List Node) (i child by p : ℕ) →
         IsOrdered nodes → slice_get nodes i ≡ Some (Node.Duration child by) →
         closes nodes i p ≡ closes nodes child p }
@@ -141,7 +145,7 @@ pub fn extend_is()
         events source nodes i ≡ extended by (events source nodes child) }
     ensures rows { (source : Sources) (nodes : List Node) (i child by t : ℕ) →
         IsOrdered nodes → IsLevelled nodes → slice_get nodes i ≡ Some (Node.Extend child by) →
-        snapshots source nodes i t ≡ alive (extended by (events source nodes child)) t }
+        SameBag (snapshots source nodes i t) (alive (extended by (events source nodes child)) t) }
     ensures closing { (nodes : List Node) (i child by p : ℕ) →
         IsOrdered nodes → slice_get nodes i ≡ Some (Node.Extend child by) →
         closes nodes i p ≡ closes nodes child p }
@@ -159,8 +163,8 @@ pub fn session_is()
     ensures rows { (source : Sources) (nodes : List Node) (i child timeout t : ℕ) (key : List ℕ) →
         IsOrdered nodes → IsLevelled nodes → slice_get nodes i ≡ Some (Node.Session child timeout key) →
         1 ≤ timeout →
-        snapshots source nodes i t
-        ≡ alive (sessions (key_values key) rows_equal timeout (events source nodes child)) t }
+        SameBag (snapshots source nodes i t)
+        (alive (sessions (key_values key) rows_equal timeout (events source nodes child)) t) }
     ensures closing { (nodes : List Node) (i child timeout p : ℕ) (key : List ℕ) →
         IsOrdered nodes → slice_get nodes i ≡ Some (Node.Session child timeout key) →
         closes nodes i p ≡ closes nodes child p }
@@ -176,8 +180,8 @@ pub fn clip_is()
         ≡ clipped (keys_equal left_key right_key) (events source nodes left) (events source nodes right) }
     ensures rows { (source : Sources) (nodes : List Node) (i left right t : ℕ) (left_key right_key : List ℕ) →
         IsOrdered nodes → IsLevelled nodes → slice_get nodes i ≡ Some (Node.Clip left right left_key right_key) →
-        snapshots source nodes i t
-        ≡ alive (clipped (keys_equal left_key right_key) (events source nodes left) (events source nodes right)) t }
+        SameBag (snapshots source nodes i t)
+        (alive (clipped (keys_equal left_key right_key) (events source nodes left) (events source nodes right)) t) }
     ensures closing { (nodes : List Node) (i left right p : ℕ) (left_key right_key : List ℕ) →
         IsOrdered nodes → slice_get nodes i ≡ Some (Node.Clip left right left_key right_key) →
         closes nodes i p ≡ min (closes nodes left p) (closes nodes right p) }
@@ -258,6 +262,71 @@ pub fn anti_is()
         closes nodes i p ≡ min (closes nodes left p) (closes nodes right p) }
 {}
 
+/// A Coalesce has the coalesced events of the rows of its child: of each row from the j-th instant at which it comes to stand
+/// more often up to the j-th at which it comes to stand less often. At each instant it has the rows of its child; and it is
+/// closed where the child is.
+pub fn coalesce_is()
+    ensures events { (source : Sources) (nodes : List Node) (i child : ℕ) →
+        IsOrdered nodes → slice_get nodes i ≡ Some (Node.Coalesce child) →
+        events source nodes i ≡ coalesced rows_equal (alive (events source nodes child)) }
+    ensures rows { (source : Sources) (nodes : List Node) (i child t : ℕ) →
+        IsOrdered nodes → slice_get nodes i ≡ Some (Node.Coalesce child) → t < inf →
+        SameBag (snapshots source nodes i t) (snapshots source nodes child t) }
+    ensures closing { (nodes : List Node) (i child p : ℕ) →
+        IsOrdered nodes → slice_get nodes i ≡ Some (Node.Coalesce child) →
+        closes nodes i p ≡ closes nodes child p }
+{}
+
+/// A Mean has the events and, at each instant, the rows of its child with each row replaced: without its last column, and
+/// with the columns `at` divided by that one. It is closed where the child is.
+pub fn mean_is()
+    ensures events { (source : Sources) (nodes : List Node) (i child : ℕ) (at : List ℕ) →
+        IsOrdered nodes → slice_get nodes i ≡ Some (Node.Mean child at) →
+        events source nodes i ≡ events_to (mean_row value_ops at) (events source nodes child) }
+    ensures rows { (source : Sources) (nodes : List Node) (i child t : ℕ) (at : List ℕ) →
+        IsOrdered nodes → slice_get nodes i ≡ Some (Node.Mean child at) →
+        snapshots source nodes i t ≡ map (mean_row value_ops at) (snapshots source nodes child t) }
+    ensures closing { (nodes : List Node) (i child p : ℕ) (at : List ℕ) →
+        IsOrdered nodes → slice_get nodes i ≡ Some (Node.Mean child at) →
+        closes nodes i p ≡ closes nodes child p }
+{}
+
+/// A Top has at each instant the rows of its child of whose key fewer than `count` rows have a greater int in the column
+/// `by`; its events are the coalesced events of these rows; and it is closed where the child is.
+pub fn top_is()
+    ensures events { (source : Sources) (nodes : List Node) (i child by count : ℕ) (key : List ℕ) →
+        IsOrdered nodes → slice_get nodes i ≡ Some (Node.Top child key by count) →
+        events source nodes i
+        ≡ coalesced rows_equal
+        (λ t. top_rows (keys_equal key key) (int_in value_ops by) count (alive (events source nodes child) t)) }
+    ensures rows { (source : Sources) (nodes : List Node) (i child t by count : ℕ) (key : List ℕ) →
+        IsOrdered nodes → slice_get nodes i ≡ Some (Node.Top child key by count) →
+        snapshots source nodes i t
+        ≡ top_rows (keys_equal key key) (int_in value_ops by) count (snapshots source nodes child t) }
+    ensures closing { (nodes : List Node) (i child p by count : ℕ) (key : List ℕ) →
+        IsOrdered nodes → slice_get nodes i ≡ Some (Node.Top child key by count) →
+        closes nodes i p ≡ closes nodes child p }
+{}
+
+/// A Follow has for each left event an event for each right event of its key that starts next after it and within the time;
+/// its rows are those that are alive; and it is closed up to the lesser of its children's closings.
+pub fn follow_is()
+    ensures events { (source : Sources) (nodes : List Node) (i left right within : ℕ) (left_key right_key : List ℕ) →
+        IsOrdered nodes → slice_get nodes i ≡ Some (Node.Follow left right left_key right_key within) →
+        events source nodes i
+        ≡ followed (keys_equal left_key right_key) (paired_row right_key) within
+        (events source nodes left) (events source nodes right) }
+    ensures rows { (source : Sources) (nodes : List Node) (i left right t within : ℕ) (left_key right_key : List ℕ) →
+        IsOrdered nodes → IsLevelled nodes →
+        slice_get nodes i ≡ Some (Node.Follow left right left_key right_key within) →
+        SameBag (snapshots source nodes i t)
+        (alive (followed (keys_equal left_key right_key) (paired_row right_key) within
+        (events source nodes left) (events source nodes right)) t) }
+    ensures closing { (nodes : List Node) (i left right p within : ℕ) (left_key right_key : List ℕ) →
+        IsOrdered nodes → slice_get nodes i ≡ Some (Node.Follow left right left_key right_key within) →
+        closes nodes i p ≡ min (closes nodes left p) (closes nodes right p) }
+{}
+
 /// A change of lives makes one event of each event, where a size or a duration is at least 1; only one that would start at
 /// infinity is none. A time rounded down is the greatest multiple of the period that is not above it.
 pub fn lives_change()
@@ -303,14 +372,14 @@ pub fn events_have_lives()
 {}
 
 /// Snapshots: at each instant the events of a node that are alive are the rows of the node. A node that has events of its
-/// own has just these.
+/// own has just these, as a multiset.
 pub fn snapshots_agree()
     ensures rows { (source : Sources) (nodes : List Node) → IsOrdered nodes → IsLevelled nodes →
         (n t : ℕ) → t < inf →
         SameBag (alive (events source nodes n) t) (snapshots source nodes n t) }
     ensures events { (source : Sources) (nodes : List Node) → IsOrdered nodes → IsLevelled nodes →
         (n : ℕ) → (meaning source nodes n).has_events ≡ true →
-        events source nodes n ≡ (meaning source nodes n).events }
+        SameBag (events source nodes n) (meaning source nodes n).events }
 {}
 
 /// Causality: what is known of a node's events below its closing hangs only on what is known of its children's events

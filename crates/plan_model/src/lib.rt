@@ -27,10 +27,10 @@ pub use changes_laws::{
 pub use expr::{ArithOp, CompareOp, Expr, ExprNode};
 pub use fault::{QueryError, QueryFault};
 pub use laws::{
-    aggregates_are, anti_is, clip_is, delay_is, duration_is, events_have_lives, extend_is,
-    group_is, hop_is, join_is, lives_change, nodes_are_causal, nodes_are_causal_over, result_is,
-    select_is, session_is, snapshots_agree, snapshots_are_final, source_is,
-    undefined_groups_have_no_order, union_is, value_is, where_is,
+    aggregates_are, anti_is, clip_is, coalesce_is, delay_is, duration_is, events_have_lives,
+    extend_is, follow_is, group_is, hop_is, join_is, lives_change, mean_is, nodes_are_causal,
+    nodes_are_causal_over, result_is, select_is, session_is, snapshots_agree, snapshots_are_final,
+    source_is, top_is, undefined_groups_have_no_order, union_is, value_is, where_is,
 };
 pub use lists::{AggList, ExprList, Key, NodeList, SchemaList, StreamList};
 pub use node::{Node, built};

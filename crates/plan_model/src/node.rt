@@ -87,6 +87,32 @@ pub enum Node {
         left_key: Key,
         right_key: Key,
     },
+    /// The rows of the child, as events that depend on those rows alone: each from the j-th instant at which it comes to
+    /// stand more often to the j-th at which it comes to stand less often.
+    Coalesce {
+        of: usize,
+    },
+    /// Each row of the child without its last column, the count, with the columns `at` divided by that count.
+    Mean {
+        of: usize,
+        at: Key,
+    },
+    /// The rows of the child of whose key fewer than `count` rows have a greater int in the column `by`.
+    Top {
+        of: usize,
+        key: Key,
+        by: usize,
+        count: u64,
+    },
+    /// For each left row and each next start of right rows with an equal key, later than its own and before `within` units
+    /// are over, the left row and what these have outside their key: from that start until the units are over.
+    Follow {
+        left: usize,
+        right: usize,
+        left_key: Key,
+        right_key: Key,
+        within: u64,
+    },
 }
 
 impl Node {
@@ -103,11 +129,15 @@ impl Node {
             | Node::Duration { of, .. }
             | Node::Extend { of, .. }
             | Node::Session { of, .. }
-            | Node::Group { of, .. } => Some(*of),
+            | Node::Group { of, .. }
+            | Node::Coalesce { of }
+            | Node::Mean { of, .. }
+            | Node::Top { of, .. } => Some(*of),
             Node::Union { left, .. }
             | Node::Clip { left, .. }
             | Node::Join { left, .. }
-            | Node::Anti { left, .. } => Some(*left),
+            | Node::Anti { left, .. }
+            | Node::Follow { left, .. } => Some(*left),
         }
     }
 
@@ -119,7 +149,8 @@ impl Node {
             Node::Union { right, .. }
             | Node::Clip { right, .. }
             | Node::Join { right, .. }
-            | Node::Anti { right, .. } => Some(*right),
+            | Node::Anti { right, .. }
+            | Node::Follow { right, .. } => Some(*right),
             _ => None,
         }
     }
@@ -132,6 +163,7 @@ impl Node {
             Node::Delay { by, .. } | Node::Duration { by, .. } | Node::Extend { by, .. } => *by,
             Node::Hop { size, .. } => *size,
             Node::Session { timeout, .. } => *timeout,
+            Node::Follow { within, .. } => *within,
             _ => 0,
         }
     }
@@ -145,132 +177,4 @@ pub fn built(node: &Node) -> bool
         node,
         Node::Source { .. } | Node::Where { .. } | Node::Select { .. }
     )
-}
-
-#[cfg(test)]
-mod tests {
-    use super::*;
-    use crate::agg::Agg;
-    use std::alloc::AllocError;
-
-    #[test]
-    fn nodes_keep_what_they_are_made_of(rt: HostRuntime) -> Result<(), AllocError> {
-        let items = ExprList::from_vec(Vec::new(rt.alloc()));
-        let left_key = Key::from_vec(vec![in rt.alloc(); 1]?);
-        let right_key = Key::from_vec(vec![in rt.alloc(); 2]?);
-        let nodes = vec![in rt.alloc();
-            Node::Source { stream: 3 },
-            Node::Select { of: 0, items },
-            Node::Union { left: 0, right: 1 },
-            Node::Delay { of: 2, by: 60 },
-            Node::Hop {
-                of: 3,
-                size: 10,
-                period: 5
-            },
-            Node::Duration { of: 4, by: 7 },
-            Node::Extend { of: 5, by: 8 },
-            Node::Join {
-                left: 6,
-                right: 4,
-                left_key,
-                right_key
-            },
-        ]?;
-        assert_eq!(rt; nodes.len(), 8);
-        assert!(rt; matches!(&nodes[0], Node::Source { stream: 3 }));
-        assert!(rt; matches!(&nodes[1], Node::Select { of: 0, .. }));
-        assert!(rt; matches!(&nodes[2], Node::Union { left: 0, right: 1 }));
-        assert!(rt; matches!(&nodes[3], Node::Delay { of: 2, by: 60 }));
-        assert!(rt;
-            matches!(
-                &nodes[4],
-                Node::Hop {
-                    of: 3,
-                    size: 10,
-                    period: 5
-                }
-            )
-        );
-        assert!(rt; matches!(&nodes[5], Node::Duration { of: 4, by: 7 }));
-        assert!(rt; matches!(&nodes[6], Node::Extend { of: 5, by: 8 }));
-        let Node::Join {
-            left: 6,
-            right: 4,
-            left_key,
-            right_key,
-        } = &nodes[7]
-        else {
-            panic!(rt; "no join of nodes 6 and 4");
-        };
-        assert_eq!(rt; left_key.items(), [1].as_slice());
-        assert_eq!(rt; right_key.items(), [2].as_slice());
-        Ok(())
-    }
-
-    #[test]
-    fn nodes_by_key_keep_what_they_are_made_of(rt: HostRuntime) -> Result<(), AllocError> {
-        let session_key = Key::from_vec(vec![in rt.alloc(); 4]?);
-        let clip_key = Key::from_vec(vec![in rt.alloc(); 3]?);
-        let group_key = Key::from_vec(vec![in rt.alloc(); 6]?);
-        let nodes = vec![in rt.alloc();
-            Node::Session {
-                of: 8,
-                timeout: 30,
-                key: session_key
-            },
-            Node::Clip {
-                left: 7,
-                right: 1,
-                left_key: clip_key,
-                right_key: Key::from_vec(Vec::new(rt.alloc()))
-            },
-            Node::Group {
-                of: 10,
-                key: group_key,
-                aggs: AggList::from_vec(vec![in rt.alloc(); Agg::Sum(4)]?)
-            },
-            Node::Anti {
-                left: 9,
-                right: 3,
-                left_key: Key::from_vec(Vec::new(rt.alloc())),
-                right_key: Key::from_vec(Vec::new(rt.alloc()))
-            },
-        ]?;
-        let Node::Session {
-            of: 8,
-            timeout: 30,
-            key,
-        } = &nodes[0]
-        else {
-            panic!(rt; "no session of node 8");
-        };
-        assert_eq!(rt; key.items(), [4].as_slice());
-        let Node::Clip {
-            left: 7,
-            right: 1,
-            left_key,
-            ..
-        } = &nodes[1]
-        else {
-            panic!(rt; "no clip of nodes 7 and 1");
-        };
-        assert_eq!(rt; left_key.items(), [3].as_slice());
-        let Node::Group { of: 10, key, aggs } = &nodes[2] else {
-            panic!(rt; "no group of node 10");
-        };
-        assert_eq!(rt; key.items(), [6].as_slice());
-        assert!(rt; matches!(&aggs.items()[0], Agg::Sum(4)));
-        assert!(rt;
-            matches!(
-                &nodes[3],
-                Node::Anti {
-                    left: 9,
-                    right: 3,
-                    ..
-                }
-            )
-        );
-        Ok(())
-    }
 }

@@ -19,9 +19,11 @@ fn closing_of(node: &Node, left: Time, right: Time) -> Time
     ensures { result ≡ node_closes node.now left right }
 {
     match node {
-        Node::Union { .. } | Node::Clip { .. } | Node::Join { .. } | Node::Anti { .. } => {
-            left.min(right)
-        }
+        Node::Union { .. }
+        | Node::Clip { .. }
+        | Node::Join { .. }
+        | Node::Anti { .. }
+        | Node::Follow { .. } => left.min(right),
         Node::Delay { by, .. } => left.plus(*by),
         Node::Hop { period, .. } => floor_to(left, *period),
         _ => left,
@@ -70,10 +72,16 @@ fn level_of(node: &Node, left: bool, right: bool) -> bool
         | Node::Duration { .. }
         | Node::Extend { .. }
         | Node::Session { .. }
-        | Node::Clip { .. } => true,
+        | Node::Clip { .. }
+        | Node::Coalesce { .. }
+        | Node::Follow { .. } => true,
         Node::Where { .. } | Node::Select { .. } | Node::Delay { .. } => left,
         Node::Union { .. } => left && right,
-        Node::Group { .. } | Node::Join { .. } | Node::Anti { .. } => false,
+        Node::Group { .. }
+        | Node::Join { .. }
+        | Node::Anti { .. }
+        | Node::Mean { .. }
+        | Node::Top { .. } => false,
     }
 }
 

@@ -77,5 +77,5 @@ fn a_plan_tells_of_its_nodes(rt: HostRuntime) -> Result<(), Fail> {
 #[test]
 fn streams_tests_and_items_are_built(rt: HostRuntime) {
     assert!(rt; built(&Node::Source { stream: 0 }));
-    assert!(rt; !built(&Node::Delay { of: 0, by: 1 }));
+    assert!(rt; !built(&Node::Coalesce { of: 0 }));
 }

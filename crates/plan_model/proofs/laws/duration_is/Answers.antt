@@ -1,12 +1,9 @@
-use Rattle.std.specs.Prelude.{[], refl}
-use Rattle.std.proofs.Common.{sym, ◌∙◌, ap}
+use Rattle.std.specs.Prelude.{[]}
 use Rattle.tw_rows.specs.Instant.{inf}
-use Rattle.tw_rows.specs.Event.{alive}
 use Rattle.plan_model.specs.declared.node.Node.TheVariants.{Duration}
-use Rattle.plan_model.specs.Lives.{lasting}
 use Rattle.plan_model.specs.Meaning.{node_events, node_closes, nothing, by_events, node_meaning}
 use Rattle.plan_model.proofs.Plans.{over_nodes-is}
-use Rattle.plan_model.proofs.PlanLaws.{events_agree}
+use Rattle.plan_model.proofs.PlanLaws.{rows_of_events}
 use Rattle.plan_model.proofs.laws.duration_is.Goals as goal
 
 pub returns-clause-events : goal.returns-clause-events
@@ -14,8 +11,8 @@ returns-clause-events c = λ source nodes i child by ordered there. over_nodes-i
 
 pub returns-clause-rows : goal.returns-clause-rows
 returns-clause-rows c = λ source nodes i child by t ordered levelled there.
-    ap (λ m. m.rows t) (over_nodes-is nothing (λ s. by_events (source s)) node_meaning nodes ordered i (Duration child by) there)
-    ∙ ap (λ es. alive (lasting by es) t) (sym ((events_agree source nodes ordered levelled child).same_events ((levelled source i (Duration child by) there).0 refl)))
+    rows_of_events source nodes ordered levelled i t _ _ (over_nodes-is [] source node_events nodes ordered i (Duration child by) there)
+    (over_nodes-is nothing (λ s. by_events (source s)) node_meaning nodes ordered i (Duration child by) there)
 
 pub returns-clause-closing : goal.returns-clause-closing
 returns-clause-closing c = λ nodes i child by p ordered there. over_nodes-is inf (λ s. p) node_closes nodes ordered i (Duration child by) there

@@ -1,0 +1,16 @@
+use Rattle.std.specs.Prelude.{[]}
+use Rattle.std.proofs.Common.{ap}
+use Rattle.tw_rows.specs.Instant.{inf}
+use Rattle.plan_model.specs.declared.node.Node.TheVariants.{Top}
+use Rattle.plan_model.specs.Meaning.{node_events, node_closes, nothing, by_events, node_meaning}
+use Rattle.plan_model.proofs.Plans.{over_nodes-is}
+use Rattle.plan_model.proofs.laws.top_is.Goals as goal
+
+pub returns-clause-events : goal.returns-clause-events
+returns-clause-events c = λ source nodes i child by count key ordered there. over_nodes-is [] source node_events nodes ordered i (Top child key by count) there
+
+pub returns-clause-rows : goal.returns-clause-rows
+returns-clause-rows c = λ source nodes i child t by count key ordered there. ap (λ m. m.rows t) (over_nodes-is nothing (λ s. by_events (source s)) node_meaning nodes ordered i (Top child key by count) there)
+
+pub returns-clause-closing : goal.returns-clause-closing
+returns-clause-closing c = λ nodes i child p by count key ordered there. over_nodes-is inf (λ s. p) node_closes nodes ordered i (Top child key by count) there
