@@ -22,7 +22,7 @@ use Rattle.plan_model.specs.declared.node.Node.TheVariants.{Duration, Join}
 use Rattle.plan_model.specs.RowOps.{RowOps, key_in}
 use Rattle.plan_model.specs.Nodes.{node_in}
 use Rattle.plan_model.specs.Meaning.{node_events}
-use Rattle.node_laws.specs.CellOps.{datum_int, cell_ops}
+use Rattle.plan_model.specs.CellOps.{datum_int, cell_ops}
 use Rattle.node_laws.specs.Readings.{value_by}
 use Rattle.node_laws.specs.Places.{read_events, read_of, EventsArePlaced, EdgesArePlaced}
 use Rattle.node_laws.specs.Standing.{StandsRead}

@@ -15,7 +15,7 @@ use Rattle.key_nodes.proofs.Bags.{any_of_same}
 use Rattle.key_nodes.proofs.Shards.{split_sum, sum_same, total-over_shards, filter_both, alone_shards, joined_shards, clipped_shards, sessions_shards, grouped_shards}
 use Rattle.plan_model.specs.declared.agg.Agg.{Agg}
 use Rattle.plan_model.specs.declared.node.Node.{Node}
-use Rattle.plan_model.specs.declared.node.Node.TheVariants.{Source, Where, Select, Union, Delay, Hop, Duration, Extend, Session, Clip, Group, Join, Anti}
+use Rattle.plan_model.specs.declared.node.Node.TheVariants.{Source, Where, Select, Union, Delay, Hop, Duration, Extend, Session, Clip, Group, Join, Anti, Coalesce, Mean, Top, Follow}
 use Rattle.key_nodes.specs.Joins.{joined_one, joined}
 use Rattle.plan_model.specs.RowOps.{RowOps, key_in, keys_equal_in, rows_of_key_in, row_of_group_in, is_undefined_group_in, is_undefined_in}
 use Rattle.plan_model.specs.Keys.{paired_row}
@@ -96,6 +96,10 @@ module _ {X : Type 0} (ops : RowOps X) (tells : Tells ops.same) (shard : List X 
   node_shards (Hop of size period) a b h = absurd (cc)
   node_shards (Duration of by) a b h = absurd (cc)
   node_shards (Extend of by) a b h = absurd (cc)
+  node_shards (Coalesce of) a b h = absurd (cc)
+  node_shards (Mean of at) a b h = absurd (cc)
+  node_shards (Top of key by count) a b h = absurd (cc)
+  node_shards (Follow left right left_key right_key within) a b h = absurd (cc)
   node_shards (Session of timeout key) a b h = session_shards timeout key a (nat_lt 0 timeout)
   node_shards (Clip left right left_key right_key) a b h = clipped_shards (keys_equal_in ops left_key right_key) (by_key left_key) (by_key right_key) n (meet_alike left_key right_key) (λ l. low (key_in ops left_key l)) a b
   node_shards (Group of key aggs) a b h = grouped_shards (key_in ops key) ops.same ops.same (row_of_group_in ops key aggs) tells (row_of_group_is ops key aggs) shard n low a

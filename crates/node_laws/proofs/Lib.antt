@@ -7,5 +7,6 @@ pub mod Keys
 pub mod Standing
 pub mod Answers
 pub mod Steps
+pub mod Selecting
 pub mod Through
 pub mod Examples

@@ -25,7 +25,7 @@ use Rattle.tw_rows.specs.SameCells.{same_cells-Decides}
 use Rattle.plan_model.specs.RowOps.{is_undefined_in}
 use Rattle.plan_model.specs.Nodes.{event_to, events_to, node_in}
 use Rattle.plan_model.specs.Keys.{value_ops}
-use Rattle.node_laws.specs.CellOps.{cell_ops, datum_int}
+use Rattle.plan_model.specs.CellOps.{cell_ops, datum_int}
 use Rattle.node_laws.specs.Readings.{has_expressions, IsReading, value_by, AreApart}
 use Rattle.node_laws.specs.Places.{AreDistinct, read_events, EventsArePlaced}
 use Rattle.node_laws.proofs.Maps.{map_same}

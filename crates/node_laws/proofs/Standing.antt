@@ -24,7 +24,7 @@ use Rattle.edge_history.specs.History.{CellEvent, begun_one, begun, is_open, end
 use Rattle.edge_history.proofs.Retaining.{events_of_are, valid_from, AreEvents-from}
 use Rattle.plan_model.specs.RowOps.{RowOps, is_undefined_in}
 use Rattle.plan_model.specs.Nodes.{event_to, events_to, node_in}
-use Rattle.node_laws.specs.CellOps.{cell_ops}
+use Rattle.plan_model.specs.CellOps.{cell_ops}
 use Rattle.plan_model.specs.Keys.{value_ops}
 use Rattle.node_laws.specs.Readings.{has_expressions}
 use Rattle.node_laws.specs.Places.{AreDistinct, read_events, read_of, EventsArePlaced, EdgesArePlaced}
@@ -37,36 +37,41 @@ use Rattle.node_laws.proofs.Lanes.{where_read, select_read}
 use Rattle.node_laws.proofs.Answers.{answer_placed}
 use Rattle.node_laws.proofs.Places.{read_wide, place_law, node_placed, events_wide, wide_reads}
 
-placed_begun : (texts : List (List ℕ)) (h : List Edge) → EdgesArePlaced texts h → EventsArePlaced texts (begun h)
-placed_begun texts [] p = All-nil (λ e. ArePlaced texts e.row)
-placed_begun texts (x ∷ h) p = pick (not (is_end x)) (placed_begun texts h (All-tail (λ e. ArePlaced texts e.cells) x h p))
-  where
-    pick : (b : Bool) → EventsArePlaced texts (begun h) → EventsArePlaced texts (map begun_one (cond b (x ∷ filter (λ e. not (is_end e)) h) (filter (λ e. not (is_end e)) h)))
-    pick true rest = All-cons (λ e. ArePlaced texts e.row) (begun_one x) (begun h) (All-head (λ e. ArePlaced texts e.cells) x h p) rest
-    pick false rest = rest
+-- what holds of the cells of edges holds of the rows of their events
+module _ (P : List Datum → Type 0) where
+  all_begun : (h : List Edge) → All (λ e. P e.cells) h → All (λ e. P e.row) (begun h)
+  all_begun [] p = All-nil (λ e. P e.row)
+  all_begun (x ∷ h) p = pick (not (is_end x)) (all_begun h (All-tail (λ e. P e.cells) x h p))
+    where
+      pick : (b : Bool) → All (λ e. P e.row) (begun h) → All (λ e. P e.row) (map begun_one (cond b (x ∷ filter (λ e. not (is_end e)) h) (filter (λ e. not (is_end e)) h)))
+      pick true rest = All-cons (λ e. P e.row) (begun_one x) (begun h) (All-head (λ e. P e.cells) x h p) rest
+      pick false rest = rest
 
-placed_ended : (texts : List (List ℕ)) (x : Edge) (es : List CellEvent) → EventsArePlaced texts es → EventsArePlaced texts (ended x es)
-placed_ended texts x [] p = p
-placed_ended texts x (e ∷ es) p = pick (is_open x.cells x.other e) (placed_ended texts x es (All-tail (λ e. ArePlaced texts e.row) e es p))
-  where
-    pick : (b : Bool) → EventsArePlaced texts (ended x es) → EventsArePlaced texts (cond b (record { row = e.row; start = e.start; end = x.sync } ∷ es) (e ∷ ended x es))
-    pick true rest = All-cons (λ e. ArePlaced texts e.row) (record { row = e.row; start = e.start; end = x.sync }) es (All-head (λ e. ArePlaced texts e.row) e es p) (All-tail (λ e. ArePlaced texts e.row) e es p)
-    pick false rest = All-cons (λ e. ArePlaced texts e.row) e (ended x es) (All-head (λ e. ArePlaced texts e.row) e es p) rest
+  all_ended : (x : Edge) (es : List CellEvent) → All (λ e. P e.row) es → All (λ e. P e.row) (ended x es)
+  all_ended x [] p = p
+  all_ended x (e ∷ es) p = pick (is_open x.cells x.other e) (all_ended x es (All-tail (λ e. P e.row) e es p))
+    where
+      pick : (b : Bool) → All (λ e. P e.row) (ended x es) → All (λ e. P e.row) (cond b (record { row = e.row; start = e.start; end = x.sync } ∷ es) (e ∷ ended x es))
+      pick true rest = All-cons (λ e. P e.row) (record { row = e.row; start = e.start; end = x.sync }) es (All-head (λ e. P e.row) e es p) (All-tail (λ e. P e.row) e es p)
+      pick false rest = All-cons (λ e. P e.row) e (ended x es) (All-head (λ e. P e.row) e es p) rest
 
-placed_step : (texts : List (List ℕ)) (x : Edge) (es : List CellEvent) → EventsArePlaced texts es → EventsArePlaced texts (end_step x es)
-placed_step texts x es p = pick (is_end x)
-  where
-    pick : (b : Bool) → EventsArePlaced texts (cond b (ended x es) es)
-    pick true = placed_ended texts x es p
-    pick false = p
+  all_step : (x : Edge) (es : List CellEvent) → All (λ e. P e.row) es → All (λ e. P e.row) (end_step x es)
+  all_step x es p = pick (is_end x)
+    where
+      pick : (b : Bool) → All (λ e. P e.row) (cond b (ended x es) es)
+      pick true = all_ended x es p
+      pick false = p
 
-placed_all : (texts : List (List ℕ)) (h : List Edge) (es : List CellEvent) → EventsArePlaced texts es → EventsArePlaced texts (end_all h es)
-placed_all texts [] es p = p
-placed_all texts (x ∷ h) es p = placed_all texts h (end_step x es) (placed_step texts x es p)
+  all_after : (h : List Edge) (es : List CellEvent) → All (λ e. P e.row) es → All (λ e. P e.row) (end_all h es)
+  all_after [] es p = p
+  all_after (x ∷ h) es p = all_after h (end_step x es) (all_step x es p)
+
+  pub all_of : (h : List Edge) → All (λ e. P e.cells) h → All (λ e. P e.row) (of h)
+  all_of h p = all_after h (begun h) (all_begun h p)
 
 -- the events of placed edges are placed
 pub placed_of : (texts : List (List ℕ)) (h : List Edge) → EdgesArePlaced texts h → EventsArePlaced texts (of h)
-placed_of texts h p = placed_all texts h (begun h) (placed_begun texts h p)
+placed_of texts = all_of (ArePlaced texts)
 
 pub of_valid : (h : List Edge) → IsHistory h → AreEvents (of h)
 of_valid h is = AreEvents-from (of h) (valid_from h (of h) is.real (events_of_are h is))
@@ -91,13 +96,13 @@ stands_longer new old b c h es s = record {
   placed = placed_longer new old b h s.placed;
 }
 
--- edges that stand for events of placed cells stand, read, for what is read of these
-pub stands_by : (texts : List (List ℕ)) (c : ℕ) (out : List Edge) (es : List CellEvent) (rows : List (Event Row)) → c ≤ inf →
-    rows ≡ read_events texts es → EventsArePlaced texts es → AreEvents rows → StandsBelow c out es → StandsRead texts c out rows
-stands_by texts c out es rows low is placed valid s = record {
+-- placed edges that stand for events of cells stand, read, for what is read of these
+pub placed_stand : (texts : List (List ℕ)) (c : ℕ) (out : List Edge) (es : List CellEvent) (rows : List (Event Row)) → c ≤ inf →
+    rows ≡ read_events texts es → EdgesArePlaced texts out → AreEvents rows → StandsBelow c out es → StandsRead texts c out rows
+placed_stand texts c out es rows low is placed valid s = record {
   history = s.history;
   below = s.below;
-  placed = answer_placed texts c out es s placed;
+  placed = placed;
   known = record {
     low = low;
     left_valid = AreEvents-to (read_cells texts) (of out) (of_valid out s.history);
@@ -109,7 +114,12 @@ stands_by texts c out es rows low is placed valid s = record {
   };
 }
 
-node_valid : (texts : List (List ℕ)) (n : Node) (hl hr : List Edge) → IsHistory hl → IsHistory hr → AreEvents (node_events n (read_of texts hl) (read_of texts hr))
+-- so do edges that stand for events of placed cells
+pub stands_by : (texts : List (List ℕ)) (c : ℕ) (out : List Edge) (es : List CellEvent) (rows : List (Event Row)) → c ≤ inf →
+    rows ≡ read_events texts es → EventsArePlaced texts es → AreEvents rows → StandsBelow c out es → StandsRead texts c out rows
+stands_by texts c out es rows low is placed valid s = placed_stand texts c out es rows low is (answer_placed texts c out es s placed) valid s
+
+pub node_valid : (texts : List (List ℕ)) (n : Node) (hl hr : List Edge) → IsHistory hl → IsHistory hr → AreEvents (node_events n (read_of texts hl) (read_of texts hr))
 node_valid texts n hl hr il ir =
     (node_known n inf inf (read_of texts hl) (read_of texts hr) (read_of texts hl) (read_of texts hr)
     (Known-refl inf (read_of texts hl) (omega arith) (AreEvents-to (read_cells texts) (of hl) (of_valid hl il)))
@@ -117,6 +127,9 @@ node_valid texts n hl hr il ir =
 
 pub no_history : IsHistory []
 no_history = record { order = tt; real = refl; paired = λ cells start. omega arith }
+
+pub none_stand : (texts : List (List ℕ)) (c : ℕ) → c ≤ inf → StandsRead texts c [] []
+none_stand texts c low = record { history = no_history; below = refl; placed = All-nil (λ e. ArePlaced texts e.cells); known = Known-refl c [] low tt }
 
 -- Where and Select, by a test and a selection of cells that agree with those of rows
 pub stands_where : (texts : List (List ℕ)) (child : ℕ) (test : List ExprNode) (p : List Datum → Bool) → ((ds : List Datum) → ArePlaced texts ds → p ds ≡ holds test (read_cells texts ds)) →

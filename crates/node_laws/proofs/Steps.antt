@@ -1,12 +1,12 @@
 -- What an operator keeps of its node, what its answers stand for, and its step.
-use Rattle.std.specs.Prelude.{◌≡◌, ℕ, ◌+◌, ◌*◌, ◌/◌, zero, suc, ◌≤◌, nat_lt, Bool, true, false, cond, List, [], ◌++◌, refl}
+use Rattle.std.specs.Prelude.{◌≡◌, ℕ, ◌+◌, ◌*◌, ◌/◌, zero, suc, ◌≤◌, nat_lt, Bool, true, false, cond, List, [], ◌++◌, flat_map, refl}
 use Rattle.std.proofs.Common.{sym, ◌∙◌, ap, arith, div-mul-le_self, mul-le-mul_left}
 use Rattle.std.proofs.lemmas.Nat.{le-div}
 use Rattle.std.proofs.lemmas.Bool.Decides.{nat_tests}
 use Rattle.std.proofs.lemmas.List.Elements.{All-nil}
 use Rattle.tw_rows.specs.Instant.{inf, floor_to}
 use Rattle.tw_rows.specs.Bag.{total, SameBag}
-use Rattle.tw_rows.specs.Event.{Event, AreEvents, Known}
+use Rattle.tw_rows.specs.Event.{Event, alive, AreEvents, Known}
 use Rattle.tw_rows.specs.Texts.{BeginsWith}
 use Rattle.tw_rows.specs.Cells.{ArePlaced}
 use Rattle.tw_rows.specs.declared.cells.Datum.{Datum}
@@ -15,7 +15,7 @@ use Rattle.tw_rows.proofs.Bags.{SameBag-refl}
 use Rattle.tw_rows.proofs.Knowing.{Known-refl}
 use Rattle.plan_model.specs.declared.expr.ExprNode.{ExprNode}
 use Rattle.plan_model.specs.declared.node.Node.{Node}
-use Rattle.plan_model.specs.declared.node.Node.TheVariants.{Source, Where, Select, Union, Delay, Hop, Duration, Extend, Session, Clip, Group, Join, Anti}
+use Rattle.plan_model.specs.declared.node.Node.TheVariants.{Source, Where, Select, Union, Delay, Hop, Duration, Extend, Session, Clip, Group, Join, Anti, Coalesce, Mean, Top, Follow}
 use Rattle.plan_model.specs.Meaning.{node_events, node_closes}
 use Rattle.edge_history.specs.Order.{is_from, is_below, is_real, failing, Rises, IsHistory}
 use Rattle.edge_history.specs.History.{CellEvent, of, StandsBelow}
@@ -26,12 +26,15 @@ use Rattle.edge_history.proofs.Standing.{told_stands}
 use Rattle.edge_history.proofs.Sums.{failing-parts}
 use Rattle.edge_history.proofs.Telling.{told_more, told_same, told_below, told_history, answer_from}
 use Rattle.plan_model.specs.Nodes.{node_in}
-use Rattle.node_laws.specs.CellOps.{cell_ops}
+use Rattle.plan_model.specs.CellOps.{cell_ops}
 use Rattle.node_laws.specs.Readings.{has_expressions}
 use Rattle.node_laws.specs.Places.{AreDistinct, read_of, EventsArePlaced, EdgesArePlaced}
 use Rattle.node_laws.specs.Standing.{StandsRead}
 use Rattle.node_laws.specs.Keeping.{Keeps}
-use Rattle.plan_model.specs.RowOps.{RowOps}
+use Rattle.key_nodes.specs.Groups.{distinct}
+use Rattle.key_nodes.specs.Coalesced.{row_events, rows_below, coalesced}
+use Rattle.key_nodes.specs.Tops.{top_rows}
+use Rattle.plan_model.specs.RowOps.{RowOps, keys_equal_in, int_in}
 use Rattle.plan_model.proofs.Causal.{node_in_known}
 use Rattle.node_laws.proofs.Places.{node_placed}
 use Rattle.node_laws.proofs.Answers.{answer_placed}
@@ -58,6 +61,18 @@ node_rises (Clip left right left_key right_key) x y u v a b low = omega arith
 node_rises (Group of_it key aggs) x y u v a b low = a
 node_rises (Join left right left_key right_key) x y u v a b low = omega arith
 node_rises (Anti left right left_key right_key) x y u v a b low = omega arith
+node_rises (Coalesce of_it) x y u v a b low = a
+node_rises (Mean of_it at) x y u v a b low = a
+node_rises (Top of_it key by count) x y u v a b low = a
+node_rises (Follow left right left_key right_key within) x y u v a b low = omega arith
+
+-- without rows there are no coalesced events
+below_none : {R : Type 0} (rows : ℕ → List R) → ((t : ℕ) → rows t ≡ []) → (n : ℕ) → rows_below rows n ≡ []
+below_none rows h zero = refl
+below_none rows h (suc n) = ap (λ l. l ++ rows n) (below_none rows h n) ∙ h n
+
+coalesced_none : {R : Type 0} (same : R → R → Bool) (rows : ℕ → List R) → ((t : ℕ) → rows t ≡ []) → coalesced same rows ≡ []
+coalesced_none same rows h = ap (λ l. flat_map (row_events same rows inf) (distinct same l)) (below_none rows h inf)
 
 -- a node of no events has none
 pub node_of_none : {X : Type 0} (ops : RowOps X) (n : Node) → node_in ops n [] [] ≡ []
@@ -78,6 +93,10 @@ node_of_none ops (Clip left right left_key right_key) = refl
 node_of_none ops (Group of_it key aggs) = refl
 node_of_none ops (Join left right left_key right_key) = refl
 node_of_none ops (Anti left right left_key right_key) = refl
+node_of_none ops (Coalesce of_it) = coalesced_none ops.same (alive []) (λ t. refl)
+node_of_none ops (Mean of_it at) = refl
+node_of_none ops (Top of_it key by count) = coalesced_none ops.same (λ t. top_rows (keys_equal_in ops key key) (int_in ops by) count (alive [] t)) (λ t. refl)
+node_of_none ops (Follow left right left_key right_key within) = refl
 
 pub told_none : (c : ℕ) → Told c [] []
 told_none c = record { order = tt; settled = refl; stands = SameBag-refl [] }

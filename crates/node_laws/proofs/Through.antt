@@ -2,25 +2,19 @@
 use Rattle.std.specs.Prelude.{◌≡◌, ℕ, suc, ◌<◌, Option, Some, None, List, [], slice_get, refl}
 use Rattle.std.proofs.Common.{sym, subst, arith, inl, inr}
 use Rattle.std.proofs.lemmas.Bool.{cases_lt}
-use Rattle.std.proofs.lemmas.List.Elements.{All-nil}
 use Rattle.tw_rows.specs.Instant.{inf}
 use Rattle.tw_rows.specs.Event.{Event}
 use Rattle.tw_rows.specs.Rows.{Row}
-use Rattle.tw_rows.specs.Cells.{ArePlaced}
 use Rattle.tw_rows.specs.declared.edge.Edge.{Edge}
-use Rattle.tw_rows.proofs.Knowing.{Known-refl}
 use Rattle.plan_model.specs.declared.node.Node.{Node}
 use Rattle.plan_model.specs.Shape.{Shape, Stream, One, Two, shape, left_in, at_child, left_child, right_child, read_left, left_of, right_of, HasLower, IsOrdered}
 use Rattle.plan_model.specs.Meaning.{Sources, node_events, node_closes, closes, events}
 use Rattle.plan_model.proofs.Plans.{over_nodes-is}
 use Rattle.node_laws.specs.Places.{read_of}
 use Rattle.node_laws.specs.Standing.{StandsRead, SourcesStandRead, AllStandRead}
-use Rattle.node_laws.proofs.Standing.{no_history, stands_of_sides}
+use Rattle.node_laws.proofs.Standing.{none_stand, stands_of_sides}
 
 module _ (texts : List (List ℕ)) (nodes : List Node) (ordered : IsOrdered nodes) (p : ℕ) (source : Sources) (given lists : ℕ → List Edge) (from : SourcesStandRead texts p source given) where
-  nothing_stands : StandsRead texts inf [] []
-  nothing_stands = record { history = no_history; below = refl; placed = All-nil (λ e. ArePlaced texts e.cells); known = Known-refl inf [] (omega arith) tt }
-
   left_at : (i : ℕ) (s : Shape) → HasLower i (left_in s) → AllStandRead texts nodes p source lists i →
       StandsRead texts (read_left inf (λ k. p) (λ k. closes nodes k p) s) (read_left [] given lists s) (read_left [] source (events source nodes) s)
   left_at i (Stream stream) low through = from stream
@@ -29,7 +23,7 @@ module _ (texts : List (List ℕ)) (nodes : List Node) (ordered : IsOrdered node
 
   child_at : (i : ℕ) (o : Option ℕ) → HasLower i o → AllStandRead texts nodes p source lists i →
       StandsRead texts (at_child inf (λ k. closes nodes k p) o) (at_child [] lists o) (at_child [] (events source nodes) o)
-  child_at i None low through = nothing_stands
+  child_at i None low through = none_stand texts inf (omega arith)
   child_at i (Some child) low through = through child low
 
   -- what a node reads on the left, and on the right

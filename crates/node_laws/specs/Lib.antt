@@ -1,7 +1,7 @@
 -- Contracts of other crates read all of these; Shards is read by those of shards alone
-pub mod CellOps
 pub mod Readings
 pub mod Places
 pub mod Standing
 pub mod Keeping
+pub mod Selected
 pub mod Shards

@@ -6,6 +6,7 @@
 mod key_laws;
 mod map_laws;
 mod reading_laws;
+mod select_laws;
 mod standing_laws;
 mod step_laws;
 mod through_laws;
@@ -18,6 +19,7 @@ pub use map_laws::{
 pub use reading_laws::{
     nodes_commute_with_readings, nodes_commute_with_tables, nodes_commute_with_texts_of_places,
 };
+pub use select_laws::{selected_edges_stand_read, tested_edges_stand_read};
 pub use standing_laws::{
     answers_stand_read, longer_tables_read_the_same, places_stay_in_the_table,
     sides_may_be_what_they_stand_for, standing_edges_stand_read,

@@ -11,7 +11,7 @@ ghost use Rattle.plan_model.specs.Groups.{is_undefined};
 ghost use Rattle.plan_model.specs.Meaning.{node_events};
 ghost use Rattle.plan_model.specs.RowOps.{RowOps, is_undefined_in};
 ghost use Rattle.plan_model.specs.Nodes.{events_to, node_in};
-ghost use Rattle.node_laws.specs.CellOps.{cell_ops};
+ghost use Rattle.plan_model.specs.CellOps.{cell_ops};
 ghost use Rattle.node_laws.specs.Readings.{has_expressions, IsReading, AreApart, value_by};
 ghost use Rattle.node_laws.specs.Places.{AreDistinct, read_events, read_of, EventsArePlaced, EdgesArePlaced};
 

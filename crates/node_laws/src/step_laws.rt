@@ -13,7 +13,7 @@ ghost use Rattle.plan_model.specs.declared.node.Node.{Node};
 ghost use Rattle.plan_model.specs.Meaning.{node_events, node_closes};
 ghost use Rattle.plan_model.specs.RowOps.{RowOps};
 ghost use Rattle.plan_model.specs.Nodes.{node_in};
-ghost use Rattle.node_laws.specs.CellOps.{cell_ops};
+ghost use Rattle.plan_model.specs.CellOps.{cell_ops};
 ghost use Rattle.node_laws.specs.Readings.{has_expressions};
 ghost use Rattle.node_laws.specs.Places.{AreDistinct, read_of, EdgesArePlaced};
 ghost use Rattle.node_laws.specs.Standing.{StandsRead};

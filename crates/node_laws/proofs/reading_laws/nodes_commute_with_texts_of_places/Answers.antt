@@ -1,5 +1,5 @@
 use Rattle.plan_model.specs.Keys.{value_ops}
-use Rattle.node_laws.specs.CellOps.{cell_ops}
+use Rattle.plan_model.specs.CellOps.{cell_ops}
 use Rattle.node_laws.specs.Readings.{value_by}
 use Rattle.node_laws.proofs.Reading.{node_read, undefined_read}
 use Rattle.node_laws.proofs.Places.{value_by_reads}

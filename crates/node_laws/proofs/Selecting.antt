@@ -1,0 +1,120 @@
+-- The edges of a Where and of a Select stand for the events of these.
+use Rattle.std.specs.Prelude.{◌≡◌, ◌≢◌, ℕ, ◌<◌, ◌≤◌, Bool, true, false, cond, not, List, [], ◌∷◌, ◌++◌, All, map, filter, length, refl}
+use Rattle.std.specs.Str.{bytes_eq}
+use Rattle.std.specs.List.{position_or_len}
+use Rattle.std.proofs.Common.{sym, ◌∙◌, ap, subst, arith, get_or}
+use Rattle.std.proofs.lemmas.Bool.{false_from_ne_true}
+use Rattle.std.proofs.lemmas.List.{map-append}
+use Rattle.std.proofs.lemmas.List.Elements.{All-cons, All-head, All-tail, All-nil, filter-append}
+use Rattle.std.proofs.lemmas.List.Sums.{position_or_len_is}
+use Rattle.std.proofs.lemmas.Slice.Eq.{bytes_eq-Decides}
+use Rattle.tw_rows.specs.Instant.{inf}
+use Rattle.tw_rows.specs.Bag.{SameBag}
+use Rattle.tw_rows.specs.Event.{Event, cut}
+use Rattle.tw_rows.specs.Rows.{Row}
+use Rattle.tw_rows.specs.declared.row.Value.{Value}
+use Rattle.tw_rows.specs.declared.row.Value.TheVariants.{Int, Bool as Flag, Text}
+use Rattle.tw_rows.specs.declared.cells.Datum.{Datum}
+use Rattle.tw_rows.specs.declared.cells.Datum.TheVariants.{Int as IntDatum, Bool as FlagDatum, Text as PlaceDatum}
+use Rattle.tw_rows.specs.declared.edge.Edge.{Edge}
+use Rattle.tw_rows.specs.Cells.{IsPlaced, ArePlaced, read_datum, read_cells}
+use Rattle.tw_rows.proofs.Bags.{SameBag-refl}
+use Rattle.edge_history.specs.Order.{IsHistory}
+use Rattle.edge_history.specs.History.{CellEvent, of, StandsBelow}
+use Rattle.edge_history.specs.Made.{edges_where, edges_with, events_where, events_with, edge_with}
+use Rattle.edge_history.proofs.Made.{stands_with, stands_where as stand_where}
+use Rattle.plan_model.specs.declared.expr.ExprNode.{ExprNode}
+use Rattle.plan_model.specs.declared.node.Node.TheVariants.{Where, Select}
+use Rattle.plan_model.specs.Expr.{holds, selected_row}
+use Rattle.plan_model.specs.Meaning.{node_events}
+use Rattle.plan_model.specs.Nodes.{event_to, events_to}
+use Rattle.node_laws.specs.Places.{AreDistinct, read_events, read_of, EventsArePlaced, EdgesArePlaced}
+use Rattle.node_laws.specs.Standing.{StandsRead}
+use Rattle.node_laws.specs.Selected.{read_edge, selected_edge, tested_edges, AreSelected}
+use Rattle.node_laws.proofs.Standing.{all_of, placed_stand, node_valid, no_history, none_stand, stands_where, stands_of_sides}
+
+-- the datum of a value: of a text its place in the table
+abbrev datum_of : List (List ℕ) → Value → Datum
+datum_of texts (Int x) = IntDatum x
+datum_of texts (Flag b) = FlagDatum b
+datum_of texts (Text t) = PlaceDatum (position_or_len (bytes_eq t) texts)
+
+abbrev cells_of : List (List ℕ) → Row → List Datum
+cells_of texts row = map (datum_of texts) row
+
+-- the place of a text of a distinct table is where it stands
+place_again : (texts : List (List ℕ)) → AreDistinct texts → (i : ℕ) → i < length texts → position_or_len (bytes_eq (get_or texts i [])) texts ≡ i
+place_again texts apart i low =
+    position_or_len_is (bytes_eq (get_or texts i [])) texts i [] (omega (arith, low))
+    (λ k before. false_from_ne_true (bytes_eq (get_or texts i []) (get_or texts k [])) (λ same. apart k i [] before low (sym ((bytes_eq-Decides (get_or texts i []) (get_or texts k [])).0 same))))
+    (λ inside. (bytes_eq-Decides (get_or texts i []) (get_or texts i [])).1 refl)
+
+datum_again : (texts : List (List ℕ)) → AreDistinct texts → (d : Datum) → IsPlaced texts d → datum_of texts (read_datum texts d) ≡ d
+datum_again texts apart (IntDatum x) h = refl
+datum_again texts apart (FlagDatum x) h = refl
+datum_again texts apart (PlaceDatum x) h = ap PlaceDatum (place_again texts apart x h)
+
+cells_again : (texts : List (List ℕ)) → AreDistinct texts → (ds : List Datum) → ArePlaced texts ds → cells_of texts (read_cells texts ds) ≡ ds
+cells_again texts apart [] h = refl
+cells_again texts apart (d ∷ ds) h = let x = datum_again texts apart d h.0 in let y = cells_again texts apart ds h.1 in λ i. x i ∷ y i
+
+module _ (texts : List (List ℕ)) (apart : AreDistinct texts) (items : List (List ExprNode)) where
+  -- the cells that read as the values of the items on what is read of cells
+  abbrev made_of : List Datum → List Datum
+  made_of ds = cells_of texts (selected_row items (read_cells texts ds))
+
+  -- such cells read so
+  abbrev Reads : List Datum → Type 0
+  Reads ds = read_cells texts (made_of ds) ≡ selected_row items (read_cells texts ds)
+
+  edges_made : (h out : List Edge) → EdgesArePlaced texts out → AreSelected texts items h out → (out ≡ edges_with made_of h) × All (λ e. Reads e.cells) h
+  edges_made [] [] p s = (refl, All-nil (λ e. Reads e.cells))
+  edges_made [] (o ∷ out) p s = absurd (cc)
+  edges_made (e ∷ h) [] p s = absurd (cc)
+  edges_made (e ∷ h) (o ∷ out) p s =
+      let first : read_edge texts o ≡ selected_edge texts items e = cc in
+      let rest : map (read_edge texts) out ≡ map (selected_edge texts items) h = cc in
+      let row : read_cells texts o.cells ≡ selected_row items (read_cells texts e.cells) = ap (λ x. x.row) first in
+      let sync : o.sync ≡ e.sync = ap (λ x. x.sync) first in
+      let other : o.other ≡ e.other = ap (λ x. x.other) first in
+      let cells : o.cells ≡ made_of e.cells = sym (cells_again texts apart o.cells (All-head (λ x. ArePlaced texts x.cells) o out p)) ∙ ap (cells_of texts) row in
+      let more = edges_made h out (All-tail (λ x. ArePlaced texts x.cells) o out p) rest in
+      let same = more.0 in (
+        (λ i. record { sync = sync i; other = other i; cells = cells i } ∷ same i),
+        All-cons (λ x. Reads x.cells) e h (ap (read_cells texts) (sym cells) ∙ row) more.1,
+      )
+
+  events_made : (es : List CellEvent) → All (λ e. Reads e.row) es → events_to (selected_row items) (read_events texts es) ≡ read_events texts (events_with made_of es)
+  events_made [] h = refl
+  events_made (e ∷ es) h =
+      let x = All-head (λ e. Reads e.row) e es h in
+      let y = events_made es (All-tail (λ e. Reads e.row) e es h) in
+      λ i. record { row = sym x i; start = e.start; end = e.end } ∷ y i
+
+  pub selected_stand : (child c : ℕ) (h out : List Edge) (rows : List (Event Row)) → EdgesArePlaced texts out → AreSelected texts items h out →
+      StandsRead texts c h rows → StandsRead texts c out (node_events (Select child items) rows [])
+  selected_stand child c h out rows p s stands =
+      let made = edges_made h out p s in
+      let own : StandsBelow c h (of h) = record { history = stands.history; below = stands.below; same = SameBag-refl (cut c (of h)) } in
+      let cells : StandsBelow c out (events_with made_of (of h)) = subst (λ o. StandsBelow c o (events_with made_of (of h))) (sym made.0) (stands_with made_of c h (of h) own) in
+      let read = events_made (of h) (all_of Reads h made.1) in
+      let valid = node_valid texts (Select child items) h [] stands.history no_history in
+      let answer = placed_stand texts c out (events_with made_of (of h)) (events_to (selected_row items) (read_of texts h)) stands.known.low read p valid cells in
+      stands_of_sides texts (Select child items) c c h [] out rows [] stands (none_stand texts c stands.known.low) answer
+
+pub tested_stand : (texts : List (List ℕ)) (child c : ℕ) (test : List ExprNode) (h : List Edge) (rows : List (Event Row)) →
+    StandsRead texts c h rows → StandsRead texts c (tested_edges texts test h) (node_events (Where child test) rows [])
+tested_stand texts child c test h rows stands =
+    let own : StandsBelow c h (of h) = record { history = stands.history; below = stands.below; same = SameBag-refl (cut c (of h)) } in
+    let p : List Datum → Bool = λ ds. holds test (read_cells texts ds) in
+    let answer = stands_where texts child test p (λ ds k. refl) c h (edges_where p h) stands.known.low stands.history stands.placed (stand_where p c h (of h) own) in
+    stands_of_sides texts (Where child test) c c h [] (edges_where p h) rows [] stands (none_stand texts c stands.known.low) answer
+
+-- both are made step by step
+pub selected_more : (texts : List (List ℕ)) (items : List (List ExprNode)) (h out l more : List Edge) → AreSelected texts items h out → AreSelected texts items l more → AreSelected texts items (h ++ l) (out ++ more)
+selected_more texts items h out l more s t =
+    map-append (read_edge texts) out more
+    ∙ (ap (λ x. x ++ map (read_edge texts) more) s ∙ (ap (λ x. map (selected_edge texts items) h ++ x) t ∙ sym (map-append (selected_edge texts items) h l)))
+
+pub tested_more : (texts : List (List ℕ)) (test : List ExprNode) (h l : List Edge) → tested_edges texts test (h ++ l) ≡ tested_edges texts test h ++ tested_edges texts test l
+tested_more texts test h l = filter-append (λ e. holds test (read_cells texts e.cells)) h l

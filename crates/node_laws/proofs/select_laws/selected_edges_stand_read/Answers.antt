@@ -1,0 +1,8 @@
+use Rattle.node_laws.proofs.Selecting.{selected_stand, selected_more}
+use Rattle.node_laws.proofs.select_laws.selected_edges_stand_read.Goals as goal
+
+pub returns-clause-stands : goal.returns-clause-stands
+returns-clause-stands c = selected_stand
+
+pub returns-clause-more : goal.returns-clause-more
+returns-clause-more c = selected_more
