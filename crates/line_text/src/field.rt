@@ -1,0 +1,98 @@
+// Fields: values, times and texts.
+ghost use Rattle.std.specs.Prelude.{◌≡◌, ◌++◌, ◌∷◌, [], OnOk, OnErr};
+ghost use Rattle.csv.specs.Writing.{default_writer, field_text, needs_byte, escaped};
+ghost use Rattle.line_text.specs.Fields.{value_text, time_text, places_of};
+ghost use Rattle.line_text.specs.Record.{Begins};
+
+use crate::number::push_number;
+use itoa::Buffer;
+use tw_rows::{Kind, Memory, Time, Value};
+
+/// Whether a field with that byte stands between double quotes.
+fn needs_quotes(byte: u8) -> bool
+    ensures { result ≡ needs_byte default_writer byte }
+{
+    matches!(byte, b'"' | b',' | b'\n' | b'\r')
+}
+
+#[tactic(auto, unfolding(csv::specs::Writing::escaped), using(crate::proofs::Begin::begin_steps))]
+fn push_doubled_byte(out: &mut Vec<u8>, byte: u8) -> Result<(), Memory>
+    ensures ok { OnOk result (out.new.items ≡ out.old.items ++ escaped default_writer (byte ∷ [])) }
+    ensures err { OnErr result (Begins out.old.items out.new.items) }
+{
+    if byte == b'"' {
+        out.extend_from_slice(b"\"\"")?;
+    } else {
+        out.push(byte)?;
+    }
+    Ok(())
+}
+
+/// Appends the text, each double quote doubled.
+#[tactic(auto, using(crate::proofs::Begin::begin_steps))]
+fn push_doubled(out: &mut Vec<u8>, text: &[u8]) -> Result<(), Memory>
+    ensures ok { OnOk result (out.new.items ≡ out.old.items ++ escaped default_writer text.now) }
+    ensures err { OnErr result (Begins out.old.items out.new.items) }
+{
+    for byte in text {
+        push_doubled_byte(out, *byte)?;
+    }
+    Ok(())
+}
+
+/// Appends the text as a field: as it stands, or between double quotes where it needs them.
+#[tactic(auto, using(crate::proofs::Begin::begin_steps))]
+pub fn push_text(out: &mut Vec<u8>, text: &str) -> Result<(), Memory>
+    ensures ok { OnOk result (out.new.items ≡ out.old.items ++ field_text default_writer text.now) }
+    ensures err { OnErr result (Begins out.old.items out.new.items) }
+{
+    let bytes = text.as_bytes();
+    if bytes.iter().any(|byte| needs_quotes(*byte)) {
+        out.push(b'"')?;
+        push_doubled(out, bytes)?;
+        out.push(b'"')?;
+    } else {
+        out.extend_from_slice(bytes)?;
+    }
+    Ok(())
+}
+
+/// How many places the numbers of the kind have.
+fn places_of(kind: Kind) -> u8
+    ensures { result ≡ places_of kind }
+{
+    match kind {
+        Kind::Dec(places) => places,
+        Kind::Int | Kind::Bool | Kind::Text => 0,
+    }
+}
+
+/// Appends a value of a column of that kind as a field.
+#[tactic(auto, using(crate::proofs::Begin::begin_steps))]
+pub fn push_value(out: &mut Vec<u8>, kind: Kind, value: &Value) -> Result<(), Memory>
+    ensures ok { OnOk result (out.new.items ≡ out.old.items ++ field_text default_writer (value_text kind value.now)) }
+    ensures err { OnErr result (Begins out.old.items out.new.items) }
+{
+    match value {
+        Value::Int(number) => push_number(out, places_of(kind), *number)?,
+        Value::Bool(true) => out.extend_from_slice(b"true")?,
+        Value::Bool(false) => out.extend_from_slice(b"false")?,
+        Value::Text(text) => push_text(out, text.as_str())?,
+    }
+    Ok(())
+}
+
+/// Appends the time as a field.
+pub fn push_time(out: &mut Vec<u8>, time: Time) -> Result<(), Memory>
+    ensures ok { OnOk result (out.new.items ≡ out.old.items ++ time_text time) }
+    ensures err { OnErr result (Begins out.old.items out.new.items) }
+{
+    match time.get() {
+        Some(number) => {
+            let mut buffer = Buffer::new();
+            out.extend_from_slice(buffer.format(number).as_bytes())?;
+        }
+        None => out.extend_from_slice(b"inf")?,
+    }
+    Ok(())
+}

@@ -1,0 +1,9 @@
+// What a line says of an event.
+
+/// What a line says of an event: its whole life, that it starts, or that it ends.
+#[derive(Clone, Copy, Debug, PartialEq, Eq)]
+pub enum Form {
+    Interval,
+    Start,
+    End,
+}

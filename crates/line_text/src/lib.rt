@@ -1,0 +1,12 @@
+//! Lines of output: how a value, a time and an event are spelled, appended to one growing buffer.
+#![tactic(auto)]
+
+mod field;
+mod form;
+mod line;
+mod number;
+
+pub use field::{push_text, push_time, push_value};
+pub use form::Form;
+pub use line::{push_event, push_punctuation};
+pub use number::push_number;

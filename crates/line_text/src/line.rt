@@ -1,0 +1,158 @@
+// Lines of events and of punctuations.
+ghost use Rattle.std.specs.Prelude.{◌≡◌, ◌++◌, ◌∷◌, [], List, ℕ, OnOk, OnErr, map};
+ghost use Rattle.csv.specs.Writing.{default_writer, field_text, fields_text};
+ghost use Rattle.line_text.specs.Fields.{form_text, time_text, row_texts, event_fields, punctuation_fields};
+ghost use Rattle.line_text.specs.Record.{record_text, Begins};
+
+use crate::field::{push_text, push_time, push_value};
+use crate::form::Form;
+use tw_rows::{Kind, Memory, Row, Time, Value};
+
+fn word_of(form: Form) -> &'static str
+    ensures { result.now ≡ form_text form }
+{
+    match form {
+        Form::Interval => "interval",
+        Form::Start => "start",
+        Form::End => "end",
+    }
+}
+
+/// Appends the form and both times, a comma before each.
+#[tactic(auto, using(crate::proofs::Begin::begin_steps))]
+fn push_life(out: &mut Vec<u8>, form: Form, sync: Time, other: Time) -> Result<(), Memory>
+    ensures ok { OnOk result (out.new.items ≡ out.old.items ++ fields_text default_writer (form_text form ∷ time_text sync ∷ time_text other ∷ [])) }
+    ensures err { OnErr result (Begins out.old.items out.new.items) }
+{
+    out.push(b',')?;
+    out.extend_from_slice(word_of(form).as_bytes())?;
+    out.push(b',')?;
+    push_time(out, sync)?;
+    out.push(b',')?;
+    push_time(out, other)?;
+    Ok(())
+}
+
+/// Appends the values, a comma before each.
+#[tactic(auto, using(crate::proofs::Begin::begin_steps))]
+fn push_values(out: &mut Vec<u8>, kinds: &[Kind], values: &[Value]) -> Result<(), Memory>
+    ensures ok { OnOk result (out.new.items ≡ out.old.items ++ fields_text default_writer (row_texts kinds.now values.now)) }
+    ensures err { OnErr result (Begins out.old.items out.new.items) }
+{
+    for (kind, value) in kinds.iter().zip(values) {
+        out.push(b',')?;
+        push_value(out, *kind, value)?;
+    }
+    Ok(())
+}
+
+#[tactic(auto, using(crate::proofs::Begin::begin_steps))]
+fn push_event_fields(
+    out: &mut Vec<u8>,
+    name: &str,
+    form: Form,
+    sync: Time,
+    other: Time,
+    kinds: &[Kind],
+    row: &Row,
+) -> Result<(), Memory>
+    ensures ok { OnOk result (out.new.items ≡ out.old.items ++ record_text (event_fields kinds.now name.now form sync other row.now)) }
+    ensures err { OnErr result (Begins out.old.items out.new.items) }
+{
+    push_text(out, name)?;
+    push_life(out, form, sync, other)?;
+    push_values(out, kinds, row.values())?;
+    out.push(b'\n')?;
+    Ok(())
+}
+
+/// Appends the line that says this of an event of a row with columns of these kinds. Where memory is wanting, nothing is
+/// appended.
+#[tactic(auto, using(crate::proofs::Begin::Begins_take))]
+pub fn push_event(
+    out: &mut Vec<u8>,
+    name: &str,
+    form: Form,
+    sync: Time,
+    other: Time,
+    kinds: &[Kind],
+    row: &Row,
+) -> Result<(), Memory>
+    ensures ok { OnOk result (out.new.items ≡ out.old.items ++ record_text (event_fields kinds.now name.now form sync other row.now)) }
+    ensures err { OnErr result (out.new.items ≡ out.old.items) }
+{
+    let before = out.len();
+    let pushed = push_event_fields(out, name, form, sync, other, kinds, row);
+    if pushed.is_err() {
+        out.truncate(before);
+    }
+    pushed
+}
+
+#[tactic(auto, using(crate::proofs::Begin::begin_steps))]
+fn push_punctuation_fields(out: &mut Vec<u8>, name: &str, time: Time) -> Result<(), Memory>
+    ensures ok { OnOk result (out.new.items ≡ out.old.items ++ record_text (punctuation_fields name.now time)) }
+    ensures err { OnErr result (Begins out.old.items out.new.items) }
+{
+    push_text(out, name)?;
+    out.extend_from_slice(b",punct,")?;
+    push_time(out, time)?;
+    out.push(b'\n')?;
+    Ok(())
+}
+
+/// Appends the line that says that no event before the time comes any more, of the stream of that name, or of any stream
+/// for `*`. Where memory is wanting, nothing is appended.
+#[tactic(auto, using(crate::proofs::Begin::Begins_take))]
+pub fn push_punctuation(out: &mut Vec<u8>, name: &str, time: Time) -> Result<(), Memory>
+    ensures ok { OnOk result (out.new.items ≡ out.old.items ++ record_text (punctuation_fields name.now time)) }
+    ensures err { OnErr result (out.new.items ≡ out.old.items) }
+{
+    let before = out.len();
+    let pushed = push_punctuation_fields(out, name, time);
+    if pushed.is_err() {
+        out.truncate(before);
+    }
+    pushed
+}
+
+#[cfg(test)]
+mod tests {
+    use super::{push_event, push_punctuation};
+    use crate::form::Form;
+    use std::alloc::Global;
+    use tw_rows::{Kind, Label, Memory, Row, Time, Value};
+
+    /// A row of each kind of value.
+    fn row(alloc: Global) -> Result<Row, Memory> {
+        let mut values = Vec::new(alloc);
+        values.push(Value::Text(Label::new(alloc, "a,b")?))?;
+        values.push(Value::Int(-5))?;
+        values.push(Value::Int(-5))?;
+        values.push(Value::Bool(true))?;
+        values.push(Value::Text(Label::new(alloc, "c\"d")?))?;
+        Ok(Row::from_vec(values))
+    }
+
+    /// An interval of that row, and a punctuation.
+    fn lines(alloc: Global) -> Result<Vec<u8>, Memory> {
+        let row = row(alloc)?;
+        let kinds = [Kind::Text, Kind::Int, Kind::Dec(2), Kind::Bool, Kind::Text];
+        let (start, end) = Time::bounds();
+        let mut out = Vec::new(alloc);
+        push_event(&mut out, "s", Form::Interval, start, end, &kinds, &row)?;
+        push_punctuation(&mut out, "*", end)?;
+        Ok(out)
+    }
+
+    #[test]
+    fn each_kind_of_value(rt: HostRuntime) {
+        match lines(rt.alloc()) {
+            Ok(out) => {
+                let expected = "s,interval,0,inf,\"a,b\",-5,-0.05,true,\"c\"\"d\"\n*,punct,inf\n";
+                assert!(rt; out.as_slice() == expected.as_bytes());
+            }
+            Err(_) => panic!(rt; "no memory"),
+        }
+    }
+}
