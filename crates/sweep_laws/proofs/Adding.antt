@@ -12,7 +12,7 @@ use Rattle.edge_history.specs.Order.{is_end, many}
 use Rattle.edge_history.specs.Opens.{ended_of, started_of, ended_rows, started_rows, is_held}
 use Rattle.sweep_laws.specs.Moves.{Adds, told_at}
 
-append_none : (es : List Edge) → es ++ [] ≡ es
+pub append_none : (es : List Edge) → es ++ [] ≡ es
 append_none [] = refl
 append_none (e ∷ es) = ap (λ l. e ∷ l) (append_none es)
 

@@ -8,3 +8,8 @@ pub mod PairsTold
 pub mod JoinInstants
 pub mod JoinTelling
 pub mod Joins
+pub mod RunTells
+pub mod RunOrder
+pub mod GroupSweeps
+pub mod Passing
+pub mod GroupReaching

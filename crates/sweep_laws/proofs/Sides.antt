@@ -62,9 +62,13 @@ module _ (a : List CellEvent) (u t to n : ℕ) (rest : List Edge) (d : IsDue a u
     order = rise_drop n 0 rest d.order;
   }
 
-starts_between : (a : List CellEvent) (u t to : ℕ) (rest : List Edge) → IsDue a u to rest → StartsAt t rest → (u ≤ t) × (t < to)
+pub starts_between : (a : List CellEvent) (u t to : ℕ) (rest : List Edge) → IsDue a u to rest → StartsAt t rest → (u ≤ t) × (t < to)
 starts_between a u t to [] d s = absurd s
 starts_between a u t to (x ∷ xs) d s = head_between a u to t x xs s d.news_of
+
+pub starts_from : (t : ℕ) (rest : List Edge) → StartsAt t rest → HeadFrom t rest
+starts_from t [] s = absurd s
+starts_from t (x ∷ xs) s = omega (arith, s)
 
 pub next_between : (a b : List CellEvent) (u t to : ℕ) (left right : List Edge) → IsDue a u to left → IsDue b u to right → IsNext t left right → (u ≤ t) × (t < to)
 next_between a b u t to left right dl dr h = elim h.found [

@@ -4,11 +4,16 @@
 #![tactic(auto)]
 
 mod answer_laws;
+mod group_laws;
 mod instant_laws;
 mod join_laws;
 
 pub use answer_laws::{
     answers_grow, answers_stay_in_order, moves_tell_the_news, news_are_told_in_parts,
+};
+pub use group_laws::{
+    a_group_goes_from_instant_to_instant, a_group_keeps_its_rows, a_group_tells_an_instant,
+    keys_are_told_edge_by_edge, one_key_changes_a_sum, runs_tell_a_stretch,
 };
 pub use instant_laws::{edges_of_one_instant_come_first, sides_go_on_to_the_next_instant};
 pub use join_laws::{
