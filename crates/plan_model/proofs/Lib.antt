@@ -10,6 +10,8 @@ pub mod Joining
 pub mod Aggregates
 pub mod Causal
 pub mod SameEvents
+pub mod Closings
+pub mod SameNodes
 pub mod NodeLaws
 pub mod PlanLaws
 pub mod FilterPlans

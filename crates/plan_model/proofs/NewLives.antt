@@ -91,8 +91,8 @@ multiple_rises : (p c s : ℕ) → c ≤ s → p * (c / p) ≤ p * (s / p)
 multiple_rises zero c s h = omega arith
 multiple_rises (suc p) c s h = mul-le-mul_left (suc p) (le-div (c / suc p) s (suc p) (omega arith) (let below = div-mul-le_self c (suc p) in omega (arith, below)))
 
-floor_rises : (p c s : ℕ) → c ≤ s → s < inf → floor_to p c ≤ floor_to p s
-floor_rises p c s h low = let rises = multiple_rises p c s h in grind (arith, nat_tests)
+pub floor_rises : (p c s : ℕ) → c ≤ s → s ≤ inf → floor_to p c ≤ floor_to p s
+floor_rises p c s h low = let rises = multiple_rises p c s h in let below = div-mul-le_self c p in grind (arith, nat_tests)
 
 multiple_low : (p c : ℕ) → p * (c / p) ≤ c
 multiple_low p c = let below = div-mul-le_self c p in omega (arith, below)
@@ -100,12 +100,12 @@ multiple_low p c = let below = div-mul-le_self c p in omega (arith, below)
 floor_instant : (p s : ℕ) → s < inf → floor_to p s < inf
 floor_instant p s h = let low = multiple_low p s in grind (arith, nat_tests)
 
-floor_low : (p c : ℕ) → c ≤ inf → floor_to p c ≤ inf
+pub floor_low : (p c : ℕ) → c ≤ inf → floor_to p c ≤ inf
 floor_low p c h = let low = multiple_low p c in grind (arith, nat_tests)
 
 pub Known-hopped : {R : Type 0} (size p c : ℕ) (a b : List (Event R)) → Known c a b → Known (floor_to p c) (hopped size p a) (hopped size p b)
 Known-hopped size p c a b h = known_each (hopped_one size p) c (floor_to p c) (floor_low p c h.low) (λ e. AreEvents-with_life e.row (floor_to p e.start) (later size (floor_to p e.start)) (omega arith))
-    (λ w e low. start_known (floor_to p) (λ s. later size (floor_to p s)) w c (floor_to p c) e (λ late. floor_rises p c e.start late low)) a b h
+    (λ w e low. start_known (floor_to p) (λ s. later size (floor_to p s)) w c (floor_to p c) e (λ late. floor_rises p c e.start late (omega (arith, low)))) a b h
 
 with_life-is : {R : Type 0} (row : R) (start end : ℕ) → start < end → with_life row start end ≡ record { row = row; start = start; end = end } ∷ []
 with_life-is {R} row start end before = ap (λ b. cond b (event ∷ []) []) (lt-ltb start end before)

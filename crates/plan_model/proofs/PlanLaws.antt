@@ -1,5 +1,5 @@
 -- The laws over whole plans.
-use Rattle.std.specs.Prelude.{◌≡◌, ℕ, ◌<◌, true, List, []}
+use Rattle.std.specs.Prelude.{◌≡◌, ℕ, ◌<◌, true, Some, List, [], slice_get}
 use Rattle.std.proofs.Common.{sym, ap, subst, arith}
 use Rattle.tw_rows.specs.Instant.{inf}
 use Rattle.tw_rows.specs.Bag.{SameBag}
@@ -8,8 +8,8 @@ use Rattle.tw_rows.specs.Rows.{Row}
 use Rattle.tw_rows.proofs.Bags.{SameBag-refl, SameBag-sym, SameBag-trans}
 use Rattle.tw_rows.proofs.Lives.{alive_known}
 use Rattle.plan_model.specs.declared.node.Node.{Node}
-use Rattle.plan_model.specs.Meaning.{Sources, node_events, events, node_closes, closes, nothing, by_events, node_meaning, meaning, snapshots, IsOrdered, IsLevelled}
-use Rattle.plan_model.proofs.Plans.{by_nodes}
+use Rattle.plan_model.specs.Meaning.{Sources, node_events, events, node_closes, closes, nothing, by_events, node_meaning, meaning, snapshots, IsOrdered, IsLevelled, left_of, right_of}
+use Rattle.plan_model.proofs.Plans.{by_nodes, left_all, right_all}
 use Rattle.plan_model.proofs.NodeLaws.{AgreesWith, node_agrees, node_known}
 use Rattle.plan_model.proofs.SameEvents.{alive_same}
 
@@ -39,6 +39,20 @@ all_known p source later_source nodes ordered known =
     (record { low = omega arith; left_valid = tt; right_valid = tt; same = SameBag-refl [] })
     known
     (λ i n there left right. node_known n _ _ _ _ _ _ left right)
+
+-- and so of what a node reads
+pub left_known : (p : ℕ) (source later_source : Sources) (nodes : List Node) → IsOrdered nodes → ((s : ℕ) → Known p (source s) (later_source s)) → (i : ℕ) (n : Node) → slice_get nodes i ≡ Some n →
+    Known (left_of inf (λ s. p) (λ j. closes nodes j p) n) (left_of [] source (events source nodes) n) (left_of [] later_source (events later_source nodes) n)
+left_known p source later_source nodes ordered known i n there =
+    left_all Known inf [] [] (λ s. p) source later_source (λ j. closes nodes j p) (events source nodes) (events later_source nodes) i n (ordered i n there).0 known
+    (λ j lower. all_known p source later_source nodes ordered known j)
+
+pub right_known : (p : ℕ) (source later_source : Sources) (nodes : List Node) → IsOrdered nodes → ((s : ℕ) → Known p (source s) (later_source s)) → (i : ℕ) (n : Node) → slice_get nodes i ≡ Some n →
+    Known (right_of inf (λ j. closes nodes j p) n) (right_of [] (events source nodes) n) (right_of [] (events later_source nodes) n)
+right_known p source later_source nodes ordered known i n there =
+    right_all Known inf [] [] (λ j. closes nodes j p) (events source nodes) (events later_source nodes) i n (ordered i n there).1
+    (record { low = omega arith; left_valid = tt; right_valid = tt; same = SameBag-refl [] })
+    (λ j lower. all_known p source later_source nodes ordered known j)
 
 -- the events of each node are events, where those of the sources are
 pub AreEvents-events : (source : Sources) (nodes : List Node) → IsOrdered nodes → ((s : ℕ) → AreEvents (source s)) → (n : ℕ) → AreEvents (events source nodes n)

@@ -396,6 +396,13 @@ pub fn nodes_are_causal_over<X>()
         Known (node_closes n x y) (node_in ops n a b) (node_in ops n c d) }
 {}
 
+/// Over rows of any kind a node of the same multisets of events has the same multiset of events.
+pub fn nodes_have_no_order<X>()
+    ensures { (ops : RowOps X) → Tells ops.same →
+        (n : Node) (a b c d : List (Event (List X))) → AreEvents a → AreEvents b → AreEvents c → AreEvents d →
+        SameBag a c → SameBag b d → SameBag (node_in ops n a b) (node_in ops n c d) }
+{}
+
 /// Finality: where later lines leave what is known of the sources below the punctuation `p`, they leave the rows of each
 /// node at each instant below the node's closing.
 pub fn snapshots_are_final()

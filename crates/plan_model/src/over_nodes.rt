@@ -6,12 +6,10 @@ ghost use Rattle.plan_model.specs.IsPlan.{most_reach};
 ghost use Rattle.plan_model.specs.Meaning.{left_child, right_child, left_of, right_of, HasLower, node_closes, closes as closes_of};
 ghost use Rattle.plan_model.specs.Reach.{HasPeriod, node_reach, reach as reach_of, node_is_event_level, event_level as event_level_of};
 
+use crate::limits::{MOST_NODES, level_over};
 use crate::node::Node;
 use crate::plan::Plan;
 use tw_rows::{Time, floor_to};
-
-// As many nodes as a plan may have.
-const MOST_NODES: usize = 256;
 
 // Up to where a node is final, from up to where its children are.
 fn closing_of(node: &Node, left: Time, right: Time) -> Time
@@ -62,29 +60,6 @@ pub fn closes(plan: &Plan, node: usize, p: Time) -> Time
     next_closing(&nodes[node], &done, p)
 }
 
-// Whether the rows of a node are events, from whether those of its children are.
-fn level_of(node: &Node, left: bool, right: bool) -> bool
-    ensures { result ≡ node_is_event_level node.now left right }
-{
-    match node {
-        Node::Source { .. }
-        | Node::Hop { .. }
-        | Node::Duration { .. }
-        | Node::Extend { .. }
-        | Node::Session { .. }
-        | Node::Clip { .. }
-        | Node::Coalesce { .. }
-        | Node::Follow { .. } => true,
-        Node::Where { .. } | Node::Select { .. } | Node::Delay { .. } => left,
-        Node::Union { .. } => left && right,
-        Node::Group { .. }
-        | Node::Join { .. }
-        | Node::Anti { .. }
-        | Node::Mean { .. }
-        | Node::Top { .. } => false,
-    }
-}
-
 // Whether the rows of the next node are events, where `done` has that of the nodes before it.
 fn next_level(node: &Node, done: &[bool; MOST_NODES]) -> bool
     requires left { HasLower 256 (left_child node.now) }
@@ -99,7 +74,7 @@ fn next_level(node: &Node, done: &[bool; MOST_NODES]) -> bool
         Some(child) => done[child],
         None => true,
     };
-    level_of(node, left, right)
+    level_over(node, left, right)
 }
 
 /// Whether the rows of the node of that number are events. Where they are not, no step that changes lives may stand over
@@ -116,9 +91,9 @@ pub fn event_level(plan: &Plan, node: usize) -> bool
     next_level(&nodes[node], &done)
 }
 
-// How far a node looks back, from how far its children do.
+// How far a node looks back, from how far its children do, where that is not too far.
 #[tactic(auto, unfolding(crate::specs::IsPlan::most_reach))]
-fn reach_over(node: &Node, left: u64, right: u64) -> u64
+fn reach_within(node: &Node, left: u64, right: u64) -> u64
     requires { node_reach node.now left right ≤ most_reach }
     ensures { result ≡ node_reach node.now left right }
 {
@@ -140,7 +115,7 @@ fn next_reach(node: &Node, done: &[u64; MOST_NODES]) -> u64
         Some(child) => done[child],
         None => 0,
     };
-    reach_over(node, left, right)
+    reach_within(node, left, right)
 }
 
 /// How far the node of that number looks back, in units of time, with all that stands below it: 2^60 at most.
