@@ -13,3 +13,7 @@ pub mod RunOrder
 pub mod GroupSweeps
 pub mod Passing
 pub mod GroupReaching
+pub mod SessionSteps
+pub mod SessionTelling
+pub mod ClipSteps
+pub mod AntiSteps

@@ -4,3 +4,6 @@ pub mod Pairs
 pub mod Joining
 pub mod Running
 pub mod Grouping
+pub mod Sessioning
+pub mod Clipping
+pub mod Antijoining

@@ -7,6 +7,7 @@ mod answer_laws;
 mod group_laws;
 mod instant_laws;
 mod join_laws;
+mod life_laws;
 
 pub use answer_laws::{
     answers_grow, answers_stay_in_order, moves_tell_the_news, news_are_told_in_parts,
@@ -19,4 +20,7 @@ pub use instant_laws::{edges_of_one_instant_come_first, sides_go_on_to_the_next_
 pub use join_laws::{
     a_join_goes_from_instant_to_instant, a_join_keeps_its_rows, a_join_tells_an_instant,
     open_pairs_are_pairs_of_open_rows,
+};
+pub use life_laws::{
+    antis_tell_an_instant, clips_tell_an_instant, sessions_end_at_a_gap, sessions_tell_an_instant,
 };

@@ -1,0 +1,100 @@
+// The laws of one instant of sessions, clips and anti-joins.
+ghost use Rattle.std.specs.Prelude.{◌≡◌, ℕ, suc, ◌+◌, ◌<◌, ◌≤◌, ◌&&◌, ◌||◌, nat_eq, nat_le, Bool, true, false, not, cond, Option, List, map, flat_map};
+ghost use Rattle.std.specs.List.{list_any};
+ghost use Rattle.tw_rows.specs.Instant.{inf};
+ghost use Rattle.tw_rows.specs.Bag.{SameBag, total};
+ghost use Rattle.tw_rows.specs.Event.{AreEvents};
+ghost use Rattle.tw_rows.specs.SameCells.{same_cells};
+ghost use Rattle.tw_rows.specs.declared.cells.Datum.{Datum};
+ghost use Rattle.tw_rows.specs.declared.edge.Edge.{Edge};
+ghost use Rattle.tw_rows.specs.declared.edge.HeldRow.{HeldRow};
+ghost use Rattle.edge_history.specs.Order.{failing};
+ghost use Rattle.edge_history.specs.History.{CellEvent};
+ghost use Rattle.edge_history.specs.Balance.{news};
+ghost use Rattle.edge_history.specs.Opens.{opens, ended_rows, started_rows};
+ghost use Rattle.key_nodes.specs.Runs.{Tells};
+ghost use Rattle.key_nodes.specs.Sessions.{least, session_end, key_starts, sessions};
+ghost use Rattle.key_nodes.specs.Clips.{later_starts, clipped};
+ghost use Rattle.key_nodes.specs.Antis.{alone_at, alone};
+ghost use Rattle.sweep_laws.specs.Moves.{Adds, told_at};
+ghost use Rattle.sweep_laws.specs.Running.{open_at};
+ghost use Rattle.sweep_laws.specs.Sessioning.{is_gap, IsLast};
+ghost use Rattle.sweep_laws.specs.Clipping.{starts_at, is_clipped};
+ghost use Rattle.sweep_laws.specs.Antijoining.{is_free, judged, IsSince, run_of, end_of, stays_of, flip_of, begin_of};
+
+/// A session that is open at an instant stays open unless the timeout passes there since a start of its key with no start in
+/// between, which is so for all rows of the key or for none; and it is told by the last start before the instant alone.
+pub fn sessions_end_at_a_gap()
+    ensures step { (timeout from t : ℕ) (starts : List ℕ) → t < inf → from < t → list_any (nat_eq from) starts ≡ true →
+        nat_le (suc t) (session_end timeout starts from)
+        ≡ (nat_le t (session_end timeout starts from) && not (is_gap timeout starts t)) }
+    ensures last { (timeout t last : ℕ) (starts : List ℕ) → 1 ≤ timeout → IsLast starts t last →
+        is_gap timeout starts t ≡ nat_eq (last + timeout) t }
+{}
+
+/// The sessions that are open after an instant are those whose key has no gap there, and those that start. Where the kept
+/// rows follow them, and the ends of the first and then the starts are told, all is told. Between instants with starts and
+/// gaps nothing is.
+pub fn sessions_tell_an_instant<K>()
+    ensures step { (key : List Datum → K) (same : K → K → Bool) → Tells same →
+        (timeout t : ℕ) (a : List CellEvent) (w : HeldRow → ℕ) → 1 ≤ timeout → t < inf → AreEvents a →
+        total w (opens (suc t) (sessions key same timeout a))
+        ≡ total (λ r. cond (is_gap timeout (key_starts key same a (key r.cells)) t) 0 (w r)) (opens t (sessions key same timeout a))
+        + total w (started_rows (news t (suc t) a)) }
+    ensures told { (key : List Datum → K) (same : K → K → Bool) → Tells same →
+        (timeout t : ℕ) (a : List CellEvent) (now : List Edge) (rows stay later ended : List HeldRow)
+        (answer0 answer1 answer2 : List Edge) → 1 ≤ timeout → t < inf → AreEvents a →
+        SameBag now (news t (suc t) a) → SameBag rows (opens t (sessions key same timeout a)) →
+        ((w : HeldRow → ℕ) → total w rows ≡ total w stay + total w ended) →
+        ((w : HeldRow → ℕ) → total w ended
+        ≡ total (λ r. cond (is_gap timeout (key_starts key same a (key r.cells)) t) (w r) 0) rows) →
+        ((w : HeldRow → ℕ) → total w later ≡ total w stay + total w (started_rows now)) →
+        Adds answer0 answer1 (map (told_at false t) ended) → Adds answer1 answer2 (map (told_at true t) (started_rows now)) →
+        SameBag later (opens (suc t) (sessions key same timeout a))
+        × ((w : Edge → ℕ) → total w answer2 ≡ total w answer0 + total w (news t (suc t) (sessions key same timeout a))) }
+    ensures between { (key : List Datum → K) (same : K → K → Bool) → Tells same →
+        (timeout u t : ℕ) (a : List CellEvent) (rows : List HeldRow) → 1 ≤ timeout → u ≤ t → t ≤ inf → AreEvents a →
+        ((w : Edge → ℕ) → total w (news u t a) ≡ 0) → SameBag rows (opens u (sessions key same timeout a)) →
+        ((v : ℕ) → u ≤ v → v < t →
+        failing (λ r. not (is_gap timeout (key_starts key same a (key r.cells)) v)) rows ≡ 0) →
+        SameBag rows (opens t (sessions key same timeout a))
+        × ((w : Edge → ℕ) → total w (news u t (sessions key same timeout a)) ≡ 0) }
+{}
+
+/// A clipped event that is open at an instant stays open unless it ends there or a right event that it meets starts there.
+/// What is open of clipped events are the open left rows that no right start has clipped, and one instant takes out the rows
+/// that a right start meets, then each end that is not clipped, and puts the starts in.
+pub fn clips_tell_an_instant()
+    ensures step { (meets : List Datum → List Datum → Bool) (right : List CellEvent) (e : CellEvent) (t : ℕ) → e.start < t →
+        nat_le (suc t) (least e.end (later_starts meets right e))
+        ≡ (nat_le t (least e.end (later_starts meets right e)) && not (nat_eq e.end t || starts_at meets right e.row t)) }
+    ensures opens { (meets : List Datum → List Datum → Bool) (w : HeldRow → ℕ) (t : ℕ) (a b : List CellEvent) →
+        total w (opens t (clipped meets a b)) ≡ total (λ r. cond (is_clipped meets b t r) 0 (w r)) (opens t a) }
+    ensures instant { (meets : List Datum → List Datum → Bool) (w : HeldRow → ℕ) (t : ℕ) (a b : List CellEvent) → AreEvents a →
+        total w (opens (suc t) (clipped meets a b))
+        + total (λ r. cond (is_clipped meets b (suc t) r) 0 (w r)) (ended_rows (news t (suc t) a))
+        ≡ total (λ r. cond (starts_at meets b r.cells t) 0 (w r)) (opens t (clipped meets a b))
+        + total w (started_rows (news t (suc t) a)) }
+{}
+
+/// What an instant tells of an anti-join: for each left row that ends, the end of its run; for each that stays, its run's end
+/// where its key is free no more and a start where it is free again; for each that starts, a start where its key is free. The
+/// run of a left event then goes on by its key's status, judged after all edges of the instant. The rows that stay are those
+/// that are left once the ends left.
+pub fn antis_tell_an_instant<K>()
+    ensures run { (meets : List Datum → List Datum → Bool) (b : List CellEvent) (e : CellEvent) (t : ℕ) (st : Option ℕ) →
+        t < inf → IsSince t st → open_at (alone_at meets b e) t ≡ run_of st t e →
+        open_at (alone_at meets b e) (suc t) ≡ run_of (judged (is_free meets b t e.row) t st) (suc t) e }
+    ensures stay { (t : ℕ) (a : List CellEvent) (rows stay : List HeldRow) (now : List Edge) → AreEvents a →
+        SameBag now (news t (suc t) a) → SameBag rows (opens t a) →
+        ((w : HeldRow → ℕ) → total w rows ≡ total w stay + total w (ended_rows now)) →
+        SameBag stay (flat_map (stays_of t) a) }
+    ensures told { (key : List Datum → K) (meets : List Datum → List Datum → Bool) (a b : List CellEvent) (t : ℕ)
+        (status : K → Option ℕ) (free : K → Bool) → t < inf → AreEvents a → ((k : K) → IsSince t (status k)) →
+        ((e : CellEvent) → is_free meets b t e.row ≡ free (key e.row)) →
+        ((e : CellEvent) → open_at (alone_at meets b e) t ≡ run_of (status (key e.row)) t e) →
+        (w : Edge → ℕ) → total w (news t (suc t) (alone same_cells meets a b))
+        ≡ total (λ r. total w (end_of (status (key r.cells)) t r)) (ended_rows (news t (suc t) a))
+        + total (λ r. total w (flip_of (free (key r.cells)) (status (key r.cells)) t r)) (flat_map (stays_of t) a)
+        + total (λ r. total w (begin_of (free (key r.cells)) t r)) (started_rows (news t (suc t) a)) }
+{}
