@@ -18,15 +18,15 @@ use Rattle.edge_history.specs.Order.{IsHistory}
 use Rattle.edge_history.specs.History.{CellEvent, of}
 use Rattle.edge_history.specs.Balance.{Told}
 use Rattle.plan_model.specs.declared.node.Node.{Node}
-use Rattle.plan_model.specs.declared.node.Node.TheVariants.{Duration, Join}
-use Rattle.plan_model.specs.RowOps.{RowOps, key_in}
+use Rattle.plan_model.specs.declared.node.Node.TheVariants.{Duration, Join, Mean, Follow}
+use Rattle.plan_model.specs.RowOps.{key_in}
 use Rattle.plan_model.specs.Nodes.{node_in}
 use Rattle.plan_model.specs.Meaning.{node_events}
-use Rattle.plan_model.specs.CellOps.{datum_int, cell_ops}
+use Rattle.plan_model.specs.CellOps.{datum_int}
 use Rattle.node_laws.specs.Readings.{value_by}
 use Rattle.node_laws.specs.Places.{read_events, read_of, EventsArePlaced, EdgesArePlaced}
 use Rattle.node_laws.specs.Standing.{StandsRead}
-use Rattle.node_laws.specs.Keeping.{Keeps}
+use Rattle.node_laws.specs.Keeping.{plain_cells, Keeps}
 use Rattle.node_laws.specs.Shards.{any_shard, rows_of_shard}
 
 abbrev a : List ℕ
@@ -66,11 +66,8 @@ place_1 h = omega (arith, h.0)
 abbrev joined_read : List (List ℕ) → ℕ → ℕ → List (Event Row)
 joined_read texts i j = node_events (Join 0 1 (0 ∷ []) (0 ∷ [])) (read_events texts (placed i 1 5 ∷ [])) (read_events texts (placed j 1 5 ∷ []))
 
-abbrev cells : RowOps Datum
-cells = cell_ops (λ test row. false) (λ items row. row)
-
 abbrev joined_cells : ℕ → ℕ → List CellEvent
-joined_cells i j = node_in cells (Join 0 1 (0 ∷ []) (0 ∷ [])) (placed i 1 5 ∷ []) (placed j 1 5 ∷ [])
+joined_cells i j = node_in plain_cells (Join 0 1 (0 ∷ []) (0 ∷ [])) (placed i 1 5 ∷ []) (placed j 1 5 ∷ [])
 
 without_places : joined_read (a ∷ []) 1 2 ≡ text [] 1 5 ∷ []
 without_places = refl
@@ -90,6 +87,25 @@ of_equal_places = refl
 of_their_text : joined_read (a ∷ b ∷ []) 0 0 ++ joined_read (a ∷ b ∷ []) 0 1 ≡ text a 1 5 ∷ []
 of_their_text = refl
 
+-- an average of cells, read, is that of what is read: -3 by 2 rows is -2, and the count goes
+abbrev summed : List CellEvent
+summed = record { row = Text 0 ∷ Int (negsuc 2) ∷ Int (pos 2) ∷ []; start = 1; end = 5 } ∷ []
+
+mean_of_cells : node_in plain_cells (Mean 0 (1 ∷ [])) summed [] ≡ record { row = Text 0 ∷ Int (negsuc 1) ∷ []; start = 1; end = 5 } ∷ []
+mean_of_cells = refl
+
+mean_of_rows : node_events (Mean 0 (1 ∷ [])) (read_events (a ∷ []) summed) [] ≡ record { row = TextValue a ∷ IntValue (negsuc 1) ∷ []; start = 1; end = 5 } ∷ []
+mean_of_rows = refl
+
+-- of two right starts the next one is followed, and of another key none
+followed_cells : node_in plain_cells (Follow 0 1 (0 ∷ []) (0 ∷ []) 5) (placed 0 1 2 ∷ []) (placed 0 4 5 ∷ placed 0 5 6 ∷ placed 1 3 4 ∷ []) ≡ placed 0 4 6 ∷ []
+unfolding same_cells inf
+followed_cells = refl
+
+followed_rows : node_events (Follow 0 1 (0 ∷ []) (0 ∷ []) 5) (text a 1 2 ∷ []) (text a 4 5 ∷ text a 5 6 ∷ text b 3 4 ∷ []) ≡ text a 4 6 ∷ []
+unfolding inf
+followed_rows = refl
+
 -- a join by shards of its keys, the place 0 in the shard 1 and the place 1 in the shard 0: the same events, shard by shard
 abbrev shard_of : List Datum → ℕ
 shard_of (Text zero ∷ rest) = 1
@@ -98,19 +114,19 @@ shard_of row = 0
 abbrev sides : List CellEvent
 sides = placed 0 1 5 ∷ placed 1 2 6 ∷ []
 
-join_whole : node_in cells (Join 0 1 (0 ∷ []) (0 ∷ [])) sides sides ≡ placed 0 1 5 ∷ placed 1 2 6 ∷ []
+join_whole : node_in plain_cells (Join 0 1 (0 ∷ []) (0 ∷ [])) sides sides ≡ placed 0 1 5 ∷ placed 1 2 6 ∷ []
 unfolding same_cells
 join_whole = refl
 
-join_by_shards : over_shards (λ s. node_in cells (Join 0 1 (0 ∷ []) (0 ∷ []))
-    (of_shard (λ r. shard_of (key_in cells (0 ∷ []) r)) s sides) (of_shard (λ r. shard_of (key_in cells (0 ∷ []) r)) s sides)) 2
+join_by_shards : over_shards (λ s. node_in plain_cells (Join 0 1 (0 ∷ []) (0 ∷ []))
+    (of_shard (λ r. shard_of (key_in plain_cells (0 ∷ []) r)) s sides) (of_shard (λ r. shard_of (key_in plain_cells (0 ∷ []) r)) s sides)) 2
     ≡ placed 1 2 6 ∷ placed 0 1 5 ∷ []
 unfolding same_cells
 join_by_shards = refl
 
 -- with no key column all rows have one key, so that one shard has all of them
-join_without_key : over_shards (λ s. node_in cells (Join 0 1 [] []) (of_shard (λ r. shard_of (key_in cells [] r)) s (placed 0 1 5 ∷ []))
-    (of_shard (λ r. shard_of (key_in cells [] r)) s (placed 1 2 6 ∷ []))) 2
+join_without_key : over_shards (λ s. node_in plain_cells (Join 0 1 [] []) (of_shard (λ r. shard_of (key_in plain_cells [] r)) s (placed 0 1 5 ∷ []))
+    (of_shard (λ r. shard_of (key_in plain_cells [] r)) s (placed 1 2 6 ∷ []))) 2
     ≡ record { row = Text 0 ∷ Text 1 ∷ []; start = 2; end = 5 } ∷ []
 unfolding same_cells
 join_without_key = refl
@@ -146,7 +162,7 @@ start_stands = record {
 }
 
 -- a duration of 2 over a start at 3: below 4 it tells the start, and below 6 the end at 5 too
-duration_tells_a_start : Keeps cells (Duration 0 2) (a ∷ []) 4 inf (start_3 ∷ []) [] (start_3 ∷ [])
+duration_tells_a_start : Keeps plain_cells (Duration 0 2) (a ∷ []) 4 inf (start_3 ∷ []) [] (start_3 ∷ [])
 unfolding inf
 duration_tells_a_start = record {
   left_history = start_is_history;
@@ -156,7 +172,7 @@ duration_tells_a_start = record {
   told = record { order = (omega arith, tt); settled = refl; stands = SameBag-refl _ };
 }
 
-duration_tells_an_end : Keeps cells (Duration 0 2) (a ∷ []) 6 inf (start_3 ∷ []) [] (start_3 ∷ end_5 ∷ [])
+duration_tells_an_end : Keeps plain_cells (Duration 0 2) (a ∷ []) 6 inf (start_3 ∷ []) [] (start_3 ∷ end_5 ∷ [])
 unfolding inf
 duration_tells_an_end = record {
   left_history = start_is_history;

@@ -1,5 +1,5 @@
 -- What an operator keeps of a node, from one step to the next.
-use Rattle.std.specs.Prelude.{ℕ, List}
+use Rattle.std.specs.Prelude.{ℕ, false, List}
 use Rattle.tw_rows.specs.declared.cells.Datum.{Datum}
 use Rattle.tw_rows.specs.declared.edge.Edge.{Edge}
 use Rattle.edge_history.specs.Order.{IsHistory}
@@ -7,9 +7,14 @@ use Rattle.edge_history.specs.History.{of}
 use Rattle.edge_history.specs.Balance.{Told}
 use Rattle.plan_model.specs.declared.node.Node.{Node}
 use Rattle.plan_model.specs.Meaning.{node_closes}
+use Rattle.plan_model.specs.CellOps.{cell_ops}
 use Rattle.plan_model.specs.RowOps.{RowOps}
 use Rattle.plan_model.specs.Nodes.{node_in}
 use Rattle.node_laws.specs.Places.{EdgesArePlaced}
+
+-- what a node without expressions needs of rows of cells
+abbrev pub plain_cells : RowOps Datum
+plain_cells = cell_ops (λ test row. false) (λ items row. row)
 
 -- of the edges that came in, on the left below x and on the right below y, the edges that went out tell the node's events
 -- below its closing. Of a Duration of 2, where a start at 3 came in and x is 4: that start; and the end at 5 once x is 6

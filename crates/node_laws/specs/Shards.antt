@@ -1,5 +1,8 @@
 -- Nodes with keys, computed by shards.
 use Rattle.std.specs.Prelude.{ℕ, zero, suc, nat_eq, Bool, true, false, ◌||◌, List, [], filter}
+use Rattle.tw_rows.specs.declared.cells.Datum.{Datum}
+use Rattle.tw_rows.specs.declared.edge.Edge.{Edge}
+use Rattle.edge_history.specs.Made.{edges_where}
 use Rattle.plan_model.specs.declared.node.Node.{Node}
 use Rattle.plan_model.specs.declared.node.Node.TheVariants.{Session, Clip, Group, Join, Anti}
 
@@ -35,3 +38,7 @@ any_shard test (suc n) = any_shard test n || test n
 -- the rows of a shard, by the number of the shard of each row. With the shards 1, 0, 1 of 5, 6, 7, those of 1 are 5, 7
 abbrev pub rows_of_shard : {R : Type 0} → (R → ℕ) → ℕ → List R → List R
 rows_of_shard shard s rows = filter (λ r. nat_eq (shard r) s) rows
+
+-- the edges of a shard, by the number of the shard of each row of cells
+abbrev pub edges_of_shard : (List Datum → ℕ) → ℕ → List Edge → List Edge
+edges_of_shard shard s h = edges_where (λ cells. nat_eq (shard cells) s) h

@@ -11,7 +11,7 @@ mod standing_laws;
 mod step_laws;
 mod through_laws;
 
-pub use key_laws::nodes_by_shards;
+pub use key_laws::{nodes_by_shards, shards_keep_what_the_node_keeps};
 pub use map_laws::{
     groups_follow_replaced_rows, lives_do_not_depend_on_rows, pairs_follow_replaced_rows,
     runs_follow_replaced_rows,
