@@ -12,3 +12,4 @@ pub mod Keeping
 pub mod Agreeing
 pub mod Opening
 pub mod Waiting
+pub mod Ahead

@@ -60,7 +60,7 @@ news_one : (w : CellEvent → ℕ) (c d : ℕ) (e : CellEvent) → c ≤ d → d
     total w (cut_one d e) + total (loss w d) (news_of c d e) ≡ total w (cut_one c e) + total (gain w d) (news_of c d e)
 news_one w c d e low high s = grind (arith, nat_tests)
 
-news_all : (w : CellEvent → ℕ) (c d : ℕ) (es : List CellEvent) → c ≤ d → d ≤ inf → failing is_event es ≡ 0 →
+pub news_all : (w : CellEvent → ℕ) (c d : ℕ) (es : List CellEvent) → c ≤ d → d ≤ inf → failing is_event es ≡ 0 →
     total w (cut d es) + total (loss w d) (news c d es) ≡ total w (cut c es) + total (gain w d) (news c d es)
 news_all w c d es low high v =
     let one = sum_eq is_event (λ e. total w (cut_one d e) + total (loss w d) (news_of c d e))
@@ -209,7 +209,7 @@ told_history c out es high told = record {
       omega (arith, k, l, g);
 }
 
-before_all : (w : CellEvent → ℕ) (e : CellEvent) → total w (cut_one 0 e) ≡ 0
+pub before_all : (w : CellEvent → ℕ) (e : CellEvent) → total w (cut_one 0 e) ≡ 0
 before_all w e = grind (arith, nat_tests)
 
 pub told_nothing : (es : List CellEvent) → Told 0 [] es

@@ -4,3 +4,4 @@ pub mod Balance
 pub mod Side
 pub mod Made
 pub mod Opens
+pub mod Ahead

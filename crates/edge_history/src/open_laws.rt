@@ -2,12 +2,13 @@
 ghost use Rattle.std.specs.Prelude.{◌≡◌, ℕ, suc, ◌+◌, ◌≤◌, ◌&&◌, cond, List, ◌++◌, filter};
 ghost use Rattle.tw_rows.specs.Instant.{inf};
 ghost use Rattle.tw_rows.specs.Bag.{SameBag, total};
-ghost use Rattle.tw_rows.specs.Event.{alive, AreEvents, Known};
+ghost use Rattle.tw_rows.specs.Event.{alive, AreEvents, cut, Known};
 ghost use Rattle.tw_rows.specs.declared.edge.Edge.{Edge};
 ghost use Rattle.tw_rows.specs.declared.edge.HeldRow.{HeldRow};
-ghost use Rattle.edge_history.specs.Order.{failing, is_real, is_below, is_from, IsHistory};
-ghost use Rattle.edge_history.specs.History.{CellEvent, of};
+ghost use Rattle.edge_history.specs.Order.{failing, is_real, is_below, is_from, Rises, IsHistory};
+ghost use Rattle.edge_history.specs.History.{CellEvent, of, StandsBelow};
 ghost use Rattle.edge_history.specs.Balance.{AreEventsOf, news};
+ghost use Rattle.edge_history.specs.Ahead.{ToldAhead};
 ghost use Rattle.edge_history.specs.Opens.{singles, opens, ended_rows, started_rows, bare, is_early, is_new};
 
 /// The single edges of a list are the news of its events, and the news between two times are those of them that lie there.
@@ -60,4 +61,24 @@ pub fn waiting_edges_become_due()
         ((w : Edge → ℕ) → total w due + total w rest ≡ total w waiting + total w (singles new)) →
         failing (is_below d) due ≡ 0 → failing (is_from d) rest ≡ 0 →
         SameBag rest (filter (is_from d) (singles (came ++ new))) }
+{}
+
+/// An operator may tell an end ahead, by an interval edge with the end that it knows. What is told so is a history and stands
+/// for its events below the time, and goes on with an answer whose single edges below a later time, together with the ends
+/// told ahead that come due by then, are the news, and whose ends told ahead are ends of the events.
+pub fn ends_may_be_told_ahead()
+    ensures history { (c : ℕ) (h : List Edge) (events : List CellEvent) → c ≤ inf → AreEvents events →
+        ToldAhead c h events → IsHistory h }
+    ensures stands { (c : ℕ) (h : List Edge) (events : List CellEvent) → c ≤ inf → AreEvents events →
+        ToldAhead c h events → StandsBelow c h events }
+    ensures more { (c d : ℕ) (out answer : List Edge) (events : List CellEvent) → c ≤ d → d ≤ inf →
+        ToldAhead c out events → Rises 0 answer → failing is_real answer ≡ 0 →
+        failing (is_from c) answer ≡ 0 → failing (is_below d) answer ≡ 0 →
+        ((w : Edge → ℕ) → total w (filter (is_below d) (singles answer))
+        + total w (filter (is_below d) (filter (is_from c) (singles out))) ≡ total w (news c d events)) →
+        ((w : Edge → ℕ) → total w (filter (is_from d) (singles answer))
+        + total w (filter (is_from d) (filter (is_from c) (singles out))) ≤ total w (news d inf events)) →
+        ToldAhead d (out ++ answer) events }
+    ensures known { (c : ℕ) (a b : List CellEvent) → c ≤ inf → AreEvents a → AreEvents b →
+        SameBag (news 0 c a) (news 0 c b) → SameBag (cut c a) (cut c b) }
 {}
