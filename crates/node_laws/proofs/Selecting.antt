@@ -1,5 +1,5 @@
 -- The edges of a Where and of a Select stand for the events of these.
-use Rattle.std.specs.Prelude.{◌≡◌, ◌≢◌, ℕ, ◌<◌, ◌≤◌, Bool, true, false, cond, not, List, [], ◌∷◌, ◌++◌, All, map, filter, length, refl}
+use Rattle.std.specs.Prelude.{◌≡◌, ◌≢◌, ℕ, ◌<◌, ◌≤◌, nat_le, Bool, true, false, cond, not, List, [], ◌∷◌, ◌++◌, All, map, filter, length, refl}
 use Rattle.std.specs.Str.{bytes_eq}
 use Rattle.std.specs.List.{position_or_len}
 use Rattle.std.proofs.Common.{sym, ◌∙◌, ap, subst, arith, get_or}
@@ -9,7 +9,7 @@ use Rattle.std.proofs.lemmas.List.Elements.{All-cons, All-head, All-tail, All-ni
 use Rattle.std.proofs.lemmas.List.Sums.{position_or_len_is}
 use Rattle.std.proofs.lemmas.Slice.Eq.{bytes_eq-Decides}
 use Rattle.tw_rows.specs.Instant.{inf}
-use Rattle.tw_rows.specs.Bag.{SameBag}
+use Rattle.tw_rows.specs.Bag.{total}
 use Rattle.tw_rows.specs.Event.{Event, cut}
 use Rattle.tw_rows.specs.Rows.{Row}
 use Rattle.tw_rows.specs.declared.row.Value.{Value}
@@ -17,9 +17,12 @@ use Rattle.tw_rows.specs.declared.row.Value.TheVariants.{Int, Bool as Flag, Text
 use Rattle.tw_rows.specs.declared.cells.Datum.{Datum}
 use Rattle.tw_rows.specs.declared.cells.Datum.TheVariants.{Int as IntDatum, Bool as FlagDatum, Text as PlaceDatum}
 use Rattle.tw_rows.specs.declared.edge.Edge.{Edge}
+use Rattle.tw_rows.specs.Texts.{BeginsWith}
+use Rattle.tw_rows.proofs.CellReads.{read_cells-begins}
 use Rattle.tw_rows.specs.Cells.{IsPlaced, ArePlaced, read_datum, read_cells}
-use Rattle.tw_rows.proofs.Bags.{SameBag-refl}
-use Rattle.edge_history.specs.Order.{IsHistory}
+use Rattle.tw_rows.proofs.Bags.{total-map, SameBag-refl}
+use Rattle.edge_history.specs.Order.{is_from, failing}
+use Rattle.edge_history.proofs.Sums.{failing-filter}
 use Rattle.edge_history.specs.History.{CellEvent, of, StandsBelow}
 use Rattle.edge_history.specs.Made.{edges_where, edges_with, events_where, events_with, edge_with}
 use Rattle.edge_history.proofs.Made.{stands_with, stands_where as stand_where}
@@ -30,7 +33,7 @@ use Rattle.plan_model.specs.Meaning.{node_events}
 use Rattle.plan_model.specs.Nodes.{event_to, events_to}
 use Rattle.node_laws.specs.Places.{AreDistinct, read_events, read_of, EventsArePlaced, EdgesArePlaced}
 use Rattle.node_laws.specs.Standing.{StandsRead}
-use Rattle.node_laws.specs.Selected.{read_edge, selected_edge, tested_edges, AreSelected}
+use Rattle.node_laws.specs.Selected.{RowEdge, read_edge, selected_edge, tested_edges, AreSelected}
 use Rattle.node_laws.proofs.Standing.{all_of, placed_stand, node_valid, no_history, none_stand, stands_where, stands_of_sides}
 
 -- the datum of a value: of a text its place in the table
@@ -118,3 +121,42 @@ selected_more texts items h out l more s t =
 
 pub tested_more : (texts : List (List ℕ)) (test : List ExprNode) (h l : List Edge) → tested_edges texts test (h ++ l) ≡ tested_edges texts test h ++ tested_edges texts test l
 tested_more texts test h l = filter-append (λ e. holds test (read_cells texts e.cells)) h l
+
+-- a longer table changes neither
+read_edge-begins : (new old : List (List ℕ)) → BeginsWith new old → (e : Edge) → ArePlaced old e.cells → read_edge new e ≡ read_edge old e
+read_edge-begins new old b e p = ap {B = RowEdge} (λ row. record { sync = e.sync; other = e.other; row = row }) (read_cells-begins new old e.cells b p)
+
+selected_edge-begins : (new old : List (List ℕ)) → BeginsWith new old → (items : List (List ExprNode)) (e : Edge) → ArePlaced old e.cells → selected_edge new items e ≡ selected_edge old items e
+selected_edge-begins new old b items e p = ap {B = RowEdge} (λ row. record { sync = e.sync; other = e.other; row = selected_row items row }) (read_cells-begins new old e.cells b p)
+
+map_all : {B : Type 0} (f g : Edge → B) (P : Edge → Type 0) → ((e : Edge) → P e → f e ≡ g e) → (h : List Edge) → All P h → map f h ≡ map g h
+map_all f g P same [] p = refl
+map_all f g P same (e ∷ h) p = ap (λ x. x ∷ map f h) (same e (All-head P e h p)) ∙ ap (λ l. g e ∷ l) (map_all f g P same h (All-tail P e h p))
+
+filter_all : (f g : Edge → Bool) (P : Edge → Type 0) → ((e : Edge) → P e → f e ≡ g e) → (h : List Edge) → All P h → filter f h ≡ filter g h
+filter_all f g P same [] p = refl
+filter_all f g P same (e ∷ h) p =
+    ap (λ b. cond b (e ∷ filter f h) (filter f h)) (same e (All-head P e h p))
+    ∙ ap (λ l. cond (g e) (e ∷ l) l) (filter_all f g P same h (All-tail P e h p))
+
+pub tested_longer : (new old : List (List ℕ)) → BeginsWith new old → (test : List ExprNode) (h : List Edge) → EdgesArePlaced old h → tested_edges new test h ≡ tested_edges old test h
+tested_longer new old b test h p =
+    filter_all (λ e. holds test (read_cells new e.cells)) (λ e. holds test (read_cells old e.cells)) (λ e. ArePlaced old e.cells)
+    (λ e k. ap (holds test) (read_cells-begins new old e.cells b k)) h p
+
+pub selected_longer : (new old : List (List ℕ)) → BeginsWith new old → (items : List (List ExprNode)) (h out : List Edge) → EdgesArePlaced old h → EdgesArePlaced old out →
+    AreSelected old items h out → AreSelected new items h out
+selected_longer new old b items h out p q s =
+    map_all (read_edge new) (read_edge old) (λ e. ArePlaced old e.cells) (read_edge-begins new old b) out q
+    ∙ (s ∙ sym (map_all (selected_edge new items) (selected_edge old items) (λ e. ArePlaced old e.cells) (selected_edge-begins new old b items) h p))
+
+-- the edges come when those that came in came
+pub tested_from : (texts : List (List ℕ)) (test : List ExprNode) (x : ℕ) (l : List Edge) → failing (is_from x) l ≡ 0 → failing (is_from x) (tested_edges texts test l) ≡ 0
+tested_from texts test x l h = failing-filter (λ e. holds test (read_cells texts e.cells)) (is_from x) l h
+
+pub selected_from : (texts : List (List ℕ)) (items : List (List ExprNode)) (x : ℕ) (l more : List Edge) → AreSelected texts items l more → failing (is_from x) more ≡ failing (is_from x) l
+selected_from texts items x l more s =
+    sym (total-map late (read_edge texts) more) ∙ (ap (total late) s ∙ total-map late (selected_edge texts items) l)
+  where
+    late : RowEdge → ℕ
+    late e = cond (nat_le x e.sync) 0 1

@@ -9,14 +9,14 @@ use Rattle.plan_model.specs.declared.node.Node.{Node}
 use Rattle.plan_model.specs.declared.node.Node.TheVariants.{Where, Select}
 use Rattle.plan_model.specs.RowOps.{RowOps}
 
--- the node computes expressions, in which a text is a text whatever the table: a Where or a Select
+-- the node computes expressions, in which a text stands as itself whatever the table: a Where or a Select
 abbrev pub has_expressions : Node → Bool
 has_expressions (Where of test) = true
 has_expressions (Select of items) = true
 has_expressions node = false
 
--- f reads elements X as elements Y: rows are the same before and after it, an element keeps the int that it is, and what is
--- made of an int, or stands in a column that is not there, is read as what is made of it there
+-- f reads elements X as elements Y, as places are read as texts: rows are the same after it exactly where they were before,
+-- an element keeps the int that it is, and what is made of an int, or stands in a column that is not there, is read as that
 pub record IsReading {X Y : Type 0} (f : X → Y) (before : RowOps X) (after : RowOps Y) : Type 0 where
   pub zero : f before.zero ≡ after.zero
   pub same : (a b : List X) → after.same (map f a) (map f b) ≡ before.same a b

@@ -38,6 +38,11 @@ pub fn nodes_commute_with_texts_of_places()
         (select : List (List ExprNode) → List Datum → List Datum) (text : ℕ → List ℕ) → AreApart text →
         (key : List ℕ) (aggs : List Agg) (rows : List (List Datum)) →
         is_undefined key aggs (map (map (value_by text)) rows) ≡ is_undefined_in (cell_ops test select) key aggs rows }
+    ensures instants { (test : List ExprNode → List Datum → Bool)
+        (select : List (List ExprNode) → List Datum → List Datum) (text : ℕ → List ℕ) → AreApart text →
+        (key : List ℕ) (aggs : List Agg) (a : List CellEvent) (t : ℕ) →
+        is_undefined key aggs (alive (events_to (map (value_by text)) a) t)
+        ≡ is_undefined_in (cell_ops test select) key aggs (alive a t) }
 {}
 
 /// Cells that are read through a table of distinct texts, which has the text of each of their places: the same, and the
