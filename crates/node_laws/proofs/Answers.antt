@@ -1,19 +1,19 @@
 -- An answer that stands for placed events is placed.
-use Rattle.std.specs.Prelude.{◌≡◌, ℕ, zero, suc, ◌+◌, ◌<◌, ◌≤◌, nat_lt, nat_eq, not, Bool, true, false, cond, ◌&&◌, List, [], ◌∷◌, All, length, map, filter, refl}
-use Rattle.std.proofs.Common.{sym, ◌∙◌, ap, subst, arith, get_or, inl, inr}
+use Rattle.std.specs.Prelude.{◌≡◌, ℕ, zero, suc, ◌+◌, ◌<◌, ◌≤◌, nat_lt, nat_eq, not, Bool, true, false, cond, ◌&&◌, List, [], ◌∷◌, length, filter, refl}
+use Rattle.std.proofs.Common.{sym, ◌∙◌, ap, arith, get_or}
 use Rattle.std.proofs.lemmas.List.Elements.{All-head, All-tail, All-from_get_or}
 use Rattle.std.proofs.lemmas.Bool.{and_parts, lt-ltb, eqb-true, eq-eqb}
 use Rattle.std.proofs.lemmas.Bool.Decides.{nat_tests}
 use Rattle.tw_rows.specs.Instant.{inf}
-use Rattle.tw_rows.specs.Bag.{total, SameBag}
-use Rattle.tw_rows.specs.Event.{Event, cut_one, cut}
+use Rattle.tw_rows.specs.Bag.{total}
+use Rattle.tw_rows.specs.Event.{cut}
 use Rattle.tw_rows.specs.Cells.{IsPlaced, ArePlaced}
 use Rattle.tw_rows.specs.declared.cells.Datum.{Datum}
 use Rattle.tw_rows.specs.declared.cells.Datum.TheVariants.{Int as IntDatum, Bool as FlagDatum, Text as PlaceDatum}
 use Rattle.tw_rows.specs.declared.edge.Edge.{Edge}
 use Rattle.tw_rows.proofs.Bags.{total-map, total-filter, total_same}
 use Rattle.tw_rows.proofs.Lives.{total-cut}
-use Rattle.edge_history.specs.Order.{is_end, is_below, ends_it, starts_it, many, failing, IsHistory}
+use Rattle.edge_history.specs.Order.{is_end, is_below, ends_it, starts_it, many}
 use Rattle.tw_rows.specs.SameCells.{same_cells}
 use Rattle.edge_history.specs.History.{CellEvent, begun_one, begun, is_open, ended, end_step, end_all, of, StandsBelow}
 use Rattle.tw_rows.specs.SameCells.{cells_are_same, same_itself}

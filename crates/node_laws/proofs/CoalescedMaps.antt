@@ -4,7 +4,6 @@ use Rattle.std.specs.List.{list_any}
 use Rattle.std.proofs.Common.{sym, ◌∙◌, ap}
 use Rattle.std.proofs.lemmas.List.{map-append}
 use Rattle.tw_rows.specs.Instant.{inf, later}
-use Rattle.tw_rows.specs.Bag.{total}
 use Rattle.tw_rows.specs.Event.{Event, alive}
 use Rattle.tw_rows.proofs.Bags.{total-map, total_same}
 use Rattle.key_nodes.specs.Groups.{distinct}

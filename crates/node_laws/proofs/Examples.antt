@@ -1,9 +1,8 @@
 -- The definitions, worked out over a table with the text `a`, and over one with the texts `a` and `b`.
-use Rattle.std.specs.Prelude.{◌≡◌, ◌≢◌, ℕ, pos, negsuc, ◌<◌, nat_eq, cond, zero, Bool, true, false, List, [], ◌∷◌, ◌++◌, length, refl}
+use Rattle.std.specs.Prelude.{◌≡◌, ℕ, pos, negsuc, nat_eq, cond, zero, true, false, List, [], ◌∷◌, ◌++◌, refl}
 use Rattle.std.proofs.Common.{arith}
 use Rattle.std.proofs.lemmas.List.Elements.{All-nil, All-cons}
 use Rattle.tw_rows.specs.Instant.{inf}
-use Rattle.tw_rows.specs.Bag.{SameBag}
 use Rattle.tw_rows.specs.Event.{Event}
 use Rattle.tw_rows.specs.Rows.{Row}
 use Rattle.tw_rows.specs.declared.row.Value.TheVariants.{Int as IntValue, Text as TextValue}
@@ -11,21 +10,22 @@ use Rattle.tw_rows.specs.declared.cells.Datum.{Datum}
 use Rattle.tw_rows.specs.declared.cells.Datum.TheVariants.{Int, Bool as Flag, Text}
 use Rattle.tw_rows.specs.declared.edge.Edge.{Edge}
 use Rattle.tw_rows.specs.SameCells.{same_cells}
-use Rattle.tw_rows.specs.Cells.{ArePlaced, read_cells}
+use Rattle.tw_rows.specs.Cells.{ArePlaced}
 use Rattle.tw_rows.proofs.Bags.{SameBag-refl}
 use Rattle.key_nodes.specs.Shards.{of_shard, over_shards}
 use Rattle.edge_history.specs.Order.{IsHistory}
-use Rattle.edge_history.specs.History.{CellEvent, of}
-use Rattle.edge_history.specs.Balance.{Told}
-use Rattle.plan_model.specs.declared.node.Node.{Node}
+use Rattle.edge_history.specs.History.{CellEvent}
+use Rattle.plan_model.specs.declared.expr.ExprNode.{ExprNode}
+use Rattle.plan_model.specs.declared.expr.ExprNode.TheVariants.{Column, Int as ConstInt, Bool as ConstBool}
 use Rattle.plan_model.specs.declared.node.Node.TheVariants.{Duration, Join, Mean, Follow}
 use Rattle.plan_model.specs.RowOps.{key_in}
 use Rattle.plan_model.specs.Nodes.{node_in}
 use Rattle.plan_model.specs.Meaning.{node_events}
 use Rattle.plan_model.specs.CellOps.{datum_int}
 use Rattle.node_laws.specs.Readings.{value_by}
-use Rattle.node_laws.specs.Places.{read_events, read_of, EventsArePlaced, EdgesArePlaced}
+use Rattle.node_laws.specs.Places.{read_events, EdgesArePlaced}
 use Rattle.node_laws.specs.Standing.{StandsRead}
+use Rattle.node_laws.specs.Selected.{read_edge, tested_edges, AreSelected}
 use Rattle.node_laws.specs.Keeping.{plain_cells, Keeps}
 use Rattle.node_laws.specs.Shards.{any_shard, rows_of_shard}
 
@@ -181,3 +181,34 @@ duration_tells_an_end = record {
   right_placed = All-nil (λ e. ArePlaced (a ∷ []) e.cells);
   told = record { order = (omega arith, (omega arith, tt)); settled = refl; stands = record { weigh = λ w. omega arith } };
 }
+
+-- of a start of the cells 0, 7 the items column 1 and 5 make a start of 7, 5, and a Where keeps it where its test is true
+abbrev start_of : List Datum → Edge
+start_of row = record { sync = 3; other = inf; cells = row }
+
+abbrev items : List (List ExprNode)
+items = (Column 1 ∷ []) ∷ (ConstInt (pos 5) ∷ []) ∷ []
+
+read_start : read_edge (a ∷ []) (start_of (Text 0 ∷ Int (pos 7) ∷ [])) ≡ record { sync = 3; other = inf; row = TextValue a ∷ IntValue (pos 7) ∷ [] }
+read_start = refl
+
+selected_start : AreSelected (a ∷ []) items (start_of (Text 0 ∷ Int (pos 7) ∷ []) ∷ []) (start_of (Int (pos 7) ∷ Int (pos 5) ∷ []) ∷ [])
+selected_start = refl
+
+nothing_selected : AreSelected (a ∷ []) items [] []
+nothing_selected = refl
+
+-- with the text `b` at two places a column of texts is selected by either
+either_place : AreSelected (a ∷ b ∷ b ∷ []) ((Column 0 ∷ []) ∷ []) (start_of (Text 1 ∷ []) ∷ []) (start_of (Text 2 ∷ []) ∷ [])
+either_place = refl
+
+all_tested : tested_edges (a ∷ []) (ConstBool true ∷ []) (start_3 ∷ end_5 ∷ []) ≡ start_3 ∷ end_5 ∷ []
+all_tested = refl
+
+none_tested : tested_edges (a ∷ []) (ConstBool false ∷ []) (start_3 ∷ end_5 ∷ []) ≡ []
+none_tested = refl
+
+-- places read by a text for each: 0 as `a`, and each other as `b`
+by_text : value_by (λ id. cond (nat_eq id 0) a b) (Text 0) ∷ value_by (λ id. cond (nat_eq id 0) a b) (Text 7) ∷ value_by (λ id. a) (Int (pos 7)) ∷ []
+    ≡ TextValue a ∷ TextValue b ∷ IntValue (pos 7) ∷ []
+by_text = refl

@@ -1,12 +1,12 @@
 -- The key law: a node with keys, by shards.
-use Rattle.std.specs.Prelude.{◌≡◌, ℕ, zero, suc, ◌+◌, ◌<◌, nat_eq, nat_lt, Bool, true, false, cond, ◌&&◌, ◌||◌, not, IsTrue, IsFalse, List, [], ◌∷◌, ◌++◌, map, flat_map, filter, refl}
+use Rattle.std.specs.Prelude.{◌≡◌, ℕ, zero, suc, ◌<◌, nat_eq, nat_lt, Bool, true, false, cond, ◌||◌, IsTrue, List, [], ◌∷◌, ◌++◌, map, filter, refl}
 use Rattle.std.specs.List.{list_any}
-use Rattle.std.proofs.Common.{sym, ◌∙◌, ap, arith}
+use Rattle.std.proofs.Common.{sym, ◌∙◌, ap}
 use Rattle.std.proofs.lemmas.List.Folds.{list_any-append}
-use Rattle.std.proofs.lemmas.Bool.{lt-ltb, eqb-true, eq-eqb}
-use Rattle.tw_rows.specs.Bag.{total, SameBag}
+use Rattle.std.proofs.lemmas.Bool.{eqb-true, eq-eqb}
+use Rattle.tw_rows.specs.Bag.{SameBag}
 use Rattle.tw_rows.specs.Event.{Event, lives_at, alive}
-use Rattle.tw_rows.proofs.Bags.{total-append, total-filter, total-flat_map, total_same, total_zero, total-add, SameBag-refl}
+use Rattle.tw_rows.proofs.Bags.{total-filter, SameBag-refl}
 use Rattle.key_nodes.specs.Runs.{Tells}
 use Rattle.key_nodes.specs.Groups.{has_key}
 use Rattle.key_nodes.specs.Sessions.{sessions}
@@ -16,7 +16,6 @@ use Rattle.key_nodes.proofs.Shards.{split_sum, sum_same, total-over_shards, filt
 use Rattle.plan_model.specs.declared.agg.Agg.{Agg}
 use Rattle.plan_model.specs.declared.node.Node.{Node}
 use Rattle.plan_model.specs.declared.node.Node.TheVariants.{Source, Where, Select, Union, Delay, Hop, Duration, Extend, Session, Clip, Group, Join, Anti, Coalesce, Mean, Top, Follow}
-use Rattle.key_nodes.specs.Joins.{joined_one, joined}
 use Rattle.plan_model.specs.RowOps.{RowOps, key_in, keys_equal_in, rows_of_key_in, row_of_group_in, is_undefined_group_in, is_undefined_in}
 use Rattle.plan_model.specs.Keys.{paired_row}
 use Rattle.plan_model.specs.Nodes.{node_in}

@@ -1,9 +1,7 @@
 -- Where and Select: a test and a selection of cells that agree with those of rows.
-use Rattle.std.specs.Prelude.{◌≡◌, Bool, true, false, cond, List, [], ◌∷◌, map, filter, refl}
+use Rattle.std.specs.Prelude.{◌≡◌, Bool, true, false, cond, List, [], ◌∷◌, filter, refl}
 use Rattle.std.proofs.Common.{sym, ◌∙◌, ap}
 use Rattle.std.proofs.lemmas.List.Elements.{All-head, All-tail}
-use Rattle.tw_rows.specs.Event.{Event}
-use Rattle.tw_rows.specs.Rows.{Row}
 use Rattle.tw_rows.specs.Cells.{ArePlaced, read_cells}
 use Rattle.tw_rows.specs.declared.cells.Datum.{Datum}
 use Rattle.plan_model.specs.declared.expr.ExprNode.{ExprNode}

@@ -1,6 +1,6 @@
 -- Rows replaced: what each step that nodes use makes of events with their rows replaced, where what the step asks of rows
 -- stays as it was, is what it makes of the events, with their rows replaced.
-use Rattle.std.specs.Prelude.{◌≡◌, ℕ, zero, suc, min, max, nat_eq, nat_lt, nat_le, Bool, true, false, cond, not, ◌&&◌, ◌||◌, Option, Some, None, option_to_list, List, [], ◌∷◌, ◌++◌, map, filter, flat_map, refl}
+use Rattle.std.specs.Prelude.{◌≡◌, ℕ, zero, suc, min, max, nat_eq, nat_lt, Bool, true, false, cond, not, ◌&&◌, ◌||◌, Option, Some, None, List, [], ◌∷◌, ◌++◌, map, filter, flat_map, refl}
 use Rattle.std.specs.List.{list_any}
 use Rattle.std.specs.Option.{option_map}
 use Rattle.std.proofs.Common.{sym, ◌∙◌, ap}
@@ -8,8 +8,8 @@ use Rattle.std.proofs.lemmas.List.{map-append}
 use Rattle.tw_rows.specs.Instant.{inf, later, floor_to}
 use Rattle.tw_rows.specs.Event.{Event, lives_at, alive, AreEvents, cut_one, cut}
 use Rattle.key_nodes.specs.Runs.{goes_on, runs}
-use Rattle.key_nodes.specs.Groups.{distinct, has_key, grouped}
-use Rattle.key_nodes.specs.Antis.{meets_none, alone_at, alone}
+use Rattle.key_nodes.specs.Groups.{distinct, grouped}
+use Rattle.key_nodes.specs.Antis.{alone_at, alone}
 use Rattle.key_nodes.specs.Sessions.{least, session_end, key_starts, session, sessions}
 use Rattle.key_nodes.specs.Clips.{later_starts, clip, clipped}
 use Rattle.key_nodes.specs.Joins.{with_life, joined_one, joined}

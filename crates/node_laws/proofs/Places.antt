@@ -1,5 +1,5 @@
 -- Reading by a table of distinct texts: it is a reading of all data, on places of the table.
-use Rattle.std.specs.Prelude.{◌≡◌, ◌↔◌, ◌≢◌, ℕ, zero, suc, ◌+◌, ◌<◌, ◌≤◌, nat_lt, nat_eq, Bool, true, false, cond, IsTrue, List, [], ◌∷◌, ◌++◌, All, AllPairs, map, length, replicate, slice_index_or, refl}
+use Rattle.std.specs.Prelude.{◌≡◌, ℕ, zero, suc, ◌+◌, ◌<◌, ◌≤◌, nat_lt, Bool, true, false, cond, List, [], ◌∷◌, map, length, replicate, slice_index_or, refl}
 use Rattle.std.specs.Bool.{Decides}
 use Rattle.std.proofs.Common.{sym, ◌∙◌, ap, arith, get_or, inl, inr}
 use Rattle.std.proofs.lemmas.List.{length-replicate}
@@ -7,10 +7,8 @@ use Rattle.std.proofs.lemmas.List.Elements.{All-cons, All-head, All-tail, All-ni
 use Rattle.std.proofs.lemmas.Bool.{cases_lt, lt-ltb, le-ltb}
 use Rattle.std.proofs.lemmas.Bool.Decides.{nat_tests}
 use Rattle.tw_rows.specs.Bag.{total}
-use Rattle.tw_rows.specs.Event.{Event}
-use Rattle.tw_rows.specs.Rows.{Row}
 use Rattle.tw_rows.specs.declared.row.Value.{Value}
-use Rattle.tw_rows.specs.declared.row.Value.TheVariants.{Int, Bool as Flag, Text}
+use Rattle.tw_rows.specs.declared.row.Value.TheVariants.{Text}
 use Rattle.tw_rows.specs.declared.cells.Datum.{Datum}
 use Rattle.tw_rows.specs.declared.cells.Datum.TheVariants.{Int as IntDatum, Bool as FlagDatum, Text as PlaceDatum}
 use Rattle.tw_rows.specs.Cells.{IsPlaced, ArePlaced, read_datum, read_cells}
@@ -22,14 +20,12 @@ use Rattle.plan_model.proofs.InOrder.{rows_equal_tells}
 use Rattle.tw_rows.specs.SameCells.{same_cells}
 use Rattle.edge_history.specs.History.{CellEvent}
 use Rattle.tw_rows.specs.SameCells.{same_cells-Decides}
-use Rattle.plan_model.specs.RowOps.{is_undefined_in}
 use Rattle.plan_model.specs.Nodes.{event_to, events_to, node_in}
 use Rattle.plan_model.specs.Keys.{value_ops}
 use Rattle.plan_model.specs.CellOps.{cell_ops, datum_int}
 use Rattle.node_laws.specs.Readings.{has_expressions, IsReading, value_by, AreApart}
 use Rattle.node_laws.specs.Places.{AreDistinct, read_events, EventsArePlaced}
-use Rattle.node_laws.proofs.Maps.{map_same}
-use Rattle.node_laws.proofs.Reading.{node_read, undefined_read}
+use Rattle.node_laws.proofs.Reading.{node_read}
 
 -- a text for each place: those of the table at their places, and for each place past it a text longer than any of the table,
 -- another one for each

@@ -1,5 +1,5 @@
 -- The edges of a Where and of a Select stand for the events of these.
-use Rattle.std.specs.Prelude.{◌≡◌, ◌≢◌, ℕ, ◌<◌, ◌≤◌, nat_le, Bool, true, false, cond, not, List, [], ◌∷◌, ◌++◌, All, map, filter, length, refl}
+use Rattle.std.specs.Prelude.{◌≡◌, ℕ, ◌<◌, nat_le, Bool, cond, List, [], ◌∷◌, ◌++◌, All, map, filter, length, refl}
 use Rattle.std.specs.Str.{bytes_eq}
 use Rattle.std.specs.List.{position_or_len}
 use Rattle.std.proofs.Common.{sym, ◌∙◌, ap, subst, arith, get_or}
@@ -8,7 +8,6 @@ use Rattle.std.proofs.lemmas.List.{map-append}
 use Rattle.std.proofs.lemmas.List.Elements.{All-cons, All-head, All-tail, All-nil, filter-append}
 use Rattle.std.proofs.lemmas.List.Sums.{position_or_len_is}
 use Rattle.std.proofs.lemmas.Slice.Eq.{bytes_eq-Decides}
-use Rattle.tw_rows.specs.Instant.{inf}
 use Rattle.tw_rows.specs.Bag.{total}
 use Rattle.tw_rows.specs.Event.{Event, cut}
 use Rattle.tw_rows.specs.Rows.{Row}
@@ -24,14 +23,14 @@ use Rattle.tw_rows.proofs.Bags.{total-map, SameBag-refl}
 use Rattle.edge_history.specs.Order.{is_from, failing}
 use Rattle.edge_history.proofs.Sums.{failing-filter}
 use Rattle.edge_history.specs.History.{CellEvent, of, StandsBelow}
-use Rattle.edge_history.specs.Made.{edges_where, edges_with, events_where, events_with, edge_with}
+use Rattle.edge_history.specs.Made.{edges_where, edges_with, events_with}
 use Rattle.edge_history.proofs.Made.{stands_with, stands_where as stand_where}
 use Rattle.plan_model.specs.declared.expr.ExprNode.{ExprNode}
 use Rattle.plan_model.specs.declared.node.Node.TheVariants.{Where, Select}
 use Rattle.plan_model.specs.Expr.{holds, selected_row}
 use Rattle.plan_model.specs.Meaning.{node_events}
-use Rattle.plan_model.specs.Nodes.{event_to, events_to}
-use Rattle.node_laws.specs.Places.{AreDistinct, read_events, read_of, EventsArePlaced, EdgesArePlaced}
+use Rattle.plan_model.specs.Nodes.{events_to}
+use Rattle.node_laws.specs.Places.{AreDistinct, read_events, read_of, EdgesArePlaced}
 use Rattle.node_laws.specs.Standing.{StandsRead}
 use Rattle.node_laws.specs.Selected.{RowEdge, read_edge, selected_edge, tested_edges, AreSelected}
 use Rattle.node_laws.proofs.Standing.{all_of, placed_stand, node_valid, no_history, none_stand, stands_where, stands_of_sides}

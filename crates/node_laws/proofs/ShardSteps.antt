@@ -1,9 +1,9 @@
 -- What the shards of a node keep together is what the node keeps.
 use Rattle.std.specs.Prelude.{◌≡◌, ℕ, zero, suc, ◌+◌, ◌<◌, ◌≤◌, nat_eq, cond, Bool, true, List, [], ◌++◌, filter, refl}
-use Rattle.std.proofs.Common.{sym, ◌∙◌, ap, arith}
+use Rattle.std.proofs.Common.{◌∙◌, ap, arith}
 use Rattle.tw_rows.specs.Instant.{inf}
 use Rattle.tw_rows.specs.Bag.{total, SameBag}
-use Rattle.tw_rows.specs.Event.{Event, AreEvents, cut_one, cut, Known}
+use Rattle.tw_rows.specs.Event.{AreEvents, cut_one, cut, Known}
 use Rattle.tw_rows.specs.declared.cells.Datum.{Datum}
 use Rattle.tw_rows.specs.declared.edge.Edge.{Edge}
 use Rattle.tw_rows.specs.SameCells.{same_cells-Decides}

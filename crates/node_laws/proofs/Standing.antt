@@ -1,16 +1,16 @@
 -- From a node's answer over cells to what stands, read.
-use Rattle.std.specs.Prelude.{◌≡◌, ℕ, ◌≤◌, nat_eq, not, Bool, true, false, cond, ◌&&◌, List, [], ◌∷◌, All, map, filter, refl}
+use Rattle.std.specs.Prelude.{◌≡◌, ℕ, ◌≤◌, not, Bool, true, false, cond, List, [], ◌∷◌, All, map, filter, refl}
 use Rattle.std.proofs.Common.{sym, ◌∙◌, ap, subst, arith}
 use Rattle.std.proofs.lemmas.List.Elements.{All-cons, All-head, All-tail, All-nil, All-weaker, All-filter, All-map}
 use Rattle.tw_rows.specs.Instant.{inf}
-use Rattle.tw_rows.specs.Bag.{total, SameBag}
+use Rattle.tw_rows.specs.Bag.{SameBag}
 use Rattle.tw_rows.specs.Event.{Event, AreEvents, alive, cut, Known}
 use Rattle.tw_rows.specs.Rows.{Row}
 use Rattle.tw_rows.specs.Texts.{BeginsWith}
 use Rattle.tw_rows.specs.Cells.{ArePlaced, read_cells}
 use Rattle.tw_rows.specs.declared.cells.Datum.{Datum}
 use Rattle.tw_rows.specs.declared.edge.Edge.{Edge}
-use Rattle.tw_rows.proofs.Bags.{SameBag-refl, SameBag-map}
+use Rattle.tw_rows.proofs.Bags.{SameBag-map}
 use Rattle.tw_rows.proofs.Knowing.{Known-refl, Known-trans}
 use Rattle.tw_rows.proofs.CellReads.{read_cells-begins, ArePlaced-begins}
 use Rattle.plan_model.specs.declared.agg.Agg.{Agg}
@@ -22,7 +22,7 @@ use Rattle.plan_model.proofs.NodeLaws.{node_known}
 use Rattle.edge_history.specs.Order.{is_end, IsHistory}
 use Rattle.edge_history.specs.History.{CellEvent, begun_one, begun, is_open, ended, end_step, end_all, of, StandsBelow}
 use Rattle.edge_history.proofs.Retaining.{events_of_are, valid_from, AreEvents-from}
-use Rattle.plan_model.specs.RowOps.{RowOps, is_undefined_in}
+use Rattle.plan_model.specs.RowOps.{is_undefined_in}
 use Rattle.plan_model.specs.Nodes.{event_to, events_to, node_in}
 use Rattle.plan_model.specs.CellOps.{cell_ops}
 use Rattle.plan_model.specs.Keys.{value_ops}

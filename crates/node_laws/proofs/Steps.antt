@@ -1,12 +1,12 @@
 -- What an operator keeps of its node, what its answers stand for, and its step.
-use Rattle.std.specs.Prelude.{◌≡◌, ℕ, ◌+◌, ◌*◌, ◌/◌, zero, suc, ◌≤◌, nat_lt, Bool, true, false, cond, List, [], ◌++◌, flat_map, refl}
-use Rattle.std.proofs.Common.{sym, ◌∙◌, ap, arith, div-mul-le_self, mul-le-mul_left}
+use Rattle.std.specs.Prelude.{◌≡◌, ℕ, ◌*◌, ◌/◌, zero, suc, ◌≤◌, nat_lt, Bool, true, false, cond, List, [], ◌++◌, flat_map, refl}
+use Rattle.std.proofs.Common.{◌∙◌, ap, arith, div-mul-le_self, mul-le-mul_left}
 use Rattle.std.proofs.lemmas.Nat.{le-div}
 use Rattle.std.proofs.lemmas.Bool.Decides.{nat_tests}
 use Rattle.std.proofs.lemmas.List.Elements.{All-nil}
 use Rattle.tw_rows.specs.Instant.{inf, floor_to}
-use Rattle.tw_rows.specs.Bag.{total, SameBag}
-use Rattle.tw_rows.specs.Event.{Event, alive, AreEvents, Known}
+use Rattle.tw_rows.specs.Bag.{SameBag}
+use Rattle.tw_rows.specs.Event.{Event, alive, Known}
 use Rattle.tw_rows.specs.Texts.{BeginsWith}
 use Rattle.tw_rows.specs.Cells.{ArePlaced}
 use Rattle.tw_rows.specs.declared.cells.Datum.{Datum}
@@ -17,18 +17,18 @@ use Rattle.plan_model.specs.declared.expr.ExprNode.{ExprNode}
 use Rattle.plan_model.specs.declared.node.Node.{Node}
 use Rattle.plan_model.specs.declared.node.Node.TheVariants.{Source, Where, Select, Union, Delay, Hop, Duration, Extend, Session, Clip, Group, Join, Anti, Coalesce, Mean, Top, Follow}
 use Rattle.plan_model.specs.Meaning.{node_events, node_closes}
-use Rattle.edge_history.specs.Order.{is_from, is_below, is_real, failing, Rises, IsHistory}
+use Rattle.edge_history.specs.Order.{is_from, is_real, failing, Rises, IsHistory}
 use Rattle.edge_history.specs.History.{CellEvent, of, StandsBelow}
 use Rattle.edge_history.specs.Balance.{Told, news}
 use Rattle.tw_rows.specs.SameCells.{same_cells-Decides}
 use Rattle.edge_history.proofs.Retaining.{events_of_are, same_below, AreEvents-none_fails}
 use Rattle.edge_history.proofs.Standing.{told_stands}
 use Rattle.edge_history.proofs.Sums.{failing-parts}
-use Rattle.edge_history.proofs.Telling.{told_more, told_same, told_below, told_history, answer_from}
+use Rattle.edge_history.proofs.Telling.{told_more, told_same}
 use Rattle.plan_model.specs.Nodes.{node_in}
 use Rattle.plan_model.specs.CellOps.{cell_ops}
 use Rattle.node_laws.specs.Readings.{has_expressions}
-use Rattle.node_laws.specs.Places.{AreDistinct, read_of, EventsArePlaced, EdgesArePlaced}
+use Rattle.node_laws.specs.Places.{AreDistinct, read_of, EdgesArePlaced}
 use Rattle.node_laws.specs.Standing.{StandsRead}
 use Rattle.node_laws.specs.Keeping.{Keeps}
 use Rattle.key_nodes.specs.Groups.{distinct}

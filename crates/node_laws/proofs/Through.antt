@@ -1,13 +1,11 @@
 -- The list of each node of a plan, from those of its children and of the sources.
-use Rattle.std.specs.Prelude.{◌≡◌, ℕ, suc, ◌<◌, Option, Some, None, List, [], slice_get, refl}
+use Rattle.std.specs.Prelude.{◌≡◌, ℕ, suc, Option, Some, None, List, [], slice_get}
 use Rattle.std.proofs.Common.{sym, subst, arith, inl, inr}
 use Rattle.std.proofs.lemmas.Bool.{cases_lt}
 use Rattle.tw_rows.specs.Instant.{inf}
-use Rattle.tw_rows.specs.Event.{Event}
-use Rattle.tw_rows.specs.Rows.{Row}
 use Rattle.tw_rows.specs.declared.edge.Edge.{Edge}
 use Rattle.plan_model.specs.declared.node.Node.{Node}
-use Rattle.plan_model.specs.Shape.{Shape, Stream, One, Two, shape, left_in, at_child, left_child, right_child, read_left, left_of, right_of, HasLower, IsOrdered}
+use Rattle.plan_model.specs.Shape.{Shape, Stream, One, Two, shape, left_in, at_child, right_child, read_left, left_of, right_of, HasLower, IsOrdered}
 use Rattle.plan_model.specs.Meaning.{Sources, node_events, node_closes, closes, events}
 use Rattle.plan_model.proofs.Plans.{over_nodes-is}
 use Rattle.node_laws.specs.Places.{read_of}

@@ -12,7 +12,7 @@ use Rattle.plan_model.specs.RowOps.{RowOps}
 use Rattle.plan_model.specs.Nodes.{node_in}
 use Rattle.node_laws.specs.Places.{EdgesArePlaced}
 
--- what a node without expressions needs of rows of cells
+-- what a node without expressions needs of rows of cells: as of no test and of no items
 abbrev pub plain_cells : RowOps Datum
 plain_cells = cell_ops (λ test row. false) (λ items row. row)
 

@@ -17,11 +17,11 @@ pub record StandsRead (texts : List (List ℕ)) (c : ℕ) (h : List Edge) (event
   pub placed : EdgesArePlaced texts h
   pub known : Known c (read_of texts h) events
 
--- the list of each stream stands, read, for the events of the stream below the punctuation p
+-- the list of each stream stands, read, for the events of the stream below the punctuation p. At p = 0, empty lists do
 abbrev pub SourcesStandRead : List (List ℕ) → ℕ → Sources → (ℕ → List Edge) → Type 0
 SourcesStandRead texts p source given = (stream : ℕ) → StandsRead texts p (given stream) (source stream)
 
--- for each of the first n nodes there is a list of edges that stands, read, for the events of the node below its closing at
--- the punctuation p
+-- the list of each of the first n nodes stands, read, for the events of the node below its closing at the punctuation p. Of no
+-- nodes it always holds
 abbrev pub AllStandRead : List (List ℕ) → List Node → ℕ → Sources → (ℕ → List Edge) → ℕ → Type 0
 AllStandRead texts nodes p source lists n = (i : ℕ) → i < n → StandsRead texts (closes nodes i p) (lists i) (events source nodes i)
