@@ -13,3 +13,4 @@ pub mod Agreeing
 pub mod Opening
 pub mod Waiting
 pub mod Ahead
+pub mod OpenExamples

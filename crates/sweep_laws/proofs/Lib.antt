@@ -17,3 +17,4 @@ pub mod SessionSteps
 pub mod SessionTelling
 pub mod ClipSteps
 pub mod AntiSteps
+pub mod Examples
