@@ -8,6 +8,7 @@ pub mod PlanExamples
 pub mod NewLives
 pub mod Joining
 pub mod Aggregates
+pub mod Averages
 pub mod Causal
 pub mod SameEvents
 pub mod Closings

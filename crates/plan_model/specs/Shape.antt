@@ -30,11 +30,13 @@ shape (Mean of at) = One of
 shape (Top of key by count) = One of
 shape (Follow left right left_key right_key within) = Two left right
 
+-- the number of the only or left child of a shape
 abbrev pub left_in : Shape → Option ℕ
 left_in (Stream stream) = None
 left_in (One child) = Some child
 left_in (Two left right) = Some left
 
+-- and of its right child
 abbrev pub right_in : Shape → Option ℕ
 right_in (Stream stream) = None
 right_in (One child) = None

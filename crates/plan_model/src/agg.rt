@@ -1,6 +1,6 @@
 // Aggregates of groups.
 
-/// What a Group tells of the rows of a key. Each aggregate is an int.
+/// What a Group tells of the rows of a key: a whole number, which counts rows, or units of the kind of its column.
 #[derive(Clone, Copy, Debug, PartialEq, Eq)]
 pub enum Agg {
     /// How many rows there are.

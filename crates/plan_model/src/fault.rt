@@ -18,11 +18,12 @@ pub enum QueryFault {
     TooLarge,
     /// A base or an operand names no stream and no earlier `let`, or a column is not in the schema that it is read from.
     UnknownName { item: usize },
-    /// An operator, a test, an aggregate, a key or a union meets values of the wrong kind.
+    /// An operator, a test, an aggregate, a key, a union or the column of a top meets values of the wrong kind, or the
+    /// literals of a left join are not as many and of the kinds as the columns that they stand for.
     TypeClash { item: usize },
     /// A step that changes lives has a side whose rows are no events.
     NotEventLevel { item: usize },
-    /// A size, period, duration or timeout is 0, or a period does not divide its size.
+    /// A size, period, duration or timeout is 0, a period does not divide its size, or a top asks for more than 1,000 rows.
     BadWindow { item: usize },
     /// A node looks back further than 2^60 units of time.
     ReachTooLong { item: usize },

@@ -1,5 +1,6 @@
 // The laws of what expressions and plans mean. Each is a function that does nothing; its clauses are the law.
-ghost use Rattle.std.specs.Prelude.{◌≡◌, ◌↔◌, IsTrue, ℕ, ℤ, int_lt, int_le, not, ◌+◌, ◌-◌, ◌<◌, ◌≤◌, min, List, [], ◌∷◌, ◌++◌, length, map, filter, slice_get, true, ◌*◌};
+ghost use Rattle.std.specs.Prelude.{◌≡◌, ◌↔◌, IsTrue, ℕ, ℤ, int_lt, int_le, not, ◌+◌, ◌-◌, ◌<◌, ◌≤◌, min, List, [], ◌∷◌, ◌++◌, length, map, filter, slice_get, true, ◌*◌, cond, nat_eq, pos, ◌≤ℤ◌};
+ghost use Rattle.std.specs.Int.{int_div_euclid};
 ghost use Rattle.std.specs.List.{list_any};
 ghost use Rattle.tw_rows.specs.Bag.{SameBag};
 ghost use Rattle.tw_rows.specs.Event.{Event, alive, AreEvents, Known};
@@ -12,7 +13,7 @@ ghost use Rattle.key_nodes.specs.Coalesced.{coalesced};
 ghost use Rattle.key_nodes.specs.Follows.{followed};
 ghost use Rattle.key_nodes.specs.Sessions.{sessions};
 ghost use Rattle.key_nodes.specs.Tops.{top_rows};
-ghost use Rattle.plan_model.specs.Means.{mean_row};
+ghost use Rattle.plan_model.specs.Means.{mean_of, mean_row};
 ghost use Rattle.plan_model.specs.declared.agg.Agg.{Agg};
 ghost use Rattle.plan_model.specs.declared.expr.ExprNode.{ExprNode};
 ghost use Rattle.plan_model.specs.declared.node.Node.{Node};
@@ -289,6 +290,19 @@ pub fn mean_is()
     ensures closing { (nodes : List Node) (i child p : ℕ) (at : List ℕ) →
         IsOrdered nodes → slice_get nodes i ≡ Some (Node.Mean child at) →
         closes nodes i p ≡ closes nodes child p }
+{}
+
+/// A row with averages has all columns but the last, and in each of the columns `at` the quotient by the last one. Where
+/// that is at least 1, the quotient is the Euclidean one; else the column stays.
+pub fn means_are<X>()
+    ensures length { (ops : RowOps X) (at : List ℕ) (row : List X) → length (mean_row ops at row) ≡ length row - 1 }
+    ensures column { (ops : RowOps X) (at : List ℕ) (row : List X) (i : ℕ) (x : X) →
+        slice_get row i ≡ Some x → i + 1 < length row →
+        slice_get (mean_row ops at row) i
+        ≡ Some (cond (list_any (nat_eq i) at) (mean_of ops (int_in ops (length row - 1) row) x) x) }
+    ensures divided { (ops : RowOps X) (count : ℕ) (x : X) → 1 ≤ count →
+        mean_of ops (pos count) x ≡ ops.of_int (int_div_euclid (ops.int_of x) (pos count)) }
+    ensures not_divided { (ops : RowOps X) (count : ℤ) (x : X) → count ≤ℤ pos 0 → mean_of ops count x ≡ x }
 {}
 
 /// A Top has at each instant the rows of its child of whose key fewer than `count` rows have a greater int in the column

@@ -32,10 +32,10 @@ pub use expr::{ArithOp, CompareOp, Expr, ExprNode};
 pub use fault::{QueryError, QueryFault};
 pub use laws::{
     aggregates_are, anti_is, clip_is, coalesce_is, delay_is, duration_is, events_have_lives,
-    extend_is, follow_is, group_is, hop_is, join_is, lives_change, mean_is, nodes_are_causal,
-    nodes_are_causal_over, nodes_have_no_order, result_is, select_is, session_is, snapshots_agree,
-    snapshots_are_final, source_is, top_is, undefined_groups_have_no_order, union_is, value_is,
-    where_is,
+    extend_is, follow_is, group_is, hop_is, join_is, lives_change, mean_is, means_are,
+    nodes_are_causal, nodes_are_causal_over, nodes_have_no_order, result_is, select_is, session_is,
+    snapshots_agree, snapshots_are_final, source_is, top_is, undefined_groups_have_no_order,
+    union_is, value_is, where_is,
 };
 pub use life_laws::{
     joins_are_causal, joins_have_the_rows, lives_are_causal, moved_events_have_the_rows,
