@@ -26,7 +26,7 @@ use Rattle.node_laws.specs.Readings.{value_by}
 use Rattle.node_laws.specs.Places.{read_events, EdgesArePlaced}
 use Rattle.node_laws.specs.Standing.{StandsRead}
 use Rattle.node_laws.specs.Selected.{read_edge, tested_edges, AreSelected}
-use Rattle.node_laws.specs.Keeping.{plain_cells, Keeps}
+use Rattle.node_laws.specs.Keeping.{plain_cells, Keeps, KeepsAhead}
 use Rattle.node_laws.specs.Shards.{any_shard, rows_of_shard}
 
 abbrev a : List ℕ
@@ -180,6 +180,17 @@ duration_tells_an_end = record {
   left_placed = start_has_place;
   right_placed = All-nil (λ e. ArePlaced (a ∷ []) e.cells);
   told = record { order = (omega arith, (omega arith, tt)); settled = refl; stands = record { weigh = λ w. omega arith } };
+}
+
+-- the same where the start and its end went out at once, by an interval edge
+duration_tells_ahead : KeepsAhead plain_cells (Duration 0 2) (a ∷ []) 4 inf (start_3 ∷ []) [] (record { sync = 3; other = 5; cells = Text 0 ∷ [] } ∷ [])
+unfolding inf
+duration_tells_ahead = record {
+  left_history = start_is_history;
+  right_history = record { order = tt; real = refl; paired = λ row start. omega arith };
+  left_placed = start_has_place;
+  right_placed = All-nil (λ e. ArePlaced (a ∷ []) e.cells);
+  told = record { order = (omega arith, tt); real = refl; below = refl; told = SameBag-refl _; ahead = λ w. omega arith };
 }
 
 -- of a start of the cells 0, 7 the items column 1 and 5 make a start of 7, 5, and a Where keeps it where its test is true

@@ -7,6 +7,7 @@ pub mod Keys
 pub mod Standing
 pub mod Answers
 pub mod Steps
+pub mod StepsAhead
 pub mod ShardSteps
 pub mod Selecting
 pub mod Through

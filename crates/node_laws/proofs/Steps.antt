@@ -129,11 +129,11 @@ keeps_longer ops n new old x y hl hr out b k = record {
 }
 
 module _ (test : List ExprNode → List Datum → Bool) (select : List (List ExprNode) → List Datum → List Datum) where
-  abbrev answer : Node → List Edge → List Edge → List CellEvent
+  abbrev pub answer : Node → List Edge → List Edge → List CellEvent
   answer n hl hr = node_in (cell_ops test select) n (of hl) (of hr)
 
   -- the node's closing is no later than infinity
-  node_low : (n : Node) (x y : ℕ) (hl hr : List Edge) → x ≤ inf → y ≤ inf → IsHistory hl → IsHistory hr → node_closes n x y ≤ inf
+  pub node_low : (n : Node) (x y : ℕ) (hl hr : List Edge) → x ≤ inf → y ≤ inf → IsHistory hl → IsHistory hr → node_closes n x y ≤ inf
   node_low n x y hl hr lx ly il ir =
       (node_in_known (cell_ops test select) same_cells-Decides n x y (of hl) (of hr) (of hl) (of hr) (Known-refl x (of hl) lx (of_valid hl il)) (Known-refl y (of hr) ly (of_valid hr ir))).low
 
@@ -142,17 +142,27 @@ module _ (test : List ExprNode → List Datum → Bool) (select : List (List Exp
       Keeps (cell_ops test select) n texts x y hl hr out → StandsBelow (node_closes n x y) out (node_in (cell_ops test select) n (of hl) (of hr))
   keeps_stand n texts x y hl hr out lx ly k = told_stands (node_closes n x y) out (answer n hl hr) (node_low n x y hl hr lx ly k.left_history k.right_history) k.told
 
+  -- what stands for the node's events of the cells that came in stands, read, for those of the rows, and has its places
+  pub answer_read : (n : Node) (texts : List (List ℕ)) (x y : ℕ) (hl hr out : List Edge) → has_expressions n ≡ false → AreDistinct texts → x ≤ inf → y ≤ inf →
+      IsHistory hl → IsHistory hr → EdgesArePlaced texts hl → EdgesArePlaced texts hr → StandsBelow (node_closes n x y) out (answer n hl hr) →
+      StandsRead texts (node_closes n x y) out (node_events n (read_of texts hl) (read_of texts hr))
+  answer_read n texts x y hl hr out plain apart lx ly il ir pl pr s =
+      stands_read test select texts apart n plain (node_closes n x y) hl hr out (node_low n x y hl hr lx ly il ir) il ir pl pr s
+
+  pub answer_has_places : (n : Node) (texts : List (List ℕ)) (c : ℕ) (hl hr out : List Edge) → has_expressions n ≡ false →
+      EdgesArePlaced texts hl → EdgesArePlaced texts hr → StandsBelow c out (answer n hl hr) → EdgesArePlaced texts out
+  answer_has_places n texts c hl hr out plain pl pr s =
+      answer_placed texts c out (answer n hl hr) s (node_placed test select texts n (of hl) (of hr) plain (placed_of texts hl pl) (placed_of texts hr pr))
+
   pub keeps_read : (n : Node) (texts : List (List ℕ)) (x y : ℕ) (hl hr out : List Edge) → has_expressions n ≡ false → AreDistinct texts → x ≤ inf → y ≤ inf →
       Keeps (cell_ops test select) n texts x y hl hr out → StandsRead texts (node_closes n x y) out (node_events n (read_of texts hl) (read_of texts hr))
   keeps_read n texts x y hl hr out plain apart lx ly k =
-      stands_read test select texts apart n plain (node_closes n x y) hl hr out (node_low n x y hl hr lx ly k.left_history k.right_history) k.left_history k.right_history k.left_placed k.right_placed
-      (keeps_stand n texts x y hl hr out lx ly k)
+      answer_read n texts x y hl hr out plain apart lx ly k.left_history k.right_history k.left_placed k.right_placed (keeps_stand n texts x y hl hr out lx ly k)
 
   pub keeps_placed : (n : Node) (texts : List (List ℕ)) (x y : ℕ) (hl hr out : List Edge) → has_expressions n ≡ false → x ≤ inf → y ≤ inf →
       Keeps (cell_ops test select) n texts x y hl hr out → EdgesArePlaced texts out
   keeps_placed n texts x y hl hr out plain lx ly k =
-      answer_placed texts (node_closes n x y) out (answer n hl hr) (keeps_stand n texts x y hl hr out lx ly k)
-      (node_placed test select texts n (of hl) (of hr) plain (placed_of texts hl k.left_placed) (placed_of texts hr k.right_placed))
+      answer_has_places n texts (node_closes n x y) hl hr out plain k.left_placed k.right_placed (keeps_stand n texts x y hl hr out lx ly k)
 
   -- the step: what is left to show of an operator's code is that its answer is the news of the node's events, in order
   pub keeps_more : (n : Node) (texts : List (List ℕ)) (x y u v : ℕ) (hl hr out l r more : List Edge) → x ≤ u → u ≤ inf → y ≤ v → v ≤ inf →

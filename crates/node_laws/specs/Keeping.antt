@@ -4,6 +4,7 @@ use Rattle.tw_rows.specs.declared.cells.Datum.{Datum}
 use Rattle.tw_rows.specs.declared.edge.Edge.{Edge}
 use Rattle.edge_history.specs.Order.{IsHistory}
 use Rattle.edge_history.specs.History.{of}
+use Rattle.edge_history.specs.Ahead.{ToldAhead}
 use Rattle.edge_history.specs.Balance.{Told}
 use Rattle.plan_model.specs.declared.node.Node.{Node}
 use Rattle.plan_model.specs.Meaning.{node_closes}
@@ -24,3 +25,12 @@ pub record Keeps (ops : RowOps Datum) (node : Node) (texts : List (List ℕ)) (x
   pub left_placed : EdgesArePlaced texts left
   pub right_placed : EdgesArePlaced texts right
   pub told : Told (node_closes node x y) out (node_in ops node (of left) (of right))
+
+-- the same where the edges that went out may tell ends ahead, by interval edges. Of the same Duration: below 4 the interval edge
+-- from 3 to 5
+pub record KeepsAhead (ops : RowOps Datum) (node : Node) (texts : List (List ℕ)) (x y : ℕ) (left right out : List Edge) : Type 0 where
+  pub left_history : IsHistory left
+  pub right_history : IsHistory right
+  pub left_placed : EdgesArePlaced texts left
+  pub right_placed : EdgesArePlaced texts right
+  pub told : ToldAhead (node_closes node x y) out (node_in ops node (of left) (of right))

@@ -25,7 +25,7 @@ pub use standing_laws::{
     sides_may_be_what_they_stand_for, standing_edges_stand_read,
 };
 pub use step_laws::{
-    nothing_is_kept_at_first, steps_keep_what_they_tell, what_is_kept_stays_in_longer_tables,
-    what_is_told_stands_for_the_node,
+    nothing_is_kept_at_first, steps_keep_what_they_tell, steps_may_tell_ends_ahead,
+    what_is_kept_stays_in_longer_tables, what_is_told_stands_for_the_node,
 };
 pub use through_laws::nodes_stand_read_after_their_children;

@@ -1,13 +1,14 @@
 // The laws of what operators keep of their nodes, step by step.
-ghost use Rattle.std.specs.Prelude.{◌≡◌, ℕ, ◌≤◌, Bool, false, List, [], ◌++◌};
+ghost use Rattle.std.specs.Prelude.{◌≡◌, ℕ, ◌+◌, ◌≤◌, Bool, false, List, [], ◌++◌, filter};
 ghost use Rattle.tw_rows.specs.Instant.{inf};
-ghost use Rattle.tw_rows.specs.Bag.{SameBag};
+ghost use Rattle.tw_rows.specs.Bag.{SameBag, total};
 ghost use Rattle.tw_rows.specs.Texts.{BeginsWith};
 ghost use Rattle.tw_rows.specs.declared.cells.Datum.{Datum};
 ghost use Rattle.tw_rows.specs.declared.edge.Edge.{Edge};
-ghost use Rattle.edge_history.specs.Order.{is_from, is_below, failing, Rises, IsHistory};
+ghost use Rattle.edge_history.specs.Order.{is_from, is_below, is_real, failing, Rises, IsHistory};
 ghost use Rattle.edge_history.specs.History.{of, StandsBelow};
 ghost use Rattle.edge_history.specs.Balance.{news};
+ghost use Rattle.edge_history.specs.Opens.{singles};
 ghost use Rattle.plan_model.specs.declared.expr.ExprNode.{ExprNode};
 ghost use Rattle.plan_model.specs.declared.node.Node.{Node};
 ghost use Rattle.plan_model.specs.Meaning.{node_events, node_closes};
@@ -17,7 +18,7 @@ ghost use Rattle.plan_model.specs.CellOps.{cell_ops};
 ghost use Rattle.node_laws.specs.Readings.{has_expressions};
 ghost use Rattle.node_laws.specs.Places.{AreDistinct, read_of, EdgesArePlaced};
 ghost use Rattle.node_laws.specs.Standing.{StandsRead};
-ghost use Rattle.node_laws.specs.Keeping.{Keeps};
+ghost use Rattle.node_laws.specs.Keeping.{Keeps, KeepsAhead};
 
 /// Where nothing came in, nothing is told, whatever the times up to which the sides are closed.
 pub fn nothing_is_kept_at_first()
@@ -68,5 +69,47 @@ pub fn what_is_told_stands_for_the_node()
         (select : List (List ExprNode) → List Datum → List Datum) (n : Node) (texts : List (List ℕ))
         (x y : ℕ) (left right out : List Edge) → has_expressions n ≡ false → AreDistinct texts → x ≤ inf → y ≤ inf →
         Keeps (cell_ops test select) n texts x y left right out →
+        StandsRead texts (node_closes n x y) out (node_events n (read_of texts left) (read_of texts right)) }
+{}
+
+/// An operator may tell ends ahead, by interval edges with the ends that it knows. Its step then shows that the single edges
+/// of its answer below the new closing, with the ends told ahead that come due by then, are the news of the node's events,
+/// and that what is told ahead are ends of these. What is told stands for the node's events as well.
+pub fn steps_may_tell_ends_ahead()
+    ensures first { (ops : RowOps Datum) (n : Node) (texts : List (List ℕ)) (x y : ℕ) →
+        KeepsAhead ops n texts x y [] [] [] }
+    ensures longer { (ops : RowOps Datum) (n : Node) (new old : List (List ℕ)) (x y : ℕ) (left right out : List Edge) →
+        BeginsWith new old → KeepsAhead ops n old x y left right out → KeepsAhead ops n new x y left right out }
+    ensures kept { (test : List ExprNode → List Datum → Bool)
+        (select : List (List ExprNode) → List Datum → List Datum) (n : Node) (texts : List (List ℕ))
+        (x y u v : ℕ) (left right out l r more : List Edge) → x ≤ u → u ≤ inf → y ≤ v → v ≤ inf →
+        KeepsAhead (cell_ops test select) n texts x y left right out →
+        IsHistory (left ++ l) → IsHistory (right ++ r) →
+        EdgesArePlaced texts (left ++ l) → EdgesArePlaced texts (right ++ r) →
+        failing (is_from x) l ≡ 0 → failing (is_from y) r ≡ 0 →
+        Rises 0 more → failing is_real more ≡ 0 →
+        failing (is_from (node_closes n x y)) more ≡ 0 → failing (is_below (node_closes n u v)) more ≡ 0 →
+        ((w : Edge → ℕ) → total w (filter (is_below (node_closes n u v)) (singles more))
+        + total w (filter (is_below (node_closes n u v)) (filter (is_from (node_closes n x y)) (singles out)))
+        ≡ total w (news (node_closes n x y) (node_closes n u v)
+        (node_in (cell_ops test select) n (of (left ++ l)) (of (right ++ r))))) →
+        ((w : Edge → ℕ) → total w (filter (is_from (node_closes n u v)) (singles more))
+        + total w (filter (is_from (node_closes n u v)) (filter (is_from (node_closes n x y)) (singles out)))
+        ≤ total w (news (node_closes n u v) inf
+        (node_in (cell_ops test select) n (of (left ++ l)) (of (right ++ r))))) →
+        KeepsAhead (cell_ops test select) n texts u v (left ++ l) (right ++ r) (out ++ more) }
+    ensures cells { (test : List ExprNode → List Datum → Bool)
+        (select : List (List ExprNode) → List Datum → List Datum) (n : Node) (texts : List (List ℕ))
+        (x y : ℕ) (left right out : List Edge) → x ≤ inf → y ≤ inf →
+        KeepsAhead (cell_ops test select) n texts x y left right out →
+        StandsBelow (node_closes n x y) out (node_in (cell_ops test select) n (of left) (of right)) }
+    ensures placed { (test : List ExprNode → List Datum → Bool)
+        (select : List (List ExprNode) → List Datum → List Datum) (n : Node) (texts : List (List ℕ))
+        (x y : ℕ) (left right out : List Edge) → has_expressions n ≡ false → x ≤ inf → y ≤ inf →
+        KeepsAhead (cell_ops test select) n texts x y left right out → EdgesArePlaced texts out }
+    ensures rows { (test : List ExprNode → List Datum → Bool)
+        (select : List (List ExprNode) → List Datum → List Datum) (n : Node) (texts : List (List ℕ))
+        (x y : ℕ) (left right out : List Edge) → has_expressions n ≡ false → AreDistinct texts → x ≤ inf → y ≤ inf →
+        KeepsAhead (cell_ops test select) n texts x y left right out →
         StandsRead texts (node_closes n x y) out (node_events n (read_of texts left) (read_of texts right)) }
 {}
