@@ -9,7 +9,7 @@ use Rattle.plan_model.specs.declared.node.Node.{Node}
 use Rattle.plan_model.specs.declared.node.Node.TheVariants.{Source, Select, Union, Delay, Hop, Group, Join, Anti, Follow}
 use Rattle.plan_model.specs.Amounts.{most_rows}
 use Rattle.plan_model.specs.Meaning.{Sources, snapshots}
-use Rattle.plan_laws.specs.Undefined.{undefined_at, first_below, first_undefined}
+use Rattle.plan_laws.specs.Undefined.{undefined_at, first_below, first_undefined, overflow}
 use Rattle.plan_laws.specs.Held.{reaching, node_may_hold}
 use Rattle.plan_laws.specs.LeftJoin.{filling_items}
 
@@ -61,6 +61,15 @@ a_sum_too_great = refl
 no_sum_too_great_below_three : first_undefined too_great sums 1 3 ≡ None
 unfolding pair event too_great sums most_rows
 no_sum_too_great_below_three = refl
+
+-- at the punctuation 4 the group is the lowest node that overflows, and at 3 none does
+an_overflow : overflow too_great sums 4 ≡ Some (record { node = 1; time = 3 })
+unfolding pair event too_great sums most_rows
+an_overflow = refl
+
+no_overflow_yet : overflow too_great sums 3 ≡ None
+unfolding pair event too_great sums most_rows
+no_overflow_yet = refl
 
 a_source_is_never_undefined : undefined_at too_great sums 0 3 ≡ false
 unfolding pair event too_great sums most_rows

@@ -1,5 +1,5 @@
 -- When groups are undefined, and that this hangs on the rows alone.
-use Rattle.std.specs.Prelude.{◌≡◌, ◌↔◌, ℕ, zero, suc, ◌-◌, ◌^◌, ◌<◌, ◌≤◌, nat_lt, ℤ, pos, negsuc, int_le, Bool, true, false, cond, IsTrue, Option, Some, None, List, length, slice_get, All, refl}
+use Rattle.std.specs.Prelude.{◌≡◌, ◌↔◌, ℕ, zero, suc, ◌-◌, ◌^◌, ◌<◌, ◌≤◌, nat_lt, ℤ, pos, negsuc, int_le, Bool, true, false, cond, IsTrue, Option, Some, None, List, length, slice_get, All, refl, is_some}
 use Rattle.std.specs.List.{list_any}
 use Rattle.std.proofs.Common.{◌∙◌, ap, subst, arith, inl, inr}
 use Rattle.std.proofs.lemmas.Bool.{cases_lt, or_from, or_parts}
@@ -21,7 +21,7 @@ use Rattle.plan_model.specs.RowOps.{RowOps, key_in, ints_in, rows_of_key_in, has
 use Rattle.plan_model.proofs.Aggregates.{undefined_same}
 use Rattle.plan_model.proofs.PlanLaws.{snapshots_final}
 use Rattle.plan_model.proofs.Plans.{over_nodes-is}
-use Rattle.plan_laws.specs.Undefined.{IsSumFitting, IsDefinedGroup, is_group, undefined_over, undefined_node, undefined_at, or_next, first_below, first_undefined}
+use Rattle.plan_laws.specs.Undefined.{IsSumFitting, IsDefinedGroup, is_group, undefined_over, undefined_node, undefined_at, or_next, first_below, first_undefined, Overflow, overflow_of, overflow_there, overflow}
 
 module _ {X : Type 0} (ops : RowOps X) where
   inside : (z : ℤ) → (is_outside_i64 z ≡ false) ↔ (IsTrue (int_le (negsuc (2 ^ 63 - 1)) z) × IsTrue (int_le z (pos (2 ^ 63 - 1))))
@@ -173,3 +173,65 @@ module _ (p : ℕ) (source later_source : Sources) (nodes : List Node) (ordered 
   first_final i c low =
       first_below_same (undefined_at source nodes i) (undefined_at later_source nodes i) c
       (λ t early. undefined_final i t (omega (arith, low, early)))
+
+-- the lowest node that is undefined
+module _ (first : ℕ → Option ℕ) (n : ℕ) where
+  IsOverflow : Option Overflow → Type 0
+  IsOverflow None = (i : ℕ) → i < n → first i ≡ None
+  IsOverflow (Some o) = (o.node < n) × (first o.node ≡ Some o.time) × ((j : ℕ) → j < o.node → first j ≡ None)
+
+  none_there : (o : Option ℕ) → is_some o ≡ false → o ≡ None
+  none_there None h = refl
+  none_there (Some t) h = absurd (cc)
+
+  found : (i : ℕ) → i < n → ((j : ℕ) → j < i → first j ≡ None) → (o : Option ℕ) → first i ≡ o → is_some o ≡ true →
+      IsOverflow (overflow_of i o)
+  unfolding IsOverflow
+  found i low before None e h = absurd (cc)
+  found i low before (Some t) e h = (low, e, before)
+
+  overflow_there_is : (o : Option ℕ) → IsFirst (λ i. is_some (first i)) n o → IsOverflow (overflow_there first o)
+  unfolding IsOverflow
+  overflow_there_is None h = λ i low. none_there (first i) (h i low)
+  overflow_there_is (Some i) h = found i h.0 (λ j low. none_there (first j) (h.2 j low)) (first i) refl h.1
+
+  overflow_first_is : IsOverflow (overflow_there first (first_below (λ i. is_some (first i)) n))
+  overflow_first_is = overflow_there_is (first_below (λ i. is_some (first i)) n) (first_below_is (λ i. is_some (first i)) n)
+
+  pub overflow_first_some : (o : Overflow) →
+      overflow_there first (first_below (λ i. is_some (first i)) n) ≡ Some o →
+      (o.node < n) × (first o.node ≡ Some o.time) × ((j : ℕ) → j < o.node → first j ≡ None)
+  unfolding IsOverflow
+  overflow_first_some o e = subst IsOverflow e overflow_first_is
+
+  pub overflow_first_none : overflow_there first (first_below (λ i. is_some (first i)) n) ≡ None →
+      (i : ℕ) → i < n → first i ≡ None
+  unfolding IsOverflow
+  overflow_first_none e = subst IsOverflow e overflow_first_is
+
+pub overflow_some : (source : Sources) (nodes : List Node) (p : ℕ) (o : Overflow) → overflow source nodes p ≡ Some o →
+    (o.node < length nodes) × (first_undefined source nodes o.node (closes nodes o.node p) ≡ Some o.time)
+    × ((j : ℕ) → j < o.node → first_undefined source nodes j (closes nodes j p) ≡ None)
+overflow_some source nodes p = overflow_first_some (λ i. first_undefined source nodes i (closes nodes i p)) (length nodes)
+
+pub overflow_none : (source : Sources) (nodes : List Node) (p : ℕ) → overflow source nodes p ≡ None →
+    (i : ℕ) → i < length nodes → first_undefined source nodes i (closes nodes i p) ≡ None
+overflow_none source nodes p = overflow_first_none (λ i. first_undefined source nodes i (closes nodes i p)) (length nodes)
+
+-- the overflow hangs on what is known of the sources
+overflow_there_same : (f g : ℕ → Option ℕ) → ((i : ℕ) → f i ≡ g i) → (n : ℕ) →
+    overflow_there f (first_below (λ i. is_some (f i)) n) ≡ overflow_there g (first_below (λ i. is_some (g i)) n)
+overflow_there_same f g h n =
+    ap (overflow_there f) (first_below_same (λ i. is_some (f i)) (λ i. is_some (g i)) n (λ i low. ap is_some (h i)))
+    ∙ go (first_below (λ i. is_some (g i)) n)
+  where
+    go : (o : Option ℕ) → overflow_there f o ≡ overflow_there g o
+    go None = refl
+    go (Some i) = ap (overflow_of i) (h i)
+
+pub overflow_final : (p : ℕ) (source later_source : Sources) (nodes : List Node) → IsOrdered nodes → IsLevelled nodes →
+    ((s : ℕ) → Known p (source s) (later_source s)) → overflow source nodes p ≡ overflow later_source nodes p
+overflow_final p source later_source nodes ordered levelled known =
+    overflow_there_same (λ i. first_undefined source nodes i (closes nodes i p))
+    (λ i. first_undefined later_source nodes i (closes nodes i p))
+    (λ i. first_final p source later_source nodes ordered levelled known i (closes nodes i p) (omega arith)) (length nodes)

@@ -1,5 +1,5 @@
 -- Groups that have no row to answer: they have too many rows, or too great a sum.
-use Rattle.std.specs.Prelude.{ℕ, zero, suc, ◌-◌, ◌^◌, ◌≤◌, pos, negsuc, int_le, Bool, true, false, cond, IsTrue, Option, Some, None, List, [], length, slice_get, All}
+use Rattle.std.specs.Prelude.{ℕ, zero, suc, ◌-◌, ◌^◌, ◌≤◌, pos, negsuc, int_le, Bool, true, false, cond, IsTrue, is_some, Option, Some, None, List, [], length, slice_get, All}
 use Rattle.tw_rows.specs.Event.{alive}
 use Rattle.tw_rows.specs.Rows.{Row}
 use Rattle.plan_model.specs.declared.agg.Agg.{Agg}
@@ -8,7 +8,7 @@ use Rattle.plan_model.specs.declared.node.Node.{Node}
 use Rattle.plan_model.specs.declared.node.Node.TheVariants.{Group}
 use Rattle.plan_model.specs.Amounts.{exact_sum}
 use Rattle.plan_model.specs.Keys.{value_ops}
-use Rattle.plan_model.specs.Meaning.{Sources, left_of, snapshots}
+use Rattle.plan_model.specs.Meaning.{Sources, closes, left_of, snapshots}
 use Rattle.plan_model.specs.RowOps.{RowOps, ints_in, is_undefined_in}
 
 -- a sum of the rows is at least -2^63 and at most 2^63 - 1
@@ -55,3 +55,22 @@ first_below p (suc n) = or_next p n (first_below p n)
 -- the least instant below c at which the node of number i is undefined
 abbrev pub first_undefined : Sources → List Node → ℕ → ℕ → Option ℕ
 first_undefined source nodes i c = first_below (undefined_at source nodes i) c
+
+-- a node, and an instant at which it is undefined
+pub record Overflow : Type 0 where
+  pub node : ℕ
+  pub time : ℕ
+
+abbrev pub overflow_of : ℕ → Option ℕ → Option Overflow
+overflow_of i None = None
+overflow_of i (Some t) = Some (record { node = i; time = t })
+
+-- the overflow of the node of that number, if there is a number
+abbrev pub overflow_there : (ℕ → Option ℕ) → Option ℕ → Option Overflow
+overflow_there first None = None
+overflow_there first (Some i) = overflow_of i (first i)
+
+-- the lowest node that is undefined at an instant below its closing at the punctuation p, with its least such instant
+abbrev pub overflow : Sources → List Node → ℕ → Option Overflow
+overflow source nodes p = overflow_there (λ i. first_undefined source nodes i (closes nodes i p))
+    (first_below (λ i. is_some (first_undefined source nodes i (closes nodes i p))) (length nodes))

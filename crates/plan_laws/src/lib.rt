@@ -14,6 +14,6 @@ pub use join_laws::{
 };
 pub use times_laws::{nodes_move_times, times_stay_within_reach};
 pub use undefined_laws::{
-    first_undefined_is, groups_are_undefined, undefined_at_is, undefined_is_final,
+    first_undefined_is, groups_are_undefined, overflow_is, undefined_at_is, undefined_is_final,
     undefined_nodes_are_alike,
 };

@@ -1,5 +1,5 @@
 // The laws of undefined groups.
-ghost use Rattle.std.specs.Prelude.{◌≡◌, ◌↔◌, ℕ, ◌<◌, ◌≤◌, Bool, false, IsTrue, Some, None, List, slice_get, All};
+ghost use Rattle.std.specs.Prelude.{◌≡◌, ◌↔◌, ℕ, ◌<◌, ◌≤◌, Bool, false, IsTrue, Some, None, List, length, slice_get, All};
 ghost use Rattle.tw_rows.specs.Bag.{SameBag};
 ghost use Rattle.tw_rows.specs.Event.{Event, alive, Known};
 ghost use Rattle.plan_model.specs.declared.agg.Agg.{Agg};
@@ -8,7 +8,7 @@ ghost use Rattle.plan_model.specs.Groups.{is_undefined};
 ghost use Rattle.plan_model.specs.Keys.{value_ops};
 ghost use Rattle.plan_model.specs.Meaning.{Sources, closes, snapshots, IsOrdered, IsLevelled};
 ghost use Rattle.plan_model.specs.RowOps.{RowOps, key_in, rows_of_key_in, is_undefined_in};
-ghost use Rattle.plan_laws.specs.Undefined.{IsDefinedGroup, is_group, undefined_over, left_rows, undefined_at, first_below, first_undefined};
+ghost use Rattle.plan_laws.specs.Undefined.{IsDefinedGroup, is_group, undefined_over, left_rows, undefined_at, first_below, first_undefined, Overflow, overflow};
 
 /// The groups of some rows are all defined exactly where each of them has at most 2^62 rows, and each of its sums is at
 /// least -2^63 and at most 2^63 - 1. A node that is no group is never undefined.
@@ -61,4 +61,18 @@ pub fn undefined_is_final()
         IsOrdered nodes → IsLevelled nodes → ((s : ℕ) → Known p (source s) (later_source s)) →
         (i c : ℕ) → c ≤ closes nodes i p →
         first_undefined source nodes i c ≡ first_undefined later_source nodes i c }
+{}
+
+/// At a punctuation the lowest node is found that is undefined at an instant below its closing, with its least such
+/// instant; and none exactly where no node is. Later lines leave it as it is.
+pub fn overflow_is()
+    ensures some { (source : Sources) (nodes : List Node) (p : ℕ) (o : Overflow) → overflow source nodes p ≡ Some o →
+        (o.node < length nodes)
+        × (first_undefined source nodes o.node (closes nodes o.node p) ≡ Some o.time)
+        × ((j : ℕ) → j < o.node → first_undefined source nodes j (closes nodes j p) ≡ None) }
+    ensures none { (source : Sources) (nodes : List Node) (p : ℕ) → overflow source nodes p ≡ None →
+        (i : ℕ) → i < length nodes → first_undefined source nodes i (closes nodes i p) ≡ None }
+    ensures later { (p : ℕ) (source later_source : Sources) (nodes : List Node) →
+        IsOrdered nodes → IsLevelled nodes → ((s : ℕ) → Known p (source s) (later_source s)) →
+        overflow source nodes p ≡ overflow later_source nodes p }
 {}
