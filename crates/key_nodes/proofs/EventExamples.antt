@@ -1,12 +1,12 @@
 -- Coalesced events, tops, followed events and pairs, worked out.
-use Rattle.std.specs.Prelude.{◌≡◌, ◌+◌, nat_eq, nat_lt, pos, true, cond, [], ◌∷◌, refl}
+use Rattle.std.specs.Prelude.{◌≡◌, ◌+◌, ◌-◌, ◌/◌, ◌^◌, nat_eq, nat_lt, pos, true, cond, [], ◌∷◌, refl}
 use Rattle.tw_rows.specs.Event.{alive}
 use Rattle.tw_rows.specs.Instant.{inf}
 use Rattle.key_nodes.specs.Groups.{grouped_rows}
 use Rattle.key_nodes.specs.Coalesced.{rise_times, fall_times, coalesced_below}
 use Rattle.key_nodes.specs.Tops.{top_rows}
 use Rattle.key_nodes.specs.Follows.{followed}
-use Rattle.key_nodes.specs.Joins.{joined}
+use Rattle.key_nodes.specs.Joins.{joined_rows, joined}
 use Rattle.key_nodes.proofs.Examples.{event, number}
 
 -- lives that touch are one event: [1, 9) and [9, 12), and another row beside them
@@ -73,3 +73,33 @@ followed_by_two = refl
 pairs_that_meet : joined nat_eq (λ a b. a + b) (event 7 1 5 ∷ event 4 1 3 ∷ []) (event 7 3 8 ∷ event 4 3 8 ∷ [])
     ≡ event 14 3 5 ∷ []
 pairs_that_meet = refl
+
+-- rows of one pair: the lives meet at 3 and 4 alone
+pairs_over_the_meeting : joined nat_eq (λ a b. a + b) (event 7 1 5 ∷ []) (event 7 3 8 ∷ event 7 0 2 ∷ []) ≡ event 14 3 5 ∷ event 14 1 2 ∷ []
+pairs_over_the_meeting = refl
+
+-- lives that touch meet at no instant
+no_pairs_of_touching_lives : joined nat_eq (λ a b. a + b) (event 7 1 3 ∷ []) (event 7 3 8 ∷ []) ≡ []
+no_pairs_of_touching_lives = refl
+
+-- two equal rows on each side are four pairs
+equal_rows_are_pairs_each : joined_rows nat_eq (λ a b. a + b) (7 ∷ 7 ∷ 4 ∷ []) (7 ∷ 5 ∷ 7 ∷ []) ≡ 14 ∷ 14 ∷ 14 ∷ 14 ∷ []
+equal_rows_are_pairs_each = refl
+
+-- where all rows meet, as with no key column, the next start is that of any row
+followed_without_a_key : followed (λ a b. true) (λ a b. a + b) 5 (event 7 1 2 ∷ [])
+    (event 4 3 9 ∷ event 7 2 30 ∷ []) ≡ event 14 2 6 ∷ []
+unfolding inf
+followed_without_a_key = refl
+
+-- a time that passes the last instant ends at infinity
+followed_to_infinity : followed nat_eq (λ a b. a + b) 5 (event 7 (2 ^ 61 - 3) inf ∷ [])
+    (event 7 (2 ^ 61 - 1) inf ∷ []) ≡ event 14 (2 ^ 61 - 1) inf ∷ []
+unfolding inf
+followed_to_infinity = refl
+
+-- the rows 31, 72 and 73 with their tens as values: while 72 and 73 are there they tie, and both stay
+tops_with_ties : coalesced_below nat_eq
+    (λ t. top_rows (λ a b. true) (λ r. pos (r / 10)) 1 (alive (event 31 1 5 ∷ event 72 3 8 ∷ event 73 4 6 ∷ []) t)) 9
+    ≡ event 31 1 3 ∷ event 73 4 6 ∷ event 72 3 8 ∷ []
+tops_with_ties = refl

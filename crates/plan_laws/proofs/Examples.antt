@@ -1,5 +1,6 @@
 -- A few plans, worked out.
 use Rattle.std.specs.Prelude.{◌≡◌, ℕ, ◌-◌, ◌^◌, nat_lt, pos, negsuc, false, cond, Some, None, List, [], ◌∷◌, refl}
+use Rattle.std.proofs.Common.{arith}
 use Rattle.tw_rows.specs.Event.{Event}
 use Rattle.tw_rows.specs.Instant.{inf}
 use Rattle.tw_rows.specs.Rows.{Row}
@@ -8,7 +9,8 @@ use Rattle.plan_model.specs.declared.agg.Agg.TheVariants.{Count, Sum}
 use Rattle.plan_model.specs.declared.node.Node.{Node}
 use Rattle.plan_model.specs.declared.node.Node.TheVariants.{Source, Select, Union, Delay, Hop, Group, Join, Anti, Follow}
 use Rattle.plan_model.specs.Amounts.{most_rows}
-use Rattle.plan_model.specs.Meaning.{Sources, snapshots}
+use Rattle.plan_model.specs.Meaning.{Sources, events, snapshots}
+use Rattle.plan_laws.specs.Times.{TimesUpTo}
 use Rattle.plan_laws.specs.Undefined.{undefined_at, first_below, first_undefined, overflow}
 use Rattle.plan_laws.specs.Held.{reaching, node_may_hold}
 use Rattle.plan_laws.specs.LeftJoin.{filling_items}
@@ -128,3 +130,27 @@ a_follow_may_hold = refl
 a_follow_may_hold_the_answer : node_may_hold left_and_right follow 10 2 ≡ 4
 unfolding pair event left_and_right follow inf
 a_follow_may_hold_the_answer = refl
+
+-- the last start is at 4, and the last end before infinity at 5
+times_up_to_five : TimesUpTo 5 (event (pair 7 1) 3 5 ∷ event (pair 7 2) 4 inf ∷ [])
+unfolding event inf
+times_up_to_five = (omega arith, λ l. omega arith, (omega arith, λ l. absurd (omega (arith, l)), tt))
+
+-- a hop of size 10 may take them 10 further: [0, 10) of [3, 5), not past 3 + 10
+the_hop_is_within_reach : events left_and_right windows 1 ≡ event (pair 7 1) 0 10 ∷ []
+unfolding pair event left_and_right windows inf
+the_hop_is_within_reach = refl
+
+-- the right rows (7, 2) and (7, 3) give one row of the key 7 alone, with no other column
+one_row_a_key : snapshots (λ s. event (pair 7 2) 1 9 ∷ event (pair 7 3) 2 9 ∷ []) left_join 3 4 ≡ (Int (pos 7) ∷ []) ∷ []
+unfolding pair event left_join
+one_row_a_key = refl
+
+-- so the key 7 of the row (7, 1) has a partner, and the row is paired with both
+paired_with_both : snapshots
+    (λ s. cond (nat_lt s 1) (event (pair 7 1) 1 9 ∷ event (pair 8 1) 1 9 ∷ []) (event (pair 7 2) 1 9 ∷ event (pair 7 3) 2 9 ∷ []))
+    left_join 6 4
+    ≡ (Int (pos 7) ∷ Int (pos 1) ∷ Int (pos 2) ∷ []) ∷ (Int (pos 7) ∷ Int (pos 1) ∷ Int (pos 3) ∷ [])
+    ∷ (Int (pos 8) ∷ Int (pos 1) ∷ Int (negsuc 0) ∷ []) ∷ []
+unfolding pair event left_join
+paired_with_both = refl
