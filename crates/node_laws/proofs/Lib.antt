@@ -1,7 +1,7 @@
 pub mod Maps
 pub mod CoalescedMaps
 pub mod Reading
-pub mod Lanes
+pub mod Agreeing
 pub mod Places
 pub mod Keys
 pub mod Standing

@@ -33,6 +33,7 @@ use Rattle.plan_model.specs.Nodes.{events_to}
 use Rattle.node_laws.specs.Places.{AreDistinct, read_events, read_of, EdgesArePlaced}
 use Rattle.node_laws.specs.Standing.{StandsRead}
 use Rattle.node_laws.specs.Selected.{RowEdge, read_edge, selected_edge, tested_edges, AreSelected}
+use Rattle.node_laws.proofs.Agreeing.{select_read}
 use Rattle.node_laws.proofs.Standing.{all_of, placed_stand, node_valid, no_history, none_stand, stands_where, stands_of_sides}
 
 -- the datum of a value: of a text its place in the table
@@ -86,20 +87,13 @@ module _ (texts : List (List ℕ)) (apart : AreDistinct texts) (items : List (Li
         All-cons (λ x. Reads x.cells) e h (ap (read_cells texts) (sym cells) ∙ row) more.1,
       )
 
-  events_made : (es : List CellEvent) → All (λ e. Reads e.row) es → events_to (selected_row items) (read_events texts es) ≡ read_events texts (events_with made_of es)
-  events_made [] h = refl
-  events_made (e ∷ es) h =
-      let x = All-head (λ e. Reads e.row) e es h in
-      let y = events_made es (All-tail (λ e. Reads e.row) e es h) in
-      λ i. record { row = sym x i; start = e.start; end = e.end } ∷ y i
-
   pub selected_stand : (child c : ℕ) (h out : List Edge) (rows : List (Event Row)) → EdgesArePlaced texts out → AreSelected texts items h out →
       StandsRead texts c h rows → StandsRead texts c out (node_events (Select child items) rows [])
   selected_stand child c h out rows p s stands =
       let made = edges_made h out p s in
       let own : StandsBelow c h (of h) = record { history = stands.history; below = stands.below; same = SameBag-refl (cut c (of h)) } in
       let cells : StandsBelow c out (events_with made_of (of h)) = subst (λ o. StandsBelow c o (events_with made_of (of h))) (sym made.0) (stands_with made_of c h (of h) own) in
-      let read = events_made (of h) (all_of Reads h made.1) in
+      let read = select_read texts items made_of Reads (λ ds r. r) (of h) (all_of Reads h made.1) in
       let valid = node_valid texts (Select child items) h [] stands.history no_history in
       let answer = placed_stand texts c out (events_with made_of (of h)) (events_to (selected_row items) (read_of texts h)) stands.known.low read p valid cells in
       stands_of_sides texts (Select child items) c c h [] out rows [] stands (none_stand texts c stands.known.low) answer

@@ -33,7 +33,7 @@ use Rattle.node_laws.proofs.Maps.{alive_to, cut_to, AreEvents-to}
 use Rattle.node_laws.proofs.Reading.{undefined_read}
 use Rattle.plan_model.specs.declared.node.Node.TheVariants.{Where, Select}
 use Rattle.plan_model.specs.Expr.{holds, selected_row}
-use Rattle.node_laws.proofs.Lanes.{where_read, select_read}
+use Rattle.node_laws.proofs.Agreeing.{where_read, select_read}
 use Rattle.node_laws.proofs.Answers.{answer_placed}
 use Rattle.node_laws.proofs.Places.{read_wide, place_law, node_placed, events_wide, wide_reads}
 
@@ -145,7 +145,7 @@ pub stands_select : (texts : List (List ℕ)) (child : ℕ) (items : List (List 
     (c : ℕ) (h out : List Edge) → c ≤ inf → IsHistory h → EdgesArePlaced texts h → StandsBelow c out (events_to f (of h)) →
     StandsRead texts c out (node_events (Select child items) (read_of texts h) [])
 stands_select texts child items f agree keeps c h out low is placed s =
-    stands_by texts c out (events_to f (of h)) (events_to (selected_row items) (read_of texts h)) low (select_read texts items f agree (of h) (placed_of texts h placed))
+    stands_by texts c out (events_to f (of h)) (events_to (selected_row items) (read_of texts h)) low (select_read texts items f (ArePlaced texts) agree (of h) (placed_of texts h placed))
     (All-map (λ e. ArePlaced texts e.row) (event_to f) (of h) (All-weaker (λ e. ArePlaced texts e.row) (λ e. ArePlaced texts (f e.row)) (λ e k. keeps e.row k) (of h) (placed_of texts h placed)))
     (node_valid texts (Select child items) h [] is no_history) s
 

@@ -1,8 +1,6 @@
 -- What an operator keeps of its node, what its answers stand for, and its step.
 use Rattle.std.specs.Prelude.{◌≡◌, ℕ, ◌*◌, ◌/◌, zero, suc, ◌≤◌, nat_lt, Bool, true, false, cond, List, [], ◌++◌, flat_map, refl}
-use Rattle.std.proofs.Common.{◌∙◌, ap, arith, div-mul-le_self, mul-le-mul_left}
-use Rattle.std.proofs.lemmas.Nat.{le-div}
-use Rattle.std.proofs.lemmas.Bool.Decides.{nat_tests}
+use Rattle.std.proofs.Common.{◌∙◌, ap, arith}
 use Rattle.std.proofs.lemmas.List.Elements.{All-nil}
 use Rattle.tw_rows.specs.Instant.{inf, floor_to}
 use Rattle.tw_rows.specs.Bag.{SameBag}
@@ -35,18 +33,13 @@ use Rattle.key_nodes.specs.Groups.{distinct}
 use Rattle.key_nodes.specs.Coalesced.{row_events, rows_below, coalesced}
 use Rattle.key_nodes.specs.Tops.{top_rows}
 use Rattle.plan_model.specs.RowOps.{RowOps, keys_equal_in, int_in}
+use Rattle.plan_model.proofs.NewLives.{floor_rises}
 use Rattle.plan_model.proofs.Causal.{node_in_known}
 use Rattle.node_laws.proofs.Places.{node_placed}
 use Rattle.node_laws.proofs.Answers.{answer_placed}
 use Rattle.node_laws.proofs.Standing.{of_valid, placed_of, placed_longer, no_history, stands_read}
 
-multiple_rises : (p c s : ℕ) → c ≤ s → p * (c / p) ≤ p * (s / p)
-multiple_rises zero c s h = omega arith
-multiple_rises (suc p) c s h = mul-le-mul_left (suc p) (le-div (c / suc p) s (suc p) (omega arith) (let below = div-mul-le_self c (suc p) in omega (arith, below)))
-
-floor_rises : (p c s : ℕ) → c ≤ s → s ≤ inf → floor_to p c ≤ floor_to p s
-floor_rises p c s h low = let rises = multiple_rises p c s h in let below = div-mul-le_self c p in grind (arith, nat_tests)
-
+-- closings rise with those of the children
 pub node_rises : (n : Node) (x y u v : ℕ) → x ≤ u → y ≤ v → u ≤ inf → node_closes n x y ≤ node_closes n u v
 node_rises (Source stream) x y u v a b low = a
 node_rises (Where of_it test) x y u v a b low = a

@@ -1,5 +1,5 @@
 -- Where and Select: a test and a selection of cells that agree with those of rows.
-use Rattle.std.specs.Prelude.{◌≡◌, Bool, true, false, cond, List, [], ◌∷◌, filter, refl}
+use Rattle.std.specs.Prelude.{◌≡◌, ℕ, Bool, true, false, cond, List, [], ◌∷◌, All, filter, refl}
 use Rattle.std.proofs.Common.{sym, ◌∙◌, ap}
 use Rattle.std.proofs.lemmas.List.Elements.{All-head, All-tail}
 use Rattle.tw_rows.specs.Cells.{ArePlaced, read_cells}
@@ -10,7 +10,7 @@ use Rattle.edge_history.specs.History.{CellEvent}
 use Rattle.plan_model.specs.Nodes.{event_to, events_to}
 use Rattle.node_laws.specs.Places.{read_events, EventsArePlaced}
 
-pub where_read : (texts : List (List _)) (test : List ExprNode) (p : List Datum → Bool) → ((ds : List Datum) → ArePlaced texts ds → p ds ≡ holds test (read_cells texts ds)) →
+pub where_read : (texts : List (List ℕ)) (test : List ExprNode) (p : List Datum → Bool) → ((ds : List Datum) → ArePlaced texts ds → p ds ≡ holds test (read_cells texts ds)) →
     (es : List CellEvent) → EventsArePlaced texts es → filter (λ e. holds test e.row) (read_events texts es) ≡ read_events texts (filter (λ e. p e.row) es)
 where_read texts test p h [] k = refl
 where_read texts test p h (e ∷ es) k =
@@ -21,10 +21,10 @@ where_read texts test p h (e ∷ es) k =
     out true = refl
     out false = refl
 
-pub select_read : (texts : List (List _)) (items : List (List ExprNode)) (f : List Datum → List Datum) → ((ds : List Datum) → ArePlaced texts ds → read_cells texts (f ds) ≡ selected_row items (read_cells texts ds)) →
-    (es : List CellEvent) → EventsArePlaced texts es → events_to (selected_row items) (read_events texts es) ≡ read_events texts (events_to f es)
-select_read texts items f h [] k = refl
-select_read texts items f h (e ∷ es) k =
-    let a = h e.row (All-head (λ e. ArePlaced texts e.row) e es k) in
-    let b = select_read texts items f h es (All-tail (λ e. ArePlaced texts e.row) e es k) in
+pub select_read : (texts : List (List ℕ)) (items : List (List ExprNode)) (f : List Datum → List Datum) (P : List Datum → Type 0) → ((ds : List Datum) → P ds → read_cells texts (f ds) ≡ selected_row items (read_cells texts ds)) →
+    (es : List CellEvent) → All (λ e. P e.row) es → events_to (selected_row items) (read_events texts es) ≡ read_events texts (events_to f es)
+select_read texts items f P h [] k = refl
+select_read texts items f P h (e ∷ es) k =
+    let a = h e.row (All-head (λ e. P e.row) e es k) in
+    let b = select_read texts items f P h es (All-tail (λ e. P e.row) e es k) in
     λ i. record { row = sym a i; start = e.start; end = e.end } ∷ b i
