@@ -1,5 +1,8 @@
 pub mod Typing
 pub mod Stepping
+pub mod Operands
 pub mod Results
 pub mod Mapping
 pub mod Placing
+pub mod Marks
+pub mod Comparing

@@ -36,16 +36,6 @@ read-get_or texts [] i = refl
 read-get_or texts (x ∷ ds) zero = refl
 read-get_or texts (x ∷ ds) (suc i) = read-get_or texts ds i
 
-kind-get_or : (ds : List Datum) (i : ℕ) → get_or (map datum_kind ds) i Whole ≡ datum_kind (get_or ds i (IntDatum (pos 0)))
-kind-get_or [] i = refl
-kind-get_or (x ∷ ds) zero = refl
-kind-get_or (x ∷ ds) (suc i) = kind-get_or ds i
-
-get_or-default : {A : Type 0} (xs : List A) (i : ℕ) (d e : A) → i < length xs → get_or xs i d ≡ get_or xs i e
-get_or-default [] i d e lt = absurd (omega arith)
-get_or-default (x ∷ xs) zero d e lt = refl
-get_or-default (x ∷ xs) (suc i) d e lt = get_or-default xs i d e (omega arith)
-
 -- the results of one node more
 results_from-push : {N R : Type 0} (step : N → List R → R) (done : List R) (ns : List N) (n : N) → results_from step done (ns ++ n ∷ []) ≡ results_from step done ns ++ step n (done ++ results_from step done ns) ∷ []
 results_from-push step done [] n = ap (λ l. step n l ∷ []) (sym (append-nil done))
@@ -95,25 +85,16 @@ module _ (texts : List (List ℕ)) (columns : List CellKind) (cells : List Datum
     pub length-Stands : length done ≡ length (take k ss)
     length-Stands = sym (length-map done datum_kind) ∙ ap length stands.kinds ∙ length-map (take k ss) (step_kind columns)
 
-    -- the last datum, whatever stands for a missing one
-    module _ (past : length ss ≤ k) (some : 0 < length ss) (x : Datum) (last : x ≡ get_or done (length ss - 1) x) where
-      there : length ss - 1 < length done
-      there = let long = length-Stands in let all = ap length (take_all k ss past) in omega (arith, some, long, all)
+    -- the last datum
+    module _ (past : length ss ≤ k) (some : 0 < length ss) where
+      abbrev last : Datum
+      last = get_or done (length ss - 1) (IntDatum (pos 0))
 
-      is : x ≡ get_or done (length ss - 1) (IntDatum (pos 0))
-      is = last ∙ get_or-default done (length ss - 1) x (IntDatum (pos 0)) there
-
-      pub Stands-value : read_datum texts x ≡ value (expr_of texts ss) (read_cells texts cells)
+      pub Stands-value : read_datum texts last ≡ value (expr_of texts ss) (read_cells texts cells)
       Stands-value =
-          ap (read_datum texts) is ∙ sym (read-get_or texts done (length ss - 1))
+          sym (read-get_or texts done (length ss - 1))
           ∙ ap (λ vs. get_or vs (length ss - 1) zero_value) (stands.values ∙ ap (values_of texts cells) (take_all k ss past))
           ∙ ap (λ n. get_or (values_of texts cells ss) (n - 1) zero_value) (sym (length-expr_of texts ss))
 
-      pub Stands-kind : datum_kind x ≡ kind_of (expr_of [] ss) columns
-      Stands-kind =
-          ap datum_kind is ∙ sym (kind-get_or done (length ss - 1))
-          ∙ ap (λ ks. get_or ks (length ss - 1) Whole) (stands.kinds ∙ ap (map (step_kind columns)) (take_all k ss past) ∙ sym (kinds-texts columns [] ss))
-          ∙ ap (λ n. get_or (map (node_kind columns) (expr_of [] ss)) (n - 1) Whole) (sym (length-expr_of [] ss))
-
-      pub Stands-placed : IsPlaced texts x
-      Stands-placed = subst (IsPlaced texts) (sym last) (ArePlaced-at texts done (length ss - 1) x stands.placed there)
+      pub Stands-placed : IsPlaced texts last
+      Stands-placed = ArePlaced-or_zero texts done (length ss - 1) stands.placed

@@ -1,5 +1,5 @@
 -- The nodes that steps stand for: their kinds and rules do not hang on the texts.
-use Rattle.std.proofs.Common.{◌≡◌, ℕ, zero, suc, ◌+◌, ◌-◌, ◌<◌, List, [], ◌∷◌, ◌++◌, map, length, get_or, refl, ap, sym, ◌∙◌, subst, arith, zero-add, append_assoc}
+use Rattle.std.proofs.Common.{◌≡◌, ℕ, zero, suc, ◌+◌, ◌-◌, ◌<◌, List, [], ◌∷◌, ◌++◌, map, length, get_or, refl, ap, sym, ◌∙◌, subst, arith, zero-add, append_assoc, append-nil, take}
 use Rattle.std.proofs.lemmas.List.{length-map, length-append, map-append, get_or_append_left, get_or-map}
 use Rattle.std.proofs.lemmas.List.Sums.{fold-append}
 use Rattle.std.proofs.lemmas.List.Elements.{All-nil}
@@ -199,3 +199,14 @@ pub IsStepPlaced-at : (texts : List (List ℕ)) (ss : List Step) (k : ℕ) (d : 
 IsStepPlaced-at texts [] k d h lt = absurd (omega arith)
 IsStepPlaced-at texts (s ∷ ss) zero d h lt = h.0
 IsStepPlaced-at texts (s ∷ ss) (suc k) d h lt = IsStepPlaced-at texts ss k d h.1 (omega arith)
+
+typed_from : (columns before : List CellKind) (ss : List Step) (k : ℕ) (d : Step) → AreTyped columns before (expr_of [] ss) → k < length ss → IsTypedNode columns (before ++ map (step_kind columns) (take k ss)) (node_of [] (get_or ss k d))
+typed_from columns before [] k d h lt = absurd (omega arith)
+typed_from columns before (s ∷ ss) zero d h lt = subst (λ ks. IsTypedNode columns ks (node_of [] s)) (sym (append-nil before)) h.0
+typed_from columns before (s ∷ ss) (suc k) d h lt =
+    subst (λ ks. IsTypedNode columns ks (node_of [] (get_or ss k d))) (append_assoc before (step_kind columns s ∷ []) (map (step_kind columns) (take k ss)))
+    (typed_from columns (before ++ step_kind columns s ∷ []) ss k d h.1 (omega arith))
+
+-- each step has operands of the kinds that it takes
+pub IsTypedNode-step : (columns : List CellKind) (ss : List Step) (k : ℕ) (d : Step) → AreSteps columns ss → k < length ss → IsTypedNode columns (map (step_kind columns) (take k ss)) (node_of [] (get_or ss k d))
+IsTypedNode-step columns ss k d h lt = typed_from columns [] ss k d h.typed lt

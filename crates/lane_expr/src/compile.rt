@@ -2,12 +2,15 @@
 ghost use Rattle.std.specs.Prelude.{◌≡◌, ℕ, map, take, IfOk, OnOk, OnErr};
 ghost use Rattle.tw_rows.specs.Kinds.{cell_kind_of};
 ghost use Rattle.tw_rows.specs.Texts.{BeginsWith};
+ghost use Rattle.plan_model.specs.IsExpr.{IsExprNode, AreExprNodes};
 ghost use Rattle.plan_model.specs.Typed.{IsTyped, kind_of};
-ghost use Rattle.lane_expr.specs.Steps.{node_of, expr_of, IsStepPlaced, AreStepsPlaced, with_node, with_texts};
+ghost use Rattle.lane_expr.specs.Steps.{node_of, expr_of, IsStepPlaced, AreStepsPlaced, AreSteps, step_kind, with_node, with_texts};
 ghost use Rattle.lane_expr.specs.Kernels.{IsKernelOf, result_kind};
 
 use crate::kernel::Kernel;
-use crate::step::Step;
+use crate::registers::Register;
+use crate::step::{Step, kind_of};
+use divisor::Divisor;
 use plan_model::{Expr, ExprNode};
 use std::alloc::Global;
 use tw_rows::{CellKind, Datum, Kind, Memory, TextTable, cell_of};
@@ -32,12 +35,13 @@ impl Kernel {
         ensures begins { BeginsWith texts.new texts.old }
     {
         let steps = compile_nodes(alloc, expr.items(), texts)?;
-        let done = Vec::with_capacity(alloc, steps.len())?;
+        let kinds = cell_kinds(alloc, kinds)?;
+        let registers = registers_of(alloc, &steps, &kinds)?;
         Ok(Kernel {
             steps,
-            kinds: cell_kinds(alloc, kinds)?,
+            kinds,
             capacity,
-            done,
+            registers,
         })
     }
 }
@@ -48,6 +52,7 @@ fn compile_nodes(
     nodes: &[ExprNode],
     texts: &mut TextTable,
 ) -> Result<Vec<Step>, Memory>
+    requires { AreExprNodes 0 nodes.now }
     ensures steps { IfOk result (λ v. expr_of texts.new v.items ≡ nodes.now) }
     ensures placed { IfOk result (λ v. AreStepsPlaced texts.new v.items) }
     ensures table { OnOk result (texts.new ≡ with_texts texts.old nodes.now) }
@@ -63,6 +68,7 @@ fn compile_nodes(
 
 // The step of a node, whose text is in the table then.
 fn compile_node(node: &ExprNode, texts: &mut TextTable) -> Result<Step, Memory>
+    requires { (i : ℕ) × IsExprNode i node.now }
     ensures step { IfOk result (λ s. node_of texts.new s ≡ node.now) }
     ensures placed { IfOk result (λ s. IsStepPlaced texts.new s) }
     ensures table { OnOk result (texts.new ≡ with_node texts.old node.now) }
@@ -81,8 +87,14 @@ fn compile_node(node: &ExprNode, texts: &mut TextTable) -> Result<Step, Memory>
             left: *left,
             right: *right,
         },
-        ExprNode::Div { of, by } => Step::Div { of: *of, by: *by },
-        ExprNode::Mod { of, by } => Step::Mod { of: *of, by: *by },
+        ExprNode::Div { of, by } => Step::Div {
+            of: *of,
+            by: Divisor::new(*by),
+        },
+        ExprNode::Mod { of, by } => Step::Mod {
+            of: *of,
+            by: Divisor::new(*by),
+        },
         ExprNode::Compare { op, left, right } => Step::Compare {
             op: *op,
             left: *left,
@@ -108,4 +120,20 @@ fn cell_kinds(alloc: Global, kinds: &[Kind]) -> Result<Vec<CellKind>, Memory>
         cells.push(cell_of(*kind))?;
     }
     Ok(cells)
+}
+
+// A register for the results of each step.
+fn registers_of(
+    alloc: Global,
+    steps: &[Step],
+    columns: &[CellKind],
+) -> Result<Vec<Register>, Memory>
+    requires { AreSteps columns.now steps.now }
+    ensures { IfOk result (λ v. map (λ r. r.kind) v.items ≡ map (step_kind columns.now) steps.now) }
+{
+    let mut registers = Vec::new(alloc);
+    for step in steps {
+        registers.push(Register::new(kind_of(*step, columns)))?;
+    }
+    Ok(registers)
 }

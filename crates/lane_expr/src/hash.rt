@@ -1,9 +1,8 @@
 // The keys and hashes of rows.
-ghost use Rattle.std.specs.Prelude.{◌≡◌, ◌<◌, length, All};
+ghost use Rattle.std.specs.Prelude.{◌≡◌, ◌<◌, length, All, pos, slice_index_or};
 ghost use Rattle.lane_expr.specs.Running.{cells_of};
 ghost use Rattle.lane_expr.specs.Hash.{word_of, mixed, key_of, hash_of, hashed};
 
-use crate::row::cell_at;
 use batch::Batch;
 use tw_rows::Datum;
 
@@ -24,6 +23,15 @@ pub fn hash_keys(batch: &mut Batch, key: &[usize])
         let hash = hash_at(batch, row, key);
         batch.mark(row, first, hash);
     }
+}
+
+// The cell of the row in that column.
+fn cell_at(batch: &Batch, row: usize, column: usize) -> Datum
+    requires row { row < length batch.now.rows }
+    requires column { column < length batch.now.kinds }
+    ensures { result ≡ slice_index_or (cells_of batch.now.rows row) column (Datum.Int (pos 0)) }
+{
+    batch.column(column).datum(row)
 }
 
 // The word of the first key column, or 0 where there is none.

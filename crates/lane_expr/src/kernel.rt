@@ -1,17 +1,21 @@
 // Kernels, and the masks that they compute.
-ghost use Rattle.std.specs.Prelude.{◌≡◌, ◌≤◌, [], length, vec_capacity};
+ghost use Rattle.std.specs.Prelude.{◌≡◌, ◌+◌, ◌*◌, ◌<◌, ◌≤◌, ℕ, [], length, map};
 ghost use Rattle.tw_rows.specs.Kinds.{cell_kind_of};
 ghost use Rattle.batch.specs.Rows.{Table};
-ghost use Rattle.lane_expr.specs.Steps.{expr_of, AreSteps, AreStepsPlaced};
+ghost use Rattle.occupancy.specs.Bits.{test};
+ghost use Rattle.plan_model.specs.Typed.{kind_of};
+ghost use Rattle.lane_expr.specs.Steps.{expr_of, step_kind, AreSteps, AreStepsPlaced};
+ghost use Rattle.lane_expr.specs.Registers.{is_met_at};
 ghost use Rattle.lane_expr.specs.Kernels.{result_kind, kind_for, CanRead, HoldsPlaces, mask_of};
 
-use crate::data::truth_of;
-use crate::row::result_at;
+use crate::block::run;
+use crate::registers::Register;
 use crate::step::{Step, kind_of};
 use batch::Batch;
+use lanes::BLOCK;
 use occupancy::Occupancy;
 use std::marker::Model;
-use tw_rows::{CellKind, Datum, Kind, TextTable};
+use tw_rows::{CellKind, Kind, TextTable};
 
 /// An expression that is compiled for batches of some kinds of columns, with the texts of one table. Contracts see
 /// it as its steps, these kinds and the greatest number of rows.
@@ -20,20 +24,20 @@ pub struct Kernel {
     pub(crate) steps: Vec<Step>,
     pub(crate) kinds: Vec<CellKind>,
     pub(crate) capacity: usize,
-    // Where the results of the steps are put, row by row. There is room for them.
-    pub(crate) done: Vec<Datum>,
+    // The results of each step over a block of rows.
+    pub(crate) registers: Vec<Register>,
 }
 
 impl Model for Kernel {
-    ghost use Rattle.std.specs.Prelude.{◌≤◌, length, vec_capacity};
-    ghost use Rattle.lane_expr.specs.Steps.{AreSteps};
+    ghost use Rattle.std.specs.Prelude.{◌≡◌, map};
+    ghost use Rattle.lane_expr.specs.Steps.{AreSteps, step_kind};
     ghost use Rattle.lane_expr.specs.Kernels.{Program};
 
     ghost Value = { Program };
 
     ghost view = { λ k. record { steps = k.steps.items; kinds = k.kinds.items; capacity = k.capacity } };
 
-    ghost invariant = { λ k. AreSteps k.kinds.items k.steps.items × (length k.steps.items ≤ vec_capacity k.done) };
+    ghost invariant = { λ k. AreSteps k.kinds.items k.steps.items × (map (λ r. r.kind) k.registers.items ≡ map (step_kind k.kinds.items) k.steps.items) };
 }
 
 impl Kernel {
@@ -58,29 +62,52 @@ impl Kernel {
         ensures mask { out.new ≡ record out.old { items = mask_of texts.now (expr_of texts.now self.old.steps) batch.now.rows } }
         ensures same { self.new ≡ self.old }
     {
-        fill_mask(self.steps.as_slice(), &mut self.done, batch, texts, out);
+        fill_mask(&mut self.registers, &self.steps, batch, texts, out);
     }
 }
 
 // Adds a bit for each row: whether it is occupied and the test is true there.
 fn fill_mask(
+    registers: &mut [Register],
     steps: &[Step],
-    done: &mut Vec<Datum>,
     batch: &Batch,
     texts: &TextTable,
     out: &mut Occupancy,
 )
-    requires done { length steps.now ≤ vec_capacity done.old }
     requires steps { AreSteps batch.now.kinds steps.now }
+    requires bit { kind_of (expr_of [] steps.now) batch.now.kinds ≡ CellKind.Bit }
+    requires kinds { map (λ r. r.kind) registers.old ≡ map (step_kind batch.now.kinds) steps.now }
     requires placed { AreStepsPlaced texts.now steps.now }
     requires cells { HoldsPlaces texts.now batch.now.rows }
     requires empty { out.old.items ≡ [] }
     requires room { length batch.now.rows ≤ out.old.capacity }
     ensures mask { out.new ≡ record out.old { items = mask_of texts.now (expr_of texts.now steps.now) batch.now.rows } }
-    ensures done { vec_capacity done.new ≡ vec_capacity done.old }
+    ensures kinds { map (λ r. r.kind) registers.new ≡ map (λ r. r.kind) registers.old }
 {
-    for row in 0..batch.rows() {
-        let datum = result_at(steps, done, batch, row, texts);
-        out.push(truth_of(datum));
+    let rows = batch.rows();
+    for block in 0..rows.div_ceil(BLOCK) {
+        let word = test_block(registers, steps, batch, texts, block);
+        out.push_word(word, (rows - BLOCK * block).min(BLOCK));
     }
+}
+
+// At which rows of the block the test is true, of those that are occupied.
+fn test_block(
+    registers: &mut [Register],
+    steps: &[Step],
+    batch: &Batch,
+    texts: &TextTable,
+    block: usize,
+) -> u64
+    requires steps { AreSteps batch.now.kinds steps.now }
+    requires bit { kind_of (expr_of [] steps.now) batch.now.kinds ≡ CellKind.Bit }
+    requires kinds { map (λ r. r.kind) registers.old ≡ map (step_kind batch.now.kinds) steps.now }
+    requires placed { AreStepsPlaced texts.now steps.now }
+    requires block { 64 * block < length batch.now.rows }
+    requires cells { HoldsPlaces texts.now batch.now.rows }
+    ensures bits { (j : ℕ) → j < 64 → test result j ≡ is_met_at texts.now (expr_of texts.now steps.now) batch.now.rows (64 * block + j) }
+    ensures kinds { map (λ r. r.kind) registers.new ≡ map (λ r. r.kind) registers.old }
+{
+    run(registers, steps, batch, texts, block);
+    registers[steps.len() - 1].bits & batch.occupancy().word(block)
 }

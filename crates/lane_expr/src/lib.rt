@@ -1,14 +1,16 @@
 //! Kernels: expressions compiled once, and computed over the rows of batches.
 #![tactic(auto)]
 
+mod block;
+mod compare;
 mod compile;
-mod data;
 mod hash;
 mod kernel;
 mod laws;
 mod maps;
-mod row;
+mod registers;
 mod step;
+mod words;
 
 pub use hash::hash_keys;
 pub use kernel::Kernel;

@@ -2,10 +2,11 @@
 ghost use Rattle.std.specs.Prelude.{◌≡◌, ◌<◌, length};
 ghost use Rattle.lane_expr.specs.Steps.{step_kind, IsStepWithin};
 
+use divisor::Divisor;
 use plan_model::{ArithOp, CompareOp};
 use tw_rows::{CellKind, Datum};
 
-/// A step of a kernel: a node of its expression, in which a text is its place in the table of texts. A step names its
+/// A step of a kernel: a node of its expression, in which a text is its place in the table of texts and a divisor has its reciprocal. A step names its
 /// operands by their numbers in the list of steps.
 #[derive(Clone, Copy)]
 pub enum Step {
@@ -20,11 +21,11 @@ pub enum Step {
     },
     Div {
         of: usize,
-        by: u64,
+        by: Divisor,
     },
     Mod {
         of: usize,
-        by: u64,
+        by: Divisor,
     },
     Compare {
         op: CompareOp,

@@ -1,8 +1,24 @@
-use Rattle.std.proofs.Common.{◌≡◌, ◌∙◌, ◌+◌, ◌++◌, [], ◌∷◌, take, ap, sym, subst, Result, Ok, Err, OnErr}
+use Rattle.std.proofs.Common.{◌≡◌, ◌∙◌, ◌+◌, ◌<◌, ◌++◌, ℕ, zero, suc, List, length, get_or, arith, [], ◌∷◌, take, ap, sym, subst, Result, Ok, Err, OnErr}
 use Rattle.std.proofs.lemmas.List.{take_more}
+use Rattle.plan_model.specs.declared.expr.ExprNode.{ExprNode}
+use Rattle.plan_model.specs.IsExpr.{IsExprNode, AreExprNodes}
 use Rattle.lane_expr.specs.Steps.{expr_of, AreStepsPlaced, with_texts}
 use Rattle.lane_expr.proofs.Typing.{nodes_next, placed_next, with_texts-next, BeginsWith-trans}
 use Rattle.lane_expr.proofs.compile.compile_nodes.Goals as goal
+
+node_at : (first : ℕ) (ns : List ExprNode) (k : ℕ) (d : ExprNode) → AreExprNodes first ns → k < length ns → IsExprNode (first + k) (get_or ns k d)
+node_at first [] k d h lt = absurd (omega arith)
+node_at first (n ∷ ns) zero d h lt =
+    let same : first ≡ first + 0 = omega arith in
+    subst (λ i. IsExprNode i n) same h.0
+node_at first (n ∷ ns) (suc k) d h lt =
+    let next : suc first + k ≡ first + suc k = omega arith in
+    subst (λ i. IsExprNode i (get_or ns k d)) next (node_at (suc first) ns k d h.1 (omega arith))
+
+pub compile_node-requires : goal.compile_node-requires
+compile_node-requires c =
+    let k = c.loop-node.node-index in
+    (0 + k, subst (IsExprNode (0 + k)) (sym c.node-item.is) (node_at 0 c.args.nodes.now k c.node-item.result c.requires c.loop-node-test.true))
 
 OnErr-always : {A E : Type 0} (r : Result A E) (P : Type 0) → P → OnErr r P
 OnErr-always (Ok a) P p = tt

@@ -1,26 +1,46 @@
-use Rattle.std.proofs.Common.{◌<◌, ◌+◌, ◌∙◌, [], ◌∷◌, map, take, length, ap, sym, subst, arith}
-use Rattle.std.proofs.lemmas.List.{length-append}
-use Rattle.tw_rows.specs.declared.cells.Datum.TheVariants.{Bool as Datum}
+use Rattle.std.proofs.Common.{◌≡◌, ◌∙◌, ◌+◌, ◌*◌, ◌-◌, ◌<◌, ◌≤◌, ℕ, ℤ, Bool, false, pos, List, length, map, get_or, ap, sym, arith, min}
+use Rattle.tw_rows.specs.declared.cells.Datum.TheVariants.{Bool as Flag}
+use Rattle.tw_rows.specs.declared.cells.Datum.TheVariants.{Int}
+use Rattle.tw_rows.specs.declared.kind.CellKind.TheVariants.{Bit}
 use Rattle.lane_expr.specs.Steps.{expr_of}
-use Rattle.lane_expr.specs.Running.{no_row}
-use Rattle.lane_expr.specs.Kernels.{AreResults}
-use Rattle.lane_expr.proofs.Results.{results_next}
+use Rattle.lane_expr.specs.Registers.{datum_at}
+use Rattle.lane_expr.proofs.Typing.{AreSteps-some}
+use Rattle.lane_expr.proofs.Operands.{datum_is, last_kind, as_many}
+use Rattle.lane_expr.proofs.Results.{results_more, results_all}
 use Rattle.lane_expr.proofs.maps.fill_bits.Goals as goal
 
-pub loop-row-preserved : goal.loop-row-preserved
-loop-row-preserved c =
+pub loop-block-preserved : goal.loop-block-preserved
+loop-block-preserved c =
+    let inv = c.loop-block.invariant in
     let texts = c.args.texts.now in
-    let expr = expr_of texts c.args.steps.now in
+    let columns = c.args.batch.now.kinds in
     let rows = c.args.batch.now.rows in
-    let row = c.loop-row.row in
-    let within : row < length rows = omega (arith, c.loop-row-test.true, c.rows-row-end.ensures.rows) in
-    let pushed = ap (λ o. o.items) c.push.ensures in
-    let long = length-append c.loop-row.out.items (c.new.result ∷ []) in
+    let steps = c.args.steps.now in
+    let registers = c.run.new.registers in
+    let kinds = c.run.ensures.kinds ∙ inv.kinds ∙ c.requires.kinds in
+    let all = as_many columns registers steps kinds in
+    let some = AreSteps-some columns steps c.requires.steps in
+    let last = length steps - 1 in
+    let r = c.index-registers-steps.result in
+    let old : List Bool = c.loop-block.out.items in
+    let new : List Bool = c.store_bits.new.out.items in
+    let n = c.min.result in
+    let start : length old ≡ 64 * c.loop-block.block = omega (arith, inv.so_far, c.div_ceil-block-end.ensures, c.rows-rows.ensures.rows, c.loop-block-test.true) in
+    let is = λ (j : ℕ) (lt : j < n).
+    ap Flag (c.store_bits.ensures.values j lt)
+    ∙ sym (datum_is j registers last r Bit (omega (arith, all, some)) (last_kind columns registers steps Bit kinds c.requires.kind)) in
     record {
-      results = subst (λ xs. AreResults texts expr (take (row + 1) rows) (map Datum xs)) (sym pushed)
-          (results_next Datum texts expr rows row no_row c.loop-row.out.items c.new.result c.result_at-datum.result c.loop-row.invariant.results within c.result_at-datum.ensures.result
-          (λ o. c.truth_of.ensures.datum (c.result_at-datum.ensures.kind o ∙ c.requires.kind) ∙ ap Datum (sym c.new.ensures)));
-      done = c.result_at-datum.ensures.done ∙ c.loop-row.invariant.done;
-      as_many = ap length pushed ∙ omega (arith, long, c.loop-row.invariant.as_many);
-      room = ap (λ o. o.capacity) c.push.ensures ∙ c.loop-row.invariant.room;
+      kinds = c.run.ensures.kinds ∙ inv.kinds;
+      room = c.store_bits.ensures.room ∙ inv.room;
+      so_far = omega (arith, c.store_bits.ensures.long, inv.so_far, c.min.ensures, c.div_ceil-block-end.ensures, c.rows-rows.ensures.rows);
+      results = λ k lt. results_more Flag false texts (expr_of texts steps) rows old new c.loop-block.block n (λ j. get_or (map (datum_at j) registers) last (Int (pos 0))) start
+          c.store_bits.ensures.before inv.results is (λ j low. c.run.ensures.results j (omega (arith, low, c.min.ensures))) k (omega (arith, lt, c.store_bits.ensures.long));
     }
+
+pub returns-clause-results : goal.returns-clause-results
+returns-clause-results c =
+    let inv = c.loop-block.invariant in
+    let texts = c.args.texts.now in
+    let rows = c.args.batch.now.rows in
+    let long : length c.loop-block.out.items ≡ length rows = omega (arith, inv.so_far, c.div_ceil-block-end.ensures, c.rows-rows.ensures.rows, c.loop-block-test.false) in
+    results_all Flag false texts (expr_of texts c.args.steps.now) rows c.loop-block.out.items long (λ i lt. inv.results i (omega (arith, long, lt)))

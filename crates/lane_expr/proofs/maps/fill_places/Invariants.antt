@@ -1,15 +1,16 @@
--- The results of the rows before this one.
-use Rattle.std.proofs.Common.{◌≡◌, map, take, length}
-use Rattle.tw_rows.specs.declared.cells.Datum.TheVariants.{Text as PlaceDatum}
-use Rattle.std.specs.Prelude.{vec_capacity}
+-- The results of the rows before this block.
+use Rattle.std.proofs.Common.{◌≡◌, ℕ, ◌*◌, ◌<◌, pos, false, length, map, min}
+use Rattle.std.specs.Prelude.{slice_index_or}
+use Rattle.tw_rows.specs.declared.cells.Datum.TheVariants.{Text}
 use Rattle.lane_expr.specs.Steps.{expr_of}
-use Rattle.lane_expr.specs.Kernels.{AreResults}
+use Rattle.lane_expr.specs.Running.{no_row}
+use Rattle.lane_expr.specs.Kernels.{IsResult}
 use Rattle.lane_expr.proofs.maps.fill_places.Given as goal
 
-abbrev pub invariant-loop-row : goal.invariant-loop-row
-invariant-loop-row l = record {
-  results : AreResults l.texts (expr_of l.texts l.steps) (take l.row l.batch.rows) (map PlaceDatum l.out.items);
-  as_many : length l.out.items ≡ l.row;
-  done : vec_capacity l.done ≡ vec_capacity l.fn.done;
+abbrev pub invariant-loop-block : goal.invariant-loop-block
+invariant-loop-block l = record {
+  kinds : map (λ r. r.kind) l.registers ≡ map (λ r. r.kind) l.fn.registers;
   room : l.out.capacity ≡ l.fn.out.capacity;
+  so_far : length l.out.items ≡ min (64 * l.block) (length l.batch.rows);
+  results : (i : ℕ) → i < length l.out.items → IsResult l.texts (expr_of l.texts l.steps) (slice_index_or l.batch.rows i no_row) (Text (slice_index_or l.out.items i 0));
 }

@@ -1,0 +1,31 @@
+-- What the registers of a kernel hold for the rows of a block.
+use Rattle.std.specs.Prelude.{◌≡◌, ℕ, ◌&&◌, Bool, true, List, slice_index_or}
+use Rattle.occupancy.specs.Bits.{test}
+use Rattle.lanes.specs.Lanes.{number, place}
+use Rattle.tw_rows.specs.declared.cells.Datum.{Datum}
+use Rattle.tw_rows.specs.declared.cells.Datum.TheVariants.{Int, Bool as Flag, Text}
+use Rattle.tw_rows.specs.declared.kind.CellKind.{CellKind}
+use Rattle.tw_rows.specs.declared.kind.CellKind.TheVariants.{Whole, Bit, Place}
+use Rattle.tw_rows.specs.Cells.{read_cells}
+use Rattle.plan_model.specs.declared.expr.ExprNode.{ExprNode}
+use Rattle.plan_model.specs.Expr.{holds}
+use Rattle.batch.specs.Rows.{Row}
+use Rattle.lane_expr.specs.declared.registers.Register.{Register}
+use Rattle.lane_expr.specs.Running.{no_row}
+
+-- the datum for row j of the block, where the results are of the kind: the number of lane j, bit j or the place of lane j
+abbrev pub datum_of : CellKind → Register → ℕ → Datum
+datum_of Whole r j = Int (number r.numbers.lanes j)
+datum_of Bit r j = Flag (test r.bits j)
+datum_of Place r j = Text (place r.places.lanes j)
+
+abbrev pub datum_at : ℕ → Register → Datum
+datum_at j r = datum_of r.kind r j
+
+-- a row stands at the place, and it is occupied
+abbrev pub IsOccupied : List Row → ℕ → Type 0
+IsOccupied rows at = (slice_index_or rows at no_row).occupied ≡ true
+
+-- the row at the place is occupied, and the test is true there
+abbrev pub is_met_at : List (List ℕ) → List ExprNode → List Row → ℕ → Bool
+is_met_at texts test rows at = (slice_index_or rows at no_row).occupied && holds test (read_cells texts (slice_index_or rows at no_row).cells)
