@@ -22,7 +22,7 @@ use Rattle.tw_rows.specs.Cells.{IsPlaced, ArePlaced, read_datum, read_cells}
 use Rattle.tw_rows.proofs.Bags.{total-map, SameBag-refl}
 use Rattle.edge_history.specs.Order.{is_from, failing}
 use Rattle.edge_history.proofs.Sums.{failing-filter}
-use Rattle.edge_history.specs.History.{CellEvent, of, StandsBelow}
+use Rattle.edge_history.specs.History.{of, StandsBelow}
 use Rattle.edge_history.specs.Made.{edges_where, edges_with, events_with}
 use Rattle.edge_history.proofs.Made.{stands_with, stands_where as stand_where}
 use Rattle.plan_model.specs.declared.expr.ExprNode.{ExprNode}
@@ -30,7 +30,7 @@ use Rattle.plan_model.specs.declared.node.Node.TheVariants.{Where, Select}
 use Rattle.plan_model.specs.Expr.{holds, selected_row}
 use Rattle.plan_model.specs.Meaning.{node_events}
 use Rattle.plan_model.specs.Nodes.{events_to}
-use Rattle.node_laws.specs.Places.{AreDistinct, read_events, read_of, EdgesArePlaced}
+use Rattle.node_laws.specs.Places.{AreDistinct, read_of, EdgesArePlaced}
 use Rattle.node_laws.specs.Standing.{StandsRead}
 use Rattle.node_laws.specs.Selected.{RowEdge, read_edge, selected_edge, tested_edges, AreSelected}
 use Rattle.node_laws.proofs.Agreeing.{select_read}

@@ -1,5 +1,5 @@
 -- From a node's answer over cells to what stands, read.
-use Rattle.std.specs.Prelude.{◌≡◌, ℕ, ◌≤◌, not, Bool, true, false, cond, List, [], ◌∷◌, All, map, filter, refl}
+use Rattle.std.specs.Prelude.{◌≡◌, ℕ, ◌<◌, ◌≤◌, not, Bool, true, false, cond, List, [], ◌∷◌, All, map, filter, refl}
 use Rattle.std.proofs.Common.{sym, ◌∙◌, ap, subst, arith}
 use Rattle.std.proofs.lemmas.List.Elements.{All-cons, All-head, All-tail, All-nil, All-weaker, All-filter, All-map}
 use Rattle.tw_rows.specs.Instant.{inf}
@@ -18,6 +18,8 @@ use Rattle.plan_model.specs.declared.expr.ExprNode.{ExprNode}
 use Rattle.plan_model.specs.declared.node.Node.{Node}
 use Rattle.plan_model.specs.Groups.{is_undefined}
 use Rattle.plan_model.specs.Meaning.{node_events, node_closes}
+use Rattle.plan_model.proofs.Aggregates.{undefined_same}
+use Rattle.tw_rows.proofs.Lives.{alive_known}
 use Rattle.plan_model.proofs.NodeLaws.{node_known}
 use Rattle.edge_history.specs.Order.{is_end, IsHistory}
 use Rattle.edge_history.specs.History.{CellEvent, begun_one, begun, is_open, ended, end_step, end_all, of, StandsBelow}
@@ -162,6 +164,13 @@ stands_of_sides texts n x y hl hr out a b l r s = record {
       s.known (node_known n x y (read_of texts hl) (read_of texts hr) a b l.known r.known);
 }
 
+-- what is alive of what stands
+pub rows_standing : (texts : List (List ℕ)) (c t : ℕ) (h : List Edge) (rows : List (Event Row)) → t < c → StandsRead texts c h rows → SameBag (alive (read_of texts h) t) (alive rows t)
+rows_standing texts c t h rows low s = alive_known c t (read_of texts h) rows low s.known.low s.known.same
+
+pub cells_standing : (texts : List (List ℕ)) (c t : ℕ) (h : List Edge) (rows : List (Event Row)) → t < c → StandsRead texts c h rows → SameBag (map (read_cells texts) (alive (of h) t)) (alive rows t)
+cells_standing texts c t h rows low s = subst (λ l. SameBag l (alive rows t)) (alive_to (read_cells texts) (of h) t) (rows_standing texts c t h rows low s)
+
 module _ (test : List ExprNode → List Datum → Bool) (select : List (List ExprNode) → List Datum → List Datum) where
   -- what stands for a node's answer over cells stands, read, for the node of what was read
   pub stands_read : (texts : List (List ℕ)) → AreDistinct texts → (n : Node) → has_expressions n ≡ false → (c : ℕ) (hl hr out : List Edge) → c ≤ inf →
@@ -185,3 +194,10 @@ module _ (test : List ExprNode → List Datum → Bool) (select : List (List Exp
   pub undefined_of_edges : (texts : List (List ℕ)) → AreDistinct texts → (key : List ℕ) (aggs : List Agg) (h : List Edge) (t : ℕ) → EdgesArePlaced texts h →
       is_undefined key aggs (alive (read_of texts h) t) ≡ is_undefined_in (cell_ops test select) key aggs (alive (of h) t)
   undefined_of_edges texts apart key aggs h t p = undefined_law texts apart key aggs (of h) t (placed_of texts h p)
+
+  -- a group of the rows for which edges stand is undefined where one of the cells is
+  pub undefined_standing : (texts : List (List ℕ)) → AreDistinct texts → (key : List ℕ) (aggs : List Agg) (c t : ℕ) (h : List Edge) (rows : List (Event Row)) → t < c → StandsRead texts c h rows →
+      is_undefined key aggs (alive rows t) ≡ is_undefined_in (cell_ops test select) key aggs (alive (of h) t)
+  undefined_standing texts apart key aggs c t h rows low s =
+      sym (undefined_same value_ops key aggs (alive (read_of texts h) t) (alive rows t) (rows_standing texts c t h rows low s))
+      ∙ undefined_of_edges texts apart key aggs h t s.placed

@@ -1,8 +1,8 @@
 -- What an operator keeps of its node, what its answers stand for, and its step.
-use Rattle.std.specs.Prelude.{◌≡◌, ℕ, ◌*◌, ◌/◌, zero, suc, ◌≤◌, nat_lt, Bool, true, false, cond, List, [], ◌++◌, flat_map, refl}
+use Rattle.std.specs.Prelude.{◌≡◌, ℕ, zero, suc, ◌≤◌, nat_lt, Bool, true, false, cond, List, [], ◌++◌, flat_map, refl}
 use Rattle.std.proofs.Common.{◌∙◌, ap, arith}
 use Rattle.std.proofs.lemmas.List.Elements.{All-nil}
-use Rattle.tw_rows.specs.Instant.{inf, floor_to}
+use Rattle.tw_rows.specs.Instant.{inf}
 use Rattle.tw_rows.specs.Bag.{SameBag}
 use Rattle.tw_rows.specs.Event.{Event, alive, Known}
 use Rattle.tw_rows.specs.Texts.{BeginsWith}

@@ -23,7 +23,7 @@ pub use reading_laws::{
 pub use select_laws::{selected_edges_stand_read, tested_edges_stand_read};
 pub use standing_laws::{
     answers_stand_read, longer_tables_read_the_same, places_stay_in_the_table,
-    sides_may_be_what_they_stand_for, standing_edges_stand_read,
+    sides_may_be_what_they_stand_for, standing_edges_show_the_rows, standing_edges_stand_read,
 };
 pub use step_laws::{
     nothing_is_kept_at_first, steps_keep_what_they_tell, steps_may_tell_ends_ahead,

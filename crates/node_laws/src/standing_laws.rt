@@ -1,7 +1,8 @@
 // The laws of edges that stand, read through a table of texts, for events of rows.
-ghost use Rattle.std.specs.Prelude.{◌≡◌, ℕ, ◌≤◌, Bool, false, List, []};
+ghost use Rattle.std.specs.Prelude.{◌≡◌, ℕ, ◌<◌, ◌≤◌, Bool, false, List, [], map};
 ghost use Rattle.tw_rows.specs.Instant.{inf};
-ghost use Rattle.tw_rows.specs.Event.{Event, AreEvents};
+ghost use Rattle.tw_rows.specs.Event.{Event, alive, AreEvents};
+ghost use Rattle.tw_rows.specs.Bag.{SameBag};
 ghost use Rattle.tw_rows.specs.Rows.{Row};
 ghost use Rattle.tw_rows.specs.Texts.{BeginsWith};
 ghost use Rattle.tw_rows.specs.Cells.{ArePlaced, read_cells};
@@ -10,6 +11,9 @@ ghost use Rattle.tw_rows.specs.declared.edge.Edge.{Edge};
 ghost use Rattle.edge_history.specs.Order.{IsHistory};
 ghost use Rattle.edge_history.specs.History.{CellEvent, of, StandsBelow};
 ghost use Rattle.edge_history.specs.Made.{events_where, events_with};
+ghost use Rattle.plan_model.specs.declared.agg.Agg.{Agg};
+ghost use Rattle.plan_model.specs.Groups.{is_undefined};
+ghost use Rattle.plan_model.specs.RowOps.{is_undefined_in};
 ghost use Rattle.plan_model.specs.declared.expr.ExprNode.{ExprNode};
 ghost use Rattle.plan_model.specs.declared.node.Node.{Node};
 ghost use Rattle.plan_model.specs.Expr.{holds, selected_row};
@@ -74,4 +78,18 @@ pub fn sides_may_be_what_they_stand_for()
         StandsRead texts x left a → StandsRead texts y right b →
         StandsRead texts (node_closes n x y) out (node_events n (read_of texts left) (read_of texts right)) →
         StandsRead texts (node_closes n x y) out (node_events n a b) }
+{}
+
+/// Where edges stand, read, for events below a time, at each instant below it the same rows are alive, read; and a group of
+/// the rows is undefined exactly where one of the cells is.
+pub fn standing_edges_show_the_rows()
+    ensures rows { (texts : List (List ℕ)) (c t : ℕ) (h : List Edge) (events : List (Event Row)) → t < c →
+        StandsRead texts c h events → SameBag (alive (read_of texts h) t) (alive events t) }
+    ensures cells { (texts : List (List ℕ)) (c t : ℕ) (h : List Edge) (events : List (Event Row)) → t < c →
+        StandsRead texts c h events → SameBag (map (read_cells texts) (alive (of h) t)) (alive events t) }
+    ensures undefined { (test : List ExprNode → List Datum → Bool)
+        (select : List (List ExprNode) → List Datum → List Datum) (texts : List (List ℕ)) → AreDistinct texts →
+        (key : List ℕ) (aggs : List Agg) (c t : ℕ) (h : List Edge) (events : List (Event Row)) → t < c →
+        StandsRead texts c h events →
+        is_undefined key aggs (alive events t) ≡ is_undefined_in (cell_ops test select) key aggs (alive (of h) t) }
 {}

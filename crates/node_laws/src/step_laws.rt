@@ -33,7 +33,8 @@ pub fn what_is_kept_stays_in_longer_tables()
 
 /// A step: new edges come at the time up to which their side was closed or later, each side is closed up to a later time,
 /// and the answer, in order, is the news of the node's events between its closings. It is left to an operator to show of its
-/// code that the answer is this news, in order. The answer comes at the node's last closing or later, and below the new one.
+/// code that the answer is this news, in order. The answer comes at the node's last closing or later, and below the new one;
+/// closings do not fall while those of the sides rise.
 pub fn steps_keep_what_they_tell()
     ensures kept { (test : List ExprNode → List Datum → Bool)
         (select : List (List ExprNode) → List Datum → List Datum) (n : Node) (texts : List (List ℕ))
@@ -51,6 +52,7 @@ pub fn steps_keep_what_they_tell()
     ensures below { (ops : RowOps Datum) (n : Node) (x y u v : ℕ) (left right more : List Edge) →
         SameBag more (news (node_closes n x y) (node_closes n u v) (node_in ops n (of left) (of right))) →
         failing (is_below (node_closes n u v)) more ≡ 0 }
+    ensures closings { (n : Node) (x y u v : ℕ) → x ≤ u → y ≤ v → u ≤ inf → node_closes n x y ≤ node_closes n u v }
 {}
 
 /// What is told is a history below the closing, with its places in the table, and stands for the node's events: of cells, and
