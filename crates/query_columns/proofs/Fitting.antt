@@ -24,7 +24,7 @@ use Rattle.query_text.specs.declared.query.Item.{Item}
 use Rattle.query_text.specs.declared.query.QueryAgg.{QueryAgg}
 use Rattle.query_columns.specs.Names.{column_from, column_of, key_of, exprs_of, agg_over, agg_of, aggs_of}
 use Rattle.query_columns.specs.Types.{same_kind, kinds, type_of, types_of}
-use Rattle.query_columns.specs.Schemas.{column_at, named_columns, select_schema, agg_kind, agg_columns, group_schema, join_schema, same_kinds, kinds_of_key, keys_alike, fun_takes, fun_fits, agg_fits, aggs_fit}
+use Rattle.query_columns.specs.Schemas.{column_at, named_columns, select_schema, agg_kind, agg_columns, group_schema, join_schema, same_kinds, kinds_of_key, keys_alike, fun_takes, fun_fits, agg_fits, aggs_fit, fills_fit}
 use Rattle.query_columns.proofs.Typing.{same_kind-same, number_is_whole, option_map_some, all_of_zip, zip_long, cells_of_schema, types_of-typed}
 
 found_cases : (b : Bool) (i : ℕ) (o : Option ℕ) (c : ℕ) → cond b (Some i) o ≡ Some c → (i ≡ c) ⊎ (o ≡ Some c)
@@ -92,7 +92,7 @@ keys_alike-same left right left_key right_key h =
 pub same_kinds-same : (left right : List ColumnDef) → same_kinds left right ≡ true → kinds_of_schema left ≡ kinds_of_schema right
 same_kinds-same left right h = sym (cells_of_schema left) ∙ (ap (map cell_kind_of) (all_same (kinds left) (kinds right) h) ∙ cells_of_schema right)
 
-number_column : (schema : List ColumnDef) (column : ℕ) → column < length schema → cell_kind_of (column_at schema column).kind ≡ Whole → slice_get (kinds_of_schema schema) column ≡ Some Whole
+pub number_column : (schema : List ColumnDef) (column : ℕ) → column < length schema → cell_kind_of (column_at schema column).kind ≡ Whole → slice_get (kinds_of_schema schema) column ≡ Some Whole
 number_column schema column low whole =
     slice_get-get_or (kinds_of_schema schema) column Whole (let long = length_kinds schema in omega (arith, low, long))
     ∙ ap Some (column_kind schema column ∙ whole)
@@ -195,3 +195,13 @@ pub kinds-join_schema : (left right : List ColumnDef) (right_key : List ℕ) →
 kinds-join_schema left right right_key =
     map-append (λ c. cell_kind_of c.kind) left (outside_key right_key right)
     ∙ ap (λ l. kinds_of_schema left ++ l) (map_outside (λ c. cell_kind_of c.kind) 0 right_key right)
+
+-- no aggregates
+pub no_aggs : (schema : List ColumnDef) → AreFitting schema [] []
+no_aggs schema = record { sound = All-nil (IsAggOver (kinds_of_schema schema)); long = refl; whole = refl }
+
+-- literals that fit are of the kinds of the right columns outside the key
+pub fills_fit-same : (right : List ColumnDef) (right_key : List ℕ) (ks : List Kind) → fills_fit right right_key ks ≡ true → outside_key right_key (kinds_of_schema right) ≡ map cell_kind_of ks
+fills_fit-same right right_key ks h =
+    sym (map_outside (λ c. cell_kind_of c.kind) 0 right_key right)
+    ∙ (sym (cells_of_schema (outside_key right_key right)) ∙ ap (map cell_kind_of) (all_same (kinds (outside_key right_key right)) ks h))

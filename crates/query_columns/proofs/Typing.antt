@@ -16,7 +16,7 @@ use Rattle.plan_model.specs.declared.expr.ArithOp.{ArithOp}
 use Rattle.plan_model.specs.declared.expr.ArithOp.TheVariants as O
 use Rattle.plan_model.specs.declared.expr.ExprNode.{ExprNode}
 use Rattle.plan_model.specs.declared.expr.ExprNode.TheVariants as E
-use Rattle.plan_model.specs.IsPlan.{kinds_of_schema}
+use Rattle.plan_model.specs.IsPlan.{kinds_of_schema, IsExprOver}
 use Rattle.plan_model.specs.Typed.{node_kind, IsTypedNode, AreTyped, IsTyped, kind_of}
 use Rattle.query_text.specs.declared.query.Item.{Item}
 use Rattle.query_text.specs.declared.tree.TreeNode.{TreeNode}
@@ -231,7 +231,7 @@ types_typed schema before (t ∷ trees) ts ns h is =
 
 -- a tree without nodes has no kind, since there is no last node
 record IsTypedTree (columns : List CellKind) (k : Kind) (expr : List ExprNode) : Type 0 where
-  typed : IsTyped columns expr
+  typed : IsExprOver columns expr
   kind : kind_of expr columns ≡ cell_kind_of k
 
 tree_typed : (schema : List ColumnDef) (tree : List TreeNode) (k : Kind) (expr : List ExprNode) → type_of schema tree ≡ Some k → expr_of schema tree ≡ Some expr → IsTypedTree (cells (kinds schema)) k expr
@@ -241,8 +241,9 @@ tree_typed schema tree k expr h is =
     let columns = cells (kinds schema) in
     let all = types_typed schema [] tree ts expr found is in
     let long : length ts ≡ length expr = sym (length-map ts cell_kind_of) ∙ (ap length all.kinds_are ∙ length-map expr (node_kind columns)) in
+    let some = slice_get_within ts (length ts - 1) k last in
     record {
-      typed = all.typed;
+      typed = (omega (arith, some, long), all.typed);
       kind = ap (λ l. slice_index_or l (length expr - 1) Whole) (sym all.kinds_are)
           ∙ (ap (λ n. slice_index_or (cells ts) (n - 1) Whole) (sym long)
           ∙ get_or_from_slice_get (cells ts) (length ts - 1) (cell_kind_of k) Whole (operand_cell ts (length ts - 1) k last));
@@ -254,15 +255,15 @@ cells_of_schema [] = refl
 cells_of_schema (c ∷ cs) = ap (λ l. cell_kind_of c.kind ∷ l) (cells_of_schema cs)
 
 -- the expression of a tree that has a kind is well typed, and gives cells of that kind
-pub type_of-typed : (schema : List ColumnDef) (tree : List TreeNode) (expr : List ExprNode) (k : Kind) → expr_of schema tree ≡ Some expr → type_of schema tree ≡ Some k → IsTyped (kinds_of_schema schema) expr × (kind_of expr (kinds_of_schema schema) ≡ cell_kind_of k)
+pub type_of-typed : (schema : List ColumnDef) (tree : List TreeNode) (expr : List ExprNode) (k : Kind) → expr_of schema tree ≡ Some expr → type_of schema tree ≡ Some k → IsExprOver (kinds_of_schema schema) expr × (kind_of expr (kinds_of_schema schema) ≡ cell_kind_of k)
 type_of-typed schema tree expr k is h =
     let it = tree_typed schema tree k expr h is in
-    subst (λ l. IsTyped l expr × (kind_of expr l ≡ cell_kind_of k)) (cells_of_schema schema) (it.typed, it.kind)
+    subst (λ l. IsExprOver l expr × (kind_of expr l ≡ cell_kind_of k)) (cells_of_schema schema) (it.typed, it.kind)
 
 types_cells : {X : Type 0} (tree : X → List TreeNode) (schema : List ColumnDef) (xs : List X) (exprs : List (List ExprNode)) (ks : List Kind) →
     AllZip (λ x e. expr_of schema (tree x) ≡ Some e) xs exprs → AllZip (λ x k. type_of schema (tree x) ≡ Some k) xs ks →
-    All (IsTyped (kinds_of_schema schema)) exprs × (map (λ e. kind_of e (kinds_of_schema schema)) exprs ≡ map cell_kind_of ks)
-types_cells tree schema [] [] [] is h = (All-nil (IsTyped (kinds_of_schema schema)), refl)
+    All (IsExprOver (kinds_of_schema schema)) exprs × (map (λ e. kind_of e (kinds_of_schema schema)) exprs ≡ map cell_kind_of ks)
+types_cells tree schema [] [] [] is h = (All-nil (IsExprOver (kinds_of_schema schema)), refl)
 types_cells tree schema [] [] (k ∷ ks) is h = absurd h
 types_cells tree schema [] (e ∷ es) ks is h = absurd is
 types_cells tree schema (x ∷ xs) [] ks is h = absurd is
@@ -270,16 +271,16 @@ types_cells tree schema (x ∷ xs) (e ∷ es) [] is h = absurd h
 types_cells tree schema (x ∷ xs) (e ∷ es) (k ∷ ks) is h =
     let here = type_of-typed schema (tree x) e k is.0 h.0 in
     let others = types_cells tree schema xs es ks is.1 h.1 in
-    (All-cons (IsTyped (kinds_of_schema schema)) e es here.0 others.0, λ i. here.1 i ∷ others.1 i)
+    (All-cons (IsExprOver (kinds_of_schema schema)) e es here.0 others.0, λ i. here.1 i ∷ others.1 i)
 
 -- so are those of the items of a select
 pub types_of-typed : (schema : List ColumnDef) (items : List Item) (exprs : List (List ExprNode)) (ks : List Kind) → exprs_of schema items ≡ Some exprs → types_of schema items ≡ Some ks →
-    All (IsTyped (kinds_of_schema schema)) exprs × (map (λ e. kind_of e (kinds_of_schema schema)) exprs ≡ map cell_kind_of ks)
+    All (IsExprOver (kinds_of_schema schema)) exprs × (map (λ e. kind_of e (kinds_of_schema schema)) exprs ≡ map cell_kind_of ks)
 types_of-typed schema items exprs ks is h =
     types_cells (λ i. i.tree) schema items exprs ks (all_of_zip (λ i. expr_of schema i.tree) items exprs is) (all_of_zip (λ i. type_of schema i.tree) items ks h)
 
 -- and of several trees
 pub tree_types-typed : (schema : List ColumnDef) (trees : List (List TreeNode)) (exprs : List (List ExprNode)) (ks : List Kind) → tree_exprs schema trees ≡ Some exprs → tree_types schema trees ≡ Some ks →
-    All (IsTyped (kinds_of_schema schema)) exprs × (map (λ e. kind_of e (kinds_of_schema schema)) exprs ≡ map cell_kind_of ks)
+    All (IsExprOver (kinds_of_schema schema)) exprs × (map (λ e. kind_of e (kinds_of_schema schema)) exprs ≡ map cell_kind_of ks)
 tree_types-typed schema trees exprs ks is h =
     types_cells (λ t. t) schema trees exprs ks (all_of_zip (expr_of schema) trees exprs is) (all_of_zip (type_of schema) trees ks h)

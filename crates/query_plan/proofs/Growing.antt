@@ -9,7 +9,7 @@ use Rattle.tw_rows.specs.declared.schema.ColumnDef.{ColumnDef}
 use Rattle.plan_model.specs.declared.fault.QueryFault.{QueryFault}
 use Rattle.plan_model.specs.declared.fault.QueryFault.TheVariants as F
 use Rattle.plan_model.specs.declared.node.Node.{Node}
-use Rattle.plan_model.specs.declared.node.Node.TheVariants.{Source, Where, Select, Union, Delay, Hop, Duration, Extend, Session, Clip, Group, Join, Anti}
+use Rattle.plan_model.specs.declared.node.Node.TheVariants.{Source, Where, Select, Union, Delay, Hop, Duration, Extend, Session, Clip, Group, Join, Anti, Coalesce, Mean, Top, Follow}
 use Rattle.plan_model.specs.Fold.{results_from}
 use Rattle.plan_model.specs.IsPlan.{most_reach, most_nodes}
 use Rattle.plan_model.specs.Meaning.{left_child, left_of, at_child}
@@ -35,6 +35,10 @@ left_is none at (Clip left right left_key right_key) = refl
 left_is none at (Group of key aggs) = refl
 left_is none at (Join left right left_key right_key) = refl
 left_is none at (Anti left right left_key right_key) = refl
+left_is none at (Coalesce of) = refl
+left_is none at (Mean of at_columns) = refl
+left_is none at (Top of key by count) = refl
+left_is none at (Follow left right left_key right_key within) = refl
 
 -- the results of a fold over a list that goes on
 results_append : {N R : Type 0} (step : N → List R → R) (done : List R) (xs ys : List N) →

@@ -7,7 +7,7 @@ use Rattle.tw_rows.specs.declared.schema.ColumnDef.{ColumnDef}
 use Rattle.plan_model.specs.declared.fault.QueryFault.{QueryFault}
 use Rattle.plan_model.specs.declared.fault.QueryFault.TheVariants as F
 use Rattle.plan_model.specs.declared.node.Node.{Node}
-use Rattle.plan_model.specs.declared.node.Node.TheVariants.{Source, Where, Select, Union, Delay, Hop, Duration, Extend, Session, Clip, Group, Join, Anti}
+use Rattle.plan_model.specs.declared.node.Node.TheVariants.{Source, Where, Select, Union, Delay, Hop, Duration, Extend, Session, Clip, Group, Join, Anti, Coalesce, Mean, Top, Follow}
 use Rattle.plan_model.specs.Reach.{reach, is_built}
 use Rattle.plan_model.specs.IsPlan.{most_reach, most_nodes, most_columns}
 use Rattle.query_columns.specs.Schemas.{name_twice, key_twice}
@@ -76,6 +76,10 @@ has_key_twice (Clip left right left_key right_key) = key_twice left_key
 has_key_twice (Group of key aggs) = key_twice key
 has_key_twice (Join left right left_key right_key) = key_twice left_key
 has_key_twice (Anti left right left_key right_key) = key_twice left_key
+has_key_twice (Coalesce of) = false
+has_key_twice (Mean of at) = false
+has_key_twice (Top of key by count) = key_twice key
+has_key_twice (Follow left right left_key right_key within) = key_twice left_key
 
 -- one of the nodes from number i on reaches too far. There are n of them
 abbrev pub reaches_too_far : List Node → ℕ → ℕ → Bool

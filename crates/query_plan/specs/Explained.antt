@@ -4,7 +4,7 @@ use Rattle.tw_rows.specs.declared.kind.Kind.{Kind}
 use Rattle.tw_rows.specs.declared.kind.Kind.TheVariants as K
 use Rattle.tw_rows.specs.declared.schema.ColumnDef.{ColumnDef}
 use Rattle.plan_model.specs.declared.node.Node.{Node}
-use Rattle.plan_model.specs.declared.node.Node.TheVariants.{Source, Where, Select, Union, Delay, Hop, Duration, Extend, Session, Clip, Group, Join, Anti}
+use Rattle.plan_model.specs.declared.node.Node.TheVariants.{Source, Where, Select, Union, Delay, Hop, Duration, Extend, Session, Clip, Group, Join, Anti, Coalesce, Mean, Top, Follow}
 use Rattle.plan_model.specs.Meaning.{left_child, right_child}
 use Rattle.plan_model.specs.Reach.{reach, event_level}
 use Rattle.plan_model.specs.IsPlan.{PlanParts}
@@ -24,11 +24,17 @@ word_of (Clip left right left_key right_key) = codes "clip"
 word_of (Group of key aggs) = codes "group"
 word_of (Join left right left_key right_key) = codes "join"
 word_of (Anti left right left_key right_key) = codes "anti"
+word_of (Coalesce of) = codes "coalesce"
+word_of (Mean of at) = codes "mean"
+word_of (Top of key by count) = codes "top"
+word_of (Follow left right left_key right_key within) = codes "follow"
 
+-- the name of a kind, as a stream declares it: of a decimal of two places dec(2)
 abbrev pub kind_word : Kind → List ℕ
 kind_word K.Int = codes "int"
 kind_word K.Bool = codes "bool"
 kind_word K.Text = codes "text"
+kind_word (K.Dec places) = codes "dec(" ++ decimal places ++ codes ")"
 
 -- the level of a node
 abbrev pub level_word : Bool → List ℕ

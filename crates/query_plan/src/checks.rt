@@ -62,10 +62,16 @@ fn level_of(node: &Node, left: bool, right: bool) -> bool
         | Node::Duration { .. }
         | Node::Extend { .. }
         | Node::Session { .. }
-        | Node::Clip { .. } => true,
+        | Node::Clip { .. }
+        | Node::Coalesce { .. }
+        | Node::Follow { .. } => true,
         Node::Where { .. } | Node::Select { .. } | Node::Delay { .. } => left,
         Node::Union { .. } => left && right,
-        Node::Group { .. } | Node::Join { .. } | Node::Anti { .. } => false,
+        Node::Group { .. }
+        | Node::Join { .. }
+        | Node::Anti { .. }
+        | Node::Mean { .. }
+        | Node::Top { .. } => false,
     }
 }
 
@@ -152,8 +158,13 @@ fn has_key_twice(node: &Node) -> bool
     ensures { result ≡ has_key_twice node.now }
 {
     match node {
-        Node::Session { key, .. } | Node::Group { key, .. } => key_twice(key.items()),
-        Node::Clip { left_key, .. } | Node::Join { left_key, .. } | Node::Anti { left_key, .. } => {
+        Node::Session { key, .. } | Node::Group { key, .. } | Node::Top { key, .. } => {
+            key_twice(key.items())
+        }
+        Node::Clip { left_key, .. }
+        | Node::Join { left_key, .. }
+        | Node::Anti { left_key, .. }
+        | Node::Follow { left_key, .. } => {
             key_twice(left_key.items())
         }
         _ => false,

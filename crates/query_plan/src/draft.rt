@@ -1,5 +1,5 @@
 // Plans that are being made.
-ghost use Rattle.std.specs.Prelude.{◌≡◌, ◌++◌, map, length, IfOk, OnOk};
+ghost use Rattle.std.specs.Prelude.{◌≡◌, ◌<◌, ◌^◌, ◌++◌, map, length, IfOk, OnOk};
 ghost use Rattle.plan_model.specs.Reach.{event_level};
 ghost use Rattle.query_plan.specs.Answer.{Is};
 ghost use Rattle.query_plan.specs.Draft.{no_draft, node_named, is_taken, schema_at, with_name, admitted};
@@ -116,7 +116,8 @@ impl Draft {
 
     /// How many nodes there are.
     pub(crate) fn len(&self) -> usize
-        ensures { result ≡ length self.now.nodes }
+        ensures count { result ≡ length self.now.nodes }
+        ensures small { result < 2 ^ 63 }
     {
         self.nodes.len()
     }

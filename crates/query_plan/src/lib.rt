@@ -3,11 +3,13 @@
 
 mod checks;
 mod draft;
+mod groups;
+mod joins;
 mod laws;
+mod outer;
 mod plan_text;
-#[cfg(test)]
-mod plan_text_tests;
 mod planning;
+mod sides;
 mod steps;
 #[cfg(test)]
 mod tests;

@@ -25,17 +25,27 @@ fn word_of(node: &Node) -> &'static str
         Node::Group { .. } => "group",
         Node::Join { .. } => "join",
         Node::Anti { .. } => "anti",
+        Node::Coalesce { .. } => "coalesce",
+        Node::Mean { .. } => "mean",
+        Node::Top { .. } => "top",
+        Node::Follow { .. } => "follow",
     }
 }
 
-fn kind_word(kind: Kind) -> &'static str
-    ensures { result.now ≡ word_of_kind kind }
+fn put_kind(out: &mut Vec<u8>, kind: Kind) -> Result<(), Memory>
+    ensures { OnOk result (out.new.items ≡ out.old.items ++ word_of_kind kind) }
 {
     match kind {
-        Kind::Int => "int",
-        Kind::Bool => "bool",
-        Kind::Text => "text",
+        Kind::Int => out.extend_from_slice(b"int")?,
+        Kind::Bool => out.extend_from_slice(b"bool")?,
+        Kind::Text => out.extend_from_slice(b"text")?,
+        Kind::Dec(places) => {
+            out.extend_from_slice(b"dec(")?;
+            put_number(out, u64::from(places))?;
+            out.extend_from_slice(b")")?;
+        }
     }
+    Ok(())
 }
 
 fn level_word(is_event_level: bool) -> &'static str
@@ -72,7 +82,7 @@ fn put_column(out: &mut Vec<u8>, column: &ColumnDef) -> Result<(), Memory>
 {
     out.extend_from_slice(column.name.as_str().as_bytes())?;
     out.extend_from_slice(b":")?;
-    out.extend_from_slice(kind_word(column.kind).as_bytes())?;
+    put_kind(out, column.kind)?;
     Ok(())
 }
 

@@ -3,7 +3,7 @@ use Rattle.std.proofs.Common.{rules}
 use Rattle.plan_model.specs.declared.fault.QueryFault.TheVariants as F
 use Rattle.query_columns.specs.Names.{key_of, aggs_of}
 use Rattle.query_plan.proofs.StepLemmas.{group_found}
-use Rattle.query_plan.proofs.steps.group_step.Goals as goal
+use Rattle.query_plan.proofs.groups.group_step.Goals as goal
 
 pub returns-in_err-needs : goal.returns-in_err-needs
 returns-in_err-needs c =

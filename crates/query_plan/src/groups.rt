@@ -1,0 +1,170 @@
+// Groups, and the rows with the greatest values.
+ghost use Rattle.std.specs.Prelude.{◌≡◌, ◌++◌, ◌∷◌, [], ok_or, Ok, IfOk, nat_le};
+ghost use Rattle.plan_model.specs.declared.agg.Agg.TheVariants as A;
+ghost use Rattle.plan_model.specs.declared.fault.QueryFault.TheVariants as F;
+ghost use Rattle.query_columns.specs.Names.{column_of as column_named, aggs_of};
+ghost use Rattle.query_columns.specs.Types.{is_number};
+ghost use Rattle.query_columns.specs.Schemas.{column_at, count_column, averages_from};
+ghost use Rattle.query_plan.specs.Answer.{Is};
+ghost use Rattle.query_plan.specs.Steps.{has_average, grouped, group_step, is_top_count, top_step};
+
+use crate::checks::needs;
+use crate::draft::{Draft, PlannedNode};
+use crate::steps::{alone, found, key_columns};
+use plan_model::{Agg, AggList, Key, Node, QueryError, QueryFault};
+use query_columns::{
+    aggs_fit, aggs_of, averages, column_of, counted_schema, group_schema, is_number,
+};
+use query_text::{AggFun, NameList, QueryAgg};
+use std::alloc::Global;
+use tw_rows::{ColumnDef, Kind, Label, Memory};
+
+/// The aggregates over the columns that they name.
+fn computed(
+    alloc: Global,
+    item: usize,
+    schema: &[ColumnDef],
+    aggs: &query_text::AggList,
+) -> Result<AggList, QueryError>
+    ensures { Is (λ a. a) result (ok_or (aggs_of schema.now aggs.now) (F.UnknownName item)) }
+{
+    let told = aggs_of(alloc, schema, aggs.items())?;
+    found(told, QueryFault::UnknownName { item })
+}
+
+/// Whether one of the aggregates is an average.
+fn has_average(aggs: &[QueryAgg]) -> bool
+    ensures { result ≡ has_average aggs.now }
+{
+    aggs.iter().any(|agg| matches!(agg.fun, AggFun::Avg))
+}
+
+/// The aggregates, and a count behind them.
+fn with_count(alloc: Global, aggs: &[Agg]) -> Result<AggList, Memory>
+    ensures { IfOk result (λ list. list ≡ aggs.now ++ A.Count ∷ []) }
+{
+    let mut counted = Vec::new(alloc);
+    counted.extend_from_slice(aggs)?;
+    counted.push(Agg::Count)?;
+    Ok(AggList::from_vec(counted))
+}
+
+/// The nodes of a group over the node of number `at`: one, or two where there are averages.
+fn grouped(
+    alloc: Global,
+    draft: &Draft,
+    at: usize,
+    key: Key,
+    aggs: &[QueryAgg],
+    computed: AggList,
+) -> Result<Vec<PlannedNode>, Memory>
+    ensures { IfOk result (λ v. v.items ≡ grouped draft.now at key aggs.now computed) }
+{
+    let before = draft.schema_at(at);
+    let schema = group_schema(alloc, before, key.items(), aggs, computed.items())?;
+    if !has_average(aggs) {
+        let node = Node::Group {
+            of: at,
+            key,
+            aggs: computed,
+        };
+        let nodes = vec![in alloc; PlannedNode { node, schema }]?;
+        return Ok(nodes);
+    }
+    let counted = counted_schema(alloc, before, key.items(), aggs, computed.items())?;
+    let mean = Node::Mean {
+        of: draft.len(),
+        at: Key::from_vec(averages(alloc, key.items().len(), aggs)?),
+    };
+    let sums = Node::Group {
+        of: at,
+        key,
+        aggs: with_count(alloc, computed.items())?,
+    };
+    let nodes = vec![in alloc;
+        PlannedNode {
+            node: sums,
+            schema: counted
+        },
+        PlannedNode { node: mean, schema },
+    ]?;
+    Ok(nodes)
+}
+
+/// A key, and aggregates of numbers.
+pub(crate) fn group_step(
+    alloc: Global,
+    item: usize,
+    draft: &Draft,
+    at: usize,
+    names: &NameList,
+    aggs: &query_text::AggList,
+) -> Result<Vec<PlannedNode>, QueryError>
+    ensures { Is (λ v. v.items) result (group_step item draft.now at names.now aggs.now) }
+{
+    let before = draft.schema_at(at);
+    let key = key_columns(alloc, item, before, names)?;
+    let computed = computed(alloc, item, before, aggs)?;
+    let fit = aggs_fit(before, aggs.items());
+    needs(fit, QueryFault::TypeClash { item })?;
+    let nodes = grouped(alloc, draft, at, key, aggs.items(), computed)?;
+    Ok(nodes)
+}
+
+/// The column of that name.
+fn column_named(item: usize, schema: &[ColumnDef], name: &Label) -> Result<usize, QueryError>
+    ensures { Is (λ n. n) result (ok_or (column_named schema.now name.now) (F.UnknownName item)) }
+{
+    found(
+        column_of(schema, name.as_str()),
+        QueryFault::UnknownName { item },
+    )
+}
+
+/// Whether the column of that number holds numbers. A number that is no column's counts as one of ints.
+fn is_numeric(schema: &[ColumnDef], column: usize) -> bool
+    ensures { result ≡ is_number (column_at schema.now column).kind }
+{
+    match schema.get(column) {
+        Some(column) => is_number(column.kind),
+        None => true,
+    }
+}
+
+/// Whether a `top` may ask for so many values.
+fn is_top_count(count: u64) -> bool
+    ensures { result ≡ is_top_count count }
+{
+    count >= 1 && count <= 1000
+}
+
+/// The rows with the greatest values in a column of numbers, for each value of a key.
+pub(crate) fn top_step(
+    alloc: Global,
+    item: usize,
+    draft: &Draft,
+    at: usize,
+    count: u64,
+    names: &NameList,
+    by: &Label,
+) -> Result<Vec<PlannedNode>, QueryError>
+    ensures { Is (λ v. v.items) result (top_step item draft.now at count names.now by.now) }
+{
+    let before = draft.schema_at(at);
+    let key = key_columns(alloc, item, before, names)?;
+    let column = column_named(item, before, by)?;
+    let fit = is_numeric(before, column);
+    needs(fit, QueryFault::TypeClash { item })?;
+    needs(is_top_count(count), QueryFault::BadWindow { item })?;
+    alone(
+        alloc,
+        draft,
+        at,
+        Node::Top {
+            of: at,
+            key,
+            by: column,
+            count,
+        },
+    )
+}
