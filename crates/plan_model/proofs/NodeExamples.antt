@@ -15,6 +15,7 @@ use Rattle.plan_model.specs.declared.node.Node.{Node}
 use Rattle.plan_model.specs.declared.node.Node.TheVariants.{Source, Select, Union, Hop, Duration, Group, Join, Anti, Coalesce, Mean, Top, Follow}
 use Rattle.plan_model.specs.Changes.{Line, Started, Ended, changes_at, changes}
 use Rattle.plan_model.specs.Groups.{row_of_group}
+use Rattle.plan_model.specs.IsPlan.{IsOverEvents}
 use Rattle.plan_model.specs.Keys.{rows_equal, value_ops, key_values}
 use Rattle.plan_model.specs.Lives.{lasting, hopped}
 use Rattle.plan_model.specs.Meaning.{Sources, meaning, snapshots, reads_events}
@@ -215,6 +216,9 @@ levels_of_a_group = refl
 
 follows_read_events : reads_events (Follow 1 0 (0 ∷ []) (0 ∷ []) 5) ≡ true
 follows_read_events = refl
+
+no_follow_over_a_group : IsOverEvents (Source 0 ∷ Group 0 (0 ∷ []) (Count ∷ []) ∷ []) (Follow 1 0 (0 ∷ []) (0 ∷ []) 5) → ⊥
+no_follow_over_a_group h = absurd (let level = h.on_left refl in cc)
 
 reach_of_a_follow : reach following 2 ≡ 5
 reach_of_a_follow = refl

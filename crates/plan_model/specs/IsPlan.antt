@@ -69,7 +69,8 @@ pub record IsWindow (size period : ℕ) : Type 0 where
 abbrev pub most_top : ℕ
 most_top = 1000
 
--- each of the columns stands before the last one and is an int's, and none is there twice
+-- each of the columns stands before the last one and is an int's, and none is there twice. Of a text, a sum and a count
+-- it is the column 1 alone
 pub record AreSums (kinds : List CellKind) (at : List ℕ) : Type 0 where
   pub before_last : All (λ column. column + 1 < length kinds) at
   pub whole : All (λ column. slice_get kinds column ≡ Some Whole) at
@@ -123,7 +124,7 @@ abbrev pub HasKeysOnRight : List Node → Node → Type 0
 HasKeysOnRight nodes (Anti left right left_key right_key) = IsOfKeysAlone right_key (slice_get nodes right)
 HasKeysOnRight nodes n = Unit {0}
 
--- the node is a group whose last aggregate is a count
+-- the node is a group whose last aggregate is a count, as that of a sum and a count
 abbrev pub IsCountedGroup : Option Node → Type 0
 IsCountedGroup (Some (Group of key aggs)) = (before : List Agg) × (aggs ≡ before ++ Count ∷ [])
 IsCountedGroup n = ⊥
@@ -156,7 +157,7 @@ pub record IsNode (streams : List StreamDef) (nodes : List Node) (schemas : List
   pub near : reach nodes i ≤ most_reach
   pub narrow : length schema ≤ most_columns
 
--- no stream has too many columns
+-- no stream has more than 32 columns
 abbrev pub AreNarrow : List StreamDef → Type 0
 AreNarrow streams = All (λ stream. length stream.schema ≤ most_columns) streams
 

@@ -30,11 +30,11 @@ keys_equal_in ops left_key right_key a b = ops.same (key_in ops left_key a) (key
 abbrev pub int_in : {X : Type 0} → RowOps X → ℕ → List X → ℤ
 int_in ops column row = ops.int_of (slice_index_or row column ops.zero)
 
--- the ints of rows in a column
+-- the ints of rows in a column. Of (7, 2) and (7, true) in column 1: 2 and 0
 abbrev pub ints_in : {X : Type 0} → RowOps X → ℕ → List (List X) → List ℤ
 ints_in ops column rows = map (λ row. ops.int_of (slice_index_or row column ops.zero)) rows
 
--- what an aggregate makes of the rows of a group
+-- what an aggregate makes of the rows of a group. The sum of column 1 of (7, 2) and (7, 3) is 5
 abbrev pub agg_in : {X : Type 0} → RowOps X → Agg → List (List X) → ℤ
 agg_in ops Count rows = pos (length rows)
 agg_in ops (Sum column) rows = exact_sum (ints_in ops column rows)
@@ -47,7 +47,7 @@ abbrev pub group_row_in : {X : Type 0} → RowOps X → List Agg → List X → 
 group_row_in ops aggs values [] = None
 group_row_in ops aggs values (row ∷ rows) = Some (values ++ map (λ a. ops.of_int (agg_in ops a (row ∷ rows))) aggs)
 
--- the rows that have these elements in their key
+-- the rows that have these elements in their key. Of (7, 2), (8, 5), (7, 3), the key column 0 and 7: (7, 2), (7, 3)
 abbrev pub rows_of_key_in : {X : Type 0} → RowOps X → List ℕ → List X → List (List X) → List (List X)
 rows_of_key_in ops key values rows = filter (has_key (key_in ops key) ops.same values) rows
 
@@ -55,7 +55,7 @@ rows_of_key_in ops key values rows = filter (has_key (key_in ops key) ops.same v
 abbrev pub row_of_group_in : {X : Type 0} → RowOps X → List ℕ → List Agg → List X → List (List X) → Option (List X)
 row_of_group_in ops key aggs values rows = group_row_in ops aggs values (rows_of_key_in ops key values rows)
 
--- the aggregate is a sum outside i64
+-- the aggregate is a sum outside i64. A count, a least and a greatest never are
 abbrev pub has_large_sum_in : {X : Type 0} → RowOps X → List (List X) → Agg → Bool
 has_large_sum_in ops rows Count = false
 has_large_sum_in ops rows (Sum column) = is_outside_i64 (exact_sum (ints_in ops column rows))
@@ -66,6 +66,6 @@ has_large_sum_in ops rows (Greatest column) = false
 abbrev pub is_undefined_group_in : {X : Type 0} → RowOps X → List Agg → List (List X) → Bool
 is_undefined_group_in ops aggs rows = nat_lt most_rows (length rows) || list_any (has_large_sum_in ops rows) aggs
 
--- one of the groups of the rows is undefined
+-- one of the groups of the rows is undefined. By the sum of column 1, (7, 2^63 - 1) and (7, 1) together are
 abbrev pub is_undefined_in : {X : Type 0} → RowOps X → List ℕ → List Agg → List (List X) → Bool
 is_undefined_in ops key aggs rows = list_any (λ row. is_undefined_group_in ops aggs (rows_of_key_in ops key (key_in ops key row) rows)) rows
