@@ -17,18 +17,21 @@ use Rattle.node_laws.specs.Places.{EdgesArePlaced}
 abbrev pub plain_cells : RowOps Datum
 plain_cells = cell_ops (λ test row. false) (λ items row. row)
 
--- of the edges that came in, on the left below x and on the right below y, the edges that went out tell the node's events
--- below its closing. Of a Duration of 2, where a start at 3 came in and x is 4: that start; and the end at 5 once x is 6
-pub record Keeps (ops : RowOps Datum) (node : Node) (texts : List (List ℕ)) (x y : ℕ) (left right out : List Edge) : Type 0 where
+-- of the edges that came in, on the left below x and on the right below y, the edges that went out tell the node's
+-- events below its closing. Of a Duration of 2, where a start at 3 came in and x is 4: that start; and the end at 5
+-- once x is 6
+pub record Keeps (ops : RowOps Datum) (node : Node) (texts : List (List ℕ)) (x y : ℕ)
+    (left right out : List Edge) : Type 0 where
   pub left_history : IsHistory left
   pub right_history : IsHistory right
   pub left_placed : EdgesArePlaced texts left
   pub right_placed : EdgesArePlaced texts right
   pub told : Told (node_closes node x y) out (node_in ops node (of left) (of right))
 
--- the same where the edges that went out may tell ends ahead, by interval edges. Of the same Duration: below 4 the interval edge
--- from 3 to 5
-pub record KeepsAhead (ops : RowOps Datum) (node : Node) (texts : List (List ℕ)) (x y : ℕ) (left right out : List Edge) : Type 0 where
+-- the same where the edges that went out may tell ends ahead, by interval edges. Of the same Duration: below 4 the
+-- interval edge from 3 to 5
+pub record KeepsAhead (ops : RowOps Datum) (node : Node) (texts : List (List ℕ)) (x y : ℕ)
+    (left right out : List Edge) : Type 0 where
   pub left_history : IsHistory left
   pub right_history : IsHistory right
   pub left_placed : EdgesArePlaced texts left

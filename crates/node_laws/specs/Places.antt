@@ -18,7 +18,8 @@ read_event texts e = event_to (read_cells texts) e
 abbrev pub read_events : List (List ℕ) → List CellEvent → List (Event Row)
 read_events texts es = events_to (read_cells texts) es
 
--- the events of a list of edges, read. Of a start at 3 of the place 0 and its end at 5, with the text `a`: `a` over [3, 5)
+-- the events of a list of edges, read. Of a start at 3 of the place 0 and its end at 5, with the text `a`: `a` over
+-- [3, 5)
 abbrev pub read_of : List (List ℕ) → List Edge → List (Event Row)
 read_of texts h = read_events texts (of h)
 

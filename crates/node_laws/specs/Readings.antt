@@ -1,5 +1,5 @@
--- Readings: rows of one kind as rows of another, element by element. Cells are read as values where each place is read as a
--- text.
+-- Readings: rows of one kind as rows of another, element by element. Cells are read as values where each place is read
+-- as a text.
 use Rattle.std.specs.Prelude.{◌≡◌, ℕ, ℤ, Bool, true, false, List, map}
 use Rattle.tw_rows.specs.declared.row.Value.{Value}
 use Rattle.tw_rows.specs.declared.row.Value.TheVariants.{Int, Bool as Flag, Text}
@@ -15,8 +15,9 @@ has_expressions (Where of test) = true
 has_expressions (Select of items) = true
 has_expressions node = false
 
--- f reads elements X as elements Y, as places are read as texts: rows are the same after it exactly where they were before,
--- an element keeps the int that it is, and what is made of an int, or stands in a column that is not there, is read as that
+-- f reads elements X as elements Y, as places are read as texts: rows are the same after it exactly where they were
+-- before, an element keeps the int that it is, and what is made of an int, or stands in a column that is not there, is
+-- read as that
 pub record IsReading {X Y : Type 0} (f : X → Y) (before : RowOps X) (after : RowOps Y) : Type 0 where
   pub zero : f before.zero ≡ after.zero
   pub same : (a b : List X) → after.same (map f a) (map f b) ≡ before.same a b

@@ -13,14 +13,16 @@ pub record RowEdge : Type 0 where
   pub other : ℕ
   pub row : Row
 
--- the edge with its cells read through the table. With the text `a`, a start at 3 of the cells 0, 7 is one of the row `a`, 7
+-- the edge with its cells read through the table. With the text `a`, a start at 3 of the cells 0, 7 is one of the row
+-- `a`, 7
 abbrev pub read_edge : List (List ℕ) → Edge → RowEdge
 read_edge texts e = record { sync = e.sync; other = e.other; row = read_cells texts e.cells }
 
--- the edge with its cells read, and the row replaced by the values of the items. Of the items column 1 and 5 the same start is
--- one of the row 7, 5
+-- the edge with its cells read, and the row replaced by the values of the items. Of the items column 1 and 5 the same
+-- start is one of the row 7, 5
 abbrev pub selected_edge : List (List ℕ) → List (List ExprNode) → Edge → RowEdge
-selected_edge texts items e = record { sync = e.sync; other = e.other; row = selected_row items (read_cells texts e.cells) }
+selected_edge texts items e =
+    record { sync = e.sync; other = e.other; row = selected_row items (read_cells texts e.cells) }
 
 -- the edges of h whose rows, read, pass the test: of all edges those where column 0 is `a`, whatever its place
 abbrev pub tested_edges : List (List ℕ) → List ExprNode → List Edge → List Edge

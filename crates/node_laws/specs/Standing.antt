@@ -8,9 +8,9 @@ use Rattle.plan_model.specs.declared.node.Node.{Node}
 use Rattle.plan_model.specs.Meaning.{Sources, closes, events}
 use Rattle.node_laws.specs.Places.{read_of, EdgesArePlaced}
 
--- the edges, read, stand for the events below c: they are a history with syncs below c alone, all their places are those of
--- texts, and of their events, read, the same is known below c as of these. With the text `a`, below 4 a start at 3 of the
--- place 0 stands for `a` over [3, 5), and below 6 it needs its end at 5
+-- the edges, read, stand for the events below c: they are a history with syncs below c alone, all their places are
+-- those of texts, and of their events, read, the same is known below c as of these. With the text `a`, below 4 a start
+-- at 3 of the place 0 stands for `a` over [3, 5), and below 6 it needs its end at 5
 pub record StandsRead (texts : List (List ℕ)) (c : ℕ) (h : List Edge) (events : List (Event Row)) : Type 0 where
   pub history : IsHistory h
   pub below : failing (is_below c) h ≡ 0
@@ -21,7 +21,8 @@ pub record StandsRead (texts : List (List ℕ)) (c : ℕ) (h : List Edge) (event
 abbrev pub SourcesStandRead : List (List ℕ) → ℕ → Sources → (ℕ → List Edge) → Type 0
 SourcesStandRead texts p source given = (stream : ℕ) → StandsRead texts p (given stream) (source stream)
 
--- the list of each of the first n nodes stands, read, for the events of the node below its closing at the punctuation p. Of no
--- nodes it always holds
+-- the list of each of the first n nodes stands, read, for the events of the node below its closing at the punctuation
+-- p. Of no nodes it always holds
 abbrev pub AllStandRead : List (List ℕ) → List Node → ℕ → Sources → (ℕ → List Edge) → ℕ → Type 0
-AllStandRead texts nodes p source lists n = (i : ℕ) → i < n → StandsRead texts (closes nodes i p) (lists i) (events source nodes i)
+AllStandRead texts nodes p source lists n = (i : ℕ) → i < n →
+    StandsRead texts (closes nodes i p) (lists i) (events source nodes i)

@@ -28,7 +28,8 @@ pub fn nodes_by_shards<X>()
         (over_shards (λ s. node_in ops node
         (of_shard (λ r. shard (key_in ops (left_key_of node) r)) s a)
         (of_shard (λ r. shard (key_in ops (right_key_of node) r)) s b)) n) }
-    ensures undefined { (ops : RowOps X) → Tells ops.same → (shard : List X → ℕ) (n : ℕ) → ((k : List X) → shard k < n) →
+    ensures undefined { (ops : RowOps X) → Tells ops.same → (shard : List X → ℕ) (n : ℕ) →
+        ((k : List X) → shard k < n) →
         (key : List ℕ) (aggs : List Agg) (rows : List (List X)) →
         is_undefined_in ops key aggs rows
         ≡ any_shard (λ s. is_undefined_in ops key aggs (rows_of_shard (λ r. shard (key_in ops key r)) s rows)) n }
@@ -38,8 +39,8 @@ pub fn nodes_by_shards<X>()
         ≡ any_shard (λ s. is_undefined_in ops key aggs (alive (of_shard (λ r. shard (key_in ops key r)) s a) t)) n }
 {}
 
-/// However keys are given shards, what the shards of a node keep, each of the edges of its own rows, the node keeps of all
-/// edges, where the answer is that of all shards together, in order.
+/// However keys are given shards, what the shards of a node keep, each of the edges of its own rows, the node keeps of
+/// all edges, where the answer is that of all shards together, in order.
 pub fn shards_keep_what_the_node_keeps()
     ensures { (test : List ExprNode → List Datum → Bool)
         (select : List (List ExprNode) → List Datum → List Datum) (n : Node) → is_keyed n ≡ true →

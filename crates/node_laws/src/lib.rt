@@ -1,7 +1,7 @@
-//! The laws of the nodes of a plan over rows of any kind. Cells give, read through a table of texts, what the rows that they
-//! stand for give. Nodes with a key are computed by shards. Lists of edges of cells stand, read, for the events of the nodes
-//! of a plan; and what an operator has to show of a step, so that its list does. The definitions stand in `specs/`; each
-//! function here does nothing, and its clauses are a law of them.
+//! The laws of the nodes of a plan over rows of any kind. Cells give, read through a table of texts, what the rows that
+//! they stand for give. Nodes with a key are computed by shards. Lists of edges of cells stand, read, for the events of
+//! the nodes of a plan; and what an operator has to show of a step, so that its list does. The definitions stand in
+//! `specs/`; each function here does nothing, and its clauses are a law of them.
 #![tactic(auto)]
 
 mod key_laws;

@@ -1,5 +1,5 @@
-// The laws of rows replaced: for each step that nodes use, what it makes of events with their rows replaced is what it makes
-// of the events, with their rows replaced, where what the step asks of rows stays as it was.
+// The laws of rows replaced: for each step that nodes use, what it makes of events with their rows replaced is what it
+// makes of the events, with their rows replaced, where what the step asks of rows stays as it was.
 ghost use Rattle.std.specs.Prelude.{◌≡◌, ℕ, ◌<◌, ℤ, Bool, Option, List, map};
 ghost use Rattle.std.specs.Option.{option_map};
 ghost use Rattle.tw_rows.specs.Event.{Event, alive, AreEvents, cut};
@@ -30,8 +30,8 @@ pub fn lives_do_not_depend_on_rows<R, S>()
         extended by (events_to f es) ≡ events_to f (extended by es) }
 {}
 
-/// Runs, coalesced events and tops of rows replaced, where two rows are the same exactly where they were, and the greatest
-/// by the same values.
+/// Runs, coalesced events and tops of rows replaced, where two rows are the same exactly where they were, and the
+/// greatest by the same values.
 pub fn runs_follow_replaced_rows<R, S>()
     ensures distinct { (f : R → S) (same : R → R → Bool) (same_to : S → S → Bool) →
         ((a b : R) → same_to (f a) (f b) ≡ same a b) →
@@ -68,7 +68,8 @@ pub fn groups_follow_replaced_rows<R, K, S, R2, K2, S2>()
         sessions key_to same_to timeout (events_to f es) ≡ events_to f (sessions key same timeout es) }
 {}
 
-/// Joins, anti-joins, clips and followed events of rows replaced on both sides, where two rows meet exactly where they did.
+/// Joins, anti-joins, clips and followed events of rows replaced on both sides, where two rows meet exactly where they
+/// did.
 pub fn pairs_follow_replaced_rows<L, R, P, L2, R2, P2>()
     ensures joins { (f : L → L2) (g : R → R2) (h : P → P2) (meets : L → R → Bool) (meets_to : L2 → R2 → Bool)
         (pair : L → R → P) (pair_to : L2 → R2 → P2) →
@@ -88,5 +89,6 @@ pub fn pairs_follow_replaced_rows<L, R, P, L2, R2, P2>()
         (pair : L → R → P) (pair_to : L2 → R2 → P2) →
         ((a : L) (b : R) → meets_to (f a) (g b) ≡ meets a b) → ((a : L) (b : R) → pair_to (f a) (g b) ≡ h (pair a b)) →
         (within : ℕ) (ls : List (Event L)) (rs : List (Event R)) →
-        followed meets_to pair_to within (events_to f ls) (events_to g rs) ≡ events_to h (followed meets pair within ls rs) }
+        followed meets_to pair_to within (events_to f ls) (events_to g rs)
+        ≡ events_to h (followed meets pair within ls rs) }
 {}

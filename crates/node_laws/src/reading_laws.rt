@@ -15,8 +15,8 @@ ghost use Rattle.plan_model.specs.CellOps.{cell_ops};
 ghost use Rattle.node_laws.specs.Readings.{has_expressions, IsReading, AreApart, value_by};
 ghost use Rattle.node_laws.specs.Places.{AreDistinct, read_events, read_of, EventsArePlaced, EdgesArePlaced};
 
-/// Rows of any kind: the events of a node over rows that are read, but for a Where and a Select, are those over the rows as
-/// they were, read; and just the same groups are undefined.
+/// Rows of any kind: the events of a node over rows that are read, but for a Where and a Select, are those over the
+/// rows as they were, read; and just the same groups are undefined.
 pub fn nodes_commute_with_readings<X, Y>()
     ensures events { (f : X → Y) (before : RowOps X) (after : RowOps Y) → IsReading f before after →
         (n : Node) (a b : List (Event (List X))) → has_expressions n ≡ false →
@@ -26,8 +26,8 @@ pub fn nodes_commute_with_readings<X, Y>()
         is_undefined_in after key aggs (map (map f) rows) ≡ is_undefined_in before key aggs rows }
 {}
 
-/// Cells, of which different places are different texts: the events of a node over rows of values are those over the rows of
-/// cells, read; and just the same groups are undefined.
+/// Cells, of which different places are different texts: the events of a node over rows of values are those over the
+/// rows of cells, read; and just the same groups are undefined.
 pub fn nodes_commute_with_texts_of_places()
     ensures events { (test : List ExprNode → List Datum → Bool)
         (select : List (List ExprNode) → List Datum → List Datum) (text : ℕ → List ℕ) → AreApart text →

@@ -12,10 +12,11 @@ ghost use Rattle.node_laws.specs.Places.{AreDistinct, EdgesArePlaced};
 ghost use Rattle.node_laws.specs.Standing.{StandsRead};
 ghost use Rattle.node_laws.specs.Selected.{tested_edges, AreSelected};
 
-/// The edges whose rows pass a test stand for the events of a Where, and step by step they are those of all that came in. A
-/// table that grows leaves them, and none comes before those that came in.
+/// The edges whose rows pass a test stand for the events of a Where, and step by step they are those of all that came
+/// in. A table that grows leaves them, and none comes before those that came in.
 pub fn tested_edges_stand_read()
-    ensures stands { (texts : List (List ℕ)) (child c : ℕ) (test : List ExprNode) (h : List Edge) (rows : List (Event Row)) →
+    ensures stands { (texts : List (List ℕ)) (child c : ℕ) (test : List ExprNode) (h : List Edge)
+        (rows : List (Event Row)) →
         StandsRead texts c h rows →
         StandsRead texts c (tested_edges texts test h) (node_events (Node.Where child test) rows []) }
     ensures more { (texts : List (List ℕ)) (test : List ExprNode) (h l : List Edge) →
@@ -26,9 +27,9 @@ pub fn tested_edges_stand_read()
         failing (is_from x) l ≡ 0 → failing (is_from x) (tested_edges texts test l) ≡ 0 }
 {}
 
-/// Edges that are, one by one, those that came in with the values of the items for their rows, by whatever places of a table
-/// of distinct texts, stand for the events of a Select; and step by step they are so of all that came in. A table that grows
-/// leaves that, and they come when those came.
+/// Edges that are, one by one, those that came in with the values of the items for their rows, by whatever places of a
+/// table of distinct texts, stand for the events of a Select; and step by step they are so of all that came in. A table
+/// that grows leaves that, and they come when those came.
 pub fn selected_edges_stand_read()
     ensures stands { (texts : List (List ℕ)) → AreDistinct texts → (items : List (List ExprNode)) (child c : ℕ)
         (h out : List Edge) (rows : List (Event Row)) → EdgesArePlaced texts out → AreSelected texts items h out →
@@ -36,7 +37,8 @@ pub fn selected_edges_stand_read()
     ensures more { (texts : List (List ℕ)) (items : List (List ExprNode)) (h out l more : List Edge) →
         AreSelected texts items h out → AreSelected texts items l more →
         AreSelected texts items (h ++ l) (out ++ more) }
-    ensures longer { (new old : List (List ℕ)) → BeginsWith new old → (items : List (List ExprNode)) (h out : List Edge) →
+    ensures longer { (new old : List (List ℕ)) → BeginsWith new old →
+        (items : List (List ExprNode)) (h out : List Edge) →
         EdgesArePlaced old h → EdgesArePlaced old out → AreSelected old items h out → AreSelected new items h out }
     ensures later { (texts : List (List ℕ)) (items : List (List ExprNode)) (x : ℕ) (l more : List Edge) →
         AreSelected texts items l more → failing (is_from x) more ≡ failing (is_from x) l }

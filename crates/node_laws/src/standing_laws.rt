@@ -24,8 +24,8 @@ ghost use Rattle.node_laws.specs.Readings.{has_expressions};
 ghost use Rattle.node_laws.specs.Places.{AreDistinct, read_events, read_of, EventsArePlaced, EdgesArePlaced};
 ghost use Rattle.node_laws.specs.Standing.{StandsRead};
 
-/// The events of edges whose places are in the table have places in the table. Edges that stand for events with places in
-/// the table have no other places.
+/// The events of edges whose places are in the table have places in the table. Edges that stand for events with places
+/// in the table have no other places.
 pub fn places_stay_in_the_table()
     ensures events { (texts : List (List ℕ)) (h : List Edge) → EdgesArePlaced texts h → EventsArePlaced texts (of h) }
     ensures answer { (texts : List (List ℕ)) (c : ℕ) (out : List Edge) (events : List CellEvent) →
@@ -39,8 +39,8 @@ pub fn standing_edges_stand_read()
         StandsBelow c out events → StandsRead texts c out rows }
 {}
 
-/// What stands for the events of a node over cells stands, read, for those of the node over what is read; of a Where and of
-/// a Select, for a test and a function of cells that agree with those of the rows.
+/// What stands for the events of a node over cells stands, read, for those of the node over what is read; of a Where
+/// and of a Select, for a test and a function of cells that agree with those of the rows.
 pub fn answers_stand_read()
     ensures node { (test : List ExprNode → List Datum → Bool)
         (select : List (List ExprNode) → List Datum → List Datum) (texts : List (List ℕ)) → AreDistinct texts →
@@ -53,7 +53,8 @@ pub fn answers_stand_read()
         (c : ℕ) (h out : List Edge) → c ≤ inf → IsHistory h → EdgesArePlaced texts h →
         StandsBelow c out (events_where passes (of h)) →
         StandsRead texts c out (node_events (Node.Where child test) (read_of texts h) []) }
-    ensures selected { (texts : List (List ℕ)) (child : ℕ) (items : List (List ExprNode)) (made : List Datum → List Datum) →
+    ensures selected { (texts : List (List ℕ)) (child : ℕ) (items : List (List ExprNode))
+        (made : List Datum → List Datum) →
         ((ds : List Datum) → ArePlaced texts ds → read_cells texts (made ds) ≡ selected_row items (read_cells texts ds)) →
         ((ds : List Datum) → ArePlaced texts ds → ArePlaced texts (made ds)) →
         (c : ℕ) (h out : List Edge) → c ≤ inf → IsHistory h → EdgesArePlaced texts h →
@@ -67,12 +68,13 @@ pub fn longer_tables_read_the_same()
         EventsArePlaced old events → read_events new events ≡ read_events old events }
     ensures placed { (new old : List (List ℕ)) → BeginsWith new old → (h : List Edge) →
         EdgesArePlaced old h → EdgesArePlaced new h }
-    ensures stands { (new old : List (List ℕ)) → BeginsWith new old → (c : ℕ) (h : List Edge) (events : List (Event Row)) →
+    ensures stands { (new old : List (List ℕ)) → BeginsWith new old →
+        (c : ℕ) (h : List Edge) (events : List (Event Row)) →
         StandsRead old c h events → StandsRead new c h events }
 {}
 
-/// What stands, read, for a node over what is read on its two sides stands for the node over the events for which the two
-/// sides stand.
+/// What stands, read, for a node over what is read on its two sides stands for the node over the events for which the
+/// two sides stand.
 pub fn sides_may_be_what_they_stand_for()
     ensures { (texts : List (List ℕ)) (n : Node) (x y : ℕ) (left right out : List Edge) (a b : List (Event Row)) →
         StandsRead texts x left a → StandsRead texts y right b →
@@ -80,8 +82,8 @@ pub fn sides_may_be_what_they_stand_for()
         StandsRead texts (node_closes n x y) out (node_events n a b) }
 {}
 
-/// Where edges stand, read, for events below a time, at each instant below it the same rows are alive, read; and a group of
-/// the rows is undefined exactly where one of the cells is.
+/// Where edges stand, read, for events below a time, at each instant below it the same rows are alive, read; and a
+/// group of the rows is undefined exactly where one of the cells is.
 pub fn standing_edges_show_the_rows()
     ensures rows { (texts : List (List ℕ)) (c t : ℕ) (h : List Edge) (events : List (Event Row)) → t < c →
         StandsRead texts c h events → SameBag (alive (read_of texts h) t) (alive events t) }

@@ -31,10 +31,10 @@ pub fn what_is_kept_stays_in_longer_tables()
         BeginsWith new old → Keeps ops n old x y left right out → Keeps ops n new x y left right out }
 {}
 
-/// A step: new edges come at the time up to which their side was closed or later, each side is closed up to a later time,
-/// and the answer, in order, is the news of the node's events between its closings. It is left to an operator to show of its
-/// code that the answer is this news, in order. The answer comes at the node's last closing or later, and below the new one;
-/// closings do not fall while those of the sides rise.
+/// A step: new edges come at the time up to which their side was closed or later, each side is closed up to a later
+/// time, and the answer, in order, is the news of the node's events between its closings. It is left to an operator to
+/// show of its code that the answer is this news, in order. The answer comes at the node's last closing or later, and
+/// below the new one; closings do not fall while those of the sides rise.
 pub fn steps_keep_what_they_tell()
     ensures kept { (test : List ExprNode → List Datum → Bool)
         (select : List (List ExprNode) → List Datum → List Datum) (n : Node) (texts : List (List ℕ))
@@ -55,8 +55,8 @@ pub fn steps_keep_what_they_tell()
     ensures closings { (n : Node) (x y u v : ℕ) → x ≤ u → y ≤ v → u ≤ inf → node_closes n x y ≤ node_closes n u v }
 {}
 
-/// What is told is a history below the closing, with its places in the table, and stands for the node's events: of cells, and
-/// of the rows that are read of what came in.
+/// What is told is a history below the closing, with its places in the table, and stands for the node's events: of
+/// cells, and of the rows that are read of what came in.
 pub fn what_is_told_stands_for_the_node()
     ensures cells { (test : List ExprNode → List Datum → Bool)
         (select : List (List ExprNode) → List Datum → List Datum) (n : Node) (texts : List (List ℕ))
@@ -74,9 +74,9 @@ pub fn what_is_told_stands_for_the_node()
         StandsRead texts (node_closes n x y) out (node_events n (read_of texts left) (read_of texts right)) }
 {}
 
-/// An operator may tell ends ahead, by interval edges with the ends that it knows. Its step then shows that the single edges
-/// of its answer below the new closing, with the ends told ahead that come due by then, are the news of the node's events,
-/// and that what is told ahead are ends of these. What is told stands for the node's events as well.
+/// An operator may tell ends ahead, by interval edges with the ends that it knows. Its step then shows that the single
+/// edges of its answer below the new closing, with the ends told ahead that come due by then, are the news of the
+/// node's events, and that what is told ahead are ends of these. What is told stands for the node's events as well.
 pub fn steps_may_tell_ends_ahead()
     ensures first { (ops : RowOps Datum) (n : Node) (texts : List (List ℕ)) (x y : ℕ) →
         KeepsAhead ops n texts x y [] [] [] }
