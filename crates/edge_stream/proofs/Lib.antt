@@ -5,3 +5,6 @@ pub mod Cutting
 pub mod Ahead
 pub mod Listings
 pub mod CutLists
+pub mod LastBatch
+pub mod Filling
+pub mod Merging

@@ -5,7 +5,9 @@ use Rattle.std.proofs.lemmas.List.Elements.{All-push, All-take, All-drop}
 use Rattle.tw_rows.specs.declared.kind.CellKind.{CellKind}
 use Rattle.batch.specs.Rows.{Table, edges_of}
 use Rattle.edge_history.specs.Order.{KeepsOrder}
-use Rattle.edge_stream.specs.Listing.{edges_in, IsOf, IsListing}
+use Rattle.tw_rows.specs.declared.edge.Edge.{Edge}
+use Rattle.tw_rows.specs.declared.kind.Kind.{Kind}
+use Rattle.edge_stream.specs.Listing.{EdgeListView, edges_in, IsOf, IsListing}
 use Rattle.edge_history.proofs.Keeping.{KeepsOrder-front, KeepsOrder-back}
 use Rattle.edge_stream.proofs.Cutting.{edges_in-push, edges_in-parts}
 
@@ -49,3 +51,8 @@ IsListing-same kinds k capacity c bs xs same_kinds same_capacity same is =
 
 pub All-same_kind : (kinds k : List CellKind) (capacity c : ℕ) (xs : List Table) → k ≡ kinds → c ≡ capacity → All (IsOf k c) xs → All (IsOf kinds capacity) xs
 All-same_kind kinds k capacity c xs same_kinds same_capacity all = subst (λ ks. All (IsOf ks capacity) xs) same_kinds (subst (λ n. All (IsOf k n) xs) same_capacity all)
+
+pub list_is : (edges : List Edge) (kinds : List Kind) (capacity batches room : ℕ) (l : EdgeListView) →
+    edges ≡ l.edges → kinds ≡ l.kinds → capacity ≡ l.capacity → batches ≡ l.batches → room ≡ l.room →
+    record { edges = edges; kinds = kinds; capacity = capacity; batches = batches; room = room } ≡ l
+list_is edges kinds capacity batches room l p q r s t = λ i. record { edges = p i; kinds = q i; capacity = r i; batches = s i; room = t i }

@@ -68,7 +68,7 @@ parts_are_whole t r (e ∷ es) h = pick (is_below t e) (is_from t e) refl refl (
         rw (none, all) refl
     pick false false is k rest = let from : is_from t e ≡ true = is_from-high t e (rank-from t e is) in absurd (cc)
 
--- a front part that lies below t, and a rest that does not
+-- a front part that is_on_side below t, and a rest that does not
 pub lower_clean : (t : ℕ) (a r : List Edge) → list_all (is_below t) a ≡ true → list_all (is_from t) r ≡ true → a ≡ filter (is_below t) (a ++ r)
 lower_clean t a r low high =
     sym (filter-append (is_below t) a r ∙ rw (filter-all (is_below t) a low, filter-none (is_from t) (is_below t) (from-not_below t) r high) (append-nil a))

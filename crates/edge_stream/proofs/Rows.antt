@@ -7,10 +7,8 @@ use Rattle.std.proofs.lemmas.List.Elements.{filter-append}
 use Rattle.std.proofs.lemmas.Option.{get_or_from_slice_get}
 use Rattle.tw_rows.specs.declared.edge.Edge.{Edge}
 use Rattle.batch.specs.Rows.{Row, edge_of, edges_of, occupied_rows, row_of, kept}
+use Rattle.batch.proofs.Keeping.{no_row}
 use Rattle.edge_stream.proofs.Parts.{filter_twice}
-
-pub no_row : Row
-no_row = record { sync = 0; other = 0; key = 0; hash = 0; cells = []; occupied = false }
 
 -- ---- row after row
 
@@ -48,6 +46,9 @@ module _ (p : Edge → Bool) where
 pub sync_is : (rows : List Row) (i s : ℕ) → i < length rows → slice_get (map (λ r. r.sync) rows) i ≡ Some s → (get_or rows i no_row).sync ≡ s
 sync_is rows i s lt read = sym (get_or-map (λ r. r.sync) rows i no_row 0 lt) ∙ get_or_from_slice_get (map (λ r. r.sync) rows) i s 0 read
 
+pub other_is : (rows : List Row) (i o : ℕ) → i < length rows → slice_get (map (λ r. r.other) rows) i ≡ Some o → (get_or rows i no_row).other ≡ o
+other_is rows i o lt read = sym (get_or-map (λ r. r.other) rows i no_row 0 lt) ∙ get_or_from_slice_get (map (λ r. r.other) rows) i o 0 read
+
 pub bit_is : (rows : List Row) (i : ℕ) → i < length rows → get_or (map (λ r. r.occupied) rows) i false ≡ (get_or rows i no_row).occupied
 bit_is rows i lt = get_or-map (λ r. r.occupied) rows i no_row false lt
 
@@ -66,6 +67,11 @@ edges-kept p (r ∷ rs) = pick r.occupied (p (edge_of r)) refl (edges-kept p rs)
 
 pub edges-occupied : (rows : List Row) → edges_of (occupied_rows rows) ≡ edges_of rows
 edges-occupied rows = ap (map edge_of) (filter_twice (λ r. r.occupied) rows)
+
+pub edges-push_row : (rows : List Row) (r : Row) → r.occupied ≡ true → edges_of (rows ++ r ∷ []) ≡ edges_of rows ++ edge_of r ∷ []
+edges-push_row rows r set =
+    ap (map edge_of) (filter-append (λ q. q.occupied) rows (r ∷ [])) ∙ map-append edge_of (occupied_rows rows) (occupied_rows (r ∷ []))
+    ∙ ap (λ b. edges_of rows ++ map edge_of (cond b (r ∷ []) [])) set
 
 pub edges-push : (rows : List Row) (e : Edge) → edges_of (rows ++ row_of e ∷ []) ≡ edges_of rows ++ e ∷ []
 edges-push rows e = ap (map edge_of) (filter-append (λ r. r.occupied) rows (row_of e ∷ [])) ∙ map-append edge_of (occupied_rows rows) (row_of e ∷ [])

@@ -1,20 +1,52 @@
--- What contracts see of an `EdgeList`.
-use Rattle.std.specs.Prelude.{◌≡◌, ℕ, ◌≤◌, List, length, All, flat_map}
+-- What contracts see of an `EdgeList`. `IsOf`, `IsListing` and `last_room` are cited by its model and by private contracts alone.
+use Rattle.std.specs.Prelude.{◌≡◌, ℕ, zero, suc, ◌+◌, ◌-◌, ◌*◌, ◌<◌, ◌≤◌, List, [], ◌∷◌, ◌++◌, length, map, All, flat_map}
 use Rattle.tw_rows.specs.declared.edge.Edge.{Edge}
+use Rattle.tw_rows.specs.declared.kind.Kind.{Kind}
 use Rattle.tw_rows.specs.declared.kind.CellKind.{CellKind}
+use Rattle.tw_rows.specs.Kinds.{cell_kind_of}
 use Rattle.batch.specs.Rows.{Table, edges_of}
 use Rattle.edge_history.specs.Order.{KeepsOrder}
 
--- the edges in order, how the cells of each column are stored, the capacity of the batches, and how many batches there are
-pub record Listing : Type 0 where
+-- the edges in order, the kinds of the columns, the capacity of the batches, how many batches there are, and how many rows
+-- more the last one takes (0 where there is none)
+pub record EdgeListView : Type 0 where
   pub edges : List Edge
-  pub kinds : List CellKind
+  pub kinds : List Kind
   pub capacity : ℕ
   pub batches : ℕ
+  pub room : ℕ
+
+-- how the cells of each column are stored
+abbrev pub cells_of : EdgeListView → List CellKind
+cells_of l = map cell_kind_of l.kinds
+
+-- the first where there is no room for a row more, and else the second
+abbrev pub where_full : {X : Type 0} → ℕ → X → X → X
+where_full zero full other = full
+where_full (suc room) full other = other
+
+-- the list with a new batch where its last one is full, and else as it is
+abbrev pub with_room : EdgeListView → EdgeListView
+with_room l = where_full l.room (record l { batches = l.batches + 1; room = l.capacity }) l
+
+-- the list with the edge last. With capacity 2 and no room an edge opens a batch, which then has room for one more
+abbrev pub appended : EdgeListView → Edge → EdgeListView
+appended l e = record (with_room l) { edges = l.edges ++ e ∷ []; room = (with_room l).room - 1 }
+
+-- each batch is full, but for the room that the last one has: 5 edges at capacity 2 are in 3 batches, with room for 1
+pub record IsFilled (l : EdgeListView) : Type 0 where
+  pub count : l.batches * l.capacity ≡ length l.edges + l.room
+  pub part : l.room < l.capacity
 
 -- the edges of batches, one batch after another
 abbrev pub edges_in : List Table → List Edge
 edges_in batches = flat_map (λ b. edges_of b.rows) batches
+
+-- how many rows more the last batch takes
+abbrev pub last_room : List Table → ℕ
+last_room [] = 0
+last_room (b ∷ []) = b.capacity - length b.rows
+last_room (b ∷ c ∷ bs) = last_room (c ∷ bs)
 
 -- the batch is of these kinds and this capacity
 pub record IsOf (kinds : List CellKind) (capacity : ℕ) (b : Table) : Type 0 where
@@ -29,6 +61,6 @@ pub record IsListing (kinds : List CellKind) (capacity : ℕ) (batches : List Ta
   pub width : length kinds ≤ 32
 
 -- the kinds and the capacity stay
-pub record SameShape (old new : Listing) : Type 0 where
+pub record SameShape (old new : EdgeListView) : Type 0 where
   pub kinds : new.kinds ≡ old.kinds
   pub capacity : new.capacity ≡ old.capacity

@@ -3,8 +3,9 @@
 
 mod cursor;
 mod cut;
+mod last;
 mod list;
-mod plain;
+mod whole;
 
 pub use cursor::Cursor;
 pub use list::{EdgeList, Refused};

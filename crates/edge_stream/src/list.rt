@@ -1,15 +1,16 @@
 // A list of edges, in batches.
-ghost use Rattle.std.specs.Prelude.{◌≡◌, ◌+◌, ◌≤◌, ◌↔◌, [], ◌∷◌, ◌++◌, length, map, filter, All, IsTrue, IsNone, IfNone, IfSome, IfErr, IfOk, OnOk, OnErr};
+ghost use Rattle.std.specs.Prelude.{◌≡◌, ◌+◌, ◌-◌, ◌<◌, ◌≤◌, ◌↔◌, true, [], ◌∷◌, ◌++◌, length, map, filter, slice_get, Some, IsNone, IfNone, IfSome, IsErr, IfErr, IfOk, OnOk, OnErr};
 ghost use Rattle.tw_rows.specs.Kinds.{cell_kind_of};
 ghost use Rattle.tw_rows.specs.Cells.{datum_kind};
-ghost use Rattle.batch.specs.Rows.{edges_of};
-ghost use Rattle.batch.specs.Shelves.{NoMore};
-ghost use Rattle.edge_history.specs.Order.{is_below, is_from};
-ghost use Rattle.edge_history.specs.Order.{KeepsOrder};
-ghost use Rattle.edge_stream.specs.Listing.{SameShape};
+ghost use Rattle.batch.specs.Rows.{Row, edge_of, edges_of};
+ghost use Rattle.batch.specs.Shelves.{IsPartTaken};
+ghost use Rattle.edge_history.specs.Order.{is_below, is_from, KeepsOrder};
+ghost use Rattle.edge_stream.specs.Listing.{cells_of, with_room, appended, SameShape};
+ghost use Rattle.edge_stream.specs.Taking.{room_taken, batches_taken, batches_given};
 
 use crate::cursor::Cursor;
-use crate::cut::{cut_at, push_last};
+use crate::cut::{batches_below, move_front, part_at};
+use crate::last::{copy_last, has_room, push_last};
 use batch::{Batch, Pools};
 use std::alloc::Global;
 use std::collections::VecDeque;
@@ -19,8 +20,9 @@ use std::marker::Model;
 use tw_rows::{Edge, Kind, Memory, Time};
 
 /// Edges in order, in batches of one capacity. At one sync time end edges stand first. Contracts see
-/// the edges, how the cells of each column are stored, the capacity, and how many batches there are.
-/// A batch may hold no edge. Pools that are handed to its calls have its capacity.
+/// the edges, the kinds of the columns, the capacity, how many batches there are, and how many rows
+/// more the last one takes. A batch may hold no edge. Pools that are handed to its calls have its
+/// capacity.
 #[derive(Drop)]
 pub struct EdgeList {
     pub(crate) batches: VecDeque<Batch>,
@@ -32,15 +34,16 @@ pub struct EdgeList {
 impl Model for EdgeList {
     ghost use Rattle.std.specs.Prelude.{map, length};
     ghost use Rattle.tw_rows.specs.Kinds.{cell_kind_of};
-    ghost use Rattle.edge_stream.specs.Listing.{Listing, edges_in, IsListing};
+    ghost use Rattle.edge_stream.specs.Listing.{EdgeListView, edges_in, last_room, IsListing};
 
-    ghost Value = { Listing };
+    ghost Value = { EdgeListView };
 
     ghost view = { λ l. record {
       edges = edges_in l.batches.items;
-      kinds = map cell_kind_of l.kinds.items;
+      kinds = l.kinds.items;
       capacity = l.capacity;
       batches = length l.batches.items;
+      room = last_room l.batches.items;
     } };
 
     ghost invariant = { λ l. IsListing (map cell_kind_of l.kinds.items) l.capacity l.batches.items };
@@ -71,7 +74,7 @@ impl EdgeList {
     pub fn new(alloc: Global, kinds: &[Kind], capacity: usize) -> Result<EdgeList, Memory>
         requires width { length kinds.now ≤ 32 }
         requires room { 1 ≤ capacity }
-        ensures { IfOk result (λ list. list ≡ record { edges = []; kinds = map cell_kind_of kinds.now; capacity = capacity; batches = 0 }) }
+        ensures { IfOk result (λ list. list ≡ record { edges = []; kinds = kinds.now; capacity = capacity; batches = 0; room = 0 }) }
     {
         Ok(EdgeList {
             batches: VecDeque::new(alloc),
@@ -83,7 +86,7 @@ impl EdgeList {
 
     /// The kinds of the columns.
     pub fn kinds(&self) -> &[Kind]
-        ensures kinds { map cell_kind_of result.now ≡ self.now.kinds }
+        ensures kinds { result.now ≡ self.now.kinds }
         ensures width { length result.now ≤ 32 }
     {
         &self.kinds
@@ -99,49 +102,95 @@ impl EdgeList {
 
     /// How many batches there are.
     pub fn batches(&self) -> usize
-        ensures batches { result ≡ self.now.batches }
-        ensures order { KeepsOrder self.now.edges }
+        ensures { result ≡ self.now.batches }
     {
         self.batches.len()
     }
 
-    /// Adds the edge last. Want of memory leaves the list as it was.
-    pub fn append(&mut self, pools: &mut Pools, edge: &Edge) -> Result<(), Memory>
-        requires capacity { pools.old.capacity ≡ self.old.capacity }
-        requires kinds { map datum_kind edge.now.cells ≡ self.old.kinds }
-        requires order { KeepsOrder (self.old.edges ++ edge.now ∷ []) }
-        ensures ok { OnOk result (self.new.edges ≡ self.old.edges ++ edge.now ∷ []) }
-        ensures batches { OnOk result (self.new.batches ≤ self.old.batches + 1) }
+    // Opens a batch where the last one is full.
+    fn make_room(&mut self, pools: &mut Pools) -> Result<(), Memory>
+        requires { pools.old.capacity ≡ self.old.capacity }
+        ensures ok { OnOk result (self.new ≡ with_room self.old) }
+        ensures room { OnOk result (0 < self.new.room) }
+        ensures pools { OnOk result (pools.new ≡ room_taken self.old pools.old) }
         ensures err { OnErr result (self.new ≡ self.old) }
-        ensures shape { SameShape self.old self.new }
-        ensures pools { NoMore pools.old pools.new }
+        ensures err_pools { OnErr result (IsPartTaken pools.old pools.new (cells_of self.old)) }
+        ensures full { IsErr result → self.old.room ≡ 0 }
     {
-        if push_last(&mut self.batches, edge) {
-            return Ok(());
-        }
-        let mut batch = Batch::new(self.alloc, pools, &self.kinds)?;
-        if batch.push_edge(edge).is_ok() {
+        if !has_room(&self.batches) {
+            let batch = Batch::new(self.alloc, pools, &self.kinds)?;
             self.batches.push_back(batch)?;
         }
         Ok(())
     }
 
-    /// Takes out the edges whose sync time is below `t`. Want of memory leaves the edges as they were.
+    /// Adds the edge last. Memory is taken only where the last batch is full; want of it changes
+    /// nothing but the pools.
+    pub fn append(&mut self, pools: &mut Pools, edge: &Edge) -> Result<(), Memory>
+        requires capacity { pools.old.capacity ≡ self.old.capacity }
+        requires kinds { map datum_kind edge.now.cells ≡ cells_of self.old }
+        requires order { KeepsOrder (self.old.edges ++ edge.now ∷ []) }
+        ensures ok { OnOk result (self.new ≡ appended self.old edge.now) }
+        ensures pools { OnOk result (pools.new ≡ room_taken self.old pools.old) }
+        ensures err { OnErr result (self.new ≡ self.old) }
+        ensures err_pools { OnErr result (IsPartTaken pools.old pools.new (cells_of self.old)) }
+        ensures full { IsErr result → self.old.room ≡ 0 }
+    {
+        self.make_room(pools)?;
+        push_last(&mut self.batches, edge);
+        Ok(())
+    }
+
+    /// Adds the edge in the row `i` of a batch last, as `append` adds an edge.
+    pub(crate) fn append_row(
+        &mut self,
+        pools: &mut Pools,
+        batch: &Batch,
+        i: usize,
+    ) -> Result<(), Memory>
+        requires capacity { pools.old.capacity ≡ self.old.capacity }
+        requires kinds { batch.now.kinds ≡ cells_of self.old }
+        requires place { i < length batch.now.rows }
+        requires occupied { (r : Row) → slice_get batch.now.rows i ≡ Some r → r.occupied ≡ true }
+        requires order { (r : Row) → slice_get batch.now.rows i ≡ Some r → KeepsOrder (self.old.edges ++ edge_of r ∷ []) }
+        ensures ok { OnOk result ((r : Row) → slice_get batch.now.rows i ≡ Some r → self.new ≡ appended self.old (edge_of r)) }
+        ensures pools { OnOk result (pools.new ≡ room_taken self.old pools.old) }
+        ensures err { OnErr result (self.new ≡ self.old) }
+        ensures err_pools { OnErr result (IsPartTaken pools.old pools.new (cells_of self.old)) }
+    {
+        self.make_room(pools)?;
+        copy_last(&mut self.batches, batch, i);
+        Ok(())
+    }
+
+    /// Takes out the edges whose sync time is below `t`. At most one batch is copied, and only its
+    /// later rows. Want of memory changes nothing but the pools.
     pub fn split_below(&mut self, pools: &mut Pools, t: Time) -> Result<EdgeList, Memory>
         requires { pools.old.capacity ≡ self.old.capacity }
         ensures below { IfOk result (λ front. front.edges ≡ filter (is_below t) self.old.edges) }
         ensures rest { OnOk result (self.new.edges ≡ filter (is_from t) self.old.edges) }
         ensures whole { IfOk result (λ front. front.edges ++ self.new.edges ≡ self.old.edges) }
-        ensures err { OnErr result (self.new.edges ≡ self.old.edges) }
+        ensures batches { IfOk result (λ front. (self.old.batches ≤ front.batches + self.new.batches) × (front.batches + self.new.batches ≤ self.old.batches + 1)) }
+        ensures pools { IfOk result (λ front. pools.new ≡ batches_taken (front.batches + self.new.batches - self.old.batches) pools.old (cells_of self.old)) }
+        ensures err { OnErr result (self.new ≡ self.old) }
+        ensures err_pools { OnErr result (IsPartTaken pools.old pools.new (cells_of self.old)) }
         ensures alike { IfOk result (λ front. SameShape self.old front) }
         ensures shape { SameShape self.old self.new }
-        ensures pools { NoMore pools.old pools.new }
     {
-        let mut front = EdgeList::new(self.alloc, &self.kinds, self.capacity)?;
-        let cut = cut_at(self.alloc, pools, &self.kinds, &mut self.batches, t)?;
-        let rest = self.batches.split_off(cut)?;
-        front.batches = std::mem::replace(&mut self.batches, rest);
-        Ok(front)
+        let whole = batches_below(&self.batches, t);
+        let mut front = VecDeque::with_capacity(self.alloc, whole + 1)?;
+        let kinds = Vec::from_slice(self.alloc, &self.kinds)?;
+        let part = part_at(self.alloc, pools, &self.kinds, &mut self.batches, whole, t)?;
+        move_front(&mut self.batches, whole, &mut front);
+        if let Some(batch) = part {
+            front.push_back_reserved(batch);
+        }
+        Ok(EdgeList {
+            batches: front,
+            kinds,
+            capacity: self.capacity,
+            alloc: self.alloc,
+        })
     }
 
     /// Takes out the first batch.
@@ -151,7 +200,7 @@ impl EdgeList {
         ensures unchanged { IfNone result (self.new ≡ self.old) }
         ensures edges { IfSome result (λ batch. self.old.edges ≡ edges_of batch.rows ++ self.new.edges) }
         ensures batches { IfSome result (λ batch. self.new.batches + 1 ≡ self.old.batches) }
-        ensures kinds { IfSome result (λ batch. batch.kinds ≡ self.old.kinds) }
+        ensures kinds { IfSome result (λ batch. batch.kinds ≡ cells_of self.old) }
         ensures capacity { IfSome result (λ batch. batch.capacity ≡ self.old.capacity) }
         ensures shape { SameShape self.old self.new }
     {
@@ -160,31 +209,36 @@ impl EdgeList {
 
     /// Puts the batch last. Want of memory hands it back, and leaves the list as it was.
     pub fn put_batch(&mut self, batch: Batch) -> Result<(), Refused>
-        requires kinds { batch.kinds ≡ self.old.kinds }
+        requires kinds { batch.kinds ≡ cells_of self.old }
         requires capacity { batch.capacity ≡ self.old.capacity }
         requires order { KeepsOrder (self.old.edges ++ edges_of batch.rows) }
-        ensures ok { OnOk result (self.new ≡ record self.old { edges = self.old.edges ++ edges_of batch.rows; batches = self.old.batches + 1 }) }
+        ensures ok { OnOk result (self.new ≡ record self.old { edges = self.old.edges ++ edges_of batch.rows; batches = self.old.batches + 1; room = self.old.capacity - length batch.rows }) }
         ensures batch { IfErr result (λ refused. refused.batch ≡ batch) }
         ensures err { OnErr result (self.new ≡ self.old) }
     {
-        match self.batches.push_back(batch) {
-            Ok(()) => Ok(()),
-            Err(failed) => Err(Refused {
+        if let Err(failed) = self.batches.push_back(batch) {
+            return Err(Refused {
                 batch: failed.value,
-            }),
+            });
         }
+        Ok(())
     }
 
     /// A cursor before the first edge.
     pub fn cursor(&self) -> Cursor<'_>
-        ensures { result ≡ record { edges = self.now.edges; kinds = self.now.kinds } }
+        ensures cursor { result ≡ record { edges = self.now.edges; kinds = cells_of self.now } }
+        ensures order { KeepsOrder self.now.edges }
     {
-        Cursor {
-            batches: &self.batches,
-            kinds: &self.kinds,
-            place: 0,
-            row: 0,
-            alloc: self.alloc,
+        Cursor::new(&self.batches, &self.kinds)
+    }
+
+    /// Gives the columns of all batches back to pools of their capacity.
+    pub fn give_back(mut self, pools: &mut Pools)
+        requires { pools.old.capacity ≡ self.capacity }
+        ensures { pools.new ≡ batches_given self.batches pools.old (cells_of self) }
+    {
+        while let Some(batch) = self.take_batch() {
+            batch.give_back(pools);
         }
     }
 }

@@ -7,7 +7,7 @@ use edge_history::keeps_order;
 use std::alloc::Global;
 use std::process::Abort;
 use std::test::Fail;
-use tw_rows::{CellKind, Cells, Datum, Edge, Kind, Time};
+use tw_rows::{CellKind, Cells, Datum, Edge, Kind, Memory, Time};
 
 // The time of a number, and infinity for a number of no instant.
 fn at(number: u64) -> Time {
@@ -17,19 +17,23 @@ fn at(number: u64) -> Time {
     }
 }
 
-// Edges of these times, which are numbered from 0 on.
+fn edge(alloc: Global, times: (u64, u64)) -> Result<Edge, Memory>
+    ensures { IfOk result (λ e. map datum_kind e.cells ≡ CellKind.Whole ∷ []) }
+{
+    Ok(Edge {
+        sync: at(times.0),
+        other: at(times.1),
+        cells: Cells::from_slice(alloc, &[Datum::Int(7)])?,
+    })
+}
+
+// Edges of these times.
 fn edges(alloc: Global, times: &[(u64, u64)]) -> Result<Vec<Edge>, Fail>
     ensures { IfOk result (λ edges. All (λ e. map datum_kind e.cells ≡ CellKind.Whole ∷ []) edges.items) }
 {
     let mut edges = Vec::new(alloc);
-    let mut number = 0;
-    for (sync, other) in times {
-        edges.push(Edge {
-            sync: at(*sync),
-            other: at(*other),
-            cells: Cells::from_slice(alloc, &[Datum::Int(number)])?,
-        })?;
-        number = number.wrapping_add(1);
+    for pair in times {
+        edges.push(edge(alloc, *pair)?)?;
     }
     Ok(edges)
 }
@@ -42,97 +46,59 @@ fn list(
     times: &[(u64, u64)],
 ) -> Result<EdgeList, Fail>
     requires { pools.old.capacity ≡ 2 }
-    ensures capacity { IfOk result (λ list. list.capacity ≡ 2) }
-    ensures kinds { IfOk result (λ list. list.kinds ≡ CellKind.Whole ∷ []) }
-    ensures pools { pools.new.capacity ≡ 2 }
+    ensures { IfOk result (λ list. list.kinds ≡ Kind.Int ∷ []) }
 {
     let edges = edges(alloc, times)?;
     assert!(rt; keeps_order(&edges));
     Ok(EdgeList::from_edges(alloc, pools, &[Kind::Int], &edges)?)
 }
 
-/// The sync times and the numbers of edges, and how many batches hold them.
-#[derive(Clone, Copy)]
-struct Want<'a> {
-    edges: &'a [(u64, i64)],
-    batches: usize,
-}
-
-fn check(rt: &impl Abort, list: &EdgeList, want: &Want<'_>) -> Result<(), Fail> {
-    let edges = list.to_vec()?;
-    assert_eq!(rt; edges.len(), want.edges.len());
-    for (edge, (sync, number)) in edges.iter().zip(want.edges) {
-        assert_eq!(rt; edge.sync, at(*sync));
-        assert_eq!(rt; edge.cells.items(), [Datum::Int(*number)].as_slice());
+// The sync times of the edges, as the digits of a number, and how many batches hold them.
+fn digits(list: &EdgeList) -> Result<(u64, usize), Fail> {
+    let mut digits: u64 = 0;
+    let mut cursor = list.cursor();
+    while let Some(edge) = cursor.next()? {
+        digits = digits.wrapping_mul(10).wrapping_add(edge.sync.word());
     }
-    assert_eq!(rt; list.batches(), want.batches);
-    assert_eq!(rt; list.capacity(), 2);
-    assert_eq!(rt; list.kinds(), [Kind::Int].as_slice());
-    Ok(())
-}
-
-// Takes out the edges below a time, and looks at both lists.
-fn split(
-    rt: &impl Abort,
-    pools: &mut Pools,
-    list: &mut EdgeList,
-    t: u64,
-    wants: (Want<'_>, Want<'_>),
-) -> Result<EdgeList, Fail>
-    requires pools { pools.old.capacity ≡ 2 }
-    requires capacity { list.old.capacity ≡ 2 }
-    ensures pools { pools.new.capacity ≡ 2 }
-    ensures rest { list.new.capacity ≡ 2 }
-    ensures front { IfOk result (λ front. front.capacity ≡ 2) }
-{
-    let front = list.split_below(pools, at(t))?;
-    check(rt, &front, &wants.0)?;
-    check(rt, list, &wants.1)?;
-    Ok(front)
-}
-
-fn wanted(edges: &[(u64, i64)], batches: usize) -> Want<'_> {
-    Want { edges, batches }
+    Ok((digits, list.batches()))
 }
 
 const FIVE: [(u64, u64); 5] = [(1, 9), (2, u64::MAX), (4, 2), (6, 7), (7, 8)];
 
 #[test]
-fn lists_are_split_at_a_time(rt: HostRuntime) -> Result<(), Fail> {
-    let mut pools = Pools::new(rt.alloc(), 8, 2)?;
-    let mut rest = list(&rt, rt.alloc(), &mut pools, &FIVE)?;
-    check(
-        &rt,
-        &rest,
-        &wanted(&[(1, 0), (2, 1), (4, 2), (6, 3), (7, 4)], 3),
-    )?;
-    let wants = (
-        wanted(&[(1, 0), (2, 1), (4, 2)], 2),
-        wanted(&[(6, 3), (7, 4)], 2),
-    );
-    let mut front = split(&rt, &mut pools, &mut rest, 6, wants)?;
-    let wants = (wanted(&[(1, 0)], 1), wanted(&[(2, 1), (4, 2)], 2));
-    split(&rt, &mut pools, &mut front, 2, wants)?;
-    let wants = (wanted(&[], 0), wanted(&[(2, 1), (4, 2)], 2));
-    split(&rt, &mut pools, &mut front, 2, wants)?;
-    let wants = (wanted(&[(6, 3), (7, 4)], 2), wanted(&[], 0));
-    split(&rt, &mut pools, &mut rest, u64::MAX, wants)?;
+fn lists_are_split_copied_and_merged(rt: HostRuntime) -> Result<(), Fail> {
+    let alloc = rt.alloc();
+    let mut pools = Pools::new(alloc, 8, 2)?;
+    let mut rest = list(&rt, alloc, &mut pools, &FIVE)?;
+    assert_eq!(rt; digits(&rest)?, (12467, 3));
+    assert!(rt; pools.capacity() == rest.capacity());
+    let front = rest.split_below(&mut pools, at(6))?;
+    assert_eq!(rt; digits(&front)?, (124, 2));
+    assert_eq!(rt; digits(&rest)?, (67, 2));
+    assert!(rt; pools.capacity() == front.capacity());
+    let copy = front.copy(&mut pools)?;
+    assert_eq!(rt; digits(&copy)?, (124, 2));
+    assert!(rt; pools.capacity() == rest.capacity());
+    let whole = EdgeList::merge(&mut pools, rest, front)?;
+    assert_eq!(rt; digits(&whole)?, (12467, 3));
+    assert!(rt; pools.capacity() == whole.capacity());
+    let twice = EdgeList::merge(&mut pools, whole, copy)?;
+    assert_eq!(rt; digits(&twice)?, (11224467, 4));
     Ok(())
 }
 
-// Moves the batches of one list to the end of another, one after another.
-fn move_over(from: &mut EdgeList, to: &mut EdgeList) -> Result<usize, Fail>
+// Moves the first batch of a list to an empty one.
+fn move_batch(from: &mut EdgeList, to: &mut EdgeList) -> Result<(), Fail>
     requires empty { to.old.edges ≡ [] }
     requires kinds { to.old.kinds ≡ from.old.kinds }
     requires capacity { to.old.capacity ≡ from.old.capacity }
 {
-    let mut count: usize = 0;
-    from.batches();
-    while let Some(batch) = from.take_batch() {
+    // The cursor's call tells the proof that the edges keep the order.
+    let _ = from.cursor();
+    if let Some(batch) = from.take_batch() {
         to.put_batch(batch)?;
-        count = count.saturating_add(1);
     }
-    Ok(count)
+    Ok(())
 }
 
 #[test]
@@ -141,12 +107,9 @@ fn batches_move_over(rt: HostRuntime) -> Result<(), Fail> {
     let mut pools = Pools::new(alloc, 8, 2)?;
     let mut from = list(&rt, alloc, &mut pools, &FIVE)?;
     let mut to = EdgeList::new(alloc, &[Kind::Int], 2)?;
-    assert_eq!(rt; move_over(&mut from, &mut to)?, 3);
-    check(&rt, &from, &wanted(&[], 0))?;
-    check(
-        &rt,
-        &to,
-        &wanted(&[(1, 0), (2, 1), (4, 2), (6, 3), (7, 4)], 3),
-    )?;
+    assert!(rt; to.capacity() == from.capacity());
+    move_batch(&mut from, &mut to)?;
+    assert_eq!(rt; digits(&from)?, (467, 2));
+    assert_eq!(rt; digits(&to)?, (12, 1));
     Ok(())
 }

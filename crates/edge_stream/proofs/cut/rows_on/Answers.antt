@@ -1,7 +1,8 @@
 use Rattle.std.proofs.Common.{◌<◌, ◌∙◌, ap, arith, length, get_or}
 use Rattle.batch.specs.Rows.{edge_of}
-use Rattle.edge_stream.specs.Sides.{lies}
-use Rattle.edge_stream.proofs.Rows.{no_row, sync_is, bits_next}
+use Rattle.edge_stream.specs.Sides.{is_on_side}
+use Rattle.batch.proofs.Keeping.{no_row}
+use Rattle.edge_stream.proofs.Rows.{sync_is, bits_next}
 use Rattle.edge_stream.proofs.cut.rows_on.Goals as goal
 
 pub loop-i-preserved : goal.loop-i-preserved
@@ -10,6 +11,6 @@ loop-i-preserved c =
     let lt : c.loop-i.i < length rows = omega (arith, c.loop-i-test.true, c.rows-i-end.ensures.rows) in
     let side = c.has.ensures (edge_of (get_or rows c.loop-i.i no_row)) (sync_is rows c.loop-i.i c.sync_at.result lt c.sync_at.ensures) in
     record {
-      bits = ap (λ m. m.items) c.push.ensures ∙ bits_next (lies c.args.side c.args.t) rows c.loop-i.i c.loop-i.mask.items c.has.result lt c.loop-i.invariant.bits side;
+      bits = ap (λ m. m.items) c.push.ensures ∙ bits_next (is_on_side c.args.side c.args.t) rows c.loop-i.i c.loop-i.mask.items c.has.result lt c.loop-i.invariant.bits side;
       room = ap (λ m. m.capacity) c.push.ensures ∙ c.loop-i.invariant.room;
     }

@@ -1,35 +1,33 @@
-use Rattle.std.proofs.Common.{◌≡◌, ◌<◌, ◌∙◌, ◌+◌, ◌∷◌, sym, ap, length, drop, subst, arith}
-use Rattle.std.proofs.lemmas.List.{length-map}
-use Rattle.occupancy.specs.Bits.{IsNextSet, IsNoneSet}
-use Rattle.edge_stream.specs.Reading.{edges_from}
-use Rattle.edge_stream.proofs.Ahead.{ahead-none, ahead-next}
+use Rattle.std.proofs.Common.{◌≡◌, ◌<◌, ◌∷◌, ◌∙◌, map, length, get_or, ap, sym, arith}
+use Rattle.std.proofs.lemmas.List.{get_or-map}
+use Rattle.std.proofs.lemmas.Option.{get_or_from_slice_get}
+use Rattle.batch.specs.Rows.{edge_of}
+use Rattle.batch.proofs.Keeping.{no_row}
+use Rattle.edge_stream.proofs.Ahead.{stands, next_edge, row_within}
 use Rattle.edge_stream.proofs.cursor.Cursor.next.Goals as goal
 
-pub returns-in-Some-clause-edges : goal.returns-in-Some-clause-edges
-returns-in-Some-clause-edges c =
-    let bs = c.loop-self.self-inside.batches.now in
-    let b = c.index-batch.result.now in
-    let lt : c.loop-self.self-inside.place < length bs.items = omega (arith, c.loop-self-test.true, c.len.ensures, bs.ok.0) in
-    let next = subst (λ o. IsNextSet o.items c.loop-self.self-inside.row c.in-Some.row) c.occupancy.ensures c.in-Some.ensures.found in
-    let within = subst (λ o. c.in-Some.row < length o.items) c.occupancy.ensures c.in-Some.ensures.within in
-    let here : c.in-Some.row < length b.rows = omega (arith, within, length-map b.rows (λ r. r.occupied)) in
-    let after : c.min-self-inside.result ≡ c.in-Some.row + 1 = omega (arith, c.min-self-inside.ensures, c.rows.ensures.rows, here) in
-    sym c.loop-self.invariant.ahead
-    ∙ ahead-next bs.items c.loop-self.self-inside.place c.loop-self.self-inside.row b lt c.index-batch.ensures c.in-Some.row c.in_ok-edge-in-Some.edge next here c.in_ok-edge-in-Some.ensures.ok
-    ∙ ap (λ k. c.in_ok-edge-in-Some.edge ∷ edges_from k (drop c.loop-self.self-inside.place bs.items)) (sym after)
+pub edge_at-requires : goal.edge_at-requires
+edge_at-requires c =
+    let s = c.self.inside in
+    let bs = s.batches.now in
+    let lt : s.place < length bs.items = omega (arith, c.if-self-len.false, c.len.ensures, bs.ok.0) in
+    let b = c.index.result.now in
+    let set = stands bs.items s.place s.row b lt c.index.ensures c.self.invariant.at in
+    row_within b.rows s.row set
 
-pub returns-in-Some-clause-end : goal.returns-in-Some-clause-end
-returns-in-Some-clause-end c =
-    let one = returns-in-Some-clause-edges c in
+pub returns-clause-edges : goal.returns-clause-edges
+returns-clause-edges c =
+    let s = c.self.inside in
+    let bs = s.batches.now in
+    let lt : s.place < length bs.items = omega (arith, c.if-self-len.false, c.len.ensures, bs.ok.0) in
+    let b = c.index.result.now in
+    let set = stands bs.items s.place s.row b lt c.index.ensures c.self.invariant.at in
+    let next = sym (ap (λ v. v.edges) c.self.view_is) ∙ next_edge bs.items s.place s.row b lt c.index.ensures c.self.invariant.at in
+    let here : edge_of (get_or b.rows s.row no_row) ≡ c.in_ok-edge.edge =
+    sym (get_or-map edge_of b.rows s.row no_row c.in_ok-edge.edge (row_within b.rows s.row set)) ∙ get_or_from_slice_get (map edge_of b.rows) s.row c.in_ok-edge.edge c.in_ok-edge.edge c.in_ok-edge.ensures.ok in
+    next ∙ (λ i. here i ∷ sym (c.advance.ensures.edges _ _ next) i)
+
+pub returns-clause-end : goal.returns-clause-end
+returns-clause-end c =
+    let one = returns-clause-edges c in
     (λ h. absurd (cc), λ h. absurd (cc))
-
-pub loop-self-preserved : goal.loop-self-preserved
-loop-self-preserved c =
-    let bs = c.loop-self.self-inside.batches.now in
-    let lt : c.loop-self.self-inside.place < length bs.items = omega (arith, c.loop-self-test.true, c.len.ensures, bs.ok.0) in
-    let none = subst (λ o. IsNoneSet o.items c.loop-self.self-inside.row) c.occupancy.ensures c.in-None.ensures.none in
-    record {
-      ahead = sym (ahead-none bs.items c.loop-self.self-inside.place c.loop-self.self-inside.row c.index-batch.result.now lt c.index-batch.ensures none) ∙ c.loop-self.invariant.ahead;
-      kinds = c.loop-self.invariant.kinds;
-      alike = c.loop-self.invariant.alike;
-    }

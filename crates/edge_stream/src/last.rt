@@ -1,0 +1,51 @@
+// The last of the batches of a list.
+ghost use Rattle.std.specs.Prelude.{◌≡◌, ◌+◌, ◌<◌, nat_lt, true, ℕ, List, [], ◌∷◌, ◌++◌, length, map, slice_get, Some, All};
+ghost use Rattle.tw_rows.specs.Cells.{datum_kind};
+ghost use Rattle.tw_rows.specs.declared.kind.CellKind.{CellKind};
+ghost use Rattle.batch.specs.Rows.{Row, edge_of};
+ghost use Rattle.edge_stream.specs.Listing.{IsOf, edges_in, last_room};
+
+use batch::Batch;
+use std::collections::VecDeque;
+use tw_rows::Edge;
+
+/// Whether the last batch has room for one row more.
+pub(crate) fn has_room(batches: &VecDeque<Batch>) -> bool
+    ensures { result ≡ nat_lt 0 (last_room batches.now.items) }
+{
+    match batches.back() {
+        Some(last) => last.rows() < last.capacity(),
+        None => false,
+    }
+}
+
+/// Adds the edge to the last batch, which has room for it.
+pub(crate) fn push_last(batches: &mut VecDeque<Batch>, edge: &Edge)
+    requires room { 0 < last_room batches.old.items }
+    requires kinds { All (λ b. b.kinds ≡ map datum_kind edge.now.cells) batches.old.items }
+    ensures edges { edges_in batches.new.items ≡ edges_in batches.old.items ++ edge.now ∷ [] }
+    ensures room { last_room batches.new.items + 1 ≡ last_room batches.old.items }
+    ensures len { length batches.new.items ≡ length batches.old.items }
+    ensures alike { (kinds : List CellKind) (capacity : ℕ) → All (IsOf kinds capacity) batches.old.items → All (IsOf kinds capacity) batches.new.items }
+{
+    if let Some(last) = batches.back_mut() {
+        // There is room.
+        let _ = last.push_edge(edge);
+    }
+}
+
+/// Adds the row `i` of a batch, which holds an edge, to the last batch, which has room for it.
+pub(crate) fn copy_last(batches: &mut VecDeque<Batch>, batch: &Batch, i: usize)
+    requires room { 0 < last_room batches.old.items }
+    requires kinds { All (λ b. b.kinds ≡ batch.now.kinds) batches.old.items }
+    requires place { i < length batch.now.rows }
+    requires occupied { (r : Row) → slice_get batch.now.rows i ≡ Some r → r.occupied ≡ true }
+    ensures edges { (r : Row) → slice_get batch.now.rows i ≡ Some r → edges_in batches.new.items ≡ edges_in batches.old.items ++ edge_of r ∷ [] }
+    ensures room { last_room batches.new.items + 1 ≡ last_room batches.old.items }
+    ensures len { length batches.new.items ≡ length batches.old.items }
+    ensures alike { (kinds : List CellKind) (capacity : ℕ) → All (IsOf kinds capacity) batches.old.items → All (IsOf kinds capacity) batches.new.items }
+{
+    if let Some(last) = batches.back_mut() {
+        batch.copy_row(i, last);
+    }
+}
