@@ -36,13 +36,37 @@ zero_stands_alone : front_of (codes "00") ≡ (W.Number 0, 1)
 unfolding front_of
 zero_stands_alone = refl
 
-open_text : front_of (codes "'a''") ≡ (W.Quoted 3, 3)
+open_text : front_of (codes "'a''") ≡ (W.Bad, 4)
 unfolding front_of quoted_rest
 open_text = refl
 
-no_end : front_of (codes "'a") ≡ (W.Bad, 1)
+no_end : front_of (codes "'it''s") ≡ (W.Bad, 6)
 unfolding front_of quoted_rest
 no_end = refl
+
+two_decimals : front_of (codes "1.50") ≡ (W.Decimal 150 2, 4)
+unfolding front_of
+two_decimals = refl
+
+small_decimal : front_of (codes "0.05x") ≡ (W.Decimal 5 2, 4)
+unfolding front_of
+small_decimal = refl
+
+no_fraction : front_of (codes "1.") ≡ (W.Number 1, 1)
+unfolding front_of
+no_fraction = refl
+
+most_places : front_of (codes "0.123456789012345678") ≡ (W.Decimal 123456789012345678 18, 20)
+unfolding front_of
+most_places = refl
+
+too_many_places : front_of (codes "0.1234567890123456789") ≡ (W.Bad, 21)
+unfolding front_of
+too_many_places = refl
+
+too_many_units : front_of (codes "92233720368547758.08") ≡ (W.Bad, 20)
+unfolding front_of
+too_many_units = refl
 
 past_greatest : front_of (codes "9223372036854775808 1") ≡ (W.Bad, 19)
 unfolding front_of

@@ -3,6 +3,7 @@ pub mod Numbers
 pub mod Skips
 pub mod Signs
 pub mod Inside
+pub mod Numeric
 pub mod Spots
 pub mod Tables
 pub mod Forms

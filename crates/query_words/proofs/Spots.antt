@@ -1,5 +1,5 @@
 -- Each word of a text has its form.
-use Rattle.std.proofs.Common.{◌≡◌, ℕ, zero, suc, ◌+◌, ◌-◌, ◌<◌, ◌≤◌, Bool, true, false, nat_le, if◌then◌else◌, Option, Some, None, List, [], ◌∷◌, length, take, drop, get_or, refl, ap, sym, subst, ◌∙◌, arith, All, IsUtf8, IsCharBoundary, length-drop, length-take-le, get_or-drop, drop-drop, cond, get_or-take, lit<}
+use Rattle.std.proofs.Common.{◌≡◌, ℕ, zero, suc, ◌+◌, ◌-◌, ◌<◌, ◌≤◌, Bool, true, false, ◌&&◌, nat_le, if◌then◌else◌, Option, Some, None, List, [], ◌∷◌, length, take, drop, get_or, refl, ap, sym, subst, ◌∙◌, arith, All, IsUtf8, IsCharBoundary, length-drop, length-take-le, get_or-drop, drop-drop, cond, get_or-take, lit<}
 use Rattle.std.specs.Bool.{◌==◌}
 use Rattle.std.specs.List.{prefix_len, list_all}
 use Rattle.std.proofs.lemmas.Bool.{eqb-true}
@@ -11,17 +11,10 @@ use Rattle.std.proofs.lemmas.Str.{IsCharBoundary-before_ascii, IsCharBoundary-af
 use Rattle.query_words.specs.declared.word.Sign.{Sign}
 use Rattle.query_words.specs.declared.word.Word.{Word}
 use Rattle.query_words.specs.declared.word.Word.TheVariants as W
-use Rattle.query_words.specs.Words.{is_space, is_letter, is_digit, is_name_byte, short_name, name_word, name_length, number_word, number_length, decimal_from, quoted_rest, quoted_word, first_of_table, signs, reserved, look_up, front_of, words_from, words_of}
+use Rattle.query_words.specs.Words.{is_space, is_letter, is_digit, is_name_byte, short_name, name_word, name_length, number_word, number_length, fraction_length, decimal_word, decimal_from, numeric_of, numeric_front, quoted_rest, quoted_word, first_of_table, signs, reserved, look_up, front_of, words_from, words_of}
 use Rattle.query_words.specs.Spots.{IsNameAt, IsSpotAt, IsSpotIn, IsCutAt, IsSpotCutAt, IsSpotCut, is_inside}
-use Rattle.query_words.proofs.Inside.{Closes, closes}
-
-run_passes : (p : ℕ → Bool) (bs : List ℕ) → list_all p (take (prefix_len p bs) bs) ≡ true
-run_passes p [] = refl
-run_passes p (b ∷ bs) = here (p b) refl (run_passes p bs)
-  where
-    here : (x : Bool) → p b ≡ x → list_all p (take (prefix_len p bs) bs) ≡ true → list_all p (take (cond x (1 + prefix_len p bs) 0) (b ∷ bs)) ≡ true
-    here true e h = let s : 1 + prefix_len p bs ≡ suc (prefix_len p bs) = omega arith in rw s (rw e h)
-    here false e h = refl
+use Rattle.query_words.proofs.Inside.{Rests, rests}
+use Rattle.query_words.proofs.Numeric.{run_all}
 
 -- the run of a name that is no reserved word
 name_holds : (bs : List ℕ) (n : ℕ) (r : Option Sign) → 0 < length bs → 0 < n → n ≤ length bs → list_all is_name_byte (take n bs) ≡ true → IsSpotAt bs 0 (short_name r n)
@@ -39,14 +32,26 @@ number_holds bs ds l = here (nat_le (decimal_from 0 ds) 9223372036854775807) ref
     here true f = (l, grind (arith, nat_tests))
     here false f = l
 
-quoted_holds : (b : ℕ) (bs : List ℕ) (r : Option ℕ) → (b == 39) ≡ true → ((m : ℕ) → r ≡ Some m → Closes bs m) → IsSpotAt (b ∷ bs) 0 (quoted_word r).0
-quoted_holds b bs None e h = omega arith
-quoted_holds b bs (Some zero) e h = absurd (h zero refl)
-quoted_holds b bs (Some (suc k)) e h =
-    let t = h (suc k) refl in
+decimal_holds : (bs ds fs : List ℕ) → 0 < length bs → IsSpotAt bs 0 (decimal_word ds fs)
+decimal_holds bs ds fs l = here (nat_le (length fs) 18) (nat_le (decimal_from (decimal_from 0 ds) fs) 9223372036854775807) refl refl
+  where
+    here : (x y : Bool) → nat_le (length fs) 18 ≡ x → nat_le (decimal_from (decimal_from 0 ds) fs) 9223372036854775807 ≡ y → IsSpotAt bs 0 (if x && y then W.Decimal (decimal_from (decimal_from 0 ds) fs) (length fs) else W.Bad)
+    here true true e f = (l, grind (arith, nat_tests), grind (arith, nat_tests))
+    here true false e f = l
+    here false y e f = l
+
+numeric_holds : (bs : List ℕ) (n f : ℕ) → 0 < length bs → IsSpotAt bs 0 (numeric_of n f bs).0
+numeric_holds bs n zero l = number_holds bs (take n bs) l
+numeric_holds bs n (suc f) l = decimal_holds bs (take n bs) (take (suc f) (drop (suc n) bs)) l
+
+quoted_holds : (b : ℕ) (bs : List ℕ) (x : Bool) (n : ℕ) → (b == 39) ≡ true → Rests bs x n → IsSpotAt (b ∷ bs) 0 (if x then W.Quoted (suc n) else W.Bad)
+quoted_holds b bs false n e h = omega arith
+quoted_holds b bs true zero e h = absurd h
+quoted_holds b bs true (suc k) e h =
+    let c = h.0 in
     let last : 0 + suc (suc k) - 1 ≡ suc k = omega arith in
     let inner : suc (suc k) - 2 ≡ k = omega arith in
-    record { both = omega arith; within = omega arith; opens = eqb-true b 39 e; closes = rw last t.1; inside = rw inner t.2 }
+    record { both = omega arith; within = omega arith; opens = eqb-true b 39 e; closes = rw last h.1; inside = rw inner h.2 }
 
 sign_holds : (table : List (List ℕ × Sign)) (bs : List ℕ) → 0 < length bs → IsSpotAt bs 0 (first_of_table table bs).0
 sign_holds [] bs l = l
@@ -70,23 +75,24 @@ name_front b bs e =
     let run = take (name_length (b ∷ bs)) (b ∷ bs) in
     let q : length run ≡ n = rw (p, p) refl in
     subst (λ m. IsSpotAt (b ∷ bs) 0 (short_name (look_up reserved run) m)) (sym q)
-    (name_holds (b ∷ bs) n (look_up reserved run) (omega arith) (letter_run b bs e) (prefix_len-le-length is_name_byte (b ∷ bs)) (run_passes is_name_byte (b ∷ bs)))
+    (name_holds (b ∷ bs) n (look_up reserved run) (omega arith) (letter_run b bs e) (prefix_len-le-length is_name_byte (b ∷ bs)) (run_all is_name_byte (b ∷ bs)))
 
 -- the word that stands first has its form
 front_holds : (b : ℕ) (bs : List ℕ) → IsSpotAt (b ∷ bs) 0 (front_of (b ∷ bs)).0
 unfolding front_of
 front_holds b bs = here (is_letter b) (is_digit b) (b == 39) refl refl
   where
-    here : (x y z : Bool) → is_letter b ≡ x → (b == 39) ≡ z → IsSpotAt (b ∷ bs) 0 (if x then (name_word (take (name_length (b ∷ bs)) (b ∷ bs)), name_length (b ∷ bs)) else if y then (number_word (take (number_length (b ∷ bs)) (b ∷ bs)), number_length (b ∷ bs)) else if z then quoted_word (quoted_rest bs) else first_of_table signs (b ∷ bs)).0
+    here : (x y z : Bool) → is_letter b ≡ x → (b == 39) ≡ z → IsSpotAt (b ∷ bs) 0 (if x then (name_word (take (name_length (b ∷ bs)) (b ∷ bs)), name_length (b ∷ bs)) else if y then numeric_front (b ∷ bs) else if z then quoted_word (quoted_rest bs) else first_of_table signs (b ∷ bs)).0
     here true y z e f = name_front b bs e
-    here false true z e f = number_holds (b ∷ bs) (take (number_length (b ∷ bs)) (b ∷ bs)) (omega arith)
-    here false false true e f = quoted_holds b bs (quoted_rest bs) f (λ m. closes bs m)
+    here false true z e f = numeric_holds (b ∷ bs) (number_length (b ∷ bs)) (fraction_length (drop (number_length (b ∷ bs)) (b ∷ bs))) (omega arith)
+    here false false true e f = quoted_holds b bs (quoted_rest bs).0 (quoted_rest bs).1 f (rests bs)
     here false false false e f = sign_holds signs (b ∷ bs) (omega arith)
 
 -- a word of what is left of the text stands in the text
 shifted : (text : List ℕ) (at : ℕ) (w : Word) → at ≤ length text → IsSpotAt (drop at text) 0 w → IsSpotAt text at w
 shifted text at (W.Name n) l h = record { some = h.some; short = h.short; within = omega (arith, h.within, length-drop at text); bytes = h.bytes }
 shifted text at (W.Number n) l h = (omega (arith, h.0, length-drop at text), h.1)
+shifted text at (W.Decimal u p) l h = (omega (arith, h.0, length-drop at text), h.1, h.2)
 shifted text at (W.Quoted n) l h = record {
   both = h.both;
   within = omega (arith, h.within, length-drop at text);
@@ -144,6 +150,7 @@ cut_of text at (W.Quoted n) u h =
     let c : IsCutAt text (at + 1) (n - 2) = (behind text at (at + 1) u (omega arith) (rw h.opens (lit< tt)) refl, IsCharBoundary-before_ascii text (at + 1 + (n - 2)) (omega arith) (rw last (lit< tt))) in
     (c, between text (at + 1) (n - 2) u c)
 cut_of text at (W.Number n) u h = tt
+cut_of text at (W.Decimal n p) u h = tt
 cut_of text at (W.Fixed s) u h = tt
 cut_of text at W.Bad u h = tt
 

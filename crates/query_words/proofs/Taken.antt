@@ -1,5 +1,5 @@
 -- What is taken first is the longest that looks like a word, and nothing else is.
-use Rattle.std.proofs.Common.{◌≡◌, ◌≢◌, ℕ, ◌<◌, ◌≤◌, Bool, true, false, ◌&&◌, nat_le, nat_lt, if◌then◌else◌, Option, Some, None, List, [], ◌∷◌, length, take, get_or, ◌⊎◌, inl, inr, refl, ap, sym, subst, ◌∙◌, arith, length-take-le}
+use Rattle.std.proofs.Common.{◌≡◌, ◌≢◌, ℕ, ◌<◌, ◌≤◌, Bool, true, false, ◌&&◌, nat_le, nat_lt, if◌then◌else◌, Option, Some, None, List, [], ◌∷◌, ◌++◌, suc, ◌+◌, length, length-append, append-nil, take, get_or, ◌⊎◌, inl, inr, refl, ap, sym, subst, ◌∙◌, arith, length-take-le}
 use Rattle.std.specs.Bool.{◌==◌}
 use Rattle.std.specs.List.{list_all}
 use Rattle.std.proofs.Math.Seq.{take-length}
@@ -8,9 +8,11 @@ use Rattle.std.proofs.lemmas.Bool.Decides.{nat_tests}
 use Rattle.query_words.specs.declared.word.Sign.{Sign}
 use Rattle.query_words.specs.declared.word.Word.{Word}
 use Rattle.query_words.specs.declared.word.Word.TheVariants as W
-use Rattle.query_words.specs.Words.{is_letter, is_digit, is_name_byte, short_name, name_word, number_word, decimal_from, signs, reserved, look_up, front_of}
-use Rattle.query_words.specs.Forms.{IsNameForm, HasForm, IsWord, IsPastLimit, IsLongest, IsBadFront, IsTaken}
-use Rattle.query_words.proofs.Forms.{IsFormed, IsFront, front, no_empty, starts_sign, number_head, quoted_head, sign_head}
+use Rattle.query_words.specs.Words.{is_letter, is_digit, is_name_byte, short_name, name_word, number_word, decimal_word, decimal_from, numeric_front, quoted_rest, quoted_word, signs, reserved, look_up, front_of}
+use Rattle.query_words.specs.Forms.{IsNameForm, IsNumberForm, IsDecimalForm, IsQuotedForm, IsOpenForm, HasForm, IsWord, IsPastLimit, IsLongest, IsBadFront, IsTaken}
+use Rattle.query_words.proofs.Forms.{IsFormed, IsFront, front, no_empty, starts_sign, number_head, decimal_head, quoted_head, open_head, sign_head}
+use Rattle.query_words.proofs.Inside.{inside_rest}
+use Rattle.query_words.proofs.Numeric.{number_alone, decimal_alone, decimal_past}
 use Rattle.query_words.proofs.Tables.{found_has}
 
 -- how a reserved word is spelled
@@ -27,9 +29,10 @@ reserved_form bs s e =
 pub has_form : (bs : List ℕ) (w : Word) → IsWord bs w → HasForm bs
 has_form bs (W.Name n) h = inl h.form
 has_form bs (W.Number n) h = inr (inl h.form)
-has_form bs (W.Quoted n) h = inr (inr (inl h.0))
+has_form bs (W.Decimal u p) h = inr (inr (inl h.form))
+has_form bs (W.Quoted n) h = inr (inr (inr (inl h.0)))
 has_form bs (W.Fixed s) (inl e) = inl (reserved_form bs s e).0
-has_form bs (W.Fixed s) (inr e) = inr (inr (inr (record { sign = s; found = e })))
+has_form bs (W.Fixed s) (inr e) = inr (inr (inr (inr (inr (record { sign = s; found = e })))))
 has_form bs W.Bad h = absurd h
 
 longest_of : (bs : List ℕ) (n : ℕ) → ((m : ℕ) → HasForm (take m bs) → length (take m bs) ≤ n) → IsLongest bs n
@@ -72,16 +75,39 @@ sign_or_bad (Some s) = W.Fixed s
 -- the word that these bytes can be
 abbrev pub spelled : List ℕ → Word
 spelled [] = W.Bad
-spelled (b ∷ bs) = if is_letter b then name_word (b ∷ bs) else if is_digit b then number_word (b ∷ bs) else if b == 39 then W.Quoted (length (b ∷ bs)) else sign_or_bad (look_up signs (b ∷ bs))
+spelled (b ∷ bs) = if is_letter b then name_word (b ∷ bs) else if is_digit b then (numeric_front (b ∷ bs)).0 else if b == 39 then (quoted_word (quoted_rest bs)).0 else sign_or_bad (look_up signs (b ∷ bs))
 
 letter_spelled : (b : ℕ) (bs : List ℕ) → is_letter b ≡ true → spelled (b ∷ bs) ≡ name_word (b ∷ bs)
 letter_spelled b bs e = rw e refl
 
-digit_spelled : (b : ℕ) (bs : List ℕ) → is_digit b ≡ true → spelled (b ∷ bs) ≡ number_word (b ∷ bs)
+digit_spelled : (b : ℕ) (bs : List ℕ) → is_digit b ≡ true → spelled (b ∷ bs) ≡ (numeric_front (b ∷ bs)).0
 digit_spelled b bs e = let l : is_letter b ≡ false = grind (arith, nat_tests) in rw (l, e) refl
 
-quote_spelled : (b : ℕ) (bs : List ℕ) → b ≡ 39 → spelled (b ∷ bs) ≡ W.Quoted (length (b ∷ bs))
+quote_spelled : (b : ℕ) (bs : List ℕ) → b ≡ 39 → spelled (b ∷ bs) ≡ (quoted_word (quoted_rest bs)).0
 quote_spelled b bs e = rw e refl
+
+number_spelled : (b : ℕ) (bs : List ℕ) → IsNumberForm (b ∷ bs) → spelled (b ∷ bs) ≡ number_word (b ∷ bs)
+number_spelled b bs h = digit_spelled b bs (number_head b bs h) ∙ ap (λ x. x.0) (number_alone (b ∷ bs) h)
+
+decimal_spelled : (b : ℕ) (bs : List ℕ) (h : IsDecimalForm (b ∷ bs)) → spelled (b ∷ bs) ≡ decimal_word h.whole h.fraction
+decimal_spelled b bs h = digit_spelled b bs (decimal_head b bs h) ∙ ap (λ x. x.0) (decimal_alone (b ∷ bs) h.whole h.fraction h.pointed h.number h.some h.digits)
+
+quoted_spelled : (b : ℕ) (bs : List ℕ) → IsQuotedForm (b ∷ bs) → spelled (b ∷ bs) ≡ W.Quoted (length (b ∷ bs))
+unfolding quoted_rest
+quoted_spelled b bs h =
+    let q = h.quoted in
+    let t : bs ≡ h.inner ++ 39 ∷ [] = cc in
+    let l : length h.inner + 1 ≡ length bs = (let k = ap length t ∙ length-append h.inner (39 ∷ []) in omega arith) in
+    let r : quoted_rest bs ≡ (true, length h.inner + 1) = ap quoted_rest t ∙ inside_rest h.inner (39 ∷ []) h.inside in
+    quote_spelled b bs (quoted_head b bs h) ∙ ap (λ x. (quoted_word x).0) r ∙ ap (λ k. W.Quoted (suc k)) l
+
+open_spelled : (b : ℕ) (bs : List ℕ) → IsOpenForm (b ∷ bs) → spelled (b ∷ bs) ≡ W.Bad
+unfolding quoted_rest
+open_spelled b bs h =
+    let q = h.opened in
+    let t : bs ≡ h.inner ++ [] = (let f : bs ≡ h.inner = cc in f ∙ sym (append-nil h.inner)) in
+    let r : quoted_rest bs ≡ (false, length h.inner + 0) = ap quoted_rest t ∙ inside_rest h.inner [] h.inside in
+    quote_spelled b bs (open_head b bs h) ∙ ap (λ x. (quoted_word x).0) r
 
 sign_spelled : (b : ℕ) (bs : List ℕ) → starts_sign (b ∷ bs) ≡ true → spelled (b ∷ bs) ≡ sign_or_bad (look_up signs (b ∷ bs))
 sign_spelled b bs e =
@@ -103,8 +129,18 @@ is_spelled (b ∷ bs) (W.Number n) h =
     let e = h.spells in
     let t : nat_le (decimal_from 0 (b ∷ bs)) 9223372036854775807 ≡ true = grind (arith, nat_tests) in
     let k : number_word (b ∷ bs) ≡ W.Number (decimal_from 0 (b ∷ bs)) = rw t refl in
-    sym (digit_spelled b bs (number_head b bs h.form) ∙ k ∙ ap (λ m. W.Number m) e)
-is_spelled (b ∷ bs) (W.Quoted n) h = sym (quote_spelled b bs (quoted_head b bs h.0) ∙ ap (λ m. W.Quoted m) h.1)
+    sym (number_spelled b bs h.form ∙ k ∙ ap (λ m. W.Number m) e)
+is_spelled (b ∷ bs) (W.Decimal u p) h =
+    let f = h.form in
+    let s = h.short in
+    let m = h.fits in
+    let e : decimal_from (decimal_from 0 f.whole) f.fraction ≡ u = h.spells in
+    let g : length f.fraction ≡ p = h.size in
+    let t : nat_le (length f.fraction) 18 ≡ true = grind (arith, nat_tests) in
+    let v : nat_le (decimal_from (decimal_from 0 f.whole) f.fraction) 9223372036854775807 ≡ true = grind (arith, nat_tests) in
+    let k : decimal_word f.whole f.fraction ≡ W.Decimal (decimal_from (decimal_from 0 f.whole) f.fraction) (length f.fraction) = rw (t, v) refl in
+    sym (decimal_spelled b bs f ∙ k ∙ ap (λ x. W.Decimal x (length f.fraction)) e ∙ ap (λ x. W.Decimal u x) g)
+is_spelled (b ∷ bs) (W.Quoted n) h = sym (quoted_spelled b bs h.0 ∙ ap (λ m. W.Quoted m) h.1)
 is_spelled (b ∷ bs) (W.Fixed s) (inl e) =
     let k : name_word (b ∷ bs) ≡ W.Fixed s = rw e refl in
     sym (letter_spelled b bs (reserved_form (b ∷ bs) s e).0.first ∙ k)
@@ -124,11 +160,13 @@ long_is_bad bs l = here (look_up reserved bs) refl
 past_is_bad : (bs : List ℕ) → IsPastLimit bs → spelled bs ≡ W.Bad
 past_is_bad [] h = refl
 past_is_bad (b ∷ bs) (inl h) = letter_spelled b bs h.0.first ∙ long_is_bad (b ∷ bs) h.1
-past_is_bad (b ∷ bs) (inr h) =
+past_is_bad (b ∷ bs) (inr (inr (inl h))) = decimal_spelled b bs h.form ∙ decimal_past h.form.whole h.form.fraction h.past
+past_is_bad (b ∷ bs) (inr (inr (inr h))) = open_spelled b bs h
+past_is_bad (b ∷ bs) (inr (inl h)) =
     let l = h.1 in
     let t : nat_le (decimal_from 0 (b ∷ bs)) 9223372036854775807 ≡ false = grind (arith, nat_tests) in
     let k : number_word (b ∷ bs) ≡ W.Bad = rw t refl in
-    digit_spelled b bs (number_head b bs h.0) ∙ k
+    number_spelled b bs h.0 ∙ k
 
 equal : (n m : ℕ) → n ≤ m → (n < m → ⊥) → n ≡ m
 equal n m l h = here (nat_lt n m) refl
@@ -144,7 +182,9 @@ pair (v, n) (w, m) e f = rw (e, f) refl
 pub held_form : (bs : List ℕ) (w : Word) → IsWord bs w ⊎ ((w ≡ W.Bad) × IsPastLimit bs) → HasForm bs
 held_form bs w (inl h) = has_form bs w h
 held_form bs w (inr (e, inl h)) = inl h.0
-held_form bs w (inr (e, inr h)) = inr (inl h.0)
+held_form bs w (inr (e, inr (inl h))) = inr (inl h.0)
+held_form bs w (inr (e, inr (inr (inl h)))) = inr (inr (inl h.form))
+held_form bs w (inr (e, inr (inr (inr h)))) = inr (inr (inr (inr (inl h))))
 
 held_spelled : (bs : List ℕ) (w : Word) → IsWord bs w ⊎ ((w ≡ W.Bad) × IsPastLimit bs) → w ≡ spelled bs
 held_spelled bs w (inl h) = is_spelled bs w h

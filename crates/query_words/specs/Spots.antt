@@ -35,6 +35,7 @@ pub record IsQuotedAt (text : List ℕ) (at n : ℕ) : Type 0 where
 abbrev pub IsSpotAt : List ℕ → ℕ → Word → Type 0
 IsSpotAt text at (W.Name n) = IsNameAt text at n
 IsSpotAt text at (W.Number n) = (at < length text) × (n < 2 ^ 63)
+IsSpotAt text at (W.Decimal units places) = (at < length text) × (units < 2 ^ 63) × (places ≤ 18)
 IsSpotAt text at (W.Quoted n) = IsQuotedAt text at n
 IsSpotAt text at (W.Fixed s) = at < length text
 IsSpotAt text at W.Bad = at < length text
@@ -52,6 +53,7 @@ abbrev pub IsSpotCutAt : List ℕ → ℕ → Word → Type 0
 IsSpotCutAt text at (W.Name n) = IsCutAt text at n × IsUtf8 (take n (drop at text))
 IsSpotCutAt text at (W.Quoted n) = IsCutAt text (at + 1) (n - 2) × IsUtf8 (take (n - 2) (drop (at + 1) text))
 IsSpotCutAt text at (W.Number n) = Unit {0}
+IsSpotCutAt text at (W.Decimal units places) = Unit {0}
 IsSpotCutAt text at (W.Fixed s) = Unit {0}
 IsSpotCutAt text at W.Bad = Unit {0}
 

@@ -1,5 +1,5 @@
 -- Which words there are, and the words of a text: at each place the longest.
-use Rattle.std.specs.Prelude.{ℕ, zero, suc, ◌+◌, ◌-◌, ◌*◌, Bool, true, false, ◌&&◌, ◌||◌, ◌==◌, nat_le, if◌then◌else◌, List, [], ◌∷◌, length, take, codes, Option, Some, None, option_map}
+use Rattle.std.specs.Prelude.{ℕ, zero, suc, ◌+◌, ◌-◌, ◌*◌, Bool, true, false, ◌&&◌, ◌||◌, ◌==◌, nat_le, if◌then◌else◌, List, [], ◌∷◌, length, take, drop, codes, Option, Some, None}
 use Rattle.std.specs.List.{take_while, starts_with}
 use Rattle.query_words.specs.declared.word.Sign.{Sign}
 use Rattle.query_words.specs.declared.word.Sign.TheVariants as S
@@ -58,6 +58,15 @@ reserved =
     (codes "sum", S.Sum) ∷
     (codes "min", S.Min) ∷
     (codes "max", S.Max) ∷
+    (codes "dec", S.DecKind) ∷
+    (codes "coalesce", S.Coalesce) ∷
+    (codes "left", S.Left) ∷
+    (codes "else", S.Else) ∷
+    (codes "avg", S.Avg) ∷
+    (codes "top", S.Top) ∷
+    (codes "per", S.Per) ∷
+    (codes "follow", S.Follow) ∷
+    (codes "within", S.Within) ∷
     []
 
 -- the signs, the longer ones first
@@ -111,9 +120,20 @@ abbrev pub decimal_from : ℕ → List ℕ → ℕ
 decimal_from n [] = n
 decimal_from n (d ∷ ds) = decimal_from (n * 10 + (d - 48)) ds
 
+-- a number that is not past the greatest
+abbrev pub within_greatest : ℕ → Option ℕ
+within_greatest n = if nat_le n 9223372036854775807 then Some n else None
+
 -- the word that digits are
 abbrev pub number_word : List ℕ → Word
 number_word ds = if nat_le (decimal_from 0 ds) 9223372036854775807 then W.Number (decimal_from 0 ds) else W.Bad
+
+-- The word that digits are, with a point before the last of them: the whole part, and the fraction.
+abbrev pub decimal_word : List ℕ → List ℕ → Word
+decimal_word ds fs =
+    if nat_le (length fs) 18 && nat_le (decimal_from (decimal_from 0 ds) fs) 9223372036854775807
+    then W.Decimal (decimal_from (decimal_from 0 ds) fs) (length fs)
+    else W.Bad
 
 -- how many bytes of a name stand first
 abbrev pub name_length : List ℕ → ℕ
@@ -124,32 +144,44 @@ abbrev pub number_length : List ℕ → ℕ
 number_length [] = 0
 number_length (b ∷ bs) = if b == 48 then 1 else length (take_while is_digit (b ∷ bs))
 
--- after a quote: the longer text that goes on behind a second quote, or the end here
-abbrev pub longer : Option ℕ → ℕ
-longer None = 1
-longer (Some n) = n + 2
+-- how many digits follow a point that stands first: 0 also where none stands there
+abbrev pub fraction_length : List ℕ → ℕ
+fraction_length [] = 0
+fraction_length (b ∷ bs) = if b == 46 then length (take_while is_digit bs) else 0
 
--- Behind the opening quote: how many bytes the longest text has from here on, with its closing quote.
--- Two quotes are one quote of the text; CR and LF end no text.
-unfoldable pub quoted_rest : List ℕ → Option ℕ
-quoted_rest [] = None
-quoted_rest (b ∷ []) = if b == 39 then Some 1 else None
+-- the number of n bytes that stands first, or the decimal where f digits follow a point behind it; and its length
+abbrev pub numeric_of : ℕ → ℕ → List ℕ → Word × ℕ
+numeric_of n zero bs = (number_word (take n bs), n)
+numeric_of n (suc f) bs = (decimal_word (take n bs) (take (suc f) (drop (suc n) bs)), suc n + suc f)
+
+-- the number or the decimal that stands first, and its length: of `1.` the number 1
+abbrev pub numeric_front : List ℕ → Word × ℕ
+numeric_front bs = numeric_of (number_length bs) (fraction_length (drop (number_length bs) bs)) bs
+
+-- the same, with one byte more
+abbrev pub after_one : Bool × ℕ → Bool × ℕ
+after_one r = (r.0, suc r.1)
+
+-- Behind an opening quote: whether a quote closes the text, and how many bytes there are up to that quote and with it,
+-- or up to where the line ends. Two quotes are one quote of the text.
+unfoldable pub quoted_rest : List ℕ → Bool × ℕ
+quoted_rest [] = (false, 0)
+quoted_rest (b ∷ []) = if b == 39 then (true, 1) else if b == 10 || b == 13 then (false, 0) else (false, 1)
 quoted_rest (b ∷ c ∷ bs) =
-    if b == 39 then (if c == 39 then Some (longer (quoted_rest bs)) else Some 1)
-    else if b == 10 || b == 13 then None
-    else option_map (λ n. suc n) (quoted_rest (c ∷ bs))
+    if b == 39 then (if c == 39 then after_one (after_one (quoted_rest bs)) else (true, 1))
+    else if b == 10 || b == 13 then (false, 0)
+    else after_one (quoted_rest (c ∷ bs))
 
--- the word of a text in quotes
-abbrev pub quoted_word : Option ℕ → Word × ℕ
-quoted_word None = (W.Bad, 1)
-quoted_word (Some n) = (W.Quoted (suc n), suc n)
+-- the word of a text in quotes; a text that does not end is none
+abbrev pub quoted_word : Bool × ℕ → Word × ℕ
+quoted_word r = (if r.0 then W.Quoted (suc r.1) else W.Bad, suc r.1)
 
 -- The longest word that stands first, and its length. What is no word is one bad byte.
 unfoldable pub front_of : List ℕ → Word × ℕ
 front_of [] = (W.Bad, 1)
 front_of (b ∷ bs) =
     if is_letter b then (name_word (take (name_length (b ∷ bs)) (b ∷ bs)), name_length (b ∷ bs))
-    else if is_digit b then (number_word (take (number_length (b ∷ bs)) (b ∷ bs)), number_length (b ∷ bs))
+    else if is_digit b then numeric_front (b ∷ bs)
     else if b == 39 then quoted_word (quoted_rest bs)
     else first_of_table signs (b ∷ bs)
 

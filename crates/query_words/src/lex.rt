@@ -1,8 +1,8 @@
 // Cuts a text into its words.
-ghost use Rattle.std.specs.Prelude.{◌≡◌, ℕ, ◌+◌, ◌-◌, ◌<◌, ◌≤◌, List, [], ◌∷◌, ◌++◌, length, map, take, drop, IfOk, IsTrue, nat_le, if◌then◌else◌, Some, None, IfSome};
+ghost use Rattle.std.specs.Prelude.{◌≡◌, ℕ, ◌+◌, ◌-◌, ◌<◌, ◌≤◌, List, [], ◌∷◌, ◌++◌, length, map, take, drop, get_or, true, IfOk, IsTrue, nat_le, if◌then◌else◌, Some, None, IfSome};
 ghost use Rattle.std.specs.List.{take_while};
 ghost use Rattle.query_words.specs.declared.word.Word.TheVariants.{Number, Bad};
-ghost use Rattle.query_words.specs.Words.{is_space, is_letter, is_digit, is_name_byte, reserved, signs, look_up, same_bytes, first_of_table, name_word, name_length, number_word, number_length, quoted_rest, quoted_word, front_of, words_of};
+ghost use Rattle.query_words.specs.Words.{is_space, is_letter, is_digit, is_name_byte, reserved, signs, look_up, same_bytes, first_of_table, name_word, name_length, number_word, decimal_word, decimal_from, within_greatest, number_length, fraction_length, numeric_front, quoted_rest, quoted_word, front_of, words_of};
 
 use crate::word::{RESERVED, SIGNS, Sign, Spot, Word};
 use std::alloc::Global;
@@ -10,6 +10,9 @@ use tw_rows::Memory;
 
 /// The greatest number of a query text.
 const GREATEST: u64 = 9_223_372_036_854_775_807;
+
+/// How many digits may follow a point.
+const MOST_PLACES: usize = 18;
 
 fn is_space(b: u8) -> bool
     ensures { result ≡ is_space b }
@@ -92,20 +95,49 @@ fn name_word(run: &[u8]) -> Word
     }
 }
 
-/// The word that these digits are.
-fn number_word(mut digits: &[u8]) -> Word
-    ensures { result ≡ number_word digits.entry.now }
+/// The number that these digits spell behind those that spell `value`, where it is not past the greatest.
+fn number_from(mut value: u64, mut digits: &[u8]) -> Option<u64>
+    requires fits { value ≤ 9223372036854775807 }
+    ensures { result ≡ within_greatest (decimal_from value digits.entry.now) }
 {
-    let mut value: u64 = 0;
     while let [digit, rest @ ..] = digits {
         let next = u128::from(value) * 10 + u128::from(digit.saturating_sub(b'0'));
         if next > u128::from(GREATEST) {
-            return Word::Bad;
+            return None;
         }
         value = next as u64;
         digits = rest;
     }
-    Word::Number(value)
+    Some(value)
+}
+
+/// The word that these digits are.
+fn number_word(digits: &[u8]) -> Word
+    ensures { result ≡ number_word digits.now }
+{
+    match number_from(0, digits) {
+        Some(value) => Word::Number(value),
+        None => Word::Bad,
+    }
+}
+
+/// The word that these digits are, with a point before the fraction.
+fn decimal_word(whole: &[u8], fraction: &[u8]) -> Word
+    ensures { result ≡ decimal_word whole.now fraction.now }
+{
+    if fraction.len() > MOST_PLACES {
+        return Word::Bad;
+    }
+    let Some(value) = number_from(0, whole) else {
+        return Word::Bad;
+    };
+    match number_from(value, fraction) {
+        Some(units) => Word::Decimal {
+            units,
+            places: fraction.len() as u8,
+        },
+        None => Word::Bad,
+    }
 }
 
 /// How many bytes of a name stand first.
@@ -125,9 +157,10 @@ fn digits_length(bytes: &[u8]) -> usize
 /// How many bytes the number has that stands first: a 0 stands alone.
 #[tactic(auto, unfolding(crate::specs::Words::number_length))]
 fn number_length(bytes: &[u8]) -> usize
-    requires first { 0 < length bytes.now }
+    requires some { 0 < length bytes.now }
+    requires digit { is_digit (get_or bytes.now 0 0) ≡ true }
     ensures which { result ≡ number_length bytes.now }
-    ensures fits { result ≤ length bytes.now }
+    ensures fits { (0 < result) × (result ≤ length bytes.now) }
 {
     if bytes[0] == b'0' {
         1
@@ -136,35 +169,60 @@ fn number_length(bytes: &[u8]) -> usize
     }
 }
 
-/// How many bytes the longest text has from here on, which is behind its opening quote.
-fn quoted_rest(bytes: &[u8]) -> Option<usize>
-    ensures which { result ≡ quoted_rest bytes.now }
-    ensures fits { IfSome result (λ n. (0 < n) × (n ≤ length bytes.now)) }
+/// How many digits follow a point that stands first.
+fn fraction_length(bytes: &[u8]) -> usize
+    ensures which { result ≡ fraction_length bytes.now }
 {
-    let mut end = None;
+    match bytes {
+        [b'.', digits @ ..] => digits_length(digits),
+        _ => 0,
+    }
+}
+
+/// The number or the decimal that stands first, and its length.
+fn numeric_front(bytes: &[u8]) -> (Word, usize)
+    requires some { 0 < length bytes.now }
+    requires digit { is_digit (get_or bytes.now 0 0) ≡ true }
+    ensures which { result ≡ numeric_front bytes.now }
+    ensures fits { (0 < result.1) × (result.1 ≤ length bytes.now) }
+{
+    let n = number_length(bytes);
+    let places = fraction_length(&bytes[n..]);
+    if places == 0 {
+        return (number_word(&bytes[..n]), n);
+    }
+    let end = n + 1 + places;
+    (decimal_word(&bytes[..n], &bytes[n + 1..end]), end)
+}
+
+/// Behind an opening quote: whether a quote closes the text, and how many bytes there are up to its end, or up to
+/// where the line ends.
+fn quoted_rest(bytes: &[u8]) -> (bool, usize)
+    ensures which { result ≡ quoted_rest bytes.now }
+    ensures fits { result.1 ≤ length bytes.now }
+{
     let mut at = 0;
     'bytes: while at < bytes.len() {
         let b = bytes[at];
         if b == b'\n' {
-            return end;
+            return (false, at);
         }
         if b == b'\r' {
-            return end;
+            return (false, at);
         }
         if b != b'\'' {
             at += 1;
         } else {
             if at + 1 == bytes.len() {
-                return Some(at + 1);
+                return (true, at + 1);
             }
             if bytes[at + 1] != b'\'' {
-                return Some(at + 1);
+                return (true, at + 1);
             }
-            end = Some(at + 1);
             at += 2;
         }
     }
-    end
+    (false, at)
 }
 
 /// The longest word that stands first, and its length.
@@ -180,15 +238,14 @@ fn front(bytes: &[u8]) -> (Word, usize)
         return (name_word(&bytes[..n]), n);
     }
     if is_digit(first) {
-        let n = number_length(bytes);
-        return (number_word(&bytes[..n]), n);
+        return numeric_front(bytes);
     }
     if first != b'\'' {
         return sign_word(bytes);
     }
     match quoted_rest(&bytes[1..]) {
-        Some(n) => (Word::Quoted(n + 1), n + 1),
-        None => (Word::Bad, 1),
+        (true, n) => (Word::Quoted(n + 1), n + 1),
+        (false, n) => (Word::Bad, n + 1),
     }
 }
 

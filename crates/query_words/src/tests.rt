@@ -2,7 +2,7 @@
 use crate::{Sign, Spot, Word, words};
 
 /// Texts, and the offsets and words that they are made of.
-static TEXTS: [(&str, &[(usize, Word)]); 13] = [
+static TEXTS: [(&str, &[(usize, Word)]); 15] = [
     (
         "hop 105",
         &[(0, Word::Fixed(Sign::Hop)), (4, Word::Number(105))],
@@ -31,11 +31,22 @@ static TEXTS: [(&str, &[(usize, Word)]); 13] = [
         &[(0, Word::Fixed(Sign::Less)), (2, Word::Fixed(Sign::Equal))],
     ),
     ("'it''s'", &[(0, Word::Quoted(7))]),
-    ("'a''", &[(0, Word::Quoted(3)), (3, Word::Bad)]),
+    ("'a''", &[(0, Word::Bad)]),
+    ("1.", &[(0, Word::Number(1)), (1, Word::Bad)]),
     (
-        "'a\n'",
-        &[(0, Word::Bad), (1, Word::Name(1)), (3, Word::Bad)],
+        "1.50x",
+        &[
+            (
+                0,
+                Word::Decimal {
+                    units: 150,
+                    places: 2,
+                },
+            ),
+            (4, Word::Name(1)),
+        ],
     ),
+    ("'a\n'", &[(0, Word::Bad), (3, Word::Bad)]),
     ("''", &[(0, Word::Quoted(2))]),
     ("Stream _1", &[(0, Word::Name(6)), (7, Word::Name(2))]),
     (

@@ -34,6 +34,15 @@ pub enum Sign {
     Sum,
     Min,
     Max,
+    DecKind,
+    Coalesce,
+    Left,
+    Else,
+    Avg,
+    Top,
+    Per,
+    Follow,
+    Within,
     Differs,
     LessEqual,
     GreaterEqual,
@@ -58,11 +67,13 @@ pub enum Word {
     Name(usize),
     /// A number without a sign, at most 9223372036854775807.
     Number(u64),
+    /// A number with a point: `1.50` has 150 units and 2 places. At most 9223372036854775807 and 18.
+    Decimal { units: u64, places: u8 },
     /// A text between single quotes, of so many bytes with its quotes.
     Quoted(usize),
     /// A reserved word or a sign.
     Fixed(Sign),
-    /// Bytes that form no word, or a name or number past its limit.
+    /// Bytes that form no word, a name or a number past its limit, or a text without its end.
     Bad,
 }
 
@@ -74,7 +85,7 @@ pub struct Spot {
 }
 
 /// The reserved words: no name is spelled like one.
-pub(crate) const RESERVED: [(&[u8], Sign); 32] = [
+pub(crate) const RESERVED: [(&[u8], Sign); 41] = [
     (b"stream", Sign::Stream),
     (b"let", Sign::Let),
     (b"where", Sign::Where),
@@ -107,6 +118,15 @@ pub(crate) const RESERVED: [(&[u8], Sign); 32] = [
     (b"sum", Sign::Sum),
     (b"min", Sign::Min),
     (b"max", Sign::Max),
+    (b"dec", Sign::DecKind),
+    (b"coalesce", Sign::Coalesce),
+    (b"left", Sign::Left),
+    (b"else", Sign::Else),
+    (b"avg", Sign::Avg),
+    (b"top", Sign::Top),
+    (b"per", Sign::Per),
+    (b"follow", Sign::Follow),
+    (b"within", Sign::Within),
 ];
 
 /// The signs, the longer ones first.

@@ -1,39 +1,24 @@
 use Rattle.std.proofs.Common.{arith, inl, inr, rules}
-use Rattle.query_words.proofs.Quoted.{at_end, at_line, at_other, at_last, at_closing, at_both, option_fits}
+use Rattle.query_words.proofs.Quoted.{at_end, at_line, at_other, at_last, at_closing, at_both}
 use Rattle.query_words.proofs.lex.quoted_rest.Goals as goal
 
 pub returns-then-b-eq10-clause-which : goal.returns-then-b-eq10-clause-which
-returns-then-b-eq10-clause-which c = at_line c.bytes.at 0 c.args.bytes.now c.bytes.end c.bytes-test.true (inl c.if-b-eq10.true) c.bytes.invariant.whole
-
-pub returns-then-b-eq10-clause-fits : goal.returns-then-b-eq10-clause-fits
-returns-then-b-eq10-clause-fits c = option_fits c.args.bytes.now _ (at_line c.bytes.at 0 c.args.bytes.now c.bytes.end c.bytes-test.true (inl c.if-b-eq10.true) c.bytes.invariant.whole)
+returns-then-b-eq10-clause-which c = at_line c.bytes.at 0 c.args.bytes.now c.bytes-test.true (inl c.if-b-eq10.true) c.bytes.invariant.whole
 
 pub returns-then-b-eq13-clause-which : goal.returns-then-b-eq13-clause-which
-returns-then-b-eq13-clause-which c = at_line c.bytes.at 0 c.args.bytes.now c.bytes.end c.bytes-test.true (inr c.if-b-eq13.true) c.bytes.invariant.whole
-
-pub returns-then-b-eq13-clause-fits : goal.returns-then-b-eq13-clause-fits
-returns-then-b-eq13-clause-fits c = option_fits c.args.bytes.now _ (at_line c.bytes.at 0 c.args.bytes.now c.bytes.end c.bytes-test.true (inr c.if-b-eq13.true) c.bytes.invariant.whole)
+returns-then-b-eq13-clause-which c = at_line c.bytes.at 0 c.args.bytes.now c.bytes-test.true (inr c.if-b-eq13.true) c.bytes.invariant.whole
 
 pub bytes-preserved-then-b-ne39 : goal.bytes-preserved-then-b-ne39
-bytes-preserved-then-b-ne39 c = record { within = omega arith; whole = at_other c.bytes.at 0 c.args.bytes.now c.bytes.end c.bytes-test.true (search rules) (search rules) (search rules) c.bytes.invariant.whole }
+bytes-preserved-then-b-ne39 c = record { within = omega arith; whole = at_other c.bytes.at 0 c.args.bytes.now c.bytes-test.true (search rules) (search rules) (search rules) c.bytes.invariant.whole }
 
 pub returns-then-at-bytes-clause-which : goal.returns-then-at-bytes-clause-which
-returns-then-at-bytes-clause-which c = at_last c.bytes.at 0 c.args.bytes.now c.bytes.end c.bytes-test.true (search rules) (omega arith) c.bytes.invariant.whole
-
-pub returns-then-at-bytes-clause-fits : goal.returns-then-at-bytes-clause-fits
-returns-then-at-bytes-clause-fits c = option_fits c.args.bytes.now _ (at_last c.bytes.at 0 c.args.bytes.now c.bytes.end c.bytes-test.true (search rules) (omega arith) c.bytes.invariant.whole)
+returns-then-at-bytes-clause-which c = at_last c.bytes.at 0 c.args.bytes.now c.bytes-test.true (search rules) (omega arith) c.bytes.invariant.whole
 
 pub returns-then-bytes-at-ne39-clause-which : goal.returns-then-bytes-at-ne39-clause-which
-returns-then-bytes-at-ne39-clause-which c = at_closing c.bytes.at 0 c.args.bytes.now c.bytes.end (omega arith) (search rules) (search rules) c.bytes.invariant.whole
-
-pub returns-then-bytes-at-ne39-clause-fits : goal.returns-then-bytes-at-ne39-clause-fits
-returns-then-bytes-at-ne39-clause-fits c = option_fits c.args.bytes.now _ (at_closing c.bytes.at 0 c.args.bytes.now c.bytes.end (omega arith) (search rules) (search rules) c.bytes.invariant.whole)
+returns-then-bytes-at-ne39-clause-which c = at_closing c.bytes.at 0 c.args.bytes.now (omega arith) (search rules) (search rules) c.bytes.invariant.whole
 
 pub bytes-preserved : goal.bytes-preserved
-bytes-preserved c = record { within = omega arith; whole = at_both c.bytes.at 0 c.args.bytes.now c.bytes.end (omega arith) (search rules) (search rules) c.bytes.invariant.whole }
+bytes-preserved c = record { within = omega arith; whole = at_both c.bytes.at 0 c.args.bytes.now (omega arith) (search rules) (search rules) c.bytes.invariant.whole }
 
 pub returns-clause-which : goal.returns-clause-which
-returns-clause-which c = at_end c.bytes.at c.args.bytes.now c.bytes.end (omega arith) c.bytes.invariant.whole
-
-pub returns-clause-fits : goal.returns-clause-fits
-returns-clause-fits c = option_fits c.args.bytes.now _ (at_end c.bytes.at c.args.bytes.now c.bytes.end (omega arith) c.bytes.invariant.whole)
+returns-clause-which c = at_end c.bytes.at c.args.bytes.now (omega arith) c.bytes.invariant.whole

@@ -1,10 +1,10 @@
 use Rattle.std.proofs.Common.{◌≡◌, ◌≤◌, length}
 use Rattle.query_words.specs.Words.{decimal_from}
-use Rattle.query_words.proofs.lex.number_word.Given as goal
+use Rattle.query_words.proofs.lex.number_from.Given as goal
 
 abbrev pub invariant-loop-digits : goal.invariant-loop-digits
 invariant-loop-digits l = record {
-  whole : decimal_from l.value l.digits ≡ decimal_from 0 l.initial.digits;
+  whole : decimal_from l.value l.digits ≡ decimal_from l.initial.value l.initial.digits;
   fits : l.value ≤ 9223372036854775807;
 }
 
