@@ -1,14 +1,14 @@
 -- What the grammar spells, the machine reads.
-use Rattle.std.proofs.Common.{◌≡◌, ℕ, zero, suc, ◌<◌, Bool, true, false, List, [], ◌∷◌, ◌++◌, Option, Some, refl, ap, ◌∙◌, append_assoc, arith, lit<}
+use Rattle.std.proofs.Common.{◌≡◌, ℕ, suc, ◌<◌, true, false, List, [], ◌∷◌, ◌++◌, Option, Some, refl, ap, ◌∙◌, append_assoc, arith, lit<}
 use Rattle.query_words.specs.declared.word.Sign.TheVariants as S
 use Rattle.query_grammar.specs.declared.kind.Kind.{Kind}
 use Rattle.query_grammar.specs.declared.kind.Kind.TheVariants as K
 use Rattle.query_grammar.specs.declared.symbol.Symbol.{Symbol}
 use Rattle.query_grammar.specs.declared.symbol.Symbol.TheVariants as Y
-use Rattle.query_grammar.specs.Token.{Token, name, int, str, fixed, kind}
+use Rattle.query_grammar.specs.Token.{Token, name, int, dec, str, fixed, kind}
 use Rattle.query_grammar.specs.Grammar as G
 use Rattle.query_grammar.specs.Grammar.{expr_then, ors_then, conj_then, ands_then, neg_then, test_then, sum_then, terms_then, prod_then, factors_then, unary_then, atom_then, more_names_then, names_then, item_then, items_then, agg_then, aggs_then, by_then, on_then, step_then, steps_then, pipe_then, lets_then, col_then, cols_then, stream_then, streams_then, query_tokens}
-use Rattle.query_grammar.specs.Machine.{Choice, take, skip, no, before, pushed, choose, may_end, after, stuck, stuck_then, binds, rank, at_ors, at_ands, at_neg, at_test, at_sum, at_terms, at_factors, at_unary, at_atom, at_pos, at_close}
+use Rattle.query_grammar.specs.Machine.{Choice, take, skip, no, before, pushed, choose, may_end, after, stuck, stuck_then, binds, rank, at_ors, at_ands, at_neg, at_test, at_sum, at_terms, at_factors, at_unary, at_atom, at_pos, at_word}
 use Rattle.query_grammar.proofs.Sound.{Decides, unary_decides, prod_decides, sum_decides, neg_decides, conj_decides}
 
 pub pushed_before : (c : Choice) (more k : List Symbol) (x y : Option (List Symbol)) → Decides c → pushed (before c more) k x ≡ pushed c (more ++ k) y
@@ -131,8 +131,8 @@ neg_is t h = refl
 
 unary_begins : (u : G.Unary) (z rest : List Token) (t : Token) → unary_then u z ≡ t ∷ rest → kind t ≡ K.Fixed S.Not → ⊥
 unary_begins (G.negative u) z rest t e f = let g : fixed S.Minus ≡ t = cc in let h : kind (fixed S.Minus) ≡ K.Fixed S.Not = ap kind g ∙ f in cc
-unary_begins (G.atom (G.number zero)) z rest t e f = let g : int zero ≡ t = cc in let h : kind (int zero) ≡ K.Fixed S.Not = ap kind g ∙ f in cc
-unary_begins (G.atom (G.number (suc n))) z rest t e f = let g : int (suc n) ≡ t = cc in let h : kind (int (suc n)) ≡ K.Fixed S.Not = ap kind g ∙ f in cc
+unary_begins (G.atom (G.number n)) z rest t e f = let g : int n ≡ t = cc in let h : kind (int n) ≡ K.Fixed S.Not = ap kind g ∙ f in cc
+unary_begins (G.atom (G.decimal u p)) z rest t e f = let g : dec u p ≡ t = cc in let h : kind (dec u p) ≡ K.Fixed S.Not = ap kind g ∙ f in cc
 unary_begins (G.atom (G.text s)) z rest t e f = let g : str s ≡ t = cc in let h : kind (str s) ≡ K.Fixed S.Not = ap kind g ∙ f in cc
 unary_begins (G.atom G.true_) z rest t e f = let g : fixed S.True ≡ t = cc in let h : kind (fixed S.True) ≡ K.Fixed S.Not = ap kind g ∙ f in cc
 unary_begins (G.atom G.false_) z rest t e f = let g : fixed S.False ≡ t = cc in let h : kind (fixed S.False) ≡ K.Fixed S.Not = ap kind g ∙ f in cc
@@ -191,18 +191,18 @@ negative_next : (k : List Symbol) (z : List Token) → stuck (Y.Unary ∷ k) (fi
 unfolding stuck after at_unary
 negative_next k z = refl
 
-open_next : (k : List Symbol) (z : List Token) → stuck (Y.Unary ∷ k) (fixed S.Open ∷ z) ≡ stuck (Y.Expr ∷ Y.Close ∷ k) z
+open_next : (k : List Symbol) (z : List Token) → stuck (Y.Unary ∷ k) (fixed S.Open ∷ z) ≡ stuck (Y.Expr ∷ Y.Word S.Close ∷ k) z
 unfolding stuck after at_unary at_atom
 open_next k z = refl
 
-pub close_next : (k : List Symbol) (z : List Token) → stuck (Y.Close ∷ k) (fixed S.Close ∷ z) ≡ stuck k z
-unfolding stuck after at_close
+pub close_next : (k : List Symbol) (z : List Token) → stuck (Y.Word S.Close ∷ k) (fixed S.Close ∷ z) ≡ stuck k z
+unfolding stuck after at_word
 close_next k z = refl
 
 leaf_next : (a : G.Atom) (k : List Symbol) (z : List Token) → ((e : G.Expr) → a ≡ G.parens e → ⊥) → stuck (Y.Unary ∷ k) (atom_then a z) ≡ stuck k z
 unfolding stuck after at_unary at_atom
-leaf_next (G.number zero) k z h = refl
-leaf_next (G.number (suc n)) k z h = refl
+leaf_next (G.number n) k z h = refl
+leaf_next (G.decimal u p) k z h = refl
 leaf_next (G.text s) k z h = refl
 leaf_next G.true_ k z h = refl
 leaf_next G.false_ k z h = refl
@@ -263,8 +263,9 @@ mutual
 
   pub unary_read : (u : G.Unary) (k : List Symbol) (z : List Token) → stuck (Y.Unary ∷ k) (unary_then u z) ≡ stuck k z
   unary_read (G.negative u) k z = negative_next k _ ∙ unary_read u k z
-  unary_read (G.atom (G.parens e)) k z = open_next k _ ∙ expr_read e (Y.Close ∷ k) (fixed S.Close ∷ z) (low_close z) ∙ close_next k z
+  unary_read (G.atom (G.parens e)) k z = open_next k _ ∙ expr_read e (Y.Word S.Close ∷ k) (fixed S.Close ∷ z) (low_close z) ∙ close_next k z
   unary_read (G.atom (G.number n)) k z = leaf_next (G.number n) k z (λ e f. cc)
+  unary_read (G.atom (G.decimal u p)) k z = leaf_next (G.decimal u p) k z (λ e f. cc)
   unary_read (G.atom (G.text s)) k z = leaf_next (G.text s) k z (λ e f. cc)
   unary_read (G.atom G.true_) k z = leaf_next G.true_ k z (λ e f. cc)
   unary_read (G.atom G.false_) k z = leaf_next G.false_ k z (λ e f. cc)

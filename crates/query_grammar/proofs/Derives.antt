@@ -3,9 +3,9 @@ use Rattle.std.proofs.Common.{◌≡◌, ℕ, suc, List, [], ◌∷◌, ◌++◌
 use Rattle.query_words.specs.declared.word.Sign.TheVariants as S
 use Rattle.query_grammar.specs.declared.symbol.Symbol.{Symbol}
 use Rattle.query_grammar.specs.declared.symbol.Symbol.TheVariants as Y
-use Rattle.query_grammar.specs.Token.{Token, name, int, fixed}
+use Rattle.query_grammar.specs.Token.{Token, name, int, dec, fixed}
 use Rattle.query_grammar.specs.Grammar as G
-use Rattle.query_grammar.specs.Grammar.{expr_then, ors_then, conj_then, ands_then, neg_then, test_then, sum_then, terms_then, prod_then, factors_then, unary_then, atom_then, more_names_then, names_then, item_then, items_then, agg_then, aggs_then, by_then, on_then, step_then, steps_then, pipe_then, lets_then, col_then, cols_then, stream_then, streams_then}
+use Rattle.query_grammar.specs.Grammar.{expr_then, ors_then, conj_then, ands_then, neg_then, test_then, sum_then, terms_then, prod_then, factors_then, unary_then, atom_then, more_names_then, names_then, item_then, items_then, agg_then, aggs_then, by_then, on_then, per_then, lit_then, lits_then, else_then, step_then, steps_then, pipe_then, lets_then, col_then, cols_then, stream_then, streams_then}
 
 -- w is the tokens of one, and then z
 pub record Spelled {A : Type 0} (then_ : A → List Token → List Token) (w z : List Token) : Type 0 where
@@ -20,6 +20,18 @@ int_then n z = int n ∷ z
 
 abbrev pub pos_then : ℕ → List Token → List Token
 pos_then n z = int (suc n) ∷ z
+
+abbrev pub places_then : G.Places → List Token → List Token
+places_then p z = int p.number ∷ z
+
+-- a number or a decimal without its sign
+pub data Unsigned : Type 0 where
+  whole : ℕ → Unsigned
+  pointed : ℕ → ℕ → Unsigned
+
+abbrev pub unsigned_then : Unsigned → List Token → List Token
+unsigned_then (whole n) z = int n ∷ z
+unsigned_then (pointed u p) z = dec u p ∷ z
 
 -- w is what the symbol stands for, and then z
 abbrev pub Means : Symbol → List Token → List Token → Type 0
@@ -56,12 +68,13 @@ Means Y.Atom w z = Spelled atom_then w z
 Means Y.Named w z = Spelled named_then w z
 Means Y.Int w z = Spelled int_then w z
 Means Y.Pos w z = Spelled pos_then w z
-Means Y.Close w z = w ≡ fixed S.Close ∷ z
-Means Y.Open w z = w ≡ fixed S.Open ∷ z
-Means Y.As w z = w ≡ fixed S.As ∷ z
-Means Y.Colon w z = w ≡ fixed S.Colon ∷ z
-Means Y.Semicolon w z = w ≡ fixed S.Semicolon ∷ z
-Means Y.Equal w z = w ≡ fixed S.Equal ∷ z
+Means Y.Places w z = Spelled places_then w z
+Means Y.Per w z = Spelled per_then w z
+Means Y.Else w z = Spelled else_then w z
+Means Y.Lits w z = Spelled lits_then w z
+Means Y.Lit w z = Spelled lit_then w z
+Means Y.Unsigned w z = Spelled unsigned_then w z
+Means (Y.Word s) w z = w ≡ fixed s ∷ z
 
 pub record Parts (P Q : List Token → List Token → Type 0) (w z : List Token) : Type 0 where
   pub middle : List Token
@@ -136,9 +149,10 @@ filled Y.Atom z = record { tokens = atom_then (G.number 0) z; means = spelled at
 filled Y.Named z = record { tokens = named_then [] z; means = spelled named_then [] z }
 filled Y.Int z = record { tokens = int_then 0 z; means = spelled int_then 0 z }
 filled Y.Pos z = record { tokens = pos_then 0 z; means = spelled pos_then 0 z }
-filled Y.Close z = record { tokens = fixed S.Close ∷ z; means = refl }
-filled Y.Open z = record { tokens = fixed S.Open ∷ z; means = refl }
-filled Y.As z = record { tokens = fixed S.As ∷ z; means = refl }
-filled Y.Colon z = record { tokens = fixed S.Colon ∷ z; means = refl }
-filled Y.Semicolon z = record { tokens = fixed S.Semicolon ∷ z; means = refl }
-filled Y.Equal z = record { tokens = fixed S.Equal ∷ z; means = refl }
+filled Y.Places z = record { tokens = places_then (record { number = 1; few = tt }) z; means = spelled places_then (record { number = 1; few = tt }) z }
+filled Y.Per z = record { tokens = per_then G.no_per z; means = spelled per_then G.no_per z }
+filled Y.Else z = record { tokens = else_then G.no_else z; means = spelled else_then G.no_else z }
+filled Y.Lits z = record { tokens = lits_then [] z; means = spelled lits_then [] z }
+filled Y.Lit z = record { tokens = lit_then G.true_lit z; means = spelled lit_then G.true_lit z }
+filled Y.Unsigned z = record { tokens = unsigned_then (whole 0) z; means = spelled unsigned_then (whole 0) z }
+filled (Y.Word s) z = record { tokens = fixed s ∷ z; means = refl }

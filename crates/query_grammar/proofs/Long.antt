@@ -2,7 +2,7 @@
 use Rattle.std.proofs.Common.{◌≡◌, ℕ, zero, suc, ◌+◌, ◌<◌, ◌≤◌, Bool, true, false, if◌then◌else◌, nat_lt, Option, Some, None, option_map, List, [], ◌∷◌, ◌++◌, length, take, drop, map, get_or, inl, inr, refl, ap, sym, subst, ◌∙◌, arith, append_assoc, length-append, take-append-drop, length-take-le, length-drop}
 use Rattle.std.proofs.lemmas.Bool.Decides.{nat_tests}
 use Rattle.std.proofs.Math.Seq.{take-append_seam}
-use Rattle.query_grammar.specs.Token.{Token, name, int, str, fixed, bad, kind, in_expressions}
+use Rattle.query_grammar.specs.Token.{Token, name, int, dec, str, fixed, bad, kind, in_expressions}
 use Rattle.query_grammar.specs.Grammar.{Query, query_tokens}
 use Rattle.query_grammar.specs.Fault.{IsFront, IsFault}
 use Rattle.query_grammar.specs.Limit.{query_places, IsWithin, IsShortQuery, IsLong}
@@ -25,8 +25,8 @@ runs_front n (x ∷ xs) ys (suc i) h = runs_front (next n x) xs ys i (omega arit
 word_of_kind : (t : Token) → in_expressions (kind t) ≡ is_word t
 unfolding is_word in_expressions
 word_of_kind (name n) = refl
-word_of_kind (int zero) = refl
-word_of_kind (int (suc n)) = refl
+word_of_kind (int n) = refl
+word_of_kind (dec u p) = refl
 word_of_kind (str s) = refl
 word_of_kind (fixed s) = refl
 word_of_kind bad = refl

@@ -1,5 +1,5 @@
 -- A text has only one answer.
-use Rattle.std.proofs.Common.{◌≡◌, ℕ, suc, ◌<◌, ◌≤◌, Bool, true, false, nat_lt, Option, Some, None, List, length, take, drop, refl, ap, sym, ◌∙◌, arith, length-drop}
+use Rattle.std.proofs.Common.{◌≡◌, ℕ, suc, ◌<◌, ◌≤◌, Bool, true, false, nat_lt, nat_le, map, Option, Some, None, List, length, take, drop, refl, ap, sym, ◌∙◌, arith, length-drop}
 use Rattle.std.proofs.lemmas.Bool.Decides.{nat_tests}
 use Rattle.query_words.specs.Words.{words_of}
 use Rattle.query_grammar.specs.declared.fault.Fault.{Fault}
@@ -8,6 +8,9 @@ use Rattle.query_grammar.specs.Token.{Token, tokens_of}
 use Rattle.query_grammar.specs.Fault.{IsFront, IsFault}
 use Rattle.query_grammar.specs.Limit.{IsShortQuery}
 use Rattle.query_grammar.specs.Answer.{offset_of, IsSyntaxAt, IsLongExprAt, IsAnswer}
+use Rattle.query_grammar.specs.Machine.{start}
+use Rattle.query_grammar.specs.Reading.{place, spot_kind, first_long}
+use Rattle.query_grammar.proofs.Limits.{short_query, short_syntax, long_syntax, long_expr, long_within}
 use Rattle.query_grammar.proofs.Stops.{no_fault}
 use Rattle.query_grammar.proofs.Long.{front_past, front_length, fault_front, long_clash}
 
@@ -59,3 +62,27 @@ one_answer text (Some (Syntax a)) (Some (Syntax b)) f g = ap (λ x. Some (Syntax
 one_answer text (Some (Syntax a)) (Some (LongExpr b)) f g = absurd (not_both text a b f g)
 one_answer text (Some (LongExpr a)) (Some (Syntax b)) f g = absurd (not_both text b a g f)
 one_answer text (Some (LongExpr a)) (Some (LongExpr b)) f g = ap (λ x. Some (LongExpr x)) (same_long text a b f g)
+
+-- some answer of a text
+pub record Answered (text : List ℕ) : Type 0 where
+  pub answer : Option Fault
+  pub is : IsAnswer text answer
+
+pub answered : (text : List ℕ) → Answered text
+answered text = here (first_long 0 (map spot_kind (words_of text))) refl
+  where
+    short : (p : Option ℕ) → p ≡ place start (map spot_kind (words_of text)) → first_long 0 (map spot_kind (words_of text)) ≡ None → Answered text
+    short None e f = record { answer = None; is = short_query text f e }
+    short (Some i) e f = record { answer = Some (Syntax (offset_of (length text) (words_of text) i)); is = short_syntax text i _ f e refl }
+
+    long : (j : ℕ) (p : Option ℕ) → p ≡ place start (map spot_kind (take (suc j) (words_of text))) → first_long 0 (map spot_kind (words_of text)) ≡ Some j → j < length (words_of text) → Answered text
+    long j None e f l = record { answer = Some (LongExpr (offset_of (length text) (words_of text) j)); is = long_expr text None j _ f l e (λ i g. cc) refl }
+    long j (Some i) e f l = near (nat_le i j) refl
+      where
+        near : (x : Bool) → nat_le i j ≡ x → Answered text
+        near true g = record { answer = Some (Syntax (offset_of (length text) (words_of text) i)); is = long_syntax text i j _ f l e (grind (arith, nat_tests)) refl }
+        near false g = record { answer = Some (LongExpr (offset_of (length text) (words_of text) j)); is = long_expr text (Some i) j _ f l e (λ k h. let q : i ≡ k = cc in let r : j < i = grind (arith, nat_tests) in omega arith) refl }
+
+    here : (r : Option ℕ) → first_long 0 (map spot_kind (words_of text)) ≡ r → Answered text
+    here None f = short (place start (map spot_kind (words_of text))) refl f
+    here (Some j) f = long j (place start (map spot_kind (take (suc j) (words_of text)))) refl f (long_within (words_of text) (Some j) j (sym f) refl)

@@ -37,8 +37,8 @@ found_at k (t ∷ ts) = found_then t ts (after k (kind t)) (λ k'. found_at k' t
 
 kind_at : (text : List ℕ) (at : ℕ) (w : Word) → kind (token_at text at w) ≡ word_kind w
 kind_at text at (W.Name n) = refl
-kind_at text at (W.Number zero) = refl
-kind_at text at (W.Number (suc n)) = refl
+kind_at text at (W.Number n) = refl
+kind_at text at (W.Decimal u p) = refl
 kind_at text at (W.Quoted n) = refl
 kind_at text at (W.Fixed s) = refl
 kind_at text at W.Bad = refl

@@ -123,12 +123,13 @@ ends_sound Y.Atom e = cc
 ends_sound Y.Named e = cc
 ends_sound Y.Int e = cc
 ends_sound Y.Pos e = cc
-ends_sound Y.Close e = cc
-ends_sound Y.Open e = cc
-ends_sound Y.As e = cc
-ends_sound Y.Colon e = cc
-ends_sound Y.Semicolon e = cc
-ends_sound Y.Equal e = cc
+ends_sound Y.Places e = cc
+ends_sound Y.Per e = record { it = G.no_per; spells = refl }
+ends_sound Y.Else e = record { it = G.no_else; spells = refl }
+ends_sound Y.Lits e = record { it = []; spells = refl }
+ends_sound Y.Lit e = cc
+ends_sound Y.Unsigned e = cc
+ends_sound (Y.Word s) e = cc
 
 all_end_sound : (k : List Symbol) → all_may_end k ≡ true → Derives k [] []
 all_end_sound [] e = refl

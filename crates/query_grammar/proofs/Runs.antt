@@ -1,16 +1,17 @@
 -- The 201st token of an expression is the 201st of a run of words of expressions, since elsewhere such runs are short.
-use Rattle.std.proofs.Common.{◌≡◌, ◌⊎◌, ℕ, suc, ◌<◌, Bool, true, false, if◌then◌else◌, List, [], ◌∷◌, ◌++◌, inl, inr, refl, ap, sym, ◌∙◌, arith, lit<, append_assoc}
+use Rattle.std.proofs.Common.{◌≡◌, ◌⊎◌, ℕ, suc, ◌<◌, Bool, true, false, if◌then◌else◌, List, [], ◌∷◌, ◌++◌, inl, inr, refl, ap, sym, ◌∙◌, arith, lit<, lit≤, ◌≤◌, append_assoc}
 use Rattle.query_words.specs.declared.word.Sign.TheVariants as S
 use Rattle.query_grammar.specs.declared.kind.Kind.TheVariants as K
-use Rattle.query_grammar.specs.Token.{Token, name, int, str, fixed, bad, in_expressions}
+use Rattle.query_grammar.specs.Token.{Token, name, int, dec, str, fixed, bad, in_expressions}
 use Rattle.query_grammar.specs.Grammar as G
-use Rattle.query_grammar.specs.Grammar.{Expr, Ors, Conj, Ands, Neg, Test, Sum, Terms, Prod, Factors, Unary, Atom, Comparison, comparison_sign, Text, Names, Item, Agg, By, On, Step, Pipe, Let, Col, Stream, Query, expr_then, ors_then, conj_then, ands_then, neg_then, test_then, sum_then, terms_then, prod_then, factors_then, unary_then, atom_then, more_names_then, names_then, item_then, items_then, agg_then, aggs_then, by_then, on_then, step_then, steps_then, pipe_then, let_then, lets_then, col_then, cols_then, stream_then, streams_then, query_tokens}
+use Rattle.query_grammar.specs.Grammar.{Expr, Ors, Conj, Ands, Neg, Test, Sum, Terms, Prod, Factors, Unary, Atom, Comparison, comparison_sign, Text, Names, Item, Agg, By, On, Step, Pipe, Let, Col, Stream, Query, expr_then, ors_then, conj_then, ands_then, neg_then, test_then, sum_then, terms_then, prod_then, factors_then, unary_then, atom_then, more_names_then, names_then, item_then, items_then, agg_then, aggs_then, by_then, on_then, per_then, lit_then, lits_then, else_then, step_then, steps_then, pipe_then, let_then, lets_then, col_then, cols_then, stream_then, streams_then, query_tokens}
 use Rattle.query_grammar.specs.Limit.{numbered, outside, expr_places, item_places, items_places, step_places, steps_places, pipe_places, lets_places, query_places}
 
 -- whether expressions hold such a token
 unfoldable pub is_word : Token → Bool
 is_word (name n) = true
 is_word (int n) = true
+is_word (dec u p) = true
 is_word (str s) = true
 is_word (fixed s) = in_expressions (K.Fixed s)
 is_word bad = false
@@ -120,6 +121,7 @@ mutual
 
   atom_worded : (a : Atom) → Worded (λ ts. atom_then a ts)
   atom_worded (G.number n) = one (int n) refl
+  atom_worded (G.decimal u p) = one (dec u p) refl
   atom_worded (G.text s) = one (str s) refl
   atom_worded G.true_ = one (fixed S.True) refl
   atom_worded G.false_ = one (fixed S.False) refl
@@ -161,9 +163,10 @@ names_agree ns ps xs ts h = (low 1 (lit< tt), more_names_agree ns.more ps xs ts 
 agg_agree : (a : Agg) (ps : List ℕ) (xs ts : List Token) → ((k : ℕ) → Out ps xs ts k) → (k : ℕ) → Out ps (agg_then a xs) (agg_then a ts) k
 unfolding runs is_word in_expressions
 agg_agree (G.count n) ps xs ts h k = (zero_near, (zero_near, (low 1 (lit< tt), h 1)))
-agg_agree (G.sum_of c n) ps xs ts h k = (zero_near, (low 1 (lit< tt), (zero_near, (low 1 (lit< tt), h 1))))
-agg_agree (G.min_of c n) ps xs ts h k = (zero_near, (low 1 (lit< tt), (zero_near, (low 1 (lit< tt), h 1))))
-agg_agree (G.max_of c n) ps xs ts h k = (zero_near, (low 1 (lit< tt), (zero_near, (low 1 (lit< tt), h 1))))
+agg_agree (G.of_column G.sum_ c n) ps xs ts h k = (zero_near, (low 1 (lit< tt), (zero_near, (low 1 (lit< tt), h 1))))
+agg_agree (G.of_column G.min_ c n) ps xs ts h k = (zero_near, (low 1 (lit< tt), (zero_near, (low 1 (lit< tt), h 1))))
+agg_agree (G.of_column G.max_ c n) ps xs ts h k = (zero_near, (low 1 (lit< tt), (zero_near, (low 1 (lit< tt), h 1))))
+agg_agree (G.of_column G.avg_ c n) ps xs ts h k = (zero_near, (low 1 (lit< tt), (zero_near, (low 1 (lit< tt), h 1))))
 
 aggs_agree : (as_ : List Agg) (ps : List ℕ) (xs ts : List Token) → ((k : ℕ) → Out ps xs ts k) → (k : ℕ) → Out ps (aggs_then as_ xs) (aggs_then as_ ts) k
 unfolding runs is_word in_expressions
@@ -179,6 +182,31 @@ on_agree : (o : On) (ps : List ℕ) (xs ts : List Token) → ((k : ℕ) → Out 
 unfolding runs is_word in_expressions
 on_agree G.no_on ps xs ts h k = h k
 on_agree (G.on_names ns) ps xs ts h k = (zero_near, names_agree ns ps xs ts h)
+
+per_agree : (p : G.Per) (ps : List ℕ) (xs ts : List Token) → ((k : ℕ) → Out ps xs ts k) → (k : ℕ) → Out ps (per_then p xs) (per_then p ts) k
+unfolding runs is_word in_expressions
+per_agree G.no_per ps xs ts h k = h k
+per_agree (G.per_names ns) ps xs ts h k = (zero_near, names_agree ns ps xs ts h)
+
+lit_agree : (l : G.Lit) (ps : List ℕ) (xs ts : List Token) → ((k : ℕ) → Out ps xs ts k) → Out ps (lit_then l xs) (lit_then l ts) 0
+unfolding runs is_word in_expressions
+lit_agree (G.int_lit n) ps xs ts h = (low 1 (lit< tt), h 1)
+lit_agree (G.minus_int n) ps xs ts h = (low 1 (lit< tt), (low 2 (lit< tt), h 2))
+lit_agree (G.dec_lit u p) ps xs ts h = (low 1 (lit< tt), h 1)
+lit_agree (G.minus_dec u p) ps xs ts h = (low 1 (lit< tt), (low 2 (lit< tt), h 2))
+lit_agree (G.text_lit s) ps xs ts h = (low 1 (lit< tt), h 1)
+lit_agree G.true_lit ps xs ts h = (low 1 (lit< tt), h 1)
+lit_agree G.false_lit ps xs ts h = (low 1 (lit< tt), h 1)
+
+lits_agree : (ls : List G.Lit) (ps : List ℕ) (xs ts : List Token) → ((k : ℕ) → Out ps xs ts k) → (k : ℕ) → Out ps (lits_then ls xs) (lits_then ls ts) k
+unfolding runs is_word in_expressions
+lits_agree [] ps xs ts h k = h k
+lits_agree (l ∷ ls) ps xs ts h k = (zero_near, lit_agree l ps (lits_then ls xs) (lits_then ls ts) (lits_agree ls ps xs ts h))
+
+else_agree : (e : G.Else) (ps : List ℕ) (xs ts : List Token) → ((k : ℕ) → Out ps xs ts k) → (k : ℕ) → Out ps (else_then e xs) (else_then e ts) k
+unfolding runs is_word in_expressions
+else_agree G.no_else ps xs ts h k = h k
+else_agree (G.else_ l ls) ps xs ts h k = (zero_near, lit_agree l ps (lits_then ls xs) (lits_then ls ts) (lits_agree ls ps xs ts h))
 
 item_agree : (i : Item) (ps : List ℕ) (ts : List Token) → Any ps ts → Agree (item_places i ps) (runs 0 (item_then i ts))
 unfolding runs is_word in_expressions
@@ -206,6 +234,10 @@ step_agree (G.join n o) ps ts h = (zero_near, (low 1 (lit< tt), on_agree o ps []
 step_agree (G.anti n o) ps ts h = (zero_near, (low 1 (lit< tt), on_agree o ps [] ts h 1))
 step_agree (G.group b a as_) ps ts h =
     (zero_near, by_agree b ps (fixed S.Colon ∷ agg_then a (aggs_then as_ [])) (fixed S.Colon ∷ agg_then a (aggs_then as_ ts)) (λ k. (zero_near, agg_agree a ps (aggs_then as_ []) (aggs_then as_ ts) (aggs_agree as_ ps [] ts h) 0)) 0)
+step_agree G.coalesce ps ts h = (zero_near, h 0)
+step_agree (G.left n o e) ps ts h = (zero_near, (low 1 (lit< tt), on_agree o ps (else_then e []) (else_then e ts) (else_agree e ps [] ts h) 1))
+step_agree (G.top n p c) ps ts h = (zero_near, (low 1 (lit< tt), per_agree p ps (fixed S.By ∷ name c ∷ []) (fixed S.By ∷ name c ∷ ts) (λ k. (zero_near, (low 1 (lit< tt), h 1))) 1))
+step_agree (G.follow n o m) ps ts h = (zero_near, (low 1 (lit< tt), on_agree o ps (fixed S.Within ∷ int (suc m) ∷ []) (fixed S.Within ∷ int (suc m) ∷ ts) (λ k. (zero_near, (low 1 (lit< tt), h 1))) 1))
 
 steps_agree : (ss : List Step) (ps : List ℕ) (ts : List Token) → Any ps ts → Any (steps_places ss ps) (steps_then ss ts)
 unfolding runs is_word in_expressions
@@ -222,17 +254,21 @@ lets_agree [] ps ts h = h
 lets_agree (l ∷ ls) ps ts h =
     (zero_near, (low 1 (lit< tt), (low 2 (lit< tt), pipe_agree l.pipe (0 ∷ lets_places ls ps) (fixed S.Semicolon ∷ lets_then ls ts) 2 (lit< tt) (λ k. (zero_near, lets_agree ls ps ts h)))))
 
--- a column ends with its kind, so no word of an expression stands before what follows
-col_agree : (c : Col) (ps : List ℕ) (xs ts : List Token) (k : ℕ) → k < 200 → Out ps xs ts 0 → Out ps (col_then c xs) (col_then c ts) k
-unfolding runs is_word in_expressions
-col_agree (G.int_col n) ps xs ts k l h = (low (suc k) (omega arith), (zero_near, h))
-col_agree (G.bool_col n) ps xs ts k l h = (low (suc k) (omega arith), (zero_near, h))
-col_agree (G.text_col n) ps xs ts k l h = (low (suc k) (omega arith), (zero_near, h))
+-- a column ends with its kind, and at most three words of an expression with it
+abbrev Ends : List ℕ → List Token → List Token → Type 0
+Ends ps xs ts = (k : ℕ) → k ≤ 3 → Out ps xs ts k
 
-cols_agree : (cs : List Col) (ps : List ℕ) (xs ts : List Token) → Out ps xs ts 0 → Out ps (cols_then cs xs) (cols_then cs ts) 0
+col_agree : (c : Col) (ps : List ℕ) (xs ts : List Token) (k : ℕ) → k ≤ 3 → Ends ps xs ts → Out ps (col_then c xs) (col_then c ts) k
+unfolding runs is_word in_expressions
+col_agree (G.int_col n) ps xs ts k l h = (low (suc k) (omega arith), (zero_near, h 0 (lit≤ tt)))
+col_agree (G.bool_col n) ps xs ts k l h = (low (suc k) (omega arith), (zero_near, h 0 (lit≤ tt)))
+col_agree (G.text_col n) ps xs ts k l h = (low (suc k) (omega arith), (zero_near, h 0 (lit≤ tt)))
+col_agree (G.dec_col n p) ps xs ts k l h = (low (suc k) (omega arith), (zero_near, (low 1 (lit< tt), (low 2 (lit< tt), (low 3 (lit< tt), h 3 (lit≤ tt))))))
+
+cols_agree : (cs : List Col) (ps : List ℕ) (xs ts : List Token) → Ends ps xs ts → Ends ps (cols_then cs xs) (cols_then cs ts)
 unfolding runs is_word in_expressions
 cols_agree [] ps xs ts h = h
-cols_agree (c ∷ cs) ps xs ts h = (zero_near, col_agree c ps (cols_then cs xs) (cols_then cs ts) 0 (lit< tt) (cols_agree cs ps xs ts h))
+cols_agree (c ∷ cs) ps xs ts h = λ k l. (zero_near, col_agree c ps (cols_then cs xs) (cols_then cs ts) 0 (lit≤ tt) (cols_agree cs ps xs ts h))
 
 stream_agree : (s : Stream) (ps : List ℕ) (xs ts : List Token) → Out ps xs ts 0 → Out ps (stream_then s xs) (stream_then s ts) 0
 unfolding runs is_word in_expressions
@@ -242,8 +278,8 @@ stream_agree s ps xs ts h = (
     low 1 (lit< tt),
     (
       low 2 (lit< tt),
-      col_agree s.first ps (cols_then s.more (fixed S.Close ∷ fixed S.Semicolon ∷ xs)) (cols_then s.more (fixed S.Close ∷ fixed S.Semicolon ∷ ts)) 2 (lit< tt)
-          (cols_agree s.more ps (fixed S.Close ∷ fixed S.Semicolon ∷ xs) (fixed S.Close ∷ fixed S.Semicolon ∷ ts) (low 1 (lit< tt), (zero_near, h))),
+      col_agree s.first ps (cols_then s.more (fixed S.Close ∷ fixed S.Semicolon ∷ xs)) (cols_then s.more (fixed S.Close ∷ fixed S.Semicolon ∷ ts)) 2 (lit≤ tt)
+          (cols_agree s.more ps (fixed S.Close ∷ fixed S.Semicolon ∷ xs) (fixed S.Close ∷ fixed S.Semicolon ∷ ts) (λ k l. (low (suc k) (omega arith), (zero_near, h)))),
     ),
   ),
 )

@@ -9,7 +9,6 @@ use Rattle.query_grammar.specs.declared.stack.Taken.{Taken}
 use Rattle.query_grammar.specs.declared.stack.Taken.TheVariants as R
 use Rattle.query_grammar.specs.Machine.{Choice, take, skip, no, pushed, choose, after, all_may_end}
 use Rattle.query_grammar.specs.Reading.{Did, Reads, place, spot_kind, run_after, first_long}
-use Rattle.query_grammar.specs.Token.{in_expressions}
 
 pushed_word : (c : Choice) (rest new : List Symbol) (x : Option (List Symbol)) → Did c R.Word rest new → pushed c rest x ≡ Some new
 pushed_word (take g) rest new x d = ap (λ z. Some z) (sym d)

@@ -1,6 +1,5 @@
 -- Where the machine stops is the fault, and what it reads to the end is a query.
-use Rattle.std.proofs.Common.{◌≡◌, ◌≤◌, ◌-◌, length, drop, length-append, arith, List, [], ◌∷◌, ◌++◌, Some, None, refl, sym, ◌∙◌, append_assoc}
-use Rattle.std.proofs.Math.Seq.{drop-append_seam}
+use Rattle.std.proofs.Common.{◌≡◌, List, [], ◌∷◌, ◌++◌, Some, None, refl, sym, ◌∙◌, append_assoc}
 use Rattle.query_grammar.specs.Token.{Token}
 use Rattle.query_grammar.specs.Grammar.{query_tokens}
 use Rattle.query_grammar.specs.Machine.{stuck, start}

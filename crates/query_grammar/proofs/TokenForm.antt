@@ -83,6 +83,7 @@ name_text text at n h =
 sound_at : (text : List ℕ) (at : ℕ) (w : Word) → IsSpotAt text at w → IsSpotCutAt text at w → IsSound (token_at text at w)
 sound_at text at (W.Name n) h c = name_text text at n h
 sound_at text at (W.Number n) h c = h.1
+sound_at text at (W.Decimal u p) h c = (h.1, h.2)
 sound_at text at (W.Quoted n) h c = record { utf8 = unquoted_utf8 [] (take (n - 2) (drop (at + 1) text)) c.1 h.inside; line = unquoted_line (take (n - 2) (drop (at + 1) text)) h.inside }
 sound_at text at (W.Fixed s) h c = tt
 sound_at text at W.Bad h c = tt

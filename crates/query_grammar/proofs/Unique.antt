@@ -1,46 +1,46 @@
 -- No list of tokens spells two queries.
-use Rattle.std.proofs.Common.{◌≡◌, ℕ, ◌<◌, true, false, List, [], ◌∷◌, refl, ap, sym, ◌∙◌, arith}
+use Rattle.std.proofs.Common.{◌≡◌, ℕ, suc, ◌<◌, Bool, true, false, subst, List, [], ◌∷◌, refl, ap, sym, ◌∙◌, arith}
 use Rattle.query_words.specs.declared.word.Sign.TheVariants as S
-use Rattle.query_grammar.specs.Token.{Token, name, fixed}
+use Rattle.query_grammar.specs.Token.{Token, name, int, fixed}
 use Rattle.query_grammar.specs.Grammar as G
-use Rattle.query_grammar.specs.Grammar.{expr_then, ors_then, conj_then, ands_then, neg_then, test_then, sum_then, terms_then, prod_then, factors_then, unary_then, atom_then, more_names_then, names_then, item_then, items_then, agg_then, aggs_then, by_then, on_then, step_then, steps_then, pipe_then, let_then, lets_then, col_then, cols_then, stream_then, streams_then, query_tokens}
+use Rattle.query_grammar.specs.Grammar.{fun_sign, expr_then, ors_then, conj_then, ands_then, neg_then, test_then, sum_then, terms_then, prod_then, factors_then, unary_then, atom_then, more_names_then, names_then, item_then, items_then, agg_then, aggs_then, by_then, on_then, per_then, lit_then, lits_then, else_then, step_then, steps_then, pipe_then, let_then, lets_then, col_then, cols_then, stream_then, streams_then, query_tokens}
 use Rattle.query_grammar.specs.Machine.{binds, rank}
 use Rattle.query_grammar.proofs.Complete.{low_ors, low_ands, low_test, low_terms, low_close, low_as}
-use Rattle.query_grammar.proofs.Queries.{ends_step, ends_item, begins_on, on_ors, on_ands, on_test, on_terms, on_factors, ends_items, ends_steps, low_end}
+use Rattle.query_grammar.proofs.Queries.{ends_step, ends_key, ends_else, ends_item, begins_on, on_ors, on_ands, on_test, on_terms, on_factors, ends_items, ends_steps, low_end}
 
 pub record Both {A : Type 0} (a b : A) (y z : List Token) : Type 0 where
   pub it : a ≡ b
   pub rest : y ≡ z
 
-not_or : (z w : List Token) → rank z < 1 → z ≡ fixed S.Or ∷ w → ⊥
+pub not_or : (z w : List Token) → rank z < 1 → z ≡ fixed S.Or ∷ w → ⊥
 unfolding binds
 not_or z w h e = let r : rank z ≡ 1 = ap rank e in omega arith
 
-not_and : (z w : List Token) → rank z < 2 → z ≡ fixed S.And ∷ w → ⊥
+pub not_and : (z w : List Token) → rank z < 2 → z ≡ fixed S.And ∷ w → ⊥
 unfolding binds
 not_and z w h e = let r : rank z ≡ 2 = ap rank e in omega arith
 
-not_plus : (z w : List Token) → rank z < 4 → z ≡ fixed S.Plus ∷ w → ⊥
+pub not_plus : (z w : List Token) → rank z < 4 → z ≡ fixed S.Plus ∷ w → ⊥
 unfolding binds
 not_plus z w h e = let r : rank z ≡ 4 = ap rank e in omega arith
 
-not_minus : (z w : List Token) → rank z < 4 → z ≡ fixed S.Minus ∷ w → ⊥
+pub not_minus : (z w : List Token) → rank z < 4 → z ≡ fixed S.Minus ∷ w → ⊥
 unfolding binds
 not_minus z w h e = let r : rank z ≡ 4 = ap rank e in omega arith
 
-not_star : (z w : List Token) → rank z < 5 → z ≡ fixed S.Star ∷ w → ⊥
+pub not_star : (z w : List Token) → rank z < 5 → z ≡ fixed S.Star ∷ w → ⊥
 unfolding binds
 not_star z w h e = let r : rank z ≡ 5 = ap rank e in omega arith
 
-not_div : (z w : List Token) → rank z < 5 → z ≡ fixed S.Div ∷ w → ⊥
+pub not_div : (z w : List Token) → rank z < 5 → z ≡ fixed S.Div ∷ w → ⊥
 unfolding binds
 not_div z w h e = let r : rank z ≡ 5 = ap rank e in omega arith
 
-not_mod : (z w : List Token) → rank z < 5 → z ≡ fixed S.Mod ∷ w → ⊥
+pub not_mod : (z w : List Token) → rank z < 5 → z ≡ fixed S.Mod ∷ w → ⊥
 unfolding binds
 not_mod z w h e = let r : rank z ≡ 5 = ap rank e in omega arith
 
-not_test : (c : G.Comparison) (z w : List Token) → rank z < 3 → z ≡ fixed (G.comparison_sign c) ∷ w → ⊥
+pub not_test : (c : G.Comparison) (z w : List Token) → rank z < 3 → z ≡ fixed (G.comparison_sign c) ∷ w → ⊥
 unfolding binds
 not_test G.equal z w h e = let r : rank z ≡ 3 = ap rank e in omega arith
 not_test G.differs z w h e = let r : rank z ≡ 3 = ap rank e in omega arith
@@ -49,7 +49,7 @@ not_test G.less_equal z w h e = let r : rank z ≡ 3 = ap rank e in omega arith
 not_test G.greater z w h e = let r : rank z ≡ 3 = ap rank e in omega arith
 not_test G.greater_equal z w h e = let r : rank z ≡ 3 = ap rank e in omega arith
 
-one_sign : (c d : G.Comparison) → G.comparison_sign c ≡ G.comparison_sign d → c ≡ d
+pub one_sign : (c d : G.Comparison) → G.comparison_sign c ≡ G.comparison_sign d → c ≡ d
 one_sign G.equal G.equal e = refl
 one_sign G.differs G.differs e = refl
 one_sign G.less G.less e = refl
@@ -58,17 +58,19 @@ one_sign G.greater G.greater e = refl
 one_sign G.greater_equal G.greater_equal e = refl
 one_sign _ _ e = cc
 
-not_sum : (s : G.Sum) (w z : List Token) → fixed S.Not ∷ w ≡ sum_then s z → ⊥
+pub not_sum : (s : G.Sum) (w z : List Token) → fixed S.Not ∷ w ≡ sum_then s z → ⊥
 not_sum (G.sum (G.prod (G.negative u) fs) ts) w z e = cc
 not_sum (G.sum (G.prod (G.atom (G.number n)) fs) ts) w z e = cc
+not_sum (G.sum (G.prod (G.atom (G.decimal u p)) fs) ts) w z e = cc
 not_sum (G.sum (G.prod (G.atom (G.text n)) fs) ts) w z e = cc
 not_sum (G.sum (G.prod (G.atom G.true_) fs) ts) w z e = cc
 not_sum (G.sum (G.prod (G.atom G.false_) fs) ts) w z e = cc
 not_sum (G.sum (G.prod (G.atom (G.column n)) fs) ts) w z e = cc
 not_sum (G.sum (G.prod (G.atom (G.parens n)) fs) ts) w z e = cc
 
-not_atom : (a : G.Atom) (w z : List Token) → fixed S.Minus ∷ w ≡ atom_then a z → ⊥
+pub not_atom : (a : G.Atom) (w z : List Token) → fixed S.Minus ∷ w ≡ atom_then a z → ⊥
 not_atom (G.number n) w z e = cc
+not_atom (G.decimal u p) w z e = cc
 not_atom (G.text n) w z e = cc
 not_atom G.true_ w z e = cc
 not_atom G.false_ w z e = cc
@@ -200,6 +202,7 @@ mutual
 
   atom_unique : (a b : G.Atom) (y z : List Token) → atom_then a y ≡ atom_then b z → Both a b y z
   atom_unique (G.number m) (G.number n) y z e = let g : m ≡ n = cc in record { it = ap G.number g; rest = cc }
+  atom_unique (G.decimal m p) (G.decimal n q) y z e = let g : m ≡ n = cc in let h : p ≡ q = cc in record { it = ap (λ x. G.decimal x p) g ∙ ap (G.decimal n) h; rest = cc }
   atom_unique (G.text m) (G.text n) y z e = let g : m ≡ n = cc in record { it = ap G.text g; rest = cc }
   atom_unique (G.column m) (G.column n) y z e = let g : m ≡ n = cc in record { it = ap G.column g; rest = cc }
   atom_unique G.true_ G.true_ y z e = record { it = refl; rest = cc }
@@ -250,12 +253,28 @@ on_unique (G.on_names a) (G.on_names b) y z h k l m e =
     let f : names_then a y ≡ names_then b z = cc in
     let v = names_unique a b y z l m f in record { it = ap G.on_names v.it; rest = v.rest }
 
+pub one_fun : (f g : G.Fun) → fun_sign f ≡ fun_sign g → f ≡ g
+one_fun G.sum_ G.sum_ e = refl
+one_fun G.min_ G.min_ e = refl
+one_fun G.max_ G.max_ e = refl
+one_fun G.avg_ G.avg_ e = refl
+one_fun _ _ e = cc
+
+no_count : (f : G.Fun) → S.Count ≡ fun_sign f → ⊥
+no_count G.sum_ e = cc
+no_count G.min_ e = cc
+no_count G.max_ e = cc
+no_count G.avg_ e = cc
+
 agg_unique : (a b : G.Agg) (y z : List Token) → agg_then a y ≡ agg_then b z → Both a b y z
 agg_unique (G.count n) (G.count m) y z e = let g : n ≡ m = cc in record { it = ap G.count g; rest = cc }
-agg_unique (G.sum_of a n) (G.sum_of b m) y z e = let f : a ≡ b = cc in let g : n ≡ m = cc in record { it = ap (λ x. G.sum_of x n) f ∙ ap (G.sum_of b) g; rest = cc }
-agg_unique (G.min_of a n) (G.min_of b m) y z e = let f : a ≡ b = cc in let g : n ≡ m = cc in record { it = ap (λ x. G.min_of x n) f ∙ ap (G.min_of b) g; rest = cc }
-agg_unique (G.max_of a n) (G.max_of b m) y z e = let f : a ≡ b = cc in let g : n ≡ m = cc in record { it = ap (λ x. G.max_of x n) f ∙ ap (G.max_of b) g; rest = cc }
-agg_unique _ _ y z e = cc
+agg_unique (G.of_column f a n) (G.of_column g b m) y z e =
+    let s : fun_sign f ≡ fun_sign g = cc in
+    let h : a ≡ b = cc in
+    let k : n ≡ m = cc in
+    record { it = ap (λ x. G.of_column x a n) (one_fun f g s) ∙ ap (λ x. G.of_column g x n) h ∙ ap (G.of_column g b) k; rest = cc }
+agg_unique (G.count n) (G.of_column g b m) y z e = let s : S.Count ≡ fun_sign g = cc in absurd (no_count g s)
+agg_unique (G.of_column f a n) (G.count m) y z e = let s : S.Count ≡ fun_sign f = cc in absurd (no_count f s)
 
 aggs_unique : (as_ bs : List G.Agg) (y z : List Token) → Without (fixed S.Comma) y → Without (fixed S.Comma) z → aggs_then as_ y ≡ aggs_then bs z → Both as_ bs y z
 aggs_unique [] [] y z h k e = record { it = refl; rest = e }
@@ -266,6 +285,47 @@ aggs_unique (a ∷ as_) (b ∷ bs) y z h k e =
     let u = agg_unique a b _ _ f in
     let v = aggs_unique as_ bs y z h k u.rest in
     record { it = ap (λ x. x ∷ as_) u.it ∙ ap (λ x. b ∷ x) v.it; rest = v.rest }
+
+key_without : (t : Token) (y : List Token) → ((w : List Token) → ends_key (t ∷ w) ≡ false) → ends_key y ≡ true → Without t y
+key_without t y f h w e = let g : ends_key y ≡ ends_key (t ∷ w) = ap ends_key e in let k = f w in cc
+
+per_unique : (a b : G.Per) (y z : List Token) → Without (fixed S.Per) y → Without (fixed S.Per) z → Without (fixed S.Comma) y → Without (fixed S.Comma) z → per_then a y ≡ per_then b z → Both a b y z
+per_unique G.no_per G.no_per y z h k l m e = record { it = refl; rest = e }
+per_unique G.no_per (G.per_names b) y z h k l m e = absurd (h _ e)
+per_unique (G.per_names a) G.no_per y z h k l m e = absurd (k _ (sym e))
+per_unique (G.per_names a) (G.per_names b) y z h k l m e =
+    let f : names_then a y ≡ names_then b z = cc in
+    let v = names_unique a b y z l m f in record { it = ap G.per_names v.it; rest = v.rest }
+
+lit_unique : (a b : G.Lit) (y z : List Token) → lit_then a y ≡ lit_then b z → Both a b y z
+lit_unique (G.int_lit n) (G.int_lit m) y z e = let g : n ≡ m = cc in record { it = ap G.int_lit g; rest = cc }
+lit_unique (G.minus_int n) (G.minus_int m) y z e = let g : n ≡ m = cc in record { it = ap G.minus_int g; rest = cc }
+lit_unique (G.dec_lit n p) (G.dec_lit m q) y z e = let g : n ≡ m = cc in let h : p ≡ q = cc in record { it = ap (λ x. G.dec_lit x p) g ∙ ap (G.dec_lit m) h; rest = cc }
+lit_unique (G.minus_dec n p) (G.minus_dec m q) y z e = let g : n ≡ m = cc in let h : p ≡ q = cc in record { it = ap (λ x. G.minus_dec x p) g ∙ ap (G.minus_dec m) h; rest = cc }
+lit_unique (G.text_lit n) (G.text_lit m) y z e = let g : n ≡ m = cc in record { it = ap G.text_lit g; rest = cc }
+lit_unique G.true_lit G.true_lit y z e = record { it = refl; rest = cc }
+lit_unique G.false_lit G.false_lit y z e = record { it = refl; rest = cc }
+lit_unique _ _ y z e = cc
+
+lits_unique : (as_ bs : List G.Lit) (y z : List Token) → Without (fixed S.Comma) y → Without (fixed S.Comma) z → lits_then as_ y ≡ lits_then bs z → Both as_ bs y z
+lits_unique [] [] y z h k e = record { it = refl; rest = e }
+lits_unique [] (b ∷ bs) y z h k e = absurd (h _ e)
+lits_unique (a ∷ as_) [] y z h k e = absurd (k _ (sym e))
+lits_unique (a ∷ as_) (b ∷ bs) y z h k e =
+    let f : lit_then a (lits_then as_ y) ≡ lit_then b (lits_then bs z) = cc in
+    let u = lit_unique a b _ _ f in
+    let v = lits_unique as_ bs y z h k u.rest in
+    record { it = ap (λ x. x ∷ as_) u.it ∙ ap (λ x. b ∷ x) v.it; rest = v.rest }
+
+else_unique : (a b : G.Else) (y z : List Token) → ends_step y ≡ true → ends_step z ≡ true → else_then a y ≡ else_then b z → Both a b y z
+else_unique G.no_else G.no_else y z h k e = record { it = refl; rest = e }
+else_unique G.no_else (G.else_ b bs) y z h k e = absurd (ends_without (fixed S.Else) y (λ w. refl) h _ e)
+else_unique (G.else_ a as_) G.no_else y z h k e = absurd (ends_without (fixed S.Else) z (λ w. refl) k _ (sym e))
+else_unique (G.else_ a as_) (G.else_ b bs) y z h k e =
+    let f : lit_then a (lits_then as_ y) ≡ lit_then b (lits_then bs z) = cc in
+    let u = lit_unique a b _ _ f in
+    let v = lits_unique as_ bs y z (ends_without _ y (λ w. refl) h) (ends_without _ z (λ w. refl) k) u.rest in
+    record { it = ap (λ x. G.else_ x as_) u.it ∙ ap (G.else_ b) v.it; rest = v.rest }
 
 ends_stops : (y : List Token) → ends_item y ≡ true → begins_on y ≡ true → ⊥
 ends_stops [] h k = cc
@@ -278,6 +338,7 @@ alone_named : (e : G.Expr) (n m : List ℕ) (y z : List Token) → ends_item y �
 alone_named (G.expr (G.conj (G.not_ x) as_) os) n m y z h e = cc
 alone_named (G.expr (G.conj (G.cmp (G.sum (G.prod (G.negative x) fs) ts) te) as_) os) n m y z h e = cc
 alone_named (G.expr (G.conj (G.cmp (G.sum (G.prod (G.atom (G.number x)) fs) ts) te) as_) os) n m y z h e = cc
+alone_named (G.expr (G.conj (G.cmp (G.sum (G.prod (G.atom (G.decimal x p)) fs) ts) te) as_) os) n m y z h e = cc
 alone_named (G.expr (G.conj (G.cmp (G.sum (G.prod (G.atom (G.text x)) fs) ts) te) as_) os) n m y z h e = cc
 alone_named (G.expr (G.conj (G.cmp (G.sum (G.prod (G.atom G.true_) fs) ts) te) as_) os) n m y z h e = cc
 alone_named (G.expr (G.conj (G.cmp (G.sum (G.prod (G.atom G.false_) fs) ts) te) as_) os) n m y z h e = cc
@@ -350,6 +411,29 @@ step_unique (G.group a x xs) (G.group b v vs) y z h k e =
     let s = agg_unique x v _ _ g in
     let t = aggs_unique xs vs y z (ends_without _ y (λ w. refl) h) (ends_without _ z (λ w. refl) k) s.rest in
     record { it = ap (λ q. G.group q x xs) u.it ∙ ap (λ q. G.group b q xs) s.it ∙ ap (λ q. G.group b v q) t.it; rest = t.rest }
+step_unique G.coalesce G.coalesce y z h k e = record { it = refl; rest = cc }
+step_unique (G.left n a u) (G.left m b v) y z h k e =
+    let g : n ≡ m = cc in
+    let f : on_then a (else_then u y) ≡ on_then b (else_then v z) = cc in
+    let i = ends_else u y h in
+    let j = ends_else v z k in
+    let p = on_unique a b _ _ (key_without _ _ (λ w. refl) i) (key_without _ _ (λ w. refl) j) (key_without _ _ (λ w. refl) i) (key_without _ _ (λ w. refl) j) f in
+    let q = else_unique u v y z h k p.rest in
+    record { it = ap (λ x. G.left x a u) g ∙ ap (λ x. G.left m x u) p.it ∙ ap (G.left m b) q.it; rest = q.rest }
+step_unique (G.top n a c) (G.top m b d) y z h k e =
+    let g : n ≡ m = cc in
+    let f : per_then a (fixed S.By ∷ name c ∷ y) ≡ per_then b (fixed S.By ∷ name d ∷ z) = cc in
+    let p = per_unique a b _ _ (λ w q. cc) (λ w q. cc) (λ w q. cc) (λ w q. cc) f in
+    let r = p.rest in
+    let i : c ≡ d = cc in
+    record { it = ap (λ x. G.top x a c) g ∙ ap (λ x. G.top m x c) p.it ∙ ap (G.top m b) i; rest = cc }
+step_unique (G.follow n a i) (G.follow m b j) y z h k e =
+    let g : n ≡ m = cc in
+    let f : on_then a (fixed S.Within ∷ int (suc i) ∷ y) ≡ on_then b (fixed S.Within ∷ int (suc j) ∷ z) = cc in
+    let p = on_unique a b _ _ (λ w q. cc) (λ w q. cc) (λ w q. cc) (λ w q. cc) f in
+    let r = p.rest in
+    let l : i ≡ j = cc in
+    record { it = ap (λ x. G.follow x a i) g ∙ ap (λ x. G.follow m x i) p.it ∙ ap (G.follow m b) l; rest = cc }
 step_unique _ _ y z h k e = cc
 
 steps_unique : (ss ts : List G.Step) (y z : List Token) → ends_step y ≡ true → ends_step z ≡ true → Without (fixed S.Bar) y → Without (fixed S.Bar) z → steps_then ss y ≡ steps_then ts z → Both ss ts y z
@@ -385,10 +469,23 @@ lets_unique (l ∷ ls) (m ∷ ms) y z h k e =
     let v = lets_unique ls ms y z h k u.rest in
     record { it = ap (λ x. x ∷ ls) u.it ∙ ap (λ x. m ∷ x) v.it; rest = v.rest }
 
+holds_once : (b : Bool) (x y : G.Holds b) → x ≡ y
+holds_once true x y = refl
+holds_once false x y = absurd x
+
+same_places : (m n : ℕ) (a : G.Holds (G.is_places m)) (b : G.Holds (G.is_places n)) → m ≡ n → ◌≡◌ {A = G.Places} (record { number = m; few = a }) (record { number = n; few = b })
+same_places m n a b e =
+    subst (λ k. (c : G.Holds (G.is_places k)) → ◌≡◌ {A = G.Places} (record { number = m; few = a }) (record { number = k; few = c })) e
+    (λ c. ap (λ x. record { number = m; few = x }) (holds_once (G.is_places m) a c)) b
+
 col_unique : (a b : G.Col) (y z : List Token) → col_then a y ≡ col_then b z → Both a b y z
 col_unique (G.int_col n) (G.int_col m) y z e = let g : n ≡ m = cc in record { it = ap G.int_col g; rest = cc }
 col_unique (G.bool_col n) (G.bool_col m) y z e = let g : n ≡ m = cc in record { it = ap G.bool_col g; rest = cc }
 col_unique (G.text_col n) (G.text_col m) y z e = let g : n ≡ m = cc in record { it = ap G.text_col g; rest = cc }
+col_unique (G.dec_col n p) (G.dec_col m q) y z e =
+    let g : n ≡ m = cc in
+    let h : p.number ≡ q.number = cc in
+    record { it = ap (λ x. G.dec_col x p) g ∙ ap (G.dec_col m) (same_places p.number q.number p.few q.few h); rest = cc }
 col_unique _ _ y z e = cc
 
 cols_unique : (cs ds : List G.Col) (y z : List Token) → Without (fixed S.Comma) y → Without (fixed S.Comma) z → cols_then cs y ≡ cols_then ds z → Both cs ds y z

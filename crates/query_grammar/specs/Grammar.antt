@@ -1,9 +1,9 @@
 -- The grammar of queries: one type for each rule, with one constructor for each of its alternatives.
 -- Beside each stands how it is spelled: `x_then x rest` is the tokens of x, and then those of the rest.
-use Rattle.std.specs.Prelude.{ℕ, suc, List, [], ◌∷◌}
+use Rattle.std.specs.Prelude.{ℕ, suc, Bool, true, false, nat_le, ◌&&◌, List, [], ◌∷◌}
 use Rattle.query_words.specs.declared.word.Sign.{Sign}
 use Rattle.query_words.specs.declared.word.Sign.TheVariants as S
-use Rattle.query_grammar.specs.Token.{Token, name, int, str, fixed}
+use Rattle.query_grammar.specs.Token.{Token, name, int, dec, str, fixed}
 
 -- the bytes of a name, or of a text
 abbrev pub Text : Type 0
@@ -78,9 +78,10 @@ mutual
     negative : Unary → Unary
     atom : Atom → Unary
 
-  -- atom = INT | STRING | "true" | "false" | NAME | "(" expr ")"
+  -- atom = INT | DEC | STRING | "true" | "false" | NAME | "(" expr ")"
   pub data Atom : Type 0 where
     number : ℕ → Atom
+    decimal : ℕ → ℕ → Atom
     text : Text → Atom
     true_ : Atom
     false_ : Atom
@@ -133,6 +134,7 @@ abbrev mutual
 
   pub atom_then : Atom → List Token → List Token
   atom_then (number n) rest = int n ∷ rest
+  atom_then (decimal units places) rest = dec units places ∷ rest
   atom_then (text s) rest = str s ∷ rest
   atom_then true_ rest = fixed S.True ∷ rest
   atom_then false_ rest = fixed S.False ∷ rest
@@ -165,18 +167,27 @@ abbrev pub items_then : List Item → List Token → List Token
 items_then [] rest = rest
 items_then (i ∷ is) rest = fixed S.Comma ∷ item_then i (items_then is rest)
 
--- agg = "count" "as" NAME | ( "sum" | "min" | "max" ) NAME "as" NAME
+-- ( "sum" | "min" | "max" | "avg" )
+pub data Fun : Type 0 where
+  sum_ : Fun
+  min_ : Fun
+  max_ : Fun
+  avg_ : Fun
+
+abbrev pub fun_sign : Fun → Sign
+fun_sign sum_ = S.Sum
+fun_sign min_ = S.Min
+fun_sign max_ = S.Max
+fun_sign avg_ = S.Avg
+
+-- agg = "count" "as" NAME | ( "sum" | "min" | "max" | "avg" ) NAME "as" NAME
 pub data Agg : Type 0 where
   count : Text → Agg
-  sum_of : Text → Text → Agg
-  min_of : Text → Text → Agg
-  max_of : Text → Text → Agg
+  of_column : Fun → Text → Text → Agg
 
 abbrev pub agg_then : Agg → List Token → List Token
 agg_then (count n) rest = fixed S.Count ∷ fixed S.As ∷ name n ∷ rest
-agg_then (sum_of c n) rest = fixed S.Sum ∷ name c ∷ fixed S.As ∷ name n ∷ rest
-agg_then (min_of c n) rest = fixed S.Min ∷ name c ∷ fixed S.As ∷ name n ∷ rest
-agg_then (max_of c n) rest = fixed S.Max ∷ name c ∷ fixed S.As ∷ name n ∷ rest
+agg_then (of_column f c n) rest = fixed (fun_sign f) ∷ name c ∷ fixed S.As ∷ name n ∷ rest
 
 -- { "," agg }
 abbrev pub aggs_then : List Agg → List Token → List Token
@@ -201,6 +212,48 @@ abbrev pub on_then : On → List Token → List Token
 on_then no_on rest = rest
 on_then (on_names ns) rest = fixed S.On ∷ names_then ns rest
 
+-- [ "per" names ]
+pub data Per : Type 0 where
+  no_per : Per
+  per_names : Names → Per
+
+abbrev pub per_then : Per → List Token → List Token
+per_then no_per rest = rest
+per_then (per_names ns) rest = fixed S.Per ∷ names_then ns rest
+
+-- lit = [ "-" ] INT | [ "-" ] DEC | STRING | "true" | "false"
+pub data Lit : Type 0 where
+  int_lit : ℕ → Lit
+  minus_int : ℕ → Lit
+  dec_lit : ℕ → ℕ → Lit
+  minus_dec : ℕ → ℕ → Lit
+  text_lit : Text → Lit
+  true_lit : Lit
+  false_lit : Lit
+
+abbrev pub lit_then : Lit → List Token → List Token
+lit_then (int_lit n) rest = int n ∷ rest
+lit_then (minus_int n) rest = fixed S.Minus ∷ int n ∷ rest
+lit_then (dec_lit u p) rest = dec u p ∷ rest
+lit_then (minus_dec u p) rest = fixed S.Minus ∷ dec u p ∷ rest
+lit_then (text_lit s) rest = str s ∷ rest
+lit_then true_lit rest = fixed S.True ∷ rest
+lit_then false_lit rest = fixed S.False ∷ rest
+
+-- { "," lit }
+abbrev pub lits_then : List Lit → List Token → List Token
+lits_then [] rest = rest
+lits_then (l ∷ ls) rest = fixed S.Comma ∷ lit_then l (lits_then ls rest)
+
+-- [ "else" lit { "," lit } ]
+pub data Else : Type 0 where
+  no_else : Else
+  else_ : Lit → List Lit → Else
+
+abbrev pub else_then : Else → List Token → List Token
+else_then no_else rest = rest
+else_then (else_ l ls) rest = fixed S.Else ∷ lit_then l (lits_then ls rest)
+
 -- step = "where" expr
 --      | "select" item { "," item }
 --      | "union" NAME
@@ -211,6 +264,11 @@ on_then (on_names ns) rest = fixed S.On ∷ names_then ns rest
 --      | "join" NAME [ "on" names ]
 --      | "anti" NAME [ "on" names ]
 --      | "group" [ "by" names ] ":" agg { "," agg }
+--      | "coalesce"
+--      | "left" NAME [ "on" names ] [ "else" lit { "," lit } ]
+--      | "top" POS [ "per" names ] "by" NAME
+--      | "follow" NAME [ "on" names ] "within" POS
+-- `top n` keeps n + 1 rows, and `follow` waits for n + 1.
 pub data Step : Type 0 where
   where_ : Expr → Step
   select : Item → List Item → Step
@@ -225,6 +283,10 @@ pub data Step : Type 0 where
   join : Text → On → Step
   anti : Text → On → Step
   group : By → Agg → List Agg → Step
+  coalesce : Step
+  left : Text → On → Else → Step
+  top : ℕ → Per → Text → Step
+  follow : Text → On → ℕ → Step
 
 abbrev pub step_then : Step → List Token → List Token
 step_then (where_ e) rest = fixed S.Where ∷ expr_then e rest
@@ -240,6 +302,10 @@ step_then (clip n o) rest = fixed S.Clip ∷ name n ∷ on_then o rest
 step_then (join n o) rest = fixed S.Join ∷ name n ∷ on_then o rest
 step_then (anti n o) rest = fixed S.Anti ∷ name n ∷ on_then o rest
 step_then (group b a as_) rest = fixed S.Group ∷ by_then b (fixed S.Colon ∷ agg_then a (aggs_then as_ rest))
+step_then coalesce rest = fixed S.Coalesce ∷ rest
+step_then (left n o e) rest = fixed S.Left ∷ name n ∷ on_then o (else_then e rest)
+step_then (top n p c) rest = fixed S.Top ∷ int (suc n) ∷ per_then p (fixed S.By ∷ name c ∷ rest)
+step_then (follow n o m) rest = fixed S.Follow ∷ name n ∷ on_then o (fixed S.Within ∷ int (suc m) ∷ rest)
 
 -- { "|" step }
 abbrev pub steps_then : List Step → List Token → List Token
@@ -267,16 +333,30 @@ abbrev pub lets_then : List Let → List Token → List Token
 lets_then [] rest = rest
 lets_then (l ∷ ls) rest = let_then l (lets_then ls rest)
 
--- col = NAME ( "int" | "bool" | "text" )
+-- a number of decimal places: from 1 to 18
+abbrev pub is_places : ℕ → Bool
+is_places n = nat_le 1 n && nat_le n 18
+
+abbrev pub Holds : Bool → Type 0
+Holds true = Unit {0}
+Holds false = ⊥
+
+pub record Places : Type 0 where
+  pub number : ℕ
+  pub few : Holds (is_places number)
+
+-- col = NAME ( "int" | "bool" | "text" | "dec" "(" POS ")" )
 pub data Col : Type 0 where
   int_col : Text → Col
   bool_col : Text → Col
   text_col : Text → Col
+  dec_col : Text → Places → Col
 
 abbrev pub col_then : Col → List Token → List Token
 col_then (int_col n) rest = name n ∷ fixed S.IntKind ∷ rest
 col_then (bool_col n) rest = name n ∷ fixed S.BoolKind ∷ rest
 col_then (text_col n) rest = name n ∷ fixed S.TextKind ∷ rest
+col_then (dec_col n p) rest = name n ∷ fixed S.DecKind ∷ fixed S.Open ∷ int p.number ∷ fixed S.Close ∷ rest
 
 -- { "," col }
 abbrev pub cols_then : List Col → List Token → List Token

@@ -1,11 +1,15 @@
 -- A machine that reads tokens with a stack of what is still to be read.
-use Rattle.std.specs.Prelude.{ℕ, List, [], ◌∷◌, ◌++◌, Option, Some, None, Bool, true, false, ◌&&◌, cond}
+use Rattle.std.specs.Prelude.{ℕ, suc, if◌then◌else◌, List, [], ◌∷◌, ◌++◌, Option, Some, None, Bool, true, false, ◌&&◌, cond}
+use denote.Enum.Bare.{sameb}
+use Rattle.query_words.specs.declared.word.Sign.{Sign}
 use Rattle.query_words.specs.declared.word.Sign.TheVariants as S
+use Rattle.query_words.specs.contracts.word.Sign.{the_type}
 use Rattle.query_grammar.specs.declared.kind.Kind.{Kind}
 use Rattle.query_grammar.specs.declared.kind.Kind.TheVariants as K
 use Rattle.query_grammar.specs.declared.symbol.Symbol.{Symbol}
 use Rattle.query_grammar.specs.declared.symbol.Symbol.TheVariants as Y
 use Rattle.query_grammar.specs.Token.{Token, kind}
+use Rattle.query_grammar.specs.Grammar.{is_places}
 
 -- take the token, and then these are to be read; leave the symbol out; or stop
 pub data Choice : Type 0 where
@@ -33,12 +37,12 @@ or_skip no = skip
 
 unfoldable pub at_atom : Kind → Choice
 at_atom K.Name = take []
-at_atom K.Zero = take []
-at_atom K.Positive = take []
+at_atom (K.Number n) = take []
+at_atom K.Decimal = take []
 at_atom K.Quoted = take []
 at_atom (K.Fixed S.True) = take []
 at_atom (K.Fixed S.False) = take []
-at_atom (K.Fixed S.Open) = take (Y.Expr ∷ Y.Close ∷ [])
+at_atom (K.Fixed S.Open) = take (Y.Expr ∷ Y.Word S.Close ∷ [])
 at_atom _ = no
 
 unfoldable pub at_unary : Kind → Choice
@@ -94,37 +98,25 @@ at_named K.Name = take []
 at_named _ = no
 
 unfoldable pub at_int : Kind → Choice
-at_int K.Zero = take []
-at_int K.Positive = take []
+at_int (K.Number n) = take []
 at_int _ = no
 
 unfoldable pub at_pos : Kind → Choice
-at_pos K.Positive = take []
+at_pos (K.Number (suc n)) = take []
 at_pos _ = no
 
-unfoldable pub at_close : Kind → Choice
-at_close (K.Fixed S.Close) = take []
-at_close _ = no
+unfoldable pub at_places : Kind → Choice
+at_places (K.Number n) = if is_places n then take [] else no
+at_places _ = no
 
-unfoldable pub at_open : Kind → Choice
-at_open (K.Fixed S.Open) = take []
-at_open _ = no
+-- whether two words are the same
+abbrev pub same_sign : Sign → Sign → Bool
+same_sign a b = sameb the_type a b
 
-unfoldable pub at_as : Kind → Choice
-at_as (K.Fixed S.As) = take []
-at_as _ = no
-
-unfoldable pub at_colon : Kind → Choice
-at_colon (K.Fixed S.Colon) = take []
-at_colon _ = no
-
-unfoldable pub at_semicolon : Kind → Choice
-at_semicolon (K.Fixed S.Semicolon) = take []
-at_semicolon _ = no
-
-unfoldable pub at_equal : Kind → Choice
-at_equal (K.Fixed S.Equal) = take []
-at_equal _ = no
+-- just this word
+unfoldable pub at_word : Sign → Kind → Choice
+at_word s (K.Fixed f) = if same_sign f s then take [] else no
+at_word s _ = no
 
 unfoldable pub at_names : Kind → Choice
 at_names K.Name = take (Y.MoreNames ∷ [])
@@ -142,11 +134,38 @@ unfoldable pub at_on : Kind → Choice
 at_on (K.Fixed S.On) = take (Y.Names ∷ [])
 at_on _ = skip
 
+unfoldable pub at_per : Kind → Choice
+at_per (K.Fixed S.Per) = take (Y.Names ∷ [])
+at_per _ = skip
+
+unfoldable pub at_unsigned : Kind → Choice
+at_unsigned (K.Number n) = take []
+at_unsigned K.Decimal = take []
+at_unsigned _ = no
+
+unfoldable pub at_lit : Kind → Choice
+at_lit (K.Fixed S.Minus) = take (Y.Unsigned ∷ [])
+at_lit (K.Number n) = take []
+at_lit K.Decimal = take []
+at_lit K.Quoted = take []
+at_lit (K.Fixed S.True) = take []
+at_lit (K.Fixed S.False) = take []
+at_lit _ = no
+
+unfoldable pub at_lits : Kind → Choice
+at_lits (K.Fixed S.Comma) = take (Y.Lit ∷ Y.Lits ∷ [])
+at_lits _ = skip
+
+unfoldable pub at_else : Kind → Choice
+at_else (K.Fixed S.Else) = take (Y.Lit ∷ Y.Lits ∷ [])
+at_else _ = skip
+
 unfoldable pub at_agg : Kind → Choice
-at_agg (K.Fixed S.Count) = take (Y.As ∷ Y.Named ∷ [])
-at_agg (K.Fixed S.Sum) = take (Y.Named ∷ Y.As ∷ Y.Named ∷ [])
-at_agg (K.Fixed S.Min) = take (Y.Named ∷ Y.As ∷ Y.Named ∷ [])
-at_agg (K.Fixed S.Max) = take (Y.Named ∷ Y.As ∷ Y.Named ∷ [])
+at_agg (K.Fixed S.Count) = take (Y.Word S.As ∷ Y.Named ∷ [])
+at_agg (K.Fixed S.Sum) = take (Y.Named ∷ Y.Word S.As ∷ Y.Named ∷ [])
+at_agg (K.Fixed S.Min) = take (Y.Named ∷ Y.Word S.As ∷ Y.Named ∷ [])
+at_agg (K.Fixed S.Max) = take (Y.Named ∷ Y.Word S.As ∷ Y.Named ∷ [])
+at_agg (K.Fixed S.Avg) = take (Y.Named ∷ Y.Word S.As ∷ Y.Named ∷ [])
 at_agg _ = no
 
 unfoldable pub at_aggs : Kind → Choice
@@ -156,16 +175,16 @@ at_aggs _ = skip
 -- After a name: what an expression goes on with that begins with it, and its own name; else the item is the name alone.
 unfoldable pub at_item_rest : Kind → Choice
 at_item_rest t =
-    or_skip (chosen (at_factors t) (Y.Terms ∷ Y.Test ∷ Y.Ands ∷ Y.Ors ∷ Y.As ∷ Y.Named ∷ [])
-    (chosen (at_terms t) (Y.Test ∷ Y.Ands ∷ Y.Ors ∷ Y.As ∷ Y.Named ∷ [])
-    (chosen (at_test t) (Y.Ands ∷ Y.Ors ∷ Y.As ∷ Y.Named ∷ [])
-    (chosen (at_ands t) (Y.Ors ∷ Y.As ∷ Y.Named ∷ [])
-    (chosen (at_ors t) (Y.As ∷ Y.Named ∷ [])
-    (before (at_as t) (Y.Named ∷ [])))))))
+    or_skip (chosen (at_factors t) (Y.Terms ∷ Y.Test ∷ Y.Ands ∷ Y.Ors ∷ Y.Word S.As ∷ Y.Named ∷ [])
+    (chosen (at_terms t) (Y.Test ∷ Y.Ands ∷ Y.Ors ∷ Y.Word S.As ∷ Y.Named ∷ [])
+    (chosen (at_test t) (Y.Ands ∷ Y.Ors ∷ Y.Word S.As ∷ Y.Named ∷ [])
+    (chosen (at_ands t) (Y.Ors ∷ Y.Word S.As ∷ Y.Named ∷ [])
+    (chosen (at_ors t) (Y.Word S.As ∷ Y.Named ∷ [])
+    (before (at_word S.As t) (Y.Named ∷ [])))))))
 
 unfoldable pub at_item : Kind → Choice
 at_item K.Name = take (Y.ItemRest ∷ [])
-at_item t = before (at_expr t) (Y.As ∷ Y.Named ∷ [])
+at_item t = before (at_expr t) (Y.Word S.As ∷ Y.Named ∷ [])
 
 unfoldable pub at_items : Kind → Choice
 at_items (K.Fixed S.Comma) = take (Y.Item ∷ Y.Items ∷ [])
@@ -184,7 +203,11 @@ at_step (K.Fixed S.Session) = take (Y.Int ∷ Y.By ∷ [])
 at_step (K.Fixed S.Clip) = take (Y.Named ∷ Y.On ∷ [])
 at_step (K.Fixed S.Join) = take (Y.Named ∷ Y.On ∷ [])
 at_step (K.Fixed S.Anti) = take (Y.Named ∷ Y.On ∷ [])
-at_step (K.Fixed S.Group) = take (Y.By ∷ Y.Colon ∷ Y.Agg ∷ Y.Aggs ∷ [])
+at_step (K.Fixed S.Group) = take (Y.By ∷ Y.Word S.Colon ∷ Y.Agg ∷ Y.Aggs ∷ [])
+at_step (K.Fixed S.Coalesce) = take []
+at_step (K.Fixed S.Left) = take (Y.Named ∷ Y.On ∷ Y.Else ∷ [])
+at_step (K.Fixed S.Top) = take (Y.Pos ∷ Y.Per ∷ Y.Word S.By ∷ Y.Named ∷ [])
+at_step (K.Fixed S.Follow) = take (Y.Named ∷ Y.On ∷ Y.Word S.Within ∷ Y.Pos ∷ [])
 at_step _ = no
 
 unfoldable pub at_steps : Kind → Choice
@@ -196,7 +219,7 @@ at_pipe K.Name = take (Y.Steps ∷ [])
 at_pipe _ = no
 
 unfoldable pub at_lets : Kind → Choice
-at_lets (K.Fixed S.Let) = take (Y.Named ∷ Y.Equal ∷ Y.Pipe ∷ Y.Semicolon ∷ Y.Lets ∷ [])
+at_lets (K.Fixed S.Let) = take (Y.Named ∷ Y.Word S.Equal ∷ Y.Pipe ∷ Y.Word S.Semicolon ∷ Y.Lets ∷ [])
 at_lets _ = skip
 
 unfoldable pub at_col : Kind → Choice
@@ -207,6 +230,7 @@ unfoldable pub at_col_kind : Kind → Choice
 at_col_kind (K.Fixed S.IntKind) = take []
 at_col_kind (K.Fixed S.BoolKind) = take []
 at_col_kind (K.Fixed S.TextKind) = take []
+at_col_kind (K.Fixed S.DecKind) = take (Y.Word S.Open ∷ Y.Places ∷ Y.Word S.Close ∷ [])
 at_col_kind _ = no
 
 unfoldable pub at_cols : Kind → Choice
@@ -214,11 +238,11 @@ at_cols (K.Fixed S.Comma) = take (Y.Col ∷ Y.Cols ∷ [])
 at_cols _ = skip
 
 unfoldable pub at_stream : Kind → Choice
-at_stream (K.Fixed S.Stream) = take (Y.Named ∷ Y.Open ∷ Y.Col ∷ Y.Cols ∷ Y.Close ∷ Y.Semicolon ∷ [])
+at_stream (K.Fixed S.Stream) = take (Y.Named ∷ Y.Word S.Open ∷ Y.Col ∷ Y.Cols ∷ Y.Word S.Close ∷ Y.Word S.Semicolon ∷ [])
 at_stream _ = no
 
 unfoldable pub at_streams : Kind → Choice
-at_streams (K.Fixed S.Stream) = take (Y.Named ∷ Y.Open ∷ Y.Col ∷ Y.Cols ∷ Y.Close ∷ Y.Semicolon ∷ Y.Streams ∷ [])
+at_streams (K.Fixed S.Stream) = take (Y.Named ∷ Y.Word S.Open ∷ Y.Col ∷ Y.Cols ∷ Y.Word S.Close ∷ Y.Word S.Semicolon ∷ Y.Streams ∷ [])
 at_streams _ = skip
 
 -- what to do at this symbol and token
@@ -256,12 +280,13 @@ choose Y.Atom t = at_atom t
 choose Y.Named t = at_named t
 choose Y.Int t = at_int t
 choose Y.Pos t = at_pos t
-choose Y.Close t = at_close t
-choose Y.Open t = at_open t
-choose Y.As t = at_as t
-choose Y.Colon t = at_colon t
-choose Y.Semicolon t = at_semicolon t
-choose Y.Equal t = at_equal t
+choose Y.Places t = at_places t
+choose Y.Per t = at_per t
+choose Y.Else t = at_else t
+choose Y.Lits t = at_lits t
+choose Y.Lit t = at_lit t
+choose Y.Unsigned t = at_unsigned t
+choose (Y.Word s) t = at_word s t
 
 -- whether nothing need be left to read
 abbrev pub may_end : Symbol → Bool
@@ -298,12 +323,13 @@ may_end Y.Atom = false
 may_end Y.Named = false
 may_end Y.Int = false
 may_end Y.Pos = false
-may_end Y.Close = false
-may_end Y.Open = false
-may_end Y.As = false
-may_end Y.Colon = false
-may_end Y.Semicolon = false
-may_end Y.Equal = false
+may_end Y.Places = false
+may_end Y.Per = true
+may_end Y.Else = true
+may_end Y.Lits = true
+may_end Y.Lit = false
+may_end Y.Unsigned = false
+may_end (Y.Word s) = false
 
 abbrev pub pushed : Choice → List Symbol → Option (List Symbol) → Option (List Symbol)
 pushed (take g) k skipped = Some (g ++ k)

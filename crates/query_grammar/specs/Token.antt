@@ -1,5 +1,5 @@
 -- Words as the grammar sees them.
-use Rattle.std.specs.Prelude.{ℕ, zero, suc, ◌+◌, ◌-◌, ◌==◌, Bool, true, false, if◌then◌else◌, List, [], ◌∷◌, take, drop, map}
+use Rattle.std.specs.Prelude.{ℕ, ◌+◌, ◌-◌, ◌==◌, Bool, true, false, if◌then◌else◌, List, [], ◌∷◌, take, drop, map}
 use Rattle.query_words.specs.declared.word.Sign.{Sign}
 use Rattle.query_words.specs.declared.word.Sign.TheVariants as S
 use Rattle.query_words.specs.declared.word.Word.{Word}
@@ -9,10 +9,11 @@ use Rattle.query_words.specs.Words.{words_of}
 use Rattle.query_grammar.specs.declared.kind.Kind.{Kind}
 use Rattle.query_grammar.specs.declared.kind.Kind.TheVariants as K
 
--- A name with its bytes, a number, a text with its bytes, a reserved word or sign, or what is no word.
+-- A name with its bytes, a number, a decimal with its units and its places, a text with its bytes, a reserved word or sign, or what is no word.
 pub data Token : Type 0 where
   name : List ℕ → Token
   int : ℕ → Token
+  dec : ℕ → ℕ → Token
   str : List ℕ → Token
   fixed : Sign → Token
   bad : Token
@@ -20,8 +21,8 @@ pub data Token : Type 0 where
 -- what the grammar asks of a token
 abbrev pub kind : Token → Kind
 kind (name n) = K.Name
-kind (int zero) = K.Zero
-kind (int (suc n)) = K.Positive
+kind (int n) = K.Number n
+kind (dec units places) = K.Decimal
 kind (str s) = K.Quoted
 kind (fixed s) = K.Fixed s
 kind bad = K.Bad
@@ -29,8 +30,8 @@ kind bad = K.Bad
 -- likewise of a word
 abbrev pub word_kind : Word → Kind
 word_kind (W.Name n) = K.Name
-word_kind (W.Number zero) = K.Zero
-word_kind (W.Number (suc n)) = K.Positive
+word_kind (W.Number n) = K.Number n
+word_kind (W.Decimal units places) = K.Decimal
 word_kind (W.Quoted n) = K.Quoted
 word_kind (W.Fixed s) = K.Fixed s
 word_kind W.Bad = K.Bad
@@ -38,8 +39,8 @@ word_kind W.Bad = K.Bad
 -- whether expressions may hold such a word
 unfoldable pub in_expressions : Kind → Bool
 in_expressions K.Name = true
-in_expressions K.Zero = true
-in_expressions K.Positive = true
+in_expressions (K.Number n) = true
+in_expressions K.Decimal = true
 in_expressions K.Quoted = true
 in_expressions (K.Fixed S.True) = true
 in_expressions (K.Fixed S.False) = true
@@ -71,6 +72,7 @@ unquoted (b ∷ c ∷ bs) = if b == 39 then 39 ∷ unquoted bs else b ∷ unquot
 abbrev pub token_at : List ℕ → ℕ → Word → Token
 token_at text at (W.Name n) = name (take n (drop at text))
 token_at text at (W.Number n) = int n
+token_at text at (W.Decimal units places) = dec units places
 token_at text at (W.Quoted n) = str (unquoted (take (n - 2) (drop (at + 1) text)))
 token_at text at (W.Fixed s) = fixed s
 token_at text at W.Bad = bad

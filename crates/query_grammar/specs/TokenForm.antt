@@ -1,6 +1,6 @@
 -- What each token of a text keeps.
 use Rattle.std.specs.Prelude.{ℕ, ◌^◌, ◌<◌, ◌≤◌, ◌≢◌, List, length, All, IsUtf8, IsAscii}
-use Rattle.query_grammar.specs.Token.{Token, name, int, str, fixed, bad}
+use Rattle.query_grammar.specs.Token.{Token, name, int, dec, str, fixed, bad}
 
 -- the bytes of a name
 pub record IsNameText (bytes : List ℕ) : Type 0 where
@@ -17,6 +17,7 @@ pub record IsLineText (bytes : List ℕ) : Type 0 where
 abbrev pub IsSound : Token → Type 0
 IsSound (name bytes) = IsNameText bytes
 IsSound (int n) = n < 2 ^ 63
+IsSound (dec units places) = (units < 2 ^ 63) × (places ≤ 18)
 IsSound (str bytes) = IsLineText bytes
 IsSound (fixed s) = Unit {0}
 IsSound bad = Unit {0}

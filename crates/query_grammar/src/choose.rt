@@ -1,6 +1,7 @@
 // What each symbol takes: the first word of its rule, and then the symbols that the rest of the rule is read by.
 ghost use Rattle.std.specs.Prelude.{◌≡◌, List, [], ◌∷◌, IfOk};
-ghost use Rattle.query_grammar.specs.Machine.{before, choose, at_stream, at_streams, at_col, at_col_kind, at_cols, at_lets, at_pipe, at_steps, at_step, at_item, at_item_rest, at_items, at_agg, at_aggs, at_by, at_on, at_names, at_more_names, at_expr, at_ors, at_conj, at_ands, at_neg, at_test, at_sum, at_terms, at_prod, at_factors, at_unary, at_atom, at_named, at_int, at_pos, at_close, at_open, at_as, at_colon, at_semicolon, at_equal};
+ghost use Rattle.query_grammar.specs.Machine.{before, choose, at_stream, at_streams, at_col, at_col_kind, at_cols, at_lets, at_pipe, at_steps, at_step, at_item, at_item_rest, at_items, at_agg, at_aggs, at_by, at_on, at_names, at_more_names, at_expr, at_ors, at_conj, at_ands, at_neg, at_test, at_sum, at_terms, at_prod, at_factors, at_unary, at_atom, at_named, at_int, at_pos, at_places, at_per, at_else, at_lits, at_lit, at_unsigned, at_word};
+ghost use Rattle.query_grammar.specs.Grammar.{is_places};
 ghost use Rattle.query_grammar.specs.Reading.{Did};
 
 use crate::kind::Kind;
@@ -9,15 +10,22 @@ use crate::symbol::Symbol;
 use query_words::Sign;
 use tw_rows::Memory;
 
+/// Whether a decimal may have so many places.
+fn is_places(n: u64) -> bool
+    ensures { result ≡ is_places n }
+{
+    matches!(n, 1..=18)
+}
+
 impl Stack {
     #[tactic(auto, unfolding(crate::specs::Machine::at_atom))]
     fn atom(&mut self, kind: Kind) -> Result<Taken, Memory>
         ensures { IfOk result (λ r. Did (at_atom kind) r self.old self.new) }
     {
         match kind {
-            Kind::Name | Kind::Zero | Kind::Positive | Kind::Quoted => Ok(Taken::Word),
+            Kind::Name | Kind::Number(_) | Kind::Decimal | Kind::Quoted => Ok(Taken::Word),
             Kind::Fixed(Sign::True) | Kind::Fixed(Sign::False) => Ok(Taken::Word),
-            Kind::Fixed(Sign::Open) => self.take(&[Symbol::Expr, Symbol::Close]),
+            Kind::Fixed(Sign::Open) => self.take(&[Symbol::Expr, Symbol::Word(Sign::Close)]),
             _ => Ok(Taken::Stop),
         }
     }
@@ -155,7 +163,7 @@ impl Stack {
         ensures { IfOk result (λ r. Did (at_int kind) r self.old self.new) }
     {
         match kind {
-            Kind::Zero | Kind::Positive => Ok(Taken::Word),
+            Kind::Number(_) => Ok(Taken::Word),
             _ => Ok(Taken::Stop),
         }
     }
@@ -165,67 +173,29 @@ impl Stack {
         ensures { IfOk result (λ r. Did (at_pos kind) r self.old self.new) }
     {
         match kind {
-            Kind::Positive => Ok(Taken::Word),
+            Kind::Number(0) => Ok(Taken::Stop),
+            Kind::Number(_) => Ok(Taken::Word),
             _ => Ok(Taken::Stop),
         }
     }
 
-    #[tactic(auto, unfolding(crate::specs::Machine::at_close))]
-    fn close(&mut self, kind: Kind) -> Result<Taken, Memory>
-        ensures { IfOk result (λ r. Did (at_close kind) r self.old self.new) }
+    #[tactic(auto, unfolding(crate::specs::Machine::at_places))]
+    fn places(&mut self, kind: Kind) -> Result<Taken, Memory>
+        ensures { IfOk result (λ r. Did (at_places kind) r self.old self.new) }
     {
         match kind {
-            Kind::Fixed(Sign::Close) => Ok(Taken::Word),
+            Kind::Number(n) if is_places(n) => Ok(Taken::Word),
             _ => Ok(Taken::Stop),
         }
     }
 
-    #[tactic(auto, unfolding(crate::specs::Machine::at_open))]
-    fn open_word(&mut self, kind: Kind) -> Result<Taken, Memory>
-        ensures { IfOk result (λ r. Did (at_open kind) r self.old self.new) }
+    /// Just this word.
+    #[tactic(auto, unfolding(crate::specs::Machine::at_word))]
+    fn word(&mut self, word: Sign, kind: Kind) -> Result<Taken, Memory>
+        ensures { IfOk result (λ r. Did (at_word word kind) r self.old self.new) }
     {
         match kind {
-            Kind::Fixed(Sign::Open) => Ok(Taken::Word),
-            _ => Ok(Taken::Stop),
-        }
-    }
-
-    #[tactic(auto, unfolding(crate::specs::Machine::at_as))]
-    fn as_word(&mut self, kind: Kind) -> Result<Taken, Memory>
-        ensures { IfOk result (λ r. Did (at_as kind) r self.old self.new) }
-    {
-        match kind {
-            Kind::Fixed(Sign::As) => Ok(Taken::Word),
-            _ => Ok(Taken::Stop),
-        }
-    }
-
-    #[tactic(auto, unfolding(crate::specs::Machine::at_colon))]
-    fn colon(&mut self, kind: Kind) -> Result<Taken, Memory>
-        ensures { IfOk result (λ r. Did (at_colon kind) r self.old self.new) }
-    {
-        match kind {
-            Kind::Fixed(Sign::Colon) => Ok(Taken::Word),
-            _ => Ok(Taken::Stop),
-        }
-    }
-
-    #[tactic(auto, unfolding(crate::specs::Machine::at_semicolon))]
-    fn semicolon(&mut self, kind: Kind) -> Result<Taken, Memory>
-        ensures { IfOk result (λ r. Did (at_semicolon kind) r self.old self.new) }
-    {
-        match kind {
-            Kind::Fixed(Sign::Semicolon) => Ok(Taken::Word),
-            _ => Ok(Taken::Stop),
-        }
-    }
-
-    #[tactic(auto, unfolding(crate::specs::Machine::at_equal))]
-    fn equal(&mut self, kind: Kind) -> Result<Taken, Memory>
-        ensures { IfOk result (λ r. Did (at_equal kind) r self.old self.new) }
-    {
-        match kind {
-            Kind::Fixed(Sign::Equal) => Ok(Taken::Word),
+            Kind::Fixed(found) if found == word => Ok(Taken::Word),
             _ => Ok(Taken::Stop),
         }
     }
@@ -270,15 +240,70 @@ impl Stack {
         }
     }
 
+    #[tactic(auto, unfolding(crate::specs::Machine::at_per))]
+    fn per(&mut self, kind: Kind) -> Result<Taken, Memory>
+        ensures { IfOk result (λ r. Did (at_per kind) r self.old self.new) }
+    {
+        match kind {
+            Kind::Fixed(Sign::Per) => self.take(&[Symbol::Names]),
+            _ => Ok(Taken::Nothing),
+        }
+    }
+
+    #[tactic(auto, unfolding(crate::specs::Machine::at_unsigned))]
+    fn unsigned(&mut self, kind: Kind) -> Result<Taken, Memory>
+        ensures { IfOk result (λ r. Did (at_unsigned kind) r self.old self.new) }
+    {
+        match kind {
+            Kind::Number(_) | Kind::Decimal => Ok(Taken::Word),
+            _ => Ok(Taken::Stop),
+        }
+    }
+
+    #[tactic(auto, unfolding(crate::specs::Machine::at_lit))]
+    fn lit(&mut self, kind: Kind) -> Result<Taken, Memory>
+        ensures { IfOk result (λ r. Did (at_lit kind) r self.old self.new) }
+    {
+        match kind {
+            Kind::Fixed(Sign::Minus) => self.take(&[Symbol::Unsigned]),
+            Kind::Number(_) | Kind::Decimal | Kind::Quoted => Ok(Taken::Word),
+            Kind::Fixed(Sign::True) | Kind::Fixed(Sign::False) => Ok(Taken::Word),
+            _ => Ok(Taken::Stop),
+        }
+    }
+
+    #[tactic(auto, unfolding(crate::specs::Machine::at_lits))]
+    fn lits(&mut self, kind: Kind) -> Result<Taken, Memory>
+        ensures { IfOk result (λ r. Did (at_lits kind) r self.old self.new) }
+    {
+        match kind {
+            Kind::Fixed(Sign::Comma) => self.take(&[Symbol::Lit, Symbol::Lits]),
+            _ => Ok(Taken::Nothing),
+        }
+    }
+
+    #[tactic(auto, unfolding(crate::specs::Machine::at_else))]
+    fn else_part(&mut self, kind: Kind) -> Result<Taken, Memory>
+        ensures { IfOk result (λ r. Did (at_else kind) r self.old self.new) }
+    {
+        match kind {
+            Kind::Fixed(Sign::Else) => self.take(&[Symbol::Lit, Symbol::Lits]),
+            _ => Ok(Taken::Nothing),
+        }
+    }
+
     #[tactic(auto, unfolding(crate::specs::Machine::at_agg))]
     fn agg(&mut self, kind: Kind) -> Result<Taken, Memory>
         ensures { IfOk result (λ r. Did (at_agg kind) r self.old self.new) }
     {
         match kind {
-            Kind::Fixed(Sign::Count) => self.take(&[Symbol::As, Symbol::Named]),
-            Kind::Fixed(Sign::Sum) | Kind::Fixed(Sign::Min) | Kind::Fixed(Sign::Max) => self.take(&[
+            Kind::Fixed(Sign::Count) => self.take(&[Symbol::Word(Sign::As), Symbol::Named]),
+            Kind::Fixed(Sign::Sum)
+            | Kind::Fixed(Sign::Min)
+            | Kind::Fixed(Sign::Max)
+            | Kind::Fixed(Sign::Avg) => self.take(&[
                 Symbol::Named,
-                Symbol::As,
+                Symbol::Word(Sign::As),
                 Symbol::Named,
             ]),
             _ => Ok(Taken::Stop),
@@ -296,7 +321,7 @@ impl Stack {
     }
 
     /// What goes on with an expression after a name, or the end of an item that is the name alone.
-    #[tactic(auto, unfolding(crate::specs::Machine::at_item_rest, crate::specs::Machine::at_factors, crate::specs::Machine::at_terms, crate::specs::Machine::at_test, crate::specs::Machine::at_ands, crate::specs::Machine::at_ors, crate::specs::Machine::at_as))]
+    #[tactic(auto, unfolding(crate::specs::Machine::at_item_rest, crate::specs::Machine::at_factors, crate::specs::Machine::at_terms, crate::specs::Machine::at_test, crate::specs::Machine::at_ands, crate::specs::Machine::at_ors, crate::specs::Machine::at_word))]
     fn item_rest(&mut self, kind: Kind) -> Result<Taken, Memory>
         ensures { IfOk result (λ r. Did (at_item_rest kind) r self.old self.new) }
     {
@@ -308,7 +333,7 @@ impl Stack {
                 Symbol::Test,
                 Symbol::Ands,
                 Symbol::Ors,
-                Symbol::As,
+                Symbol::Word(Sign::As),
                 Symbol::Named,
             ]),
             Kind::Fixed(Sign::Div) | Kind::Fixed(Sign::Mod) => self.take(&[
@@ -318,7 +343,7 @@ impl Stack {
                 Symbol::Test,
                 Symbol::Ands,
                 Symbol::Ors,
-                Symbol::As,
+                Symbol::Word(Sign::As),
                 Symbol::Named,
             ]),
             Kind::Fixed(Sign::Plus) | Kind::Fixed(Sign::Minus) => self.take(&[
@@ -327,7 +352,7 @@ impl Stack {
                 Symbol::Test,
                 Symbol::Ands,
                 Symbol::Ors,
-                Symbol::As,
+                Symbol::Word(Sign::As),
                 Symbol::Named,
             ]),
             Kind::Fixed(Sign::Equal)
@@ -339,20 +364,20 @@ impl Stack {
                 Symbol::Sum,
                 Symbol::Ands,
                 Symbol::Ors,
-                Symbol::As,
+                Symbol::Word(Sign::As),
                 Symbol::Named,
             ]),
             Kind::Fixed(Sign::And) => self.take(&[
                 Symbol::Neg,
                 Symbol::Ands,
                 Symbol::Ors,
-                Symbol::As,
+                Symbol::Word(Sign::As),
                 Symbol::Named,
             ]),
             Kind::Fixed(Sign::Or) => self.take(&[
                 Symbol::Conj,
                 Symbol::Ors,
-                Symbol::As,
+                Symbol::Word(Sign::As),
                 Symbol::Named,
             ]),
             Kind::Fixed(Sign::As) => self.take(&[Symbol::Named]),
@@ -362,9 +387,9 @@ impl Stack {
 
     /// An expression and its name.
     fn named_item(&mut self, kind: Kind) -> Result<Taken, Memory>
-        ensures { IfOk result (λ r. Did (before (at_expr kind) (Symbol.As ∷ Symbol.Named ∷ [])) r self.old self.new) }
+        ensures { IfOk result (λ r. Did (before (at_expr kind) (Symbol.Word Sign.As ∷ Symbol.Named ∷ [])) r self.old self.new) }
     {
-        self.put(&[Symbol::As, Symbol::Named])?;
+        self.put(&[Symbol::Word(Sign::As), Symbol::Named])?;
         self.expr(kind)
     }
 
@@ -406,9 +431,23 @@ impl Stack {
                 self.take(&[Symbol::Named, Symbol::On]),
             Kind::Fixed(Sign::Group) => self.take(&[
                 Symbol::By,
-                Symbol::Colon,
+                Symbol::Word(Sign::Colon),
                 Symbol::Agg,
                 Symbol::Aggs,
+            ]),
+            Kind::Fixed(Sign::Coalesce) => Ok(Taken::Word),
+            Kind::Fixed(Sign::Left) => self.take(&[Symbol::Named, Symbol::On, Symbol::Else]),
+            Kind::Fixed(Sign::Top) => self.take(&[
+                Symbol::Pos,
+                Symbol::Per,
+                Symbol::Word(Sign::By),
+                Symbol::Named,
+            ]),
+            Kind::Fixed(Sign::Follow) => self.take(&[
+                Symbol::Named,
+                Symbol::On,
+                Symbol::Word(Sign::Within),
+                Symbol::Pos,
             ]),
             _ => Ok(Taken::Stop),
         }
@@ -441,9 +480,9 @@ impl Stack {
         match kind {
             Kind::Fixed(Sign::Let) => self.take(&[
                 Symbol::Named,
-                Symbol::Equal,
+                Symbol::Word(Sign::Equal),
                 Symbol::Pipe,
-                Symbol::Semicolon,
+                Symbol::Word(Sign::Semicolon),
                 Symbol::Lets,
             ]),
             _ => Ok(Taken::Nothing),
@@ -468,6 +507,11 @@ impl Stack {
             Kind::Fixed(Sign::IntKind)
             | Kind::Fixed(Sign::BoolKind)
             | Kind::Fixed(Sign::TextKind) => Ok(Taken::Word),
+            Kind::Fixed(Sign::DecKind) => self.take(&[
+                Symbol::Word(Sign::Open),
+                Symbol::Places,
+                Symbol::Word(Sign::Close),
+            ]),
             _ => Ok(Taken::Stop),
         }
     }
@@ -489,11 +533,11 @@ impl Stack {
         match kind {
             Kind::Fixed(Sign::Stream) => self.take(&[
                 Symbol::Named,
-                Symbol::Open,
+                Symbol::Word(Sign::Open),
                 Symbol::Col,
                 Symbol::Cols,
-                Symbol::Close,
-                Symbol::Semicolon,
+                Symbol::Word(Sign::Close),
+                Symbol::Word(Sign::Semicolon),
             ]),
             _ => Ok(Taken::Stop),
         }
@@ -506,11 +550,11 @@ impl Stack {
         match kind {
             Kind::Fixed(Sign::Stream) => self.take(&[
                 Symbol::Named,
-                Symbol::Open,
+                Symbol::Word(Sign::Open),
                 Symbol::Col,
                 Symbol::Cols,
-                Symbol::Close,
-                Symbol::Semicolon,
+                Symbol::Word(Sign::Close),
+                Symbol::Word(Sign::Semicolon),
                 Symbol::Streams,
             ]),
             _ => Ok(Taken::Nothing),
@@ -555,12 +599,13 @@ impl Stack {
             Symbol::Named => self.named(kind),
             Symbol::Int => self.int(kind),
             Symbol::Pos => self.pos(kind),
-            Symbol::Close => self.close(kind),
-            Symbol::Open => self.open_word(kind),
-            Symbol::As => self.as_word(kind),
-            Symbol::Colon => self.colon(kind),
-            Symbol::Semicolon => self.semicolon(kind),
-            Symbol::Equal => self.equal(kind),
+            Symbol::Places => self.places(kind),
+            Symbol::Per => self.per(kind),
+            Symbol::Else => self.else_part(kind),
+            Symbol::Lits => self.lits(kind),
+            Symbol::Lit => self.lit(kind),
+            Symbol::Unsigned => self.unsigned(kind),
+            Symbol::Word(word) => self.word(word, kind),
         }
     }
 }

@@ -4,13 +4,12 @@ ghost use Rattle.query_grammar.specs.Token.{word_kind, in_expressions};
 
 use query_words::{Sign, Word};
 
-/// What the grammar asks of a word: which word it is, but for the spelling of names, numbers and texts.
+/// What the grammar asks of a word: which word it is, but for the spelling of names, decimals and texts.
 #[derive(Clone, Copy, Debug, PartialEq, Eq)]
-pub enum Kind {
+pub(crate) enum Kind {
     Name,
-    /// The number 0, which no division takes.
-    Zero,
-    Positive,
+    Number(u64),
+    Decimal,
     Quoted,
     Fixed(Sign),
     Bad,
@@ -22,8 +21,8 @@ impl Kind {
     {
         match word {
             Word::Name(_) => Kind::Name,
-            Word::Number(0) => Kind::Zero,
-            Word::Number(_) => Kind::Positive,
+            Word::Number(value) => Kind::Number(value),
+            Word::Decimal { .. } => Kind::Decimal,
             Word::Quoted(_) => Kind::Quoted,
             Word::Fixed(sign) => Kind::Fixed(sign),
             Word::Bad => Kind::Bad,
@@ -36,7 +35,7 @@ impl Kind {
         ensures { result ≡ in_expressions self }
     {
         match self {
-            Kind::Name | Kind::Zero | Kind::Positive | Kind::Quoted => true,
+            Kind::Name | Kind::Number(_) | Kind::Decimal | Kind::Quoted => true,
             Kind::Fixed(sign) => matches!(
                 sign,
                 Sign::True

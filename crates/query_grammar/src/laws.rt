@@ -24,5 +24,6 @@ pub fn tokens_are_sound()
 
 /// A text has one answer: it spells a query within the limit, or has one fault.
 pub fn texts_have_one_answer()
-    ensures { (text : List ℕ) (a b : Option Fault) → IsAnswer text a → IsAnswer text b → a ≡ b }
+    ensures some { (text : List ℕ) → (a : Option Fault) × IsAnswer text a }
+    ensures one { (text : List ℕ) (a b : Option Fault) → IsAnswer text a → IsAnswer text b → a ≡ b }
 {}

@@ -11,7 +11,6 @@ mod symbol;
 mod tests;
 
 pub use fault::{Fault, first_fault};
-pub use kind::Kind;
 pub use laws::{
     queries_have_no_fault, texts_have_one_answer, tokens_are_sound, tokens_spell_one_query,
 };

@@ -2,6 +2,8 @@
 ghost use Rattle.std.specs.Prelude.{◌≡◌};
 ghost use Rattle.query_grammar.specs.Machine.{may_end};
 
+use query_words::Sign;
+
 /// A part of the grammar that is still to be read. `Ors` and the like are what may follow a first part.
 #[derive(Clone, Copy, Debug, PartialEq, Eq)]
 pub(crate) enum Symbol {
@@ -39,12 +41,16 @@ pub(crate) enum Symbol {
     Named,
     Int,
     Pos,
-    Close,
-    Open,
-    As,
-    Colon,
-    Semicolon,
-    Equal,
+    /// A number of decimal places.
+    Places,
+    Per,
+    Else,
+    Lits,
+    Lit,
+    /// A number or a decimal behind its sign.
+    Unsigned,
+    /// Just this word.
+    Word(Sign),
 }
 
 impl Symbol {
@@ -64,6 +70,9 @@ impl Symbol {
                 | Symbol::By
                 | Symbol::On
                 | Symbol::MoreNames
+                | Symbol::Per
+                | Symbol::Else
+                | Symbol::Lits
                 | Symbol::Ors
                 | Symbol::Ands
                 | Symbol::Test
