@@ -260,7 +260,7 @@ one_fun G.max_ G.max_ e = refl
 one_fun G.avg_ G.avg_ e = refl
 one_fun _ _ e = cc
 
-no_count : (f : G.Fun) → S.Count ≡ fun_sign f → ⊥
+pub no_count : (f : G.Fun) → S.Count ≡ fun_sign f → ⊥
 no_count G.sum_ e = cc
 no_count G.min_ e = cc
 no_count G.max_ e = cc

@@ -1,3 +1,4 @@
+-- Callers read Token, TokenForm, Grammar, Fault, Limit and Answer. Private contracts alone cite Machine and Reading.
 pub mod Token
 pub mod TokenForm
 pub mod Grammar

@@ -53,7 +53,7 @@ fn run_after(run: usize, kind: Kind) -> usize
 }
 
 /// The first word up to which more words of expressions stand together than an expression may have. Elsewhere than in
-/// an expression at most three stand together, so this is the first word past the limit of an expression.
+/// an expression at most four stand together, so this is the first word past the limit of an expression.
 fn long_at(words: &[Spot]) -> Option<usize>
     ensures { result ≡ first_long 0 (map spot_kind words.now) }
 {

@@ -6,7 +6,7 @@ use Rattle.std.specs.List.{slice_range}
 use Rattle.std.proofs.lemmas.List.Elements.{All-get_or, All-drop}
 use Rattle.std.proofs.Math.Seq.{drop-cons}
 use Rattle.std.proofs.lemmas.Int.{to_z_pos}
-use denote.Enum.Bare.{sameb, same_true}
+use denote.Enum.Bare.{sameb, same_true, true_same}
 use Rattle.plan_model.specs.IsExpr.{IsOneLine}
 use Rattle.query_words.specs.declared.word.Sign.{Sign}
 use Rattle.query_words.specs.declared.word.Sign.TheVariants as S
@@ -22,7 +22,7 @@ use Rattle.query_grammar.proofs.TokenForm.{tokens_sound}
 use Rattle.query_grammar.specs.Grammar as G
 use Rattle.query_grammar.specs.Grammar.{atom_then}
 use Rattle.query_text.specs.declared.tree.TreeNode.TheVariants as N
-use Rattle.query_text.specs.Reading.{Lacks, TakesValue, Any, IsSmall, IsParens, TakesLeaf}
+use Rattle.query_text.specs.Reading.{Lacks, TakesValue, Any, IsSmall, IsSmallDec, dec_of, IsParens, TakesLeaf}
 
 pub first : (text : List ℕ) (words : List Spot) (at : ℕ) (spot : Spot) (w : Word) → at < length words → spot ≡ get_or words at spot → spot.word ≡ w
     → map (token_of text) (drop at words) ≡ token_at text spot.at w ∷ map (token_of text) (drop (at + 1) words)
@@ -47,53 +47,7 @@ pub one_sign : (a b : Sign) → sameb the_type a b ≡ true → a ≡ b
 one_sign a b h = same_true the_type (search rules) a b h
 
 pub sign_itself : (s : Sign) → sameb the_type s s ≡ true
-sign_itself S.Stream = refl
-sign_itself S.Let = refl
-sign_itself S.Where = refl
-sign_itself S.Select = refl
-sign_itself S.Union = refl
-sign_itself S.Delay = refl
-sign_itself S.Hop = refl
-sign_itself S.Tumble = refl
-sign_itself S.Duration = refl
-sign_itself S.Extend = refl
-sign_itself S.Session = refl
-sign_itself S.Clip = refl
-sign_itself S.Join = refl
-sign_itself S.Anti = refl
-sign_itself S.Group = refl
-sign_itself S.By = refl
-sign_itself S.On = refl
-sign_itself S.As = refl
-sign_itself S.And = refl
-sign_itself S.Or = refl
-sign_itself S.Not = refl
-sign_itself S.Div = refl
-sign_itself S.Mod = refl
-sign_itself S.True = refl
-sign_itself S.False = refl
-sign_itself S.IntKind = refl
-sign_itself S.BoolKind = refl
-sign_itself S.TextKind = refl
-sign_itself S.Count = refl
-sign_itself S.Sum = refl
-sign_itself S.Min = refl
-sign_itself S.Max = refl
-sign_itself S.Differs = refl
-sign_itself S.LessEqual = refl
-sign_itself S.GreaterEqual = refl
-sign_itself S.Open = refl
-sign_itself S.Close = refl
-sign_itself S.Comma = refl
-sign_itself S.Semicolon = refl
-sign_itself S.Bar = refl
-sign_itself S.Colon = refl
-sign_itself S.Equal = refl
-sign_itself S.Less = refl
-sign_itself S.Greater = refl
-sign_itself S.Plus = refl
-sign_itself S.Minus = refl
-sign_itself S.Star = refl
+sign_itself s = true_same the_type s s refl
 
 pub not_false : (b : Bool) → not b ≡ false → b ≡ true
 not_false true e = refl
@@ -189,6 +143,7 @@ step_within at step size most h e k = omega arith
 pub leaf_name : (n : List ℕ) (old new : List Token) → old ≡ name n ∷ new → TakesLeaf (Some (N.Name n)) old new
 leaf_name n old new e (G.column m) z f = let g : n ≡ m = cc in let h : new ≡ z = cc in (h, λ nodes. ap (λ x. nodes ++ N.Name x ∷ []) g)
 leaf_name n old new e (G.number m) z f = absurd (cc)
+leaf_name n old new e (G.decimal u p) z f = absurd (cc)
 leaf_name n old new e (G.text m) z f = absurd (cc)
 leaf_name n old new e G.true_ z f = absurd (cc)
 leaf_name n old new e G.false_ z f = absurd (cc)
@@ -197,6 +152,7 @@ leaf_name n old new e (G.parens x) z f = absurd (cc)
 pub leaf_text : (n : List ℕ) (old new : List Token) → old ≡ str n ∷ new → TakesLeaf (Some (N.Text n)) old new
 leaf_text n old new e (G.text m) z f = let g : n ≡ m = cc in let h : new ≡ z = cc in (h, λ nodes. ap (λ x. nodes ++ N.Text x ∷ []) g)
 leaf_text n old new e (G.number m) z f = absurd (cc)
+leaf_text n old new e (G.decimal u p) z f = absurd (cc)
 leaf_text n old new e (G.column m) z f = absurd (cc)
 leaf_text n old new e G.true_ z f = absurd (cc)
 leaf_text n old new e G.false_ z f = absurd (cc)
@@ -204,15 +160,30 @@ leaf_text n old new e (G.parens x) z f = absurd (cc)
 
 pub leaf_int : (n : ℕ) (i : ℤ) (old new : List Token) → old ≡ int n ∷ new → i ≡ pos n → TakesLeaf (Some (N.Int i)) old new
 leaf_int n i old new e same (G.number m) z f = let g : n ≡ m = cc in let h : new ≡ z = cc in (h, λ nodes. ap (λ x. nodes ++ N.Int x ∷ []) (same ∙ ap pos g))
+leaf_int n i old new e same (G.decimal u p) z f = absurd (cc)
 leaf_int n i old new e same (G.text m) z f = absurd (cc)
 leaf_int n i old new e same (G.column m) z f = absurd (cc)
 leaf_int n i old new e same G.true_ z f = absurd (cc)
 leaf_int n i old new e same G.false_ z f = absurd (cc)
 leaf_int n i old new e same (G.parens x) z f = absurd (cc)
 
+pub leaf_dec : (d : ℕ × ℕ) (i : ℤ) (old new : List Token) → old ≡ dec_of d ∷ new → i ≡ pos d.0 → TakesLeaf (Some (N.Dec i d.1)) old new
+leaf_dec d i old new e same (G.decimal u p) z f =
+    let g : d.0 ≡ u = cc in
+    let k : d.1 ≡ p = cc in
+    let h : new ≡ z = cc in
+    (h, λ nodes. ap (λ x. nodes ++ N.Dec x d.1 ∷ []) (same ∙ ap pos g) ∙ ap (λ x. nodes ++ N.Dec (pos u) x ∷ []) k)
+leaf_dec d i old new e same (G.number m) z f = absurd (cc)
+leaf_dec d i old new e same (G.text m) z f = absurd (cc)
+leaf_dec d i old new e same (G.column m) z f = absurd (cc)
+leaf_dec d i old new e same G.true_ z f = absurd (cc)
+leaf_dec d i old new e same G.false_ z f = absurd (cc)
+leaf_dec d i old new e same (G.parens x) z f = absurd (cc)
+
 pub leaf_true : (old new : List Token) → old ≡ fixed S.True ∷ new → TakesLeaf (Some (N.Bool true)) old new
 leaf_true old new e G.true_ z f = let h : new ≡ z = cc in (h, λ nodes. refl)
 leaf_true old new e (G.number m) z f = absurd (cc)
+leaf_true old new e (G.decimal u p) z f = absurd (cc)
 leaf_true old new e (G.text m) z f = absurd (cc)
 leaf_true old new e (G.column m) z f = absurd (cc)
 leaf_true old new e G.false_ z f = absurd (cc)
@@ -221,20 +192,22 @@ leaf_true old new e (G.parens x) z f = absurd (cc)
 pub leaf_false : (old new : List Token) → old ≡ fixed S.False ∷ new → TakesLeaf (Some (N.Bool false)) old new
 leaf_false old new e G.false_ z f = let h : new ≡ z = cc in (h, λ nodes. refl)
 leaf_false old new e (G.number m) z f = absurd (cc)
+leaf_false old new e (G.decimal u p) z f = absurd (cc)
 leaf_false old new e (G.text m) z f = absurd (cc)
 leaf_false old new e (G.column m) z f = absurd (cc)
 leaf_false old new e G.true_ z f = absurd (cc)
 leaf_false old new e (G.parens x) z f = absurd (cc)
 
-pub leaf_none : (old a b d e new : List Token) → TakesValue name Any None old a → TakesValue str IsOneLine None a b → TakesValue int IsSmall None b d → (e ≡ d) × Lacks (fixed S.True) d → (new ≡ e) × Lacks (fixed S.False) e → TakesLeaf None old new
-leaf_none old a b d e new h i j k l = (l.0 ∙ k.0 ∙ j.0 ∙ i.0 ∙ h.0, only)
+pub leaf_none : (old a b d g e new : List Token) → TakesValue name Any None old a → TakesValue str IsOneLine None a b → TakesValue int IsSmall None b d → TakesValue dec_of IsSmallDec None d g → (e ≡ g) × Lacks (fixed S.True) g → (new ≡ e) × Lacks (fixed S.False) e → TakesLeaf None old new
+leaf_none old a b d g e new h i j q k l = (l.0 ∙ k.0 ∙ q.0 ∙ j.0 ∙ i.0 ∙ h.0, only)
   where
     only : (x : G.Atom) (z : List Token) → old ≡ atom_then x z → IsParens x
     only (G.column m) z f = absurd (h.1 m z f)
     only (G.text m) z f = absurd (i.1 m z (h.0 ∙ f))
     only (G.number m) z f = absurd (j.1 m z (i.0 ∙ h.0 ∙ f))
-    only G.true_ z f = absurd (k.1 z (j.0 ∙ i.0 ∙ h.0 ∙ f))
-    only G.false_ z f = absurd (l.1 z (k.0 ∙ j.0 ∙ i.0 ∙ h.0 ∙ f))
+    only (G.decimal u p) z f = absurd (q.1 (u, p) z (j.0 ∙ i.0 ∙ h.0 ∙ f))
+    only G.true_ z f = absurd (k.1 z (q.0 ∙ j.0 ∙ i.0 ∙ h.0 ∙ f))
+    only G.false_ z f = absurd (l.1 z (k.0 ∙ q.0 ∙ j.0 ∙ i.0 ∙ h.0 ∙ f))
     only (G.parens x) z f = (x, refl)
 
 pub whole : (n : ℕ) → n < 2 ^ 63 → to_z w64 n ≡ pos n

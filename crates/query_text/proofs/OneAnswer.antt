@@ -1,12 +1,14 @@
 -- A text spells a query or has one fault, and never both.
 use Rattle.std.specs.Prelude.{◌≡◌, ℕ, ◌<◌, ◌⊎◌, List, length, Option, Some, None, refl}
-use Rattle.std.proofs.Common.{sym, ◌∙◌, ap, arith, inl, inr}
+use Rattle.std.proofs.lemmas.Bool.Decides.{nat_tests}
+use Rattle.query_text.specs.Spelling.{query_of}
+use Rattle.std.proofs.Common.{Bool, true, false, nat_le, sym, ◌∙◌, ap, arith, inl, inr}
 use Rattle.plan_model.specs.declared.fault.QueryFault.{QueryFault}
 use Rattle.plan_model.specs.declared.fault.QueryFault.TheVariants.{Syntax, LongExpr, TooLarge, UnknownName, TypeClash, NotEventLevel, BadWindow, ReachTooLong, TooManyNodes, TooManyColumns, NameTaken, NotBuilt}
 use Rattle.query_grammar.specs.Answer.{IsAnswer}
 use Rattle.query_grammar.specs.declared.fault.Fault.{Fault}
 use Rattle.query_grammar.specs.declared.fault.Fault.TheVariants as F
-use Rattle.query_grammar.proofs.OneAnswer.{one_answer}
+use Rattle.query_grammar.proofs.OneAnswer.{answered, one_answer}
 use Rattle.query_text.specs.declared.query.Query.{Query}
 use Rattle.query_text.specs.IsParse.{Spells, IsSmallText, IsTextFault, fault_of}
 
@@ -51,3 +53,18 @@ one_fault text f g h k = elim (which text f h) [
     | inr second ↦ first.is ∙ ap fault_of (some_same first.found second.found (one_answer text (Some first.found) (Some second.found) first.answer second.answer)) ∙ sym second.is
   ]
 ]
+
+abbrev pub Told : List ℕ → Type 0
+Told text = (IsSmallText text × (q : Query) × Spells text q) ⊎ ((fault : QueryFault) × IsTextFault text fault)
+
+told : (text : List ℕ) (a : Option Fault) → IsSmallText text → IsAnswer text a → Told text
+told text None small h = inl (small, query_of h.0, (h.0, h.1, h.2, refl))
+told text (Some (F.Syntax at)) small h = inr (Syntax at, (small, h))
+told text (Some (F.LongExpr at)) small h = inr (LongExpr at, (small, h))
+
+pub spelled_or_not : (text : List ℕ) → Told text
+spelled_or_not text = here (nat_le (length text) 65536) refl
+  where
+    here : (x : Bool) → nat_le (length text) 65536 ≡ x → Told text
+    here true e = let a = answered text in told text a.answer (grind (arith, nat_tests)) a.is
+    here false e = inr (TooLarge, grind (arith, nat_tests))

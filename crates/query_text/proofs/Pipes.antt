@@ -1,15 +1,16 @@
 -- The steps of the parser of names, items, steps and pipes.
-use Rattle.std.proofs.Common.{◌≡◌, ℕ, ◌<◌, ◌≤◌, suc, length, true, false, Some, None, List, [], ◌∷◌, ◌++◌, refl, ap, sym, ◌∙◌, append_assoc, append-nil, arith, lit<}
+use Rattle.std.proofs.Common.{◌≡◌, ℕ, ◌<◌, ◌≤◌, suc, length, true, false, Some, None, List, [], ◌∷◌, ◌++◌, refl, ap, sym, subst, ◌∙◌, append_assoc, append-nil, arith, lit<}
 use Rattle.query_words.specs.declared.word.Sign.{Sign}
 use Rattle.query_words.specs.declared.word.Sign.TheVariants as S
 use Rattle.query_grammar.specs.Token.{Token, name, fixed}
 use Rattle.query_grammar.specs.Grammar as G
-use Rattle.query_grammar.specs.Grammar.{expr_then, item_then, items_then, agg_then, step_then, steps_then, pipe_then, lets_then}
+use Rattle.query_grammar.specs.Grammar.{fun_sign, expr_then, unary_then, item_then, items_then, agg_then, lit_then, else_then, step_then, steps_then, pipe_then, lets_then}
 use Rattle.query_grammar.specs.Machine.{rank, binds}
+use Rattle.query_grammar.proofs.Unique.{one_fun, no_count}
 use Rattle.query_grammar.proofs.Complete.{low_as}
 use Rattle.query_text.specs.declared.tree.TreeNode.{TreeNode}
-use Rattle.query_text.specs.Spelling.{tree_of, item_of}
-use Rattle.query_text.specs.Reading.{Lacks, IsAhead, Listing, ends_pipe, ends_step, ends_item, name_then, int_then, as_then, computed_then, hop_then, session_then, operand_then, group_then, select_then}
+use Rattle.query_text.specs.Spelling.{tree_of, item_of, unary_of}
+use Rattle.query_text.specs.Reading.{Lacks, IsAhead, Listing, ends_pipe, ends_step, ends_item, name_then, int_then, as_then, computed_then, hop_then, session_then, operand_then, group_then, left_then, top_then, follow_then, lit_list_then, select_then}
 
 -- what may follow
 
@@ -173,19 +174,14 @@ item_lost old mid tree ahead f left (G.named x n) z ends e = let u = f x (fixed 
 
 pub agg_count : (P : G.Agg → List Token → Type 0) (old mid : List Token) → old ≡ fixed S.Count ∷ mid → ((n : List ℕ) (z : List Token) → mid ≡ as_then n z → P (G.count n) z) → (a : G.Agg) (z : List Token) → Unit {0} → old ≡ agg_then a z → P a z
 agg_count P old mid takes f (G.count n) z end e = let s : mid ≡ as_then n z = cc in f n z s
-agg_count P old mid takes f _ z end e = absurd (cc)
+agg_count P old mid takes f (G.of_column g c n) z end e = let t : S.Count ≡ fun_sign g = cc in absurd (no_count g t)
 
-pub agg_sum : (P : G.Agg → List Token → Type 0) (old mid : List Token) → old ≡ fixed S.Sum ∷ mid → ((c n : List ℕ) (z : List Token) → mid ≡ computed_then (c, n) z → P (G.sum_of c n) z) → (a : G.Agg) (z : List Token) → Unit {0} → old ≡ agg_then a z → P a z
-agg_sum P old mid takes f (G.sum_of c n) z end e = let s : mid ≡ computed_then (c, n) z = cc in f c n z s
-agg_sum P old mid takes f _ z end e = absurd (cc)
-
-pub agg_min : (P : G.Agg → List Token → Type 0) (old mid : List Token) → old ≡ fixed S.Min ∷ mid → ((c n : List ℕ) (z : List Token) → mid ≡ computed_then (c, n) z → P (G.min_of c n) z) → (a : G.Agg) (z : List Token) → Unit {0} → old ≡ agg_then a z → P a z
-agg_min P old mid takes f (G.min_of c n) z end e = let s : mid ≡ computed_then (c, n) z = cc in f c n z s
-agg_min P old mid takes f _ z end e = absurd (cc)
-
-pub agg_max : (P : G.Agg → List Token → Type 0) (old mid : List Token) → old ≡ fixed S.Max ∷ mid → ((c n : List ℕ) (z : List Token) → mid ≡ computed_then (c, n) z → P (G.max_of c n) z) → (a : G.Agg) (z : List Token) → Unit {0} → old ≡ agg_then a z → P a z
-agg_max P old mid takes f (G.max_of c n) z end e = let s : mid ≡ computed_then (c, n) z = cc in f c n z s
-agg_max P old mid takes f _ z end e = absurd (cc)
+pub agg_column : (g : G.Fun) (P : G.Agg → List Token → Type 0) (old mid : List Token) → old ≡ fixed (fun_sign g) ∷ mid → ((c n : List ℕ) (z : List Token) → mid ≡ computed_then (c, n) z → P (G.of_column g c n) z) → (a : G.Agg) (z : List Token) → Unit {0} → old ≡ agg_then a z → P a z
+agg_column g P old mid takes f (G.of_column h c n) z end e =
+    let t : fun_sign g ≡ fun_sign h = cc in
+    let s : mid ≡ computed_then (c, n) z = cc in
+    subst (λ k. P (G.of_column k c n) z) (one_fun g h t) (f c n z s)
+agg_column g P old mid takes f (G.count n) z end e = let t : S.Count ≡ fun_sign g = cc in absurd (no_count g t)
 
 -- a step, by its first word
 
@@ -240,6 +236,62 @@ step_anti P old mid takes f _ z end e = absurd (cc)
 pub step_group : (P : G.Step → List Token → Type 0) (old mid : List Token) → old ≡ fixed S.Group ∷ mid → ((b : G.By) (a : G.Agg) (as_ : List G.Agg) (z : List Token) → ends_step z ≡ true → mid ≡ group_then (b, a, as_) z → P (G.group b a as_) z) → (s : G.Step) (z : List Token) → ends_step z ≡ true → old ≡ step_then s z → P s z
 step_group P old mid takes f (G.group b a as_) z end e = let s : mid ≡ group_then (b, a, as_) z = cc in f b a as_ z end s
 step_group P old mid takes f _ z end e = absurd (cc)
+
+pub step_coalesce : (P : G.Step → List Token → Type 0) (old mid : List Token) → old ≡ fixed S.Coalesce ∷ mid → ((z : List Token) → ends_step z ≡ true → mid ≡ z → P G.coalesce z) → (s : G.Step) (z : List Token) → ends_step z ≡ true → old ≡ step_then s z → P s z
+step_coalesce P old mid takes f G.coalesce z end e = let s : mid ≡ z = cc in f z end s
+step_coalesce P old mid takes f _ z end e = absurd (cc)
+
+pub step_left : (P : G.Step → List Token → Type 0) (old mid : List Token) → old ≡ fixed S.Left ∷ mid → ((n : List ℕ) (o : G.On) (x : G.Else) (z : List Token) → ends_step z ≡ true → mid ≡ left_then (n, o, x) z → P (G.left n o x) z) → (s : G.Step) (z : List Token) → ends_step z ≡ true → old ≡ step_then s z → P s z
+step_left P old mid takes f (G.left n o x) z end e = let s : mid ≡ left_then (n, o, x) z = cc in f n o x z end s
+step_left P old mid takes f _ z end e = absurd (cc)
+
+pub step_top : (P : G.Step → List Token → Type 0) (old mid : List Token) → old ≡ fixed S.Top ∷ mid → ((n : ℕ) (p : G.Per) (c : List ℕ) (z : List Token) → ends_step z ≡ true → mid ≡ top_then (n, p, c) z → P (G.top n p c) z) → (s : G.Step) (z : List Token) → ends_step z ≡ true → old ≡ step_then s z → P s z
+step_top P old mid takes f (G.top n p c) z end e = let s : mid ≡ top_then (n, p, c) z = cc in f n p c z end s
+step_top P old mid takes f _ z end e = absurd (cc)
+
+pub step_follow : (P : G.Step → List Token → Type 0) (old mid : List Token) → old ≡ fixed S.Follow ∷ mid → ((n : List ℕ) (o : G.On) (m : ℕ) (z : List Token) → ends_step z ≡ true → mid ≡ follow_then (n, o, m) z → P (G.follow n o m) z) → (s : G.Step) (z : List Token) → ends_step z ≡ true → old ≡ step_then s z → P s z
+step_follow P old mid takes f (G.follow n o m) z end e = let s : mid ≡ follow_then (n, o, m) z = cc in f n o m z end s
+step_follow P old mid takes f _ z end e = absurd (cc)
+
+-- what stands behind a key
+
+pub no_on_else : (x : G.Else) (z : List Token) → ends_step z ≡ true → Lacks (fixed S.On) (else_then x z)
+no_on_else G.no_else z h = no_on z h
+no_on_else (G.else_ l ls) z h = λ w e. cc
+
+pub no_comma_else : (x : G.Else) (z : List Token) → ends_step z ≡ true → Lacks (fixed S.Comma) (else_then x z)
+no_comma_else G.no_else z h = no_comma z h
+no_comma_else (G.else_ l ls) z h = λ w e. cc
+
+pub no_else : (z : List Token) → ends_step z ≡ true → Lacks (fixed S.Else) z
+no_else z h = λ w e. let q : false ≡ true = sym (ap ends_step e) ∙ h in cc
+
+pub no_per_by : (z : List Token) → Lacks (fixed S.Per) (fixed S.By ∷ z)
+no_per_by z = λ w e. cc
+
+pub no_comma_by : (z : List Token) → Lacks (fixed S.Comma) (fixed S.By ∷ z)
+no_comma_by z = λ w e. cc
+
+pub no_on_within : (z : List Token) → Lacks (fixed S.On) (fixed S.Within ∷ z)
+no_on_within z = λ w e. cc
+
+pub no_comma_within : (z : List Token) → Lacks (fixed S.Comma) (fixed S.Within ∷ z)
+no_comma_within z = λ w e. cc
+
+pub else_some : (P : G.Else → List Token → Type 0) (old mid : List Token) → old ≡ fixed S.Else ∷ mid → ((l : G.Lit) (ls : List G.Lit) (z : List Token) → Lacks (fixed S.Comma) z → mid ≡ lit_list_then (l, ls) z → P (G.else_ l ls) z)
+    → (x : G.Else) (z : List Token) → Lacks (fixed S.Else) z × Lacks (fixed S.Comma) z → old ≡ else_then x z → P x z
+else_some P old mid takes f G.no_else z end e = absurd (end.0 mid (sym e ∙ takes))
+else_some P old mid takes f (G.else_ l ls) z end e = let s : mid ≡ lit_list_then (l, ls) z = cc in f l ls z end.1 s
+
+-- a literal is spelled as in an expression
+pub lit_spelled : (l : G.Lit) (z : List Token) → lit_then l z ≡ unary_then (unary_of l) z
+lit_spelled (G.int_lit n) z = refl
+lit_spelled (G.minus_int n) z = refl
+lit_spelled (G.dec_lit u p) z = refl
+lit_spelled (G.minus_dec u p) z = refl
+lit_spelled (G.text_lit s) z = refl
+lit_spelled G.true_lit z = refl
+lit_spelled G.false_lit z = refl
 
 -- how many tokens are left
 

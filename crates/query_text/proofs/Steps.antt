@@ -9,7 +9,8 @@ use Rattle.query_words.specs.declared.word.Sign.TheVariants as S
 use Rattle.query_grammar.specs.Token.{Token, int, fixed}
 use Rattle.query_grammar.specs.Grammar as G
 use Rattle.query_grammar.specs.Grammar.{expr_then, ors_then, conj_then, ands_then, neg_then, test_then, sum_then, terms_then, prod_then, factors_then, unary_then, atom_then, comparison_sign}
-use Rattle.query_grammar.specs.Machine.{rank, binds}
+use Rattle.query_grammar.specs.Machine.{rank}
+use Rattle.query_grammar.proofs.Unique.{not_or, not_and, not_plus, not_minus, not_star, not_div, not_mod, not_test, one_sign, not_sum, not_atom}
 use Rattle.query_grammar.proofs.Complete.{low_ors, low_ands, low_test, low_terms, low_close}
 use Rattle.query_text.specs.declared.stop.Stop.{Stop}
 use Rattle.query_text.specs.declared.stop.Stop.TheVariants.{Stuck, Memory}
@@ -70,10 +71,6 @@ prod_begins old now m n f (G.prod c os) z low e = let u = f c (factors_then os z
 
 -- one more operand of `or`
 
-not_or : (z w : List Token) → rank z < 1 → z ≡ fixed S.Or ∷ w → ⊥
-unfolding binds
-not_or z w h e = let r : rank z ≡ 1 = ap rank e in omega arith
-
 pub ors_none : (old new : List Token) (n : List TreeNode) → (new ≡ old) × Lacks (fixed S.Or) old → (r : G.Ors) (z : List Token) → rank z < 1 → old ≡ ors_then r z → (new ≡ z) × (n ≡ ors_onto r n)
 ors_none old new n h G.no_or z low e = (h.0 ∙ e, refl)
 ors_none old new n h (G.or_ c os) z low e = absurd (h.1 _ e)
@@ -93,10 +90,6 @@ ors_went old mid new m n k left right takes l f r pushed (G.or_ c os) z low e =
 
 -- one more operand of `and`
 
-not_and : (z w : List Token) → rank z < 2 → z ≡ fixed S.And ∷ w → ⊥
-unfolding binds
-not_and z w h e = let r : rank z ≡ 2 = ap rank e in omega arith
-
 pub ands_none : (old new : List Token) (n : List TreeNode) → (new ≡ old) × Lacks (fixed S.And) old → (r : G.Ands) (z : List Token) → rank z < 2 → old ≡ ands_then r z → (new ≡ z) × (n ≡ ands_onto r n)
 ands_none old new n h G.no_and z low e = (h.0 ∙ e, refl)
 ands_none old new n h (G.and_ c os) z low e = absurd (h.1 _ e)
@@ -115,14 +108,6 @@ ands_went old mid new m n k left right takes l f r pushed (G.and_ c os) z low e 
     (os, u.0, ap (ands_onto os) (joined_is (λ x y. N.And x y) m n k (neg_onto c m) left right pushed l r u.1))
 
 -- one more term
-
-not_plus : (z w : List Token) → rank z < 4 → z ≡ fixed S.Plus ∷ w → ⊥
-unfolding binds
-not_plus z w h e = let r : rank z ≡ 4 = ap rank e in omega arith
-
-not_minus : (z w : List Token) → rank z < 4 → z ≡ fixed S.Minus ∷ w → ⊥
-unfolding binds
-not_minus z w h e = let r : rank z ≡ 4 = ap rank e in omega arith
 
 pub terms_none : (old new : List Token) (n : List TreeNode) → TakesTerm None old new → (r : G.Terms) (z : List Token) → rank z < 4 → old ≡ terms_then r z → (new ≡ z) × (n ≡ terms_onto r n)
 terms_none old new n h G.no_term z low e = (h.0 ∙ e, refl)
@@ -156,18 +141,6 @@ terms_went A.Sub old mid new m n k left right takes l f r pushed (G.minus c os) 
 terms_went A.Mul old mid new m n k left right takes l f r pushed t z low e = absurd takes
 
 -- one more factor
-
-not_star : (z w : List Token) → rank z < 5 → z ≡ fixed S.Star ∷ w → ⊥
-unfolding binds
-not_star z w h e = let r : rank z ≡ 5 = ap rank e in omega arith
-
-not_div : (z w : List Token) → rank z < 5 → z ≡ fixed S.Div ∷ w → ⊥
-unfolding binds
-not_div z w h e = let r : rank z ≡ 5 = ap rank e in omega arith
-
-not_mod : (z w : List Token) → rank z < 5 → z ≡ fixed S.Mod ∷ w → ⊥
-unfolding binds
-not_mod z w h e = let r : rank z ≡ 5 = ap rank e in omega arith
 
 pub factors_none : (old a b new : List Token) (n : List TreeNode) → (a ≡ old) × Lacks (fixed S.Star) old → (b ≡ a) × Lacks (fixed S.Div) a → (new ≡ b) × Lacks (fixed S.Mod) b
     → (r : G.Factors) (z : List Token) → rank z < 5 → old ≡ factors_then r z → (new ≡ z) × (n ≡ factors_onto r n)
@@ -229,24 +202,6 @@ mod_went old a b mid new m n k by of f g takes h kept l pushed (G.mod_ c os) z l
 
 -- the other side of a comparison
 
-not_test : (c : G.Comparison) (z w : List Token) → rank z < 3 → z ≡ fixed (comparison_sign c) ∷ w → ⊥
-unfolding binds
-not_test G.equal z w h e = let r : rank z ≡ 3 = ap rank e in omega arith
-not_test G.differs z w h e = let r : rank z ≡ 3 = ap rank e in omega arith
-not_test G.less z w h e = let r : rank z ≡ 3 = ap rank e in omega arith
-not_test G.less_equal z w h e = let r : rank z ≡ 3 = ap rank e in omega arith
-not_test G.greater z w h e = let r : rank z ≡ 3 = ap rank e in omega arith
-not_test G.greater_equal z w h e = let r : rank z ≡ 3 = ap rank e in omega arith
-
-one_sign : (c d : G.Comparison) → comparison_sign c ≡ comparison_sign d → c ≡ d
-one_sign G.equal G.equal e = refl
-one_sign G.differs G.differs e = refl
-one_sign G.less G.less e = refl
-one_sign G.less_equal G.less_equal e = refl
-one_sign G.greater G.greater e = refl
-one_sign G.greater_equal G.greater_equal e = refl
-one_sign _ _ e = cc
-
 low_sum : (z : List Token) → rank z < 3 → rank z < 4
 low_sum z h = omega arith
 
@@ -273,15 +228,6 @@ test_went op old mid new m n k left right takes l f r pushed (G.test c s) z low 
 
 -- `not`, or a comparison
 
-not_sum : (s : G.Sum) (w z : List Token) → fixed S.Not ∷ w ≡ sum_then s z → ⊥
-not_sum (G.sum (G.prod (G.negative u) fs) ts) w z e = cc
-not_sum (G.sum (G.prod (G.atom (G.number n)) fs) ts) w z e = cc
-not_sum (G.sum (G.prod (G.atom (G.text n)) fs) ts) w z e = cc
-not_sum (G.sum (G.prod (G.atom G.true_) fs) ts) w z e = cc
-not_sum (G.sum (G.prod (G.atom G.false_) fs) ts) w z e = cc
-not_sum (G.sum (G.prod (G.atom (G.column n)) fs) ts) w z e = cc
-not_sum (G.sum (G.prod (G.atom (G.parens n)) fs) ts) w z e = cc
-
 pub neg_free : {X : Type 0} (old mid : List Token) → old ≡ fixed S.Not ∷ mid → ((n : G.Neg) (w : List Token) → rank w < 3 → mid ≡ neg_then n w → X) → (a : G.Neg) (z : List Token) → rank z < 3 → old ≡ neg_then a z → X
 neg_free old mid takes f (G.not_ n) z low e = let s : mid ≡ neg_then n z = cc in f n z low s
 neg_free old mid takes f (G.cmp s t) z low e = absurd (not_sum s mid (test_then t z) (sym takes ∙ e))
@@ -305,14 +251,6 @@ cmp_went r old mid now new m n k h f g (G.cmp s t) z low e =
     outcome_map r (λ _. (new ≡ z) × (k ≡ test_onto t n)) (λ _. (new ≡ z) × (k ≡ neg_onto (G.cmp s t) m)) (λ _ p. (p.0, p.1 ∙ ap (test_onto t) u.1)) (g t z low u.0)
 
 -- `-`, or an atom
-
-not_atom : (a : G.Atom) (w z : List Token) → fixed S.Minus ∷ w ≡ atom_then a z → ⊥
-not_atom (G.number n) w z e = cc
-not_atom (G.text n) w z e = cc
-not_atom G.true_ w z e = cc
-not_atom G.false_ w z e = cc
-not_atom (G.column n) w z e = cc
-not_atom (G.parens n) w z e = cc
 
 pub unary_free : {X : Type 0} (old mid : List Token) → old ≡ fixed S.Minus ∷ mid → ((n : G.Unary) (w : List Token) → Unit {0} → mid ≡ unary_then n w → X) → (a : G.Unary) (z : List Token) → Unit {0} → old ≡ unary_then a z → X
 unary_free old mid takes f (G.negative n) z low e = let s : mid ≡ unary_then n z = cc in f n z tt s

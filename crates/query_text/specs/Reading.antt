@@ -6,7 +6,7 @@ use Rattle.plan_model.specs.declared.expr.ArithOp.TheVariants as A
 use Rattle.plan_model.specs.declared.expr.CompareOp.{CompareOp}
 use Rattle.query_words.specs.declared.word.Sign.{Sign}
 use Rattle.query_words.specs.declared.word.Sign.TheVariants as S
-use Rattle.query_grammar.specs.Token.{Token, name, int, fixed}
+use Rattle.query_grammar.specs.Token.{Token, name, int, dec, fixed}
 use Rattle.query_grammar.specs.Grammar as G
 use Rattle.query_grammar.specs.Grammar.{atom_then, comparison_sign}
 use Rattle.query_text.specs.declared.stop.Stop.{Stop}
@@ -39,6 +39,13 @@ Any v = Unit {0}
 -- an INT fits into 63 bits
 abbrev pub IsSmall : ℕ → Type 0
 IsSmall n = n < 2 ^ 63
+
+-- a decimal has at most 63 bits and 18 places
+abbrev pub IsSmallDec : ℕ × ℕ → Type 0
+IsSmallDec d = (d.0 < 2 ^ 63) × (d.1 ≤ 18)
+
+abbrev pub dec_of : ℕ × ℕ → Token
+dec_of d = dec d.0 d.1
 
 -- the name that stands first, or none
 abbrev pub IsAhead : Option (List ℕ) → List Token → Type 0
@@ -133,6 +140,30 @@ computed_then p z = name p.0 ∷ as_then p.1 z
 -- INT INT
 abbrev pub hop_then : ℕ × ℕ → List Token → List Token
 hop_then p z = int p.0 ∷ int p.1 ∷ z
+
+-- a number above 0
+abbrev pub pos_then : ℕ → List Token → List Token
+pos_then n z = int (suc n) ∷ z
+
+-- "(" POS ")", the number of places
+abbrev pub places_then : G.Places → List Token → List Token
+places_then p z = fixed S.Open ∷ int p.number ∷ fixed S.Close ∷ z
+
+-- NAME [ "on" names ] [ "else" lit { "," lit } ]
+abbrev pub left_then : List ℕ × G.On × G.Else → List Token → List Token
+left_then p z = name p.0 ∷ G.on_then p.1 (G.else_then p.2 z)
+
+-- POS [ "per" names ] "by" NAME
+abbrev pub top_then : ℕ × G.Per × List ℕ → List Token → List Token
+top_then p z = int (suc p.0) ∷ G.per_then p.1 (fixed S.By ∷ name p.2 ∷ z)
+
+-- NAME [ "on" names ] "within" POS
+abbrev pub follow_then : List ℕ × G.On × ℕ → List Token → List Token
+follow_then p z = name p.0 ∷ G.on_then p.1 (fixed S.Within ∷ int (suc p.2) ∷ z)
+
+-- lit { "," lit }
+abbrev pub lit_list_then : G.Lit × List G.Lit → List Token → List Token
+lit_list_then p z = G.lit_then p.0 (G.lits_then p.1 z)
 
 -- INT [ "by" names ]
 abbrev pub session_then : ℕ × G.By → List Token → List Token

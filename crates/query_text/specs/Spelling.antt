@@ -9,6 +9,7 @@ use Rattle.plan_model.specs.declared.expr.CompareOp.TheVariants as C
 use Rattle.query_grammar.specs.Grammar as G
 use Rattle.query_text.specs.declared.tree.TreeNode.{TreeNode}
 use Rattle.query_text.specs.declared.tree.TreeNode.TheVariants as N
+use Rattle.query_text.specs.declared.query.AggFun.{AggFun}
 use Rattle.query_text.specs.declared.query.AggFun.TheVariants as F
 use Rattle.query_text.specs.declared.query.QueryAgg.{QueryAgg}
 use Rattle.query_text.specs.declared.query.Item.{Item}
@@ -86,6 +87,7 @@ abbrev mutual
 
   pub atom_onto : G.Atom → List TreeNode → List TreeNode
   atom_onto (G.number n) nodes = nodes ++ N.Int (pos n) ∷ []
+  atom_onto (G.decimal u p) nodes = nodes ++ N.Dec (pos u) p ∷ []
   atom_onto (G.text s) nodes = nodes ++ N.Text s ∷ []
   atom_onto G.true_ nodes = nodes ++ N.Bool true ∷ []
   atom_onto G.false_ nodes = nodes ++ N.Bool false ∷ []
@@ -112,11 +114,37 @@ abbrev pub item_of : G.Item → Item
 item_of (G.alone n) = record { name = n; tree = N.Name n ∷ [] }
 item_of (G.named e n) = record { name = n; tree = tree_of e }
 
+abbrev pub fun_of : G.Fun → AggFun
+fun_of G.sum_ = F.Sum
+fun_of G.min_ = F.Min
+fun_of G.max_ = F.Max
+fun_of G.avg_ = F.Avg
+
 abbrev pub agg_of : G.Agg → QueryAgg
 agg_of (G.count n) = record { fun = F.Count; column = None; name = n }
-agg_of (G.sum_of c n) = record { fun = F.Sum; column = Some c; name = n }
-agg_of (G.min_of c n) = record { fun = F.Min; column = Some c; name = n }
-agg_of (G.max_of c n) = record { fun = F.Max; column = Some c; name = n }
+agg_of (G.of_column f c n) = record { fun = fun_of f; column = Some c; name = n }
+
+abbrev pub per_of : G.Per → List (List ℕ)
+per_of G.no_per = []
+per_of (G.per_names ns) = names_of ns
+
+-- the part of an expression that is spelled like the literal
+abbrev pub unary_of : G.Lit → G.Unary
+unary_of (G.int_lit n) = G.atom (G.number n)
+unary_of (G.minus_int n) = G.negative (G.atom (G.number n))
+unary_of (G.dec_lit u p) = G.atom (G.decimal u p)
+unary_of (G.minus_dec u p) = G.negative (G.atom (G.decimal u p))
+unary_of (G.text_lit s) = G.atom (G.text s)
+unary_of G.true_lit = G.atom G.true_
+unary_of G.false_lit = G.atom G.false_
+
+-- a literal means what it means in an expression: `-1` is the node 1 and its negation
+abbrev pub lit_of : G.Lit → List TreeNode
+lit_of l = unary_onto (unary_of l) []
+
+abbrev pub fills_of : G.Else → List (List TreeNode)
+fills_of G.no_else = []
+fills_of (G.else_ l ls) = lit_of l ∷ map lit_of ls
 
 -- `tumble w` is `hop w w`
 abbrev pub step_of : G.Step → QueryStep
@@ -133,6 +161,10 @@ step_of (G.clip n o) = T.Clip n (on_of o)
 step_of (G.join n o) = T.Join n (on_of o)
 step_of (G.anti n o) = T.Anti n (on_of o)
 step_of (G.group b a as_) = T.Group (by_of b) (agg_of a ∷ map agg_of as_)
+step_of G.coalesce = T.Coalesce
+step_of (G.left n o e) = T.Left n (on_of o) (fills_of e)
+step_of (G.top n p c) = T.Top (suc n) (per_of p) c
+step_of (G.follow n o m) = T.Follow n (on_of o) (suc m)
 
 abbrev pub pipe_of : G.Pipe → Pipe
 pipe_of p = record { base = p.base; steps = map step_of p.steps }
@@ -144,6 +176,7 @@ abbrev pub col_of : G.Col → ColumnDef
 col_of (G.int_col n) = record { name = n; kind = K.Int }
 col_of (G.bool_col n) = record { name = n; kind = K.Bool }
 col_of (G.text_col n) = record { name = n; kind = K.Text }
+col_of (G.dec_col n p) = record { name = n; kind = K.Dec p.number }
 
 abbrev pub stream_of : G.Stream → StreamDef
 stream_of s = record { name = s.called; schema = col_of s.first ∷ map col_of s.more }

@@ -3,7 +3,7 @@ ghost use Rattle.std.specs.Prelude.{◌≡◌, ℕ, ◌<◌, ◌≤◌, length, 
 ghost use Rattle.plan_model.specs.IsExpr.{IsOneLine, IsDivisor};
 ghost use Rattle.query_words.specs.Words.{words_of};
 ghost use Rattle.query_grammar.specs.Token.{name, int, str, fixed, tokens_of, unquoted};
-ghost use Rattle.query_text.specs.Reading.{Takes, IsAhead, TakesValue, TakesPos, Any, IsSmall, TakesCompare, TakesTerm, TakesLeaf};
+ghost use Rattle.query_text.specs.Reading.{Takes, IsAhead, TakesValue, TakesPos, Any, IsSmall, IsSmallDec, dec_of, TakesCompare, TakesTerm, TakesLeaf};
 ghost use Rattle.query_text.specs.IsTree.{IsTreeNode};
 
 use crate::tree::TreeNode;
@@ -137,6 +137,20 @@ impl<'a> Cursor<'a> {
         Some(number)
     }
 
+    /// The decimal that stands first, taken: its units and its places.
+    pub(crate) fn takes_dec(&mut self) -> Option<(u64, u8)>
+        ensures { TakesValue dec_of IsSmallDec result self.old self.new }
+    {
+        let Some(spot) = self.words.get(self.at) else {
+            return None;
+        };
+        let Word::Decimal { units, places } = spot.word else {
+            return None;
+        };
+        self.at += 1;
+        Some((units, places))
+    }
+
     /// The number above 0 that stands first, taken.
     pub(crate) fn takes_pos(&mut self) -> Option<u64>
         ensures { TakesPos result self.old self.new }
@@ -226,6 +240,10 @@ impl<'a> Cursor<'a> {
         }
         if let Some(number) = self.takes_int() {
             return Ok(Some(TreeNode::Int(number as i64)));
+        }
+        if let Some((units, places)) = self.takes_dec() {
+            let units = units as i64;
+            return Ok(Some(TreeNode::Dec { units, places }));
         }
         if self.takes(Sign::True) {
             return Ok(Some(TreeNode::Bool(true)));

@@ -55,8 +55,9 @@ impl<'a> Parser<'a> {
         Ok(root)
     }
 
+    /// `-` and what it negates, or an atom. Its nodes come behind those that are there.
     #[cycle(expression)]
-    fn unary(&mut self) -> Result<usize, Stop>
+    pub(crate) fn unary(&mut self) -> Result<usize, Stop>
         ensures reads { Reads result unary_then (λ _. Unit {0}) (λ a _. self.new.nodes ≡ unary_onto a self.old.nodes) self.old.cursor self.new.cursor }
         ensures grows { IfOk result (λ _. length self.old.nodes < length self.new.nodes) }
         ensures root { IfOk result (λ root. root ≡ length self.new.nodes - 1) }

@@ -1,17 +1,17 @@
 // The parser of names, items, aggregates, steps and pipes.
-ghost use Rattle.std.specs.Prelude.{◌≡◌, ◌≤◌, ℕ, List, [], ◌∷◌, length, map, ◌<◌, true, Some, None, IfOk};
+ghost use Rattle.std.specs.Prelude.{◌≡◌, ◌≤◌, ℕ, suc, List, [], ◌∷◌, length, map, ◌<◌, true, Some, None, IfOk};
 ghost use Rattle.query_words.specs.declared.word.Sign.TheVariants as S;
-ghost use Rattle.query_grammar.specs.Grammar.{expr_then, names_then, by_then, on_then, item_then, agg_then, step_then, pipe_then};
+ghost use Rattle.query_grammar.specs.Grammar.{expr_then, unary_then, names_then, by_then, on_then, per_then, else_then, item_then, agg_then, step_then, pipe_then};
 ghost use Rattle.query_grammar.specs.Machine.{rank};
 ghost use Rattle.query_text.specs.declared.query.AggFun.TheVariants as F;
 ghost use Rattle.query_text.specs.declared.query.QueryStep.TheVariants as T;
-ghost use Rattle.query_text.specs.Spelling.{tree_of, names_of, by_of, on_of, item_of, agg_of, step_of, pipe_of};
-ghost use Rattle.query_text.specs.Reading.{Reads, Lacks, Any, ends_pipe, ends_step, ends_item, sign_then, name_then, int_then, as_then, computed_then, hop_then, session_then, operand_then, group_then, select_then, agg_list_then};
+ghost use Rattle.query_text.specs.Spelling.{tree_of, unary_onto, names_of, by_of, on_of, per_of, lit_of, fills_of, item_of, agg_of, step_of, pipe_of};
+ghost use Rattle.query_text.specs.Reading.{Reads, Lacks, Any, ends_pipe, ends_step, ends_item, sign_then, name_then, int_then, as_then, computed_then, hop_then, session_then, operand_then, group_then, pos_then, left_then, top_then, follow_then, lit_list_then, select_then, agg_list_then};
 ghost use Rattle.query_grammar.specs.Token.{fixed};
 
 use crate::expression::Parser;
 use crate::query::{
-    AggFun, AggList, Item, ItemList, NameList, Pipe, QueryAgg, QueryStep, StepList,
+    AggFun, AggList, Item, ItemList, NameList, Pipe, QueryAgg, QueryStep, StepList, TreeList,
 };
 use crate::stop::Stop;
 use crate::tree::{Nodes, Tree};
@@ -44,11 +44,22 @@ impl<'a> Parser<'a> {
     }
 
     /// A number, and no other word.
-    fn number(&mut self) -> Result<u64, Stop>
+    pub(crate) fn number(&mut self) -> Result<u64, Stop>
         ensures reads { Reads result int_then Any (λ n v. v ≡ n) self.old.cursor self.new.cursor }
         ensures fewer { IfOk result (λ _. length self.new.cursor ≤ length self.old.cursor) }
     {
         match self.cursor.takes_int() {
+            Some(number) => Ok(number),
+            None => Err(Stop::Stuck),
+        }
+    }
+
+    /// A number above 0, and no other word.
+    fn positive(&mut self) -> Result<u64, Stop>
+        ensures reads { Reads result pos_then Any (λ n v. v ≡ suc n) self.old.cursor self.new.cursor }
+        ensures fewer { IfOk result (λ _. length self.new.cursor ≤ length self.old.cursor) }
+    {
+        match self.cursor.takes_pos() {
             Some(number) => Ok(number),
             None => Err(Stop::Stuck),
         }
@@ -87,6 +98,18 @@ impl<'a> Parser<'a> {
         ensures fewer { IfOk result (λ _. length self.new.cursor ≤ length self.old.cursor) }
     {
         if self.cursor.takes(Sign::On) {
+            self.names()
+        } else {
+            Ok(NameList::from_vec(Vec::new(self.alloc)))
+        }
+    }
+
+    /// The key behind `per`, or none.
+    fn per(&mut self) -> Result<NameList, Stop>
+        ensures reads { Reads result per_then (λ z. Lacks (fixed S.Per) z × Lacks (fixed S.Comma) z) (λ p v. v ≡ per_of p) self.old.cursor self.new.cursor }
+        ensures fewer { IfOk result (λ _. length self.new.cursor ≤ length self.old.cursor) }
+    {
+        if self.cursor.takes(Sign::Per) {
             self.names()
         } else {
             Ok(NameList::from_vec(Vec::new(self.alloc)))
@@ -178,6 +201,7 @@ impl<'a> Parser<'a> {
             Some(Sign::Sum) => self.computed(AggFun::Sum),
             Some(Sign::Min) => self.computed(AggFun::Min),
             Some(Sign::Max) => self.computed(AggFun::Max),
+            Some(Sign::Avg) => self.computed(AggFun::Avg),
             _ => Err(Stop::Stuck),
         }
     }
@@ -238,6 +262,79 @@ impl<'a> Parser<'a> {
         Ok(QueryStep::Group { key, aggs })
     }
 
+    /// A literal, which is spelled as an operand of a product is.
+    fn literal(&mut self) -> Result<Tree, Stop>
+        ensures reads { Reads result unary_then Any (λ u v. v ≡ unary_onto u []) self.old.cursor self.new.cursor }
+        ensures fewer { IfOk result (λ _. length self.new.cursor ≤ length self.old.cursor) }
+    {
+        self.nodes = Nodes::new(self.alloc);
+        self.unary()?;
+        let nodes = replace(&mut self.nodes, Nodes::new(self.alloc));
+        Ok(nodes.into_tree())
+    }
+
+    /// Literals with commas between them.
+    fn literals(&mut self) -> Result<TreeList, Stop>
+        ensures reads { Reads result lit_list_then (Lacks (fixed S.Comma)) (λ p v. v ≡ lit_of p.0 ∷ map lit_of p.1) self.old.cursor self.new.cursor }
+        ensures fewer { IfOk result (λ _. length self.new.cursor ≤ length self.old.cursor) }
+    {
+        let mut items = Vec::new(self.alloc);
+        let first = self.literal()?;
+        items.push(first)?;
+        'more: while self.cursor.takes(Sign::Comma) {
+            let next = self.literal()?;
+            items.push(next)?;
+        }
+        Ok(TreeList::from_vec(items))
+    }
+
+    /// The literals behind `else`, or none.
+    fn fills(&mut self) -> Result<TreeList, Stop>
+        ensures reads { Reads result else_then (λ z. Lacks (fixed S.Else) z × Lacks (fixed S.Comma) z) (λ x v. v ≡ fills_of x) self.old.cursor self.new.cursor }
+        ensures fewer { IfOk result (λ _. length self.new.cursor ≤ length self.old.cursor) }
+    {
+        if self.cursor.takes(Sign::Else) {
+            self.literals()
+        } else {
+            Ok(TreeList::from_vec(Vec::new(self.alloc)))
+        }
+    }
+
+    /// A left join, behind its word.
+    fn left(&mut self) -> Result<QueryStep, Stop>
+        ensures reads { Reads result left_then (λ z. ends_step z ≡ true) (λ p v. v ≡ T.Left p.0 (on_of p.1) (fills_of p.2)) self.old.cursor self.new.cursor }
+        ensures fewer { IfOk result (λ _. length self.new.cursor ≤ length self.old.cursor) }
+    {
+        let right = self.name()?;
+        let key = self.on()?;
+        let fills = self.fills()?;
+        Ok(QueryStep::Left { right, key, fills })
+    }
+
+    /// The step `top`, behind its word.
+    fn top(&mut self) -> Result<QueryStep, Stop>
+        ensures reads { Reads result top_then Any (λ p v. v ≡ T.Top (suc p.0) (per_of p.1) p.2) self.old.cursor self.new.cursor }
+        ensures fewer { IfOk result (λ _. length self.new.cursor ≤ length self.old.cursor) }
+    {
+        let count = self.positive()?;
+        let key = self.per()?;
+        self.needs(Sign::By)?;
+        let by = self.name()?;
+        Ok(QueryStep::Top { count, key, by })
+    }
+
+    /// The step `follow`, behind its word.
+    fn follow(&mut self) -> Result<QueryStep, Stop>
+        ensures reads { Reads result follow_then Any (λ p v. v ≡ T.Follow p.0 (on_of p.1) (suc p.2)) self.old.cursor self.new.cursor }
+        ensures fewer { IfOk result (λ _. length self.new.cursor ≤ length self.old.cursor) }
+    {
+        let right = self.name()?;
+        let key = self.on()?;
+        self.needs(Sign::Within)?;
+        let within = self.positive()?;
+        Ok(QueryStep::Follow { right, key, within })
+    }
+
     fn step(&mut self) -> Result<QueryStep, Stop>
         ensures reads { Reads result step_then (λ z. ends_step z ≡ true) (λ s v. v ≡ step_of s) self.old.cursor self.new.cursor }
         ensures fewer { IfOk result (λ _. length self.new.cursor ≤ length self.old.cursor) }
@@ -269,6 +366,10 @@ impl<'a> Parser<'a> {
                 Ok(QueryStep::Anti { right, key })
             }
             Some(Sign::Group) => self.group(),
+            Some(Sign::Coalesce) => Ok(QueryStep::Coalesce),
+            Some(Sign::Left) => self.left(),
+            Some(Sign::Top) => self.top(),
+            Some(Sign::Follow) => self.follow(),
             _ => Err(Stop::Stuck),
         }
     }

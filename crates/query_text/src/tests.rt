@@ -8,7 +8,7 @@ use std::alloc::Global;
 use tw_rows::Memory;
 
 /// Texts of each production, each reserved word as a name, and texts that stop being a query at each of its parts.
-static TEXTS: [(&str, Option<usize>); 163] = [
+static TEXTS: [(&str, Option<usize>); 237] = [
     ("stream s(v int); s", None),
     ("stream s(v int, w bool, x text); s", None),
     ("stream a(v int); stream b(w text); a", None),
@@ -144,7 +144,7 @@ static TEXTS: [(&str, Option<usize>); 163] = [
     ("stream s(v int); s | union t t", Some(29)),
     ("stream s(v int); s | delay v", Some(27)),
     ("stream s(v int); s | delay -1", Some(27)),
-    ("stream s(v int); s | delay 1.5", Some(28)),
+    ("stream s(v int); s | delay 1.5", Some(27)),
     ("stream s(v int); s | hop 5 ", Some(27)),
     ("stream s(v int); s | hop 105", Some(28)),
     ("stream s(v int); s | hop v 5", Some(25)),
@@ -202,6 +202,107 @@ static TEXTS: [(&str, Option<usize>); 163] = [
     ("stream sum(v int); s", Some(7)),
     ("stream min(v int); s", Some(7)),
     ("stream max(v int); s", Some(7)),
+    ("stream s(p dec(2), q int); s", None),
+    ("stream s(p dec(18)); s", None),
+    ("stream s(p dec(1), q bool, r dec(9), t text); s", None),
+    ("stream s(p dec(2)); s | where p >= 1.50", None),
+    (
+        "stream s(p dec(18)); s | where p = 9.223372036854775807 or p < 0.000000000000000001",
+        None,
+    ),
+    ("stream s(v int); s | where v = 92233720368547758.07", None),
+    ("stream s(v int); s | where v = 1.5and v = 0.0", None),
+    (
+        "stream s(v int); s | select 1.5 as a, -0.25 as b, (1.5) as c",
+        None,
+    ),
+    ("stream s(v int); s | coalesce", None),
+    ("stream s(v int); s | coalesce | tumble 5", None),
+    ("stream s(v int); s | left r", None),
+    ("stream s(v int); s | left r on k", None),
+    ("stream s(v int); s | left r else 0 | where v > 1", None),
+    (
+        "stream s(v int); s | left r on k, l else -1, - 2.50, 0.5, 'x''y', true, false",
+        None,
+    ),
+    ("stream s(v int); s | top 1 by v", None),
+    ("stream s(v int); s | top 10 per k, l by v", None),
+    ("stream s(v int); s | follow r within 5", None),
+    (
+        "stream s(v int); s | follow r on k, l within 9223372036854775807",
+        None,
+    ),
+    ("stream s(v int); s | group : avg v as m", None),
+    (
+        "stream s(v int); s | group by k : count as n, avg v as m, sum v as t",
+        None,
+    ),
+    ("stream s(p dec); s", Some(14)),
+    ("stream s(p dec()); s", Some(15)),
+    ("stream s(p dec(0)); s", Some(15)),
+    ("stream s(p dec(19)); s", Some(15)),
+    ("stream s(p dec(2, q int); s", Some(16)),
+    ("stream s(p dec(v)); s", Some(15)),
+    ("stream s(p dec(1.5)); s", Some(15)),
+    ("stream s(p dec(2) 3); s", Some(18)),
+    ("stream s(p deci(2)); s", Some(11)),
+    ("stream s(v int); s | where v = 1.", Some(32)),
+    ("stream s(v int); s | where v = 1.5.5", Some(34)),
+    ("stream s(v int); s | where v = .5", Some(31)),
+    (
+        "stream s(v int); s | where v = 0.1234567890123456789",
+        Some(31),
+    ),
+    (
+        "stream s(v int); s | where v = 9223372036854775807.1",
+        Some(31),
+    ),
+    ("stream s(v int); s | where v = 01.5", Some(32)),
+    ("stream s(v int); s | where v div 1.5", Some(33)),
+    ("stream s(v int); s | where v = 'it''s", Some(31)),
+    ("stream s(v int); s | where v = 'a''", Some(31)),
+    ("stream s(v int); s | where v = 'a'''", Some(34)),
+    ("stream s(v int); s | coalesce 5", Some(30)),
+    ("stream s(v int); s | left | delay 1", Some(26)),
+    ("stream s(v int); s | left r else ", Some(33)),
+    ("stream s(v int); s | left r else 1 2", Some(35)),
+    ("stream s(v int); s | left r else v", Some(33)),
+    ("stream s(v int); s | left r else - 'a'", Some(35)),
+    ("stream s(v int); s | left r else - - 1", Some(35)),
+    ("stream s(v int); s | left r else 1, ", Some(36)),
+    ("stream s(v int); s | left r on k by v", Some(33)),
+    ("stream s(v int); s | left r else (1)", Some(33)),
+    ("stream s(v int); s | top 0 by v", Some(25)),
+    ("stream s(v int); s | top 5 v", Some(27)),
+    ("stream s(v int); s | top 5 by ", Some(30)),
+    ("stream s(v int); s | top 5 per by v", Some(31)),
+    ("stream s(v int); s | top v by v", Some(25)),
+    ("stream s(v int); s | top 5 by v, w", Some(31)),
+    ("stream s(v int); s | follow r ", Some(30)),
+    ("stream s(v int); s | follow r within 0", Some(37)),
+    ("stream s(v int); s | follow r within 1.5", Some(37)),
+    ("stream s(v int); s | follow r by k within 5", Some(30)),
+    ("stream s(v int); s | follow r on k ", Some(35)),
+    ("stream s(v int); s | group : avg as m", Some(33)),
+    ("stream s(v int); s | group : left as m", Some(29)),
+    ("stream s(v int); s | top 0 by 1 | left 5", Some(25)),
+    (
+        "stream s(v int); s | union xxxxxxxxxxxxxxxxxxxxxxxxxxxxxxxxxxxxxxxxxxxxxxxxxxxxxxxxxxxxxxxxx | top 0",
+        Some(27),
+    ),
+    (
+        "stream s(v int); s | where v as x | follow r within 0",
+        Some(29),
+    ),
+    ("stream dec(v int); s", Some(7)),
+    ("stream coalesce(v int); s", Some(7)),
+    ("stream left(v int); s", Some(7)),
+    ("stream else(v int); s", Some(7)),
+    ("stream avg(v int); s", Some(7)),
+    ("stream top(v int); s", Some(7)),
+    ("stream per(v int); s", Some(7)),
+    ("stream follow(v int); s", Some(7)),
+    ("stream within(v int); s", Some(7)),
 ];
 
 /// Why a text spells no query.
@@ -238,7 +339,14 @@ fn repeated(
 }
 
 /// Long texts in three parts, the second of which stands so many times, with their faults.
-static LONG: [(&str, &str, usize, &str, Option<QueryFault>); 6] = [
+static LONG: [(&str, &str, usize, &str, Option<QueryFault>); 7] = [
+    (
+        "stream s(v int); s | where ",
+        "-",
+        200,
+        "'a''",
+        Some(QueryFault::Syntax { at: 227 }),
+    ),
     ("stream s(v int); s", " ", 65_518, "", None),
     (
         "stream s(v int); s",
@@ -334,7 +442,11 @@ fn compare(op: CompareOp) -> &'static str {
 }
 
 /// Texts of queries with one test, and the nodes of the test.
-static TREES: [(&str, &[(&str, usize, usize)]); 6] = [
+static TREES: [(&str, &[(&str, usize, usize)]); 7] = [
+    (
+        "stream s(v int); s | where p > -1.50",
+        &[("name", 1, 0), ("dec", 150, 2), ("neg", 1, 0), (">", 0, 2)],
+    ),
     (
         "stream s(v int); s | where a - bb - ccc > 10",
         &[
@@ -459,9 +571,9 @@ fn outline(step: &QueryStep) -> (&'static str, u64, u64) {
 }
 
 static STEPS: &str =
-    "stream s(v int); let m = s; m | where v | select v, v + 1 as q | union s | delay 0 | duration 3 | extend 4 | hop 10 5 | tumble 7 | session 6 by v, q | clip s | join s on v | anti s on v, q | group : count as n | group by v : sum q as a, min q as b, max q as c";
+    "stream s(v int); let m = s; m | where v | select v, v + 1 as q | union s | delay 0 | duration 3 | extend 4 | hop 10 5 | tumble 7 | session 6 by v, q | clip s | join s on v | anti s on v, q | group : count as n | group by v : sum q as a, min q as b, max q as c | coalesce | left s on v else -1, 2.5 | top 3 per v, q by w | follow s on v within 7 | group : avg v as m";
 
-static OUTLINES: [(&str, u64, u64); 14] = [
+static OUTLINES: [(&str, u64, u64); 19] = [
     ("where", 1, 0),
     ("select", 2, 0),
     ("union", 0, 0),
@@ -476,6 +588,11 @@ static OUTLINES: [(&str, u64, u64); 14] = [
     ("anti", 2, 0),
     ("group", 0, 1),
     ("group", 1, 3),
+    ("coalesce", 0, 0),
+    ("left", 1, 2),
+    ("top", 3, 2),
+    ("follow", 7, 1),
+    ("group", 0, 1),
 ];
 
 #[test]

@@ -4,7 +4,7 @@ ghost use Rattle.query_words.specs.declared.word.Sign.TheVariants as S;
 ghost use Rattle.query_grammar.specs.Token.{fixed, tokens_of};
 ghost use Rattle.query_grammar.specs.Grammar.{col_then, query_then};
 ghost use Rattle.query_text.specs.Spelling.{col_of, stream_of, let_of, query_of};
-ghost use Rattle.query_text.specs.Reading.{Reads, Lacks, Any, ends_pipe, col_list_then, stream_rest_then, stream_list_then, let_rest_then, lets_list_then};
+ghost use Rattle.query_text.specs.Reading.{Reads, Lacks, Any, ends_pipe, places_then, col_list_then, stream_rest_then, stream_list_then, let_rest_then, lets_list_then};
 ghost use Rattle.query_text.specs.IsParse.{IsParse, fault_of};
 
 use crate::cursor::Cursor;
@@ -22,6 +22,20 @@ use tw_rows::{ColumnDef, Kind, Schema, StreamDef};
 const LARGEST: usize = 65_536;
 
 impl<'a> Parser<'a> {
+    /// The number of places of a decimal, in its brackets.
+    fn places(&mut self) -> Result<u8, Stop>
+        ensures reads { Reads result places_then Any (λ p v. v ≡ p.number) self.old.cursor self.new.cursor }
+        ensures fewer { IfOk result (λ _. length self.new.cursor ≤ length self.old.cursor) }
+    {
+        self.needs(Sign::Open)?;
+        let number = self.number()?;
+        if number > 18 {
+            return Err(Stop::Stuck);
+        }
+        self.needs(Sign::Close)?;
+        Ok(number as u8)
+    }
+
     /// A column of a stream.
     fn col(&mut self) -> Result<ColumnDef, Stop>
         ensures reads { Reads result col_then Any (λ c v. v ≡ col_of c) self.old.cursor self.new.cursor }
@@ -41,6 +55,11 @@ impl<'a> Parser<'a> {
                 name,
                 kind: Kind::Text,
             }),
+            Some(Sign::DecKind) => {
+                let places = self.places()?;
+                let kind = Kind::Dec(places);
+                Ok(ColumnDef { name, kind })
+            }
             _ => Err(Stop::Stuck),
         }
     }

@@ -16,7 +16,7 @@ pub fn spots_keep_their_form()
 {}
 
 /// The word that is taken at a place is the longest: its bytes are that word, and no longer front of the bytes is a
-/// word. Where none is taken, a name or a number past its limit stands first, or nothing that looks like a word.
+/// word. Where none is taken, what stands first is past its limit or a text without its end, or looks like no word.
 pub fn words_are_longest()
     ensures word { (bs : List ℕ) → (front_of bs).0 ≢ W.Bad →
         ((front_of bs).1 ≤ length bs) × IsWord (take (front_of bs).1 bs) (front_of bs).0 }

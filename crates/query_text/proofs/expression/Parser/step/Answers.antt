@@ -56,3 +56,15 @@ returns-in-Some-Session-clause-reads c = Q.step_session _ _ _ (rw c.in-Some-Sess
 
 pub returns-in-Some-Group-clause-reads : goal.returns-in-Some-Group-clause-reads
 returns-in-Some-Group-clause-reads c = Q.step_group _ _ _ (rw c.in-Some-Group.field-0-is at c.in-Some-Group.ensures).0 (λ b a as_ z end s. c.group.ensures.reads (b, a, as_) z end s)
+
+pub returns-in-Some-Coalesce-clause-reads : goal.returns-in-Some-Coalesce-clause-reads
+returns-in-Some-Coalesce-clause-reads c = Q.step_coalesce _ _ _ (rw c.in-Some-Coalesce.field-0-is at c.in-Some-Coalesce.ensures).0 (λ z end s. (s, refl))
+
+pub returns-in-Some-Left-clause-reads : goal.returns-in-Some-Left-clause-reads
+returns-in-Some-Left-clause-reads c = Q.step_left _ _ _ (rw c.in-Some-Left.field-0-is at c.in-Some-Left.ensures).0 (λ n o x z end s. c.left.ensures.reads (n, o, x) z end s)
+
+pub returns-in-Some-Top-clause-reads : goal.returns-in-Some-Top-clause-reads
+returns-in-Some-Top-clause-reads c = Q.step_top _ _ _ (rw c.in-Some-Top.field-0-is at c.in-Some-Top.ensures).0 (λ n p x z end s. c.top.ensures.reads (n, p, x) z tt s)
+
+pub returns-in-Some-Follow-clause-reads : goal.returns-in-Some-Follow-clause-reads
+returns-in-Some-Follow-clause-reads c = Q.step_follow _ _ _ (rw c.in-Some-Follow.field-0-is at c.in-Some-Follow.ensures).0 (λ n o m z end s. c.follow.ensures.reads (n, o, m) z tt s)

@@ -1,0 +1,25 @@
+use Rattle.std.proofs.Common.{◌∷◌, ◌++◌, [], map, refl, ap, ◌∙◌}
+use Rattle.query_words.specs.declared.word.Sign.TheVariants as S
+use Rattle.query_grammar.specs.Token.{fixed}
+use Rattle.query_grammar.specs.Grammar as G
+use Rattle.query_text.specs.Spelling as M
+use Rattle.query_text.specs.Reading as R
+use Rattle.query_text.specs.Reading.{Lacks, Any, ends_step, ends_item, ends_pipe}
+use Rattle.query_text.proofs.Steps as P
+use Rattle.query_text.proofs.Pipes as Q
+use Rattle.query_text.proofs.expression.Parser.literals.Goals as goal
+
+pub returns-in_err-first-clause-reads : goal.returns-in_err-first-clause-reads
+returns-in_err-first-clause-reads c = λ a z end e. P.failed c.in_err-first.field-0.0 _ _ c.from_residual.ensures.1 (P.not_stuck c.in_err-first.field-0.0 _ (c.in_err-first.ensures.reads (M.unary_of a.0) _ tt (e ∙ Q.lit_spelled a.0 _)))
+
+pub more-init : goal.more-init
+more-init c = record { listing = Q.list_begins R.lit_list_then (Lacks (fixed S.Comma)) (λ p. M.lit_of p.0 ∷ map M.lit_of p.1) G.lits_then (map M.lit_of) G.lit_then (λ _. Unit {0}) M.lit_of (λ p. p.0) (λ p. p.1) (λ a z. refl) (λ a. refl) (λ p z end. tt) _ _ _ _ (λ x w t s. c.in_ok-first.ensures.reads (M.unary_of x) w tt (s ∙ Q.lit_spelled x w)) (c.in_ok-push.ensures.items ∙ ap (λ xs. xs ++ c.in_ok-first.first ∷ []) c.new-items.ensures.items); fewer = c.in_ok-first.ensures.fewer }
+
+pub returns-in_err-next-clause-reads : goal.returns-in_err-next-clause-reads
+returns-in_err-next-clause-reads c = λ a z end e. P.failed c.in_err-next.field-0.0 _ _ c.from_residual-in_err-next.ensures.1 (Q.list_free R.lit_list_then (Lacks (fixed S.Comma)) (λ p. M.lit_of p.0 ∷ map M.lit_of p.1) G.lits_then (map M.lit_of) G.lit_then (λ _. Unit {0}) S.Comma (λ z. refl) (λ x xs z. refl) (λ z h. h) (λ xs z h. tt) _ _ _ _ c.more.invariant.listing c.more-test.ensures (λ x w t s. P.not_stuck c.in_err-next.field-0.0 _ (c.in_err-next.ensures.reads (M.unary_of x) w tt (s ∙ Q.lit_spelled x w))) a z end e)
+
+pub more-preserved : goal.more-preserved
+more-preserved c = record { listing = Q.list_more R.lit_list_then (Lacks (fixed S.Comma)) (λ p. M.lit_of p.0 ∷ map M.lit_of p.1) G.lits_then (map M.lit_of) G.lit_then (λ _. Unit {0}) M.lit_of S.Comma (λ z. refl) (λ x xs z. refl) (λ x xs. refl) (λ z h. h) (λ xs z h. tt) _ _ _ _ _ _ _ c.more.invariant.listing c.more-test.ensures (λ x w t s. c.in_ok-next.ensures.reads (M.unary_of x) w tt (s ∙ Q.lit_spelled x w)) c.in_ok-push-2.ensures.items; fewer = Q.fewer_step _ _ _ _ _ c.more-test.ensures c.in_ok-next.ensures.fewer c.more.invariant.fewer }
+
+pub returns-clause-reads : goal.returns-clause-reads
+returns-clause-reads c = Q.list_end R.lit_list_then (Lacks (fixed S.Comma)) (λ p. M.lit_of p.0 ∷ map M.lit_of p.1) G.lits_then (map M.lit_of) G.lit_then S.Comma (λ z. refl) (λ x xs z. refl) refl _ _ _ _ _ c.more.invariant.listing c.more-test.ensures c.from_vec.ensures

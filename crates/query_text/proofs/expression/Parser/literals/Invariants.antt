@@ -1,0 +1,18 @@
+use Rattle.std.proofs.Common.{◌≤◌, ◌∷◌, map, length}
+use Rattle.query_words.specs.declared.word.Sign.TheVariants as S
+use Rattle.query_grammar.specs.Token.{fixed}
+use Rattle.query_text.specs.Reading as R
+use Rattle.query_text.specs.Reading.{Lacks}
+use Rattle.query_grammar.specs.Grammar as G
+use Rattle.query_text.specs.Spelling as M
+use Rattle.query_text.specs.Reading.{Listing}
+use Rattle.query_text.proofs.expression.Parser.literals.Given as goal
+
+abbrev pub invariant-more : goal.invariant-more
+invariant-more l = record {
+  listing : Listing R.lit_list_then (Lacks (fixed S.Comma)) (λ p. M.lit_of p.0 ∷ map M.lit_of p.1) G.lits_then (map M.lit_of) l.fn.self.cursor l.self.cursor l.items.items;
+  fewer : length l.self.cursor ≤ length l.fn.self.cursor;
+}
+
+abbrev pub decreases-more : goal.decreases-more
+decreases-more l = length l.self.cursor
