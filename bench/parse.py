@@ -37,7 +37,7 @@ fn main(rt: HostRuntime) -> Result<(), anyhow::Error> {
 
 
 def query(size):
-    text, step = "stream s(v int); s", " | where v + 1 > 2 * v and not v mod 7 = 3"
+    text, step = "stream s(v int, p dec(2)); s", " | where v + 1 > 2 * v and not v mod 7 = 3 | where p < 1.50 | top 9 per v by p"
     while len(text) + len(step) <= size:
         text += step
     return text.encode()
