@@ -1,9 +1,11 @@
 #!/usr/bin/env python3
-"""Times the test `v mod 7 = 0 and v > 100` over 1,000 batches of 1,024 rows, beside a plain loop over a slice.
+"""Times masks over 1,000 batches of 1,024 rows, each beside a plain loop over a slice: `v mod 7 = 0 and v > 100`,
+`v < 1000 and v > 100`, and the equality of a text with a constant beside a loop that compares places.
 
 usage: bench/kernels.py
 
-The program that is timed is proved first. Ends with status 1 where both do not find the same number of rows.
+The program that is timed is proved first. Of five rounds the best counts. Ends with status 1 where a mask and its loop
+do not find the same number of rows.
 """
 import sys
 
@@ -12,12 +14,12 @@ from inside import run_inside
 ROWS = 1_024_000
 CRATES = "lane_expr batch tw_rows plan_model column_pool occupancy smallvec anyhow".split()
 
-SOURCE = """//! Times a mask over batches, beside a plain loop over a slice.
+SOURCE = """//! Times masks over batches, beside plain loops over slices.
 #![tactic(auto)]
 
-ghost use Rattle.std.specs.Prelude.{◌≡◌, ◌≤◌, [], ◌∷◌, length, IfOk};
+ghost use Rattle.std.specs.Prelude.{◌≡◌, ◌<◌, ◌≤◌, [], ◌∷◌, length, IfOk};
 ghost use Rattle.plan_model.specs.IsExpr.{IsExpr};
-ghost use Rattle.lane_expr.specs.Typed.{IsTyped, kind_of};
+ghost use Rattle.plan_model.specs.Typed.{IsTyped, kind_of};
 ghost use Rattle.lane_expr.specs.Kernels.{HoldsPlaces, CanRead, result_kind};
 
 use batch::{Batch, Pools};
@@ -26,16 +28,17 @@ use occupancy::Occupancy;
 use plan_model::{CompareOp, Expr, ExprNode};
 use std::alloc::Global;
 use std::time::Instant;
-use tw_rows::{CellKind, Cells, Datum, Edge, Kind, Memory, TextTable, Time};
+use tw_rows::{CellKind, Cells, Datum, Edge, Kind, Label, TextTable, Time};
 
 const ROWS: usize = 1024;
 const BATCHES: usize = 1000;
+const ROUNDS: usize = 5;
 
 // The nodes of `v mod 7 = 0 and v > 100`.
-fn nodes(alloc: Global) -> Result<Vec<ExprNode>, Memory>
+fn with_mod(alloc: Global) -> Result<Vec<ExprNode>, anyhow::Error>
     ensures expr { IfOk result (λ v. IsExpr v.items) }
-    ensures typed { IfOk result (λ v. IsTyped (CellKind.Whole ∷ []) v.items) }
-    ensures kind { IfOk result (λ v. kind_of v.items (CellKind.Whole ∷ []) ≡ CellKind.Bit) }
+    ensures typed { IfOk result (λ v. IsTyped (CellKind.Whole ∷ CellKind.Place ∷ []) v.items) }
+    ensures kind { IfOk result (λ v. kind_of v.items (CellKind.Whole ∷ CellKind.Place ∷ []) ≡ CellKind.Bit) }
 {
     Ok(vec![in alloc;
         ExprNode::Column(0),
@@ -56,18 +59,61 @@ fn nodes(alloc: Global) -> Result<Vec<ExprNode>, Memory>
     ]?)
 }
 
+// The nodes of `v < 1000 and v > 100`.
+fn between(alloc: Global) -> Result<Vec<ExprNode>, anyhow::Error>
+    ensures expr { IfOk result (λ v. IsExpr v.items) }
+    ensures typed { IfOk result (λ v. IsTyped (CellKind.Whole ∷ CellKind.Place ∷ []) v.items) }
+    ensures kind { IfOk result (λ v. kind_of v.items (CellKind.Whole ∷ CellKind.Place ∷ []) ≡ CellKind.Bit) }
+{
+    Ok(vec![in alloc;
+        ExprNode::Column(0),
+        ExprNode::Int(1000),
+        ExprNode::Compare {
+            op: CompareOp::Lt,
+            left: 0,
+            right: 1
+        },
+        ExprNode::Int(100),
+        ExprNode::Compare {
+            op: CompareOp::Gt,
+            left: 0,
+            right: 3
+        },
+        ExprNode::And { left: 2, right: 4 },
+    ]?)
+}
+
+// The nodes of `k = 'b'`.
+fn same_text(alloc: Global) -> Result<Vec<ExprNode>, anyhow::Error>
+    ensures expr { IfOk result (λ v. IsExpr v.items) }
+    ensures typed { IfOk result (λ v. IsTyped (CellKind.Whole ∷ CellKind.Place ∷ []) v.items) }
+    ensures kind { IfOk result (λ v. kind_of v.items (CellKind.Whole ∷ CellKind.Place ∷ []) ≡ CellKind.Bit) }
+{
+    Ok(vec![in alloc;
+        ExprNode::Column(1),
+        ExprNode::Text(Label::new(alloc, "b")?),
+        ExprNode::Compare {
+            op: CompareOp::Eq,
+            left: 0,
+            right: 1
+        },
+    ]?)
+}
+
 fn push_row(
     alloc: Global,
     texts: &TextTable,
     batch: &mut Batch,
     number: i64,
-) -> Result<bool, Memory>
-    requires kinds { batch.old.kinds ≡ CellKind.Whole ∷ [] }
+    place: u64,
+) -> Result<bool, anyhow::Error>
+    requires kinds { batch.old.kinds ≡ CellKind.Whole ∷ CellKind.Place ∷ [] }
     requires places { HoldsPlaces texts.now batch.old.rows }
+    requires place { place < length texts.now }
     ensures kinds { batch.new.kinds ≡ batch.old.kinds }
     ensures places { HoldsPlaces texts.now batch.new.rows }
 {
-    let cells = Cells::from_slice(alloc, &[Datum::Int(number)])?;
+    let cells = Cells::from_slice(alloc, &[Datum::Int(number), Datum::Text(place)])?;
     let edge = Edge {
         sync: Time::ZERO,
         other: Time::ZERO,
@@ -77,48 +123,94 @@ fn push_row(
     Ok(pushed.is_ok())
 }
 
-fn batch_of(alloc: Global, texts: &TextTable, numbers: &[i64]) -> Result<Batch, Memory>
-    ensures kinds { IfOk result (λ b. b.kinds ≡ CellKind.Whole ∷ []) }
+fn batch_of(alloc: Global, texts: &TextTable, numbers: &[i64], places: &[u64]) -> Result<Batch, anyhow::Error>
+    ensures kinds { IfOk result (λ b. b.kinds ≡ CellKind.Whole ∷ CellKind.Place ∷ []) }
     ensures places { IfOk result (λ b. HoldsPlaces texts.now b.rows) }
 {
     let mut pools = Pools::new(alloc, 8, ROWS)?;
-    let mut batch = Batch::new(alloc, &mut pools, &[Kind::Int])?;
-    for number in numbers {
-        push_row(alloc, texts, &mut batch, *number)?;
+    let mut batch = Batch::new(alloc, &mut pools, &[Kind::Int, Kind::Text])?;
+    for (number, place) in numbers.iter().zip(places.iter()) {
+        if *place < texts.len() {
+            push_row(alloc, texts, &mut batch, *number, *place)?;
+        }
     }
     Ok(batch)
 }
 
-fn kernel_of(alloc: Global, texts: &mut TextTable) -> Result<Kernel, Memory>
-    ensures result { IfOk result (λ k. result_kind k ≡ CellKind.Bit) }
-    ensures reads { IfOk result (λ k. (b : Batch) → b.kinds ≡ CellKind.Whole ∷ [] → length b.rows ≤ 1024 → HoldsPlaces texts.new b.rows → CanRead texts.new k b) }
+fn kernel_of(alloc: Global, nodes: Vec<ExprNode>, texts: &mut TextTable) -> Result<Kernel, anyhow::Error>
+    requires expr { IsExpr nodes.items }
+    requires typed { IsTyped (CellKind.Whole ∷ CellKind.Place ∷ []) nodes.items }
+    ensures result { IfOk result (λ k. result_kind k ≡ kind_of nodes.items (CellKind.Whole ∷ CellKind.Place ∷ [])) }
+    ensures reads { IfOk result (λ k. (b : Batch) → b.kinds ≡ CellKind.Whole ∷ CellKind.Place ∷ [] → length b.rows ≤ 1024 → HoldsPlaces texts.new b.rows → CanRead texts.new k b) }
 {
-    let expr = Expr::from_vec(nodes(alloc)?);
-    Ok(Kernel::compile(alloc, &expr, &[Kind::Int], texts, ROWS)?)
+    let expr = Expr::from_vec(nodes);
+    Ok(Kernel::compile(alloc, &expr, &[Kind::Int, Kind::Text], texts, ROWS)?)
 }
 
-// How many rows the masks of all batches hold, where each batch has these numbers.
-fn masked(
+// How many rows the masks of all batches hold, where each batch has these rows.
+fn masked(kernel: &mut Kernel, batch: &Batch, texts: &TextTable, mask: &mut Occupancy) -> usize
+    requires kind { result_kind kernel.old ≡ CellKind.Bit }
+    requires reads { CanRead texts.now kernel.old batch.now }
+    requires room { length batch.now.rows ≤ mask.old.capacity }
+    ensures same { kernel.new ≡ kernel.old }
+    ensures room { mask.new.capacity ≡ mask.old.capacity }
+{
+    let mut found = 0usize;
+    for _ in 0..BATCHES {
+        mask.reset();
+        kernel.mask(batch, texts, mask);
+        found = found.wrapping_add(mask.count());
+    }
+    found
+}
+
+// The best time of all masks over these rows, and how many rows they hold.
+fn time_masks(
+    rt: &HostRuntime,
     alloc: Global,
     kernel: &mut Kernel,
     batch: &Batch,
     texts: &TextTable,
-) -> Result<usize, Memory>
+) -> Result<(usize, u128), anyhow::Error>
     requires kind { result_kind kernel.old ≡ CellKind.Bit }
     requires reads { CanRead texts.now kernel.old batch.now }
 {
     let mut mask = Occupancy::new(alloc, batch.rows())?;
-    let mut found = 0usize;
-    for _ in 0..BATCHES {
-        mask.reset();
-        kernel.mask(batch, texts, &mut mask)?;
-        found = found.wrapping_add(mask.count());
+    let mut found = 0;
+    let mut best = u128::MAX;
+    for _ in 0..ROUNDS {
+        let began = Instant::now(rt)?;
+        found = masked(kernel, batch, texts, &mut mask);
+        best = best.min(began.elapsed(rt)?.as_nanos());
     }
-    Ok(found)
+    Ok((found, best))
 }
 
-// The same by a plain loop.
-fn looped(numbers: &[i64]) -> usize {
+fn by_kernel(
+    rt: &HostRuntime,
+    alloc: Global,
+    nodes: Vec<ExprNode>,
+    numbers: &[i64],
+    places: &[u64],
+) -> Result<(usize, u128), anyhow::Error>
+    requires expr { IsExpr nodes.items }
+    requires typed { IsTyped (CellKind.Whole ∷ CellKind.Place ∷ []) nodes.items }
+    requires kind { kind_of nodes.items (CellKind.Whole ∷ CellKind.Place ∷ []) ≡ CellKind.Bit }
+{
+    let mut texts = TextTable::new(alloc);
+    for text in ["a", "b", "c"] {
+        texts.intern(text)?;
+    }
+    let mut kernel = kernel_of(alloc, nodes, &mut texts)?;
+    let batch = batch_of(alloc, &texts, numbers, places)?;
+    if batch.rows() > ROWS {
+        return Ok((0, 0));
+    }
+    time_masks(rt, alloc, &mut kernel, &batch, &texts)
+}
+
+// The first test by a plain loop.
+fn loop_with_mod(numbers: &[i64]) -> usize {
     let mut found = 0usize;
     for _ in 0..BATCHES {
         for v in numbers {
@@ -130,53 +222,82 @@ fn looped(numbers: &[i64]) -> usize {
     found
 }
 
-// The time of all masks over batches of these numbers, and how many rows they hold.
-fn time_masks(
-    rt: &HostRuntime,
-    alloc: Global,
-    kernel: &mut Kernel,
-    batch: &Batch,
-    texts: &TextTable,
-) -> Result<(usize, u128), anyhow::Error>
-    requires kind { result_kind kernel.old ≡ CellKind.Bit }
-    requires reads { CanRead texts.now kernel.old batch.now }
-{
-    let began = Instant::now(rt)?;
-    let found = masked(alloc, kernel, batch, texts)?;
-    let taken = began.elapsed(rt)?;
-    Ok((found, taken.as_micros()))
-}
-
-fn by_kernel(
-    rt: &HostRuntime,
-    alloc: Global,
-    numbers: &[i64],
-) -> Result<(usize, u128), anyhow::Error> {
-    let mut texts = TextTable::new(alloc);
-    let mut kernel = kernel_of(alloc, &mut texts)?;
-    let batch = batch_of(alloc, &texts, numbers)?;
-    if batch.rows() > ROWS {
-        return Ok((0, 0));
+// The second test by a plain loop.
+fn loop_between(numbers: &[i64]) -> usize {
+    let mut found = 0usize;
+    for _ in 0..BATCHES {
+        for v in numbers {
+            if *v < 1000 && *v > 100 {
+                found = found.wrapping_add(1);
+            }
+        }
     }
-    time_masks(rt, alloc, &mut kernel, &batch, &texts)
+    found
 }
 
-fn by_loop(rt: &HostRuntime, numbers: &[i64]) -> Result<(usize, u128), anyhow::Error> {
-    let began = Instant::now(rt)?;
-    let found = looped(numbers);
-    let taken = began.elapsed(rt)?;
-    Ok((found, taken.as_micros()))
+// How often the place stands in the slice, by a plain loop.
+fn loop_same_place(places: &[u64], place: u64) -> usize {
+    let mut found = 0usize;
+    for _ in 0..BATCHES {
+        for p in places {
+            if *p == place {
+                found = found.wrapping_add(1);
+            }
+        }
+    }
+    found
+}
+
+fn time_mod(rt: &HostRuntime, numbers: &[i64]) -> Result<(usize, u128), anyhow::Error> {
+    let mut found = 0;
+    let mut best = u128::MAX;
+    for _ in 0..ROUNDS {
+        let began = Instant::now(rt)?;
+        found = loop_with_mod(numbers);
+        best = best.min(began.elapsed(rt)?.as_nanos());
+    }
+    Ok((found, best))
+}
+
+fn time_between(rt: &HostRuntime, numbers: &[i64]) -> Result<(usize, u128), anyhow::Error> {
+    let mut found = 0;
+    let mut best = u128::MAX;
+    for _ in 0..ROUNDS {
+        let began = Instant::now(rt)?;
+        found = loop_between(numbers);
+        best = best.min(began.elapsed(rt)?.as_nanos());
+    }
+    Ok((found, best))
+}
+
+fn time_places(rt: &HostRuntime, places: &[u64]) -> Result<(usize, u128), anyhow::Error> {
+    let mut found = 0;
+    let mut best = u128::MAX;
+    for _ in 0..ROUNDS {
+        let began = Instant::now(rt)?;
+        found = loop_same_place(places, 1);
+        best = best.min(began.elapsed(rt)?.as_nanos());
+    }
+    Ok((found, best))
 }
 
 fn main(rt: HostRuntime) -> Result<(), anyhow::Error> {
     let alloc = rt.alloc();
     let mut numbers = Vec::new(alloc);
+    let mut places = Vec::new(alloc);
     for i in 0..ROWS {
         numbers.push(i as i64)?;
+        places.push((i % 3) as u64)?;
     }
-    let (found, kernel) = by_kernel(&rt, alloc, &numbers)?;
-    let (plain, plain_loop) = by_loop(&rt, &numbers)?;
-    println!(rt; "{found} {plain} {kernel} {plain_loop}")?;
+    let (mask, kernel) = by_kernel(&rt, alloc, with_mod(alloc)?, &numbers, &places)?;
+    let (plain, plain_loop) = time_mod(&rt, &numbers)?;
+    println!(rt; "{mask} {plain} {kernel} {plain_loop}")?;
+    let (mask, kernel) = by_kernel(&rt, alloc, between(alloc)?, &numbers, &places)?;
+    let (plain, plain_loop) = time_between(&rt, &numbers)?;
+    println!(rt; "{mask} {plain} {kernel} {plain_loop}")?;
+    let (mask, kernel) = by_kernel(&rt, alloc, same_text(alloc)?, &numbers, &places)?;
+    let (plain, plain_loop) = time_places(&rt, &places)?;
+    println!(rt; "{mask} {plain} {kernel} {plain_loop}")?;
     Ok(())
 }
 """
@@ -190,43 +311,53 @@ use Rattle.kernels_bench.proofs.push_row.Goals as goal
 pub returns-clause-places : goal.returns-clause-places
 returns-clause-places c =
     HoldsPlaces-pushed c.push_edge-pushed.result c.args.texts.now c.args.batch.now c.push_edge-pushed.new.self _ c.push_edge-pushed.ensures.ok c.push_edge-pushed.ensures.err c.requires.places
-    (subst (ArePlaced c.args.texts.now) (sym c.in_ok-cells.ensures.ok) (tt, tt))
+    (subst (ArePlaced c.args.texts.now) (sym c.in_ok-cells.ensures.ok) (tt, (c.requires.place, tt)))
 """,
-    "batch_of/Invariants.antt": """-- The batch is of the kind, and its rows are placed.
+    "batch_of/Invariants.antt": """-- The batch is of the kinds, and its rows are placed.
 use Rattle.std.proofs.Common.{◌≡◌, [], ◌∷◌}
-use Rattle.tw_rows.specs.declared.kind.CellKind.TheVariants.{Whole}
+use Rattle.tw_rows.specs.declared.kind.CellKind.TheVariants.{Whole, Place}
 use Rattle.lane_expr.specs.Kernels.{HoldsPlaces}
 use Rattle.kernels_bench.proofs.batch_of.Given as goal
 
 abbrev pub invariant-loop-number : goal.invariant-loop-number
 invariant-loop-number l = record {
-  kinds : l.batch.kinds ≡ Whole ∷ [];
+  kinds : l.batch.kinds ≡ Whole ∷ Place ∷ [];
   places : HoldsPlaces l.texts l.batch.rows;
 }
 """,
     "masked/Invariants.antt": """-- The kernel reads the batch, and the mask has room for its rows.
-use Rattle.std.proofs.Common.{◌≡◌, ◌≤◌, length}
-use Rattle.tw_rows.specs.declared.kind.CellKind.TheVariants.{Bit}
-use Rattle.lane_expr.specs.Kernels.{CanRead, result_kind}
+use Rattle.std.proofs.Common.{◌≡◌}
 use Rattle.kernels_bench.proofs.masked.Given as goal
 
 abbrev pub invariant-loop : goal.invariant-loop
 invariant-loop l = record {
-  kind : result_kind l.kernel ≡ Bit;
-  reads : CanRead l.texts l.kernel l.batch;
+  kernel : l.kernel ≡ l.fn.kernel;
+  room : l.mask.capacity ≡ l.fn.mask.capacity;
+}
+""",
+    "time_masks/Invariants.antt": """-- The kernel is as it was, and the mask has room for the rows.
+use Rattle.std.proofs.Common.{◌≡◌, ◌≤◌, length}
+use Rattle.kernels_bench.proofs.time_masks.Given as goal
+
+abbrev pub invariant-loop : goal.invariant-loop
+invariant-loop l = record {
+  kernel : l.kernel ≡ l.fn.kernel;
   room : length l.batch.rows ≤ l.mask.capacity;
 }
 """,
 }
 
+NAMES = ("v mod 7 = 0 and v > 100", "v < 1000 and v > 100", "k = 'b'")
+
 
 def main():
-    words = run_inside("kernels_bench", CRATES, SOURCE, proofs=PROOFS).split()
-    found, plain, kernel, loop = map(int, words[-4:])
-    for name, taken in (("kernel", kernel), ("plain loop", loop)):
-        print(f"{name}: {taken} us, {ROWS / taken:.1f} million rows a second")
-    print(f"the kernel takes {kernel / loop:.1f} times as long")
-    sys.exit(0 if found == plain else 1)
+    lines = run_inside("kernels_bench", CRATES, SOURCE, proofs=PROOFS).split("\n")[-4:]
+    right = True
+    for name, line in zip(NAMES, lines):
+        found, plain, kernel, loop = map(int, line.split())
+        right = right and found == plain
+        print(f"{name}: kernel {kernel / ROWS:.2f} ns a row, plain loop {loop / ROWS:.2f}, {kernel / loop:.1f} times")
+    sys.exit(0 if right else 1)
 
 
 if __name__ == "__main__":

@@ -28,7 +28,7 @@ fn push_row(
     let cells = Cells::from_slice(alloc, &[Datum::Int(number)])?;
     let edge = Edge {
         sync: Time::ZERO,
-        other: Time::INF,
+        other: Time::ZERO,
         cells,
     };
     let pushed = batch.push_edge(&edge);

@@ -1,3 +1,4 @@
 pub mod Projected
 pub mod Edges
 pub mod Lacking
+pub mod Ordered

@@ -1,2 +1,3 @@
+-- Callers read both; of Projects, `is_same_kind`, `many` and `AreColumns` are cited by private contracts and by `Lacks`.
 pub mod Filters
 pub mod Projects

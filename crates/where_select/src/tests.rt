@@ -143,7 +143,7 @@ fn puts_values_for_cells(rt: HostRuntime) -> Result<(), Fail> {
     assert!(rt; batch.rows() <= 8);
     let projected = projected_by(&rt, alloc, &texts, item, batch)?;
     assert!(rt; projected.rows() == 2);
-    let edge = projected.edge_at(alloc, 1)?;
+    let edge = projected.edge_at(1)?;
     assert_eq!(rt; edge.cells.items(), [Datum::Int(-3)].as_slice());
     Ok(())
 }
