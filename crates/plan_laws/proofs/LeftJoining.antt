@@ -1,12 +1,12 @@
 -- The rows of a left join.
-use Rattle.std.specs.Prelude.{◌≡◌, ℕ, zero, suc, nat_lt, Bool, true, false, cond, not, ◌||◌, Some, option_to_list, List, [], ◌∷◌, ◌++◌, length, map, filter, flat_map, slice_get, slice_index_or, All, refl}
+use Rattle.std.specs.Prelude.{◌≡◌, ℕ, zero, suc, nat_lt, Bool, true, false, cond, not, ◌||◌, Some, option_to_list, List, [], ◌∷◌, ◌++◌, length, map, filter, flat_map, slice_get, slice_index_or, All, refl, ◌<◌}
 use Rattle.std.specs.List.{list_any}
 use Rattle.std.proofs.Common.{sym, ◌∙◌, ap}
 use Rattle.std.proofs.lemmas.Bool.{or_right}
 use Rattle.std.proofs.lemmas.List.{append-nil, length-map, map-append}
 use Rattle.std.proofs.lemmas.List.Elements.{All-head, All-tail}
 use Rattle.std.proofs.lemmas.List.Folds.{list_any-append}
-use Rattle.tw_rows.specs.Instant.{instants}
+use Rattle.tw_rows.specs.Instant.{inf, instants}
 use Rattle.tw_rows.specs.Rows.{Row}
 use Rattle.tw_rows.specs.declared.row.Value.{Value}
 use Rattle.tw_rows.specs.declared.row.Value.TheVariants.{Int as IntValue, Bool as BoolValue, Text as TextValue}
@@ -22,21 +22,14 @@ use Rattle.plan_model.specs.Expr.{zero_value, value, selected_row}
 use Rattle.plan_model.specs.Keys.{value_ops, keys_equal, paired_row}
 use Rattle.plan_model.specs.Meaning.{Sources, by_events, nothing, left_of, right_of, node_meaning, meaning, snapshots, IsOrdered}
 use Rattle.plan_model.specs.RowOps.{RowOps, key_in, keys_equal_in, row_of_group_in}
+use Rattle.plan_model.specs.IsPlan.{PlanParts, IsPlan}
+use Rattle.plan_model.proofs.Kept.{IsPlan-ordered}
 use Rattle.plan_model.proofs.InOrder.{rows_equal_tells}
 use Rattle.plan_model.proofs.Plans.{over_nodes-is}
+use Rattle.plan_laws.specs.Widths.{FitStreams}
+use Rattle.plan_laws.proofs.Widths.{snapshots_wide}
+use Rattle.plan_laws.proofs.RowsOf.{Each, each_distinct}
 use Rattle.plan_laws.specs.LeftJoin.{literal, filling_items, IsLeftJoin}
-
-abbrev Each : {X : Type 0} → (X → Type 0) → List X → Type 0
-Each P [] = Unit {0}
-Each P (x ∷ xs) = P x × Each P xs
-
-each_distinct : {K : Type 0} (same : K → K → Bool) (P : K → Type 0) (ks : List K) → Each P ks → Each P (distinct same ks)
-each_distinct same P [] h = tt
-each_distinct same P (k ∷ ks) h = pick (list_any (same k) ks) (each_distinct same P ks h.1)
-  where
-    pick : (b : Bool) → Each P (distinct same ks) → Each P (cond b (distinct same ks) (k ∷ distinct same ks))
-    pick true rest = rest
-    pick false rest = (h.0, rest)
 
 any_each : {K : Type 0} (p q : K → Bool) (P : K → Type 0) → ((k : K) → P k → p k ≡ q k) → (ks : List K) → Each P ks →
     list_any p ks ≡ list_any q ks
@@ -217,3 +210,17 @@ left_join_filled source nodes ordered left right left_key right_key width fills 
     (map_where (selected_row (filling_items width fills)) (λ l. l ++ fills)
     (meets_none (keys_equal left_key right_key) (snapshots source nodes right t)) (λ l. length l ≡ width)
     (λ l e. filled_row fills l width e) (snapshots source nodes left t) wide)
+
+-- in a plan the left rows are as wide as their schema
+pub left_join_of_plan : (plan : PlanParts) → IsPlan plan → (source : Sources) → FitStreams plan.streams source →
+    (left right : ℕ) (left_key right_key : List ℕ) (fills : Row) (root t : ℕ) → left < length plan.nodes → t < inf →
+    IsLeftJoin plan.nodes left right left_key right_key
+    (filling_items (length (slice_index_or plan.schemas left [])) fills) root →
+    snapshots source plan.nodes root t
+    ≡ joined_rows (keys_equal left_key right_key) (paired_row right_key) (snapshots source plan.nodes left t)
+    (snapshots source plan.nodes right t)
+    ++ map (λ l. l ++ fills) (alone_rows (keys_equal left_key right_key) (snapshots source plan.nodes left t)
+    (snapshots source plan.nodes right t))
+left_join_of_plan plan kept source fits left right left_key right_key fills root t low now is =
+    left_join_filled source plan.nodes (IsPlan-ordered plan kept) left right left_key right_key
+    (length (slice_index_or plan.schemas left [])) fills root t is (snapshots_wide plan kept source fits left t low now)

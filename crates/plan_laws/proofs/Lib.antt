@@ -2,6 +2,8 @@ pub mod StepTimes
 pub mod PlanTimes
 pub mod Undefinedness
 pub mod OneRows
+pub mod RowsOf
+pub mod Widths
 pub mod LeftJoining
 pub mod Holding
 pub mod Examples

@@ -4,4 +4,5 @@ pub mod Times
 pub mod Undefined
 pub mod OneAKey
 pub mod Held
+pub mod Widths
 pub mod LeftJoin

@@ -1,5 +1,5 @@
 // The laws of what anti-joins meet, and of left joins.
-ghost use Rattle.std.specs.Prelude.{◌≡◌, ℕ, ◌<◌, nat_eq, IsTrue, Some, List, [], ◌++◌, length, map, slice_get, All};
+ghost use Rattle.std.specs.Prelude.{◌≡◌, ℕ, ◌<◌, nat_eq, IsTrue, Some, List, [], ◌++◌, length, map, slice_get, slice_index_or, All};
 ghost use Rattle.std.specs.List.{list_any};
 ghost use Rattle.tw_rows.specs.Event.{Event, alive};
 ghost use Rattle.tw_rows.specs.Instant.{inf};
@@ -17,6 +17,7 @@ ghost use Rattle.plan_model.specs.Nodes.{node_in};
 ghost use Rattle.plan_model.specs.RowOps.{RowOps};
 ghost use Rattle.plan_laws.specs.LeftJoin.{filling_items, IsLeftJoin};
 ghost use Rattle.plan_laws.specs.OneAKey.{HasOneAKey};
+ghost use Rattle.plan_laws.specs.Widths.{FitStreams};
 
 /// Of a group whose key columns are its only columns, no two rows that are alive at one instant have the same values in
 /// columns that are all of them, for rows of any kind.
@@ -36,7 +37,8 @@ pub fn antis_meet_one_row_a_key()
 {}
 
 /// A left join has at each instant the pairs of rows with equal keys, and each left row without a partner as the items
-/// make it: where these are the columns of rows that wide and then some values, the row followed by the values.
+/// make it: where these are the columns of rows that wide and then some values, the row followed by the values. The left
+/// rows of a plan are as wide as their schema.
 pub fn left_joins_have_the_rows()
     ensures items { (source : Sources) (nodes : List Node) → IsOrdered nodes → (left right : ℕ)
         (left_key right_key : List ℕ) (items : List (List ExprNode)) (root : ℕ) →
@@ -55,4 +57,15 @@ pub fn left_joins_have_the_rows()
         (snapshots source nodes left t) (snapshots source nodes right t)
         ++ map (λ l. l ++ fills)
         (alone_rows (keys_equal left_key right_key) (snapshots source nodes left t) (snapshots source nodes right t)) }
+    ensures plan { (plan : PlanParts) → IsPlan plan → (source : Sources) → FitStreams plan.streams source →
+        (left right : ℕ) (left_key right_key : List ℕ) (fills : Row) (root t : ℕ) →
+        left < length plan.nodes → t < inf →
+        IsLeftJoin plan.nodes left right left_key right_key
+        (filling_items (length (slice_index_or plan.schemas left [])) fills) root →
+        snapshots source plan.nodes root t
+        ≡ joined_rows (keys_equal left_key right_key) (paired_row right_key)
+        (snapshots source plan.nodes left t) (snapshots source plan.nodes right t)
+        ++ map (λ l. l ++ fills)
+        (alone_rows (keys_equal left_key right_key)
+        (snapshots source plan.nodes left t) (snapshots source plan.nodes right t)) }
 {}

@@ -1,5 +1,5 @@
 //! Laws of what plans mean, for those who run them: when groups are undefined, how late times get, how much a node may
-//! keep, which rows an anti-join meets, and what a left join is. The definitions stand in `specs/`; each function here
+//! keep, how wide rows are, which rows an anti-join meets, and what a left join is. The definitions stand in `specs/`; each function here
 //! does nothing, and its clauses are a law of them.
 #![tactic(auto)]
 
@@ -7,6 +7,7 @@ mod held_laws;
 mod join_laws;
 mod times_laws;
 mod undefined_laws;
+mod width_laws;
 
 pub use held_laws::reaching_counts;
 pub use join_laws::{
@@ -17,3 +18,4 @@ pub use undefined_laws::{
     first_undefined_is, groups_are_undefined, overflow_is, undefined_at_is, undefined_is_final,
     undefined_nodes_are_alike,
 };
+pub use width_laws::rows_have_the_width;
