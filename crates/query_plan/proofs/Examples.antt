@@ -1,5 +1,5 @@
 -- Plans, nodes of steps and faults of small queries, worked out.
-use Rattle.std.specs.Prelude.{◌≡◌, ℕ, ℤ, pos, Option, Some, None, Result, Ok, Err, List, [], ◌∷◌, refl}
+use Rattle.std.specs.Prelude.{◌≡◌, ℕ, ℤ, pos, Option, Some, None, true, Result, Ok, Err, List, [], ◌∷◌, refl}
 use Rattle.tw_rows.specs.declared.kind.Kind.TheVariants as K
 use Rattle.tw_rows.specs.declared.schema.ColumnDef.{ColumnDef}
 use Rattle.tw_rows.specs.declared.schema.StreamDef.{StreamDef}
@@ -8,7 +8,7 @@ use Rattle.plan_model.specs.declared.expr.ExprNode.TheVariants as E
 use Rattle.plan_model.specs.declared.agg.Agg.TheVariants as A
 use Rattle.plan_model.specs.declared.fault.QueryFault.{QueryFault}
 use Rattle.plan_model.specs.declared.fault.QueryFault.TheVariants as F
-use Rattle.plan_model.specs.declared.node.Node.TheVariants.{Source, Where, Select, Union, Delay, Hop, Duration, Extend, Session, Clip, Group, Join, Anti}
+use Rattle.plan_model.specs.declared.node.Node.TheVariants.{Source, Where, Select, Union, Delay, Hop, Duration, Extend, Session, Clip, Group, Join, Anti, Coalesce, Mean, Top, Follow}
 use Rattle.plan_model.specs.IsPlan.{PlanParts, most_reach}
 use Rattle.query_text.specs.declared.query.Let.{Let}
 use Rattle.query_text.specs.declared.query.Item.{Item}
@@ -20,6 +20,7 @@ use Rattle.query_text.specs.declared.query.QueryStep.{QueryStep}
 use Rattle.query_text.specs.declared.query.QueryStep.TheVariants as S
 use Rattle.query_text.specs.declared.tree.TreeNode.{TreeNode}
 use Rattle.query_text.specs.declared.tree.TreeNode.TheVariants as N
+use Rattle.query_columns.specs.Schemas.{count_column}
 use Rattle.query_plan.specs.Planned.{planned, streams_planned}
 use Rattle.query_plan.specs.Draft.{Draft, no_draft, with_nodes}
 use Rattle.query_plan.specs.Steps.{step_nodes}
@@ -152,3 +153,57 @@ a_group_is_not_built = refl
 -- a hop over a group, whose rows are no events
 a_hop_over_a_group : step_nodes 4 (with_nodes both_streams (record { node = Group 0 (0 ∷ []) []; schema = text_column 107 ∷ [] } ∷ [])) 2 (S.Hop 60 20) ≡ Err (F.NotEventLevel 4)
 a_hop_over_a_group = refl
+
+-- coalesce over a group, and a hop over that
+coalesced_are_events : step_nodes 5 (with_nodes both_streams (record { node = Group 0 (0 ∷ []) []; schema = text_column 107 ∷ [] } ∷ record { node = Coalesce 2; schema = text_column 107 ∷ [] } ∷ [])) 3 (S.Hop 60 20)
+    ≡ Ok (record { node = Hop 3 60 20; schema = text_column 107 ∷ [] } ∷ [])
+coalesced_are_events = refl
+
+-- left b on k else -1: five nodes, behind the two streams
+left : step_nodes 3 both_streams 0 (S.Left (98 ∷ []) ((107 ∷ []) ∷ []) ((N.Int (pos 1) ∷ N.Neg 0 ∷ []) ∷ [])) ≡ Ok (
+    record { node = Join 0 1 (0 ∷ []) (1 ∷ []); schema = text_column 107 ∷ int_column 118 ∷ int_column 119 ∷ [] }
+    ∷ record { node = Group 1 (1 ∷ []) []; schema = text_column 107 ∷ [] }
+    ∷ record { node = Anti 0 3 (0 ∷ []) (0 ∷ []); schema = text_column 107 ∷ int_column 118 ∷ [] }
+    ∷ record { node = Select 4 ((E.Column 0 ∷ []) ∷ (E.Column 1 ∷ []) ∷ (E.Int (pos 1) ∷ E.Neg 0 ∷ []) ∷ []); schema = text_column 107 ∷ int_column 118 ∷ int_column 119 ∷ [] }
+    ∷ record { node = Union 2 5; schema = text_column 107 ∷ int_column 118 ∷ int_column 119 ∷ [] } ∷ [])
+left = refl
+
+a_literal_of_another_kind : step_nodes 3 both_streams 0 (S.Left (98 ∷ []) ((107 ∷ []) ∷ []) ((N.Bool true ∷ []) ∷ [])) ≡ Err (F.TypeClash 3)
+a_literal_of_another_kind = refl
+
+a_literal_too_many : step_nodes 3 both_streams 0 (S.Left (98 ∷ []) ((107 ∷ []) ∷ []) ((N.Int (pos 1) ∷ []) ∷ (N.Int (pos 1) ∷ []) ∷ [])) ≡ Err (F.TypeClash 3)
+a_literal_too_many = refl
+
+-- group by k : count as n, avg v as m: the sum and both counts, and the mean of column 2
+average : step_nodes 3 both_streams 0 (S.Group ((107 ∷ []) ∷ []) (record { fun = G.Count; column = None; name = 110 ∷ [] } ∷ record { fun = G.Avg; column = Some (118 ∷ []); name = 109 ∷ [] } ∷ [])) ≡ Ok (
+    record { node = Group 0 (0 ∷ []) (A.Count ∷ A.Sum 1 ∷ A.Count ∷ []); schema = text_column 107 ∷ int_column 110 ∷ int_column 109 ∷ count_column ∷ [] }
+    ∷ record { node = Mean 2 (2 ∷ []); schema = text_column 107 ∷ int_column 110 ∷ int_column 109 ∷ [] } ∷ [])
+average = refl
+
+an_average_of_texts : step_nodes 3 both_streams 0 (S.Group [] (record { fun = G.Avg; column = Some (107 ∷ []); name = 109 ∷ [] } ∷ [])) ≡ Err (F.TypeClash 3)
+an_average_of_texts = refl
+
+-- top 1000 per k by v, one more, and by a text
+top : step_nodes 3 both_streams 0 (S.Top 1000 ((107 ∷ []) ∷ []) (118 ∷ [])) ≡ Ok (record { node = Top 0 (0 ∷ []) 1 1000; schema = text_column 107 ∷ int_column 118 ∷ [] } ∷ [])
+top = refl
+
+a_top_of_too_many : step_nodes 3 both_streams 0 (S.Top 1001 [] (118 ∷ [])) ≡ Err (F.BadWindow 3)
+a_top_of_too_many = refl
+
+-- a text clashes before the number is too great, and a name is unknown before that
+a_top_by_texts : step_nodes 3 both_streams 0 (S.Top 1001 [] (107 ∷ [])) ≡ Err (F.TypeClash 3)
+a_top_by_texts = refl
+
+a_top_by_nothing : step_nodes 3 both_streams 0 (S.Top 1001 ((107 ∷ []) ∷ []) (120 ∷ [])) ≡ Err (F.UnknownName 3)
+a_top_by_nothing = refl
+
+-- follow b on k within 5
+follow : step_nodes 3 both_streams 0 (S.Follow (98 ∷ []) ((107 ∷ []) ∷ []) 5) ≡ Ok (record { node = Follow 0 1 (0 ∷ []) (1 ∷ []) 5; schema = text_column 107 ∷ int_column 118 ∷ int_column 119 ∷ [] } ∷ [])
+follow = refl
+
+a_follow_over_a_group : step_nodes 4 (with_nodes both_streams (record { node = Group 0 (0 ∷ []) []; schema = text_column 107 ∷ [] } ∷ [])) 2 (S.Follow (97 ∷ []) ((107 ∷ []) ∷ []) 5) ≡ Err (F.NotEventLevel 4)
+a_follow_over_a_group = refl
+
+an_average_is_not_built : planned (over_a (S.Group [] (record { fun = G.Avg; column = Some (118 ∷ []); name = 109 ∷ [] } ∷ []) ∷ [])) ≡ Err (F.NotBuilt 3)
+unfolding most_reach
+an_average_is_not_built = refl

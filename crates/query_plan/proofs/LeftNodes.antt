@@ -106,28 +106,37 @@ left_fit streams d at s trees fills types low one_each are named typed fit =
     let join4 : kinds_at schemas4 n ≡ kinds_at schemas3 n = kinds_grow schemas3 filled.schema n (omega (arith, as_long3)) in
     let anti3 : kinds_at schemas3 (n + 2) ≡ kinds_at d.schemas at = kinds_of_last schemas2 anti.schema (n + 2) as_long2 in
     let filled4 : kinds_at schemas4 (n + 3) ≡ kinds_of_schema join.schema = kinds_of_last schemas3 filled.schema (n + 3) as_long3 in
-    let joined4 : kinds_at schemas4 n ≡ kinds_of_schema join.schema = join4 ∙ (join3 ∙ (join2 ∙ join1)) in
-    ( join_fit streams d at s low are
-    , ( group_fit streams d at s nodes1 schemas1 are (omega (arith, right_low, long1)) right1
-    , ( anti_fit streams d at s (n + 1) nodes1 schemas1 are long1 as_long1 (omega (arith, low, long1)) at1
-    , ( record {
-        left_lower = omega (arith, long3);
-        right_lower = tt;
-        streamed = tt;
-        over_events = calm nodes3 filled.node refl refl;
-        sound = subst (λ l. All (IsExprOver l) (columns_alone (length (schema_at d at)) ++ fills)) (sym anti3) items.typed;
-        kinds = items.same ∙ ap (λ l. map (λ e. kind_of e l) (columns_alone (length (schema_at d at)) ++ fills)) (sym anti3);
-        partnered = tt;
-        counted = tt;
-      }
-    , ( record {
-        left_lower = omega (arith, long4);
-        right_lower = omega (arith, long4);
-        streamed = tt;
-        over_events = calm nodes4 (Union n (n + 3)) refl refl;
-        sound = joined4 ∙ sym filled4;
-        kinds = sym joined4;
-        partnered = tt;
-        counted = tt;
-      }
-    , tt )))))
+    let joined4 : kinds_at schemas4 n ≡ kinds_of_schema join.schema = join4 ∙ (join3 ∙ (join2 ∙ join1)) in (
+      join_fit streams d at s low are,
+      (
+        group_fit streams d at s nodes1 schemas1 are (omega (arith, right_low, long1)) right1,
+        (
+          anti_fit streams d at s (n + 1) nodes1 schemas1 are long1 as_long1 (omega (arith, low, long1)) at1,
+          (
+            record {
+              left_lower = omega (arith, long3);
+              right_lower = tt;
+              streamed = tt;
+              over_events = calm nodes3 filled.node refl refl;
+              sound = subst (λ l. All (IsExprOver l) (columns_alone (length (schema_at d at)) ++ fills)) (sym anti3) items.typed;
+              kinds = items.same ∙ ap (λ l. map (λ e. kind_of e l) (columns_alone (length (schema_at d at)) ++ fills)) (sym anti3);
+              partnered = tt;
+              counted = tt;
+            },
+            (
+              record {
+                left_lower = omega (arith, long4);
+                right_lower = omega (arith, long4);
+                streamed = tt;
+                over_events = calm nodes4 (Union n (n + 3)) refl refl;
+                sound = joined4 ∙ sym filled4;
+                kinds = sym joined4;
+                partnered = tt;
+                counted = tt;
+              },
+              tt,
+            ),
+          ),
+        ),
+      ),
+    )

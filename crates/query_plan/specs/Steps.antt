@@ -184,7 +184,7 @@ grouped d at key aggs computed =
     let schema = group_schema (schema_at d at) key aggs computed in
     if has_average aggs
     then record { node = Group at key (computed ++ A.Count ∷ []); schema = schema ++ count_column ∷ [] }
-        ∷ record { node = Mean (length d.nodes) (averages_from (length key) aggs); schema = schema } ∷ []
+    ∷ record { node = Mean (length d.nodes) (averages_from (length key) aggs); schema = schema } ∷ []
     else record { node = Group at key computed; schema = schema } ∷ []
 
 -- a key and aggregates of numbers

@@ -164,9 +164,7 @@ fn has_key_twice(node: &Node) -> bool
         Node::Clip { left_key, .. }
         | Node::Join { left_key, .. }
         | Node::Anti { left_key, .. }
-        | Node::Follow { left_key, .. } => {
-            key_twice(left_key.items())
-        }
+        | Node::Follow { left_key, .. } => { key_twice(left_key.items()) }
         _ => false,
     }
 }

@@ -125,7 +125,12 @@ pub(crate) fn left_step(
     needs(are_alike(draft, at, &both), QueryFault::TypeClash { item })?;
     let kinds = fill_kinds(alloc, item, draft.schema_at(at), fills)?;
     let right_schema = draft.schema_at(both.right);
-    let fit = fills_fit(alloc, right_schema, both.right_key.items(), kinds.as_slice())?;
+    let fit = fills_fit(
+        alloc,
+        right_schema,
+        both.right_key.items(),
+        kinds.as_slice(),
+    )?;
     needs(fit, QueryFault::TypeClash { item })?;
     let nodes = left_nodes(alloc, draft, at, &both, draft.len(), exprs)?;
     Ok(nodes)
