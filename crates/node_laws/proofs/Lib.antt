@@ -9,6 +9,7 @@ pub mod Answers
 pub mod Steps
 pub mod StepsAhead
 pub mod ShardSteps
+pub mod ShardsAhead
 pub mod Selecting
 pub mod Through
 pub mod Examples

@@ -45,7 +45,7 @@ stand_all c zero outs events h = SameBag-refl []
 stand_all c (suc n) outs events h =
     stand_both c (over_shards outs n) (outs n) (over_shards events n) (events n) (stand_all c n outs events (λ s low. h s (omega (arith, low)))) (h n (omega arith))
 
-none_fail : (p : Edge → Bool) (n : ℕ) (outs : ℕ → List Edge) → ((s : ℕ) → s < n → failing p (outs s) ≡ 0) → failing p (over_shards outs n) ≡ 0
+pub none_fail : (p : Edge → Bool) (n : ℕ) (outs : ℕ → List Edge) → ((s : ℕ) → s < n → failing p (outs s) ≡ 0) → failing p (over_shards outs n) ≡ 0
 none_fail p zero outs h = refl
 none_fail p (suc n) outs h =
     let both = total-append (λ x. cond {A = ℕ} (p x) 0 1) (over_shards outs n) (outs n) in
@@ -66,7 +66,7 @@ cut_same : (c : ℕ) (a b : List CellEvent) → SameBag a b → SameBag (cut c a
 cut_same c a b h = SameBag-flat_map (cut_one c) (cut_one c) a b h (λ e. SameBag-refl (cut_one c e))
 
 -- the events of a shard's edges are those of the shard
-shard_known : (x : ℕ) (shard : List Datum → ℕ) (s : ℕ) (h : List Edge) → x ≤ inf → IsHistory h → IsHistory (edges_of_shard shard s h) →
+pub shard_known : (x : ℕ) (shard : List Datum → ℕ) (s : ℕ) (h : List Edge) → x ≤ inf → IsHistory h → IsHistory (edges_of_shard shard s h) →
     Known x (of (edges_of_shard shard s h)) (of_shard shard s (of h))
 shard_known x shard s h low whole part = record {
   low = low;

@@ -15,7 +15,7 @@ ghost use Rattle.plan_model.specs.declared.node.Node.{Node};
 ghost use Rattle.plan_model.specs.RowOps.{RowOps, key_in, is_undefined_in};
 ghost use Rattle.plan_model.specs.Nodes.{node_in};
 ghost use Rattle.node_laws.specs.Places.{EdgesArePlaced};
-ghost use Rattle.node_laws.specs.Keeping.{Keeps};
+ghost use Rattle.node_laws.specs.Keeping.{Keeps, KeepsAhead};
 ghost use Rattle.node_laws.specs.Shards.{is_keyed, left_key_of, right_key_of, any_shard, rows_of_shard, edges_of_shard};
 
 /// However keys are given shards, the events of a Session, a Clip, a Group, a Join or an Anti are those of each shard,
@@ -39,10 +39,10 @@ pub fn nodes_by_shards<X>()
         ≡ any_shard (λ s. is_undefined_in ops key aggs (alive (of_shard (λ r. shard (key_in ops key r)) s a) t)) n }
 {}
 
-/// However keys are given shards, what the shards of a node keep, each of the edges of its own rows, the node keeps of
-/// all edges, where the answer is that of all shards together, in order.
+/// However keys are given shards, what the shards of a node keep, each of the edges of its own rows, the node keeps of all
+/// edges, where the answer is that of all shards together, in order; and so where they may tell ends ahead.
 pub fn shards_keep_what_the_node_keeps()
-    ensures { (test : List ExprNode → List Datum → Bool)
+    ensures kept { (test : List ExprNode → List Datum → Bool)
         (select : List (List ExprNode) → List Datum → List Datum) (n : Node) → is_keyed n ≡ true →
         (shard : List Datum → ℕ) (count : ℕ) → ((key : List Datum) → shard key < count) →
         (texts : List (List ℕ)) (x y : ℕ) (left right out : List Edge) (outs : ℕ → List Edge) → x ≤ inf → y ≤ inf →
@@ -51,4 +51,13 @@ pub fn shards_keep_what_the_node_keeps()
         (edges_of_shard (λ cells. shard (key_in (cell_ops test select) (left_key_of n) cells)) s left)
         (edges_of_shard (λ cells. shard (key_in (cell_ops test select) (right_key_of n) cells)) s right) (outs s)) →
         Rises 0 out → SameBag out (over_shards outs count) → Keeps (cell_ops test select) n texts x y left right out }
+    ensures ahead { (test : List ExprNode → List Datum → Bool)
+        (select : List (List ExprNode) → List Datum → List Datum) (n : Node) → is_keyed n ≡ true →
+        (shard : List Datum → ℕ) (count : ℕ) → ((key : List Datum) → shard key < count) →
+        (texts : List (List ℕ)) (x y : ℕ) (left right out : List Edge) (outs : ℕ → List Edge) → x ≤ inf → y ≤ inf →
+        IsHistory left → IsHistory right → EdgesArePlaced texts left → EdgesArePlaced texts right →
+        ((s : ℕ) → s < count → KeepsAhead (cell_ops test select) n texts x y
+        (edges_of_shard (λ cells. shard (key_in (cell_ops test select) (left_key_of n) cells)) s left)
+        (edges_of_shard (λ cells. shard (key_in (cell_ops test select) (right_key_of n) cells)) s right) (outs s)) →
+        Rises 0 out → SameBag out (over_shards outs count) → KeepsAhead (cell_ops test select) n texts x y left right out }
 {}
