@@ -8,3 +8,4 @@ pub mod CutLists
 pub mod LastBatch
 pub mod Filling
 pub mod Merging
+pub mod Placed

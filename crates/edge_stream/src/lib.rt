@@ -4,11 +4,15 @@
 mod cursor;
 mod cut;
 mod last;
+mod laws;
 mod list;
+mod saved;
 mod whole;
 
 pub use cursor::Cursor;
+pub use laws::batches_hold_the_places_of_their_list;
 pub use list::{EdgeList, Refused};
+pub use saved::{LoadFault, PartRow, Saved, SavedEntry, StepFault};
 
 #[cfg(test)]
 mod tests;

@@ -1,0 +1,35 @@
+-- Cells that are placed in a table, in rows and in their edges.
+use Rattle.std.proofs.Common.{◌≡◌, ℕ, Bool, true, false, cond, List, [], ◌∷◌, ◌++◌, map, refl, subst}
+use Rattle.std.specs.Prelude.{All}
+use Rattle.std.proofs.lemmas.List.Elements.{All-nil, All-cons, All-head, All-tail}
+use Rattle.tw_rows.specs.Cells.{ArePlaced}
+use Rattle.tw_rows.specs.declared.edge.Edge.{Edge}
+use Rattle.batch.specs.Rows.{Row, edge_of, edges_of, occupied_rows}
+
+module _ (P : Edge → Type 0) where
+  pub All-right : (xs ys : List Edge) → All P (xs ++ ys) → All P ys
+  All-right [] ys h = h
+  All-right (x ∷ xs) ys h = All-right xs ys (All-tail P x (xs ++ ys) h)
+
+  -- what holds of the edges of rows, with more after them, holds of each row that is occupied
+  pub rows_from_edges : (rows : List Row) (rest : List Edge) → All P (edges_of rows ++ rest) → All (λ r. r.occupied ≡ true → P (edge_of r)) rows
+  rows_from_edges [] rest h = All-nil (λ r. r.occupied ≡ true → P (edge_of r))
+  rows_from_edges (r ∷ rs) rest h = pick r.occupied refl h (rows_from_edges rs rest)
+    where
+      Q : Row → Type 0
+      Q = λ q. q.occupied ≡ true → P (edge_of q)
+
+      pick : (b : Bool) → r.occupied ≡ b → All P (map edge_of (cond b (r ∷ occupied_rows rs) (occupied_rows rs)) ++ rest) → (All P (edges_of rs ++ rest) → All Q rs) → All Q (r ∷ rs)
+      pick true is all below = All-cons Q r rs (λ _. All-head P (edge_of r) (edges_of rs ++ rest) all) (below (All-tail P (edge_of r) (edges_of rs ++ rest) all))
+      pick false is all below = All-cons Q r rs (λ set. absurd (cc)) (below all)
+
+  pub edges_from_rows : (rows : List Row) → All (λ r. r.occupied ≡ true → P (edge_of r)) rows → All P (edges_of rows)
+  edges_from_rows [] h = All-nil P
+  edges_from_rows (r ∷ rs) h = pick r.occupied refl (edges_from_rows rs (All-tail (λ q. q.occupied ≡ true → P (edge_of q)) r rs h))
+    where
+      Q : Row → Type 0
+      Q = λ q. q.occupied ≡ true → P (edge_of q)
+
+      pick : (b : Bool) → r.occupied ≡ b → All P (edges_of rs) → All P (map edge_of (cond b (r ∷ occupied_rows rs) (occupied_rows rs)))
+      pick true is below = All-cons P (edge_of r) (edges_of rs) (All-head Q r rs h is) below
+      pick false is below = below
