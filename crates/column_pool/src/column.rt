@@ -1,5 +1,5 @@
 // A list of cells whose room is made once.
-ghost use Rattle.std.specs.Prelude.{◌≡◌, ◌<◌, ◌≤◌, [], ◌∷◌, ◌++◌, length, slice_get, slice_set, Some, IfOk, IsTrue, ◌↔◌};
+ghost use Rattle.std.specs.Prelude.{◌≡◌, ◌+◌, ◌<◌, ◌≤◌, [], ◌∷◌, ◌++◌, length, slice_get, slice_set, Some, IfOk, IsTrue, ◌↔◌};
 
 use crate::cell::Cell;
 use std::alloc::{AllocError, Global};
@@ -54,6 +54,15 @@ impl<T: Cell> Column<T> {
         ensures { self.new ≡ record self.old { items = self.old.items ++ item ∷ [] } }
     {
         self.items.push_reserved(item);
+    }
+
+    /// Adds the cells last, in order, as one copy of memory.
+    pub fn extend(&mut self, items: &[T])
+        requires { length self.old.items + length items.now ≤ self.old.capacity }
+        ensures { self.new ≡ record self.old { items = self.old.items ++ items.now } }
+    {
+        // There is room, so no memory is taken and this does not fail.
+        let _ = self.items.extend_from_slice(items);
     }
 
     /// The cell at the place `i`.

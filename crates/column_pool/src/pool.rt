@@ -47,7 +47,7 @@ impl<T: Cell> Pool<T> {
     pub fn refill(&mut self, n: usize) -> Result<(), AllocError>
         requires { n ≤ self.old.limit }
         ensures ok { OnOk result (self.new ≡ record self.old { free = max self.old.free n }) }
-        ensures made_stay { OnErr result (self.old.free ≤ self.new.free) }
+        ensures none_lost { OnErr result (self.old.free ≤ self.new.free) }
         ensures some_lack { OnErr result (self.new.free < n) }
         ensures others_stay { self.new ≡ record self.old { free = self.new.free } }
     {
