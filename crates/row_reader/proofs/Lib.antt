@@ -1,12 +1,14 @@
 pub mod Numbers
-pub mod SignedNumbers
-pub mod Fields
+pub mod Places
+pub mod Whole
 pub mod OddQuotes
 pub mod Records
 pub mod TextFields
 pub mod Reading
 pub mod Lines
 pub mod Spelling
+pub mod Commas
 pub mod ReadBack
 pub mod Printed
 pub mod Spells
+pub mod Steps

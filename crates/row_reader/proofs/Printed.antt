@@ -1,39 +1,39 @@
--- The fields that are read as an event are those that are printed of it.
-use Rattle.std.proofs.Common.{◌≡◌, ◌<◌, inl, inr, ℕ, ℤ, suc, ◌+◌, List, [], ◌∷◌, ◌++◌, length, map, Bool, true, false, cond, Option, Some, None, Result, Ok, Err, refl, sym, ◌∙◌, ap, arith, append_assoc, subst}
+-- The fields that are read as an event, or as a punctuation, are those that are printed of it.
+use Rattle.std.proofs.Common.{◌≡◌, ◌<◌, inl, inr, ℕ, ℤ, suc, ◌+◌, List, [], ◌∷◌, length, drop, Bool, true, false, cond, Option, Some, None, Result, Ok, Err, refl, sym, ◌∙◌, ap, arith, subst}
 use Rattle.std.specs.Prelude.{◌⊎◌, ◌^◌, ◌==◌, ◌↔◌, not, codes, option_map}
 use Rattle.std.proofs.lemmas.Bool.Decides.{Decides-ltb, eqb_tells}
-use Rattle.std.proofs.lemmas.List.{length-append}
 use Rattle.csv.specs.Records.{field_at}
 use Rattle.tw_rows.specs.Instant.{inf}
 use Rattle.tw_rows.specs.Rows.{Row}
-use Rattle.tw_rows.specs.Kinds.{value_kind}
+use Rattle.tw_rows.specs.Kinds.{FitsKind}
 use Rattle.tw_rows.specs.declared.kind.Kind.{Kind}
 use Rattle.tw_rows.specs.declared.kind.Kind.TheVariants as kinds
 use Rattle.tw_rows.specs.declared.row.Value.{Value}
 use Rattle.tw_rows.specs.declared.row.Value.TheVariants.{Int, Bool as Flag, Text}
 use Rattle.tw_rows.specs.declared.schema.ColumnDef.{ColumnDef}
+use Rattle.line_text.specs.Fields.{value_text, row_texts, time_text, form_text, event_fields, punctuation_fields}
+use Rattle.line_text.specs.declared.form.Form.{Form}
+use Rattle.line_text.specs.declared.form.Form.TheVariants as forms
 use Rattle.row_reader.specs.declared.entry.BadLine.{BadLine}
 use Rattle.row_reader.specs.declared.entry.BadLine.TheVariants.{UnknownKind, WrongFields, BadTime, BadLife}
-use Rattle.row_reader.specs.declared.entry.Form.{Form}
-use Rattle.row_reader.specs.declared.entry.Form.TheVariants as forms
 use Rattle.row_reader.specs.declared.entry.Entry.{Entry}
-use Rattle.row_reader.specs.declared.entry.Entry.TheVariants.{Event}
-use Rattle.row_reader.specs.Number.{same_text, int_of}
+use Rattle.row_reader.specs.declared.entry.Entry.TheVariants.{Punct, Event}
+use Rattle.row_reader.specs.Number.{same_text, units_of}
 use Rattle.row_reader.specs.Record.{field_of}
 use Rattle.row_reader.specs.Values.{time_of, end_of, inf_of, form_of, times_of, is_alive, value_of, both}
-use Rattle.row_reader.specs.Entry.{Read, row_of, event, or_bad, with_row, with_value}
-use Rattle.row_reader.specs.Printed.{value_text, time_text, form_text, event_fields, IsValue, IsRowOf, AreTimes}
+use Rattle.row_reader.specs.Entry.{Read, row_of, event, punctuation, or_bad, with_row, with_value}
+use Rattle.row_reader.specs.Printed.{kinds_of, IsValue, IsRowOf, IsEnd, AreTimes}
 use Rattle.row_reader.proofs.Numbers.{number_of-is, same_text-Decides}
-use Rattle.row_reader.proofs.SignedNumbers.{int_of-is}
-use Rattle.row_reader.proofs.ReadBack.{text_below, text_inf, field_there, events_read_back}
+use Rattle.row_reader.proofs.Places.{units_of-is}
+use Rattle.row_reader.proofs.ReadBack.{text_below, text_inf, events_read_back}
 
 -- a text that is a value of a kind is what is printed of it
 abbrev Prints : Kind → List ℕ → Value → Type 0
-Prints k text v = (value_kind v ≡ k) × IsValue v × (text ≡ value_text v)
+Prints k text v = FitsKind v k × IsValue v × (text ≡ value_text k v)
 
-int_is : (text : List ℕ) (o : Option ℤ) → int_of text ≡ o → (v : Value) → option_map Int o ≡ Some v → Prints kinds.Int text v
-int_is text None e v h = absurd (cc)
-int_is text (Some z) e v h = let is : Int z ≡ v = cc in let p = int_of-is text z e in subst (Prints kinds.Int text) is (refl, p.0, p.1)
+number_is : (k : ℕ) (text : List ℕ) (o : Option ℤ) → units_of k text ≡ o → (v : Value) → option_map Int o ≡ Some v → (z : ℤ) × (Int z ≡ v) × (units_of k text ≡ Some z)
+number_is k text None e v h = absurd (cc)
+number_is k text (Some z) e v h = (z, cc, e)
 
 truth_is : (text : List ℕ) (p q : Bool) → same_text text (codes "true") ≡ p → same_text text (codes "false") ≡ q → (v : Value) →
     cond p (Some (Flag true)) (cond q (Some (Flag false)) None) ≡ Some v → Prints kinds.Bool text v
@@ -43,7 +43,8 @@ truth_is text false false e f v h = absurd (cc)
 
 value_is : (k : Kind) (text : List ℕ) (v : Value) → value_of k text ≡ Some v → Prints k text v
 unfolding value_of
-value_is kinds.Int text v h = int_is text (int_of text) refl v h
+value_is kinds.Int text v h = let n = number_is 0 text (units_of 0 text) refl v h in let p = units_of-is 0 text n.0 n.2 in subst (Prints kinds.Int text) n.1 (refl, p.0, p.1)
+value_is (kinds.Dec k) text v h = let n = number_is k text (units_of k text) refl v h in let p = units_of-is k text n.0 n.2 in subst (Prints (kinds.Dec k) text) n.1 (refl, p.0, p.1)
 value_is kinds.Bool text v h = truth_is text (same_text text (codes "true")) (same_text text (codes "false")) refl refl v h
 value_is kinds.Text text v h = let is : Text text ≡ v = cc in subst (Prints kinds.Text text) is (refl, tt, refl)
 
@@ -96,22 +97,20 @@ with_value-is n None r row h = absurd (cc)
 with_value-is n (Some v) (Ok vs) row h = (v, vs, refl, refl, cc)
 with_value-is n (Some v) (Err m) row h = absurd (cc)
 
-row_is : (columns : List ColumnDef) (front texts : List (List ℕ)) (n : ℕ) (row : Row) → n + 3 ≡ length front → length texts ≡ length columns → row_of (front ++ texts) n columns ≡ Ok row →
-    (texts ≡ map value_text row) × IsRowOf columns row
-unfolding row_of
-row_is [] front [] n row e l h = let is : [] ≡ row = cc in subst (λ (row : Row). ([] ≡ map value_text row) × IsRowOf [] row) is (refl, tt)
-row_is [] front (t ∷ ts) n row e l h = absurd (omega (arith, l))
-row_is (c ∷ cs) front [] n row e l h = absurd (omega (arith, l))
-row_is (c ∷ cs) front (t ∷ ts) n row e l h =
-    let w = with_value-is n (value_of c.kind (field_of (front ++ t ∷ ts) (n + 3))) (row_of (front ++ t ∷ ts) (suc n) cs) row h in
-    let here : value_of c.kind t ≡ Some w.0 = ap (value_of c.kind) (sym (field_there front t ts (n + 3) e)) ∙ w.2 in
-    let k = value_is c.kind t w.0 here in
-    let rest : row_of ((front ++ t ∷ []) ++ ts) (suc n) cs ≡ Ok w.1 = subst (λ fs. row_of fs (suc n) cs ≡ Ok w.1) (sym (append_assoc front (t ∷ []) ts)) w.3 in
-    let later = row_is cs (front ++ t ∷ []) ts (suc n) w.1 (omega (arith, e, length-append front (t ∷ []))) (omega (arith, l)) rest in
-    let first : t ≡ value_text w.0 = k.2 in
-    let others : ts ≡ map value_text w.1 = later.0 in
-    let all : t ∷ ts ≡ value_text w.0 ∷ map value_text w.1 = cc in
-    subst (λ (row : Row). (t ∷ ts ≡ map value_text row) × IsRowOf (c ∷ cs) row) (sym w.4) (all, (k.0, k.1, later.1))
+row_is : (columns : List ColumnDef) (texts : List (List ℕ)) (n : ℕ) (row : Row) → length texts ≡ length columns → row_of n columns texts ≡ Ok row →
+    (texts ≡ row_texts (kinds_of columns) row) × IsRowOf columns row
+unfolding row_of field_of field_at
+row_is [] [] n row l h = let is : [] ≡ row = cc in subst (λ (row : Row). ([] ≡ row_texts [] row) × IsRowOf [] row) is (refl, tt)
+row_is [] (t ∷ ts) n row l h = absurd (omega (arith, l))
+row_is (c ∷ cs) [] n row l h = absurd (omega (arith, l))
+row_is (c ∷ cs) (t ∷ ts) n row l h =
+    let w = with_value-is n (value_of c.kind t) (row_of (suc n) cs ts) row h in
+    let k = value_is c.kind t w.0 w.2 in
+    let later = row_is cs ts (suc n) w.1 (omega (arith, l)) w.3 in
+    let first : t ≡ value_text c.kind w.0 = k.2 in
+    let others : ts ≡ row_texts (kinds_of cs) w.1 = later.0 in
+    let all : t ∷ ts ≡ value_text c.kind w.0 ∷ row_texts (kinds_of cs) w.1 = cc in
+    subst (λ (row : Row). (t ∷ ts ≡ row_texts (kinds_of (c ∷ cs)) row) × IsRowOf (c ∷ cs) row) (sym w.4) (all, (k.0, k.1, later.1))
 
 pub or_bad-is : {A : Type 0} (cause : BadLine) (o : Option A) (more : A → Read) (e : Entry) → or_bad cause o more ≡ Ok e → (x : A) × (o ≡ Some x) × (more x ≡ Ok e)
 or_bad-is cause None more e h = absurd (cc)
@@ -121,7 +120,7 @@ pub passed : (b : Bool) (cause : BadLine) (read : Read) (e : Entry) → cond (no
 passed true cause read e h = (refl, h)
 passed false cause read e h = absurd (cc)
 
-with_row-is : (r : Result Row ℕ) (more : Row → Read) (e : Entry) → with_row r more ≡ Ok e → (row : Row) × (r ≡ Ok row) × (more row ≡ Ok e)
+pub with_row-is : (r : Result Row ℕ) (more : Row → Read) (e : Entry) → with_row r more ≡ Ok e → (row : Row) × (r ≡ Ok row) × (more row ≡ Ok e)
 with_row-is (Err n) more e h = absurd (cc)
 with_row-is (Ok row) more e h = (row, refl, h)
 
@@ -129,11 +128,11 @@ equal : (a b : ℕ) → (a == b) ≡ true → a ≡ b
 equal a b h = elim (eqb_tells a b) [ inl t ↦ t.1 | inr t ↦ absurd (let f : (a == b) ≡ false = t.0 in cc) ]
 
 record Parts (columns : List ColumnDef) (fields : List (List ℕ)) (form : Form) (sync other : ℕ) (row : Row) : Type 0 where
-  form_is : form_of (field_of fields 1) ≡ Some form
-  many : length fields ≡ length columns + 4
-  times : times_of form (field_of fields 2) (field_of fields 3) ≡ Some (sync, other)
+  form_is : form_of (field_of fields 0) ≡ Some form
+  many : length fields ≡ length columns + 3
+  times : times_of form (field_of fields 1) (field_of fields 2) ≡ Some (sync, other)
   alive : is_alive form sync other ≡ true
-  values : row_of fields 1 columns ≡ Ok row
+  values : row_of 1 columns (drop 3 fields) ≡ Ok row
 
 moved : (columns : List ColumnDef) (fields : List (List ℕ)) (stream number : ℕ) (f form : Form) (s sync o other : ℕ) (r row : Row) → Parts columns fields f s o r →
     ◌≡◌ {A = Read} (Ok (Event stream f s o r)) (Ok (Event number form sync other row)) → (stream ≡ number) × Parts columns fields form sync other row
@@ -149,18 +148,18 @@ parts : (stream number : ℕ) (columns : List ColumnDef) (fields : List (List �
     (stream ≡ number) × Parts columns fields form sync other row
 unfolding event
 parts stream number columns fields form sync other row h =
-    let a = or_bad-is UnknownKind (form_of (field_of fields 1)) _ _ h in
-    let b = passed (length fields == length columns + 4) WrongFields _ _ a.2 in
-    let c = or_bad-is BadTime (times_of a.0 (field_of fields 2) (field_of fields 3)) _ _ b.1 in
+    let a = or_bad-is UnknownKind (form_of (field_of fields 0)) _ _ h in
+    let b = passed (length fields == length columns + 3) WrongFields _ _ a.2 in
+    let c = or_bad-is BadTime (times_of a.0 (field_of fields 1) (field_of fields 2)) _ _ b.1 in
     let d = passed (is_alive a.0 c.0.0 c.0.1) BadLife _ _ c.2 in
-    let r = with_row-is (row_of fields 1 columns) _ _ d.1 in
+    let r = with_row-is (row_of 1 columns (drop 3 fields)) _ _ d.1 in
     moved columns fields stream number a.0 form c.0.0 sync c.0.1 other r.0 row (record { form_is = a.1; many = equal _ _ b.0; times = c.1; alive = d.0; values = r.1 }) r.2
 
--- the fields are those that are printed of an event
+-- the fields behind a name are those that are printed of an event
 abbrev pub IsPrinted : List ColumnDef → List ℕ → List (List ℕ) → Form → ℕ → ℕ → Row → Type 0
-IsPrinted columns name fields form sync other row = (name ∷ fields ≡ event_fields name form sync other row) × IsRowOf columns row × AreTimes form sync other
+IsPrinted columns name fields form sync other row = (name ∷ fields ≡ event_fields (kinds_of columns) name form sync other row) × IsRowOf columns row × AreTimes form sync other
 
-printed : (columns : List ColumnDef) (name : List ℕ) (fields : List (List ℕ)) (form : Form) (sync other : ℕ) (row : Row) → Parts columns (name ∷ fields) form sync other row → IsPrinted columns name fields form sync other row
+printed : (columns : List ColumnDef) (name : List ℕ) (fields : List (List ℕ)) (form : Form) (sync other : ℕ) (row : Row) → Parts columns fields form sync other row → IsPrinted columns name fields form sync other row
 unfolding field_of field_at
 printed columns name [] form sync other row p = absurd (omega (arith, p.many))
 printed columns name (f ∷ []) form sync other row p = absurd (omega (arith, p.many))
@@ -168,22 +167,38 @@ printed columns name (f ∷ a ∷ []) form sync other row p = absurd (omega (ari
 printed columns name (f ∷ a ∷ b ∷ texts) form sync other row p =
     let word : f ≡ form_text form = form_is f form p.form_is in
     let t = times_are form a b sync other p.times p.alive in
-    let r = row_is columns (name ∷ f ∷ a ∷ b ∷ []) texts 1 row refl (omega (arith, p.many)) p.values in
+    let r = row_is columns texts 1 row (omega (arith, p.many)) p.values in
     let first : a ≡ time_text sync = t.1 in
     let second : b ≡ time_text other = t.2 in
-    let others : texts ≡ map value_text row = r.0 in
+    let others : texts ≡ row_texts (kinds_of columns) row = r.0 in
     (cc, r.1, t.0)
 
 -- what fields are read as is an event of that stream, and they are printed of it
 pub event_is : (stream number : ℕ) (columns : List ColumnDef) (name : List ℕ) (fields : List (List ℕ)) (form : Form) (sync other : ℕ) (row : Row) →
-    event stream columns (name ∷ fields) ≡ Ok (Event number form sync other row) → (stream ≡ number) × IsPrinted columns name fields form sync other row
+    event stream columns fields ≡ Ok (Event number form sync other row) → (stream ≡ number) × IsPrinted columns name fields form sync other row
 event_is stream number columns name fields form sync other row h =
-    let p = parts stream number columns (name ∷ fields) form sync other row h in
+    let p = parts stream number columns fields form sync other row h in
     (p.0, printed columns name fields form sync other row p.1)
 
 pub events_are_printed : (stream : ℕ) (columns : List ColumnDef) (name : List ℕ) (fields : List (List ℕ)) (form : Form) (sync other : ℕ) (row : Row) →
-    (event stream columns (name ∷ fields) ≡ Ok (Event stream form sync other row)) ↔ ((name ∷ fields ≡ event_fields name form sync other row) × IsRowOf columns row × AreTimes form sync other)
+    (event stream columns fields ≡ Ok (Event stream form sync other row)) ↔ ((name ∷ fields ≡ event_fields (kinds_of columns) name form sync other row) × IsRowOf columns row × AreTimes form sync other)
 events_are_printed stream columns name fields form sync other row = (
   λ h. (event_is stream stream columns name fields form sync other row h).1,
-  λ p. ap (event stream columns) p.0 ∙ events_read_back stream columns name form sync other row p.1 p.2,
+  λ p. ap (λ (l : List (List ℕ)). event stream columns (drop 1 l)) p.0 ∙ events_read_back stream columns name form sync other row p.1 p.2,
 )
+
+-- what is read as a punctuation is the punctuation of that stream at a time that may stand there, and is printed of it
+pub punctuation_is : (stream number : Option ℕ) (name : List ℕ) (fields : List (List ℕ)) (time : ℕ) → same_text (field_of fields 0) (codes "punct") ≡ true →
+    punctuation stream fields ≡ Ok (Punct number time) → (stream ≡ number) × (name ∷ fields ≡ punctuation_fields name time) × IsEnd time
+unfolding punctuation field_of field_at
+punctuation_is stream number name [] time w h = absurd (cc)
+punctuation_is stream number name (f ∷ []) time w h = absurd (cc)
+punctuation_is stream number name (f ∷ a ∷ b ∷ more) time w h = absurd (let e = passed (length (f ∷ a ∷ b ∷ more) == 2) WrongFields _ _ h in let n = equal _ _ e.0 in omega (arith, n))
+punctuation_is stream number name (f ∷ a ∷ []) time w h =
+    let c = or_bad-is BadTime (end_of a) _ _ h in
+    let word : f ≡ codes "punct" = (same_text-Decides _ _).0 w in
+    let same : stream ≡ number = cc in
+    let at : c.0 ≡ time = cc in
+    let t = end_is a time (c.1 ∙ ap (λ (n : ℕ). Some n) at) in
+    let text : a ≡ time_text time = t.1 in
+    (same, cc, t.0)

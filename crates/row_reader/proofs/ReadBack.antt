@@ -1,29 +1,33 @@
--- What is printed of an event is read as that event.
-use Rattle.std.proofs.Common.{◌≡◌, ◌<◌, inl, inr, ℕ, zero, suc, ◌+◌, List, [], ◌∷◌, ◌++◌, length, map, Bool, true, false, cond, Some, Ok, refl, sym, ◌∙◌, ap, arith, append_assoc, subst}
+-- What is printed of an event or of a punctuation is read as that.
+use Rattle.std.proofs.Common.{◌≡◌, ◌<◌, inl, inr, ℕ, suc, ◌+◌, List, [], ◌∷◌, length, drop, Bool, true, false, cond, Option, Some, Ok, refl, ◌∙◌, ap, arith, subst}
 use Rattle.std.specs.Prelude.{◌⊎◌, ◌^◌, ◌==◌, nat_lt, codes, decimal}
-use Rattle.std.specs.Fmt.{signed_decimal}
+use Rattle.std.specs.Str.Parse.{AllDigits}
 use Rattle.std.proofs.lemmas.Bool.Decides.{nat_tests, Decides-ltb, eqb_tells}
-use Rattle.std.proofs.lemmas.List.{length-append}
+use Rattle.std.proofs.lemmas.Fmt.{digits_decimal}
 use Rattle.csv.specs.Records.{field_at}
 use Rattle.tw_rows.specs.Instant.{inf}
 use Rattle.tw_rows.specs.Rows.{Row}
-use Rattle.tw_rows.specs.Kinds.{value_kind}
+use Rattle.tw_rows.specs.Kinds.{FitsKind}
+use Rattle.tw_rows.specs.declared.kind.Kind.{Kind}
+use Rattle.tw_rows.specs.declared.kind.Kind.TheVariants as kinds
 use Rattle.tw_rows.specs.declared.row.Value.{Value}
 use Rattle.tw_rows.specs.declared.row.Value.TheVariants.{Int, Bool as Flag, Text}
 use Rattle.tw_rows.specs.declared.schema.ColumnDef.{ColumnDef}
-use Rattle.row_reader.specs.declared.entry.Form.{Form}
-use Rattle.row_reader.specs.declared.entry.Form.TheVariants as forms
-use Rattle.row_reader.specs.declared.entry.Entry.TheVariants.{Event}
+use Rattle.line_text.specs.Number.{number_text}
+use Rattle.line_text.specs.Fields.{value_text, row_texts, time_text, form_text, event_fields}
+use Rattle.line_text.specs.declared.form.Form.{Form}
+use Rattle.line_text.specs.declared.form.Form.TheVariants as forms
+use Rattle.line_text.proofs.Digits.{own}
+use Rattle.row_reader.specs.declared.entry.Entry.TheVariants.{Punct, Event}
 use Rattle.row_reader.specs.Number.{same_text}
 use Rattle.row_reader.specs.Record.{field_of}
 use Rattle.row_reader.specs.Values.{time_of, end_of, inf_of, form_of, times_of, is_alive, value_of}
-use Rattle.row_reader.specs.Entry.{row_of, event}
-use Rattle.row_reader.specs.Printed.{value_text, time_text, form_text, event_fields, IsValue, IsRowOf, AreTimes}
+use Rattle.row_reader.specs.Entry.{row_of, event, punctuation}
+use Rattle.row_reader.specs.Printed.{kinds_of, IsValue, IsRowOf, IsEnd, AreTimes}
 use Rattle.row_reader.proofs.Numbers.{number_of-spelled, same_text-Decides}
-use Rattle.row_reader.proofs.SignedNumbers.{int_of-spelled}
-use Rattle.row_reader.proofs.Fields.{AllBelow, digits_low}
+use Rattle.row_reader.proofs.Places.{units_of-spelled}
 
-inf-is : inf ≡ 2 ^ 61
+pub inf-is : inf ≡ 2 ^ 61
 unfolding inf
 inf-is = refl
 
@@ -33,11 +37,11 @@ text_below t h = let low : nat_lt t inf ≡ true = (Decides-ltb t inf).1 (omega 
 pub text_inf : time_text inf ≡ codes "inf"
 text_inf = let high : nat_lt inf inf ≡ false = grind (arith, nat_tests) in rw high refl
 
+no_digit : AllDigits 10 (codes "inf") → ⊥
+no_digit h = absurd (omega (arith, h.0))
+
 not_inf : (n : ℕ) → n < 2 ^ 60 → same_text (decimal n) (codes "inf") ≡ true → ⊥
-not_inf n low same =
-    let e : decimal n ≡ codes "inf" = (same_text-Decides _ _).0 same in
-    let f : AllBelow 58 (codes "inf") = subst (AllBelow 58) e (digits_low n (omega arith)) in
-    absurd (omega (arith, f.0))
+not_inf n low same = no_digit (subst (AllDigits 10) ((same_text-Decides _ _).0 same) (digits_decimal own n (omega arith)))
 
 time_back : (t : ℕ) → t < 2 ^ 60 → time_of (time_text t) ≡ Some t
 time_back t h = ap time_of (text_below t h) ∙ number_of-spelled (2 ^ 60) t (decimal t) h (omega arith) refl
@@ -72,32 +76,30 @@ alive_back forms.Interval sync other h = (Decides-ltb sync other).1 h.2
 alive_back forms.Start sync other h = (Decides-ltb sync other).1 (omega (arith, inf-is, h.0, h.1))
 alive_back forms.End sync other h = (Decides-ltb other sync).1 h.1
 
-value_back : (v : Value) → IsValue v → value_of (value_kind v) (value_text v) ≡ Some v
+value_back : (k : Kind) (v : Value) → FitsKind v k → IsValue v → value_of k (value_text k v) ≡ Some v
 unfolding value_of
-value_back (Int x) h = rw (int_of-spelled (signed_decimal x) x h refl) refl
-value_back (Flag true) h = refl
-value_back (Flag false) h = refl
-value_back (Text t) h = refl
+value_back kinds.Int (Int x) f h = rw (units_of-spelled 0 (number_text 0 x) x h refl) refl
+value_back (kinds.Dec k) (Int x) f h = rw (units_of-spelled k (number_text k x) x h refl) refl
+value_back kinds.Bool (Int x) f h = absurd (cc)
+value_back kinds.Text (Int x) f h = absurd (cc)
+value_back kinds.Int (Flag b) f h = absurd (cc)
+value_back (kinds.Dec k) (Flag b) f h = absurd (cc)
+value_back kinds.Bool (Flag true) f h = refl
+value_back kinds.Bool (Flag false) f h = refl
+value_back kinds.Text (Flag b) f h = absurd (cc)
+value_back kinds.Int (Text t) f h = absurd (cc)
+value_back (kinds.Dec k) (Text t) f h = absurd (cc)
+value_back kinds.Bool (Text t) f h = absurd (cc)
+value_back kinds.Text (Text t) f h = refl
 
-pub field_there : (front : List (List ℕ)) (f : List ℕ) (rest : List (List ℕ)) (n : ℕ) → n ≡ length front → field_of (front ++ f ∷ rest) n ≡ f
-unfolding field_of field_at
-field_there [] f rest n e = rw e refl
-field_there (x ∷ front) f rest zero e = absurd (omega arith)
-field_there (x ∷ front) f rest (suc n) e = field_there front f rest n (omega arith)
+pub row_back : (row : Row) (columns : List ColumnDef) (n : ℕ) → IsRowOf columns row → row_of n columns (row_texts (kinds_of columns) row) ≡ Ok row
+unfolding row_of field_of field_at
+row_back [] [] n h = refl
+row_back (v ∷ vs) [] n h = absurd h
+row_back [] (c ∷ cs) n h = absurd h
+row_back (v ∷ vs) (c ∷ cs) n h = rw (value_back c.kind v h.0 h.1, row_back vs cs (suc n) h.2) refl
 
-row_back : (row : Row) (columns : List ColumnDef) (front : List (List ℕ)) (n : ℕ) → n + 3 ≡ length front → IsRowOf columns row → row_of (front ++ map value_text row) n columns ≡ Ok row
-unfolding row_of
-row_back [] [] front n e h = refl
-row_back (v ∷ vs) [] front n e h = absurd h
-row_back [] (c ∷ cs) front n e h = absurd h
-row_back (v ∷ vs) (c ∷ cs) front n e h =
-    let here : value_of c.kind (field_of (front ++ value_text v ∷ map value_text vs) (n + 3)) ≡ Some v =
-    ap (value_of c.kind) (field_there front (value_text v) (map value_text vs) (n + 3) e) ∙ ap (λ k. value_of k (value_text v)) (sym h.0) ∙ value_back v h.1 in
-    let later = row_back vs cs (front ++ value_text v ∷ []) (suc n) (omega (arith, e, length-append front (value_text v ∷ []))) h.2 in
-    let more : row_of (front ++ value_text v ∷ map value_text vs) (suc n) cs ≡ Ok vs = subst (λ fs. row_of fs (suc n) cs ≡ Ok vs) (append_assoc front (value_text v ∷ []) (map value_text vs)) later in
-    rw (here, more) refl
-
-as_many : (row : Row) (columns : List ColumnDef) → IsRowOf columns row → length (map value_text row) ≡ length columns
+as_many : (row : Row) (columns : List ColumnDef) → IsRowOf columns row → length (row_texts (kinds_of columns) row) ≡ length columns
 as_many [] [] h = refl
 as_many (v ∷ vs) [] h = absurd h
 as_many [] (c ∷ cs) h = absurd h
@@ -107,13 +109,13 @@ same_number : (a b : ℕ) → a ≡ b → (a == b) ≡ true
 same_number a b e = elim (eqb_tells a b) [ inl t ↦ t.0 | inr t ↦ absurd (t.1 e) ]
 
 pub events_read_back : (stream : ℕ) (columns : List ColumnDef) (name : List ℕ) (form : Form) (sync other : ℕ) (row : Row) → IsRowOf columns row → AreTimes form sync other →
-    event stream columns (event_fields name form sync other row) ≡ Ok (Event stream form sync other row)
-unfolding event
+    event stream columns (drop 1 (event_fields (kinds_of columns) name form sync other row)) ≡ Ok (Event stream form sync other row)
+unfolding event field_of field_at
 events_read_back stream columns name form sync other row h t =
-    let fields = event_fields name form sync other row in
-    let f1 : field_of fields 1 ≡ form_text form = field_there (name ∷ []) (form_text form) (time_text sync ∷ time_text other ∷ map value_text row) 1 refl in
-    let f2 : field_of fields 2 ≡ time_text sync = field_there (name ∷ form_text form ∷ []) (time_text sync) (time_text other ∷ map value_text row) 2 refl in
-    let f3 : field_of fields 3 ≡ time_text other = field_there (name ∷ form_text form ∷ time_text sync ∷ []) (time_text other) (map value_text row) 3 refl in
-    let many : (length fields == length columns + 4) ≡ true = same_number (length fields) (length columns + 4) (omega (arith, as_many row columns h)) in
-    let values : row_of fields 1 columns ≡ Ok row = row_back row columns (name ∷ form_text form ∷ time_text sync ∷ time_text other ∷ []) 1 refl h in
-    rw (f1, form_back form, many, f2, f3, times_back form sync other t, alive_back form sync other t, values) refl
+    let fields = drop 1 (event_fields (kinds_of columns) name form sync other row) in
+    let many : (length fields == length columns + 3) ≡ true = same_number (length fields) (length columns + 3) (omega (arith, as_many row columns h)) in
+    rw (form_back form, many, times_back form sync other t, alive_back form sync other t, row_back row columns 1 h) refl
+
+pub punctuations_read_back : (stream : Option ℕ) (time : ℕ) → IsEnd time → punctuation stream (codes "punct" ∷ time_text time ∷ []) ≡ Ok (Punct stream time)
+unfolding punctuation field_of field_at
+punctuations_read_back stream time h = rw (end_back time h) refl

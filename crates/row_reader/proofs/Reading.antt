@@ -33,51 +33,49 @@ prepended-push : (done : Row) (v : Value) (n : ℕ) (read : Result Row ℕ) → 
 prepended-push done v n (Ok row) = ap (λ (r : Row). Ok r) (sym (append_assoc done (v ∷ []) row))
 prepended-push done v n (Err m) = refl
 
--- the values of the first n columns are read
-abbrev pub AreRead : List (List ℕ) → List ColumnDef → ℕ → Row → Type 0
-AreRead fields columns n done = row_of fields 1 columns ≡ prepended done (row_of fields (n + 1) (drop n columns))
+-- the values of the first n columns are read, and the fields of the others are left
+abbrev pub AreRead : List (List ℕ) → List ColumnDef → ℕ → Row → List (List ℕ) → Type 0
+AreRead fields columns n done rest = row_of 1 columns fields ≡ prepended done (row_of (n + 1) (drop n columns) rest)
 
 prepended-nil : (read : Result Row ℕ) → read ≡ prepended [] read
 prepended-nil (Ok row) = refl
 prepended-nil (Err n) = refl
 
-pub AreRead-none : (fields : List (List ℕ)) (columns : List ColumnDef) (done : Row) → done ≡ [] → AreRead fields columns 0 done
-AreRead-none fields columns done e = rw e (prepended-nil (row_of fields 1 columns))
+pub AreRead-none : (fields : List (List ℕ)) (columns : List ColumnDef) (done : Row) → done ≡ [] → AreRead fields columns 0 done fields
+AreRead-none fields columns done e = rw e (prepended-nil (row_of 1 columns fields))
 
-column_at : (fields : List (List ℕ)) (columns : List ColumnDef) (n m : ℕ) (c : ColumnDef) → n < length columns → c ≡ get_or columns n c →
-    row_of fields m (drop n columns) ≡ with_value m (value_of c.kind (field_of fields (m + 3))) (row_of fields (suc m) (drop (suc n) columns))
+column_at : (rest : List (List ℕ)) (columns : List ColumnDef) (n m : ℕ) (c : ColumnDef) → n < length columns → c ≡ get_or columns n c →
+    row_of m (drop n columns) rest ≡ with_value m (value_of c.kind (field_of rest 0)) (row_of (suc m) (drop (n + 1) columns) (drop 1 rest))
 unfolding row_of
-column_at fields [] n m c h e = absurd (omega arith)
-column_at fields (d ∷ ds) zero m c h e = ap (λ (k : ColumnDef). with_value m (value_of k.kind (field_of fields (m + 3))) (row_of fields (suc m) ds)) (sym e)
-column_at fields (d ∷ ds) (suc n) m c h e = column_at fields ds n m c (omega arith) e
+column_at rest [] n m c h e = absurd (omega arith)
+column_at rest (d ∷ ds) zero m c h e = ap (λ (k : ColumnDef). with_value m (value_of k.kind (field_of rest 0)) (row_of (suc m) ds (drop 1 rest))) (sym e)
+column_at rest (d ∷ ds) (suc n) m c h e = let z : suc n + 1 ≡ suc (n + 1) = omega arith in rw z (column_at rest ds n m c (omega arith) e)
 
-read_here : (fields : List (List ℕ)) (columns : List ColumnDef) (n place : ℕ) (c : ColumnDef) (o : Option Value) (done : Row) → AreRead fields columns n done → n < length columns →
-    c ≡ get_or columns n c → place ≡ n + 4 → o ≡ value_of c.kind (field_of fields place) →
-    row_of fields 1 columns ≡ prepended done (with_value (n + 1) o (row_of fields (suc n + 1) (drop (suc n) columns)))
-read_here fields columns n place c o done r h e p q =
-    let z : place ≡ n + 1 + 3 = omega (arith, p) in
-    let y : suc (n + 1) ≡ suc n + 1 = omega arith in
-    r ∙ ap (prepended done) (column_at fields columns n (n + 1) c h e ∙ rw (y, q, z) refl)
+read_here : (fields rest : List (List ℕ)) (columns : List ColumnDef) (n : ℕ) (c : ColumnDef) (o : Option Value) (done : Row) → AreRead fields columns n done rest → n < length columns →
+    c ≡ get_or columns n c → o ≡ value_of c.kind (field_of rest 0) →
+    row_of 1 columns fields ≡ prepended done (with_value (n + 1) o (row_of (n + 1 + 1) (drop (n + 1) columns) (drop 1 rest)))
+read_here fields rest columns n c o done r h e q =
+    let z : n + 1 + 1 ≡ suc (n + 1) = omega arith in
+    r ∙ ap (prepended done) (column_at rest columns n (n + 1) c h e ∙ rw (q, z) refl)
 
-pub AreRead-next : (fields : List (List ℕ)) (columns : List ColumnDef) (n place : ℕ) (c : ColumnDef) (v : Value) (o : Option Value) (done more : Row) → AreRead fields columns n done → n < length columns →
-    c ≡ get_or columns n c → place ≡ n + 4 → o ≡ value_of c.kind (field_of fields place) → o ≡ Some v → more ≡ done ++ v ∷ [] → AreRead fields columns (n + 1) more
-AreRead-next fields columns n place c v o done more r h e p q s m =
-    let z : n + 1 ≡ suc n = omega arith in
-    read_here fields columns n place c o done r h e p q ∙ rw (z, s, m) (prepended-push done v (suc n) (row_of fields (suc n + 1) (drop (suc n) columns)))
+pub AreRead-next : (fields rest after : List (List ℕ)) (columns : List ColumnDef) (n : ℕ) (c : ColumnDef) (v : Value) (o : Option Value) (done more : Row) → AreRead fields columns n done rest → n < length columns →
+    c ≡ get_or columns n c → o ≡ value_of c.kind (field_of rest 0) → o ≡ Some v → more ≡ done ++ v ∷ [] → after ≡ drop 1 rest → AreRead fields columns (n + 1) more after
+AreRead-next fields rest after columns n c v o done more r h e q s m a =
+    read_here fields rest columns n c o done r h e q ∙ rw (s, m, a) (prepended-push done v (n + 1) (row_of (n + 1 + 1) (drop (n + 1) columns) (drop 1 rest)))
 
-pub AreRead-bad : (fields : List (List ℕ)) (columns : List ColumnDef) (n place : ℕ) (c : ColumnDef) (o : Option Value) (done : Row) → AreRead fields columns n done → n < length columns →
-    c ≡ get_or columns n c → place ≡ n + 4 → o ≡ value_of c.kind (field_of fields place) → o ≡ None → row_of fields 1 columns ≡ Err (n + 1)
-AreRead-bad fields columns n place c o done r h e p q s = read_here fields columns n place c o done r h e p q ∙ rw s refl
+pub AreRead-bad : (fields rest : List (List ℕ)) (columns : List ColumnDef) (n : ℕ) (c : ColumnDef) (o : Option Value) (done : Row) → AreRead fields columns n done rest → n < length columns →
+    c ≡ get_or columns n c → o ≡ value_of c.kind (field_of rest 0) → o ≡ None → row_of 1 columns fields ≡ Err (n + 1)
+AreRead-bad fields rest columns n c o done r h e q s = read_here fields rest columns n c o done r h e q ∙ rw s refl
 
-read_at_end : (fields : List (List ℕ)) (columns : List ColumnDef) (n m : ℕ) → length columns ≤ n → row_of fields m (drop n columns) ≡ Ok []
+read_at_end : (rest : List (List ℕ)) (columns : List ColumnDef) (n m : ℕ) → length columns ≤ n → row_of m (drop n columns) rest ≡ Ok []
 unfolding row_of
-read_at_end fields [] zero m h = refl
-read_at_end fields [] (suc n) m h = refl
-read_at_end fields (d ∷ ds) zero m h = absurd (omega arith)
-read_at_end fields (d ∷ ds) (suc n) m h = read_at_end fields ds n m (omega arith)
+read_at_end rest [] zero m h = refl
+read_at_end rest [] (suc n) m h = refl
+read_at_end rest (d ∷ ds) zero m h = absurd (omega arith)
+read_at_end rest (d ∷ ds) (suc n) m h = read_at_end rest ds n m (omega arith)
 
-pub AreRead-end : (fields : List (List ℕ)) (columns : List ColumnDef) (n : ℕ) (done : Row) → AreRead fields columns n done → length columns ≤ n → row_of fields 1 columns ≡ Ok done
-AreRead-end fields columns n done r h = r ∙ ap (prepended done) (read_at_end fields columns n (n + 1) h) ∙ ap (λ (x : Row). Ok x) (append-nil done)
+pub AreRead-end : (fields rest : List (List ℕ)) (columns : List ColumnDef) (n : ℕ) (done : Row) → AreRead fields columns n done rest → length columns ≤ n → row_of 1 columns fields ≡ Ok done
+AreRead-end fields rest columns n done r h = r ∙ ap (prepended done) (read_at_end rest columns n (n + 1) h) ∙ ap (λ (x : Row). Ok x) (append-nil done)
 
 -- the streams before are not of that name
 pub named-past : (streams : List StreamDef) (i n : ℕ) (name : List ℕ) (s : StreamDef) → i < length streams → s ≡ get_or streams i s → same_text s.name name ≡ false →

@@ -1,5 +1,5 @@
 -- What a line says, or the first cause for which it is bad.
-use Rattle.std.specs.Prelude.{ℕ, suc, ◌+◌, ◌∷◌, Bool, not, List, [], Option, Some, None, Result, Ok, Err, if◌then◌else◌, ◌==◌, length, codes}
+use Rattle.std.specs.Prelude.{ℕ, suc, ◌+◌, ◌∷◌, Bool, not, List, [], Option, Some, None, Result, Ok, Err, if◌then◌else◌, ◌==◌, length, drop, codes}
 use Rattle.std.specs.List.{list_any}
 use Rattle.std.specs.Str.{is_utf8}
 use Rattle.tw_rows.specs.Rows.{Row}
@@ -53,36 +53,46 @@ with_value n None row = Err n
 with_value n (Some v) (Ok row) = Ok (v ∷ row)
 with_value n (Some v) (Err m) = Err m
 
--- the values of the columns from the n-th on, counted from 1, which stands in the field of number n + 3, or the number of the first column that is bad
-unfoldable pub row_of : List (List ℕ) → ℕ → List ColumnDef → Result Row ℕ
-row_of fields n [] = Ok []
-row_of fields n (c ∷ columns) = with_value n (value_of c.kind (field_of fields (n + 3))) (row_of fields (suc n) columns)
+-- the values that the fields spell, one for each column, or the number of the first column that is bad, where the first column has number n
+unfoldable pub row_of : ℕ → List ColumnDef → List (List ℕ) → Result Row ℕ
+row_of n [] fields = Ok []
+row_of n (c ∷ columns) fields = with_value n (value_of c.kind (field_of fields 0)) (row_of (suc n) columns (drop 1 fields))
 
 abbrev pub with_row : Result Row ℕ → (Row → Read) → Read
 with_row (Err n) more = Err (BadValue n)
 with_row (Ok row) more = more row
 
--- the form stream,FORM,TIME,TIME,VALUE.. with a value for each column
+-- behind a stream's name: the form FORM,TIME,TIME,VALUE.. with a value for each column
 unfoldable pub event : ℕ → List ColumnDef → List (List ℕ) → Read
 event stream columns fields =
-    or_bad UnknownKind (form_of (field_of fields 1)) (λ form.
-    if not (length fields == length columns + 4) then Err WrongFields else
-    or_bad BadTime (times_of form (field_of fields 2) (field_of fields 3)) (λ times.
+    or_bad UnknownKind (form_of (field_of fields 0)) (λ form.
+    if not (length fields == length columns + 3) then Err WrongFields else
+    or_bad BadTime (times_of form (field_of fields 1) (field_of fields 2)) (λ times.
     if not (is_alive form times.0 times.1) then Err BadLife else
-    with_row (row_of fields 1 columns) (λ row. Ok (Event stream form times.0 times.1 row))))
+    with_row (row_of 1 columns (drop 3 fields)) (λ row. Ok (Event stream form times.0 times.1 row))))
 
--- the form *,punct,TIME
-unfoldable pub punctuation : List (List ℕ) → Read
-punctuation fields =
-    if not (same_text (field_of fields 1) (codes "punct")) then Err UnknownKind
-    else if not (length fields == 3) then Err WrongFields
-    else or_bad BadTime (end_of (field_of fields 2)) (λ time. Ok (Punct time))
+-- behind the name of that stream, or `*`: the form punct,TIME
+unfoldable pub punctuation : Option ℕ → List (List ℕ) → Read
+punctuation stream fields =
+    if not (length fields == 2) then Err WrongFields
+    else or_bad BadTime (end_of (field_of fields 1)) (λ time. Ok (Punct stream time))
+
+abbrev pub is_punct : List (List ℕ) → Bool
+is_punct fields = same_text (field_of fields 0) (codes "punct")
+
+-- what the fields behind `*` say
+abbrev pub of_all : List (List ℕ) → Read
+of_all fields = if is_punct fields then punctuation None fields else Err UnknownKind
+
+-- what the fields behind a stream's name say
+abbrev pub of_stream : ℕ → List ColumnDef → List (List ℕ) → Read
+of_stream stream columns fields = if is_punct fields then punctuation (Some stream) fields else event stream columns fields
 
 -- what the fields of a line say
 unfoldable pub record_entry : List StreamDef → List (List ℕ) → Read
 record_entry streams fields =
-    if same_text (field_of fields 0) (codes "*") then punctuation fields
-    else or_bad UnknownStream (named 0 streams (field_of fields 0)) (λ found. event found.0 found.1.schema fields)
+    if same_text (field_of fields 0) (codes "*") then of_all (drop 1 fields)
+    else or_bad UnknownStream (named 0 streams (field_of fields 0)) (λ found. of_stream found.0 found.1.schema (drop 1 fields))
 
 abbrev pub unless_bad : Option BadLine → Read → Read
 unless_bad (Some cause) read = Err cause

@@ -1,7 +1,10 @@
+-- Callers read Entry with what it stands on (Number, Line, Quotes, Record, Values), and Spelled, Printed and Spells, of which
+-- the laws speak. Answers serves contracts, and only private contracts cite Fields.
 pub mod Number
 pub mod Line
 pub mod Quotes
 pub mod Record
+pub mod Fields
 pub mod Values
 pub mod Entry
 pub mod Answers

@@ -5,9 +5,9 @@ use Rattle.tw_rows.specs.declared.kind.Kind.{Kind}
 use Rattle.tw_rows.specs.declared.kind.Kind.TheVariants as kinds
 use Rattle.tw_rows.specs.declared.row.Value.{Value}
 use Rattle.tw_rows.specs.declared.row.Value.TheVariants.{Int, Bool as Flag, Text}
-use Rattle.row_reader.specs.Number.{number_of, int_of, same_text}
-use Rattle.row_reader.specs.declared.entry.Form.{Form}
-use Rattle.row_reader.specs.declared.entry.Form.TheVariants as forms
+use Rattle.row_reader.specs.Number.{number_of, units_of, same_text}
+use Rattle.line_text.specs.declared.form.Form.{Form}
+use Rattle.line_text.specs.declared.form.Form.TheVariants as forms
 
 -- a time that an event may have: below 2 ^ 60
 abbrev pub time_of : List ℕ → Option ℕ
@@ -46,8 +46,9 @@ is_alive forms.Interval start end = nat_lt start end
 is_alive forms.Start start end = nat_lt start end
 is_alive forms.End end start = nat_lt start end
 
--- the value of a kind that a text spells: `-3`, `true` or any text
+-- the value of a kind that a text spells: `-3`, `true`, any text, or `-0.05` in a column dec(2)
 unfoldable pub value_of : Kind → List ℕ → Option Value
-value_of kinds.Int text = option_map Int (int_of text)
+value_of kinds.Int text = option_map Int (units_of 0 text)
+value_of (kinds.Dec k) text = option_map Int (units_of k text)
 value_of kinds.Bool text = if same_text text (codes "true") then Some (Flag true) else if same_text text (codes "false") then Some (Flag false) else None
 value_of kinds.Text text = Some (Text text)

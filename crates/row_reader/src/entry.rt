@@ -2,26 +2,20 @@
 ghost use Rattle.std.specs.Prelude.{◌≡◌};
 ghost use Rattle.row_reader.specs.declared.entry.RowFault.TheVariants as faults;
 
+use line_text::Form;
 use std::alloc::{AllocError, AllocFailed};
-use std::error::Error;
-use std::fmt;
 use tw_rows::{Memory, Row, Time};
-
-/// What a line says of an event: its whole life, that it starts, or that it ends.
-#[derive(Clone, Copy, Debug, PartialEq, Eq)]
-pub enum Form {
-    Interval,
-    Start,
-    End,
-}
 
 /// What a line says.
 #[derive(Drop)]
 pub enum Entry {
     /// Nothing: the line is empty.
     Skip,
-    /// No event before this time comes any more.
-    Punct(Time),
+    /// No event before this time comes any more: of the stream of that number, or of any stream.
+    Punct {
+        stream: Option<usize>,
+        time: Time,
+    },
     /// Of an event of the stream of that number. An interval has its start as `sync` and its end as `other`, a start has
     /// infinity as `other`, and an end has the event's end as `sync` and its start as `other`.
     Event {
@@ -59,26 +53,6 @@ pub enum BadLine {
     /// It ends an event that did not start. Whoever matches starts and ends tells this.
     NoStart,
 }
-
-impl fmt::Display for BadLine {
-    fn fmt<W: fmt::Write>(&self, f: &mut fmt::Formatter<W>) -> fmt::Result {
-        match self {
-            BadLine::TooLong => write!(f, "too long"),
-            BadLine::NotUtf8 => write!(f, "not utf-8"),
-            BadLine::StrayReturn => write!(f, "stray return"),
-            BadLine::OddQuotes => write!(f, "odd quotes"),
-            BadLine::UnknownStream => write!(f, "unknown stream"),
-            BadLine::UnknownKind => write!(f, "unknown kind"),
-            BadLine::WrongFields => write!(f, "wrong number of fields"),
-            BadLine::BadTime => write!(f, "bad time"),
-            BadLine::BadLife => write!(f, "bad life"),
-            BadLine::BadValue { column } => write!(f, "bad value in column {column}"),
-            BadLine::NoStart => write!(f, "no open start"),
-        }
-    }
-}
-
-impl Error for BadLine {}
 
 /// Why a line gave no entry.
 #[derive(Clone, Copy, Debug, PartialEq, Eq)]

@@ -1,18 +1,20 @@
 // What holds of lines and of what they say.
-ghost use Rattle.std.specs.Prelude.{◌≡◌, ◌≢◌, ◌<◌, ◌↔◌, ◌∷◌, ℕ, Bool, List, Ok, false, length};
+ghost use Rattle.std.specs.Prelude.{◌≡◌, ◌≢◌, ◌<◌, ◌≤◌, ◌^◌, ◌↔◌, ◌∷◌, ℕ, Bool, List, Option, IfSome, Ok, false, length};
 ghost use Rattle.std.specs.List.{All};
-ghost use Rattle.row_reader.specs.Quotes.{odd_quotes};
-ghost use Rattle.row_reader.specs.Record.{record_of};
-ghost use Rattle.row_reader.specs.Spelled.{SpellsFields};
-ghost use Rattle.row_reader.specs.Printed.{event_fields, IsRowOf, AreTimes};
-ghost use Rattle.row_reader.specs.Entry.{event, entry};
-ghost use Rattle.row_reader.specs.Line.{text_of};
-ghost use Rattle.row_reader.specs.Spells.{SpellsEvent};
-ghost use Rattle.row_reader.specs.declared.entry.Form.{Form};
-ghost use Rattle.row_reader.specs.declared.entry.Entry.TheVariants as entries;
+ghost use Rattle.tw_rows.specs.Instant.{inf};
 ghost use Rattle.tw_rows.specs.Rows.{Row};
 ghost use Rattle.tw_rows.specs.declared.schema.ColumnDef.{ColumnDef};
 ghost use Rattle.tw_rows.specs.declared.schema.StreamDef.{StreamDef};
+ghost use Rattle.line_text.specs.Fields.{event_fields};
+ghost use Rattle.line_text.specs.declared.form.Form.{Form};
+ghost use Rattle.row_reader.specs.Quotes.{odd_quotes};
+ghost use Rattle.row_reader.specs.Record.{record_of};
+ghost use Rattle.row_reader.specs.Spelled.{SpellsFields};
+ghost use Rattle.row_reader.specs.Printed.{kinds_of, IsRowOf, AreTimes};
+ghost use Rattle.row_reader.specs.Entry.{event, entry};
+ghost use Rattle.row_reader.specs.Line.{text_of};
+ghost use Rattle.row_reader.specs.Spells.{SpellsEvent, SpellsPunctuation};
+ghost use Rattle.row_reader.specs.declared.entry.Entry.TheVariants as entries;
 
 /// The quotes of bytes without CR and LF are not odd exactly where the bytes spell fields: each as it stands or between
 /// double quotes, joined by commas. The record of the bytes has these fields, so they are the only ones.
@@ -29,17 +31,33 @@ pub fn lines_are_fields()
 pub fn events_are_printed()
     ensures { (stream : ℕ) (columns : List ColumnDef) (name : List ℕ) (fields : List (List ℕ)) (form : Form) →
         (sync other : ℕ) (row : Row) →
-        (event stream columns (name ∷ fields) ≡ Ok (entries.Event stream form sync other row)) ↔
-        ((name ∷ fields ≡ event_fields name form sync other row) × IsRowOf columns row × AreTimes form sync other) }
+        (event stream columns fields ≡ Ok (entries.Event stream form sync other row)) ↔
+        ((name ∷ fields ≡ event_fields (kinds_of columns) name form sync other row) × IsRowOf columns row × AreTimes form sync other) }
 {}
 
-/// A line without LF is read as an event exactly where its text spells the event: it is UTF-8 without CR, begins with
-/// no byte order mark, and spells the name of the stream and the fields that are printed of the event, each as it stands
+/// A line without LF is read as an event, or as a punctuation, exactly where its text spells it: it is UTF-8 without CR,
+/// begins with no byte order mark, and spells the fields that are printed of the event or the punctuation, each as it stands
 /// or between double quotes, joined by commas. The text of a line is the line without one CR at its end and, where it is
-/// the first of the input, without a byte order mark.
+/// the first of the input, without a byte order mark. So a text spells one event at most.
 pub fn lines_say_what_they_spell()
-    ensures { (streams : List StreamDef) (first : Bool) (line : List ℕ) (stream : ℕ) (form : Form) (sync other : ℕ) →
+    ensures events { (streams : List StreamDef) (first : Bool) (line : List ℕ) (stream : ℕ) (form : Form) (sync other : ℕ) →
         (row : Row) → All (λ b. b ≢ 10) line →
         (entry streams first line ≡ Ok (entries.Event stream form sync other row)) ↔
         SpellsEvent streams (text_of first line) stream form sync other row }
+    ensures punctuations { (streams : List StreamDef) (first : Bool) (line : List ℕ) (stream : Option ℕ) (time : ℕ) →
+        All (λ b. b ≢ 10) line →
+        (entry streams first line ≡ Ok (entries.Punct stream time)) ↔ SpellsPunctuation streams (text_of first line) stream time }
+    ensures one { (streams : List StreamDef) (text : List ℕ) (s t : ℕ) (f g : Form) (a b c d : ℕ) (row other : Row) →
+        All (λ b. b ≢ 10) text → SpellsEvent streams text s f a b row → SpellsEvent streams text t g c d other →
+        entries.Event s f a b row ≡ entries.Event t g c d other }
+{}
+
+/// What is read of a line without LF is of a declared stream, and its times are at most infinity.
+pub fn entries_are_within()
+    ensures events { (streams : List StreamDef) (first : Bool) (line : List ℕ) (stream : ℕ) (form : Form) (sync other : ℕ) →
+        (row : Row) → All (λ b. b ≢ 10) line → entry streams first line ≡ Ok (entries.Event stream form sync other row) →
+        (stream < length streams) × (sync < 2 ^ 60) × (other ≤ inf) }
+    ensures punctuations { (streams : List StreamDef) (first : Bool) (line : List ℕ) (stream : Option ℕ) (time : ℕ) →
+        All (λ b. b ≢ 10) line → entry streams first line ≡ Ok (entries.Punct stream time) →
+        IfSome stream (λ s. s < length streams) × (time ≤ inf) }
 {}

@@ -2,6 +2,7 @@
 #![tactic(auto)]
 
 mod entry;
+mod fields;
 mod laws;
 mod line;
 mod number;
@@ -12,7 +13,10 @@ mod record;
 mod tests;
 mod value;
 
-pub use entry::{BadLine, Entry, Form, RowFault};
-pub use laws::{events_are_printed, lines_are_fields, lines_say_what_they_spell};
+pub use entry::{BadLine, Entry, RowFault};
+pub use laws::{
+    entries_are_within, events_are_printed, lines_are_fields, lines_say_what_they_spell,
+};
+pub use line_text::Form;
 pub use number::read_number;
 pub use read::read_row;

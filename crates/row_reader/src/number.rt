@@ -1,46 +1,127 @@
 // Numbers as they are spelled.
-ghost use Rattle.std.specs.Prelude.{◌≡◌, ◌≤◌, ◌^◌};
-ghost use Rattle.row_reader.specs.Number.{int_of, number_of};
+ghost use Rattle.std.specs.Prelude.{◌≡◌, ◌++◌, ◌∷◌, ◌^◌, ◌<◌, ◌≤◌, ℕ, List, IfSome, IfNone, length, decimal, IsTrue};
+ghost use Rattle.std.specs.Char.{digit_value};
+ghost use Rattle.std.specs.Str.Parse.{AllDigits, digits_value_after};
+ghost use Rattle.line_text.specs.Number.{units_text};
+ghost use Rattle.row_reader.specs.Number.{units_of, number_of, below_zero, above_zero, has_minus};
 
-use itoa::Buffer;
-
-/// The number below the limit that the text spells: its decimal digits alone, without a sign or a leading zero, as in
-/// `0` and `17`. `None` where the text spells no such number, and so for `+17`, `017`, the limit itself and bytes that
-/// are no UTF-8. It takes no memory.
-pub fn read_number(bytes: &[u8], limit: u64) -> Option<u64>
-    ensures { result ≡ number_of limit bytes.now }
+/// The number that the digit is.
+fn digit_of(byte: u8) -> Option<u64>
+    ensures some { IfSome result (λ d. (digit_value byte ≡ d) × (d < 10)) }
+    ensures none { IfNone result (10 ≤ digit_value byte) }
 {
-    let Ok(text) = str::from_utf8(bytes) else {
-        return None;
-    };
-    let Ok(number) = text.parse::<u64>() else {
-        return None;
-    };
-    if number >= limit {
-        return None;
+    match byte {
+        b'0'..=b'9' => Some((byte - b'0') as u64),
+        _ => None,
     }
-    let mut buffer = Buffer::new();
-    let printed = buffer.format(number).as_bytes();
-    if printed != bytes {
-        return None;
+}
+
+/// The number that the digits add to one: to 12 the digits `05` add 1205. `None` where another byte is among them, or the
+/// number has more than 64 bits.
+fn read_digits(start: u64, bytes: &[u8]) -> Option<u64>
+    ensures digits { IfSome result (λ n. AllDigits 10 bytes.now) }
+    ensures value { IfSome result (λ n. n ≡ digits_value_after 10 start bytes.now) }
+    ensures small { IfSome result (λ n. n < 2 ^ 64) }
+    ensures none { IfNone result (AllDigits 10 bytes.now → digits_value_after 10 start bytes.now < 2 ^ 64 → ⊥) }
+{
+    let mut number = start;
+    for byte in bytes {
+        let digit = digit_of(*byte)?;
+        number = number.checked_mul(10)?.checked_add(digit)?;
     }
     Some(number)
 }
 
-/// The number with a sign that the text spells.
-pub fn read_int(bytes: &[u8]) -> Option<i64>
-    ensures { result ≡ int_of bytes.now }
+/// The number of which these are the digits, without a leading zero.
+fn read_whole(bytes: &[u8]) -> Option<u64>
+    ensures some { IfSome result (λ n. bytes.now ≡ decimal n) }
+    ensures small { IfSome result (λ n. n < 2 ^ 64) }
+    ensures none { IfNone result ((n : ℕ) → n < 2 ^ 64 → bytes.now ≡ decimal n → ⊥) }
 {
-    let Ok(text) = str::from_utf8(bytes) else {
-        return None;
-    };
-    let Ok(number) = text.parse::<i64>() else {
-        return None;
-    };
-    let mut buffer = Buffer::new();
-    let printed = buffer.format(number).as_bytes();
-    if printed != bytes {
+    if bytes.is_empty() {
         return None;
     }
-    Some(number)
+    if bytes[0] == b'0' {
+        return if bytes.len() == 1 { Some(0) } else { None };
+    }
+    read_digits(0, bytes)
+}
+
+/// The number below the limit that the text spells: its decimal digits alone, without a sign or a leading zero, as in
+/// `0` and `17`. `None` where the text spells no such number, and so for `+17`, `017` and the limit itself. It takes no
+/// memory.
+pub fn read_number(bytes: &[u8], limit: u64) -> Option<u64>
+    ensures { result ≡ number_of limit bytes.now }
+{
+    let number = read_whole(bytes)?;
+    if number < limit { Some(number) } else { None }
+}
+
+/// What stands before and behind a point that has so many bytes behind it.
+fn split_at_point(bytes: &[u8], places: usize) -> Option<(&[u8], &[u8])>
+    ensures some { IfSome result (λ p. (bytes.now ≡ p.0.now ++ 46 ∷ p.1.now) × (length p.1.now ≡ places)) }
+    ensures none { IfNone result ((a b : List ℕ) → bytes.now ≡ a ++ 46 ∷ b → length b ≡ places → ⊥) }
+{
+    if bytes.len() <= places {
+        return None;
+    }
+    let point = bytes.len() - places - 1;
+    if bytes[point] != b'.' {
+        return None;
+    }
+    Some((&bytes[..point], &bytes[point + 1..]))
+}
+
+/// The number of units that the text spells, without a sign.
+fn read_units(bytes: &[u8], places: usize) -> Option<u64>
+    ensures some { IfSome result (λ n. bytes.now ≡ units_text places n) }
+    ensures small { IfSome result (λ n. n < 2 ^ 64) }
+    ensures none { IfNone result ((n : ℕ) → n < 2 ^ 64 → bytes.now ≡ units_text places n → ⊥) }
+{
+    if places == 0 {
+        return read_whole(bytes);
+    }
+    let (whole, fraction) = split_at_point(bytes, places)?;
+    let number = read_whole(whole)?;
+    read_digits(number, fraction)
+}
+
+/// The number of that many units below zero. There is no zero below zero.
+fn negative(units: u64) -> Option<i64>
+    ensures { result ≡ below_zero units }
+{
+    if units == 0 || units > 1 << 63 {
+        return None;
+    }
+    Some(-1 - (units - 1) as i64)
+}
+
+/// The number of that many units.
+fn positive(units: u64) -> Option<i64>
+    ensures { result ≡ above_zero units }
+{
+    if units < 1 << 63 {
+        Some(units as i64)
+    } else {
+        None
+    }
+}
+
+#[tactic(auto, unfolding(crate::specs::Number::has_minus))]
+fn has_minus(bytes: &[u8]) -> bool
+    ensures value { result ≡ has_minus bytes.now }
+    ensures some { IsTrue result → 1 ≤ length bytes.now }
+{
+    bytes.len() > 0 && bytes[0] == b'-'
+}
+
+/// The number of units that the text spells, of which ten to the power of the places make one: `-0.05` spells -5 with 2
+/// places.
+pub fn read_places(bytes: &[u8], places: u8) -> Option<i64>
+    ensures { result ≡ units_of places bytes.now }
+{
+    if has_minus(bytes) {
+        return negative(read_units(&bytes[1..], places as usize)?);
+    }
+    positive(read_units(bytes, places as usize)?)
 }

@@ -3,7 +3,7 @@ ghost use Rattle.std.specs.Prelude.{◌≡◌, ◌≢◌, ◌<◌, [], IfOk, OnO
 ghost use Rattle.std.specs.List.{All};
 ghost use Rattle.std.specs.Str.{IsUtf8};
 ghost use Rattle.csv.specs.Records.{fields_of, partial_of};
-ghost use Rattle.row_reader.specs.Record.{record_of, field_of, ReadsOn};
+ghost use Rattle.row_reader.specs.Record.{record_of, ReadsOn};
 
 use crate::quotes::Place;
 use csv::{ByteRecord, StringRecord};
@@ -100,12 +100,4 @@ pub fn read_record(alloc: Global, line: &[u8]) -> Result<StringRecord, AllocErro
         Ok(fields) => Ok(fields),
         Err(_) => unreachable!(),
     }
-}
-
-/// The field of that number, counted from 0, or nothing where there is none.
-#[tactic(auto, unfolding(crate::specs::Record::field_of))]
-pub fn field(fields: &StringRecord, number: usize) -> &str
-    ensures { result.now ≡ field_of (fields_of fields.now) number }
-{
-    fields.get(number).unwrap_or("")
 }

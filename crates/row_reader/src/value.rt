@@ -2,8 +2,8 @@
 ghost use Rattle.std.specs.Prelude.{◌≡◌, IfOk};
 ghost use Rattle.row_reader.specs.Values.{time_of, end_of, inf_of, form_of, times_of, is_alive, value_of};
 
-use crate::entry::Form;
-use crate::number::{read_int, read_number};
+use crate::number::{read_number, read_places};
+use line_text::Form;
 use std::alloc::Global;
 use tw_rows::{Kind, Label, Memory, Time, Value};
 
@@ -82,7 +82,8 @@ pub fn read_value(alloc: Global, kind: Kind, text: &str) -> Result<Option<Value>
     ensures { IfOk result (λ value. value ≡ value_of kind text.now) }
 {
     Ok(match kind {
-        Kind::Int => read_int(text.as_bytes()).map(Value::Int),
+        Kind::Int => read_places(text.as_bytes(), 0).map(Value::Int),
+        Kind::Dec(places) => read_places(text.as_bytes(), places).map(Value::Int),
         Kind::Bool => match text {
             "true" => Some(Value::Bool(true)),
             "false" => Some(Value::Bool(false)),

@@ -1,0 +1,75 @@
+// The fields of a line, one after the other.
+ghost use Rattle.std.specs.Prelude.{◌≡◌, ◌∷◌, [], IfSome, IfNone, length, drop, count_by, ◌==◌};
+ghost use Rattle.row_reader.specs.Record.{field_of};
+ghost use Rattle.row_reader.specs.Fields.{commas, left};
+
+use csv::StringRecord;
+
+/// The fields of a line that are still to be read.
+#[derive(Clone, Copy)]
+pub enum Fields<'a> {
+    /// Those of a line without quotes: what is left of the line, and nothing where no field is left.
+    Plain(Option<&'a str>),
+    /// Those of a record, from that number on.
+    Record(&'a StringRecord, usize),
+}
+
+/// The text before the first comma, and what stands behind that comma.
+fn split_field(text: &str) -> (&str, Option<&str>)
+    ensures none { IfNone result.1 (commas text.now ≡ result.0.now ∷ []) }
+    ensures some { IfSome result.1 (λ rest. commas text.now ≡ result.0.now ∷ commas rest.now) }
+{
+    match text.as_bytes().iter().position(|byte| *byte == b',') {
+        Some(comma) => (&text[..comma], Some(&text[comma + 1..])),
+        None => (text, None),
+    }
+}
+
+fn count_commas(bytes: &[u8]) -> usize
+    ensures { result ≡ count_by (λ b. b == 44) bytes.now }
+{
+    bytes.iter().filter(|byte| **byte == b',').count()
+}
+
+#[tactic(auto, unfolding(crate::specs::Record::field_of, csv::specs::Records::field_at))]
+impl<'a> Fields<'a> {
+    /// The next field, which is taken off, or nothing where no field is left.
+    pub fn take_field(&mut self) -> &'a str
+        ensures field { result.now ≡ field_of (left self.old) 0 }
+        ensures left { left self.new ≡ drop 1 (left self.old) }
+    {
+        match self {
+            Fields::Plain(rest) => match *rest {
+                None => "",
+                Some(text) => {
+                    let (field, after) = split_field(text);
+                    *rest = after;
+                    field
+                }
+            },
+            Fields::Record(record, next) => {
+                let record = *record;
+                match record.get(*next) {
+                    Some(field) => {
+                        *next += 1;
+                        field
+                    }
+                    None => "",
+                }
+            }
+        }
+    }
+
+    /// How many fields are left.
+    pub fn count(&self) -> usize
+        ensures { result ≡ length (left self.now) }
+    {
+        match self {
+            Fields::Plain(rest) => match rest {
+                None => 0,
+                Some(text) => 1 + count_commas(text.as_bytes()),
+            },
+            Fields::Record(record, next) => record.len().saturating_sub(*next),
+        }
+    }
+}
