@@ -6,6 +6,7 @@ pub mod BothSides
 pub mod Averages
 pub mod LeftNodes
 pub mod Sound
+pub mod FaultOrder
 pub mod StepLemmas
 pub mod ExplainExamples
 mod Examples

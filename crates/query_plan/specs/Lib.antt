@@ -3,5 +3,6 @@ pub mod Answer
 pub mod Growing
 pub mod Checked
 pub mod Steps
+pub mod Faults
 pub mod Planned
 pub mod Explained

@@ -14,6 +14,6 @@ mod steps;
 #[cfg(test)]
 mod tests;
 
-pub use laws::{built_nodes_alone, plans_keep_their_rules};
+pub use laws::{built_nodes_alone, faults_are_told_in_order, plans_keep_their_rules};
 pub use plan_text::explain;
 pub use planning::plan;
