@@ -1,5 +1,5 @@
 -- The single edges of a list, and the rows that are open at a time.
-use Rattle.std.specs.Prelude.{ℕ, ◌&&◌, ◌||◌, nat_eq, nat_lt, nat_le, Bool, cond, List, [], ◌∷◌, map, flat_map}
+use Rattle.std.specs.Prelude.{ℕ, ◌&&◌, ◌||◌, nat_eq, nat_lt, nat_le, not, Bool, cond, List, [], ◌∷◌, map, flat_map}
 use Rattle.tw_rows.specs.Instant.{inf}
 use Rattle.tw_rows.specs.SameCells.{same_cells}
 use Rattle.tw_rows.specs.declared.cells.Datum.{Datum}
@@ -15,6 +15,10 @@ singles_of e = cond (is_end e || nat_eq e.other inf) (e ∷ []) (start_edge (giv
 
 abbrev pub singles : List Edge → List Edge
 singles h = flat_map singles_of h
+
+-- the edge is no end
+abbrev pub is_start : Edge → Bool
+is_start e = not (is_end e)
 
 -- the row of an event with its start, where it began before c and does not end before c: what is open just before c.
 -- The life [3, 5) is open at 4 and at 5, and neither at 3 nor at 6

@@ -21,8 +21,9 @@ pub use made_laws::{
     replaced_edges_stand_for_replaced_events, tested_edges_stand_for_tested_events,
 };
 pub use open_laws::{
-    edges_of_an_instant_change_the_open_rows, ends_may_be_told_ahead, open_rows_follow_news,
-    single_edges_are_news, waiting_edges_become_due,
+    edges_of_an_instant_change_the_open_rows, ends_may_be_told_ahead, kept_rows_are_bounded,
+    open_rows_follow_news, single_edges_are_news, waiting_edges_become_due,
+    waiting_starts_become_due,
 };
 pub use order::{in_order, keeps_order};
 pub use side_laws::{

@@ -1,15 +1,16 @@
 // The laws of the rows that are open at a time, and of the edges that change them.
-ghost use Rattle.std.specs.Prelude.{◌≡◌, ℕ, suc, ◌+◌, ◌≤◌, ◌&&◌, cond, List, ◌++◌, filter};
+ghost use Rattle.std.specs.Prelude.{◌≡◌, ℕ, suc, ◌+◌, ◌*◌, ◌≤◌, ◌&&◌, cond, List, ◌++◌, filter, length};
 ghost use Rattle.tw_rows.specs.Instant.{inf};
 ghost use Rattle.tw_rows.specs.Bag.{SameBag, total};
 ghost use Rattle.tw_rows.specs.Event.{alive, AreEvents, cut, Known};
 ghost use Rattle.tw_rows.specs.declared.edge.Edge.{Edge};
 ghost use Rattle.tw_rows.specs.declared.edge.HeldRow.{HeldRow};
-ghost use Rattle.edge_history.specs.Order.{failing, is_real, is_below, is_from, Rises, IsHistory};
+ghost use Rattle.edge_history.specs.Order.{failing, many, is_real, is_below, is_from, Rises, IsHistory};
 ghost use Rattle.edge_history.specs.History.{CellEvent, of, StandsBelow};
 ghost use Rattle.edge_history.specs.Balance.{AreEventsOf, news};
+ghost use Rattle.edge_history.specs.Side.{reaches};
 ghost use Rattle.edge_history.specs.Ahead.{ToldAhead};
-ghost use Rattle.edge_history.specs.Opens.{singles, opens, ended_rows, started_rows, bare, is_early, is_new};
+ghost use Rattle.edge_history.specs.Opens.{singles, is_start, opens, ended_rows, started_rows, bare, is_early, is_new};
 
 /// The single edges of a list are the news of its events, and the news between two times are those of them that lie there.
 pub fn single_edges_are_news()
@@ -61,6 +62,28 @@ pub fn waiting_edges_become_due()
         ((w : Edge → ℕ) → total w due + total w rest ≡ total w waiting + total w (singles new)) →
         failing (is_below d) due ≡ 0 → failing (is_from d) rest ≡ 0 →
         SameBag rest (filter (is_from d) (singles (came ++ new))) }
+{}
+
+/// The same where starts alone wait, as on a side of which no end is asked.
+pub fn waiting_starts_become_due()
+    ensures due { (came new waiting due rest : List Edge) (c d : ℕ) → c ≤ d → d ≤ inf → IsHistory (came ++ new) →
+        failing (is_from c) new ≡ 0 → SameBag waiting (filter is_start (filter (is_from c) (singles came))) →
+        ((w : Edge → ℕ) → total w due + total w rest ≡ total w waiting + total w (filter is_start (singles new))) →
+        failing (is_below d) due ≡ 0 → failing (is_from d) rest ≡ 0 →
+        SameBag due (filter is_start (news c d (of (came ++ new)))) }
+    ensures rest { (came new waiting due rest : List Edge) (c d : ℕ) → c ≤ d → d ≤ inf → IsHistory (came ++ new) →
+        failing (is_from c) new ≡ 0 → SameBag waiting (filter is_start (filter (is_from c) (singles came))) →
+        ((w : Edge → ℕ) → total w due + total w rest ≡ total w waiting + total w (filter is_start (singles new))) →
+        failing (is_below d) due ≡ 0 → failing (is_from d) rest ≡ 0 →
+        SameBag rest (filter is_start (filter (is_from d) (singles (came ++ new)))) }
+{}
+
+/// The rows that are open at a time and the single edges that wait from it on are at most two for each event that does not
+/// end before it.
+pub fn kept_rows_are_bounded()
+    ensures { (h : List Edge) (rows : List HeldRow) (waiting : List Edge) (to : ℕ) → IsHistory h →
+        SameBag rows (opens to (of h)) → SameBag waiting (filter (is_from to) (singles h)) →
+        length rows + length waiting ≤ 2 * many (reaches to) (of h) }
 {}
 
 /// An operator may tell an end ahead, by an interval edge with the end that it knows. What is told so is a history and stands

@@ -8,9 +8,9 @@ use Rattle.tw_rows.specs.declared.edge.Edge.{Edge}
 use Rattle.tw_rows.specs.declared.edge.HeldRow.{HeldRow}
 use Rattle.tw_rows.proofs.Bags.{total-append, total-map, total-flat_map, SameBag-refl, SameBag-trans, SameBag-append}
 use Rattle.tw_rows.proofs.Fronts.{total_more, total_part}
-use Rattle.edge_history.specs.Order.{is_end, many}
+use Rattle.edge_history.specs.Order.{is_end}
 use Rattle.edge_history.specs.Opens.{ended_of, started_of, ended_rows, started_rows, is_held}
-use Rattle.sweep_laws.specs.Moves.{Adds, told_at}
+use Rattle.sweep_laws.specs.Moves.{Adds, told_at, HoldsEnded}
 
 pub append_none : (es : List Edge) → es ++ [] ≡ es
 append_none [] = refl
@@ -38,9 +38,6 @@ ended_itself x e =
     let z : is_held x.cells x.other (record { cells = x.cells; start = x.other }) ≡ true = and_from _ _ (eq-eqb x.other x.other refl) (same_itself x.cells) in
     ap (λ b. total (λ (r : HeldRow). cond {A = ℕ} (is_held x.cells x.other r) 1 0) (cond b (record { cells = x.cells; start = x.other } ∷ []) [])) e
     ∙ ap (λ b. cond {A = ℕ} b 1 0 + 0) z
-
-abbrev pub HoldsEnded : Edge → List HeldRow → Type 0
-HoldsEnded x rows = is_end x ≡ true → 1 ≤ many (is_held x.cells x.other) rows
 
 pub moved_more : (now : List Edge) (i : ℕ) (x : Edge) (rows0 rows1 rows2 : List HeldRow) → i < length now → x ≡ get_or now i x →
     (HoldsEnded x rows1 → (w : HeldRow → ℕ) → total w rows2 + total w (ended_of x) ≡ total w rows1 + total w (started_of x)) →

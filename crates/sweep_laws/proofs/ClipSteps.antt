@@ -70,7 +70,7 @@ module _ (meets : List Datum → List Datum → Bool) where
       ∙ total_same _ _ a (λ e. clip_one w t b e) ∙ sym (total-flat_map (λ r. cond (is_clipped meets b t r) 0 (w r)) (open_of t) a)
 
   -- one more instant: a row that began before t is clipped then, or by a start at t
-  later_one : (b : List CellEvent) (t : ℕ) (r : HeldRow) → is_early t r ≡ true → is_clipped meets b (suc t) r ≡ (is_clipped meets b t r || starts_at meets b r.cells t)
+  pub later_one : (b : List CellEvent) (t : ℕ) (r : HeldRow) → is_early t r ≡ true → is_clipped meets b (suc t) r ≡ (is_clipped meets b t r || starts_at meets b r.cells t)
   unfolding is_early
   later_one [] t r h = refl
   later_one (x ∷ xs) t r h = one (meets r.cells x.row) r.start x.start h (is_clipped meets xs (suc t) r) (is_clipped meets xs t r) (starts_at meets xs r.cells t) (later_one xs t r h)
@@ -78,7 +78,7 @@ module _ (meets : List Datum → List Datum → Bool) where
       one : (m : Bool) (n s : ℕ) → nat_lt n t ≡ true → (p q u : Bool) → p ≡ (q || u) → ((m && (nat_lt n s && nat_lt s (suc t))) || p) ≡ (((m && (nat_lt n s && nat_lt s t)) || q) || ((m && nat_eq s t) || u))
       one m n s k p q u g = grind (arith, nat_tests)
 
-  new_one : (b : List CellEvent) (t : ℕ) (r : HeldRow) → is_new t r ≡ true → is_clipped meets b (suc t) r ≡ false
+  pub new_one : (b : List CellEvent) (t : ℕ) (r : HeldRow) → is_new t r ≡ true → is_clipped meets b (suc t) r ≡ false
   unfolding is_new
   new_one [] t r h = refl
   new_one (x ∷ xs) t r h = one (meets r.cells x.row) r.start x.start h (is_clipped meets xs (suc t) r) (new_one xs t r h)
@@ -86,7 +86,7 @@ module _ (meets : List Datum → List Datum → Bool) where
       one : (m : Bool) (n s : ℕ) → nat_eq n t ≡ true → (p : Bool) → p ≡ false → ((m && (nat_lt n s && nat_lt s (suc t))) || p) ≡ false
       one m n s k p g = grind (arith, nat_tests)
 
-  both : (p q : Bool) (n : ℕ) → cond {A = ℕ} (p || q) 0 n ≡ cond p 0 (cond q 0 n)
+  pub both : (p q : Bool) (n : ℕ) → cond {A = ℕ} (p || q) 0 n ≡ cond p 0 (cond q 0 n)
   both true q n = refl
   both false q n = refl
 

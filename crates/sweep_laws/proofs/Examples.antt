@@ -1,5 +1,5 @@
 -- The definitions, worked out on a few rows and edges.
-use Rattle.std.specs.Prelude.{◌≡◌, ℕ, ◌+◌, pos, Bool, true, false, Option, Some, None, List, [], ◌∷◌, refl}
+use Rattle.std.specs.Prelude.{◌≡◌, ℕ, pos, Bool, true, false, Some, None, List, [], ◌∷◌, refl}
 use Rattle.std.proofs.Common.{inl, inr, arith}
 use Rattle.tw_rows.specs.Instant.{inf}
 use Rattle.tw_rows.specs.SameCells.{same_cells}

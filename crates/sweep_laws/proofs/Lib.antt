@@ -18,3 +18,6 @@ pub mod SessionTelling
 pub mod ClipSteps
 pub mod AntiSteps
 pub mod Examples
+pub mod RowsTold
+pub mod ClipTelling
+pub mod AntiTelling

@@ -71,3 +71,22 @@ still_between t u a low valid h w = go (u - t) u low (omega (arith, low)) h
   where
     go : (k u : ℕ) → t ≤ u → u ≡ t + k → ((v : ℕ) → t ≤ v → v < u → SameBag (opens (suc v) a) (opens v a)) → total w (news t u a) ≡ 0
     go k u l e g = ap (λ n. total w (news t n a)) e ∙ still k t a valid (λ v p q. g v p (omega (arith, e, q))) w
+
+-- where no instant has news there are none
+pub news_still : (t u : ℕ) (a : List CellEvent) → t ≤ u → ((v : ℕ) → t ≤ v → v < u → (w : Edge → ℕ) → total w (news v (suc v) a) ≡ 0) →
+    (w : Edge → ℕ) → total w (news t u a) ≡ 0
+news_still t u a low none w = at (u - t) u (omega (arith, low)) none
+  where
+    go : (k : ℕ) → ((v : ℕ) → t ≤ v → v < t + k → (w : Edge → ℕ) → total w (news v (suc v) a) ≡ 0) → total w (news t (t + k) a) ≡ 0
+    go zero h = let e : t + zero ≡ t = omega arith in ap (λ n. total w (news t n a)) e ∙ ap (total w) (news_none t a)
+    go (suc k) h =
+        let before = go k (λ v p q. h v p (omega (arith, q))) in
+        let e : t + suc k ≡ suc (t + k) = omega arith in
+        let g = ap (λ n. total w (news t n a)) e in
+        let p = (news_in_parts t (t + k) (suc (t + k)) a (omega arith) (omega arith)).weigh w in
+        let q = total-append w (news t (t + k) a) (news (t + k) (suc (t + k)) a) in
+        let n = h (t + k) (omega arith) (omega arith) w in
+        omega (arith, before, g, p, q, n)
+
+    at : (k u : ℕ) → u ≡ t + k → ((v : ℕ) → t ≤ v → v < u → (w : Edge → ℕ) → total w (news v (suc v) a) ≡ 0) → total w (news t u a) ≡ 0
+    at k u e h = ap (λ n. total w (news t n a)) e ∙ go k (λ v p q. h v p (omega (arith, e, q)))

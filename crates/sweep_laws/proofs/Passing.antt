@@ -97,11 +97,6 @@ module _ {K : Type 0} (key : List Datum → K) (same : K → K → Bool) (decide
             flip true e = refl
             flip false e = e
 
-  -- of no key nothing is told
-  pub told_none : (step : K → Option Run → Option Run) (part : K → Option Run → List Edge) (run : K → Option Run) (answer : List Edge) →
-      PassTold key same step part [] run run answer answer
-  told_none step part run answer = record { others = λ k e. refl; touched = λ k e. absurd (cc); weigh = λ w ks h. refl }
-
   pub ends_more : (t : ℕ) (now : List Edge) (i : ℕ) (x : Edge) (o : K → Option (List Datum)) (run0 run1 run2 : K → Option Run) (answer0 answer1 answer2 : List Edge) →
       i < length now → x ≡ get_or now i x → answer2 ≡ answer1 ++ end_part t (o (key x.cells)) (run1 (key x.cells)) →
       ((k : K) → run2 k ≡ cond (same (key x.cells) k) (kept (o (key x.cells)) (run1 (key x.cells))) (run1 k)) →
@@ -144,3 +139,8 @@ module _ {K : Type 0} (key : List Datum → K) (same : K → K → Bool) (decide
           flip : (a : Bool) → (a || false) ≡ true → a ≡ true
           flip true e = refl
           flip false e = e
+
+-- of no key nothing is told
+pub told_nothing : {K : Type 0} (key : List Datum → K) (same : K → K → Bool) (step : K → Option Run → Option Run) (part : K → Option Run → List Edge)
+    (run : K → Option Run) (answer : List Edge) → PassTold key same step part [] run run answer answer
+told_nothing key same step part run answer = record { others = λ k e. refl; touched = λ k e. absurd (cc); weigh = λ w ks h. refl }

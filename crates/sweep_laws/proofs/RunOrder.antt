@@ -50,14 +50,14 @@ module _ {K : Type 0} (key : List Datum → K) (same : K → K → Bool) where
       at true e = subst (IsEarly t) (sym (h.touched k e)) (early_kept t (o k) (run0 k) (early k))
       at false e = subst (IsEarly t) (sym (h.others k e)) (early k)
 
-  pub starts_order : (t : ℕ) (k : K) (o : Option (List Datum)) (x : Option Run) (answer1 answer2 : List Edge) → t < inf →
-      answer2 ≡ answer1 ++ start_part t o x → InOrder (suc (2 * t)) answer1 → InOrder (suc (2 * t)) answer2
-  starts_order t k o x answer1 answer2 low pushed up = subst (InOrder (suc (2 * t))) (sym pushed) (start_order o x)
-    where
-      start_order : (o : Option (List Datum)) (x : Option Run) → InOrder (suc (2 * t)) (answer1 ++ start_part t o x)
-      start_order o (Some x) = subst (InOrder (suc (2 * t))) (sym (append_none answer1)) up
-      start_order None None = subst (InOrder (suc (2 * t))) (sym (append_none answer1)) up
-      start_order (Some r) None = order_push (suc (2 * t)) answer1 (run_start t r) (start_rank t r low) up
+pub starts_order : (t : ℕ) (o : Option (List Datum)) (x : Option Run) (answer1 answer2 : List Edge) → t < inf →
+    answer2 ≡ answer1 ++ start_part t o x → InOrder (suc (2 * t)) answer1 → InOrder (suc (2 * t)) answer2
+starts_order t o x answer1 answer2 low pushed up = subst (InOrder (suc (2 * t))) (sym pushed) (start_order o x)
+  where
+    start_order : (o : Option (List Datum)) (x : Option Run) → InOrder (suc (2 * t)) (answer1 ++ start_part t o x)
+    start_order o (Some x) = subst (InOrder (suc (2 * t))) (sym (append_none answer1)) up
+    start_order None None = subst (InOrder (suc (2 * t))) (sym (append_none answer1)) up
+    start_order (Some r) None = order_push (suc (2 * t)) answer1 (run_start t r) (start_rank t r low) up
 
 -- a run that is open at a time began before it
 last_early : (t : ℕ) (es : List CellEvent) → Falls t es → IsEarly t (last_run t es)

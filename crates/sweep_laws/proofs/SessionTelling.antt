@@ -1,7 +1,6 @@
 -- One instant of sessions, and the time between two.
 use Rattle.std.specs.Prelude.{◌≡◌, ℕ, zero, suc, ◌-◌, not, ◌+◌, ◌<◌, ◌≤◌, Bool, true, false, cond, List, map, refl}
 use Rattle.std.proofs.Common.{sym, ◌∙◌, subst, arith}
-use Rattle.std.proofs.lemmas.Bool.Decides.{nat_tests}
 use Rattle.tw_rows.specs.Instant.{inf}
 use Rattle.tw_rows.specs.Bag.{SameBag, total}
 use Rattle.tw_rows.specs.declared.cells.Datum.{Datum}
@@ -20,30 +19,11 @@ use Rattle.key_nodes.specs.Sessions.{key_starts, sessions}
 use Rattle.sweep_laws.specs.Moves.{ending, starting, Adds, told_at}
 use Rattle.sweep_laws.specs.Sessioning.{is_gap}
 use Rattle.sweep_laws.proofs.Adding.{adds_weigh}
+use Rattle.sweep_laws.proofs.RowsTold.{split_gap, end_early, begin_early, start_new, end_new}
 use Rattle.sweep_laws.proofs.Moving.{moves_told, still_between}
 use Rattle.sweep_laws.proofs.SessionSteps.{sessions_step}
 
 module _ {K : Type 0} (key : List Datum → K) (same : K → K → Bool) (decides : Tells same) where
-  split_gap : (g : Bool) (n : ℕ) → n ≡ cond g n 0 + cond g 0 n
-  split_gap true n = omega arith
-  split_gap false n = omega arith
-
-  end_early : (w : Edge → ℕ) (t : ℕ) (r : HeldRow) → is_early t r ≡ true → w (told_at false t r) ≡ ending t w r
-  unfolding is_early
-  end_early w t r h = grind (arith, nat_tests)
-
-  begin_early : (w : Edge → ℕ) (t : ℕ) (r : HeldRow) → is_early t r ≡ true → starting t w r ≡ 0
-  unfolding is_early
-  begin_early w t r h = grind (arith, nat_tests)
-
-  start_new : (w : Edge → ℕ) (t : ℕ) (r : HeldRow) → is_new t r ≡ true → w (told_at true t r) ≡ starting t w r
-  unfolding is_new
-  start_new w t r h = grind (arith, nat_tests)
-
-  end_new : (w : Edge → ℕ) (t : ℕ) (r : HeldRow) → is_new t r ≡ true → ending t w r ≡ 0
-  unfolding is_new
-  end_new w t r h = grind (arith, nat_tests)
-
   -- rows1 once the sessions with a gap at t left, rows2 once the starts came
   module _ (timeout t : ℕ) (a : List CellEvent) (now : List Edge) (rows rows1 rows2 ended : List HeldRow) (answer0 answer1 answer2 : List Edge) (pos : 1 ≤ timeout) (low : t < inf)
       (valid : failing is_event a ≡ 0) (sound : failing is_event (sessions key same timeout a) ≡ 0) (is : SameBag now (news t (suc t) a)) (h : SameBag rows (opens t (sessions key same timeout a)))

@@ -2,13 +2,15 @@
 use Rattle.std.specs.Prelude.{◌≡◌, ℕ, zero, suc, ◌+◌, ◌*◌, ◌<◌, ◌≤◌, List, [], ◌∷◌, ◌++◌, take, drop, refl}
 use Rattle.std.proofs.Common.{inl, inr, sym, ap, subst, arith}
 use Rattle.std.proofs.lemmas.Bool.Decides.{nat_tests}
+use Rattle.tw_rows.specs.Instant.{inf}
 use Rattle.tw_rows.specs.Bag.{SameBag, total}
+use Rattle.tw_rows.specs.Event.{cut}
 use Rattle.tw_rows.specs.declared.edge.Edge.{Edge}
 use Rattle.tw_rows.proofs.Bags.{total-append}
 use Rattle.edge_history.specs.Order.{failing, is_from}
 use Rattle.edge_history.specs.History.{CellEvent}
-use Rattle.edge_history.specs.Balance.{news}
-use Rattle.edge_history.proofs.Telling.{news_in_parts}
+use Rattle.edge_history.specs.Balance.{news, Told}
+use Rattle.edge_history.proofs.Telling.{is_event, news_in_parts, told_same, told_more}
 use Rattle.sweep_laws.specs.Sweeps.{is_at, IsPast, SyncsRise, IsDue, Tells, HeadFrom, StartsAt, IsNext}
 use Rattle.sweep_laws.proofs.Ordering.{order_later}
 use Rattle.sweep_laws.proofs.Instants.{rises_from, now_is, none_before, rest_is, head_between}
@@ -106,3 +108,11 @@ tells_still events from to x low none = record {
   weigh = λ w. let z = none w in omega (arith, z);
   order = λ up. order_later (2 * from) (2 * to) x (omega (arith, low)) up;
 }
+
+-- what is told of events stays told where more of them is known, and goes on
+pub told_step : (c d : ℕ) (out answer0 answer : List Edge) (events later : List CellEvent) → c ≤ d → d ≤ inf → failing is_event later ≡ 0 →
+    SameBag (cut c events) (cut c later) → Told c out events → answer0 ≡ [] → Tells later c d answer0 answer → Told d (out ++ answer) later
+told_step c d out answer0 answer events later low high valid known told empty h =
+    let t = subst (λ l. Tells later c d l answer) empty h in
+    told_more c d out answer later low high valid (told_same c out events later known told)
+    (t.order (record { rises = tt; below = refl })).rises (record { weigh = λ w. let z = t.weigh w in omega (arith, z) })

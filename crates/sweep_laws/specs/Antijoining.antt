@@ -1,5 +1,5 @@
 -- The open rows of an anti-join, by the time since which a left row meets no right row. `meets` says which rows meet.
-use Rattle.std.specs.Prelude.{◌≡◌, ℕ, ◌≤◌, ◌&&◌, max, nat_lt, nat_le, Bool, true, false, cond, Option, Some, None, List, [], ◌∷◌}
+use Rattle.std.specs.Prelude.{◌≡◌, ◌⊎◌, ℕ, ◌<◌, ◌≤◌, ◌&&◌, max, nat_lt, nat_le, Bool, true, false, cond, Option, Some, None, is_some, List, [], ◌∷◌}
 use Rattle.tw_rows.specs.Instant.{inf}
 use Rattle.tw_rows.specs.Bag.{SameBag}
 use Rattle.tw_rows.specs.Event.{alive}
@@ -7,7 +7,7 @@ use Rattle.tw_rows.specs.declared.cells.Datum.{Datum}
 use Rattle.tw_rows.specs.declared.edge.Edge.{Edge}
 use Rattle.tw_rows.specs.declared.edge.HeldRow.{HeldRow}
 use Rattle.edge_history.specs.History.{CellEvent}
-use Rattle.edge_history.specs.Opens.{opens}
+use Rattle.edge_history.specs.Opens.{opens, bare}
 use Rattle.key_nodes.specs.Antis.{alone_at, meets_none}
 use Rattle.sweep_laws.specs.Running.{Run, open_at}
 
@@ -26,6 +26,11 @@ abbrev pub IsSince : ℕ → Option ℕ → Type 0
 IsSince t None = Unit {0}
 IsSince t (Some s) = s ≤ t
 
+-- the same just before t: since an earlier time, or since 0, from which on a key is free that never had a right row
+abbrev pub IsAgo : ℕ → Option ℕ → Type 0
+IsAgo t None = Unit {0}
+IsAgo t (Some s) = (s < t) ⊎ (s ≡ 0)
+
 -- the run of an open left row: from its start, or from the time since which its key is free. Of a row from 3 on: from 5 on
 -- where the key is free since 5
 abbrev pub run_since : Option ℕ → HeldRow → Option Run
@@ -37,11 +42,17 @@ abbrev pub run_of : Option ℕ → ℕ → CellEvent → Option Run
 run_of None t e = None
 run_of (Some s) t e = cond (nat_lt e.start t && nat_le t e.end) (Some (record { row = e.row; start = max e.start s })) None
 
--- just before t: both sides' open rows, and for each left event the run that its key's status gives
+-- the status of a key is true to the kept right rows: it is free exactly where a left row of the key meets none of them
+abbrev pub IsSteady : {K : Type 0} → (List Datum → K) → (List Datum → List Datum → Bool) → List HeldRow → (K → Option ℕ) → Type 0
+IsSteady key meets right status = (row : List Datum) → meets_none meets (bare right) row ≡ is_some (status (key row))
+
+-- just before t: both sides' open rows, the status of each key, and for each left event the run that it gives
 pub record Judging {K : Type 0} (key : List Datum → K) (meets : List Datum → List Datum → Bool) (a b : List CellEvent) (t : ℕ)
     (left right : List HeldRow) (status : K → Option ℕ) : Type 0 where
   pub left_rows : SameBag left (opens t a)
   pub right_rows : SameBag right (opens t b)
+  pub since : (k : K) → IsAgo t (status k)
+  pub steady : IsSteady key meets right status
   pub runs : (e : CellEvent) → open_at (alone_at meets b e) t ≡ run_of (status (key e.row)) t e
 
 -- what is told at t of a row that ends: the end of its run, if it has one
@@ -66,3 +77,12 @@ flip_of false st t r = end_of st t r
 -- what is told of a row that starts: a start where its key is free
 abbrev pub begin_of : Bool → ℕ → HeldRow → List Edge
 begin_of free t r = cond free (record { sync = t; other = inf; cells = r.cells } ∷ []) []
+
+-- of a row that stays, what is told before the starts of the instant, and what is told with them
+abbrev pub flip_end : Bool → Option ℕ → ℕ → HeldRow → List Edge
+flip_end true st t r = []
+flip_end false st t r = end_of st t r
+
+abbrev pub flip_start : Bool → Option ℕ → ℕ → HeldRow → List Edge
+flip_start true st t r = start_at st t r
+flip_start false st t r = []

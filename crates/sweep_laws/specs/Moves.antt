@@ -1,9 +1,11 @@
 -- What is told of an instant, by the rows that are open before it and after it.
-use Rattle.std.specs.Prelude.{◌≡◌, ℕ, ◌+◌, ◌++◌, nat_lt, nat_eq, Bool, cond, List}
+use Rattle.std.specs.Prelude.{◌≡◌, ℕ, ◌+◌, ◌++◌, ◌≤◌, nat_lt, nat_eq, Bool, true, cond, List}
 use Rattle.tw_rows.specs.Instant.{inf}
 use Rattle.tw_rows.specs.Bag.{SameBag, total}
 use Rattle.tw_rows.specs.declared.edge.Edge.{Edge}
 use Rattle.tw_rows.specs.declared.edge.HeldRow.{HeldRow}
+use Rattle.edge_history.specs.Order.{is_end, many}
+use Rattle.edge_history.specs.Opens.{is_held}
 
 -- the edge that ends an open row at t, and the edge that starts it
 abbrev pub end_at : ℕ → HeldRow → Edge
@@ -34,3 +36,7 @@ pub record Adds (before after edges : List Edge) : Type 0 where
 -- the edge that is told at t of an open row: its start, or its end
 abbrev pub told_at : Bool → ℕ → HeldRow → Edge
 told_at starts t r = record { sync = t; other = cond starts inf r.start; cells = r.cells }
+
+-- where the edge is an end, the row that it ends is among the rows
+abbrev pub HoldsEnded : Edge → List HeldRow → Type 0
+HoldsEnded x rows = is_end x ≡ true → 1 ≤ many (is_held x.cells x.other) rows

@@ -53,6 +53,25 @@ pub fn keys_are_told_edge_by_edge<K>()
         StartsTold key same t (take (i + 1) now) o run0 run2 answer0 answer2 }
 {}
 
+/// The order of an answer stays while ends, and then starts, of keys are told: runs that are open began before. Of no edge
+/// nothing is told, and what is so of the key of each edge is so of all their keys.
+pub fn keys_are_told_in_order<K>()
+    ensures ends { (key : List Datum → K) (same : K → K → Bool) (t : ℕ) (now : List Edge) (i : ℕ) (k : K)
+        (o : K → Option (List Datum)) (run0 run1 : K → Option Run) (answer0 answer1 answer2 : List Edge) →
+        answer2 ≡ answer1 ++ end_part t (o k) (run1 k) → EndsTold key same t (take i now) o run0 run1 answer0 answer1 →
+        ((q : K) → IsEarly t (run0 q)) → InOrder (2 * t) answer1 → InOrder (2 * t) answer2 }
+    ensures starts { (t : ℕ) (o : Option (List Datum)) (x : Option Run) (answer1 answer2 : List Edge) → t < inf →
+        answer2 ≡ answer1 ++ start_part t o x → InOrder (suc (2 * t)) answer1 → InOrder (suc (2 * t)) answer2 }
+    ensures none { (key : List Datum → K) (same : K → K → Bool) (t : ℕ) (o : K → Option (List Datum)) (run : K → Option Run)
+        (answer : List Edge) →
+        EndsTold key same t [] o run run answer answer × StartsTold key same t [] o run run answer answer }
+    ensures all { (key : List Datum → K) (same : K → K → Bool) → KeyTells same →
+        (test : K → Bool) (now : List Edge) (i : ℕ) (x : Edge) → i < length now → x ≡ get_or now i x →
+        test (key x.cells) ≡ false →
+        ((k : K) → list_any (same k) (keys_of key (take i now)) ≡ true → test k ≡ false) →
+        (k : K) → list_any (same k) (keys_of key (take (i + 1) now)) ≡ true → test k ≡ false }
+{}
+
 /// One instant of a group: the rows have moved on by its edges, o gives the rows of the keys then, no key of the edges is
 /// undefined, and the ends and then the starts of these keys were told. Then all that happens to the groups was told. Where a
 /// key is undefined after the edges, the instant is the first at which a group is.

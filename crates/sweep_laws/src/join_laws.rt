@@ -1,6 +1,6 @@
 // The laws of a join that goes from instant to instant. `meets` says which rows are paired, and `pair` makes the row of a
 // pair.
-ghost use Rattle.std.specs.Prelude.{◌≡◌, ℕ, suc, ◌+◌, ◌<◌, ◌≤◌, Bool, true, false, List, [], ◌++◌, take, drop};
+ghost use Rattle.std.specs.Prelude.{◌≡◌, ℕ, suc, ◌+◌, ◌<◌, ◌≤◌, Bool, true, false, List, [], ◌∷◌, ◌++◌, length, get_or, take, drop, map, flat_map};
 ghost use Rattle.tw_rows.specs.Instant.{inf};
 ghost use Rattle.tw_rows.specs.Bag.{SameBag, total};
 ghost use Rattle.tw_rows.specs.Event.{AreEvents};
@@ -13,8 +13,8 @@ ghost use Rattle.edge_history.specs.Balance.{news};
 ghost use Rattle.edge_history.specs.Opens.{singles, opens, ended_rows, started_rows};
 ghost use Rattle.key_nodes.specs.Joins.{joined};
 ghost use Rattle.sweep_laws.specs.Sweeps.{is_at, IsPast, IsDue, Tells, IsNext};
-ghost use Rattle.sweep_laws.specs.Moves.{Adds};
-ghost use Rattle.sweep_laws.specs.Pairs.{pairs, pairs_told, Held};
+ghost use Rattle.sweep_laws.specs.Moves.{Adds, told_at};
+ghost use Rattle.sweep_laws.specs.Pairs.{pairs, sided, pairs_told, Held};
 ghost use Rattle.sweep_laws.specs.Joining.{JoinReached, JoinKeeps};
 
 /// The pairs that are open are the pairs of what is open, whatever the order of the rows.
@@ -25,6 +25,23 @@ pub fn open_pairs_are_pairs_of_open_rows()
     ensures same { (meets : List Datum → List Datum → Bool) (pair : List Datum → List Datum → List Datum)
         (ls ms rs ss : List HeldRow) → SameBag ls ms → SameBag rs ss →
         SameBag (pairs meets pair ls rs) (pairs meets pair ms ss) }
+{}
+
+/// The pairs of one row are told row by row of the other side, and those of the rows of some edges edge by edge. `f` gives the
+/// rows of an edge: those that it ends, or those that it starts.
+pub fn pairs_are_told_row_by_row()
+    ensures row { (meets : List Datum → List Datum → Bool) (pair : List Datum → List Datum → List Datum)
+        (right starts : Bool) (t : ℕ) (x y : HeldRow) (others : List HeldRow) (i : ℕ) (answer0 answer1 answer2 : List Edge) →
+        i < length others → y ≡ get_or others i y →
+        answer2 ≡ answer1 ++ map (told_at starts t) (sided meets pair right x y) →
+        Adds answer0 answer1 (pairs_told meets pair right starts t (x ∷ []) (take i others)) →
+        Adds answer0 answer2 (pairs_told meets pair right starts t (x ∷ []) (take (i + 1) others)) }
+    ensures edge { (meets : List Datum → List Datum → Bool) (pair : List Datum → List Datum → List Datum)
+        (f : Edge → List HeldRow) (right starts : Bool) (t : ℕ) (x : Edge) (now : List Edge) (others : List HeldRow) (i : ℕ)
+        (answer0 answer1 answer2 : List Edge) → i < length now → x ≡ get_or now i x →
+        Adds answer1 answer2 (pairs_told meets pair right starts t (f x) others) →
+        Adds answer0 answer1 (pairs_told meets pair right starts t (flat_map f (take i now)) others) →
+        Adds answer0 answer2 (pairs_told meets pair right starts t (flat_map f (take (i + 1) now)) others) }
 {}
 
 /// One instant of a join. The left ends are told with the right rows that were open, and taken out; then the right ends

@@ -11,16 +11,18 @@ mod life_laws;
 
 pub use answer_laws::{
     answers_grow, answers_stay_in_order, moves_tell_the_news, news_are_told_in_parts,
+    rows_are_told_in_order, rows_follow_edge_by_edge,
 };
 pub use group_laws::{
     a_group_goes_from_instant_to_instant, a_group_keeps_its_rows, a_group_tells_an_instant,
-    keys_are_told_edge_by_edge, one_key_changes_a_sum, runs_tell_a_stretch,
+    keys_are_told_edge_by_edge, keys_are_told_in_order, one_key_changes_a_sum, runs_tell_a_stretch,
 };
 pub use instant_laws::{edges_of_one_instant_come_first, sides_go_on_to_the_next_instant};
 pub use join_laws::{
     a_join_goes_from_instant_to_instant, a_join_keeps_its_rows, a_join_tells_an_instant,
-    open_pairs_are_pairs_of_open_rows,
+    open_pairs_are_pairs_of_open_rows, pairs_are_told_row_by_row,
 };
 pub use life_laws::{
-    antis_tell_an_instant, clips_tell_an_instant, sessions_end_at_a_gap, sessions_tell_an_instant,
+    a_clip_tells_an_instant, an_anti_join_tells_an_instant, antis_tell_an_instant,
+    clips_tell_an_instant, sessions_end_at_a_gap, sessions_tell_an_instant,
 };

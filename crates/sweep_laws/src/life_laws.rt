@@ -1,5 +1,5 @@
 // The laws of one instant of sessions, clips and anti-joins.
-ghost use Rattle.std.specs.Prelude.{◌≡◌, ℕ, suc, ◌+◌, ◌<◌, ◌≤◌, ◌&&◌, ◌||◌, nat_eq, nat_le, Bool, true, false, not, cond, Option, List, map, flat_map};
+ghost use Rattle.std.specs.Prelude.{◌≡◌, ℕ, suc, ◌+◌, ◌<◌, ◌≤◌, ◌&&◌, ◌||◌, nat_eq, nat_le, Bool, true, false, not, cond, Option, List, length, get_or, take, map, flat_map};
 ghost use Rattle.std.specs.List.{list_any};
 ghost use Rattle.tw_rows.specs.Instant.{inf};
 ghost use Rattle.tw_rows.specs.Bag.{SameBag, total};
@@ -8,19 +8,20 @@ ghost use Rattle.tw_rows.specs.SameCells.{same_cells};
 ghost use Rattle.tw_rows.specs.declared.cells.Datum.{Datum};
 ghost use Rattle.tw_rows.specs.declared.edge.Edge.{Edge};
 ghost use Rattle.tw_rows.specs.declared.edge.HeldRow.{HeldRow};
-ghost use Rattle.edge_history.specs.Order.{failing};
+ghost use Rattle.edge_history.specs.Order.{failing, many, is_end};
 ghost use Rattle.edge_history.specs.History.{CellEvent};
 ghost use Rattle.edge_history.specs.Balance.{news};
-ghost use Rattle.edge_history.specs.Opens.{opens, ended_rows, started_rows};
+ghost use Rattle.edge_history.specs.Opens.{opens, ended_rows, started_rows, bare, is_held};
 ghost use Rattle.key_nodes.specs.Runs.{Tells};
 ghost use Rattle.key_nodes.specs.Sessions.{least, session_end, key_starts, sessions};
 ghost use Rattle.key_nodes.specs.Clips.{later_starts, clipped};
-ghost use Rattle.key_nodes.specs.Antis.{alone_at, alone};
+ghost use Rattle.key_nodes.specs.Antis.{alone_at, alone, meets_none};
+ghost use Rattle.sweep_laws.specs.Sweeps.{Tells as TellsNews};
 ghost use Rattle.sweep_laws.specs.Moves.{Adds, told_at};
 ghost use Rattle.sweep_laws.specs.Running.{open_at};
 ghost use Rattle.sweep_laws.specs.Sessioning.{is_gap, IsLast};
 ghost use Rattle.sweep_laws.specs.Clipping.{starts_at, is_clipped};
-ghost use Rattle.sweep_laws.specs.Antijoining.{is_free, judged, IsSince, run_of, end_of, stays_of, flip_of, begin_of};
+ghost use Rattle.sweep_laws.specs.Antijoining.{is_free, judged, IsSince, Judging, run_of, end_of, stays_of, flip_of, flip_end, flip_start, begin_of};
 
 /// A session that is open at an instant stays open unless the timeout passes there since a start of its key with no start in
 /// between, which is so for all rows of the key or for none; and it is told by the last start before the instant alone.
@@ -97,4 +98,77 @@ pub fn antis_tell_an_instant<K>()
         ≡ total (λ r. total w (end_of (status (key r.cells)) t r)) (ended_rows (news t (suc t) a))
         + total (λ r. total w (flip_of (free (key r.cells)) (status (key r.cells)) t r)) (flat_map (stays_of t) a)
         + total (λ r. total w (begin_of (free (key r.cells)) t r)) (started_rows (news t (suc t) a)) }
+{}
+
+/// One instant of a clip with its kept rows. The rows that a right start meets are taken out and their ends told; then each
+/// left end takes out its row and is told, if the row is there, which is so exactly where it is not clipped; then the starts
+/// are put in and told. Between instants at which a side has news the rows stay, and nothing is told.
+pub fn a_clip_tells_an_instant()
+    ensures told { (meets : List Datum → List Datum → Bool) (t : ℕ) (a b : List CellEvent) (rows stay gone : List HeldRow) →
+        SameBag rows (opens t (clipped meets a b)) → ((w : HeldRow → ℕ) → total w rows ≡ total w stay + total w gone) →
+        ((w : HeldRow → ℕ) → total w gone ≡ total (λ r. cond (starts_at meets b r.cells t) (w r) 0) rows) →
+        (now : List Edge) (rest later ended : List HeldRow) (answer0 answer1 answer2 answer3 : List Edge) → t < inf →
+        AreEvents a → SameBag now (news t (suc t) a) →
+        ((w : HeldRow → ℕ) → total w stay ≡ total w rest + total w ended) →
+        ((w : HeldRow → ℕ) → total w ended
+        ≡ total (λ r. cond (is_clipped meets b (suc t) r) 0 (w r)) (ended_rows now)) →
+        ((w : HeldRow → ℕ) → total w later ≡ total w rest + total w (started_rows now)) →
+        Adds answer0 answer1 (map (told_at false t) gone) → Adds answer1 answer2 (map (told_at false t) ended) →
+        Adds answer2 answer3 (map (told_at true t) (started_rows now)) →
+        SameBag later (opens (suc t) (clipped meets a b))
+        × TellsNews (clipped meets a b) t (suc t) answer0 answer3 }
+    ensures clipped { (meets : List Datum → List Datum → Bool) (t : ℕ) (a b : List CellEvent) (rows stay gone : List HeldRow) →
+        SameBag rows (opens t (clipped meets a b)) → ((w : HeldRow → ℕ) → total w rows ≡ total w stay + total w gone) →
+        ((w : HeldRow → ℕ) → total w gone ≡ total (λ r. cond (starts_at meets b r.cells t) (w r) 0) rows) →
+        (now : List Edge) (i : ℕ) (x : Edge) (mid : List HeldRow) → AreEvents a → SameBag now (news t (suc t) a) →
+        i < length now → x ≡ get_or now i x → is_end x ≡ true →
+        ((w : HeldRow → ℕ) → total w stay ≡ total w mid
+        + total (λ r. cond (is_clipped meets b (suc t) r) 0 (w r)) (ended_rows (take i now))) →
+        is_clipped meets b (suc t) (record { cells = x.cells; start = x.other }) ≡ true →
+        many (is_held x.cells x.other) mid ≡ 0 }
+    ensures held { (meets : List Datum → List Datum → Bool) (t : ℕ) (a b : List CellEvent) (rows stay gone : List HeldRow) →
+        SameBag rows (opens t (clipped meets a b)) → ((w : HeldRow → ℕ) → total w rows ≡ total w stay + total w gone) →
+        ((w : HeldRow → ℕ) → total w gone ≡ total (λ r. cond (starts_at meets b r.cells t) (w r) 0) rows) →
+        (now : List Edge) (i : ℕ) (x : Edge) (mid : List HeldRow) → AreEvents a → SameBag now (news t (suc t) a) →
+        i < length now → x ≡ get_or now i x → is_end x ≡ true →
+        ((w : HeldRow → ℕ) → total w stay ≡ total w mid
+        + total (λ r. cond (is_clipped meets b (suc t) r) 0 (w r)) (ended_rows (take i now))) →
+        is_clipped meets b (suc t) (record { cells = x.cells; start = x.other }) ≡ false →
+        1 ≤ many (is_held x.cells x.other) mid }
+    ensures between { (meets : List Datum → List Datum → Bool) (u t : ℕ) (a b : List CellEvent) (rows : List HeldRow) → u ≤ t →
+        AreEvents a → AreEvents b → ((w : Edge → ℕ) → total w (news u t a) ≡ 0) →
+        ((w : Edge → ℕ) → total w (news u t b) ≡ 0) → SameBag rows (opens u (clipped meets a b)) →
+        SameBag rows (opens t (clipped meets a b)) × ((w : Edge → ℕ) → total w (news u t (clipped meets a b)) ≡ 0) }
+{}
+
+/// One instant of an anti-join with its kept rows. The left ends are told by their keys' status and taken out; the right rows
+/// move on, and each key is judged by them; of the rows that stay first the ends are told and then the starts, where their key
+/// is free no more, or free again; and the left starts are put in, and told where their key is free. What was told is the news,
+/// in order, and the rows and statuses are those after the instant. Between instants at which a side has news they stay, and
+/// nothing is told.
+pub fn an_anti_join_tells_an_instant<K>()
+    ensures told { (key : List Datum → K) (meets : List Datum → List Datum → Bool) (a b : List CellEvent) (t : ℕ)
+        (now_left now_right : List Edge) (left stay left2 right right2 : List HeldRow) (status : K → Option ℕ) (free : K → Bool)
+        (answer0 answer1 answer2 answer3 answer4 : List Edge) → t < inf → AreEvents a → AreEvents b →
+        SameBag now_left (news t (suc t) a) → SameBag now_right (news t (suc t) b) →
+        Judging key meets a b t left right status →
+        (((w : HeldRow → ℕ) → total w (ended_rows now_left) ≤ total w left) →
+        (w : HeldRow → ℕ) → total w left ≡ total w stay + total w (ended_rows now_left)) →
+        ((w : HeldRow → ℕ) → total w left2 ≡ total w stay + total w (started_rows now_left)) →
+        (((w : HeldRow → ℕ) → total w (ended_rows now_right) ≤ total w right) →
+        (w : HeldRow → ℕ) → total w right2 + total w (ended_rows now_right)
+        ≡ total w right + total w (started_rows now_right)) →
+        ((row : List Datum) → meets_none meets (bare right2) row ≡ free (key row)) →
+        Adds answer0 answer1 (flat_map (λ r. end_of (status (key r.cells)) t r) (ended_rows now_left)) →
+        Adds answer1 answer2 (flat_map (λ r. flip_end (free (key r.cells)) (status (key r.cells)) t r) stay) →
+        Adds answer2 answer3 (flat_map (λ r. flip_start (free (key r.cells)) (status (key r.cells)) t r) stay) →
+        Adds answer3 answer4 (flat_map (λ r. begin_of (free (key r.cells)) t r) (started_rows now_left)) →
+        Judging key meets a b (suc t) left2 right2 (λ k. judged (free k) t (status k))
+        × TellsNews (alone same_cells meets a b) t (suc t) answer0 answer4 }
+    ensures between { (key : List Datum → K) (meets : List Datum → List Datum → Bool) (a b : List CellEvent) (u t : ℕ)
+        (left right : List HeldRow) (status : K → Option ℕ) → u ≤ t → t ≤ inf → AreEvents a → AreEvents b →
+        ((w : Edge → ℕ) → total w (news u t a) ≡ 0) → ((w : Edge → ℕ) → total w (news u t b) ≡ 0) →
+        Judging key meets a b u left right status →
+        Judging key meets a b t left right status
+        × ((w : Edge → ℕ) → total w (news u t (alone same_cells meets a b)) ≡ 0) }
 {}
