@@ -2,3 +2,4 @@ pub mod Lives
 pub mod RowWalk
 pub mod RowByRow
 pub mod InTime
+pub mod Lines

@@ -1,113 +1,55 @@
 // The bytes of change lines and punctuation lines.
-ghost use Rattle.std.specs.Prelude.{◌≡◌, ◌++◌, ◌∷◌, [], IfOk, OnOk, codes, map};
-ghost use Rattle.csv.specs.Records.{fields_of, partial_of};
+ghost use Rattle.std.specs.Prelude.{◌≡◌, ◌++◌, IfOk, OnOk, OnErr, map};
+ghost use Rattle.csv.specs.Writing.{default_writer, fields_text};
 ghost use Rattle.plan_model.specs.Changes.{Started, Ended};
-ghost use Rattle.row_reader.specs.Printed.{value_text, time_text};
-ghost use Rattle.change_lines.specs.Print.{record_text, line_fields, line_text, punctuation_text};
+ghost use Rattle.change_lines.specs.Print.{own_text, line_text, punctuation_text};
 
-use csv::{ByteRecord, Writer};
-use itoa::Buffer;
+use line_text::{push_punctuation as push_punctuation_line, push_time, push_value};
 use std::alloc::Global;
-use tw_rows::{Memory, Row, Time, Value};
+use tw_rows::{Memory, Row, Time};
 
-fn push_value(fields: &mut ByteRecord, value: &Value) -> Result<(), Memory>
-    requires { partial_of fields.old ≡ [] }
-    ensures fields { OnOk result (fields_of fields.new ≡ fields_of fields.old ++ value_text value.now ∷ []) }
-    ensures whole { OnOk result (partial_of fields.new ≡ []) }
-{
-    match value {
-        Value::Int(x) => {
-            let mut buffer = Buffer::new();
-            fields.push_field(buffer.format(*x).as_bytes())?;
-        }
-        Value::Bool(true) => fields.push_field(b"true")?,
-        Value::Bool(false) => fields.push_field(b"false")?,
-        Value::Text(text) => fields.push_field(text.as_str().as_bytes())?,
-    }
-    Ok(())
-}
-
-fn push_time(fields: &mut ByteRecord, t: Time) -> Result<(), Memory>
-    requires { partial_of fields.old ≡ [] }
-    ensures fields { OnOk result (fields_of fields.new ≡ fields_of fields.old ++ time_text t ∷ []) }
-    ensures whole { OnOk result (partial_of fields.new ≡ []) }
-{
-    match t.get() {
-        Some(number) => {
-            let mut buffer = Buffer::new();
-            fields.push_field(buffer.format(number).as_bytes())?;
-        }
-        None => fields.push_field(b"inf")?,
-    }
-    Ok(())
-}
-
-fn push_values(fields: &mut ByteRecord, row: &Row) -> Result<(), Memory>
-    requires { partial_of fields.old ≡ [] }
-    ensures fields { OnOk result (fields_of fields.new ≡ fields_of fields.old ++ map value_text row.now) }
-    ensures whole { OnOk result (partial_of fields.new ≡ []) }
+/// Appends the values, a comma before each.
+fn push_values(out: &mut Vec<u8>, row: &Row) -> Result<(), Memory>
+    ensures { OnOk result (out.new.items ≡ out.old.items ++ fields_text default_writer (map own_text row.now)) }
 {
     for value in row.values() {
-        push_value(fields, value)?;
+        out.push(b',')?;
+        push_value(out, value.kind(), value)?;
     }
     Ok(())
-}
-
-/// The fields that say who speaks of what, and when.
-fn head(alloc: Global, source: &str, word: &str, at: Time) -> Result<ByteRecord, Memory>
-    ensures fields { IfOk result (λ r. fields_of r ≡ source.now ∷ word.now ∷ time_text at ∷ []) }
-    ensures whole { IfOk result (λ r. partial_of r ≡ []) }
-{
-    let mut fields = ByteRecord::new(alloc);
-    fields.push_field(source.as_bytes())?;
-    fields.push_field(word.as_bytes())?;
-    push_time(&mut fields, at)?;
-    Ok(fields)
-}
-
-/// The record as a line of CSV. A `Vec` takes every byte unless memory is wanting.
-fn line_of(alloc: Global, fields: &ByteRecord) -> Result<Vec<u8>, Memory>
-    ensures { IfOk result (λ line. line.items ≡ record_text (fields_of fields.now)) }
-{
-    let mut writer = Writer::from_writer(Vec::new(alloc));
-    match writer.write_byte_record(fields) {
-        Ok(()) => {}
-        Err(_) => return Err(Memory),
-    }
-    match writer.into_inner() {
-        Ok(line) => Ok(line),
-        Err(_) => Err(Memory),
-    }
 }
 
 /// The line that says that a row started.
 pub fn start_line(alloc: Global, at: Time, row: &Row) -> Result<Vec<u8>, Memory>
     ensures { IfOk result (λ line. line.items ≡ line_text (Started at row.now)) }
 {
-    let mut fields = head(alloc, "out", "start", at)?;
-    fields.push_field(b"inf")?;
-    push_values(&mut fields, row)?;
-    line_of(alloc, &fields)
+    let mut line = Vec::from_slice(alloc, b"out,start,")?;
+    push_time(&mut line, at)?;
+    line.extend_from_slice(b",inf")?;
+    push_values(&mut line, row)?;
+    line.push(b'\n')?;
+    Ok(line)
 }
 
 /// The line that says that the row ended that had started at that time.
 pub fn end_line(alloc: Global, at: Time, start: Time, row: &Row) -> Result<Vec<u8>, Memory>
     ensures { IfOk result (λ line. line.items ≡ line_text (Ended at start row.now)) }
 {
-    let mut fields = head(alloc, "out", "end", at)?;
-    push_time(&mut fields, start)?;
-    push_values(&mut fields, row)?;
-    line_of(alloc, &fields)
+    let mut line = Vec::from_slice(alloc, b"out,end,")?;
+    push_time(&mut line, at)?;
+    line.push(b',')?;
+    push_time(&mut line, start)?;
+    push_values(&mut line, row)?;
+    line.push(b'\n')?;
+    Ok(line)
 }
 
-/// The line that says that what is written is final below a time.
+/// The line that says that what is written is final below a time. Where memory is wanting, nothing is appended.
 pub fn push_punctuation(out: &mut Vec<u8>, t: Time) -> Result<(), Memory>
-    ensures { OnOk result (out.new.items ≡ out.old.items ++ punctuation_text t) }
+    ensures ok { OnOk result (out.new.items ≡ out.old.items ++ punctuation_text t) }
+    ensures err { OnErr result (out.new.items ≡ out.old.items) }
 {
-    let alloc = *out.allocator();
-    let line = line_of(alloc, &head(alloc, "*", "punct", t)?)?;
-    out.extend_from_slice(line.as_slice())?;
-    Ok(())
+    push_punctuation_line(out, "*", t)
 }
 
 #[cfg(test)]
