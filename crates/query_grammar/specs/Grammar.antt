@@ -337,10 +337,12 @@ lets_then (l ∷ ls) rest = let_then l (lets_then ls rest)
 abbrev pub is_places : ℕ → Bool
 is_places n = nat_le 1 n && nat_le n 18
 
+-- the test holds; there is one proof of it at most
 abbrev pub Holds : Bool → Type 0
 Holds true = Unit {0}
 Holds false = ⊥
 
+-- the number of places of a column: `dec(2)` has 2
 pub record Places : Type 0 where
   pub number : ℕ
   pub few : Holds (is_places number)

@@ -10,6 +10,39 @@ use crate::symbol::Symbol;
 use query_words::Sign;
 use tw_rows::Memory;
 
+/// What may follow the first operand of `or` in a list of items, and the name of the item.
+const AFTER_ORS: [Symbol; 2] = [Symbol::Word(Sign::As), Symbol::Named];
+
+/// Likewise of `and`.
+const AFTER_ANDS: [Symbol; 3] = [Symbol::Ors, Symbol::Word(Sign::As), Symbol::Named];
+
+/// Likewise of a comparison.
+const AFTER_TEST: [Symbol; 4] = [
+    Symbol::Ands,
+    Symbol::Ors,
+    Symbol::Word(Sign::As),
+    Symbol::Named,
+];
+
+/// Likewise of a sum.
+const AFTER_TERMS: [Symbol; 5] = [
+    Symbol::Test,
+    Symbol::Ands,
+    Symbol::Ors,
+    Symbol::Word(Sign::As),
+    Symbol::Named,
+];
+
+/// Likewise of a product.
+const AFTER_FACTORS: [Symbol; 6] = [
+    Symbol::Terms,
+    Symbol::Test,
+    Symbol::Ands,
+    Symbol::Ors,
+    Symbol::Word(Sign::As),
+    Symbol::Named,
+];
+
 /// Whether a decimal may have so many places.
 fn is_places(n: u64) -> bool
     ensures { result ≡ is_places n }
@@ -326,60 +359,26 @@ impl Stack {
         ensures { IfOk result (λ r. Did (at_item_rest kind) r self.old self.new) }
     {
         match kind {
-            Kind::Fixed(Sign::Star) => self.take(&[
-                Symbol::Unary,
-                Symbol::Factors,
-                Symbol::Terms,
-                Symbol::Test,
-                Symbol::Ands,
-                Symbol::Ors,
-                Symbol::Word(Sign::As),
-                Symbol::Named,
-            ]),
-            Kind::Fixed(Sign::Div) | Kind::Fixed(Sign::Mod) => self.take(&[
-                Symbol::Pos,
-                Symbol::Factors,
-                Symbol::Terms,
-                Symbol::Test,
-                Symbol::Ands,
-                Symbol::Ors,
-                Symbol::Word(Sign::As),
-                Symbol::Named,
-            ]),
-            Kind::Fixed(Sign::Plus) | Kind::Fixed(Sign::Minus) => self.take(&[
-                Symbol::Prod,
-                Symbol::Terms,
-                Symbol::Test,
-                Symbol::Ands,
-                Symbol::Ors,
-                Symbol::Word(Sign::As),
-                Symbol::Named,
-            ]),
+            Kind::Fixed(Sign::Star) => self.take_before(
+                &[Symbol::Unary, Symbol::Factors],
+                &AFTER_FACTORS,
+            ),
+            Kind::Fixed(Sign::Div) | Kind::Fixed(Sign::Mod) => self.take_before(
+                &[Symbol::Pos, Symbol::Factors],
+                &AFTER_FACTORS,
+            ),
+            Kind::Fixed(Sign::Plus) | Kind::Fixed(Sign::Minus) => self.take_before(
+                &[Symbol::Prod, Symbol::Terms],
+                &AFTER_TERMS,
+            ),
             Kind::Fixed(Sign::Equal)
             | Kind::Fixed(Sign::Differs)
             | Kind::Fixed(Sign::Less)
             | Kind::Fixed(Sign::LessEqual)
             | Kind::Fixed(Sign::Greater)
-            | Kind::Fixed(Sign::GreaterEqual) => self.take(&[
-                Symbol::Sum,
-                Symbol::Ands,
-                Symbol::Ors,
-                Symbol::Word(Sign::As),
-                Symbol::Named,
-            ]),
-            Kind::Fixed(Sign::And) => self.take(&[
-                Symbol::Neg,
-                Symbol::Ands,
-                Symbol::Ors,
-                Symbol::Word(Sign::As),
-                Symbol::Named,
-            ]),
-            Kind::Fixed(Sign::Or) => self.take(&[
-                Symbol::Conj,
-                Symbol::Ors,
-                Symbol::Word(Sign::As),
-                Symbol::Named,
-            ]),
+            | Kind::Fixed(Sign::GreaterEqual) => self.take_before(&[Symbol::Sum], &AFTER_TEST),
+            Kind::Fixed(Sign::And) => self.take_before(&[Symbol::Neg, Symbol::Ands], &AFTER_ANDS),
+            Kind::Fixed(Sign::Or) => self.take_before(&[Symbol::Conj, Symbol::Ors], &AFTER_ORS),
             Kind::Fixed(Sign::As) => self.take(&[Symbol::Named]),
             _ => Ok(Taken::Nothing),
         }

@@ -68,6 +68,18 @@ impl Stack {
         Ok(Taken::Word)
     }
 
+    /// Takes the word, and puts these symbols on the stack, and those below them.
+    pub(crate) fn take_before(
+        &mut self,
+        symbols: &[Symbol],
+        below: &[Symbol],
+    ) -> Result<Taken, Memory>
+        ensures { IfOk result (λ r. (r ≡ Taken.Word) × (self.new ≡ symbols.now ++ below.now ++ self.old)) }
+    {
+        self.put(below)?;
+        self.take(symbols)
+    }
+
     /// Reads one word, and says whether it could come.
     pub(crate) fn read(&mut self, kind: Kind) -> Result<bool, Memory>
         ensures { IfOk result (λ b. Reads b (after self.old kind) self.new) }
