@@ -6,3 +6,4 @@ pub mod Mapping
 pub mod Placing
 pub mod Marks
 pub mod Comparing
+pub mod Filling

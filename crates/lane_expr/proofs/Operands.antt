@@ -112,6 +112,13 @@ kind_behind [] (b ∷ bs) (suc to) d e some = absurd (omega arith)
 kind_behind (x ∷ xs) back zero d e some = absurd (omega arith)
 kind_behind (x ∷ xs) back (suc to) d e some = kind_behind xs back to d (omega arith) some
 
+pub datum_behind : (j : ℕ) (front back : List Register) (to : ℕ) (d : Register) → length front ≡ to → 0 < length back → datum_at j (get_or back 0 d) ≡ get_or (map (datum_at j) (front ++ back)) to (Int (pos 0))
+datum_behind j [] [] to d e some = absurd (omega arith)
+datum_behind j [] (b ∷ bs) zero d e some = refl
+datum_behind j [] (b ∷ bs) (suc to) d e some = absurd (omega arith)
+datum_behind j (x ∷ xs) back zero d e some = absurd (omega arith)
+datum_behind j (x ∷ xs) back (suc to) d e some = datum_behind j xs back to d (omega arith) some
+
 -- what a register of a known kind holds
 pub datum_is : (j : ℕ) (rs : List Register) (i : ℕ) (d : Register) (k : CellKind) → i < length rs → get_or (map (λ r. r.kind) rs) i Whole ≡ k → get_or (map (datum_at j) rs) i (Int (pos 0)) ≡ datum_of k (get_or rs i d) j
 datum_is j [] i d k lt e = absurd (omega arith)

@@ -1,5 +1,5 @@
 -- What the registers of a kernel hold for the rows of a block.
-use Rattle.std.specs.Prelude.{◌≡◌, ℕ, ◌&&◌, Bool, true, List, slice_index_or}
+use Rattle.std.specs.Prelude.{◌≡◌, ℕ, ◌<◌, ◌&&◌, Bool, true, false, pos, List, map, slice_index_or}
 use Rattle.occupancy.specs.Bits.{test}
 use Rattle.lanes.specs.Lanes.{number, place}
 use Rattle.tw_rows.specs.declared.cells.Datum.{Datum}
@@ -11,6 +11,8 @@ use Rattle.plan_model.specs.declared.expr.ExprNode.{ExprNode}
 use Rattle.plan_model.specs.Expr.{holds}
 use Rattle.batch.specs.Rows.{Row}
 use Rattle.lane_expr.specs.declared.registers.Register.{Register}
+use Rattle.lane_expr.specs.declared.step.Step.{Step}
+use Rattle.lane_expr.specs.declared.step.Step.TheVariants.{Column, Constant}
 use Rattle.lane_expr.specs.Running.{no_row}
 
 -- the datum for row j of the block, where the results are of the kind: the number of lane j, bit j or the place of lane j
@@ -25,6 +27,15 @@ datum_at j r = datum_of r.kind r j
 -- a row stands at the place, and it is occupied
 abbrev pub IsOccupied : List Row → ℕ → Type 0
 IsOccupied rows at = (slice_index_or rows at no_row).occupied ≡ true
+
+-- a step whose results are the same for each row
+abbrev pub is_constant : Step → Bool
+is_constant (Constant d) = true
+is_constant _ = false
+
+-- the register of each constant holds it for each row
+abbrev pub AreFilled : List Step → List Register → Type 0
+AreFilled steps registers = (i j : ℕ) → j < 64 → (d : Datum) → slice_index_or steps i (Column 0) ≡ Constant d → slice_index_or (map (datum_at j) registers) i (Int (pos 0)) ≡ d
 
 -- the row at the place is occupied, and the test is true there
 abbrev pub is_met_at : List (List ℕ) → List ExprNode → List Row → ℕ → Bool

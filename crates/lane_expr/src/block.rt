@@ -1,5 +1,5 @@
 // The running of steps over a block of 64 rows.
-ghost use Rattle.std.specs.Prelude.{◌≡◌, ◌+◌, ◌*◌, ◌-◌, ◌<◌, ◌≤◌, ℕ, [], pos, true, length, map, take, slice_index_or};
+ghost use Rattle.std.specs.Prelude.{◌≡◌, ◌+◌, ◌*◌, ◌-◌, ◌<◌, ◌≤◌, ◌≢◌, ℕ, [], pos, true, length, map, take, slice_index_or};
 ghost use Rattle.lanes.specs.Lanes.{number};
 ghost use Rattle.tw_rows.specs.Cells.{read_datum, read_cells, IsPlaced, ArePlaced};
 ghost use Rattle.plan_model.specs.IsExpr.{IsExprNode};
@@ -7,7 +7,7 @@ ghost use Rattle.plan_model.specs.Expr.{node_value, value, arith_value};
 ghost use Rattle.plan_model.specs.Typed.{IsTypedNode};
 ghost use Rattle.lane_expr.specs.Steps.{node_of, expr_of, step_kind, IsStepPlaced, AreStepsPlaced, IsStepWithin, AreSteps};
 ghost use Rattle.lane_expr.specs.Running.{operand, no_row, cells_of};
-ghost use Rattle.lane_expr.specs.Registers.{datum_of, datum_at, IsOccupied};
+ghost use Rattle.lane_expr.specs.Registers.{datum_of, datum_at, IsOccupied, is_constant, AreFilled};
 ghost use Rattle.lane_expr.specs.Kernels.{HoldsPlaces, IsResult};
 
 use crate::compare::compare;
@@ -32,7 +32,9 @@ pub(crate) fn run(
     requires placed { AreStepsPlaced texts.now steps.now }
     requires block { 64 * block < length batch.now.rows }
     requires cells { HoldsPlaces texts.now batch.now.rows }
+    requires filled { AreFilled steps.now registers.old }
     ensures kinds { map (λ r. r.kind) registers.new ≡ map (λ r. r.kind) registers.old }
+    ensures filled { AreFilled steps.now registers.new }
     ensures results { (j : ℕ) → j < 64 → IsResult texts.now (expr_of texts.now steps.now) (slice_index_or batch.now.rows (64 * block + j) no_row)
         (slice_index_or (map (datum_at j) registers.new) (length steps.now - 1) (Datum.Int (pos 0))) }
 {
@@ -62,7 +64,10 @@ fn run_at(
     requires block { 64 * block < length batch.now.rows }
     requires cells { HoldsPlaces texts.now batch.now.rows }
     requires placed { (j : ℕ) → j < 64 → IsOccupied batch.now.rows (64 * block + j) → ArePlaced texts.now (take to (map (datum_at j) registers.old)) }
+    requires constant { (d : Datum) → step.now ≡ Step.Constant d → (j : ℕ) → j < 64 → slice_index_or (map (datum_at j) registers.old) to (Datum.Int (pos 0)) ≡ d }
     ensures kinds { map (λ r. r.kind) registers.new ≡ map (λ r. r.kind) registers.old }
+    ensures others { (i j : ℕ) → i ≢ to → slice_index_or (map (datum_at j) registers.new) i (Datum.Int (pos 0)) ≡ slice_index_or (map (datum_at j) registers.old) i (Datum.Int (pos 0)) }
+    ensures constant { (j : ℕ) → is_constant step.now ≡ true → slice_index_or (map (datum_at j) registers.new) to (Datum.Int (pos 0)) ≡ slice_index_or (map (datum_at j) registers.old) to (Datum.Int (pos 0)) }
     ensures before { (j : ℕ) → take to (map (datum_at j) registers.new) ≡ take to (map (datum_at j) registers.old) }
     ensures value { (j : ℕ) → j < 64 → IsOccupied batch.now.rows (64 * block + j) →
         read_datum texts.now (slice_index_or (map (datum_at j) registers.new) to (Datum.Int (pos 0)))
@@ -73,7 +78,7 @@ fn run_at(
     run_step(&mut rest[0], step, before, batch, texts, block);
 }
 
-// Runs a step, where `before` has the results of the steps before it.
+// Runs a step, where `before` has the results of the steps before it. The register of a constant holds it already.
 fn run_step(
     into: &mut Register,
     step: &Step,
@@ -90,7 +95,9 @@ fn run_step(
     requires block { 64 * block < length batch.now.rows }
     requires cells { HoldsPlaces texts.now batch.now.rows }
     requires placed { (j : ℕ) → j < 64 → IsOccupied batch.now.rows (64 * block + j) → ArePlaced texts.now (map (datum_at j) before.now) }
+    requires constant { (d : Datum) → step.now ≡ Step.Constant d → (j : ℕ) → j < 64 → datum_at j into.old ≡ d }
     ensures kind { into.new.kind ≡ into.old.kind }
+    ensures constant { is_constant step.now ≡ true → into.new ≡ into.old }
     ensures value { (j : ℕ) → j < 64 → IsOccupied batch.now.rows (64 * block + j) →
         read_datum texts.now (datum_of (step_kind batch.now.kinds step.now) into.new j)
         ≡ node_value (read_cells texts.now (cells_of batch.now.rows (64 * block + j))) (node_of texts.now step.now) (operand texts.now (map (datum_at j) before.now)) }
@@ -101,7 +108,7 @@ fn run_step(
             let count = (batch.rows() - BLOCK * block).min(BLOCK);
             into.load(batch.column(*column), BLOCK * block, count);
         }
-        Step::Constant(datum) => into.fill(*datum),
+        Step::Constant(_) => {}
         Step::Neg(of) => negations(&mut into.numbers, &before[*of].numbers),
         Step::Not(of) => into.bits = !before[*of].bits,
         Step::Arith { op, left, right } => arith(

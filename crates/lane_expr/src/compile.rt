@@ -1,11 +1,13 @@
 // The compiling of expressions into kernels.
-ghost use Rattle.std.specs.Prelude.{◌≡◌, ℕ, map, take, IfOk, OnOk, OnErr};
+ghost use Rattle.std.specs.Prelude.{◌≡◌, ℕ, map, take, IfOk, OnOk, OnErr, ◌<◌};
 ghost use Rattle.tw_rows.specs.Kinds.{cell_kind_of};
 ghost use Rattle.tw_rows.specs.Texts.{BeginsWith};
 ghost use Rattle.plan_model.specs.IsExpr.{IsExprNode, AreExprNodes};
 ghost use Rattle.plan_model.specs.Typed.{IsTyped, kind_of};
 ghost use Rattle.lane_expr.specs.Steps.{node_of, expr_of, IsStepPlaced, AreStepsPlaced, AreSteps, step_kind, with_node, with_texts};
 ghost use Rattle.lane_expr.specs.Kernels.{IsKernelOf, result_kind};
+ghost use Rattle.tw_rows.specs.Cells.{datum_kind};
+ghost use Rattle.lane_expr.specs.Registers.{datum_of, AreFilled};
 
 use crate::kernel::Kernel;
 use crate::registers::Register;
@@ -122,6 +124,19 @@ fn cell_kinds(alloc: Global, kinds: &[Kind]) -> Result<Vec<CellKind>, Memory>
     Ok(cells)
 }
 
+// A register for the results of a step, which hold a constant from the start.
+fn register_of(step: &Step, kind: CellKind) -> Register
+    requires { (d : Datum) → step.now ≡ Step.Constant d → datum_kind d ≡ kind }
+    ensures kind { result.kind ≡ kind }
+    ensures constant { (d : Datum) → step.now ≡ Step.Constant d → (j : ℕ) → j < 64 → datum_of kind result j ≡ d }
+{
+    let mut register = Register::new(kind);
+    if let Step::Constant(datum) = step {
+        register.fill(*datum);
+    }
+    register
+}
+
 // A register for the results of each step.
 fn registers_of(
     alloc: Global,
@@ -129,11 +144,12 @@ fn registers_of(
     columns: &[CellKind],
 ) -> Result<Vec<Register>, Memory>
     requires { AreSteps columns.now steps.now }
-    ensures { IfOk result (λ v. map (λ r. r.kind) v.items ≡ map (step_kind columns.now) steps.now) }
+    ensures kinds { IfOk result (λ v. map (λ r. r.kind) v.items ≡ map (step_kind columns.now) steps.now) }
+    ensures filled { IfOk result (λ v. AreFilled steps.now v.items) }
 {
     let mut registers = Vec::new(alloc);
     for step in steps {
-        registers.push(Register::new(kind_of(*step, columns)))?;
+        registers.push(register_of(step, kind_of(*step, columns)))?;
     }
     Ok(registers)
 }

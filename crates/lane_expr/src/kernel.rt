@@ -5,7 +5,7 @@ ghost use Rattle.batch.specs.Rows.{Table};
 ghost use Rattle.occupancy.specs.Bits.{test};
 ghost use Rattle.plan_model.specs.Typed.{kind_of};
 ghost use Rattle.lane_expr.specs.Steps.{expr_of, step_kind, AreSteps, AreStepsPlaced};
-ghost use Rattle.lane_expr.specs.Registers.{is_met_at};
+ghost use Rattle.lane_expr.specs.Registers.{is_met_at, AreFilled};
 ghost use Rattle.lane_expr.specs.Kernels.{result_kind, kind_for, CanRead, HoldsPlaces, mask_of};
 
 use crate::block::run;
@@ -24,20 +24,22 @@ pub struct Kernel {
     pub(crate) steps: Vec<Step>,
     pub(crate) kinds: Vec<CellKind>,
     pub(crate) capacity: usize,
-    // The results of each step over a block of rows.
+    // The results of each step over a block of rows. Those of constants are there from the start.
     pub(crate) registers: Vec<Register>,
 }
 
 impl Model for Kernel {
     ghost use Rattle.std.specs.Prelude.{◌≡◌, map};
     ghost use Rattle.lane_expr.specs.Steps.{AreSteps, step_kind};
+    ghost use Rattle.lane_expr.specs.Registers.{AreFilled};
     ghost use Rattle.lane_expr.specs.Kernels.{Program};
 
     ghost Value = { Program };
 
     ghost view = { λ k. record { steps = k.steps.items; kinds = k.kinds.items; capacity = k.capacity } };
 
-    ghost invariant = { λ k. AreSteps k.kinds.items k.steps.items × (map (λ r. r.kind) k.registers.items ≡ map (step_kind k.kinds.items) k.steps.items) };
+    ghost invariant = { λ k. AreSteps k.kinds.items k.steps.items × (map (λ r. r.kind) k.registers.items ≡ map (step_kind k.kinds.items) k.steps.items)
+        × AreFilled k.steps.items k.registers.items };
 }
 
 impl Kernel {
@@ -77,12 +79,14 @@ fn fill_mask(
     requires steps { AreSteps batch.now.kinds steps.now }
     requires bit { kind_of (expr_of [] steps.now) batch.now.kinds ≡ CellKind.Bit }
     requires kinds { map (λ r. r.kind) registers.old ≡ map (step_kind batch.now.kinds) steps.now }
+    requires filled { AreFilled steps.now registers.old }
     requires placed { AreStepsPlaced texts.now steps.now }
     requires cells { HoldsPlaces texts.now batch.now.rows }
     requires empty { out.old.items ≡ [] }
     requires room { length batch.now.rows ≤ out.old.capacity }
     ensures mask { out.new ≡ record out.old { items = mask_of texts.now (expr_of texts.now steps.now) batch.now.rows } }
     ensures kinds { map (λ r. r.kind) registers.new ≡ map (λ r. r.kind) registers.old }
+    ensures filled { AreFilled steps.now registers.new }
 {
     let rows = batch.rows();
     for block in 0..rows.div_ceil(BLOCK) {
@@ -102,11 +106,13 @@ fn test_block(
     requires steps { AreSteps batch.now.kinds steps.now }
     requires bit { kind_of (expr_of [] steps.now) batch.now.kinds ≡ CellKind.Bit }
     requires kinds { map (λ r. r.kind) registers.old ≡ map (step_kind batch.now.kinds) steps.now }
+    requires filled { AreFilled steps.now registers.old }
     requires placed { AreStepsPlaced texts.now steps.now }
     requires block { 64 * block < length batch.now.rows }
     requires cells { HoldsPlaces texts.now batch.now.rows }
     ensures bits { (j : ℕ) → j < 64 → test result j ≡ is_met_at texts.now (expr_of texts.now steps.now) batch.now.rows (64 * block + j) }
     ensures kinds { map (λ r. r.kind) registers.new ≡ map (λ r. r.kind) registers.old }
+    ensures filled { AreFilled steps.now registers.new }
 {
     run(registers, steps, batch, texts, block);
     registers[steps.len() - 1].bits & batch.occupancy().word(block)

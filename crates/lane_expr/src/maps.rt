@@ -4,6 +4,7 @@ ghost use Rattle.plan_model.specs.Typed.{kind_of};
 ghost use Rattle.occupancy.specs.Bits.{test};
 ghost use Rattle.lanes.specs.Lanes.{number, place};
 ghost use Rattle.lane_expr.specs.Steps.{expr_of, step_kind, AreSteps, AreStepsPlaced};
+ghost use Rattle.lane_expr.specs.Registers.{AreFilled};
 ghost use Rattle.lane_expr.specs.Kernels.{result_kind, CanRead, HoldsPlaces, AreResults};
 
 use crate::block::run;
@@ -70,6 +71,7 @@ fn fill_ints(
     requires steps { AreSteps batch.now.kinds steps.now }
     requires kind { kind_of (expr_of [] steps.now) batch.now.kinds ≡ CellKind.Whole }
     requires kinds { map (λ r. r.kind) registers.old ≡ map (step_kind batch.now.kinds) steps.now }
+    requires filled { AreFilled steps.now registers.old }
     requires placed { AreStepsPlaced texts.now steps.now }
     requires cells { HoldsPlaces texts.now batch.now.rows }
     requires empty { out.old.items ≡ [] }
@@ -77,6 +79,7 @@ fn fill_ints(
     ensures results { AreResults texts.now (expr_of texts.now steps.now) batch.now.rows (map Datum.Int out.new.items) }
     ensures room { out.new.capacity ≡ out.old.capacity }
     ensures kinds { map (λ r. r.kind) registers.new ≡ map (λ r. r.kind) registers.old }
+    ensures filled { AreFilled steps.now registers.new }
 {
     let rows = batch.rows();
     for block in 0..rows.div_ceil(BLOCK) {
@@ -100,6 +103,7 @@ fn fill_bits(
     requires steps { AreSteps batch.now.kinds steps.now }
     requires kind { kind_of (expr_of [] steps.now) batch.now.kinds ≡ CellKind.Bit }
     requires kinds { map (λ r. r.kind) registers.old ≡ map (step_kind batch.now.kinds) steps.now }
+    requires filled { AreFilled steps.now registers.old }
     requires placed { AreStepsPlaced texts.now steps.now }
     requires cells { HoldsPlaces texts.now batch.now.rows }
     requires empty { out.old.items ≡ [] }
@@ -107,6 +111,7 @@ fn fill_bits(
     ensures results { AreResults texts.now (expr_of texts.now steps.now) batch.now.rows (map Datum.Bool out.new.items) }
     ensures room { out.new.capacity ≡ out.old.capacity }
     ensures kinds { map (λ r. r.kind) registers.new ≡ map (λ r. r.kind) registers.old }
+    ensures filled { AreFilled steps.now registers.new }
 {
     let rows = batch.rows();
     for block in 0..rows.div_ceil(BLOCK) {
@@ -130,6 +135,7 @@ fn fill_places(
     requires steps { AreSteps batch.now.kinds steps.now }
     requires kind { kind_of (expr_of [] steps.now) batch.now.kinds ≡ CellKind.Place }
     requires kinds { map (λ r. r.kind) registers.old ≡ map (step_kind batch.now.kinds) steps.now }
+    requires filled { AreFilled steps.now registers.old }
     requires placed { AreStepsPlaced texts.now steps.now }
     requires cells { HoldsPlaces texts.now batch.now.rows }
     requires empty { out.old.items ≡ [] }
@@ -137,6 +143,7 @@ fn fill_places(
     ensures results { AreResults texts.now (expr_of texts.now steps.now) batch.now.rows (map Datum.Text out.new.items) }
     ensures room { out.new.capacity ≡ out.old.capacity }
     ensures kinds { map (λ r. r.kind) registers.new ≡ map (λ r. r.kind) registers.old }
+    ensures filled { AreFilled steps.now registers.new }
 {
     let rows = batch.rows();
     for block in 0..rows.div_ceil(BLOCK) {

@@ -1,4 +1,4 @@
-use Rattle.std.proofs.Common.{◌≡◌, ◌∙◌, ◌+◌, ◌*◌, ◌-◌, ◌<◌, ◌≤◌, [], pos, true, false, length, map, take, get_or, ap, sym, subst, refl, arith, ◌++◌, ◌∷◌}
+use Rattle.std.proofs.Common.{◌≢◌, ◌⊎◌, inl, inr, ℕ, zero, suc, List, ◌≡◌, ◌∙◌, ◌+◌, ◌*◌, ◌-◌, ◌<◌, ◌≤◌, [], pos, true, false, length, map, take, get_or, ap, sym, subst, refl, arith, ◌++◌, ◌∷◌}
 use Rattle.std.proofs.lemmas.List.{take-map, take_more, take_all, length-map, get_or-map}
 use Rattle.occupancy.specs.Bits.{is_set_at, test}
 use Rattle.occupancy.proofs.Places.{test-zero}
@@ -8,10 +8,14 @@ use Rattle.tw_rows.specs.Cells.{read_datum, read_cells, IsPlaced}
 use Rattle.plan_model.specs.IsExpr.{IsExprNode}
 use Rattle.plan_model.specs.Expr.{node_value}
 use Rattle.plan_model.specs.Typed.{IsTypedNode}
-use Rattle.lane_expr.specs.declared.step.Step.TheVariants.{Column}
+use Rattle.lane_expr.specs.declared.step.Step.TheVariants.{Column, Constant}
+use Rattle.lane_expr.specs.declared.step.Step.{Step}
+use Rattle.lane_expr.specs.declared.registers.Register.{Register}
+use Rattle.tw_rows.specs.declared.cells.Datum.{Datum}
+use Rattle.std.proofs.lemmas.Bool.{cases_order}
 use Rattle.lane_expr.specs.Steps.{node_of, step_kind, IsStepWithin, IsStepPlaced}
 use Rattle.lane_expr.specs.Running.{operand, cells_of, no_row}
-use Rattle.lane_expr.specs.Registers.{datum_at, IsOccupied}
+use Rattle.lane_expr.specs.Registers.{datum_at, IsOccupied, is_constant, AreFilled}
 use Rattle.lane_expr.proofs.Typing.{IsExprNode-step, IsStepWithin-at, IsStepPlaced-at, IsTypedNode-step, AreSteps-some}
 use Rattle.lane_expr.proofs.Stepping.{Stands, Stands-next, Stands-value, Stands-placed}
 use Rattle.lane_expr.proofs.Operands.{occupied_at, kind_at, as_many}
@@ -26,6 +30,17 @@ returns-then-word-eq0-clause-results c j lt =
   where
     differ : false ≡ true → ⊥
     differ e = cc
+
+-- a step that is there, whatever stands for a missing one
+in_default : (steps : List Step) (k : ℕ) (s : Step) → k < length steps → s ≡ get_or steps k s → get_or steps k (Column 0) ≡ s
+in_default [] k s lt is = absurd (omega arith)
+in_default (x ∷ xs) zero s lt is = sym is
+in_default (x ∷ xs) (suc k) s lt is = in_default xs k s (omega arith) is
+
+by_default : (steps : List Step) (k : ℕ) (s : Step) → s ≡ get_or steps k s → (d : Datum) → get_or steps k (Column 0) ≡ Constant d → s ≡ Constant d
+by_default [] k s is d e = absurd (cc)
+by_default (x ∷ xs) zero s is d e = is ∙ e
+by_default (x ∷ xs) (suc k) s is d e = by_default xs k s is d e
 
 pub run_at-requires-clause-operands : goal.run_at-requires-clause-operands
 run_at-requires-clause-operands c =
@@ -48,6 +63,23 @@ pub run_at-requires-clause-step : goal.run_at-requires-clause-step
 run_at-requires-clause-step c =
     subst (IsStepPlaced c.args.texts.now) (sym c.index-steps-to.is) (IsStepPlaced-at c.args.texts.now c.args.steps.now c.loop-to.to c.index-steps-to.result c.requires.placed c.loop-to-test.true)
 
+-- constants stay, whatever step ran
+filled_next : (steps : List Step) (old new : List Register) (k : ℕ) (s : Step) → s ≡ get_or steps k s → ((i j : ℕ) → i ≢ k → get_or (map (datum_at j) new) i (Int (pos 0)) ≡ get_or (map (datum_at j) old) i (Int (pos 0)))
+    → ((j : ℕ) → is_constant s ≡ true → get_or (map (datum_at j) new) k (Int (pos 0)) ≡ get_or (map (datum_at j) old) k (Int (pos 0))) → AreFilled steps old → AreFilled steps new
+filled_next steps old new k s is others constant filled i j lt d e = at (cases_order i k)
+  where
+    at : (i ≡ k) ⊎ ((i < k) ⊎ (k < i)) → get_or (map (datum_at j) new) i (Int (pos 0)) ≡ d
+    at (inl same) =
+        let here : get_or steps k (Column 0) ≡ Constant d = ap (λ n. get_or steps n (Column 0)) (sym same) ∙ e in
+        let kept : is_constant s ≡ true = ap is_constant (by_default steps k s is d here) in
+        ap (λ n. get_or (map (datum_at j) new) n (Int (pos 0))) same ∙ constant j kept ∙ filled k j lt d here
+    at (inr (inl l)) = others i j (λ same. omega arith) ∙ filled i j lt d e
+    at (inr (inr g)) = others i j (λ same. omega arith) ∙ filled i j lt d e
+
+pub run_at-requires-clause-constant : goal.run_at-requires-clause-constant
+run_at-requires-clause-constant c d e j lt =
+    c.loop-to.invariant.filled c.loop-to.to j lt d (in_default c.args.steps.now c.loop-to.to c.index-steps-to.result c.loop-to-test.true c.index-steps-to.is ∙ e)
+
 pub loop-to-preserved : goal.loop-to-preserved
 loop-to-preserved c =
     let texts = c.args.texts.now in
@@ -61,6 +93,7 @@ loop-to-preserved c =
     let all = as_many columns new steps (kinds ∙ c.requires.kinds) in
     record {
       kinds = kinds;
+      filled = filled_next steps c.loop-to.registers new k s c.index-steps-to.is c.run_at.ensures.others c.run_at.ensures.constant c.loop-to.invariant.filled;
       held = λ j lt on.
           let at = 64 * c.args.block + j in
           let x = get_or (map (datum_at j) new) k (Int (pos 0)) in

@@ -1,5 +1,6 @@
 use Rattle.std.proofs.Common.{◌≡◌, ◌∙◌, ◌+◌, ◌*◌, ◌<◌, pos, length, map, take, get_or, ap, sym, subst, arith}
 use Rattle.std.proofs.lemmas.List.{take-map}
+use Rattle.tw_rows.specs.declared.cells.Datum.TheVariants.{Int}
 use Rattle.tw_rows.specs.Cells.{read_datum, read_cells}
 use Rattle.plan_model.specs.Expr.{node_value}
 use Rattle.lane_expr.specs.Steps.{node_of}
@@ -7,7 +8,7 @@ use Rattle.lane_expr.specs.Running.{operand, cells_of}
 use Rattle.tw_rows.specs.declared.kind.CellKind.TheVariants.{Whole}
 use Rattle.lane_expr.specs.declared.registers.Register.{Register}
 use Rattle.lane_expr.specs.Registers.{datum_of, datum_at}
-use Rattle.lane_expr.proofs.Operands.{written_at, kind_behind}
+use Rattle.lane_expr.proofs.Operands.{written_at, kind_behind, datum_behind}
 use Rattle.lane_expr.proofs.block.run_at.Goals as goal
 
 pub returns-clause-value : goal.returns-clause-value
@@ -21,3 +22,8 @@ returns-clause-value c j lt on =
     ∙ ap (λ rs. get_or (map (λ (r : Register). r.kind) rs) c.args.to Whole) (sym c.split_at_mut-before.ensures.value) ∙ c.requires.kind in
     ap (read_datum texts) here ∙ ap (λ k. read_datum texts (datum_of k into j)) kind ∙ c.run_step.ensures.value j lt on
     ∙ ap (λ ds. node_value (read_cells texts (cells_of c.args.batch.now.rows (64 * c.args.block + j))) (node_of texts c.args.step.now) (operand texts ds)) (ap (map (datum_at j)) c.split_at_mut-before.ensures.front ∙ sym (take-map (datum_at j) c.args.to c.args.registers.now))
+
+pub run_step-requires-clause-constant : goal.run_step-requires-clause-constant
+run_step-requires-clause-constant c d e j lt =
+    datum_behind j c.split_at_mut-before.result.0.now c.split_at_mut-before.result.1.now c.args.to c.index-rest-0.result (omega (arith, c.split_at_mut-before.ensures.front_len)) (omega (arith, c.split_at_mut-before.ensures.back_len, c.requires.place))
+    ∙ ap (λ rs. get_or (map (datum_at j) rs) c.args.to (Int (pos 0))) (sym c.split_at_mut-before.ensures.value) ∙ c.requires.constant d e j lt

@@ -10,6 +10,7 @@ use Rattle.tw_rows.specs.Rows.{value_cmp}
 use Rattle.plan_model.specs.Expr.{wrapped, arith_value, is_met, int_of, flag_of}
 use Rattle.lane_expr.specs.Registers.{datum_at}
 use Rattle.lane_expr.proofs.Operands.{operand_is, operand_at, placed_at, occupied_at, occupied_within, cell_read, cell_placed}
+use Rattle.lane_expr.proofs.Filling.{constant_value, constant_placed}
 use Rattle.lane_expr.proofs.block.run_step.Goals as goal
 
 pub returns-in-Column-clause-value : goal.returns-in-Column-clause-value
@@ -96,3 +97,14 @@ returns-in-Compare-clause-value c j lt on =
     let left = operand_at texts j c.args.before.now c.in-Compare.left c.index-before-left-in-Compare.result before.0 ∙ ap (λ r. read_datum texts (datum_at j r)) (sym c.index-before-left-in-Compare.is) in
     let right = operand_at texts j c.args.before.now c.in-Compare.right c.index-before-right-in-Compare.result before.1 ∙ ap (λ r. read_datum texts (datum_at j r)) (sym c.index-before-right-in-Compare.is) in
     rw c.in-Compare.is (ap FlagValue (c.compare-into.ensures j lt set ∙ ap (is_met c.in-Compare.op) (ap₂ value_cmp (sym left) (sym right))))
+
+pub returns-in-Constant-clause-value : goal.returns-in-Constant-clause-value
+returns-in-Constant-clause-value c j lt on =
+    let kind = rw c.in-Constant.is at c.requires.kind in
+    rw c.in-Constant.is (constant_value c.args.texts.now c.args.batch.now.kinds _ c.args.into.now j kind (c.requires.constant _ c.in-Constant.is j lt) _ _)
+
+pub returns-in-Constant-clause-placed : goal.returns-in-Constant-clause-placed
+returns-in-Constant-clause-placed c j lt on =
+    let kind = rw c.in-Constant.is at c.requires.kind in
+    let placed = rw c.in-Constant.is at c.requires.step in
+    rw c.in-Constant.is (constant_placed c.args.texts.now c.args.batch.now.kinds _ c.args.into.now j kind (c.requires.constant _ c.in-Constant.is j lt) placed)

@@ -40,6 +40,7 @@ loop-block-preserved c =
     ∙ c.test_block-word.ensures.bits j (omega arith) ∙ ap (λ m. is_met_at texts expr rows (m + j)) (sym start) in
     record {
       kinds = c.test_block-word.ensures.kinds ∙ inv.kinds;
+      filled = c.test_block-word.ensures.filled;
       room = ap (λ b. b.capacity) e ∙ inv.room;
       so_far = omega (arith, long, inv.so_far, c.min.ensures, c.div_ceil-block-end.ensures, c.rows-rows.ensures.rows);
       bits = λ k lt. grown (λ i b. b ≡ is_met_at texts expr rows i) false old new n

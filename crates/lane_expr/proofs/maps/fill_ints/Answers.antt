@@ -30,6 +30,7 @@ loop-block-preserved c =
     ∙ sym (datum_is j registers last r Whole (omega (arith, all, some)) (last_kind columns registers steps Whole kinds c.requires.kind)) in
     record {
       kinds = c.run.ensures.kinds ∙ inv.kinds;
+      filled = c.run.ensures.filled;
       room = c.store_ints.ensures.room ∙ inv.room;
       so_far = omega (arith, c.store_ints.ensures.long, inv.so_far, c.min.ensures, c.div_ceil-block-end.ensures, c.rows-rows.ensures.rows);
       results = λ k lt. results_more Int (pos 0) texts (expr_of texts steps) rows old new c.loop-block.block n (λ j. get_or (map (datum_at j) registers) last (Int (pos 0))) start

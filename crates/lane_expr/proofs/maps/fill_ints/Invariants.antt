@@ -3,6 +3,7 @@ use Rattle.std.proofs.Common.{◌≡◌, ℕ, ◌*◌, ◌<◌, pos, false, leng
 use Rattle.std.specs.Prelude.{slice_index_or}
 use Rattle.tw_rows.specs.declared.cells.Datum.TheVariants.{Int}
 use Rattle.lane_expr.specs.Steps.{expr_of}
+use Rattle.lane_expr.specs.Registers.{AreFilled}
 use Rattle.lane_expr.specs.Running.{no_row}
 use Rattle.lane_expr.specs.Kernels.{IsResult}
 use Rattle.lane_expr.proofs.maps.fill_ints.Given as goal
@@ -10,6 +11,7 @@ use Rattle.lane_expr.proofs.maps.fill_ints.Given as goal
 abbrev pub invariant-loop-block : goal.invariant-loop-block
 invariant-loop-block l = record {
   kinds : map (λ r. r.kind) l.registers ≡ map (λ r. r.kind) l.fn.registers;
+  filled : AreFilled l.steps l.registers;
   room : l.out.capacity ≡ l.fn.out.capacity;
   so_far : length l.out.items ≡ min (64 * l.block) (length l.batch.rows);
   results : (i : ℕ) → i < length l.out.items → IsResult l.texts (expr_of l.texts l.steps) (slice_index_or l.batch.rows i no_row) (Int (slice_index_or l.out.items i (pos 0)));

@@ -5,6 +5,7 @@ use Rattle.plan_model.specs.declared.expr.ExprNode.{ExprNode}
 use Rattle.plan_model.specs.IsExpr.{IsExpr}
 use Rattle.plan_model.specs.Typed.{IsTyped, kind_of}
 use Rattle.lane_expr.specs.declared.step.Step.{Step}
+use Rattle.lane_expr.specs.Registers.{AreFilled}
 use Rattle.lane_expr.specs.Steps.{AreSteps, expr_of, step_kind}
 use Rattle.lane_expr.proofs.Typing.{AreSteps-compiled, kind_of-texts}
 use Rattle.lane_expr.proofs.kernel.Kernel.compile.Goals as goal
@@ -20,7 +21,7 @@ registers_of-requires c =
 pub invariant_of-result : goal.invariant_of-result
 invariant_of-result c =
     let steps : AreSteps c.in_ok-kinds.kinds.items c.in_ok-steps.steps.items = compiled c.in_ok-kinds.kinds.items _ c.compile_nodes.new.texts c.in_ok-steps.steps.items c.args.expr.now c.in_ok-kinds.ensures (c.in_ok-steps.ensures.steps ∙ c.items.ensures.nodes) c.items.ensures.kept c.requires in
-    (steps, c.in_ok-registers.ensures ∙ ap (λ ss. map (step_kind c.deref-2.result.now) ss) c.deref.ensures.value ∙ ap (λ ks. map (step_kind ks) c.in_ok-steps.steps.items) c.deref-2.ensures.value)
+    (steps, c.in_ok-registers.ensures.kinds ∙ ap (λ ss. map (step_kind c.deref-2.result.now) ss) c.deref.ensures.value ∙ ap (λ ks. map (step_kind ks) c.in_ok-steps.steps.items) c.deref-2.ensures.value, subst (λ ss. AreFilled ss c.in_ok-registers.registers.items) c.deref.ensures.value c.in_ok-registers.ensures.filled)
 
 pub returns-clause-result : goal.returns-clause-result
 returns-clause-result c =
