@@ -1,5 +1,5 @@
 -- One instant of an anti-join.
-use Rattle.std.specs.Prelude.{◌≡◌, ℕ, suc, ◌+◌, ◌<◌, ◌≤◌, max, ◌&&◌, nat_eq, nat_lt, nat_le, Bool, true, false, cond, Option, Some, None, List, [], ◌∷◌, flat_map, refl}
+use Rattle.std.specs.Prelude.{◌≡◌, ℕ, suc, ◌+◌, ◌<◌, ◌≤◌, max, ◌&&◌, nat_lt, nat_le, Bool, true, false, cond, Option, Some, None, List, flat_map, refl}
 use Rattle.std.proofs.Common.{sym, ◌∙◌, ap, arith}
 use Rattle.std.proofs.lemmas.Bool.Decides.{nat_tests}
 use Rattle.tw_rows.specs.Instant.{inf}
@@ -20,6 +20,7 @@ use Rattle.key_nodes.specs.Runs.{runs}
 use Rattle.key_nodes.specs.Antis.{alone_at, alone}
 use Rattle.sweep_laws.specs.Running.{open_at, tells, goes}
 use Rattle.sweep_laws.specs.Antijoining.{is_free, judged, IsSince, run_of, end_of, stays_of, flip_of, begin_of}
+use Rattle.sweep_laws.proofs.RowsTold.{cond_row, ended_one, started_one}
 use Rattle.sweep_laws.proofs.RunTells.{stretch}
 
 none_of : {X : Type 0} (b : Bool) (x : X) → cond (b && false) (Some x) None ≡ None
@@ -100,21 +101,8 @@ rows_case w t e true (Some s) v low false p false q = grind (arith, nat_tests)
 rows_case w t e false (Some s) v low o p true q = grind (arith, nat_tests)
 rows_case w t e false (Some s) v low o p false q = grind (arith, nat_tests)
 
--- one event's end and start among the news of an instant
-ended_one : (v : HeldRow → ℕ) (t : ℕ) (e : CellEvent) → is_event e ≡ true →
-    total (λ x. total v (ended_of x)) (news_of t (suc t) e) ≡ cond (nat_eq e.end t) (v (record { cells = e.row; start = e.start })) 0
-ended_one v t e h = grind (arith, nat_tests)
-
-started_one : (v : HeldRow → ℕ) (t : ℕ) (e : CellEvent) → is_event e ≡ true →
-    total (λ x. total v (started_of x)) (news_of t (suc t) e) ≡ cond (nat_eq e.start t) (v (record { cells = e.row; start = e.start })) 0
-started_one v t e h = grind (arith, nat_tests)
-
 stay_one : (v : HeldRow → ℕ) (t : ℕ) (e : CellEvent) → is_event e ≡ true → total v (open_of t e) ≡ total v (stays_of t e) + total (λ x. total v (ended_of x)) (news_of t (suc t) e)
 stay_one v t e h = grind (arith, nat_tests)
-
-cond_row : (v : HeldRow → ℕ) (b : Bool) (r : HeldRow) → total v (cond b (r ∷ []) []) ≡ cond b (v r) 0
-cond_row v true r = omega arith
-cond_row v false r = refl
 
 -- what stays is what is kept once the ends left
 pub stays_are : (t : ℕ) (a : List CellEvent) (rows rows1 : List HeldRow) (now : List Edge) → failing is_event a ≡ 0 → SameBag now (news t (suc t) a) → SameBag rows (opens t a) →

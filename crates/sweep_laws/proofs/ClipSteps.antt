@@ -20,6 +20,7 @@ use Rattle.key_nodes.proofs.Least.{below, least_le}
 use Rattle.key_nodes.proofs.Clipping.{adds, below_is}
 use Rattle.key_nodes.proofs.Bags.{any_by_weight}
 use Rattle.sweep_laws.specs.Clipping.{starts_at, is_clipped}
+use Rattle.sweep_laws.proofs.RowsTold.{cond_row}
 
 -- the step: what is open at t stays open unless it ends there or a right row of its key starts there
 pub clip_step : {L R : Type 0} (meets : L → R → Bool) (rs : List (Event R)) (e : Event L) (t : ℕ) → e.start < t →
@@ -43,10 +44,6 @@ clip_step meets rs e t low =
     final x end m n k c a b p v = grind (arith, nat_tests)
 
 module _ (meets : List Datum → List Datum → Bool) where
-  cond_row : (v : HeldRow → ℕ) (b : Bool) (r : HeldRow) → total v (cond b (r ∷ []) []) ≡ cond b (v r) 0
-  cond_row v true r = omega arith
-  cond_row v false r = refl
-
   clip_one : (w : HeldRow → ℕ) (t : ℕ) (b : List CellEvent) (e : CellEvent) → total w (open_of t (clip meets b e)) ≡ total (λ r. cond (is_clipped meets b t r) 0 (w r)) (open_of t e)
   clip_one w t b e =
       let r : HeldRow = record { cells = e.row; start = e.start } in

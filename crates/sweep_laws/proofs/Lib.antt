@@ -21,3 +21,4 @@ pub mod Examples
 pub mod RowsTold
 pub mod ClipTelling
 pub mod AntiTelling
+pub mod SessionState

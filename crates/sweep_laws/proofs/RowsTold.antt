@@ -1,14 +1,18 @@
 -- What is told of rows that end at an instant, and of rows that start there.
-use Rattle.std.specs.Prelude.{◌≡◌, ℕ, suc, ◌+◌, ◌*◌, ◌<◌, nat_eq, Bool, true, false, cond, List, map}
+use Rattle.std.specs.Prelude.{◌≡◌, ℕ, suc, ◌+◌, ◌*◌, ◌<◌, nat_eq, Bool, true, false, cond, List, [], ◌∷◌, map, refl}
 use Rattle.std.proofs.Common.{◌∙◌, arith}
 use Rattle.std.proofs.lemmas.Bool.Decides.{nat_tests}
 use Rattle.tw_rows.specs.Instant.{inf}
 use Rattle.tw_rows.specs.declared.edge.Edge.{Edge}
 use Rattle.tw_rows.specs.declared.edge.HeldRow.{HeldRow}
+use Rattle.tw_rows.specs.Bag.{total}
 use Rattle.tw_rows.proofs.Bags.{total-map, total_same, total_zero}
 use Rattle.edge_history.specs.Order.{failing, rank}
-use Rattle.edge_history.specs.Opens.{is_early, is_new}
+use Rattle.edge_history.specs.History.{CellEvent}
+use Rattle.edge_history.specs.Balance.{news_of}
+use Rattle.edge_history.specs.Opens.{ended_of, started_of, is_early, is_new}
 use Rattle.edge_history.proofs.Sums.{sum_eq}
+use Rattle.edge_history.proofs.Telling.{is_event}
 use Rattle.sweep_laws.specs.Sweeps.{InOrder}
 use Rattle.sweep_laws.specs.Moves.{ending, starting, Adds, told_at}
 use Rattle.sweep_laws.proofs.Ordering.{adds_order}
@@ -16,6 +20,19 @@ use Rattle.sweep_laws.proofs.Ordering.{adds_order}
 pub split_gap : (g : Bool) (n : ℕ) → n ≡ cond g n 0 + cond g 0 n
 split_gap true n = omega arith
 split_gap false n = omega arith
+
+-- one event's end and start among the news of an instant
+pub ended_one : (v : HeldRow → ℕ) (t : ℕ) (e : CellEvent) → is_event e ≡ true →
+    total (λ x. total v (ended_of x)) (news_of t (suc t) e) ≡ cond (nat_eq e.end t) (v (record { cells = e.row; start = e.start })) 0
+ended_one v t e h = grind (arith, nat_tests)
+
+pub started_one : (v : HeldRow → ℕ) (t : ℕ) (e : CellEvent) → is_event e ≡ true →
+    total (λ x. total v (started_of x)) (news_of t (suc t) e) ≡ cond (nat_eq e.start t) (v (record { cells = e.row; start = e.start })) 0
+started_one v t e h = grind (arith, nat_tests)
+
+pub cond_row : (v : HeldRow → ℕ) (b : Bool) (r : HeldRow) → total v (cond b (r ∷ []) []) ≡ cond b (v r) 0
+cond_row v true r = omega arith
+cond_row v false r = refl
 
 pub end_early : (w : Edge → ℕ) (t : ℕ) (r : HeldRow) → is_early t r ≡ true → w (told_at false t r) ≡ ending t w r
 unfolding is_early

@@ -21,6 +21,7 @@ use Rattle.key_nodes.proofs.Least.{below, least_le}
 use Rattle.key_nodes.proofs.Sessioning.{adds, below_is, end_after}
 use Rattle.key_nodes.proofs.Bags.{any_by_weight}
 use Rattle.sweep_laws.specs.Sessioning.{is_gap, IsLast}
+use Rattle.sweep_laws.proofs.RowsTold.{cond_row, started_one}
 
 -- a start that is there lies between
 any_at : (from s t : ℕ) (starts : List ℕ) → list_any (nat_eq from) starts ≡ true → s < from → from < t → any_between starts s t ≡ true
@@ -123,14 +124,6 @@ module _ {K : Type 0} (key : List Datum → K) (same : K → K → Bool) (decide
           lt_one : (m : ℕ) → 1 ≤ m → nat_lt 0 m ≡ true
           lt_one m l = grind (arith, nat_tests)
 
-  one_of : (w : HeldRow → ℕ) (b : Bool) (r : HeldRow) → total w (cond b (r ∷ []) []) ≡ cond b (w r) 0
-  one_of w true r = omega arith
-  one_of w false r = refl
-
-  started_one : (w : HeldRow → ℕ) (t : ℕ) (e : CellEvent) → is_event e ≡ true →
-      total (λ x. total w (started_of x)) (news_of t (suc t) e) ≡ cond (nat_eq e.start t) (w (record { cells = e.row; start = e.start })) 0
-  started_one w t e v = grind (arith, nat_tests)
-
   -- one event
   session_one : (timeout t : ℕ) (a : List CellEvent) (w : HeldRow → ℕ) (e : CellEvent) → 1 ≤ timeout → t < inf → list_any (nat_eq e.start) (key_starts key same a (key e.row)) ≡ true →
       total w (open_of (suc t) (session key same timeout a e))
@@ -140,8 +133,8 @@ module _ {K : Type 0} (key : List Datum → K) (same : K → K → Bool) (decide
       let r : HeldRow = record { cells = e.row; start = e.start } in
       let starts = key_starts key same a (key e.row) in
       let g = is_gap timeout starts t in
-      let x = one_of w (nat_lt e.start (suc t) && nat_le (suc t) (session_end timeout starts e.start)) r in
-      let y = one_of (λ q. cond (is_gap timeout (key_starts key same a (key q.cells)) t) 0 (w q)) (nat_lt e.start t && nat_le t (session_end timeout starts e.start)) r in
+      let x = cond_row w (nat_lt e.start (suc t) && nat_le (suc t) (session_end timeout starts e.start)) r in
+      let y = cond_row (λ q. cond (is_gap timeout (key_starts key same a (key q.cells)) t) 0 (w q)) (nat_lt e.start t && nat_le t (session_end timeout starts e.start)) r in
       let z = pick e.start (session_end timeout starts e.start) g (w r) (λ b. session_step timeout e.start t starts low b there)
       (λ b. subst (λ n. n < session_end timeout starts e.start) b (end_after timeout e.start starts pos (omega (arith, low, b)))) in
       x ∙ z ∙ ap (λ n. n + cond (nat_eq e.start t) (w r) 0) (sym y)

@@ -24,6 +24,16 @@ abbrev pub LastIs : {K : Type 0} → (List Datum → K) → (K → K → Bool) �
 LastIs {K} key same timeout a t last =
     (k : K) (s : ℕ) → last k ≡ Some s → IsLast (key_starts key same a k) t s × (t ≤ s + timeout)
 
+-- the last start of a key at which none starts: none once its timeout has passed at t. With timeout 5 of a start at 4: kept at 8,
+-- gone at 9
+abbrev pub kept_last : ℕ → ℕ → Option ℕ → Option ℕ
+kept_last timeout t None = None
+kept_last timeout t (Some s) = cond (nat_eq (s + timeout) t) None (Some s)
+
+-- one of the rows has the key
+abbrev pub has_row_of : {K : Type 0} → (List Datum → K) → (K → K → Bool) → List HeldRow → K → Bool
+has_row_of key same rows k = list_any (λ r. same k (key r.cells)) rows
+
 -- just before t: the rows of the open sessions, the last start of each key that has one, and no row of any other key
 pub record Sessioning {K : Type 0} (key : List Datum → K) (same : K → K → Bool) (timeout : ℕ) (a : List CellEvent) (t : ℕ)
     (rows : List HeldRow) (last : K → Option ℕ) : Type 0 where

@@ -1,5 +1,5 @@
 // The laws of one instant of sessions, clips and anti-joins.
-ghost use Rattle.std.specs.Prelude.{◌≡◌, ℕ, suc, ◌+◌, ◌<◌, ◌≤◌, ◌&&◌, ◌||◌, nat_eq, nat_le, Bool, true, false, not, cond, Option, List, length, get_or, take, map, flat_map};
+ghost use Rattle.std.specs.Prelude.{◌≡◌, ℕ, suc, ◌+◌, ◌<◌, ◌≤◌, ◌&&◌, ◌||◌, nat_eq, nat_le, Bool, true, false, not, cond, Option, Some, List, length, get_or, take, map, flat_map};
 ghost use Rattle.std.specs.List.{list_any};
 ghost use Rattle.tw_rows.specs.Instant.{inf};
 ghost use Rattle.tw_rows.specs.Bag.{SameBag, total};
@@ -19,7 +19,7 @@ ghost use Rattle.key_nodes.specs.Antis.{alone_at, alone, meets_none};
 ghost use Rattle.sweep_laws.specs.Sweeps.{Tells as TellsNews};
 ghost use Rattle.sweep_laws.specs.Moves.{Adds, told_at};
 ghost use Rattle.sweep_laws.specs.Running.{open_at};
-ghost use Rattle.sweep_laws.specs.Sessioning.{is_gap, IsLast};
+ghost use Rattle.sweep_laws.specs.Sessioning.{is_gap, IsLast, Sessioning, kept_last, has_row_of};
 ghost use Rattle.sweep_laws.specs.Clipping.{starts_at, is_clipped};
 ghost use Rattle.sweep_laws.specs.Antijoining.{is_free, judged, IsSince, Judging, run_of, end_of, stays_of, flip_of, flip_end, flip_start, begin_of};
 
@@ -59,6 +59,29 @@ pub fn sessions_tell_an_instant<K>()
         ((v : ℕ) → u ≤ v → v < t →
         failing (λ r. not (is_gap timeout (key_starts key same a (key r.cells)) v)) rows ≡ 0) →
         SameBag rows (opens t (sessions key same timeout a))
+        × ((w : Edge → ℕ) → total w (news u t (sessions key same timeout a)) ≡ 0) }
+{}
+
+/// The last starts of the keys of open sessions follow an instant: a key at which a row starts has it as its last start, and
+/// any other keeps its own unless its timeout passes there. With them, between instants without news, no session ends before
+/// the least time at which a last start's timeout passes.
+pub fn open_sessions_follow<K>()
+    ensures instant { (key : List Datum → K) (same : K → K → Bool) → Tells same →
+        (timeout t : ℕ) (a : List CellEvent) (now : List Edge) (rows stay later ended : List HeldRow)
+        (last last2 : K → Option ℕ) → 1 ≤ timeout → t < inf → AreEvents a →
+        SameBag now (news t (suc t) a) → Sessioning key same timeout a t rows last →
+        ((w : HeldRow → ℕ) → total w rows ≡ total w stay + total w ended) →
+        ((w : HeldRow → ℕ) → total w ended
+        ≡ total (λ r. cond (is_gap timeout (key_starts key same a (key r.cells)) t) (w r) 0) rows) →
+        ((w : HeldRow → ℕ) → total w later ≡ total w stay + total w (started_rows now)) →
+        ((k : K) → last2 k ≡ cond (has_row_of key same (started_rows now) k) (Some t) (kept_last timeout t (last k))) →
+        SameBag later (opens (suc t) (sessions key same timeout a)) →
+        Sessioning key same timeout a (suc t) later last2 }
+    ensures between { (key : List Datum → K) (same : K → K → Bool) → Tells same →
+        (timeout u t : ℕ) (a : List CellEvent) (rows : List HeldRow) (last : K → Option ℕ) → 1 ≤ timeout → u ≤ t → t ≤ inf →
+        AreEvents a → ((w : Edge → ℕ) → total w (news u t a) ≡ 0) → Sessioning key same timeout a u rows last →
+        ((k : K) (s : ℕ) → last k ≡ Some s → t ≤ s + timeout) →
+        Sessioning key same timeout a t rows last
         × ((w : Edge → ℕ) → total w (news u t (sessions key same timeout a)) ≡ 0) }
 {}
 
