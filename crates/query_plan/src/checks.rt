@@ -1,25 +1,16 @@
 // What is found and checked of nodes that are put behind others.
 ghost use Rattle.std.specs.Prelude.{◌≡◌, ◌+◌, ◌^◌, ◌<◌, nat_lt, not, true, slice_index_or};
-ghost use Rattle.plan_model.specs.IsPlan.{most_reach};
 ghost use Rattle.plan_model.specs.Meaning.{at_child};
-ghost use Rattle.plan_model.specs.Reach.{node_is_event_level};
 ghost use Rattle.query_plan.specs.Answer.{Is};
 ghost use Rattle.query_plan.specs.Checked.{is_wide, has_twice, has_unbuilt, checked};
 ghost use Rattle.query_plan.specs.Draft.{needs, has_key_twice};
 ghost use Rattle.query_plan.specs.Growing.{next_level, next_reach, near_reach, reaches_with};
 
 use crate::draft::PlannedNode;
-use plan_model::{Node, QueryError, QueryFault, built};
+use plan_model::{
+    MOST_COLUMNS, MOST_NODES, Node, QueryError, QueryFault, built, level_over, reach_over,
+};
 use query_columns::{key_twice, name_twice};
-
-/// How far a plan may look back, in units of time: 2^60.
-const MOST_REACH: u64 = 1_152_921_504_606_846_976;
-
-/// As many nodes as a plan may have.
-const MOST_NODES: usize = 256;
-
-/// As many columns as a node may have.
-const MOST_COLUMNS: usize = 32;
 
 /// Nothing, or the fault where the test fails.
 pub(crate) fn needs(test: bool, fault: QueryFault) -> Result<(), QueryError>
@@ -52,36 +43,13 @@ pub(crate) fn level_of_number(levels: &[bool], i: usize) -> bool
     }
 }
 
-/// Whether the rows of a node are events, from whether those of its children are.
-fn level_of(node: &Node, left: bool, right: bool) -> bool
-    ensures { result ≡ node_is_event_level node.now left right }
-{
-    match node {
-        Node::Source { .. }
-        | Node::Hop { .. }
-        | Node::Duration { .. }
-        | Node::Extend { .. }
-        | Node::Session { .. }
-        | Node::Clip { .. }
-        | Node::Coalesce { .. }
-        | Node::Follow { .. } => true,
-        Node::Where { .. } | Node::Select { .. } | Node::Delay { .. } => left,
-        Node::Union { .. } => left && right,
-        Node::Group { .. }
-        | Node::Join { .. }
-        | Node::Anti { .. }
-        | Node::Mean { .. }
-        | Node::Top { .. } => false,
-    }
-}
-
 /// Whether the rows of the next node are events, where `levels` tells that of the nodes before it.
 pub(crate) fn next_level(node: &Node, levels: &[bool]) -> bool
     ensures { result ≡ next_level node.now levels.now }
 {
     let left = level_at(levels, node.left_child());
     let right = level_at(levels, node.right_child());
-    level_of(node, left, right)
+    level_over(node, left, right)
 }
 
 /// How far the child looks back, and 0 where there is no child.
@@ -104,27 +72,15 @@ fn reach_of_number(reaches: &[u64], i: usize) -> u64
     }
 }
 
-/// Whether a node looks back further than a plan may, from how far its children and it alone do.
-#[tactic(auto, unfolding(plan_model::specs::IsPlan::most_reach))]
-fn is_too_far(children: u64, own: u64) -> bool
-    ensures { result ≡ nat_lt most_reach (children + own) }
-{
-    own > MOST_REACH || children > MOST_REACH - own
-}
-
 /// How far the next node looks back, where `reaches` tells that of the nodes before it; or the fault where that is too far.
-#[tactic(auto, unfolding(plan_model::specs::IsPlan::most_reach))]
 fn near_reach(item: usize, node: &Node, reaches: &[u64]) -> Result<u64, QueryError>
     ensures { Is (λ r. r) result (near_reach item node.now reaches.now) }
 {
     let left = reach_at(reaches, node.left_child());
     let right = reach_at(reaches, node.right_child());
-    let children = left.max(right);
-    let own = node.own_duration();
-    if is_too_far(children, own) {
-        Err(QueryError::Fault(QueryFault::ReachTooLong { item }))
-    } else {
-        Ok(children + own)
+    match reach_over(node, left, right) {
+        Some(reach) => Ok(reach),
+        None => Err(QueryError::Fault(QueryFault::ReachTooLong { item })),
     }
 }
 
