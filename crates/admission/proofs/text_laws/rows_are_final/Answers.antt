@@ -1,0 +1,7 @@
+use Rattle.plan_model.proofs.Kept.{IsPlan-ordered}
+use Rattle.plan_model.proofs.Levels.{IsPlan-levelled}
+use Rattle.admission.proofs.Finality.{rows_final}
+use Rattle.admission.proofs.text_laws.rows_are_final.Goals as goal
+
+pub returns : goal.returns
+returns c = λ plan is policy lines more ended s. rows_final plan (IsPlan-ordered plan is) (IsPlan-levelled plan is) policy lines more ended s

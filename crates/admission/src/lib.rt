@@ -1,0 +1,12 @@
+//! What lines of input mean: which of them are admitted, the rows that they give, the punctuations that become due, the first
+//! fault, and the text that is written for them. The definitions stand in `specs/`; the functions here do nothing, and their
+//! clauses are laws of the definitions.
+#![tactic(auto)]
+
+mod admission_laws;
+mod policy;
+mod text_laws;
+
+pub use admission_laws::{admitted_entries_leave_what_is_known, entries_change_their_stream_alone};
+pub use policy::{Lateness, Policy};
+pub use text_laws::{nothing_follows_a_fault, punctuations_rise, rows_are_final, text_is_final};

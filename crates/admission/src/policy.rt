@@ -1,0 +1,18 @@
+// What becomes of late lines, and when punctuations are due.
+
+/// What becomes of a line that is late: it ends the run, it is left out, or it takes effect later.
+#[derive(Clone, Copy, Debug, PartialEq, Eq)]
+pub enum Lateness {
+    Refuse,
+    Drop,
+    Adjust,
+}
+
+/// How lines are admitted: a line may be older than the newest of its stream by the lateness, and the bounds of the streams
+/// make a punctuation due at each multiple of the period, where it is not 0.
+#[derive(Clone, Copy, Debug, PartialEq, Eq)]
+pub struct Policy {
+    pub lateness: u64,
+    pub late: Lateness,
+    pub period: u64,
+}
