@@ -1,13 +1,13 @@
 -- The rows of a group of keys alone: no two have the same key.
-use Rattle.std.specs.Prelude.{◌≡◌, ℕ, suc, ◌+◌, ◌<◌, ◌≤◌, nat_eq, Bool, true, false, cond, ◌||◌, IsTrue, Option, Some, option_to_list, List, [], ◌∷◌, length, map, filter, slice_get, slice_index_or, refl}
+use Rattle.std.specs.Prelude.{◌≡◌, ℕ, zero, suc, ◌+◌, ◌<◌, ◌≤◌, nat_eq, Bool, true, false, cond, ◌||◌, IsTrue, Option, Some, option_to_list, List, [], ◌∷◌, length, map, filter, slice_get, slice_index_or, refl}
 use Rattle.std.specs.List.{list_any}
 use Rattle.std.proofs.Common.{sym, ◌∙◌, ap, arith}
 use Rattle.std.proofs.lemmas.Bool.{eqb-true, or_parts}
 use Rattle.std.proofs.lemmas.List.{append-nil, length-map}
 use Rattle.tw_rows.specs.Instant.{inf}
-use Rattle.tw_rows.specs.Bag.{total}
+use Rattle.tw_rows.specs.Bag.{total, SameBag}
 use Rattle.tw_rows.specs.Event.{Event, alive}
-use Rattle.tw_rows.proofs.Bags.{SameBag-refl, total-filter, total-flat_map}
+use Rattle.tw_rows.proofs.Bags.{SameBag-refl, total-map, total-filter, total-flat_map}
 use Rattle.key_nodes.specs.Runs.{Tells}
 use Rattle.key_nodes.specs.Groups.{distinct, has_key}
 use Rattle.key_nodes.proofs.Bags.{total_le}
@@ -143,3 +143,46 @@ anti_one_a_key plan kept source i left right t left_key right_key there low =
         rw (over_nodes-is [] source node_events plan.nodes (IsPlan-ordered plan kept) right (Group of key []) e)
         (one_a_key value_ops rows_equal_tells key right_key h of (events source plan.nodes of) [] t low)
     go o e h = absurd h
+
+-- by what is read of rows, element by element
+module _ {X Y : Type 0} (f : X → Y) (before : RowOps X) (after : RowOps Y) (zeros : f before.zero ≡ after.zero)
+    (told_before : Tells before.same) (told_after : Tells after.same) where
+  at_read : (row : List X) (c : ℕ) → f (slice_index_or row c before.zero) ≡ slice_index_or (map f row) c after.zero
+  at_read [] c = zeros
+  at_read (x ∷ row) zero = refl
+  at_read (x ∷ row) (suc c) = at_read row c
+
+  key_read : (key : List ℕ) (row : List X) → map f (key_in before key row) ≡ key_in after key (map f row)
+  key_read [] row = refl
+  key_read (c ∷ key) row =
+      ap (λ x. x ∷ map f (key_in before key row)) (at_read row c)
+      ∙ ap (λ l. slice_index_or (map f row) c after.zero ∷ l) (key_read key row)
+
+  one_read : (key : List ℕ) (values row : List X) (b : Bool) → before.same values (key_in before key row) ≡ b →
+      cond b 1 0 ≤ cond (after.same (map f values) (key_in after key (map f row))) 1 0
+  one_read key values row true e =
+      let is = ap (map f) ((told_before values (key_in before key row)).0 e) ∙ key_read key row in
+      rw ((told_after (map f values) (key_in after key (map f row))).1 is) (omega arith)
+  one_read key values row false e = omega arith
+
+  -- where at most one of the read rows has a key, so has at most one of the rows
+  pub one_a_key_read : (key : List ℕ) (rows : List (List X)) → HasOneAKey after key (map (map f) rows) →
+      HasOneAKey before key rows
+  one_a_key_read key rows h values =
+      let a = count_is (has_key (key_in before key) before.same values) rows in
+      let b = count_is (has_key (key_in after key) after.same (map f values)) (map (map f) rows) in
+      let m = total-map (λ r. cond (has_key (key_in after key) after.same (map f values) r) 1 0) (map f) rows in
+      let le = total_le (λ r. cond (before.same values (key_in before key r)) 1 0)
+      (λ r. cond (after.same (map f values) (key_in after key (map f r))) 1 0) rows
+      (λ r. one_read key values r (before.same values (key_in before key r)) refl) in
+      let k = h (map f values) in
+      omega (arith, a, b, m, le, k)
+
+pub one_a_key_same : {X : Type 0} (ops : RowOps X) (key : List ℕ) (xs ys : List (List X)) → SameBag xs ys →
+    HasOneAKey ops key xs → HasOneAKey ops key ys
+one_a_key_same ops key xs ys bag h values =
+    let a = count_is (has_key (key_in ops key) ops.same values) xs in
+    let b = count_is (has_key (key_in ops key) ops.same values) ys in
+    let e = bag.weigh (λ r. cond (has_key (key_in ops key) ops.same values r) 1 0) in
+    let k = h values in
+    omega (arith, a, b, e, k)

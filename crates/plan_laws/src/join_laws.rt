@@ -1,6 +1,7 @@
 // The laws of what anti-joins meet, and of left joins.
 ghost use Rattle.std.specs.Prelude.{◌≡◌, ℕ, ◌<◌, nat_eq, IsTrue, Some, List, [], ◌++◌, length, map, slice_get, slice_index_or, All};
 ghost use Rattle.std.specs.List.{list_any};
+ghost use Rattle.tw_rows.specs.Bag.{SameBag};
 ghost use Rattle.tw_rows.specs.Event.{Event, alive};
 ghost use Rattle.tw_rows.specs.Instant.{inf};
 ghost use Rattle.tw_rows.specs.Rows.{Row};
@@ -26,6 +27,16 @@ pub fn groups_of_keys_have_one_a_key<X>()
         ((column : ℕ) → column < length key → IsTrue (list_any (nat_eq column) right_key)) →
         (child : ℕ) (a b : List (Event (List X))) (t : ℕ) → t < inf →
         HasOneAKey ops right_key (alive (node_in ops (Node.Group child key []) a b) t) }
+{}
+
+/// Where no two of some rows have the same key, so it is in whatever order they stand, and of rows from which these are
+/// read element by element, as places are read as texts.
+pub fn one_a_key_is_read_back<X, Y>()
+    ensures order { (ops : RowOps X) (key : List ℕ) (xs ys : List (List X)) → SameBag xs ys →
+        HasOneAKey ops key xs → HasOneAKey ops key ys }
+    ensures reading { (f : X → Y) (before : RowOps X) (after : RowOps Y) → f before.zero ≡ after.zero →
+        Tells before.same → Tells after.same → (key : List ℕ) (rows : List (List X)) →
+        HasOneAKey after key (map (map f) rows) → HasOneAKey before key rows }
 {}
 
 /// At each instant at most one right row a key is alive of what an anti-join of a plan reads.

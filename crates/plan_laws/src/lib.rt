@@ -12,6 +12,7 @@ mod width_laws;
 pub use held_laws::reaching_counts;
 pub use join_laws::{
     antis_meet_one_row_a_key, groups_of_keys_have_one_a_key, left_joins_have_the_rows,
+    one_a_key_is_read_back,
 };
 pub use times_laws::{nodes_move_times, times_stay_within_reach};
 pub use undefined_laws::{
