@@ -1,9 +1,9 @@
 -- Columns as they are declared: each text declares one list of columns at most.
-use Rattle.std.proofs.Common.{◌≡◌, ◌≢◌, ◌<◌, ℕ, List, [], ◌∷◌, ◌++◌, length, Bool, true, false, Option, Some, None, refl, sym, ◌∙◌, ap, arith}
+use Rattle.std.proofs.Common.{◌≡◌, ◌≢◌, ◌<◌, ◌+◌, ℕ, List, [], ◌∷◌, ◌++◌, length, get_or, Bool, true, false, Option, Some, None, refl, sym, ◌∙◌, ap, arith}
 use Rattle.std.specs.Prelude.{◌&&◌, ◌||◌, codes, IsTrue}
 use Rattle.std.specs.List.{AllByRecursion, list_all}
 use Rattle.tw_rows.specs.declared.kind.Kind.{Kind}
-use Rattle.tw_rows.specs.declared.kind.Kind.TheVariants.{Int, Bool as Flag, Text}
+use Rattle.tw_rows.specs.declared.kind.Kind.TheVariants.{Int, Bool as Flag, Text, Dec}
 use Rattle.tw_rows.specs.declared.schema.ColumnDef.{ColumnDef}
 use Rattle.tempo_cli.specs.Command.{is_letter, is_name_byte, is_word, is_name, kind_text, column_text, columns_text}
 use Rattle.tempo_cli.specs.QueryForm.{Lacks, more_text, DeclaresFirst}
@@ -40,10 +40,11 @@ pub name_lacks : (c : ℕ) (name : List ℕ) → is_name_byte c ≡ false → Is
 unfolding is_name
 name_lacks c name lacking h = word_lacks c name lacking (both (is_word name) _ h).0
 
-lacks_space : (kind : Kind) (c : ℕ) → is_name_byte c ≡ false → Lacks c (kind_text kind)
-lacks_space Int c lacking = all_lack c (codes "int") lacking refl
-lacks_space Flag c lacking = all_lack c (codes "bool") lacking refl
-lacks_space Text c lacking = all_lack c (codes "text") lacking refl
+lacks_space : (kind : Kind) (c : ℕ) → c < 256 → is_name_byte c ≡ false → Lacks c (kind_text kind)
+lacks_space (Dec k) c low lacking = (λ e. omega (arith, e), tt)
+lacks_space Int c low lacking = all_lack c (codes "int") lacking refl
+lacks_space Flag c low lacking = all_lack c (codes "bool") lacking refl
+lacks_space Text c low lacking = all_lack c (codes "text") lacking refl
 
 apart : (m n : ℕ) (xs ys : List ℕ) → m < n → (m ∷ xs) ≡ (n ∷ ys) → ⊥
 apart m n xs ys low e = let same : m ≡ n = cc in absurd (omega arith)
@@ -58,13 +59,32 @@ kind_once Flag Text e = absurd (apart 98 116 _ _ (omega arith) e)
 kind_once Text Int e = absurd (apart 105 116 _ _ (omega arith) (sym e))
 kind_once Text Flag e = absurd (apart 98 116 _ _ (omega arith) (sym e))
 kind_once Text Text e = refl
+kind_once Int (Dec l) e = absurd (apart 105 (256 + l) _ _ (omega arith) e)
+kind_once Flag (Dec l) e = absurd (apart 98 (256 + l) _ _ (omega arith) e)
+kind_once Text (Dec l) e = absurd (apart 116 (256 + l) _ _ (omega arith) e)
+kind_once (Dec k) Int e = absurd (apart 105 (256 + k) _ _ (omega arith) (sym e))
+kind_once (Dec k) Flag e = absurd (apart 98 (256 + k) _ _ (omega arith) (sym e))
+kind_once (Dec k) Text e = absurd (apart 116 (256 + k) _ _ (omega arith) (sym e))
+kind_once (Dec k) (Dec l) e = let same : 256 + k ≡ 256 + l = cc in let places : k ≡ l = omega (arith, same) in ap (λ n. Dec n) places
+
+-- no text of bytes is what stands for a decimal
+pub no_decimal : (text : List ℕ) (k : ℕ) → ((i : ℕ) → get_or text i 0 < 256) → text ≢ (256 + k) ∷ []
+no_decimal text k bytes e = let first : get_or text 0 0 ≡ 256 + k = ap (λ (l : List ℕ). get_or l 0 0) e in omega (arith, first, bytes 0)
+
+-- no kind is spelled so
+pub no_kind : (text : List ℕ) → (text ≡ codes "int" → ⊥) → (text ≡ codes "bool" → ⊥) → (text ≡ codes "text" → ⊥) → ((i : ℕ) → get_or text i 0 < 256) →
+    (kind : Kind) → text ≡ kind_text kind → ⊥
+no_kind text a b c bytes Int e = a e
+no_kind text a b c bytes Flag e = b e
+no_kind text a b c bytes Text e = c e
+no_kind text a b c bytes (Dec k) e = no_decimal text k bytes e
 
 -- the text of one column
 abbrev pub one_text : List ℕ → Kind → List ℕ
 one_text name kind = name ++ 32 ∷ kind_text kind
 
-pub one_lacks : (c : ℕ) (name : List ℕ) (kind : Kind) → is_name_byte c ≡ false → 32 ≢ c → IsTrue (is_name name) → Lacks c (one_text name kind)
-one_lacks c name kind lacking space h = lacks_append c name (32 ∷ kind_text kind) (name_lacks c name lacking h) (space, lacks_space kind c lacking)
+pub one_lacks : (c : ℕ) (name : List ℕ) (kind : Kind) → c < 256 → is_name_byte c ≡ false → 32 ≢ c → IsTrue (is_name name) → Lacks c (one_text name kind)
+one_lacks c name kind low lacking space h = lacks_append c name (32 ∷ kind_text kind) (name_lacks c name lacking h) (space, lacks_space kind c low lacking)
 
 pub one_once : (n m : List ℕ) (k l : Kind) → IsTrue (is_name n) → IsTrue (is_name m) → one_text n k ≡ one_text m l → (n ≡ m) × (k ≡ l)
 one_once n m k l p q e = let r = cut_once 32 n (kind_text k) m (kind_text l) (name_lacks 32 n refl p) (name_lacks 32 m refl q) e in (r.0, kind_once k l r.1)
@@ -82,7 +102,7 @@ split_once_only a b (Some m) (Some n) p q e = let r = cut_once 44 a (32 ∷ m) b
 
 pub first_once : (text n m : List ℕ) (k l : Kind) (o p : Option (List ℕ)) → DeclaresFirst text n k o → DeclaresFirst text m l p → (n ≡ m) × (k ≡ l) × (o ≡ p)
 first_once text n m k l o p a b =
-    let r = split_once_only (one_text n k) (one_text m l) o p (one_lacks 44 n k refl (λ e. cc) a.named) (one_lacks 44 m l refl (λ e. cc) b.named) (sym a.text_is ∙ b.text_is) in
+    let r = split_once_only (one_text n k) (one_text m l) o p (one_lacks 44 n k (omega arith) refl (λ e. cc) a.named) (one_lacks 44 m l (omega arith) refl (λ e. cc) b.named) (sym a.text_is ∙ b.text_is) in
     let s = one_once n m k l a.named b.named r.0 in
     (s.0, s.1, r.1)
 
@@ -115,7 +135,7 @@ some_none : (a : List ℕ) → Some a ≡ None → ⊥
 some_none a e = cc
 
 comma_lacks : (c : ColumnDef) → IsTrue (is_name c.name) → Lacks 44 (column_text c)
-comma_lacks c h = one_lacks 44 c.name c.kind refl (λ e. cc) h
+comma_lacks c h = one_lacks 44 c.name c.kind (omega arith) refl (λ e. cc) h
 
 -- one text begins with one column, and one text follows it
 column_once : (c d : ColumnDef) (x y : Option (List ℕ)) → IsTrue (is_name c.name) → IsTrue (is_name d.name) → column_text c ++ more_text x ≡ column_text d ++ more_text y → (c ≡ d) × (x ≡ y)

@@ -1,18 +1,18 @@
 -- The interval that a line says starts before it ends.
 use Rattle.std.proofs.Common.{◌≡◌, ℕ, List, Bool, true, false, cond, Option, Some, None, Result, Ok, Err, refl, subst}
-use Rattle.std.specs.Prelude.{not, codes, ◌==◌, ◌+◌, length, IfOk}
+use Rattle.std.specs.Prelude.{not, codes, ◌==◌, ◌+◌, length, drop, IfOk}
 use Rattle.std.proofs.lemmas.Bool.Decides.{Decides-ltb}
 use Rattle.tw_rows.specs.Rows.{Row}
 use Rattle.tw_rows.specs.declared.schema.ColumnDef.{ColumnDef}
 use Rattle.tw_rows.specs.declared.schema.StreamDef.{StreamDef}
-use Rattle.row_reader.specs.Entry.{Read, or_bad, with_row, row_of, unless_bad, text_fault, named, event, punctuation, record_entry, text_entry, entry}
+use Rattle.row_reader.specs.Entry.{Read, or_bad, with_row, row_of, unless_bad, text_fault, named, event, punctuation, is_punct, of_all, record_entry, text_entry, entry}
 use Rattle.row_reader.specs.Record.{record_of, field_of}
 use Rattle.row_reader.specs.Line.{text_of}
 use Rattle.row_reader.specs.Number.{same_text}
 use Rattle.row_reader.specs.Values.{end_of, form_of, times_of, is_alive}
 use Rattle.row_reader.specs.Answers.{Answers}
-use Rattle.row_reader.specs.declared.entry.Form.{Form}
-use Rattle.row_reader.specs.declared.entry.Form.TheVariants as forms
+use Rattle.line_text.specs.declared.form.Form.{Form}
+use Rattle.line_text.specs.declared.form.Form.TheVariants as forms
 use Rattle.row_reader.specs.declared.entry.Entry.{Entry}
 use Rattle.row_reader.specs.declared.entry.Entry.TheVariants.{Skip, Event}
 use Rattle.row_reader.specs.declared.entry.BadLine.{BadLine}
@@ -43,19 +43,21 @@ lives-event stream forms.End sync other (Ok r) true e = tt
 
 event-lives : (stream : ℕ) (columns : List ColumnDef) (fields : List (List ℕ)) → Lives (event stream columns fields)
 unfolding event
-event-lives stream columns fields = lives-or_bad bad.UnknownKind (form_of (field_of fields 1)) _ (λ form.
-    lives-cond (not (length fields == length columns + 4)) (Err bad.WrongFields) _ tt (lives-or_bad bad.BadTime (times_of form (field_of fields 2) (field_of fields 3)) _ (λ times.
-    lives-event stream form times.0 times.1 (row_of fields 1 columns) (is_alive form times.0 times.1) refl)))
+event-lives stream columns fields = lives-or_bad bad.UnknownKind (form_of (field_of fields 0)) _ (λ form.
+    lives-cond (not (length fields == length columns + 3)) (Err bad.WrongFields) _ tt (lives-or_bad bad.BadTime (times_of form (field_of fields 1) (field_of fields 2)) _ (λ times.
+    lives-event stream form times.0 times.1 (row_of 1 columns (drop 3 fields)) (is_alive form times.0 times.1) refl)))
 
-punctuation-lives : (fields : List (List ℕ)) → Lives (punctuation fields)
+punctuation-lives : (stream : Option ℕ) (fields : List (List ℕ)) → Lives (punctuation stream fields)
 unfolding punctuation
-punctuation-lives fields = lives-cond (not (same_text (field_of fields 1) (codes "punct"))) (Err bad.UnknownKind) _ tt
-    (lives-cond (not (length fields == 3)) (Err bad.WrongFields) _ tt (lives-or_bad bad.BadTime (end_of (field_of fields 2)) _ (λ time. tt)))
+punctuation-lives stream fields = lives-cond (not (length fields == 2)) (Err bad.WrongFields) _ tt (lives-or_bad bad.BadTime (end_of (field_of fields 1)) _ (λ time. tt))
 
 record-lives : (streams : List StreamDef) (fields : List (List ℕ)) → Lives (record_entry streams fields)
 unfolding record_entry
-record-lives streams fields = lives-cond (same_text (field_of fields 0) (codes "*")) (punctuation fields) _ (punctuation-lives fields)
-    (lives-or_bad bad.UnknownStream (named 0 streams (field_of fields 0)) _ (λ found. event-lives found.0 found.1.schema fields))
+record-lives streams fields =
+    let rest = drop 1 fields in
+    lives-cond (same_text (field_of fields 0) (codes "*")) (of_all rest) _ (lives-cond (is_punct rest) (punctuation None rest) (Err bad.UnknownKind) (punctuation-lives None rest) tt)
+    (lives-or_bad bad.UnknownStream (named 0 streams (field_of fields 0)) _ (λ found.
+    lives-cond (is_punct rest) (punctuation (Some found.0) rest) (event found.0 found.1.schema rest) (punctuation-lives (Some found.0) rest) (event-lives found.0 found.1.schema rest)))
 
 unless_bad-lives : (fault : Option BadLine) (read : Read) → Lives read → Lives (unless_bad fault read)
 unless_bad-lives None read h = h

@@ -13,7 +13,7 @@ use Rattle.tempo_cli.proofs.Columns.{AreNamed, one_lacks, once}
 use Rattle.tempo_cli.proofs.Comparisons.{compared, got, one_place}
 
 bracket_lacks : (c : ColumnDef) → IsTrue (is_name c.name) → Lacks 41 (column_text c)
-bracket_lacks c h = one_lacks 41 c.name c.kind refl (λ e. cc) h
+bracket_lacks c h = one_lacks 41 c.name c.kind (omega arith) refl (λ e. cc) h
 
 comma_differs : (n : ℕ) → n ≡ 44 → n ≢ 41
 comma_differs n e f = absurd (omega arith)

@@ -6,7 +6,7 @@ use Rattle.tw_rows.specs.declared.schema.StreamDef.{StreamDef}
 use Rattle.row_reader.specs.Entry.{Read, entry}
 use Rattle.row_reader.specs.declared.entry.BadLine.TheVariants.{TooLong}
 use Rattle.row_reader.specs.declared.entry.Entry.TheVariants.{Skip, Punct, Event}
-use Rattle.row_reader.specs.declared.entry.Form.TheVariants.{Interval, Start, End}
+use Rattle.line_text.specs.declared.form.Form.TheVariants.{Interval, Start, End}
 use Rattle.tempo_cli.specs.declared.command.Command.{Command}
 use Rattle.tempo_cli.specs.declared.fault.Fault.{Fault}
 use Rattle.tempo_cli.specs.declared.fault.Fault.TheVariants.{Malformed, NotBuilt}
@@ -39,7 +39,7 @@ entry_at streams header number line =
 -- an interval that starts before an earlier one is refused, and so are starts, ends and punctuations: they are not built
 abbrev pub admit : Admitted → Read → Admitted
 admit a (Ok Skip) = record a { number = a.number + 1 }
-admit a (Ok (Punct time)) = record a { fault = Some (NotBuilt (a.number + 1)) }
+admit a (Ok (Punct stream time)) = record a { fault = Some (NotBuilt (a.number + 1)) }
 admit a (Ok (Event stream Interval start end row)) =
     if nat_lt start a.bound then record a { fault = Some (NotBuilt (a.number + 1)) }
     else record { bound = start; number = a.number + 1; events = a.events ++ record { row = row; start = start; end = end } ∷ []; fault = a.fault }

@@ -1,8 +1,8 @@
 -- The words of the command line, and what they ask for, said by how it is spelled.
-use Rattle.std.specs.Prelude.{◌≡◌, ◌≢◌, ◌<◌, ◌≤◌, ◌^◌, ◌++◌, ◌&&◌, ◌||◌, ℕ, Bool, true, false, not, nat_le, nat_eq, List, [], ◌∷◌, length, codes, decimal, Option, Some, None, IfSome, IsTrue}
+use Rattle.std.specs.Prelude.{◌≡◌, ◌≢◌, ◌<◌, ◌≤◌, ◌^◌, ◌+◌, ◌++◌, ◌&&◌, ◌||◌, ℕ, Bool, true, false, not, nat_le, nat_eq, List, [], ◌∷◌, length, codes, decimal, Option, Some, None, IfSome, IsTrue}
 use Rattle.std.specs.List.{AllByRecursion, AllPairs, join_by, list_all, list_any, slice_get}
 use Rattle.tw_rows.specs.declared.kind.Kind.{Kind}
-use Rattle.tw_rows.specs.declared.kind.Kind.TheVariants.{Int, Bool as Flag, Text}
+use Rattle.tw_rows.specs.declared.kind.Kind.TheVariants.{Int, Bool as Flag, Text, Dec}
 use Rattle.tw_rows.specs.declared.schema.ColumnDef.{ColumnDef}
 use Rattle.row_reader.specs.Number.{same_text}
 use Rattle.tempo_cli.specs.declared.query_form.Above.{Above}
@@ -33,8 +33,9 @@ reserved =
 unfoldable pub is_name : List ℕ → Bool
 is_name text = is_word text && (nat_le (length text) 64 && not (list_any (same_text text) reserved))
 
--- how a kind is spelled
+-- how a kind is spelled. A decimal has no spelling here: what stands for it is no byte, so no text declares one
 abbrev pub kind_text : Kind → List ℕ
+kind_text (Dec places) = (256 + places) ∷ []
 kind_text Int = codes "int"
 kind_text Flag = codes "bool"
 kind_text Text = codes "text"

@@ -5,7 +5,7 @@ use Rattle.tw_rows.specs.Rows.{Row}
 use Rattle.row_reader.specs.Entry.{Read}
 use Rattle.row_reader.specs.declared.entry.Entry.{Entry}
 use Rattle.row_reader.specs.declared.entry.Entry.TheVariants.{Skip, Punct, Event}
-use Rattle.row_reader.specs.declared.entry.Form.TheVariants.{Interval, Start, End}
+use Rattle.line_text.specs.declared.form.Form.TheVariants.{Interval, Start, End}
 use Rattle.row_reader.specs.declared.entry.RowFault.{RowFault}
 use Rattle.row_reader.specs.declared.entry.RowFault.TheVariants.{Bad}
 use Rattle.row_reader.specs.declared.entry.RowFault.TheVariants as rows
@@ -77,7 +77,7 @@ Refuses read bound number Memory = Unit {0}
 -- an interval starts before it ends
 abbrev pub HasLife : Entry → Type 0
 HasLife Skip = Unit {0}
-HasLife (Punct time) = Unit {0}
+HasLife (Punct stream time) = Unit {0}
 HasLife (Event stream Interval start end row) = start < end
 HasLife (Event stream Start sync other row) = Unit {0}
 HasLife (Event stream End sync other row) = Unit {0}

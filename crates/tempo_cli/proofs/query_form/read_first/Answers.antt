@@ -1,11 +1,11 @@
-use Rattle.std.proofs.Common.{ℕ, List, Option, refl, sym, ◌∙◌}
+use Rattle.std.proofs.Common.{arith, ℕ, List, Option, refl, sym, ◌∙◌}
 use Rattle.tw_rows.specs.declared.kind.Kind.{Kind}
 use Rattle.tempo_cli.specs.QueryForm.{Splits, DeclaresOne, DeclaresFirst}
 use Rattle.tempo_cli.proofs.Columns.{one_text, one_lacks, split_once_only}
 use Rattle.tempo_cli.proofs.query_form.read_first.Goals as goal
 
 splits : (text name : List ℕ) (kind : Kind) (more : Option (List ℕ)) → DeclaresFirst text name kind more → Splits text (one_text name kind) more
-splits text name kind more d = record { text_is = d.text_is; alone = one_lacks 44 name kind refl (λ e. cc) d.named }
+splits text name kind more d = record { text_is = d.text_is; alone = one_lacks 44 name kind (omega arith) refl (λ e. cc) d.named }
 
 declares : (text column name : List ℕ) (kind : Kind) (after more : Option (List ℕ)) → Splits text column after → DeclaresFirst text name kind more → DeclaresOne column name kind
 declares text column name kind after more s d =
