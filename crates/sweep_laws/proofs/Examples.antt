@@ -14,7 +14,7 @@ use Rattle.sweep_laws.specs.Sweeps.{IsNext, InOrder}
 use Rattle.sweep_laws.specs.Moves.{Moves}
 use Rattle.sweep_laws.specs.Pairs.{pairs, pairs_told}
 use Rattle.sweep_laws.specs.Running.{Run, tells, goes, kept, begun_at}
-use Rattle.sweep_laws.specs.Sessioning.{is_gap}
+use Rattle.sweep_laws.specs.Sessioning.{is_gap, kept_last}
 use Rattle.sweep_laws.specs.Clipping.{starts_at, is_clipped}
 use Rattle.sweep_laws.specs.Antijoining.{judged, run_since, end_of, flip_of, begin_of, stays_of}
 
@@ -98,6 +98,10 @@ ends_and_then_starts = refl
 -- with timeout 5 the starts 1 and 4 have a gap at 9 alone, and a gap of the timeout ends the session
 gap_of_starts : is_gap 5 (1 ∷ 4 ∷ []) 9 ∷ is_gap 5 (1 ∷ 4 ∷ []) 6 ∷ is_gap 5 (1 ∷ 4 ∷ 9 ∷ []) 9 ∷ [] ≡ true ∷ false ∷ true ∷ []
 gap_of_starts = refl
+
+-- a last start is kept until its timeout has passed, and there is none of a key without a session
+last_starts_kept : kept_last 5 8 (Some 4) ∷ kept_last 5 9 (Some 4) ∷ kept_last 5 9 None ∷ [] ≡ Some 4 ∷ None ∷ None ∷ []
+last_starts_kept = refl
 
 -- a start at the row's own start or at t does not clip before t
 clipped_rows : is_clipped all (life two 5 9 ∷ []) 6 (held one 3) ∷ is_clipped all (life two 3 9 ∷ []) 6 (held one 3) ∷ is_clipped all (life two 6 9 ∷ []) 6 (held one 3) ∷ []
