@@ -9,20 +9,12 @@ use std::process::Abort;
 use std::test::Fail;
 use tw_rows::{CellKind, Cells, Datum, Edge, Kind, Memory, Time};
 
-// The time of a number, and infinity for a number of no instant.
-fn at(number: u64) -> Time {
-    match Time::new(number) {
-        Some(time) => time,
-        None => Time::INF,
-    }
-}
-
 fn edge(alloc: Global, times: (u64, u64)) -> Result<Edge, Memory>
     ensures { IfOk result (λ e. map datum_kind e.cells ≡ CellKind.Whole ∷ []) }
 {
     Ok(Edge {
-        sync: at(times.0),
-        other: at(times.1),
+        sync: Time::ZERO.plus(times.0),
+        other: Time::ZERO.plus(times.1),
         cells: Cells::from_slice(alloc, &[Datum::Int(7)])?,
     })
 }
@@ -65,26 +57,40 @@ fn digits(list: &EdgeList) -> Result<(u64, usize), Fail> {
 
 const FIVE: [(u64, u64); 5] = [(1, 9), (2, u64::MAX), (4, 2), (6, 7), (7, 8)];
 
+// Takes out the edges below 6.
+fn split(rt: &impl Abort, pools: &mut Pools, list: &mut EdgeList) -> Result<EdgeList, Fail>
+    ensures front { IfOk result (λ front. front.kinds ≡ list.old.kinds) }
+    ensures rest { list.new.kinds ≡ list.old.kinds }
+{
+    assert!(rt; pools.capacity() == list.capacity());
+    let front = list.split_below(pools, Time::ZERO.plus(6))?;
+    assert_eq!(rt; digits(&front)?, (124, 2));
+    assert_eq!(rt; digits(list)?, (67, 2));
+    Ok(front)
+}
+
+// Merges the two lists, and a copy of the second one with what comes of that.
+fn merge_twice(rt: &impl Abort, pools: &mut Pools, a: EdgeList, b: EdgeList) -> Result<(), Fail>
+    requires { a.kinds ≡ b.kinds }
+{
+    assert!(rt; pools.capacity() == a.capacity() && a.capacity() == b.capacity());
+    let copy = b.copy(pools)?;
+    assert!(rt; pools.capacity() == a.capacity());
+    let whole = EdgeList::merge(pools, a, b)?;
+    assert_eq!(rt; digits(&whole)?, (12467, 3));
+    assert!(rt; pools.capacity() == whole.capacity() && copy.capacity() == whole.capacity());
+    let twice = EdgeList::merge(pools, whole, copy)?;
+    assert_eq!(rt; digits(&twice)?, (11224467, 4));
+    Ok(())
+}
+
 #[test]
 fn lists_are_split_copied_and_merged(rt: HostRuntime) -> Result<(), Fail> {
     let alloc = rt.alloc();
     let mut pools = Pools::new(alloc, 8, 2)?;
     let mut rest = list(&rt, alloc, &mut pools, &FIVE)?;
-    assert_eq!(rt; digits(&rest)?, (12467, 3));
-    assert!(rt; pools.capacity() == rest.capacity());
-    let front = rest.split_below(&mut pools, at(6))?;
-    assert_eq!(rt; digits(&front)?, (124, 2));
-    assert_eq!(rt; digits(&rest)?, (67, 2));
-    assert!(rt; pools.capacity() == front.capacity());
-    let copy = front.copy(&mut pools)?;
-    assert_eq!(rt; digits(&copy)?, (124, 2));
-    assert!(rt; pools.capacity() == rest.capacity());
-    let whole = EdgeList::merge(&mut pools, rest, front)?;
-    assert_eq!(rt; digits(&whole)?, (12467, 3));
-    assert!(rt; pools.capacity() == whole.capacity());
-    let twice = EdgeList::merge(&mut pools, whole, copy)?;
-    assert_eq!(rt; digits(&twice)?, (11224467, 4));
-    Ok(())
+    let front = split(&rt, &mut pools, &mut rest)?;
+    merge_twice(&rt, &mut pools, rest, front)
 }
 
 // Moves the first batch of a list to an empty one.

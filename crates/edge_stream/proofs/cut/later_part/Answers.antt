@@ -14,7 +14,7 @@ copy_kept-requires-clause-room c =
     let bits = c.in_ok-mask.mask.items in
     let none = ap (λ b. length b.rows) c.in_ok-part.ensures.ok in
     let room = ap (λ b. b.capacity) c.in_ok-part.ensures.ok in
-    let long : length bits ≡ length rows = ap length c.in_ok-mask.ensures ∙ length-map rows (λ r. is_on_side From c.args.t (edge_of r)) in
+    let long : length bits ≡ length rows = ap length c.in_ok-mask.ensures ∙ length-map rows _ in
     let fewer = length-filter-le (λ r. r.occupied) (kept rows bits) in
     omega (arith, none, room, fewer, length-kept rows bits long, c.requires.capacity, c.requires.within)
 
