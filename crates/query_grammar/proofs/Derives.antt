@@ -1,9 +1,10 @@
 -- What a stack stands for: the lists of tokens that the grammar spells by it.
-use Rattle.std.proofs.Common.{◌≡◌, ℕ, suc, List, [], ◌∷◌, ◌++◌, refl}
+use Rattle.std.proofs.Common.{◌≡◌, ℕ, List, [], ◌∷◌, ◌++◌, refl}
 use Rattle.query_words.specs.declared.word.Sign.TheVariants as S
 use Rattle.query_grammar.specs.declared.symbol.Symbol.{Symbol}
 use Rattle.query_grammar.specs.declared.symbol.Symbol.TheVariants as Y
 use Rattle.query_grammar.specs.Token.{Token, name, int, dec, fixed}
+use Rattle.query_grammar.specs.Follows.{name_then, int_then, pos_then}
 use Rattle.query_grammar.specs.Grammar as G
 use Rattle.query_grammar.specs.Grammar.{expr_then, ors_then, conj_then, ands_then, neg_then, test_then, sum_then, terms_then, prod_then, factors_then, unary_then, atom_then, more_names_then, names_then, item_then, items_then, agg_then, aggs_then, by_then, on_then, per_then, lit_then, lits_then, else_then, step_then, steps_then, pipe_then, lets_then, col_then, cols_then, stream_then, streams_then}
 
@@ -11,15 +12,6 @@ use Rattle.query_grammar.specs.Grammar.{expr_then, ors_then, conj_then, ands_the
 pub record Spelled {A : Type 0} (then_ : A → List Token → List Token) (w z : List Token) : Type 0 where
   pub it : A
   pub spells : w ≡ then_ it z
-
-abbrev pub named_then : List ℕ → List Token → List Token
-named_then n z = name n ∷ z
-
-abbrev pub int_then : ℕ → List Token → List Token
-int_then n z = int n ∷ z
-
-abbrev pub pos_then : ℕ → List Token → List Token
-pos_then n z = int (suc n) ∷ z
 
 abbrev pub places_then : G.Places → List Token → List Token
 places_then p z = int p.number ∷ z
@@ -65,7 +57,7 @@ Means Y.Prod w z = Spelled prod_then w z
 Means Y.Factors w z = Spelled factors_then w z
 Means Y.Unary w z = Spelled unary_then w z
 Means Y.Atom w z = Spelled atom_then w z
-Means Y.Named w z = Spelled named_then w z
+Means Y.Named w z = Spelled name_then w z
 Means Y.Int w z = Spelled int_then w z
 Means Y.Pos w z = Spelled pos_then w z
 Means Y.Places w z = Spelled places_then w z
@@ -146,7 +138,7 @@ filled Y.Prod z = record { tokens = prod_then some_prod z; means = spelled prod_
 filled Y.Factors z = record { tokens = factors_then G.no_factor z; means = spelled factors_then G.no_factor z }
 filled Y.Unary z = record { tokens = unary_then (G.atom (G.number 0)) z; means = spelled unary_then (G.atom (G.number 0)) z }
 filled Y.Atom z = record { tokens = atom_then (G.number 0) z; means = spelled atom_then (G.number 0) z }
-filled Y.Named z = record { tokens = named_then [] z; means = spelled named_then [] z }
+filled Y.Named z = record { tokens = name_then [] z; means = spelled name_then [] z }
 filled Y.Int z = record { tokens = int_then 0 z; means = spelled int_then 0 z }
 filled Y.Pos z = record { tokens = pos_then 0 z; means = spelled pos_then 0 z }
 filled Y.Places z = record { tokens = places_then (record { number = 1; few = tt }) z; means = spelled places_then (record { number = 1; few = tt }) z }

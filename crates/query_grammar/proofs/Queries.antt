@@ -7,6 +7,7 @@ use Rattle.query_grammar.specs.declared.kind.Kind.TheVariants as K
 use Rattle.query_grammar.specs.declared.symbol.Symbol.{Symbol}
 use Rattle.query_grammar.specs.declared.symbol.Symbol.TheVariants as Y
 use Rattle.query_grammar.specs.Token.{Token, name, int, dec, str, fixed, kind}
+use Rattle.query_grammar.specs.Follows.{ends_step, ends_item}
 use Rattle.query_grammar.specs.Grammar as G
 use Rattle.query_grammar.specs.Grammar.{expr_then, ors_then, conj_then, ands_then, neg_then, test_then, sum_then, terms_then, prod_then, factors_then, unary_then, atom_then, more_names_then, names_then, item_then, items_then, agg_then, aggs_then, by_then, on_then, per_then, lit_then, lits_then, else_then, step_then, steps_then, pipe_then, lets_then, col_then, cols_then, stream_then, streams_then, query_tokens}
 use Rattle.query_grammar.specs.Machine.{skip, before, choose, may_end, after, stuck, stuck_then, start, binds, rank, at_stream, at_streams, at_col, at_col_kind, at_cols, at_lets, at_pipe, at_steps, at_step, at_item, at_item_rest, at_items, at_agg, at_aggs, at_by, at_on, at_names, at_more_names, at_expr, at_ors, at_ands, at_test, at_terms, at_factors, at_named, at_int, at_pos, at_places, at_per, at_else, at_lits, at_lit, at_unsigned, at_word}
@@ -69,13 +70,6 @@ names_next n k z = refl
 
 names_read : (ns : G.Names) (k : List Symbol) (z : List Token) → stuck (Y.Names ∷ k) (names_then ns z) ≡ stuck (Y.MoreNames ∷ k) z
 names_read ns k z = names_next ns.first k _ ∙ more_names_read ns.more k z
-
--- what may follow a step
-abbrev pub ends_step : List Token → Bool
-ends_step [] = true
-ends_step (fixed S.Bar ∷ ts) = true
-ends_step (fixed S.Semicolon ∷ ts) = true
-ends_step (_ ∷ ts) = false
 
 end_skips : (s : Symbol) (k : List Symbol) (z : List Token) → ends_step z ≡ true → may_end s ≡ true → choose s (K.Fixed S.Bar) ≡ skip → choose s (K.Fixed S.Semicolon) ≡ skip → stuck (s ∷ k) z ≡ stuck k z
 end_skips s k [] h e b c = skips s k [] e tt
@@ -299,11 +293,6 @@ item_named (G.expr (G.conj (G.cmp (G.sum (G.prod (G.atom (G.column m)) fs) ts) t
     ∙ ors_read os (Y.Word S.As ∷ Y.Named ∷ k) z0 (low_as (name n ∷ z))
     ∙ as_next n k z
 
--- what may follow an item
-abbrev pub ends_item : List Token → Bool
-ends_item (fixed S.Comma ∷ ts) = true
-ends_item z = ends_step z
-
 item_rest_end : (k : List Symbol) (z : List Token) → ends_item z ≡ true → stuck (Y.ItemRest ∷ k) z ≡ stuck k z
 unfolding at_item_rest at_factors at_terms at_test at_ands at_ors at_word
 item_rest_end k [] h = end_skips Y.ItemRest k [] h refl refl refl
@@ -318,7 +307,7 @@ items_next : (k : List Symbol) (z : List Token) → stuck (Y.Items ∷ k) (fixed
 unfolding stuck after at_items
 items_next k z = refl
 
-ends_both : (z : List Token) → ends_step z ≡ true → ends_item z ≡ true
+pub ends_both : (z : List Token) → ends_step z ≡ true → ends_item z ≡ true
 ends_both [] h = refl
 ends_both (fixed S.Bar ∷ ts) h = refl
 ends_both (fixed S.Semicolon ∷ ts) h = refl

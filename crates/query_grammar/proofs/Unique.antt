@@ -2,11 +2,12 @@
 use Rattle.std.proofs.Common.{◌≡◌, ℕ, suc, ◌<◌, Bool, true, false, subst, List, [], ◌∷◌, refl, ap, sym, ◌∙◌, arith}
 use Rattle.query_words.specs.declared.word.Sign.TheVariants as S
 use Rattle.query_grammar.specs.Token.{Token, name, int, fixed}
+use Rattle.query_grammar.specs.Follows.{Lacks, ends_step, ends_item}
 use Rattle.query_grammar.specs.Grammar as G
 use Rattle.query_grammar.specs.Grammar.{fun_sign, expr_then, ors_then, conj_then, ands_then, neg_then, test_then, sum_then, terms_then, prod_then, factors_then, unary_then, atom_then, more_names_then, names_then, item_then, items_then, agg_then, aggs_then, by_then, on_then, per_then, lit_then, lits_then, else_then, step_then, steps_then, pipe_then, let_then, lets_then, col_then, cols_then, stream_then, streams_then, query_tokens}
 use Rattle.query_grammar.specs.Machine.{binds, rank}
 use Rattle.query_grammar.proofs.Complete.{low_ors, low_ands, low_test, low_terms, low_close, low_as}
-use Rattle.query_grammar.proofs.Queries.{ends_step, ends_key, ends_else, ends_item, begins_on, on_ors, on_ands, on_test, on_terms, on_factors, ends_items, ends_steps, low_end}
+use Rattle.query_grammar.proofs.Queries.{ends_key, ends_else, begins_on, on_ors, on_ands, on_test, on_terms, on_factors, ends_items, ends_steps, low_end}
 
 pub record Both {A : Type 0} (a b : A) (y z : List Token) : Type 0 where
   pub it : a ≡ b
@@ -213,14 +214,10 @@ mutual
       record { it = ap G.parens u.it; rest = let q = u.rest in cc }
   atom_unique _ _ y z e = cc
 
--- another token stands first
-abbrev Without : Token → List Token → Type 0
-Without t y = (w : List Token) → y ≡ t ∷ w → ⊥
-
-ends_without : (t : Token) (y : List Token) → ((w : List Token) → ends_step (t ∷ w) ≡ false) → ends_step y ≡ true → Without t y
+ends_without : (t : Token) (y : List Token) → ((w : List Token) → ends_step (t ∷ w) ≡ false) → ends_step y ≡ true → Lacks t y
 ends_without t y f h w e = let g : ends_step y ≡ ends_step (t ∷ w) = ap ends_step e in let k = f w in cc
 
-more_names_unique : (ns ms : List (List ℕ)) (y z : List Token) → Without (fixed S.Comma) y → Without (fixed S.Comma) z → more_names_then ns y ≡ more_names_then ms z → Both ns ms y z
+more_names_unique : (ns ms : List (List ℕ)) (y z : List Token) → Lacks (fixed S.Comma) y → Lacks (fixed S.Comma) z → more_names_then ns y ≡ more_names_then ms z → Both ns ms y z
 more_names_unique [] [] y z h k e = record { it = refl; rest = e }
 more_names_unique [] (m ∷ ms) y z h k e = absurd (h _ e)
 more_names_unique (n ∷ ns) [] y z h k e = absurd (k _ (sym e))
@@ -230,14 +227,14 @@ more_names_unique (n ∷ ns) (m ∷ ms) y z h k e =
     let v = more_names_unique ns ms y z h k f in
     record { it = ap (λ x. x ∷ ns) g ∙ ap (λ x. m ∷ x) v.it; rest = v.rest }
 
-names_unique : (a b : G.Names) (y z : List Token) → Without (fixed S.Comma) y → Without (fixed S.Comma) z → names_then a y ≡ names_then b z → Both a b y z
+names_unique : (a b : G.Names) (y z : List Token) → Lacks (fixed S.Comma) y → Lacks (fixed S.Comma) z → names_then a y ≡ names_then b z → Both a b y z
 names_unique a b y z h k e =
     let g : a.first ≡ b.first = cc in
     let f : more_names_then a.more y ≡ more_names_then b.more z = cc in
     let v = more_names_unique a.more b.more y z h k f in
     record { it = ap (λ x. record { first = x; more = a.more }) g ∙ ap (λ x. record { first = b.first; more = x }) v.it; rest = v.rest }
 
-by_unique : (a b : G.By) (y z : List Token) → Without (fixed S.By) y → Without (fixed S.By) z → Without (fixed S.Comma) y → Without (fixed S.Comma) z → by_then a y ≡ by_then b z → Both a b y z
+by_unique : (a b : G.By) (y z : List Token) → Lacks (fixed S.By) y → Lacks (fixed S.By) z → Lacks (fixed S.Comma) y → Lacks (fixed S.Comma) z → by_then a y ≡ by_then b z → Both a b y z
 by_unique G.no_by G.no_by y z h k l m e = record { it = refl; rest = e }
 by_unique G.no_by (G.by_names b) y z h k l m e = absurd (h _ e)
 by_unique (G.by_names a) G.no_by y z h k l m e = absurd (k _ (sym e))
@@ -245,7 +242,7 @@ by_unique (G.by_names a) (G.by_names b) y z h k l m e =
     let f : names_then a y ≡ names_then b z = cc in
     let v = names_unique a b y z l m f in record { it = ap G.by_names v.it; rest = v.rest }
 
-on_unique : (a b : G.On) (y z : List Token) → Without (fixed S.On) y → Without (fixed S.On) z → Without (fixed S.Comma) y → Without (fixed S.Comma) z → on_then a y ≡ on_then b z → Both a b y z
+on_unique : (a b : G.On) (y z : List Token) → Lacks (fixed S.On) y → Lacks (fixed S.On) z → Lacks (fixed S.Comma) y → Lacks (fixed S.Comma) z → on_then a y ≡ on_then b z → Both a b y z
 on_unique G.no_on G.no_on y z h k l m e = record { it = refl; rest = e }
 on_unique G.no_on (G.on_names b) y z h k l m e = absurd (h _ e)
 on_unique (G.on_names a) G.no_on y z h k l m e = absurd (k _ (sym e))
@@ -276,7 +273,7 @@ agg_unique (G.of_column f a n) (G.of_column g b m) y z e =
 agg_unique (G.count n) (G.of_column g b m) y z e = let s : S.Count ≡ fun_sign g = cc in absurd (no_count g s)
 agg_unique (G.of_column f a n) (G.count m) y z e = let s : S.Count ≡ fun_sign f = cc in absurd (no_count f s)
 
-aggs_unique : (as_ bs : List G.Agg) (y z : List Token) → Without (fixed S.Comma) y → Without (fixed S.Comma) z → aggs_then as_ y ≡ aggs_then bs z → Both as_ bs y z
+aggs_unique : (as_ bs : List G.Agg) (y z : List Token) → Lacks (fixed S.Comma) y → Lacks (fixed S.Comma) z → aggs_then as_ y ≡ aggs_then bs z → Both as_ bs y z
 aggs_unique [] [] y z h k e = record { it = refl; rest = e }
 aggs_unique [] (b ∷ bs) y z h k e = absurd (h _ e)
 aggs_unique (a ∷ as_) [] y z h k e = absurd (k _ (sym e))
@@ -286,10 +283,10 @@ aggs_unique (a ∷ as_) (b ∷ bs) y z h k e =
     let v = aggs_unique as_ bs y z h k u.rest in
     record { it = ap (λ x. x ∷ as_) u.it ∙ ap (λ x. b ∷ x) v.it; rest = v.rest }
 
-key_without : (t : Token) (y : List Token) → ((w : List Token) → ends_key (t ∷ w) ≡ false) → ends_key y ≡ true → Without t y
+key_without : (t : Token) (y : List Token) → ((w : List Token) → ends_key (t ∷ w) ≡ false) → ends_key y ≡ true → Lacks t y
 key_without t y f h w e = let g : ends_key y ≡ ends_key (t ∷ w) = ap ends_key e in let k = f w in cc
 
-per_unique : (a b : G.Per) (y z : List Token) → Without (fixed S.Per) y → Without (fixed S.Per) z → Without (fixed S.Comma) y → Without (fixed S.Comma) z → per_then a y ≡ per_then b z → Both a b y z
+per_unique : (a b : G.Per) (y z : List Token) → Lacks (fixed S.Per) y → Lacks (fixed S.Per) z → Lacks (fixed S.Comma) y → Lacks (fixed S.Comma) z → per_then a y ≡ per_then b z → Both a b y z
 per_unique G.no_per G.no_per y z h k l m e = record { it = refl; rest = e }
 per_unique G.no_per (G.per_names b) y z h k l m e = absurd (h _ e)
 per_unique (G.per_names a) G.no_per y z h k l m e = absurd (k _ (sym e))
@@ -307,7 +304,7 @@ lit_unique G.true_lit G.true_lit y z e = record { it = refl; rest = cc }
 lit_unique G.false_lit G.false_lit y z e = record { it = refl; rest = cc }
 lit_unique _ _ y z e = cc
 
-lits_unique : (as_ bs : List G.Lit) (y z : List Token) → Without (fixed S.Comma) y → Without (fixed S.Comma) z → lits_then as_ y ≡ lits_then bs z → Both as_ bs y z
+lits_unique : (as_ bs : List G.Lit) (y z : List Token) → Lacks (fixed S.Comma) y → Lacks (fixed S.Comma) z → lits_then as_ y ≡ lits_then bs z → Both as_ bs y z
 lits_unique [] [] y z h k e = record { it = refl; rest = e }
 lits_unique [] (b ∷ bs) y z h k e = absurd (h _ e)
 lits_unique (a ∷ as_) [] y z h k e = absurd (k _ (sym e))
@@ -436,7 +433,7 @@ step_unique (G.follow n a i) (G.follow m b j) y z h k e =
     record { it = ap (λ x. G.follow x a i) g ∙ ap (λ x. G.follow m x i) p.it ∙ ap (G.follow m b) l; rest = cc }
 step_unique _ _ y z h k e = cc
 
-steps_unique : (ss ts : List G.Step) (y z : List Token) → ends_step y ≡ true → ends_step z ≡ true → Without (fixed S.Bar) y → Without (fixed S.Bar) z → steps_then ss y ≡ steps_then ts z → Both ss ts y z
+steps_unique : (ss ts : List G.Step) (y z : List Token) → ends_step y ≡ true → ends_step z ≡ true → Lacks (fixed S.Bar) y → Lacks (fixed S.Bar) z → steps_then ss y ≡ steps_then ts z → Both ss ts y z
 steps_unique [] [] y z h k l m e = record { it = refl; rest = e }
 steps_unique [] (t ∷ ts) y z h k l m e = absurd (l _ e)
 steps_unique (s ∷ ss) [] y z h k l m e = absurd (m _ (sym e))
@@ -446,7 +443,7 @@ steps_unique (s ∷ ss) (t ∷ ts) y z h k l m e =
     let v = steps_unique ss ts y z h k l m u.rest in
     record { it = ap (λ x. x ∷ ss) u.it ∙ ap (λ x. t ∷ x) v.it; rest = v.rest }
 
-pipe_unique : (a b : G.Pipe) (y z : List Token) → ends_step y ≡ true → ends_step z ≡ true → Without (fixed S.Bar) y → Without (fixed S.Bar) z → pipe_then a y ≡ pipe_then b z → Both a b y z
+pipe_unique : (a b : G.Pipe) (y z : List Token) → ends_step y ≡ true → ends_step z ≡ true → Lacks (fixed S.Bar) y → Lacks (fixed S.Bar) z → pipe_then a y ≡ pipe_then b z → Both a b y z
 pipe_unique a b y z h k l m e =
     let g : a.base ≡ b.base = cc in
     let f : steps_then a.steps y ≡ steps_then b.steps z = cc in
@@ -460,7 +457,7 @@ let_unique a b y z e =
     let v = pipe_unique a.pipe b.pipe (fixed S.Semicolon ∷ y) (fixed S.Semicolon ∷ z) refl refl (λ w q. cc) (λ w q. cc) f in
     record { it = ap (λ x. record { called = x; pipe = a.pipe }) g ∙ ap (λ x. record { called = b.called; pipe = x }) v.it; rest = let r = v.rest in cc }
 
-lets_unique : (ls ms : List G.Let) (y z : List Token) → Without (fixed S.Let) y → Without (fixed S.Let) z → lets_then ls y ≡ lets_then ms z → Both ls ms y z
+lets_unique : (ls ms : List G.Let) (y z : List Token) → Lacks (fixed S.Let) y → Lacks (fixed S.Let) z → lets_then ls y ≡ lets_then ms z → Both ls ms y z
 lets_unique [] [] y z h k e = record { it = refl; rest = e }
 lets_unique [] (m ∷ ms) y z h k e = absurd (h _ e)
 lets_unique (l ∷ ls) [] y z h k e = absurd (k _ (sym e))
@@ -488,7 +485,7 @@ col_unique (G.dec_col n p) (G.dec_col m q) y z e =
     record { it = ap (λ x. G.dec_col x p) g ∙ ap (G.dec_col m) (same_places p.number q.number p.few q.few h); rest = cc }
 col_unique _ _ y z e = cc
 
-cols_unique : (cs ds : List G.Col) (y z : List Token) → Without (fixed S.Comma) y → Without (fixed S.Comma) z → cols_then cs y ≡ cols_then ds z → Both cs ds y z
+cols_unique : (cs ds : List G.Col) (y z : List Token) → Lacks (fixed S.Comma) y → Lacks (fixed S.Comma) z → cols_then cs y ≡ cols_then ds z → Both cs ds y z
 cols_unique [] [] y z h k e = record { it = refl; rest = e }
 cols_unique [] (d ∷ ds) y z h k e = absurd (h _ e)
 cols_unique (c ∷ cs) [] y z h k e = absurd (k _ (sym e))
@@ -509,7 +506,7 @@ stream_unique a b y z e =
       rest = let r = v.rest in cc;
     }
 
-streams_unique : (ss ts : List G.Stream) (y z : List Token) → Without (fixed S.Stream) y → Without (fixed S.Stream) z → streams_then ss y ≡ streams_then ts z → Both ss ts y z
+streams_unique : (ss ts : List G.Stream) (y z : List Token) → Lacks (fixed S.Stream) y → Lacks (fixed S.Stream) z → streams_then ss y ≡ streams_then ts z → Both ss ts y z
 streams_unique [] [] y z h k e = record { it = refl; rest = e }
 streams_unique [] (t ∷ ts) y z h k e = absurd (h _ e)
 streams_unique (s ∷ ss) [] y z h k e = absurd (k _ (sym e))
@@ -518,7 +515,7 @@ streams_unique (s ∷ ss) (t ∷ ts) y z h k e =
     let v = streams_unique ss ts y z h k u.rest in
     record { it = ap (λ x. x ∷ ss) u.it ∙ ap (λ x. t ∷ x) v.it; rest = v.rest }
 
-no_stream : (ls : List G.Let) (p : G.Pipe) → Without (fixed S.Stream) (lets_then ls (pipe_then p []))
+no_stream : (ls : List G.Let) (p : G.Pipe) → Lacks (fixed S.Stream) (lets_then ls (pipe_then p []))
 no_stream [] p w e = cc
 no_stream (l ∷ ls) p w e = cc
 

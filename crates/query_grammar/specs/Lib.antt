@@ -1,4 +1,4 @@
--- Callers read Token, TokenForm, Grammar, Fault, Limit and Answer. Private contracts alone cite Machine and Reading.
+-- Callers read Token, TokenForm, Grammar, Fault, Limit and Answer. Private contracts alone cite Machine, Reading and Follows.
 pub mod Token
 pub mod TokenForm
 pub mod Grammar
@@ -7,3 +7,4 @@ pub mod Limit
 pub mod Answer
 pub mod Machine
 pub mod Reading
+pub mod Follows

@@ -6,6 +6,7 @@ use Rattle.query_grammar.specs.Token.{Token, name, fixed}
 use Rattle.query_grammar.specs.Grammar as G
 use Rattle.query_grammar.specs.Grammar.{fun_sign, expr_then, unary_then, item_then, items_then, agg_then, lit_then, else_then, step_then, steps_then, pipe_then, lets_then}
 use Rattle.query_grammar.specs.Machine.{rank, binds}
+use Rattle.query_grammar.proofs.Queries.{low_end, ends_steps as steps_end}
 use Rattle.query_grammar.proofs.Unique.{one_fun, no_count}
 use Rattle.query_grammar.proofs.Complete.{low_as}
 use Rattle.query_text.specs.declared.tree.TreeNode.{TreeNode}
@@ -19,12 +20,6 @@ step_from_pipe [] h = refl
 step_from_pipe (fixed S.Semicolon ∷ ts) h = refl
 step_from_pipe (_ ∷ ts) h = cc
 
-pub item_from_step : (z : List Token) → ends_step z ≡ true → ends_item z ≡ true
-item_from_step [] h = refl
-item_from_step (fixed S.Semicolon ∷ ts) h = refl
-item_from_step (fixed S.Bar ∷ ts) h = refl
-item_from_step (_ ∷ ts) h = cc
-
 pub low_item : (z : List Token) → ends_item z ≡ true → rank z < 1
 unfolding binds
 low_item [] h = lit< tt
@@ -34,7 +29,7 @@ low_item (fixed S.Bar ∷ ts) h = lit< tt
 low_item (_ ∷ ts) h = cc
 
 pub low_step : (z : List Token) → ends_step z ≡ true → rank z < 1
-low_step z h = low_item z (item_from_step z h)
+low_step z h = low_end z h
 
 pub no_comma : (z : List Token) → ends_step z ≡ true → Lacks (fixed S.Comma) z
 no_comma z h = λ w e. let q : false ≡ true = sym (ap ends_step e) ∙ h in cc
@@ -51,13 +46,8 @@ no_as z h = λ w e. let q : false ≡ true = sym (ap ends_item e) ∙ h in cc
 pub no_bar : (z : List Token) → ends_pipe z ≡ true → Lacks (fixed S.Bar) z
 no_bar z h = λ w e. let q : false ≡ true = sym (ap ends_pipe e) ∙ h in cc
 
-pub ends_items : (is : List G.Item) (z : List Token) → ends_step z ≡ true → ends_item (items_then is z) ≡ true
-ends_items [] z h = item_from_step z h
-ends_items (i ∷ is) z h = refl
-
 pub ends_steps : (ss : List G.Step) (z : List Token) → ends_pipe z ≡ true → ends_step (steps_then ss z) ≡ true
-ends_steps [] z h = step_from_pipe z h
-ends_steps (s ∷ ss) z h = refl
+ends_steps ss z h = steps_end ss z (step_from_pipe z h)
 
 pub no_by_colon : (z : List Token) → Lacks (fixed S.By) (fixed S.Colon ∷ z)
 no_by_colon z = λ w e. cc

@@ -7,16 +7,13 @@ use Rattle.plan_model.specs.declared.expr.CompareOp.{CompareOp}
 use Rattle.query_words.specs.declared.word.Sign.{Sign}
 use Rattle.query_words.specs.declared.word.Sign.TheVariants as S
 use Rattle.query_grammar.specs.Token.{Token, name, int, dec, fixed}
+pub use Rattle.query_grammar.specs.Follows.{Lacks, ends_pipe, ends_step, ends_item, name_then, int_then, pos_then}
 use Rattle.query_grammar.specs.Grammar as G
 use Rattle.query_grammar.specs.Grammar.{atom_then, comparison_sign}
 use Rattle.query_text.specs.declared.stop.Stop.{Stop}
 use Rattle.query_text.specs.declared.stop.Stop.TheVariants.{Stuck, Memory}
 use Rattle.query_text.specs.declared.tree.TreeNode.{TreeNode}
 use Rattle.query_text.specs.Spelling.{compare_of, atom_onto}
-
--- no such token stands first
-abbrev pub Lacks : Token → List Token → Type 0
-Lacks t ts = (z : List Token) → ts ≡ t ∷ z → ⊥
 
 -- whether the token stood first, and was taken
 abbrev pub Takes : Bool → Token → List Token → List Token → Type 0
@@ -99,22 +96,6 @@ abbrev pub Shrinks : Bool → List Token → List Token → Type 0
 Shrinks true old new = length new < length old
 Shrinks false old new = length new ≤ length old
 
--- what may follow a pipe: its end, or the end of its let
-abbrev pub ends_pipe : List Token → Bool
-ends_pipe [] = true
-ends_pipe (fixed S.Semicolon ∷ ts) = true
-ends_pipe (_ ∷ ts) = false
-
--- what may follow a step: the end of the pipe, or the next step
-abbrev pub ends_step : List Token → Bool
-ends_step (fixed S.Bar ∷ ts) = true
-ends_step ts = ends_pipe ts
-
--- what may follow an item: the end of the step, or the next item
-abbrev pub ends_item : List Token → Bool
-ends_item (fixed S.Comma ∷ ts) = true
-ends_item ts = ends_step ts
-
 -- A list is read so far: what is left are more of its elements, and these behind what was read are those of the whole.
 abbrev pub Listing : {A X V : Type 0} → (A → List Token → List Token) → (List Token → Type 0) → (A → List V) → (List X → List Token → List Token) → (List X → List V) → List Token → List Token → List V → Type 0
 Listing a_then Ends values x_then x_values old now items = (a : _) (z : List Token) → Ends z → old ≡ a_then a z → (xs : List _) × (now ≡ x_then xs z) × (values a ≡ items ++ x_values xs)
@@ -122,12 +103,6 @@ Listing a_then Ends values x_then x_values old now items = (a : _) (z : List Tok
 -- a sign, and no value
 abbrev pub sign_then : Sign → Unit {0} → List Token → List Token
 sign_then sign u z = fixed sign ∷ z
-
-abbrev pub name_then : List ℕ → List Token → List Token
-name_then n z = name n ∷ z
-
-abbrev pub int_then : ℕ → List Token → List Token
-int_then n z = int n ∷ z
 
 -- "as" NAME
 abbrev pub as_then : List ℕ → List Token → List Token
@@ -140,10 +115,6 @@ computed_then p z = name p.0 ∷ as_then p.1 z
 -- INT INT
 abbrev pub hop_then : ℕ × ℕ → List Token → List Token
 hop_then p z = int p.0 ∷ int p.1 ∷ z
-
--- a number above 0
-abbrev pub pos_then : ℕ → List Token → List Token
-pos_then n z = int (suc n) ∷ z
 
 -- "(" POS ")", the number of places
 abbrev pub places_then : G.Places → List Token → List Token
