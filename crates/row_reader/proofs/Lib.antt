@@ -12,3 +12,4 @@ pub mod ReadBack
 pub mod Printed
 pub mod Spells
 pub mod Steps
+pub mod Printing

@@ -1,11 +1,12 @@
 // What holds of lines and of what they say.
-ghost use Rattle.std.specs.Prelude.{◌≡◌, ◌≢◌, ◌<◌, ◌≤◌, ◌^◌, ◌↔◌, ◌∷◌, ℕ, Bool, List, Option, IfSome, Ok, false, length};
+ghost use Rattle.std.specs.Prelude.{◌≡◌, ◌≢◌, ◌<◌, ◌≤◌, ◌^◌, ◌↔◌, ◌∷◌, ◌++◌, [], ℕ, Bool, List, Option, IfSome, Ok, false, length};
 ghost use Rattle.std.specs.List.{All};
 ghost use Rattle.tw_rows.specs.Instant.{inf};
 ghost use Rattle.tw_rows.specs.Rows.{Row};
 ghost use Rattle.tw_rows.specs.declared.schema.ColumnDef.{ColumnDef};
 ghost use Rattle.tw_rows.specs.declared.schema.StreamDef.{StreamDef};
 ghost use Rattle.line_text.specs.Fields.{event_fields};
+ghost use Rattle.line_text.specs.Record.{record_text};
 ghost use Rattle.line_text.specs.declared.form.Form.{Form};
 ghost use Rattle.row_reader.specs.Quotes.{odd_quotes};
 ghost use Rattle.row_reader.specs.Record.{record_of};
@@ -60,4 +61,11 @@ pub fn entries_are_within()
     ensures punctuations { (streams : List StreamDef) (first : Bool) (line : List ℕ) (stream : Option ℕ) (time : ℕ) →
         All (λ b. b ≢ 10) line → entry streams first line ≡ Ok (entries.Punct stream time) →
         IfSome stream (λ s. s < length streams) × (time ≤ inf) }
+{}
+
+/// A record of two fields or more that is printed is a text that spells its fields, and a line feed. So what is printed of
+/// an event is read back, where its line is UTF-8 and has no CR, no LF and no byte order mark.
+pub fn printed_records_spell_their_fields()
+    ensures { (first second : List ℕ) (more : List (List ℕ)) → (text : List ℕ) ×
+        (record_text (first ∷ second ∷ more) ≡ text ++ 10 ∷ []) × SpellsFields text (first ∷ second ∷ more) }
 {}

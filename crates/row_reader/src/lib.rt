@@ -16,6 +16,7 @@ mod value;
 pub use entry::{BadLine, Entry, RowFault};
 pub use laws::{
     entries_are_within, events_are_printed, lines_are_fields, lines_say_what_they_spell,
+    printed_records_spell_their_fields,
 };
 pub use line_text::Form;
 pub use number::read_number;
