@@ -22,3 +22,4 @@ pub mod RowsTold
 pub mod ClipTelling
 pub mod AntiTelling
 pub mod SessionState
+pub mod Unending

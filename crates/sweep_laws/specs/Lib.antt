@@ -9,3 +9,4 @@ pub mod Grouping
 pub mod Sessioning
 pub mod Clipping
 pub mod Antijoining
+pub mod Unending

@@ -25,4 +25,5 @@ pub use join_laws::{
 pub use life_laws::{
     a_clip_tells_an_instant, an_anti_join_tells_an_instant, antis_tell_an_instant,
     clips_tell_an_instant, open_sessions_follow, sessions_end_at_a_gap, sessions_tell_an_instant,
+    starts_alone_are_enough,
 };

@@ -1,5 +1,5 @@
 // The laws of one instant of sessions, clips and anti-joins.
-ghost use Rattle.std.specs.Prelude.{◌≡◌, ℕ, suc, ◌+◌, ◌<◌, ◌≤◌, ◌&&◌, ◌||◌, nat_eq, nat_le, Bool, true, false, not, cond, Option, Some, List, length, get_or, take, map, flat_map};
+ghost use Rattle.std.specs.Prelude.{◌≡◌, ℕ, suc, ◌+◌, ◌<◌, ◌≤◌, ◌&&◌, ◌||◌, nat_eq, nat_le, Bool, true, false, not, cond, Option, Some, List, length, get_or, take, map, filter, flat_map};
 ghost use Rattle.std.specs.List.{list_any};
 ghost use Rattle.tw_rows.specs.Instant.{inf};
 ghost use Rattle.tw_rows.specs.Bag.{SameBag, total};
@@ -11,7 +11,7 @@ ghost use Rattle.tw_rows.specs.declared.edge.HeldRow.{HeldRow};
 ghost use Rattle.edge_history.specs.Order.{failing, many, is_end};
 ghost use Rattle.edge_history.specs.History.{CellEvent};
 ghost use Rattle.edge_history.specs.Balance.{news};
-ghost use Rattle.edge_history.specs.Opens.{opens, ended_rows, started_rows, bare, is_held};
+ghost use Rattle.edge_history.specs.Opens.{is_start, opens, ended_rows, started_rows, bare, is_held};
 ghost use Rattle.key_nodes.specs.Runs.{Tells};
 ghost use Rattle.key_nodes.specs.Sessions.{least, session_end, key_starts, sessions};
 ghost use Rattle.key_nodes.specs.Clips.{later_starts, clipped};
@@ -20,6 +20,7 @@ ghost use Rattle.sweep_laws.specs.Sweeps.{Tells as TellsNews};
 ghost use Rattle.sweep_laws.specs.Moves.{Adds, told_at};
 ghost use Rattle.sweep_laws.specs.Running.{open_at};
 ghost use Rattle.sweep_laws.specs.Sessioning.{is_gap, IsLast, Sessioning, kept_last, has_row_of};
+ghost use Rattle.sweep_laws.specs.Unending.{unending};
 ghost use Rattle.sweep_laws.specs.Clipping.{starts_at, is_clipped};
 ghost use Rattle.sweep_laws.specs.Antijoining.{is_free, judged, IsSince, Judging, run_of, end_of, stays_of, flip_of, flip_end, flip_start, begin_of};
 
@@ -194,4 +195,17 @@ pub fn an_anti_join_tells_an_instant<K>()
         Judging key meets a b u left right status →
         Judging key meets a b t left right status
         × ((w : Edge → ℕ) → total w (news u t (alone same_cells meets a b)) ≡ 0) }
+{}
+
+/// Of the events of sessions, and of the right events of a clip, starts alone matter: as if these events never ended, they
+/// give the same sessions and clipped events, and their news are the starts. So a side of which starts alone wait is swept as
+/// any other.
+pub fn starts_alone_are_enough<K>()
+    ensures news { (c d : ℕ) (events : List CellEvent) → d ≤ inf → AreEvents events →
+        SameBag (filter is_start (news c d events)) (news c d (map unending events)) }
+    ensures lives { (events : List CellEvent) → AreEvents events → AreEvents (map unending events) }
+    ensures sessions { (key : List Datum → K) (same : K → K → Bool) (timeout : ℕ) (events : List CellEvent) →
+        sessions key same timeout (map unending events) ≡ sessions key same timeout events }
+    ensures clips { (meets : List Datum → List Datum → Bool) (a b : List CellEvent) →
+        clipped meets a (map unending b) ≡ clipped meets a b }
 {}
