@@ -43,11 +43,7 @@ impl Model for Project {
 
 impl Project {
     /// A projection to these items, which are compiled for batches of the kinds.
-    pub fn new(
-        alloc: Global,
-        items: Vec<Kernel>,
-        kinds: &[Kind],
-    ) -> Result<Project, Memory>
+    pub fn new(alloc: Global, items: Vec<Kernel>, kinds: &[Kind]) -> Result<Project, Memory>
         requires few { length items.items ≤ 32 }
         requires compiled { All (λ k. k.kinds ≡ map cell_kind_of kinds.now) items.items }
         ensures { IfOk result (λ p. p ≡ items.items) }
@@ -153,12 +149,7 @@ fn item_columns(
 }
 
 // The column of an item's values over the batch.
-fn item_column(
-    item: &mut Kernel,
-    batch: &Batch,
-    pools: &mut Pools,
-    texts: &TextTable,
-) -> Payload
+fn item_column(item: &mut Kernel, batch: &Batch, pools: &mut Pools, texts: &TextTable) -> Payload
     requires reads { CanRead texts.now item.old batch.now }
     requires pools { pools.old.capacity ≡ batch.now.capacity }
     requires free { 0 < free_of pools.old (result_kind item.old) }

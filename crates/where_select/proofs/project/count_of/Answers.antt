@@ -18,10 +18,10 @@ loop-kind-preserved c =
     let j = cell_kind_of (get_or kinds i Int) in
     let seen = ap (is_same_kind k) c.cell_of.ensures in
     elim c.if-is_same.branch [
-      then-is_same w ↦
+      | then-is_same w ↦
           let is = one-same k j (sym seen ∙ sym c.is_same.ensures ∙ w.if-is_same.true) in
           record { many = many-next kinds i n c.if-is_same.count Int k c.loop-kind-test.true c.loop-kind.invariant.many (omega (arith, is, w.count-is)); few = omega (arith, w.count-is, c.loop-kind.invariant.few) }
-    | else-is_same w ↦
+      | else-is_same w ↦
           let is = one-other k j (sym seen ∙ sym c.is_same.ensures ∙ w.if-is_same.false) in
           record { many = many-next kinds i n c.if-is_same.count Int k c.loop-kind-test.true c.loop-kind.invariant.many (omega (arith, is, w.count-is)); few = omega (arith, w.count-is, c.loop-kind.invariant.few) }
     ]
