@@ -1,10 +1,10 @@
-ghost use Rattle.std.specs.Prelude.{◌≡◌, ◌≤◌, [], ◌∷◌, length, IfOk};
+ghost use Rattle.std.specs.Prelude.{◌≡◌, ◌≤◌, [], ◌∷◌, length, map, All, IfOk};
 ghost use Rattle.plan_model.specs.IsExpr.{IsExpr};
 ghost use Rattle.plan_model.specs.Typed.{IsTyped, kind_of};
 ghost use Rattle.lane_expr.specs.Kernels.{HoldsPlaces, CanRead, result_kind};
 
 use crate::{Filter, Project};
-use batch::{Batch, Pools};
+use batch::{Batch, Payload, Pools};
 use lane_expr::Kernel;
 use plan_model::{CompareOp, Expr, ExprNode};
 use std::alloc::Global;
@@ -40,30 +40,18 @@ fn push_row(
 fn batch_of(
     rt: &impl Abort,
     alloc: Global,
-    pools: &mut Pools,
     texts: &TextTable,
     numbers: &[i64],
 ) -> Result<Batch, Fail>
     ensures kinds { IfOk result (λ b. b.kinds ≡ CellKind.Whole ∷ []) }
     ensures places { IfOk result (λ b. HoldsPlaces texts.now b.rows) }
 {
-    let mut batch = Batch::new(alloc, pools, &[Kind::Int])?;
+    let mut pools = Pools::new(alloc, 8, 8)?;
+    let mut batch = Batch::new(alloc, &mut pools, &[Kind::Int])?;
     for number in numbers {
         push_row(rt, alloc, texts, &mut batch, *number)?;
     }
     Ok(batch)
-}
-
-// The kernel of these nodes over such batches.
-fn kernel_of(alloc: Global, nodes: Vec<ExprNode>, texts: &mut TextTable) -> Result<Kernel, Fail>
-    requires expr { IsExpr nodes.items }
-    requires typed { IsTyped (CellKind.Whole ∷ []) nodes.items }
-    ensures kinds { IfOk result (λ k. k.kinds ≡ CellKind.Whole ∷ []) }
-    ensures result { IfOk result (λ k. result_kind k ≡ kind_of nodes.items (CellKind.Whole ∷ [])) }
-    ensures reads { IfOk result (λ k. (b : Batch) → b.kinds ≡ CellKind.Whole ∷ [] → length b.rows ≤ 8 → HoldsPlaces texts.new b.rows → CanRead texts.new k b) }
-{
-    let expr = Expr::from_vec(nodes);
-    Ok(Kernel::compile(alloc, &expr, &[Kind::Int], texts, 8)?)
 }
 
 // The nodes of `v > 2`.
@@ -83,41 +71,112 @@ fn above_two(alloc: Global) -> Result<Vec<ExprNode>, Fail>
     ]?)
 }
 
-// How many rows a filter by the kernel leaves occupied.
-fn left_by(
+// The nodes of `- v`.
+fn negated(alloc: Global) -> Result<Vec<ExprNode>, Fail>
+    ensures expr { IfOk result (λ v. IsExpr v.items) }
+    ensures typed { IfOk result (λ v. IsTyped (CellKind.Whole ∷ []) v.items) }
+    ensures kind { IfOk result (λ v. kind_of v.items (CellKind.Whole ∷ []) ≡ CellKind.Whole) }
+{
+    Ok(vec![in alloc; ExprNode::Column(0), ExprNode::Neg(0)]?)
+}
+
+// The kernel of these nodes over such batches.
+fn kernel_of(alloc: Global, nodes: Vec<ExprNode>, texts: &mut TextTable) -> Result<Kernel, Fail>
+    requires expr { IsExpr nodes.items }
+    requires typed { IsTyped (CellKind.Whole ∷ []) nodes.items }
+    ensures kinds { IfOk result (λ k. k.kinds ≡ CellKind.Whole ∷ []) }
+    ensures result { IfOk result (λ k. result_kind k ≡ kind_of nodes.items (CellKind.Whole ∷ [])) }
+    ensures reads { IfOk result (λ k. (b : Batch) → b.kinds ≡ CellKind.Whole ∷ [] → length b.rows ≤ 8 → HoldsPlaces texts.new b.rows → CanRead texts.new k b) }
+{
+    let expr = Expr::from_vec(nodes);
+    Ok(Kernel::compile(alloc, &expr, &[Kind::Int], texts, 8)?)
+}
+
+// Filters the batch by the kernel.
+fn filter_by(
     rt: &impl Abort,
     alloc: Global,
     texts: &TextTable,
     test: Kernel,
-    mut batch: Batch,
-) -> Result<usize, Fail>
+    batch: &mut Batch,
+) -> Result<(), Fail>
     requires bit { result_kind test ≡ CellKind.Bit }
-    requires reads { CanRead texts.now test batch }
+    requires reads { CanRead texts.now test batch.old }
 {
     let mut filter = Filter::new(alloc, test, 8)?;
     assert!(rt; batch.rows() <= 8);
-    filter.apply(&mut batch, texts);
-    Ok(batch.occupied())
+    filter.apply(batch, texts);
+    Ok(())
 }
 
-// The batch with the values of the kernel for its cells.
-fn projected_by(
+// Checks that the kernel of `v > 2` leaves two of the numbers 2, 3 and 5.
+fn check_filter(rt: &impl Abort, alloc: Global, texts: &TextTable, test: Kernel) -> Result<(), Fail>
+    requires bit { result_kind test ≡ CellKind.Bit }
+    requires reads { (b : Batch) → b.kinds ≡ CellKind.Whole ∷ [] → length b.rows ≤ 8 → HoldsPlaces texts.now b.rows → CanRead texts.now test b }
+{
+    let mut batch = batch_of(rt, alloc, texts, &[2, 3, 5])?;
+    assert!(rt; batch.rows() <= 8);
+    filter_by(rt, alloc, texts, test, &mut batch)?;
+    assert_eq!(rt; batch.occupied(), 2);
+    Ok(())
+}
+
+// A projection to the kernel.
+fn project_of(alloc: Global, item: Kernel) -> Result<Project, Fail>
+    requires { item.kinds ≡ CellKind.Whole ∷ [] }
+    ensures { IfOk result (λ p. p ≡ item ∷ []) }
+{
+    Ok(Project::new(alloc, vec![in alloc; item]?, &[Kind::Int])?)
+}
+
+// Checks the column of the batch.
+fn check_column(rt: &impl Abort, batch: &Batch)
+    requires { batch.now.kinds ≡ CellKind.Whole ∷ [] }
+{
+    match batch.column(0) {
+        Payload::Ints(column) => {
+            assert_eq!(rt; column.as_slice(), [-2, -3, -5].as_slice());
+        }
+        _ => assert!(rt; false),
+    }
+}
+
+// Checks that the projection puts -2, -3 and -5 into the batch.
+fn check_applied(
+    rt: &impl Abort,
+    alloc: Global,
+    texts: &TextTable,
+    project: &mut Project,
+    batch: Batch,
+) -> Result<(), Fail>
+    requires reads { All (λ k. CanRead texts.now k batch) project.old }
+    requires kinds { map result_kind project.old ≡ CellKind.Whole ∷ [] }
+{
+    let mut pools = Pools::new(alloc, 8, batch.capacity())?;
+    assert!(rt; pools.limit() >= 1);
+    pools.refill(1)?;
+    match project.apply(batch, &mut pools, texts) {
+        Ok(projected) => check_column(rt, &projected),
+        Err(_) => assert!(rt; false),
+    }
+    Ok(())
+}
+
+// Checks a projection to the kernel of `- v`.
+fn check_project(
     rt: &impl Abort,
     alloc: Global,
     texts: &TextTable,
     item: Kernel,
-    batch: Batch,
-) -> Result<Batch, Fail>
+) -> Result<(), Fail>
     requires kinds { item.kinds ≡ CellKind.Whole ∷ [] }
-    requires reads { CanRead texts.now item batch }
+    requires whole { result_kind item ≡ CellKind.Whole }
+    requires reads { (b : Batch) → b.kinds ≡ CellKind.Whole ∷ [] → length b.rows ≤ 8 → HoldsPlaces texts.now b.rows → CanRead texts.now item b }
 {
-    let mut project = Project::new(alloc, vec![in alloc; item]?, &[Kind::Int])?;
-    assert_eq!(rt; project.kinds(), [Kind::Int].as_slice());
-    let mut pools = Pools::new(alloc, 8, batch.capacity())?;
-    assert!(rt; pools.limit() >= 1);
-    pools.refill(1)?;
-    let projected = project.apply(batch, &mut pools, texts).ok();
-    Ok(projected.ok_or("no free column")?)
+    let mut project = project_of(alloc, item)?;
+    let batch = batch_of(rt, alloc, texts, &[2, 3, 5])?;
+    assert!(rt; batch.rows() <= 8);
+    check_applied(rt, alloc, texts, &mut project, batch)
 }
 
 #[test]
@@ -125,25 +184,13 @@ fn keeps_the_rows_whose_test_is_true(rt: HostRuntime) -> Result<(), Fail> {
     let alloc = rt.alloc();
     let mut texts = TextTable::new(alloc);
     let test = kernel_of(alloc, above_two(alloc)?, &mut texts)?;
-    let mut pools = Pools::new(alloc, 8, 8)?;
-    let batch = batch_of(&rt, alloc, &mut pools, &texts, &[2, 3, -4, 5])?;
-    assert!(rt; batch.rows() <= 8);
-    assert_eq!(rt; left_by(&rt, alloc, &texts, test, batch)?, 2);
-    Ok(())
+    check_filter(&rt, alloc, &texts, test)
 }
 
 #[test]
 fn puts_values_for_cells(rt: HostRuntime) -> Result<(), Fail> {
     let alloc = rt.alloc();
     let mut texts = TextTable::new(alloc);
-    let turned = vec![in alloc; ExprNode::Column(0), ExprNode::Neg(0)]?;
-    let item = kernel_of(alloc, turned, &mut texts)?;
-    let mut pools = Pools::new(alloc, 8, 8)?;
-    let batch = batch_of(&rt, alloc, &mut pools, &texts, &[2, 3])?;
-    assert!(rt; batch.rows() <= 8);
-    let projected = projected_by(&rt, alloc, &texts, item, batch)?;
-    assert!(rt; projected.rows() == 2);
-    let edge = projected.edge_at(1)?;
-    assert_eq!(rt; edge.cells.items(), [Datum::Int(-3)].as_slice());
-    Ok(())
+    let item = kernel_of(alloc, negated(alloc)?, &mut texts)?;
+    check_project(&rt, alloc, &texts, item)
 }
