@@ -23,3 +23,4 @@ pub mod ClipTelling
 pub mod AntiTelling
 pub mod SessionState
 pub mod Unending
+pub mod KeptKnown

@@ -7,6 +7,7 @@ mod answer_laws;
 mod group_laws;
 mod instant_laws;
 mod join_laws;
+mod keep_laws;
 mod life_laws;
 
 pub use answer_laws::{
@@ -22,6 +23,7 @@ pub use join_laws::{
     a_join_goes_from_instant_to_instant, a_join_keeps_its_rows, a_join_tells_an_instant,
     open_pairs_are_pairs_of_open_rows, pairs_are_told_row_by_row,
 };
+pub use keep_laws::kept_rows_stay_right;
 pub use life_laws::{
     a_clip_tells_an_instant, an_anti_join_tells_an_instant, antis_tell_an_instant,
     clips_tell_an_instant, open_sessions_follow, sessions_end_at_a_gap, sessions_tell_an_instant,
