@@ -52,17 +52,17 @@ pub fn runs_follow_replaced_rows<R, S>()
 {}
 
 /// Groups and sessions of rows and keys replaced, where two keys are the same exactly where they were.
-pub fn groups_follow_replaced_rows<R, K, S, R2, K2, S2>()
-    ensures groups { (f : R → R2) (g : K → K2) (h : S → S2) (key : R → K) (key_to : R2 → K2)
-        (same : K → K → Bool) (same_to : K2 → K2 → Bool) (same_row : S → S → Bool) (same_row_to : S2 → S2 → Bool)
-        (tell : K → List R → Option S) (tell_to : K2 → List R2 → Option S2) →
+pub fn groups_follow_replaced_rows<R, K, S, RTo, KTo, STo>()
+    ensures groups { (f : R → RTo) (g : K → KTo) (h : S → STo) (key : R → K) (key_to : RTo → KTo)
+        (same : K → K → Bool) (same_to : KTo → KTo → Bool) (same_row : S → S → Bool) (same_row_to : STo → STo → Bool)
+        (tell : K → List R → Option S) (tell_to : KTo → List RTo → Option STo) →
         ((r : R) → key_to (f r) ≡ g (key r)) → ((a b : K) → same_to (g a) (g b) ≡ same a b) →
         ((a b : S) → same_row_to (h a) (h b) ≡ same_row a b) →
         ((k : K) (rows : List R) → tell_to (g k) (map f rows) ≡ option_map h (tell k rows)) →
         (es : List (Event R)) →
         grouped key_to same_to same_row_to tell_to (events_to f es) ≡ events_to h (grouped key same same_row tell es) }
-    ensures sessions { (f : R → R2) (g : K → K2) (key : R → K) (key_to : R2 → K2)
-        (same : K → K → Bool) (same_to : K2 → K2 → Bool) (timeout : ℕ) →
+    ensures sessions { (f : R → RTo) (g : K → KTo) (key : R → K) (key_to : RTo → KTo)
+        (same : K → K → Bool) (same_to : KTo → KTo → Bool) (timeout : ℕ) →
         ((r : R) → key_to (f r) ≡ g (key r)) → ((a b : K) → same_to (g a) (g b) ≡ same a b) →
         (es : List (Event R)) →
         sessions key_to same_to timeout (events_to f es) ≡ events_to f (sessions key same timeout es) }
@@ -70,23 +70,23 @@ pub fn groups_follow_replaced_rows<R, K, S, R2, K2, S2>()
 
 /// Joins, anti-joins, clips and followed events of rows replaced on both sides, where two rows meet exactly where they
 /// did.
-pub fn pairs_follow_replaced_rows<L, R, P, L2, R2, P2>()
-    ensures joins { (f : L → L2) (g : R → R2) (h : P → P2) (meets : L → R → Bool) (meets_to : L2 → R2 → Bool)
-        (pair : L → R → P) (pair_to : L2 → R2 → P2) →
+pub fn pairs_follow_replaced_rows<L, R, P, LTo, RTo, PTo>()
+    ensures joins { (f : L → LTo) (g : R → RTo) (h : P → PTo) (meets : L → R → Bool) (meets_to : LTo → RTo → Bool)
+        (pair : L → R → P) (pair_to : LTo → RTo → PTo) →
         ((a : L) (b : R) → meets_to (f a) (g b) ≡ meets a b) → ((a : L) (b : R) → pair_to (f a) (g b) ≡ h (pair a b)) →
         (ls : List (Event L)) (rs : List (Event R)) →
         joined meets_to pair_to (events_to f ls) (events_to g rs) ≡ events_to h (joined meets pair ls rs) }
-    ensures antis { (f : L → L2) (g : R → R2) (same : L → L → Bool) (same_to : L2 → L2 → Bool)
-        (meets : L → R → Bool) (meets_to : L2 → R2 → Bool) →
+    ensures antis { (f : L → LTo) (g : R → RTo) (same : L → L → Bool) (same_to : LTo → LTo → Bool)
+        (meets : L → R → Bool) (meets_to : LTo → RTo → Bool) →
         ((a b : L) → same_to (f a) (f b) ≡ same a b) → ((a : L) (b : R) → meets_to (f a) (g b) ≡ meets a b) →
         (ls : List (Event L)) (rs : List (Event R)) →
         alone same_to meets_to (events_to f ls) (events_to g rs) ≡ events_to f (alone same meets ls rs) }
-    ensures clips { (f : L → L2) (g : R → R2) (meets : L → R → Bool) (meets_to : L2 → R2 → Bool) →
+    ensures clips { (f : L → LTo) (g : R → RTo) (meets : L → R → Bool) (meets_to : LTo → RTo → Bool) →
         ((a : L) (b : R) → meets_to (f a) (g b) ≡ meets a b) →
         (ls : List (Event L)) (rs : List (Event R)) →
         clipped meets_to (events_to f ls) (events_to g rs) ≡ events_to f (clipped meets ls rs) }
-    ensures follows { (f : L → L2) (g : R → R2) (h : P → P2) (meets : L → R → Bool) (meets_to : L2 → R2 → Bool)
-        (pair : L → R → P) (pair_to : L2 → R2 → P2) →
+    ensures follows { (f : L → LTo) (g : R → RTo) (h : P → PTo) (meets : L → R → Bool) (meets_to : LTo → RTo → Bool)
+        (pair : L → R → P) (pair_to : LTo → RTo → PTo) →
         ((a : L) (b : R) → meets_to (f a) (g b) ≡ meets a b) → ((a : L) (b : R) → pair_to (f a) (g b) ≡ h (pair a b)) →
         (within : ℕ) (ls : List (Event L)) (rs : List (Event R)) →
         followed meets_to pair_to within (events_to f ls) (events_to g rs)
