@@ -1,0 +1,9 @@
+mod Touched
+mod Moving
+mod Counted
+mod Opened
+mod Ending
+mod Passes
+mod Shown
+mod Reaching
+mod Examples

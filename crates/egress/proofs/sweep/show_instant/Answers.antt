@@ -1,0 +1,13 @@
+use Rattle.egress.specs.Kept.{since_in}
+use Rattle.egress.proofs.Shown.{shown, open_shown}
+use Rattle.egress.proofs.sweep.show_instant.Goals as goal
+
+pub returns-clause-text : goal.returns-clause-text
+returns-clause-text c = λ rows moves opened.
+    shown c.args.touched.now c.in_ok-end_rows.ensures.ordered c.args.at (since_in c.args.opens.now) rows moves opened
+    c.args.kinds.now c.args.out.now.items _ _ c.in_ok-end_rows.ensures.text c.in_ok-start_rows.ensures.text
+
+pub returns-clause-since : goal.returns-clause-since
+returns-clause-since c = λ rows moves opened.
+    open_shown c.args.touched.now c.in_ok-end_rows.ensures.ordered c.args.at (since_in c.args.opens.now) rows moves opened
+    (since_in c.end_rows.new.opens) _ c.in_ok-end_rows.ensures.since c.in_ok-start_rows.ensures.since
