@@ -16,7 +16,7 @@ use Rattle.plan_model.proofs.Steady.{changes_same}
 use Rattle.plan_laws.specs.Undefined.{Overflow, overflow}
 use Rattle.row_reader.specs.Entry.{Read}
 use Rattle.admission.specs.declared.policy.Policy.{Policy}
-use Rattle.admission.specs.Admission.{Admitted, Outcome, Taken, WasLate, Unmatched, admit, rows, allowed}
+use Rattle.admission.specs.Admission.{Admission, Outcome, Taken, WasLate, Unmatched, admit, rows, allowed}
 use Rattle.admission.specs.Entries.{Told, IsRead, AreRead}
 use Rattle.admission.specs.Keeping.{Goes, IsGoing, RiseAbove, last_of}
 use Rattle.admission.specs.Progress.{Fault, Progress, start, judged, punctuated, went_on, reading, unless_fault, step, at_end, steps, progress}
@@ -28,7 +28,7 @@ abbrev pub UpTo : ℕ → List ℕ → Type 0
 UpTo p [] = Unit {0}
 UpTo p (d ∷ ds) = (d ≤ p) × UpTo p ds
 
-last_above : (p : ℕ) (ds : List ℕ) → RiseAbove p ds → p ≤ last_of p ds
+pub last_above : (p : ℕ) (ds : List ℕ) → RiseAbove p ds → p ≤ last_of p ds
 last_above p [] h = omega arith
 last_above p (d ∷ ds) h = (let l = last_above d ds h.1 in let x = h.0 in omega arith)
 
@@ -118,18 +118,18 @@ module _ (plan : PlanParts) (ordered : IsOrdered plan.nodes) (levelled : IsLevel
     known = itself w g;
   }
 
-  pub goes_known : (w : Progress) (a : Admitted) → IsGoing (length plan.streams) w → Goes (length plan.streams) w.after a → (s : ℕ) → Known w.last (rows w.after s) (rows a s)
+  pub goes_known : (w : Progress) (a : Admission) → IsGoing (length plan.streams) w → Goes (length plan.streams) w.after a → (s : ℕ) → Known w.last (rows w.after s) (rows a s)
   goes_known w a g goes s = elim (cases_lt s (length plan.streams)) [
     | inl before ↦ goes.known s w.last (g.below s before)
     | inr after ↦ goes.others s w.last after g.low
   ]
 
   -- what was written is written over the rows of more lines, too
-  pub written_after : (w : Progress) (a : Admitted) → IsGoing (length plan.streams) w → Goes (length plan.streams) w.after a → written plan (record w { after = a }) ≡ written plan w
+  pub written_after : (w : Progress) (a : Admission) → IsGoing (length plan.streams) w → Goes (length plan.streams) w.after a → written plan (record w { after = a }) ≡ written plan w
   written_after w a g goes = sym (written_same (rows w.after) (rows a) w.last 0 w.dues (goes_known w a g goes) (up_to (length plan.streams) w g))
 
   -- new rows that leave what is known below the last punctuation
-  rows_grow : (w : Progress) (a : Admitted) → IsGoing (length plan.streams) w → Goes (length plan.streams) w.after a → Grows w (record w { after = a })
+  rows_grow : (w : Progress) (a : Admission) → IsGoing (length plan.streams) w → Goes (length plan.streams) w.after a → Grows w (record w { after = a })
   rows_grow w a g goes = record {
     going = record { sound = goes.sound; low = g.low; below = λ s low. (let b = g.below s low in let r = goes.bounds s in omega arith); rise = g.rise; last = g.last };
     front = front_same _ _ (written_after w a g goes);

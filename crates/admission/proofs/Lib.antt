@@ -4,4 +4,6 @@ pub mod Finality
 pub mod Stays
 pub mod Rising
 pub mod Apart
+pub mod Bounding
+pub mod Growing
 pub mod Examples

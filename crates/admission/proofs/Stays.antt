@@ -23,7 +23,7 @@ module _ (plan : PlanParts) (policy : Policy) where
   step_stays : (w : Progress) (line : Told) (f : Fault) → w.fault ≡ Some f → step plan policy w line ≡ w
   step_stays w line f e = ap (λ x. unless_fault x w (reading plan policy line.number w line.read)) e
 
-  steps_stay : (w : Progress) (lines : List Told) (f : Fault) → w.fault ≡ Some f → steps plan policy w lines ≡ w
+  pub steps_stay : (w : Progress) (lines : List Told) (f : Fault) → w.fault ≡ Some f → steps plan policy w lines ≡ w
   steps_stay w [] f e = refl
   steps_stay w (line ∷ lines) f e = ap (λ x. steps plan policy x lines) (step_stays w line f e) ∙ steps_stay w lines f e
 

@@ -20,7 +20,7 @@ use Rattle.plan_model.proofs.NewLives.{AreEvents-with_life}
 use Rattle.row_reader.specs.declared.entry.Entry.{Entry}
 use Rattle.row_reader.specs.declared.entry.Entry.TheVariants.{Skip, Punct, Event}
 use Rattle.admission.specs.declared.policy.Policy.{Policy}
-use Rattle.admission.specs.Admission.{Open, Admitted, nothing, raised, more_of, closes_open, first, without_first, ended_at, Outcome, Taken, WasLate, Unmatched, closed, enter, bounded, admit, open_event, rows, least, allowed, refuses, drops}
+use Rattle.admission.specs.Admission.{Open, Admission, nothing, raised, more_of, closes_open, first, without_first, ended_at, Outcome, Taken, WasLate, Unmatched, closed, enter, bounded, admit, open_event, rows, least, allowed, refuses, drops}
 use Rattle.admission.specs.Entries.{IsEntry}
 use Rattle.admission.specs.Keeping.{IsSound, Goes}
 use Rattle.admission.proofs.Seeing.{late_life, open_life, Known-equal, more_weigh}
@@ -38,11 +38,11 @@ ended_valid at o low = cond_valid o.dropped [] (with_life o.row o.start at) tt (
 open_valid : (s : ℕ) (o : Open) → AreEvents (open_event s o)
 open_valid s o = cond_valid (nat_eq o.stream s) (ended_at inf o) [] (ended_valid inf o (omega arith)) tt
 
-pub rows_valid : (a : Admitted) → IsSound a → (s : ℕ) → AreEvents (rows a s)
+pub rows_valid : (a : Admission) → IsSound a → (s : ℕ) → AreEvents (rows a s)
 rows_valid a sound s = AreEvents-append (a.made s) (flat_map (open_event s) a.opens) (sound.made s) (AreEvents-flat_map (open_event s) a.opens (open_valid s))
 
 -- a step that touches stream s alone, and of it nothing that is seen below its bound
-goes_by : (streams s : ℕ) (a b : Admitted) → s < streams → IsSound a → IsSound b → ((k : ℕ) → a.bound k ≤ b.bound k) →
+goes_by : (streams s : ℕ) (a b : Admission) → s < streams → IsSound a → IsSound b → ((k : ℕ) → a.bound k ≤ b.bound k) →
     ((k c : ℕ) (w : Lived Row → ℕ) → c ≤ inf → (k ≡ s → c ≤ a.bound s) → total (seen w c) (rows a k) ≡ total (seen w c) (rows b k)) → Goes streams a b
 goes_by streams s a b low va vb rise same = record {
   sound = vb;
@@ -102,11 +102,11 @@ late_ended w c at o late = go o.dropped
     go true = refl
     go false = late_life w c o.row o.start at late
 
-made_sound : (s : ℕ) (new : List (Lived Row)) (a : Admitted) → IsSound a → AreEvents new → (k : ℕ) → AreEvents (more_of s new a.made k)
+made_sound : (s : ℕ) (new : List (Lived Row)) (a : Admission) → IsSound a → AreEvents new → (k : ℕ) → AreEvents (more_of s new a.made k)
 made_sound s new a sound valid k = cond_valid (nat_eq k s) _ _ (AreEvents-append (a.made k) new (sound.made k) valid) (sound.made k)
 
 -- events made at the bound or later
-makes : (streams s : ℕ) (a : Admitted) (new : List (Lived Row)) → s < streams → IsSound a → AreEvents new →
+makes : (streams s : ℕ) (a : Admission) (new : List (Lived Row)) → s < streams → IsSound a → AreEvents new →
     ((c : ℕ) (w : Lived Row → ℕ) → c ≤ a.bound s → total (seen w c) new ≡ 0) → Goes streams a (record a { made = more_of s new a.made })
 makes streams s a new low sound valid none =
     goes_by streams s a (record a { made = more_of s new a.made }) low sound (record { made = made_sound s new a sound valid; marks = sound.marks; low = sound.low }) (λ k. omega arith)
@@ -117,7 +117,7 @@ makes streams s a new low sound valid none =
     omega (arith, m, x, y))
 
 -- an open start at the bound or later
-opened : (streams s : ℕ) (a : Admitted) (o : Open) → s < streams → IsSound a → o.stream ≡ s → a.bound s ≤ o.start → Goes streams a (record a { opens = a.opens ++ o ∷ [] })
+opened : (streams s : ℕ) (a : Admission) (o : Open) → s < streams → IsSound a → o.stream ≡ s → a.bound s ≤ o.start → Goes streams a (record a { opens = a.opens ++ o ∷ [] })
 opened streams s a o low sound is late =
     goes_by streams s a (record a { opens = a.opens ++ o ∷ [] }) low sound (record { made = sound.made; marks = sound.marks; low = sound.low }) (λ k. omega arith)
     (λ k c w high here.
@@ -128,7 +128,7 @@ opened streams s a o low sound is late =
     omega (arith, x, y, z, n))
 
 -- an open start that ends at the bound or later
-closing_at : (streams s at : ℕ) (p : Open → Bool) (a : Admitted) (o : Open) → s < streams → IsSound a → o.stream ≡ s → first p a.opens ≡ Some o → a.bound s ≤ at → at ≤ inf →
+closing_at : (streams s at : ℕ) (p : Open → Bool) (a : Admission) (o : Open) → s < streams → IsSound a → o.stream ≡ s → first p a.opens ≡ Some o → a.bound s ≤ at → at ≤ inf →
     Goes streams a (record a { made = more_of s (ended_at at o) a.made; opens = without_first p a.opens })
 closing_at streams s at p a o low sound is there late small =
     goes_by streams s a (record a { made = more_of s (ended_at at o) a.made; opens = without_first p a.opens }) low sound (record { made = made_sound s (ended_at at o) a sound (ended_valid at o small); marks = sound.marks; low = sound.low }) (λ k. omega arith)
@@ -170,12 +170,12 @@ raised_both s t f g k low = go (nat_eq k s)
     go false = low
 
 -- what holds of the rows after a line that is taken
-abbrev pub OnTaken : (Admitted → Type 0) → Outcome → Type 0
+abbrev pub OnTaken : (Admission → Type 0) → Outcome → Type 0
 OnTaken P (Taken a) = P a
 OnTaken P (WasLate time bound) = Unit {0}
 OnTaken P Unmatched = Unit {0}
 
-same_rows : (streams : ℕ) (a b : Admitted) → IsSound a → IsSound b → ((k : ℕ) → a.bound k ≤ b.bound k) → ((k : ℕ) → rows a k ≡ rows b k) → Goes streams a b
+same_rows : (streams : ℕ) (a b : Admission) → IsSound a → IsSound b → ((k : ℕ) → a.bound k ≤ b.bound k) → ((k : ℕ) → rows a k ≡ rows b k) → Goes streams a b
 same_rows streams a b va vb rise same = record {
   sound = vb;
   bounds = rise;
@@ -183,7 +183,7 @@ same_rows streams a b va vb rise same = record {
   others = λ k c past high. Known-equal c (rows a k) (rows b k) high (rows_valid a va k) (same k);
 }
 
-bounded_goes : (streams s t : ℕ) (a : Admitted) (o : Outcome) → t ≤ inf → OnTaken (Goes streams a) o → OnTaken (Goes streams a) (bounded s t o)
+bounded_goes : (streams s t : ℕ) (a : Admission) (o : Outcome) → t ≤ inf → OnTaken (Goes streams a) o → OnTaken (Goes streams a) (bounded s t o)
 bounded_goes streams s t a (Taken b) low g = record {
   sound = record { made = g.sound.made; marks = λ k. (let m = g.sound.marks k in let r = raised_more s t b.bound k in omega arith); low = λ k. raised_low s t b.bound k low (g.sound.low k) };
   bounds = λ k. (let m = g.bounds k in let r = raised_more s t b.bound k in omega arith);
@@ -193,7 +193,7 @@ bounded_goes streams s t a (Taken b) low g = record {
 bounded_goes streams s t a (WasLate time bound) low g = tt
 bounded_goes streams s t a Unmatched low g = tt
 
-enter_goes : (streams s : ℕ) (a : Admitted) (form : Form) (sync other : ℕ) (row : Row) (at : ℕ) (dropped : Bool) → s < streams → IsSound a → a.bound s ≤ at → at ≤ inf → other ≤ inf →
+enter_goes : (streams s : ℕ) (a : Admission) (form : Form) (sync other : ℕ) (row : Row) (at : ℕ) (dropped : Bool) → s < streams → IsSound a → a.bound s ≤ at → at ≤ inf → other ≤ inf →
     OnTaken (Goes streams a) (enter a s form sync other row at dropped)
 enter_goes streams s a Interval sync other row at dropped low sound late small end = makes streams s a (cond dropped [] (with_life row at other)) low sound (cond_valid dropped [] _ tt (AreEvents-with_life row at other end)) (λ c w below. none dropped c w below)
   where
@@ -207,14 +207,14 @@ enter_goes streams s a End sync other row at dropped low sound late small end = 
     go None is = tt
     go (Some o) is = closing_at streams s at (closes_open s row other) a o low sound (of_stream s row other o (first_passes (closes_open s row other) a.opens o is)) is late small
 
-event_goes : (streams s : ℕ) (policy : Policy) (a : Admitted) (form : Form) (sync other : ℕ) (row : Row) (refused dropped : Bool) → s < streams → IsSound a → sync ≤ inf → other ≤ inf →
+event_goes : (streams s : ℕ) (policy : Policy) (a : Admission) (form : Form) (sync other : ℕ) (row : Row) (refused dropped : Bool) → s < streams → IsSound a → sync ≤ inf → other ≤ inf →
     OnTaken (Goes streams a) (cond refused (WasLate sync (a.bound s)) (bounded s (sync - policy.lateness) (enter a s form sync other row (max sync (a.bound s)) dropped)))
 event_goes streams s policy a form sync other row true dropped low sound small end = tt
 event_goes streams s policy a form sync other row false dropped low sound small end =
     bounded_goes streams s (sync - policy.lateness) a _ (omega arith) (enter_goes streams s a form sync other row (max sync (a.bound s)) dropped low sound (omega arith) (let l = sound.low s in omega arith) end)
 
 -- whatever an entry is, it leaves what is known below the bounds, and the bounds do not fall
-pub admit_goes : (policy : Policy) (streams : ℕ) (a : Admitted) (e : Entry) → IsSound a → IsEntry streams e → OnTaken (Goes streams a) (admit policy a e)
+pub admit_goes : (policy : Policy) (streams : ℕ) (a : Admission) (e : Entry) → IsSound a → IsEntry streams e → OnTaken (Goes streams a) (admit policy a e)
 admit_goes policy streams a Skip sound valid = same_rows streams a a sound sound (λ k. omega arith) (λ k. refl)
 admit_goes policy streams a (Punct None time) sound valid =
     same_rows streams a (record a { bound = λ s. max (a.bound s) time; mark = λ s. max (a.mark s) time }) sound
@@ -225,7 +225,7 @@ admit_goes policy streams a (Punct (Some s) time) sound valid =
 admit_goes policy streams a (Event s form sync other row) sound valid =
     event_goes streams s policy a form sync other row (nat_lt sync (a.bound s) && refuses policy.late) (nat_lt sync (a.bound s) && drops policy.late) valid.0 sound valid.1 valid.2
 
-pub taken_goes : (policy : Policy) (streams : ℕ) (a b : Admitted) (e : Entry) → IsSound a → IsEntry streams e → admit policy a e ≡ Taken b → Goes streams a b
+pub taken_goes : (policy : Policy) (streams : ℕ) (a b : Admission) (e : Entry) → IsSound a → IsEntry streams e → admit policy a e ≡ Taken b → Goes streams a b
 taken_goes policy streams a b e sound valid is = (let h = admit_goes policy streams a e sound valid in rw is at h)
 
 -- the least of times is at most each
@@ -243,10 +243,10 @@ least_low (suc n) times = (let l = least_low n times in omega arith)
 pub floor_below : (p t : ℕ) → t ≤ inf → floor_to p t ≤ t
 floor_below p t low = (let m = div-mul-le_self t p in grind (arith, nat_tests))
 
-pub allowed_low : (policy : Policy) (streams : ℕ) (a : Admitted) → allowed policy streams a ≤ inf
+pub allowed_low : (policy : Policy) (streams : ℕ) (a : Admission) → allowed policy streams a ≤ inf
 allowed_low policy streams a = (let l = least_low streams a.bound in let m = least_low streams a.mark in let f = floor_below policy.period (least streams a.bound) l in grind (arith, nat_tests))
 
-pub allowed_below : (policy : Policy) (streams : ℕ) (a : Admitted) (s : ℕ) → IsSound a → s < streams → allowed policy streams a ≤ a.bound s
+pub allowed_below : (policy : Policy) (streams : ℕ) (a : Admission) (s : ℕ) → IsSound a → s < streams → allowed policy streams a ≤ a.bound s
 allowed_below policy streams a s sound low =
     (let l = least_low streams a.bound in let x = least_below streams a.bound s low in let m = least_below streams a.mark s low in let k = sound.marks s in
     let f = floor_below policy.period (least streams a.bound) l in grind (arith, nat_tests))

@@ -31,14 +31,14 @@ pub record Open : Type 0 where
   pub dropped : Bool
 
 -- the bound and the mark of each stream, the events made for each stream, and the open starts in the order of their lines
-pub record Admitted : Type 0 where
+pub record Admission : Type 0 where
   pub bound : ℕ → ℕ
   pub mark : ℕ → ℕ
   pub made : ℕ → List (Lived Row)
   pub opens : List Open
 
 -- what no line at all gives
-abbrev pub nothing : Admitted
+abbrev pub nothing : Admission
 nothing = record { bound = λ s. 0; mark = λ s. 0; made = λ s. []; opens = [] }
 
 -- the times by stream, with that of stream s raised to at least t
@@ -68,17 +68,17 @@ ended_at end o = cond o.dropped [] (with_life o.row o.start end)
 
 -- an entry is taken; or its sync is below the bound, and late lines are refused; or it ends an event that did not start
 pub data Outcome : Type 0 where
-  Taken : (after : Admitted) → Outcome
+  Taken : (after : Admission) → Outcome
   WasLate : (time : ℕ) → (bound : ℕ) → Outcome
   Unmatched : Outcome
 
 -- an open start is closed, if there is one, and its event made
-abbrev pub closed : ℕ → ℕ → (Open → Bool) → Admitted → Option Open → Outcome
+abbrev pub closed : ℕ → ℕ → (Open → Bool) → Admission → Option Open → Outcome
 closed s at p a None = Unmatched
 closed s at p a (Some o) = Taken (record a { made = more_of s (ended_at at o) a.made; opens = without_first p a.opens })
 
 -- an event line of stream s, which takes effect at the time `at`, and is dropped or not
-abbrev pub enter : Admitted → ℕ → Form → ℕ → ℕ → Row → ℕ → Bool → Outcome
+abbrev pub enter : Admission → ℕ → Form → ℕ → ℕ → Row → ℕ → Bool → Outcome
 enter a s Interval sync other row at dropped = Taken (record a { made = more_of s (cond dropped [] (with_life row at other)) a.made })
 enter a s Start sync other row at dropped = Taken (record a { opens = a.opens ++ record { stream = s; row = row; given = sync; start = at; dropped = dropped } ∷ [] })
 enter a s End sync other row at dropped = closed s at (closes_open s row other) a (first (closes_open s row other) a.opens)
@@ -90,7 +90,7 @@ bounded s t refused = refused
 
 -- one entry more. A line takes effect at its sync, or at the bound of its stream if that is later, as it is where the line is
 -- late. With the bound 7, an interval from 6 to 20 is late: refused, dropped, or a row over [7, 20)
-abbrev pub admit : Policy → Admitted → Entry → Outcome
+abbrev pub admit : Policy → Admission → Entry → Outcome
 admit policy a Skip = Taken a
 admit policy a (Punct None time) = Taken (record a { bound = λ s. max (a.bound s) time; mark = λ s. max (a.mark s) time })
 admit policy a (Punct (Some s) time) = Taken (record a { bound = raised s time a.bound; mark = raised s time a.mark })
@@ -104,7 +104,7 @@ abbrev pub open_event : ℕ → Open → List (Lived Row)
 open_event s o = cond (nat_eq o.stream s) (ended_at inf o) []
 
 -- the events of stream s: those made, and the open starts up to infinity
-abbrev pub rows : Admitted → ℕ → List (Lived Row)
+abbrev pub rows : Admission → ℕ → List (Lived Row)
 rows a s = a.made s ++ flat_map (open_event s) a.opens
 
 -- the least of the times of the first n streams. Of 3 and 5: 3
@@ -118,5 +118,5 @@ stepped period t = cond (nat_eq period 0) 0 (floor_to period t)
 
 -- the greatest punctuation that the bounds and the marks of so many streams allow. With period 10, bounds 25 and 14 and
 -- marks 0: 10
-abbrev pub allowed : Policy → ℕ → Admitted → ℕ
+abbrev pub allowed : Policy → ℕ → Admission → ℕ
 allowed policy streams a = max (stepped policy.period (least streams a.bound)) (least streams a.mark)

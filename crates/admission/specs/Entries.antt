@@ -16,6 +16,10 @@ IsEntry streams Skip = Unit {0}
 IsEntry streams (Punct stream time) = IfSome stream (λ s. s < streams) × (time ≤ inf)
 IsEntry streams (Event stream form sync other row) = (stream < streams) × (sync ≤ inf) × (other ≤ inf)
 
+abbrev pub AreEntries : ℕ → List Entry → Type 0
+AreEntries streams [] = Unit {0}
+AreEntries streams (e ∷ es) = IsEntry streams e × AreEntries streams es
+
 abbrev pub IsRead : ℕ → Read → Type 0
 IsRead streams (Ok entry) = IsEntry streams entry
 IsRead streams (Err cause) = Unit {0}

@@ -4,17 +4,17 @@ use Rattle.tw_rows.specs.Event.{AreEvents, Known}
 use Rattle.tw_rows.specs.Instant.{inf}
 use Rattle.row_reader.specs.declared.entry.Entry.{Entry}
 use Rattle.row_reader.specs.declared.entry.Entry.TheVariants.{Punct, Event}
-use Rattle.admission.specs.Admission.{Admitted, rows}
+use Rattle.admission.specs.Admission.{Admission, rows}
 use Rattle.admission.specs.Progress.{Progress}
 
 -- the events have lives, no mark is above its bound, and no bound above infinity
-pub record IsSound (a : Admitted) : Type 0 where
+pub record IsSound (a : Admission) : Type 0 where
   pub made : (s : ℕ) → AreEvents (a.made s)
   pub marks : (s : ℕ) → a.mark s ≤ a.bound s
   pub low : (s : ℕ) → a.bound s ≤ inf
 
 -- from a to b no bound falls, what is known of a stream below its bound stays, and of streams past the declared ones all
-pub record Goes (streams : ℕ) (a b : Admitted) : Type 0 where
+pub record Goes (streams : ℕ) (a b : Admission) : Type 0 where
   pub sound : IsSound b
   pub bounds : (s : ℕ) → a.bound s ≤ b.bound s
   pub known : (s c : ℕ) → c ≤ a.bound s → Known c (rows a s) (rows b s)

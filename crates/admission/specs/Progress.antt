@@ -8,7 +8,7 @@ use Rattle.row_reader.specs.declared.entry.BadLine.{BadLine}
 use Rattle.row_reader.specs.declared.entry.BadLine.TheVariants.{NoStart}
 use Rattle.admission.specs.declared.policy.Policy.{Policy}
 use Rattle.admission.specs.Entries.{Told}
-use Rattle.admission.specs.Admission.{Admitted, nothing, Outcome, Taken, WasLate, Unmatched, admit, rows, allowed}
+use Rattle.admission.specs.Admission.{Admission, nothing, Outcome, Taken, WasLate, Unmatched, admit, rows, allowed}
 
 -- why no line is worked through any more: a line is bad, or late, with its sync and the bound of its stream; or at a
 -- punctuation a node is undefined
@@ -20,7 +20,7 @@ pub data Fault : Type 0 where
 -- what the lines before the first fault give, with the line that made a punctuation due at which a node is undefined; the
 -- punctuations that were due before it, and the last of them; and the fault
 pub record Progress : Type 0 where
-  pub after : Admitted
+  pub after : Admission
   pub dues : List ℕ
   pub last : ℕ
   pub fault : Option Fault
