@@ -13,3 +13,4 @@ pub mod Printed
 pub mod Spells
 pub mod Steps
 pub mod Printing
+pub mod Examples
