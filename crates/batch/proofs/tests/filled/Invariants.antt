@@ -1,9 +1,9 @@
 use Rattle.std.specs.Prelude.{◌≡◌, [], ◌∷◌}
-use Rattle.tw_rows.specs.declared.kind.CellKind.TheVariants.{Whole}
+use Rattle.tw_rows.specs.declared.kind.CellKind.TheVariants.{Whole, Bit, Place}
 use Rattle.batch.proofs.tests.filled.Given as goal
 
-abbrev pub invariant-loop-pair : goal.invariant-loop-pair
-invariant-loop-pair l = record {
-  kinds : l.batch.kinds ≡ Whole ∷ [];
+abbrev pub invariant-loop-line : goal.invariant-loop-line
+invariant-loop-line l = record {
+  kinds : l.batch.kinds ≡ Whole ∷ Bit ∷ Place ∷ [];
   capacity : l.batch.capacity ≡ l.pools.capacity;
 }
