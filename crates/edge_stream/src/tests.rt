@@ -48,8 +48,8 @@ fn list(
 // The sync times of the edges, as the digits of a number, and how many batches hold them.
 fn digits(list: &EdgeList) -> Result<(u64, usize), Fail> {
     let mut digits: u64 = 0;
-    let mut cursor = list.cursor();
-    while let Some(edge) = cursor.next()? {
+    let edges = list.to_vec()?;
+    for edge in &edges {
         digits = digits.wrapping_mul(10).wrapping_add(edge.sync.word());
     }
     Ok((digits, list.batches()))
