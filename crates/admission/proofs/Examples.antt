@@ -1,5 +1,5 @@
 -- A few inputs, worked out.
-use Rattle.std.specs.Prelude.{◌≡◌, ℕ, pos, false, List, [], ◌∷◌, ◌++◌, Some, None, Ok, refl}
+use Rattle.std.specs.Prelude.{◌≡◌, ℕ, pos, nat_eq, true, false, cond, List, [], ◌∷◌, ◌++◌, Some, None, Ok, refl}
 use Rattle.tw_rows.specs.Instant.{inf}
 use Rattle.tw_rows.specs.Rows.{Row}
 use Rattle.tw_rows.specs.declared.row.Value.TheVariants.{Int}
@@ -11,11 +11,13 @@ use Rattle.plan_model.specs.IsPlan.{PlanParts}
 use Rattle.row_reader.specs.declared.entry.Entry.{Entry}
 use Rattle.row_reader.specs.declared.entry.Entry.TheVariants.{Punct, Event}
 use Rattle.row_reader.specs.declared.entry.BadLine.TheVariants.{NoStart}
+use Rattle.admission.specs.declared.policy.Admitted.TheVariants.{Kept, Dropped, Emptied}
 use Rattle.admission.specs.declared.policy.Lateness.{Lateness}
 use Rattle.admission.specs.declared.policy.Lateness.TheVariants.{Refuse, Drop, Adjust}
 use Rattle.admission.specs.declared.policy.Policy.{Policy}
-use Rattle.admission.specs.Admission.{nothing, WasLate, admit}
-use Rattle.admission.specs.Bounds.{and_then}
+use Rattle.admission.specs.Admission.{Admission, nothing, WasLate, admit, allowed}
+use Rattle.admission.specs.Answers.{answer}
+use Rattle.admission.specs.Bounds.{and_then, bound_by, mark_by, greatest}
 use Rattle.admission.specs.Entries.{Told}
 use Rattle.admission.specs.Progress.{Malformed, TooLate, fault}
 use Rattle.admission.specs.Text.{Item, Changed, Closed, between, items}
@@ -121,3 +123,34 @@ after_five = refl
 late_sixth : fault both each (up_to_five ++ line 6 (interval 1 3 9 4) ∷ []) false ≡ Some (TooLate 6 3 22)
 unfolding inf
 late_sixth = refl
+
+-- answers where the bound is 7: late lines are dropped or moved, and a life may be empty then
+abbrev at_seven : Admission
+at_seven = record { bound = λ s. 7; mark = λ s. 0; made = λ s. []; opens = record { stream = 0; row = of_int 1; given = 4; start = 7; dropped = true } ∷ [] }
+
+is_dropped : answer (stepping Drop) at_seven (interval 0 6 20 4) ≡ Dropped
+is_dropped = refl
+
+is_kept : answer (stepping Adjust) at_seven (interval 0 6 20 4) ≡ Kept
+is_kept = refl
+
+is_emptied : answer (stepping Adjust) at_seven (interval 0 3 7 4) ≡ Emptied
+is_emptied = refl
+
+end_of_dropped : answer (stepping Drop) at_seven (Event 0 End 9 4 (of_int 1)) ≡ Dropped
+end_of_dropped = refl
+
+-- with the lateness 5, events of stream 1 at 12 and 3 and a punctuation of all streams at 4 make a bound of 7 and a mark of 4
+abbrev some : List Entry
+some = interval 1 12 20 1 ∷ interval 1 3 9 2 ∷ Punct None 4 ∷ []
+
+bound_of_some : greatest (bound_by (stepping Drop) 1) some ≡ 7
+bound_of_some = refl
+
+mark_of_some : greatest (mark_by 1) some ≡ 4
+mark_of_some = refl
+
+-- with the period 10 the bounds 25 and 14 allow a punctuation at 10
+allowed_of_two : allowed (stepping Drop) 2 (record { bound = λ s. cond (nat_eq s 0) 25 14; mark = λ s. 0; made = λ s. []; opens = [] }) ≡ 10
+unfolding inf
+allowed_of_two = refl

@@ -6,4 +6,5 @@ pub mod Rising
 pub mod Apart
 pub mod Bounding
 pub mod Growing
+pub mod Answering
 pub mod Examples

@@ -2,6 +2,7 @@
 -- what stays.
 pub mod Entries
 pub mod Admission
+pub mod Answers
 pub mod Bounds
 pub mod Progress
 pub mod Text

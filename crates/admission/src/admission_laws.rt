@@ -5,8 +5,10 @@ ghost use Rattle.tw_rows.specs.Instant.{inf};
 ghost use Rattle.tw_rows.specs.declared.schema.StreamDef.{StreamDef};
 ghost use Rattle.row_reader.specs.Entry.{entry};
 ghost use Rattle.row_reader.specs.declared.entry.Entry.{Entry};
+ghost use Rattle.admission.specs.declared.policy.Admitted.TheVariants.{Kept};
 ghost use Rattle.admission.specs.declared.policy.Policy.{Policy};
 ghost use Rattle.admission.specs.Admission.{Admission, nothing, Taken, admit, rows, stepped, allowed};
+ghost use Rattle.admission.specs.Answers.{answer};
 ghost use Rattle.admission.specs.Bounds.{bound_by, mark_by, only_bound, greatest, admit_all};
 ghost use Rattle.admission.specs.Entries.{IsEntry, AreEntries, IsRead};
 ghost use Rattle.admission.specs.Keeping.{IsSound, Goes, IsOfAnother};
@@ -47,4 +49,10 @@ pub fn bounds_are_greatest()
         admit_all policy entries nothing ≡ Taken a → a.bound 0 ≡ greatest (only_bound policy) entries }
     ensures only_allowed { (policy : Policy) (a : Admission) → a.bound 0 ≤ inf → a.mark 0 ≤ inf →
         allowed policy 1 a ≡ max (stepped policy.period (a.bound 0)) (a.mark 0) }
+{}
+
+/// An entry that is taken and of which anything else than "kept" is answered makes no event.
+pub fn only_kept_lines_make_events()
+    ensures { (policy : Policy) (a b : Admission) (e : Entry) (s : ℕ) → answer policy a e ≢ Kept →
+        admit policy a e ≡ Taken b → b.made s ≡ a.made s }
 {}

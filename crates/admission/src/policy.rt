@@ -1,4 +1,4 @@
-// What becomes of late lines, and when punctuations are due.
+// What becomes of late lines, when punctuations are due, and what is answered of a line.
 
 /// What becomes of a line that is late: it ends the run, it is left out, or it takes effect later.
 #[derive(Clone, Copy, Debug, PartialEq, Eq)]
@@ -15,4 +15,17 @@ pub struct Policy {
     pub lateness: u64,
     pub late: Lateness,
     pub period: u64,
+}
+
+/// What became of a line that was taken.
+#[derive(Clone, Copy, Debug, PartialEq, Eq)]
+pub enum Admitted {
+    /// It says nothing.
+    Skipped,
+    /// It is a punctuation, or it starts, ends or makes an event.
+    Kept,
+    /// It is left out, or ends an event whose start was left out.
+    Dropped,
+    /// It makes no event, as the life would be empty.
+    Emptied,
 }
