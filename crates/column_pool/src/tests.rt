@@ -46,9 +46,6 @@ fn check_column<T: Cell>(rt: &impl Abort, alloc: Global, a: T, b: T) -> Result<(
     assert!(rt; same_cell(cells[1], a) && same_cell(cells[2], b));
     column.clear();
     assert_eq!(rt; (column.len(), column.capacity()), (0, 4));
-    column.extend(&[a, b]);
-    assert_eq!(rt; column.len(), 2);
-    assert!(rt; same_cell(column.get(1), b));
     Ok(())
 }
 
