@@ -1,0 +1,3 @@
+pub mod MadeEdges
+pub mod Batches
+pub mod Nodes

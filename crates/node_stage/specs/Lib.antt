@@ -1,0 +1,3 @@
+-- Contracts of other crates read both
+pub mod Made
+pub mod Stages
