@@ -1,5 +1,6 @@
 mod Touched
 mod Moving
+mod Tallied
 mod Counted
 mod Opened
 mod Ending

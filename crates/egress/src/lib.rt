@@ -2,14 +2,14 @@
 //! stand in `specs/`; each function of a module of laws does nothing, and its clauses are laws of them.
 #![tactic(auto)]
 
+mod edges;
 mod instant_laws;
 mod moves;
 mod opens;
 mod sweep;
 
+pub use edges::show_edges;
 pub use instant_laws::{
     a_sweep_goes_from_instant_to_instant, an_instant_shows_the_rows_it_touches,
     edges_of_an_instant_move_rows, quiet_instants_keep_what_is_open,
 };
-pub use moves::{Moves, add_end, add_start};
-pub use sweep::show_instant;

@@ -25,7 +25,7 @@ pub(crate) fn moves_of(touched: &BTreeMap<Row, Moves>, row: &Row) -> Moves
 }
 
 /// Counts an end of the row. A count that has no room is want of memory.
-pub fn add_end(touched: &mut BTreeMap<Row, Moves>, row: Row) -> Result<(), Memory>
+pub(crate) fn add_end(touched: &mut BTreeMap<Row, Moves>, row: Row) -> Result<(), Memory>
     ensures ends { OnOk result ((r : Values) → ends_in touched.new r ≡ ends_in touched.old r + how_often r (row ∷ [])) }
     ensures starts { OnOk result ((r : Values) → starts_in touched.new r ≡ starts_in touched.old r) }
 {
@@ -42,7 +42,7 @@ pub fn add_end(touched: &mut BTreeMap<Row, Moves>, row: Row) -> Result<(), Memor
 }
 
 /// Counts a start of the row. A count that has no room is want of memory.
-pub fn add_start(touched: &mut BTreeMap<Row, Moves>, row: Row) -> Result<(), Memory>
+pub(crate) fn add_start(touched: &mut BTreeMap<Row, Moves>, row: Row) -> Result<(), Memory>
     ensures ends { OnOk result ((r : Values) → ends_in touched.new r ≡ ends_in touched.old r) }
     ensures starts { OnOk result ((r : Values) → starts_in touched.new r ≡ starts_in touched.old r + how_often r (row ∷ [])) }
 {

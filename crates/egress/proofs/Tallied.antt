@@ -1,0 +1,128 @@
+-- Edges that are counted row by row.
+use Rattle.std.specs.Prelude.{◌≡◌, ◌↔◌, IsTrue, ℕ, zero, suc, ◌+◌, ◌<◌, Bool, true, false, cond, List, [], ◌∷◌, ◌++◌, length, get_or, map, flat_map, take, refl}
+use Rattle.std.specs.Ordering.{eq_by_cmp}
+use Rattle.std.specs.BTreeMap.{BTreeMap}
+use Rattle.std.specs.Map.{lookup}
+use Rattle.std.proofs.Common.{sym, ◌∙◌, ap, arith}
+use Rattle.std.proofs.lemmas.Bool.{lt-ltb, ltb-true}
+use Rattle.std.proofs.lemmas.List.{take_more}
+use Rattle.tw_rows.specs.Bag.{SameBag, total}
+use Rattle.tw_rows.specs.Cells.{IsPlaced, ArePlaced, read_cells}
+use Rattle.tw_rows.specs.Event.{AreEvents, alive}
+use Rattle.tw_rows.specs.Rows.{Row, row_cmp}
+use Rattle.tw_rows.specs.declared.cells.Datum.{Datum}
+use Rattle.tw_rows.specs.declared.edge.Edge.{Edge}
+use Rattle.tw_rows.specs.declared.edge.HeldRow.{HeldRow}
+use Rattle.tw_rows.proofs.Bags.{total-append, total-map, total-flat_map}
+use Rattle.edge_history.specs.History.{CellEvent}
+use Rattle.edge_history.specs.Balance.{news}
+use Rattle.edge_history.specs.Order.{is_end}
+use Rattle.edge_history.specs.Opens.{bare, ended_of, started_of, ended_rows, started_rows}
+use Rattle.node_laws.specs.Places.{read_events}
+use Rattle.plan_model.specs.Opens.{how_often}
+use Rattle.egress.specs.declared.moves.Moves.{Moves}
+use Rattle.egress.specs.Instants.{AreMoves}
+use Rattle.egress.specs.Kept.{ends_if, starts_if, ends_in, starts_in}
+use Rattle.egress.proofs.Moving.{edges_move}
+
+pub placed_at : (texts : List (List ℕ)) (cells : List Datum) (i : ℕ) (d : Datum) → ArePlaced texts cells → i < length cells → IsPlaced texts (get_or cells i d)
+placed_at texts [] i d h low = absurd (omega (arith, low))
+placed_at texts (c ∷ cs) zero d h low = h.0
+placed_at texts (c ∷ cs) (suc i) d h low = placed_at texts cs i d h.1 (omega (arith, low))
+
+module _ (texts : List (List ℕ)) (r : Row) where
+  abbrev pub ended_often : List Edge → ℕ
+  ended_often es = how_often r (map (read_cells texts) (bare (ended_rows es)))
+
+  abbrev pub started_often : List Edge → ℕ
+  started_often es = how_often r (map (read_cells texts) (bare (started_rows es)))
+
+  abbrev weight : HeldRow → ℕ
+  weight h = cond (eq_by_cmp row_cmp r (read_cells texts h.cells)) 1 0
+
+  often : (rows : List HeldRow) → how_often r (map (read_cells texts) (bare rows)) ≡ total weight rows
+  often rows =
+      total-map (λ x. cond (eq_by_cmp row_cmp r x) 1 0) (read_cells texts) (bare rows)
+      ∙ total-map (λ c. cond (eq_by_cmp row_cmp r (read_cells texts c)) 1 0) (λ h. h.cells) rows
+
+  more : (f : Edge → List HeldRow) (es : List Edge) (i : ℕ) (d : Edge) → i < length es →
+      total weight (flat_map f (take (i + 1) es)) ≡ total weight (flat_map f (take i es)) + total weight (f (get_or es i d))
+  more f es i d low =
+      ap (λ l. total weight (flat_map f l)) (take_more es i d low)
+      ∙ total-flat_map weight f (take i es ++ get_or es i d ∷ [])
+      ∙ total-append (λ x. total weight (f x)) (take i es) (get_or es i d ∷ [])
+      ∙ (let a = total-flat_map weight f (take i es) in omega (arith, a))
+
+  ended_more : (es : List Edge) (i : ℕ) (d : Edge) → i < length es →
+      ended_often (take (i + 1) es) ≡ ended_often (take i es) + how_often r (map (read_cells texts) (bare (ended_of (get_or es i d))))
+  ended_more es i d low =
+      let a = often (ended_rows (take (i + 1) es)) in
+      let b = often (ended_rows (take i es)) in
+      let e = often (ended_of (get_or es i d)) in
+      let c = more ended_of es i d low in
+      omega (arith, a, b, c, e)
+
+  started_more : (es : List Edge) (i : ℕ) (d : Edge) → i < length es →
+      started_often (take (i + 1) es) ≡ started_often (take i es) + how_often r (map (read_cells texts) (bare (started_of (get_or es i d))))
+  started_more es i d low =
+      let a = often (started_rows (take (i + 1) es)) in
+      let b = often (started_rows (take i es)) in
+      let e = often (started_of (get_or es i d)) in
+      let c = more started_of es i d low in
+      omega (arith, a, b, c, e)
+
+  pub ends_then : (es : List Edge) (i : ℕ) (e : Edge) (n now old : ℕ) → i < length es → e ≡ get_or es i e →
+      n ≡ now + how_often r (map (read_cells texts) (bare (ended_of e))) → now ≡ old + ended_often (take i es) → n ≡ old + ended_often (take (i + 1) es)
+  ends_then es i e n now old low is f g =
+      let a = ended_more es i e low in
+      let b = ap (λ x. how_often r (map (read_cells texts) (bare (ended_of x)))) is in
+      omega (arith, a, b, f, g)
+
+  pub starts_then : (es : List Edge) (i : ℕ) (e : Edge) (n now old : ℕ) → i < length es → e ≡ get_or es i e →
+      n ≡ now + how_often r (map (read_cells texts) (bare (started_of e))) → now ≡ old + started_often (take i es) → n ≡ old + started_often (take (i + 1) es)
+  starts_then es i e n now old low is f g =
+      let a = started_more es i e low in
+      let b = ap (λ x. how_often r (map (read_cells texts) (bare (started_of x)))) is in
+      omega (arith, a, b, f, g)
+
+  -- an end edge ends its row, and starts none; any other starts it
+  pub end_ends : (e : Edge) → is_end e ≡ true → how_often r (map (read_cells texts) (bare (ended_of e))) ≡ how_often r (read_cells texts e.cells ∷ [])
+  end_ends e h = ap (λ b. how_often r (map (read_cells texts) (bare (cond b (record { cells = e.cells; start = e.other } ∷ []) [])))) h
+
+  pub end_starts : (e : Edge) → is_end e ≡ true → how_often r (map (read_cells texts) (bare (started_of e))) ≡ 0
+  end_starts e h = ap (λ b. how_often r (map (read_cells texts) (bare (cond b [] (record { cells = e.cells; start = e.sync } ∷ []))))) h
+
+  pub start_ends : (e : Edge) → is_end e ≡ false → how_often r (map (read_cells texts) (bare (ended_of e))) ≡ 0
+  start_ends e h = ap (λ b. how_often r (map (read_cells texts) (bare (cond b (record { cells = e.cells; start = e.other } ∷ []) [])))) h
+
+  pub start_starts : (e : Edge) → is_end e ≡ false → how_often r (map (read_cells texts) (bare (started_of e))) ≡ how_often r (read_cells texts e.cells ∷ [])
+  start_starts e h = ap (λ b. how_often r (map (read_cells texts) (bare (cond b [] (record { cells = e.cells; start = e.sync } ∷ []))))) h
+
+  pub tallied : (e : Edge) (old new x : ℕ) (row : Row) → new ≡ old + how_often r (row ∷ []) → row ≡ read_cells texts e.cells →
+      x ≡ how_often r (read_cells texts e.cells ∷ []) → new ≡ old + x
+  tallied e old new x row h same is = h ∙ ap (λ q. old + how_often r (q ∷ [])) same ∙ ap (λ n. old + n) (sym is)
+
+pub not_tallied : (old new x : ℕ) → new ≡ old → x ≡ 0 → new ≡ old + x
+not_tallied old new x h is = omega (arith, h, is)
+
+pub is_end_from : (b : Bool) (e : Edge) → (IsTrue b ↔ (e.other < e.sync)) → b ≡ true → is_end e ≡ true
+is_end_from b e h t = lt-ltb e.other e.sync (h.0 t)
+
+pub no_end_from : (b : Bool) (e : Edge) → (IsTrue b ↔ (e.other < e.sync)) → b ≡ false → is_end e ≡ false
+no_end_from b e h t = pick (is_end e) refl
+  where
+    pick : (x : Bool) → is_end e ≡ x → x ≡ false
+    pick false f = refl
+    pick true f = absurd (let z : b ≡ true = h.1 (ltb-true e.other e.sync f) in cc)
+
+-- what is counted in a map that was empty are the moves of the instant
+pub counted_moves : (texts : List (List ℕ)) (events : List CellEvent) (t : ℕ) (now : List Edge) (m0 m : BTreeMap Row Moves) → m0.entries ≡ [] →
+    ((r : Row) → ends_in m r ≡ ends_in m0 r + ended_often texts r now) → ((r : Row) → starts_in m r ≡ starts_in m0 r + started_often texts r now) →
+    AreEvents events → SameBag now (news t (suc t) events) → AreMoves (alive (read_events texts events)) t (ends_in m) (starts_in m)
+counted_moves texts events t now m0 m none e f valid same r =
+    let a = edges_move texts events t now valid same r in
+    let b = e r in
+    let c = f r in
+    let y : ends_in m0 r ≡ 0 = ap (λ es. ends_if (lookup (eq_by_cmp row_cmp r) es)) none in
+    let z : starts_in m0 r ≡ 0 = ap (λ es. starts_if (lookup (eq_by_cmp row_cmp r) es)) none in
+    omega (arith, a, b, c, y, z)
