@@ -1,0 +1,3 @@
+-- Callers read Pending; Stored is cited by the model alone.
+pub mod Pending
+pub mod Stored
