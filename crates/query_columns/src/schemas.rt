@@ -17,26 +17,26 @@ pub fn copied(alloc: Global, columns: &[ColumnDef]) -> Result<Schema, Memory>
     ensures { IfOk result (λ s. s ≡ columns.now) }
 {
     let mut all = Vec::new(alloc);
-    push_copies(alloc, columns, &mut all)?;
+    push_copies(columns, &mut all)?;
     Ok(Schema::from_vec(all))
 }
 
 // Puts copies of the columns behind the others.
-fn push_copies(alloc: Global, columns: &[ColumnDef], all: &mut Vec<ColumnDef>) -> Result<(), Memory>
+fn push_copies(columns: &[ColumnDef], all: &mut Vec<ColumnDef>) -> Result<(), Memory>
     ensures { OnOk result (all.new.items ≡ all.old.items ++ columns.now) }
 {
     for column in columns {
-        all.push(column_with(alloc, &column.name, column.kind)?)?;
+        all.push(column.clone()?)?;
     }
     Ok(())
 }
 
 // The column of that name and kind.
-fn column_with(alloc: Global, name: &Label, kind: Kind) -> Result<ColumnDef, Memory>
+fn column_with(name: &Label, kind: Kind) -> Result<ColumnDef, Memory>
     ensures { IfOk result (λ c. c ≡ record { name = name.now; kind = kind }) }
 {
     Ok(ColumnDef {
-        name: Label::new(alloc, name.as_str())?,
+        name: name.clone()?,
         kind,
     })
 }
@@ -48,7 +48,7 @@ pub fn select_schema(alloc: Global, items: &[Item], kinds: &[Kind]) -> Result<Sc
     let mut all = Vec::new(alloc);
     for (i, item) in items.iter().enumerate() {
         match nth_kind(kinds, i) {
-            Some(kind) => all.push(column_with(alloc, &item.name, kind)?)?,
+            Some(kind) => all.push(column_with(&item.name, kind)?)?,
             None => return Ok(Schema::from_vec(all)),
         }
     }
@@ -103,7 +103,7 @@ fn group_columns(
     for column in key {
         all.push(column_copy(alloc, schema, *column)?)?;
     }
-    push_aggs(alloc, schema, aggs, computed, &mut all)?;
+    push_aggs(schema, aggs, computed, &mut all)?;
     Ok(all)
 }
 
@@ -112,7 +112,7 @@ fn column_copy(alloc: Global, schema: &[ColumnDef], column: usize) -> Result<Col
     ensures { IfOk result (λ c. c ≡ column_at schema.now column) }
 {
     match schema.get(column) {
-        Some(column) => column_with(alloc, &column.name, column.kind),
+        Some(column) => Ok(column.clone()?),
         None => Ok(ColumnDef {
             name: Label::new(alloc, "")?,
             kind: Kind::Int,
@@ -122,7 +122,6 @@ fn column_copy(alloc: Global, schema: &[ColumnDef], column: usize) -> Result<Col
 
 // Puts the columns of the aggregates behind the others.
 fn push_aggs(
-    alloc: Global,
     schema: &[ColumnDef],
     aggs: &[QueryAgg],
     computed: &[Agg],
@@ -132,7 +131,7 @@ fn push_aggs(
 {
     for (i, agg) in aggs.iter().enumerate() {
         match nth_agg_kind(schema, computed, i) {
-            Some(kind) => all.push(column_with(alloc, &agg.name, kind)?)?,
+            Some(kind) => all.push(column_with(&agg.name, kind)?)?,
             None => return Ok(()),
         }
     }
@@ -169,10 +168,10 @@ pub fn join_schema(
     ensures { IfOk result (λ s. s ≡ join_schema left.now right.now right_key.now) }
 {
     let mut all = Vec::new(alloc);
-    push_copies(alloc, left, &mut all)?;
+    push_copies(left, &mut all)?;
     for (i, column) in right.iter().enumerate() {
         if !is_in(i, right_key) {
-            all.push(column_with(alloc, &column.name, column.kind)?)?;
+            all.push(column.clone()?)?;
         }
     }
     Ok(Schema::from_vec(all))

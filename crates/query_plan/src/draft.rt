@@ -123,10 +123,10 @@ impl Draft {
     }
 
     /// Gives the name to the node.
-    pub(crate) fn name(&mut self, alloc: Global, name: &Label, node: usize) -> Result<(), Memory>
+    pub(crate) fn name(&mut self, name: &Label, node: usize) -> Result<(), Memory>
         ensures { IfOk result (λ _. self.new ≡ with_name self.old name.now node) }
     {
-        let name = Label::new(alloc, name.as_str())?;
+        let name = name.clone()?;
         self.names.push(Named { name, node })?;
         Ok(())
     }

@@ -12,7 +12,7 @@ use query_columns::copied;
 use query_text::{Let, Pipe, Query, QueryStep};
 use std::alloc::Global;
 use std::marker::Model;
-use tw_rows::{Label, Memory, StreamDef};
+use tw_rows::{Memory, StreamDef};
 
 /// What is planned after an item, and the node whose rows the next step works on.
 #[derive(Drop)]
@@ -54,7 +54,7 @@ fn stream_planned(
     let node = Node::Source { stream: item };
     let mut draft = draft.admit(item, vec![in alloc; PlannedNode { node, schema }]?)?;
     needs(!is_taken, QueryFault::NameTaken { item })?;
-    draft.name(alloc, &stream.name, source)?;
+    draft.name(&stream.name, source)?;
     Ok(draft)
 }
 
@@ -115,7 +115,7 @@ fn let_planned(alloc: Global, item: usize, draft: Draft, part: &Let) -> Result<D
     let first = item_after(item, 1)?;
     let reached = steps_planned(alloc, first, Reached { draft, at }, part.pipe.steps.items())?;
     let Reached { mut draft, at } = reached;
-    draft.name(alloc, &part.name, at)?;
+    draft.name(&part.name, at)?;
     Ok(draft)
 }
 
@@ -153,23 +153,13 @@ fn lets_planned(
     body_planned(alloc, item, draft, body)
 }
 
-/// A copy of a stream's name and columns.
-fn stream_copy(alloc: Global, stream: &StreamDef) -> Result<StreamDef, Memory>
-    ensures { IfOk result (λ s. s ≡ stream.now) }
-{
-    Ok(StreamDef {
-        name: Label::new(alloc, stream.name.as_str())?,
-        schema: copied(alloc, stream.schema.items())?,
-    })
-}
-
 /// A copy of the streams.
 fn streams_copy(alloc: Global, streams: &[StreamDef]) -> Result<StreamList, Memory>
     ensures { IfOk result (λ list. list ≡ streams.now) }
 {
     let mut copies = Vec::new(alloc);
     for stream in streams {
-        copies.push(stream_copy(alloc, stream)?)?;
+        copies.push(stream.clone()?)?;
     }
     Ok(StreamList::from_vec(copies))
 }
