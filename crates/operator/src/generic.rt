@@ -1,0 +1,36 @@
+// What holds of every operator.
+ghost use Rattle.std.specs.Prelude.{◌≡◌, ℕ, ◌≤◌, false, List, ◌++◌, IfOk};
+ghost use Rattle.tw_rows.specs.declared.edge.Edge.{Edge};
+ghost use Rattle.plan_model.specs.Meaning.{node_events, node_closes};
+ghost use Rattle.node_laws.specs.Places.{AreDistinct, read_of};
+ghost use Rattle.node_laws.specs.Standing.{StandsRead};
+ghost use Rattle.operator.specs.Steps.{MayCome};
+
+use crate::operator::Operator;
+use batch::Pools;
+use edge_stream::{EdgeList, StepFault};
+use tw_rows::Time;
+
+/// One step of any operator. All that it answered so far then stands for its node, up to its new closing.
+pub fn step_once<O: Operator>(
+    operator: &mut O,
+    pools: &mut Pools,
+    left: EdgeList,
+    right: EdgeList,
+    left_to: Time,
+    right_to: Time,
+) -> Result<EdgeList, StepFault>
+    requires works { O.has_failed operator.old ≡ false }
+    requires left_rises { O.left_closed operator.old ≤ left_to }
+    requires right_rises { O.right_closed operator.old ≤ right_to }
+    requires left_kinds { left.kinds ≡ O.left_kinds operator.old }
+    requires right_kinds { right.kinds ≡ O.right_kinds operator.old }
+    requires left_capacity { left.capacity ≡ pools.old.capacity }
+    requires right_capacity { right.capacity ≡ pools.old.capacity }
+    ensures stands { IfOk result (λ answer. (texts : List (List ℕ)) (hl hr out : List Edge) → AreDistinct texts → O.keeps operator.old texts hl hr out →
+        MayCome texts (O.left_closed operator.old) hl left.edges → MayCome texts (O.right_closed operator.old) hr right.edges →
+        StandsRead texts (node_closes (O.node operator.old) left_to right_to) (out ++ answer.edges)
+        (node_events (O.node operator.old) (read_of texts (hl ++ left.edges)) (read_of texts (hr ++ right.edges)))) }
+{
+    operator.step(pools, left, right, left_to, right_to)
+}
