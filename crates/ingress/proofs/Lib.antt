@@ -1,0 +1,3 @@
+mod Marks
+mod Ranked
+mod Starts

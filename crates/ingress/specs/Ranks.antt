@@ -1,0 +1,17 @@
+-- Edges in a map by rank.
+use Rattle.std.specs.Prelude.{◌≡◌, ℕ, suc, ◌≤◌, nat_eq, Bool, List, [], ◌∷◌, flat_map, Vec}
+use Rattle.tw_rows.specs.declared.edge.Edge.{Edge}
+use Rattle.edge_history.specs.Order.{rank, failing}
+
+-- the edge has this rank: a start at 5 has 11
+abbrev pub has_rank : ℕ → Edge → Bool
+has_rank r e = nat_eq (rank e) r
+
+-- the ranks rise from `low` on, and beside each stand edges of it alone
+abbrev pub AreRanked : {S : Type 0} → ℕ → List (ℕ × Vec Edge S) → Type 0
+AreRanked low [] = Unit {0}
+AreRanked low (e ∷ es) = (low ≤ e.0) × (failing (has_rank e.0) e.1.items ≡ 0) × AreRanked (suc e.0) es
+
+-- all edges, rank by rank
+abbrev pub edges_at : {S : Type 0} → List (ℕ × Vec Edge S) → List Edge
+edges_at entries = flat_map (λ e. e.1.items) entries

@@ -1,0 +1,144 @@
+// Edges that wait for their time.
+ghost use Rattle.std.specs.Prelude.{◌≡◌, ◌+◌, ◌*◌, ◌^◌, ◌<◌, ◌≤◌, length, get_or, true, false, IsTrue, IfSome, IsNone, OnOk, OnErr, [], ◌∷◌, ◌++◌};
+ghost use Rattle.tw_rows.specs.Instant.{inf};
+ghost use Rattle.tw_rows.specs.Bag.{SameBag};
+ghost use Rattle.tw_rows.specs.declared.edge.Edge.{Edge};
+ghost use Rattle.edge_history.specs.Order.{rank, many, failing, starts_it, is_below, is_from, Rises};
+
+use std::alloc::Global;
+use std::collections::BTreeMap;
+use std::marker::Model;
+use tw_rows::{Cells, Edge, Memory, Time, same_cells};
+
+/// Edges in order, from which those before a time are taken first. An edge is added in logarithmic time.
+#[derive(Drop)]
+pub struct Waiting {
+    ranks: BTreeMap<u64, Vec<Edge>>,
+    alloc: Global,
+}
+
+impl Model for Waiting {
+    ghost use Rattle.std.specs.Prelude.{List};
+    ghost use Rattle.tw_rows.specs.declared.edge.Edge.{Edge as Item};
+    ghost use Rattle.ingress.specs.Ranks.{edges_at, AreRanked};
+
+    ghost Value = { List Item };
+
+    ghost view = { λ w. edges_at w.ranks.entries };
+
+    ghost invariant = { λ w. AreRanked 0 w.ranks.entries };
+}
+
+// Twice the number of a time, which is the rank of the ends there.
+#[tactic(auto, unfolding(tw_rows::specs::Instant::inf))]
+fn end_rank(t: Time) -> u64
+    ensures rank { result ≡ 2 * t }
+    ensures small { result < 2 ^ 63 }
+{
+    t.word() * 2
+}
+
+// The rank of an edge: by its time, and at one time the ends first.
+fn rank_of(edge: &Edge) -> u64
+    ensures { result ≡ rank edge.now }
+{
+    let ends = end_rank(edge.sync);
+    if edge.is_end() { ends } else { ends + 1 }
+}
+
+// Whether it is the start edge of these cells at that time.
+#[tactic(auto, unfolding(tw_rows::specs::Instant::inf))]
+fn is_start_of(edge: &Edge, cells: &Cells, start: Time) -> bool
+    ensures { result ≡ starts_it cells.now start edge.now }
+{
+    edge.other == Time::INF
+        && !edge.is_end()
+        && same_cells(&edge.cells, cells)
+        && edge.sync == start
+}
+
+// The place of a start edge of these cells, if there is one.
+fn start_place(edges: &[Edge], cells: &Cells, start: Time) -> Option<usize>
+    ensures within { IfSome result (λ i. i < length edges.now) }
+    ensures some { IfSome result (λ i. (d : Edge) → starts_it cells.now start (get_or edges.now i d) ≡ true) }
+    ensures none { IsNone result → (many (starts_it cells.now start) edges.now ≡ 0) }
+{
+    for i in 0..edges.len() {
+        if is_start_of(&edges[i], cells, start) {
+            return Some(i);
+        }
+    }
+    None
+}
+
+// Takes one start edge of these cells out, if there is one.
+fn remove_start(edges: &mut Vec<Edge>, cells: &Cells, start: Time) -> bool
+    ensures taken { IsTrue result → SameBag (record { sync = start; other = inf; cells = cells.now } ∷ edges.new.items) edges.old.items }
+    ensures kept { result ≡ false → edges.new.items ≡ edges.old.items }
+    ensures none { result ≡ false → many (starts_it cells.now start) edges.old.items ≡ 0 }
+{
+    match start_place(edges, cells, start) {
+        Some(place) => {
+            edges.remove(place);
+            true
+        }
+        None => false,
+    }
+}
+
+impl Waiting {
+    /// No edge.
+    pub fn new(alloc: Global) -> Waiting
+        ensures { result ≡ [] }
+    {
+        Waiting {
+            ranks: BTreeMap::new(alloc),
+            alloc,
+        }
+    }
+
+    /// Adds an edge.
+    pub fn put(&mut self, edge: Edge) -> Result<(), Memory>
+        ensures ok { OnOk result (SameBag self.new (edge ∷ self.old)) }
+        ensures err { OnErr result (self.new ≡ self.old) }
+    {
+        let rank = rank_of(&edge);
+        if let Some(edges) = self.ranks.get_mut(&rank) {
+            edges.push(edge)?;
+            return Ok(());
+        }
+        let mut edges = Vec::new(self.alloc);
+        edges.push(edge)?;
+        self.ranks.insert(rank, edges)?;
+        Ok(())
+    }
+
+    /// Takes a start edge out, if it is there. Only the edges that start at that time are looked at.
+    pub fn take_out(&mut self, cells: &Cells, start: Time) -> bool
+        ensures taken { IsTrue result → SameBag (record { sync = start; other = inf; cells = cells.now } ∷ self.new) self.old }
+        ensures kept { result ≡ false → self.new ≡ self.old }
+        ensures none { result ≡ false → many (starts_it cells.now start) self.old ≡ 0 }
+    {
+        let rank = end_rank(start) + 1;
+        if let Some(edges) = self.ranks.get_mut(&rank) {
+            return remove_start(edges, cells, start);
+        }
+        false
+    }
+
+    /// The edges of the first rank, where they come before `t`: call it until there is none.
+    pub fn take_below(&mut self, t: Time) -> Option<Vec<Edge>>
+        ensures edges { IfSome result (λ edges. self.old ≡ edges.items ++ self.new) }
+        ensures below { IfSome result (λ edges. failing (is_below t) edges.items ≡ 0) }
+        ensures none { IsNone result → (self.new ≡ self.old) }
+        ensures from { IsNone result → (failing (is_from t) self.old ≡ 0) }
+        ensures order { Rises 0 self.old }
+    {
+        let (rank, _) = self.ranks.first_key_value()?;
+        if end_rank(t) <= *rank {
+            return None;
+        }
+        let (_, edges) = self.ranks.pop_first()?;
+        Some(edges)
+    }
+}
