@@ -1,0 +1,4 @@
+pub mod Telling
+pub mod Lives
+pub mod Steps
+pub mod Examples

@@ -1,0 +1,8 @@
+//! The laws of operators whose nodes know the new life of an event at its start: a Delay, a Hop and a Duration.
+#![tactic(auto)]
+
+mod life_laws;
+
+pub use life_laws::{
+    early_edges_are_answered_and_later_ones_carried, lives_are_told_at_their_starts,
+};
