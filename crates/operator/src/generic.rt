@@ -25,8 +25,9 @@ pub fn step_once<O: Operator>(
     requires right_rises { O.right_closed operator.old ≤ right_to }
     requires left_kinds { left.kinds ≡ O.left_kinds operator.old }
     requires right_kinds { right.kinds ≡ O.right_kinds operator.old }
-    requires left_capacity { left.capacity ≡ pools.old.capacity }
-    requires right_capacity { right.capacity ≡ pools.old.capacity }
+    requires left_capacity { left.capacity ≡ O.batch_rows operator.old }
+    requires capacity { pools.old.capacity ≡ O.batch_rows operator.old }
+    requires right_capacity { right.capacity ≡ O.batch_rows operator.old }
     ensures stands { IfOk result (λ answer. (texts : List (List ℕ)) (hl hr out : List Edge) → AreDistinct texts → O.keeps operator.old texts hl hr out →
         MayCome texts (O.left_closed operator.old) hl left.edges → MayCome texts (O.right_closed operator.old) hr right.edges →
         StandsRead texts (node_closes (O.node operator.old) left_to right_to) (out ++ answer.edges)

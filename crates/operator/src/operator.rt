@@ -44,6 +44,9 @@ pub trait Operator: Drop {
 
     ghost own_kinds: { Self → List Kind };
 
+    /// How many rows each batch of what comes in and of what it answers has room for.
+    ghost batch_rows: { Self → ℕ };
+
     /// A step failed, and no further one may be taken.
     ghost has_failed: { Self → Bool };
 
@@ -74,8 +77,9 @@ pub trait Operator: Drop {
         requires right_rises { Self.right_closed self.old ≤ right_to }
         requires left_kinds { left.kinds ≡ Self.left_kinds self.old }
         requires right_kinds { right.kinds ≡ Self.right_kinds self.old }
-        requires left_capacity { left.capacity ≡ pools.old.capacity }
-        requires right_capacity { right.capacity ≡ pools.old.capacity }
+        requires left_capacity { left.capacity ≡ batch_rows self.old }
+        requires right_capacity { right.capacity ≡ batch_rows self.old }
+        requires capacity { pools.old.capacity ≡ batch_rows self.old }
         ensures kept { IfOk result (λ answer. (texts : List (List ℕ)) (hl hr out : List Edge) → keeps self.old texts hl hr out →
             MayCome texts (Self.left_closed self.old) hl left.edges → MayCome texts (Self.right_closed self.old) hr right.edges →
             keeps self.new texts (hl ++ left.edges) (hr ++ right.edges) (out ++ answer.edges)
@@ -88,7 +92,7 @@ pub trait Operator: Drop {
             MayCome texts (Self.left_closed self.old) hl left.edges →
             first_below (λ t. undefined_over value_ops (node self.old) (alive (read_of texts (hl ++ left.edges)) t)) (node_closes (node self.old) left_to right_to) ≡ Some time) }
         ensures kinds { IfOk result (λ answer. answer.kinds ≡ own_kinds self.old) }
-        ensures capacity { IfOk result (λ answer. answer.capacity ≡ pools.old.capacity) }
+        ensures capacity { IfOk result (λ answer. answer.capacity ≡ batch_rows self.old) }
         ensures pools { pools.new.capacity ≡ pools.old.capacity }
         ensures left_to { OnOk result (Self.left_closed self.new ≡ left_to) }
         ensures right_to { OnOk result (Self.right_closed self.new ≡ right_to) }
@@ -96,7 +100,8 @@ pub trait Operator: Drop {
         ensures node { node self.new ≡ node self.old }
         ensures left_like { Self.left_kinds self.new ≡ Self.left_kinds self.old }
         ensures right_like { Self.right_kinds self.new ≡ Self.right_kinds self.old }
-        ensures own_like { own_kinds self.new ≡ own_kinds self.old };
+        ensures own_like { own_kinds self.new ≡ own_kinds self.old }
+        ensures rows_like { batch_rows self.new ≡ batch_rows self.old };
 
     /// How many entries it keeps.
     fn held(&self) -> u64
@@ -127,7 +132,8 @@ pub trait Operator: Drop {
         ensures node { node self.new ≡ node self.old }
         ensures left_like { Self.left_kinds self.new ≡ Self.left_kinds self.old }
         ensures right_like { Self.right_kinds self.new ≡ Self.right_kinds self.old }
-        ensures own_like { own_kinds self.new ≡ own_kinds self.old };
+        ensures own_like { own_kinds self.new ≡ own_kinds self.old }
+        ensures rows_like { batch_rows self.new ≡ batch_rows self.old };
 
     /// Whose row the cells of a part are. It has no other parts.
     fn part_row(part: u64) -> Option<PartRow>
