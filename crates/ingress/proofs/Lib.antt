@@ -1,3 +1,4 @@
 mod Marks
 mod Ranked
 mod Starts
+mod Queued

@@ -2,8 +2,10 @@
 //! in `admission`.
 #![tactic(auto)]
 
+mod opens;
 mod waiting;
 mod watermarks;
 
+pub use opens::{OpenKey, OpenStart, OpenStarts};
 pub use waiting::Waiting;
 pub use watermarks::{Watermark, Watermarks};
