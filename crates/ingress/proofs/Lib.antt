@@ -2,3 +2,4 @@ mod Marks
 mod Ranked
 mod Starts
 mod Queued
+mod Holding

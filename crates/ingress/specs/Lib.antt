@@ -1,4 +1,5 @@
--- Callers read Streams and OpenKeys; Ranks is cited by private contracts alone.
+-- Callers read Streams, Held and OpenKeys; Ranks is cited by private contracts alone.
 pub mod Streams
+pub mod Held
 pub mod OpenKeys
 pub mod Ranks

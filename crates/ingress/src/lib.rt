@@ -2,10 +2,12 @@
 //! in `admission`.
 #![tactic(auto)]
 
+mod held_laws;
 mod opens;
 mod waiting;
 mod watermarks;
 
+pub use held_laws::{given_edges_stand, held_edges_are_given_in_order, held_edges_follow_the_rows};
 pub use opens::{OpenKey, OpenStart, OpenStarts};
 pub use waiting::Waiting;
 pub use watermarks::{Watermark, Watermarks};
