@@ -1,0 +1,3 @@
+-- Callers read Nodes; Times is cited by private contracts alone.
+pub mod Nodes
+pub mod Times

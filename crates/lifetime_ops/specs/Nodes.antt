@@ -1,0 +1,12 @@
+-- The nodes at work.
+use Rattle.std.specs.Prelude.{ℕ}
+use Rattle.plan_model.specs.declared.node.Node.{Node}
+use Rattle.plan_model.specs.declared.node.Node.TheVariants.{Delay as DelayNode, Hop as HopNode, Duration as DurationNode}
+use Rattle.lifetime_ops.specs.declared.change.Change.{Change}
+use Rattle.lifetime_ops.specs.declared.change.Change.TheVariants.{Delay, Hop, Duration}
+
+-- the node that makes this change of lives, of the child 0
+abbrev pub node_of : Change → Node
+node_of (Delay by) = DelayNode 0 by
+node_of (Hop size period) = HopNode 0 size period
+node_of (Duration by) = DurationNode 0 by
