@@ -7,4 +7,8 @@ mod Ending
 mod Passes
 mod Shown
 mod Reaching
+mod Sweeps
+mod Putting
+mod Taking
+mod Placing
 mod Examples

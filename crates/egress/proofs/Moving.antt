@@ -37,7 +37,7 @@ module _ (texts : List (List ℕ)) (events : List CellEvent) where
       ∙ (alive_is_open t events).weigh (λ c. cond (eq_by_cmp row_cmp r (read_cells texts c)) 1 0)
       ∙ total-map (λ c. cond (eq_by_cmp row_cmp r (read_cells texts c)) 1 0) (λ h. h.cells) (opens (suc t) events)
 
-  none_open : (w : HeldRow → ℕ) (es : List CellEvent) → total w (opens 0 es) ≡ 0
+  pub none_open : (w : HeldRow → ℕ) (es : List CellEvent) → total w (opens 0 es) ≡ 0
   none_open w [] = refl
   none_open w (e ∷ es) =
       let z : nat_lt e.start 0 ≡ false = grind (arith, nat_tests) in

@@ -1,5 +1,8 @@
--- Instants, Print and Reached are for callers; Kept is read by those of show_instant too.
+-- Callers read Instants, Print, Reached, Kept, Waiting and Output. Of Kept `show_edges` tells by `since_in` alone; its other
+-- words, and `ArePut` and `ArePopped` of Waiting, are used inside the crate only.
 pub mod Instants
 pub mod Print
 pub mod Reached
 pub mod Kept
+pub mod Waiting
+pub mod Output

@@ -1,8 +1,8 @@
 -- The bytes of change lines, each value by the kind of its column.
-use Rattle.std.specs.Prelude.{ℕ, List, codes, flat_map}
+use Rattle.std.specs.Prelude.{ℕ, Option, None, Some, List, [], codes, flat_map}
 use Rattle.tw_rows.specs.Instant.{inf}
 use Rattle.tw_rows.specs.declared.kind.Kind.{Kind}
-use Rattle.line_text.specs.Fields.{event_fields}
+use Rattle.line_text.specs.Fields.{event_fields, punctuation_fields}
 use Rattle.line_text.specs.Record.{record_text}
 use Rattle.line_text.specs.declared.form.Form.TheVariants as forms
 use Rattle.plan_model.specs.Changes.{Line, Started, Ended}
@@ -20,3 +20,8 @@ line_text kinds line = record_text (line_fields kinds line)
 -- the lines, one after the other
 abbrev pub print : List Kind → List Line → List ℕ
 print kinds lines = flat_map (line_text kinds) lines
+
+-- a punctuation line `*,punct,7` where there is a time, and else nothing
+abbrev pub punctuation_if : Option ℕ → List ℕ
+punctuation_if None = []
+punctuation_if (Some t) = record_text (punctuation_fields (codes "*") t)

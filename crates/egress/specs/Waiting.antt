@@ -1,0 +1,57 @@
+-- The edges that wait for their instants, and how far the output has come.
+use Rattle.std.specs.Prelude.{◌≡◌, ℕ, suc, ◌<◌, ◌≤◌, nat_eq, cond, Option, Some, None, List, [], ◌++◌, filter, Vec}
+use Rattle.std.specs.Ordering.{nat_cmp}
+use Rattle.std.specs.BTreeMap.{get, BTreeMap}
+use Rattle.tw_rows.specs.Instant.{inf}
+use Rattle.tw_rows.specs.Bag.{SameBag}
+use Rattle.tw_rows.specs.Event.{alive}
+use Rattle.tw_rows.specs.Rows.{Row}
+use Rattle.tw_rows.specs.declared.edge.Edge.{Edge}
+use Rattle.tw_rows.specs.declared.kind.Kind.{Kind}
+use Rattle.edge_history.specs.History.{CellEvent}
+use Rattle.edge_history.specs.Balance.{news}
+use Rattle.node_laws.specs.Places.{read_events, EdgesArePlaced}
+use Rattle.egress.specs.Reached.{Reached}
+
+-- the edges that wait for each instant, and None for an instant for which none was put
+abbrev pub Waiting : Type 0
+Waiting = ℕ → Option (List Edge)
+
+abbrev pub edges_if : Option (List Edge) → List Edge
+edges_if None = []
+edges_if (Some es) = es
+
+abbrev pub items_if : {A : Type 0} → Option (Vec Edge A) → Option (List Edge)
+items_if None = None
+items_if (Some v) = Some v.items
+
+-- what waits by a map from the numbers of instants
+abbrev pub waiting_in : {A : Type 0} → BTreeMap ℕ (Vec Edge A) → Waiting
+waiting_in waiting t = items_if (get nat_cmp waiting t)
+
+-- the edges of an instant. Of edges at 3, 5 and 3 those of 3 are the first and the last
+abbrev pub edges_at : ℕ → List Edge → List Edge
+edges_at t es = filter (λ e. nat_eq e.sync t) es
+
+-- edges were put to those that wait: for each instant its own of them come last, and where there are none, None stays
+pub record ArePut (old new : Waiting) (es : List Edge) : Type 0 where
+  pub edges : (t : ℕ) → edges_if (new t) ≡ edges_if (old t) ++ edges_at t es
+  pub none : (t : ℕ) → old t ≡ None → edges_at t es ≡ [] → new t ≡ None
+
+-- the edges of the first instant for which some wait were taken out. Of edges at 5 and 7 those at 5
+pub record ArePopped (old new : Waiting) (at : ℕ) (es : List Edge) : Type 0 where
+  pub there : old at ≡ Some es
+  pub first : (t : ℕ) → t < at → old t ≡ None
+  pub left : (t : ℕ) → new t ≡ cond (nat_eq at t) None (old t)
+
+-- each place in what waits is that of a text of the table
+abbrev pub WaitingArePlaced : List (List ℕ) → Waiting → Type 0
+WaitingArePlaced texts waiting = (t : ℕ) → EdgesArePlaced texts (edges_if (waiting t))
+
+-- the text has the changes of the events, read, from a up to t, t not, and all that happens from t on waits. With the life
+-- [3, 5), from 0 to 4: the text has the start line, and the end edge waits for 5
+pub record Swept (texts : List (List ℕ)) (kinds : List Kind) (events : List CellEvent) (a t : ℕ)
+    (since : Row → List ℕ) (waiting : Waiting) (text : List ℕ) : Type 0 where
+  pub waits : (v : ℕ) → t ≤ v → v < inf → SameBag (edges_if (waiting v)) (news v (suc v) events)
+  pub none : (v : ℕ) → v < t → waiting v ≡ None
+  pub reached : Reached (alive (read_events texts events)) kinds a t since text

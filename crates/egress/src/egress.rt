@@ -1,0 +1,148 @@
+// Output while the input goes on.
+ghost use Rattle.std.specs.Prelude.{◌≡◌, ◌≤◌, ◌-◌, ℕ, false, List, [], ◌++◌, is_err, IfOk, OnOk};
+ghost use Rattle.tw_rows.specs.Instant.{inf};
+ghost use Rattle.tw_rows.specs.Event.{Event, AreEvents, alive};
+ghost use Rattle.tw_rows.specs.Rows.{Row as Values};
+ghost use Rattle.tw_rows.specs.declared.edge.Edge.{Edge};
+ghost use Rattle.edge_history.specs.Order.{failing, is_from, IsHistory};
+ghost use Rattle.edge_history.specs.History.{CellEvent};
+ghost use Rattle.node_laws.specs.Places.{EdgesArePlaced};
+ghost use Rattle.node_laws.specs.Standing.{StandsRead};
+ghost use Rattle.plan_model.specs.Changes.{changes};
+ghost use Rattle.egress.specs.Kept.{since_in};
+ghost use Rattle.egress.specs.Waiting.{waiting_in, WaitingArePlaced, Swept};
+ghost use Rattle.egress.specs.Output.{Holds, IsPlacedIn};
+ghost use Rattle.egress.specs.Print.{print, punctuation_if};
+
+use crate::edges::show_edges;
+use crate::waiting::{pop_due, put_all};
+use edge_stream::EdgeList;
+use line_text::push_punctuation;
+use std::alloc::Global;
+use std::collections::{BTreeMap, VecDeque};
+use tw_rows::{Edge, Kind, Memory, Row, TextTable, Time};
+
+/// The changes of rows, from the edges that tell of them. `Holds` says of which edges they are, and what of them is rendered.
+/// Once memory was wanting nothing more is asked.
+#[derive(Drop)]
+pub struct Egress {
+    alloc: Global,
+    kinds: Vec<Kind>,
+    opens: BTreeMap<Row, VecDeque<Time>>,
+    waiting: BTreeMap<u64, Vec<Edge>>,
+    text: Vec<u8>,
+    failed: bool,
+}
+
+/// Shows all that is due below `to`, instant by instant.
+fn show_due(
+    opens: &mut BTreeMap<Row, VecDeque<Time>>,
+    waiting: &mut BTreeMap<u64, Vec<Edge>>,
+    out: &mut Vec<u8>,
+    alloc: Global,
+    kinds: &[Kind],
+    to: Time,
+    texts: &TextTable,
+) -> Result<(), Memory>
+    requires { WaitingArePlaced texts.now (waiting_in waiting.old) }
+    ensures within { OnOk result (to ≤ inf) }
+    ensures swept { OnOk result ((events : List CellEvent) (a c : ℕ) → AreEvents events → c ≤ to → Swept texts.now kinds.now events a c (since_in opens.old) (waiting_in waiting.old) out.old.items → Swept texts.now kinds.now events a to (since_in opens.new) (waiting_in waiting.new) out.new.items) }
+    ensures placed { OnOk result (WaitingArePlaced texts.now (waiting_in waiting.new)) }
+{
+    'instants: while let Some(due) = pop_due(waiting, to) {
+        show_edges(opens, out, alloc, kinds, due.at, &due.edges, texts)?;
+    }
+    Ok(())
+}
+
+fn push_punctuation_if(out: &mut Vec<u8>, punctuation: Option<Time>) -> Result<(), Memory>
+    ensures { OnOk result (out.new.items ≡ out.old.items ++ punctuation_if punctuation) }
+{
+    if let Some(time) = punctuation {
+        push_punctuation(out, "*", time)?;
+    }
+    Ok(())
+}
+
+impl Egress {
+    /// Output of no edge, for rows of these kinds.
+    pub fn new(alloc: Global, kinds: &[Kind]) -> Result<Egress, Memory>
+        ensures kinds { IfOk result (λ e. e.kinds.items ≡ kinds.now) }
+        ensures holds { IfOk result (λ e. (texts : List (List ℕ)) → Holds texts [] 0 0 e) }
+        ensures placed { IfOk result (λ e. (texts : List (List ℕ)) → IsPlacedIn texts e) }
+        ensures ready { IfOk result (λ e. e.failed ≡ false) }
+    {
+        Ok(Egress {
+            alloc,
+            kinds: Vec::from_slice(alloc, kinds)?,
+            opens: BTreeMap::new(alloc),
+            waiting: BTreeMap::new(alloc),
+            text: Vec::new(alloc),
+            failed: false,
+        })
+    }
+
+    /// Whether memory was wanting.
+    pub fn failed(&self) -> bool
+        ensures { result ≡ self.now.failed }
+    {
+        self.failed
+    }
+
+    fn take_edges(&mut self, edges: &EdgeList, to: Time, texts: &TextTable) -> Result<(), Memory>
+        requires placed { EdgesArePlaced texts.now edges.now.edges }
+        requires waiting { IsPlacedIn texts.now self.old }
+        ensures holds { OnOk result ((h : List Edge) (a c : ℕ) → Holds texts.now h a c self.old → IsHistory (h ++ edges.now.edges) → failing (is_from c) edges.now.edges ≡ 0 → c ≤ to → Holds texts.now (h ++ edges.now.edges) a to self.new) }
+        ensures placed { OnOk result (IsPlacedIn texts.now self.new) }
+        ensures kinds { self.new.kinds.items ≡ self.old.kinds.items }
+        ensures failed { self.new.failed ≡ self.old.failed }
+    {
+        put_all(&mut self.waiting, self.alloc, edges)?;
+        show_due(
+            &mut self.opens,
+            &mut self.waiting,
+            &mut self.text,
+            self.alloc,
+            &self.kinds,
+            to,
+            texts,
+        )?;
+        Ok(())
+    }
+
+    /// Takes the next edges, which come from the time up to which edges were taken before, and works out the changes up to
+    /// `to`. Ends that are told ahead wait. Want of memory is an end: `failed` is then true.
+    pub fn take(&mut self, edges: EdgeList, to: Time, texts: &TextTable) -> Result<(), Memory>
+        requires ready { self.old.failed ≡ false }
+        requires placed { EdgesArePlaced texts.now edges.edges }
+        requires waiting { IsPlacedIn texts.now self.old }
+        ensures holds { OnOk result ((h : List Edge) (a c : ℕ) → Holds texts.now h a c self.old → IsHistory (h ++ edges.edges) → failing (is_from c) edges.edges ≡ 0 → c ≤ to → Holds texts.now (h ++ edges.edges) a to self.new) }
+        ensures placed { OnOk result (IsPlacedIn texts.now self.new) }
+        ensures kinds { self.new.kinds.items ≡ self.old.kinds.items }
+        ensures failed { self.new.failed ≡ is_err result }
+    {
+        let taken = self.take_edges(&edges, to, texts);
+        self.failed = taken.is_err();
+        taken
+    }
+
+    /// The text of the changes that were taken and not yet rendered, and then a punctuation line, if there is a time for
+    /// it. Want of memory is an end: `failed` is then true.
+    pub fn render(&mut self, punctuation: Option<Time>) -> Result<Vec<u8>, Memory>
+        requires ready { self.old.failed ≡ false }
+        ensures text { IfOk result (λ bytes. (texts : List (List ℕ)) (h : List Edge) (a c : ℕ) (events : List (Event Values)) → Holds texts h a c self.old → StandsRead texts c h events → bytes.items ≡ print self.old.kinds.items (changes (alive events) a (c - a)) ++ punctuation_if punctuation) }
+        ensures holds { OnOk result ((texts : List (List ℕ)) (h : List Edge) (a c : ℕ) → Holds texts h a c self.old → Holds texts h c c self.new) }
+        ensures placed { (texts : List (List ℕ)) → IsPlacedIn texts self.old → IsPlacedIn texts self.new }
+        ensures kinds { self.new.kinds.items ≡ self.old.kinds.items }
+        ensures failed { self.new.failed ≡ is_err result }
+    {
+        let mut text = std::mem::replace(&mut self.text, Vec::new(self.alloc));
+        match push_punctuation_if(&mut text, punctuation) {
+            Ok(()) => Ok(text),
+            Err(memory) => {
+                self.failed = true;
+                Err(memory)
+            }
+        }
+    }
+}

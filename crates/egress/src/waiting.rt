@@ -1,0 +1,106 @@
+// The edges that wait until they are due, by the numbers of their instants.
+ghost use Rattle.std.specs.Prelude.{◌≡◌, ◌<◌, ◌≤◌, ◌+◌, ℕ, [], ◌∷◌, IfSome, IfNone, IsSome, is_some, if◌then◌else◌, None, OnOk};
+ghost use Rattle.std.specs.Ordering.{nat_cmp};
+ghost use Rattle.std.specs.BTreeMap.{get, btree_map_len, IsLowerBound};
+ghost use Rattle.tw_rows.specs.Instant.{inf};
+ghost use Rattle.edge_history.specs.Opens.{singles_of, singles};
+ghost use Rattle.egress.specs.Waiting.{waiting_in, ArePut, ArePopped};
+
+use edge_stream::EdgeList;
+use std::alloc::Global;
+use std::collections::BTreeMap;
+use tw_rows::{Edge, Memory, Time};
+
+/// The edges of an instant.
+#[derive(Drop)]
+pub(crate) struct Due {
+    pub(crate) at: Time,
+    pub(crate) edges: Vec<Edge>,
+}
+
+fn put(waiting: &mut BTreeMap<u64, Vec<Edge>>, alloc: Global, edge: Edge) -> Result<(), Memory>
+    ensures { OnOk result (ArePut (waiting_in waiting.old) (waiting_in waiting.new) (edge ∷ [])) }
+{
+    let instant = edge.sync.word();
+    if let Some(edges) = waiting.get_mut(&instant) {
+        edges.push(edge)?;
+        return Ok(());
+    }
+    let mut edges = Vec::new(alloc);
+    edges.push(edge)?;
+    waiting.insert(instant, edges)?;
+    Ok(())
+}
+
+/// Puts an edge: of an interval its start and its end.
+#[tactic(auto, unfolding(tw_rows::specs::Instant::inf))]
+fn put_singles(
+    waiting: &mut BTreeMap<u64, Vec<Edge>>,
+    alloc: Global,
+    edge: Edge,
+) -> Result<(), Memory>
+    ensures { OnOk result (ArePut (waiting_in waiting.old) (waiting_in waiting.new) (singles_of edge)) }
+{
+    if edge.is_end() || edge.other == Time::INF {
+        return put(waiting, alloc, edge);
+    }
+    let end = Edge {
+        sync: edge.other,
+        other: edge.sync,
+        cells: edge.cells.clone()?,
+    };
+    let start = Edge {
+        sync: edge.sync,
+        other: Time::INF,
+        cells: edge.cells,
+    };
+    put(waiting, alloc, start)?;
+    put(waiting, alloc, end)
+}
+
+/// Puts the edges of a list, each to those of its instant.
+pub(crate) fn put_all(
+    waiting: &mut BTreeMap<u64, Vec<Edge>>,
+    alloc: Global,
+    edges: &EdgeList,
+) -> Result<(), Memory>
+    ensures { OnOk result (ArePut (waiting_in waiting.old) (waiting_in waiting.new) (singles edges.now.edges)) }
+{
+    let mut cursor = edges.cursor();
+    while let Some(edge) = cursor.next()? {
+        put_singles(waiting, alloc, edge)?;
+    }
+    Ok(())
+}
+
+fn first_instant(waiting: &BTreeMap<u64, Vec<Edge>>) -> Option<u64>
+    ensures there { IfSome result (λ k. IsSome (get nat_cmp waiting.now k)) }
+    ensures least { IfSome result (λ k. IsLowerBound nat_cmp waiting.now k) }
+    ensures none { IfNone result ((t : ℕ) → get nat_cmp waiting.now t ≡ None) }
+{
+    match waiting.first_key_value() {
+        Some((instant, _)) => Some(*instant),
+        None => None,
+    }
+}
+
+/// Takes out the edges of the first instant for which some wait, if it is below `to`.
+pub(crate) fn pop_due(waiting: &mut BTreeMap<u64, Vec<Edge>>, to: Time) -> Option<Due>
+    ensures within { to ≤ inf }
+    ensures some { IfSome result (λ due. ArePopped (waiting_in waiting.old) (waiting_in waiting.new) due.at due.edges.items) }
+    ensures below { IfSome result (λ due. due.at < to) }
+    ensures none { IfNone result ((t : ℕ) → t < to → waiting_in waiting.new t ≡ None) }
+    ensures same { IfNone result ((t : ℕ) → waiting_in waiting.new t ≡ waiting_in waiting.old t) }
+    ensures len { btree_map_len waiting.new + (if is_some result then 1 else 0) ≡ btree_map_len waiting.old }
+{
+    let limit = to.word();
+    let instant = first_instant(waiting)?;
+    if instant >= limit {
+        return None;
+    }
+    let (number, edges) = waiting.pop_first()?;
+    Some(Due {
+        at: Time::from_word(number),
+        edges,
+    })
+}
