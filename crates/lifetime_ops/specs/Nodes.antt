@@ -1,5 +1,4 @@
 -- The nodes at work.
-use Rattle.std.specs.Prelude.{ℕ}
 use Rattle.plan_model.specs.declared.node.Node.{Node}
 use Rattle.plan_model.specs.declared.node.Node.TheVariants.{Delay as DelayNode, Hop as HopNode, Duration as DurationNode}
 use Rattle.lifetime_ops.specs.declared.change.Change.{Change}

@@ -1,6 +1,5 @@
 -- Rows with their times changed.
-use Rattle.std.specs.Prelude.{ℕ}
-use Rattle.batch.specs.Rows.{Row, edge_of}
+use Rattle.batch.specs.Rows.{Row}
 use Rattle.life_laws.specs.Answers.{new_start, new_other}
 use Rattle.lifetime_ops.specs.declared.change.Change.{Change}
 use Rattle.lifetime_ops.specs.Nodes.{node_of}

@@ -63,7 +63,8 @@ impl Change {
     {
         match self {
             Change::Delay { by } => sync.plus(by) < Time::bounds().1,
-            Change::Hop { size, period } => other >= sync && floor(sync, period) < floor(sync, period).plus(size),
+            Change::Hop { size, period } => other >= sync
+                && floor(sync, period) < floor(sync, period).plus(size),
             Change::Duration { by } => other >= sync && sync < sync.plus(by),
         }
     }

@@ -2,5 +2,10 @@
 #![tactic(auto)]
 
 mod change;
+mod life_operator;
 
 pub use change::Change;
+pub use life_operator::LifeOperator;
+
+#[cfg(test)]
+mod tests;

@@ -1,0 +1,56 @@
+-- What is answered batch by batch, and what a step keeps.
+use Rattle.std.specs.Prelude.{◌≡◌, ℕ, ◌≤◌, true, List, ◌++◌, map, filter, refl}
+use Rattle.std.proofs.Common.{sym, ◌∙◌, ap, subst}
+use Rattle.std.proofs.lemmas.List.{append_assoc, map-append}
+use Rattle.std.proofs.lemmas.List.Elements.{filter-append}
+use Rattle.tw_rows.specs.Instant.{inf}
+use Rattle.tw_rows.specs.Bag.{SameBag}
+use Rattle.tw_rows.specs.declared.edge.Edge.{Edge}
+use Rattle.edge_history.specs.Order.{KeepsOrder, is_below, is_from}
+use Rattle.edge_history.proofs.Keeping.{KeepsOrder-front}
+use Rattle.edge_history.proofs.Agreeing.{same_order}
+use Rattle.plan_model.specs.Meaning.{node_closes}
+use Rattle.operator.specs.Steps.{MayCome, ComeBetween}
+use Rattle.life_laws.specs.Answers.{has_known_lives, new_edge, is_answered, answered, answered_below}
+use Rattle.life_laws.specs.Keeping.{KeepsLives}
+use Rattle.life_laws.proofs.Lives.{new_lives}
+use Rattle.life_laws.proofs.Steps.{answered_in_order, lives_step}
+use Rattle.lifetime_ops.specs.declared.change.Change.{Change}
+use Rattle.lifetime_ops.specs.declared.change.Change.TheVariants.{Delay, Hop, Duration}
+use Rattle.lifetime_ops.specs.Nodes.{node_of}
+
+pub known : (change : Change) → has_known_lives (node_of change) ≡ true
+known (Delay by) = refl
+known (Hop size period) = refl
+known (Duration by) = refl
+
+module _ (change : Change) where
+  answered_both : (h k : List Edge) → answered (node_of change) (h ++ k) ≡ answered (node_of change) h ++ answered (node_of change) k
+  answered_both h k =
+      ap (map (new_edge (node_of change))) (filter-append (is_answered (node_of change)) h k)
+      ∙ map-append (new_edge (node_of change)) (filter (is_answered (node_of change)) h) (filter (is_answered (node_of change)) k)
+
+  -- one batch more: `new` is answered of it, and `rest` is still to come
+  pub batch_next : (done due batch rest new : List Edge) → due ≡ batch ++ rest → new ≡ answered (node_of change) batch →
+      done ++ answered (node_of change) due ≡ (done ++ new) ++ answered (node_of change) rest
+  batch_next done due batch rest new is answer =
+      ap (λ h. done ++ answered (node_of change) h) is
+      ∙ ap (λ h. done ++ h) (answered_both batch rest)
+      ∙ sym (append_assoc done (answered (node_of change) batch) (answered (node_of change) rest))
+      ∙ ap (λ h. (done ++ h) ++ answered (node_of change) rest) (sym answer)
+
+  pub batch_order : (whole done due batch rest new : List Edge) → KeepsOrder whole → done ++ answered (node_of change) due ≡ answered (node_of change) whole →
+      due ≡ batch ++ rest → new ≡ answered (node_of change) batch → KeepsOrder (done ++ new)
+  batch_order whole done due batch rest new order all is answer =
+      let old = (same_order whole).0 order in
+      let ordered : KeepsOrder (answered (node_of change) whole) = (same_order (answered (node_of change) whole)).1 (answered_in_order (node_of change) (new_lives (node_of change) (known change)) whole old.0 old.1) in
+      KeepsOrder-front (done ++ new) (answered (node_of change) rest) (subst KeepsOrder (sym all ∙ batch_next done due batch rest new is answer) ordered)
+
+  pub advanced : (texts : List (List ℕ)) (x y u v t : ℕ) (carried left right out l r all rest due answer : List Edge) → x ≤ u → u ≤ inf → y ≤ v → v ≤ inf →
+      KeepsLives (node_of change) texts x y carried left right out → MayCome texts x left l → MayCome texts y right r → KeepsOrder all → SameBag all (carried ++ l) →
+      t ≡ answered_below (node_of change) u → rest ≡ filter (is_from t) all → due ≡ filter (is_below t) all → answer ≡ answered (node_of change) due →
+      KeepsLives (node_of change) texts u v rest (left ++ l) (right ++ r) (out ++ answer) × ComeBetween (node_closes (node_of change) x y) (node_closes (node_of change) u v) answer
+  advanced texts x y u v t carried left right out l r all rest due answer xu lu yv lv k ml mr order same cut is_rest is_due is_answer =
+      let s = lives_step (node_of change) (new_lives (node_of change) (known change)) texts x y u v carried left right out l r all xu lu yv lv k
+      ml.history mr.history ml.placed mr.placed ml.from order.rises same in
+      rw (is_rest, is_answer, is_due, cut) (s.0, record { from = s.1; below = s.2 })
