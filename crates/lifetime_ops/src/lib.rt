@@ -6,6 +6,3 @@ mod life_operator;
 
 pub use change::Change;
 pub use life_operator::LifeOperator;
-
-#[cfg(test)]
-mod tests;
