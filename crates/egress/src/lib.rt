@@ -10,6 +10,7 @@ mod opens;
 mod output_laws;
 mod sweep;
 mod waiting;
+mod writing;
 
 pub use edges::show_edges;
 pub use egress::Egress;
@@ -18,3 +19,7 @@ pub use instant_laws::{
     edges_of_an_instant_move_rows, quiet_instants_keep_what_is_open,
 };
 pub use output_laws::outputs_read_longer_tables;
+pub use writing::send;
+
+#[cfg(test)]
+mod tests;

@@ -1,0 +1,48 @@
+ghost use Rattle.std.specs.Prelude.{◌≡◌, ℕ, List, [], ◌∷◌, map, All, IfOk};
+ghost use Rattle.tw_rows.specs.Cells.{datum_kind, ArePlaced};
+ghost use Rattle.node_laws.specs.Places.{EdgesArePlaced};
+
+use crate::Egress;
+use batch::Pools;
+use edge_history::keeps_order;
+use edge_stream::EdgeList;
+use std::alloc::Global;
+use std::process::Abort;
+use std::test::Fail;
+use tw_rows::{CellKind, Cells, Datum, Edge, Kind, Memory, TextTable, Time};
+
+// An interval of the row 7.
+fn interval(alloc: Global, start: u64, end: u64) -> Result<Edge, Memory>
+    ensures kinds { IfOk result (λ e. map datum_kind e.cells ≡ CellKind.Whole ∷ []) }
+    ensures placed { IfOk result (λ e. (texts : List (List ℕ)) → ArePlaced texts e.cells) }
+{
+    Ok(Edge {
+        sync: Time::ZERO.plus(start),
+        other: Time::ZERO.plus(end),
+        cells: Cells::from_slice(alloc, &[Datum::Int(7)])?,
+    })
+}
+
+fn list(rt: &impl Abort, alloc: Global, start: u64, end: u64) -> Result<EdgeList, Fail>
+    ensures { IfOk result (λ list. (texts : List (List ℕ)) → EdgesArePlaced texts list.edges) }
+{
+    let mut pools = Pools::new(alloc, 8, 2)?;
+    let edges = [interval(alloc, start, end)?];
+    assert!(rt; keeps_order(&edges));
+    Ok(EdgeList::from_edges(alloc, &mut pools, &[Kind::Int], &edges)?)
+}
+
+#[test]
+fn ends_are_shown_when_they_are_due(rt: HostRuntime) -> Result<(), Fail> {
+    let alloc = rt.alloc();
+    let texts = TextTable::new(alloc);
+    let mut egress = Egress::new(alloc, &[Kind::Int])?;
+    egress.take(list(&rt, alloc, 3, 9)?, Time::ZERO.plus(5), &texts)?;
+    let text = egress.render(Some(Time::ZERO.plus(5)))?;
+    assert!(rt; text.as_slice() == b"out,start,3,inf,7\n*,punct,5\n".as_slice());
+    egress.take(list(&rt, alloc, 5, 6)?, Time::ZERO.plus(20), &texts)?;
+    let text = egress.render(None)?;
+    assert!(rt; text.as_slice() == b"out,start,5,inf,7\nout,end,6,3,7\nout,end,9,5,7\n".as_slice());
+    assert!(rt; !egress.failed());
+    Ok(())
+}
