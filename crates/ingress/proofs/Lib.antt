@@ -3,3 +3,4 @@ mod Ranked
 mod Starts
 mod Queued
 mod Holding
+mod Keep

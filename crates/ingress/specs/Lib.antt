@@ -1,5 +1,6 @@
 -- Callers read Streams, Held and OpenKeys; Ranks is cited by private contracts alone.
 pub mod Streams
 pub mod Held
+pub mod Keeping
 pub mod OpenKeys
 pub mod Ranks

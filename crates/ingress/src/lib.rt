@@ -3,11 +3,13 @@
 #![tactic(auto)]
 
 mod held_laws;
+mod held_streams;
 mod opens;
 mod waiting;
 mod watermarks;
 
 pub use held_laws::{given_edges_stand, held_edges_are_given_in_order, held_edges_follow_the_rows};
+pub use held_streams::HeldStreams;
 pub use opens::{OpenKey, OpenStart, OpenStarts};
 pub use waiting::Waiting;
 pub use watermarks::{Watermark, Watermarks};

@@ -1,0 +1,28 @@
+use Rattle.std.specs.Prelude.{cond, [], ◌∷◌, ◌++◌, get_or}
+use Rattle.std.proofs.Common.{refl, ◌∙◌, ap}
+use Rattle.ingress.specs.OpenKeys.{same_key, starts_in}
+use Rattle.ingress.specs.Keeping.{CellOpen}
+use Rattle.ingress.proofs.Keep.{start_comes, still_kept, changed_again, put_back, as_start}
+use Rattle.ingress.proofs.held_streams.HeldStreams.open_start.Goals as goal
+
+pub returns-in-Err-clause-err : goal.returns-in-Err-clause-err
+returns-in-Err-clause-err c =
+    let s = c.args.key.stream in
+    let live = c.is_live.ensures.0 c.if-not-is_live.false in
+    still_kept c.args.self.now.waiting.items c.take_out.new.self.waiting.items (starts_in c.args.self.now.opens.starts) (starts_in c.take_out.new.self.opens.starts) s
+    (changed_again s c.args.self.now.waiting.items c.put.new.self.waiting.items c.take_out.new.self.waiting.items c.put.ensures.changed c.take_out.ensures.changed)
+    (put_back c.in_ok-cells.cells c.args.state.start (get_or c.args.self.now.waiting.items s []) (get_or c.put.new.self.waiting.items s []) (get_or c.take_out.new.self.waiting.items s []) c.take_out.result
+    live.1
+    (as_start (get_or c.put.new.self.waiting.items s []) (get_or c.args.self.now.waiting.items s []) c.in_ok-cells.cells c.in_ok-clone.field-0 c.args.state.start c.infinity.result c.infinity.ensures c.in_ok-clone.ensures.cases c.in_ok-put.ensures.ok)
+    c.take_out.ensures.taken c.take_out.ensures.none)
+    (λ k. ap (λ x. starts_in x.starts k) c.take_out.ensures.opens ∙ (c.in-Err.ensures.err k ∙ ap (λ x. starts_in x.starts k) c.put.ensures.opens))
+
+pub returns-clause-ok : goal.returns-clause-ok
+returns-clause-ok c = λ p made opens given late keeps.
+    let s = c.args.key.stream in
+    let live = c.is_live.ensures.0 c.if-not-is_live.false in
+    let o : CellOpen = record { key = c.args.key; state = c.args.state } in
+    start_comes p c.args.self.now.waiting.items c.put.new.self.waiting.items (starts_in c.args.self.now.opens.starts) (starts_in c.open-2.new.self.starts) made made opens (opens ++ o ∷ []) given keeps s c.put.ensures.changed
+    o refl refl refl (λ k. c.in_default.ensures.ok k ∙ ap (λ l. cond (same_key c.args.key k) (l ++ c.args.state ∷ []) l) (ap (λ x. starts_in x.starts k) c.put.ensures.opens))
+    live.0 live.1 late
+    (as_start (get_or c.put.new.self.waiting.items s []) (get_or c.args.self.now.waiting.items s []) c.args.key.cells c.in_ok-clone.field-0 c.args.state.start c.infinity.result c.infinity.ensures (c.in_ok-clone.ensures.cases ∙ c.in_ok-cells.ensures.cases) c.in_ok-put.ensures.ok)

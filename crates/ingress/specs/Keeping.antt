@@ -1,0 +1,72 @@
+-- What is kept of all streams between two lines: open starts by their cells, and the edges held.
+use Rattle.std.specs.Prelude.{◌≡◌, ◌≢◌, ℕ, ◌<◌, nat_eq, Bool, cond, Option, Some, None, List, [], ◌∷◌, ◌++◌, length, get_or, map, filter, flat_map}
+use Rattle.tw_rows.specs.Instant.{inf}
+use Rattle.tw_rows.specs.declared.cells.Datum.{Datum}
+use Rattle.tw_rows.specs.declared.edge.Edge.{Edge}
+use Rattle.key_nodes.specs.Joins.{with_life}
+use Rattle.edge_history.specs.History.{CellEvent}
+use Rattle.ingress.specs.declared.opens.OpenKey.{OpenKey}
+use Rattle.ingress.specs.declared.opens.OpenStart.{OpenStart}
+use Rattle.ingress.specs.OpenKeys.{same_key}
+use Rattle.ingress.specs.Held.{IsHeld}
+
+-- an open start, by what its end line names, and what is in use of it
+pub record CellOpen : Type 0 where
+  pub key : OpenKey
+  pub state : OpenStart
+
+-- the end line that names this key closes the open start
+abbrev pub is_named : OpenKey → CellOpen → Bool
+is_named k o = same_key o.key k
+
+-- the first that passes the test, and the list without it. Of 3, 4, 6 the first even one is 4, and without it are 3, 6
+abbrev pub first_of : {X : Type 0} → (X → Bool) → List X → Option X
+first_of p [] = None
+first_of p (x ∷ xs) = cond (p x) (Some x) (first_of p xs)
+
+abbrev pub without_first_of : {X : Type 0} → (X → Bool) → List X → List X
+without_first_of p [] = []
+without_first_of p (x ∷ xs) = cond (p x) xs (x ∷ without_first_of p xs)
+
+-- a row of cells with its life
+abbrev pub cell_row : List Datum → ℕ → ℕ → CellEvent
+cell_row cells start end = record { row = cells; start = start; end = end }
+
+-- the row of an open start that ends at that time: none where it was dropped, or where its life is empty
+abbrev pub ended_row : ℕ → CellOpen → List CellEvent
+ended_row end o = cond o.state.dropped [] (with_life o.key.cells o.state.start end)
+
+-- the row of an open start of stream s, up to infinity
+abbrev pub row_of_open : ℕ → CellOpen → List CellEvent
+row_of_open s o = cond (nat_eq o.key.stream s) (ended_row inf o) []
+
+-- the rows of stream s in cells: those made, and the open starts up to infinity
+abbrev pub cell_rows : (ℕ → List CellEvent) → List CellOpen → ℕ → List CellEvent
+cell_rows made opens s = made s ++ flat_map (row_of_open s) opens
+
+-- the rows by stream, with more for stream s
+abbrev pub more_rows : ℕ → List CellEvent → (ℕ → List CellEvent) → ℕ → List CellEvent
+more_rows s rows made k = cond (nat_eq k s) (made k ++ rows) (made k)
+
+-- the edges of each stream follow its rows up to p, and each key finds the open starts that it names, in order
+pub record Keeps (p : ℕ) (waiting : List (List Edge)) (starts : OpenKey → List OpenStart)
+    (made : ℕ → List CellEvent) (opens : List CellOpen) (given : ℕ → List Edge) : Type 0 where
+  pub held : (s : ℕ) → s < length waiting → IsHeld p (given s) (get_or waiting s []) (cell_rows made opens s)
+  pub queued : (k : OpenKey) → starts k ≡ map (λ o. o.state) (filter (is_named k) opens)
+
+-- the waiting edges of stream s are others now, and those of the other streams are as they were
+pub record Changed (s : ℕ) (before after : List (List Edge)) : Type 0 where
+  pub long : length after ≡ length before
+  pub others : (k : ℕ) → k ≢ s → get_or after k [] ≡ get_or before k []
+
+-- whatever was kept is kept
+abbrev pub StillKeeps : List (List Edge) → (OpenKey → List OpenStart) → List (List Edge) → (OpenKey → List OpenStart) → Type 0
+StillKeeps waiting starts waiting' starts' = (p : ℕ) (made : ℕ → List CellEvent) (opens : List CellOpen) (given : ℕ → List Edge) →
+    Keeps p waiting starts made opens given → Keeps p waiting' starts' made opens given
+
+-- where the key names no open start, nothing is answered and all stays; and else the first one is answered, and has ended
+abbrev pub HasEnded : OpenKey → ℕ → ℕ → List (List Edge) → (OpenKey → List OpenStart) → (ℕ → List CellEvent) → List CellOpen → (ℕ → List Edge) →
+    Option OpenStart → Option CellOpen → Type 0
+HasEnded key at p waiting starts made opens given answer None = (answer ≡ None) × Keeps p waiting starts made opens given
+HasEnded key at p waiting starts made opens given answer (Some o) =
+    (answer ≡ Some o.state) × Keeps p waiting starts (more_rows key.stream (ended_row at o) made) (without_first_of (is_named key) opens) given

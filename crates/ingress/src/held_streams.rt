@@ -1,0 +1,190 @@
+// What is held of all streams: the edges that wait for a punctuation, and the open starts.
+ghost use Rattle.std.specs.Prelude.{◌≡◌, ℕ, ◌<◌, ◌≤◌, ◌↔◌, IsTrue, true, false, List, [], ◌∷◌, ◌++◌, length, get_or, Some, IfOk, OnOk, OnErr};
+ghost use Rattle.tw_rows.specs.Instant.{inf};
+ghost use Rattle.tw_rows.specs.Bag.{SameBag};
+ghost use Rattle.tw_rows.specs.declared.edge.Edge.{Edge};
+ghost use Rattle.edge_history.specs.Order.{many, starts_it};
+ghost use Rattle.edge_history.specs.History.{CellEvent};
+ghost use Rattle.ingress.specs.Held.{start_of};
+ghost use Rattle.key_nodes.specs.Joins.{with_life};
+ghost use Rattle.ingress.specs.OpenKeys.{starts_in};
+ghost use Rattle.ingress.specs.Keeping.{CellOpen, Keeps, StillKeeps, Changed, HasEnded, more_rows, first_of, is_named};
+
+use crate::opens::{OpenKey, OpenStart, OpenStarts};
+use crate::waiting::Waiting;
+use std::alloc::Global;
+use tw_rows::{Cells, Edge, Memory, Time};
+
+/// The edges of all streams that wait for a punctuation, and the starts that wait for their ends.
+#[derive(Drop)]
+pub struct HeldStreams {
+    pub(crate) waiting: Vec<Waiting>,
+    pub(crate) opens: OpenStarts,
+}
+
+fn is_before(a: Time, b: Time) -> bool
+    ensures test { IsTrue result ↔ (a < b) }
+    ensures within { b ≤ inf }
+{
+    a < b
+}
+
+#[tactic(auto, unfolding(tw_rows::specs::Instant::inf))]
+fn infinity() -> Time
+    ensures { result ≡ inf }
+{
+    Time::INF
+}
+
+// Whether an open start has an edge: it was not dropped, and starts at an instant.
+fn is_live(state: &OpenStart) -> bool
+    ensures { IsTrue result ↔ ((state.now.dropped ≡ false) × (state.now.start < inf)) }
+{
+    !state.dropped && is_before(state.start, infinity())
+}
+
+impl HeldStreams {
+    /// Nothing, for so many streams.
+    pub fn new(alloc: Global, streams: usize) -> Result<HeldStreams, Memory>
+        ensures keeps { IfOk result (λ h. Keeps 0 h.waiting.items (starts_in h.opens.starts) (λ s. []) [] (λ s. [])) }
+        ensures len { IfOk result (λ h. length h.waiting.items ≡ streams) }
+    {
+        let mut waiting = Vec::new(alloc);
+        for _ in 0..streams {
+            waiting.push(Waiting::new(alloc))?;
+        }
+        Ok(HeldStreams {
+            waiting,
+            opens: OpenStarts::new(alloc),
+        })
+    }
+
+    // Adds an edge of a stream.
+    fn put(&mut self, stream: usize, edge: Edge) -> Result<(), Memory>
+        requires { stream < length self.old.waiting.items }
+        ensures changed { Changed stream self.old.waiting.items self.new.waiting.items }
+        ensures ok { OnOk result (SameBag (get_or self.new.waiting.items stream []) (edge ∷ get_or self.old.waiting.items stream [])) }
+        ensures err { OnErr result (get_or self.new.waiting.items stream [] ≡ get_or self.old.waiting.items stream []) }
+        ensures opens { self.new.opens ≡ self.old.opens }
+    {
+        self.waiting[stream].put(edge)
+    }
+
+    // Takes a start edge of a stream out, if it is there.
+    fn take_out(&mut self, stream: usize, cells: &Cells, start: Time) -> bool
+        requires { stream < length self.old.waiting.items }
+        ensures changed { Changed stream self.old.waiting.items self.new.waiting.items }
+        ensures taken { IsTrue result → SameBag (start_of cells.now start ∷ get_or self.new.waiting.items stream []) (get_or self.old.waiting.items stream []) }
+        ensures none { result ≡ false → many (starts_it cells.now start) (get_or self.old.waiting.items stream []) ≡ 0 }
+        ensures opens { self.new.opens ≡ self.old.opens }
+    {
+        self.waiting[stream].take_out(cells, start)
+    }
+
+    /// A row of a stream with its life, if that is not empty. It starts at the bound of the stream or later.
+    pub fn add_row(
+        &mut self,
+        stream: usize,
+        cells: Cells,
+        start: Time,
+        end: Time,
+    ) -> Result<(), Memory>
+        requires { stream < length self.old.waiting.items }
+        ensures ok { OnOk result ((p : ℕ) (made : ℕ → List CellEvent) (opens : List CellOpen) (given : ℕ → List Edge) → p ≤ start →
+            Keeps p self.old.waiting.items (starts_in self.old.opens.starts) made opens given →
+            Keeps p self.new.waiting.items (starts_in self.new.opens.starts) (more_rows stream (with_life cells start end) made) opens given) }
+        ensures err { OnErr result (StillKeeps self.old.waiting.items (starts_in self.old.opens.starts) self.new.waiting.items (starts_in self.new.opens.starts)) }
+        ensures len { length self.new.waiting.items ≡ length self.old.waiting.items }
+    {
+        if is_before(start, end) {
+            let edge = Edge {
+                sync: start,
+                other: end,
+                cells,
+            };
+            self.put(stream, edge)?;
+            return Ok(());
+        }
+        Ok(())
+    }
+
+    /// One more open start. It starts at the bound of its stream or later.
+    pub fn open_start(&mut self, key: OpenKey, state: OpenStart) -> Result<(), Memory>
+        requires { key.stream < length self.old.waiting.items }
+        ensures ok { OnOk result ((p : ℕ) (made : ℕ → List CellEvent) (opens : List CellOpen) (given : ℕ → List Edge) → p ≤ state.start →
+            Keeps p self.old.waiting.items (starts_in self.old.opens.starts) made opens given →
+            Keeps p self.new.waiting.items (starts_in self.new.opens.starts) made (opens ++ record { key = key; state = state } ∷ []) given) }
+        ensures err { OnErr result (StillKeeps self.old.waiting.items (starts_in self.old.opens.starts) self.new.waiting.items (starts_in self.new.opens.starts)) }
+        ensures len { length self.new.waiting.items ≡ length self.old.waiting.items }
+    {
+        if !is_live(&state) {
+            self.opens.open(key, state)?;
+            return Ok(());
+        }
+        let stream = key.stream;
+        let start = state.start;
+        let cells = key.cells.clone()?;
+        let edge = Edge {
+            sync: start,
+            other: infinity(),
+            cells: cells.clone()?,
+        };
+        self.put(stream, edge)?;
+        if let Err(memory) = self.opens.open(key, state) {
+            self.take_out(stream, &cells, start);
+            return Err(memory);
+        }
+        Ok(())
+    }
+
+    // The edges of a stream once an open start has ended.
+    fn end_row(&mut self, key: &OpenKey, state: &OpenStart, at: Time) -> Result<(), Memory>
+        requires { key.now.stream < length self.old.waiting.items }
+        ensures changed { Changed key.now.stream self.old.waiting.items self.new.waiting.items }
+        ensures ends { OnOk result (state.now.dropped ≡ false → state.now.start < at → at < inf → SameBag (get_or self.new.waiting.items key.now.stream []) (record { sync = at; other = state.now.start; cells = key.now.cells } ∷ get_or self.old.waiting.items key.now.stream [])) }
+        ensures empty { OnOk result (state.now.dropped ≡ false → state.now.start < inf → at ≤ state.now.start → (many (starts_it key.now.cells state.now.start) (get_or self.old.waiting.items key.now.stream []) ≡ 0 → ⊥) → SameBag (start_of key.now.cells state.now.start ∷ get_or self.new.waiting.items key.now.stream []) (get_or self.old.waiting.items key.now.stream [])) }
+        ensures dropped { OnOk result (state.now.dropped ≡ true → get_or self.new.waiting.items key.now.stream [] ≡ get_or self.old.waiting.items key.now.stream []) }
+        ensures endless { OnOk result (inf ≤ state.now.start → get_or self.new.waiting.items key.now.stream [] ≡ get_or self.old.waiting.items key.now.stream []) }
+        ensures stays { OnOk result (state.now.start < at → inf ≤ at → get_or self.new.waiting.items key.now.stream [] ≡ get_or self.old.waiting.items key.now.stream []) }
+        ensures err { OnErr result (get_or self.new.waiting.items key.now.stream [] ≡ get_or self.old.waiting.items key.now.stream []) }
+        ensures opens { self.new.opens ≡ self.old.opens }
+        ensures within { at ≤ inf }
+    {
+        if state.dropped {
+            return Ok(());
+        }
+        if is_before(state.start, at) {
+            if !is_before(at, infinity()) {
+                return Ok(());
+            }
+            let edge = Edge {
+                sync: at,
+                other: state.start,
+                cells: key.cells.clone()?,
+            };
+            self.put(key.stream, edge)?;
+            return Ok(());
+        }
+        if is_before(state.start, infinity()) {
+            self.take_out(key.stream, &key.cells, state.start);
+        }
+        Ok(())
+    }
+
+    /// Ends the first open start that the key names, if there is one, at a time that is not before the bound of its stream.
+    pub fn end_start(&mut self, key: &OpenKey, at: Time) -> Result<Option<OpenStart>, Memory>
+        requires { key.now.stream < length self.old.waiting.items }
+        ensures ok { IfOk result (λ answer. (p : ℕ) (made : ℕ → List CellEvent) (opens : List CellOpen) (given : ℕ → List Edge) → p ≤ at →
+            Keeps p self.old.waiting.items (starts_in self.old.opens.starts) made opens given →
+            HasEnded key.now at p self.new.waiting.items (starts_in self.new.opens.starts) made opens given answer (first_of (is_named key.now) opens)) }
+        ensures err { OnErr result (StillKeeps self.old.waiting.items (starts_in self.old.opens.starts) self.new.waiting.items (starts_in self.new.opens.starts)) }
+        ensures len { length self.new.waiting.items ≡ length self.old.waiting.items }
+    {
+        let Some(state) = self.opens.first(key) else {
+            return Ok(None);
+        };
+        self.end_row(key, &state, at)?;
+        self.opens.close(key);
+        Ok(Some(state))
+    }
+}
