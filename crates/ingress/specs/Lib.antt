@@ -1,4 +1,4 @@
--- Callers read Streams, Held and OpenKeys; Ranks is cited by private contracts alone.
+-- Callers read Streams, Held, Keeping and OpenKeys; Ranks is cited by private contracts alone.
 pub mod Streams
 pub mod Held
 pub mod Keeping
