@@ -5,3 +5,4 @@ pub mod Knowing
 pub mod TextTables
 pub mod CellReads
 pub mod CellEquality
+mod KindExamples
