@@ -1,0 +1,49 @@
+// How many ints there are.
+ghost use Rattle.std.specs.Prelude.{◌≡◌, ◌≤◌, ◌^◌, pos, false, length};
+ghost use Rattle.agg_state.specs.Amounts.{IsCounted};
+
+use crate::aggregate::Aggregate;
+use std::alloc::Global;
+use tw_rows::Memory;
+
+/// The number of ints above which no aggregate is told.
+pub(crate) const MOST: u64 = 4611686018427387904;
+
+/// How many ints there are.
+#[derive(Drop)]
+pub struct Count {
+    count: u64,
+}
+
+#[tactic(auto, unfolding(plan_model::specs::Amounts::most_rows))]
+impl Aggregate for Count {
+    ghost stands = { λ s bag. IsCounted s.count bag };
+
+    ghost made = { λ bag. pos (length bag) };
+
+    ghost is_large = { λ bag. false };
+
+    fn new(_alloc: Global) -> Count {
+        Count { count: 0 }
+    }
+
+    fn add(&mut self, _value: i64) -> Result<(), Memory> {
+        self.count += 1;
+        Ok(())
+    }
+
+    fn remove(&mut self, _value: i64) {
+        self.count -= 1;
+    }
+
+    fn len(&self) -> u64 {
+        self.count
+    }
+
+    fn value(&self) -> Option<i64> {
+        if self.count > MOST {
+            return None;
+        }
+        Some(self.count as i64)
+    }
+}

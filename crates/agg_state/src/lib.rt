@@ -1,0 +1,18 @@
+//! Aggregates of bags of ints, as ints come and go.
+#![tactic(auto)]
+
+mod aggregate;
+mod bag;
+mod count;
+mod extremes;
+mod generic;
+mod sum;
+
+pub use aggregate::Aggregate;
+pub use count::Count;
+pub use extremes::{Greatest, Least};
+pub use generic::{alone, replaced};
+pub use sum::Sum;
+
+#[cfg(test)]
+mod tests;
