@@ -34,5 +34,6 @@ pub fn step_once<O: Operator>(
         StandsRead texts (node_closes (O.node operator.old) left_to right_to) (out ++ answer.edges)
         (node_events (O.node operator.old) (read_of texts (hl ++ left.edges)) (read_of texts (hr ++ right.edges)))) }
 {
+    O::laws();
     operator.step(pools, left, right, left_to, right_to)
 }

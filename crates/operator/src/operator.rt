@@ -140,17 +140,14 @@ pub trait Operator: Drop {
     fn part_row(part: u64) -> Option<PartRow>
         ensures { result ≡ row_of_part part };
 
-    /// As it is made it keeps nothing, of no edges, and works.
-    ghost opens: { (s : Self) → is_opening s → ((texts : List (List ℕ)) → keeps s texts [] [] []) × (has_failed s ≡ false) × (Self.left_closed s ≡ 0) × (Self.right_closed s ≡ 0) };
-
-    /// What it answered stands, read, for the events of its node, of the rows that are read of what came in.
-    ghost stands: { (s : Self) (texts : List (List ℕ)) (hl hr out : List Edge) → AreDistinct texts → keeps s texts hl hr out →
-        StandsRead texts (node_closes (node s) (Self.left_closed s) (Self.right_closed s)) out (node_events (node s) (read_of texts hl) (read_of texts hr)) };
-
-    /// A table that grows changes nothing of what it keeps.
-    ghost grows: { (s : Self) (new old : List (List ℕ)) (hl hr out : List Edge) → BeginsWith new old → keeps s old hl hr out → keeps s new hl hr out };
-
-    /// Entries that resume edges are sound.
-    ghost resumes_sound: { (s : Self) (saved : List SavedEntry) (x y : ℕ) (texts : List (List ℕ)) (hl hr out : List Edge) →
-        resumes s saved x y texts hl hr out → sound s saved x y };
+    /// What holds of every operator. As it is made it keeps nothing, of no edges, and works. What it answered stands, read,
+    /// for the events of its node, of the rows that are read of what came in. A table that grows changes nothing of what it
+    /// keeps. Entries that resume edges are sound. A call does nothing but tell a proof of this.
+    fn laws()
+        ensures opens { (s : Self) → is_opening s → ((texts : List (List ℕ)) → keeps s texts [] [] []) × (has_failed s ≡ false) × (Self.left_closed s ≡ 0) × (Self.right_closed s ≡ 0) }
+        ensures stands { (s : Self) (texts : List (List ℕ)) (hl hr out : List Edge) → AreDistinct texts → keeps s texts hl hr out →
+            StandsRead texts (node_closes (node s) (Self.left_closed s) (Self.right_closed s)) out (node_events (node s) (read_of texts hl) (read_of texts hr)) }
+        ensures grows { (s : Self) (new old : List (List ℕ)) (hl hr out : List Edge) → BeginsWith new old → keeps s old hl hr out → keeps s new hl hr out }
+        ensures resumes_sound { (s : Self) (saved : List SavedEntry) (x y : ℕ) (texts : List (List ℕ)) (hl hr out : List Edge) →
+            resumes s saved x y texts hl hr out → sound s saved x y };
 }
