@@ -103,3 +103,8 @@ at_or (Some p) = p.at
 
 pub time_shown : (es : List Stored) (i : ℕ) (s : Stored) (p : Pending) → slice_get es i ≡ Some s → slice_get (map pending_of es) i ≡ Some p → s.0.0 ≡ p.at
 time_shown es i s p h g = ap at_or (sym (slice_get-map pending_of es i ∙ ap (option_map pending_of) h) ∙ g)
+
+-- the edges of the entries, and of what they are seen as
+pub edges_shown : (es : List Stored) → map (λ e. e.1) es ≡ map (λ p. p.edge) (map pending_of es)
+edges_shown [] = refl
+edges_shown (e ∷ es) = ap (λ l. e.1 ∷ l) (edges_shown es)

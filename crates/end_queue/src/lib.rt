@@ -1,7 +1,7 @@
 //! Edges that wait for their times.
 #![tactic(auto)]
 
-ghost use Rattle.std.specs.Prelude.{◌≡◌, ◌<◌, ◌≤◌, ◌∷◌, [], length, All, slice_get, Some, IfSome, IfNone, OnOk, OnErr};
+ghost use Rattle.std.specs.Prelude.{◌≡◌, ◌<◌, ◌≤◌, ◌∷◌, [], length, map, All, slice_get, Some, IfSome, IfNone, IfOk, OnOk, OnErr};
 ghost use Rattle.std.specs.BTreeMap.{btree_map_len};
 ghost use Rattle.end_queue.specs.Pending.{Pending, put_pending, AreDueFrom};
 
@@ -40,6 +40,17 @@ fn entry_at(edges: &BTreeMap<(u64, u64), Edge>, i: usize) -> (&(u64, u64), &Edge
     ensures { slice_get edges.now.entries i ≡ Some (result.0.now, result.1.now) }
 {
     edges.iter().nth(i).unwrap()
+}
+
+// The edges in the order of their keys.
+fn copied(alloc: Global, edges: &BTreeMap<(u64, u64), Edge>) -> Result<Vec<Edge>, Memory>
+    ensures { IfOk result (λ copy. copy.items ≡ map (λ e. e.1) edges.now.entries) }
+{
+    let mut copy = Vec::new(alloc);
+    for (_, edge) in edges {
+        copy.push(edge.clone()?)?;
+    }
+    Ok(copy)
 }
 
 impl EndQueue {
@@ -89,6 +100,14 @@ impl EndQueue {
         ensures order { AreDueFrom 0 self.now }
     {
         self.edges.len()
+    }
+
+    /// A copy of the edges, in the order in which they come due.
+    pub fn edges(&self, alloc: Global) -> Result<Vec<Edge>, Memory>
+        ensures { IfOk result (λ edges. edges.items ≡ map (λ p. p.edge) self.now) }
+    {
+        let copy = copied(alloc, &self.edges)?;
+        Ok(copy)
     }
 
     /// The time of the entry at that place.
