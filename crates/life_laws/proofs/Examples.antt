@@ -4,6 +4,7 @@ use Rattle.tw_rows.specs.Instant.{inf}
 use Rattle.tw_rows.specs.declared.edge.Edge.{Edge}
 use Rattle.plan_model.specs.declared.node.Node.TheVariants.{Delay, Hop, Duration}
 use Rattle.life_laws.specs.Answers.{answered, answered_below}
+use Rattle.life_laws.specs.Extending.{extended_edges}
 
 abbrev edge : ℕ → ℕ → Edge
 edge sync other = record { sync = sync; other = other; cells = [] }
@@ -30,3 +31,8 @@ hop_carries = refl
 
 delay_carries : answered_below (Delay 0 2) 17 ≡ 17
 delay_carries = refl
+
+-- an extend of 4 makes [3, 9) of [3, 5), moves an end at 5 to 9, and passes over an end that moves to infinity
+extend_moves_ends : extended_edges 4 (edge 3 inf ∷ edge 3 5 ∷ edge 5 3 ∷ edge (2 ^ 61 - 1) 3 ∷ []) ≡ edge 3 inf ∷ edge 3 9 ∷ edge 9 3 ∷ []
+unfolding inf
+extend_moves_ends = refl

@@ -185,6 +185,9 @@ lives_first n texts = record {
   waits = SameBag-refl [];
 }
 
+pub lives_opening : (n : Node) (texts : List (List ℕ)) (x y : ℕ) (carried : List Edge) → carried ≡ [] → x ≡ 0 → y ≡ 0 → KeepsLives n texts x y carried [] [] []
+lives_opening n texts x y carried empty left right = rw (empty, left, right) (lives_first n texts)
+
 pub lives_longer : (n : Node) (new old : List (List ℕ)) (x y : ℕ) (carried left right out : List Edge) → BeginsWith new old →
     KeepsLives n old x y carried left right out → KeepsLives n new x y carried left right out
 lives_longer n new old x y carried left right out b k = record {

@@ -71,7 +71,7 @@ from_earlier z x e h k = grind (arith, nat_tests)
 
 -- all that came and was carried, parted at a time, is all that came, parted there
 module _ (z t : ℕ) (rising : z ≤ t) (carried left l all : List Edge) (waits : SameBag carried (filter (is_from z) left)) (same : SameBag all (carried ++ l)) where
-  parted_below : (A : Edge → ℕ) → total A (filter (is_below z) left) + total A (filter (is_below t) all) ≡ total A (filter (is_below t) (left ++ l))
+  pub parted_below : (A : Edge → ℕ) → total A (filter (is_below z) left) + total A (filter (is_below t) all) ≡ total A (filter (is_below t) (left ++ l))
   parted_below A =
       let L : Edge → ℕ = λ e. cond (is_below t e) (A e) 0 in
       let a1 = total-filter A (is_below t) all in
@@ -86,7 +86,7 @@ module _ (z t : ℕ) (rising : z ≤ t) (carried left l all : List Edge) (waits 
       let a10 = total-append L left l in
       omega (arith, a1, a2, a3, a4, a5, a6, a7, a8, a9, a10)
 
-  parted_from : (w : Edge → ℕ) → total w (filter (is_from t) all) ≡ total w (filter (is_from t) (left ++ l))
+  pub parted_from : (w : Edge → ℕ) → total w (filter (is_from t) all) ≡ total w (filter (is_from t) (left ++ l))
   parted_from w =
       let H : Edge → ℕ = λ e. cond (is_from t e) (w e) 0 in
       let a1 = total-filter w (is_from t) all in

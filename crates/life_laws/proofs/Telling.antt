@@ -1,5 +1,5 @@
 -- Edges that are answered one by one, of those that came, tell of the events that a node makes one by one.
-use Rattle.std.specs.Prelude.{◌≡◌, ℕ, ◌+◌, ◌≤◌, Bool, true, cond, ◌&&◌, List, map, filter, flat_map}
+use Rattle.std.specs.Prelude.{◌≡◌, ℕ, ◌+◌, ◌≤◌, Bool, true, cond, ◌&&◌, List, [], ◌++◌, map, filter, flat_map, refl}
 use Rattle.std.proofs.Common.{sym, ◌∙◌, arith}
 use Rattle.std.proofs.lemmas.Bool.Decides.{nat_tests}
 use Rattle.tw_rows.specs.Instant.{inf}
@@ -15,8 +15,47 @@ use Rattle.edge_history.proofs.Sums.{sum_eq, failing-kept}
 use Rattle.edge_history.proofs.Telling.{is_event, news_in_parts}
 use Rattle.edge_history.proofs.Retaining.{events_of_are, valid_from}
 use Rattle.edge_history.proofs.Opening.{singles_are_news}
-use Rattle.edge_history.proofs.Waiting.{news_between}
+use Rattle.edge_history.proofs.Waiting.{news_between, singles_from}
 use Rattle.edge_history.proofs.Ahead.{time_parts}
+
+-- what is shown of events below c, where what is still to be shown of them weighs nothing below c
+pub shown_tells : (c : ℕ) → c ≤ inf → (events : List CellEvent) (out : List Edge) (rest : (Edge → ℕ) → ℕ) → Rises 0 out → failing is_real out ≡ 0 → failing (is_below c) out ≡ 0 →
+    ((w : Edge → ℕ) → total w (singles out) + rest w ≡ total w (news 0 inf events)) →
+    ((w : Edge → ℕ) → rest (λ x. cond (is_below c x) (w x) 0) ≡ 0) → ToldAhead c out events
+shown_tells c low events out rest order real below shows late = record {
+  order = order;
+  real = real;
+  below = below;
+  told = record { weigh = told };
+  ahead = λ w.
+      let s = shows w in
+      let t = told w in
+      let p = time_parts w c (singles out) in
+      let n = (news_in_parts 0 c inf events (omega arith) low).weigh w in
+      let m = total-append w (news 0 c events) (news c inf events) in
+      omega (arith, s, t, p, n, m);
+}
+  where
+    below_one : (w : Edge → ℕ) (x : Edge) → cond (is_below c x) (w x) 0 ≡ cond (is_from 0 x && is_below c x) (w x) 0
+    below_one w x = grind (arith, nat_tests)
+
+    told : (w : Edge → ℕ) → total w (filter (is_below c) (singles out)) ≡ total w (news 0 c events)
+    told w =
+        let f = total-filter w (is_below c) (singles out) in
+        let s = shows (λ x. cond (is_below c x) (w x) 0) in
+        let l = late w in
+        let g = total_same (λ x. cond (is_below c x) (w x) 0) (λ x. cond (is_from 0 x && is_below c x) (w x) 0) (news 0 inf events) (λ x. below_one w x) in
+        let n = news_between w 0 c events low in
+        omega (arith, f, s, l, g, n)
+
+-- the single edges of edges that come at c or later
+pub singles_late : (w : Edge → ℕ) (c : ℕ) (h : List Edge) → failing (is_from c) h ≡ 0 → total (λ x. cond (is_below c x) (w x) 0) (singles h) ≡ 0
+singles_late w c h late =
+    let p = time_parts w c (singles h) in
+    let b = total-filter w (is_below c) (singles h) in
+    let f = total-filter w (is_from c) (singles h) in
+    let s = singles_from w c h late in
+    omega (arith, p, b, f, s)
 
 module _ (test : Edge → Bool) (new : Edge → Edge) (one : CellEvent → List CellEvent) where
   -- the weight of the single edges that are answered of an edge
@@ -55,41 +94,29 @@ module _ (test : Edge → Bool) (new : Edge → Edge) (one : CellEvent → List 
       sum_eq (is_from z) (weight (λ x. cond (is_below c x) (w x) 0)) (λ e. 0) (filter (is_from z) h) (λ e k. a.late w e k) (failing-kept (is_from z) h)
       ∙ total_zero (filter (is_from z) h)
 
+  -- edges that were answered, more that are made and wait, and what is still to be answered show all
+  pub waiting_shown : (z c : ℕ) → Answers z c → (h out waiting : List Edge) → IsHistory h → SameBag (out ++ waiting) (map new (filter test (filter (is_below z) h))) →
+      (w : Edge → ℕ) → total w (singles out) + (total w (singles waiting) + total (weight w) (filter (is_from z) h)) ≡ total w (news 0 inf (flat_map one (of h)))
+  waiting_shown z c a h out waiting history same w =
+      let a1 = total-flat_map w singles_of out in
+      let a2 = same.weigh (λ e. total w (singles_of e)) in
+      let b1 = total-append (λ (e : Edge). total w (singles_of e)) out waiting in
+      let b2 = total-flat_map w singles_of waiting in
+      let a3 = total-flat_map w singles_of (map new (filter test (filter (is_below z) h))) in
+      let a4 = answers_weigh w (filter (is_below z) h) in
+      let a5 = time_parts (weight w) z h in
+      let a6 = whole z c a w h history in
+      omega (arith, a1, a2, a3, a4, a5, a6, b1, b2)
+
+  -- where those that wait come at c or later, those that were answered tell
+  pub waiting_tell : (z c : ℕ) → Answers z c → c ≤ inf → (h out waiting : List Edge) → IsHistory h → Rises 0 out → failing is_real out ≡ 0 → failing (is_below c) out ≡ 0 →
+      failing (is_from c) waiting ≡ 0 → SameBag (out ++ waiting) (map new (filter test (filter (is_below z) h))) → ToldAhead c out (flat_map one (of h))
+  waiting_tell z c a low h out waiting history order real below late same =
+      shown_tells c low (flat_map one (of h)) out (λ w. total w (singles waiting) + total (weight w) (filter (is_from z) h)) order real below
+      (waiting_shown z c a h out waiting history same)
+      (λ w. let s = singles_late w c waiting late in let l = nothing_late z c a w h in omega (arith, s, l))
+
   pub answers_tell : (z c : ℕ) → Answers z c → c ≤ inf → (h out : List Edge) → IsHistory h → Rises 0 out → failing is_real out ≡ 0 → failing (is_below c) out ≡ 0 →
       SameBag out (map new (filter test (filter (is_below z) h))) → ToldAhead c out (flat_map one (of h))
-  answers_tell z c a low h out history order real below same = record {
-    order = order;
-    real = real;
-    below = below;
-    told = record { weigh = told };
-    ahead = λ w.
-        let s = shows w in
-        let t = told w in
-        let p = time_parts w c (singles out) in
-        let n = (news_in_parts 0 c inf (flat_map one (of h)) (omega arith) low).weigh w in
-        let m = total-append w (news 0 c (flat_map one (of h))) (news c inf (flat_map one (of h))) in
-        omega (arith, s, t, p, n, m);
-  }
-    where
-      -- the single edges of what was answered, and what is still to be answered
-      shows : (w : Edge → ℕ) → total w (singles out) + total (weight w) (filter (is_from z) h) ≡ total w (news 0 inf (flat_map one (of h)))
-      shows w =
-          let a1 = total-flat_map w singles_of out in
-          let a2 = same.weigh (λ e. total w (singles_of e)) in
-          let a3 = total-flat_map w singles_of (map new (filter test (filter (is_below z) h))) in
-          let a4 = answers_weigh w (filter (is_below z) h) in
-          let a5 = time_parts (weight w) z h in
-          let a6 = whole z c a w h history in
-          omega (arith, a1, a2, a3, a4, a5, a6)
-
-      below_one : (w : Edge → ℕ) (x : Edge) → cond (is_below c x) (w x) 0 ≡ cond (is_from 0 x && is_below c x) (w x) 0
-      below_one w x = grind (arith, nat_tests)
-
-      told : (w : Edge → ℕ) → total w (filter (is_below c) (singles out)) ≡ total w (news 0 c (flat_map one (of h)))
-      told w =
-          let f = total-filter w (is_below c) (singles out) in
-          let s = shows (λ x. cond (is_below c x) (w x) 0) in
-          let l = nothing_late z c a w h in
-          let g = total_same (λ x. cond (is_below c x) (w x) 0) (λ x. cond (is_from 0 x && is_below c x) (w x) 0) (news 0 inf (flat_map one (of h))) (λ x. below_one w x) in
-          let n = news_between w 0 c (flat_map one (of h)) low in
-          omega (arith, f, s, l, g, n)
+  answers_tell z c a low h out history order real below same =
+      waiting_tell z c a low h out [] history order real below refl (record { weigh = λ w. let n = total-append w out [] in omega (arith, n, same.weigh w) })

@@ -1,3 +1,5 @@
 -- Callers read all of these.
 pub mod Answers
 pub mod Keeping
+pub mod Extending
+pub mod Uniting

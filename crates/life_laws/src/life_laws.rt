@@ -1,12 +1,14 @@
 // The laws of what operators of such nodes keep.
-ghost use Rattle.std.specs.Prelude.{◌≡◌, ℕ, ◌≤◌, true, List, [], ◌++◌, filter};
+ghost use Rattle.std.specs.Prelude.{◌≡◌, ℕ, ◌*◌, ◌≤◌, true, List, [], ◌++◌, filter, length};
 ghost use Rattle.tw_rows.specs.Instant.{inf};
 ghost use Rattle.tw_rows.specs.Bag.{SameBag};
 ghost use Rattle.tw_rows.specs.Texts.{BeginsWith};
 ghost use Rattle.tw_rows.specs.declared.edge.Edge.{Edge};
 ghost use Rattle.edge_history.specs.Order.{Rises, failing, is_real, is_below, is_from, KeepsOrder, IsHistory};
+ghost use Rattle.edge_history.specs.History.{of};
 ghost use Rattle.plan_model.specs.declared.node.Node.{Node};
 ghost use Rattle.plan_model.specs.Meaning.{node_closes, node_events};
+ghost use Rattle.plan_laws.specs.Held.{reaching};
 ghost use Rattle.node_laws.specs.Keeping.{KeepsAhead, plain_cells};
 ghost use Rattle.node_laws.specs.Places.{AreDistinct, EdgesArePlaced, read_of};
 ghost use Rattle.node_laws.specs.Standing.{StandsRead};
@@ -15,7 +17,8 @@ ghost use Rattle.life_laws.specs.Keeping.{KeepsLives};
 
 /// What is kept so tells of the node's events, with the ends that are known ahead. So what was answered stands, read, for
 /// the events of rows that are read of what came in. Where nothing came in, nothing is carried, and a table that grows
-/// changes nothing.
+/// changes nothing. Of each event that does not end before the time below which edges are answered, at most two edges are
+/// carried.
 pub fn lives_are_told_at_their_starts()
     ensures first { (n : Node) (texts : List (List ℕ)) → KeepsLives n texts 0 0 [] [] [] [] }
     ensures longer { (n : Node) (new old : List (List ℕ)) (x y : ℕ) (carried left right out : List Edge) → BeginsWith new old →
@@ -25,6 +28,8 @@ pub fn lives_are_told_at_their_starts()
     ensures rows { (n : Node) (texts : List (List ℕ)) (x y : ℕ) (carried left right out : List Edge) → has_known_lives n ≡ true →
         AreDistinct texts → KeepsLives n texts x y carried left right out →
         StandsRead texts (node_closes n x y) out (node_events n (read_of texts left) (read_of texts right)) }
+    ensures held { (n : Node) (texts : List (List ℕ)) (x y : ℕ) (carried left right out : List Edge) →
+        KeepsLives n texts x y carried left right out → length carried ≤ 2 * reaching (answered_below n x) (of left) }
 {}
 
 /// A step: new edges come at the time up to which their side was closed or later, and with those that were carried, in

@@ -1,3 +1,4 @@
+use Rattle.life_laws.proofs.Bound.{carried_bound}
 use Rattle.life_laws.proofs.Lives.{lives_first, lives_longer, lives_ahead, lives_rows}
 use Rattle.life_laws.proofs.life_laws.lives_are_told_at_their_starts.Goals as goal
 
@@ -12,3 +13,6 @@ returns-clause-ahead c = lives_ahead
 
 pub returns-clause-rows : goal.returns-clause-rows
 returns-clause-rows c = lives_rows
+
+pub returns-clause-held : goal.returns-clause-held
+returns-clause-held c = carried_bound

@@ -1,0 +1,70 @@
+-- Entries of edges, part by part.
+use Rattle.std.specs.Prelude.{◌≡◌, ℕ, ◌+◌, ◌<◌, ◌&&◌, nat_eq, nat_lt, Bool, true, false, cond, List, [], ◌∷◌, ◌++◌, map, length, All, filter, refl}
+use Rattle.std.specs.List.{list_all}
+use Rattle.std.proofs.Common.{sym, ◌∙◌, ap, arith, subst, get_or, take}
+use Rattle.std.proofs.lemmas.Bool.Decides.{nat_tests}
+use Rattle.std.proofs.lemmas.List.{map-append, length-map, get_or-map}
+use Rattle.std.proofs.lemmas.List.Elements.{filter-append, All-get_or, All-more}
+use Rattle.std.proofs.lemmas.List.Folds.{list_all-append}
+use Rattle.tw_rows.specs.Cells.{datum_kind}
+use Rattle.tw_rows.specs.Kinds.{cell_kind_of}
+use Rattle.tw_rows.specs.declared.cells.Datum.{Datum}
+use Rattle.tw_rows.specs.declared.kind.Kind.{Kind}
+use Rattle.tw_rows.specs.declared.edge.Edge.{Edge}
+use Rattle.edge_history.specs.Order.{failing}
+use Rattle.edge_stream.specs.declared.saved.SavedEntry.{SavedEntry}
+use Rattle.carried_edges.specs.Entries.{entry_of, saved_edge, entries_of, part_of, are_of_parts}
+
+-- the entries of a part give its edges back, and those of another part none
+pub part_of_own : (p : ℕ) (es : List Edge) → part_of p (entries_of p es) ≡ es
+part_of_own p [] = refl
+part_of_own p (e ∷ es) = let same : nat_eq p p ≡ true = grind (arith, nat_tests) in rw same (ap (λ l. e ∷ l) (part_of_own p es))
+
+pub part_of_other : (p q : ℕ) (es : List Edge) → nat_eq q p ≡ false → part_of p (entries_of q es) ≡ []
+part_of_other p q [] other = refl
+part_of_other p q (e ∷ es) other = rw other (part_of_other p q es other)
+
+pub part_of_append : (p : ℕ) (xs ys : List SavedEntry) → part_of p (xs ++ ys) ≡ part_of p xs ++ part_of p ys
+part_of_append p xs ys =
+    ap (map saved_edge) (filter-append (λ (s : SavedEntry). nat_eq s.part p) xs ys)
+    ∙ map-append saved_edge (filter (λ (s : SavedEntry). nat_eq s.part p) xs) (filter (λ (s : SavedEntry). nat_eq s.part p) ys)
+
+pub parts_own : (n p : ℕ) (es : List Edge) → nat_lt p n ≡ true → are_of_parts n (entries_of p es) ≡ true
+parts_own n p [] low = refl
+parts_own n p (e ∷ es) low = rw low (parts_own n p es low)
+
+pub parts_append : (n : ℕ) (xs ys : List SavedEntry) → are_of_parts n xs ≡ true → are_of_parts n ys ≡ true → are_of_parts n (xs ++ ys) ≡ true
+parts_append n xs ys one two = list_all-append (λ (s : SavedEntry). nat_lt s.part n) xs ys ∙ rw (one, two) refl
+
+-- a test that holds of all, and one that none fails
+module _ {X : Type 0} (p : X → Bool) where
+  pub none_fails : (xs : List X) → list_all p xs ≡ true → failing p xs ≡ 0
+  none_fails [] h = refl
+  none_fails (x ∷ xs) h = pick (p x) h (none_fails xs)
+    where
+      pick : (b : Bool) → (b && list_all p xs) ≡ true → (list_all p xs ≡ true → failing p xs ≡ 0) → cond {A = ℕ} b 0 1 + failing p xs ≡ 0
+      pick true k rest = let none = rest k in omega (arith, none)
+      pick false k rest = absurd (cc)
+
+  pub all_pass : (xs : List X) → failing p xs ≡ 0 → list_all p xs ≡ true
+  all_pass [] h = refl
+  all_pass (x ∷ xs) h = pick (p x) h (all_pass xs)
+    where
+      pick : (b : Bool) → cond {A = ℕ} b 0 1 + failing p xs ≡ 0 → (failing p xs ≡ 0 → list_all p xs ≡ true) → (b && list_all p xs) ≡ true
+      pick true k rest = rest (omega (arith, k))
+      pick false k rest = absurd (omega (arith, k))
+
+-- one item more, and the item at a place
+module _ {X : Type 0} (P : X → Type 0) where
+  pub All-next : (xs : List X) (i : ℕ) (x : X) → i < length xs → x ≡ get_or xs i x → All P (take i xs) → P x → All P (take (i + 1) xs)
+  All-next xs i x lt is all here = All-more P xs i x lt all (subst P is here)
+
+  pub All-there : (xs : List X) (i : ℕ) (x : X) → i < length xs → x ≡ get_or xs i x → All P xs → P x
+  All-there xs i x lt is all = subst P (sym is) (All-get_or P xs i x lt all)
+
+pub stored_at : (cells : List Datum) (kinds : List Kind) (i : ℕ) (d : Datum) (k : Kind) → i < length cells → map datum_kind cells ≡ map cell_kind_of kinds →
+    datum_kind (get_or cells i d) ≡ cell_kind_of (get_or kinds i k)
+stored_at cells kinds i d k lt same =
+    let len : length cells ≡ length kinds = sym (length-map cells datum_kind) ∙ ap length same ∙ length-map kinds cell_kind_of in
+    let here : i < length kinds = omega (arith, lt, len) in
+    sym (get_or-map datum_kind cells i d (datum_kind d) lt) ∙ ap (λ l. get_or l i (datum_kind d)) same ∙ get_or-map cell_kind_of kinds i k (datum_kind d) here
