@@ -17,12 +17,7 @@ use Rattle.life_laws.proofs.Lives.{new_lives}
 use Rattle.life_laws.proofs.Steps.{answered_in_order, lives_step}
 use Rattle.lifetime_ops.specs.declared.change.Change.{Change}
 use Rattle.lifetime_ops.specs.declared.change.Change.TheVariants.{Delay, Hop, Duration}
-use Rattle.lifetime_ops.specs.Nodes.{node_of}
-
-pub known : (change : Change) → has_known_lives (node_of change) ≡ true
-known (Delay by) = refl
-known (Hop size period) = refl
-known (Duration by) = refl
+use Rattle.lifetime_ops.specs.Nodes.{node_of, known}
 
 module _ (change : Change) where
   answered_both : (h k : List Edge) → answered (node_of change) (h ++ k) ≡ answered (node_of change) h ++ answered (node_of change) k

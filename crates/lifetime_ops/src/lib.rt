@@ -3,6 +3,10 @@
 
 mod change;
 mod life_operator;
+mod operating;
 
 pub use change::Change;
 pub use life_operator::LifeOperator;
+
+#[cfg(test)]
+mod tests;

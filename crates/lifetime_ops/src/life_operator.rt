@@ -1,18 +1,18 @@
 // The operator of a node that changes lives.
 ghost use Rattle.std.specs.Prelude.{◌≡◌, ◌≤◌, ℕ, false, is_err, List, [], ◌++◌, length, IfOk, OnOk};
-ghost use Rattle.tw_rows.specs.Bag.{SameBag};
 ghost use Rattle.tw_rows.specs.declared.edge.Edge.{Edge};
-ghost use Rattle.edge_history.specs.Order.{KeepsOrder};
+ghost use Rattle.edge_history.specs.Order.{KeepsOrder, failing, is_from};
 ghost use Rattle.batch.specs.Rows.{edges_of};
 ghost use Rattle.edge_stream.specs.Listing.{SameShape, cells_of};
 ghost use Rattle.plan_model.specs.Meaning.{node_closes};
 ghost use Rattle.operator.specs.Steps.{MayCome, ComeBetween};
-ghost use Rattle.life_laws.specs.Answers.{answered};
+ghost use Rattle.life_laws.specs.Answers.{answered, answered_below};
 ghost use Rattle.life_laws.specs.Keeping.{KeepsLives};
 ghost use Rattle.lifetime_ops.specs.Nodes.{node_of};
 
 use crate::change::Change;
 use batch::{Batch, Pools};
+use carried_edges::take_below;
 use edge_stream::EdgeList;
 use std::alloc::Global;
 use tw_rows::{Kind, Memory, Time};
@@ -26,26 +26,7 @@ pub struct LifeOperator {
     pub(crate) left_to: Time,
     pub(crate) right_to: Time,
     pub(crate) failed: bool,
-}
-
-// The edges that were carried and new ones, in order.
-fn with_carried(pools: &mut Pools, carried: EdgeList, left: EdgeList) -> Result<EdgeList, Memory>
-    requires kinds { carried.kinds ≡ left.kinds }
-    requires capacity { carried.capacity ≡ left.capacity }
-    requires pools { pools.old.capacity ≡ carried.capacity }
-    ensures edges { IfOk result (λ all. SameBag all.edges (carried.edges ++ left.edges)) }
-    ensures order { IfOk result (λ all. KeepsOrder all.edges) }
-    ensures shape { IfOk result (λ all. SameShape carried all) }
-    ensures pools { OnOk result (pools.new.capacity ≡ pools.old.capacity) }
-{
-    if carried.cursor().rank().is_none() {
-        // Its call tells the proof that the edges keep the order.
-        let _ = left.cursor();
-        carried.give_back(pools);
-        return Ok(left);
-    }
-    let all = EdgeList::merge(pools, carried, left)?;
-    Ok(all)
+    ghost late: { failed ≡ false → failing (is_from (answered_below (node_of change) left_to)) carried.edges ≡ 0 },
 }
 
 // Puts the batch last.
@@ -104,7 +85,7 @@ impl LifeOperator {
     }
 
     /// Answers the edges that came early enough, changed, and carries the others.
-    pub fn advance(
+    pub(crate) fn advance(
         &mut self,
         pools: &mut Pools,
         left: EdgeList,
@@ -114,7 +95,7 @@ impl LifeOperator {
     ) -> Result<EdgeList, Memory>
         requires left_rises { self.old.left_to ≤ left_to }
         requires right_rises { self.old.right_to ≤ right_to }
-        requires left_kinds { left.kinds ≡ self.old.carried.kinds }
+        requires left_kinds { cells_of left ≡ cells_of self.old.carried }
         requires left_capacity { left.capacity ≡ self.old.carried.capacity }
         requires right_capacity { right.capacity ≡ self.old.carried.capacity }
         requires capacity { pools.old.capacity ≡ self.old.carried.capacity }
@@ -123,25 +104,22 @@ impl LifeOperator {
             MayCome texts self.old.left_to hl left.edges → MayCome texts self.old.right_to hr right.edges →
             KeepsLives (node_of self.old.change) texts left_to right_to self.new.carried.edges (hl ++ left.edges) (hr ++ right.edges) (out ++ answer.edges)
             × ComeBetween (node_closes (node_of self.old.change) self.old.left_to self.old.right_to) (node_closes (node_of self.old.change) left_to right_to) answer.edges) }
-        ensures kinds { IfOk result (λ answer. answer.kinds ≡ self.old.carried.kinds) }
+        ensures kinds { IfOk result (λ answer. cells_of answer ≡ cells_of self.old.carried) }
         ensures capacity { IfOk result (λ answer. answer.capacity ≡ self.old.carried.capacity) }
-        ensures pools { OnOk result (pools.new.capacity ≡ pools.old.capacity) }
+        ensures pools { pools.new.capacity ≡ pools.old.capacity }
         ensures left_to { OnOk result (self.new.left_to ≡ left_to) }
         ensures right_to { OnOk result (self.new.right_to ≡ right_to) }
         ensures failed { self.new.failed ≡ is_err result }
         ensures change { self.new.change ≡ self.old.change }
-        ensures shape { SameShape self.old.carried self.new.carried }
+        ensures own_kinds { cells_of self.new.carried ≡ cells_of self.old.carried }
+        ensures own_capacity { self.new.carried.capacity ≡ self.old.carried.capacity }
     {
         self.failed = true;
         // These calls tell the proof that both are times.
         let _ = (left_to.word(), right_to.word());
         right.give_back(pools);
-        let empty = EdgeList::new(self.alloc, self.carried.kinds(), self.carried.capacity())?;
-        let carried = std::mem::replace(&mut self.carried, empty);
-        self.carried = with_carried(pools, carried, left)?;
-        let due = self
-            .carried
-            .split_below(pools, self.change.answered_below(left_to))?;
+        let below = self.change.answered_below(left_to);
+        let due = take_below(self.alloc, pools, &mut self.carried, left, below)?;
         let answer = answer_of(self.change, self.alloc, due)?;
         self.left_to = left_to;
         self.right_to = right_to;
