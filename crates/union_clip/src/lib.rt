@@ -1,0 +1,10 @@
+//! The operator of a Union.
+#![tactic(auto)]
+
+mod operating;
+mod union;
+
+pub use union::UnionOperator;
+
+#[cfg(test)]
+mod tests;
