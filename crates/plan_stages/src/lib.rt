@@ -1,0 +1,10 @@
+//! A plan at work: all its nodes take one step at each punctuation, in order of number.
+#![tactic(auto)]
+
+mod dataflow;
+mod laws;
+mod stage;
+
+pub use dataflow::{Dataflow, PlanFault};
+pub use laws::plans_flow_on_with_longer_tables;
+pub use stage::Stage;
