@@ -1,2 +1,4 @@
 pub mod Rules
 pub mod Growing
+pub mod HeldLists
+pub mod Undefining

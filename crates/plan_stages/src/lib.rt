@@ -3,6 +3,7 @@
 
 mod dataflow;
 mod laws;
+mod reading;
 mod stage;
 
 pub use dataflow::{Dataflow, PlanFault};
