@@ -1,5 +1,5 @@
 -- The lists that are held while the nodes of a plan read and make theirs.
-use Rattle.std.specs.Prelude.{◌≡◌, ◌≢◌, ◌↔◌, ◌⊎◌, ℕ, zero, suc, ◌+◌, ◌-◌, ◌<◌, ◌≤◌, nat_eq, Bool, true, false, cond, IsTrue, Some, None, List, [], ◌∷◌, ◌++◌, map, length, get_or, slice_get, Result, Ok, Err, IfOk}
+use Rattle.std.specs.Prelude.{◌≡◌, ◌≢◌, ◌↔◌, ◌⊎◌, ℕ, zero, suc, ◌+◌, ◌-◌, ◌<◌, ◌≤◌, nat_eq, Bool, true, false, cond, IsTrue, Some, None, List, [], ◌∷◌, ◌++◌, map, length, get_or, slice_get, Result, Ok, Err, IfOk, OnErr, min, take}
 use Rattle.std.proofs.Common.{refl, sym, ap, subst, ◌∙◌, arith, inl, inr}
 use Rattle.std.proofs.lemmas.Bool.{cases_lt, cases_eq, ne_eqb}
 use Rattle.std.proofs.lemmas.Bool.Decides.{Decides-eqb}
@@ -13,7 +13,8 @@ use Rattle.tw_rows.specs.Kinds.{cell_kind_of}
 use Rattle.batch.specs.Shelves.{Shelves}
 use Rattle.batch.proofs.Stocks.{NoMore-all}
 use Rattle.edge_stream.specs.Listing.{EdgeListView, cells_of}
-use Rattle.edge_stream.specs.Taking.{batches_taken}
+use Rattle.edge_stream.specs.Taking.{batches_taken, AreBatchesTaken}
+use Rattle.edge_stream.proofs.Filling.{batches_taken-capacity}
 use Rattle.plan_model.specs.declared.node.Node.{Node}
 use Rattle.plan_model.specs.declared.node.Node.TheVariants.{Source}
 use Rattle.plan_model.specs.IsPlan.{PlanParts, kinds_at, kinds_of_stream}
@@ -21,9 +22,11 @@ use Rattle.plan_model.specs.Shape.{Shape, Stream, One, Two, shape, left_in, read
 use Rattle.plan_model.proofs.Kept.{IsNodeAt}
 use Rattle.lane_expr.specs.Kernels.{kind_for}
 use Rattle.node_laws.specs.Places.{EdgesArePlaced}
-use Rattle.node_stage.proofs.Nodes.{stream_there, one_node}
+use Rattle.node_stage.proofs.Nodes.{stream_there, one_node, childless}
 use Rattle.plan_stages.specs.Lists.{edges_at, IsListOf, AreGiven}
-use Rattle.plan_stages.specs.Stages.{left_kinds, right_kinds}
+use Rattle.plan_stages.specs.Stages.{left_kinds, right_kinds, right_closing}
+use Rattle.plan_model.specs.Meaning.{closes}
+use Rattle.tw_rows.specs.Instant.{inf}
 use Rattle.plan_stages.specs.Held.{IsListWith, IsRead, IsNeeded, IsNeededRight, IsNeededStream, AreHeld, HeldBefore, HeldBetween}
 
 -- the lists by number, with that of i made
@@ -72,6 +75,14 @@ right_of-child none at n k e = ap (at_child none at) e
 
 pub right_of-none : {R : Type 0} (none : R) (at : ℕ → R) (n : Node) → right_child n ≡ None → right_of none at n ≡ none
 right_of-none none at n e = ap (at_child none at) e
+
+pub left_of-none : {R : Type 0} (none : R) (source : R) (at : ℕ → R) (n : Node) → left_child n ≡ None → left_of none (λ s. source) at n ≡ source
+left_of-none none source at n e = let is = childless n e in ap (left_of none (λ s. source) at) is.1
+
+-- the closing of a right child that is not there
+pub right_infinite : (nodes : List Node) (p : ℕ) (n : Node) → right_child n ≡ None → 2305843009213693952 ≡ right_closing nodes p n
+unfolding inf
+right_infinite nodes p n e = sym (ap (at_child inf (λ k. closes nodes k p)) e)
 
 -- a list that was taken or copied
 pub same_list : (texts : List (List ℕ)) (capacity : ℕ) (kinds : List CellKind) (edges : List Edge) (old new : EdgeListView) → IsListWith texts capacity kinds edges old →
@@ -271,3 +282,16 @@ pub none_reads : (plan : PlanParts) (from child count : ℕ) → length plan.nod
 none_reads plan from child count all none read =
     let low : read.0 < length plan.nodes = slice_get_within plan.nodes read.0 read.1.0 read.1.1.1.0 in
     none read.0 read.1.0 read.1.1.0 (omega (arith, low, all)) read.1.1.1.0 read.1.1.1.1
+
+-- and so the pools stay alike whether a copy was made or memory was wanting
+pub copy_leaves : {E : Type 0} (r : Result EdgeListView E) (old new : Shelves) (kinds : List CellKind) → IfOk r (λ copy. new ≡ batches_taken copy.batches old kinds) → OnErr r (AreBatchesTaken old new kinds) →
+    (new.capacity ≡ old.capacity) × (new.limit ≡ old.limit)
+copy_leaves (Ok copy) old new kinds told failed = (
+  ap (λ s. s.capacity) told ∙ batches_taken-capacity copy.batches old kinds,
+  ap (λ s. s.limit) told ∙ taken_limit copy.batches old kinds,
+)
+copy_leaves (Err e) old new kinds told failed =
+    let part = NoMore-all (record (batches_taken failed.whole old kinds) { words = (batches_taken failed.whole old kinds).words - min failed.part.count 4; occupancies = (batches_taken failed.whole old kinds).occupancies - min (failed.part.count - 4) 1 }) (take (failed.part.count - 5) kinds) in (
+      ap (λ s. s.capacity) failed.part.is ∙ part.capacity ∙ batches_taken-capacity failed.whole old kinds,
+      ap (λ s. s.limit) failed.part.is ∙ part.limit ∙ taken_limit failed.whole old kinds,
+    )

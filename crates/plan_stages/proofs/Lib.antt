@@ -2,3 +2,5 @@ pub mod Rules
 pub mod Growing
 pub mod HeldLists
 pub mod Undefining
+pub mod Flowing
+pub mod Stepping

@@ -1,6 +1,7 @@
 -- A plan at work: what each of its stages keeps of the edges of streams, and what a step gives.
 use Rattle.std.specs.Prelude.{◌≡◌, ℕ, ◌≤◌, Option, Some, None, List, [], ◌++◌, length, slice_get}
 use Rattle.tw_rows.specs.declared.edge.Edge.{Edge}
+use Rattle.batch.specs.Shelves.{Shelves}
 use Rattle.edge_history.specs.Order.{is_from, failing}
 use Rattle.plan_model.specs.declared.node.Node.{Node}
 use Rattle.plan_model.specs.IsPlan.{PlanParts, most_columns}
@@ -18,6 +19,10 @@ pub record DataflowView : Type 0 where
   pub stages : List Stage
   pub capacity : ℕ
   pub limit : ℕ
+
+-- so much of a plan with these stages and pools
+abbrev pub parts_of : PlanParts → List Stage → Shelves → DataflowView
+parts_of plan stages pools = record { plan = plan; stages = stages; capacity = pools.capacity; limit = pools.limit }
 
 -- each stage can take a step, once the punctuation `last` was worked through
 abbrev pub AreReady : List (List ℕ) → ℕ → PlanParts → ℕ → List Stage → Type 0

@@ -12,6 +12,7 @@ ghost use Rattle.node_laws.specs.Standing.{SourcesStandRead};
 ghost use Rattle.plan_stages.specs.Lists.{edges_at, longer, AreFrom, AreGiven, IsListOf};
 ghost use Rattle.plan_stages.specs.Flows.{CanStep, Flows, HasFlowed};
 
+use crate::fault::PlanFault;
 use crate::stage::Stage;
 use batch::Pools;
 use edge_stream::EdgeList;
@@ -19,14 +20,6 @@ use plan_model::Plan;
 use std::alloc::Global;
 use std::marker::Model;
 use tw_rows::{Memory, TextTable, Time};
-
-/// Why a step of a plan gave no edges.
-#[derive(Clone, Copy, Debug, PartialEq, Eq)]
-pub enum PlanFault {
-    /// A total of the node of that number has passed its limits at this time.
-    Overflow { node: usize, time: Time },
-    Memory,
-}
 
 /// A plan at work. Contracts see the plan, its stages, how many rows each batch has room for, and how many columns its pools
 /// hold; `Flows` says of which edges the stages have taken steps. After a fault no further step may be taken.

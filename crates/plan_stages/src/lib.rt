@@ -2,10 +2,13 @@
 #![tactic(auto)]
 
 mod dataflow;
+mod fault;
 mod laws;
 mod reading;
 mod stage;
+mod steps;
 
-pub use dataflow::{Dataflow, PlanFault};
+pub use dataflow::Dataflow;
+pub use fault::PlanFault;
 pub use laws::plans_flow_on_with_longer_tables;
 pub use stage::Stage;

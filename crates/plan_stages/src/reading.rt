@@ -94,8 +94,8 @@ fn take_list(
     ensures capacity { IfOk result (λ l. (d : EdgeListView) → l.capacity ≡ (get_or lists.old.items at d).capacity) }
     ensures others { OnOk result ((k : ℕ) (d : EdgeListView) → (k ≢ at) ⊎ (again ≡ true) → get_or lists.new.items k d ≡ get_or lists.old.items k d) }
     ensures count { length lists.new.items ≡ length lists.old.items }
-    ensures pools { OnOk result (pools.new.capacity ≡ pools.old.capacity) }
-    ensures limit { OnOk result (pools.new.limit ≡ pools.old.limit) }
+    ensures pools { pools.new.capacity ≡ pools.old.capacity }
+    ensures limit { pools.new.limit ≡ pools.old.limit }
 {
     if again {
         return lists[at].copy(pools);
@@ -123,8 +123,8 @@ pub(crate) fn left_list(
         HeldBetween texts pools.old.capacity plan.now i given more streams.new.items made.new.items) }
     ensures streams { length streams.new.items ≡ length streams.old.items }
     ensures made { length made.new.items ≡ length made.old.items }
-    ensures pools { OnOk result (pools.new.capacity ≡ pools.old.capacity) }
-    ensures limit { OnOk result (pools.new.limit ≡ pools.old.limit) }
+    ensures pools { pools.new.capacity ≡ pools.old.capacity }
+    ensures limit { pools.new.limit ≡ pools.old.limit }
 {
     let nodes = plan.nodes();
     match &nodes[i] {
@@ -159,8 +159,8 @@ pub(crate) fn right_list(
     ensures held { OnOk result ((texts : List (List ℕ)) (given more : ℕ → List Edge) (streams : List EdgeListView) → HeldBetween texts pools.old.capacity plan.now i given more streams made.old.items →
         HeldBefore texts pools.old.capacity plan.now (i + 1) given more streams made.new.items) }
     ensures made { length made.new.items ≡ length made.old.items }
-    ensures pools { OnOk result (pools.new.capacity ≡ pools.old.capacity) }
-    ensures limit { OnOk result (pools.new.limit ≡ pools.old.limit) }
+    ensures pools { pools.new.capacity ≡ pools.old.capacity }
+    ensures limit { pools.new.limit ≡ pools.old.limit }
 {
     let nodes = plan.nodes();
     match nodes[i].right_child() {
