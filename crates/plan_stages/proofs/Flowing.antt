@@ -1,28 +1,25 @@
 -- One step of each node of a plan, node by node.
-use Rattle.std.specs.Prelude.{◌≡◌, ℕ, zero, suc, ◌<◌, ◌≤◌, cond, Option, Some, None, List, [], ◌++◌, length, get_or, slice_get}
+use Rattle.std.specs.Prelude.{◌≡◌, ℕ, zero, suc, ◌<◌, ◌≤◌, cond, Option, Some, None, List, [], ◌++◌, get_or, slice_get}
 use Rattle.std.proofs.Common.{refl, sym, ap, subst, ◌∙◌, arith, inl, inr}
 use Rattle.std.proofs.lemmas.Bool.{cases_lt}
 use Rattle.std.proofs.lemmas.Bool.Decides.{nat_tests}
-use Rattle.std.proofs.lemmas.Option.{slice_get-get_or, get_or_from_slice_get}
 use Rattle.tw_rows.specs.Instant.{inf}
 use Rattle.tw_rows.specs.declared.edge.Edge.{Edge}
-use Rattle.tw_rows.specs.declared.kind.CellKind.{CellKind}
 use Rattle.edge_history.specs.Order.{is_from, failing}
 use Rattle.edge_stream.specs.Listing.{EdgeListView, cells_of}
 use Rattle.plan_model.specs.declared.node.Node.{Node}
 use Rattle.plan_model.specs.IsPlan.{PlanParts, IsPlan}
-use Rattle.plan_model.specs.Meaning.{Sources, left_of, right_of, right_child, node_closes, node_events, closes, events}
-use Rattle.plan_model.proofs.Closings.{left_rises, right_rises}
+use Rattle.plan_model.specs.Meaning.{Sources, left_of, right_of, right_child, node_closes, closes, events}
 use Rattle.plan_model.proofs.Kept.{IsPlan-ordered}
 use Rattle.plan_model.proofs.Plans.{over_nodes-is, left_of_below, at_child_below, left_all, right_all, left_longer, right_longer}
 use Rattle.plan_laws.specs.Undefined.{first_undefined}
-use Rattle.node_laws.specs.Places.{AreDistinct, read_of}
+use Rattle.node_laws.specs.Places.{AreDistinct}
 use Rattle.node_laws.specs.Standing.{StandsRead, SourcesStandRead, AllStandRead}
 use Rattle.node_laws.proofs.Through.{left_stands, right_stands, node_stands, all_more}
 use Rattle.tw_rows.proofs.Bags.{total_same, total_zero}
 use Rattle.plan_stages.specs.declared.stage.Stage.{Stage}
 use Rattle.plan_stages.specs.Lists.{longer, AreFrom}
-use Rattle.plan_stages.specs.Stages.{reached, left_closing, right_closing, left_kinds, right_kinds, MayComeUpTo, IsReady, StageKeeps, Takes, KeepsOn, StaysReady, IsUndefinedAt, first_undefined_read}
+use Rattle.plan_stages.specs.Stages.{reached, left_closing, right_closing, MayComeUpTo, IsReady, StageKeeps, Takes, KeepsOn, StaysReady, IsUndefinedAt, first_undefined_read}
 use Rattle.plan_stages.proofs.Rules.{stage_stands}
 use Rattle.plan_stages.proofs.Undefining.{first_as_read}
 

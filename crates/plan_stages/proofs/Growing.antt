@@ -1,8 +1,7 @@
 -- A plan at work with a longer table.
-use Rattle.std.proofs.Common.{◌≡◌, ℕ, List}
+use Rattle.std.proofs.Common.{ℕ, List}
 use Rattle.tw_rows.specs.Texts.{BeginsWith}
 use Rattle.tw_rows.specs.declared.edge.Edge.{Edge}
-use Rattle.plan_model.specs.Meaning.{left_of, right_of}
 use Rattle.plan_stages.specs.Stages.{reached, left_closing, right_closing, left_kinds, right_kinds}
 use Rattle.plan_stages.specs.Flows.{DataflowView, CanStep, Flows}
 use Rattle.plan_stages.proofs.Rules.{ready_longer, keeps_longer}

@@ -1,5 +1,5 @@
 -- The lists that are held while the nodes of a plan read and make theirs.
-use Rattle.std.specs.Prelude.{◌≡◌, ◌≢◌, ◌↔◌, ◌⊎◌, ℕ, zero, suc, ◌+◌, ◌-◌, ◌<◌, ◌≤◌, nat_eq, Bool, true, false, cond, IsTrue, Some, None, List, [], ◌∷◌, ◌++◌, map, length, get_or, slice_get, Result, Ok, Err, IfOk, OnErr, min, take}
+use Rattle.std.specs.Prelude.{◌≡◌, ◌≢◌, ◌↔◌, ◌⊎◌, ℕ, zero, suc, ◌+◌, ◌-◌, ◌<◌, ◌≤◌, nat_eq, Bool, true, cond, IsTrue, Some, None, List, [], ◌∷◌, ◌++◌, map, length, get_or, slice_get, Result, Ok, Err, IfOk, OnErr, min, take}
 use Rattle.std.proofs.Common.{refl, sym, ap, subst, ◌∙◌, arith, inl, inr}
 use Rattle.std.proofs.lemmas.Bool.{cases_lt, cases_eq, ne_eqb}
 use Rattle.std.proofs.lemmas.Bool.Decides.{Decides-eqb}

@@ -4,3 +4,4 @@ pub mod HeldLists
 pub mod Undefining
 pub mod Flowing
 pub mod Stepping
+pub mod Opening

@@ -1,5 +1,5 @@
 -- The rules of a stage, whatever its node.
-use Rattle.std.proofs.Common.{◌≡◌, ◌∙◌, ℕ, zero, suc, Bool, false, None, List, [], ◌∷◌, ◌++◌, refl, ap, sym, subst}
+use Rattle.std.proofs.Common.{◌≡◌, ℕ, zero, suc, false, None, List, [], ◌++◌, refl, sym, subst}
 use Rattle.tw_rows.specs.Texts.{BeginsWith}
 use Rattle.tw_rows.specs.declared.edge.Edge.{Edge}
 use Rattle.tw_rows.specs.declared.kind.CellKind.{CellKind}
@@ -12,7 +12,7 @@ use Rattle.node_laws.specs.Standing.{StandsRead}
 use Rattle.node_laws.proofs.Standing.{placed_longer, node_valid, no_history}
 use Rattle.tw_rows.proofs.Knowing.{Known-refl}
 use Rattle.plan_model.specs.declared.node.Node.TheVariants.{Source}
-use Rattle.node_stage.proofs.MadeEdges.{by_node, first_made, made_more, made_longer, made_later, made_stand}
+use Rattle.node_stage.proofs.MadeEdges.{by_node, made_more, made_longer, made_later, made_stand}
 use Rattle.node_stage.proofs.Nodes.{stage-more}
 use Rattle.plan_stages.specs.declared.stage.Stage.{Stage}
 use Rattle.plan_stages.specs.declared.stage.Stage.TheVariants.{Rows}
@@ -67,5 +67,5 @@ module _ (texts : List (List ℕ)) (capacity : ℕ) (kinds : List CellKind) (n :
       made = made_more texts capacity kinds n s is hl out l answer kept.made made;
     },
     subst (λ c. failing (is_from c) answer ≡ 0) (sym (by_node texts capacity kinds n s is (λ m. node_closes m x y ≡ x) (λ stream. refl) (λ of test. refl) (λ of items. refl)))
-    (made_later texts capacity kinds n s is l answer made x may.may.from),
+        (made_later texts capacity kinds n s is l answer made x may.may.from),
   )

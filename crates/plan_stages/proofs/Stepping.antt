@@ -1,5 +1,5 @@
 -- The step of one node of a plan, over the lists that it reads.
-use Rattle.std.specs.Prelude.{◌≡◌, ℕ, zero, suc, ◌+◌, ◌<◌, ◌≤◌, cond, Option, Some, None, List, [], ◌++◌, map, length, get_or, slice_get, slice_set}
+use Rattle.std.specs.Prelude.{◌≡◌, ℕ, zero, suc, ◌+◌, ◌<◌, ◌≤◌, Some, None, List, [], map, length, get_or, slice_get, slice_set}
 use Rattle.std.proofs.Common.{refl, sym, ap, subst, ◌∙◌, arith, inl, inr}
 use Rattle.std.proofs.lemmas.Bool.{cases_lt}
 use Rattle.std.proofs.lemmas.List.{get_or-set_same, get_or-set_other}
@@ -13,11 +13,11 @@ use Rattle.edge_stream.specs.Listing.{EdgeListView, cells_of}
 use Rattle.plan_model.specs.declared.node.Node.{Node}
 use Rattle.plan_model.specs.declared.node.Node.TheVariants.{Source}
 use Rattle.plan_model.specs.IsPlan.{PlanParts, IsPlan, kinds_at, node_kinds, most_columns}
-use Rattle.plan_model.specs.Meaning.{Sources, left_of, right_of, right_child, node_closes, closes, events}
+use Rattle.plan_model.specs.Meaning.{Sources, left_of, right_of, right_child, closes}
 use Rattle.plan_model.proofs.Closings.{left_rises, right_rises}
 use Rattle.plan_model.proofs.Kept.{IsPlan-ordered}
 use Rattle.plan_model.proofs.Plans.{left_of_below, at_child_below}
-use Rattle.plan_laws.specs.Undefined.{first_undefined, overflow}
+use Rattle.plan_laws.specs.Undefined.{overflow}
 use Rattle.lane_expr.specs.Kernels.{kind_for}
 use Rattle.node_laws.specs.Places.{AreDistinct, EdgesArePlaced}
 use Rattle.node_laws.specs.Standing.{SourcesStandRead}

@@ -12,13 +12,13 @@ use Rattle.plan_model.specs.declared.node.Node.{Node}
 use Rattle.plan_model.specs.declared.node.Node.TheVariants.{Source, Where, Select, Union, Delay, Hop, Duration, Extend, Session, Clip, Group, Join, Anti, Coalesce, Mean, Top, Follow}
 use Rattle.plan_model.specs.IsPlan.{PlanParts, IsPlan}
 use Rattle.plan_model.specs.Keys.{value_ops}
-use Rattle.plan_model.specs.Meaning.{Sources, left_of, right_of, node_closes, closes, events, snapshots}
+use Rattle.plan_model.specs.Meaning.{Sources, left_of, node_closes, closes, events, snapshots}
 use Rattle.plan_model.proofs.Closings.{closes_low}
 use Rattle.plan_model.proofs.Kept.{IsPlan-ordered}
 use Rattle.plan_model.proofs.Levels.{IsPlan-levelled}
 use Rattle.plan_model.proofs.PlanLaws.{events_agree}
 use Rattle.plan_model.proofs.Plans.{over_nodes-is, left_all}
-use Rattle.plan_laws.specs.Undefined.{is_group, undefined_over, left_rows, undefined_node, undefined_at, first_below, first_undefined, Overflow, overflow_of, overflow_there, overflow}
+use Rattle.plan_laws.specs.Undefined.{is_group, undefined_over, left_rows, undefined_node, undefined_at, first_below, first_undefined, overflow_of, overflow_there, overflow}
 use Rattle.plan_laws.proofs.Undefinedness.{undefined_others, undefined_alike, undefined_known, first_below_same, IsFirst, first_below_is}
 use Rattle.node_laws.specs.Places.{read_of}
 use Rattle.node_laws.specs.Standing.{StandsRead}
@@ -94,9 +94,9 @@ module _ (first : ℕ → Option ℕ) where
       go (Some t) h = elim (cases_lt t i) [
         | inl less ↦ (let no : is_some (first t) ≡ false = ap is_some (none t less) in let yes : IsTrue (is_some (first t)) = h.1 in absurd (cc))
         | inr more ↦ elim (cases_lt i t) [
-            | inl greater ↦ (let no : is_some (first i) ≡ false = h.2 i greater in let yes : is_some (first i) ≡ true = ap is_some here in absurd (cc))
-            | inr less ↦ at t (omega (arith, more, less))
-          ]
+          | inl greater ↦ (let no : is_some (first i) ≡ false = h.2 i greater in let yes : is_some (first i) ≡ true = ap is_some here in absurd (cc))
+          | inr less ↦ at t (omega (arith, more, less))
+        ]
       ]
 
 pub no_overflow : (source : Sources) (nodes : List Node) (p : ℕ) → ((j : ℕ) → j < length nodes → first_undefined source nodes j (closes nodes j p) ≡ None) → overflow source nodes p ≡ None

@@ -1,5 +1,5 @@
 -- A plan at work: what each of its stages keeps of the edges of streams, and what a step gives.
-use Rattle.std.specs.Prelude.{◌≡◌, ℕ, ◌≤◌, Option, Some, None, List, [], ◌++◌, length, slice_get}
+use Rattle.std.specs.Prelude.{◌≡◌, ℕ, ◌<◌, ◌≤◌, Some, None, List, [], length, slice_get}
 use Rattle.tw_rows.specs.declared.edge.Edge.{Edge}
 use Rattle.batch.specs.Shelves.{Shelves}
 use Rattle.edge_history.specs.Order.{is_from, failing}
@@ -7,9 +7,10 @@ use Rattle.plan_model.specs.declared.node.Node.{Node}
 use Rattle.plan_model.specs.IsPlan.{PlanParts, most_columns}
 use Rattle.plan_model.specs.Meaning.{Sources, closes, left_of, right_of}
 use Rattle.plan_laws.specs.Undefined.{overflow}
-use Rattle.node_laws.specs.Standing.{AllStandRead}
+use Rattle.node_laws.specs.Places.{AreDistinct}
+use Rattle.node_laws.specs.Standing.{SourcesStandRead, AllStandRead}
 use Rattle.plan_stages.specs.declared.stage.Stage.{Stage}
-use Rattle.plan_stages.specs.Lists.{longer}
+use Rattle.plan_stages.specs.Lists.{longer, AreFrom}
 use Rattle.plan_stages.specs.Stages.{reached, left_closing, right_closing, left_kinds, right_kinds, IsReady, StageKeeps}
 
 -- what contracts see of a plan at work: the plan, its stages, how many rows each batch has room for, and how many columns the
@@ -55,3 +56,14 @@ pub record HasFlowed (texts : List (List ℕ)) (last p : ℕ) (source : Sources)
   pub root : out ≡ more d.plan.root
   pub later : failing (is_from (reached last (closes d.plan.nodes d.plan.root last))) out ≡ 0
   pub defined : overflow source d.plan.nodes p ≡ None
+
+-- of whatever the stages took their steps before, with the edges that are given now the step at p gives this plan and this
+-- answer: where the edges come at the last punctuation or later, and with those before stand for the sources below p
+abbrev pub GivesOn : List (List ℕ) → ℕ → (ℕ → List Edge) → DataflowView → DataflowView → List Edge → Type 0
+GivesOn texts p given d after out = (last : ℕ) (old lists : ℕ → List Edge) (source : Sources) → AreDistinct texts → Flows texts last old lists d → last < p →
+    SourcesStandRead texts p source (longer old given) → AreFrom last given → HasFlowed texts last p source old given lists after out
+
+-- and so the overflow at p is that of the node of that number, at that time
+abbrev pub OverflowsAt : List (List ℕ) → ℕ → (ℕ → List Edge) → DataflowView → ℕ → ℕ → Type 0
+OverflowsAt texts p given d node time = (last : ℕ) (old lists : ℕ → List Edge) (source : Sources) → AreDistinct texts → Flows texts last old lists d → last < p →
+    SourcesStandRead texts p source (longer old given) → AreFrom last given → overflow source d.plan.nodes p ≡ Some (record { node = node; time = time })

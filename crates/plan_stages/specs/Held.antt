@@ -1,5 +1,5 @@
 -- The lists that are there while the nodes of a plan take a step, in order of number: those that are still to be read.
-use Rattle.std.specs.Prelude.{◌≡◌, ℕ, ◌+◌, ◌<◌, ◌≤◌, ◌⊎◌, Some, List, length, get_or, slice_get}
+use Rattle.std.specs.Prelude.{◌≡◌, ℕ, ◌+◌, ◌<◌, ◌≤◌, ◌⊎◌, Some, List, [], length, get_or, slice_get}
 use Rattle.tw_rows.specs.declared.edge.Edge.{Edge}
 use Rattle.tw_rows.specs.declared.kind.CellKind.{CellKind}
 use Rattle.edge_stream.specs.Listing.{EdgeListView}
@@ -7,7 +7,9 @@ use Rattle.plan_model.specs.declared.node.Node.{Node}
 use Rattle.plan_model.specs.declared.node.Node.TheVariants.{Source}
 use Rattle.plan_model.specs.IsPlan.{PlanParts, kinds_of_stream, kinds_at}
 use Rattle.plan_model.specs.Meaning.{left_child, right_child}
+use Rattle.plan_stages.specs.declared.stage.Stage.{Stage}
 use Rattle.plan_stages.specs.Lists.{IsListOf}
+use Rattle.plan_stages.specs.Stages.{left_kinds, right_kinds, IsReady, StageKeeps}
 
 -- the list of these edges
 pub record IsListWith (texts : List (List ℕ)) (capacity : ℕ) (kinds : List CellKind) (edges : List Edge) (l : EdgeListView) : Type 0 where
@@ -44,3 +46,11 @@ HeldBefore texts capacity plan i given more streams made = AreHeld texts capacit
 
 abbrev pub HeldBetween : List (List ℕ) → ℕ → PlanParts → ℕ → (ℕ → List Edge) → (ℕ → List Edge) → List EdgeListView → List EdgeListView → Type 0
 HeldBetween texts capacity plan i given more streams made = AreHeld texts capacity plan (IsNeededStream plan (i + 1)) (IsNeededRight plan i) given more streams made
+
+-- there is a stage for each node, and each stands as it was made: nothing came in, nothing was answered
+pub record AreFresh (texts : List (List ℕ)) (capacity : ℕ) (plan : PlanParts) (stages : List Stage) : Type 0 where
+  pub count : length stages ≡ length plan.nodes
+  pub ready : (i : ℕ) (n : Node) (s : Stage) → slice_get plan.nodes i ≡ Some n → slice_get stages i ≡ Some s →
+      IsReady texts capacity (left_kinds plan n) (right_kinds plan n) n s 0 0
+  pub opens : (i : ℕ) (n : Node) (s : Stage) → slice_get plan.nodes i ≡ Some n → slice_get stages i ≡ Some s →
+      StageKeeps texts n s 0 0 [] [] []

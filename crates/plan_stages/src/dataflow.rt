@@ -1,22 +1,19 @@
 // A plan at work.
 ghost use Rattle.std.specs.Prelude.{◌≡◌, ◌<◌, ◌≤◌, ℕ, true, Some, List, [], slice_get, IfOk, IfErr, OnOk};
 ghost use Rattle.tw_rows.specs.Texts.{BeginsWith};
-ghost use Rattle.tw_rows.specs.declared.edge.Edge.{Edge};
 ghost use Rattle.plan_model.specs.declared.node.Node.{Node};
 ghost use Rattle.plan_model.specs.IsPlan.{kinds_at};
-ghost use Rattle.plan_model.specs.Meaning.{Sources};
 ghost use Rattle.plan_model.specs.Reach.{is_built};
-ghost use Rattle.plan_laws.specs.Undefined.{overflow};
-ghost use Rattle.node_laws.specs.Places.{AreDistinct};
-ghost use Rattle.node_laws.specs.Standing.{SourcesStandRead};
-ghost use Rattle.plan_stages.specs.Lists.{edges_at, longer, AreFrom, AreGiven, IsListOf};
-ghost use Rattle.plan_stages.specs.Flows.{CanStep, Flows, HasFlowed};
+ghost use Rattle.plan_stages.specs.Lists.{edges_at, AreGiven, IsListOf};
+ghost use Rattle.plan_stages.specs.Flows.{CanStep, Flows, GivesOn, OverflowsAt};
+ghost use Rattle.plan_stages.specs.Held.{AreFresh};
 
 use crate::fault::PlanFault;
 use crate::stage::Stage;
+use crate::steps::step_all;
 use batch::Pools;
 use edge_stream::EdgeList;
-use plan_model::Plan;
+use plan_model::{MOST_COLUMNS, Plan};
 use std::alloc::Global;
 use std::marker::Model;
 use tw_rows::{Memory, TextTable, Time};
@@ -39,6 +36,24 @@ impl Model for Dataflow {
     ghost view = { λ d. record { plan = d.plan; stages = d.stages.items; capacity = d.pools.capacity; limit = d.pools.limit } };
 }
 
+// A stage for each node of the plan.
+fn stages_of(
+    alloc: Global,
+    plan: &Plan,
+    capacity: usize,
+    texts: &mut TextTable,
+) -> Result<Vec<Stage>, Memory>
+    requires { (i : ℕ) (n : Node) → slice_get plan.now.nodes i ≡ Some n → is_built n ≡ true }
+    ensures fresh { IfOk result (λ stages. AreFresh texts.new capacity plan.now stages.items) }
+    ensures begins { BeginsWith texts.new texts.old }
+{
+    let mut stages = Vec::new(alloc);
+    for i in 0..plan.nodes().len() {
+        stages.push(Stage::new(alloc, plan, i, capacity, texts)?)?;
+    }
+    Ok(stages)
+}
+
 impl Dataflow {
     /// The plan with a stage for each of its nodes, for batches of `capacity` rows. The texts of its nodes come into the
     /// table, and stay there where memory is wanting.
@@ -55,7 +70,14 @@ impl Dataflow {
         ensures capacity { IfOk result (λ d. d.capacity ≡ capacity) }
         ensures begins { BeginsWith texts.new texts.old }
     {
-        Err(Memory)
+        let stages = stages_of(alloc, &plan, capacity, texts)?;
+        let pools = Pools::new(alloc, MOST_COLUMNS, capacity)?;
+        Ok(Dataflow {
+            alloc,
+            plan,
+            stages,
+            pools,
+        })
     }
 
     /// The plan.
@@ -75,18 +97,21 @@ impl Dataflow {
     ) -> Result<EdgeList, PlanFault>
         requires can { (last : ℕ) × (CanStep texts.now last self.old × (last < p)) }
         requires given { AreGiven texts.now self.old.capacity self.old.plan given.items }
-        ensures flowed { IfOk result (λ out. (last : ℕ) (old lists : ℕ → List Edge) (source : Sources) → AreDistinct texts.now →
-            Flows texts.now last old lists self.old → last < p → SourcesStandRead texts.now p source (longer old (edges_at given.items)) →
-            AreFrom last (edges_at given.items) → HasFlowed texts.now last p source old (edges_at given.items) lists self.new out.edges) }
-        ensures overflow { IfErr result (λ fault. (node time : ℕ) → fault ≡ PlanFault.Overflow node time →
-            (last : ℕ) (old lists : ℕ → List Edge) (source : Sources) → AreDistinct texts.now →
-            Flows texts.now last old lists self.old → last < p → SourcesStandRead texts.now p source (longer old (edges_at given.items)) →
-            AreFrom last (edges_at given.items) → overflow source self.old.plan.nodes p ≡ Some (record { node = node; time = time })) }
+        ensures flowed { IfOk result (λ out. GivesOn texts.now p (edges_at given.items) self.old self.new out.edges) }
+        ensures overflow { IfErr result (λ fault. (node time : ℕ) → fault ≡ PlanFault.Overflow node time → OverflowsAt texts.now p (edges_at given.items) self.old node time) }
         ensures list { IfOk result (λ out. IsListOf texts.now self.old.capacity (kinds_at self.old.plan.schemas self.old.plan.root) out) }
         ensures can { OnOk result (CanStep texts.now p self.new) }
         ensures plan { self.new.plan ≡ self.old.plan }
         ensures capacity { self.new.capacity ≡ self.old.capacity }
     {
-        Err(PlanFault::Memory)
+        step_all(
+            self.alloc,
+            &mut self.pools,
+            texts,
+            &self.plan,
+            &mut self.stages,
+            given,
+            p,
+        )
     }
 }

@@ -38,9 +38,7 @@ impl Stage {
         ensures opens { IfOk result (λ s. (n : Node) → slice_get plan.now.nodes node ≡ Some n → StageKeeps texts.new n s 0 0 [] [] []) }
         ensures begins { BeginsWith texts.new texts.old }
     {
-        Ok(Stage::Rows(node_stage::Stage::new(
-            alloc, plan, node, capacity, texts,
-        )?))
+        Ok(Stage::Rows(node_stage::Stage::new(alloc, plan, node, capacity, texts)?))
     }
 
     /// What the node has to tell once the new edges of its sides came in, which are then closed up to the two times. Of a
@@ -71,7 +69,9 @@ impl Stage {
         ensures limit { pools.new.limit ≡ pools.old.limit }
     {
         match self {
-            Stage::Rows(stage) => step_rows(stage, alloc, pools, texts, left, right, left_to, right_to),
+            Stage::Rows(stage) => step_rows(
+                stage, alloc, pools, texts, left, right, left_to, right_to,
+            ),
         }
     }
 }

@@ -1,15 +1,10 @@
 // One step of each node of a plan.
 ghost use Rattle.std.specs.Prelude.{◌≡◌, ◌<◌, ◌≤◌, ℕ, Some, List, length, slice_get, IfOk, IfErr, OnOk};
-ghost use Rattle.tw_rows.specs.declared.edge.Edge.{Edge};
 ghost use Rattle.plan_model.specs.declared.node.Node.{Node};
 ghost use Rattle.plan_model.specs.IsPlan.{kinds_at};
-ghost use Rattle.plan_model.specs.Meaning.{Sources};
-ghost use Rattle.plan_laws.specs.Undefined.{overflow};
-ghost use Rattle.node_laws.specs.Places.{AreDistinct};
-ghost use Rattle.node_laws.specs.Standing.{SourcesStandRead};
-ghost use Rattle.plan_stages.specs.Lists.{edges_at, longer, AreFrom, AreGiven, IsListOf};
+ghost use Rattle.plan_stages.specs.Lists.{edges_at, AreGiven, IsListOf};
 ghost use Rattle.plan_stages.specs.Stages.{left_closing as left_closing_of, right_closing as right_closing_of};
-ghost use Rattle.plan_stages.specs.Flows.{parts_of, CanStep, Flows, HasFlowed};
+ghost use Rattle.plan_stages.specs.Flows.{parts_of, CanStep, GivesOn, OverflowsAt};
 
 use crate::fault::PlanFault;
 use crate::reading::{left_list, right_list};
@@ -67,13 +62,8 @@ pub(crate) fn step_all(
 ) -> Result<EdgeList, PlanFault>
     requires can { (last : ℕ) × (CanStep texts.now last (parts_of plan.now stages.old.items pools.old) × (last < p)) }
     requires given { AreGiven texts.now pools.old.capacity plan.now given.items }
-    ensures flowed { IfOk result (λ out. (last : ℕ) (old lists : ℕ → List Edge) (source : Sources) → AreDistinct texts.now →
-        Flows texts.now last old lists (parts_of plan.now stages.old.items pools.old) → last < p → SourcesStandRead texts.now p source (longer old (edges_at given.items)) →
-        AreFrom last (edges_at given.items) → HasFlowed texts.now last p source old (edges_at given.items) lists (parts_of plan.now stages.new.items pools.new) out.edges) }
-    ensures overflow { IfErr result (λ fault. (node time : ℕ) → fault ≡ PlanFault.Overflow node time →
-        (last : ℕ) (old lists : ℕ → List Edge) (source : Sources) → AreDistinct texts.now →
-        Flows texts.now last old lists (parts_of plan.now stages.old.items pools.old) → last < p → SourcesStandRead texts.now p source (longer old (edges_at given.items)) →
-        AreFrom last (edges_at given.items) → overflow source plan.now.nodes p ≡ Some (record { node = node; time = time })) }
+    ensures flowed { IfOk result (λ out. GivesOn texts.now p (edges_at given.items) (parts_of plan.now stages.old.items pools.old) (parts_of plan.now stages.new.items pools.new) out.edges) }
+    ensures overflow { IfErr result (λ fault. (node time : ℕ) → fault ≡ PlanFault.Overflow node time → OverflowsAt texts.now p (edges_at given.items) (parts_of plan.now stages.old.items pools.old) node time) }
     ensures list { IfOk result (λ out. IsListOf texts.now pools.old.capacity (kinds_at plan.now.schemas plan.now.root) out) }
     ensures can { OnOk result (CanStep texts.now p (parts_of plan.now stages.new.items pools.new)) }
     ensures capacity { pools.new.capacity ≡ pools.old.capacity }

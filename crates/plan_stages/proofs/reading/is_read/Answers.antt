@@ -1,4 +1,4 @@
-use Rattle.std.proofs.Common.{◌≡◌, ◌<◌, ◌≤◌, length, arith, ap, sym}
+use Rattle.std.proofs.Common.{◌<◌, ◌≤◌, length, arith, ap}
 use Rattle.plan_model.proofs.Kept.{node_at}
 use Rattle.plan_stages.proofs.HeldLists.{none_more, none_reads}
 use Rattle.plan_stages.proofs.reading.is_read.Goals as goal

@@ -1,7 +1,7 @@
-use Rattle.std.proofs.Common.{◌≡◌, ◌<◌, ◌∙◌, ℕ, length, ap, sym, subst, arith}
+use Rattle.std.proofs.Common.{◌<◌, ◌∙◌, ap, sym, subst, arith}
 use Rattle.tw_rows.specs.Instant.{inf}
 use Rattle.plan_model.specs.Shape.{HasLower}
-use Rattle.plan_model.specs.Meaning.{closes, left_child}
+use Rattle.plan_model.specs.Meaning.{closes}
 use Rattle.plan_model.proofs.Kept.{node_at}
 use Rattle.node_stage.proofs.Nodes.{one_node}
 use Rattle.plan_stages.specs.Stages.{left_closing}

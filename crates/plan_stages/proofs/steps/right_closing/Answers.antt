@@ -1,4 +1,4 @@
-use Rattle.std.proofs.Common.{◌≡◌, ◌<◌, ◌∙◌, ℕ, length, ap, sym, subst, arith}
+use Rattle.std.proofs.Common.{◌<◌, ◌∙◌, ap, sym, subst, arith}
 use Rattle.tw_rows.specs.Instant.{inf}
 use Rattle.plan_model.specs.Shape.{HasLower}
 use Rattle.plan_model.specs.Meaning.{closes}

@@ -1,7 +1,6 @@
-use Rattle.std.proofs.Common.{◌≡◌, ◌<◌, ◌≤◌, ◌∙◌, ℕ, List, [], ◌∷◌, ◌++◌, length, refl, ap, sym, subst, arith, inl}
+use Rattle.std.proofs.Common.{◌≡◌, ◌<◌, ◌∙◌, [], length, refl, ap, sym, subst, arith, inl}
 use Rattle.std.specs.Prelude.{◌+◌, Some, get_or, slice_set}
 use Rattle.std.proofs.lemmas.List.{length_push, get_or-set_other, length-set}
-use Rattle.tw_rows.specs.declared.edge.Edge.{Edge}
 use Rattle.plan_stages.specs.Lists.{edges_at}
 use Rattle.plan_stages.specs.Held.{HeldBefore}
 use Rattle.plan_stages.proofs.HeldLists.{with_list, held_first, held_next}
