@@ -26,7 +26,7 @@ use Rattle.node_laws.specs.Places.{EdgesArePlaced}
 use Rattle.node_laws.specs.Selected.{AreSelected}
 use Rattle.node_stage.specs.Made.{IsMade}
 use Rattle.node_stage.proofs.MadeEdges.{selected_of}
-use Rattle.node_stage.specs.Stages.{IsFor, IsWhereOf, IsSelectOf, IsStageOf}
+use Rattle.node_stage.specs.Stages.{ArePlain, IsFor, IsWhereOf, IsSelectOf, IsStageOf}
 
 -- where the edges have their places, the occupied rows do
 pub rows_placed : (texts : List (List ℕ)) (rows : List Row) → EdgesArePlaced texts (edges_of rows) → HoldsPlaces texts rows
@@ -93,6 +93,14 @@ stored Place = refl
 pub results_stored : (ks : List Program) → map cell_kind_of (map (λ k. kind_for (result_kind k)) ks) ≡ map result_kind ks
 results_stored [] = refl
 results_stored (k ∷ ks) = let here = stored (result_kind k) in let rest = results_stored ks in λ i. here i ∷ rest i
+
+-- and are plain
+pub results_plain : (ks : List Program) → ArePlain (map (λ k. kind_for (result_kind k)) ks)
+results_plain [] = refl
+results_plain (k ∷ ks) =
+    let here = ap kind_for (sym (stored (result_kind k))) in
+    let rest = results_plain ks in
+    λ i. here i ∷ rest i
 
 -- a projection and its batch
 module _ (texts : List (List ℕ)) (capacity : ℕ) (kinds : List CellKind) (n : Node) (ks : List Program) (is : IsSelectOf texts capacity kinds n ks) where

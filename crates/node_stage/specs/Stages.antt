@@ -1,13 +1,15 @@
 -- Which stage computes which node.
-use Rattle.std.specs.Prelude.{◌≡◌, ℕ, ◌≤◌, List, [], length, All}
+use Rattle.std.specs.Prelude.{◌≡◌, ℕ, ◌≤◌, List, [], length, map, All}
+use Rattle.tw_rows.specs.Kinds.{cell_kind_of}
 use Rattle.tw_rows.specs.declared.kind.CellKind.{CellKind}
+use Rattle.tw_rows.specs.declared.kind.Kind.{Kind}
 use Rattle.plan_model.specs.declared.expr.ExprNode.{ExprNode}
 use Rattle.plan_model.specs.declared.node.Node.{Node}
 use Rattle.plan_model.specs.declared.node.Node.TheVariants.{Source, Where, Select}
 use Rattle.plan_model.specs.IsPlan.{PlanParts, kinds_of_stream, kinds_at}
 use Rattle.plan_model.specs.Meaning.{left_of}
 use Rattle.lane_expr.specs.Steps.{AreStepsPlaced}
-use Rattle.lane_expr.specs.Kernels.{Program, IsKernelOf}
+use Rattle.lane_expr.specs.Kernels.{Program, IsKernelOf, kind_for}
 use Rattle.where_select.specs.Filters.{Sieve}
 use Rattle.where_select.specs.Projects.{exprs_of}
 use Rattle.node_stage.specs.declared.stage.Stage.{Stage}
@@ -60,3 +62,7 @@ IsStageOf texts capacity kinds n (SelectStage ks) = IsSelectOf texts capacity ki
 -- the stage computes some node so. A filter that was made for 8 rows computes none for 16
 abbrev pub IsStage : List (List ℕ) → ℕ → List CellKind → Stage → Type 0
 IsStage texts capacity kinds s = (n : Node) × IsStageOf texts capacity kinds n s
+
+-- the kinds say no more than how cells are stored: Int, Bool and Text do, and a decimal with 2 places does not
+abbrev pub ArePlain : List Kind → Type 0
+ArePlain kinds = kinds ≡ map kind_for (map cell_kind_of kinds)

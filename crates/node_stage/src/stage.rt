@@ -7,7 +7,7 @@ ghost use Rattle.plan_model.specs.declared.node.Node.{Node};
 ghost use Rattle.plan_model.specs.IsPlan.{node_kinds, most_columns};
 ghost use Rattle.node_laws.specs.Places.{EdgesArePlaced};
 ghost use Rattle.node_stage.specs.Made.{IsMade};
-ghost use Rattle.node_stage.specs.Stages.{IsStageOf, IsStage};
+ghost use Rattle.node_stage.specs.Stages.{ArePlain, IsStageOf, IsStage};
 
 use batch::{Batch, Pools};
 use edge_stream::EdgeList;
@@ -42,6 +42,7 @@ impl Stage {
         requires placed { EdgesArePlaced texts.now left.edges }
         ensures made { IfOk result (λ out. (n : Node) → IsStageOf texts.now left.capacity (cells_of left) n self.old → IsMade texts.now n left.edges out.edges) }
         ensures kinds { IfOk result (λ out. (n : Node) → IsStageOf texts.now left.capacity (cells_of left) n self.old → cells_of out ≡ node_kinds n (cells_of left) []) }
+        ensures plain { IfOk result (λ out. ArePlain left.kinds → ArePlain out.kinds) }
         ensures placed { IfOk result (λ out. EdgesArePlaced texts.now out.edges) }
         ensures later { IfOk result (λ out. (x : ℕ) → failing (is_from x) left.edges ≡ 0 → failing (is_from x) out.edges ≡ 0) }
         ensures capacity { IfOk result (λ out. out.capacity ≡ left.capacity) }
@@ -69,6 +70,7 @@ impl Stage {
         requires placed { EdgesArePlaced texts.now left.edges }
         ensures made { IfOk result (λ out. (n : Node) → IsStageOf texts.now left.capacity (cells_of left) n self.old → IsMade texts.now n left.edges out.edges) }
         ensures kinds { IfOk result (λ out. (n : Node) → IsStageOf texts.now left.capacity (cells_of left) n self.old → cells_of out ≡ node_kinds n (cells_of left) []) }
+        ensures plain { IfOk result (λ out. ArePlain left.kinds → ArePlain out.kinds) }
         ensures placed { IfOk result (λ out. EdgesArePlaced texts.now out.edges) }
         ensures capacity { IfOk result (λ out. out.capacity ≡ left.capacity) }
         ensures pools { pools.new.capacity ≡ pools.old.capacity }
@@ -88,6 +90,7 @@ impl Stage {
     fn empty_list(&self, alloc: Global, left: &EdgeList) -> Result<EdgeList, Memory>
         requires stage { (texts : List (List ℕ)) × IsStage texts left.now.capacity (cells_of left.now) self.now }
         ensures kinds { IfOk result (λ list. (n : Node) (texts : List (List ℕ)) → IsStageOf texts left.now.capacity (cells_of left.now) n self.now → cells_of list ≡ node_kinds n (cells_of left.now) []) }
+        ensures plain { IfOk result (λ list. ArePlain left.now.kinds → ArePlain list.kinds) }
         ensures edges { IfOk result (λ list. list.edges ≡ []) }
         ensures capacity { IfOk result (λ list. list.capacity ≡ left.now.capacity) }
     {

@@ -9,6 +9,7 @@ use Rattle.edge_stream.specs.Listing.{cells_of}
 use Rattle.plan_model.specs.IsPlan.{node_kinds}
 use Rattle.node_laws.specs.Places.{EdgesArePlaced}
 use Rattle.node_stage.specs.Made.{IsMade}
+use Rattle.node_stage.specs.Stages.{ArePlain}
 use Rattle.node_stage.proofs.MadeEdges.{first_made, made_more, made_in_order}
 use Rattle.node_stage.proofs.Batches.{stage_same, places_front, places_back, all_taken_in}
 use Rattle.node_stage.proofs.stage.Stage.over_batches.Goals as goal
@@ -20,6 +21,7 @@ loop-batch-init c = record {
   same = refl;
   made = λ n is. subst (IsMade c.args.texts.now n []) (sym c.in_ok-made.ensures.edges) (first_made c.args.texts.now c.args.left.capacity (cells_of c.args.left) n c.args.self.now is);
   kinds = λ n is. c.in_ok-made.ensures.kinds n c.args.texts.now is;
+  plain = c.in_ok-made.ensures.plain;
   made_placed = subst (EdgesArePlaced c.args.texts.now) (sym c.in_ok-made.ensures.edges) (All-nil _);
   left_placed = c.requires.placed;
   left_kinds = refl;
@@ -77,6 +79,7 @@ loop-batch-preserved c =
           subst (IsMade texts n (before.done ++ now)) (sym c.in_ok-put.ensures.edges)
           (made_more texts left.capacity (cells_of left) n c.args.self.now is before.done c.loop-batch.made.edges now new (before.made n is) (c.in_ok-next.ensures.made n here));
       kinds = λ n is. ap (map cell_kind_of) c.put.ensures.kinds ∙ before.kinds n is;
+      plain = λ plain. subst ArePlain (sym c.put.ensures.kinds) (before.plain plain);
       made_placed = subst (EdgesArePlaced texts) (sym c.in_ok-put.ensures.edges) (All-append (λ e. ArePlaced texts e.cells) c.loop-batch.made.edges new before.made_placed c.in_ok-next.ensures.placed);
       left_placed = places_back texts c.loop-batch.left.edges now rest c.in-Some.ensures.edges before.left_placed;
       left_kinds = c.take_batch.ensures.shape.kinds ∙ before.left_kinds;

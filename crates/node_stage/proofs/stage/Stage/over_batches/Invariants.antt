@@ -7,7 +7,7 @@ use Rattle.plan_model.specs.declared.node.Node.{Node}
 use Rattle.plan_model.specs.IsPlan.{node_kinds}
 use Rattle.node_laws.specs.Places.{EdgesArePlaced}
 use Rattle.node_stage.specs.Made.{IsMade}
-use Rattle.node_stage.specs.Stages.{IsStageOf}
+use Rattle.node_stage.specs.Stages.{ArePlain, IsStageOf}
 use Rattle.node_stage.proofs.stage.Stage.over_batches.Given as goal
 
 abbrev pub invariant-loop-batch : goal.invariant-loop-batch
@@ -17,6 +17,7 @@ invariant-loop-batch l = record {
   same : l.self ≡ l.fn.self;
   made : (n : Node) → IsStageOf l.texts l.fn.left.capacity (cells_of l.fn.left) n l.fn.self → IsMade l.texts n done l.made.edges;
   kinds : (n : Node) → IsStageOf l.texts l.fn.left.capacity (cells_of l.fn.left) n l.fn.self → cells_of l.made ≡ node_kinds n (cells_of l.fn.left) [];
+  plain : ArePlain l.fn.left.kinds → ArePlain l.made.kinds;
   made_placed : EdgesArePlaced l.texts l.made.edges;
   left_placed : EdgesArePlaced l.texts l.left.edges;
   left_kinds : l.left.kinds ≡ l.fn.left.kinds;

@@ -16,6 +16,7 @@ returns-in_default c =
     record {
       made = told.made;
       kinds = told.kinds;
+      plain = told.plain;
       placed = told.placed;
       later = IfOk-weaker (λ (out : EdgeListView). (n : Node) → IsStageOf texts left.capacity (cells_of left) n c.args.self.now → IsMade texts n left.edges out.edges)
           (λ (out : EdgeListView). (x : ℕ) → failing (is_from x) left.edges ≡ 0 → failing (is_from x) out.edges ≡ 0)

@@ -1,0 +1,7 @@
+pub mod Rules
+pub mod Growing
+pub mod HeldLists
+pub mod Undefining
+pub mod Flowing
+pub mod Stepping
+pub mod Opening

@@ -1,0 +1,71 @@
+-- The rules of a stage, whatever its node.
+use Rattle.std.proofs.Common.{◌≡◌, ℕ, zero, suc, false, None, List, [], ◌++◌, refl, sym, subst}
+use Rattle.tw_rows.specs.Texts.{BeginsWith}
+use Rattle.tw_rows.specs.declared.edge.Edge.{Edge}
+use Rattle.tw_rows.specs.declared.kind.CellKind.{CellKind}
+use Rattle.edge_history.specs.Order.{is_from, failing}
+use Rattle.plan_model.specs.declared.node.Node.{Node}
+use Rattle.plan_model.specs.Meaning.{node_events, node_closes}
+use Rattle.plan_laws.specs.Undefined.{first_below}
+use Rattle.node_laws.specs.Places.{AreDistinct, read_of}
+use Rattle.node_laws.specs.Standing.{StandsRead}
+use Rattle.node_laws.proofs.Standing.{placed_longer, node_valid, no_history}
+use Rattle.tw_rows.proofs.Knowing.{Known-refl}
+use Rattle.plan_model.specs.declared.node.Node.TheVariants.{Source}
+use Rattle.node_stage.proofs.MadeEdges.{by_node, made_more, made_longer, made_later, made_stand}
+use Rattle.node_stage.proofs.Nodes.{stage-more}
+use Rattle.plan_stages.specs.declared.stage.Stage.{Stage}
+use Rattle.plan_stages.specs.declared.stage.Stage.TheVariants.{Rows}
+use Rattle.node_stage.specs.Made.{IsMade}
+use Rattle.node_stage.specs.Stages.{IsStageOf}
+use Rattle.node_stage.specs.declared.stage.Stage.{Stage as RowStage}
+use Rattle.plan_stages.specs.Stages.{HasCome, MayComeUpTo, HasMade, IsReady, StageKeeps, first_undefined_read}
+
+pub came_longer : (texts more : List (List ℕ)) → BeginsWith more texts → (x : ℕ) (h : List Edge) → HasCome texts x h → HasCome more x h
+came_longer texts more begins x h came = record {
+  low = came.low;
+  history = came.history;
+  below = came.below;
+  placed = placed_longer more texts begins h came.placed;
+}
+
+-- a table that grows changes nothing
+pub ready_longer : (texts more : List (List ℕ)) → BeginsWith more texts → (capacity : ℕ) (left right : List CellKind) (n : Node) (s : Stage) (x y : ℕ) →
+    IsReady texts capacity left right n s x y → IsReady more capacity left right n s x y
+ready_longer texts more begins capacity left right n (Rows s) x y ready = stage-more texts more begins capacity left n s ready
+
+pub keeps_longer : (texts more : List (List ℕ)) → BeginsWith more texts → (capacity : ℕ) (left right : List CellKind) (n : Node) (s : Stage) (x y : ℕ) →
+    IsReady texts capacity left right n s x y → (hl hr out : List Edge) → StageKeeps texts n s x y hl hr out → StageKeeps more n s x y hl hr out
+keeps_longer texts more begins capacity left right n (Rows s) x y ready hl hr out kept = record {
+  came = came_longer texts more begins x hl kept.came;
+  made = made_longer texts capacity left n s ready more begins hl out kept.came.placed kept.made;
+}
+
+-- what it answered stands for the node
+pub stage_stands : (texts : List (List ℕ)) → AreDistinct texts → (capacity : ℕ) (left right : List CellKind) (n : Node) (s : Stage) (x y : ℕ) →
+    IsReady texts capacity left right n s x y → (hl hr out : List Edge) → StageKeeps texts n s x y hl hr out →
+    StandsRead texts (node_closes n x y) out (node_events n (read_of texts hl) (read_of texts hr))
+stage_stands texts distinct capacity left right n (Rows s) x y ready hl hr out kept =
+    made_stand texts capacity left n s ready distinct x y hl out (read_of texts hl) (read_of texts hr) kept.made
+    (record { history = kept.came.history; below = kept.came.below; placed = kept.came.placed; known = Known-refl x (read_of texts hl) kept.came.low (node_valid texts (Source 0) hl [] kept.came.history no_history) })
+
+-- of a Source, a Where or a Select: no instant is undefined
+never : (c : ℕ) → first_below (λ t. false) c ≡ None
+never zero = refl
+never (suc c) = let before = never c in cc
+
+module _ (texts : List (List ℕ)) (capacity : ℕ) (kinds : List CellKind) (n : Node) (s : RowStage) (is : IsStageOf texts capacity kinds n s) where
+  pub rows_defined : (hl : List Edge) (c : ℕ) → first_undefined_read texts n hl c ≡ None
+  rows_defined hl c = by_node texts capacity kinds n s is (λ m. first_undefined_read texts m hl c ≡ None) (λ stream. never c) (λ of test. never c) (λ of items. never c)
+
+  -- and what is made of the new edges is kept
+  pub rows_kept : (x y u : ℕ) (hl l out answer : List Edge) → HasMade texts n x hl out → MayComeUpTo texts x u hl l → IsMade texts n l answer →
+      HasMade texts n u (hl ++ l) (out ++ answer) × (failing (is_from (node_closes n x y)) answer ≡ 0)
+  rows_kept x y u hl l out answer kept may made = (
+    record {
+      came = record { low = may.low; history = may.may.history; below = may.below; placed = may.may.placed };
+      made = made_more texts capacity kinds n s is hl out l answer kept.made made;
+    },
+    subst (λ c. failing (is_from c) answer ≡ 0) (sym (by_node texts capacity kinds n s is (λ m. node_closes m x y ≡ x) (λ stream. refl) (λ of test. refl) (λ of items. refl)))
+        (made_later texts capacity kinds n s is l answer made x may.may.from),
+  )

@@ -1,0 +1,108 @@
+-- Stages by the case of their node: when one can take a step, and what it keeps of the edges that came in and were answered.
+use Rattle.std.specs.Prelude.{◌≡◌, ℕ, ◌≤◌, zero, suc, Option, List, [], ◌++◌, map}
+use Rattle.tw_rows.specs.Event.{alive}
+use Rattle.tw_rows.specs.Instant.{inf}
+use Rattle.tw_rows.specs.declared.edge.Edge.{Edge}
+use Rattle.tw_rows.specs.declared.kind.CellKind.{CellKind}
+use Rattle.edge_history.specs.Order.{is_below, is_from, failing, IsHistory}
+use Rattle.edge_stream.specs.Listing.{EdgeListView, cells_of}
+use Rattle.plan_model.specs.declared.node.Node.{Node}
+use Rattle.plan_model.specs.IsPlan.{PlanParts, kinds_of_stream, kinds_at, node_kinds}
+use Rattle.plan_model.specs.Keys.{value_ops}
+use Rattle.plan_model.specs.Meaning.{closes, node_closes, left_of, right_of}
+use Rattle.plan_laws.specs.Undefined.{undefined_over, first_below}
+use Rattle.node_laws.specs.Places.{AreDistinct, EdgesArePlaced, read_of}
+use Rattle.lane_expr.specs.Kernels.{kind_for}
+use Rattle.node_stage.specs.Made.{IsMade}
+use Rattle.node_stage.specs.Stages.{IsStageOf}
+use Rattle.plan_stages.specs.declared.stage.Stage.{Stage}
+use Rattle.plan_stages.specs.declared.stage.Stage.TheVariants.{Rows}
+use Rattle.operator.specs.Steps.{MayCome}
+
+-- up to where a side is closed once the punctuation `last` was worked through, which closes it up to c: 0 as long as there
+-- was none, though a Delay by 5 is closed up to 5 at the punctuation 0
+abbrev pub reached : ℕ → ℕ → ℕ
+reached zero c = 0
+reached (suc last) c = c
+
+-- the closings at a punctuation of what a node reads on the left and on the right
+abbrev pub left_closing : List Node → ℕ → Node → ℕ
+left_closing nodes p n = left_of inf (λ s. p) (λ k. closes nodes k p) n
+
+abbrev pub right_closing : List Node → ℕ → Node → ℕ
+right_closing nodes p n = right_of inf (λ k. closes nodes k p) n
+
+-- how the columns are stored that a node reads on the left and on the right. A source reads those of its stream
+abbrev pub left_kinds : PlanParts → Node → List CellKind
+left_kinds plan n = left_of [] (kinds_of_stream plan.streams) (kinds_at plan.schemas) n
+
+abbrev pub right_kinds : PlanParts → Node → List CellKind
+right_kinds plan n = right_of [] (kinds_at plan.schemas) n
+
+-- the edges came to a side that is closed up to x
+pub record HasCome (texts : List (List ℕ)) (x : ℕ) (h : List Edge) : Type 0 where
+  pub low : x ≤ inf
+  pub history : IsHistory h
+  pub below : failing (is_below x) h ≡ 0
+  pub placed : EdgesArePlaced texts h
+
+-- the edges l may come behind those that came up to x, when the side is closed up to u
+pub record MayComeUpTo (texts : List (List ℕ)) (x u : ℕ) (came l : List Edge) : Type 0 where
+  pub low : u ≤ inf
+  pub may : MayCome texts x came l
+  pub below : failing (is_below u) (came ++ l) ≡ 0
+
+-- the stage can take a step of the node, over lists of columns that are stored as `left` and `right`, in batches of the
+-- capacity, whose texts are read from the table; its sides are closed up to x and y
+abbrev pub IsReady : List (List ℕ) → ℕ → List CellKind → List CellKind → Node → Stage → ℕ → ℕ → Type 0
+IsReady texts capacity left right n (Rows s) x y = IsStageOf texts capacity left n s
+
+-- the stage can take a step of some node over these two lists, which closes its sides up to u and v
+pub record CanTake (texts : List (List ℕ)) (left right : EdgeListView) (s : Stage) (u v : ℕ) : Type 0 where
+  pub node : Node
+  pub x : ℕ
+  pub y : ℕ
+  pub ready : IsReady texts left.capacity (cells_of left) (cells_of right) node s x y
+  pub left_rises : x ≤ u
+  pub right_rises : y ≤ v
+
+-- of the edges hl it made out
+pub record HasMade (texts : List (List ℕ)) (n : Node) (x : ℕ) (hl out : List Edge) : Type 0 where
+  pub came : HasCome texts x hl
+  pub made : IsMade texts n hl out
+
+-- the stage is as it can be once hl and hr came in on its sides, which are closed up to x and y, and `out` was answered. A
+-- stage that keeps nothing of one step for the next only has to have made out of hl
+abbrev pub StageKeeps : List (List ℕ) → Node → Stage → ℕ → ℕ → List Edge → List Edge → List Edge → Type 0
+StageKeeps texts n (Rows s) x y hl hr out = HasMade texts n x hl out
+
+-- what is asked of what was kept and of two lists, so that a step keeps it: the lists come on the sides that the stage is
+-- closed up to, and close them up to u and v
+pub record Takes (texts : List (List ℕ)) (left right : EdgeListView) (s : Stage) (u v : ℕ) (n : Node) (x y : ℕ) (hl hr out : List Edge) : Type 0 where
+  pub ready : IsReady texts left.capacity (cells_of left) (cells_of right) n s x y
+  pub kept : StageKeeps texts n s x y hl hr out
+  pub on_left : MayComeUpTo texts x u hl left.edges
+  pub on_right : MayComeUpTo texts y v hr right.edges
+
+-- whatever the stage kept it keeps with the new lists and the answer, which comes at the node's last closing or later
+abbrev pub KeepsOn : List (List ℕ) → EdgeListView → EdgeListView → Stage → Stage → ℕ → ℕ → EdgeListView → Type 0
+KeepsOn texts left right old new u v answer = (n : Node) (x y : ℕ) (hl hr out : List Edge) → Takes texts left right old u v n x y hl hr out →
+    StageKeeps texts n new u v (hl ++ left.edges) (hr ++ right.edges) (out ++ answer.edges) × (failing (is_from (node_closes n x y)) answer.edges ≡ 0)
+
+-- the least instant below c at which the node is undefined over the events of the edges hl, read
+abbrev pub first_undefined_read : List (List ℕ) → Node → List Edge → ℕ → Option ℕ
+first_undefined_read texts n hl c = first_below (λ t. undefined_over value_ops n (alive (read_of texts hl) t)) c
+
+-- over what came in with the new lists the node is undefined first at that instant below its new closing, or at none
+abbrev pub IsUndefinedAt : List (List ℕ) → EdgeListView → EdgeListView → Stage → ℕ → ℕ → Option ℕ → Type 0
+IsUndefinedAt texts left right old u v found = (n : Node) (x y : ℕ) (hl hr out : List Edge) → AreDistinct texts → Takes texts left right old u v n x y hl hr out →
+    first_undefined_read texts n (hl ++ left.edges) (node_closes n u v) ≡ found
+
+-- the stage can take a further step of whatever node it could take one of, and the answer is of that node's columns
+pub record StaysReady (texts : List (List ℕ)) (left right : EdgeListView) (old new : Stage) (u v : ℕ) : Type 0 where
+  pub stays : (n : Node) (x y : ℕ) → IsReady texts left.capacity (cells_of left) (cells_of right) n old x y →
+      IsReady texts left.capacity (cells_of left) (cells_of right) n new u v
+
+abbrev pub IsAnswerOf : List (List ℕ) → EdgeListView → EdgeListView → Stage → EdgeListView → Type 0
+IsAnswerOf texts left right old answer = (n : Node) (x y : ℕ) → IsReady texts left.capacity (cells_of left) (cells_of right) n old x y →
+    answer.kinds ≡ map kind_for (node_kinds n (cells_of left) (cells_of right))

@@ -1,0 +1,13 @@
+// The laws of plans at work. Each is a function that does nothing; its clauses are the law.
+ghost use Rattle.std.specs.Prelude.{ℕ, List};
+ghost use Rattle.tw_rows.specs.Texts.{BeginsWith};
+ghost use Rattle.tw_rows.specs.declared.edge.Edge.{Edge};
+ghost use Rattle.plan_stages.specs.Flows.{DataflowView, CanStep, Flows};
+
+/// A table that grows changes nothing of a plan at work.
+pub fn plans_flow_on_with_longer_tables()
+    ensures can { (texts more : List (List ℕ)) (last : ℕ) (d : DataflowView) → BeginsWith more texts →
+        CanStep texts last d → CanStep more last d }
+    ensures flows { (texts more : List (List ℕ)) (last : ℕ) (given lists : ℕ → List Edge) (d : DataflowView) →
+        BeginsWith more texts → Flows texts last given lists d → Flows more last given lists d }
+{}

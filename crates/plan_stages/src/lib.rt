@@ -1,0 +1,14 @@
+//! A plan at work: all its nodes take one step at each punctuation, in order of number.
+#![tactic(auto)]
+
+mod dataflow;
+mod fault;
+mod laws;
+mod reading;
+mod stage;
+mod steps;
+
+pub use dataflow::Dataflow;
+pub use fault::PlanFault;
+pub use laws::plans_flow_on_with_longer_tables;
+pub use stage::Stage;

@@ -1,0 +1,110 @@
+// One node of a plan at work.
+ghost use Rattle.std.specs.Prelude.{◌≡◌, ◌<◌, ◌≤◌, ℕ, true, Some, None, [], length, slice_get, IfOk, IfErr, OnOk};
+ghost use Rattle.tw_rows.specs.Texts.{BeginsWith};
+ghost use Rattle.plan_model.specs.declared.node.Node.{Node};
+ghost use Rattle.plan_model.specs.IsPlan.{most_columns};
+ghost use Rattle.plan_model.specs.Reach.{is_built};
+ghost use Rattle.node_laws.specs.Places.{EdgesArePlaced};
+ghost use Rattle.node_stage.specs.Stages.{ArePlain};
+ghost use Rattle.plan_stages.specs.Stages.{left_kinds, right_kinds, IsReady, CanTake, StageKeeps, StaysReady, KeepsOn, IsUndefinedAt, IsAnswerOf};
+
+use batch::Pools;
+use edge_stream::{EdgeList, StepFault};
+use plan_model::Plan;
+use std::alloc::Global;
+use tw_rows::{Memory, TextTable, Time};
+
+/// What computes one node of a plan. Contracts see it through `IsReady` and `StageKeeps` alone, which are by cases of what it
+/// is.
+#[derive(Drop)]
+pub enum Stage {
+    /// Of a Source, a Where or a Select.
+    Rows(node_stage::Stage),
+}
+
+impl Stage {
+    /// The stage of a node of the plan that is built, for batches of `capacity` rows. The texts of the node come into the
+    /// table, and stay there where memory is wanting.
+    pub fn new(
+        alloc: Global,
+        plan: &Plan,
+        node: usize,
+        capacity: usize,
+        texts: &mut TextTable,
+    ) -> Result<Stage, Memory>
+        requires node { node < length plan.now.nodes }
+        requires built { (n : Node) → slice_get plan.now.nodes node ≡ Some n → is_built n ≡ true }
+        ensures ready { IfOk result (λ s. (n : Node) → slice_get plan.now.nodes node ≡ Some n → IsReady texts.new capacity (left_kinds plan.now n) (right_kinds plan.now n) n s 0 0) }
+        ensures opens { IfOk result (λ s. (n : Node) → slice_get plan.now.nodes node ≡ Some n → StageKeeps texts.new n s 0 0 [] [] []) }
+        ensures begins { BeginsWith texts.new texts.old }
+    {
+        Ok(Stage::Rows(node_stage::Stage::new(alloc, plan, node, capacity, texts)?))
+    }
+
+    /// What the node has to tell once the new edges of its sides came in, which are then closed up to the two times. Of a
+    /// node with one child the right list has no columns. Want of memory loses the lists.
+    pub fn step(
+        &mut self,
+        alloc: Global,
+        pools: &mut Pools,
+        texts: &TextTable,
+        left: EdgeList,
+        right: EdgeList,
+        left_to: Time,
+        right_to: Time,
+    ) -> Result<EdgeList, StepFault>
+        requires ready { CanTake texts.now left right self.old left_to right_to }
+        requires plain { ArePlain left.kinds × ArePlain right.kinds }
+        requires capacity { (pools.old.capacity ≡ left.capacity) × (right.capacity ≡ left.capacity) }
+        requires limit { most_columns ≤ pools.old.limit }
+        requires placed { EdgesArePlaced texts.now left.edges × EdgesArePlaced texts.now right.edges }
+        ensures ready { IfOk result (λ answer. StaysReady texts.now left right self.old self.new left_to right_to) }
+        ensures kept { IfOk result (λ answer. KeepsOn texts.now left right self.old self.new left_to right_to answer) }
+        ensures defined { OnOk result (IsUndefinedAt texts.now left right self.old left_to right_to None) }
+        ensures overflow { IfErr result (λ fault. (time : ℕ) → fault ≡ StepFault.Overflow time → IsUndefinedAt texts.now left right self.old left_to right_to (Some time)) }
+        ensures kinds { IfOk result (IsAnswerOf texts.now left right self.old) }
+        ensures placed { IfOk result (λ answer. EdgesArePlaced texts.now answer.edges) }
+        ensures capacity { IfOk result (λ answer. answer.capacity ≡ left.capacity) }
+        ensures pools { pools.new.capacity ≡ pools.old.capacity }
+        ensures limit { pools.new.limit ≡ pools.old.limit }
+    {
+        match self {
+            Stage::Rows(stage) => step_rows(
+                stage, alloc, pools, texts, left, right, left_to, right_to,
+            ),
+        }
+    }
+}
+
+// The same of a Source, a Where or a Select, which read no right list.
+fn step_rows(
+    stage: &mut node_stage::Stage,
+    alloc: Global,
+    pools: &mut Pools,
+    texts: &TextTable,
+    left: EdgeList,
+    right: EdgeList,
+    left_to: Time,
+    right_to: Time,
+) -> Result<EdgeList, StepFault>
+    requires ready { CanTake texts.now left right (Stage.Rows stage.old) left_to right_to }
+    requires plain { ArePlain left.kinds × ArePlain right.kinds }
+    requires capacity { (pools.old.capacity ≡ left.capacity) × (right.capacity ≡ left.capacity) }
+    requires limit { most_columns ≤ pools.old.limit }
+    requires placed { EdgesArePlaced texts.now left.edges × EdgesArePlaced texts.now right.edges }
+    ensures ready { IfOk result (λ answer. StaysReady texts.now left right (Stage.Rows stage.old) (Stage.Rows stage.new) left_to right_to) }
+    ensures kept { IfOk result (λ answer. KeepsOn texts.now left right (Stage.Rows stage.old) (Stage.Rows stage.new) left_to right_to answer) }
+    ensures defined { OnOk result (IsUndefinedAt texts.now left right (Stage.Rows stage.old) left_to right_to None) }
+    ensures overflow { IfErr result (λ fault. (time : ℕ) → fault ≡ StepFault.Overflow time → IsUndefinedAt texts.now left right (Stage.Rows stage.old) left_to right_to (Some time)) }
+    ensures kinds { IfOk result (IsAnswerOf texts.now left right (Stage.Rows stage.old)) }
+    ensures placed { IfOk result (λ answer. EdgesArePlaced texts.now answer.edges) }
+    ensures capacity { IfOk result (λ answer. answer.capacity ≡ left.capacity) }
+    ensures pools { pools.new.capacity ≡ pools.old.capacity }
+    ensures limit { pools.new.limit ≡ pools.old.limit }
+{
+    drop(right);
+    match stage.step(alloc, pools, texts, left) {
+        Ok(answer) => Ok(answer),
+        Err(_) => Err(StepFault::Memory),
+    }
+}
