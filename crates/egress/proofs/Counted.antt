@@ -1,5 +1,5 @@
 -- Rows that are counted in a map, and their open starts there.
-use Rattle.std.specs.Prelude.{◌≡◌, ◌+◌, Bool, true, false, cond, Some, [], ◌∷◌, refl}
+use Rattle.std.specs.Prelude.{◌≡◌, ◌+◌, Bool, true, false, cond, Some, List, [], ◌∷◌, refl}
 use Rattle.std.specs.Ordering.{eq_by_cmp}
 use Rattle.std.specs.BTreeMap.{get, BTreeMap}
 use Rattle.std.proofs.Common.{sym, ◌∙◌, ap, arith}
@@ -7,7 +7,8 @@ use Rattle.tw_rows.specs.Rows.{Row, row_cmp}
 use Rattle.plan_model.specs.Opens.{how_often}
 use Rattle.plan_model.proofs.InOrder.{same_row, row_itself}
 use Rattle.egress.specs.declared.moves.Moves.{Moves}
-use Rattle.egress.specs.Kept.{ends_if, starts_if, ends_in, starts_in}
+use Rattle.tw_rows.specs.declared.cells.Datum.{Datum}
+use Rattle.egress.specs.Kept.{ends_if, starts_if, ends_in, starts_in, KeepsCells}
 
 one_way : (q r : Row) → eq_by_cmp row_cmp q r ≡ true → eq_by_cmp row_cmp r q ≡ true
 one_way q r e = let same = same_row q r e in ap (λ x. eq_by_cmp row_cmp x q) (sym same) ∙ row_itself q
@@ -53,3 +54,15 @@ module _ (m n : BTreeMap Row Moves) (k : Row) (w : Moves)
       pick : (b : Bool) → eq_by_cmp row_cmp k r ≡ b → starts_if (cond b (Some w) (get row_cmp m r)) ≡ starts_in m r
       pick true f = e ∙ ap (starts_in m) (same_row k r f)
       pick false f = refl
+
+  -- the cells that are kept pass a test that those of the row pass
+  pub kept_then : (p : Row → List Datum → Bool) → p k w.cells ≡ true → KeepsCells p m → KeepsCells p n
+  kept_then p e h r x is = pick (eq_by_cmp row_cmp k r) refl
+    where
+      pick : (b : Bool) → eq_by_cmp row_cmp k r ≡ b → p r x.cells ≡ true
+      pick true f =
+          let same : k ≡ r = same_row k r f in
+          let some : Some w ≡ Some x = sym (set r ∙ ap (λ b. cond b (Some w) (get row_cmp m r)) f) ∙ is in
+          let w_is : w ≡ x = cc in
+          ap (λ q. p q x.cells) (sym same) ∙ ap (λ y. p k y.cells) (sym w_is) ∙ e
+      pick false f = h r x (sym (set r ∙ ap (λ b. cond b (Some w) (get row_cmp m r)) f) ∙ is)

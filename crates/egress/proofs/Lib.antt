@@ -1,4 +1,6 @@
 mod Touched
+mod Reading
+mod Passing
 mod Moving
 mod Tallied
 mod Counted

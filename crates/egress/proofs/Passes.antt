@@ -1,9 +1,11 @@
 -- The two passes over the rows that an instant touches: first their ends, then their starts.
-use Rattle.std.specs.Prelude.{◌≡◌, ℕ, suc, ◌-◌, Bool, true, false, ◌||◌, cond, Some, None, List, [], ◌∷◌, ◌++◌, take, drop, map, flat_map, replicate, refl}
+use Rattle.std.specs.Prelude.{◌≡◌, ℕ, suc, ◌-◌, Bool, true, false, ◌||◌, cond, ◌<◌, Option, Some, None, List, [], ◌∷◌, ◌++◌, length, take, drop, map, flat_map, replicate, refl}
 use Rattle.std.specs.List.{All, AllByRecursion}
 use Rattle.std.specs.List.Sorted.{IsStrictlySortedBy}
 use Rattle.std.specs.BTreeMap.{get, keys, BTreeMap}
 use Rattle.std.specs.Map.{keys_of, lookup}
+use Rattle.std.specs.Option.{is_some}
+use Rattle.std.proofs.lemmas.Map.Made.{is_some-lookup}
 use Rattle.std.specs.Ordering.{eq_by_cmp, is_eq}
 use Rattle.std.specs.declared.cmp.Ordering.TheVariants.{Less}
 use Rattle.std.specs.Cmp.{tied_itself}
@@ -81,6 +83,19 @@ module _ (ends starts : Row → ℕ) (at : ℕ) (kinds : List Kind) (since0 : Ro
   ending_next k list rest since since2 out out2 n is moved printed steps e =
       next_row k rest since since2 out out2 n is moved printed (subst (λ l. Ending l since out) steps e)
 
+  pub ending_first : (rest : List Row) (since : Row → List ℕ) (out : List ℕ) → IsStrictlySortedBy row_cmp rest →
+      ((r : Row) → member r rest ≡ false → ends r - starts r ≡ 0) → ((r : Row) → since r ≡ since0 r) → out ++ print kinds (flat_map (end_lines ends starts at since0) rest) ≡ all →
+      Ending rest since out
+  ending_first rest since out order others same text = record {
+    order = order;
+    text = text;
+    left = λ r. same r ∙ pick r (member r rest) refl;
+  }
+    where
+      pick : (r : Row) (b : Bool) → member r rest ≡ b → since0 r ≡ cond b (since0 r) (drop (ends r - starts r) (since0 r))
+      pick r true e = refl
+      pick r false e = ap (λ n. drop n (since0 r)) (sym (others r e))
+
   pub ending_last : (since : Row → List ℕ) (out : List ℕ) → Ending [] since out →
       (out ≡ all) × ((r : Row) → since r ≡ drop (ends r - starts r) (since0 r))
   ending_last since out e = (sym (append-nil out) ∙ e.text, e.left)
@@ -146,3 +161,15 @@ module _ (at : ℕ) (kinds : List Kind) (all : List ℕ) (then : Row → List �
     sym (append-nil out) ∙ ap (λ es. out ++ print kinds (flat_map (start_lines (ends_in m) (starts_in m) at) (keys_of es))) (sym none) ∙ s.text,
     λ r. sym (append-nil (since r)) ∙ ap (λ es. since r ++ replicate (starts_if (lookup (eq_by_cmp row_cmp r) es) - ends_if (lookup (eq_by_cmp row_cmp r) es)) at) (sym none) ∙ s.left r,
   )
+
+pub no_rows : {X : Type 0} (es : List X) → (0 < length es → ⊥) → es ≡ []
+no_rows [] h = refl
+no_rows (x ∷ xs) h = absurd (h (omega arith))
+
+-- a row that a map does not have neither ends nor starts
+pub no_net : (m : BTreeMap Row Moves) (r : Row) → member r (keys m) ≡ false → ends_in m r - starts_in m r ≡ 0
+no_net m r e = pick (get row_cmp m r) (is_some-lookup (eq_by_cmp row_cmp r) m.entries ∙ e)
+  where
+    pick : (o : Option Moves) → is_some o ≡ false → ends_if o - starts_if o ≡ 0
+    pick None e = refl
+    pick (Some v) e = absurd (cc)

@@ -12,16 +12,16 @@ use Rattle.tw_rows.specs.declared.kind.Kind.{Kind}
 use Rattle.tw_rows.proofs.Bags.{total-map}
 use Rattle.edge_history.specs.History.{CellEvent}
 use Rattle.edge_history.specs.Balance.{news}
-use Rattle.edge_history.specs.Opens.{opens}
+use Rattle.edge_history.specs.Opens.{opens, ended_rows, started_rows}
 use Rattle.edge_history.proofs.Retaining.{AreEvents-none_fails}
-use Rattle.edge_history.proofs.Opening.{alive_is_open, opens_stay}
+use Rattle.edge_history.proofs.Opening.{alive_is_open, opens_step}
 use Rattle.node_laws.specs.Places.{read_events}
 use Rattle.node_laws.proofs.Maps.{alive_to}
 use Rattle.plan_model.specs.Opens.{before}
 use Rattle.plan_model.specs.Changes.{changes_at}
 use Rattle.egress.specs.Instants.{AreOpen}
 use Rattle.egress.specs.Print.{print}
-use Rattle.egress.specs.Waiting.{Waiting, edges_if, ArePopped, Swept}
+use Rattle.egress.specs.Waiting.{Waiting, edges_if, ArePopped, SameMoves, Swept}
 use Rattle.egress.proofs.Moving.{none_open}
 use Rattle.egress.proofs.Reaching.{reached_next, reached_later}
 
@@ -41,12 +41,17 @@ module _ (texts : List (List ℕ)) (events : List CellEvent) where
   weigh_before w (suc t) = weigh_alive w t
 
   -- the rows stay at an instant without news
-  pub quiet_rows : AreEvents events → (t : ℕ) → SameBag [] (news t (suc t) events) → SameBag (before rows t) (rows t)
+  pub quiet_rows : AreEvents events → (t : ℕ) → SameMoves [] (news t (suc t) events) → SameBag (before rows t) (rows t)
   quiet_rows valid t none = record {
     weigh = λ w.
-        weigh_before w t
-        ∙ sym ((opens_stay t (suc t) events (omega arith) (AreEvents-none_fails events valid) (λ v. sym (none.weigh v))).weigh (λ h. w (read_cells texts h.cells)))
-        ∙ sym (weigh_alive w t);
+        let a = weigh_before w t in
+        let b = weigh_alive w t in
+        let s = opens_step (λ h. w (read_cells texts h.cells)) t (suc t) events (omega arith) (AreEvents-none_fails events valid) in
+        let e : 0 ≡ total (λ h. w (read_cells texts h.cells)) (ended_rows (news t (suc t) events)) =
+        none.ended.weigh (λ c. w (read_cells texts c)) ∙ total-map (λ c. w (read_cells texts c)) (λ h. h.cells) (ended_rows (news t (suc t) events)) in
+        let f : 0 ≡ total (λ h. w (read_cells texts h.cells)) (started_rows (news t (suc t) events)) =
+        none.started.weigh (λ c. w (read_cells texts c)) ∙ total-map (λ c. w (read_cells texts c)) (λ h. h.cells) (started_rows (news t (suc t) events)) in
+        omega (arith, a, b, s, e, f);
   }
 
   module _ (kinds : List Kind) (valid : AreEvents events) (a : ℕ) where
@@ -57,7 +62,7 @@ module _ (texts : List (List ℕ)) (events : List CellEvent) where
       waits = λ v from below. s.waits v (omega (arith, low, from)) below;
       none = empty;
       reached = reached_later rows kinds a t u since text low
-          (λ v from below. quiet_rows valid v (subst (λ o. SameBag (edges_if o) (news v (suc v) events)) (empty v below) (s.waits v from (omega (arith, below, high)))))
+          (λ v from below. quiet_rows valid v (subst (λ o. SameMoves (edges_if o) (news v (suc v) events)) (empty v below) (s.waits v from (omega (arith, below, high)))))
           s.reached;
     }
 
@@ -74,14 +79,14 @@ module _ (texts : List (List ℕ)) (events : List CellEvent) where
       pub swept_to : Swept texts kinds events a v since waiting text
       swept_to = swept_later t v since waiting text (past t v waiting now popped.there s.none) (omega (arith, below, high)) popped.first s
 
-      pub now_are : SameBag now (news v (suc v) events)
-      now_are = subst (λ o. SameBag (edges_if o) (news v (suc v) events)) popped.there (swept_to.waits v (omega arith) (omega (arith, below, high)))
+      pub now_are : SameMoves now (news v (suc v) events)
+      now_are = subst (λ o. SameMoves (edges_if o) (news v (suc v) events)) popped.there (swept_to.waits v (omega arith) (omega (arith, below, high)))
 
       -- and goes on past it
       pub swept_next : (since2 : Row → List ℕ) (text2 : List ℕ) → text2 ≡ text ++ print kinds (changes_at rows v) → AreOpen rows (suc v) since2 →
           Swept texts kinds events a (suc v) since2 waiting2 text2
       swept_next since2 text2 e opened = record {
-        waits = λ u from under. subst (λ o. SameBag (edges_if o) (news u (suc u) events)) (sym (later u from)) (s.waits u (let z = past t v waiting now popped.there s.none in omega (arith, z, from)) under);
+        waits = λ u from under. subst (λ o. SameMoves (edges_if o) (news u (suc u) events)) (sym (later u from)) (s.waits u (let z = past t v waiting now popped.there s.none in omega (arith, z, from)) under);
         none = λ u under. popped.left u ∙ pick u under (nat_eq v u) refl;
         reached = reached_next rows kinds a v since since2 text text2 swept_to.reached e opened;
       }
@@ -111,8 +116,8 @@ module _ (texts : List (List ℕ)) (kinds : List Kind) (events : List CellEvent)
   -- it goes on with what is shown of an instant
   pub going_next : (since since2 : Row → List ℕ) (waiting waiting2 : Waiting) (text text2 : List ℕ) (v : ℕ) (now : List Edge) →
       ArePopped waiting waiting2 v now → v < to →
-      (SameBag now (news v (suc v) events) → AreOpen (rows texts events) v since → text2 ≡ text ++ print kinds (changes_at (rows texts events) v)) →
-      (SameBag now (news v (suc v) events) → AreOpen (rows texts events) v since → AreOpen (rows texts events) (suc v) since2) →
+      (SameMoves now (news v (suc v) events) → AreOpen (rows texts events) v since → text2 ≡ text ++ print kinds (changes_at (rows texts events) v)) →
+      (SameMoves now (news v (suc v) events) → AreOpen (rows texts events) v since → AreOpen (rows texts events) (suc v) since2) →
       Going texts kinds events a to since waiting text → Going texts kinds events a to since2 waiting2 text2
   going_next since since2 waiting waiting2 text text2 v now popped below shown opened g =
       let same = now_are texts events kinds valid a g.at v to since waiting waiting2 text now popped below high g.swept in
@@ -129,7 +134,7 @@ module _ (texts : List (List ℕ)) (kinds : List Kind) (events : List CellEvent)
   going_last since waiting waiting2 text same none g =
       let s = swept_later texts events kinds valid a g.at to since waiting text g.low high (λ t low. sym (same t) ∙ none t low) g.swept in
       record {
-        waits = λ v low below. subst (λ o. SameBag (edges_if o) (news v (suc v) events)) (sym (same v)) (s.waits v low below);
+        waits = λ v low below. subst (λ o. SameMoves (edges_if o) (news v (suc v) events)) (sym (same v)) (s.waits v low below);
         none = none;
         reached = s.reached;
       }

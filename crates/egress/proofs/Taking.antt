@@ -1,5 +1,5 @@
 -- What was swept stays right where more edges come, and what is rendered.
-use Rattle.std.specs.Prelude.{◌≡◌, ℕ, zero, suc, ◌+◌, ◌-◌, ◌<◌, ◌≤◌, ◌&&◌, nat_eq, Bool, true, false, cond, None, List, [], ◌∷◌, ◌++◌, length, drop, refl}
+use Rattle.std.specs.Prelude.{◌≡◌, ℕ, zero, suc, ◌+◌, ◌-◌, ◌<◌, ◌≤◌, ◌&&◌, ◌||◌, nat_eq, Bool, true, false, cond, None, List, [], ◌∷◌, ◌++◌, length, drop, refl}
 use Rattle.std.proofs.Common.{sym, ◌∙◌, ap, subst, arith}
 use Rattle.std.proofs.lemmas.Bool.Decides.{nat_tests}
 use Rattle.std.proofs.lemmas.List.Concat.{flat_map-append}
@@ -10,15 +10,16 @@ use Rattle.tw_rows.specs.Event.{Event, alive}
 use Rattle.tw_rows.specs.Texts.{BeginsWith}
 use Rattle.tw_rows.specs.Rows.{Row}
 use Rattle.tw_rows.specs.Cells.{read_cells}
+use Rattle.tw_rows.specs.declared.cells.Datum.{Datum}
 use Rattle.tw_rows.specs.declared.edge.Edge.{Edge}
 use Rattle.tw_rows.specs.declared.kind.Kind.{Kind}
 use Rattle.tw_rows.proofs.Bags.{total-append, total-map, total-filter, total_same}
 use Rattle.tw_rows.proofs.Lives.{alive_known}
-use Rattle.edge_history.specs.Order.{failing, is_real, is_from, is_below, IsHistory}
+use Rattle.edge_history.specs.Order.{failing, is_real, is_end, is_from, is_below, IsHistory}
 use Rattle.edge_history.specs.History.{CellEvent, of}
-use Rattle.edge_history.specs.Balance.{news}
-use Rattle.edge_history.specs.Opens.{singles_of, singles}
-use Rattle.edge_history.proofs.Sums.{failing-parts}
+use Rattle.edge_history.specs.Balance.{news, given, start_edge, end_edge}
+use Rattle.edge_history.specs.Opens.{singles_of, singles, bare, ended_of, started_of, ended_rows, started_rows}
+use Rattle.edge_history.proofs.Sums.{failing-parts, failing-append, failing-filter}
 use Rattle.edge_history.proofs.Retaining.{events_of_are, same_below}
 use Rattle.edge_history.proofs.Opening.{singles_are_news}
 use Rattle.edge_history.proofs.Waiting.{news_between}
@@ -31,12 +32,14 @@ use Rattle.plan_model.specs.Changes.{changes}
 use Rattle.plan_model.specs.ChangeWords.{start_times}
 use Rattle.plan_model.proofs.Counting.{counts, starts_below}
 use Rattle.plan_model.proofs.Steady.{often_same, changes_same}
-use Rattle.egress.specs.Kept.{since_in}
+use Rattle.egress.specs.Kept.{are_placed, since_at, since_in}
 use Rattle.egress.specs.Print.{print}
 use Rattle.egress.specs.Reached.{Reached}
-use Rattle.egress.specs.Waiting.{Waiting, edges_if, edges_at, ArePut, Swept}
+use Rattle.egress.specs.Waiting.{Waiting, edges_if, waiting_in, edges_at, ArePut, ArePopped, SameMoves, HavePassed, Swept}
 use Rattle.egress.specs.Output.{Holds}
 use Rattle.egress.specs.declared.egress.Egress.{Egress}
+use Rattle.egress.proofs.Moving.{weigh_ended, weigh_started}
+use Rattle.egress.proofs.Reading.{placed_all, since_longer}
 use Rattle.egress.proofs.Reaching.{reached_first}
 
 -- what is open hangs on the rows before, as multisets
@@ -106,10 +109,28 @@ module _ (texts : List (List ℕ)) (kinds : List Kind) (h new : List Edge) (a c 
       Swept texts kinds (of h) a c since waiting text → Swept texts kinds (of (h ++ new)) a c since waiting2 text
   swept_more since waiting waiting2 text put s = record {
     waits = λ v low below. record {
-      weigh = λ w.
-          ap (total w) (put.edges v) ∙ total-append w (edges_if (waiting v)) (edges_at v (singles new))
-          ∙ ap (λ n. n + total w (edges_at v (singles new))) ((s.waits v low below).weigh w)
-          ∙ sym (news_grow w v below);
+      ended = record {
+        weigh = λ w.
+            let W : Edge → ℕ = λ x. total w (bare (ended_of x)) in
+            let a = ap (λ l. total w (bare (ended_rows l))) (put.edges v) ∙ weigh_ended w (edges_if (waiting v) ++ edges_at v (singles new)) ∙ total-append W (edges_if (waiting v)) (edges_at v (singles new)) in
+            let b = weigh_ended w (edges_if (waiting v)) in
+            let d = (s.waits v low below).ended.weigh w in
+            let e = weigh_ended w (news v (suc v) (of h)) in
+            let g = news_grow W v below in
+            let k = weigh_ended w (news v (suc v) (of (h ++ new))) in
+            omega (arith, a, b, d, e, g, k);
+      };
+      started = record {
+        weigh = λ w.
+            let W : Edge → ℕ = λ x. total w (bare (started_of x)) in
+            let a = ap (λ l. total w (bare (started_rows l))) (put.edges v) ∙ weigh_started w (edges_if (waiting v) ++ edges_at v (singles new)) ∙ total-append W (edges_if (waiting v)) (edges_at v (singles new)) in
+            let b = weigh_started w (edges_if (waiting v)) in
+            let d = (s.waits v low below).started.weigh w in
+            let e = weigh_started w (news v (suc v) (of h)) in
+            let g = news_grow W v below in
+            let k = weigh_started w (news v (suc v) (of (h ++ new))) in
+            omega (arith, a, b, d, e, g, k);
+      };
     };
     none = λ v low. put.none v (s.none v low) (none_at c v new low from);
     reached = reached_same (alive (read_events texts (of h))) (alive (read_events texts (of (h ++ new)))) c rows_same kinds a since text s.reached;
@@ -136,7 +157,7 @@ swept_anew texts kinds events a c since waiting text s = record {
 pub swept_none : (texts : List (List ℕ)) (kinds : List Kind) (since : Row → List ℕ) (waiting : Waiting) (text : List ℕ) →
     ((r : Row) → since r ≡ []) → ((t : ℕ) → waiting t ≡ None) → text ≡ [] → Swept texts kinds (of []) 0 0 since waiting text
 swept_none texts kinds since waiting text closed none empty = record {
-  waits = λ v low below. subst (λ o. SameBag (edges_if o) (news v (suc v) (of []))) (sym (none v)) (record { weigh = λ w. refl });
+  waits = λ v low below. subst (λ o. SameMoves (edges_if o) (news v (suc v) (of []))) (sym (none v)) (record { ended = record { weigh = λ w. refl }; started = record { weigh = λ w. refl } });
   none = λ v low. none v;
   reached = subst (λ l. Reached (alive (read_events texts (of []))) kinds 0 0 since l) (sym empty) (reached_first (alive (read_events texts (of []))) kinds 0 since closed);
 }
@@ -152,6 +173,49 @@ holds_longer new old begins h a c o placed s = record {
   swept = record {
     waits = s.swept.waits;
     none = s.swept.none;
-    reached = subst (λ es. Reached (alive es) o.kinds.items a c (since_in o.opens) o.text.items) (sym (read_longer new old begins (of h) (placed_of old h placed))) s.swept.reached;
+    reached =
+        let was : Reached (alive (read_events new (of h))) o.kinds.items a c (since_in old o.opens) o.text.items =
+        subst (λ es. Reached (alive es) o.kinds.items a c (since_in old o.opens) o.text.items) (sym (read_longer new old begins (of h) (placed_of old h placed))) s.swept.reached in
+        record {
+          low = was.low;
+          shown = was.shown;
+          opened = λ r. since_longer new old begins (since_at o.opens) (s.cells (are_placed old) (placed_all old h placed)).opens r ∙ was.opened r;
+        };
   };
+  cells = s.cells;
 }
+
+-- tests that the cells of edges pass are passed by those of what waits
+single_passes : (p : List Datum → Bool) (e : Edge) → p e.cells ≡ true → failing (λ x. p x.cells) (singles_of e) ≡ 0
+single_passes p e h = pick (is_end e || nat_eq e.other inf)
+  where
+    pick : (b : Bool) → failing (λ x. p x.cells) (cond b (e ∷ []) (start_edge (given e) ∷ end_edge (given e) ∷ [])) ≡ 0
+    pick true = let z : cond {A = ℕ} (p e.cells) 0 1 ≡ 0 = ap (λ b. cond {A = ℕ} b 0 1) h in omega (arith, z)
+    pick false = let z : cond {A = ℕ} (p e.cells) 0 1 ≡ 0 = ap (λ b. cond {A = ℕ} b 0 1) h in omega (arith, z)
+
+first_passes : (b : Bool) (n : ℕ) → cond {A = ℕ} b 0 1 + n ≡ 0 → (b ≡ true) × (n ≡ 0)
+first_passes true n h = (refl, omega (arith, h))
+first_passes false n h = absurd (omega (arith, h))
+
+singles_pass : (p : List Datum → Bool) (es : List Edge) → failing (λ x. p x.cells) es ≡ 0 → failing (λ x. p x.cells) (singles es) ≡ 0
+singles_pass p [] h = refl
+singles_pass p (e ∷ es) h =
+    let parts = first_passes (p e.cells) (failing (λ x. p x.cells) es) h in
+    failing-append (λ x. p x.cells) (singles_of e) (singles es) (single_passes p e parts.0) (singles_pass p es parts.1)
+
+pub put_passes : (p : List Datum → Bool) (old new : Waiting) (es : List Edge) → ArePut old new (singles es) → ((t : ℕ) → failing (λ x. p x.cells) (edges_if (old t)) ≡ 0) →
+    failing (λ x. p x.cells) es ≡ 0 → (t : ℕ) → failing (λ x. p x.cells) (edges_if (new t)) ≡ 0
+put_passes p old new es put was h t =
+    ap (failing (λ x. p x.cells)) (put.edges t)
+    ∙ failing-append (λ x. p x.cells) (edges_if (old t)) (edges_at t (singles es)) (was t) (failing-filter (λ x. nat_eq x.sync t) (λ x. p x.cells) (singles es) (singles_pass p es h))
+
+module _ (p : List Datum → Bool) (old new : Waiting) (at : ℕ) (es : List Edge) (popped : ArePopped old new at es) (was : (t : ℕ) → failing (λ x. p x.cells) (edges_if (old t)) ≡ 0) where
+  pub popped_passes : failing (λ x. p x.cells) es ≡ 0
+  popped_passes = ap (λ o. failing (λ x. p x.cells) (edges_if o)) (sym popped.there) ∙ was at
+
+  pub rest_passes : (t : ℕ) → failing (λ x. p x.cells) (edges_if (new t)) ≡ 0
+  rest_passes t = ap (λ o. failing (λ x. p x.cells) (edges_if o)) (popped.left t) ∙ pick (nat_eq at t)
+    where
+      pick : (b : Bool) → failing (λ x. p x.cells) (edges_if (cond b None (old t))) ≡ 0
+      pick true = refl
+      pick false = was t

@@ -6,7 +6,7 @@ use Rattle.std.specs.Map.{lookup}
 use Rattle.std.proofs.Common.{sym, ◌∙◌, ap, arith}
 use Rattle.std.proofs.lemmas.Bool.{lt-ltb, ltb-true}
 use Rattle.std.proofs.lemmas.List.{take_more}
-use Rattle.tw_rows.specs.Bag.{SameBag, total}
+use Rattle.tw_rows.specs.Bag.{total}
 use Rattle.tw_rows.specs.Cells.{IsPlaced, ArePlaced, read_cells}
 use Rattle.tw_rows.specs.Event.{AreEvents, alive}
 use Rattle.tw_rows.specs.Rows.{Row, row_cmp}
@@ -16,19 +16,30 @@ use Rattle.tw_rows.specs.declared.edge.HeldRow.{HeldRow}
 use Rattle.tw_rows.proofs.Bags.{total-append, total-map, total-flat_map}
 use Rattle.edge_history.specs.History.{CellEvent}
 use Rattle.edge_history.specs.Balance.{news}
-use Rattle.edge_history.specs.Order.{is_end}
+use Rattle.edge_history.specs.Order.{failing, is_end}
 use Rattle.edge_history.specs.Opens.{bare, ended_of, started_of, ended_rows, started_rows}
 use Rattle.node_laws.specs.Places.{read_events}
 use Rattle.plan_model.specs.Opens.{how_often}
 use Rattle.egress.specs.declared.moves.Moves.{Moves}
 use Rattle.egress.specs.Instants.{AreMoves}
 use Rattle.egress.specs.Kept.{ends_if, starts_if, ends_in, starts_in}
+use Rattle.egress.specs.Waiting.{SameMoves}
 use Rattle.egress.proofs.Moving.{edges_move}
 
 pub placed_at : (texts : List (List ℕ)) (cells : List Datum) (i : ℕ) (d : Datum) → ArePlaced texts cells → i < length cells → IsPlaced texts (get_or cells i d)
 placed_at texts [] i d h low = absurd (omega (arith, low))
 placed_at texts (c ∷ cs) zero d h low = h.0
 placed_at texts (c ∷ cs) (suc i) d h low = placed_at texts cs i d h.1 (omega (arith, low))
+
+-- a test that none fails is passed at each place
+pub passes_at : {X : Type 0} (q : X → Bool) (xs : List X) (i : ℕ) (d : X) → i < length xs → failing q xs ≡ 0 → q (get_or xs i d) ≡ true
+passes_at q [] i d low none = absurd (omega (arith, low))
+passes_at q (x ∷ xs) zero d low none = pick (q x) none
+  where
+    pick : (b : Bool) → cond {A = ℕ} b 0 1 + failing q xs ≡ 0 → b ≡ true
+    pick true h = refl
+    pick false h = absurd (omega (arith, h))
+passes_at q (x ∷ xs) (suc i) d low none = passes_at q xs i d (omega (arith, low)) (omega (arith, none))
 
 module _ (texts : List (List ℕ)) (r : Row) where
   abbrev pub ended_often : List Edge → ℕ
@@ -118,7 +129,7 @@ no_end_from b e h t = pick (is_end e) refl
 -- what is counted in a map that was empty are the moves of the instant
 pub counted_moves : (texts : List (List ℕ)) (events : List CellEvent) (t : ℕ) (now : List Edge) (m0 m : BTreeMap Row Moves) → m0.entries ≡ [] →
     ((r : Row) → ends_in m r ≡ ends_in m0 r + ended_often texts r now) → ((r : Row) → starts_in m r ≡ starts_in m0 r + started_often texts r now) →
-    AreEvents events → SameBag now (news t (suc t) events) → AreMoves (alive (read_events texts events)) t (ends_in m) (starts_in m)
+    AreEvents events → SameMoves now (news t (suc t) events) → AreMoves (alive (read_events texts events)) t (ends_in m) (starts_in m)
 counted_moves texts events t now m0 m none e f valid same r =
     let a = edges_move texts events t now valid same r in
     let b = e r in

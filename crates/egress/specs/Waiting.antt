@@ -1,16 +1,20 @@
 -- The edges that wait for their instants, and how far the output has come.
-use Rattle.std.specs.Prelude.{◌≡◌, ℕ, suc, ◌<◌, ◌≤◌, nat_eq, cond, Option, Some, None, List, [], ◌++◌, filter, Vec}
+use Rattle.std.specs.Prelude.{◌≡◌, ℕ, suc, ◌<◌, ◌≤◌, nat_eq, Bool, cond, Option, Some, None, List, [], ◌++◌, filter, Vec}
 use Rattle.std.specs.Ordering.{nat_cmp}
 use Rattle.std.specs.BTreeMap.{get, BTreeMap}
 use Rattle.tw_rows.specs.Instant.{inf}
 use Rattle.tw_rows.specs.Bag.{SameBag}
 use Rattle.tw_rows.specs.Event.{alive}
 use Rattle.tw_rows.specs.Rows.{Row}
+use Rattle.tw_rows.specs.declared.cells.Datum.{Datum}
 use Rattle.tw_rows.specs.declared.edge.Edge.{Edge}
 use Rattle.tw_rows.specs.declared.kind.Kind.{Kind}
 use Rattle.edge_history.specs.History.{CellEvent}
+use Rattle.edge_history.specs.Order.{failing}
 use Rattle.edge_history.specs.Balance.{news}
+use Rattle.edge_history.specs.Opens.{bare, ended_rows, started_rows}
 use Rattle.node_laws.specs.Places.{read_events, EdgesArePlaced}
+use Rattle.egress.specs.Kept.{OpensPass}
 use Rattle.egress.specs.Reached.{Reached}
 
 -- the edges that wait for each instant, and None for an instant for which none was put
@@ -48,10 +52,20 @@ pub record ArePopped (old new : Waiting) (at : ℕ) (es : List Edge) : Type 0 wh
 abbrev pub WaitingArePlaced : List (List ℕ) → Waiting → Type 0
 WaitingArePlaced texts waiting = (t : ℕ) → EdgesArePlaced texts (edges_if (waiting t))
 
+-- the edges end the same rows, each as often, and start the same rows. Of a row's two lives [1, 9) and [3, 9) the ends alike
+pub record SameMoves (xs ys : List Edge) : Type 0 where
+  pub ended : SameBag (bare (ended_rows xs)) (bare (ended_rows ys))
+  pub started : SameBag (bare (started_rows xs)) (bare (started_rows ys))
+
+-- the cells of each row that is open, and of each edge that waits, pass the test
+pub record HavePassed (p : List Datum → Bool) (since : List Datum → List ℕ) (waiting : Waiting) : Type 0 where
+  pub opens : OpensPass p since
+  pub waits : (t : ℕ) → failing (λ e. p e.cells) (edges_if (waiting t)) ≡ 0
+
 -- the text has the changes of the events, read, from a up to t, t not, and all that happens from t on waits. With the life
 -- [3, 5), from 0 to 4: the text has the start line, and the end edge waits for 5
 pub record Swept (texts : List (List ℕ)) (kinds : List Kind) (events : List CellEvent) (a t : ℕ)
     (since : Row → List ℕ) (waiting : Waiting) (text : List ℕ) : Type 0 where
-  pub waits : (v : ℕ) → t ≤ v → v < inf → SameBag (edges_if (waiting v)) (news v (suc v) events)
+  pub waits : (v : ℕ) → t ≤ v → v < inf → SameMoves (edges_if (waiting v)) (news v (suc v) events)
   pub none : (v : ℕ) → v < t → waiting v ≡ None
   pub reached : Reached (alive (read_events texts events)) kinds a t since text

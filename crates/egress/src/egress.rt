@@ -1,26 +1,28 @@
 // Output while the input goes on.
-ghost use Rattle.std.specs.Prelude.{◌≡◌, ◌≤◌, ◌-◌, ℕ, false, List, [], ◌++◌, is_err, IfOk, OnOk};
+ghost use Rattle.std.specs.Prelude.{◌≡◌, ◌≤◌, ◌-◌, ℕ, Bool, false, List, [], ◌++◌, is_err, IfOk, OnOk};
 ghost use Rattle.tw_rows.specs.Instant.{inf};
 ghost use Rattle.tw_rows.specs.Event.{Event, AreEvents, alive};
 ghost use Rattle.tw_rows.specs.Rows.{Row as Values};
+ghost use Rattle.tw_rows.specs.declared.cells.Datum.{Datum};
 ghost use Rattle.tw_rows.specs.declared.edge.Edge.{Edge};
 ghost use Rattle.edge_history.specs.Order.{failing, is_from, IsHistory};
 ghost use Rattle.edge_history.specs.History.{CellEvent};
 ghost use Rattle.node_laws.specs.Places.{EdgesArePlaced};
 ghost use Rattle.node_laws.specs.Standing.{StandsRead};
 ghost use Rattle.plan_model.specs.Changes.{changes};
-ghost use Rattle.egress.specs.Kept.{since_in};
-ghost use Rattle.egress.specs.Waiting.{waiting_in, WaitingArePlaced, Swept};
+ghost use Rattle.egress.specs.Kept.{since_at, since_in};
+ghost use Rattle.egress.specs.Waiting.{waiting_in, HavePassed, WaitingArePlaced, Swept};
 ghost use Rattle.egress.specs.Output.{Holds, IsPlacedIn};
 ghost use Rattle.egress.specs.Print.{print, punctuation_if};
 
 use crate::edges::show_edges;
 use crate::waiting::{pop_due, put_all};
 use edge_stream::EdgeList;
+use indexmap::IndexMap;
 use line_text::push_punctuation;
 use std::alloc::Global;
 use std::collections::{BTreeMap, VecDeque};
-use tw_rows::{Edge, Kind, Memory, Row, TextTable, Time};
+use tw_rows::{Cells, Edge, Kind, Memory, TextTable, Time};
 
 /// The changes of rows, from the edges that tell of them. `Holds` says of which edges they are, and what of them is rendered.
 /// Once memory was wanting nothing more is asked.
@@ -28,7 +30,7 @@ use tw_rows::{Edge, Kind, Memory, Row, TextTable, Time};
 pub struct Egress {
     alloc: Global,
     kinds: Vec<Kind>,
-    opens: BTreeMap<Row, VecDeque<Time>>,
+    opens: IndexMap<Cells, VecDeque<Time>>,
     waiting: BTreeMap<u64, Vec<Edge>>,
     text: Vec<u8>,
     failed: bool,
@@ -36,7 +38,7 @@ pub struct Egress {
 
 /// Shows all that is due below `to`, instant by instant.
 fn show_due(
-    opens: &mut BTreeMap<Row, VecDeque<Time>>,
+    opens: &mut IndexMap<Cells, VecDeque<Time>>,
     waiting: &mut BTreeMap<u64, Vec<Edge>>,
     out: &mut Vec<u8>,
     alloc: Global,
@@ -46,8 +48,9 @@ fn show_due(
 ) -> Result<(), Memory>
     requires { WaitingArePlaced texts.now (waiting_in waiting.old) }
     ensures within { OnOk result (to ≤ inf) }
-    ensures swept { OnOk result ((events : List CellEvent) (a c : ℕ) → AreEvents events → c ≤ to → Swept texts.now kinds.now events a c (since_in opens.old) (waiting_in waiting.old) out.old.items → Swept texts.now kinds.now events a to (since_in opens.new) (waiting_in waiting.new) out.new.items) }
+    ensures swept { OnOk result ((events : List CellEvent) (a c : ℕ) → AreEvents events → c ≤ to → Swept texts.now kinds.now events a c (since_in texts.now opens.old) (waiting_in waiting.old) out.old.items → Swept texts.now kinds.now events a to (since_in texts.now opens.new) (waiting_in waiting.new) out.new.items) }
     ensures placed { OnOk result (WaitingArePlaced texts.now (waiting_in waiting.new)) }
+    ensures passed { OnOk result ((p : List Datum → Bool) → HavePassed p (since_at opens.old) (waiting_in waiting.old) → HavePassed p (since_at opens.new) (waiting_in waiting.new)) }
 {
     'instants: while let Some(due) = pop_due(waiting, to) {
         show_edges(opens, out, alloc, kinds, due.at, &due.edges, texts)?;
@@ -75,7 +78,7 @@ impl Egress {
         Ok(Egress {
             alloc,
             kinds: Vec::from_slice(alloc, kinds)?,
-            opens: BTreeMap::new(alloc),
+            opens: IndexMap::new(alloc),
             waiting: BTreeMap::new(alloc),
             text: Vec::new(alloc),
             failed: false,

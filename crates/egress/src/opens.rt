@@ -1,15 +1,16 @@
 // The open starts of rows, and the lines that end and start them.
 ghost use Rattle.std.specs.Prelude.{◌≡◌, ◌++◌, List, map, take, drop, cond, replicate, OnOk, length};
-ghost use Rattle.std.specs.Ordering.{eq_by_cmp};
-ghost use Rattle.tw_rows.specs.Rows.{Row as Values, row_cmp};
+ghost use Rattle.tw_rows.specs.declared.cells.Datum.{Datum};
+ghost use Rattle.tw_rows.specs.SameCells.{same_cells as same};
 ghost use Rattle.plan_model.specs.Changes.{Started, Ended};
-ghost use Rattle.egress.specs.Kept.{since_in};
+ghost use Rattle.egress.specs.Kept.{since_at};
 ghost use Rattle.egress.specs.Print.{print, line_text};
 
+use indexmap::IndexMap;
 use line_text::{Form, push_event};
 use std::alloc::Global;
-use std::collections::{BTreeMap, VecDeque};
-use tw_rows::{Kind, Memory, Row, Time};
+use std::collections::VecDeque;
+use tw_rows::{Cells, Kind, Memory, Row, Time};
 
 #[tactic(auto, unfolding(tw_rows::specs::Instant::inf))]
 fn push_start(out: &mut Vec<u8>, kinds: &[Kind], at: Time, row: &Row) -> Result<(), Memory>
@@ -53,22 +54,23 @@ fn end_first(
 
 /// The end lines of a row at an instant. Only that row is looked at, and it is let go with its last open start.
 pub(crate) fn end_row(
-    opens: &mut BTreeMap<Row, VecDeque<Time>>,
+    opens: &mut IndexMap<Cells, VecDeque<Time>>,
     out: &mut Vec<u8>,
     kinds: &[Kind],
     at: Time,
     row: &Row,
+    cells: &Cells,
     count: usize,
 ) -> Result<(), Memory>
-    ensures since { OnOk result ((r : Values) → since_in opens.new r ≡ cond (eq_by_cmp row_cmp row.now r) (drop count (since_in opens.old r)) (since_in opens.old r)) }
-    ensures text { OnOk result (out.new.items ≡ out.old.items ++ print kinds.now (map (λ s. Ended at s row.now) (take count (since_in opens.old row.now)))) }
+    ensures since { OnOk result ((c : List Datum) → since_at opens.new c ≡ cond (same cells.now c) (drop count (since_at opens.old c)) (since_at opens.old c)) }
+    ensures text { OnOk result (out.new.items ≡ out.old.items ++ print kinds.now (map (λ s. Ended at s row.now) (take count (since_at opens.old cells.now)))) }
 {
-    let Some(since) = opens.get_mut(row) else {
+    let Some(since) = opens.get_mut(cells) else {
         return Ok(());
     };
     end_first(since, out, kinds, at, row, count)?;
     if since.is_empty() {
-        opens.remove(row);
+        opens.swap_remove(cells);
     }
     Ok(())
 }
@@ -98,29 +100,43 @@ fn open_more(since: &mut VecDeque<Time>, at: Time, count: usize) -> Result<(), M
     Ok(())
 }
 
-/// The start lines of a row at an instant.
-pub(crate) fn start_row(
-    opens: &mut BTreeMap<Row, VecDeque<Time>>,
-    out: &mut Vec<u8>,
+/// Opens a row so often at a time.
+pub(crate) fn open_row(
+    opens: &mut IndexMap<Cells, VecDeque<Time>>,
     alloc: Global,
-    kinds: &[Kind],
+    cells: Cells,
     at: Time,
-    row: Row,
     count: usize,
 ) -> Result<(), Memory>
-    ensures since { OnOk result ((r : Values) → since_in opens.new r ≡ cond (eq_by_cmp row_cmp row r) (since_in opens.old r ++ replicate count at) (since_in opens.old r)) }
-    ensures text { OnOk result (out.new.items ≡ out.old.items ++ print kinds.now (replicate count (Started at row))) }
+    ensures { OnOk result ((c : List Datum) → since_at opens.new c ≡ cond (same cells c) (since_at opens.old c ++ replicate count at) (since_at opens.old c)) }
 {
-    if count == 0 {
-        return Ok(());
-    }
-    push_starts(out, kinds, at, &row, count)?;
-    if let Some(since) = opens.get_mut(&row) {
+    if let Some(since) = opens.get_mut(&cells) {
         open_more(since, at, count)?;
         return Ok(());
     }
     let mut since = VecDeque::new(alloc);
     open_more(&mut since, at, count)?;
-    opens.insert(row, since)?;
+    opens.insert(cells, since)?;
     Ok(())
+}
+
+/// The start lines of a row at an instant.
+pub(crate) fn start_row(
+    opens: &mut IndexMap<Cells, VecDeque<Time>>,
+    out: &mut Vec<u8>,
+    alloc: Global,
+    kinds: &[Kind],
+    at: Time,
+    row: &Row,
+    cells: Cells,
+    count: usize,
+) -> Result<(), Memory>
+    ensures since { OnOk result ((c : List Datum) → since_at opens.new c ≡ cond (same cells c) (since_at opens.old c ++ replicate count at) (since_at opens.old c)) }
+    ensures text { OnOk result (out.new.items ≡ out.old.items ++ print kinds.now (replicate count (Started at row.now))) }
+{
+    if count == 0 {
+        return Ok(());
+    }
+    push_starts(out, kinds, at, row, count)?;
+    open_row(opens, alloc, cells, at, count)
 }

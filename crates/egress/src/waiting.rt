@@ -26,7 +26,7 @@ fn put(waiting: &mut BTreeMap<u64, Vec<Edge>>, alloc: Global, edge: Edge) -> Res
         edges.push(edge)?;
         return Ok(());
     }
-    let mut edges = Vec::new(alloc);
+    let mut edges = Vec::with_capacity(alloc, 1)?;
     edges.push(edge)?;
     waiting.insert(instant, edges)?;
     Ok(())

@@ -25,3 +25,11 @@ returns-clause-starts c = λ r.
     tallied c.args.texts.now r c.args.edge.now (starts_in c.args.touched.now r) (starts_in c.add_start.new.touched r) _ c.in_ok-row.row (c.in_ok-add_start.ensures.starts r)
     (c.in_ok-row.ensures ∙ ap (read_cells c.args.texts.now) c.items.ensures)
     (start_starts c.args.texts.now r c.args.edge.now (no_end_from c.is_end.result c.args.edge.now c.is_end.ensures c.if-is_end.false))
+
+pub returns-then-is_end-clause-cells : goal.returns-then-is_end-clause-cells
+returns-then-is_end-clause-cells c = λ p passes.
+    c.in_ok-add_end.ensures.cells p ((let a = c.in_ok-row.ensures ∙ ap (read_cells c.args.texts.now) c.items.ensures in let b = c.in_ok-cells.ensures.cases in λ i. p (a i) (b i)) ∙ passes)
+
+pub returns-clause-cells : goal.returns-clause-cells
+returns-clause-cells c = λ p passes.
+    c.in_ok-add_start.ensures.cells p ((let a = c.in_ok-row.ensures ∙ ap (read_cells c.args.texts.now) c.items.ensures in let b = c.in_ok-cells.ensures.cases in λ i. p (a i) (b i)) ∙ passes)

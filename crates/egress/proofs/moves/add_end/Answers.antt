@@ -1,10 +1,13 @@
 use Rattle.std.specs.Prelude.{◌+◌}
 use Rattle.std.proofs.Common.{ap}
-use Rattle.egress.proofs.Counted.{one_end, same_starts}
+use Rattle.egress.proofs.Counted.{one_end, same_starts, kept_then}
 use Rattle.egress.proofs.moves.add_end.Goals as goal
 
 pub returns-clause-ends : goal.returns-clause-ends
-returns-clause-ends c = one_end c.args.touched.now c.insert.new.self c.args.row _ c.in_ok-insert.ensures.updates.0 (ap (λ n. n + 1) c.moves_of-moves.ensures.ends)
+returns-clause-ends c = one_end c.args.touched.now c.insert.new.self c.args.row _ c.in_ok-insert.ensures.updates.0 (ap (λ n. n + 1) c.counts_of-counts.ensures.ends)
 
 pub returns-clause-starts : goal.returns-clause-starts
-returns-clause-starts c = same_starts c.args.touched.now c.insert.new.self c.args.row _ c.in_ok-insert.ensures.updates.0 c.moves_of-moves.ensures.starts
+returns-clause-starts c = same_starts c.args.touched.now c.insert.new.self c.args.row _ c.in_ok-insert.ensures.updates.0 c.counts_of-counts.ensures.starts
+
+pub returns-clause-cells : goal.returns-clause-cells
+returns-clause-cells c = λ p e h. kept_then c.args.touched.now c.insert.new.self c.args.row _ c.in_ok-insert.ensures.updates.0 p e h

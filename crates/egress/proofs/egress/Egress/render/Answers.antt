@@ -15,7 +15,8 @@ pub returns-in-Ok-clause-holds : goal.returns-in-Ok-clause-holds
 returns-in-Ok-clause-holds c = λ texts h a start s. record {
   high = s.high;
   history = s.history;
-  swept = subst (λ l. Swept texts c.args.self.now.kinds.items (of h) start start (since_in c.args.self.now.opens) (waiting_in c.args.self.now.waiting) l)
+  swept = subst (λ l. Swept texts c.args.self.now.kinds.items (of h) start start (since_in texts c.args.self.now.opens) (waiting_in c.args.self.now.waiting) l)
       (sym (ap (λ v. v.items) c.replace-text.ensures.after ∙ c.new.ensures.items))
-      (swept_anew texts c.args.self.now.kinds.items (of h) a start (since_in c.args.self.now.opens) (waiting_in c.args.self.now.waiting) c.args.self.now.text.items s.swept);
+      (swept_anew texts c.args.self.now.kinds.items (of h) a start (since_in texts c.args.self.now.opens) (waiting_in c.args.self.now.waiting) c.args.self.now.text.items s.swept);
+  cells = s.cells;
 }
