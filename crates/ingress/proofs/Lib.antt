@@ -4,3 +4,9 @@ mod Starts
 mod Queued
 mod Holding
 mod Keep
+mod Allowing
+mod Released
+mod Fitting
+mod Reading
+mod Leaving
+mod LinesFit

@@ -1,0 +1,11 @@
+use Rattle.std.specs.Prelude.{◌≡◌, ℕ, ◌<◌, IsSome, IfSome, slice_get, Option, Some, None, List, ◌∷◌, Vec}
+use Rattle.std.proofs.Common.{◌∙◌, ap, sym, subst, arith, refl}
+use Rattle.tw_rows.specs.declared.edge.Edge.{Edge}
+use Rattle.ingress.specs.Ranks.{IsShorterBelow}
+use Rattle.ingress.proofs.Released.{short_below}
+use Rattle.ingress.proofs.waiting.drop_first_below.Goals as goal
+
+pub returns-clause-taken : goal.returns-clause-taken
+returns-clause-taken c = λ _.
+    short_below c.args.end c.args.ranks.now.entries c.pop_first.new.self.entries c.pop_first.result c.in-Some.rank.now c.in-Some.field-0-1.now
+    (c.pop_first.ensures.variant.1 (c.in-Some.ensures.variant.0 refl)) c.pop_first.ensures.removal c.in-Some.ensures.first c.if-end-rank.false
