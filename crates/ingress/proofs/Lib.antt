@@ -7,6 +7,6 @@ mod Keep
 mod Allowing
 mod Released
 mod Fitting
-mod Reading
+pub mod Reading
 mod Leaving
-mod LinesFit
+pub mod LinesFit

@@ -80,4 +80,11 @@ impl Ingress {
     {
         self.watermarks.mark(stream)
     }
+
+    /// The last punctuation at which edges were released, and 0 before the first.
+    pub fn released(&self) -> Time
+        ensures { result ≡ self.now.released }
+    {
+        self.released
+    }
 }
