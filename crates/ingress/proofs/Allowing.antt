@@ -1,5 +1,5 @@
 -- The punctuation that the kept bounds and marks allow is the one that admission allows.
-use Rattle.std.specs.Prelude.{◌≡◌, ℕ, zero, suc, ◌<◌, max, min, List, length, map, refl}
+use Rattle.std.specs.Prelude.{◌≡◌, ℕ, zero, suc, ◌<◌, max, min, List, length, refl}
 use Rattle.std.proofs.Common.{ap, ◌∙◌, sym, arith}
 use Rattle.admission.specs.Admission.{Admission, least, stepped, allowed}
 use Rattle.admission.specs.declared.policy.Policy.{Policy}

@@ -108,8 +108,8 @@ part_fits ks xs ys zs all is h =
 pub next_keeps : (xs now es : List Edge) (i : ℕ) (d e : Edge) → e ≡ get_or es i d → i < length es → now ≡ xs ++ take i es → KeepsOrder (xs ++ es) → KeepsOrder (now ++ e ∷ [])
 next_keeps xs now es i d e is low so_far h =
     let one : now ++ e ∷ [] ≡ xs ++ take (i + 1) es =
-        ap (λ l. l ++ e ∷ []) so_far ∙ append_assoc xs (take i es) (e ∷ [])
-        ∙ ap (λ l. xs ++ l) (ap (λ x. take i es ++ x ∷ []) is ∙ sym (take_more es i d low)) in
+    ap (λ l. l ++ e ∷ []) so_far ∙ append_assoc xs (take i es) (e ∷ [])
+    ∙ ap (λ l. xs ++ l) (ap (λ x. take i es ++ x ∷ []) is ∙ sym (take_more es i d low)) in
     subst KeepsOrder (sym one)
     (front_keeps xs (take (i + 1) es) (drop (i + 1) es) (xs ++ es) (ap (λ l. xs ++ l) (take-append-drop (i + 1) es)) h)
 

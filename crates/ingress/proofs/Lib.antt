@@ -10,3 +10,5 @@ mod Fitting
 pub mod Reading
 mod Leaving
 pub mod LinesFit
+mod Lines
+mod FirstShape

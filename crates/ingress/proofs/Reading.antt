@@ -5,8 +5,7 @@ use Rattle.std.proofs.lemmas.Bool.{cases_lt, eqb-true}
 use Rattle.std.proofs.lemmas.List.{map-append, length-map}
 use Rattle.std.proofs.lemmas.List.Elements.{All-nil, All-cons, All-head, All-tail, All-append, All-weaker}
 use Rattle.tw_rows.specs.Instant.{inf}
-use Rattle.tw_rows.specs.Event.{Event as Lived, AreEvents}
-use Rattle.tw_rows.specs.Rows.{Row}
+use Rattle.tw_rows.specs.Event.{AreEvents}
 use Rattle.tw_rows.specs.Cells.{ArePlaced, read_cells}
 use Rattle.tw_rows.specs.Texts.{BeginsWith}
 use Rattle.tw_rows.specs.declared.edge.Edge.{Edge}
@@ -17,8 +16,7 @@ use Rattle.node_laws.specs.Places.{read_event, read_events, EventsArePlaced}
 use Rattle.node_laws.specs.Standing.{StandsRead, SourcesStandRead}
 use Rattle.node_laws.proofs.Maps.{AreEvents-to}
 use Rattle.node_laws.proofs.Standing.{read_longer, stands_by, none_stand}
-use Rattle.admission.specs.Admission.{Admission, Open, open_event, rows}
-use Rattle.ingress.specs.Held.{IsHeld}
+use Rattle.admission.specs.Admission.{Admission, open_event, rows}
 use Rattle.ingress.specs.Keeping.{CellOpen, ended_row, row_of_open, cell_rows}
 use Rattle.ingress.specs.Admits.{read_open, Follows, Admits}
 use Rattle.ingress.specs.declared.ingress.Ingress.{Ingress}
@@ -106,7 +104,7 @@ follows_stand texts a given i f s = go (cases_lt s (length i.held.waiting.items)
     go (inr past) =
         let far : length i.kinds.items ≤ s = (let l = long in omega (arith, l, past)) in
         let none : rows a s ≡ [] = rows_read texts a given i f s ∙ ap (λ l. read_events texts (l ++ flat_map (row_of_open s) f.opens)) (f.none_made s far)
-            ∙ ap (read_events texts) (none_open (length i.kinds.items) s f.opens far f.declared) in
+        ∙ ap (read_events texts) (none_open (length i.kinds.items) s f.opens far f.declared) in
         subst (λ l. StandsRead texts i.released (given s) l) (sym none)
         (subst (λ l. StandsRead texts i.released l []) (sym (f.none_given s far)) (none_stand texts i.released f.instant))
 

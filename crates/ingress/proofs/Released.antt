@@ -1,16 +1,15 @@
 -- The edges that are released at a time, and those that stay.
-use Rattle.std.specs.Prelude.{◌≡◌, ℕ, suc, ◌+◌, ◌*◌, ◌<◌, ◌≤◌, ◌⊎◌, Bool, true, false, not, ◌&&◌, cond, Option, Some, None, IsSome, IfSome, slice_get, List, [], ◌∷◌, ◌++◌, filter, length, Vec, refl}
+use Rattle.std.specs.Prelude.{◌≡◌, ℕ, suc, ◌+◌, ◌*◌, ◌<◌, ◌≤◌, ◌⊎◌, Bool, true, false, cond, Option, Some, None, IsSome, IfSome, slice_get, List, [], ◌∷◌, ◌++◌, filter, Vec, refl}
 use Rattle.std.specs.BTreeMap.Range.{range_contains, entries_between}
-use Rattle.std.specs.declared.ops.Bound.{Bound}
 use Rattle.std.specs.declared.ops.Bound.TheVariants.{Excluded, Unbounded}
-use Rattle.std.specs.Ordering.{nat_cmp, is_le}
+use Rattle.std.specs.Ordering.{nat_cmp}
 use Rattle.std.proofs.Common.{sym, ◌∙◌, ap, subst, arith, inl, inr}
 use Rattle.std.proofs.lemmas.Bool.{cases_lt}
 use Rattle.std.proofs.lemmas.Bool.Decides.{nat_tests}
 use Rattle.std.proofs.lemmas.List.Elements.{filter-append}
 use Rattle.tw_rows.specs.declared.edge.Edge.{Edge}
 use Rattle.edge_history.specs.Order.{failing, is_below, is_from}
-use Rattle.ingress.specs.Ranks.{has_rank, AreRanked, edges_at, IsShorterBelow, StartsFrom}
+use Rattle.ingress.specs.Ranks.{AreRanked, edges_at, IsShorterBelow, StartsFrom}
 use Rattle.ingress.proofs.Ranked.{all_below, all_from, first_from, later_ranked, rank_in}
 
 -- where no item fails, all are kept

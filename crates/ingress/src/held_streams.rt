@@ -33,7 +33,7 @@ pub(crate) fn is_before(a: Time, b: Time) -> bool
 }
 
 #[tactic(auto, unfolding(tw_rows::specs::Instant::inf))]
-fn infinity() -> Time
+pub(crate) fn infinity() -> Time
     ensures { result ≡ inf }
 {
     Time::INF
@@ -51,6 +51,7 @@ impl HeldStreams {
     pub fn new(alloc: Global, streams: usize) -> Result<HeldStreams, Memory>
         ensures keeps { IfOk result (λ h. Keeps 0 h.waiting.items (starts_in h.opens.starts) (λ s. []) [] (λ s. [])) }
         ensures len { IfOk result (λ h. length h.waiting.items ≡ streams) }
+        ensures empty { IfOk result (λ h. (s : ℕ) → get_or h.waiting.items s [] ≡ []) }
     {
         let mut waiting = Vec::new(alloc);
         for _ in 0..streams {

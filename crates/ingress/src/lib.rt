@@ -3,6 +3,7 @@
 #![tactic(auto)]
 
 mod admitting;
+mod entering;
 mod held_laws;
 mod held_streams;
 mod ingress;
@@ -12,6 +13,7 @@ mod releasing;
 mod waiting;
 mod watermarks;
 
+pub use entering::EventLine;
 pub use held_laws::{given_edges_stand, held_edges_are_given_in_order, held_edges_follow_the_rows};
 pub use held_streams::HeldStreams;
 pub use ingress::{Ingress, Refusal};

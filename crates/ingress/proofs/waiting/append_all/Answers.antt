@@ -1,4 +1,4 @@
-use Rattle.std.proofs.Common.{◌≡◌, ◌∙◌, ap, sym, refl, map}
+use Rattle.std.proofs.Common.{◌∙◌, ap, sym, map}
 use Rattle.tw_rows.specs.Kinds.{cell_kind_of}
 use Rattle.ingress.proofs.Fitting.{fit_kinds, next_keeps, next_edges, pools_next, pools_part, shape_next}
 use Rattle.ingress.proofs.waiting.append_all.Goals as goal

@@ -1,7 +1,4 @@
-use Rattle.std.specs.Prelude.{◌≡◌, ℕ, ◌<◌, IsSome, IfSome, slice_get, Option, Some, None, List, ◌∷◌, Vec}
-use Rattle.std.proofs.Common.{◌∙◌, ap, sym, subst, arith, refl}
-use Rattle.tw_rows.specs.declared.edge.Edge.{Edge}
-use Rattle.ingress.specs.Ranks.{IsShorterBelow}
+use Rattle.std.proofs.Common.{refl}
 use Rattle.ingress.proofs.Released.{short_below}
 use Rattle.ingress.proofs.waiting.drop_first_below.Goals as goal
 

@@ -1,6 +1,5 @@
-use Rattle.std.specs.Prelude.{◌≡◌, ◌≢◌, ◌<◌, get_or, []}
+use Rattle.std.specs.Prelude.{get_or, []}
 use Rattle.std.proofs.Common.{refl, ap, arith}
-use Rattle.tw_rows.specs.Instant.{inf}
 use Rattle.key_nodes.specs.Joins.{with_life}
 use Rattle.ingress.specs.OpenKeys.{starts_in}
 use Rattle.ingress.specs.Keeping.{more_rows}

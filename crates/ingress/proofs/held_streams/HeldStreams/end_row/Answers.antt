@@ -1,4 +1,4 @@
-use Rattle.std.specs.Prelude.{◌≡◌, get_or, map, []}
+use Rattle.std.specs.Prelude.{get_or, map, []}
 use Rattle.std.proofs.Common.{◌∙◌, ap, arith}
 use Rattle.tw_rows.specs.Cells.{datum_kind}
 use Rattle.ingress.proofs.Fitting.{put_fits, out_fits, same_fits, edge_fits}

@@ -1,4 +1,4 @@
-use Rattle.std.specs.Prelude.{◌≡◌, ◌≤◌, ◌<◌, [], length, map, get_or}
+use Rattle.std.specs.Prelude.{◌≡◌, ◌≤◌, [], length, map, get_or}
 use Rattle.std.proofs.Common.{◌∙◌, ap, sym, subst, arith}
 use Rattle.std.proofs.lemmas.List.{length-map, get_or-map, get_or_default}
 use Rattle.tw_rows.specs.Kinds.{cell_kind_of}
@@ -21,8 +21,8 @@ copy_below-requires-clause-fit c =
     let w = i.shape.waiting in
     let r = c.requires.stream in
     let ks = get_or-map (map cell_kind_of) (kinds_of i) c.args.stream [] [] (omega (arith, r, l))
-        ∙ ap (map cell_kind_of) (get_or-map (λ k. k.items) i.kinds.items c.args.stream c.index.result.now [] c.requires.stream ∙ ap (λ k. k.items) (sym c.index.ensures) ∙ sym c.deref.ensures.value)
-        ∙ sym (ap (λ v. map cell_kind_of v.kinds) c.in_ok-list.ensures) in
+    ∙ ap (map cell_kind_of) (get_or-map (λ k. k.items) i.kinds.items c.args.stream c.index.result.now [] c.requires.stream ∙ ap (λ k. k.items) (sym c.index.ensures) ∙ sym c.deref.ensures.value)
+    ∙ sym (ap (λ v. map cell_kind_of v.kinds) c.in_ok-list.ensures) in
     let es = get_or_default i.held.waiting.items c.args.stream [] c.index-2.result.now (omega (arith, r, l, w)) ∙ sym c.index-2.ensures in
     subst (λ k. failing (is_fit k) c.index-2.result.now ≡ 0) ks
     (subst (λ e. failing (is_fit (get_or (map (map cell_kind_of) (kinds_of i)) c.args.stream [])) e ≡ 0) es (i.shape.fit c.args.stream))

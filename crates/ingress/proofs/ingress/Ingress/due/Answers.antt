@@ -1,8 +1,8 @@
-use Rattle.std.specs.Prelude.{◌≡◌, ◌≤◌, ◌<◌, ◌⊎◌, ℕ, List, true, false, length, map}
+use Rattle.std.specs.Prelude.{◌≡◌, ◌≤◌, ◌<◌, ◌⊎◌, length}
 use Rattle.std.proofs.Common.{◌∙◌, sym, arith, inl, inr}
 use Rattle.std.proofs.lemmas.Bool.{cases_lt}
 use Rattle.std.proofs.lemmas.List.{length-map}
-use Rattle.admission.specs.Admission.{Admission, allowed}
+use Rattle.admission.specs.Admission.{allowed}
 use Rattle.ingress.proofs.Allowing.{allowed_kept}
 use Rattle.ingress.proofs.ingress.Ingress.due.Goals as goal
 

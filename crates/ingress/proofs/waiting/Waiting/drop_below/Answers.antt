@@ -1,5 +1,5 @@
 use Rattle.std.specs.Prelude.{filter}
-use Rattle.std.proofs.Common.{arith, ap, length, refl, ◌∙◌, sym}
+use Rattle.std.proofs.Common.{arith, ap, length, refl, ◌∙◌}
 use Rattle.edge_history.specs.Order.{is_from}
 use Rattle.ingress.specs.Ranks.{edges_at}
 use Rattle.ingress.proofs.Released.{dropping_next, dropped_all}
