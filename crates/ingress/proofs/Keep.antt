@@ -39,7 +39,7 @@ ending w cells start end less = go (nat_lt start end) refl
     go true e = (omega arith, refl)
     go false e = absurd (grind (arith, nat_tests))
 
-real_edge : (cells : List Datum) (sync other : ℕ) → sync < inf → other ≤ inf → other ≢ sync → is_real (record { sync = sync; other = other; cells = cells }) ≡ true
+pub real_edge : (cells : List Datum) (sync other : ℕ) → sync < inf → other ≤ inf → other ≢ sync → is_real (record { sync = sync; other = other; cells = cells }) ≡ true
 real_edge cells sync other a b c = grind (arith, nat_tests)
 
 -- a test of equal numbers, either way

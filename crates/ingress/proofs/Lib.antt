@@ -4,3 +4,11 @@ mod Starts
 mod Queued
 mod Holding
 mod Keep
+mod Allowing
+mod Released
+mod Fitting
+pub mod Reading
+mod Leaving
+pub mod LinesFit
+mod Lines
+mod FirstShape

@@ -40,7 +40,7 @@ pub all_below : (r t : ℕ) (es : List Edge) → r < 2 * t → failing (has_rank
 all_below r t [] low h = refl
 all_below r t (e ∷ es) low h = let a = rank_low e in let rest = all_below r t es low in grind (arith, nat_tests)
 
-all_from : (r t : ℕ) (es : List Edge) → 2 * t ≤ r → failing (has_rank r) es ≡ 0 → failing (is_from t) es ≡ 0
+pub all_from : (r t : ℕ) (es : List Edge) → 2 * t ≤ r → failing (has_rank r) es ≡ 0 → failing (is_from t) es ≡ 0
 all_from r t [] low h = refl
 all_from r t (e ∷ es) low h = let a = rank_high e in let rest = all_from r t es low in grind (arith, nat_tests)
 
@@ -160,7 +160,7 @@ module _ {S : Type 0} where
 own_rank : (k : ℕ) (e : Edge) → rank e ≡ k → failing (has_rank k) (e ∷ []) ≡ 0
 own_rank k e is = grind (arith, nat_tests)
 
-abbrev rank_in : {S : Type 0} → Option (ℕ × Vec Edge S) → ℕ
+abbrev pub rank_in : {S : Type 0} → Option (ℕ × Vec Edge S) → ℕ
 rank_in None = 0
 rank_in (Some p) = p.0
 

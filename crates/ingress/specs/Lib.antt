@@ -1,6 +1,9 @@
--- Callers read Streams, Held, Keeping and OpenKeys; Ranks is cited by private contracts alone.
+-- Callers read Fits, Admits and what it stands on (Streams, Held, Keeping, OpenKeys); Ranks and Entering are cited by private contracts alone.
 pub mod Streams
 pub mod Held
 pub mod Keeping
 pub mod OpenKeys
 pub mod Ranks
+pub mod Fits
+pub mod Entering
+pub mod Admits

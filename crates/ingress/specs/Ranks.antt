@@ -1,6 +1,7 @@
 -- Edges in a map by rank.
-use Rattle.std.specs.Prelude.{◌≡◌, ℕ, suc, ◌≤◌, nat_eq, Bool, List, [], ◌∷◌, flat_map, Vec}
+use Rattle.std.specs.Prelude.{◌≡◌, ℕ, suc, ◌<◌, ◌≤◌, nat_eq, Bool, List, [], ◌∷◌, flat_map, Vec}
 use Rattle.tw_rows.specs.declared.edge.Edge.{Edge}
+use Rattle.batch.specs.Shelves.{Shelves}
 use Rattle.edge_history.specs.Order.{rank, failing}
 
 -- the edge has this rank: a start at 5 has 11
@@ -15,3 +16,19 @@ AreRanked low (e ∷ es) = (low ≤ e.0) × (failing (has_rank e.0) e.1.items �
 -- all edges, rank by rank
 abbrev pub edges_at : {S : Type 0} → List (ℕ × Vec Edge S) → List Edge
 edges_at entries = flat_map (λ e. e.1.items) entries
+
+-- the first of the ranks is not below the end; of no ranks it holds
+abbrev pub StartsFrom : {S : Type 0} → ℕ → List (ℕ × Vec Edge S) → Type 0
+StartsFrom end [] = Unit {0}
+StartsFrom end (e ∷ es) = end ≤ e.0
+
+-- the first of the ranks, which is below the end, is gone
+pub record IsShorterBelow {S : Type 0} (end : ℕ) (old new : List (ℕ × Vec Edge S)) : Type 0 where
+  pub first : ℕ × Vec Edge S
+  pub is : old ≡ first ∷ new
+  pub below : first.0 < end
+
+-- the pools lend columns of the same capacity, and keep as many at most
+pub record SamePools (old new : Shelves) : Type 0 where
+  pub capacity : new.capacity ≡ old.capacity
+  pub limit : new.limit ≡ old.limit

@@ -1,13 +1,16 @@
 // What is held of all streams: the edges that wait for a punctuation, and the open starts.
-ghost use Rattle.std.specs.Prelude.{◌≡◌, ℕ, ◌<◌, ◌≤◌, ◌↔◌, IsTrue, true, false, List, [], ◌∷◌, ◌++◌, length, get_or, Some, IfOk, OnOk, OnErr};
+ghost use Rattle.std.specs.Prelude.{◌≡◌, ℕ, ◌<◌, ◌≤◌, ◌↔◌, IsTrue, true, false, List, [], ◌∷◌, ◌++◌, length, get_or, map, filter, Some, IfOk, OnOk, OnErr};
 ghost use Rattle.tw_rows.specs.Instant.{inf};
 ghost use Rattle.tw_rows.specs.Bag.{SameBag};
 ghost use Rattle.tw_rows.specs.declared.edge.Edge.{Edge};
-ghost use Rattle.edge_history.specs.Order.{many, starts_it};
+ghost use Rattle.tw_rows.specs.Cells.{datum_kind};
+ghost use Rattle.tw_rows.specs.declared.kind.CellKind.{CellKind};
+ghost use Rattle.edge_history.specs.Order.{many, starts_it, is_from};
 ghost use Rattle.edge_history.specs.History.{CellEvent};
 ghost use Rattle.ingress.specs.Held.{start_of};
 ghost use Rattle.key_nodes.specs.Joins.{with_life};
 ghost use Rattle.ingress.specs.OpenKeys.{starts_in};
+ghost use Rattle.ingress.specs.Fits.{AreFit};
 ghost use Rattle.ingress.specs.Keeping.{CellOpen, Keeps, StillKeeps, Changed, HasEnded, more_rows, first_of, is_named};
 
 use crate::opens::{OpenKey, OpenStart, OpenStarts};
@@ -22,7 +25,7 @@ pub struct HeldStreams {
     pub(crate) opens: OpenStarts,
 }
 
-fn is_before(a: Time, b: Time) -> bool
+pub(crate) fn is_before(a: Time, b: Time) -> bool
     ensures test { IsTrue result ↔ (a < b) }
     ensures within { b ≤ inf }
 {
@@ -30,7 +33,7 @@ fn is_before(a: Time, b: Time) -> bool
 }
 
 #[tactic(auto, unfolding(tw_rows::specs::Instant::inf))]
-fn infinity() -> Time
+pub(crate) fn infinity() -> Time
     ensures { result ≡ inf }
 {
     Time::INF
@@ -48,6 +51,7 @@ impl HeldStreams {
     pub fn new(alloc: Global, streams: usize) -> Result<HeldStreams, Memory>
         ensures keeps { IfOk result (λ h. Keeps 0 h.waiting.items (starts_in h.opens.starts) (λ s. []) [] (λ s. [])) }
         ensures len { IfOk result (λ h. length h.waiting.items ≡ streams) }
+        ensures empty { IfOk result (λ h. (s : ℕ) → get_or h.waiting.items s [] ≡ []) }
     {
         let mut waiting = Vec::new(alloc);
         for _ in 0..streams {
@@ -77,6 +81,7 @@ impl HeldStreams {
         ensures taken { IsTrue result → SameBag (start_of cells.now start ∷ get_or self.new.waiting.items stream []) (get_or self.old.waiting.items stream []) }
         ensures none { result ≡ false → many (starts_it cells.now start) (get_or self.old.waiting.items stream []) ≡ 0 }
         ensures opens { self.new.opens ≡ self.old.opens }
+        ensures kept { result ≡ false → get_or self.new.waiting.items stream [] ≡ get_or self.old.waiting.items stream [] }
     {
         self.waiting[stream].take_out(cells, start)
     }
@@ -95,6 +100,7 @@ impl HeldStreams {
             Keeps p self.new.waiting.items (starts_in self.new.opens.starts) (more_rows stream (with_life cells start end) made) opens given) }
         ensures err { OnErr result (StillKeeps self.old.waiting.items (starts_in self.old.opens.starts) self.new.waiting.items (starts_in self.new.opens.starts)) }
         ensures len { length self.new.waiting.items ≡ length self.old.waiting.items }
+        ensures fit { (kinds : List (List CellKind)) → AreFit kinds self.old.waiting.items → map datum_kind cells ≡ get_or kinds stream [] → AreFit kinds self.new.waiting.items }
     {
         if is_before(start, end) {
             let edge = Edge {
@@ -116,6 +122,7 @@ impl HeldStreams {
             Keeps p self.new.waiting.items (starts_in self.new.opens.starts) made (opens ++ record { key = key; state = state } ∷ []) given) }
         ensures err { OnErr result (StillKeeps self.old.waiting.items (starts_in self.old.opens.starts) self.new.waiting.items (starts_in self.new.opens.starts)) }
         ensures len { length self.new.waiting.items ≡ length self.old.waiting.items }
+        ensures fit { (kinds : List (List CellKind)) → AreFit kinds self.old.waiting.items → map datum_kind key.cells ≡ get_or kinds key.stream [] → AreFit kinds self.new.waiting.items }
     {
         if !is_live(&state) {
             self.opens.open(key, state)?;
@@ -149,6 +156,7 @@ impl HeldStreams {
         ensures err { OnErr result (get_or self.new.waiting.items key.now.stream [] ≡ get_or self.old.waiting.items key.now.stream []) }
         ensures opens { self.new.opens ≡ self.old.opens }
         ensures within { at ≤ inf }
+        ensures fit { (kinds : List (List CellKind)) → AreFit kinds self.old.waiting.items → map datum_kind key.now.cells ≡ get_or kinds key.now.stream [] → AreFit kinds self.new.waiting.items }
     {
         if state.dropped {
             return Ok(());
@@ -179,6 +187,7 @@ impl HeldStreams {
             HasEnded key.now at p self.new.waiting.items (starts_in self.new.opens.starts) made opens given answer (first_of (is_named key.now) opens)) }
         ensures err { OnErr result (StillKeeps self.old.waiting.items (starts_in self.old.opens.starts) self.new.waiting.items (starts_in self.new.opens.starts)) }
         ensures len { length self.new.waiting.items ≡ length self.old.waiting.items }
+        ensures fit { (kinds : List (List CellKind)) → AreFit kinds self.old.waiting.items → map datum_kind key.now.cells ≡ get_or kinds key.now.stream [] → AreFit kinds self.new.waiting.items }
     {
         let Some(state) = self.opens.first(key) else {
             return Ok(None);
@@ -186,5 +195,26 @@ impl HeldStreams {
         self.end_row(key, &state, at)?;
         self.opens.close(key);
         Ok(Some(state))
+    }
+
+    // Takes the edges of a stream before `t` out.
+    fn drop_one(&mut self, stream: usize, t: Time)
+        requires { stream < length self.old.waiting.items }
+        ensures changed { Changed stream self.old.waiting.items self.new.waiting.items }
+        ensures dropped { get_or self.new.waiting.items stream [] ≡ filter (is_from t) (get_or self.old.waiting.items stream []) }
+        ensures opens { self.new.opens ≡ self.old.opens }
+    {
+        self.waiting[stream].drop_below(t);
+    }
+
+    /// Takes the edges of all streams before `t` out.
+    pub fn drop_below(&mut self, t: Time)
+        ensures waiting { (s : ℕ) → get_or self.new.waiting.items s [] ≡ filter (is_from t) (get_or self.old.waiting.items s []) }
+        ensures len { length self.new.waiting.items ≡ length self.old.waiting.items }
+        ensures opens { self.new.opens ≡ self.old.opens }
+    {
+        for stream in 0..self.waiting.len() {
+            self.drop_one(stream, t);
+        }
     }
 }

@@ -2,14 +2,25 @@
 //! in `admission`.
 #![tactic(auto)]
 
+mod admitting;
+mod entering;
 mod held_laws;
 mod held_streams;
+mod ingress;
+mod ingress_laws;
 mod opens;
+mod releasing;
 mod waiting;
 mod watermarks;
 
+pub use entering::EventLine;
 pub use held_laws::{given_edges_stand, held_edges_are_given_in_order, held_edges_follow_the_rows};
 pub use held_streams::HeldStreams;
+pub use ingress::{Ingress, Refusal};
+pub use ingress_laws::{
+    fixed_parts_stay, kept_lines_stay_in_longer_tables, lines_fit_their_streams,
+    released_edges_stand_read,
+};
 pub use opens::{OpenKey, OpenStart, OpenStarts};
 pub use waiting::Waiting;
 pub use watermarks::{Watermark, Watermarks};

@@ -1,10 +1,15 @@
 // Edges that wait for their time.
-ghost use Rattle.std.specs.Prelude.{◌≡◌, ◌+◌, ◌*◌, ◌^◌, ◌<◌, ◌≤◌, length, get_or, true, false, IsTrue, IfSome, IsNone, OnOk, OnErr, [], ◌∷◌, ◌++◌};
+ghost use Rattle.std.specs.Prelude.{◌≡◌, ◌+◌, ◌*◌, ◌^◌, ◌<◌, ◌≤◌, length, get_or, filter, true, false, IsTrue, IfSome, IsNone, OnOk, OnErr, [], ◌∷◌, ◌++◌};
 ghost use Rattle.tw_rows.specs.Instant.{inf};
 ghost use Rattle.tw_rows.specs.Bag.{SameBag};
 ghost use Rattle.tw_rows.specs.declared.edge.Edge.{Edge};
-ghost use Rattle.edge_history.specs.Order.{rank, many, failing, starts_it, is_below, is_from, Rises};
+ghost use Rattle.edge_history.specs.Order.{rank, many, failing, starts_it, is_below, is_from, Rises, KeepsOrder};
+ghost use Rattle.edge_stream.specs.Listing.{cells_of, SameShape};
+ghost use Rattle.ingress.specs.Fits.{is_fit};
+ghost use Rattle.ingress.specs.Ranks.{SamePools, IsShorterBelow, StartsFrom};
 
+use batch::Pools;
+use edge_stream::EdgeList;
 use std::alloc::Global;
 use std::collections::BTreeMap;
 use std::marker::Model;
@@ -126,19 +131,57 @@ impl Waiting {
         false
     }
 
-    /// The edges of the first rank, where they come before `t`: call it until there is none.
-    pub fn take_below(&mut self, t: Time) -> Option<Vec<Edge>>
-        ensures edges { IfSome result (λ edges. self.old ≡ edges.items ++ self.new) }
-        ensures below { IfSome result (λ edges. failing (is_below t) edges.items ≡ 0) }
-        ensures none { IsNone result → (self.new ≡ self.old) }
-        ensures from { IsNone result → (failing (is_from t) self.old ≡ 0) }
-        ensures order { Rises 0 self.old }
+    /// Adds copies of the edges before `t` to an empty list, in order. Want of memory changes the list and the pools alone.
+    pub fn copy_below(&self, pools: &mut Pools, t: Time, list: &mut EdgeList) -> Result<(), Memory>
+        requires capacity { pools.old.capacity ≡ list.old.capacity }
+        requires empty { list.old.edges ≡ [] }
+        requires fit { failing (is_fit (cells_of list.old)) self.now ≡ 0 }
+        ensures ok { OnOk result (list.new.edges ≡ filter (is_below t) self.now) }
+        ensures order { Rises 0 self.now }
+        ensures shape { SameShape list.old list.new }
+        ensures pools { SamePools pools.old pools.new }
     {
-        let (rank, _) = self.ranks.first_key_value()?;
-        if end_rank(t) <= *rank {
-            return None;
+        for (_, edges) in self.ranks.range(..end_rank(t)) {
+            append_all(pools, edges, list)?;
         }
-        let (_, edges) = self.ranks.pop_first()?;
-        Some(edges)
+        Ok(())
     }
+
+    /// Takes the edges before `t` out.
+    pub fn drop_below(&mut self, t: Time)
+        ensures { self.new ≡ filter (is_from t) self.old }
+    {
+        let end = end_rank(t);
+        'ranks: while drop_first_below(&mut self.ranks, end) {}
+    }
+}
+
+// Adds copies of edges to the end of a list.
+fn append_all(pools: &mut Pools, edges: &[Edge], list: &mut EdgeList) -> Result<(), Memory>
+    requires capacity { pools.old.capacity ≡ list.old.capacity }
+    requires order { KeepsOrder (list.old.edges ++ edges.now) }
+    requires fit { failing (is_fit (cells_of list.old)) edges.now ≡ 0 }
+    ensures ok { OnOk result (list.new.edges ≡ list.old.edges ++ edges.now) }
+    ensures shape { SameShape list.old list.new }
+    ensures pools { SamePools pools.old pools.new }
+{
+    for edge in edges {
+        list.append(pools, edge)?;
+    }
+    Ok(())
+}
+
+// Takes the first rank out, where it is below `end`.
+fn drop_first_below(ranks: &mut BTreeMap<u64, Vec<Edge>>, end: u64) -> bool
+    ensures taken { IsTrue result → IsShorterBelow end ranks.old.entries ranks.new.entries }
+    ensures none { result ≡ false → (ranks.new.entries ≡ ranks.old.entries) × StartsFrom end ranks.old.entries }
+{
+    let Some((rank, _)) = ranks.first_key_value() else {
+        return false;
+    };
+    if end <= *rank {
+        return false;
+    }
+    ranks.pop_first();
+    true
 }

@@ -20,7 +20,7 @@ pub struct Watermarks {
     pub(crate) streams: Vec<Watermark>,
 }
 
-fn later(a: Time, b: Time) -> Time
+pub(crate) fn later(a: Time, b: Time) -> Time
     ensures { result ≡ max a b }
 {
     if a < b { b } else { a }

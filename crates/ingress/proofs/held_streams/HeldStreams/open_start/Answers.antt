@@ -1,7 +1,9 @@
-use Rattle.std.specs.Prelude.{cond, [], ◌∷◌, ◌++◌, get_or}
-use Rattle.std.proofs.Common.{refl, ◌∙◌, ap}
+use Rattle.std.specs.Prelude.{cond, [], ◌∷◌, ◌++◌, get_or, map}
+use Rattle.std.proofs.Common.{refl, ◌∙◌, ap, arith}
+use Rattle.tw_rows.specs.Cells.{datum_kind}
 use Rattle.ingress.specs.OpenKeys.{same_key, starts_in}
 use Rattle.ingress.specs.Keeping.{CellOpen}
+use Rattle.ingress.proofs.Fitting.{put_fits, out_fits, same_fits, edge_fits}
 use Rattle.ingress.proofs.Keep.{start_comes, still_kept, changed_again, put_back, as_start}
 use Rattle.ingress.proofs.held_streams.HeldStreams.open_start.Goals as goal
 
@@ -26,3 +28,27 @@ returns-clause-ok c = λ p made opens given late keeps.
     o refl refl refl (λ k. c.in_default.ensures.ok k ∙ ap (λ l. cond (same_key c.args.key k) (l ++ c.args.state ∷ []) l) (ap (λ x. starts_in x.starts k) c.put.ensures.opens))
     live.0 live.1 late
     (as_start (get_or c.put.new.self.waiting.items s []) (get_or c.args.self.now.waiting.items s []) c.args.key.cells c.in_ok-clone.field-0 c.args.state.start c.infinity.result c.infinity.ensures (c.in_ok-clone.ensures.cases ∙ c.in_ok-cells.ensures.cases) c.in_ok-put.ensures.ok)
+
+pub returns-in-Err-clause-fit : goal.returns-in-Err-clause-fit
+returns-in-Err-clause-fit c = λ kinds fit is.
+    let s = c.args.key.stream in
+    let live = c.is_live.ensures.0 c.if-not-is_live.false in
+    let h = c.infinity.ensures in
+    out_fits kinds s c.put.new.self.waiting.items c.take_out.new.self.waiting.items c.take_out.ensures.changed
+    (put_fits kinds s c.args.self.now.waiting.items c.put.new.self.waiting.items c.put.ensures.changed fit c.put.result _ c.put.ensures.ok c.put.ensures.err
+    (edge_fits (get_or kinds s []) c.in_ok-clone.field-0 c.args.state.start c.infinity.result live.1 (omega (arith, h)) (λ e. omega (arith, e, h, live.1))
+    (ap (map datum_kind) (c.in_ok-clone.ensures.cases ∙ c.in_ok-cells.ensures.cases) ∙ is)))
+    c.take_out.result _ c.take_out.ensures.taken c.take_out.ensures.kept
+
+pub returns-clause-fit : goal.returns-clause-fit
+returns-clause-fit c = λ kinds fit is.
+    let s = c.args.key.stream in
+    let live = c.is_live.ensures.0 c.if-not-is_live.false in
+    let h = c.infinity.ensures in
+    put_fits kinds s c.args.self.now.waiting.items c.put.new.self.waiting.items c.put.ensures.changed fit c.put.result _ c.put.ensures.ok c.put.ensures.err
+    (edge_fits (get_or kinds s []) c.in_ok-clone.field-0 c.args.state.start c.infinity.result live.1 (omega (arith, h)) (λ e. omega (arith, e, h, live.1))
+    (ap (map datum_kind) (c.in_ok-clone.ensures.cases ∙ c.in_ok-cells.ensures.cases) ∙ is))
+
+pub returns-in_err-put-clause-fit : goal.returns-in_err-put-clause-fit
+returns-in_err-put-clause-fit c = λ kinds fit is.
+    same_fits kinds c.args.key.stream c.args.self.now.waiting.items c.put.new.self.waiting.items c.put.ensures.changed fit c.in_err-put.ensures.err

@@ -1,0 +1,228 @@
+// Lines that are admitted, one by one.
+ghost use Rattle.std.specs.Prelude.{◌≡◌, ℕ, ◌-◌, ◌<◌, ◌≤◌, ◌&&◌, nat_lt, List, [], length, get_or, map, IfSome, IfOk, IfErr, OnErr, MatchOption};
+ghost use Rattle.tw_rows.specs.Texts.{BeginsWith};
+ghost use Rattle.tw_rows.specs.declared.edge.Edge.{Edge};
+ghost use Rattle.tw_rows.specs.declared.schema.StreamDef.{StreamDef};
+ghost use Rattle.plan_model.specs.IsPlan.{AreNarrow};
+ghost use Rattle.admission.specs.Admission.{Admission, nothing, Taken, admit as admitted, allowed, refuses, drops};
+ghost use Rattle.admission.specs.Answers.{answer as answer_of};
+ghost use Rattle.row_reader.specs.declared.entry.Entry.TheVariants as entries;
+ghost use Rattle.ingress.specs.Fits.{Fits, plain, row_cells};
+ghost use Rattle.ingress.specs.Admits.{cells_of, IsFor, SameFixed, Follows, Admits, Refuses};
+
+use crate::entering::EventLine;
+use crate::held_streams::{HeldStreams, is_before};
+use crate::ingress::{Ingress, Refusal};
+use crate::watermarks::{Watermarks, later};
+use admission::{Admitted, Lateness, Policy};
+use line_text::Form;
+use row_reader::Entry;
+use std::alloc::Global;
+use tw_rows::{Kind, Memory, Row, Schema, StreamDef, TextTable, Time, to_cells};
+
+// The kinds of the columns, as cells hold them.
+fn plain_kinds(alloc: Global, schema: &Schema) -> Result<Vec<Kind>, Memory>
+    ensures { IfOk result (λ kinds. kinds.items ≡ map (λ c. plain c.kind) schema.now) }
+{
+    let mut kinds = Vec::new(alloc);
+    for column in schema.items() {
+        kinds.push(plain_kind(column.kind))?;
+    }
+    Ok(kinds)
+}
+
+fn plain_kind(kind: Kind) -> Kind
+    ensures { result ≡ plain kind }
+{
+    match kind {
+        Kind::Int | Kind::Dec(_) => Kind::Int,
+        Kind::Bool => Kind::Bool,
+        Kind::Text => Kind::Text,
+    }
+}
+
+// Whether a line is late, and late lines are refused.
+fn is_refused(policy: Policy, sync: Time, bound: Time) -> bool
+    ensures { result ≡ (nat_lt sync bound && refuses policy.late) }
+{
+    is_late(sync, bound) && matches!(&policy.late, Lateness::Refuse)
+}
+
+// Whether a line is late, and late lines are dropped.
+fn is_dropped(policy: Policy, sync: Time, bound: Time) -> bool
+    ensures { result ≡ (nat_lt sync bound && drops policy.late) }
+{
+    is_late(sync, bound) && matches!(&policy.late, Lateness::Drop)
+}
+
+fn is_late(sync: Time, bound: Time) -> bool
+    ensures { result ≡ nat_lt sync bound }
+{
+    sync < bound
+}
+
+// The number of the time less `by`, and not below 0.
+fn reduced(t: Time, by: u64) -> Time
+    ensures { result ≡ t - by }
+{
+    Time::from_word(t.word().saturating_sub(by))
+}
+
+impl Ingress {
+    /// Nothing was admitted, and batches of released edges have that capacity.
+    pub fn new(
+        alloc: Global,
+        policy: Policy,
+        streams: &[StreamDef],
+        capacity: usize,
+    ) -> Result<Ingress, Memory>
+        requires capacity { 1 ≤ capacity }
+        requires width { AreNarrow streams.now }
+        ensures fixed { IfOk result (λ i. IsFor streams.now policy capacity i) }
+        ensures admits { IfOk result (λ i. (texts : List (List ℕ)) → Admits texts nothing (λ s. []) i) }
+        ensures released { IfOk result (λ i. i.released ≡ 0) }
+    {
+        let mut kinds = Vec::new(alloc);
+        for stream in streams {
+            kinds.push(plain_kinds(alloc, &stream.schema)?)?;
+        }
+        Ok(Ingress {
+            policy,
+            kinds,
+            capacity,
+            watermarks: Watermarks::new(alloc, streams.len())?,
+            held: HeldStreams::new(alloc, streams.len())?,
+            released: Time::ZERO,
+            alloc,
+        })
+    }
+
+    /// One line more. What it gives is held; want of memory changes nothing but the table of texts.
+    pub fn admit(&mut self, entry: Entry, texts: &mut TextTable) -> Result<Admitted, Refusal>
+        requires { Fits (cells_of self.old) entry }
+        ensures ok { IfOk result (λ answer. (a : Admission) (given : ℕ → List Edge) → Admits texts.old a given self.old →
+            (b : Admission) × ((admitted self.old.policy a entry ≡ Taken b) × Admits texts.new b given self.new × (answer ≡ answer_of self.old.policy a entry))) }
+        ensures refused { IfErr result (λ refusal. (a : Admission) (given : ℕ → List Edge) → Admits texts.old a given self.old →
+            Refuses (admitted self.old.policy a entry) refusal) }
+        ensures err { OnErr result ((a : Admission) (given : ℕ → List Edge) → Admits texts.old a given self.old → Admits texts.new a given self.new) }
+        ensures begins { BeginsWith texts.new texts.old }
+        ensures fixed { SameFixed self.old self.new }
+        ensures released { self.new.released ≡ self.old.released }
+    {
+        match entry {
+            Entry::Skip => Ok(Admitted::Skipped),
+            Entry::Punct { stream, time } => {
+                self.punctuate(stream, time);
+                Ok(Admitted::Kept)
+            }
+            Entry::Event {
+                stream,
+                form,
+                sync,
+                other,
+                row,
+            } => self.admit_event(stream, form, sync, other, &row, texts),
+        }
+    }
+
+    // A punctuation of one stream, or of all.
+    fn punctuate(&mut self, stream: Option<usize>, time: Time)
+        requires { IfSome stream (λ s. s < length self.old.kinds.items) }
+        ensures admits { (texts : List (List ℕ)) (a : Admission) (given : ℕ → List Edge) → Admits texts a given self.old →
+            (b : Admission) × ((admitted self.old.policy a (entries.Punct stream time) ≡ Taken b) × Admits texts b given self.new) }
+        ensures fixed { SameFixed self.old self.new }
+        ensures released { self.new.released ≡ self.old.released }
+    {
+        match stream {
+            Some(stream) => self.watermarks.raise(stream, time),
+            None => self.watermarks.raise_all(time),
+        }
+    }
+
+    // An event line.
+    fn admit_event(
+        &mut self,
+        stream: usize,
+        form: Form,
+        sync: Time,
+        other: Time,
+        row: &Row,
+        texts: &mut TextTable,
+    ) -> Result<Admitted, Refusal>
+        requires stream { stream < length self.old.kinds.items }
+        requires cells { row_cells row.now ≡ get_or (cells_of self.old) stream [] }
+        ensures ok { IfOk result (λ answer. (a : Admission) (given : ℕ → List Edge) → Admits texts.old a given self.old →
+            (b : Admission) × ((admitted self.old.policy a (entries.Event stream form sync other row.now) ≡ Taken b) × Admits texts.new b given self.new
+            × (answer ≡ answer_of self.old.policy a (entries.Event stream form sync other row.now)))) }
+        ensures refused { IfErr result (λ refusal. (a : Admission) (given : ℕ → List Edge) → Admits texts.old a given self.old →
+            Refuses (admitted self.old.policy a (entries.Event stream form sync other row.now)) refusal) }
+        ensures err { OnErr result ((a : Admission) (given : ℕ → List Edge) → Admits texts.old a given self.old → Admits texts.new a given self.new) }
+        ensures begins { BeginsWith texts.new texts.old }
+        ensures fixed { SameFixed self.old self.new }
+        ensures released { self.new.released ≡ self.old.released }
+    {
+        let bound = self.watermarks.bound(stream);
+        if is_refused(self.policy, sync, bound) {
+            return Err(Refusal::Late { time: sync, bound });
+        }
+        let line = EventLine {
+            stream,
+            form,
+            sync,
+            other,
+            at: later(sync, bound),
+            dropped: is_dropped(self.policy, sync, bound),
+        };
+        let cells = to_cells(self.alloc, row, texts)?;
+        // each text is in the table once
+        let _count = texts.len();
+        let Ok(entered) = self.held.enter(&line, cells) else {
+            return Err(Refusal::Memory);
+        };
+        let Some(answer) = entered else {
+            return Err(Refusal::NoStart);
+        };
+        self.watermarks
+            .raise_bound(stream, reduced(sync, self.policy.lateness));
+        Ok(answer)
+    }
+
+    /// The punctuation that is due: the greatest that the bounds and marks allow, where it is above the last one.
+    pub fn due(&self) -> Option<Time>
+        ensures { MatchOption result
+            ((texts : List (List ℕ)) (a : Admission) (given : ℕ → List Edge) → Follows texts a given self.now →
+            allowed self.now.policy (length self.now.kinds.items) a ≤ self.now.released)
+            (λ p. (texts : List (List ℕ)) (a : Admission) (given : ℕ → List Edge) → Follows texts a given self.now →
+            (allowed self.now.policy (length self.now.kinds.items) a ≡ p) × (self.now.released < p)) }
+    {
+        let allowed = self.watermarks.allowed(self.policy);
+        if is_before(self.released, allowed) {
+            Some(allowed)
+        } else {
+            None
+        }
+    }
+
+    /// Below the bound a line of the stream is late.
+    pub fn bound(&self, stream: usize) -> Time
+        requires { stream < length self.now.kinds.items }
+        ensures { (texts : List (List ℕ)) (a : Admission) (given : ℕ → List Edge) → Follows texts a given self.now → result ≡ a.bound stream }
+    {
+        self.watermarks.bound(stream)
+    }
+
+    /// Up to the mark punctuations close the stream.
+    pub fn mark(&self, stream: usize) -> Time
+        requires { stream < length self.now.kinds.items }
+        ensures { (texts : List (List ℕ)) (a : Admission) (given : ℕ → List Edge) → Follows texts a given self.now → result ≡ a.mark stream }
+    {
+        self.watermarks.mark(stream)
+    }
+
+    /// The last punctuation at which edges were released, and 0 before the first.
+    pub fn released(&self) -> Time
+        ensures { result ≡ self.now.released }
+    {
+        self.released
+    }
+}
