@@ -9,6 +9,6 @@ mod Shown
 mod Reaching
 mod Sweeps
 mod Putting
-mod Taking
+pub mod Taking
 mod Placing
 mod Examples
