@@ -1,8 +1,8 @@
 pub mod Feeding
 pub mod Showing
-pub mod Assumed
 pub mod Giving
 pub mod Telling
 pub mod Punctuating
 pub mod Lines
 pub mod Keeping
+mod Examples

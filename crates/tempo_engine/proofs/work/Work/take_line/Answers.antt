@@ -5,7 +5,7 @@ use Rattle.admission.specs.Progress.{progress}
 use Rattle.admission.proofs.Growing.{line_read}
 use Rattle.ingress.specs.Fits.{Fits}
 use Rattle.tempo_engine.specs.Output.{told}
-use Rattle.tempo_engine.proofs.Assumed.{fit}
+use Rattle.ingress.proofs.LinesFit.{line_fits}
 use Rattle.tempo_engine.proofs.Punctuating.{taken_went}
 use Rattle.tempo_engine.proofs.Telling.{unread_told, refused_told}
 use Rattle.tempo_engine.proofs.work.Work.take_line.Goals as goal
@@ -21,7 +21,7 @@ admit-requires c =
     let plan = c.requires.fed.0 in
     let fed = c.requires.fed.1.1.1 in
     let same : c.streams-streams.result.now ≡ plan.streams = c.streams-streams.ensures.streams ∙ ap (λ p. p.streams) (c.plan.ensures ∙ fed.went.planned) in
-    subst (λ cells. Fits cells c.in-Ok.entry) (sym fed.went.fixed.cells) (fit plan.streams (nat_eq c.args.number 1) c.args.line.now c.in-Ok.entry c.requires.no_feed (rw same at c.in-Ok.ensures))
+    subst (λ cells. Fits cells c.in-Ok.entry) (sym fed.went.fixed.cells) (line_fits plan.streams (nat_eq c.args.number 1) c.args.line.now c.in-Ok.entry c.requires.no_feed (rw same at c.in-Ok.ensures))
 
 pub returns-in-Ok-admit-clause-taken : goal.returns-in-Ok-admit-clause-taken
 returns-in-Ok-admit-clause-taken c = λ plan policy lines fed.
