@@ -36,4 +36,4 @@ module _ (s : StreamDef) (schema : List ColumnDef) (of_s : kinds_of_schema s.sch
       subst (λ x. AreNodes x nodes schemas) (sym of_streams)
       (subst (λ x. AreNodes (s ∷ []) x schemas) (sym of_nodes)
       (subst (λ x. AreNodes (s ∷ []) (Source 0 ∷ []) x) (sym of_schemas)
-      (nodes_grow (s ∷ []) [] [] (Source 0) schema (no_nodes (s ∷ []) (All-cons _ s [] (two_columns s.schema of_s) (All-nil _))) new_source)))
+      (nodes_grow (s ∷ []) [] [] (Source 0) schema (no_nodes (s ∷ []) (All-cons (λ x. length x.schema ≤ most_columns) s [] (two_columns s.schema of_s) (All-nil _))) new_source)))
