@@ -11,6 +11,6 @@ mod Shown
 mod Reaching
 mod Sweeps
 mod Putting
-mod Taking
+pub mod Taking
 mod Placing
 mod Examples

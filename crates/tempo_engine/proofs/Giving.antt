@@ -1,0 +1,68 @@
+-- The lists that the ingress releases, as the plan takes them.
+use Rattle.std.specs.Prelude.{◌≡◌, ℕ, zero, suc, Option, Some, None, List, [], ◌∷◌, map, length, slice_get, slice_index_or, refl}
+use Rattle.std.specs.List.{All}
+use Rattle.std.proofs.Common.{sym, ◌∙◌, ap, subst, arith}
+use Rattle.std.proofs.lemmas.List.{length-map}
+use Rattle.tw_rows.specs.Kinds.{cell_kind_of}
+use Rattle.tw_rows.specs.declared.kind.Kind.{Kind}
+use Rattle.tw_rows.specs.declared.kind.Kind.TheVariants.{Int, Bool as Flag, Text, Dec}
+use Rattle.tw_rows.specs.declared.schema.ColumnDef.{ColumnDef}
+use Rattle.tw_rows.specs.declared.schema.StreamDef.{StreamDef}
+use Rattle.edge_stream.specs.Listing.{EdgeListView}
+use Rattle.plan_model.specs.IsPlan.{PlanParts, kinds_of_schema, kinds_of_stream}
+use Rattle.node_laws.specs.Places.{EdgesArePlaced}
+use Rattle.lane_expr.specs.Kernels.{kind_for}
+use Rattle.admission.specs.declared.policy.Policy.{Policy}
+use Rattle.ingress.specs.Admits.{IsFor, SameFixed, AreListsOf, kinds_of, cells_of}
+use Rattle.ingress.specs.Fits.{plain, stream_kinds}
+use Rattle.ingress.specs.declared.ingress.Ingress.{Ingress}
+use Rattle.plan_stages.specs.Lists.{edges_at, IsListOf, AreGiven}
+
+plain_is : (kind : Kind) → plain kind ≡ kind_for (cell_kind_of kind)
+plain_is Int = refl
+plain_is Flag = refl
+plain_is Text = refl
+plain_is (Dec places) = refl
+
+columns_plain : (schema : List ColumnDef) → map (λ c. plain c.kind) schema ≡ map kind_for (kinds_of_schema schema)
+columns_plain [] = refl
+columns_plain (c ∷ schema) = (let k = plain_is c.kind in let r = columns_plain schema in cc)
+
+-- the kinds of the lists are those of the streams, one by one
+kinds_there : (lists : List EdgeListView) (streams : List StreamDef) → map (λ l. l.kinds) lists ≡ stream_kinds streams → (s : ℕ) (l : EdgeListView) → slice_get lists s ≡ Some l →
+    l.kinds ≡ map kind_for (kinds_of_stream streams s)
+kinds_there [] streams is s l there = absurd (let t = there in cc)
+kinds_there (x ∷ lists) [] is s l there = absurd (let t = is in cc)
+kinds_there (x ∷ lists) (d ∷ streams) is zero l there = (let t = there in let k : x.kinds ≡ map (λ c. plain c.kind) d.schema = (let e = is in cc) in let m : x ≡ l = cc in ap (λ y. y.kinds) (sym m) ∙ k ∙ columns_plain d.schema)
+kinds_there (x ∷ lists) (d ∷ streams) is (suc s) l there = kinds_there lists streams (let e = is in cc) s l there
+
+capacity_there : (rows : ℕ) (lists : List EdgeListView) → All (λ l. l.capacity ≡ rows) lists → (s : ℕ) (l : EdgeListView) → slice_get lists s ≡ Some l → l.capacity ≡ rows
+capacity_there rows [] all s l there = absurd (let t = there in cc)
+capacity_there rows (x ∷ lists) all zero l there = (let m : x ≡ l = (let t = there in cc) in ap (λ y. y.capacity) (sym m) ∙ all 0 x (omega arith))
+capacity_there rows (x ∷ lists) all (suc s) l there = capacity_there rows lists (λ k d h. all (suc k) d (omega (arith, h))) s l there
+
+edges_there : (lists : List EdgeListView) (s : ℕ) (l : EdgeListView) → slice_get lists s ≡ Some l → edges_at lists s ≡ l.edges
+edges_there [] s l there = absurd (let t = there in cc)
+edges_there (x ∷ lists) zero l there = (let m : x ≡ l = (let t = there in cc) in ap (λ y. y.edges) m)
+edges_there (x ∷ lists) (suc s) l there = edges_there lists s l there
+
+pub given_are : (texts : List (List ℕ)) (plan : PlanParts) (policy : Policy) (rows : ℕ) (i : Ingress) (lists : List EdgeListView) → IsFor plan.streams policy rows i → AreListsOf i lists →
+    ((s : ℕ) → EdgesArePlaced texts (edges_at lists s)) → AreGiven texts rows plan lists
+given_are texts plan policy rows i lists fixed are placed = record {
+  count = sym (length-map lists (λ l. l.kinds)) ∙ ap length (are.kinds ∙ fixed.kinds) ∙ length-map plan.streams _;
+  each = λ s l there. record {
+    plain = kinds_there lists plan.streams (are.kinds ∙ fixed.kinds) s l there;
+    rows = capacity_there i.capacity lists are.capacity s l there ∙ fixed.capacity;
+    placed = subst (EdgesArePlaced texts) (edges_there lists s l there) (placed s);
+  };
+}
+
+-- what is fixed of an ingress stays
+pub still_for : (plan : PlanParts) (policy : Policy) (rows : ℕ) (old new : Ingress) → IsFor plan.streams policy rows old → SameFixed old new → IsFor plan.streams policy rows new
+still_for plan policy rows old new fixed same = record {
+  policy = same.policy ∙ fixed.policy;
+  kinds = ap (λ ks. map (λ k. k.items) ks.items) same.kinds ∙ fixed.kinds;
+  cells = ap (λ ks. map (λ k. map cell_kind_of k) (map (λ k. k.items) ks.items)) same.kinds ∙ fixed.cells;
+  count = ap (λ ks. length ks.items) same.kinds ∙ fixed.count;
+  capacity = same.capacity ∙ fixed.capacity;
+}

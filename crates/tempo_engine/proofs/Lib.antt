@@ -1,0 +1,8 @@
+pub mod Feeding
+pub mod Showing
+pub mod Giving
+pub mod Telling
+pub mod Punctuating
+pub mod Lines
+pub mod Keeping
+mod Examples

@@ -1,0 +1,52 @@
+use Rattle.std.proofs.Common.{◌≡◌, ◌<◌, ◌≤◌, false, inl, inr, arith}
+use Rattle.std.proofs.lemmas.Bool.{cases_lt}
+use Rattle.tw_rows.specs.Instant.{inf}
+use Rattle.admission.specs.Progress.{progress}
+use Rattle.tempo_engine.proofs.Lines.{closed_fine, closed_grows, end_due, end_fine, end_grows, end_fault_told}
+use Rattle.tempo_engine.proofs.work.Work.finish.Goals as goal
+
+pub punctuate-requires : goal.punctuate-requires
+punctuate-requires c =
+    let plan = c.requires.0 in
+    let policy = c.requires.1.0 in
+    let lines = c.requires.1.1.0 in
+    let above : c.args.self.now.ingress.released < inf = (let t = c.is_before.ensures.0 c.if-is_before.true in let l = c.released.ensures in let e = c.infinity-end.ensures in omega (arith, t, l, e)) in
+    rw c.infinity-end.ensures (plan, (policy, (progress plan policy lines false, end_due plan policy lines c.args.self.now c.requires.1.1.1 above)))
+
+pub returns-in-Ok-clause-fine : goal.returns-in-Ok-clause-fine
+returns-in-Ok-clause-fine c = λ plan policy lines fed.
+    let above : c.args.self.now.ingress.released < inf = (let t = c.is_before.ensures.0 c.if-is_before.true in let l = c.released.ensures in let e = c.infinity-end.ensures in omega (arith, t, l, e)) in
+    let s = c.in-Ok.ensures.shown in
+    let t = (rw c.infinity-end.ensures at s) in
+    end_fine plan policy lines c.args.self.now fed above c.in-Ok.bytes.items (t plan policy (progress plan policy lines false) (end_due plan policy lines c.args.self.now fed above))
+
+pub returns-in-Ok-clause-text : goal.returns-in-Ok-clause-text
+returns-in-Ok-clause-text c = λ plan policy lines fed.
+    let above : c.args.self.now.ingress.released < inf = (let t = c.is_before.ensures.0 c.if-is_before.true in let l = c.released.ensures in let e = c.infinity-end.ensures in omega (arith, t, l, e)) in
+    let s = c.in-Ok.ensures.shown in
+    let t = (rw c.infinity-end.ensures at s) in
+    end_grows plan policy lines c.args.self.now fed above c.in-Ok.bytes.items (t plan policy (progress plan policy lines false) (end_due plan policy lines c.args.self.now fed above))
+
+pub returns-in-Err-clause-fault : goal.returns-in-Err-clause-fault
+returns-in-Err-clause-fault c = λ plan policy lines fed.
+    let above : c.args.self.now.ingress.released < inf = (let t = c.is_before.ensures.0 c.if-is_before.true in let l = c.released.ensures in let e = c.infinity-end.ensures in omega (arith, t, l, e)) in
+    let s = c.in-Err.ensures.overflow in
+    let t = (rw c.infinity-end.ensures at s) in
+    rw (c.of_plan.ensures, c.infinity-end.ensures)
+    (end_fault_told plan policy lines c.args.self.now fed above c.in-Err.fault (λ node time is. t node time is plan policy (progress plan policy lines false) (end_due plan policy lines c.args.self.now fed above)))
+
+pub returns-else-is_before-clause-fine : goal.returns-else-is_before-clause-fine
+returns-else-is_before-clause-fine c = λ plan policy lines fed.
+    let low : inf ≤ c.args.self.now.ingress.released = elim (cases_lt c.released.result c.infinity-end.result) [
+      | inl b ↦ absurd (let t = c.is_before.ensures.1 b in let f = c.if-is_before.false in cc)
+      | inr a ↦ (let l = c.released.ensures in let e = c.infinity-end.ensures in omega (arith, a, l, e))
+    ] in
+    closed_fine plan policy lines c.args.self.now fed low
+
+pub returns-else-is_before-clause-text : goal.returns-else-is_before-clause-text
+returns-else-is_before-clause-text c = λ plan policy lines fed.
+    let low : inf ≤ c.args.self.now.ingress.released = elim (cases_lt c.released.result c.infinity-end.result) [
+      | inl b ↦ absurd (let t = c.is_before.ensures.1 b in let f = c.if-is_before.false in cc)
+      | inr a ↦ (let l = c.released.ensures in let e = c.infinity-end.ensures in omega (arith, a, l, e))
+    ] in
+    closed_grows plan policy lines c.args.self.now fed low c.new.result.items c.new.ensures.items

@@ -1,0 +1,118 @@
+// An engine: lines in, text out.
+ghost use Rattle.std.specs.Prelude.{◌≡◌, ◌≢◌, ◌≤◌, List, [], ◌∷◌, ◌++◌, true, false, None, length, IsTrue, All, IfOk, IfErr, OnOk};
+ghost use Rattle.std.specs.List.{list_all};
+ghost use Rattle.plan_model.specs.IsPlan.{PlanParts};
+ghost use Rattle.plan_model.specs.Reach.{is_built};
+ghost use Rattle.admission.specs.declared.policy.Policy.{Policy as Admitting};
+ghost use Rattle.admission.specs.Entries.{Told};
+ghost use Rattle.admission.specs.Progress.{fault as fault_of};
+ghost use Rattle.tempo_engine.specs.Faults.{IsFaultOf};
+ghost use Rattle.tempo_engine.specs.Output.{plan_text, told};
+
+use crate::fault::EngineFault;
+use crate::work::Work;
+use admission::Policy;
+use plan_model::Plan;
+use std::alloc::Global;
+use std::marker::Model;
+use tw_rows::Memory;
+
+/// How an engine works: so many rows go through the plan at once, and lines are admitted by the policy.
+#[derive(Clone, Copy, Debug, PartialEq, Eq)]
+pub struct Options {
+    pub batch: usize,
+    pub policy: Policy,
+}
+
+/// A plan at work. `Fed` says which lines it took. Once a call answered a fault, each later one answers it again; after the
+/// end of the input nothing more is taken, and nothing answered.
+#[derive(Drop)]
+pub struct Engine {
+    work: Work,
+    fault: Option<EngineFault>,
+    ended: bool,
+}
+
+impl Model for Engine {
+    ghost use Rattle.tempo_engine.specs.Went.{EngineView, GoesOn};
+    ghost use Rattle.std.specs.Coded.{codes};
+    ghost use Rattle.tempo_engine.specs.contracts.work.Work as parts;
+
+    ghost Value = { EngineView };
+
+    ghost coded = { Prim.hlevel (codes, parts.the_row.coded) };
+
+    ghost view = { λ e. record { work = e.work; fault = e.fault; ended = e.ended } };
+
+    ghost invariant = { λ e. GoesOn e.fault e.ended e.work };
+}
+
+// The fault of an answer, where it is one.
+fn fault_in(answer: &Result<Vec<u8>, EngineFault>) -> Option<EngineFault>
+    ensures ok { OnOk answer.now (result ≡ None) }
+    ensures err { IfErr answer.now (λ fault. result ≡ Some fault) }
+{
+    match answer {
+        Ok(_) => None,
+        Err(fault) => Some(*fault),
+    }
+}
+
+impl Engine {
+    ghost use Rattle.tempo_engine.specs.Fed.{Fed};
+
+    /// An engine that took no line.
+    pub fn new(alloc: Global, plan: Plan, options: Options) -> Result<Engine, Memory>
+        requires batch { 1 ≤ options.batch }
+        requires built { IsTrue (list_all is_built plan.nodes) }
+        ensures { IfOk result (λ e. Fed plan options.policy [] e) }
+    {
+        let work = Work::new(alloc, plan, options.policy, options.batch)?;
+        Ok(Engine {
+            work,
+            fault: None,
+            ended: false,
+        })
+    }
+
+    /// Takes the line of that number, which stands without its line feed: the bytes by which the text grows.
+    pub fn feed_line(&mut self, number: u64, line: &[u8]) -> Result<Vec<u8>, EngineFault>
+        requires short { length line.now ≤ 65536 }
+        requires no_feed { All (λ b. b ≢ 10) line.now }
+        ensures fed { OnOk result ((plan : PlanParts) (policy : Admitting) (lines : List Told) → Fed plan policy lines self.old → Fed plan policy (lines ++ told plan number line.now ∷ []) self.new) }
+        ensures text { IfOk result (λ bytes. (plan : PlanParts) (policy : Admitting) (lines : List Told) → Fed plan policy lines self.old → plan_text plan policy (lines ++ told plan number line.now ∷ []) false ≡ plan_text plan policy lines false ++ bytes.items) }
+        ensures fault { IfErr result (λ f. (plan : PlanParts) (policy : Admitting) (lines : List Told) → Fed plan policy lines self.old → IsFaultOf f (fault_of plan policy (lines ++ told plan number line.now ∷ []) false)) }
+        ensures kept { IfErr result (λ f. self.new.fault ≡ Some f) }
+        ensures again { (f : EngineFault) → self.old.fault ≡ Some f → result ≡ Err f }
+    {
+        if let Some(fault) = self.fault {
+            return Err(fault);
+        }
+        if self.ended {
+            return Ok(Vec::new(self.work.alloc));
+        }
+        let fed = self.work.feed_line(number, line);
+        self.fault = fault_in(&fed);
+        fed
+    }
+
+    /// The input ends here: the bytes by which the text grows.
+    pub fn finish(&mut self) -> Result<Vec<u8>, EngineFault>
+        ensures fine { OnOk result ((plan : PlanParts) (policy : Admitting) (lines : List Told) → Fed plan policy lines self.old → fault_of plan policy lines true ≡ None) }
+        ensures text { IfOk result (λ bytes. (plan : PlanParts) (policy : Admitting) (lines : List Told) → Fed plan policy lines self.old → plan_text plan policy lines true ≡ plan_text plan policy lines false ++ bytes.items) }
+        ensures fault { IfErr result (λ f. (plan : PlanParts) (policy : Admitting) (lines : List Told) → Fed plan policy lines self.old → IsFaultOf f (fault_of plan policy lines true)) }
+        ensures kept { IfErr result (λ f. self.new.fault ≡ Some f) }
+        ensures again { (f : EngineFault) → self.old.fault ≡ Some f → result ≡ Err f }
+    {
+        if let Some(fault) = self.fault {
+            return Err(fault);
+        }
+        if self.ended {
+            return Ok(Vec::new(self.work.alloc));
+        }
+        self.ended = true;
+        let finished = self.work.finish();
+        self.fault = fault_in(&finished);
+        finished
+    }
+}

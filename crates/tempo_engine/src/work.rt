@@ -1,0 +1,205 @@
+// The parts of an engine at work.
+ghost use Rattle.std.specs.Prelude.{◌≡◌, ◌≢◌, ◌<◌, ◌≤◌, ◌↔◌, IsTrue, ℕ, List, [], ◌∷◌, ◌++◌, true, false, Some, None, length, map, slice_get, nat_lt, cond, All, IfOk, IfErr, OnOk};
+ghost use Rattle.tw_rows.specs.Instant.{inf};
+ghost use Rattle.plan_model.specs.declared.node.Node.{Node};
+ghost use Rattle.plan_model.specs.IsPlan.{PlanParts};
+ghost use Rattle.plan_model.specs.Reach.{is_built};
+ghost use Rattle.plan_laws.specs.Undefined.{overflow};
+ghost use Rattle.node_laws.specs.Places.{AreDistinct};
+ghost use Rattle.admission.specs.declared.policy.Policy.{Policy as Admitting};
+ghost use Rattle.admission.specs.Admission.{rows};
+ghost use Rattle.admission.specs.Entries.{Told};
+ghost use Rattle.admission.specs.Progress.{Progress, judged, start, fault as fault_of};
+ghost use Rattle.tempo_engine.specs.Faults.{IsFaultOf};
+ghost use Rattle.tempo_engine.specs.Output.{result_kinds, plan_text, told};
+
+use crate::fault::EngineFault;
+use admission::Policy;
+use batch::Pools;
+use egress::Egress;
+use ingress::Ingress;
+use plan_model::{MOST_COLUMNS, Plan, closes};
+use plan_stages::{Dataflow, PlanFault};
+use row_reader::read_row;
+use std::alloc::{AllocError, Global};
+use tw_rows::{ColumnDef, Kind, Memory, TextTable, Time};
+
+/// The parts of an engine: lines come in at the ingress, their edges go through the dataflow of the plan, and the egress shows
+/// what the root changes. `closed` is how far the text goes.
+#[derive(Drop)]
+pub struct Work {
+    pub(crate) alloc: Global,
+    pub(crate) texts: TextTable,
+    pub(crate) ingress: Ingress,
+    pub(crate) pools: Pools,
+    pub(crate) dataflow: Dataflow,
+    pub(crate) egress: Egress,
+    pub(crate) closed: Time,
+}
+
+// No text stands twice in a table.
+fn each_text_once(texts: &TextTable)
+    ensures { AreDistinct texts.now }
+{
+    let _count = texts.len();
+}
+
+// The time, where it is later than the other.
+fn if_later(last: Time, time: Time) -> Option<Time>
+    ensures { result ≡ cond (nat_lt last time) (Some time) None }
+{
+    if last < time { Some(time) } else { None }
+}
+
+// The time after all instants.
+#[tactic(auto, unfolding(tw_rows::specs::Instant::inf))]
+fn infinity() -> Time
+    ensures { result ≡ inf }
+{
+    Time::INF
+}
+
+fn is_before(a: Time, b: Time) -> bool
+    ensures { IsTrue result ↔ (a < b) }
+{
+    a < b
+}
+
+// The kinds of the columns.
+fn kinds_of(alloc: Global, columns: &[ColumnDef]) -> Result<Vec<Kind>, AllocError>
+    ensures { IfOk result (λ kinds. kinds.items ≡ map (λ c. c.kind) columns.now) }
+{
+    columns.iter().map(|column| column.kind).collect(alloc)
+}
+
+// The kinds of the columns of the result.
+fn kinds_of_result(alloc: Global, plan: &Plan) -> Result<Vec<Kind>, AllocError>
+    ensures { IfOk result (λ kinds. kinds.items ≡ result_kinds plan.now) }
+{
+    let schemas = plan.schemas();
+    kinds_of(alloc, schemas[plan.root()].items())
+}
+
+impl Work {
+    ghost use Rattle.tempo_engine.specs.Went.{Went, HasFed};
+    ghost use Rattle.tempo_engine.specs.Working.{HasTaken, IsDue, IsShown};
+
+    // Before the first line.
+    pub(crate) fn new(
+        alloc: Global,
+        plan: Plan,
+        policy: Policy,
+        batch: usize,
+    ) -> Result<Work, Memory>
+        requires batch { 1 ≤ batch }
+        requires built { (i : ℕ) (n : Node) → slice_get plan.nodes i ≡ Some n → is_built n ≡ true }
+        ensures { IfOk result (λ e. HasFed plan policy [] e) }
+    {
+        let ingress = Ingress::new(alloc, policy, plan.streams(), batch)?;
+        let kinds = kinds_of_result(alloc, &plan)?;
+        let egress = Egress::new(alloc, &kinds)?;
+        let pools = Pools::new(alloc, MOST_COLUMNS, batch)?;
+        let mut texts = TextTable::new(alloc);
+        let dataflow = Dataflow::new(alloc, plan, batch, &mut texts)?;
+        Ok(Work {
+            alloc,
+            texts,
+            ingress,
+            pools,
+            dataflow,
+            egress,
+            closed: Time::ZERO,
+        })
+    }
+
+    // Works through a punctuation: the edges before it go through the plan, and what the root changes up to its closing is
+    // shown. After a fault nothing more is asked.
+    fn punctuate(&mut self, p: Time) -> Result<Vec<u8>, PlanFault>
+        requires { (plan : PlanParts) × ((policy : Admitting) × ((w : Progress) × IsDue p plan policy w self.old)) }
+        ensures went { OnOk result ((plan : PlanParts) (policy : Admitting) (w : Progress) → IsDue p plan policy w self.old → ((s : ℕ) → s < length plan.streams → p ≤ w.after.bound s) → Went plan policy (judged p w None) self.new) }
+        ensures shown { IfOk result (λ bytes. (plan : PlanParts) (policy : Admitting) (w : Progress) → IsDue p plan policy w self.old → IsShown p plan w bytes.items) }
+        ensures overflow { IfErr result (λ fault. (node time : ℕ) → fault ≡ PlanFault.Overflow node time → (plan : PlanParts) (policy : Admitting) (w : Progress) → IsDue p plan policy w self.old → overflow (rows w.after) plan.nodes p ≡ Some (record { node = node; time = time })) }
+    {
+        each_text_once(&self.texts);
+        let given = match self.ingress.release(&mut self.pools, p) {
+            Ok(given) => given,
+            Err(Memory) => return Err(PlanFault::Memory),
+        };
+        let edges = match self.dataflow.step(&self.texts, given, p) {
+            Ok(edges) => edges,
+            Err(fault) => return Err(fault),
+        };
+        let plan = self.dataflow.plan();
+        let to = closes(plan, plan.root(), p);
+        match self.egress.take(edges, to, &self.texts) {
+            Ok(()) => {}
+            Err(Memory) => return Err(PlanFault::Memory),
+        }
+        match self.egress.render(if_later(self.closed, to)) {
+            Ok(bytes) => {
+                self.closed = to;
+                Ok(bytes)
+            }
+            Err(Memory) => Err(PlanFault::Memory),
+        }
+    }
+
+    // Admits the line of that number.
+    fn take_line(&mut self, number: u64, line: &[u8]) -> Result<(), EngineFault>
+        requires short { length line.now ≤ 65536 }
+        requires no_feed { All (λ b. b ≢ 10) line.now }
+        requires fed { (plan : PlanParts) × ((policy : Admitting) × ((lines : List Told) × HasFed plan policy lines self.old)) }
+        ensures taken { OnOk result ((plan : PlanParts) (policy : Admitting) (lines : List Told) → HasFed plan policy lines self.old → HasTaken plan policy lines (told plan number line.now) self.new) }
+        ensures fault { IfErr result (λ f. (plan : PlanParts) (policy : Admitting) (lines : List Told) → HasFed plan policy lines self.old → IsFaultOf f (fault_of plan policy (lines ++ told plan number line.now ∷ []) false)) }
+    {
+        let streams = self.dataflow.plan().streams();
+        let entry = match read_row(self.alloc, line, number == 1, streams) {
+            Ok(entry) => entry,
+            Err(fault) => return Err(EngineFault::of_row(number, &fault)),
+        };
+        match self.ingress.admit(entry, &mut self.texts) {
+            Ok(_) => Ok(()),
+            Err(refusal) => Err(EngineFault::of_refusal(number, &refusal)),
+        }
+    }
+
+    // Takes the line of that number, and works through the punctuation that it makes due.
+    pub(crate) fn feed_line(&mut self, number: u64, line: &[u8]) -> Result<Vec<u8>, EngineFault>
+        requires short { length line.now ≤ 65536 }
+        requires no_feed { All (λ b. b ≢ 10) line.now }
+        requires fed { (plan : PlanParts) × ((policy : Admitting) × ((lines : List Told) × HasFed plan policy lines self.old)) }
+        ensures fed { OnOk result ((plan : PlanParts) (policy : Admitting) (lines : List Told) → HasFed plan policy lines self.old → HasFed plan policy (lines ++ told plan number line.now ∷ []) self.new) }
+        ensures text { IfOk result (λ bytes. (plan : PlanParts) (policy : Admitting) (lines : List Told) → HasFed plan policy lines self.old → plan_text plan policy (lines ++ told plan number line.now ∷ []) false ≡ plan_text plan policy lines false ++ bytes.items) }
+        ensures fault { IfErr result (λ f. (plan : PlanParts) (policy : Admitting) (lines : List Told) → HasFed plan policy lines self.old → IsFaultOf f (fault_of plan policy (lines ++ told plan number line.now ∷ []) false)) }
+    {
+        match self.take_line(number, line) {
+            Ok(()) => {}
+            Err(fault) => return Err(fault),
+        }
+        match self.ingress.due() {
+            None => Ok(Vec::new(self.alloc)),
+            Some(p) => match self.punctuate(p) {
+                Ok(bytes) => Ok(bytes),
+                Err(fault) => Err(EngineFault::of_plan(p, &fault)),
+            },
+        }
+    }
+
+    // Works through infinity.
+    pub(crate) fn finish(&mut self) -> Result<Vec<u8>, EngineFault>
+        requires { (plan : PlanParts) × ((policy : Admitting) × ((lines : List Told) × HasFed plan policy lines self.old)) }
+        ensures fine { OnOk result ((plan : PlanParts) (policy : Admitting) (lines : List Told) → HasFed plan policy lines self.old → fault_of plan policy lines true ≡ None) }
+        ensures text { IfOk result (λ bytes. (plan : PlanParts) (policy : Admitting) (lines : List Told) → HasFed plan policy lines self.old → plan_text plan policy lines true ≡ plan_text plan policy lines false ++ bytes.items) }
+        ensures fault { IfErr result (λ f. (plan : PlanParts) (policy : Admitting) (lines : List Told) → HasFed plan policy lines self.old → IsFaultOf f (fault_of plan policy lines true)) }
+    {
+        let end = infinity();
+        if is_before(self.ingress.released(), end) {
+            match self.punctuate(end) {
+                Ok(bytes) => Ok(bytes),
+                Err(fault) => Err(EngineFault::of_plan(end, &fault)),
+            }
+        } else {
+            Ok(Vec::new(self.alloc))
+        }
+    }
+}
