@@ -1,31 +1,32 @@
 -- From read to read, and to the end.
-use Rattle.std.proofs.Common.{◌≡◌, ◌≤◌, ◌<◌, ℕ, suc, ◌+◌, ◌-◌, List, [], ◌∷◌, ◌++◌, length, take, Bool, true, false, cond, Option, Some, refl, sym, ◌∙◌, ap, arith, append_assoc, subst}
-use Rattle.std.proofs.lemmas.List.{append-nil, length-append}
+use Rattle.std.proofs.Common.{◌≡◌, ◌≤◌, ◌<◌, ℕ, suc, ◌+◌, ◌-◌, List, [], ◌∷◌, ◌++◌, length, take, Bool, true, false, Option, Some, None, refl, sym, ◌∙◌, ap, arith, append_assoc, subst}
+use Rattle.std.specs.Prelude.{◌||◌, ◌^◌, IsTrue}
 use Rattle.std.specs.List.{All}
-use Rattle.std.specs.Prelude.{◌||◌}
-use Rattle.wire_lines.specs.Journal.{Entry, In, Out, ins, outs, ended, IsOut, SentAll, SentFront, Adds}
-use Rattle.wire_lines.specs.Cutter.{CutterState}
-use Rattle.wire_lines.specs.Journal.{Grows}
+use Rattle.std.proofs.lemmas.List.{append-nil, length-append}
+use Rattle.std.proofs.lemmas.List.Elements.{All-append, All-nil}
+use Rattle.wire_lines.specs.Journal.{Entry, In, Out, ins, outs, ended, IsOut, SentAll, SentFront, Adds, Grows}
 use Rattle.wire_lines.specs.Faults.{Rose}
-use Rattle.wire_lines.proofs.Growth.{ins-append, outs-append, Grows-grows, Grows-adds}
-use Rattle.wire_lines.specs.Lines.{lines, whole}
-use Rattle.tempo_cli.specs.Admission.{limit, admitted, fault}
-use Rattle.tempo_cli.specs.Text.{text, text_from, is_none}
-use Rattle.tempo_cli.specs.Table.{IsReady, IsPromptAfter, IsFront, IsRefused, IsEnd, Ends}
-use Rattle.tempo_cli.specs.Holds.{Rests, Stops, StopsAtEnd, Answers}
-use Rattle.tempo_cli.specs.Reading.{Reading}
-use Rattle.tempo_cli.specs.Stops.{status_at}
+use Rattle.wire_lines.specs.Lines.{lines}
+use Rattle.wire_lines.proofs.Growth.{ins-append, outs-append}
+use Rattle.tempo_cli.specs.Answers.{Answers, IsFront}
+use Rattle.tempo_cli.specs.Table.{limit, IsReady, IsPiece, IsPromptAfter, IsPrompt, IsEnd, Ends}
+use Rattle.tempo_cli.specs.Feeding.{Asked, answers_to, Holds, WantsBytes, IsOwn}
 use Rattle.tempo_cli.specs.Status.{Counts}
-use Rattle.tw_rows.specs.Event.{Event}
-use Rattle.tw_rows.specs.Rows.{Row}
+use Rattle.tempo_cli.specs.Working.{Worked, Stopped, EndsWith, Reading}
+use Rattle.tempo_cli.specs.declared.session.Session.{Session}
+use Rattle.tempo_cli.specs.declared.status.Status.{Status}
 use Rattle.tempo_cli.specs.declared.status.Status.TheVariants as statuses
-use Rattle.tempo_cli.specs.declared.command.Command.{Command}
-use Rattle.tempo_cli.specs.declared.query_form.Above.{Above}
-use Rattle.tempo_cli.specs.declared.fault.Fault.{Fault}
-use Rattle.tempo_cli.specs.declared.fault.Fault.TheVariants as faults
-use Rattle.tempo_cli.specs.declared.session.Stop.{Stop}
-use Rattle.tempo_cli.specs.declared.session.Stop.TheVariants.{Refused, TooMany, Memory}
-use Rattle.tempo_cli.proofs.Taking.{no_fault_yet, few_bytes}
+use Rattle.tempo_cli.proofs.Moves.{lines_are, few_bytes, cut_off, short}
+
+-- one growth after another, where the second depends on the first
+pub Grows-then : {a b c : Option (List Entry)} {P R : List Entry → Type 0} {Q : (J : List Entry) → P J → List Entry → Type 0} → Grows a b P → ((J : List Entry) (p : P J) → Grows b c (Q J p)) →
+    ((J K : List Entry) (p : P J) → Q J p K → R (J ++ K)) → Grows a c R
+Grows-then {a} {b} {c} {P} {R} {Q} first then step = record {
+  grown = λ told e.
+      let before = first.grown told e in
+      let after = (then before.0 before.2).grown (told ++ before.0) before.1 in
+      (before.0 ++ after.0, after.1 ∙ ap Some (append_assoc told before.0 after.0), step before.0 after.0 before.2 after.2);
+}
 
 pub ended-append : (J K : List Entry) → ended (J ++ K) ≡ (ended J || ended K)
 ended-append [] K = refl
@@ -33,171 +34,149 @@ ended-append (In [] ∷ J) K = refl
 ended-append (In (b ∷ bs) ∷ J) K = ended-append J K
 ended-append (Out b ∷ J) K = ended-append J K
 
-pub ins_outs : (K : List Entry) → All IsOut K → ins K ≡ []
+ins_outs : (K : List Entry) → All IsOut K → ins K ≡ []
 ins_outs [] a = refl
 ins_outs (In b ∷ K) a = absurd (a 0 (In b) (omega arith))
 ins_outs (Out b ∷ K) a = ins_outs K (λ k d h. a (suc k) d (omega arith))
 
-pub ended_outs : (K : List Entry) → All IsOut K → ended K ≡ false
+ended_outs : (K : List Entry) → All IsOut K → ended K ≡ false
 ended_outs [] a = refl
 ended_outs (In b ∷ K) a = absurd (a 0 (In b) (omega arith))
 ended_outs (Out b ∷ K) a = ended_outs K (λ k d h. a (suc k) d (omega arith))
 
-prompt_in : (command : Command) (K J : List Entry) (b : List ℕ) → IsPromptAfter command K J → IsReady command (K ++ J) → IsPromptAfter command K (J ++ In b ∷ [])
-prompt_in command K [] b p ready = (rw append-nil at ready, tt)
-prompt_in command K (In bytes ∷ J) b p ready = (p.0, prompt_in command (K ++ In bytes ∷ []) J b p.1 (rw append_assoc ready))
-prompt_in command K (Out bytes ∷ J) b p ready = prompt_in command (K ++ Out bytes ∷ []) J b p (rw append_assoc ready)
+prompt_in : (a : Answers) (K J : List Entry) (b : List ℕ) → IsPromptAfter a K J → IsReady a (K ++ J) → IsPiece (K ++ J) b → IsPromptAfter a K (J ++ In b ∷ [])
+prompt_in a K [] b p ready piece = (rw append-nil at ready, rw append-nil at piece, tt)
+prompt_in a K (In bytes ∷ J) b p ready piece = (p.0, p.1, prompt_in a (K ++ In bytes ∷ []) J b p.2 (rw append_assoc ready) (rw append_assoc piece))
+prompt_in a K (Out bytes ∷ J) b p ready piece = prompt_in a (K ++ Out bytes ∷ []) J b p (rw append_assoc ready) (rw append_assoc piece)
 
-prompt_outs : (command : Command) (K J O : List Entry) → All IsOut O → IsPromptAfter command K J → IsPromptAfter command K (J ++ O)
-prompt_outs command K [] [] a p = tt
-prompt_outs command K [] (In b ∷ O) a p = absurd (a 0 (In b) (omega arith))
-prompt_outs command K [] (Out b ∷ O) a p = prompt_outs command (K ++ Out b ∷ []) [] O (λ k d h. a (suc k) d (omega arith)) tt
-prompt_outs command K (In bytes ∷ J) O a p = (p.0, prompt_outs command (K ++ In bytes ∷ []) J O a p.1)
-prompt_outs command K (Out bytes ∷ J) O a p = prompt_outs command (K ++ Out bytes ∷ []) J O a p
+prompt_outs : (a : Answers) (K J O : List Entry) → All IsOut O → IsPromptAfter a K J → IsPromptAfter a K (J ++ O)
+prompt_outs a K [] [] o p = tt
+prompt_outs a K [] (In b ∷ O) o p = absurd (o 0 (In b) (omega arith))
+prompt_outs a K [] (Out b ∷ O) o p = prompt_outs a (K ++ Out b ∷ []) [] O (λ k d h. o (suc k) d (omega arith)) tt
+prompt_outs a K (In bytes ∷ J) O o p = (p.0, p.1, prompt_outs a (K ++ In bytes ∷ []) J O o p.2)
+prompt_outs a K (Out bytes ∷ J) O o p = prompt_outs a (K ++ Out bytes ∷ []) J O o p
 
--- nothing is due before the end
-early : (command : Option Above) (b : Bool) (events : List (Event Row)) → cond b (text_from command events 0 []) [] ≡ []
-unfolding text_from
-early command true events = refl
-early command false events = refl
+-- a read of b, and what was written after it
+pub ins_after : (J O : List Entry) (b : List ℕ) → All IsOut O → ins ((J ++ In b ∷ []) ++ O) ≡ ins J ++ b
+ins_after J O b o = ins-append (J ++ In b ∷ []) O ∙ (ap (λ x. ins (J ++ In b ∷ []) ++ x) (ins_outs O o) ∙ (append-nil (ins (J ++ In b ∷ [])) ∙ (ins-append J (In b ∷ []) ∙ ap (λ x. ins J ++ x) (append-nil b))))
 
-text_early : (command : Command) (ls : List (List ℕ)) (at_end : Bool) → at_end ≡ false → text command ls at_end ≡ []
-text_early command ls at_end e = rw e (early command.above (is_none (fault command ls)) (admitted command ls).events)
+pub outs_after : (J O : List Entry) (b : List ℕ) → outs ((J ++ In b ∷ []) ++ O) ≡ outs J ++ outs O
+outs_after J O b = outs-append (J ++ In b ∷ []) O ∙ ap (λ x. x ++ outs O) (outs-append J (In b ∷ []) ∙ append-nil (outs J))
 
--- nor after a refused line
-text_refused : (command : Command) (ls : List (List ℕ)) (refusal : Fault) (at_end : Bool) → fault command ls ≡ Some refusal → text command ls at_end ≡ []
-text_refused command ls refusal at_end e = rw e refl
+read_on : (J : List Entry) (b : List ℕ) → ended J ≡ false → 0 < length b → ended (J ++ In b ∷ []) ≡ false
+read_on J [] e h = absurd (omega arith)
+read_on J (x ∷ b) e h = ended-append J (In (x ∷ b) ∷ []) ∙ ap (λ t. t || false) e
 
-pub ready : {command : Command} {c : CutterState} {bound : ℕ} {events : List (Event Row)} {left : ℕ} {J : List Entry} → Reading command c bound events left J → IsReady command J
-ready {command} {c} {bound} {events} {left} {J} r = record { goes_on = r.goes_on; few = few_bytes command (ins J) c bound events r.holds; no_fault = no_fault_yet command (ins J) c bound events r.holds; written = r.silent ∙ sym (text_early command (lines (ins J) false) false refl) }
+goes_on_after : (J O : List Entry) (b : List ℕ) → ended J ≡ false → 0 < length b → All IsOut O → ended ((J ++ In b ∷ []) ++ O) ≡ false
+goes_on_after J O b e some o = ended-append (J ++ In b ∷ []) O ∙ (ap (λ t. t || ended O) (read_on J b e some) ∙ ended_outs O o)
 
-ins_in : (J : List Entry) (b : List ℕ) → ins (J ++ In b ∷ []) ≡ ins J ++ b
-ins_in J b = ins-append J (In b ∷ []) ∙ ap (λ x. ins J ++ x) (append-nil b)
+ends_after : (J O : List Entry) → ended J ≡ false → ended ((J ++ In [] ∷ []) ++ O) ≡ true
+ends_after J O e = ended-append (J ++ In [] ∷ []) O ∙ ap (λ t. t || ended O) (ended-append J (In [] ∷ []) ∙ ap (λ t. t || true) e)
 
-outs_in : (J : List Entry) (b : List ℕ) → outs (J ++ In b ∷ []) ≡ outs J
-outs_in J b = outs-append J (In b ∷ []) ∙ append-nil (outs J)
+-- the table looks at what came in, what went out and whether the input has ended
+same_end : (a : Answers) (status : Status) (b b' o o' : List ℕ) (e e' : Bool) → b' ≡ b → o' ≡ o → e' ≡ e → IsEnd a status b o e → IsEnd a status b' o' e'
+same_end a status b b' o o' e e' p q r h = rw (p, q, r) h
 
-goes_on_in : (J : List Entry) (b : List ℕ) → ended J ≡ false → 0 < length b → ended (J ++ In b ∷ []) ≡ false
-goes_on_in J [] e h = absurd (omega arith)
-goes_on_in J (x ∷ b) e h = ended-append J (In (x ∷ b) ∷ []) ∙ ap (λ t. t || false) e
-
-ends_in : (J : List Entry) → ended J ≡ false → ended (J ++ In [] ∷ []) ≡ true
-ends_in J e = ended-append J (In [] ∷ []) ∙ ap (λ t. t || true) e
-
--- a read gave some bytes, and they were taken
-pub read_more : {command : Command} {c c' : CutterState} {bound bound' : ℕ} {events events' : List (Event Row)} {left : ℕ} {J : List Entry} (bytes : List ℕ) (n : ℕ) → n ≡ length bytes → 0 < n → n ≤ left →
-    Reading command c bound events left J → Rests command (ins J ++ bytes) c' bound' events' → Reading command c' bound' events' (left - n) (J ++ In bytes ∷ [])
-read_more {command} {c} {c'} {bound} {bound'} {events} {events'} {left} {J} bytes n is some few r holds = record {
-  prompt = prompt_in command [] J bytes r.prompt (ready r);
-  goes_on = goes_on_in J bytes r.goes_on (omega arith);
-  silent = outs_in J bytes ∙ r.silent;
-  holds = rw (ins_in J bytes) holds;
-  count = omega (arith, ap length (ins_in J bytes), length-append (ins J) bytes, r.count);
-}
-
-front_none : (x y : List ℕ) → x ≡ [] → IsFront x y
-front_none x y e = (y, rw e refl)
-
--- the end of a run in which a line was refused
-refused_end : (command : Command) (J : List Entry) (refusal : Fault) → IsRefused command J refusal → IsEnd command (status_at (Refused refusal)) J
-refused_end command J (faults.Malformed line cause) r = r
-refused_end command J (faults.NotBuilt line) r = r
-
--- a read gave some bytes, and a line of them was refused, or they were too many, or memory was wanting
-pub read_stops : {command : Command} {c : CutterState} {bound : ℕ} {events : List (Event Row)} {left : ℕ} {J : List Entry} (bytes : List ℕ) (n : ℕ) (stop : Stop) → n ≡ length bytes → 0 < n → n ≤ left →
-    Reading command c bound events left J → Stops command (ins J ++ bytes) stop → Ends command (status_at stop) (J ++ In bytes ∷ [])
-read_stops {command} {c} {bound} {events} {left} {J} bytes n (Refused refusal) is some few r stops =
-    let first : fault command (lines (ins (J ++ In bytes ∷ [])) (ended (J ++ In bytes ∷ []))) ≡ Some refusal = (rw (ins_in J bytes) (stops (ended (J ++ In bytes ∷ [])))) in
+-- before a read
+pub ready : {q : Asked} {s : Session} {left : ℕ} {J : List Entry} → WantsBytes s.cutter → Reading q s left J → IsReady (answers_to q) J
+ready {q} {s} {left} {J} wants r =
+    let ls = lines_are r.holds.within wants.hungry in
     record {
-      prompt = prompt_in command [] J bytes r.prompt (ready r);
-      end = refused_end command _ refusal (record { first = first; written = outs_in J bytes ∙ r.silent ∙ sym (text_refused command (lines (ins (J ++ In bytes ∷ [])) (ended (J ++ In bytes ∷ []))) refusal (ended (J ++ In bytes ∷ [])) first) });
+      goes_on = r.goes_on;
+      few = few_bytes r.holds.within wants.hungry;
+      no_fault = ap (λ x. (answers_to q).fault x false) ls ∙ r.holds.within.fine;
+      written = r.written ∙ ap (λ x. (answers_to q).text x false) (sym ls);
     }
-read_stops {command} {c} {bound} {events} {left} {J} bytes n TooMany is some few r stops = record {
-  prompt = prompt_in command [] J bytes r.prompt (ready r);
-  end = record {
-    long = omega (arith, ap length (ins_in J bytes), length-append (ins J) bytes, r.count, stops.0);
-    short = rw (ins_in J bytes) stops.1;
-    no_fault = rw (ins_in J bytes) stops.2;
-    written = outs_in J bytes ∙ r.silent ∙ sym (text_early command (whole (take limit (ins (J ++ In bytes ∷ [])))) false refl);
-  };
-}
-read_stops {command} {c} {bound} {events} {left} {J} bytes n Memory is some few r stops = record {
-  prompt = prompt_in command [] J bytes r.prompt (ready r);
-  end = front_none _ _ (outs_in J bytes ∙ r.silent);
-}
 
-pub read_failed : {command : Command} {c : CutterState} {bound : ℕ} {events : List (Event Row)} {left : ℕ} {J : List Entry} → Reading command c bound events left J → Ends command statuses.ReadFault J
-read_failed {command} {c} {bound} {events} {left} {J} r = record { prompt = r.prompt; end = record { no_fault = no_fault_yet command (ins J) c bound events r.holds; written = r.silent ∙ sym (text_early command (lines (ins J) false) false refl) } }
+pub at_start : {q : Asked} {s : Session} (left : ℕ) → left ≡ limit + 1 → (answers_to q).text [] false ≡ [] → Holds q [] [] s → Reading q s left []
+at_start {q} {s} left is silent holds = record { prompt = tt; goes_on = refl; given = []; holds = holds; written = sym silent; count = omega arith }
 
--- the input has ended, and there is no answer
-pub end_stops : {command : Command} {c : CutterState} {bound : ℕ} {events : List (Event Row)} {left : ℕ} {J : List Entry} (stop : Stop) → Reading command c bound events left J → StopsAtEnd command (ins J) stop → Ends command (status_at stop) (J ++ In [] ∷ [])
-end_stops {command} {c} {bound} {events} {left} {J} (Refused refusal) r stops =
-    let first : fault command (lines (ins (J ++ In [] ∷ [])) (ended (J ++ In [] ∷ []))) ≡ Some refusal = (rw (ins_in J [], ends_in J r.goes_on, append-nil (ins J)) stops) in
-    record {
-      prompt = prompt_in command [] J [] r.prompt (ready r);
-      end = refused_end command _ refusal (record { first = first; written = outs_in J [] ∙ r.silent ∙ sym (text_refused command (lines (ins (J ++ In [] ∷ [])) (ended (J ++ In [] ∷ []))) refusal (ended (J ++ In [] ∷ [])) first) });
-    }
-end_stops {command} {c} {bound} {events} {left} {J} TooMany r stops = absurd stops
-end_stops {command} {c} {bound} {events} {left} {J} Memory r stops = record { prompt = prompt_in command [] J [] r.prompt (ready r); end = front_none _ _ (outs_in J [] ∙ r.silent) }
+-- as many bytes as may come
+pub few_at : {q : Asked} {s : Session} {left : ℕ} {J : List Entry} (b : List ℕ) → length b ≤ left → Reading q s left J → length (ins J ++ b) ≤ limit + 1
+few_at {q} {s} {left} {J} b few r = omega (arith, length-append (ins J) b, r.count, few)
 
--- the input has ended, and what was written after that
-ins_end : (J K : List Entry) → All IsOut K → ins ((J ++ In [] ∷ []) ++ K) ≡ ins J
-ins_end J K a = ins-append (J ++ In [] ∷ []) K ∙ ap (λ x. ins (J ++ In [] ∷ []) ++ x) (ins_outs K a) ∙ append-nil (ins (J ++ In [] ∷ [])) ∙ ins_in J [] ∙ append-nil (ins J)
+prompt_after : {q : Asked} {s : Session} {left : ℕ} {J : List Entry} (b : List ℕ) (O : List Entry) → WantsBytes s.cutter → length b ≤ 65536 → length b ≤ left → All IsOut O → Reading q s left J → IsPrompt (answers_to q) ((J ++ In b ∷ []) ++ O)
+prompt_after {q} {s} {left} {J} b O wants piece few o r =
+    prompt_outs (answers_to q) [] (J ++ In b ∷ []) O o (prompt_in (answers_to q) [] J b r.prompt (ready wants r) (record { short = piece; within = omega (arith, r.count, few) }))
 
-ended_end : (J K : List Entry) → ended J ≡ false → ended ((J ++ In [] ∷ []) ++ K) ≡ true
-ended_end J K e = ended-append (J ++ In [] ∷ []) K ∙ ap (λ t. t || ended K) (ends_in J e)
-
-outs_end : (J K : List Entry) → outs J ≡ [] → outs ((J ++ In [] ∷ []) ++ K) ≡ outs K
-outs_end J K e = outs-append (J ++ In [] ∷ []) K ∙ ap (λ x. x ++ outs K) (outs_in J [] ∙ e)
-
-pub done : {command : Command} {c : CutterState} {bound : ℕ} {events : List (Event Row)} {left : ℕ} {J : List Entry} (out : List ℕ) (K : List Entry) → Reading command c bound events left J → Answers command (ins J) out → SentAll out K → Ends command statuses.Done ((J ++ In [] ∷ []) ++ K)
-done {command} {c} {bound} {events} {left} {J} out K r answers sent = record {
-  prompt = prompt_outs command [] (J ++ In [] ∷ []) K sent.outs_alone (prompt_in command [] J [] r.prompt (ready r));
-  end = record {
-    at_end = ended_end J K r.goes_on;
-    no_fault = rw (ins_end J K sent.outs_alone) answers.no_fault;
-    written = rw (ins_end J K sent.outs_alone) (outs_end J K r.silent ∙ sent.all ∙ answers.out_is);
-  };
+-- a read gave some bytes, and their lines were worked through
+pub reads_on : {q : Asked} {s t : Session} {left : ℕ} {J O : List Entry} (b : List ℕ) (n : ℕ) → n ≡ length b → 0 < n → length b ≤ 65536 → n ≤ left → WantsBytes s.cutter → (r : Reading q s left J) →
+    Worked q (ins J ++ b) r.given t O → Reading q t (left - n) ((J ++ In b ∷ []) ++ O)
+reads_on {q} {s} {t} {left} {J} {O} b n is some piece few wants r w = record {
+  prompt = prompt_after {q = q} {s = s} {left = left} {J = J} b O wants piece (omega arith) w.outs_alone r;
+  goes_on = goes_on_after J O b r.goes_on (omega arith) w.outs_alone;
+  given = w.more;
+  holds = rw (ins_after J O b w.outs_alone) w.holds;
+  written = outs_after J O b ∙ (ap (λ x. x ++ outs O) r.written ∙ sym w.grown);
+  count = omega (arith, ap length (ins_after J O b w.outs_alone), length-append (ins J) b, r.count);
 }
 
-pub write_failed : {command : Command} {c : CutterState} {bound : ℕ} {events : List (Event Row)} {left : ℕ} {J : List Entry} (out : List ℕ) (K : List Entry) → Reading command c bound events left J → Answers command (ins J) out → SentFront out K → Ends command statuses.WriteFault ((J ++ In [] ∷ []) ++ K)
-write_failed {command} {c} {bound} {events} {left} {J} out K r answers sent = record {
-  prompt = prompt_outs command [] (J ++ In [] ∷ []) K sent.outs_alone (prompt_in command [] J [] r.prompt (ready r));
-  end = (sent.after, rw (ins_end J K sent.outs_alone, ended_end J K r.goes_on) (sym answers.out_is ∙ sent.front ∙ ap (λ x. x ++ sent.after) (sym (outs_end J K r.silent))));
+-- or the run ended at one of them
+pub reads_stop : {q : Asked} {s : Session} {left : ℕ} {J O : List Entry} (b : List ℕ) (n : ℕ) (status : Status) → n ≡ length b → 0 < n → length b ≤ 65536 → n ≤ left → WantsBytes s.cutter → (r : Reading q s left J) →
+    Stopped q (ins J ++ b) r.given status O → Ends (answers_to q) status ((J ++ In b ∷ []) ++ O)
+reads_stop {q} {s} {left} {J} {O} b n status is some piece few wants r w = record {
+  prompt = prompt_after {q = q} {s = s} {left = left} {J = J} b O wants piece (omega arith) w.outs_alone r;
+  end = same_end (answers_to q) status _ _ _ _ _ _ (ins_after J O b w.outs_alone) (outs_after J O b ∙ ap (λ x. x ++ outs O) r.written) (goes_on_after J O b r.goes_on (omega arith) w.outs_alone) (w.end false);
+}
+
+-- the input has ended
+pub reads_end : {q : Asked} {s : Session} {left : ℕ} {J O : List Entry} (status : Status) → WantsBytes s.cutter → (r : Reading q s left J) → EndsWith q (ins J) r.given status O → Ends (answers_to q) status ((J ++ In [] ∷ []) ++ O)
+reads_end {q} {s} {left} {J} {O} status wants r w = record {
+  prompt = prompt_after {q = q} {s = s} {left = left} {J = J} [] O wants (omega arith) (omega arith) w.outs_alone r;
+  end = same_end (answers_to q) status _ _ _ _ _ _ (ins_after J O [] w.outs_alone ∙ append-nil (ins J)) (outs_after J O [] ∙ ap (λ x. x ++ outs O) r.written) (ends_after J O r.goes_on) w.end;
+}
+
+pub read_failed : {q : Asked} {s : Session} {left : ℕ} {J : List Entry} → WantsBytes s.cutter → Reading q s left J → Ends (answers_to q) statuses.ReadFault J
+read_failed {q} {s} {left} {J} wants r = record {
+  prompt = r.prompt;
+  end = same_end (answers_to q) statuses.ReadFault _ _ _ _ _ _ refl r.written r.goes_on (cut_off r.holds.within wants.hungry);
 }
 
 -- before the first read
-pub no_memory : (command : Command) → Ends command statuses.Memory []
-no_memory command = record { prompt = tt; end = front_none [] _ refl }
+pub no_memory : (a : Answers) → a.text [] false ≡ [] → Ends a statuses.Memory []
+no_memory a silent = record { prompt = tt; end = record { k = 0; few = omega arith; written = sym silent } }
 
--- after all reads there would be too many bytes
-pub never_full : {command : Command} {c : CutterState} {bound : ℕ} {events : List (Event Row)} {J : List Entry} (left : ℕ) → left ≡ 0 → Reading command c bound events left J → ⊥
-never_full {command} {c} {bound} {events} {J} left e r = omega (arith, r.count, few_bytes command (ins J) c bound events r.holds)
-
-pub at_start : {command : Command} {c : CutterState} {bound : ℕ} {events : List (Event Row)} (left : ℕ) → left ≡ limit + 1 → Rests command [] c bound events → Reading command c bound events left []
-at_start {command} {c} {bound} {events} left e holds = record { prompt = tt; goes_on = refl; silent = refl; holds = holds; count = omega arith }
-
--- where no call failed
-pub stop_counts : (r r' w w' : ℕ) (stop : Stop) → r' ≡ r → w' ≡ w → Counts r r' w w' (status_at stop)
-stop_counts r r' w w' (Refused (faults.Malformed line cause)) p q = (p, q)
-stop_counts r r' w w' (Refused (faults.NotBuilt line)) p q = (p, q)
-stop_counts r r' w w' TooMany p q = (p, q)
-stop_counts r r' w w' Memory p q = (p, q)
+-- more bytes are never wanted than may come
+pub never_full : {q : Asked} {s : Session} {J : List Entry} (left : ℕ) → left ≡ 0 → WantsBytes s.cutter → Reading q s left J → ⊥
+never_full {q} {s} {J} left e wants r = omega (arith, r.count, few_bytes r.holds.within wants.hungry)
 
 -- a read of 0 bytes
 pub end_here : {before now : Option (List Entry)} (n : ℕ) (into : List ℕ) → Adds before now (In (take n into) ∷ []) → n ≡ 0 → Adds before now (In [] ∷ [])
 end_here {before} {now} n into adds e = let P : ℕ → Type 0 = λ n. Adds before now (In (take n into) ∷ []) in subst P e adds
 
-pub ends_done : {command : Command} {a b d : Option (List Entry)} {c : CutterState} {bound : ℕ} {events : List (Event Row)} {left : ℕ} (out : List ℕ) → Grows a b (λ J. (R : List Entry) × (J ≡ R ++ In [] ∷ []) × Reading command c bound events left R) → ((bytes : List ℕ) → Rests command bytes c bound events → Answers command bytes out) → Grows b d (SentAll out) → Grows a d (Ends command statuses.Done)
-ends_done {command} {a} {b} {d} {c} {bound} {events} {left} out read answers sent =
-    Grows-grows read sent (λ J K p q. let P : List Entry → Type 0 = λ x. Ends command statuses.Done (x ++ K) in subst P (sym p.1) (done out K p.2 (answers (ins p.0) p.2.holds) q))
-
-pub ends_write_failed : {command : Command} {a b d : Option (List Entry)} {c : CutterState} {bound : ℕ} {events : List (Event Row)} {left : ℕ} (out : List ℕ) → Grows a b (λ J. (R : List Entry) × (J ≡ R ++ In [] ∷ []) × Reading command c bound events left R) → ((bytes : List ℕ) → Rests command bytes c bound events → Answers command bytes out) → Grows b d (SentFront out) → Grows a d (Ends command statuses.WriteFault)
-ends_write_failed {command} {a} {b} {d} {c} {bound} {events} {left} out read answers sent =
-    Grows-grows read sent (λ J K p q. let P : List Entry → Type 0 = λ x. Ends command statuses.WriteFault (x ++ K) in subst P (sym p.1) (write_failed out K p.2 (answers (ins p.0) p.2.holds) q))
-
-pub at_the_end : {command : Command} {a b d : Option (List Entry)} {c : CutterState} {bound : ℕ} {events : List (Event Row)} {left : ℕ} → Grows a b (Reading command c bound events left) → Adds b d (In [] ∷ []) → Grows a d (λ J. (R : List Entry) × (J ≡ R ++ In [] ∷ []) × Reading command c bound events left R)
-at_the_end {command} {a} {b} {d} {c} {bound} {events} {left} grows adds = Grows-adds grows adds (λ J r. (J, refl, r))
-
 pub risen : (a b c : ℕ) → a ≡ b → Rose a c → Rose b c
 risen a b c e h = let P : ℕ → Type 0 = λ x. Rose x c in subst P e h
+
+-- a read of these bytes came last
+pub record AfterRead (q : Asked) (s : Session) (left : ℕ) (b : List ℕ) (now : List Entry) : Type 0 where
+  pub before : List Entry
+  pub is : now ≡ before ++ In b ∷ []
+  pub reading : Reading q s left before
+
+pub after_read : {q : Asked} {s : Session} {left : ℕ} {J : List Entry} (b : List ℕ) → Reading q s left J → AfterRead q s left b (J ++ In b ∷ [])
+after_read {q} {s} {left} {J} b r = record { before = J; is = refl; reading = r }
+
+pub after_on : {q : Asked} {s t : Session} {left : ℕ} {J O : List Entry} (b : List ℕ) (n : ℕ) → n ≡ length b → 0 < n → length b ≤ 65536 → n ≤ left → WantsBytes s.cutter → (p : AfterRead q s left b J) →
+    Worked q (ins p.before ++ b) p.reading.given t O → Reading q t (left - n) (J ++ O)
+after_on {q} {s} {t} {left} {J} {O} b n is some piece few wants p w = subst (λ x. Reading q t (left - n) (x ++ O)) (sym p.is) (reads_on b n is some piece few wants p.reading w)
+
+pub after_stop : {q : Asked} {s : Session} {left : ℕ} {J O : List Entry} (b : List ℕ) (n : ℕ) (status : Status) → n ≡ length b → 0 < n → length b ≤ 65536 → n ≤ left → WantsBytes s.cutter → (p : AfterRead q s left b J) →
+    Stopped q (ins p.before ++ b) p.reading.given status O → Ends (answers_to q) status (J ++ O)
+after_stop {q} {s} {left} {J} {O} b n status is some piece few wants p w = subst (λ x. Ends (answers_to q) status (x ++ O)) (sym p.is) (reads_stop b n status is some piece few wants p.reading w)
+
+pub after_end : {q : Asked} {s : Session} {left : ℕ} {J O : List Entry} (status : Status) → WantsBytes s.cutter → (p : AfterRead q s left [] J) → EndsWith q (ins p.before) p.reading.given status O → Ends (answers_to q) status (J ++ O)
+after_end {q} {s} {left} {J} {O} status wants p w = subst (λ x. Ends (answers_to q) status (x ++ O)) (sym p.is) (reads_end status wants p.reading w)
+
+-- where no call failed
+pub own_counts : (r r' w w' : ℕ) (status : Status) → IsOwn status → r' ≡ r → w' ≡ w → Counts r r' w w' status
+own_counts r r' w w' statuses.ReadFault own p e = absurd own
+own_counts r r' w w' statuses.WriteFault own p e = absurd own
+own_counts r r' w w' status own p e = (p, e)
+
+-- what was written in two parts
+pub written_both : (x y z : List ℕ) (O K : List Entry) → y ≡ outs O → z ≡ outs K → (x ++ y) ++ z ≡ x ++ outs (O ++ K)
+written_both x y z O K p e = append_assoc x y z ∙ ap (λ t. x ++ t) (ap (λ t. t ++ z) p ∙ (ap (λ t. outs O ++ t) e ∙ sym (outs-append O K)))
+
+pub limit-is : limit ≡ 2 ^ 40
+unfolding limit
+limit-is = refl

@@ -1,11 +1,8 @@
-pub mod Cuts
-pub mod Columns
-pub mod Reading
-pub mod Comparisons
-pub mod Queries
-pub mod EntryLife
-pub mod Taking
+pub mod Lines
+pub mod Moves
+pub mod Fed
+pub mod Final
+pub mod Stopping
 pub mod Journals
-pub mod Answering
-pub mod Complete
 pub mod Pieces
+pub mod Jobs

@@ -1,9 +1,8 @@
-pub mod Command
-pub mod QueryForm
-pub mod Admission
-pub mod Text
+-- Callers read Answers, Told, Table, Jobs and Status. Only private contracts cite Feeding and Working.
+pub mod Answers
+pub mod Told
 pub mod Table
 pub mod Status
-pub mod Holds
-pub mod Reading
-pub mod Stops
+pub mod Jobs
+pub mod Feeding
+pub mod Working

@@ -1,62 +1,117 @@
 -- Statuses: their exit numbers, their notes, and the counts of faults that they go with.
-use Rattle.std.specs.Prelude.{◌≡◌, ◌⊎◌, ℕ, List, [], ◌++◌, codes, decimal}
+use Rattle.std.specs.Prelude.{◌≡◌, ◌⊎◌, ℕ, List, [], ◌∷◌, ◌++◌, Option, Some, None, codes, decimal}
 use Rattle.std.specs.List.{All}
 use Rattle.wire_lines.specs.Faults.{Rose}
 use Rattle.wire_lines.specs.Journal.{Entry, outs, IsOut}
+use Rattle.line_text.specs.Fields.{time_text}
+use Rattle.plan_model.specs.declared.fault.QueryFault.{QueryFault}
+use Rattle.plan_model.specs.declared.fault.QueryFault.TheVariants.{Syntax, LongExpr, TooLarge, UnknownName, TypeClash, NotEventLevel, BadWindow, ReachTooLong, TooManyNodes, TooManyColumns, NameTaken, NotBuilt}
 use Rattle.row_reader.specs.declared.entry.BadLine.{BadLine}
 use Rattle.row_reader.specs.declared.entry.BadLine.TheVariants.{TooLong, NotUtf8, StrayReturn, OddQuotes, UnknownStream, UnknownKind, WrongFields, BadTime, BadLife, BadValue, NoStart}
-use Rattle.tempo_cli.specs.Table.{IsFront}
+use Rattle.tempo_cli.specs.Answers.{IsFront}
 use Rattle.tempo_cli.specs.declared.status.Status.{Status}
-use Rattle.tempo_cli.specs.declared.status.Status.TheVariants.{Done, BadWords, Malformed, NotBuilt, InputTooLong, ReadFault, WriteFault, Memory}
+use Rattle.tempo_cli.specs.declared.status.Status.TheVariants.{Done, BadWords, BadQuery, Malformed, Late, Overflow, InputTooLong, ReadFault, WriteFault, Memory}
 
 -- the exit number of the program
 abbrev pub exit_of : Status → ℕ
 exit_of Done = 0
 exit_of BadWords = 2
+exit_of (BadQuery fault) = 3
 exit_of (Malformed line cause) = 4
+exit_of (Late line time bound) = 5
+exit_of (Overflow punct node time) = 6
 exit_of InputTooLong = 7
 exit_of ReadFault = 8
 exit_of WriteFault = 9
 exit_of Memory = 10
-exit_of (NotBuilt line) = 11
+
+-- what is told of a query: the words, and the offset or the number of an item where one is told. Of a type clash in item 2:
+-- `type clash in item 2`
+abbrev pub fault_words : QueryFault → List ℕ
+fault_words (Syntax at) = codes "syntax at "
+fault_words (LongExpr at) = codes "expression too long at "
+fault_words TooLarge = codes "text too large"
+fault_words (UnknownName item) = codes "unknown name in item "
+fault_words (TypeClash item) = codes "type clash in item "
+fault_words (NotEventLevel item) = codes "not event level in item "
+fault_words (BadWindow item) = codes "bad window in item "
+fault_words (ReachTooLong item) = codes "reach too long in item "
+fault_words (TooManyNodes item) = codes "too many nodes in item "
+fault_words (TooManyColumns item) = codes "too many columns in item "
+fault_words (NameTaken item) = codes "name taken in item "
+fault_words (NotBuilt item) = codes "not built in item "
+
+abbrev pub fault_place : QueryFault → Option ℕ
+fault_place (Syntax at) = Some at
+fault_place (LongExpr at) = Some at
+fault_place TooLarge = None
+fault_place (UnknownName item) = Some item
+fault_place (TypeClash item) = Some item
+fault_place (NotEventLevel item) = Some item
+fault_place (BadWindow item) = Some item
+fault_place (ReachTooLong item) = Some item
+fault_place (TooManyNodes item) = Some item
+fault_place (TooManyColumns item) = Some item
+fault_place (NameTaken item) = Some item
+fault_place (NotBuilt item) = Some item
 
 -- what is told of a bad line
-abbrev pub cause_text : BadLine → List ℕ
-cause_text TooLong = codes ": too long\n"
-cause_text NotUtf8 = codes ": not utf-8\n"
-cause_text StrayReturn = codes ": stray return\n"
-cause_text OddQuotes = codes ": odd quotes\n"
-cause_text UnknownStream = codes ": unknown stream\n"
-cause_text UnknownKind = codes ": unknown kind\n"
-cause_text WrongFields = codes ": wrong number of fields\n"
-cause_text BadTime = codes ": bad time\n"
-cause_text BadLife = codes ": bad life\n"
-cause_text (BadValue column) = codes ": bad value in column " ++ decimal column ++ codes "\n"
-cause_text NoStart = codes ": no open start\n"
+abbrev pub cause_words : BadLine → List ℕ
+cause_words TooLong = codes "too long"
+cause_words NotUtf8 = codes "not utf-8"
+cause_words StrayReturn = codes "stray return"
+cause_words OddQuotes = codes "odd quotes"
+cause_words UnknownStream = codes "unknown stream"
+cause_words UnknownKind = codes "unknown kind"
+cause_words WrongFields = codes "wrong number of fields"
+cause_words BadTime = codes "bad time"
+cause_words BadLife = codes "bad life"
+cause_words (BadValue column) = codes "bad value in column "
+cause_words NoStart = codes "no open start"
 
--- what is told of it on the notes, an LF at its end
+abbrev pub cause_place : BadLine → Option ℕ
+cause_place (BadValue column) = Some column
+cause_place cause = None
+
+-- a number where there is one: 2 for Some 2
+abbrev pub place_text : Option ℕ → List ℕ
+place_text None = []
+place_text (Some n) = decimal n
+
+-- the pieces of the note, one after the other, an LF at its end
+abbrev pub note_pieces : Status → List (List ℕ)
+note_pieces Done = []
+note_pieces BadWords = []
+note_pieces (BadQuery fault) = codes "query: " ∷ fault_words fault ∷ place_text (fault_place fault) ∷ codes "\n" ∷ []
+note_pieces (Malformed line cause) = codes "line " ∷ decimal line ∷ codes ": " ∷ cause_words cause ∷ place_text (cause_place cause) ∷ codes "\n" ∷ []
+note_pieces (Late line time bound) = codes "line " ∷ decimal line ∷ codes ": late, " ∷ time_text time ∷ codes " below " ∷ time_text bound ∷ codes "\n" ∷ []
+note_pieces (Overflow punct node time) = codes "node " ∷ decimal node ∷ codes ": overflow at " ∷ time_text time ∷ codes ", closing " ∷ time_text punct ∷ codes "\n" ∷ []
+note_pieces InputTooLong = codes "input too long\n" ∷ []
+note_pieces ReadFault = codes "read failed\n" ∷ []
+note_pieces WriteFault = codes "write failed\n" ∷ []
+note_pieces Memory = codes "no memory\n" ∷ []
+
+abbrev pub joined_pieces : List (List ℕ) → List ℕ
+joined_pieces [] = []
+joined_pieces (piece ∷ pieces) = piece ++ joined_pieces pieces
+
+-- what is told of a status on the notes: `line 4: late, 6 below 7` and an LF. For BadWords it is the text of the reader of the
+-- words, and not stated
 abbrev pub note_of : Status → List ℕ
-note_of Done = []
-note_of BadWords = []
-note_of InputTooLong = codes "input too long\n"
-note_of ReadFault = codes "read failed\n"
-note_of WriteFault = codes "write failed\n"
-note_of Memory = codes "no memory\n"
-note_of (Malformed line cause) = codes "line " ++ decimal line ++ cause_text cause
-note_of (NotBuilt line) = codes "line " ++ decimal line ++ codes ": form not built\n"
+note_of status = joined_pieces (note_pieces status)
 
 -- a fault of the wire is told only where its count rose, and every other status only where no call failed
 abbrev pub Counts : ℕ → ℕ → ℕ → ℕ → Status → Type 0
-Counts reads reads' writes writes' Done = (reads' ≡ reads) × (writes' ≡ writes)
-Counts reads reads' writes writes' BadWords = (reads' ≡ reads) × (writes' ≡ writes)
-Counts reads reads' writes writes' (Malformed line cause) = (reads' ≡ reads) × (writes' ≡ writes)
-Counts reads reads' writes writes' (NotBuilt line) = (reads' ≡ reads) × (writes' ≡ writes)
-Counts reads reads' writes writes' InputTooLong = (reads' ≡ reads) × (writes' ≡ writes)
 Counts reads reads' writes writes' ReadFault = Rose reads reads'
 Counts reads reads' writes writes' WriteFault = Rose writes writes'
-Counts reads reads' writes writes' Memory = (reads' ≡ reads) × (writes' ≡ writes)
+Counts reads reads' writes writes' status = (reads' ≡ reads) × (writes' ≡ writes)
 
--- the note of the status went out and nothing came in, or only its first bytes went out and a write failed
+-- what went out is the note of the status, or its first bytes where a write failed
+abbrev pub IsNote : Status → ℕ → ℕ → List ℕ → Type 0
+IsNote BadWords writes writes' bytes = Unit {0}
+IsNote status writes writes' bytes = (bytes ≡ note_of status) ⊎ (Rose writes writes' × IsFront bytes (note_of status))
+
+-- the note of the status went out, or some of it, and nothing came in
 pub record IsNoted (status : Status) (writes writes' : ℕ) (K : List Entry) : Type 0 where
   pub outs_alone : All IsOut K
-  pub text : (outs K ≡ note_of status) ⊎ (Rose writes writes' × IsFront (outs K) (note_of status))
+  pub note : IsNote status writes writes' (outs K)

@@ -1,74 +1,84 @@
--- What a run has done, by its status. J is what the run added to the journal of its wire, and `command` what its words ask for.
-use Rattle.std.specs.Prelude.{◌≡◌, ◌≤◌, ◌+◌, ℕ, Bool, true, false, List, [], ◌∷◌, ◌++◌, Some, None, take, length}
+-- What a run has done, by its status, for any faults and any text. `bytes` are all that came in, `out` all that went out, and
+-- `ended` says whether the input has ended.
+use Rattle.std.specs.Prelude.{◌≡◌, ◌≤◌, ◌+◌, ◌^◌, ℕ, Bool, true, false, List, [], ◌∷◌, ◌++◌, Some, None, take, length}
 use Rattle.wire_lines.specs.Journal.{Entry, In, Out, ins, outs, ended}
 use Rattle.wire_lines.specs.Lines.{whole, rest, lines}
-use Rattle.tempo_cli.specs.Admission.{limit, fault}
-use Rattle.tempo_cli.specs.Text.{text}
-use Rattle.tempo_cli.specs.declared.command.Command.{Command}
-use Rattle.tempo_cli.specs.declared.fault.Fault.{Fault}
-use Rattle.tempo_cli.specs.declared.fault.Fault.TheVariants as faults
+use Rattle.admission.specs.Progress.{Fault, Malformed as WasBad, TooLate, Overflowed}
+use Rattle.tempo_cli.specs.Answers.{Answers, IsFront}
 use Rattle.tempo_cli.specs.declared.status.Status.{Status}
-use Rattle.tempo_cli.specs.declared.status.Status.TheVariants.{Done, BadWords, Malformed, NotBuilt, InputTooLong, ReadFault, WriteFault, Memory}
+use Rattle.tempo_cli.specs.declared.status.Status.TheVariants.{Done, BadWords, BadQuery, Malformed, Late, Overflow, InputTooLong, ReadFault, WriteFault, Memory}
 
--- a read may come: the input goes on, it has no fault, and all that it calls for so far is written
-pub record IsReady (command : Command) (J : List Entry) : Type 0 where
-  pub goes_on : ended J ≡ false
-  pub few : length (ins J) ≤ limit
-  pub no_fault : fault command (lines (ins J) false) ≡ None
-  pub written : outs J ≡ text command (lines (ins J) false) false
+-- the most bytes of the input
+unfoldable pub limit : ℕ
+limit = 2 ^ 40
+
+-- a read may come: the input goes on, its lines have no fault, and all that they call for so far is written
+pub record IsReady (a : Answers) (K : List Entry) : Type 0 where
+  pub goes_on : ended K ≡ false
+  pub few : length (ins K) ≤ limit
+  pub no_fault : a.fault (lines (ins K) false) false ≡ None
+  pub written : outs K ≡ a.text (lines (ins K) false) false
+
+-- one read takes 65,536 bytes at most, and none past number 2^40 + 1
+pub record IsPiece (K : List Entry) (bytes : List ℕ) : Type 0 where
+  pub short : length bytes ≤ 65536
+  pub within : length (ins K) + length bytes ≤ limit + 1
 
 -- a read may come before each In of the entries, which came after K
-abbrev pub IsPromptAfter : Command → List Entry → List Entry → Type 0
-IsPromptAfter command K [] = Unit {0}
-IsPromptAfter command K (In bytes ∷ J) = IsReady command K × IsPromptAfter command (K ++ In bytes ∷ []) J
-IsPromptAfter command K (Out bytes ∷ J) = IsPromptAfter command (K ++ Out bytes ∷ []) J
+abbrev pub IsPromptAfter : Answers → List Entry → List Entry → Type 0
+IsPromptAfter a K [] = Unit {0}
+IsPromptAfter a K (In bytes ∷ J) = IsReady a K × IsPiece K bytes × IsPromptAfter a (K ++ In bytes ∷ []) J
+IsPromptAfter a K (Out bytes ∷ J) = IsPromptAfter a (K ++ Out bytes ∷ []) J
 
-abbrev pub IsPrompt : Command → List Entry → Type 0
-IsPrompt command J = IsPromptAfter command [] J
+abbrev pub IsPrompt : Answers → List Entry → Type 0
+IsPrompt a J = IsPromptAfter a [] J
 
--- the first bytes of some bytes
-abbrev pub IsFront : List ℕ → List ℕ → Type 0
-IsFront front bytes = (after : List ℕ) × (bytes ≡ front ++ after)
+pub record IsDone (a : Answers) (bytes out : List ℕ) (ended : Bool) : Type 0 where
+  pub at_end : ended ≡ true
+  pub no_fault : a.fault (lines bytes true) true ≡ None
+  pub written : out ≡ a.text (lines bytes true) true
 
--- all that the lines call for was written
-abbrev pub Wrote : Command → List Entry → Bool → Type 0
-Wrote command J at_end = outs J ≡ text command (lines (ins J) at_end) at_end
+-- The lines have this fault, those of the first 2^40 bytes and those of all bytes: the two differ where one byte more came in.
+-- All that was due before it is written.
+pub record IsRefused (a : Answers) (bytes out : List ℕ) (ended : Bool) (fault : Fault) : Type 0 where
+  pub within : a.fault (lines (take limit bytes) ended) ended ≡ Some fault
+  pub first : a.fault (lines bytes ended) ended ≡ Some fault
+  pub written : out ≡ a.text (lines bytes ended) ended
 
-pub record IsDone (command : Command) (J : List Entry) : Type 0 where
-  pub at_end : ended J ≡ true
-  pub no_fault : fault command (lines (ins J) true) ≡ None
-  pub written : Wrote command J true
+-- one byte more than the input may have came in, the whole lines among those that it may have are without fault, and so is the
+-- rest of them, which counts by its length alone
+pub record IsTooLong (a : Answers) (bytes out : List ℕ) : Type 0 where
+  pub long : length bytes ≡ limit + 1
+  pub short : length (rest (take limit bytes)) ≤ 65536
+  pub no_fault : a.fault (whole (take limit bytes)) false ≡ None
+  pub written : out ≡ a.text (whole (take limit bytes)) false
 
--- a line was refused
-pub record IsRefused (command : Command) (J : List Entry) (refusal : Fault) : Type 0 where
-  pub first : fault command (lines (ins J) (ended J)) ≡ Some refusal
-  pub written : Wrote command J (ended J)
+-- a read failed: the input goes on, and what came in so far has no fault
+pub record IsCutOff (a : Answers) (bytes out : List ℕ) (ended : Bool) : Type 0 where
+  pub goes_on : ended ≡ false
+  pub no_fault : a.fault (lines bytes ended) false ≡ None
+  pub written : out ≡ a.text (lines bytes ended) false
 
--- one byte more than the input may have was taken, and the lines among those that it may have are without fault
-pub record IsTooLong (command : Command) (J : List Entry) : Type 0 where
-  pub long : length (ins J) ≡ limit + 1
-  pub short : length (rest (take limit (ins J))) ≤ 65536
-  pub no_fault : fault command (whole (take limit (ins J))) ≡ None
-  pub written : outs J ≡ text command (whole (take limit (ins J))) false
+-- memory was wanting: what is written is the text of the first k lines
+pub record IsShort (a : Answers) (bytes out : List ℕ) (ended : Bool) : Type 0 where
+  pub k : ℕ
+  pub few : k ≤ length (lines bytes ended)
+  pub written : out ≡ a.text (take k (lines bytes ended)) false
 
-pub record IsCutOff (command : Command) (J : List Entry) : Type 0 where
-  pub no_fault : fault command (lines (ins J) false) ≡ None
-  pub written : Wrote command J false
+-- the table, row by row. Where a query is answered, words and query have no fault
+abbrev pub IsEnd : Answers → Status → List ℕ → List ℕ → Bool → Type 0
+IsEnd a Done bytes out ended = IsDone a bytes out ended
+IsEnd a BadWords bytes out ended = ⊥
+IsEnd a (BadQuery fault) bytes out ended = ⊥
+IsEnd a (Malformed line cause) bytes out ended = IsRefused a bytes out ended (WasBad line cause)
+IsEnd a (Late line time bound) bytes out ended = IsRefused a bytes out ended (TooLate line time bound)
+IsEnd a (Overflow punct node time) bytes out ended = IsRefused a bytes out ended (Overflowed punct (record { node = node; time = time }))
+IsEnd a InputTooLong bytes out ended = IsTooLong a bytes out
+IsEnd a ReadFault bytes out ended = IsCutOff a bytes out ended
+IsEnd a WriteFault bytes out ended = IsFront out (a.text (lines bytes ended) ended)
+IsEnd a Memory bytes out ended = IsShort a bytes out ended
 
-abbrev pub WroteFront : Command → List Entry → Type 0
-WroteFront command J = IsFront (outs J) (text command (lines (ins J) (ended J)) (ended J))
-
-abbrev pub IsEnd : Command → Status → List Entry → Type 0
-IsEnd command Done J = IsDone command J
-IsEnd command BadWords J = J ≡ []
-IsEnd command (NotBuilt line) J = IsRefused command J (faults.NotBuilt line)
-IsEnd command (Malformed line cause) J = IsRefused command J (faults.Malformed line cause)
-IsEnd command InputTooLong J = IsTooLong command J
-IsEnd command ReadFault J = IsCutOff command J
-IsEnd command WriteFault J = WroteFront command J
-IsEnd command Memory J = WroteFront command J
-
--- the run was prompt, and ended as its status says
-pub record Ends (command : Command) (status : Status) (J : List Entry) : Type 0 where
-  pub prompt : IsPrompt command J
-  pub end : IsEnd command status J
+-- the run was prompt, and ended as its status says. J is what it added to the journal
+pub record Ends (a : Answers) (status : Status) (J : List Entry) : Type 0 where
+  pub prompt : IsPrompt a J
+  pub end : IsEnd a status (ins J) (outs J) (ended J)

@@ -1,61 +1,115 @@
-// The answer at the end of the input.
-ghost use Rattle.std.specs.Prelude.{◌≡◌, ◌++◌, ◌<◌, ◌^◌, IfOk, IfSome, OnOk, true, filter};
-ghost use Rattle.tw_rows.specs.Instant.{inf};
-ghost use Rattle.plan_model.specs.Expr.{holds};
-ghost use Rattle.change_lines.specs.Print.{punctuation_text};
-ghost use Rattle.tempo_cli.specs.Text.{text_from, due, test_of, kept_of};
+// A query answered over a wire: from the bytes that come in to the bytes that go out and the status.
+ghost use Rattle.std.specs.Prelude.{◌≡◌, ◌≤◌, ◌<◌, ◌+◌, ℕ, List, OnOk, IfErr, min, length, IsTrue};
+ghost use Rattle.std.specs.List.{list_all};
+ghost use Rattle.wire_lines.specs.Journal.{Grows};
+ghost use Rattle.plan_model.specs.Reach.{is_built};
+ghost use Rattle.tempo_cli.specs.Status.{Counts};
+ghost use Rattle.tempo_cli.specs.Table.{limit, Ends};
+ghost use Rattle.tempo_cli.specs.Told.{answers};
+ghost use Rattle.tempo_cli.specs.Feeding.{Asked, Holds, WantsBytes, IsAsked};
+ghost use Rattle.tempo_cli.specs.Working.{Worked, Stopped, EndsWith};
 
-use crate::query_form::Above;
-use change_lines::{Event, Events, print_changes, push_punctuation};
+use crate::session::{LIMIT, Session, Step};
+use crate::status::Status;
+use egress::send;
+use plan_model::Plan;
 use std::alloc::Global;
-use tw_rows::{Memory, Row, Time, Value};
+use tempo_engine::Options;
+use wire_lines::{ReadFailed, Wire, WriteFailed};
 
-/// Whether the comparison is true of the row: its value in that column is above the number.
-fn is_above(above: &Above, row: &Row) -> bool
-    requires { above.now.number < 2 ^ 63 }
-    ensures { result ≡ holds (test_of above.now) row.now }
+/// The most bytes that one read asks for.
+const PIECE: usize = 65536;
+
+/// How many bytes the next read asks for, where so many more may come.
+fn asked(left: u64) -> usize
+    ensures { result ≡ min left 65536 }
 {
-    let number = Value::Int(above.number as i64);
-    match row.values().get(above.column) {
-        Some(value) => value > &number,
-        None => Value::Int(0) > number,
+    left.min(PIECE as u64) as usize
+}
+
+/// Works through all whole lines that came in, and writes what is due for each before the next.
+fn work<W: Wire>(session: &mut Session, wire: &mut W) -> Result<(), Status>
+    requires longest { session.old.cutter.longest ≡ 65536 }
+    ensures ok { OnOk result ((q : Asked) (bytes : List ℕ) (given : List (List ℕ)) → Holds q bytes given session.old → length bytes ≤ limit + 1 → Grows (W.journal wire.old) (W.journal wire.new) (Worked q bytes given session.new)) }
+    ensures wants { OnOk result (WantsBytes session.new.cutter) }
+    ensures same { OnOk result ((W.read_faults wire.new ≡ W.read_faults wire.old) × (W.write_faults wire.new ≡ W.write_faults wire.old)) }
+    ensures err { IfErr result (λ status. (q : Asked) (bytes : List ℕ) (given : List (List ℕ)) → Holds q bytes given session.old → length bytes ≤ limit + 1 → Grows (W.journal wire.old) (W.journal wire.new) (Stopped q bytes given status)) }
+    ensures asked { IfErr result IsAsked }
+    ensures counts { IfErr result (λ status. Counts (W.read_faults wire.old) (W.read_faults wire.new) (W.write_faults wire.old) (W.write_faults wire.new) status) }
+{
+    loop {
+        match session.next_step() {
+            Step::More => return Ok(()),
+            Step::Stop(status) => return Err(status),
+            Step::Out(out) => match send(wire, &out) {
+                Ok(()) => {}
+                Err(WriteFailed) => return Err(Status::WriteFault),
+            },
+        }
     }
 }
 
-/// Keeps the events whose rows pass the comparison.
-fn keep_above(above: &Above, events: &mut Vec<Event>)
-    requires { above.now.number < 2 ^ 63 }
-    ensures { events.new.items ≡ filter (λ e. holds (test_of above.now) e.row) events.old.items }
+/// Writes what is due for the last line and at the end of the input.
+fn end<W: Wire>(session: &mut Session, wire: &mut W) -> Status
+    requires wants { WantsBytes session.old.cutter }
+    ensures ends { (q : Asked) (bytes : List ℕ) (given : List (List ℕ)) → Holds q bytes given session.old → Grows (W.journal wire.old) (W.journal wire.new) (EndsWith q bytes given result) }
+    ensures asked { IsAsked result }
+    ensures counts { Counts (W.read_faults wire.old) (W.read_faults wire.new) (W.write_faults wire.old) (W.write_faults wire.new) result }
 {
-    events.retain(|event| is_above(above, event.row()));
-}
-
-#[tactic(auto, unfolding(tw_rows::specs::Instant::inf))]
-fn push_last_punctuation(out: &mut Vec<u8>) -> Result<(), Memory>
-    ensures { OnOk result (out.new.items ≡ out.old.items ++ punctuation_text inf) }
-{
-    push_punctuation(out, Time::INF)
-}
-
-/// Keeps the events whose rows pass the comparison, where there is one.
-fn keep(above: &Option<Above>, events: &mut Vec<Event>)
-    requires { IfSome above.now (λ a. a.number < 2 ^ 63) }
-    ensures { events.new.items ≡ kept_of above.now events.old.items }
-{
-    match above {
-        Some(above) => keep_above(above, events),
-        None => {}
+    let last = match session.last_line() {
+        Ok(out) => out,
+        Err(status) => return status,
+    };
+    match send(wire, &last) {
+        Ok(()) => {}
+        Err(WriteFailed) => return Status::WriteFault,
+    }
+    let rest = match session.finish() {
+        Ok(out) => out,
+        Err(status) => return status,
+    };
+    match send(wire, &rest) {
+        Ok(()) => Status::Done,
+        Err(WriteFailed) => Status::WriteFault,
     }
 }
 
-/// The changes of the rows that are kept, at all instants, and the punctuation of the end.
-pub fn print_answer(alloc: Global, above: &Option<Above>, events: Events) -> Result<Vec<u8>, Memory>
-    requires { IfSome above.now (λ a. a.number < 2 ^ 63) }
-    ensures { IfOk result (λ out. out.items ≡ text_from above.now events 0 (due true)) }
+/// Reads the input to its end, and writes what the plan answers as it becomes due.
+pub fn answer<W: Wire>(
+    alloc: Global,
+    plan: Plan,
+    options: Options,
+    header: bool,
+    wire: &mut W,
+) -> Status
+    requires batch { 1 ≤ options.batch }
+    requires built { IsTrue (list_all is_built plan.nodes) }
+    ensures ends { Grows (W.journal wire.old) (W.journal wire.new) (Ends (answers plan options.policy header) result) }
+    ensures asked { IsAsked result }
+    ensures counts { Counts (W.read_faults wire.old) (W.read_faults wire.new) (W.write_faults wire.old) (W.write_faults wire.new) result }
 {
-    let mut events = events.into_vec();
-    keep(above, &mut events);
-    let mut text = print_changes(alloc, events)?;
-    push_last_punctuation(&mut text)?;
-    Ok(text)
+    let Ok(mut session) = Session::new(alloc, plan, options, header) else {
+        return Status::Memory;
+    };
+    let Ok(mut buffer) = Vec::from_elem(alloc, 0u8, PIECE) else {
+        return Status::Memory;
+    };
+    let mut left = LIMIT + 1;
+    while left > 0 {
+        let into = &mut buffer[..asked(left)];
+        let count = match wire.read(into) {
+            Ok(count) => count,
+            Err(ReadFailed) => return Status::ReadFault,
+        };
+        if count == 0 {
+            return end(&mut session, wire);
+        }
+        left -= count as u64;
+        session.take(&into[..count]);
+        match work(&mut session, wire) {
+            Ok(()) => {}
+            Err(status) => return status,
+        }
+    }
+    Status::InputTooLong
 }

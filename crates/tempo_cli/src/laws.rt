@@ -3,18 +3,25 @@ ghost use Rattle.std.specs.Prelude.{◌≡◌, ◌⊎◌, ◌≤◌, ℕ, List, 
 ghost use Rattle.wire_lines.specs.Journal.{Entry, ins, ended};
 ghost use Rattle.wire_lines.specs.Faults.{Rose};
 ghost use Rattle.wire_lines.specs.Lines.{lines};
-ghost use Rattle.tempo_cli.specs.declared.command.Command.{Command};
+ghost use Rattle.tempo_cli.specs.Answers.{Answers};
+ghost use Rattle.tempo_cli.specs.Jobs.{Job, IsJob};
 ghost use Rattle.tempo_cli.specs.declared.status.Status.{Status};
-ghost use Rattle.tempo_cli.specs.declared.status.Status.TheVariants.{Done, BadWords, Memory};
-ghost use Rattle.tempo_cli.specs.Admission.{limit, fault};
-ghost use Rattle.tempo_cli.specs.Table.{Ends};
+ghost use Rattle.tempo_cli.specs.declared.status.Status.TheVariants.{Done, Memory};
+ghost use Rattle.tempo_cli.specs.Table.{limit, Ends};
 ghost use Rattle.tempo_cli.specs.Status.{Counts};
 
-/// Where the words ask for a query, each line is admitted, the input has at most 2^40 bytes and no call of the wire failed,
-/// a run ends Done, or for want of memory.
-#[tactic(auto, using(crate::proofs::Complete::complete))]
+/// Words ask for one job: they are not taken, or their query has a fault, or it has a plan.
+#[tactic(auto, using(crate::proofs::Jobs::some_job, crate::proofs::Jobs::one_job))]
+pub fn words_ask_for_one_job()
+    ensures some { (words : List (List ℕ)) → (job : Job) × IsJob words job }
+    ensures one { (words : List (List ℕ)) (j k : Job) → IsJob words j → IsJob words k → j ≡ k }
+{}
+
+/// Where a query is answered, no line has a fault, the input has at most 2^40 bytes and no call of the wire failed, a run ends
+/// Done, or for want of memory.
+#[tactic(auto, using(crate::proofs::Jobs::complete))]
 pub fn runs_are_complete()
-    ensures { (command : Command) (status : Status) (J : List Entry) (reads reads' writes writes' : ℕ) → Ends command status J → Counts reads reads' writes writes' status →
-        (status ≡ BadWords → ⊥) → fault command (lines (ins J) (ended J)) ≡ None → length (ins J) ≤ limit → (Rose reads reads' → ⊥) → (Rose writes writes' → ⊥) →
+    ensures { (a : Answers) (status : Status) (J : List Entry) (reads reads' writes writes' : ℕ) → Ends a status J → Counts reads reads' writes writes' status →
+        a.fault (lines (ins J) (ended J)) (ended J) ≡ None → length (ins J) ≤ limit → (Rose reads reads' → ⊥) → (Rose writes writes' → ⊥) →
         (status ≡ Done) ⊎ (status ≡ Memory) }
 {}

@@ -1,25 +1,21 @@
-// tempo: a query over a stream of events, from standard input to standard output.
+// tempo: a query over streams of events, from standard input to standard output.
 #![tactic(auto)]
 
+ghost use Rattle.std.specs.Prelude.{◌≡◌, IfOk, map};
+
 mod answer;
-mod command;
-mod fault;
 mod laws;
 mod note;
-mod query_form;
 mod run;
-mod send;
 mod session;
 mod status;
 #[cfg(test)]
 mod tests;
 
-pub use command::{Command, read_command, words_spell_one_command};
-pub use fault::Fault;
-pub use laws::runs_are_complete;
+pub use laws::{runs_are_complete, words_ask_for_one_job};
 use note::note;
 pub use run::run;
-pub use send::send;
+pub use session::{Session, Step};
 pub use status::Status;
 use std::alloc::{AllocError, Global};
 use std::env;
@@ -36,13 +32,13 @@ fn read_words(rt: &HostRuntime) -> Result<Vec<String>, AllocError> {
     }
 }
 
-fn as_texts(alloc: Global, words: &[String]) -> Result<Vec<&str>, AllocError> {
+/// The texts of the words, all of them and in order.
+fn as_texts(alloc: Global, words: &[String]) -> Result<Vec<&str>, AllocError>
+    ensures { IfOk result (λ texts. map (λ t. t.now) texts.items ≡ map (λ w. w.bytes.items) words.now) }
+{
     let mut texts = Vec::new(alloc);
     for word in words {
-        match texts.push(word.as_str()) {
-            Ok(()) => {}
-            Err(_) => return Err(AllocError),
-        }
+        texts.push(word.as_str())?;
     }
     Ok(texts)
 }

@@ -1,116 +1,110 @@
-// The whole run: from the words and the bytes that come in to the bytes that go out and the status.
-ghost use Rattle.std.specs.Prelude.{◌≡◌, ◌≤◌, ◌<◌, ◌⊎◌, ◌^◌, ℕ, map, [], IfOk, IfSome};
-ghost use Rattle.wire_lines.specs.Journal.{Grows, SentAll, SentFront};
-ghost use Rattle.wire_lines.specs.Faults.{Rose, HasCause};
-ghost use Rattle.tempo_cli.specs.Table.{Ends};
-ghost use Rattle.tempo_cli.specs.Command.{SpellsCommand};
-ghost use Rattle.tempo_cli.specs.declared.command.Command.{Command as SomeCommand};
-ghost use Rattle.tempo_cli.specs.Admission.{streams_of};
-ghost use Rattle.tempo_cli.specs.Holds.{Holds, WantsBytes};
+// The whole run: from the words and the bytes that come in to the bytes that go out, the notes and the status.
+ghost use Rattle.std.specs.Prelude.{◌≡◌, ◌≤◌, ◌⊎◌, ℕ, List, [], map, IsTrue};
+ghost use Rattle.wire_lines.specs.Journal.{Grows};
+ghost use Rattle.plan_model.specs.IsPlan.{PlanParts};
+ghost use Rattle.tempo_cli.specs.Jobs.{Job, IsJob, IsPlanned, HasPlan, HasFault, Does, DoesMode, Tells, HasReason, HasQueryReason, policy_of, query_status};
+ghost use Rattle.tempo_cli.specs.Feeding.{IsAsked};
 ghost use Rattle.tempo_cli.specs.Status.{Counts, IsNoted};
-ghost use Rattle.tempo_cli.specs.Stops.{status_at};
+ghost use Rattle.command_line.specs.Words.{asked_by};
+ghost use Rattle.std.specs.List.{list_all};
+ghost use Rattle.plan_model.specs.Reach.{is_built};
+ghost use Rattle.plan_model.specs.declared.fault.QueryFault.{QueryFault as SomeFault};
 
-use crate::command::{Command, read_command};
-use crate::fault::Fault;
+use crate::answer::answer;
+use admission::{Lateness, Policy};
 use crate::note::note;
-use crate::send::send;
-use crate::session::{Session, Stop};
 use crate::status::Status;
+use command_line::{CommandLine, Mode, WordsFault, read_words};
+use egress::send;
+use plan_model::{Plan, QueryError};
+use query_plan::{explain, plan};
+use query_text::parse;
 use std::alloc::Global;
-use tw_rows::{Label, Memory, Schema, StreamDef};
-use wire_lines::{ReadFailed, Wire, WriteFailed};
+use tempo_engine::Options;
+use wire_lines::{Wire, WriteFailed};
 
-fn status_of(stop: Stop) -> Status
-    ensures status { result ≡ status_at stop }
-    ensures asked { result ≡ Status.BadWords → ⊥ }
+/// The plan of the query that the text spells.
+fn plan_of(alloc: Global, text: &str) -> Result<Plan, QueryError>
+    ensures { IsPlanned text.now result }
 {
-    match stop {
-        Stop::Refused(Fault::Malformed { line, cause }) => Status::Malformed { line, cause },
-        Stop::Refused(Fault::NotBuilt { line }) => Status::NotBuilt { line },
-        Stop::TooMany => Status::InputTooLong,
-        Stop::Memory => Status::Memory,
+    let query = parse(alloc, text)?;
+    plan(alloc, &query)
+}
+
+/// Writes the text of the plan.
+fn tell<W: Wire>(alloc: Global, plan: &Plan, wire: &mut W) -> Status
+    ensures asked { IsAsked result }
+    ensures tells { Grows (W.journal wire.old) (W.journal wire.new) (Tells plan.now result) }
+    ensures counts { Counts (W.read_faults wire.old) (W.read_faults wire.new) (W.write_faults wire.old) (W.write_faults wire.new) result }
+{
+    let Ok(text) = explain(alloc, plan) else {
+        return Status::Memory;
+    };
+    match send(wire, &text) {
+        Ok(()) => Status::Done,
+        Err(WriteFailed) => Status::WriteFault,
     }
 }
 
-/// The most bytes that one read asks for.
-const READ: usize = 65536;
-
-/// The stream that a command names.
-fn streams(alloc: Global, columns: Schema) -> Result<Vec<StreamDef>, Memory>
-    ensures { IfOk result (λ streams. (command : SomeCommand) → command.columns ≡ columns → streams.items ≡ streams_of command) }
-{
-    let mut streams = Vec::new(alloc);
-    let name = Label::new(alloc, "s")?;
-    streams.push(StreamDef {
-        name,
-        schema: columns,
-    })?;
-    Ok(streams)
-}
-
-fn session(alloc: Global, columns: Schema, header: bool) -> Result<Session, Memory>
-    ensures holds { IfOk result (λ s. (command : SomeCommand) → command.columns ≡ columns → header ≡ command.header → Holds command [] s) }
-    ensures wants { IfOk result (λ s. WantsBytes s.cutter) }
-{
-    let streams = streams(alloc, columns)?;
-    Session::new(alloc, streams, header)
-}
-
-/// Reads the input to its end, and writes the changes of the rows that the command keeps.
-fn run_command<W: Wire>(alloc: Global, command: Command, wire: &mut W) -> Status
-    requires { IfSome command.above (λ a. a.number < 2 ^ 63) }
-    ensures asked { result ≡ Status.BadWords → ⊥ }
-    ensures ends { Grows (W.journal wire.old) (W.journal wire.new) (Ends command result) }
+/// Does what the mode says with the plan.
+fn do_mode<W: Wire>(alloc: Global, asked: &CommandLine<'_>, plan: Plan, wire: &mut W) -> Status
+    requires batch { 1 ≤ asked.now.batch }
+    requires built { IsTrue (list_all is_built plan.nodes) }
+    ensures asked { IsAsked result }
+    ensures does { Grows (W.journal wire.old) (W.journal wire.new) (DoesMode asked.now.mode (asked_by asked.now) plan result) }
     ensures counts { Counts (W.read_faults wire.old) (W.read_faults wire.new) (W.write_faults wire.old) (W.write_faults wire.new) result }
 {
-    let above = command.above;
-    let Ok(mut session) = session(alloc, command.columns, command.header) else {
-        return Status::Memory;
-    };
-    let Ok(mut buffer) = Vec::from_elem(alloc, 0u8, READ) else {
-        return Status::Memory;
-    };
-    let mut left: u64 = (1 << 40) + 1;
-    while left > 0 {
-        let ask = left.min(READ as u64) as usize;
-        let into = &mut buffer[..ask];
-        let count = match wire.read(into) {
-            Ok(count) => count,
-            Err(ReadFailed) => return Status::ReadFault,
-        };
-        if count == 0 {
-            let text = match session.finish(&above) {
-                Ok(text) => text,
-                Err(stop) => return status_of(stop),
-            };
-            match send(wire, &text) {
-                Ok(()) => return Status::Done,
-                Err(WriteFailed) => return Status::WriteFault,
-            }
-        }
-        left -= count as u64;
-        match session.take(&into[..count]) {
-            Ok(()) => {}
-            Err(stop) => return status_of(stop),
-        }
+    match asked.mode {
+        Mode::Run => answer(alloc, plan, options_of(asked), asked.header, wire),
+        Mode::Explain => tell(alloc, &plan, wire),
     }
-    Status::InputTooLong
 }
 
-/// Runs the command that the words spell.
-fn answer<'a, W: Wire>(alloc: Global, words: &'a [&'a str], wire: &mut W) -> Status
-    ensures words { result ≡ Status.BadWords → (command : SomeCommand) → SpellsCommand (map (λ w. w.now) words.now) command → ⊥ }
-    ensures refused { ((command : SomeCommand) → SpellsCommand (map (λ w. w.now) words.now) command → ⊥) → (result ≡ Status.BadWords) ⊎ (result ≡ Status.Memory) }
-    ensures untouched { result ≡ Status.BadWords → Grows (W.journal wire.old) (W.journal wire.new) (λ J. J ≡ []) }
-    ensures ends { (command : SomeCommand) → SpellsCommand (map (λ w. w.now) words.now) command → Grows (W.journal wire.old) (W.journal wire.new) (Ends command result) }
+fn options_of(asked: &CommandLine<'_>) -> Options
+    ensures batch { result.batch ≡ asked.now.batch }
+    ensures policy { result.policy ≡ policy_of (asked_by asked.now) }
+{
+    Options {
+        batch: asked.batch,
+        policy: Policy {
+            lateness: 0,
+            late: Lateness::Refuse,
+            period: 0,
+        },
+    }
+}
+
+/// Does what is asked for. The words were taken.
+fn perform<W: Wire>(alloc: Global, asked: &CommandLine<'_>, wire: &mut W) -> Status
+    requires batch { 1 ≤ asked.now.batch }
+    ensures reason { HasQueryReason asked.now.query.now result }
+    ensures planned { (plan : PlanParts) → HasPlan asked.now.query.now plan → Grows (W.journal wire.old) (W.journal wire.new) (DoesMode asked.now.mode (asked_by asked.now) plan result) }
+    ensures unplanned { (fault : SomeFault) → HasFault asked.now.query.now fault → Grows (W.journal wire.old) (W.journal wire.new) (λ J. (J ≡ []) × ((result ≡ Status.BadQuery fault) ⊎ (result ≡ Status.Memory))) }
     ensures counts { Counts (W.read_faults wire.old) (W.read_faults wire.new) (W.write_faults wire.old) (W.write_faults wire.new) result }
 {
-    let Ok(found) = read_command(alloc, words) else {
-        return Status::Memory;
-    };
-    match found {
-        Some(command) => run_command(alloc, command, wire),
-        None => Status::BadWords,
+    match plan_of(alloc, asked.query) {
+        Ok(plan) => do_mode(alloc, asked, plan, wire),
+        Err(error) => status_of(error),
+    }
+}
+
+/// The status of a run whose query has no plan, or for which memory was wanting.
+fn status_of(error: QueryError) -> Status
+    ensures { result ≡ query_status error }
+{
+    match error {
+        QueryError::Fault(fault) => Status::BadQuery(fault),
+        QueryError::Memory => Status::Memory,
+    }
+}
+
+/// Writes the text of a refusal of the words.
+fn tell_refusal<N: Wire>(notes: &mut N, text: &str)
+    ensures { Grows (N.journal notes.old) (N.journal notes.new) (IsNoted Status.BadWords (N.write_faults notes.old) (N.write_faults notes.new)) }
+{
+    match send(notes, text.as_bytes()) {
+        Ok(()) => {}
+        Err(WriteFailed) => {}
     }
 }
 
@@ -125,18 +119,28 @@ pub fn run<'a, W: Wire, N: Wire>(
     wire: &mut W,
     notes: &mut N,
 ) -> Status
-    // The words are refused exactly where they spell no command, unless memory was wanting; then nothing is read or written.
-    ensures words { result ≡ Status.BadWords → (command : SomeCommand) → SpellsCommand (map (λ w. w.now) words.now) command → ⊥ }
-    ensures refused { ((command : SomeCommand) → SpellsCommand (map (λ w. w.now) words.now) command → ⊥) → (result ≡ Status.BadWords) ⊎ (result ≡ Status.Memory) }
-    ensures untouched { result ≡ Status.BadWords → Grows (W.journal wire.old) (W.journal wire.new) (λ J. J ≡ []) }
+    // Words and queries are refused only for a fault of theirs.
+    ensures reason { HasReason (map (λ w. w.now) words.now) result }
 
-    // Where they spell a command: what was written before each read and at the end, by the status.
-    ensures ends { (command : SomeCommand) → SpellsCommand (map (λ w. w.now) words.now) command → Grows (W.journal wire.old) (W.journal wire.new) (Ends command result) }
+    // What is done for what the words ask for: what was written before each read and at the end, by the status.
+    ensures does { (job : Job) → IsJob (map (λ w. w.now) words.now) job → Grows (W.journal wire.old) (W.journal wire.new) (Does job result) }
     ensures counts { Counts (W.read_faults wire.old) (W.read_faults wire.new) (W.write_faults wire.old) (W.write_faults wire.new) result }
 
     ensures notes { Grows (N.journal notes.old) (N.journal notes.new) (IsNoted result (N.write_faults notes.old) (N.write_faults notes.new)) }
 {
-    let status = answer(alloc, words, wire);
-    note(notes, &status);
-    status
+    match read_words(alloc, words) {
+        Ok(asked) => {
+            let status = perform(alloc, &asked, wire);
+            note(notes, &status);
+            status
+        }
+        Err(WordsFault::Refused { text }) => {
+            tell_refusal(notes, text.as_str());
+            Status::BadWords
+        }
+        Err(WordsFault::Memory) => {
+            note(notes, &Status::Memory);
+            Status::Memory
+        }
+    }
 }

@@ -1,211 +1,170 @@
-// The lines of a stream, taken as their bytes come.
-ghost use Rattle.std.specs.Prelude.{◌≡◌, ◌≤◌, ◌+◌, ◌++◌, ◌<◌, ◌^◌, IfOk, IfSome, OnOk, IfErr, List, ℕ, [], length};
-ghost use Rattle.tempo_cli.specs.Holds.{Holds, Stops, StopsAtEnd, Answers, Finishes, Admits, Refuses, WantsBytes, HasLife, stop_of};
-ghost use Rattle.tempo_cli.specs.Admission.{entry_at, streams_of};
-ghost use Rattle.row_reader.specs.Entry.{Read};
-ghost use Rattle.row_reader.specs.Answers.{Answers as IsAnswer};
-ghost use Rattle.wire_lines.specs.Lines.{IsOneLine};
-ghost use Rattle.tempo_cli.specs.declared.command.Command.{Command as SomeCommand};
+// The lines of an input, fed to an engine as their bytes come.
+ghost use Rattle.std.specs.Prelude.{◌≡◌, ◌≤◌, ◌+◌, ◌++◌, ◌∷◌, IfOk, IfErr, IfSome, List, ℕ, [], None, true, false, length, IsTrue};
+ghost use Rattle.std.specs.List.{list_all};
+ghost use Rattle.wire_lines.specs.Lines.{HasNoLf};
+ghost use Rattle.tempo_engine.specs.Faults.{IsFaultOf};
+ghost use Rattle.tempo_cli.specs.Table.{limit, IsDone, IsEnd};
+ghost use Rattle.plan_model.specs.Reach.{is_built};
+ghost use Rattle.tempo_cli.specs.Feeding.{Asked, answers_to, status_at, Took, Holds, WantsBytes, Comes, Ended, HasLess, IsOwn, StopsOwn};
 
-use crate::answer::print_answer;
-use crate::fault::Fault;
-use crate::query_form::Above;
-use change_lines::Events;
-use row_reader::{BadLine, Entry, Form, RowFault, read_row};
+use crate::status::Status;
+use plan_model::Plan;
+use row_reader::BadLine;
 use std::alloc::Global;
-use tw_rows::{Life, Memory, StreamDef, Time};
+use tempo_engine::{Engine, EngineFault, Options};
+use tw_rows::Memory;
 use wire_lines::{Cut, LineCutter};
 
 /// The most bytes of a line, its LF not counted.
 const LONGEST: usize = 65536;
 
-/// The events of the lines so far. It knows nothing of wires: bytes are handed to it.
+/// The most bytes of the input.
+pub const LIMIT: u64 = 1 << 40;
+
+/// A query at work on an input. It knows nothing of wires: bytes are handed to it, and it hands out what is to be written.
 #[derive(Drop)]
 pub struct Session {
     pub alloc: Global,
     pub cutter: LineCutter,
-    pub streams: Vec<StreamDef>,
+    pub engine: Engine,
     pub header: bool,
-    pub bound: Time,
-    pub events: Events,
 }
 
-/// Why no more bytes are taken.
-#[derive(Clone, Copy, Debug, PartialEq, Eq)]
-pub enum Stop {
-    Refused(Fault),
-    TooMany,
-    Memory,
+/// What the next line comes to.
+#[derive(Drop)]
+pub enum Step {
+    /// All lines that came in were taken.
+    More,
+    /// These bytes are due.
+    Out(Vec<u8>),
+    /// No more lines are taken.
+    Stop(Status),
 }
 
-/// What the line of that number says; with a header the first says nothing.
-#[tactic(auto, unfolding(crate::specs::Admission::entry_at))]
-fn read_line(
-    alloc: Global,
-    streams: &[StreamDef],
-    header: bool,
-    number: u64,
-    line: &[u8],
-) -> Result<Entry, RowFault>
-    requires { IsOneLine line.now }
-    ensures said { IsAnswer result (entry_at streams.now header number line.now) }
-    ensures life { IfOk result HasLife }
+/// The status of a run that the engine's fault ends.
+fn status_of(fault: EngineFault) -> Status
+    ensures status { result ≡ status_at fault }
+    ensures own { IsOwn result }
 {
-    if line.len() > LONGEST {
-        return Err(RowFault::Bad(BadLine::TooLong));
+    match fault {
+        EngineFault::Bad { line, cause } => Status::Malformed { line, cause },
+        EngineFault::Late { line, time, bound } => Status::Late { line, time, bound },
+        EngineFault::Overflow { punctuation, node, time } => Status::Overflow { punct: punctuation, node, time },
+        EngineFault::Memory => Status::Memory,
     }
+}
+
+/// Feeds the line of that number; a header is not read.
+fn feed(alloc: Global, engine: &mut Engine, header: bool, number: u64, line: &[u8]) -> Result<Vec<u8>, EngineFault>
+    requires short { length line.now ≤ 65536 }
+    requires no_feed { HasNoLf line.now }
+    ensures took { IfOk result (λ _. (q : Asked) (given : List (List ℕ)) → q.header ≡ header → number ≡ length given + 1 → Took q given engine.old → Took q (given ++ line.now ∷ []) engine.new) }
+    ensures text { IfOk result (λ out. (q : Asked) (given : List (List ℕ)) → q.header ≡ header → number ≡ length given + 1 → Took q given engine.old → (answers_to q).text (given ++ line.now ∷ []) false ≡ (answers_to q).text given false ++ out.items) }
+    ensures fault { IfErr result (λ f. (q : Asked) (given : List (List ℕ)) → q.header ≡ header → number ≡ length given + 1 → Took q given engine.old → IsFaultOf f ((answers_to q).fault (given ++ line.now ∷ []) false)) }
+{
     if header && number == 1 {
-        return Ok(Entry::Skip);
+        return Ok(Vec::new(alloc));
     }
-    read_row(alloc, line, number == 1, streams)
+    engine.feed_line(number, line)
 }
 
 impl Session {
-    /// Nothing fed. Lines are read for the streams; with a header the first line is skipped.
-    #[tactic(auto, unfolding(crate::specs::Admission::limit))]
-    pub fn new(alloc: Global, streams: Vec<StreamDef>, header: bool) -> Result<Session, Memory>
-        ensures holds { IfOk result (λ s. (command : SomeCommand) → streams.items ≡ streams_of command → header ≡ command.header → Holds command [] s) }
+    /// Nothing fed. With a header line 1 is not read.
+    #[tactic(auto, unfolding(crate::specs::Table::limit))]
+    pub fn new(alloc: Global, plan: Plan, options: Options, header: bool) -> Result<Session, Memory>
+        requires batch { 1 ≤ options.batch }
+        requires built { IsTrue (list_all is_built plan.nodes) }
+        ensures holds { IfOk result (λ s. Holds (record { plan = plan; policy = options.policy; header = header }) [] [] s) }
         ensures wants { IfOk result (λ s. WantsBytes s.cutter) }
     {
-        let cutter = LineCutter::new(alloc, LONGEST, 1 << 40)?;
+        let cutter = LineCutter::new(alloc, LONGEST, LIMIT)?;
+        let engine = Engine::new(alloc, plan, options)?;
         Ok(Session {
             alloc,
             cutter,
-            streams,
+            engine,
             header,
-            bound: Time::ZERO,
-            events: Events::new(alloc),
         })
     }
 
-    /// Takes the next bytes, and all lines that they end. Nothing more is taken after an error.
-    pub fn take(&mut self, piece: &[u8]) -> Result<(), Stop>
+    /// Takes the next bytes. What their lines come to is asked for by `next_step`.
+    pub fn take(&mut self, piece: &[u8])
         requires wants { WantsBytes self.old.cutter }
         requires fits { length piece.now ≤ 65536 }
-        ensures wants { OnOk result (WantsBytes self.new.cutter) }
-        ensures streams { self.new.streams ≡ self.old.streams }
-        ensures header { self.new.header ≡ self.old.header }
-        ensures ok { OnOk result ((command : SomeCommand) (bytes : List ℕ) → Holds command bytes self.old → Holds command (bytes ++ piece.now) self.new) }
-        ensures err { IfErr result (λ stop. (command : SomeCommand) (bytes : List ℕ) → Holds command bytes self.old → Stops command (bytes ++ piece.now) stop) }
+        ensures longest { self.new.cutter.longest ≡ 65536 }
+        ensures holds { (q : Asked) (bytes : List ℕ) (given : List (List ℕ)) → Holds q bytes given self.old → Holds q (bytes ++ piece.now) given self.new }
     {
         self.cutter.feed(piece);
-        loop {
-            let (number, said) = match self.cutter.next_line() {
-                Cut::More => return Ok(()),
-                Cut::TooMany => return Err(Stop::TooMany),
-                Cut::TooLong { number } => return Err(too_long(number)),
-                Cut::Line(line) => (
-                    line.number,
-                    read_line(
-                        self.alloc,
-                        &self.streams,
-                        self.header,
-                        line.number,
-                        line.bytes,
-                    ),
-                ),
-            };
-            match self.admit(number, said) {
-                Ok(()) => {}
-                Err(stop) => return Err(stop),
-            }
-        }
     }
 
-    /// Takes what the line of that number says, as admission tells.
-    fn admit(&mut self, number: u64, said: Result<Entry, RowFault>) -> Result<(), Stop>
-        requires { IfOk said HasLife }
-        ensures cutter { self.new.cutter ≡ self.old.cutter }
-        ensures streams { self.new.streams ≡ self.old.streams }
-        ensures header { self.new.header ≡ self.old.header }
-        ensures ok { OnOk result ((read : Read) → IsAnswer said read → Admits read self.old.bound self.old.events self.new.bound self.new.events) }
-        ensures err { IfErr result (λ stop. (read : Read) → IsAnswer said read → Refuses read self.old.bound number stop) }
+    /// What the next line comes to.
+    pub fn next_step(&mut self) -> Step
+        requires longest { self.old.cutter.longest ≡ 65536 }
+        ensures longest { self.new.cutter.longest ≡ 65536 }
+        ensures comes { (q : Asked) (bytes : List ℕ) (given : List (List ℕ)) → Holds q bytes given self.old → length bytes ≤ limit + 1 → Comes q bytes given self.new result }
+        ensures wants { result ≡ Step.More → WantsBytes self.new.cutter }
+        ensures less { HasLess self.old.cutter self.new.cutter result }
+        ensures own { StopsOwn result }
     {
-        let life = match &said {
-            Ok(Entry::Skip) => return Ok(()),
-            Ok(
-                Entry::Event {
-                    form: Form::Interval,
-                    sync,
-                    other,
-                    ..
-                },
-            ) if *sync >= self.bound => Life {
-                start: *sync,
-                end: *other,
-            },
-            Ok(_) => return Err(Stop::Refused(Fault::NotBuilt { line: number })),
-            Err(fault) => return Err(refusal(number, fault)),
-        };
-        let Ok(Entry::Event { row, .. }) = said else {
-            return Ok(());
-        };
-        match self.events.push(row, life.start, life.end) {
-            Ok(()) => {}
-            Err(Memory) => return Err(Stop::Memory),
-        }
-        self.bound = life.start;
-        Ok(())
-    }
-
-    /// Takes the last line, where no LF ends it.
-    fn take_rest(&mut self) -> Result<(), Stop>
-        requires { WantsBytes self.old.cutter }
-        ensures ok { OnOk result ((command : SomeCommand) (bytes : List ℕ) → Holds command bytes self.old → Finishes command bytes self.new.events) }
-        ensures err { IfErr result (λ stop. (command : SomeCommand) (bytes : List ℕ) → Holds command bytes self.old → StopsAtEnd command bytes stop) }
-    {
-        let (number, said) = match self.cutter.last_line() {
-            None => return Ok(()),
-            Some(line) => (
+        let fed = match self.cutter.next_line() {
+            Cut::More => return Step::More,
+            Cut::TooMany => return Step::Stop(Status::InputTooLong),
+            Cut::TooLong { number } => return Step::Stop(too_long(number)),
+            Cut::Line(line) => feed(
+                self.alloc,
+                &mut self.engine,
+                self.header,
                 line.number,
-                read_line(
-                    self.alloc,
-                    &self.streams,
-                    self.header,
-                    line.number,
-                    line.bytes,
-                ),
+                line.bytes,
             ),
         };
-        self.admit(number, said)
+        match fed {
+            Ok(out) => Step::Out(out),
+            Err(fault) => Step::Stop(status_of(fault)),
+        }
     }
 
-    /// The text of all changes, after the last bytes; where there is a comparison, of the rows that it keeps.
-    pub fn finish(mut self, above: &Option<Above>) -> Result<Vec<u8>, Stop>
-        requires wants { WantsBytes self.cutter }
-        requires fits { IfSome above.now (λ a. a.number < 2 ^ 63) }
-        ensures ok { IfOk result (λ out. (command : SomeCommand) (bytes : List ℕ) → command.above ≡ above.now → Holds command bytes self → Answers command bytes out.items) }
-        ensures err { IfErr result (λ stop. (command : SomeCommand) (bytes : List ℕ) → Holds command bytes self → StopsAtEnd command bytes stop) }
+    /// What is due for the last line, where no LF ends it. The input has ended.
+    pub fn last_line(&mut self) -> Result<Vec<u8>, Status>
+        requires wants { WantsBytes self.old.cutter }
+        ensures ok { IfOk result (λ out. (q : Asked) (bytes : List ℕ) (given : List (List ℕ)) → Holds q bytes given self.old → Ended q bytes ((answers_to q).text given false ++ out.items) self.new) }
+        ensures err { IfErr result (λ status. (q : Asked) (bytes : List ℕ) (given : List (List ℕ)) → Holds q bytes given self.old → IsEnd (answers_to q) status bytes ((answers_to q).text given false) true) }
+        ensures own { IfErr result IsOwn }
     {
-        match self.take_rest() {
-            Ok(()) => {}
-            Err(stop) => return Err(stop),
+        let fed = match self.cutter.last_line() {
+            None => return Ok(Vec::new(self.alloc)),
+            Some(line) => feed(
+                self.alloc,
+                &mut self.engine,
+                self.header,
+                line.number,
+                line.bytes,
+            ),
+        };
+        match fed {
+            Ok(out) => Ok(out),
+            Err(fault) => Err(status_of(fault)),
         }
-        match print_answer(self.alloc, above, self.events) {
-            Ok(text) => Ok(text),
-            Err(Memory) => Err(Stop::Memory),
+    }
+
+    /// What is due at the end, after the last line.
+    pub fn finish(&mut self) -> Result<Vec<u8>, Status>
+        ensures ok { IfOk result (λ out. (q : Asked) (bytes written : List ℕ) → Ended q bytes written self.old → IsDone (answers_to q) bytes (written ++ out.items) true) }
+        ensures err { IfErr result (λ status. (q : Asked) (bytes written : List ℕ) → Ended q bytes written self.old → IsEnd (answers_to q) status bytes written true) }
+        ensures own { IfErr result IsOwn }
+    {
+        match self.engine.finish() {
+            Ok(out) => Ok(out),
+            Err(fault) => Err(status_of(fault)),
         }
     }
 }
 
-/// Why a line of that number that gave no entry ends the run.
-fn refusal(number: u64, fault: &RowFault) -> Stop
-    ensures { result ≡ stop_of number fault.now }
+fn too_long(number: u64) -> Status
+    ensures { result ≡ Status.Malformed number BadLine.TooLong }
 {
-    match fault {
-        RowFault::Bad(cause) => Stop::Refused(Fault::Malformed {
-            line: number,
-            cause: *cause,
-        }),
-        RowFault::Memory => Stop::Memory,
-    }
-}
-
-fn too_long(number: u64) -> Stop
-    ensures { result ≡ Stop.Refused (Fault.Malformed number BadLine.TooLong) }
-{
-    Stop::Refused(Fault::Malformed {
+    Status::Malformed {
         line: number,
         cause: BadLine::TooLong,
-    })
+    }
 }

@@ -1,19 +1,25 @@
 // How a run ends.
 ghost use Rattle.std.specs.Prelude.{◌≡◌};
 
+use plan_model::QueryFault;
 use row_reader::BadLine;
+use tw_rows::Time;
 
-/// How a run ends. The number of a line counts from 1, empty lines too.
+/// How a run ends. The number of a line counts from 1, empty lines and a header too.
 #[derive(Clone, Copy, Debug, PartialEq, Eq)]
 pub enum Status {
-    /// The input was read to its end, and all its changes were written.
+    /// The input was read to its end, and all that it calls for was written; or the plan was.
     Done,
-    /// The words are not `--query`, a query of the form that is read today and, where there is one, `--header`.
+    /// The words are not those of the command.
     BadWords,
+    /// The query is none, or has no plan.
+    BadQuery(QueryFault),
     /// This line is bad.
     Malformed { line: u64, cause: BadLine },
-    /// This line starts or ends an event or is a punctuation, or its interval starts before an earlier one: that is not read today.
-    NotBuilt { line: u64 },
+    /// This line is older than its stream's bound, and late lines are refused.
+    Late { line: u64, time: Time, bound: Time },
+    /// At this punctuation this node has no rows at this time: a group has too many rows, or a sum is too great.
+    Overflow { punct: Time, node: usize, time: Time },
     /// The input has more than 2^40 bytes.
     InputTooLong,
     ReadFault,
@@ -32,12 +38,14 @@ impl Status {
         match self {
             Status::Done => 0,
             Status::BadWords => 2,
+            Status::BadQuery(_) => 3,
             Status::Malformed { .. } => 4,
+            Status::Late { .. } => 5,
+            Status::Overflow { .. } => 6,
             Status::InputTooLong => 7,
             Status::ReadFault => 8,
             Status::WriteFault => 9,
             Status::Memory => 10,
-            Status::NotBuilt { .. } => 11,
         }
     }
 }

@@ -1,0 +1,176 @@
+-- Words ask for one job.
+use Rattle.std.proofs.Common.{◌≡◌, ◌⊎◌, ◌≤◌, ℕ, Bool, true, false, List, [], length, Option, Some, None, Result, Ok, Err, inl, inr, refl, sym, ◌∙◌, ap, ap₂, arith, subst}
+use Rattle.std.specs.Prelude.{codes}
+use Rattle.std.specs.List.{All}
+use Rattle.std.proofs.lemmas.List.Elements.{All-nil}
+use Rattle.clap.specs.Values.{bool_text}
+use Rattle.wire_lines.specs.Journal.{Entry, IsOut, ins, ended, Grows}
+use Rattle.wire_lines.specs.Faults.{Rose}
+use Rattle.wire_lines.specs.Lines.{lines}
+use Rattle.plan_model.specs.IsPlan.{PlanParts}
+use Rattle.plan_model.specs.declared.fault.QueryFault.{QueryFault}
+use Rattle.plan_model.specs.declared.fault.QueryError.{QueryError}
+use Rattle.plan_model.specs.declared.fault.QueryError.TheVariants as errors
+use Rattle.query_text.specs.IsParse.{Spells, IsSmallText, IsTextFault}
+use Rattle.query_text.specs.declared.query.Query.{Query}
+use Rattle.query_text.proofs.OneAnswer.{spelled_or_not, no_fault, one_fault}
+use Rattle.query_text.proofs.Spelled.{one_query}
+use Rattle.query_plan.specs.Planned.{planned}
+use Rattle.command_line.specs.Words.{Asked, SpellsCommand, are_taken, mode_text}
+use Rattle.command_line.specs.declared.words.Mode.{Mode}
+use Rattle.command_line.specs.declared.words.Mode.TheVariants.{Run, Explain}
+use Rattle.command_line.proofs.Spelled.{spelled}
+use Rattle.tempo_cli.specs.Answers.{Answers}
+use Rattle.tempo_cli.specs.Jobs.{HasPlan, HasPlanFault, HasFault, Job, NoWords, NoPlan, Planned, IsJob, Does, DoesMode, HasQueryReason, IsPlanned, policy_of, query_status}
+use Rattle.tempo_cli.specs.Feeding.{IsOwn, IsAsked}
+use Rattle.tempo_cli.specs.Status.{Counts}
+use Rattle.tempo_cli.specs.Table.{limit, Ends}
+use Rattle.tempo_cli.specs.Told.{answers}
+use Rattle.tempo_cli.specs.declared.status.Status.{Status}
+use Rattle.tempo_cli.specs.declared.status.Status.TheVariants.{Done, BadWords, BadQuery, Malformed, Late, Overflow, InputTooLong, ReadFault, WriteFault, Memory}
+use Rattle.tempo_cli.proofs.Journals.{no_memory}
+
+pub plan_once : (text : List ℕ) (p r : PlanParts) → HasPlan text p → HasPlan text r → p ≡ r
+plan_once text p r h k =
+    let same : h.query ≡ k.query = one_query text h.query k.query h.spells k.spells in
+    let e : Ok p ≡ Ok r = sym h.plan_is ∙ (ap planned same ∙ k.plan_is) in
+    cc
+
+pub never_both : (text : List ℕ) (p : PlanParts) (f : QueryFault) → HasPlan text p → HasFault text f → ⊥
+never_both text p f h (inl t) = no_fault text h.query f h.small h.spells t
+never_both text p f h (inr k) =
+    let same : h.query ≡ k.query = one_query text h.query k.query h.spells k.spells in
+    let e : Ok p ≡ Err f = sym h.plan_is ∙ (ap planned same ∙ k.fault_is) in
+    cc
+
+pub fault_once : (text : List ℕ) (f g : QueryFault) → HasFault text f → HasFault text g → f ≡ g
+fault_once text f g (inl h) (inl k) = one_fault text f g h k
+fault_once text f g (inl h) (inr k) = absurd (no_fault text k.query f k.small k.spells h)
+fault_once text f g (inr h) (inl k) = absurd (no_fault text h.query g h.small h.spells k)
+fault_once text f g (inr h) (inr k) =
+    let same : h.query ≡ k.query = one_query text h.query k.query h.spells k.spells in
+    let e : Err f ≡ Err g = sym h.fault_is ∙ (ap planned same ∙ k.fault_is) in
+    cc
+
+-- before anything was done
+pub memory_does : (mode : Mode) (asked : Asked) (plan : PlanParts) → DoesMode mode asked plan Memory []
+memory_does Run asked plan = no_memory (answers plan (policy_of asked) asked.header) refl
+memory_does Explain asked plan = record { outs_alone = All-nil IsOut; told = refl }
+
+-- a run over lines without fault is done, or memory was wanting
+pub complete : (a : Answers) (status : Status) (J : List Entry) (reads reads' writes writes' : ℕ) → Ends a status J → Counts reads reads' writes writes' status →
+    a.fault (lines (ins J) (ended J)) (ended J) ≡ None → length (ins J) ≤ limit → (Rose reads reads' → ⊥) → (Rose writes writes' → ⊥) → (status ≡ Done) ⊎ (status ≡ Memory)
+complete a Done J r r' w w' ends counts none few reads writes = inl refl
+complete a BadWords J r r' w w' ends counts none few reads writes = absurd ends.end
+complete a (BadQuery f) J r r' w w' ends counts none few reads writes = absurd ends.end
+complete a (Malformed line cause) J r r' w w' ends counts none few reads writes = absurd (let e = sym ends.end.first ∙ none in cc)
+complete a (Late line time bound) J r r' w w' ends counts none few reads writes = absurd (let e = sym ends.end.first ∙ none in cc)
+complete a (Overflow punct node time) J r r' w w' ends counts none few reads writes = absurd (let e = sym ends.end.first ∙ none in cc)
+complete a InputTooLong J r r' w w' ends counts none few reads writes = let long = ends.end.long in absurd (omega (arith, long, few))
+complete a ReadFault J r r' w w' ends counts none few reads writes = absurd (reads counts)
+complete a WriteFault J r r' w w' ends counts none few reads writes = absurd (writes counts)
+complete a Memory J r r' w w' ends counts none few reads writes = inr refl
+
+mode_once : (m n : Mode) → mode_text m ≡ mode_text n → m ≡ n
+mode_once Run Run e = refl
+mode_once Run Explain e = cc
+mode_once Explain Run e = cc
+mode_once Explain Explain e = refl
+
+flag_once : (b d : Bool) → bool_text b ≡ bool_text d → b ≡ d
+flag_once true true e = refl
+flag_once true false e = cc
+flag_once false true e = cc
+flag_once false false e = refl
+
+some_once : {X : Type 0} (t : Option X) (a b : X) → t ≡ Some a → t ≡ Some b → a ≡ b
+some_once t a b p q = let e : Some a ≡ Some b = sym p ∙ q in cc
+
+-- words spell one command
+pub one_command : (words : List (List ℕ)) (a b : Asked) → SpellsCommand words a → SpellsCommand words b → a ≡ b
+one_command words a b p q =
+    let query : a.query ≡ b.query = some_once _ a.query b.query p.query q.query in
+    let mode : a.mode ≡ b.mode = mode_once a.mode b.mode (some_once _ (mode_text a.mode) (mode_text b.mode) p.mode q.mode) in
+    let batch : a.batch ≡ b.batch = some_once _ a.batch b.batch p.batch q.batch in
+    let header : a.header ≡ b.header = flag_once a.header b.header (some_once _ (bool_text a.header) (bool_text b.header) p.header q.header) in
+    let one : a ≡ record { query = b.query; mode = a.mode; batch = a.batch; header = a.header } = ap (λ (n : List ℕ). let x : Asked = record { query = n; mode = a.mode; batch = a.batch; header = a.header } in x) query in
+    let two : record { query = b.query; mode = a.mode; batch = a.batch; header = a.header } ≡ record { query = b.query; mode = b.mode; batch = a.batch; header = a.header } = ap (λ (n : Mode). let x : Asked = record { query = b.query; mode = n; batch = a.batch; header = a.header } in x) mode in
+    let three : record { query = b.query; mode = b.mode; batch = a.batch; header = a.header } ≡ record { query = b.query; mode = b.mode; batch = b.batch; header = a.header } = ap (λ (n : ℕ). let x : Asked = record { query = b.query; mode = b.mode; batch = n; header = a.header } in x) batch in
+    one ∙ (two ∙ (three ∙ ap (λ (n : Bool). let x : Asked = record { query = b.query; mode = b.mode; batch = b.batch; header = n } in x) header))
+
+-- what was done for the command that the words spell was done for the job that they ask for
+pub does_of : {a b : Option (List Entry)} (words : List (List ℕ)) (asked : Asked) (status : Status) → SpellsCommand words asked →
+    ((plan : PlanParts) → HasPlan asked.query plan → Grows a b (DoesMode asked.mode asked plan status)) →
+    ((fault : QueryFault) → HasFault asked.query fault → Grows a b (λ J. (J ≡ []) × ((status ≡ BadQuery fault) ⊎ (status ≡ Memory)))) →
+    (job : Job) → IsJob words job → Grows a b (Does job status)
+does_of {a} {b} words asked status spells with_plan without NoWords is = absurd (let e : true ≡ false = sym spells.taken ∙ is in cc)
+does_of {a} {b} words asked status spells with_plan without (NoPlan other fault) is =
+    without fault (subst (λ (x : Asked). HasFault x.query fault) (one_command words other asked is.0 spells) is.1)
+does_of {a} {b} words asked status spells with_plan without (Planned other plan) is =
+    let same : other ≡ asked = one_command words other asked is.0 spells in
+    subst (λ (x : Asked). Grows a b (DoesMode x.mode x plan status)) (sym same) (with_plan plan (subst (λ (x : Asked). HasPlan x.query plan) same is.1))
+
+-- a text has a plan or a fault, and words ask for a job
+query_job : (text : List ℕ) → ((plan : PlanParts) × HasPlan text plan) ⊎ ((fault : QueryFault) × HasFault text fault)
+query_job text = go (spelled_or_not text)
+  where
+    by_plan : (small : IsSmallText text) (q : Query) → Spells text q → (r : Result PlanParts QueryFault) → planned q ≡ r → ((plan : PlanParts) × HasPlan text plan) ⊎ ((fault : QueryFault) × HasFault text fault)
+    by_plan small q spells (Ok plan) is = inl (plan, record { small = small; query = q; spells = spells; plan_is = is })
+    by_plan small q spells (Err fault) is = inr (fault, inr (record { small = small; query = q; spells = spells; fault_is = is }))
+
+    go : (IsSmallText text × (q : Query) × Spells text q) ⊎ ((fault : QueryFault) × IsTextFault text fault) → ((plan : PlanParts) × HasPlan text plan) ⊎ ((fault : QueryFault) × HasFault text fault)
+    go (inl s) = by_plan s.0 s.1 s.2 (planned s.1) refl
+    go (inr f) = inr (f.0, inl f.1)
+
+pub some_job : (words : List (List ℕ)) → (job : Job) × IsJob words job
+some_job words = go (are_taken words) refl
+  where
+    by_query : (asked : Asked) → SpellsCommand words asked → ((plan : PlanParts) × HasPlan asked.query plan) ⊎ ((fault : QueryFault) × HasFault asked.query fault) → (job : Job) × IsJob words job
+    by_query asked spells (inl p) = (Planned asked p.0, (spells, p.1))
+    by_query asked spells (inr f) = (NoPlan asked f.0, (spells, f.1))
+
+    go : (b : Bool) → are_taken words ≡ b → (job : Job) × IsJob words job
+    go false e = (NoWords, e)
+    go true e = let s = spelled words e in by_query s.asked s.spells (query_job s.asked.query)
+
+-- and for one alone
+pub one_job : (words : List (List ℕ)) (j k : Job) → IsJob words j → IsJob words k → j ≡ k
+one_job words NoWords NoWords h k = refl
+one_job words NoWords (NoPlan a f) h k = absurd (let e : true ≡ false = sym k.0.taken ∙ h in cc)
+one_job words NoWords (Planned a p) h k = absurd (let e : true ≡ false = sym k.0.taken ∙ h in cc)
+one_job words (NoPlan a f) NoWords h k = absurd (let e : true ≡ false = sym h.0.taken ∙ k in cc)
+one_job words (Planned a p) NoWords h k = absurd (let e : true ≡ false = sym h.0.taken ∙ k in cc)
+one_job words (NoPlan a f) (NoPlan b g) h k =
+    let same : a ≡ b = one_command words a b h.0 k.0 in
+    ap₂ (λ x y. NoPlan x y) same (fault_once b.query f g (subst (λ (x : Asked). HasFault x.query f) same h.1) k.1)
+one_job words (Planned a p) (Planned b r) h k =
+    let same : a ≡ b = one_command words a b h.0 k.0 in
+    ap₂ (λ x y. Planned x y) same (plan_once b.query p r (subst (λ (x : Asked). HasPlan x.query p) same h.1) k.1)
+one_job words (NoPlan a f) (Planned b p) h k =
+    absurd (never_both b.query p f k.1 (subst (λ (x : Asked). HasFault x.query f) (one_command words a b h.0 k.0) h.1))
+one_job words (Planned a p) (NoPlan b f) h k =
+    absurd (never_both b.query p f (subst (λ (x : Asked). HasPlan x.query p) (one_command words a b h.0 k.0) h.1) k.1)
+
+-- statuses of the session
+pub own_asked : (status : Status) → IsOwn status → IsAsked status
+own_asked BadWords own = own
+own_asked (BadQuery f) own = own
+own_asked status own = tt
+
+pub asked_reason : (text : List ℕ) (status : Status) → IsAsked status → HasQueryReason text status
+asked_reason text BadWords is = is
+asked_reason text (BadQuery f) is = absurd is
+asked_reason text status is = tt
+
+-- a query without a plan
+pub failed_planned : (text : List ℕ) (e : QueryError) (mode : Mode) (asked : Asked) (plan : PlanParts) → IsPlanned text (Err e) → HasPlan text plan → DoesMode mode asked plan (query_status e) []
+failed_planned text (errors.Fault f) mode asked plan is h = absurd (never_both text plan f h is)
+failed_planned text errors.Memory mode asked plan is h = memory_does mode asked plan
+
+pub failed_unplanned : (text : List ℕ) (e : QueryError) (fault : QueryFault) → IsPlanned text (Err e) → HasFault text fault → (query_status e ≡ BadQuery fault) ⊎ (query_status e ≡ Memory)
+failed_unplanned text (errors.Fault f) fault is h = inl (ap (λ x. BadQuery x) (fault_once text f fault is h))
+failed_unplanned text errors.Memory fault is h = inr refl
+
+pub failed_reason : (text : List ℕ) (e : QueryError) → IsPlanned text (Err e) → HasQueryReason text (query_status e)
+failed_reason text (errors.Fault f) is = is
+failed_reason text errors.Memory is = tt

@@ -1,0 +1,126 @@
+-- What the answers of a cutter say of the table, for any faults and any text.
+use Rattle.std.proofs.Common.{◌≡◌, ◌≤◌, ◌<◌, ◌-◌, ◌+◌, ℕ, List, [], ◌∷◌, ◌++◌, length, take, Bool, true, false, Option, Some, None, refl, sym, ◌∙◌, ap, arith, append_assoc, subst}
+use Rattle.std.specs.Prelude.{IsTrue}
+use Rattle.std.specs.List.{All}
+use Rattle.std.proofs.lemmas.List.{append-nil, length-append}
+use Rattle.std.proofs.lemmas.List.Elements.{All-take}
+use Rattle.std.proofs.Math.Seq.{take-append_seam}
+use Rattle.wire_lines.specs.Lines.{HasNoLf, IsOneLine, line_len, whole, rest, lines, joined}
+use Rattle.wire_lines.specs.Cutter.{CutterState, Overlong}
+use Rattle.wire_lines.specs.Next.{next, after_next}
+use Rattle.wire_lines.specs.Cuts.{Cuts, GivesLine, FindsTooLong, FindsTooMany, HasGivenAll}
+use Rattle.wire_lines.proofs.Cutting.{lines_go_on, lines_long}
+use Rattle.wire_lines.proofs.CutsFacts.{lines_so_far, tells_too_long}
+use Rattle.wire_lines.proofs.NextFacts.{overlong}
+use Rattle.wire_lines.proofs.Limits.{after_next-longest, after_next-total}
+use Rattle.admission.specs.Progress.{Fault}
+use Rattle.tempo_cli.specs.Answers.{Answers, IsFinal, IsFront}
+use Rattle.tempo_cli.specs.Feeding.{Within}
+use Rattle.tempo_cli.specs.Table.{limit, IsDone, IsRefused, IsTooLong, IsCutOff, IsShort}
+use Rattle.tempo_cli.proofs.Lines.{lines_are_free, lines_within, lines_long_within}
+
+-- before the first byte
+pub within_none : (a : Answers) (c : CutterState) → c.longest ≡ 65536 → c.total ≡ limit → Cuts [] c [] → a.fault [] false ≡ None → Within a [] [] c
+within_none a c longest total cuts fine = record { longest = longest; total = total; cuts = cuts; fine = fine }
+
+module _ {a : Answers} {bytes : List ℕ} {given : List (List ℕ)} {c : CutterState} (w : Within a bytes given c) where
+  -- a piece was fed
+  pub within_fed : (piece : List ℕ) → Cuts (bytes ++ piece) (record c { rest = c.rest ++ piece; hungry = false }) given → Within a (bytes ++ piece) given (record c { rest = c.rest ++ piece; hungry = false })
+  within_fed piece cuts = record { longest = w.longest; total = w.total; cuts = cuts; fine = w.fine }
+
+  -- a line was taken
+  pub within_more : (number : ℕ) (line : List ℕ) → GivesLine bytes c given number line → a.fault (given ++ line ∷ []) false ≡ None → Within a bytes (given ++ line ∷ []) (after_next c)
+  within_more number line g fine = record { longest = after_next-longest c ∙ w.longest; total = after_next-total c ∙ w.total; cuts = g.after; fine = fine }
+
+  -- all lines were
+  pub within_all : HasGivenAll bytes c given → Within a bytes given (after_next c)
+  within_all g = record { longest = after_next-longest c ∙ w.longest; total = after_next-total c ∙ w.total; cuts = g.after; fine = w.fine }
+
+  lines_after : (ended : Bool) → lines bytes ended ≡ given ++ lines c.rest ended
+  lines_after ended = lines_go_on bytes c.rest given ended w.cuts.all w.cuts.each
+
+  given_low : length (joined given) ≤ limit
+  given_low = omega (arith, w.cuts.passed_is, w.cuts.fits, w.total)
+
+  -- while the input goes on, the lines are those that were given
+  pub lines_are : IsTrue c.hungry → lines bytes false ≡ given
+  lines_are hungry =
+      let settled = w.cuts.settled hungry in
+      lines_so_far bytes c given w.cuts settled.one_line (omega (arith, settled.short, w.longest))
+
+  pub few_bytes : IsTrue c.hungry → length bytes ≤ limit
+  few_bytes hungry = let settled = w.cuts.settled hungry in omega (arith, settled.few, w.total)
+
+  -- memory was wanting
+  pub short : (ended : Bool) → IsShort a bytes (a.text given false) ended
+  short ended = record {
+    k = length given;
+    few = omega (arith, ap length (lines_after ended), length-append given (lines c.rest ended));
+    written = ap (λ ls. a.text ls false) (sym (ap (take (length given)) (lines_after ended) ∙ take-append_seam given (lines c.rest ended)));
+  }
+
+  -- more bytes came than may
+  pub too_many : FindsTooMany bytes c given → length bytes ≤ limit + 1 → IsTooLong a bytes (a.text given false)
+  too_many found few =
+      let more : limit < length bytes = rw (← w.total) found.more in
+      let all : whole (take limit bytes) ≡ given = rw (← w.total) found.whole_are in
+      record {
+        long = omega arith;
+        short = rw (← w.total, ← w.longest) found.short;
+        no_fault = ap (λ ls. a.fault ls false) all ∙ w.fine;
+        written = ap (λ ls. a.text ls false) (sym all);
+      }
+
+  -- no call of the wire failed, and the input has ended
+  pub cut_off : IsTrue c.hungry → IsCutOff a bytes (a.text given false) false
+  cut_off hungry = record { goes_on = refl; no_fault = ap (λ ls. a.fault ls false) (lines_are hungry) ∙ w.fine; written = ap (λ ls. a.text ls false) (sym (lines_are hungry)) }
+
+  module _ (final : IsFinal a) where
+    line_is_free : (line : List ℕ) (others : List (List ℕ)) (ended : Bool) → lines bytes ended ≡ given ++ line ∷ others → All HasNoLf ((given ++ line ∷ []) ++ others)
+    line_is_free line others ended e = subst (All HasNoLf) (e ∙ sym (append_assoc given (line ∷ []) others)) (lines_are_free bytes ended)
+
+    front_free : (xs ys : List (List ℕ)) → All HasNoLf (xs ++ ys) → All HasNoLf xs
+    front_free xs ys h = subst (All HasNoLf) (take-append_seam xs ys) (All-take HasNoLf (length xs) (xs ++ ys) h)
+
+    -- the line has a fault, among the first bytes and among all
+    refused_by : (line line' : List ℕ) (others others' : List (List ℕ)) (ended : Bool) (f : Fault) → lines bytes ended ≡ given ++ line ∷ others →
+        lines (take limit bytes) ended ≡ given ++ line' ∷ others' → a.fault (given ++ line ∷ []) false ≡ Some f → a.fault (given ++ line' ∷ []) false ≡ Some f →
+        IsRefused a bytes (a.text given false) ended f
+    refused_by line line' others others' ended f e e' is is' =
+        let all : lines bytes ended ≡ (given ++ line ∷ []) ++ others = e ∙ sym (append_assoc given (line ∷ []) others) in
+        let all' : lines (take limit bytes) ended ≡ (given ++ line' ∷ []) ++ others' = e' ∙ sym (append_assoc given (line' ∷ []) others') in
+        record {
+          within = ap (λ ls. a.fault ls ended) all' ∙ final.stays (given ++ line' ∷ []) others' ended f is';
+          first = ap (λ ls. a.fault ls ended) all ∙ final.stays (given ++ line ∷ []) others ended f is;
+          written = sym (ap (λ ls. a.text ls ended) all ∙ (final.text_stays (given ++ line ∷ []) others ended f is ∙ final.no_more given line f (front_free (given ++ line ∷ []) others (line_is_free line others ended e)) w.fine is));
+        }
+
+    pub refused : (number : ℕ) (line : List ℕ) (f : Fault) → GivesLine bytes c given number line → a.fault (given ++ line ∷ []) false ≡ Some f → (ended : Bool) → IsRefused a bytes (a.text given false) ended f
+    refused number line f g is ended =
+        let others = g.among_lines ended in
+        let cuts = g.after in
+        let low : length (joined (given ++ line ∷ [])) ≤ limit = omega (arith, cuts.passed_is, cuts.fits, after_next-total c, w.total) in
+        let within = lines_within bytes (after_next c).rest (given ++ line ∷ []) ended cuts.all cuts.each low in
+        refused_by line line others.0 _ ended f others.1 (within ∙ append_assoc given (line ∷ []) _) is is
+
+    pub refused_long : (number : ℕ) (f : Fault) → Overlong number ≡ next c → ((line : List ℕ) → 65536 < length line → a.fault (given ++ line ∷ []) false ≡ Some f) →
+        (ended : Bool) → IsRefused a bytes (a.text given false) ended f
+    refused_long number f is bad ended =
+        let over = overlong c number is in
+        let found = tells_too_long bytes c given number is w.cuts in
+        let others = found.among_lines (omega (arith, w.longest)) ended in
+        let room : 65536 < limit - length (joined given) = omega (arith, over.long, w.longest, w.total, w.cuts.passed_is) in
+        let line_long : 65536 < line_len c.rest = omega (arith, over.long, w.longest) in
+        let here = lines_long_within c.rest (limit - length (joined given)) ended room line_long in
+        refused_by found.line here.0 others.0 here.1 ended f others.1
+        (lines_within bytes c.rest given ended w.cuts.all w.cuts.each given_low ∙ ap (λ ls. given ++ ls) here.2)
+        (bad found.line (omega (arith, found.long, w.longest))) (bad here.0 here.3)
+
+    -- a front of what became due last went out
+    pub some_written : (before out front : List ℕ) → a.text given false ≡ before ++ out → IsFront front out → (ended : Bool) → IsFront (before ++ front) (a.text (lines bytes ended) ended)
+    some_written before out front grows some ended =
+        let all = lines_after ended in
+        let fin = final.front given (lines c.rest ended) ended (subst (All HasNoLf) all (lines_are_free bytes ended)) in
+        (some.0 ++ fin.0,
+            ap (λ ls. a.text ls ended) all ∙ (fin.1 ∙ (ap (λ x. x ++ fin.0) (grows ∙ ap (λ x. before ++ x) some.1)
+            ∙ (append_assoc before (front ++ some.0) fin.0 ∙ (ap (λ x. before ++ x) (append_assoc front some.0 fin.0) ∙ sym (append_assoc before front (some.0 ++ fin.0)))))))

@@ -1,0 +1,62 @@
+use Rattle.std.proofs.Common.{◌≡◌, ◌++◌, ◌∷◌, [], List, ℕ, true, false, refl, sym, ◌∙◌, ap, append_assoc, subst}
+use Rattle.std.proofs.lemmas.List.Elements.{All-append}
+use Rattle.wire_lines.specs.Journal.{IsOut, outs}
+use Rattle.wire_lines.proofs.Growth.{Grows-weaker, outs-append}
+use Rattle.tempo_cli.specs.Answers.{IsFront}
+use Rattle.tempo_cli.specs.Feeding.{answers_to}
+use Rattle.tempo_cli.specs.Table.{IsEnd}
+use Rattle.wire_lines.specs.Lines.{lines}
+use Rattle.tempo_cli.proofs.Final.{answers_final}
+use Rattle.tempo_cli.proofs.Moves.{some_written}
+use Rattle.tempo_cli.proofs.Journals.{Grows-then, own_counts}
+use Rattle.tempo_cli.proofs.Jobs.{own_asked}
+use Rattle.tempo_cli.proofs.answer.work.Goals as goal
+
+pub returns-in-More-clause-ok : goal.returns-in-More-clause-ok
+returns-in-More-clause-ok g c = λ q bytes given h few. Grows-weaker (c.loop-status.invariant.3 q bytes given h few) (λ O w. record {
+  outs_alone = w.outs_alone;
+  more = w.more;
+  holds = c.in-More.ensures.comes q bytes w.more w.holds few;
+  grown = w.grown;
+})
+
+pub returns-in-Stop-clause-err : goal.returns-in-Stop-clause-err
+returns-in-Stop-clause-err g c = λ q bytes given h few. Grows-weaker (c.loop-status.invariant.3 q bytes given h few) (λ O w. record {
+  outs_alone = w.outs_alone;
+  end = λ ended. subst (λ x. IsEnd (answers_to q) c.in-Stop.status bytes x ended) w.grown (c.in-Stop.ensures.comes q bytes w.more w.holds few ended);
+})
+
+pub returns-in-Stop-clause-counts : goal.returns-in-Stop-clause-counts
+returns-in-Stop-clause-counts g c = own_counts _ _ _ _ c.in-Stop.status c.in-Stop.ensures.own c.loop-status.invariant.1 c.loop-status.invariant.2
+
+-- what was written before, and then some more
+joined : (x y z bytes : List ℕ) (o : List ℕ) → y ≡ x ++ z → IsFront (y ++ o) bytes → IsFront (x ++ (z ++ o)) bytes
+joined x y z bytes o e f = subst (λ t. IsFront t bytes) (ap (λ t. t ++ o) e ∙ append_assoc x z o) f
+
+pub returns-in-Err-clause-err : goal.returns-in-Err-clause-err
+returns-in-Err-clause-err g c = λ q bytes given h few. Grows-then (c.loop-status.invariant.3 q bytes given h few) (λ O w. c.in-Err.ensures.err) (λ O K w s.
+    let comes = c.in-Out.ensures.comes q bytes w.more w.holds few in
+    record {
+      outs_alone = All-append IsOut O K w.outs_alone s.outs_alone;
+      end = λ ended. rw outs-append (joined ((answers_to q).text given false) ((answers_to q).text w.more false) (outs O) ((answers_to q).text (lines bytes ended) ended) (outs K) w.grown
+          (some_written comes.1.within (answers_final q comes.1.engine.took.sound) ((answers_to q).text w.more false) c.in-Out.out.items (outs K) comes.2 (s.after, sym c.deref.ensures.value ∙ s.front) ended));
+    })
+
+pub loop-status-preserved : goal.loop-status-preserved
+loop-status-preserved g c = (
+  c.in-Out.ensures.longest,
+  c.in-Ok.ensures.other.same ∙ c.loop-status.invariant.1,
+  c.in-Ok.ensures.cause.same ∙ c.loop-status.invariant.2,
+  λ q bytes given h few. Grows-then (c.loop-status.invariant.3 q bytes given h few) (λ O w. c.in-Ok.ensures.ok) (λ O K w s.
+      let comes = c.in-Out.ensures.comes q bytes w.more w.holds few in
+      record {
+        outs_alone = All-append IsOut O K w.outs_alone s.outs_alone;
+        more = w.more ++ comes.0 ∷ [];
+        holds = comes.1;
+        grown = comes.2 ∙ (ap (λ x. x ++ c.in-Out.out.items) w.grown ∙ (append_assoc ((answers_to q).text given false) (outs O) c.in-Out.out.items
+            ∙ ap (λ x. (answers_to q).text given false ++ x) (ap (λ y. outs O ++ y) (sym (s.all ∙ c.deref.ensures.value)) ∙ sym (outs-append O K))));
+      }),
+)
+
+pub returns-in-Stop-clause-asked : goal.returns-in-Stop-clause-asked
+returns-in-Stop-clause-asked g c = own_asked c.in-Stop.status c.in-Stop.ensures.own

@@ -1,0 +1,5 @@
+use Rattle.tempo_cli.proofs.Stopping.{end_stops}
+use Rattle.tempo_cli.proofs.session.Session.finish.Goals as goal
+
+pub returns-in-Err-clause-err : goal.returns-in-Err-clause-err
+returns-in-Err-clause-err c = λ q bytes written e. rw c.status_of.ensures.status (end_stops q bytes written c.args.self.now e c.in-Err.fault (c.in-Err.ensures.fault q.plan q.policy e.engine.fed e.engine.took))

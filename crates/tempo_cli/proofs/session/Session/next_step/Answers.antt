@@ -1,0 +1,67 @@
+use Rattle.std.proofs.Common.{◌≡◌, ◌≤◌, ◌+◌, ◌∷◌, ◌++◌, [], ℕ, length, refl, sym, ◌∙◌, ap, arith}
+use Rattle.wire_lines.specs.Lines.{line_len}
+use Rattle.wire_lines.proofs.Cutting.{free_take, HasNoLf-one_line}
+use Rattle.wire_lines.proofs.CutsFacts.{tells_line, tells_too_long, tells_too_many, tells_all}
+use Rattle.wire_lines.proofs.LineLength.{line_len-le}
+use Rattle.wire_lines.proofs.Limits.{after_next-longest}
+use Rattle.wire_lines.proofs.NextFacts.{given, wanting}
+use Rattle.std.proofs.lemmas.List.{length-take}
+use Rattle.tempo_cli.proofs.Fed.{took_fine, long_fault}
+use Rattle.tempo_cli.proofs.Final.{answers_final}
+use Rattle.tempo_cli.proofs.Moves.{within_all, within_more, too_many, refused_long}
+use Rattle.tempo_cli.proofs.Stopping.{line_stops}
+use Rattle.tempo_cli.proofs.session.Session.next_step.Goals as goal
+
+pub returns-in-More-clause-comes : goal.returns-in-More-clause-comes
+returns-in-More-clause-comes c = λ q bytes lines h few. rw c.next_line.follows.holds-at-none (record {
+  header = h.header;
+  within = within_all h.within (tells_all bytes c.args.self.now.cutter lines c.in-More.ensures.value h.within.cuts);
+  engine = h.engine;
+})
+
+pub returns-in-More-clause-wants : goal.returns-in-More-clause-wants
+returns-in-More-clause-wants c = λ e.
+    let w = wanting c.args.self.now.cutter c.in-More.ensures.value in
+    rw (c.next_line.follows.holds-at-none, w.after) (record {
+      longest = c.requires.longest;
+      hungry = refl;
+      one_line = omega (arith, w.no_line, line_len-le c.args.self.now.cutter.rest);
+      short = omega (arith, w.no_line, line_len-le c.args.self.now.cutter.rest, w.short, w.room, c.requires.longest);
+    })
+
+pub returns-in-TooMany-clause-comes : goal.returns-in-TooMany-clause-comes
+returns-in-TooMany-clause-comes c = λ q bytes lines h few ended. too_many h.within (tells_too_many bytes c.args.self.now.cutter lines c.in-TooMany.ensures.value h.within.cuts) few
+
+pub returns-in-TooLong-clause-comes : goal.returns-in-TooLong-clause-comes
+returns-in-TooLong-clause-comes c = λ q bytes lines h few ended.
+    let found = tells_too_long bytes c.args.self.now.cutter lines c.in-TooLong.number c.in-TooLong.ensures.value h.within.cuts in
+    rw c.too_long.ensures (refused_long h.within (answers_final q h.engine.took.sound) c.in-TooLong.number _ c.in-TooLong.ensures.value
+    (λ line long. long_fault q lines line c.in-TooLong.number c.args.self.now.engine h.engine found.number_is long) ended)
+
+pub feed-fed-requires-clause-short : goal.feed-fed-requires-clause-short
+feed-fed-requires-clause-short c =
+    let s = c.args.self.now.cutter in
+    let g = given s c.in-Line.line.number c.in-Line.line.bytes.now c.in-Line.ensures.value in
+    omega (arith, ap length g.bytes_is, length-take (line_len s.rest) s.rest, g.not_long, g.room, g.within, c.requires.longest)
+
+pub feed-fed-requires-clause-no_feed : goal.feed-fed-requires-clause-no_feed
+feed-fed-requires-clause-no_feed c =
+    let g = given c.args.self.now.cutter c.in-Line.line.number c.in-Line.line.bytes.now c.in-Line.ensures.value in
+    HasNoLf-one_line c.in-Line.line.bytes.now (rw g.bytes_is (free_take c.args.self.now.cutter.rest))
+
+pub returns-in-Ok-clause-comes : goal.returns-in-Ok-clause-comes
+returns-in-Ok-clause-comes c = λ q bytes lines h few.
+    let line = c.in-Line.line.bytes.now in
+    let g = tells_line bytes c.args.self.now.cutter lines c.in-Line.line.number line c.in-Line.ensures.value h.within.cuts in
+    let took = c.in-Ok.ensures.took q lines (sym h.header) g.number_is h.engine in
+    (line, rw c.next_line.follows.holds-at-none (record {
+      header = h.header;
+      within = within_more h.within c.in-Line.line.number line g (took_fine q (lines ++ line ∷ []) _ took);
+      engine = took;
+    }), c.in-Ok.ensures.text q lines (sym h.header) g.number_is h.engine)
+
+pub returns-in-Err-clause-comes : goal.returns-in-Err-clause-comes
+returns-in-Err-clause-comes c = λ q bytes lines h few ended.
+    let line = c.in-Line.line.bytes.now in
+    let g = tells_line bytes c.args.self.now.cutter lines c.in-Line.line.number line c.in-Line.ensures.value h.within.cuts in
+    rw c.status_of.ensures.status (line_stops h.within (answers_final q h.engine.took.sound) c.in-Line.line.number line c.in-Err.fault g (c.in-Err.ensures.fault q lines (sym h.header) g.number_is h.engine) ended)
