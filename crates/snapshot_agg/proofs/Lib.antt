@@ -1,0 +1,9 @@
+pub mod Kept
+pub mod Lists
+pub mod Totaling
+pub mod PuttingOff
+pub mod Rerunning
+pub mod Sweeping
+pub mod Undefining
+pub mod Stepping
+pub mod Examples

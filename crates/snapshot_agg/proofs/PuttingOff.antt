@@ -1,0 +1,94 @@
+-- Edges that are put to those that wait, and taken out again.
+use Rattle.std.specs.Prelude.{◌≡◌, ℕ, ◌+◌, ◌<◌, ◌≤◌, ◌⊎◌, ◌↔◌, IsTrue, nat_eq, nat_lt, nat_le, Bool, true, false, cond, List, [], ◌∷◌, ◌++◌, All, refl}
+use Rattle.std.proofs.Common.{inl, inr, sym, ◌∙◌, ap, subst, arith}
+use Rattle.std.proofs.lemmas.Bool.{cases_lt}
+use Rattle.std.proofs.lemmas.Bool.Decides.{nat_tests}
+use Rattle.std.proofs.lemmas.List.Elements.{All-head, All-tail}
+use Rattle.tw_rows.specs.Bag.{total}
+use Rattle.tw_rows.specs.declared.edge.Edge.{Edge}
+use Rattle.tw_rows.proofs.Bags.{total-append, total-map}
+use Rattle.edge_history.specs.Order.{failing, is_from, is_below}
+use Rattle.edge_history.specs.Opens.{singles, singles_of}
+use Rattle.end_queue.specs.Pending.{Pending, put_pending}
+use Rattle.snapshot_agg.specs.Waiting.{edges_in, WaitForThemselves}
+
+-- one entry more
+pub total-put_pending : (v : Pending → ℕ) (p : Pending) (ps : List Pending) → total v (put_pending p ps) ≡ v p + total v ps
+total-put_pending v p [] = refl
+total-put_pending v p (q ∷ qs) = pick (nat_lt p.at q.at) (total-put_pending v p qs)
+  where
+    pick : (b : Bool) → total v (put_pending p qs) ≡ v p + total v qs → total v (cond b (p ∷ q ∷ qs) (q ∷ put_pending p qs)) ≡ v p + total v (q ∷ qs)
+    pick true h = refl
+    pick false h = omega (arith, h)
+
+pub edges_put : (w : Edge → ℕ) (old new : List Pending) (at : ℕ) (e : Edge) → new ≡ put_pending (record { at = at; edge = e }) old →
+    total w (edges_in new) ≡ total w (edges_in old) + w e
+edges_put w old new at e is =
+    let a = total-map w (λ (p : Pending). p.edge) new in
+    let b = total-map w (λ (p : Pending). p.edge) old in
+    let c = ap (total (λ (p : Pending). w p.edge)) is ∙ total-put_pending (λ p. w p.edge) (record { at = at; edge = e }) old in
+    omega (arith, a, b, c)
+
+own_test : (at s : ℕ) → at ≡ s → cond {A = ℕ} (nat_eq at s) 0 1 ≡ 0
+own_test at s h = grind (arith, nat_tests)
+
+pub own_put : (old new : List Pending) (at : ℕ) (e : Edge) → new ≡ put_pending (record { at = at; edge = e }) old → at ≡ e.sync → WaitForThemselves old → WaitForThemselves new
+own_put old new at e is same h =
+    let c = ap (total (λ (p : Pending). cond (nat_eq p.at p.edge.sync) 0 1)) is ∙ total-put_pending (λ p. cond (nat_eq p.at p.edge.sync) 0 1) (record { at = at; edge = e }) old in
+    let z = own_test at e.sync same in
+    omega (arith, c, z, h)
+
+from_test : (t s : ℕ) → t ≤ s → cond {A = ℕ} (nat_le t s) 0 1 ≡ 0
+from_test t s h = grind (arith, nat_tests)
+
+below_test : (t s : ℕ) → s < t → cond {A = ℕ} (nat_lt s t) 0 1 ≡ 0
+below_test t s h = grind (arith, nat_tests)
+
+pub later_put : (to : ℕ) (old new : List Pending) (at : ℕ) (e : Edge) → new ≡ put_pending (record { at = at; edge = e }) old → to ≤ e.sync →
+    failing (is_from to) (edges_in old) ≡ 0 → failing (is_from to) (edges_in new) ≡ 0
+later_put to old new at e is low h =
+    let a = edges_put (λ x. cond (is_from to x) 0 1) old new at e is in
+    let z = from_test to e.sync low in
+    omega (arith, a, z, h)
+
+pub pushed : {X : Type 0} (w : X → ℕ) (xs ys : List X) (x : X) → ys ≡ xs ++ x ∷ [] → total w ys ≡ total w xs + w x
+pushed w xs ys x e = let a = ap (total w) e in let b = total-append w xs (x ∷ []) in omega (arith, a, b)
+
+pub below_push : (to : ℕ) (xs ys : List Edge) (e : Edge) → ys ≡ xs ++ e ∷ [] → e.sync < to → failing (is_below to) xs ≡ 0 → failing (is_below to) ys ≡ 0
+below_push to xs ys e is low h =
+    let a = pushed (λ x. cond {A = ℕ} (is_below to x) 0 1) xs ys e is in
+    let z = below_test to e.sync low in
+    omega (arith, a, z, h)
+
+-- the first entry is taken out
+own_first : (at s n : ℕ) → cond {A = ℕ} (nat_eq at s) 0 1 + n ≡ 0 → at ≡ s
+own_first at s n h = grind (arith, nat_tests)
+
+pub popped_own : (p : Pending) (old new : List Pending) → old ≡ p ∷ new → WaitForThemselves old → WaitForThemselves new × (p.edge.sync ≡ p.at)
+popped_own p old new is h =
+    let z : WaitForThemselves (p ∷ new) = subst WaitForThemselves is h in
+    (omega (arith, z), sym (own_first p.at p.edge.sync _ z))
+
+pub popped_edges : (w : Edge → ℕ) (p : Pending) (old new : List Pending) → old ≡ p ∷ new → total w (edges_in old) ≡ w p.edge + total w (edges_in new)
+popped_edges w p old new is = ap (λ l. total w (edges_in l)) is
+
+-- where no entry is due, no edge is
+pub none_due : (to : ℕ) (ps : List Pending) → WaitForThemselves ps → All (λ p. to ≤ p.at) ps → failing (is_from to) (edges_in ps) ≡ 0
+none_due to [] h a = refl
+none_due to (p ∷ ps) h a =
+    let e = own_first p.at p.edge.sync _ h in
+    let low = All-head (λ (q : Pending). to ≤ q.at) p ps a in
+    let z = from_test to p.edge.sync (omega (arith, e, low)) in
+    let r = none_due to ps (omega (arith, h)) (All-tail (λ (q : Pending). to ≤ q.at) p ps a) in
+    omega (arith, z, r)
+
+pub not_due : (b : Bool) (s t : ℕ) → IsTrue b ↔ (s < t) → b ≡ false → t ≤ s
+not_due b s t h e = pick (cases_lt s t)
+  where
+    pick : (s < t) ⊎ (t ≤ s) → t ≤ s
+    pick (inl low) = let z = sym (h.1 low) ∙ e in absurd (cc)
+    pick (inr low) = low
+
+-- the edge that is read next
+pub singles_next : (w : Edge → ℕ) (e : Edge) (old new : List Edge) → old ≡ e ∷ new → total w (singles old) ≡ total w (singles_of e) + total w (singles new)
+singles_next w e old new is = ap (λ l. total w (singles l)) is ∙ total-append w (singles_of e) (singles new)

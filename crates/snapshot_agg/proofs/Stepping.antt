@@ -1,0 +1,86 @@
+-- A whole step of a group, in the form in which code has it.
+use Rattle.std.specs.Prelude.{◌≡◌, ℕ, ◌+◌, ◌≤◌, Option, Some, None, List, [], ◌++◌, refl}
+use Rattle.std.proofs.Common.{sym, ◌∙◌, ap, subst, arith}
+use Rattle.tw_rows.specs.Instant.{inf}
+use Rattle.tw_rows.specs.Bag.{total}
+use Rattle.tw_rows.specs.Event.{alive}
+use Rattle.tw_rows.specs.SameCells.{same_cells}
+use Rattle.tw_rows.specs.declared.cells.Datum.{Datum}
+use Rattle.tw_rows.specs.declared.edge.Edge.{Edge}
+use Rattle.tw_rows.specs.declared.edge.HeldRow.{HeldRow}
+use Rattle.tw_rows.proofs.Bags.{total-append}
+use Rattle.edge_history.specs.Order.{failing, is_from, is_below, Rises, IsHistory}
+use Rattle.edge_history.specs.History.{CellEvent, of}
+use Rattle.edge_history.specs.Opens.{singles}
+use Rattle.edge_history.proofs.Telling.{told_nothing}
+use Rattle.key_nodes.specs.Groups.{grouped}
+use Rattle.node_laws.specs.Keeping.{plain_cells}
+use Rattle.plan_laws.specs.Undefined.{first_below}
+use Rattle.plan_model.specs.declared.agg.Agg.{Agg}
+use Rattle.plan_model.specs.RowOps.{is_undefined_in}
+use Rattle.sweep_laws.specs.Sweeps.{IsDue, Tells}
+use Rattle.sweep_laws.specs.Running.{Run}
+use Rattle.sweep_laws.specs.Grouping.{GroupSweeping, IsDefined, IsFirstUndefined, GroupKeeps}
+use Rattle.sweep_laws.proofs.GroupReaching.{group_step, group_step_undefined}
+use Rattle.snapshot_agg.specs.Words.{key_data, tell, bad}
+use Rattle.snapshot_agg.proofs.Totaling.{keys_tell, tell_is_group, bad_by_key, none_undefined}
+use Rattle.snapshot_agg.proofs.Undefining.{all_defined, some_undefined, none_below, least_below}
+
+abbrev pub Kept : List ℕ → List Agg → List HeldRow → (List Datum → Option Run) → List Edge → ℕ → List Edge → List Edge → Type 0
+Kept key aggs rows run waiting to came out = GroupKeeps (key_data key) same_cells (tell key aggs) (bad key aggs) rows run waiting to came out
+
+-- nothing came in
+pub nothing_kept : (key : List ℕ) (aggs : List Agg) (rows : List HeldRow) (run : List Datum → Option Run) (waiting : List Edge) (to : ℕ) → rows ≡ [] → ((k : List Datum) → run k ≡ None) → waiting ≡ [] → to ≡ 0 →
+    Kept key aggs rows run waiting to [] []
+nothing_kept key aggs rows run waiting to no_rows no_run no_wait zero =
+    subst (λ t. Kept key aggs rows run waiting t [] []) (sym zero) (subst (λ w. Kept key aggs rows run w 0 [] []) (sym no_wait) (subst (λ r. Kept key aggs r run [] 0 [] []) (sym no_rows) (record {
+      history = record { order = tt; real = refl; paired = λ cells start. omega arith };
+      waits = record { weigh = λ w. refl };
+      now = record {
+        swept = record { alive_rows = record { weigh = λ w. refl }; open_runs = no_run };
+        steady = λ k. ap (λ x. row_of x) (no_run k);
+        fine = λ k. none_undefined aggs;
+      };
+      told = told_nothing (grouped (key_data key) same_cells same_cells (tell key aggs) (of []));
+      defined = λ k v low high. absurd (omega (arith, high));
+    })))
+  where
+    row_of : Option Run → Option (List Datum)
+    row_of None = None
+    row_of (Some x) = Some x.row
+
+module _ (key : List ℕ) (aggs : List Agg) (came new waiting due deref rest : List Edge) (c d : ℕ) (low : c ≤ d) (high : d ≤ inf) (whole : IsHistory (came ++ new)) (from : failing (is_from c) new ≡ 0)
+    (same : deref ≡ due)
+    (parts : (w : Edge → ℕ) → total w due + total w rest ≡ total w waiting + total w (singles new))
+    (below : failing (is_below d) due ≡ 0) (later : failing (is_from d) rest ≡ 0) (up : Rises 0 due)
+    (rows : List HeldRow) (run : List Datum → Option Run) (out : List Edge) (k : Kept key aggs rows run waiting c came out) where
+  puts : (w : Edge → ℕ) → total w (waiting ++ singles new) ≡ total w waiting + total w (singles new)
+  puts w = total-append w waiting (singles new)
+
+  takes : (w : Edge → ℕ) → total w due + total w rest ≡ total w (waiting ++ singles new)
+  takes w = parts w ∙ sym (puts w)
+
+  pub step_keeps : (rows2 : List HeldRow) (run2 : List Datum → Option Run) (answer0 answer : List Edge) → answer0 ≡ [] →
+      ((a : List CellEvent) (s t : ℕ) → IsDue a s t deref → GroupSweeping (tell key aggs) (bad key aggs) a s rows run →
+      GroupSweeping (tell key aggs) (bad key aggs) a t rows2 run2 × Tells (grouped (key_data key) same_cells same_cells (tell key aggs) a) s t answer0 answer × IsDefined (bad key aggs) a s t) →
+      Kept key aggs rows2 run2 rest d (came ++ new) (out ++ answer)
+  step_keeps rows2 run2 answer0 answer empty swept =
+      group_step (key_data key) same_cells keys_tell (tell key aggs) (tell_is_group key aggs) (bad key aggs) (bad_by_key key aggs)
+      came new waiting (waiting ++ singles new) due rest c d low high whole from puts takes below later up rows run out k rows2 run2 answer0 answer empty
+      (λ due_is s. swept (of (came ++ new)) c d (subst (IsDue (of (came ++ new)) c d) (sym same) due_is) s)
+
+  pub step_stops : (t : ℕ) →
+      ((a : List CellEvent) (s u : ℕ) → IsDue a s u deref → GroupSweeping (tell key aggs) (bad key aggs) a s rows run → IsFirstUndefined (bad key aggs) a s u t) →
+      first_below (λ v. is_undefined_in plain_cells key aggs (alive (of (came ++ new)) v)) d ≡ Some t
+  step_stops t cause =
+      let f = group_step_undefined (key_data key) same_cells keys_tell (tell key aggs) (tell_is_group key aggs) (bad key aggs) (bad_by_key key aggs)
+      came new waiting (waiting ++ singles new) due rest c d low high whole from puts takes below later up rows run out k t
+      (λ due_is s. cause (of (came ++ new)) c d (subst (IsDue (of (came ++ new)) c d) (sym same) due_is) s) in
+      least_below (λ v. is_undefined_in plain_cells key aggs (alive (of (came ++ new)) v)) d t f.high
+      (some_undefined key aggs f.found.0 (alive (of (came ++ new)) t) f.found.1)
+      (λ u before. all_defined key aggs (alive (of (came ++ new)) u) (λ q. f.first q u (omega arith) before))
+
+pub kept_defined : (key : List ℕ) (aggs : List Agg) (rows : List HeldRow) (run : List Datum → Option Run) (waiting : List Edge) (d : ℕ) (came out : List Edge) →
+    Kept key aggs rows run waiting d came out → first_below (λ v. is_undefined_in plain_cells key aggs (alive (of came) v)) d ≡ None
+kept_defined key aggs rows run waiting d came out k =
+    none_below (λ v. is_undefined_in plain_cells key aggs (alive (of came) v)) d (λ t low. all_defined key aggs (alive (of came) t) (λ q. k.defined q t (omega arith) low))

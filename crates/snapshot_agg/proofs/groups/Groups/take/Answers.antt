@@ -1,0 +1,36 @@
+use Rattle.std.specs.Prelude.{◌≡◌, ◌+◌, ℕ, ◌∷◌, refl}
+use Rattle.std.proofs.Common.{subst, sym, ◌∙◌, ap}
+use Rattle.tw_rows.specs.Bag.{SameBag, total}
+use Rattle.tw_rows.specs.declared.edge.HeldRow.{HeldRow}
+use Rattle.snapshot_agg.specs.Words.{key_data}
+use Rattle.snapshot_agg.proofs.Totaling.{of_key, own_key, totaled_taken}
+use Rattle.snapshot_agg.proofs.groups.Groups.take.Goals as goal
+
+pub take_from-requires : goal.take_from-requires
+take_from-requires c =
+    let g = c.args.self.now in
+    let rows2 = c.take.new.self.rows in
+    let cells = c.args.cells.now in
+    let k = c.in_ok-key.key in
+    let is : k ≡ key_data g.key.items cells = c.in_ok-key.ensures ∙ ap (λ l. key_data l c.items-2.result.now) c.deref.ensures.value ∙ ap (key_data g.key.items) c.items-2.ensures in
+    let more : (w : HeldRow → ℕ) → total w g.rows.rows ≡ total w rows2 + w (record { cells = cells; start = c.args.start }) =
+    λ w. c.if-not-take.ensures.taken refl w ∙ ap (λ l. total w rows2 + w (record { cells = l; start = c.args.start })) c.items.ensures in (
+      g.aggs.items,
+      of_key g.key.items k g.rows.rows,
+      of_key g.key.items k rows2,
+      c.requires.counted.of_key k,
+      subst (λ l. SameBag (of_key g.key.items k g.rows.rows) (l ∷ of_key g.key.items k rows2)) (sym c.items-3.ensures)
+          (own_key g.key.items rows2 g.rows.rows cells c.args.start more k is),
+    )
+
+pub returns-clause-counted : goal.returns-clause-counted
+returns-clause-counted c =
+    let g = c.args.self.now in
+    let rows2 = c.take.new.self.rows in
+    let cells = c.args.cells.now in
+    let k = c.in_ok-key.key in
+    let is : k ≡ key_data g.key.items cells = c.in_ok-key.ensures ∙ ap (λ l. key_data l c.items-2.result.now) c.deref.ensures.value ∙ ap (key_data g.key.items) c.items-2.ensures in
+    let more : (w : HeldRow → ℕ) → total w g.rows.rows ≡ total w rows2 + w (record { cells = cells; start = c.args.start }) =
+    λ w. c.if-not-take.ensures.taken refl w ∙ ap (λ l. total w rows2 + w (record { cells = l; start = c.args.start })) c.items.ensures in
+    totaled_taken g.key.items rows2 g.rows.rows cells c.args.start more g.aggs.items g.totals c.take_from.new.totals k is c.requires.counted c.take_from.ensures.others
+    (λ rs rest h same. c.take_from.ensures.own g.aggs.items rs rest h (subst (λ l. SameBag rs (l ∷ rest)) (sym c.items-3.ensures) same))

@@ -1,0 +1,15 @@
+use Rattle.std.proofs.Common.{◌≡◌, ◌+◌, ◌≤◌, take, ℕ}
+use Rattle.tw_rows.specs.Bag.{total}
+use Rattle.tw_rows.specs.declared.edge.HeldRow.{HeldRow}
+use Rattle.edge_history.specs.Opens.{ended_rows, started_rows}
+use Rattle.snapshot_agg.specs.Totaled.{Totaled}
+use Rattle.snapshot_agg.proofs.passes.apply.Given as goal
+
+abbrev pub invariant-loop-edge : goal.invariant-loop-edge
+invariant-loop-edge l = record {
+  counted : Totaled l.groups.key.items l.groups.aggs.items l.groups.rows.rows l.groups.totals;
+  moved : ((w : HeldRow → ℕ) → total w (ended_rows l.now) ≤ total w l.fn.groups.rows.rows) → (w : HeldRow → ℕ) →
+      total w l.groups.rows.rows + total w (ended_rows (take l.edge-index l.now)) ≡ total w l.fn.groups.rows.rows + total w (started_rows (take l.edge-index l.now));
+  same_key : l.groups.key ≡ l.fn.groups.key;
+  same_aggs : l.groups.aggs ≡ l.fn.groups.aggs;
+}

@@ -1,0 +1,18 @@
+use Rattle.std.specs.Prelude.{◌≡◌, ℕ, not, Bool, true, false, cond, refl}
+use Rattle.std.proofs.Common.{sym, ◌∙◌, ap, arith}
+use Rattle.sweep_laws.specs.Sweeps.{is_at}
+use Rattle.snapshot_agg.proofs.Lists.{total_more}
+use Rattle.snapshot_agg.proofs.sweep.first_instant.Goals as goal
+
+no_not : (b : Bool) → not b ≡ false → b ≡ true
+no_not true h = refl
+no_not false h = absurd (cc)
+
+pub loop-i-preserved : goal.loop-i-preserved
+loop-i-preserved c =
+    let x = c.index-rest-i.result in
+    let a = total_more (λ y. cond {A = ℕ} (is_at c.args.t y) 0 1) c.args.rest.now c.loop-i.i x c.loop-i-test.true in
+    let e = no_not _ (sym c.ne.ensures ∙ c.if-ne.false) in
+    let z = ap (λ b. cond {A = ℕ} b 0 1) e in
+    let i = c.loop-i.invariant in
+    omega (arith, a, z, i)

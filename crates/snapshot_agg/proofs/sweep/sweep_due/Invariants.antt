@@ -1,0 +1,23 @@
+use Rattle.std.proofs.Common.{◌≡◌, ◌≤◌, ◌-◌, ℕ, List, drop, length}
+use Rattle.tw_rows.specs.SameCells.{same_cells}
+use Rattle.edge_history.specs.History.{CellEvent}
+use Rattle.sweep_laws.specs.Sweeps.{IsDue}
+use Rattle.sweep_laws.specs.Grouping.{GroupSweeping, GroupReached}
+use Rattle.snapshot_agg.specs.Words.{key_data, tell, bad}
+use Rattle.snapshot_agg.specs.Totaled.{Totaled, run_of}
+use Rattle.snapshot_agg.proofs.sweep.sweep_due.Given as goal
+
+abbrev pub decreases-loop-done : goal.decreases-loop-done
+decreases-loop-done l = length l.due - l.done
+
+abbrev pub invariant-loop-done : goal.invariant-loop-done
+invariant-loop-done l = record {
+  within : l.done ≤ length l.due;
+  counted : Totaled l.groups.key.items l.groups.aggs.items l.groups.rows.rows l.groups.totals;
+  reached : (a : List CellEvent) (from to : ℕ) → IsDue a from to l.due →
+      GroupSweeping (tell l.fn.groups.key.items l.fn.groups.aggs.items) (bad l.fn.groups.key.items l.fn.groups.aggs.items) a from l.fn.groups.rows.rows (run_of l.fn.running) →
+      (u : ℕ) × GroupReached (key_data l.fn.groups.key.items) same_cells (tell l.fn.groups.key.items l.fn.groups.aggs.items) (bad l.fn.groups.key.items l.fn.groups.aggs.items)
+      a from u to (drop l.done l.due) l.groups.rows.rows (run_of l.running) l.fn.answer.items l.answer.items;
+  same_key : l.groups.key ≡ l.fn.groups.key;
+  same_aggs : l.groups.aggs ≡ l.fn.groups.aggs;
+}

@@ -1,0 +1,26 @@
+use Rattle.std.specs.Prelude.{◌≡◌}
+use Rattle.std.proofs.Common.{ap}
+use Rattle.snapshot_agg.specs.Totaled.{run_of}
+use Rattle.snapshot_agg.proofs.Sweeping.{InstantTold, InstantUndefined, instant_told, instant_undefined, for_both}
+use Rattle.snapshot_agg.proofs.sweep.sweep_instant.Goals as goal
+
+pub returns-then-found-clause-overflow : goal.returns-then-found-clause-overflow
+returns-then-found-clause-overflow c = λ v e.
+    let g = c.args.groups.now in
+    let g1 = c.apply.new.groups in
+    let z : v ≡ c.args.t = cc in (
+      z,
+      for_both (InstantUndefined c.args.t c.args.now.now g.rows.rows (run_of c.args.running.now)) g1.key.items g.key.items g1.aggs.items g.aggs.items
+          (ap (λ x. x.items) c.in_ok-apply.ensures.key) (ap (λ x. x.items) c.in_ok-apply.ensures.aggs)
+          (instant_undefined g1.key.items g1.aggs.items c.args.t c.args.now.now g.rows.rows g1.rows.rows (run_of c.args.running.now) c.in_ok-apply.ensures.moved (c.in_ok-found.ensures.yes c.if-found.true)),
+    )
+
+pub returns-clause-swept : goal.returns-clause-swept
+returns-clause-swept c =
+    let g = c.args.groups.now in
+    let g1 = c.apply.new.groups in
+    for_both (InstantTold c.args.t c.args.now.now g.rows.rows g1.rows.rows (run_of c.args.running.now) (run_of c.tell_starts.new.running) c.args.answer.now.items c.tell_starts.new.answer.items)
+    g1.key.items g.key.items g1.aggs.items g.aggs.items (ap (λ x. x.items) c.in_ok-apply.ensures.key) (ap (λ x. x.items) c.in_ok-apply.ensures.aggs)
+    (instant_told g1.key.items g1.aggs.items c.args.t c.args.now.now g.rows.rows g1.rows.rows
+    (run_of c.args.running.now) (run_of c.tell_ends.new.running) (run_of c.tell_starts.new.running) c.args.answer.now.items c.tell_ends.new.answer.items c.tell_starts.new.answer.items
+    c.in_ok-apply.ensures.moved (c.in_ok-found.ensures.no c.if-found.false) c.in_ok-tell_ends.ensures.told c.in_ok-tell_starts.ensures.told c.in_ok-tell_ends.ensures.order c.in_ok-tell_starts.ensures.order)

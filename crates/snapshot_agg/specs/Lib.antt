@@ -1,0 +1,7 @@
+-- Callers read Words. What the operator keeps of its groups is cited by its own contracts alone.
+pub mod Words
+pub mod States
+pub mod Totaled
+pub mod Told
+pub mod Waiting
+pub mod Keeping

@@ -1,0 +1,33 @@
+-- The totals of all keys.
+use Rattle.std.specs.Prelude.{◌≡◌, ℕ, ◌≤◌, cond, Option, None, Some, List, []}
+use Rattle.indexmap.specs.IndexMap.{IndexMap, get}
+use Rattle.tw_rows.specs.SameCells.{same_cells}
+use Rattle.tw_rows.specs.declared.cells.Datum.{Datum}
+use Rattle.tw_rows.specs.declared.edge.HeldRow.{HeldRow}
+use Rattle.edge_history.specs.Opens.{bare}
+use Rattle.node_laws.specs.Keeping.{plain_cells}
+use Rattle.plan_model.specs.declared.agg.Agg.{Agg}
+use Rattle.plan_model.specs.RowOps.{rows_of_key_in}
+use Rattle.sweep_laws.specs.Running.{Run}
+use Rattle.snapshot_agg.specs.declared.totals.Totals.{Totals}
+use Rattle.snapshot_agg.specs.States.{IsTotals}
+
+-- a key has totals of its rows, and none where it has no row
+abbrev pub IsTotalOf : Option Totals → List Agg → List (List Datum) → Type 0
+IsTotalOf None aggs rows = rows ≡ []
+IsTotalOf (Some t) aggs rows = IsTotals t.count t.states.items aggs rows × (1 ≤ t.count)
+
+pub record Totaled {S : Type 0} (key : List ℕ) (aggs : List Agg) (rows : List HeldRow) (totals : IndexMap (List Datum) Totals S) : Type 0 where
+  pub of_key : (k : List Datum) → IsTotalOf (get same_cells totals k) aggs (rows_of_key_in plain_cells key k (bare rows))
+
+-- the run that is open for a key
+abbrev pub run_from : Option HeldRow → Option Run
+run_from None = None
+run_from (Some r) = Some (record { row = r.cells; start = r.start })
+
+abbrev pub run_of : {S : Type 0} → IndexMap (List Datum) HeldRow S → List Datum → Option Run
+run_of running k = run_from (get same_cells running k)
+
+-- one key has another run now
+abbrev pub Reruns : {S : Type 0} → IndexMap (List Datum) HeldRow S → IndexMap (List Datum) HeldRow S → List Datum → Option Run → Type 0
+Reruns old new key run = (k : List Datum) → run_of new k ≡ cond (same_cells key k) run (run_of old k)

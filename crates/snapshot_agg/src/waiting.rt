@@ -1,0 +1,103 @@
+// Edges that are not due yet.
+ghost use Rattle.std.specs.Prelude.{◌≡◌, ◌+◌, ◌<◌, ◌≤◌, ◌↔◌, IsTrue, ℕ, List, ◌∷◌, ◌++◌, OnOk, IfOk};
+ghost use Rattle.tw_rows.specs.Bag.{total};
+ghost use Rattle.tw_rows.specs.declared.edge.Edge.{Edge};
+ghost use Rattle.edge_history.specs.Order.{failing, is_below, is_from, Rises};
+ghost use Rattle.edge_history.specs.Opens.{singles_of, singles};
+ghost use Rattle.snapshot_agg.specs.Waiting.{edges_in, WaitForThemselves};
+
+use edge_history::in_order;
+use edge_stream::EdgeList;
+use end_queue::EndQueue;
+use std::alloc::Global;
+use tw_rows::{Edge, Memory, Time};
+
+// Whether a time comes before the other.
+fn is_due(sync: Time, to: Time) -> bool
+    ensures { IsTrue result ↔ (sync < to) }
+{
+    sync < to
+}
+
+// Puts an edge to those that are due, or to those that wait.
+fn place(due: &mut Vec<Edge>, waiting: &mut EndQueue, to: Time, edge: Edge) -> Result<(), Memory>
+    ensures parts { OnOk result ((w : Edge → ℕ) → total w due.new.items + total w (edges_in waiting.new) ≡ (total w due.old.items + total w (edges_in waiting.old)) + w edge) }
+    ensures below { OnOk result (failing (is_below to) due.old.items ≡ 0 → failing (is_below to) due.new.items ≡ 0) }
+    ensures later { OnOk result (failing (is_from to) (edges_in waiting.old) ≡ 0 → failing (is_from to) (edges_in waiting.new) ≡ 0) }
+    ensures own { OnOk result (WaitForThemselves waiting.old → WaitForThemselves waiting.new) }
+{
+    if is_due(edge.sync, to) {
+        due.push(edge)?;
+        return Ok(());
+    }
+    waiting.put(edge.sync, edge)?;
+    Ok(())
+}
+
+// An interval is a start and an end; each other edge is one of them.
+fn place_singles(
+    due: &mut Vec<Edge>,
+    waiting: &mut EndQueue,
+    to: Time,
+    edge: Edge,
+) -> Result<(), Memory>
+    ensures parts { OnOk result ((w : Edge → ℕ) → total w due.new.items + total w (edges_in waiting.new) ≡ (total w due.old.items + total w (edges_in waiting.old)) + total w (singles_of edge)) }
+    ensures below { OnOk result (failing (is_below to) due.old.items ≡ 0 → failing (is_below to) due.new.items ≡ 0) }
+    ensures later { OnOk result (failing (is_from to) (edges_in waiting.old) ≡ 0 → failing (is_from to) (edges_in waiting.new) ≡ 0) }
+    ensures own { OnOk result (WaitForThemselves waiting.old → WaitForThemselves waiting.new) }
+{
+    let infinity = Time::bounds().1;
+    if edge.is_end() || edge.other == infinity {
+        return place(due, waiting, to, edge);
+    }
+    let start = Edge {
+        sync: edge.sync,
+        other: infinity,
+        cells: edge.cells.clone()?,
+    };
+    let end = Edge {
+        sync: edge.other,
+        other: edge.sync,
+        cells: edge.cells,
+    };
+    place(due, waiting, to, start)?;
+    place(due, waiting, to, end)
+}
+
+// Takes out the edges that are due by now.
+fn pop_all(due: &mut Vec<Edge>, waiting: &mut EndQueue, to: Time) -> Result<(), Memory>
+    requires own { WaitForThemselves waiting.old }
+    ensures parts { OnOk result ((w : Edge → ℕ) → total w due.new.items + total w (edges_in waiting.new) ≡ total w due.old.items + total w (edges_in waiting.old)) }
+    ensures below { OnOk result (failing (is_below to) due.old.items ≡ 0 → failing (is_below to) due.new.items ≡ 0) }
+    ensures later { OnOk result (failing (is_from to) (edges_in waiting.new) ≡ 0) }
+    ensures own { OnOk result (WaitForThemselves waiting.new) }
+{
+    while let Some(edge) = waiting.pop_due(to) {
+        due.push(edge)?;
+    }
+    Ok(())
+}
+
+/// Takes in the starts and the ends of new edges, and takes out what comes below a time, in order.
+pub(crate) fn take_due(
+    alloc: Global,
+    waiting: &mut EndQueue,
+    new: &EdgeList,
+    to: Time,
+) -> Result<Vec<Edge>, Memory>
+    requires own { WaitForThemselves waiting.old }
+    ensures parts { IfOk result (λ due. (w : Edge → ℕ) → total w due.items + total w (edges_in waiting.new) ≡ total w (edges_in waiting.old) + total w (singles new.now.edges)) }
+    ensures below { IfOk result (λ due. failing (is_below to) due.items ≡ 0) }
+    ensures later { OnOk result (failing (is_from to) (edges_in waiting.new) ≡ 0) }
+    ensures order { IfOk result (λ due. Rises 0 due.items) }
+    ensures own { OnOk result (WaitForThemselves waiting.new) }
+{
+    let mut due = Vec::new(alloc);
+    pop_all(&mut due, waiting, to)?;
+    let mut cursor = new.cursor();
+    while let Some(edge) = cursor.next()? {
+        place_singles(&mut due, waiting, to, edge)?;
+    }
+    in_order(&mut due)?;
+    Ok(due)
+}

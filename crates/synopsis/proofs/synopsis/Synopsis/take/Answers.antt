@@ -1,0 +1,22 @@
+use Rattle.std.proofs.Common.{◌∙◌, sym, ap, subst, arith}
+use Rattle.synopsis.specs.Buckets.{rows_in, AreKeyed}
+use Rattle.synopsis.proofs.Keyed.{ones}
+use Rattle.synopsis.proofs.synopsis.Synopsis.take.Goals as goal
+
+pub overflow_sub-self : goal.overflow_sub-self
+overflow_sub-self c =
+    let a = c.take_row.ensures.taken c.if-not-take_row.false (λ r. 1) in
+    let y = ones (rows_in c.self.inside.buckets.entries) in
+    let n = c.self.invariant.1 in
+    omega (arith, a, y, n)
+
+pub invariant_of-self-2 : goal.invariant_of-self-2
+invariant_of-self-2 c =
+    let es = c.take_row.new.buckets.entries in
+    let a = c.take_row.ensures.taken c.if-not-take_row.false (λ r. 1) in
+    let x = ones (rows_in es) in
+    let y = ones (rows_in c.self.inside.buckets.entries) in
+    let n = c.self.invariant.1 in (
+      subst (λ k. AreKeyed k es) (sym c.write.ensures.columns) (c.take_row.ensures.keyed c.self.inside.key.columns c.self.invariant.0),
+      omega (arith, a, x, y, n),
+    )

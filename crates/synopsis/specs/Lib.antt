@@ -1,0 +1,3 @@
+-- Callers read KeyValues, KeyedRows, key_of and is_of_key of Held; the rest is cited by private contracts and models alone.
+pub mod Held
+pub mod Buckets

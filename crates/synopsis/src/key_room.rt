@@ -1,0 +1,82 @@
+// Room for the key of a row.
+ghost use Rattle.std.specs.Prelude.{◌≡◌, ◌≤◌, IfOk, take, map, length};
+ghost use Rattle.std.specs.Vec.{vec_len, vec_capacity};
+ghost use Rattle.synopsis.specs.Held.{KeyValues, key_of, cell_or_zero};
+
+use std::alloc::Global;
+use std::marker::Model;
+use tw_rows::{Datum, Memory};
+
+/// Key columns, and the data that the row that was written last has in them.
+#[derive(Drop)]
+pub struct KeyRoom {
+    columns: Vec<usize>,
+    values: Vec<Datum>,
+}
+
+impl Model for KeyRoom {
+    ghost use Rattle.std.specs.Prelude.{◌≤◌, length};
+    ghost use Rattle.std.specs.Vec.{vec_capacity};
+    ghost use Rattle.synopsis.specs.Held.{KeyValues};
+
+    ghost Value = { KeyValues };
+
+    ghost view = { λ k. record { columns = k.columns.items; values = k.values.items } };
+
+    ghost invariant = { λ k. length k.columns.items ≤ vec_capacity k.values };
+}
+
+// The datum of a row in a column.
+fn cell_at(cells: &[Datum], column: usize) -> Datum
+    ensures { result ≡ cell_or_zero cells.now column }
+{
+    cells.get(column).copied().unwrap_or(Datum::Int(0))
+}
+
+// Writes the key of the cells into room that is there for it.
+fn write_key(values: &mut Vec<Datum>, columns: &[usize], cells: &[Datum])
+    requires room { length columns.now ≤ vec_capacity values.old }
+    ensures room { length columns.now ≤ vec_capacity values.new }
+    ensures values { values.new.items ≡ key_of columns.now cells.now }
+{
+    values.clear();
+    for i in 0..columns.len() {
+        let pushed = values.push(cell_at(cells, columns[i])).is_ok();
+        prove!(pushed);
+    }
+}
+
+impl KeyRoom {
+    /// Room for the keys of these columns. No later call takes memory.
+    pub fn new(alloc: Global, columns: &[usize]) -> Result<KeyRoom, Memory>
+        ensures { IfOk result (λ k. k.columns ≡ columns.now) }
+    {
+        let values = Vec::with_capacity(alloc, columns.len())?;
+        Ok(KeyRoom {
+            columns: Vec::from_slice(alloc, columns)?,
+            values,
+        })
+    }
+
+    /// Writes the data of a row in the key columns.
+    pub fn write(&mut self, cells: &[Datum])
+        ensures values { self.new.values ≡ key_of self.old.columns cells.now }
+        ensures columns { self.new.columns ≡ self.old.columns }
+    {
+        write_key(&mut self.values, self.columns.as_slice(), cells);
+    }
+
+    /// The data that were written last.
+    pub fn values(&self) -> &[Datum]
+        ensures { result.now ≡ self.now.values }
+    {
+        self.values.as_slice()
+    }
+
+    /// The key columns.
+    pub fn columns(&self) -> &[usize]
+        ensures { result.now ≡ self.now.columns }
+    {
+        self.columns.as_slice()
+    }
+}

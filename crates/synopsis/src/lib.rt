@@ -1,0 +1,15 @@
+//! Rows that are alive, by the data in their key columns.
+#![tactic(auto)]
+
+mod bucket;
+mod buckets;
+mod key_room;
+mod marks;
+mod synopsis;
+
+pub use key_room::KeyRoom;
+pub use synopsis::Synopsis;
+pub use tw_rows::HeldRow;
+
+#[cfg(test)]
+mod tests;

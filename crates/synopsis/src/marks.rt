@@ -1,0 +1,58 @@
+// The index of a list of rows: beside each row its mark.
+use indexmap::{IndexMap, IndexSet};
+use std::alloc::Global;
+use tw_rows::Memory;
+
+/// For each place of the list a hash and a number: rows of the same hash have the numbers from 0 on. It is a guess: who asks
+/// looks at the row itself.
+#[derive(Drop)]
+pub struct Marks {
+    // As many as the list has rows. Of a removal the last one moves into the gap, as the last row does.
+    marks: IndexSet<(u64, u64)>,
+    // How many rows have a hash.
+    counts: IndexMap<u64, u64>,
+}
+
+impl Marks {
+    /// No place is marked.
+    pub fn new(alloc: Global) -> Marks {
+        Marks {
+            marks: IndexSet::new(alloc),
+            counts: IndexMap::new(alloc),
+        }
+    }
+
+    /// How many places have the hash.
+    pub fn count(&self, hash: u64) -> u64 {
+        self.counts.get(&hash).copied().unwrap_or(0)
+    }
+
+    /// The place that has the hash with that number.
+    pub fn place(&self, hash: u64, number: u64) -> Option<usize> {
+        self.marks.get_index_of(&(hash, number))
+    }
+
+    /// Marks the next place.
+    pub fn push(&mut self, hash: u64) -> Result<(), Memory> {
+        let number = self.count(hash);
+        self.marks.insert((hash, number))?;
+        if self.counts.insert(hash, number.saturating_add(1)).is_err() {
+            self.marks.pop();
+            return Err(Memory);
+        }
+        Ok(())
+    }
+
+    /// Takes the mark at the place, which is that of the hash's last number; the last mark moves into the gap.
+    pub fn swap_remove(&mut self, place: usize, hash: u64) {
+        self.marks.swap_remove_index(place);
+        let mut is_last = false;
+        if let Some(count) = self.counts.get_mut(&hash) {
+            *count = count.saturating_sub(1);
+            is_last = *count == 0;
+        }
+        if is_last {
+            self.counts.swap_remove(&hash);
+        }
+    }
+}
