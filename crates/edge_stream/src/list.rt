@@ -1,11 +1,11 @@
 // A list of edges, in batches.
-ghost use Rattle.std.specs.Prelude.{◌≡◌, ◌+◌, ◌-◌, ◌<◌, ◌≤◌, ◌↔◌, true, [], ◌∷◌, ◌++◌, length, map, filter, slice_get, Some, IsNone, IfNone, IfSome, IsErr, IfErr, IfOk, OnOk, OnErr};
+ghost use Rattle.std.specs.Prelude.{◌≡◌, ◌+◌, ◌-◌, ◌^◌, min, ◌<◌, ◌≤◌, ◌↔◌, true, [], ◌∷◌, ◌++◌, length, map, filter, slice_get, Some, IsNone, IfNone, IfSome, IsErr, IfErr, IfOk, OnOk, OnErr};
 ghost use Rattle.tw_rows.specs.Kinds.{cell_kind_of};
 ghost use Rattle.tw_rows.specs.Cells.{datum_kind};
 ghost use Rattle.batch.specs.Rows.{Row, edge_of, edges_of};
 ghost use Rattle.batch.specs.Shelves.{IsPartTaken};
 ghost use Rattle.edge_history.specs.Order.{is_below, is_from, KeepsOrder};
-ghost use Rattle.edge_stream.specs.Listing.{cells_of, with_room, appended, SameShape};
+ghost use Rattle.edge_stream.specs.Listing.{cells_of, edges_in, with_room, appended, SameShape};
 ghost use Rattle.edge_stream.specs.Taking.{room_taken, batches_taken, batches_given};
 
 use crate::cursor::Cursor;
@@ -69,6 +69,17 @@ impl fmt::Display for Refused {
 
 impl Error for Refused {}
 
+// How many edges the batches hold, or the greatest number where there are more.
+fn count(batches: &VecDeque<Batch>) -> u64
+    ensures { result ≡ min (length (edges_in batches.now.items)) (2 ^ 64 - 1) }
+{
+    let mut len: u64 = 0;
+    for place in 0..batches.len() {
+        len = len.saturating_add(batches[place].occupied() as u64);
+    }
+    len
+}
+
 impl EdgeList {
     /// A list with no edge, for batches of that capacity.
     pub fn new(alloc: Global, kinds: &[Kind], capacity: usize) -> Result<EdgeList, Memory>
@@ -105,6 +116,14 @@ impl EdgeList {
         ensures { result ≡ self.now.batches }
     {
         self.batches.len()
+    }
+
+    /// How many edges there are, or the greatest number where there are more. It goes through the
+    /// batches.
+    pub fn len(&self) -> u64
+        ensures { result ≡ min (length self.now.edges) (2 ^ 64 - 1) }
+    {
+        count(&self.batches)
     }
 
     // Opens a batch where the last one is full.

@@ -68,10 +68,10 @@ impl EdgeList {
         Ok(copy)
     }
 
-    /// The edges of two lists of the same kinds and capacity in one list, in order. The columns of
-    /// both lists go to the pools.
+    /// The edges of two lists whose cells are stored alike, in batches of one capacity, in one list
+    /// with the kinds of the first, in order. The columns of both lists go to the pools.
     pub fn merge(pools: &mut Pools, a: EdgeList, b: EdgeList) -> Result<EdgeList, Memory>
-        requires kinds { a.kinds ≡ b.kinds }
+        requires kinds { cells_of a ≡ cells_of b }
         requires capacity { a.capacity ≡ b.capacity }
         requires pools { pools.old.capacity ≡ a.capacity }
         ensures edges { IfOk result (λ list. SameBag list.edges (a.edges ++ b.edges)) }
@@ -105,7 +105,7 @@ fn left_first(left: Option<u64>, right: Option<u64>) -> Option<bool>
 
 // The edges of both lists in order, copied.
 fn merged(pools: &mut Pools, a: &EdgeList, b: &EdgeList) -> Result<EdgeList, Memory>
-    requires kinds { a.now.kinds ≡ b.now.kinds }
+    requires kinds { cells_of a.now ≡ cells_of b.now }
     requires pools { pools.old.capacity ≡ a.now.capacity }
     ensures edges { IfOk result (λ list. SameBag list.edges (a.now.edges ++ b.now.edges)) }
     ensures order { IfOk result (λ list. KeepsOrder list.edges) }

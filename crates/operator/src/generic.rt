@@ -1,6 +1,7 @@
 // What holds of every operator.
 ghost use Rattle.std.specs.Prelude.{◌≡◌, ℕ, ◌≤◌, false, List, ◌++◌, IfOk};
 ghost use Rattle.tw_rows.specs.declared.edge.Edge.{Edge};
+ghost use Rattle.edge_stream.specs.Listing.{cells_of};
 ghost use Rattle.plan_model.specs.Meaning.{node_events, node_closes};
 ghost use Rattle.node_laws.specs.Places.{AreDistinct, read_of};
 ghost use Rattle.node_laws.specs.Standing.{StandsRead};
@@ -23,8 +24,8 @@ pub fn step_once<O: Operator>(
     requires works { O.has_failed operator.old ≡ false }
     requires left_rises { O.left_closed operator.old ≤ left_to }
     requires right_rises { O.right_closed operator.old ≤ right_to }
-    requires left_kinds { left.kinds ≡ O.left_kinds operator.old }
-    requires right_kinds { right.kinds ≡ O.right_kinds operator.old }
+    requires left_kinds { cells_of left ≡ O.left_kinds operator.old }
+    requires right_kinds { cells_of right ≡ O.right_kinds operator.old }
     requires left_capacity { left.capacity ≡ O.batch_rows operator.old }
     requires capacity { pools.old.capacity ≡ O.batch_rows operator.old }
     requires right_capacity { right.capacity ≡ O.batch_rows operator.old }

@@ -4,8 +4,9 @@ ghost use Rattle.tw_rows.specs.Instant.{inf};
 ghost use Rattle.tw_rows.specs.Event.{alive};
 ghost use Rattle.tw_rows.specs.Texts.{BeginsWith};
 ghost use Rattle.tw_rows.specs.declared.edge.Edge.{Edge};
-ghost use Rattle.tw_rows.specs.declared.kind.Kind.{Kind};
+ghost use Rattle.tw_rows.specs.declared.kind.CellKind.{CellKind};
 ghost use Rattle.edge_history.specs.History.{of};
+ghost use Rattle.edge_stream.specs.Listing.{cells_of};
 ghost use Rattle.edge_stream.specs.declared.saved.SavedEntry.{SavedEntry};
 ghost use Rattle.edge_stream.specs.declared.saved.PartRow.{PartRow};
 ghost use Rattle.plan_model.specs.declared.node.Node.{Node};
@@ -36,13 +37,13 @@ pub trait Operator: Drop {
 
     ghost right_closed: { Self → ℕ };
 
-    /// The kinds of what comes in on both sides, and of what it answers. A node with one child reads a right list with no
-    /// columns.
-    ghost left_kinds: { Self → List Kind };
+    /// How the columns of what comes in on both sides are stored, and of what it answers. A node with one child reads a
+    /// right list with no columns.
+    ghost left_kinds: { Self → List CellKind };
 
-    ghost right_kinds: { Self → List Kind };
+    ghost right_kinds: { Self → List CellKind };
 
-    ghost own_kinds: { Self → List Kind };
+    ghost own_kinds: { Self → List CellKind };
 
     /// How many rows each batch of what comes in and of what it answers has room for.
     ghost batch_rows: { Self → ℕ };
@@ -75,8 +76,8 @@ pub trait Operator: Drop {
         requires works { has_failed self.old ≡ false }
         requires left_rises { Self.left_closed self.old ≤ left_to }
         requires right_rises { Self.right_closed self.old ≤ right_to }
-        requires left_kinds { left.kinds ≡ Self.left_kinds self.old }
-        requires right_kinds { right.kinds ≡ Self.right_kinds self.old }
+        requires left_kinds { cells_of left ≡ Self.left_kinds self.old }
+        requires right_kinds { cells_of right ≡ Self.right_kinds self.old }
         requires left_capacity { left.capacity ≡ batch_rows self.old }
         requires right_capacity { right.capacity ≡ batch_rows self.old }
         requires capacity { pools.old.capacity ≡ batch_rows self.old }
@@ -91,7 +92,7 @@ pub trait Operator: Drop {
             (texts : List (List ℕ)) (hl hr out : List Edge) → AreDistinct texts → keeps self.old texts hl hr out →
             MayCome texts (Self.left_closed self.old) hl left.edges →
             first_below (λ t. undefined_over value_ops (node self.old) (alive (read_of texts (hl ++ left.edges)) t)) (node_closes (node self.old) left_to right_to) ≡ Some time) }
-        ensures kinds { IfOk result (λ answer. answer.kinds ≡ own_kinds self.old) }
+        ensures kinds { IfOk result (λ answer. cells_of answer ≡ own_kinds self.old) }
         ensures capacity { IfOk result (λ answer. answer.capacity ≡ batch_rows self.old) }
         ensures pools { pools.new.capacity ≡ pools.old.capacity }
         ensures left_to { OnOk result (Self.left_closed self.new ≡ left_to) }

@@ -1,6 +1,6 @@
 use Rattle.std.proofs.Common.{◌≡◌, ◌++◌, ◌∙◌, length, ap, arith}
 use Rattle.std.proofs.lemmas.List.{length-map}
-use Rattle.batch.specs.Rows.{edge_of, edges_of, occupied_rows, kept}
+use Rattle.batch.specs.Rows.{edges_of, occupied_rows, kept}
 use Rattle.batch.proofs.Tables.{length-kept}
 use Rattle.edge_stream.specs.Sides.{is_on_side}
 use Rattle.edge_stream.specs.declared.cut.Side.TheVariants.{From}

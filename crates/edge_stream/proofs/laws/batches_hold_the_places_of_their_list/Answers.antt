@@ -1,4 +1,4 @@
-use Rattle.std.proofs.Common.{◌++◌, subst}
+use Rattle.std.proofs.Common.{subst}
 use Rattle.std.specs.Prelude.{All}
 use Rattle.tw_rows.specs.Cells.{ArePlaced}
 use Rattle.batch.specs.Rows.{edges_of}

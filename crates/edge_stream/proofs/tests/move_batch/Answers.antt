@@ -1,4 +1,4 @@
-use Rattle.std.proofs.Common.{◌++◌, ◌∙◌, ap, sym, subst}
+use Rattle.std.proofs.Common.{◌++◌, sym, subst}
 use Rattle.batch.specs.Rows.{edges_of}
 use Rattle.edge_history.specs.Order.{KeepsOrder}
 use Rattle.edge_history.proofs.Keeping.{KeepsOrder-front}

@@ -1,5 +1,4 @@
-use Rattle.std.proofs.Common.{◌+◌, ◌∙◌, map, ap, sym}
-use Rattle.tw_rows.specs.Kinds.{cell_kind_of}
+use Rattle.std.proofs.Common.{◌+◌, ◌∙◌, ap, sym}
 use Rattle.edge_stream.specs.Listing.{cells_of}
 use Rattle.edge_stream.specs.Taking.{batches_given}
 use Rattle.edge_stream.proofs.Filling.{batches_taken-capacity, batches_given-capacity, batches_given-more}
@@ -16,5 +15,5 @@ give_back-requires-2 c =
 pub returns-clause-pools : goal.returns-clause-pools
 returns-clause-pools c =
     let kinds = cells_of c.args.a in
-    c.give_back-2.ensures ∙ (λ i. batches_given c.args.b.batches (c.give_back.ensures i) (sym (ap (map cell_kind_of) c.requires.kinds) i))
+    c.give_back-2.ensures ∙ (λ i. batches_given c.args.b.batches (c.give_back.ensures i) (sym c.requires.kinds i))
     ∙ batches_given-more c.args.a.batches c.args.b.batches c.merged.new.pools kinds ∙ ap (λ s. batches_given (c.args.a.batches + c.args.b.batches) s kinds) c.in_ok-list.ensures.pools
