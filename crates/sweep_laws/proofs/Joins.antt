@@ -19,24 +19,31 @@ use Rattle.edge_history.proofs.Retaining.{events_of_are, same_below, valid_from,
 use Rattle.edge_history.proofs.Opening.{opens_known}
 use Rattle.edge_history.proofs.Waiting.{pending_then, due_is}
 use Rattle.key_nodes.specs.Joins.{with_life, joined_one, joined}
-use Rattle.sweep_laws.specs.Sweeps.{is_at, IsPast, IsDue, Tells, IsNext}
+use Rattle.sweep_laws.specs.Sweeps.{is_at, IsPast, SyncsRise, IsDue, Tells, IsNext}
 use Rattle.sweep_laws.specs.Pairs.{Held}
 use Rattle.sweep_laws.specs.Joining.{JoinReached, JoinKeeps}
 use Rattle.sweep_laws.proofs.Instants.{syncs_rise}
 use Rattle.sweep_laws.proofs.Sides.{side_now, side_none, side_rest, next_between, tells_parts, tells_still}
 use Rattle.sweep_laws.proofs.JoinTelling.{joins_valid, held_between}
 
--- the due edges of a side, in order
-pub due_then : (came new waiting due rest : List Edge) (c d : ℕ) → c ≤ d → d ≤ inf → IsHistory (came ++ new) → failing (is_from c) new ≡ 0 →
+-- the due edges of a side, in the order of their syncs
+pub due_by_syncs : (came new waiting due rest : List Edge) (c d : ℕ) → c ≤ d → d ≤ inf → IsHistory (came ++ new) → failing (is_from c) new ≡ 0 →
     SameBag waiting (filter (is_from c) (singles came)) → ((w : Edge → ℕ) → total w due + total w rest ≡ total w waiting + total w (singles new)) →
-    failing (is_below d) due ≡ 0 → failing (is_from d) rest ≡ 0 → Rises 0 due → IsDue (of (came ++ new)) c d due
-due_then came new waiting due rest c d low high whole from waits parts below later up = record {
+    failing (is_below d) due ≡ 0 → failing (is_from d) rest ≡ 0 → SyncsRise 0 due → IsDue (of (came ++ new)) c d due
+due_by_syncs came new waiting due rest c d low high whole from waits parts below later up = record {
   low = low;
   high = high;
   lives = AreEvents-from (of (came ++ new)) (valid_from (came ++ new) (of (came ++ new)) whole.real (events_of_are (came ++ new) whole));
   news_of = due_is came new waiting due rest c d low high whole from waits parts below later;
-  order = syncs_rise due up;
+  order = up;
 }
+
+-- the same of due edges in order
+pub due_then : (came new waiting due rest : List Edge) (c d : ℕ) → c ≤ d → d ≤ inf → IsHistory (came ++ new) → failing (is_from c) new ≡ 0 →
+    SameBag waiting (filter (is_from c) (singles came)) → ((w : Edge → ℕ) → total w due + total w rest ≡ total w waiting + total w (singles new)) →
+    failing (is_below d) due ≡ 0 → failing (is_from d) rest ≡ 0 → Rises 0 due → IsDue (of (came ++ new)) c d due
+due_then came new waiting due rest c d low high whole from waits parts below later up =
+    due_by_syncs came new waiting due rest c d low high whole from waits parts below later (syncs_rise due up)
 
 module _ (meets : List Datum → List Datum → Bool) (pair : List Datum → List Datum → List Datum) where
   pub join_reach_start : (a b : List CellEvent) (from to : ℕ) (dl dr : List Edge) (left right : List HeldRow) (answer : List Edge) → IsDue a from to dl → IsDue b from to dr → Held a b from left right →
@@ -136,7 +143,7 @@ module _ (meets : List Datum → List Datum → Bool) (pair : List Datum → Lis
       (put_l : (w : Edge → ℕ) → total w pl1 ≡ total w pl + total w (singles nl)) (put_r : (w : Edge → ℕ) → total w pr1 ≡ total w pr + total w (singles nr))
       (parts_l : (w : Edge → ℕ) → total w dl + total w pl2 ≡ total w pl1) (parts_r : (w : Edge → ℕ) → total w dr + total w pr2 ≡ total w pr1)
       (below_l : failing (is_below to2) dl ≡ 0) (below_r : failing (is_below to2) dr ≡ 0) (rest_l : failing (is_from to2) pl2 ≡ 0) (rest_r : failing (is_from to2) pr2 ≡ 0)
-      (up_l : Rises 0 dl) (up_r : Rises 0 dr) where
+      (up_l : SyncsRise 0 dl) (up_r : SyncsRise 0 dr) where
     both_l : (w : Edge → ℕ) → total w dl + total w pl2 ≡ total w pl + total w (singles nl)
     both_l w = parts_l w ∙ put_l w
 
@@ -158,8 +165,8 @@ module _ (meets : List Datum → List Datum → Bool) (pair : List Datum → Lis
         let kb = cuts hr nr k.right_history whole_r from_r in
         let va = valid (hl ++ nl) whole_l in
         let vb = valid (hr ++ nr) whole_r in
-        let s = swept (due_then hl nl pl dl pl2 to to2 low high whole_l from_l k.left_waits both_l below_l rest_l up_l)
-        (due_then hr nr pr dr pr2 to to2 low high whole_r from_r k.right_waits both_r below_r rest_r up_r)
+        let s = swept (due_by_syncs hl nl pl dl pl2 to to2 low high whole_l from_l k.left_waits both_l below_l rest_l up_l)
+        (due_by_syncs hr nr pr dr pr2 to to2 low high whole_r from_r k.right_waits both_r below_r rest_r up_r)
         (record {
           left_rows = SameBag-trans _ _ _ k.now.left_rows (opens_known to _ _ (omega (arith, low, high)) ka);
           right_rows = SameBag-trans _ _ _ k.now.right_rows (opens_known to _ _ (omega (arith, low, high)) kb);

@@ -7,12 +7,12 @@ ghost use Rattle.tw_rows.specs.Event.{AreEvents};
 ghost use Rattle.tw_rows.specs.declared.cells.Datum.{Datum};
 ghost use Rattle.tw_rows.specs.declared.edge.Edge.{Edge};
 ghost use Rattle.tw_rows.specs.declared.edge.HeldRow.{HeldRow};
-ghost use Rattle.edge_history.specs.Order.{failing, is_from, is_below, Rises, IsHistory};
+ghost use Rattle.edge_history.specs.Order.{failing, is_from, is_below, IsHistory};
 ghost use Rattle.edge_history.specs.History.{CellEvent, of};
 ghost use Rattle.edge_history.specs.Balance.{news};
 ghost use Rattle.edge_history.specs.Opens.{singles, opens, ended_rows, started_rows};
 ghost use Rattle.key_nodes.specs.Joins.{joined};
-ghost use Rattle.sweep_laws.specs.Sweeps.{is_at, IsPast, IsDue, Tells, IsNext};
+ghost use Rattle.sweep_laws.specs.Sweeps.{is_at, IsPast, SyncsRise, IsDue, Tells, IsNext};
 ghost use Rattle.sweep_laws.specs.Moves.{Adds, told_at};
 ghost use Rattle.sweep_laws.specs.Pairs.{pairs, sided, pairs_told, Held};
 ghost use Rattle.sweep_laws.specs.Joining.{JoinReached, JoinKeeps};
@@ -106,7 +106,7 @@ pub fn a_join_keeps_its_rows()
         ((w : Edge → ℕ) → total w due_l + total w rest_l ≡ total w put_l) →
         ((w : Edge → ℕ) → total w due_r + total w rest_r ≡ total w put_r) →
         failing (is_below d) due_l ≡ 0 → failing (is_below d) due_r ≡ 0 →
-        failing (is_from d) rest_l ≡ 0 → failing (is_from d) rest_r ≡ 0 → Rises 0 due_l → Rises 0 due_r →
+        failing (is_from d) rest_l ≡ 0 → failing (is_from d) rest_r ≡ 0 → SyncsRise 0 due_l → SyncsRise 0 due_r →
         (left left2 right right2 : List HeldRow) (out answer0 answer : List Edge) →
         JoinKeeps meets pair left right wait_l wait_r c hl hr out → answer0 ≡ [] →
         (IsDue (of (hl ++ new_left)) c d due_l → IsDue (of (hr ++ new_right)) c d due_r →

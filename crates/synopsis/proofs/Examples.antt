@@ -1,5 +1,5 @@
 -- The definitions, worked out on a few rows.
-use Rattle.std.specs.Prelude.{◌≡◌, pos, Bool, true, false, List, [], ◌∷◌, refl}
+use Rattle.std.specs.Prelude.{◌≡◌, pos, true, false, List, [], ◌∷◌, refl}
 use Rattle.tw_rows.specs.SameCells.{same_cells}
 use Rattle.tw_rows.specs.declared.cells.Datum.{Datum}
 use Rattle.tw_rows.specs.declared.cells.Datum.TheVariants.{Int}

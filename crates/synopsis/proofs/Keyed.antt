@@ -1,5 +1,5 @@
 -- Rows in buckets: what changes where one bucket does, and which rows are those of a key.
-use Rattle.std.specs.Prelude.{◌≡◌, ℕ, zero, suc, ◌+◌, ◌≤◌, ◌<◌, ◌==◌, nat_eq, nat_lt, Bool, true, false, cond, Option, Some, None, IfSome, Result, Ok, Err, OnErr, List, [], ◌∷◌, ◌++◌, map, filter, flat_map, length, slice_get, get_or, drop, Vec, refl}
+use Rattle.std.specs.Prelude.{◌≡◌, ℕ, zero, suc, ◌+◌, ◌≤◌, ◌<◌, ◌==◌, nat_eq, nat_lt, Bool, true, false, cond, Option, Some, None, IfSome, Result, Ok, Err, OnErr, List, [], ◌∷◌, ◌++◌, filter, flat_map, length, slice_get, get_or, drop, Vec, refl}
 use Rattle.std.specs.List.{swap_remove, IsDistinct, AllByRecursion}
 use Rattle.std.specs.Map.{keys_of, values_of, lookup, set_value}
 use Rattle.std.proofs.Common.{sym, ◌∙◌, ap, subst, arith, length-append}
@@ -18,7 +18,7 @@ use Rattle.tw_rows.specs.Bag.{total}
 use Rattle.tw_rows.specs.SameCells.{same_cells, cells_are_same, same_itself}
 use Rattle.tw_rows.specs.declared.cells.Datum.{Datum}
 use Rattle.tw_rows.specs.declared.edge.HeldRow.{HeldRow}
-use Rattle.tw_rows.proofs.Bags.{total-append, total-flat_map, total-is-sum_by, total_zero}
+use Rattle.tw_rows.proofs.Bags.{total-append, total-flat_map, total-is-sum_by}
 use Rattle.edge_history.specs.Order.{many, failing}
 use Rattle.edge_history.specs.Opens.{is_held}
 use Rattle.synopsis.specs.Held.{key_of, is_of_key}

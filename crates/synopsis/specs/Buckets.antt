@@ -1,5 +1,5 @@
 -- Rows in buckets, one for each key, as a map holds them.
-use Rattle.std.specs.Prelude.{◌≡◌, ℕ, nat_lt, Bool, List, [], ◌∷◌, map, flat_map, length, Vec}
+use Rattle.std.specs.Prelude.{◌≡◌, ℕ, nat_lt, Bool, List, map, flat_map, length, Vec}
 use Rattle.tw_rows.specs.Bag.{total}
 use Rattle.tw_rows.specs.declared.cells.Datum.{Datum}
 use Rattle.tw_rows.specs.declared.edge.HeldRow.{HeldRow}

@@ -1,8 +1,7 @@
-use Rattle.std.proofs.Common.{◌≡◌, ◌∙◌, sym, ap, subst, Some, None, List, [], refl}
+use Rattle.std.proofs.Common.{◌≡◌, ◌∙◌, sym, ap, subst, Some, None, [], refl}
 use Rattle.std.specs.Map.{set_value}
-use Rattle.tw_rows.specs.declared.edge.HeldRow.{HeldRow}
 use Rattle.synopsis.specs.Buckets.{AreKeyed}
-use Rattle.synopsis.proofs.Keyed.{Gone, key_test, set_again, none_held, gone, left_weighs, left_keyed, bare_at, let_go_weighs, let_go_keyed, none_left, some_left}
+use Rattle.synopsis.proofs.Keyed.{key_test, set_again, none_held, gone, left_weighs, left_keyed, bare_at, let_go_weighs, let_go_keyed, none_left, some_left}
 use Rattle.synopsis.proofs.buckets.take_row.Goals as goal
 
 pub returns-in_default-clause-none : goal.returns-in_default-clause-none

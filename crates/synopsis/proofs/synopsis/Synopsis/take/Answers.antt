@@ -1,4 +1,4 @@
-use Rattle.std.proofs.Common.{◌∙◌, sym, ap, subst, arith}
+use Rattle.std.proofs.Common.{sym, subst, arith}
 use Rattle.synopsis.specs.Buckets.{rows_in, AreKeyed}
 use Rattle.synopsis.proofs.Keyed.{ones}
 use Rattle.synopsis.proofs.synopsis.Synopsis.take.Goals as goal

@@ -1,0 +1,2 @@
+-- Callers read all of these.
+pub mod Waiting

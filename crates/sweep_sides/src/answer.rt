@@ -1,0 +1,55 @@
+// What was told, as a list.
+ghost use Rattle.std.specs.Prelude.{◌≡◌, ◌≤◌, ◌↔◌, IsTrue, All, length, map, IfOk};
+ghost use Rattle.tw_rows.specs.Kinds.{cell_kind_of};
+ghost use Rattle.tw_rows.specs.Cells.{datum_kind};
+ghost use Rattle.edge_history.specs.Order.{KeepsOrder};
+
+use batch::Pools;
+use edge_history::keeps_order;
+use edge_stream::EdgeList;
+use std::alloc::Global;
+use tw_rows::{Datum, Edge, Kind, Memory, cell_of};
+
+// Whether the cells are stored as these kinds are.
+fn has_kinds(cells: &[Datum], kinds: &[Kind]) -> bool
+    ensures { IsTrue result ↔ (map datum_kind cells.now ≡ map cell_kind_of kinds.now) }
+{
+    if cells.len() != kinds.len() {
+        return false;
+    }
+    for i in 0..cells.len() {
+        if cells[i].cell_kind() != cell_of(kinds[i]) {
+            return false;
+        }
+    }
+    true
+}
+
+/// A list of these edges. Where they are out of order it is empty, and it ends before one of other kinds.
+pub fn list_of(
+    alloc: Global,
+    pools: &mut Pools,
+    kinds: &[Kind],
+    capacity: usize,
+    edges: &[Edge],
+) -> Result<EdgeList, Memory>
+    requires width { length kinds.now ≤ 32 }
+    requires room { 1 ≤ capacity }
+    requires pools { pools.old.capacity ≡ capacity }
+    ensures edges { IfOk result (λ list. KeepsOrder edges.now → All (λ e. map datum_kind e.cells ≡ map cell_kind_of kinds.now) edges.now → list.edges ≡ edges.now) }
+    ensures kinds { IfOk result (λ list. list.kinds ≡ kinds.now) }
+    ensures capacity { IfOk result (λ list. list.capacity ≡ capacity) }
+    ensures pools { pools.new.capacity ≡ pools.old.capacity }
+{
+    let mut list = EdgeList::new(alloc, kinds, capacity)?;
+    if !keeps_order(edges) {
+        return Ok(list);
+    }
+    for edge in edges {
+        if !has_kinds(edge.cells.items(), kinds) {
+            return Ok(list);
+        }
+        list.append(pools, edge)?;
+    }
+    Ok(list)
+}

@@ -1,0 +1,11 @@
+//! What every sweep over edges does with its sides: new edges wait until they are due, those that are due are cut at the
+//! instants, and what was told becomes a list.
+#![tactic(auto)]
+
+mod answer;
+mod instants;
+mod waiting;
+
+pub use answer::list_of;
+pub use instants::{first_instant, next_instant, rest};
+pub use waiting::{put_all, take_due};
