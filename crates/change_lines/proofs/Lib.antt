@@ -1,5 +1,0 @@
-pub mod Lives
-pub mod RowWalk
-pub mod RowByRow
-pub mod InTime
-pub mod Lines
