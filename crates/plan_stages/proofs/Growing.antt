@@ -1,10 +1,16 @@
--- A plan at work with a longer table.
-use Rattle.std.proofs.Common.{ℕ, List}
+-- A plan at work with a longer table, and the places in what its nodes answered.
+use Rattle.std.proofs.Common.{ℕ, List, arith}
+use Rattle.std.specs.Prelude.{◌<◌, length, get_or}
+use Rattle.std.proofs.lemmas.Option.{slice_get-get_or}
+use Rattle.plan_model.specs.declared.node.Node.TheVariants.{Source}
 use Rattle.tw_rows.specs.Texts.{BeginsWith}
 use Rattle.tw_rows.specs.declared.edge.Edge.{Edge}
+use Rattle.node_laws.specs.Places.{EdgesArePlaced}
+use Rattle.node_stage.specs.declared.stage.Stage.TheVariants.{Source as SourceStage}
+use Rattle.plan_stages.specs.declared.stage.Stage.TheVariants.{Rows}
 use Rattle.plan_stages.specs.Stages.{reached, left_closing, right_closing, left_kinds, right_kinds}
 use Rattle.plan_stages.specs.Flows.{DataflowView, CanStep, Flows}
-use Rattle.plan_stages.proofs.Rules.{ready_longer, keeps_longer}
+use Rattle.plan_stages.proofs.Rules.{ready_longer, keeps_longer, keeps_placed}
 
 module _ (texts more : List (List ℕ)) (last : ℕ) (d : DataflowView) (begins : BeginsWith more texts) where
   pub can_longer : CanStep texts last d → CanStep more last d
@@ -22,3 +28,13 @@ module _ (texts more : List (List ℕ)) (last : ℕ) (d : DataflowView) (begins 
         keeps_longer texts more begins d.capacity (left_kinds d.plan n) (right_kinds d.plan n) n s (reached last (left_closing d.plan.nodes last n)) (reached last (right_closing d.plan.nodes last n))
         (flows.can.ready i n s at here) _ _ _ (flows.kept i n s at here);
   }
+
+pub flows_placed : (texts : List (List ℕ)) (last : ℕ) (given lists : ℕ → List Edge) (d : DataflowView) → Flows texts last given lists d → (k : ℕ) → k < length d.plan.nodes → EdgesArePlaced texts (lists k)
+flows_placed texts last given lists d flows k low =
+    let n = get_or d.plan.nodes k (Source 0) in
+    let s = get_or d.stages k (Rows SourceStage) in
+    let there = slice_get-get_or d.plan.nodes k (Source 0) low in
+    let each = flows.can.count in
+    let here = slice_get-get_or d.stages k (Rows SourceStage) (omega (arith, low, each)) in
+    keeps_placed texts d.capacity (left_kinds d.plan n) (right_kinds d.plan n) n s (reached last (left_closing d.plan.nodes last n)) (reached last (right_closing d.plan.nodes last n))
+    (flows.can.ready k n s there here) _ _ _ (flows.kept k n s there here)

@@ -7,12 +7,12 @@ use Rattle.edge_history.specs.Order.{is_from, failing}
 use Rattle.plan_model.specs.declared.node.Node.{Node}
 use Rattle.plan_model.specs.Meaning.{node_events, node_closes}
 use Rattle.plan_laws.specs.Undefined.{first_below}
-use Rattle.node_laws.specs.Places.{AreDistinct, read_of}
+use Rattle.node_laws.specs.Places.{AreDistinct, EdgesArePlaced, read_of}
 use Rattle.node_laws.specs.Standing.{StandsRead}
 use Rattle.node_laws.proofs.Standing.{placed_longer, node_valid, no_history}
 use Rattle.tw_rows.proofs.Knowing.{Known-refl}
 use Rattle.plan_model.specs.declared.node.Node.TheVariants.{Source}
-use Rattle.node_stage.proofs.MadeEdges.{by_node, made_more, made_longer, made_later, made_stand}
+use Rattle.node_stage.proofs.MadeEdges.{by_node, made_more, made_longer, made_placed, made_later, made_stand}
 use Rattle.node_stage.proofs.Nodes.{stage-more}
 use Rattle.plan_stages.specs.declared.stage.Stage.{Stage}
 use Rattle.plan_stages.specs.declared.stage.Stage.TheVariants.{Rows}
@@ -40,6 +40,11 @@ keeps_longer texts more begins capacity left right n (Rows s) x y ready hl hr ou
   came = came_longer texts more begins x hl kept.came;
   made = made_longer texts capacity left n s ready more begins hl out kept.came.placed kept.made;
 }
+
+-- all places in what it answered are in the table
+pub keeps_placed : (texts : List (List ℕ)) (capacity : ℕ) (left right : List CellKind) (n : Node) (s : Stage) (x y : ℕ) → IsReady texts capacity left right n s x y →
+    (hl hr out : List Edge) → StageKeeps texts n s x y hl hr out → EdgesArePlaced texts out
+keeps_placed texts capacity left right n (Rows s) x y ready hl hr out kept = made_placed texts capacity left n s ready hl out kept.came.placed kept.made
 
 -- what it answered stands for the node
 pub stage_stands : (texts : List (List ℕ)) → AreDistinct texts → (capacity : ℕ) (left right : List CellKind) (n : Node) (s : Stage) (x y : ℕ) →

@@ -10,5 +10,5 @@ mod steps;
 
 pub use dataflow::Dataflow;
 pub use fault::PlanFault;
-pub use laws::plans_flow_on_with_longer_tables;
+pub use laws::{answers_have_their_places, plans_flow_on_with_longer_tables};
 pub use stage::Stage;
