@@ -1,0 +1,32 @@
+-- What the operator of an Extend saves.
+use Rattle.std.specs.Prelude.{◌≡◌, ℕ, Bool, true, false, List, []}
+use Rattle.std.specs.List.{list_all}
+use Rattle.tw_rows.specs.declared.edge.Edge.{Edge}
+use Rattle.tw_rows.specs.declared.kind.CellKind.{CellKind}
+use Rattle.edge_history.specs.Order.{is_end}
+use Rattle.edge_stream.specs.declared.saved.SavedEntry.{SavedEntry}
+use Rattle.end_queue.specs.Pending.{Pending}
+use Rattle.life_laws.specs.Extending.{KeepsExtended}
+use Rattle.carried_edges.specs.Entries.{part_of, are_of_parts, IsEdgePart}
+
+-- nothing is carried, no end waits, no side is closed, and no step failed
+pub record IsOpening (carried : List Edge) (ends : List Pending) (x y : ℕ) (failed : Bool) : Type 0 where
+  pub empty : carried ≡ []
+  pub none : ends ≡ []
+  pub left : x ≡ 0
+  pub right : y ≡ 0
+  pub works : failed ≡ false
+
+-- the entries are of the parts 0, edges that are carried, and 1, ends that wait, a row of the left child each. Where the left
+-- side is closed up to 7 an end at 9 may wait, and one at 6 not
+pub record ExtendSound (kinds : List CellKind) (x : ℕ) (entries : List SavedEntry) : Type 0 where
+  pub parts : are_of_parts 2 entries ≡ true
+  pub carried : IsEdgePart kinds x (part_of 0 entries)
+  pub waiting : IsEdgePart kinds x (part_of 1 entries)
+  pub ends : list_all is_end (part_of 1 entries) ≡ true
+
+-- the entries are what is carried and what waits after the edges came in and were answered
+pub record ExtendResumes (by : ℕ) (kinds : List CellKind) (texts : List (List ℕ)) (x y : ℕ) (entries : List SavedEntry)
+    (left right out : List Edge) : Type 0 where
+  pub sound : ExtendSound kinds x entries
+  pub keeps : KeepsExtended by texts x y (part_of 0 entries) (part_of 1 entries) left right out

@@ -1,0 +1,10 @@
+//! The operator of an Extend.
+#![tactic(auto)]
+
+mod extend;
+mod operating;
+
+pub use extend::ExtendOperator;
+
+#[cfg(test)]
+mod tests;
