@@ -1,6 +1,5 @@
 use Rattle.std.specs.Prelude.{pos, [], ◌∷◌, refl}
 use Rattle.std.proofs.Common.{arith}
-use Rattle.tw_rows.specs.Bag.{total}
 use Rattle.agg_state.proofs.tests.of_three_and_nine.Goals as goal
 
 pub add-requires : goal.add-requires
