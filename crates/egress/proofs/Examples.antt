@@ -1,9 +1,11 @@
 -- Worked cases.
-use Rattle.std.specs.Prelude.{◌≡◌, pos, [], ◌∷◌, refl}
+use Rattle.std.specs.Prelude.{◌≡◌, ℕ, pos, true, false, List, [], ◌∷◌, refl}
 use Rattle.tw_rows.specs.Rows.{Row}
-use Rattle.tw_rows.specs.declared.row.Value.TheVariants.{Int}
+use Rattle.tw_rows.specs.declared.row.Value.TheVariants.{Int, Text}
+use Rattle.tw_rows.specs.declared.cells.Datum.TheVariants.{Int as IntDatum, Text as PlaceDatum}
 use Rattle.plan_model.specs.Changes.{Started, Ended}
 use Rattle.egress.specs.Instants.{end_lines, start_lines, instant_lines, open_after}
+use Rattle.egress.specs.Kept.{cells_of, are_placed, stand_for}
 
 abbrev seven : Row
 seven = Int (pos 7) ∷ []
@@ -26,3 +28,19 @@ new_ones_come_last = refl
 touching_lives : instant_lines (λ r. 1) (λ r. 1) 9 (λ r. 5 ∷ []) (seven ∷ []) ≡ []
 unfolding instant_lines
 touching_lives = refl
+
+-- the cells of a row, and of one with a text that the table does not have
+two_texts : List (List ℕ)
+two_texts = (97 ∷ []) ∷ (98 ∷ []) ∷ []
+
+known_text : cells_of two_texts (Text (98 ∷ []) ∷ Int (pos 7) ∷ []) ≡ PlaceDatum 1 ∷ IntDatum (pos 7) ∷ []
+unfolding two_texts
+known_text = refl
+
+other_text : are_placed two_texts (cells_of two_texts (Text (99 ∷ []) ∷ [])) ≡ false
+unfolding two_texts
+other_text = refl
+
+place_stands : stand_for two_texts (Text (98 ∷ []) ∷ []) (PlaceDatum 1 ∷ []) ≡ true
+unfolding two_texts
+place_stands = refl

@@ -12,5 +12,6 @@ mod Reaching
 mod Sweeps
 mod Putting
 pub mod Taking
+mod TakingOne
 mod Placing
 mod Examples

@@ -59,34 +59,5 @@ module _ {A : Type 0} (m n : BTreeMap ℕ (Vec Edge A)) (k : ℕ) (e : Edge) (at
       rest t old true empty = absurd (cc)
       rest t old false empty = old
 
--- a list is put edge by edge: these are still to be put
-pub record Putting (old now : Waiting) (all rest : List Edge) : Type 0 where
-  pub edges : (t : ℕ) → edges_if (now t) ++ edges_at t (singles rest) ≡ edges_if (old t) ++ edges_at t (singles all)
-  pub none : (t : ℕ) → old t ≡ None → edges_at t (singles all) ≡ [] → (now t ≡ None) × (edges_at t (singles rest) ≡ [])
-
-pub put_first : (old : Waiting) (all : List Edge) → Putting old old all all
-put_first old all = record { edges = λ t. refl; none = λ t e n. (e, n) }
-
-pub put_next : (old now now2 : Waiting) (all list rest : List Edge) (e : Edge) → list ≡ e ∷ rest → ArePut now now2 (singles_of e) →
-    Putting old now all list → Putting old now2 all rest
-put_next old now now2 all list rest e is p s0 =
-    let s = subst (λ l. Putting old now all l) is s0 in
-    record {
-      edges = λ t.
-          ap (λ l. l ++ edges_at t (singles rest)) (p.edges t)
-          ∙ append_assoc (edges_if (now t)) (edges_at t (singles_of e)) (edges_at t (singles rest))
-          ∙ ap (λ l. edges_if (now t) ++ l) (sym (both_at t (singles_of e) (singles rest)))
-          ∙ s.edges t;
-      none = λ t o n.
-          let z = s.none t o n in
-          let y = sym (both_at t (singles_of e) (singles rest)) ∙ z.1 in
-          (p.none t z.0 (nil_left (edges_at t (singles_of e)) (edges_at t (singles rest)) y), nil_right (edges_at t (singles_of e)) (edges_at t (singles rest)) y);
-    }
-
-pub put_last : (old now : Waiting) (all rest : List Edge) → rest ≡ [] → Putting old now all rest → ArePut old now (singles all)
-put_last old now all rest is s0 =
-    let s = subst (λ l. Putting old now all l) is s0 in
-    record {
-      edges = λ t. sym (append-nil (edges_if (now t))) ∙ s.edges t;
-      none = λ t o n. (s.none t o n).0;
-    }
+pub single_put : (old new : Waiting) (e : Edge) → ArePut old new (singles_of e) → ArePut old new (singles (e ∷ []))
+single_put old new e put = subst (ArePut old new) (sym (append-nil (singles_of e))) put

@@ -219,3 +219,6 @@ module _ (p : List Datum → Bool) (old new : Waiting) (at : ℕ) (es : List Edg
       pick : (b : Bool) → failing (λ x. p x.cells) (edges_if (cond b None (old t))) ≡ 0
       pick true = refl
       pick false = was t
+
+pub one_from : (c : ℕ) (e : Edge) → c ≤ e.sync → failing (is_from c) (e ∷ []) ≡ 0
+one_from c e low = grind (arith, nat_tests)

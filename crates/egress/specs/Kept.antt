@@ -31,21 +31,22 @@ ends_in touched r = ends_if (get row_cmp touched r)
 abbrev pub starts_in : BTreeMap Row Moves → Row → ℕ
 starts_in touched r = starts_if (get row_cmp touched r)
 
--- the datum is no place, or that of a text of the table; and all data of cells
+-- the datum is no place, or that of a text of the table. With one text place 0 passes, and place 1 does not
 abbrev pub is_placed : List (List ℕ) → Datum → Bool
 is_placed texts (IntDatum x) = true
 is_placed texts (FlagDatum b) = true
 is_placed texts (PlaceDatum id) = nat_lt id (length texts)
 
+-- each datum of cells passes
 abbrev pub are_placed : List (List ℕ) → List Datum → Bool
 are_placed texts [] = true
 are_placed texts (d ∷ ds) = is_placed texts d && are_placed texts ds
 
--- the cells, read through the table, are the row
+-- the cells are placed and read as the row. With the text `a`, place 0 stands for the row `a`
 abbrev pub stand_for : List (List ℕ) → Row → List Datum → Bool
 stand_for texts r cells = are_placed texts cells && eq_by_cmp row_cmp (read_cells texts cells) r
 
--- each row and the cells that are kept of it pass the test
+-- each row and the cells that are kept of it pass the test, as `stand_for` of a table
 abbrev pub KeepsCells : (Row → List Datum → Bool) → BTreeMap Row Moves → Type 0
 KeepsCells p touched = (r : Row) (m : Moves) → get row_cmp touched r ≡ Some m → p r m.cells ≡ true
 
@@ -72,10 +73,10 @@ datum_of texts (Text t) = PlaceDatum (position_or_len (bytes_eq t) texts)
 abbrev pub cells_of : List (List ℕ) → Row → List Datum
 cells_of texts row = map (datum_of texts) row
 
--- the open starts of a row
+-- the open starts of a row: those of its cells. With the text `a`, of the row `a` those of place 0
 abbrev pub since_in : {S H : Type 0} → List (List ℕ) → IndexMap (List Datum) (VecDeque ℕ S) H → Row → List ℕ
 since_in texts opens r = since_at opens (cells_of texts r)
 
--- the cells of each row that is open pass the test
+-- the cells of each row that is open pass the test: where place 0 alone is open, a test that place 1 fails may be passed
 abbrev pub OpensPass : (List Datum → Bool) → (List Datum → List ℕ) → Type 0
 OpensPass p since = (cells : List Datum) (t : ℕ) (rest : List ℕ) → since cells ≡ t ∷ rest → p cells ≡ true

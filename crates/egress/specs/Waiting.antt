@@ -52,12 +52,13 @@ pub record ArePopped (old new : Waiting) (at : ℕ) (es : List Edge) : Type 0 wh
 abbrev pub WaitingArePlaced : List (List ℕ) → Waiting → Type 0
 WaitingArePlaced texts waiting = (t : ℕ) → EdgesArePlaced texts (edges_if (waiting t))
 
--- the edges end the same rows, each as often, and start the same rows. Of a row's two lives [1, 9) and [3, 9) the ends alike
+-- the edges end the same rows, each as often, and start the same rows: the end at 9 of the life [1, 9) moves what that of
+-- [3, 9) of the same row moves
 pub record SameMoves (xs ys : List Edge) : Type 0 where
   pub ended : SameBag (bare (ended_rows xs)) (bare (ended_rows ys))
   pub started : SameBag (bare (started_rows xs)) (bare (started_rows ys))
 
--- the cells of each row that is open, and of each edge that waits, pass the test
+-- the cells of each row that is open, and of each edge that waits, pass the test, as that of being placed in a table
 pub record HavePassed (p : List Datum → Bool) (since : List Datum → List ℕ) (waiting : Waiting) : Type 0 where
   pub opens : OpensPass p since
   pub waits : (t : ℕ) → failing (λ e. p e.cells) (edges_if (waiting t)) ≡ 0

@@ -1,8 +1,9 @@
 // Output while the input goes on.
-ghost use Rattle.std.specs.Prelude.{◌≡◌, ◌≤◌, ◌-◌, ℕ, Bool, false, List, [], ◌++◌, is_err, IfOk, OnOk};
+ghost use Rattle.std.specs.Prelude.{◌≡◌, ◌≤◌, ◌-◌, ℕ, Bool, false, List, [], ◌∷◌, ◌++◌, is_err, IfOk, OnOk};
 ghost use Rattle.tw_rows.specs.Instant.{inf};
 ghost use Rattle.tw_rows.specs.Event.{Event, AreEvents, alive};
 ghost use Rattle.tw_rows.specs.Rows.{Row as Values};
+ghost use Rattle.tw_rows.specs.Cells.{ArePlaced};
 ghost use Rattle.tw_rows.specs.declared.cells.Datum.{Datum};
 ghost use Rattle.tw_rows.specs.declared.edge.Edge.{Edge};
 ghost use Rattle.edge_history.specs.Order.{failing, is_from, IsHistory};
@@ -16,7 +17,7 @@ ghost use Rattle.egress.specs.Output.{Holds, IsPlacedIn};
 ghost use Rattle.egress.specs.Print.{print, punctuation_if};
 
 use crate::edges::show_edges;
-use crate::waiting::{pop_due, put_all};
+use crate::waiting::{pop_due, put_singles};
 use edge_stream::EdgeList;
 use indexmap::IndexMap;
 use line_text::push_punctuation;
@@ -58,6 +59,14 @@ fn show_due(
     Ok(())
 }
 
+fn first_of(a: Time, b: Time) -> Time
+    ensures first { result ≤ a }
+    ensures second { result ≤ b }
+    ensures greatest { (c : ℕ) → c ≤ a → c ≤ b → c ≤ result }
+{
+    if a < b { a } else { b }
+}
+
 fn push_punctuation_if(out: &mut Vec<u8>, punctuation: Option<Time>) -> Result<(), Memory>
     ensures { OnOk result (out.new.items ≡ out.old.items ++ punctuation_if punctuation) }
 {
@@ -92,6 +101,28 @@ impl Egress {
         self.failed
     }
 
+    /// Shows what is due, and then puts the edge to those that wait. It comes no earlier.
+    fn take_one(&mut self, edge: Edge, due: Time, texts: &TextTable) -> Result<(), Memory>
+        requires placed { ArePlaced texts.now edge.cells }
+        requires waiting { IsPlacedIn texts.now self.old }
+        ensures holds { OnOk result ((h : List Edge) (a c : ℕ) → Holds texts.now h a c self.old → IsHistory (h ++ edge ∷ []) → c ≤ due → due ≤ edge.sync → Holds texts.now (h ++ edge ∷ []) a due self.new) }
+        ensures placed { OnOk result (IsPlacedIn texts.now self.new) }
+        ensures kinds { self.new.kinds.items ≡ self.old.kinds.items }
+        ensures failed { self.new.failed ≡ self.old.failed }
+    {
+        show_due(
+            &mut self.opens,
+            &mut self.waiting,
+            &mut self.text,
+            self.alloc,
+            &self.kinds,
+            due,
+            texts,
+        )?;
+        put_singles(&mut self.waiting, self.alloc, edge)?;
+        Ok(())
+    }
+
     fn take_edges(&mut self, edges: &EdgeList, to: Time, texts: &TextTable) -> Result<(), Memory>
         requires placed { EdgesArePlaced texts.now edges.now.edges }
         requires waiting { IsPlacedIn texts.now self.old }
@@ -100,7 +131,11 @@ impl Egress {
         ensures kinds { self.new.kinds.items ≡ self.old.kinds.items }
         ensures failed { self.new.failed ≡ self.old.failed }
     {
-        put_all(&mut self.waiting, self.alloc, edges)?;
+        let mut cursor = edges.cursor();
+        while let Some(edge) = cursor.next()? {
+            let due = first_of(edge.sync, to);
+            self.take_one(edge, due, texts)?;
+        }
         show_due(
             &mut self.opens,
             &mut self.waiting,

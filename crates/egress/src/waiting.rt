@@ -3,10 +3,9 @@ ghost use Rattle.std.specs.Prelude.{◌≡◌, ◌<◌, ◌≤◌, ◌+◌, ℕ,
 ghost use Rattle.std.specs.Ordering.{nat_cmp};
 ghost use Rattle.std.specs.BTreeMap.{get, btree_map_len, IsLowerBound};
 ghost use Rattle.tw_rows.specs.Instant.{inf};
-ghost use Rattle.edge_history.specs.Opens.{singles_of, singles};
+ghost use Rattle.edge_history.specs.Opens.{singles_of};
 ghost use Rattle.egress.specs.Waiting.{waiting_in, ArePut, ArePopped};
 
-use edge_stream::EdgeList;
 use std::alloc::Global;
 use std::collections::BTreeMap;
 use tw_rows::{Edge, Memory, Time};
@@ -26,7 +25,7 @@ fn put(waiting: &mut BTreeMap<u64, Vec<Edge>>, alloc: Global, edge: Edge) -> Res
         edges.push(edge)?;
         return Ok(());
     }
-    let mut edges = Vec::with_capacity(alloc, 1)?;
+    let mut edges = Vec::new(alloc);
     edges.push(edge)?;
     waiting.insert(instant, edges)?;
     Ok(())
@@ -34,7 +33,7 @@ fn put(waiting: &mut BTreeMap<u64, Vec<Edge>>, alloc: Global, edge: Edge) -> Res
 
 /// Puts an edge: of an interval its start and its end.
 #[tactic(auto, unfolding(tw_rows::specs::Instant::inf))]
-fn put_singles(
+pub(crate) fn put_singles(
     waiting: &mut BTreeMap<u64, Vec<Edge>>,
     alloc: Global,
     edge: Edge,
@@ -56,21 +55,6 @@ fn put_singles(
     };
     put(waiting, alloc, start)?;
     put(waiting, alloc, end)
-}
-
-/// Puts the edges of a list, each to those of its instant.
-pub(crate) fn put_all(
-    waiting: &mut BTreeMap<u64, Vec<Edge>>,
-    alloc: Global,
-    edges: &EdgeList,
-) -> Result<(), Memory>
-    ensures { OnOk result (ArePut (waiting_in waiting.old) (waiting_in waiting.new) (singles edges.now.edges)) }
-{
-    let mut cursor = edges.cursor();
-    while let Some(edge) = cursor.next()? {
-        put_singles(waiting, alloc, edge)?;
-    }
-    Ok(())
 }
 
 fn first_instant(waiting: &BTreeMap<u64, Vec<Edge>>) -> Option<u64>
