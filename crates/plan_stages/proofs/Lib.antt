@@ -1,3 +1,4 @@
+mod Examples
 pub mod Rules
 pub mod Growing
 pub mod HeldLists

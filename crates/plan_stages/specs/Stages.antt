@@ -39,14 +39,16 @@ left_kinds plan n = left_of [] (kinds_of_stream plan.streams) (kinds_at plan.sch
 abbrev pub right_kinds : PlanParts → Node → List CellKind
 right_kinds plan n = right_of [] (kinds_at plan.schemas) n
 
--- the edges came to a side that is closed up to x
+-- the edges came to a side that is closed up to x. A start at 3 may have come to one that is closed up to 4, and to one closed up
+-- to 3 it may not
 pub record HasCome (texts : List (List ℕ)) (x : ℕ) (h : List Edge) : Type 0 where
   pub low : x ≤ inf
   pub history : IsHistory h
   pub below : failing (is_below x) h ≡ 0
   pub placed : EdgesArePlaced texts h
 
--- the edges l may come behind those that came up to x, when the side is closed up to u
+-- the edges l may come behind those that came up to x, when the side is closed up to u. Behind a start at 3, on a side that was
+-- closed up to 4 and is closed up to 6 now, its end at 5 may come, and an end at 6 may not
 pub record MayComeUpTo (texts : List (List ℕ)) (x u : ℕ) (came l : List Edge) : Type 0 where
   pub low : u ≤ inf
   pub may : MayCome texts x came l
@@ -66,7 +68,7 @@ pub record CanTake (texts : List (List ℕ)) (left right : EdgeListView) (s : St
   pub left_rises : x ≤ u
   pub right_rises : y ≤ v
 
--- of the edges hl it made out
+-- of the edges hl it made out: of starts with the rows 5 and 20 the second, where the node is `where v > 10`
 pub record HasMade (texts : List (List ℕ)) (n : Node) (x : ℕ) (hl out : List Edge) : Type 0 where
   pub came : HasCome texts x hl
   pub made : IsMade texts n hl out
