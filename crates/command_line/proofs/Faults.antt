@@ -1,5 +1,5 @@
 -- What clap makes of words for the command that is built, and for the command of the definition, is the same.
-use Rattle.std.proofs.Common.{◌≡◌, ◌∙◌, ◌&&◌, ◌||◌, Bool, true, false, not, refl, sym, ap, subst, List, [], ◌∷◌, map, codes, Option, Some, None, is_some}
+use Rattle.std.proofs.Common.{◌≡◌, ◌∙◌, ◌&&◌, ◌||◌, Bool, true, false, not, refl, sym, ap, ap₂, subst, List, [], ◌∷◌, map, codes, Option, Some, None, is_some}
 use Rattle.std.specs.Borrow.{Bor}
 use Rattle.std.specs.List.{list_all}
 use Rattle.clap.specs.ValueTests.{accepts}
@@ -13,16 +13,17 @@ use Rattle.clap.specs.declared.builder.value_parser.ValueParser.TheVariants as v
 use Rattle.clap.proofs.WalkLemmas.{both}
 use Rattle.clap.proofs.TakesLemmas.{leaf_takes}
 use Rattle.clap.proofs.FaultLemmas.{leaf_fault}
-use Rattle.command_line.specs.Options.{behind, tempo_app, tempo_app_with}
+use Rattle.command_line.specs.Options.{among, behind, late_names, mode_names, tempo_app, tempo_app_with}
 use Rattle.command_line.proofs.Agreement.{nothing_of_both, settling_agrees, walk_agrees}
 use Rattle.command_line.proofs.Pointers.{accepts_at_names, finished_stays, moved_names, moved_rule, moved_shape, rows_stay, settle_stays, walk_passes-moved, walk_stays}
-use Rattle.command_line.proofs.Taken.{Passes, last_rows, modes, shape_with, tempo_shape}
+use Rattle.command_line.proofs.Taken.{Passes, last_rows, modes, ways, shape_with, tempo_shape}
 
 abbrev Names : Type 0
 Names = Bor (List (Bor Text))
 
-abbrev AreModes : Names → Type 0
-AreModes n = map (λ s. s.now) n.now ≡ codes "run" ∷ codes "explain" ∷ []
+-- the names are these texts
+abbrev Are : List Text → Names → Type 0
+Are names n = map (λ s. s.now) n.now ≡ names
 
 -- ---- the names where `among` has them
 
@@ -30,14 +31,14 @@ behind-map : (xs : List (Bor Text)) → map (λ (name : Bor Text). behind name.n
 behind-map [] = refl
 behind-map (x ∷ xs) = ap (λ t. behind x.now ∷ t) (behind-map xs)
 
-names_are : (n : Names) → AreModes n → vp.Names (moved_names n) ≡ modes
-names_are n e = ap (λ xs. vp.Names (behind xs)) (behind-map n.now ∙ ap (map (λ (name : Text). behind name)) e)
+names_are : (names : List Text) (n : Names) → Are names n → vp.Names (moved_names n) ≡ among names
+names_are names n e = ap (λ xs. vp.Names (behind xs)) (behind-map n.now ∙ ap (map (λ (name : Text). behind name)) e)
 
-shape_is : (n : Names) → AreModes n → moved_shape (shape_with (vp.Names n)) ≡ tempo_shape
-shape_is n e = ap shape_with (names_are n e)
+shape_is : (n m : Names) → Are mode_names n → Are late_names m → moved_shape (shape_with (vp.Names n) (vp.Names m)) ≡ tempo_shape
+shape_is n m e f = ap₂ shape_with (names_are mode_names n e) (names_are late_names m f)
 
-run_passes : (n : Names) → AreModes n → accepts false (vp.Names n) (codes "run") ≡ true
-run_passes n e = sym (accepts_at_names n (codes "run")) ∙ ap (λ p. accepts false p (codes "run")) (names_are n e)
+name_passes : (names : List Text) (n : Names) → Are names n → (t : Text) → accepts false (among names) t ≡ true → accepts false (vp.Names n) t ≡ true
+name_passes names n e t h = sym (accepts_at_names n t) ∙ (ap (λ p. accepts false p t) (names_are names n e) ∙ h)
 
 -- ---- what passes, from one to the other
 
@@ -65,9 +66,9 @@ from_moved s words p =
 
 -- ---- a level of a parse
 
-module _ (p : ValueParser) where
+module _ (p r : ValueParser) where
   abbrev it : App
-  it = built (tempo_app_with p)
+  it = built (tempo_app_with p r)
 
   level_of : (words : List Text) → built_takes it nothing_held words ≡ true → level_passes it.top [] nothing_held words false ≡ true
   level_of words e = go (walk it.top.rules [] nothing_held words).stopped e
@@ -88,17 +89,17 @@ module _ (p : ValueParser) where
   level_from : (words : List Text) → list_all default_passes it.top.rules ≡ true → Passes it.top words → level_passes it.top [] nothing_held words false ≡ true
   level_from words defaults h = rw (h.walks, h.settles, defaults, h.query) refl
 
-  pub passes_of : (words : List Text) → takes (tempo_app_with p) words ≡ true → Passes it.top (argument_words (tempo_app_with p) words)
-  passes_of words e = parts_of (argument_words (tempo_app_with p) words) (level_of (argument_words (tempo_app_with p) words) e)
+  pub passes_of : (words : List Text) → takes (tempo_app_with p r) words ≡ true → Passes it.top (argument_words (tempo_app_with p r) words)
+  passes_of words e = parts_of (argument_words (tempo_app_with p r) words) (level_of (argument_words (tempo_app_with p r) words) e)
 
-  pub takes_from : (words : List Text) → list_all default_passes it.top.rules ≡ true → Passes it.top (argument_words (tempo_app_with p) words) → takes (tempo_app_with p) words ≡ true
+  pub takes_from : (words : List Text) → list_all default_passes it.top.rules ≡ true → Passes it.top (argument_words (tempo_app_with p r) words) → takes (tempo_app_with p r) words ≡ true
   takes_from words defaults h =
-      leaf_takes it nothing_held (argument_words (tempo_app_with p) words) refl (level_from (argument_words (tempo_app_with p) words) defaults h)
+      leaf_takes it nothing_held (argument_words (tempo_app_with p r) words) refl (level_from (argument_words (tempo_app_with p r) words) defaults h)
 
   -- where clap finds no fault, each part passes
-  pub passes_faultless : (words : List Text) → fault_of (tempo_app_with p) words ≡ [] → Passes it.top (argument_words (tempo_app_with p) words)
+  pub passes_faultless : (words : List Text) → fault_of (tempo_app_with p r) words ≡ [] → Passes it.top (argument_words (tempo_app_with p r) words)
   passes_faultless words e =
-      let given = argument_words (tempo_app_with p) words in
+      let given = argument_words (tempo_app_with p r) words in
       let end = (walk it.top.rules [] nothing_held given).held in
       let level : level_fault it.top [] nothing_held given false [] ≡ [] = sym (leaf_fault it nothing_held given refl) ∙ e in
       let a = nothing_of_both (walk_fault it.top [] (walk_from nothing_held) given) _ level in
@@ -116,28 +117,28 @@ module _ (p : ValueParser) where
 
 -- ---- the command that is built takes what the definition takes
 
-pub is_free : (n : Names) → is_simple_and_free (tempo_app_with (vp.Names n)) ≡ true
-is_free n = refl
+pub is_free : (n m : Names) → is_simple_and_free (tempo_app_with (vp.Names n) (vp.Names m)) ≡ true
+is_free n m = refl
 
-pub is_simple_one : (n : Names) → is_simple (tempo_app_with (vp.Names n)) ≡ true
-is_simple_one n = refl
+pub is_simple_one : (n m : Names) → is_simple (tempo_app_with (vp.Names n) (vp.Names m)) ≡ true
+is_simple_one n m = refl
 
-pub faultless_is_taken : (n : Names) → AreModes n → (words : List Text) → fault_of (tempo_app_with (vp.Names n)) words ≡ [] → takes tempo_app words ≡ true
-faultless_is_taken n e words none =
+pub faultless_is_taken : (n m : Names) → Are mode_names n → Are late_names m → (words : List Text) → fault_of (tempo_app_with (vp.Names n) (vp.Names m)) words ≡ [] → takes tempo_app words ≡ true
+faultless_is_taken n m e f words none =
     let given = argument_words tempo_app words in
-    let there = to_moved (shape_with (vp.Names n)) given (passes_faultless (vp.Names n) words none) in
-    takes_from modes words refl (subst (λ s. Passes s given) (shape_is n e) there)
+    let there = to_moved (shape_with (vp.Names n) (vp.Names m)) given (passes_faultless (vp.Names n) (vp.Names m) words none) in
+    takes_from modes ways words refl (subst (λ s. Passes s given) (shape_is n m e f) there)
 
-pub taken_is_taken : (n : Names) → AreModes n → (words : List Text) → takes tempo_app words ≡ true → takes (tempo_app_with (vp.Names n)) words ≡ true
-taken_is_taken n e words h =
+pub taken_is_taken : (n m : Names) → Are mode_names n → Are late_names m → (words : List Text) → takes tempo_app words ≡ true → takes (tempo_app_with (vp.Names n) (vp.Names m)) words ≡ true
+taken_is_taken n m e f words h =
     let given = argument_words tempo_app words in
-    let there : Passes (moved_shape (shape_with (vp.Names n))) given = subst (λ s. Passes s given) (sym (shape_is n e)) (passes_of modes words h) in
-    takes_from (vp.Names n) words (defaults_pass n e) (from_moved (shape_with (vp.Names n)) given there)
+    let there : Passes (moved_shape (shape_with (vp.Names n) (vp.Names m))) given = subst (λ s. Passes s given) (sym (shape_is n m e f)) (passes_of modes ways words h) in
+    takes_from (vp.Names n) (vp.Names m) words defaults_pass (from_moved (shape_with (vp.Names n) (vp.Names m)) given there)
   where
-    defaults_pass : (n : Names) → AreModes n → list_all default_passes (shape_with (vp.Names n)).rules ≡ true
-    defaults_pass n e = rw (run_passes n e) refl
+    defaults_pass : list_all default_passes (shape_with (vp.Names n) (vp.Names m)).rules ≡ true
+    defaults_pass = rw (name_passes mode_names n e (codes "run") refl, name_passes late_names m f (codes "refuse") refl) refl
 
-pub same_matches : (n : Names) → AreModes n → (words : List Text) → matches_of (tempo_app_with (vp.Names n)) words ≡ matches_of tempo_app words
-same_matches n e words =
-    sym (rows_stay (shape_with (vp.Names n)).rules [] (argument_words tempo_app words))
-    ∙ ap (λ (s : Shape). last_rows s (argument_words tempo_app words)) (shape_is n e)
+pub same_matches : (n m : Names) → Are mode_names n → Are late_names m → (words : List Text) → matches_of (tempo_app_with (vp.Names n) (vp.Names m)) words ≡ matches_of tempo_app words
+same_matches n m e f words =
+    sym (rows_stay (shape_with (vp.Names n) (vp.Names m)).rules [] (argument_words tempo_app words))
+    ∙ ap (λ (s : Shape). last_rows s (argument_words tempo_app words)) (shape_is n m e f)

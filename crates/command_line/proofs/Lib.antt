@@ -2,6 +2,7 @@ pub mod Agreement
 pub mod Pointers
 pub mod Kept
 pub mod Rows
+pub mod Distinct
 pub mod Taken
 pub mod Faults
 pub mod Spelled

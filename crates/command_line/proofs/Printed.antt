@@ -13,54 +13,80 @@ use Rattle.clap.specs.declared.builder.value_parser.ValueParser.TheVariants as v
 use Rattle.clap.proofs.OnLiterals.{clap_on_literals}
 use Rattle.clap.proofs.ValueTestLemmas.{Accepts-accepts}
 use Rattle.command_line.specs.Options.{tempo_app}
-use Rattle.command_line.specs.Words.{Asked, SpellsCommand, are_taken, header_words, mode_text, number_said, value_of, words_for}
+use Rattle.command_line.specs.Words.{AreWithin, Asked, SpellsCommand, are_taken, header_words, late_text, mode_text, number_said, value_of, words_for}
+use Rattle.admission.specs.declared.policy.Lateness.{Lateness}
+use Rattle.admission.specs.declared.policy.Lateness.TheVariants.{Refuse, Drop, Adjust}
 use Rattle.command_line.specs.declared.words.Mode.{Mode}
 use Rattle.command_line.specs.declared.words.Mode.TheVariants.{Run, Explain}
-use Rattle.command_line.proofs.Taken.{Passes, modes, tempo_shape}
+use Rattle.command_line.proofs.Taken.{Passes, modes, ways, tempo_shape}
 use Rattle.command_line.proofs.Faults.{takes_from}
 
--- the words, with the number as text
-abbrev words_with : Text → Mode → Text → Bool → List Text
-words_with query mode number header =
-    codes "tempo" ∷ (codes "--query=" ++ query) ∷ (codes "--mode=" ++ mode_text mode) ∷ (codes "--batch=" ++ number) ∷ header_words header
+-- the words, with the modes and the numbers as texts
+abbrev words_with : Text → Text → Text → Text → Text → Text → Bool → List Text
+words_with query mode number late lateness period header =
+    codes "tempo" ∷ (codes "--query=" ++ query) ∷ (codes "--mode=" ++ mode) ∷ (codes "--batch=" ++ number) ∷ (codes "--late=" ++ late)
+    ∷ (codes "--lateness=" ++ lateness) ∷ (codes "--punctuate=" ++ period) ∷ header_words header
 
-passes : (query number : Text) (mode : Mode) (header : Bool) → accepts false (vp.Unsigned 1 8192) number ≡ true → Passes tempo_shape (drop 1 (words_with query mode number header))
-unfolding clap_on_literals
-passes query number Run true range = record { walks = ap (λ b. ((b && true) && true) && true) range; settles = refl; query = refl }
-passes query number Run false range = record { walks = ap (λ b. ((b && true) && true) && true) range; settles = refl; query = refl }
-passes query number Explain true range = record { walks = ap (λ b. ((b && true) && true) && true) range; settles = refl; query = refl }
-passes query number Explain false range = record { walks = ap (λ b. ((b && true) && true) && true) range; settles = refl; query = refl }
+-- what clap asks of a word with a value that has this test
+abbrev asks : Bool → Bool
+asks t = (t && true) && true
 
-taken : (query number : Text) (mode : Mode) (header : Bool) → accepts false (vp.Unsigned 1 8192) number ≡ true → takes tempo_app (words_with query mode number header) ≡ true
-taken query number mode header range = takes_from modes (words_with query mode number header) refl (passes query number mode header range)
+all_pass : (a b c d e : Bool) → a ≡ true → b ≡ true → c ≡ true → d ≡ true → e ≡ true → (asks a && (asks b && (asks c && (asks d && (asks e && true))))) ≡ true
+all_pass a b c d e p q r s t = rw (p, q, r, s, t) refl
 
-query_is : (query number : Text) (mode : Mode) (header : Bool) → first_of (codes "query") (matches_of tempo_app (words_with query mode number header)) ≡ Some query
-unfolding clap_on_literals
-query_is query number Run true = refl
-query_is query number Run false = refl
-query_is query number Explain true = refl
-query_is query number Explain false = refl
+module _ (query mode number late lateness period : Text) where
+  abbrev given : Bool → List Text
+  given header = words_with query mode number late lateness period header
 
-mode_is : (query number : Text) (mode : Mode) (header : Bool) → first_of (codes "mode") (matches_of tempo_app (words_with query mode number header)) ≡ Some (mode_text mode)
-unfolding clap_on_literals
-mode_is query number Run true = refl
-mode_is query number Run false = refl
-mode_is query number Explain true = refl
-mode_is query number Explain false = refl
+  passes : (header : Bool) → accepts false modes mode ≡ true → accepts false (vp.Unsigned 1 8192) number ≡ true → accepts false ways late ≡ true →
+      accepts false (vp.Unsigned 0 1152921504606846975) lateness ≡ true → accepts false (vp.Unsigned 0 1152921504606846975) period ≡ true → Passes tempo_shape (drop 1 (given header))
+  unfolding clap_on_literals
+  passes true a b c d e = record { walks = all_pass (accepts false modes mode) (accepts false (vp.Unsigned 1 8192) number) (accepts false ways late) (accepts false (vp.Unsigned 0 1152921504606846975) lateness) (accepts false (vp.Unsigned 0 1152921504606846975) period) a b c d e; settles = refl; query = refl }
+  passes false a b c d e = record { walks = all_pass (accepts false modes mode) (accepts false (vp.Unsigned 1 8192) number) (accepts false ways late) (accepts false (vp.Unsigned 0 1152921504606846975) lateness) (accepts false (vp.Unsigned 0 1152921504606846975) period) a b c d e; settles = refl; query = refl }
 
-batch_is : (query number : Text) (mode : Mode) (header : Bool) → first_of (codes "batch") (matches_of tempo_app (words_with query mode number header)) ≡ Some number
-unfolding clap_on_literals
-batch_is query number Run true = refl
-batch_is query number Run false = refl
-batch_is query number Explain true = refl
-batch_is query number Explain false = refl
+  query_is : (header : Bool) → first_of (codes "query") (matches_of tempo_app (given header)) ≡ Some query
+  unfolding clap_on_literals
+  query_is true = refl
+  query_is false = refl
 
-header_is : (query number : Text) (mode : Mode) (header : Bool) → first_of (codes "header") (matches_of tempo_app (words_with query mode number header)) ≡ Some (bool_text header)
-unfolding clap_on_literals
-header_is query number Run true = refl
-header_is query number Run false = refl
-header_is query number Explain true = refl
-header_is query number Explain false = refl
+  mode_is : (header : Bool) → first_of (codes "mode") (matches_of tempo_app (given header)) ≡ Some mode
+  unfolding clap_on_literals
+  mode_is true = refl
+  mode_is false = refl
+
+  batch_is : (header : Bool) → first_of (codes "batch") (matches_of tempo_app (given header)) ≡ Some number
+  unfolding clap_on_literals
+  batch_is true = refl
+  batch_is false = refl
+
+  late_is : (header : Bool) → first_of (codes "late") (matches_of tempo_app (given header)) ≡ Some late
+  unfolding clap_on_literals
+  late_is true = refl
+  late_is false = refl
+
+  lateness_is : (header : Bool) → first_of (codes "lateness") (matches_of tempo_app (given header)) ≡ Some lateness
+  unfolding clap_on_literals
+  lateness_is true = refl
+  lateness_is false = refl
+
+  punctuate_is : (header : Bool) → first_of (codes "punctuate") (matches_of tempo_app (given header)) ≡ Some period
+  unfolding clap_on_literals
+  punctuate_is true = refl
+  punctuate_is false = refl
+
+  header_is : (header : Bool) → first_of (codes "header") (matches_of tempo_app (given header)) ≡ Some (bool_text header)
+  unfolding clap_on_literals
+  header_is true = refl
+  header_is false = refl
+
+mode_passes : (m : Mode) → accepts false modes (mode_text m) ≡ true
+mode_passes Run = refl
+mode_passes Explain = refl
+
+late_passes : (l : Lateness) → accepts false ways (late_text l) ≡ true
+late_passes Refuse = refl
+late_passes Drop = refl
+late_passes Adjust = refl
 
 no_plus : (ds : Text) → IsNumeral 10 ds → without_leading_plus ds ≡ ds
 no_plus [] h = refl
@@ -68,28 +94,37 @@ no_plus (d ∷ ds) h =
     let plus : (d == 43) ≡ false = ne_eqb d 43 (λ e. omega (arith, digit_from_value d h.1.0)) in
     ap (λ (b : Bool). drop (cond b 1 0) (d ∷ ds)) plus
 
-number_is : (n : ℕ) → n ≤ 8192 → (without_leading_plus (decimal n) ≡ decimal n) × (digits_value 10 (without_leading_plus (decimal n)) ≡ n) × IsNumeral 10 (decimal n)
-number_is n most =
-    let fits : n < 2 ^ 64 = omega arith in
+number_is : (n : ℕ) → n < 2 ^ 64 → (without_leading_plus (decimal n) ≡ decimal n) × (digits_value 10 (without_leading_plus (decimal n)) ≡ n) × IsNumeral 10 (decimal n)
+number_is n fits =
     let written = decimal_is_IsNumeral n fits in
     let same = no_plus (decimal n) written.0 in
     (same, ap (digits_value 10) same ∙ written.1, written.0)
 
-in_range : (n : ℕ) → 1 ≤ n → n ≤ 8192 → accepts false (vp.Unsigned 1 8192) (decimal n) ≡ true
-in_range n least most =
-    let number = number_is n most in
-    let small : n < 2 ^ 64 = omega arith in
-    Accepts-accepts false (vp.Unsigned 1 8192) (decimal n)
+in_range : (low high n : ℕ) → low ≤ n → n ≤ high → n < 2 ^ 64 → accepts false (vp.Unsigned low high) (decimal n) ≡ true
+in_range low high n least most small =
+    let number = number_is n small in
+    Accepts-accepts false (vp.Unsigned low high) (decimal n)
     (rw number.0 number.2, rw number.1 small, rw number.1 least, rw number.1 most)
 
-pub printed : (a : Asked) → 1 ≤ a.batch → a.batch ≤ 8192 → SpellsCommand (words_for a) a
+pub printed : (a : Asked) → AreWithin a → SpellsCommand (words_for a) a
 unfolding are_taken value_of
-printed a least most =
+printed a w =
+    let batch : a.batch < 2 ^ 64 = omega (arith, w.most) in
+    let lateness : a.policy.lateness < 2 ^ 64 = omega (arith, w.lateness) in
+    let period : a.policy.period < 2 ^ 64 = omega (arith, w.period) in
+    let m = mode_text a.mode in
+    let l = late_text a.policy.late in
     let number = decimal a.batch in
+    let older = decimal a.policy.lateness in
+    let every = decimal a.policy.period in
     record {
-      taken = taken a.query number a.mode a.header (in_range a.batch least most);
-      query = query_is a.query number a.mode a.header;
-      mode = mode_is a.query number a.mode a.header;
-      batch = ap (option_map number_said) (batch_is a.query number a.mode a.header) ∙ ap (λ (n : ℕ). Some n) (number_is a.batch most).1;
-      header = header_is a.query number a.mode a.header;
+      taken = takes_from modes ways (words_for a) refl (passes a.query m number l older every a.header (mode_passes a.mode) (in_range 1 8192 a.batch w.least w.most batch)
+          (late_passes a.policy.late) (in_range 0 1152921504606846975 a.policy.lateness (omega arith) w.lateness lateness) (in_range 0 1152921504606846975 a.policy.period (omega arith) w.period period));
+      query = query_is a.query m number l older every a.header;
+      mode = mode_is a.query m number l older every a.header;
+      batch = ap (option_map number_said) (batch_is a.query m number l older every a.header) ∙ ap (λ (n : ℕ). Some n) (number_is a.batch batch).1;
+      header = header_is a.query m number l older every a.header;
+      late = late_is a.query m number l older every a.header;
+      lateness = ap (option_map number_said) (lateness_is a.query m number l older every a.header) ∙ ap (λ (n : ℕ). Some n) (number_is a.policy.lateness lateness).1;
+      punctuate = ap (option_map number_said) (punctuate_is a.query m number l older every a.header) ∙ ap (λ (n : ℕ). Some n) (number_is a.policy.period period).1;
     }

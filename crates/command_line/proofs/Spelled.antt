@@ -11,10 +11,13 @@ use Rattle.clap.specs.declared.parser.matches.Found.{Found}
 use Rattle.clap.proofs.ValueTestLemmas.{accepts-Accepts}
 use Rattle.clap.proofs.WalkLemmas.{first_value-rows, one_text-rows}
 use Rattle.command_line.specs.Options.{tempo_app}
-use Rattle.command_line.specs.Words.{Asked, ShowsCommand, SpellsCommand, are_taken, mode_text, number_said, value_of}
+use Rattle.command_line.specs.Words.{AreWithin, Asked, ShowsCommand, SpellsCommand, are_taken, late_text, mode_text, number_said, value_of}
+use Rattle.admission.specs.declared.policy.Lateness.{Lateness}
+use Rattle.admission.specs.declared.policy.Lateness.TheVariants.{Refuse, Drop, Adjust}
+use Rattle.clap.specs.ValueTests.{accepts}
 use Rattle.command_line.specs.declared.words.Mode.{Mode}
 use Rattle.command_line.specs.declared.words.Mode.TheVariants.{Run, Explain}
-use Rattle.command_line.proofs.Taken.{batch_built, header_built, last_rows, mode_built, modes, tempo_shape, values_of_words}
+use Rattle.command_line.proofs.Taken.{batch_built, header_built, last_rows, late_built, mode_built, modes, ways, tempo_shape, values_of_words}
 use Rattle.command_line.proofs.Faults.{passes_of}
 
 mode_said : (v : Text) → value_passes mode_built v ≡ true → (m : Mode) × (v ≡ mode_text m)
@@ -33,6 +36,18 @@ header_said v e = go (bytes_eq v (codes "true")) refl (bytes_eq v (codes "false"
     go false p true q x = (false, (bytes_eq-Decides v (codes "false")).0 q)
     go false p false q x = absurd (true≢false (sym x))
 
+late_said : (v : Text) → value_passes late_built v ≡ true → (l : Lateness) × (v ≡ late_text l)
+late_said v e = go (bytes_eq (codes "refuse") v) refl (bytes_eq (codes "drop") v) refl (bytes_eq (codes "adjust") v) refl e
+  where
+    go : (a : Bool) → bytes_eq (codes "refuse") v ≡ a → (b : Bool) → bytes_eq (codes "drop") v ≡ b → (d : Bool) → bytes_eq (codes "adjust") v ≡ d → (a || (b || (d || false))) ≡ true → (l : Lateness) × (v ≡ late_text l)
+    go true p b q d r x = (Refuse, sym ((bytes_eq-Decides (codes "refuse") v).0 p))
+    go false p true q d r x = (Drop, sym ((bytes_eq-Decides (codes "drop") v).0 q))
+    go false p false q true r x = (Adjust, sym ((bytes_eq-Decides (codes "adjust") v).0 r))
+    go false p false q false r x = absurd (true≢false (sym x))
+
+time_said : (v : Text) → accepts false (vp.Unsigned 0 1152921504606846975) v ≡ true → IsUnsignedIn 0 1152921504606846975 v
+time_said v e = accepts-Accepts false (vp.Unsigned 0 1152921504606846975) v e
+
 batch_said : (v : Text) → value_passes batch_built v ≡ true → IsUnsignedIn 1 8192 v
 batch_said v e = accepts-Accepts false (vp.Unsigned 1 8192) v e
 
@@ -40,8 +55,7 @@ batch_said v e = accepts-Accepts false (vp.Unsigned 1 8192) v e
 pub record Spelled (words : List Text) : Type 0 where
   pub asked : Asked
   pub spells : SpellsCommand words asked
-  pub least : 1 ≤ asked.batch
-  pub most : asked.batch ≤ 8192
+  pub within : AreWithin asked
   pub shows : (f : Found) → rows_of f ≡ matches_of tempo_app words → ShowsCommand f asked
 
 pub spelled : (words : List Text) → are_taken words ≡ true → Spelled words
@@ -49,21 +63,32 @@ unfolding are_taken value_of
 spelled words taken =
     let given = argument_words tempo_app words in
     let rows = last_rows tempo_shape given in
-    let values = values_of_words given (passes_of modes words taken) in
+    let values = values_of_words given (passes_of modes ways words taken) in
     let mode = mode_said values.mode.text values.mode.passes in
     let header = header_said values.header.text values.header.passes in
     let range = batch_said values.batch.text values.batch.passes in
+    let late = late_said values.late.text values.late.passes in
+    let lateness = time_said values.lateness.text values.lateness.passes in
+    let punctuate = time_said values.punctuate.text values.punctuate.passes in
     record {
-      asked = record { query = values.query.text; mode = mode.0; batch = number_said values.batch.text; header = header.0 };
+      asked = record {
+        query = values.query.text;
+        mode = mode.0;
+        batch = number_said values.batch.text;
+        header = header.0;
+        policy = record { lateness = number_said values.lateness.text; late = late.0; period = number_said values.punctuate.text };
+      };
       spells = record {
         taken = taken;
         query = values.query.first;
         mode = values.mode.first ∙ ap (λ (t : Text). Some t) mode.1;
         batch = ap (option_map number_said) values.batch.first;
         header = values.header.first ∙ ap (λ (t : Text). Some t) header.1;
+        late = values.late.first ∙ ap (λ (t : Text). Some t) late.1;
+        lateness = ap (option_map number_said) values.lateness.first;
+        punctuate = ap (option_map number_said) values.punctuate.first;
       };
-      least = range.2;
-      most = range.3;
+      within = record { least = range.2; most = range.3; lateness = lateness.3; period = punctuate.3 };
       shows = λ f same. record {
         query = first_value-rows f (codes "query") ∙ ap (first_of (codes "query")) same ∙ values.query.first;
         mode = first_value-rows f (codes "mode") ∙ ap (first_of (codes "mode")) same ∙ values.mode.first ∙ ap (λ (t : Text). Some t) mode.1;
@@ -72,5 +97,8 @@ spelled words taken =
         in_range = range;
         batch = refl;
         header = one_text-rows f (codes "header") ∙ ap (one_of (codes "header")) same ∙ values.header.one ∙ ap (λ (t : Text). Some t) header.1;
+        late = first_value-rows f (codes "late") ∙ ap (first_of (codes "late")) same ∙ values.late.first ∙ ap (λ (t : Text). Some t) late.1;
+        lateness = record { text = values.lateness.text; one = one_text-rows f (codes "lateness") ∙ ap (one_of (codes "lateness")) same ∙ values.lateness.one; in_range = lateness; number_is = refl };
+        punctuate = record { text = values.punctuate.text; one = one_text-rows f (codes "punctuate") ∙ ap (one_of (codes "punctuate")) same ∙ values.punctuate.one; in_range = punctuate; number_is = refl };
       };
     }

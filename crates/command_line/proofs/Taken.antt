@@ -1,20 +1,25 @@
 -- Words that are taken give each option a value that passes.
-use Rattle.std.proofs.Common.{◌≡◌, ◌∙◌, true, false, inl, inr, refl, sym, ap, subst, true≢false, List, [], ◌∷◌, codes, length, nat_le}
+use Rattle.std.proofs.Common.{◌≡◌, ◌∙◌, true, false, inl, inr, refl, sym, ap, subst, true≢false, List, [], ◌∷◌, codes, length, map, nat_le, ◌++◌}
+use Rattle.std.specs.List.{fold}
 use Rattle.std.specs.Str.{bytes_eq}
-use Rattle.std.proofs.lemmas.Slice.Eq.{bytes_eq-Decides}
-use Rattle.clap.specs.Walk.{Row, Rule, Text, finished, has_row, nothing_held, settled_rows, used, walk, walk_from, with_default}
+use Rattle.clap.specs.Walk.{Row, Rule, Text, finished, has_row, nothing_held, reading_by, settled_rows, used, walk, walk_from, with_default}
 use Rattle.clap.specs.Simple.{Shape, built, filled, help_rule, with_index}
 use Rattle.clap.specs.Takes.{is_given, settle_passes, use_passes, walk_passes}
 use Rattle.clap.specs.declared.builder.value_parser.ValueParser.{ValueParser}
+use Rattle.clap.specs.declared.builder.value_parser.Reading.TheVariants as reading
 use Rattle.clap.proofs.WalkLemmas.{both}
-use Rattle.command_line.specs.Options.{among, batch_rule, header_rule, mode_rule, query_rule, tempo_app_with}
+use Rattle.command_line.specs.Options.{among, batch_rule, header_rule, late_names, late_rule, lateness_rule, mode_names, mode_rule, option_rules, punctuate_rule, query_rule, tempo_app_with}
+use Rattle.command_line.proofs.Distinct.{Each, are_distinct, defaults_keep, each_in, one_of_id, row_by_default}
 use Rattle.command_line.proofs.Kept.{IsIn, settling_keeps, walk_keeps}
-use Rattle.command_line.proofs.Rows.{AllFit, Reads, default_fits, default_has, default_keeps_row, flag_use, given_has, no_default, reads_of, row_found, set_use}
+use Rattle.command_line.proofs.Rows.{AllFit, Reads, default_fits, flag_use, given_has, no_default, reads_of, row_found, set_use}
 
 -- ---- the command as clap builds it
 
 abbrev pub modes : ValueParser
-modes = among (codes "run" ∷ codes "explain" ∷ [])
+modes = among mode_names
+
+abbrev pub ways : ValueParser
+ways = among late_names
 
 abbrev pub built_rule : Rule → Rule
 built_rule a = with_index 1 (filled a)
@@ -31,22 +36,56 @@ batch_built = built_rule batch_rule
 abbrev pub header_built : Rule
 header_built = built_rule header_rule
 
+abbrev pub late_built : Rule
+late_built = built_rule (late_rule ways)
+
+abbrev pub lateness_built : Rule
+lateness_built = built_rule lateness_rule
+
+abbrev pub punctuate_built : Rule
+punctuate_built = built_rule punctuate_rule
+
 abbrev pub help_built : Rule
 help_built = built_rule help_rule
 
 abbrev pub tempo_rules : List Rule
-tempo_rules = query_built ∷ mode_built ∷ batch_built ∷ header_built ∷ help_built ∷ []
+tempo_rules = map built_rule (option_rules modes ways) ++ help_built ∷ []
 
-abbrev pub shape_with : ValueParser → Shape
-shape_with p = (built (tempo_app_with p)).top
+abbrev pub shape_with : ValueParser → ValueParser → Shape
+shape_with p r = (built (tempo_app_with p r)).top
 
 abbrev pub tempo_shape : Shape
-tempo_shape = shape_with modes
+tempo_shape = shape_with modes ways
 
 abbrev K : List Row → Type 0
 K = AllFit tempo_rules
 
--- ---- one use
+-- where each option stands
+of_query : IsIn query_built tempo_rules
+of_query = inl refl
+
+of_mode : IsIn mode_built tempo_rules
+of_mode = inr (inl refl)
+
+of_batch : IsIn batch_built tempo_rules
+of_batch = inr (inr (inl refl))
+
+of_header : IsIn header_built tempo_rules
+of_header = inr (inr (inr (inl refl)))
+
+of_late : IsIn late_built tempo_rules
+of_late = inr (inr (inr (inr (inl refl))))
+
+of_lateness : IsIn lateness_built tempo_rules
+of_lateness = inr (inr (inr (inr (inr (inl refl)))))
+
+of_punctuate : IsIn punctuate_built tempo_rules
+of_punctuate = inr (inr (inr (inr (inr (inr (inl refl))))))
+
+-- ---- one use, and one default: a line for each option
+
+Uses : Rule → Type 0
+Uses a = (vs : List Text) (rows : List Row) → use_passes false a vs rows ≡ true → K rows → K (used a vs rows)
 
 by_help : (vs : List Text) (rows : List Row) → use_passes false help_built vs rows ≡ true → ⊥
 by_help vs rows e =
@@ -54,28 +93,77 @@ by_help vs rows e =
     let most = both (nat_le (length vs) 0) _ least.1 in
     true≢false (sym most.1)
 
+uses : Each Uses tempo_rules
+unfolding Uses
+uses = (
+  set_use tempo_rules query_built of_query,
+  (
+    set_use tempo_rules mode_built of_mode,
+    (
+      set_use tempo_rules batch_built of_batch,
+      (
+        flag_use tempo_rules header_built of_header (codes "true") refl refl,
+        (
+          set_use tempo_rules late_built of_late,
+          (
+            set_use tempo_rules lateness_built of_lateness,
+            (
+              set_use tempo_rules punctuate_built of_punctuate,
+              (
+                (λ vs rows p k. absurd (by_help vs rows p)),
+                tt,
+              ),
+            ),
+          ),
+        ),
+      ),
+    ),
+  ),
+)
+
 use_keeps : (a : Rule) (vs : List Text) (rows : List Row) → IsIn a tempo_rules → use_passes false a vs rows ≡ true → K rows → K (used a vs rows)
-use_keeps a vs rows (inl e) = subst (λ x. use_passes false x vs rows ≡ true → K rows → K (used x vs rows)) (sym e) (set_use tempo_rules query_built (inl refl) vs rows)
-use_keeps a vs rows (inr (inl e)) = subst (λ x. use_passes false x vs rows ≡ true → K rows → K (used x vs rows)) (sym e) (set_use tempo_rules mode_built (inr (inl refl)) vs rows)
-use_keeps a vs rows (inr (inr (inl e))) = subst (λ x. use_passes false x vs rows ≡ true → K rows → K (used x vs rows)) (sym e) (set_use tempo_rules batch_built (inr (inr (inl refl))) vs rows)
-use_keeps a vs rows (inr (inr (inr (inl e)))) = subst (λ x. use_passes false x vs rows ≡ true → K rows → K (used x vs rows)) (sym e) (flag_use tempo_rules header_built (inr (inr (inr (inl refl)))) (codes "true") refl refl vs rows)
-use_keeps a vs rows (inr (inr (inr (inr (inl e))))) = subst (λ x. use_passes false x vs rows ≡ true → K rows → K (used x vs rows)) (sym e) (λ p k. absurd (by_help vs rows p))
-use_keeps a vs rows (inr (inr (inr (inr (inr none))))) = absurd none
+unfolding Uses
+use_keeps a vs rows of = each_in Uses tempo_rules a of uses vs rows
+
+Keeps : Rule → Type 0
+Keeps a = (rows : List Row) → K rows → K (with_default rows a)
+
+keeps_none : (a : Rule) → a.defaults ≡ [] → (rows : List Row) → K rows → K (with_default rows a)
+keeps_none a none rows k = subst K (sym (no_default a none rows)) k
+
+keeps : Each Keeps tempo_rules
+unfolding Keeps
+keeps = (
+  keeps_none query_built refl,
+  (
+    default_fits tempo_rules mode_built of_mode (codes "run") refl refl,
+    (
+      default_fits tempo_rules batch_built of_batch (codes "1024") refl refl,
+      (
+        default_fits tempo_rules header_built of_header (codes "false") refl refl,
+        (
+          default_fits tempo_rules late_built of_late (codes "refuse") refl refl,
+          (
+            default_fits tempo_rules lateness_built of_lateness (codes "0") refl refl,
+            (
+              default_fits tempo_rules punctuate_built of_punctuate (codes "0") refl refl,
+              (
+                keeps_none help_built refl,
+                tt,
+              ),
+            ),
+          ),
+        ),
+      ),
+    ),
+  ),
+)
+
+defaults_fit : (rows : List Row) → K rows → K (fold with_default rows tempo_rules)
+unfolding Keeps
+defaults_fit rows k = defaults_keep K tempo_rules keeps rows k
 
 -- ---- all words
-
-defaulted : List Row → List Row
-defaulted rows = with_default (with_default (with_default (with_default (with_default rows query_built) mode_built) batch_built) header_built) help_built
-
-defaults_fit : (rows : List Row) → K rows → K (defaulted rows)
-unfolding defaulted
-defaults_fit rows k =
-    let none : with_default rows query_built ≡ rows = no_default query_built refl rows in
-    let k0 : K (with_default rows query_built) = subst K (sym none) k in
-    let k1 = default_fits tempo_rules mode_built (inr (inl refl)) (codes "run") refl refl (with_default rows query_built) k0 in
-    let k2 = default_fits tempo_rules batch_built (inr (inr (inl refl))) (codes "1024") refl refl (with_default (with_default rows query_built) mode_built) k1 in
-    let k3 = default_fits tempo_rules header_built (inr (inr (inr (inl refl)))) (codes "false") refl refl (with_default (with_default (with_default rows query_built) mode_built) batch_built) k2 in
-    subst K (sym (no_default help_built refl (with_default (with_default (with_default (with_default rows query_built) mode_built) batch_built) header_built))) k3
 
 -- what the words hold of the command when they pass
 pub record Passes (s : Shape) (words : List Text) : Type 0 where
@@ -87,7 +175,6 @@ abbrev pub last_rows : Shape → List Text → List Row
 last_rows s words = finished s.rules (walk s.rules [] nothing_held words).held
 
 rows_fit : (words : List Text) → Passes tempo_shape words → K (last_rows tempo_shape words)
-unfolding defaulted
 rows_fit words p =
     let h = (walk tempo_rules [] nothing_held words).held in
     let walked = walk_keeps tempo_shape [] K use_keeps words (walk_from nothing_held) p.walks tt in
@@ -95,40 +182,8 @@ rows_fit words p =
 
 -- ---- the value of each option
 
-differ : {A : Type 0} (a b : Text) → bytes_eq a b ≡ false → a ≡ b → A
-differ a b apart e = absurd (true≢false (sym ((bytes_eq-Decides a b).1 e) ∙ apart))
-
-only_query : (x : Rule) → IsIn x tempo_rules → x.id ≡ codes "query" → x ≡ query_built
-only_query x (inl e) h = e
-only_query x (inr (inl e)) h = differ (codes "mode") (codes "query") refl (sym (ap (λ (a : Rule). a.id) e) ∙ h)
-only_query x (inr (inr (inl e))) h = differ (codes "batch") (codes "query") refl (sym (ap (λ (a : Rule). a.id) e) ∙ h)
-only_query x (inr (inr (inr (inl e)))) h = differ (codes "header") (codes "query") refl (sym (ap (λ (a : Rule). a.id) e) ∙ h)
-only_query x (inr (inr (inr (inr (inl e))))) h = differ (codes "help") (codes "query") refl (sym (ap (λ (a : Rule). a.id) e) ∙ h)
-only_query x (inr (inr (inr (inr (inr none))))) h = absurd none
-
-only_mode : (x : Rule) → IsIn x tempo_rules → x.id ≡ codes "mode" → x ≡ mode_built
-only_mode x (inl e) h = differ (codes "query") (codes "mode") refl (sym (ap (λ (a : Rule). a.id) e) ∙ h)
-only_mode x (inr (inl e)) h = e
-only_mode x (inr (inr (inl e))) h = differ (codes "batch") (codes "mode") refl (sym (ap (λ (a : Rule). a.id) e) ∙ h)
-only_mode x (inr (inr (inr (inl e)))) h = differ (codes "header") (codes "mode") refl (sym (ap (λ (a : Rule). a.id) e) ∙ h)
-only_mode x (inr (inr (inr (inr (inl e))))) h = differ (codes "help") (codes "mode") refl (sym (ap (λ (a : Rule). a.id) e) ∙ h)
-only_mode x (inr (inr (inr (inr (inr none))))) h = absurd none
-
-only_batch : (x : Rule) → IsIn x tempo_rules → x.id ≡ codes "batch" → x ≡ batch_built
-only_batch x (inl e) h = differ (codes "query") (codes "batch") refl (sym (ap (λ (a : Rule). a.id) e) ∙ h)
-only_batch x (inr (inl e)) h = differ (codes "mode") (codes "batch") refl (sym (ap (λ (a : Rule). a.id) e) ∙ h)
-only_batch x (inr (inr (inl e))) h = e
-only_batch x (inr (inr (inr (inl e)))) h = differ (codes "header") (codes "batch") refl (sym (ap (λ (a : Rule). a.id) e) ∙ h)
-only_batch x (inr (inr (inr (inr (inl e))))) h = differ (codes "help") (codes "batch") refl (sym (ap (λ (a : Rule). a.id) e) ∙ h)
-only_batch x (inr (inr (inr (inr (inr none))))) h = absurd none
-
-only_header : (x : Rule) → IsIn x tempo_rules → x.id ≡ codes "header" → x ≡ header_built
-only_header x (inl e) h = differ (codes "query") (codes "header") refl (sym (ap (λ (a : Rule). a.id) e) ∙ h)
-only_header x (inr (inl e)) h = differ (codes "mode") (codes "header") refl (sym (ap (λ (a : Rule). a.id) e) ∙ h)
-only_header x (inr (inr (inl e))) h = differ (codes "batch") (codes "header") refl (sym (ap (λ (a : Rule). a.id) e) ∙ h)
-only_header x (inr (inr (inr (inl e)))) h = e
-only_header x (inr (inr (inr (inr (inl e))))) h = differ (codes "help") (codes "header") refl (sym (ap (λ (a : Rule). a.id) e) ∙ h)
-only_header x (inr (inr (inr (inr (inr none))))) h = absurd none
+apart : are_distinct tempo_rules ≡ true
+apart = refl
 
 -- each option has a value that passes
 pub record Values (rows : List Row) : Type 0 where
@@ -136,45 +191,25 @@ pub record Values (rows : List Row) : Type 0 where
   pub mode : Reads mode_built (codes "mode") rows
   pub batch : Reads batch_built (codes "batch") rows
   pub header : Reads header_built (codes "header") rows
+  pub late : Reads late_built (codes "late") rows
+  pub lateness : Reads lateness_built (codes "lateness") rows
+  pub punctuate : Reads punctuate_built (codes "punctuate") rows
 
--- the rows before each default
-abbrev with_query : List Row → List Row
-with_query rows = with_default rows query_built
-
-abbrev with_mode : List Row → List Row
-with_mode rows = with_default (with_query rows) mode_built
-
-abbrev with_batch : List Row → List Row
-with_batch rows = with_default (with_mode rows) batch_built
-
-abbrev with_header : List Row → List Row
-with_header rows = with_default (with_batch rows) header_built
-
-mode_row : (rows : List Row) → has_row (codes "mode") (defaulted rows) ≡ true
-unfolding defaulted
-mode_row rows = default_keeps_row (codes "mode") help_built (with_header rows)
-    (default_keeps_row (codes "mode") header_built (with_batch rows)
-    (default_keeps_row (codes "mode") batch_built (with_mode rows) (default_has mode_built (codes "run") refl refl (with_query rows))))
-
-batch_row : (rows : List Row) → has_row (codes "batch") (defaulted rows) ≡ true
-unfolding defaulted
-batch_row rows = default_keeps_row (codes "batch") help_built (with_header rows)
-    (default_keeps_row (codes "batch") header_built (with_batch rows) (default_has batch_built (codes "1024") refl refl (with_mode rows)))
-
-header_row : (rows : List Row) → has_row (codes "header") (defaulted rows) ≡ true
-unfolding defaulted
-header_row rows = default_keeps_row (codes "header") help_built (with_header rows) (default_has header_built (codes "false") refl refl (with_batch rows))
+value_of_rule : (a : Rule) → IsIn a tempo_rules → reading_by a ≡ reading.AsWritten → (rows : List Row) → K rows → has_row a.id rows ≡ true → Reads a a.id rows
+value_of_rule a of plain rows k has = reads_of tempo_rules a a.id rows (λ x in_ same. one_of_id tempo_rules apart x a in_ of same) plain (row_found tempo_rules a.id rows k has)
 
 pub values_of_words : (words : List Text) → Passes tempo_shape words → Values (last_rows tempo_shape words)
-unfolding defaulted
 values_of_words words p =
     let k = rows_fit words p in
     let rows = last_rows tempo_shape words in
     let h = (walk tempo_rules [] nothing_held words).held in
     let before = settled_rows tempo_rules h.pending h.rows in
     record {
-      query = reads_of tempo_rules query_built (codes "query") rows only_query refl (row_found tempo_rules (codes "query") rows k (given_has (codes "query") rows p.query));
-      mode = reads_of tempo_rules mode_built (codes "mode") rows only_mode refl (row_found tempo_rules (codes "mode") rows k (mode_row before));
-      batch = reads_of tempo_rules batch_built (codes "batch") rows only_batch refl (row_found tempo_rules (codes "batch") rows k (batch_row before));
-      header = reads_of tempo_rules header_built (codes "header") rows only_header refl (row_found tempo_rules (codes "header") rows k (header_row before));
+      query = value_of_rule query_built of_query refl rows k (given_has (codes "query") rows p.query);
+      mode = value_of_rule mode_built of_mode refl rows k (row_by_default mode_built (codes "run") refl refl tempo_rules of_mode before);
+      batch = value_of_rule batch_built of_batch refl rows k (row_by_default batch_built (codes "1024") refl refl tempo_rules of_batch before);
+      header = value_of_rule header_built of_header refl rows k (row_by_default header_built (codes "false") refl refl tempo_rules of_header before);
+      late = value_of_rule late_built of_late refl rows k (row_by_default late_built (codes "refuse") refl refl tempo_rules of_late before);
+      lateness = value_of_rule lateness_built of_lateness refl rows k (row_by_default lateness_built (codes "0") refl refl tempo_rules of_lateness before);
+      punctuate = value_of_rule punctuate_built of_punctuate refl rows k (row_by_default punctuate_built (codes "0") refl refl tempo_rules of_punctuate before);
     }

@@ -1,6 +1,7 @@
 -- The options of the command line, as the rules by which clap reads words.
 use Rattle.std.specs.Prelude.{true, List, [], ◌∷◌, map, codes, Some}
 use Rattle.std.specs.Borrow.{Bor}
+use Rattle.std.specs.List.{fold}
 use Rattle.clap.specs.Walk.{Rule, Text}
 use Rattle.clap.specs.Simple.{App, new_app, new_rule, with_rule}
 use Rattle.clap.specs.declared.builder.action.ArgAction.TheVariants.{Set, SetTrue}
@@ -14,6 +15,12 @@ behind x = record { ref_ptr = (0, 0); now = x }
 -- the values are these texts: among (codes "run" ∷ codes "explain" ∷ []) takes run and explain, and no other
 abbrev pub among : List Text → ValueParser
 among names = vp.Names (behind (map (λ name. behind name) names))
+
+abbrev pub mode_names : List Text
+mode_names = codes "run" ∷ codes "explain" ∷ []
+
+abbrev pub late_names : List Text
+late_names = codes "refuse" ∷ codes "drop" ∷ codes "adjust" ∷ []
 
 -- an option with a value, which may stand once: option_rule (codes "batch") is --batch 7 or --batch=7
 abbrev pub option_rule : Text → Rule
@@ -35,11 +42,30 @@ batch_rule = record (option_rule (codes "batch")) { parser = Some (vp.Unsigned 1
 abbrev pub header_rule : Rule
 header_rule = record (new_rule (codes "header")) { long = Some (codes "header"); action = Some SetTrue }
 
--- the command tempo with its four options, where the values of --mode are given by a parser; clap adds --help itself
-abbrev pub tempo_app_with : ValueParser → App
-tempo_app_with modes =
-    with_rule (with_rule (with_rule (with_rule (new_app (codes "tempo")) query_rule) (mode_rule modes)) batch_rule) header_rule
+-- --late, of which the values are given by a parser: --late drop; refuse where it does not stand
+abbrev pub late_rule : ValueParser → Rule
+late_rule ways = record (option_rule (codes "late")) { parser = Some ways; defaults = codes "refuse" ∷ [] }
 
--- the command tempo, where the values of --mode are run and explain
+-- a whole number from 0 to 2^60 - 1, the greatest time of an event; 0 where it does not stand: --lateness 5
+abbrev pub time_rule : Text → Rule
+time_rule name = record (option_rule name) { parser = Some (vp.Unsigned 0 1152921504606846975); defaults = codes "0" ∷ [] }
+
+-- --lateness: how much older than the newest line a line may be
+abbrev pub lateness_rule : Rule
+lateness_rule = time_rule (codes "lateness")
+
+-- --punctuate: the period of punctuations, or 0 for none
+abbrev pub punctuate_rule : Rule
+punctuate_rule = time_rule (codes "punctuate")
+
+-- the options, where the values of --mode and of --late are given by parsers
+abbrev pub option_rules : ValueParser → ValueParser → List Rule
+option_rules modes ways = query_rule ∷ mode_rule modes ∷ batch_rule ∷ header_rule ∷ late_rule ways ∷ lateness_rule ∷ punctuate_rule ∷ []
+
+-- the command tempo with its options; clap adds --help itself
+abbrev pub tempo_app_with : ValueParser → ValueParser → App
+tempo_app_with modes ways = fold with_rule (new_app (codes "tempo")) (option_rules modes ways)
+
+-- the command tempo, where the values of --mode are run and explain, and those of --late refuse, drop and adjust
 abbrev pub tempo_app : App
-tempo_app = tempo_app_with (among (codes "run" ∷ codes "explain" ∷ []))
+tempo_app = tempo_app_with (among mode_names) (among late_names)

@@ -1,5 +1,5 @@
 -- What words ask for, by what clap matches for the options.
-use Rattle.std.specs.Prelude.{◌≡◌, ◌++◌, ℕ, Bool, true, false, List, [], ◌∷◌, codes, decimal, Option, Some, option_map, ⊤}
+use Rattle.std.specs.Prelude.{◌≡◌, ◌≤◌, ◌++◌, ℕ, Bool, true, false, List, [], ◌∷◌, codes, decimal, Option, Some, option_map, ⊤}
 use Rattle.std.specs.Str.Parse.{digits_value, without_leading_plus}
 use Rattle.clap.specs.Matches.{first_value, one_text}
 use Rattle.clap.specs.Values.{IsUnsignedIn, bool_text}
@@ -7,6 +7,9 @@ use Rattle.clap.specs.Walk.{Text, first_of}
 use Rattle.clap.specs.Simple.{matches_of}
 use Rattle.clap.specs.Takes.{takes}
 use Rattle.clap.specs.declared.parser.matches.Found.{Found}
+use Rattle.admission.specs.declared.policy.Policy.{Policy}
+use Rattle.admission.specs.declared.policy.Lateness.{Lateness}
+use Rattle.admission.specs.declared.policy.Lateness.TheVariants.{Refuse, Drop, Adjust}
 use Rattle.command_line.specs.Options.{tempo_app}
 use Rattle.command_line.specs.declared.words.Mode.{Mode}
 use Rattle.command_line.specs.declared.words.Mode.TheVariants.{Run, Explain}
@@ -20,15 +23,22 @@ pub record Asked : Type 0 where
   pub mode : Mode
   pub batch : ℕ
   pub header : Bool
+  pub policy : Policy
 
 -- what a command line asks for, with the query as text
 abbrev pub asked_by : CommandLine → Asked
-asked_by c = record { query = c.query.now; mode = c.mode; batch = c.batch; header = c.header }
+asked_by c = record { query = c.query.now; mode = c.mode; batch = c.batch; header = c.header; policy = c.policy }
 
 -- the word for a mode: explain for Explain
 abbrev pub mode_text : Mode → Text
 mode_text Run = codes "run"
 mode_text Explain = codes "explain"
+
+-- the word for what becomes of late lines: drop for Drop
+abbrev pub late_text : Lateness → Text
+late_text Refuse = codes "refuse"
+late_text Drop = codes "drop"
+late_text Adjust = codes "adjust"
 
 -- the number that a text says: 7 for 7, +7 and 007
 abbrev pub number_said : Text → ℕ
@@ -49,21 +59,39 @@ pub record SpellsCommand (words : List Text) (a : Asked) : Type 0 where
   pub mode : value_of words (codes "mode") ≡ Some (mode_text a.mode)
   pub batch : option_map number_said (value_of words (codes "batch")) ≡ Some a.batch
   pub header : value_of words (codes "header") ≡ Some (bool_text a.header)
+  pub late : value_of words (codes "late") ≡ Some (late_text a.policy.late)
+  pub lateness : option_map number_said (value_of words (codes "lateness")) ≡ Some a.policy.lateness
+  pub punctuate : option_map number_said (value_of words (codes "punctuate")) ≡ Some a.policy.period
 
 -- the word --header, where a header is asked for
 abbrev pub header_words : Bool → List Text
 header_words true = codes "--header" ∷ []
 header_words false = []
 
--- words that print what is asked for: tempo --query=s --mode=run --batch=1024
+-- words that print what is asked for: tempo --query=s --mode=run --batch=1024 --late=refuse --lateness=0 --punctuate=0
 abbrev pub words_for : Asked → List Text
 words_for a =
-    codes "tempo" ∷ (codes "--query=" ++ a.query) ∷ (codes "--mode=" ++ mode_text a.mode) ∷ (codes "--batch=" ++ decimal a.batch) ∷ header_words a.header
+    codes "tempo" ∷ (codes "--query=" ++ a.query) ∷ (codes "--mode=" ++ mode_text a.mode) ∷ (codes "--batch=" ++ decimal a.batch) ∷ (codes "--late=" ++ late_text a.policy.late)
+    ∷ (codes "--lateness=" ++ decimal a.policy.lateness) ∷ (codes "--punctuate=" ++ decimal a.policy.period) ∷ header_words a.header
+
+-- the numbers of what is asked for are those that the options take
+pub record AreWithin (a : Asked) : Type 0 where
+  pub least : 1 ≤ a.batch
+  pub most : a.batch ≤ 8192
+  pub lateness : a.policy.lateness ≤ 1152921504606846975
+  pub period : a.policy.period ≤ 1152921504606846975
 
 -- the cause holds of the words: for Refused, clap does not take them; Memory may come with any words
 abbrev pub HasCause : List Text → WordsFault → Type 0
 HasCause words (Refused text) = are_taken words ≡ false
 HasCause words Memory = ⊤
+
+-- clap's getters give this number for an option that is a time
+pub record ShowsTime (f : Found) (name : Text) (number : ℕ) : Type 0 where
+  pub text : Text
+  pub one : one_text f name ≡ Some text
+  pub in_range : IsUnsignedIn 0 1152921504606846975 text
+  pub number_is : number_said text ≡ number
 
 -- clap's getters give what is asked for: the first value of query is s where the query s is asked for
 pub record ShowsCommand (f : Found) (a : Asked) : Type 0 where
@@ -74,3 +102,6 @@ pub record ShowsCommand (f : Found) (a : Asked) : Type 0 where
   pub in_range : IsUnsignedIn 1 8192 number
   pub batch : number_said number ≡ a.batch
   pub header : one_text f (codes "header") ≡ Some (bool_text a.header)
+  pub late : first_value f (codes "late") ≡ Some (late_text a.policy.late)
+  pub lateness : ShowsTime f (codes "lateness") a.policy.lateness
+  pub punctuate : ShowsTime f (codes "punctuate") a.policy.period

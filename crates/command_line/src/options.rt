@@ -3,13 +3,18 @@ ghost use Rattle.std.specs.Prelude.{◌≡◌, ◌∷◌, [], IfOk, List, codes,
 ghost use Rattle.std.specs.Borrow.{Bor};
 ghost use Rattle.clap.specs.Words.{Text, app_of, new_app, rule_of};
 ghost use Rattle.clap.specs.declared.builder.value_parser.ValueParser.TheVariants.{Names};
-ghost use Rattle.command_line.specs.Options.{batch_rule, header_rule, mode_rule, query_rule, tempo_app_with};
+ghost use Rattle.command_line.specs.Options.{batch_rule, header_rule, late_names, late_rule, lateness_rule, mode_names, mode_rule, punctuate_rule, query_rule, tempo_app_with};
 
 use clap::builder::ValueParser;
 use clap::{Arg, ArgAction, Command};
 use std::alloc::{AllocError, Global};
 
 static MODES: [&str; 2] = ["run", "explain"];
+
+static WAYS: [&str; 3] = ["refuse", "drop", "adjust"];
+
+/// The greatest time of an event.
+const LATEST: u64 = (1 << 60) - 1;
 
 fn query_option<'a>(alloc: Global) -> Arg<'a>
     ensures rule { rule_of result ≡ query_rule }
@@ -23,7 +28,7 @@ fn query_option<'a>(alloc: Global) -> Arg<'a>
 }
 
 fn mode_option<'a>(alloc: Global) -> Arg<'a>
-    ensures rule { (modes : Bor (List (Bor Text))) × (map (λ s. s.now) modes.now ≡ codes "run" ∷ codes "explain" ∷ [])
+    ensures rule { (modes : Bor (List (Bor Text))) × (map (λ s. s.now) modes.now ≡ mode_names)
         × (rule_of result ≡ mode_rule (Names modes)) }
     ensures local { result.global ≡ false }
 {
@@ -57,6 +62,43 @@ fn header_option<'a>(alloc: Global) -> Arg<'a>
         .help("Skips the first line of the input")
 }
 
+fn late_option<'a>(alloc: Global) -> Arg<'a>
+    ensures rule { (ways : Bor (List (Bor Text))) × (map (λ s. s.now) ways.now ≡ late_names)
+        × (rule_of result ≡ late_rule (Names ways)) }
+    ensures local { result.global ≡ false }
+{
+    Arg::new(alloc, "late")
+        .long("late")
+        .action(ArgAction::Set)
+        .value_parser(WAYS.as_slice())
+        .default_value("refuse")
+        .help("What becomes of a line that is late")
+}
+
+fn lateness_option<'a>(alloc: Global) -> Arg<'a>
+    ensures rule { rule_of result ≡ lateness_rule }
+    ensures local { result.global ≡ false }
+{
+    Arg::new(alloc, "lateness")
+        .long("lateness")
+        .action(ArgAction::Set)
+        .value_parser(ValueParser::unsigned(0, LATEST))
+        .default_value("0")
+        .help("How much older than the newest line a line may be")
+}
+
+fn punctuate_option<'a>(alloc: Global) -> Arg<'a>
+    ensures rule { rule_of result ≡ punctuate_rule }
+    ensures local { result.global ≡ false }
+{
+    Arg::new(alloc, "punctuate")
+        .long("punctuate")
+        .action(ArgAction::Set)
+        .value_parser(ValueParser::unsigned(0, LATEST))
+        .default_value("0")
+        .help("The period of punctuations, or 0 for none")
+}
+
 fn bare_command<'a>(alloc: Global) -> Command<'a>
     ensures { app_of result ≡ new_app (codes "tempo") }
 {
@@ -65,13 +107,16 @@ fn bare_command<'a>(alloc: Global) -> Command<'a>
 
 /// The command `tempo` with its options.
 pub(crate) fn tempo_command<'a>(alloc: Global) -> Result<Command<'a>, AllocError>
-    ensures { IfOk result (λ c. (modes : Bor (List (Bor Text)))
-        × (map (λ s. s.now) modes.now ≡ codes "run" ∷ codes "explain" ∷ [])
-        × (app_of c ≡ tempo_app_with (Names modes))) }
+    ensures { IfOk result (λ c. (modes : Bor (List (Bor Text))) × (ways : Bor (List (Bor Text)))
+        × (map (λ s. s.now) modes.now ≡ mode_names) × (map (λ s. s.now) ways.now ≡ late_names)
+        × (app_of c ≡ tempo_app_with (Names modes) (Names ways))) }
 {
     bare_command(alloc)
         .arg(query_option(alloc))?
         .arg(mode_option(alloc))?
         .arg(batch_option(alloc))?
-        .arg(header_option(alloc))
+        .arg(header_option(alloc))?
+        .arg(late_option(alloc))?
+        .arg(lateness_option(alloc))?
+        .arg(punctuate_option(alloc))
 }

@@ -7,8 +7,14 @@ fn told(alloc: Global, text: &str) -> Result<String, AllocError> {
     let words: Vec<&str> = text.split('|').collect(alloc)?;
     match read_words(alloc, words.as_slice()) {
         Ok(asked) => format!(in alloc;
-            "[{}] {:?} {} {}",
-            asked.query, asked.mode, asked.batch, asked.header
+            "[{}] {:?} {} {} {:?} {} {}",
+            asked.query,
+            asked.mode,
+            asked.batch,
+            asked.header,
+            asked.policy.late,
+            asked.policy.lateness,
+            asked.policy.period
         ),
         Err(WordsFault::Refused { .. }) => String::from_str(alloc, "refused"),
         Err(WordsFault::Memory) => String::from_str(alloc, "memory"),
@@ -18,23 +24,36 @@ fn told(alloc: Global, text: &str) -> Result<String, AllocError> {
 #[test]
 fn words_ask_for_their_command(rt: HostRuntime) {
     let cases = [
-        ("tempo|--query|q", "[q] Run 1024 false"),
-        ("tempo|--query|", "[] Run 1024 false"),
-        ("tempo|--query=", "[] Run 1024 false"),
-        ("tempo|--query=-q", "[-q] Run 1024 false"),
-        ("tempo|--query|-", "[-] Run 1024 false"),
-        ("tempo|--query|q|--", "[q] Run 1024 false"),
-        ("tempo|--query|a b = c", "[a b = c] Run 1024 false"),
-        ("tempo|--query|q|--batch=+7", "[q] Run 7 false"),
-        ("tempo|--batch|007|--query|q", "[q] Run 7 false"),
-        ("tempo|--query|q|--batch|1", "[q] Run 1 false"),
-        ("tempo|--query|q|--batch|8192", "[q] Run 8192 false"),
-        ("tempo|--query|q|--mode|run", "[q] Run 1024 false"),
+        ("tempo|--query|q", "[q] Run 1024 false Refuse 0 0"),
+        ("tempo|--query|", "[] Run 1024 false Refuse 0 0"),
+        ("tempo|--query=", "[] Run 1024 false Refuse 0 0"),
+        ("tempo|--query=-q", "[-q] Run 1024 false Refuse 0 0"),
+        ("tempo|--query|-", "[-] Run 1024 false Refuse 0 0"),
+        ("tempo|--query|q|--", "[q] Run 1024 false Refuse 0 0"),
+        (
+            "tempo|--query|a b = c",
+            "[a b = c] Run 1024 false Refuse 0 0",
+        ),
+        ("tempo|--query|q|--batch=+7", "[q] Run 7 false Refuse 0 0"),
+        ("tempo|--batch|007|--query|q", "[q] Run 7 false Refuse 0 0"),
+        ("tempo|--query|q|--batch|1", "[q] Run 1 false Refuse 0 0"),
+        (
+            "tempo|--query|q|--batch|8192",
+            "[q] Run 8192 false Refuse 0 0",
+        ),
+        (
+            "tempo|--query|q|--mode|run",
+            "[q] Run 1024 false Refuse 0 0",
+        ),
         (
             "tempo|--header|--query=q|--mode|explain",
-            "[q] Explain 1024 true",
+            "[q] Explain 1024 true Refuse 0 0",
         ),
-        ("--query|--query|q", "[q] Run 1024 false"),
+        (
+            "tempo|--query|q|--late|adjust|--lateness|5|--punctuate=1152921504606846975",
+            "[q] Run 1024 false Adjust 5 1152921504606846975",
+        ),
+        ("--query|--query|q", "[q] Run 1024 false Refuse 0 0"),
     ];
     for (text, wanted) in cases {
         let given = told(rt.alloc(), text).expect(&rt, "memory");
@@ -55,6 +74,9 @@ fn other_words_are_refused(rt: HostRuntime) {
         "tempo|--query|q|--batch|18446744073709551617",
         "tempo|--query|q|--mode|sample",
         "tempo|--query|q|--mode|Run",
+        "tempo|--query|q|--late|late",
+        "tempo|--query|q|--lateness|1152921504606846976",
+        "tempo|--query|q|--punctuate|-1",
         "tempo|--query|q|--header=true",
         "tempo|--query|q|--header|--header",
         "tempo|--query|q|--query|q",
@@ -76,7 +98,7 @@ fn other_words_are_refused(rt: HostRuntime) {
 /// The text of a refusal, if the words are refused.
 fn refusal(alloc: Global, words: &[&str]) -> Option<String> {
     match read_words(alloc, words) {
-        Err(WordsFault::Refused { text }) => Some(text),
+        Err(WordsFault::Refused { text }) => text,
         _ => None,
     }
 }
@@ -86,7 +108,15 @@ fn refusals_tell_what_is_wrong(rt: HostRuntime) {
     let missing = refusal(rt.alloc(), &["tempo"]).expect(&rt, "a refusal");
     assert!(rt; missing.as_str().contains("--query"));
     let help = refusal(rt.alloc(), &["tempo", "--help"]).expect(&rt, "a refusal");
-    for option in ["--query", "--mode", "--batch", "--header"] {
+    for option in [
+        "--query",
+        "--mode",
+        "--batch",
+        "--header",
+        "--late",
+        "--lateness",
+        "--punctuate",
+    ] {
         assert!(rt; help.as_str().contains(option), "at {option}");
     }
 }

@@ -1,11 +1,13 @@
 // The words, and what they ask for.
-ghost use Rattle.std.specs.Prelude.{◌≡◌, ◌≤◌, IfErr, IfOk, Some, List, codes, map, true};
+ghost use Rattle.std.specs.Prelude.{◌≡◌, ℕ, Bool, IfErr, IfOk, Some, List, codes, map, true};
 ghost use Rattle.clap.specs.Words.{Text, found_of, kind_of, matches_of, one_text, first_value, rows_of};
-ghost use Rattle.clap.specs.Values.{IsUnsignedIn};
+ghost use Rattle.clap.specs.Values.{IsUnsignedIn, bool_text};
 ghost use Rattle.command_line.specs.Options.{tempo_app};
-ghost use Rattle.command_line.specs.Words.{Asked, HasCause, ShowsCommand, SpellsCommand, are_taken, asked_by, mode_text, number_said};
+ghost use Rattle.command_line.specs.Words.{AreWithin, Asked, HasCause, ShowsCommand, ShowsTime, SpellsCommand, are_taken, asked_by, late_text, mode_text, number_said};
+ghost use Rattle.admission.specs.declared.policy.Lateness.{Lateness as SomeLateness};
 
 use crate::options::tempo_command;
+use admission::{Lateness, Policy};
 use clap::error::ErrorKind;
 use clap::{ArgMatches, Error};
 use std::alloc::{AllocError, Global};
@@ -28,15 +30,30 @@ pub struct CommandLine<'a> {
     pub batch: usize,
     /// Whether the first line of the input is a header.
     pub header: bool,
+    /// How late lines and punctuations are taken.
+    pub policy: Policy,
 }
 
 /// Why words give no command line.
 #[derive(Debug, Drop)]
 pub enum WordsFault {
-    /// The words are not those of the command. The text is for standard error: what is wrong with them, or the help that they ask for.
-    Refused { text: String },
+    /// The words are not those of the command. The text is for standard error: what is wrong with them, or the help that they
+    /// ask for. There is none where memory for it was wanting.
+    Refused { text: Option<String> },
     /// Memory was wanting.
     Memory,
+}
+
+fn query_of<'a>(matches: &ArgMatches<'a>) -> &'a str
+    ensures { (q : Text) → first_value (found_of matches.now) (codes "query") ≡ Some q → result.now ≡ q }
+{
+    matches.get_str("query").unwrap_or("")
+}
+
+fn header_of(matches: &ArgMatches<'_>) -> bool
+    ensures { (b : Bool) → one_text (found_of matches.now) (codes "header") ≡ Some (bool_text b) → result ≡ b }
+{
+    matches.get_flag("header")
 }
 
 fn mode_of(matches: &ArgMatches<'_>) -> Mode
@@ -54,15 +71,42 @@ fn batch_of(matches: &ArgMatches<'_>) -> usize
     matches.get_one::<usize>("batch").unwrap_or(0)
 }
 
+fn late_of(matches: &ArgMatches<'_>) -> Lateness
+    ensures { (l : SomeLateness) → first_value (found_of matches.now) (codes "late") ≡ Some (late_text l) → result ≡ l }
+{
+    match matches.get_str("late") {
+        Some("drop") => Lateness::Drop,
+        Some("adjust") => Lateness::Adjust,
+        _ => Lateness::Refuse,
+    }
+}
+
+fn time_of(matches: &ArgMatches<'_>, name: &str) -> u64
+    ensures { (n : ℕ) → ShowsTime (found_of matches.now) name.now n → result ≡ n }
+{
+    matches.get_one::<u64>(name).unwrap_or(0)
+}
+
+fn policy_of(matches: &ArgMatches<'_>) -> Policy
+    ensures { (a : Asked) → ShowsCommand (found_of matches.now) a → result ≡ a.policy }
+{
+    Policy {
+        lateness: time_of(matches, "lateness"),
+        late: late_of(matches),
+        period: time_of(matches, "punctuate"),
+    }
+}
+
 // What the matches of a parse show. Each option has a value there.
 fn command_of<'a>(matches: &ArgMatches<'a>) -> CommandLine<'a>
     ensures { (a : Asked) → ShowsCommand (found_of matches.now) a → asked_by result ≡ a }
 {
     CommandLine {
-        query: matches.get_str("query").unwrap_or(""),
+        query: query_of(matches),
         mode: mode_of(matches),
         batch: batch_of(matches),
-        header: matches.get_flag("header"),
+        header: header_of(matches),
+        policy: policy_of(matches),
     }
 }
 
@@ -82,16 +126,15 @@ fn fault_of(alloc: Global, error: &Error) -> WordsFault
     if error.kind() == ErrorKind::OutOfMemory {
         return WordsFault::Memory;
     }
-    match format!(in alloc; "{error}") {
-        Ok(text) => WordsFault::Refused { text },
-        Err(_) => WordsFault::Memory,
+    WordsFault::Refused {
+        text: format!(in alloc; "{error}").ok(),
     }
 }
 
 /// What the words, of which the first is the program's name, ask for.
 pub fn read_words<'a>(alloc: Global, words: &'a [&'a str]) -> Result<CommandLine<'a>, WordsFault>
     ensures spelled { IfOk result (λ c. SpellsCommand (map (λ w. w.now) words.now) (asked_by c)) }
-    ensures batch { IfOk result (λ c. (1 ≤ c.batch) × (c.batch ≤ 8192)) }
+    ensures within { IfOk result (λ c. AreWithin (asked_by c)) }
     ensures refused { IfErr result (HasCause (map (λ w. w.now) words.now)) }
 {
     match match_words(alloc, words) {

@@ -22,7 +22,7 @@ use Rattle.tempo_engine.specs.Fed.{Fed}
 use Rattle.tempo_engine.specs.Faults.{IsFaultOf}
 use Rattle.tempo_engine.specs.Output.{item_text, result_kinds, plan_text}
 use Rattle.tempo_engine.specs.Output.{told as read_at}
-use Rattle.tempo_engine.specs.declared.engine.Engine.{Engine}
+use Rattle.tempo_engine.specs.Went.{EngineView}
 use Rattle.tempo_engine.specs.declared.fault.EngineFault.{EngineFault}
 use Rattle.tempo_cli.specs.Told.{entry_at, told_at, told_from, told}
 use Rattle.tempo_cli.specs.Feeding.{Asked, answers_to, Took}
@@ -78,17 +78,17 @@ header_steps q line is header short =
     ∙ skip_stays q.plan q.policy [] 1 (some_stream q.plan is)
 
 -- line 1 is a header, and is not fed
-pub took_header : (q : Asked) (given : List (List ℕ)) (line : List ℕ) (e : Engine) → q.header ≡ true → 1 ≡ length given + 1 → length line ≤ 65536 → Took q given e → Took q (given ++ line ∷ []) e
+pub took_header : (q : Asked) (given : List (List ℕ)) (line : List ℕ) (e : EngineView) → q.header ≡ true → 1 ≡ length given + 1 → length line ≤ 65536 → Took q given e → Took q (given ++ line ∷ []) e
 took_header q [] line e header is short t = record { fed = t.fed; took = t.took; same = t.same ∙ sym (header_steps q line t.took.sound header short) }
 took_header q (x ∷ given) line e header is short t = absurd (omega arith)
 
-pub text_header : (q : Asked) (given : List (List ℕ)) (line : List ℕ) (e : Engine) (out : List ℕ) → out ≡ [] → q.header ≡ true → 1 ≡ length given + 1 → length line ≤ 65536 → Took q given e →
+pub text_header : (q : Asked) (given : List (List ℕ)) (line : List ℕ) (e : EngineView) (out : List ℕ) → out ≡ [] → q.header ≡ true → 1 ≡ length given + 1 → length line ≤ 65536 → Took q given e →
     (answers_to q).text (given ++ line ∷ []) false ≡ (answers_to q).text given false ++ out
 text_header q [] line e out none header is short t =
     same_text q.plan q.policy (told q.plan.streams q.header (line ∷ [])) [] false (header_steps q line t.took.sound header short) ∙ (sym (append-nil _) ∙ ap (λ x. (answers_to q).text [] false ++ x) (sym none))
 text_header q (x ∷ given) line e out none header is short t = absurd (omega arith)
 
-module _ (q : Asked) (given : List (List ℕ)) (line : List ℕ) (number : ℕ) (e : Engine) (t : Took q given e) (is : number ≡ length given + 1)
+module _ (q : Asked) (given : List (List ℕ)) (line : List ℕ) (number : ℕ) (e : EngineView) (t : Took q given e) (is : number ≡ length given + 1)
     (not_first : (q.header && nat_eq number 1) ≡ false) (short : length line ≤ 65536) where
   more_steps : steps q.plan q.policy start (t.fed ++ read_at q.plan number line ∷ []) ≡ steps q.plan q.policy start (told q.plan.streams q.header (given ++ line ∷ []))
   more_steps =
@@ -98,7 +98,7 @@ module _ (q : Asked) (given : List (List ℕ)) (line : List ℕ) (number : ℕ) 
       ∙ sym (steps_pushed q given line number is)
 
   -- a line was fed
-  pub took_more : (e' : Engine) → Fed q.plan q.policy (t.fed ++ read_at q.plan number line ∷ []) e' → Took q (given ++ line ∷ []) e'
+  pub took_more : (e' : EngineView) → Fed q.plan q.policy (t.fed ++ read_at q.plan number line ∷ []) e' → Took q (given ++ line ∷ []) e'
   took_more e' f = record { fed = t.fed ++ read_at q.plan number line ∷ []; took = f; same = more_steps }
 
   pub text_more : (out : List ℕ) → plan_text q.plan q.policy (t.fed ++ read_at q.plan number line ∷ []) false ≡ plan_text q.plan q.policy t.fed false ++ out →
@@ -111,11 +111,11 @@ module _ (q : Asked) (given : List (List ℕ)) (line : List ℕ) (number : ℕ) 
   fault_more f h = subst (IsFaultOf f) (same_fault q.plan q.policy (t.fed ++ read_at q.plan number line ∷ []) (told q.plan.streams q.header (given ++ line ∷ [])) false more_steps) h
 
 -- the lines that the engine took have no fault
-pub took_fine : (q : Asked) (given : List (List ℕ)) (e : Engine) → Took q given e → (answers_to q).fault given false ≡ None
+pub took_fine : (q : Asked) (given : List (List ℕ)) (e : EngineView) → Took q given e → (answers_to q).fault given false ≡ None
 took_fine q given e t = sym (same_fault q.plan q.policy t.fed (told q.plan.streams q.header given) false t.same) ∙ t.took.fine
 
 -- a line that is too long is the first fault
-pub long_fault : (q : Asked) (given : List (List ℕ)) (line : List ℕ) (number : ℕ) (e : Engine) → Took q given e → number ≡ length given + 1 → 65536 < length line →
+pub long_fault : (q : Asked) (given : List (List ℕ)) (line : List ℕ) (number : ℕ) (e : EngineView) → Took q given e → number ≡ length given + 1 → 65536 < length line →
     (answers_to q).fault (given ++ line ∷ []) false ≡ Some (Malformed number TooLong)
 long_fault q given line number e t is long =
     let w = steps q.plan q.policy start (told q.plan.streams q.header given) in

@@ -1,5 +1,5 @@
 -- Words ask for one job.
-use Rattle.std.proofs.Common.{◌≡◌, ◌⊎◌, ◌≤◌, ℕ, Bool, true, false, List, [], length, Option, Some, None, Result, Ok, Err, inl, inr, refl, sym, ◌∙◌, ap, ap₂, arith, subst}
+use Rattle.std.proofs.Common.{◌≡◌, ◌⊎◌, ◌≤◌, ℕ, Bool, true, false, List, [], length, Option, Some, None, Result, Ok, Err, inl, inr, refl, sym, ◌∙◌, ap, ap₂, arith, subst, true≢false}
 use Rattle.std.specs.Prelude.{codes}
 use Rattle.std.specs.List.{All}
 use Rattle.std.proofs.lemmas.List.Elements.{All-nil}
@@ -16,12 +16,17 @@ use Rattle.query_text.specs.declared.query.Query.{Query}
 use Rattle.query_text.proofs.OneAnswer.{spelled_or_not, no_fault, one_fault}
 use Rattle.query_text.proofs.Spelled.{one_query}
 use Rattle.query_plan.specs.Planned.{planned}
-use Rattle.command_line.specs.Words.{Asked, SpellsCommand, are_taken, mode_text}
+use Rattle.command_line.specs.Words.{Asked, SpellsCommand, are_taken, late_text, mode_text}
+use Rattle.std.specs.Str.{bytes_eq}
+use Rattle.std.proofs.lemmas.Slice.Eq.{bytes_eq-Decides}
+use Rattle.admission.specs.declared.policy.Policy.{Policy}
+use Rattle.admission.specs.declared.policy.Lateness.{Lateness}
+use Rattle.admission.specs.declared.policy.Lateness.TheVariants as ways
 use Rattle.command_line.specs.declared.words.Mode.{Mode}
 use Rattle.command_line.specs.declared.words.Mode.TheVariants.{Run, Explain}
 use Rattle.command_line.proofs.Spelled.{spelled}
 use Rattle.tempo_cli.specs.Answers.{Answers}
-use Rattle.tempo_cli.specs.Jobs.{HasPlan, HasPlanFault, HasFault, Job, NoWords, NoPlan, Planned, IsJob, Does, DoesMode, HasQueryReason, IsPlanned, policy_of, query_status}
+use Rattle.tempo_cli.specs.Jobs.{HasPlan, HasPlanFault, HasFault, Job, NoWords, NoPlan, Planned, IsJob, Does, DoesMode, HasQueryReason, IsPlanned, query_status}
 use Rattle.tempo_cli.specs.Feeding.{IsOwn, IsAsked}
 use Rattle.tempo_cli.specs.Status.{Counts}
 use Rattle.tempo_cli.specs.Table.{limit, Ends}
@@ -54,7 +59,7 @@ fault_once text f g (inr h) (inr k) =
 
 -- before anything was done
 pub memory_does : (mode : Mode) (asked : Asked) (plan : PlanParts) → DoesMode mode asked plan Memory []
-memory_does Run asked plan = no_memory (answers plan (policy_of asked) asked.header) refl
+memory_does Run asked plan = no_memory (answers plan asked.policy asked.header) refl
 memory_does Explain asked plan = record { outs_alone = All-nil IsOut; told = refl }
 
 -- a run over lines without fault is done, or memory was wanting
@@ -86,17 +91,44 @@ flag_once false false e = refl
 some_once : {X : Type 0} (t : Option X) (a b : X) → t ≡ Some a → t ≡ Some b → a ≡ b
 some_once t a b p q = let e : Some a ≡ Some b = sym p ∙ q in cc
 
+apart : {A : Type 0} (a b : List ℕ) → bytes_eq a b ≡ false → a ≡ b → A
+apart a b differs e = absurd (true≢false (sym ((bytes_eq-Decides a b).1 e) ∙ differs))
+
+late_once : (l m : Lateness) → late_text l ≡ late_text m → l ≡ m
+late_once ways.Refuse ways.Refuse e = refl
+late_once ways.Refuse ways.Drop e = apart (codes "refuse") (codes "drop") refl e
+late_once ways.Refuse ways.Adjust e = apart (codes "refuse") (codes "adjust") refl e
+late_once ways.Drop ways.Refuse e = apart (codes "drop") (codes "refuse") refl e
+late_once ways.Drop ways.Drop e = refl
+late_once ways.Drop ways.Adjust e = apart (codes "drop") (codes "adjust") refl e
+late_once ways.Adjust ways.Refuse e = apart (codes "adjust") (codes "refuse") refl e
+late_once ways.Adjust ways.Drop e = apart (codes "adjust") (codes "drop") refl e
+late_once ways.Adjust ways.Adjust e = refl
+
+policy_is : (p r : Policy) → p.lateness ≡ r.lateness → p.late ≡ r.late → p.period ≡ r.period → p ≡ r
+policy_is p r e f g =
+    let one : p ≡ record { lateness = r.lateness; late = p.late; period = p.period } = ap (λ (n : ℕ). let x : Policy = record { lateness = n; late = p.late; period = p.period } in x) e in
+    let two : record { lateness = r.lateness; late = p.late; period = p.period } ≡ record { lateness = r.lateness; late = r.late; period = p.period } = ap (λ (n : Lateness). let x : Policy = record { lateness = r.lateness; late = n; period = p.period } in x) f in
+    one ∙ (two ∙ ap (λ (n : ℕ). let x : Policy = record { lateness = r.lateness; late = r.late; period = n } in x) g)
+
+asked_is : (a b : Asked) → a.query ≡ b.query → a.mode ≡ b.mode → a.batch ≡ b.batch → a.header ≡ b.header → a.policy ≡ b.policy → a ≡ b
+asked_is a b query mode batch header policy =
+    let one : a ≡ record { query = b.query; mode = a.mode; batch = a.batch; header = a.header; policy = a.policy } = ap (λ (n : List ℕ). let x : Asked = record { query = n; mode = a.mode; batch = a.batch; header = a.header; policy = a.policy } in x) query in
+    let two : record { query = b.query; mode = a.mode; batch = a.batch; header = a.header; policy = a.policy } ≡ record { query = b.query; mode = b.mode; batch = a.batch; header = a.header; policy = a.policy } = ap (λ (n : Mode). let x : Asked = record { query = b.query; mode = n; batch = a.batch; header = a.header; policy = a.policy } in x) mode in
+    let three : record { query = b.query; mode = b.mode; batch = a.batch; header = a.header; policy = a.policy } ≡ record { query = b.query; mode = b.mode; batch = b.batch; header = a.header; policy = a.policy } = ap (λ (n : ℕ). let x : Asked = record { query = b.query; mode = b.mode; batch = n; header = a.header; policy = a.policy } in x) batch in
+    let four : record { query = b.query; mode = b.mode; batch = b.batch; header = a.header; policy = a.policy } ≡ record { query = b.query; mode = b.mode; batch = b.batch; header = b.header; policy = a.policy } = ap (λ (n : Bool). let x : Asked = record { query = b.query; mode = b.mode; batch = b.batch; header = n; policy = a.policy } in x) header in
+    one ∙ (two ∙ (three ∙ (four ∙ ap (λ (n : Policy). let x : Asked = record { query = b.query; mode = b.mode; batch = b.batch; header = b.header; policy = n } in x) policy)))
+
 -- words spell one command
 pub one_command : (words : List (List ℕ)) (a b : Asked) → SpellsCommand words a → SpellsCommand words b → a ≡ b
-one_command words a b p q =
-    let query : a.query ≡ b.query = some_once _ a.query b.query p.query q.query in
-    let mode : a.mode ≡ b.mode = mode_once a.mode b.mode (some_once _ (mode_text a.mode) (mode_text b.mode) p.mode q.mode) in
-    let batch : a.batch ≡ b.batch = some_once _ a.batch b.batch p.batch q.batch in
-    let header : a.header ≡ b.header = flag_once a.header b.header (some_once _ (bool_text a.header) (bool_text b.header) p.header q.header) in
-    let one : a ≡ record { query = b.query; mode = a.mode; batch = a.batch; header = a.header } = ap (λ (n : List ℕ). let x : Asked = record { query = n; mode = a.mode; batch = a.batch; header = a.header } in x) query in
-    let two : record { query = b.query; mode = a.mode; batch = a.batch; header = a.header } ≡ record { query = b.query; mode = b.mode; batch = a.batch; header = a.header } = ap (λ (n : Mode). let x : Asked = record { query = b.query; mode = n; batch = a.batch; header = a.header } in x) mode in
-    let three : record { query = b.query; mode = b.mode; batch = a.batch; header = a.header } ≡ record { query = b.query; mode = b.mode; batch = b.batch; header = a.header } = ap (λ (n : ℕ). let x : Asked = record { query = b.query; mode = b.mode; batch = n; header = a.header } in x) batch in
-    one ∙ (two ∙ (three ∙ ap (λ (n : Bool). let x : Asked = record { query = b.query; mode = b.mode; batch = b.batch; header = n } in x) header))
+one_command words a b p q = asked_is a b
+    (some_once _ a.query b.query p.query q.query)
+    (mode_once a.mode b.mode (some_once _ (mode_text a.mode) (mode_text b.mode) p.mode q.mode))
+    (some_once _ a.batch b.batch p.batch q.batch)
+    (flag_once a.header b.header (some_once _ (bool_text a.header) (bool_text b.header) p.header q.header))
+    (policy_is a.policy b.policy (some_once _ a.policy.lateness b.policy.lateness p.lateness q.lateness)
+    (late_once a.policy.late b.policy.late (some_once _ (late_text a.policy.late) (late_text b.policy.late) p.late q.late))
+    (some_once _ a.policy.period b.policy.period p.punctuate q.punctuate))
 
 -- what was done for the command that the words spell was done for the job that they ask for
 pub does_of : {a b : Option (List Entry)} (words : List (List ℕ)) (asked : Asked) (status : Status) → SpellsCommand words asked →

@@ -120,7 +120,8 @@ module _ {a : Answers} {bytes : List ℕ} {given : List (List ℕ)} {c : CutterS
     pub some_written : (before out front : List ℕ) → a.text given false ≡ before ++ out → IsFront front out → (ended : Bool) → IsFront (before ++ front) (a.text (lines bytes ended) ended)
     some_written before out front grows some ended =
         let all = lines_after ended in
-        let fin = final.front given (lines c.rest ended) ended (subst (All HasNoLf) all (lines_are_free bytes ended)) in
-        (some.0 ++ fin.0,
-            ap (λ ls. a.text ls ended) all ∙ (fin.1 ∙ (ap (λ x. x ++ fin.0) (grows ∙ ap (λ x. before ++ x) some.1)
-            ∙ (append_assoc before (front ++ some.0) fin.0 ∙ (ap (λ x. before ++ x) (append_assoc front some.0 fin.0) ∙ sym (append_assoc before front (some.0 ++ fin.0)))))))
+        let fin = final.front given (lines c.rest ended) ended (subst (All HasNoLf) all (lines_are_free bytes ended)) in (
+          some.0 ++ fin.0,
+          ap (λ ls. a.text ls ended) all ∙ (fin.1 ∙ (ap (λ x. x ++ fin.0) (grows ∙ ap (λ x. before ++ x) some.1)
+              ∙ (append_assoc before (front ++ some.0) fin.0 ∙ (ap (λ x. before ++ x) (append_assoc front some.0 fin.0) ∙ sym (append_assoc before front (some.0 ++ fin.0)))))),
+        )

@@ -80,7 +80,8 @@ end_front q bytes before out front s e some =
     let ls = lines bytes true in
     let final = answers_final q e.engine.took.sound in
     let none = append-nil ls in
-    let fin = final.front ls [] true (subst (All HasNoLf) (sym none) (lines_are_free bytes true)) in
-    (some.0 ++ fin.0,
-        ap (λ x. (answers_to q).text x true) (sym none) ∙ (fin.1 ∙ (ap (λ x. x ++ fin.0) (sym e.so_far ∙ ap (λ x. before ++ x) some.1)
-        ∙ (append_assoc before (front ++ some.0) fin.0 ∙ (ap (λ x. before ++ x) (append_assoc front some.0 fin.0) ∙ sym (append_assoc before front (some.0 ++ fin.0)))))))
+    let fin = final.front ls [] true (subst (All HasNoLf) (sym none) (lines_are_free bytes true)) in (
+      some.0 ++ fin.0,
+      ap (λ x. (answers_to q).text x true) (sym none) ∙ (fin.1 ∙ (ap (λ x. x ++ fin.0) (sym e.so_far ∙ ap (λ x. before ++ x) some.1)
+          ∙ (append_assoc before (front ++ some.0) fin.0 ∙ (ap (λ x. before ++ x) (append_assoc front some.0 fin.0) ∙ sym (append_assoc before front (some.0 ++ fin.0)))))),
+    )

@@ -8,7 +8,7 @@ use Rattle.admission.specs.Entries.{Told}
 use Rattle.admission.specs.Progress.{start, steps}
 use Rattle.admission.specs.declared.policy.Policy.{Policy}
 use Rattle.tempo_engine.specs.Fed.{Fed}
-use Rattle.tempo_engine.specs.declared.engine.Engine.{Engine}
+use Rattle.tempo_engine.specs.Went.{EngineView}
 use Rattle.tempo_cli.specs.Answers.{Answers}
 use Rattle.tempo_cli.specs.Table.{limit, IsEnd}
 use Rattle.tempo_cli.specs.Told.{told, answers}
@@ -30,7 +30,7 @@ abbrev pub answers_to : Asked → Answers
 answers_to q = answers q.plan q.policy q.header
 
 -- the engine was fed these lines, but for a header, which changes nothing
-pub record Took (q : Asked) (given : List (List ℕ)) (e : Engine) : Type 0 where
+pub record Took (q : Asked) (given : List (List ℕ)) (e : EngineView) : Type 0 where
   pub fed : List Told
   pub took : Fed q.plan q.policy fed e
   pub same : steps q.plan q.policy start fed ≡ steps q.plan q.policy start (told q.plan.streams q.header given)

@@ -13,8 +13,6 @@ use Rattle.query_plan.specs.Explained.{explained}
 use Rattle.command_line.specs.Words.{Asked, SpellsCommand, are_taken}
 use Rattle.command_line.specs.declared.words.Mode.{Mode}
 use Rattle.command_line.specs.declared.words.Mode.TheVariants.{Run, Explain}
-use Rattle.admission.specs.declared.policy.Policy.{Policy}
-use Rattle.admission.specs.declared.policy.Lateness.TheVariants.{Refuse}
 use Rattle.tempo_cli.specs.Answers.{IsFront}
 use Rattle.tempo_cli.specs.Table.{Ends}
 use Rattle.tempo_cli.specs.Told.{answers}
@@ -62,13 +60,9 @@ pub record Tells (plan : PlanParts) (status : Status) (J : List Entry) : Type 0 
   pub outs_alone : All IsOut J
   pub told : IsTold status (explained plan) (outs J)
 
--- how late lines and punctuations are taken
-abbrev pub policy_of : Asked → Policy
-policy_of asked = record { lateness = 0; late = Refuse; period = 0 }
-
 -- in mode run the query is answered, and in mode explain its plan is told
 abbrev pub DoesMode : Mode → Asked → PlanParts → Status → List Entry → Type 0
-DoesMode Run asked plan status J = Ends (answers plan (policy_of asked) asked.header) status J
+DoesMode Run asked plan status J = Ends (answers plan asked.policy asked.header) status J
 DoesMode Explain asked plan status J = Tells plan status J
 
 -- what a run has done for a job. J is what it added to the journal of its wire. Where nothing is asked for that can be done,

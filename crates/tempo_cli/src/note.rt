@@ -117,7 +117,10 @@ fn send_fault<N: Wire>(notes: &mut N, fault: &QueryFault) -> Result<(), WriteFai
 {
     let mut place = Buffer::new();
     let number = place_text(&mut place, place_of_fault(fault));
-    send_pieces(notes, &[b"query: ".as_slice(), words_of_fault(fault), number, b"\n"])
+    send_pieces(
+        notes,
+        &[b"query: ".as_slice(), words_of_fault(fault), number, b"\n"],
+    )
 }
 
 fn send_bad_line<N: Wire>(notes: &mut N, line: u64, cause: &BadLine) -> Result<(), WriteFailed>
@@ -129,7 +132,17 @@ fn send_bad_line<N: Wire>(notes: &mut N, line: u64, cause: &BadLine) -> Result<(
     let mut place = Buffer::new();
     let line = number.format(line).as_bytes();
     let column = place_text(&mut place, place_of_cause(cause));
-    send_pieces(notes, &[b"line ".as_slice(), line, b": ", words_of_cause(cause), column, b"\n"])
+    send_pieces(
+        notes,
+        &[
+            b"line ".as_slice(),
+            line,
+            b": ",
+            words_of_cause(cause),
+            column,
+            b"\n",
+        ],
+    )
 }
 
 fn send_late<N: Wire>(notes: &mut N, line: u64, time: Time, bound: Time) -> Result<(), WriteFailed>
@@ -143,10 +156,26 @@ fn send_late<N: Wire>(notes: &mut N, line: u64, time: Time, bound: Time) -> Resu
     let line = a.format(line).as_bytes();
     let time = time_text(&mut b, time);
     let bound = time_text(&mut c, bound);
-    send_pieces(notes, &[b"line ".as_slice(), line, b": late, ", time, b" below ", bound, b"\n"])
+    send_pieces(
+        notes,
+        &[
+            b"line ".as_slice(),
+            line,
+            b": late, ",
+            time,
+            b" below ",
+            bound,
+            b"\n",
+        ],
+    )
 }
 
-fn send_overflow<N: Wire>(notes: &mut N, punct: Time, node: usize, time: Time) -> Result<(), WriteFailed>
+fn send_overflow<N: Wire>(
+    notes: &mut N,
+    punct: Time,
+    node: usize,
+    time: Time,
+) -> Result<(), WriteFailed>
     ensures ok { OnOk result (Grows (N.journal notes.old) (N.journal notes.new) (SentAll (note_of (Status.Overflow punct node time)))) }
     ensures err { OnErr result (Grows (N.journal notes.old) (N.journal notes.new) (SentFront (note_of (Status.Overflow punct node time)))) }
     ensures cause { HasCause (N.write_faults notes.old) (N.write_faults notes.new) result }
@@ -157,7 +186,18 @@ fn send_overflow<N: Wire>(notes: &mut N, punct: Time, node: usize, time: Time) -
     let node = a.format(node).as_bytes();
     let time = time_text(&mut b, time);
     let punct = time_text(&mut c, punct);
-    send_pieces(notes, &[b"node ".as_slice(), node, b": overflow at ", time, b", closing ", punct, b"\n"])
+    send_pieces(
+        notes,
+        &[
+            b"node ".as_slice(),
+            node,
+            b": overflow at ",
+            time,
+            b", closing ",
+            punct,
+            b"\n",
+        ],
+    )
 }
 
 fn send_note<N: Wire>(notes: &mut N, status: &Status) -> Result<(), WriteFailed>

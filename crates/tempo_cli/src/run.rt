@@ -2,16 +2,15 @@
 ghost use Rattle.std.specs.Prelude.{◌≡◌, ◌≤◌, ◌⊎◌, ℕ, List, [], map, IsTrue};
 ghost use Rattle.wire_lines.specs.Journal.{Grows};
 ghost use Rattle.plan_model.specs.IsPlan.{PlanParts};
-ghost use Rattle.tempo_cli.specs.Jobs.{Job, IsJob, IsPlanned, HasPlan, HasFault, Does, DoesMode, Tells, HasReason, HasQueryReason, policy_of, query_status};
+ghost use Rattle.tempo_cli.specs.Jobs.{Job, IsJob, IsPlanned, HasPlan, HasFault, Does, DoesMode, Tells, HasReason, HasQueryReason, query_status};
 ghost use Rattle.tempo_cli.specs.Feeding.{IsAsked};
 ghost use Rattle.tempo_cli.specs.Status.{Counts, IsNoted};
-ghost use Rattle.command_line.specs.Words.{asked_by};
+ghost use Rattle.command_line.specs.Words.{AreWithin, asked_by};
 ghost use Rattle.std.specs.List.{list_all};
 ghost use Rattle.plan_model.specs.Reach.{is_built};
 ghost use Rattle.plan_model.specs.declared.fault.QueryFault.{QueryFault as SomeFault};
 
 use crate::answer::answer;
-use admission::{Lateness, Policy};
 use crate::note::note;
 use crate::status::Status;
 use command_line::{CommandLine, Mode, WordsFault, read_words};
@@ -55,28 +54,20 @@ fn do_mode<W: Wire>(alloc: Global, asked: &CommandLine<'_>, plan: Plan, wire: &m
     ensures counts { Counts (W.read_faults wire.old) (W.read_faults wire.new) (W.write_faults wire.old) (W.write_faults wire.new) result }
 {
     match asked.mode {
-        Mode::Run => answer(alloc, plan, options_of(asked), asked.header, wire),
+        Mode::Run => {
+            let options = Options {
+                batch: asked.batch,
+                policy: asked.policy,
+            };
+            answer(alloc, plan, options, asked.header, wire)
+        }
         Mode::Explain => tell(alloc, &plan, wire),
-    }
-}
-
-fn options_of(asked: &CommandLine<'_>) -> Options
-    ensures batch { result.batch ≡ asked.now.batch }
-    ensures policy { result.policy ≡ policy_of (asked_by asked.now) }
-{
-    Options {
-        batch: asked.batch,
-        policy: Policy {
-            lateness: 0,
-            late: Lateness::Refuse,
-            period: 0,
-        },
     }
 }
 
 /// Does what is asked for. The words were taken.
 fn perform<W: Wire>(alloc: Global, asked: &CommandLine<'_>, wire: &mut W) -> Status
-    requires batch { 1 ≤ asked.now.batch }
+    requires within { AreWithin (asked_by asked.now) }
     ensures reason { HasQueryReason asked.now.query.now result }
     ensures planned { (plan : PlanParts) → HasPlan asked.now.query.now plan → Grows (W.journal wire.old) (W.journal wire.new) (DoesMode asked.now.mode (asked_by asked.now) plan result) }
     ensures unplanned { (fault : SomeFault) → HasFault asked.now.query.now fault → Grows (W.journal wire.old) (W.journal wire.new) (λ J. (J ≡ []) × ((result ≡ Status.BadQuery fault) ⊎ (result ≡ Status.Memory))) }
@@ -98,13 +89,15 @@ fn status_of(error: QueryError) -> Status
     }
 }
 
-/// Writes the text of a refusal of the words.
-fn tell_refusal<N: Wire>(notes: &mut N, text: &str)
+/// Writes the text of a refusal of the words, where there is one.
+fn tell_refusal<N: Wire>(notes: &mut N, text: &Option<String>)
     ensures { Grows (N.journal notes.old) (N.journal notes.new) (IsNoted Status.BadWords (N.write_faults notes.old) (N.write_faults notes.new)) }
 {
-    match send(notes, text.as_bytes()) {
-        Ok(()) => {}
-        Err(WriteFailed) => {}
+    if let Some(text) = text {
+        match send(notes, text.as_bytes()) {
+            Ok(()) => {}
+            Err(WriteFailed) => {}
+        }
     }
 }
 
@@ -135,7 +128,7 @@ pub fn run<'a, W: Wire, N: Wire>(
             status
         }
         Err(WordsFault::Refused { text }) => {
-            tell_refusal(notes, text.as_str());
+            tell_refusal(notes, &text);
             Status::BadWords
         }
         Err(WordsFault::Memory) => {

@@ -49,13 +49,27 @@ fn status_of(fault: EngineFault) -> Status
     match fault {
         EngineFault::Bad { line, cause } => Status::Malformed { line, cause },
         EngineFault::Late { line, time, bound } => Status::Late { line, time, bound },
-        EngineFault::Overflow { punctuation, node, time } => Status::Overflow { punct: punctuation, node, time },
+        EngineFault::Overflow {
+            punctuation,
+            node,
+            time,
+        } => Status::Overflow {
+            punct: punctuation,
+            node,
+            time,
+        },
         EngineFault::Memory => Status::Memory,
     }
 }
 
 /// Feeds the line of that number; a header is not read.
-fn feed(alloc: Global, engine: &mut Engine, header: bool, number: u64, line: &[u8]) -> Result<Vec<u8>, EngineFault>
+fn feed(
+    alloc: Global,
+    engine: &mut Engine,
+    header: bool,
+    number: u64,
+    line: &[u8],
+) -> Result<Vec<u8>, EngineFault>
     requires short { length line.now ≤ 65536 }
     requires no_feed { HasNoLf line.now }
     ensures took { IfOk result (λ _. (q : Asked) (given : List (List ℕ)) → q.header ≡ header → number ≡ length given + 1 → Took q given engine.old → Took q (given ++ line.now ∷ []) engine.new) }

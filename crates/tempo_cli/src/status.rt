@@ -15,11 +15,22 @@ pub enum Status {
     /// The query is none, or has no plan.
     BadQuery(QueryFault),
     /// This line is bad.
-    Malformed { line: u64, cause: BadLine },
+    Malformed {
+        line: u64,
+        cause: BadLine,
+    },
     /// This line is older than its stream's bound, and late lines are refused.
-    Late { line: u64, time: Time, bound: Time },
+    Late {
+        line: u64,
+        time: Time,
+        bound: Time,
+    },
     /// At this punctuation this node has no rows at this time: a group has too many rows, or a sum is too great.
-    Overflow { punct: Time, node: usize, time: Time },
+    Overflow {
+        punct: Time,
+        node: usize,
+        time: Time,
+    },
     /// The input has more than 2^40 bytes.
     InputTooLong,
     ReadFault,

@@ -77,7 +77,13 @@ fn inputs_give_their_changes(rt: HostRuntime) -> Result<(), Memory> {
             5,
             "line 2: late, 9 below inf\n",
         ),
-        (ALL, "s,interval,1,2,a,x\n", "", 4, "line 1: bad value in column 2\n"),
+        (
+            ALL,
+            "s,interval,1,2,a,x\n",
+            "",
+            4,
+            "line 1: bad value in column 2\n",
+        ),
     ];
     for (query, input, output, number, note) in cases {
         for step in [1, 65536] {

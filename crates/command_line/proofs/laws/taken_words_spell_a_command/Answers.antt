@@ -4,4 +4,4 @@ use Rattle.command_line.proofs.laws.taken_words_spell_a_command.Goals as goal
 pub returns : goal.returns
 returns c = λ words taken.
     let s = spelled words taken in
-    (s.asked, s.spells, s.least, s.most)
+    (s.asked, s.spells, s.within)

@@ -1,6 +1,6 @@
-use Rattle.std.proofs.Common.{◌≡◌, ◌≤◌, map, sym, subst}
+use Rattle.std.proofs.Common.{◌≡◌, map, sym, subst}
 use Rattle.clap.specs.Words.{found_of}
-use Rattle.command_line.specs.Words.{Asked, SpellsCommand, asked_by}
+use Rattle.command_line.specs.Words.{AreWithin, SpellsCommand, asked_by}
 use Rattle.command_line.proofs.Spelled.{spelled}
 use Rattle.command_line.proofs.words.read_words.Goals as goal
 
@@ -11,9 +11,9 @@ returns-in-Ok-clause-spelled c =
     let is : asked_by c.command_of.result ≡ s.asked = c.command_of.ensures s.asked (s.shows (found_of c.in-Ok.matches) c.in-Ok.ensures.matches) in
     subst (SpellsCommand words) (sym is) s.spells
 
-pub returns-in-Ok-clause-batch : goal.returns-in-Ok-clause-batch
-returns-in-Ok-clause-batch c =
+pub returns-in-Ok-clause-within : goal.returns-in-Ok-clause-within
+returns-in-Ok-clause-within c =
     let words = map (λ w. w.now) c.args.words.now in
     let s = spelled words c.in-Ok.ensures.taken in
     let is : asked_by c.command_of.result ≡ s.asked = c.command_of.ensures s.asked (s.shows (found_of c.in-Ok.matches) c.in-Ok.ensures.matches) in
-    (subst (λ (a : Asked). 1 ≤ a.batch) (sym is) s.least, subst (λ (a : Asked). a.batch ≤ 8192) (sym is) s.most)
+    subst AreWithin (sym is) s.within

@@ -31,11 +31,10 @@ loop-left-preserved g c =
     let asked : length c.read.new.into ≤ c.asked.result = omega (arith, c.read.auto.into, length-take c.asked.result c.deref_mut.result.now) in
     let piece : length b ≤ 65536 = omega (arith, n, c.in-Ok-read.ensures.bound, asked, c.asked.ensures) in
     let few : c.in-Ok-read.count ≤ c.loop-left.left = omega (arith, c.in-Ok-read.ensures.bound, asked, c.asked.ensures) in
-    let within : length b ≤ c.loop-left.left = omega (arith, n, few) in
-    (
+    let within : length b ≤ c.loop-left.left = omega (arith, n, few) in (
       Grows-then {P = AfterRead (record { plan = c.args.plan; policy = c.args.options.policy; header = c.args.header }) c.loop-left.session c.loop-left.left b} (Grows-adds c.loop-left.invariant.0 c.in-Ok-read.ensures.told (λ J r. after_read b r))
-      (λ (J : List Entry) (p : AfterRead (record { plan = c.args.plan; policy = c.args.options.policy; header = c.args.header }) c.loop-left.session c.loop-left.left b J). c.in-Ok-work.ensures.ok _ (ins p.before ++ b) p.reading.given (c.take.ensures.holds _ (ins p.before) p.reading.given p.reading.holds) (few_at b within p.reading))
-      (λ J K p w. after_on b c.in-Ok-read.count n some piece few c.loop-left.invariant.3 p w),
+          (λ (J : List Entry) (p : AfterRead (record { plan = c.args.plan; policy = c.args.options.policy; header = c.args.header }) c.loop-left.session c.loop-left.left b J). c.in-Ok-work.ensures.ok _ (ins p.before ++ b) p.reading.given (c.take.ensures.holds _ (ins p.before) p.reading.given p.reading.holds) (few_at b within p.reading))
+          (λ J K p w. after_on b c.in-Ok-read.count n some piece few c.loop-left.invariant.3 p w),
       c.in-Ok-work.ensures.same.0 ∙ c.in-Ok-read.ensures.cause.same ∙ c.loop-left.invariant.1,
       c.in-Ok-work.ensures.same.1 ∙ c.in-Ok-read.ensures.other.same ∙ c.loop-left.invariant.2,
       c.in-Ok-work.ensures.wants,

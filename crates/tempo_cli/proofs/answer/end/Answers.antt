@@ -32,8 +32,10 @@ returns-in-Ok-send-2-clause-ends g c = λ q bytes given h. Grows-grows c.in-Ok-s
 
 -- all of the first part, and a front of the second
 front_of : (x y z whole after : List ℕ) (O K : List Entry) → (x ++ y) ++ z ≡ whole → y ≡ outs O → z ≡ outs K ++ after → IsFront (x ++ outs (O ++ K)) whole
-front_of x y z whole after O K e p r = (after,
-    sym e ∙ (ap (λ t. (x ++ y) ++ t) r ∙ (sym (append_assoc (x ++ y) (outs K) after) ∙ ap (λ t. t ++ after) (written_both x y (outs K) O K p refl))))
+front_of x y z whole after O K e p r = (
+  after,
+  sym e ∙ (ap (λ t. (x ++ y) ++ t) r ∙ (sym (append_assoc (x ++ y) (outs K) after) ∙ ap (λ t. t ++ after) (written_both x y (outs K) O K p refl))),
+)
 
 pub returns-clause-ends : goal.returns-clause-ends
 returns-clause-ends g c = λ q bytes given h. Grows-grows c.in-Ok-send.ensures.ok c.in-Err-send-2.ensures.err (λ O K s t.

@@ -4,7 +4,6 @@ use Rattle.wire_lines.specs.Cutter.{CutterState}
 use Rattle.wire_lines.specs.Lines.{lines}
 use Rattle.wire_lines.proofs.Cutting.{HasNoLf-one_line}
 use Rattle.wire_lines.proofs.CutsFacts.{lines_with_last, lines_without_last}
-use Rattle.tempo_engine.specs.declared.engine.Engine.{Engine}
 use Rattle.tempo_cli.specs.Answers.{Answers}
 use Rattle.tempo_cli.specs.Table.{limit}
 use Rattle.tempo_cli.specs.Feeding.{Asked, answers_to, Took, Within, WantsBytes, Ended}

@@ -53,12 +53,15 @@ pub returns-in-Ok-clause-comes : goal.returns-in-Ok-clause-comes
 returns-in-Ok-clause-comes c = λ q bytes lines h few.
     let line = c.in-Line.line.bytes.now in
     let g = tells_line bytes c.args.self.now.cutter lines c.in-Line.line.number line c.in-Line.ensures.value h.within.cuts in
-    let took = c.in-Ok.ensures.took q lines (sym h.header) g.number_is h.engine in
-    (line, rw c.next_line.follows.holds-at-none (record {
-      header = h.header;
-      within = within_more h.within c.in-Line.line.number line g (took_fine q (lines ++ line ∷ []) _ took);
-      engine = took;
-    }), c.in-Ok.ensures.text q lines (sym h.header) g.number_is h.engine)
+    let took = c.in-Ok.ensures.took q lines (sym h.header) g.number_is h.engine in (
+      line,
+      rw c.next_line.follows.holds-at-none (record {
+        header = h.header;
+        within = within_more h.within c.in-Line.line.number line g (took_fine q (lines ++ line ∷ []) _ took);
+        engine = took;
+      }),
+      c.in-Ok.ensures.text q lines (sym h.header) g.number_is h.engine,
+    )
 
 pub returns-in-Err-clause-comes : goal.returns-in-Err-clause-comes
 returns-in-Err-clause-comes c = λ q bytes lines h few ended.
