@@ -1,7 +1,8 @@
 use Rattle.std.proofs.Common.{◌≡◌, ◌++◌, ◌∷◌, [], List, ℕ, true, false, refl, sym, ◌∙◌, ap, append_assoc, subst}
-use Rattle.std.proofs.lemmas.List.Elements.{All-append}
+use Rattle.std.proofs.lemmas.List.Elements.{All-append, All-nil}
+use Rattle.std.proofs.lemmas.List.{append-nil}
 use Rattle.wire_lines.specs.Journal.{IsOut, outs}
-use Rattle.wire_lines.proofs.Growth.{Grows-weaker, outs-append}
+use Rattle.wire_lines.proofs.Growth.{Grows-none, Grows-weaker, outs-append}
 use Rattle.tempo_cli.specs.Answers.{IsFront}
 use Rattle.tempo_cli.specs.Feeding.{answers_to}
 use Rattle.tempo_cli.specs.Table.{IsEnd}
@@ -11,6 +12,9 @@ use Rattle.tempo_cli.proofs.Moves.{some_written}
 use Rattle.tempo_cli.proofs.Journals.{Grows-then, own_counts}
 use Rattle.tempo_cli.proofs.Jobs.{own_asked}
 use Rattle.tempo_cli.proofs.answer.work.Goals as goal
+
+pub loop-status-init : goal.loop-status-init
+loop-status-init g c = (c.requires.longest, refl, refl, λ q bytes given h few. Grows-none _ (record { outs_alone = All-nil IsOut; more = given; holds = h; grown = sym (append-nil ((answers_to q).text given false)) }))
 
 pub returns-in-More-clause-ok : goal.returns-in-More-clause-ok
 returns-in-More-clause-ok g c = λ q bytes given h few. Grows-weaker (c.loop-status.invariant.3 q bytes given h few) (λ O w. record {
