@@ -1,0 +1,5 @@
+//! The operator of a Join.
+#![tactic(auto)]
+
+mod pairs;
+mod sweep;
