@@ -84,9 +84,9 @@ row_told lk rk r starts t x others key values answer0 answer by own is =
     let f : HeldRow → Edge = λ y. told_at starts t (with_row rk r x y) in
     let tests = λ (y : HeldRow). ap (λ (k : List ℕ). is_of_key k values y) by ∙ (ap (λ (d : List Datum). is_of_key (cond r lk rk) d y) own ∙ key_is lk rk r x y) in
     let same : map f (filter (is_of_key key values) others) ≡ pairs_told (join_meets lk rk) (paired_row rk) r starts t (x ∷ []) others =
-        ap (map f) (filter_same (is_of_key key values) (partner lk rk r x) others tests)
-        ∙ (sym (map_map (told_at starts t) (with_row rk r x) (filter (partner lk rk r x) others))
-        ∙ ap (map (told_at starts t)) (sym (partners_are lk rk r x others) ∙ sym (append_nil (partners (join_meets lk rk) (paired_row rk) r x others)))) in
+    ap (map f) (filter_same (is_of_key key values) (partner lk rk r x) others tests)
+    ∙ (sym (map_map (told_at starts t) (with_row rk r x) (filter (partner lk rk r x) others))
+    ∙ ap (map (told_at starts t)) (sym (partners_are lk rk r x others) ∙ sym (append_nil (partners (join_meets lk rk) (paired_row rk) r x others)))) in
     record { added = map f (filter (is_of_key key values) others); is = is; bag = record { weigh = λ w. ap (total w) same } }
 
 -- a list that grows item by item

@@ -2,3 +2,4 @@
 pub mod Joined
 pub mod Pairing
 pub mod Kept
+pub mod States

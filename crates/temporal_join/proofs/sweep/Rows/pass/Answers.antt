@@ -32,11 +32,12 @@ returns c =
           let by_left = by.left ∙ sym l2 in
           let by_right = by.right ∙ sym r1 in
           let s1 = same_told lk rk _ _ false true t (started_rows nl) right1 a2 a3 l1 r1 (c.in_ok-start_rows.ensures.told (c.in_ok-end_rows-2.ensures.key ∙ by_right)) in
-          let s2 = same_told lk rk _ _ true true t (started_rows nr) left2 a3 a4 l2 r2 (c.in_ok-start_rows-2.ensures.told (c.in_ok-start_rows.ensures.key ∙ (c.in_ok-end_rows.ensures.key ∙ by_left))) in
-          (held_then (join_meets lk rk) (paired_row rk) a b t nl nr s.left.rows left1 left2 s.right.rows right1 right2 a0 a1 a2 a3 a4
-            low la lb il ir h c.in_ok-end_rows.ensures.ended (λ fit. same_told lk rk _ _ false false t (ended_rows nl) s.right.rows a0 a1 l1 r1 (c.in_ok-end_rows.ensures.told by_right fit)) c.in_ok-end_rows-2.ensures.ended (λ fit. same_told lk rk _ _ true false t (ended_rows nr) left1 a1 a2 l2 r2 (c.in_ok-end_rows-2.ensures.told (c.in_ok-end_rows.ensures.key ∙ by_left) fit)) c.in_ok-start_rows.ensures.started s1 c.in_ok-start_rows-2.ensures.started s2,
-           told_then (join_meets lk rk) (paired_row rk) a b t nl nr s.left.rows left1 left2 s.right.rows right1 right2 a0 a1 a2 a3 a4
-            low la lb il ir h c.in_ok-end_rows.ensures.ended (λ fit. same_told lk rk _ _ false false t (ended_rows nl) s.right.rows a0 a1 l1 r1 (c.in_ok-end_rows.ensures.told by_right fit)) c.in_ok-end_rows-2.ensures.ended (λ fit. same_told lk rk _ _ true false t (ended_rows nr) left1 a1 a2 l2 r2 (c.in_ok-end_rows-2.ensures.told (c.in_ok-end_rows.ensures.key ∙ by_left) fit)) c.in_ok-start_rows.ensures.started s1 c.in_ok-start_rows-2.ensures.started s2);
+          let s2 = same_told lk rk _ _ true true t (started_rows nr) left2 a3 a4 l2 r2 (c.in_ok-start_rows-2.ensures.told (c.in_ok-start_rows.ensures.key ∙ (c.in_ok-end_rows.ensures.key ∙ by_left))) in (
+            held_then (join_meets lk rk) (paired_row rk) a b t nl nr s.left.rows left1 left2 s.right.rows right1 right2 a0 a1 a2 a3 a4
+                low la lb il ir h c.in_ok-end_rows.ensures.ended (λ fit. same_told lk rk _ _ false false t (ended_rows nl) s.right.rows a0 a1 l1 r1 (c.in_ok-end_rows.ensures.told by_right fit)) c.in_ok-end_rows-2.ensures.ended (λ fit. same_told lk rk _ _ true false t (ended_rows nr) left1 a1 a2 l2 r2 (c.in_ok-end_rows-2.ensures.told (c.in_ok-end_rows.ensures.key ∙ by_left) fit)) c.in_ok-start_rows.ensures.started s1 c.in_ok-start_rows-2.ensures.started s2,
+            told_then (join_meets lk rk) (paired_row rk) a b t nl nr s.left.rows left1 left2 s.right.rows right1 right2 a0 a1 a2 a3 a4
+                low la lb il ir h c.in_ok-end_rows.ensures.ended (λ fit. same_told lk rk _ _ false false t (ended_rows nl) s.right.rows a0 a1 l1 r1 (c.in_ok-end_rows.ensures.told by_right fit)) c.in_ok-end_rows-2.ensures.ended (λ fit. same_told lk rk _ _ true false t (ended_rows nr) left1 a1 a2 l2 r2 (c.in_ok-end_rows-2.ensures.told (c.in_ok-end_rows.ensures.key ∙ by_left) fit)) c.in_ok-start_rows.ensures.started s1 c.in_ok-start_rows-2.ensures.started s2,
+          );
       keys = record {
         left_key = refl;
         right_key = refl;

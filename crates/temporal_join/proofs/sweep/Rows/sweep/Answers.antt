@@ -67,18 +67,19 @@ loop-i-preserved c =
           let r = c.loop-i.invariant.reached a b from to by dl dr h in
           let by2 : AreByKey now = record { left = keys.left ∙ (by.left ∙ sym left_same); right = keys.right ∙ (by.right ∙ sym right_same) } in
           let r1 : JoinReached meets pair a b from r.0 to lrest rrest now.left.rows now.right.rows a0 a1 =
-              subst (λ l. JoinReached meets pair a b from r.0 to l rrest now.left.rows now.right.rows a0 a1) (sym el)
-              (subst (λ l. JoinReached meets pair a b from r.0 to (drop i ldue) l now.left.rows now.right.rows a0 a1) (sym er) r.1) in
+          subst (λ l. JoinReached meets pair a b from r.0 to l rrest now.left.rows now.right.rows a0 a1) (sym el)
+          (subst (λ l. JoinReached meets pair a b from r.0 to (drop i ldue) l now.left.rows now.right.rows a0 a1) (sym er) r.1) in
           let s = join_reach_step meets pair a b from r.0 t to n m lrest rrest now.left.rows now.right.rows later.left.rows later.right.rows a0 a1 a2 r1 c.next_instant-t.ensures
-              c.first_instant-n.ensures.same c.first_instant-n.ensures.next c.first_instant-m.ensures.same c.first_instant-m.ensures.next
-              (λ low va vb nl nr held.
-                let p = c.in_ok-pass.ensures.swept a b by2 low va vb nl nr held in
-                (p.0, same_tells lk rk now.left_key.items now.right_key.items a b t (suc t) a1 a2 left_same right_same p.1)) in
-          (suc t,
+          c.first_instant-n.ensures.same c.first_instant-n.ensures.next c.first_instant-m.ensures.same c.first_instant-m.ensures.next
+          (λ low va vb nl nr held.
+          let p = c.in_ok-pass.ensures.swept a b by2 low va vb nl nr held in
+          (p.0, same_tells lk rk now.left_key.items now.right_key.items a b t (suc t) a1 a2 left_same right_same p.1)) in (
+            suc t,
             subst (λ l. JoinReached meets pair a b from (suc t) to l (drop (j + m) rdue) later.left.rows later.right.rows a0 a2)
-            (ap (λ (l : List Edge). drop n l) el ∙ drop-drop n i ldue)
-            (subst (λ l. JoinReached meets pair a b from (suc t) to (drop n lrest) l later.left.rows later.right.rows a0 a2)
-            (ap (λ (l : List Edge). drop m l) er ∙ drop-drop m j rdue) s));
+                (ap (λ (l : List Edge). drop n l) el ∙ drop-drop n i ldue)
+                (subst (λ l. JoinReached meets pair a b from (suc t) to (drop n lrest) l later.left.rows later.right.rows a0 a2)
+                (ap (λ (l : List Edge). drop m l) er ∙ drop-drop m j rdue) s),
+          );
     }
 
 pub returns : goal.returns
