@@ -1,0 +1,176 @@
+-- The rows of the other side with which a row is paired.
+use Rattle.std.specs.Prelude.{◌≡◌, ℕ, zero, suc, ◌+◌, ◌<◌, ◌↔◌, max, nat_eq, nat_lt, IsTrue, Bool, true, false, cond, List, [], ◌∷◌, ◌++◌, map, filter, flat_map, length, get_or, take, refl}
+use Rattle.std.specs.List.{list_any}
+use Rattle.std.proofs.Common.{sym, ◌∙◌, ap, subst, arith, append_assoc}
+use Rattle.std.proofs.lemmas.Bool.Decides.{nat_tests}
+use Rattle.std.proofs.lemmas.List.{take_more}
+use Rattle.tw_rows.specs.Bag.{SameBag, total}
+use Rattle.tw_rows.specs.SameCells.{same_cells, cells_are_same, same_itself}
+use Rattle.tw_rows.specs.declared.cells.Datum.{Datum}
+use Rattle.tw_rows.specs.declared.edge.Edge.{Edge}
+use Rattle.tw_rows.specs.declared.edge.HeldRow.{HeldRow}
+use Rattle.edge_history.specs.Order.{is_end}
+use Rattle.plan_model.specs.Keys.{outside_from, paired_row}
+use Rattle.sweep_laws.specs.Moves.{Adds, told_at}
+use Rattle.sweep_laws.specs.Pairs.{sided, partners, pairs_told}
+use Rattle.sweep_laws.specs.Sweeps.{Tells}
+use Rattle.edge_history.specs.History.{CellEvent}
+use Rattle.synopsis.specs.Held.{key_of, is_of_key}
+use Rattle.temporal_join.specs.Joined.{join_meets, joins}
+
+-- whether a row of the other side is a partner, and the row of the pair
+abbrev partner : List ℕ → List ℕ → Bool → HeldRow → HeldRow → Bool
+partner lk rk r x y = cond r (join_meets lk rk y.cells x.cells) (join_meets lk rk x.cells y.cells)
+
+abbrev with_row : List ℕ → Bool → HeldRow → HeldRow → HeldRow
+with_row rk r x y = record { cells = cond r (paired_row rk y.cells x.cells) (paired_row rk x.cells y.cells); start = max x.start y.start }
+
+max_comm : (a b : ℕ) → max a b ≡ max b a
+max_comm a b = omega arith
+
+one_pair : (lk rk : List ℕ) (r : Bool) (x y : HeldRow) → sided (join_meets lk rk) (paired_row rk) r x y ≡ cond (partner lk rk r x y) (with_row rk r x y ∷ []) []
+one_pair lk rk true x y = ap (λ n. cond (join_meets lk rk y.cells x.cells) (record { cells = paired_row rk y.cells x.cells; start = n } ∷ []) []) (max_comm y.start x.start)
+one_pair lk rk false x y = refl
+
+partners_are : (lk rk : List ℕ) (r : Bool) (x : HeldRow) (ys : List HeldRow) →
+    partners (join_meets lk rk) (paired_row rk) r x ys ≡ map (with_row rk r x) (filter (partner lk rk r x) ys)
+partners_are lk rk r x [] = refl
+partners_are lk rk r x (y ∷ ys) =
+    ap (λ (l : List HeldRow). l ++ partners (join_meets lk rk) (paired_row rk) r x ys) (one_pair lk rk r x y) ∙ go (partner lk rk r x y) (partners_are lk rk r x ys)
+  where
+    go : (b : Bool) → partners (join_meets lk rk) (paired_row rk) r x ys ≡ map (with_row rk r x) (filter (partner lk rk r x) ys) →
+        cond b (with_row rk r x y ∷ []) [] ++ partners (join_meets lk rk) (paired_row rk) r x ys
+        ≡ map (with_row rk r x) (cond b (y ∷ filter (partner lk rk r x) ys) (filter (partner lk rk r x) ys))
+    go true h = ap (λ (l : List HeldRow). with_row rk r x y ∷ l) h
+    go false h = h
+
+same_sym : (xs ys : List Datum) → same_cells xs ys ≡ same_cells ys xs
+same_sym xs ys = go (same_cells xs ys) refl (same_cells ys xs) refl
+  where
+    go : (a : Bool) → same_cells xs ys ≡ a → (b : Bool) → same_cells ys xs ≡ b → same_cells xs ys ≡ same_cells ys xs
+    go true h true k = h ∙ sym k
+    go false h false k = h ∙ sym k
+    go true h false k =
+        let e = cells_are_same xs ys h in
+        let t : same_cells ys xs ≡ true = subst (λ (l : List Datum). same_cells l xs ≡ true) e (same_itself xs) in
+        absurd (cc (t, k))
+    go false h true k =
+        let e = cells_are_same ys xs k in
+        let t : same_cells xs ys ≡ true = subst (λ (l : List Datum). same_cells l ys ≡ true) e (same_itself ys) in
+        absurd (cc (t, h))
+
+key_is : (lk rk : List ℕ) (r : Bool) (x y : HeldRow) → is_of_key (cond r lk rk) (key_of (cond r rk lk) x.cells) y ≡ partner lk rk r x y
+key_is lk rk true x y = refl
+key_is lk rk false x y = same_sym (key_of rk y.cells) (key_of lk x.cells)
+
+filter_same : {X : Type 0} (p q : X → Bool) (xs : List X) → ((x : X) → p x ≡ q x) → filter p xs ≡ filter q xs
+filter_same p q [] h = refl
+filter_same p q (x ∷ xs) h = ap (λ b. cond b (x ∷ filter p xs) (filter p xs)) (h x) ∙ ap (λ l. cond (q x) (x ∷ l) l) (filter_same p q xs h)
+
+map_map : {X Y Z : Type 0} (f : Y → Z) (g : X → Y) (xs : List X) → map f (map g xs) ≡ map (λ x. f (g x)) xs
+map_map f g [] = refl
+map_map f g (x ∷ xs) = ap (λ l. f (g x) ∷ l) (map_map f g xs)
+
+append_nil : {X : Type 0} (xs : List X) → xs ++ [] ≡ xs
+append_nil [] = refl
+append_nil (x ∷ xs) = ap (λ l. x ∷ l) (append_nil xs)
+
+-- what is told of the rows that have the key of a row is what is told of its pairs
+pub row_told : (lk rk : List ℕ) (r starts : Bool) (t : ℕ) (x : HeldRow) (others : List HeldRow) (key : List ℕ) (values : List Datum) (answer0 answer : List Edge) →
+    key ≡ cond r lk rk → values ≡ key_of (cond r rk lk) x.cells →
+    answer ≡ answer0 ++ map (λ y. told_at starts t (with_row rk r x y)) (filter (is_of_key key values) others) →
+    Adds answer0 answer (pairs_told (join_meets lk rk) (paired_row rk) r starts t (x ∷ []) others)
+row_told lk rk r starts t x others key values answer0 answer by own is =
+    let f : HeldRow → Edge = λ y. told_at starts t (with_row rk r x y) in
+    let tests = λ (y : HeldRow). ap (λ (k : List ℕ). is_of_key k values y) by ∙ (ap (λ (d : List Datum). is_of_key (cond r lk rk) d y) own ∙ key_is lk rk r x y) in
+    let same : map f (filter (is_of_key key values) others) ≡ pairs_told (join_meets lk rk) (paired_row rk) r starts t (x ∷ []) others =
+    ap (map f) (filter_same (is_of_key key values) (partner lk rk r x) others tests)
+    ∙ (sym (map_map (told_at starts t) (with_row rk r x) (filter (partner lk rk r x) others))
+    ∙ ap (map (told_at starts t)) (sym (partners_are lk rk r x others) ∙ sym (append_nil (partners (join_meets lk rk) (paired_row rk) r x others)))) in
+    record { added = map f (filter (is_of_key key values) others); is = is; bag = record { weigh = λ w. ap (total w) same } }
+
+-- a list that grows item by item
+pub told_next : (f : HeldRow → Edge) (others : List HeldRow) (i : ℕ) (y : HeldRow) (e : Edge) (answer0 answer1 answer2 : List Edge) → i < length others → y ≡ get_or others i y →
+    e ≡ f y → answer1 ≡ answer0 ++ map f (take i others) → answer2 ≡ answer1 ++ e ∷ [] → answer2 ≡ answer0 ++ map f (take (i + 1) others)
+told_next f others i y e answer0 answer1 answer2 low is it before pushed =
+    pushed ∙ (ap (λ (l : List Edge). l ++ e ∷ []) before ∙ (append_assoc answer0 (map f (take i others)) (e ∷ [])
+    ∙ ap (λ (l : List Edge). answer0 ++ l) (ap (λ (x : Edge). map f (take i others) ++ x ∷ []) (it ∙ ap f is) ∙ (sym (map-append f (take i others) (get_or others i y ∷ [])) ∙ ap (map f) (sym (take_more others i y low))))))
+  where
+    map-append : (g : HeldRow → Edge) (xs ys : List HeldRow) → map g (xs ++ ys) ≡ map g xs ++ map g ys
+    map-append g [] ys = refl
+    map-append g (x ∷ xs) ys = ap (λ (l : List Edge). g x ∷ l) (map-append g xs ys)
+
+not_less : (m n : ℕ) → (m < n → ⊥) → nat_lt m n ≡ false
+not_less m n apart = go (nat_lt m n) refl
+  where
+    go : (b : Bool) → nat_lt m n ≡ b → nat_lt m n ≡ false
+    go false h = h
+    go true h = absurd (apart (less m n h))
+      where
+        less : (m n : ℕ) → nat_lt m n ≡ true → m < n
+        less m n h = grind (arith, nat_tests)
+
+is_less : (m n : ℕ) → m < n → nat_lt m n ≡ true
+is_less m n h = grind (arith, nat_tests)
+
+-- the test of an end edge, as the code has it
+pub end_is : (b : Bool) (e : Edge) → IsTrue b ↔ (e.other < e.sync) → is_end e ≡ b
+end_is true e h = is_less e.other e.sync (h.0 refl)
+end_is false e h = not_less e.other e.sync (λ l. no_truth (h.1 l))
+  where
+    no_truth : IsTrue false → ⊥
+    no_truth t = cc
+
+-- the columns that stand in no key, one more of them
+pub outside_next : {X : Type 0} (c : ℕ) (key : List ℕ) (xs : List X) (i : ℕ) (x : X) → i < length xs → x ≡ get_or xs i x →
+    outside_from c key (take (suc i) xs) ≡ outside_from c key (take i xs) ++ cond (list_any (nat_eq (c + i)) key) [] (x ∷ [])
+outside_next c key [] i x low is = absurd (omega (arith, low))
+outside_next c key (y ∷ xs) zero x low is =
+    ap (λ n. cond (list_any (nat_eq n) key) [] (y ∷ [])) (let e : c ≡ c + 0 = omega arith in e) ∙ ap (λ z. cond (list_any (nat_eq (c + 0)) key) [] (z ∷ [])) (sym is)
+outside_next {X} c key (y ∷ xs) (suc i) x low is =
+    go (list_any (nat_eq c) key)
+    (outside_next (suc c) key xs i x (omega (arith, low)) is ∙ ap (λ n. outside_from (suc c) key (take i xs) ++ cond (list_any (nat_eq n) key) [] (x ∷ [])) (let e : suc c + i ≡ c + suc i = omega arith in e))
+  where
+    go : (t : Bool) → outside_from (suc c) key (take (suc i) xs) ≡ outside_from (suc c) key (take i xs) ++ cond (list_any (nat_eq (c + suc i)) key) [] (x ∷ []) →
+        cond t (outside_from (suc c) key (take (suc i) xs)) (y ∷ outside_from (suc c) key (take (suc i) xs))
+        ≡ cond t (outside_from (suc c) key (take i xs)) (y ∷ outside_from (suc c) key (take i xs)) ++ cond (list_any (nat_eq (c + suc i)) key) [] (x ∷ [])
+    go true h = h
+    go false h = ap (λ l. y ∷ l) h
+
+-- a pair's row, one more column of the right row
+pub pair_next : (key : List ℕ) (left right row row2 : List Datum) (i : ℕ) (x : Datum) → i < length right → x ≡ get_or right i x → row ≡ left ++ outside_from 0 key (take i right) →
+    row2 ≡ row ++ cond (list_any (nat_eq i) key) [] (x ∷ []) → row2 ≡ left ++ outside_from 0 key (take (i + 1) right)
+pair_next key left right row row2 i x low is before pushed =
+    let z : 0 + i ≡ i = omega arith in
+    let o : suc i ≡ i + 1 = omega arith in
+    pushed ∙ (ap (λ (l : List Datum). l ++ cond (list_any (nat_eq i) key) [] (x ∷ [])) before ∙ (append_assoc left (outside_from 0 key (take i right)) (cond (list_any (nat_eq i) key) [] (x ∷ []))
+    ∙ ap (λ (l : List Datum). left ++ l) (ap (λ n. outside_from 0 key (take i right) ++ cond (list_any (nat_eq n) key) [] (x ∷ [])) (sym z)
+    ∙ (sym (outside_next 0 key right i x low is) ∙ ap (λ n. outside_from 0 key (take n right)) o))))
+
+get_or_any : {X : Type 0} (xs : List X) (i : ℕ) (d e : X) → i < length xs → get_or xs i d ≡ get_or xs i e
+get_or_any [] i d e low = absurd (omega (arith, low))
+get_or_any (x ∷ xs) zero d e low = refl
+get_or_any (x ∷ xs) (suc i) d e low = get_or_any xs i d e (omega (arith, low))
+
+pub pair_next_at : (key : List ℕ) (left right row row2 : List Datum) (i : ℕ) (d : Datum) → i < length right → row ≡ left ++ outside_from 0 key (take i right) →
+    row2 ≡ row ++ cond (list_any (nat_eq i) key) [] (get_or right i d ∷ []) → row2 ≡ left ++ outside_from 0 key (take (i + 1) right)
+pair_next_at key left right row row2 i d low before pushed =
+    pair_next key left right row row2 i (get_or right i d) low (get_or_any right i d (get_or right i d) low) before pushed
+
+-- what is told by equal keys
+pub same_told : (lk rk k r : List ℕ) (side starts : Bool) (t : ℕ) (xs ys : List HeldRow) (answer0 answer : List Edge) → k ≡ lk → r ≡ rk →
+    Adds answer0 answer (pairs_told (join_meets k r) (paired_row r) side starts t xs ys) → Adds answer0 answer (pairs_told (join_meets lk rk) (paired_row rk) side starts t xs ys)
+same_told lk rk k r side starts t xs ys answer0 answer e f h =
+    subst (λ (l : List ℕ). Adds answer0 answer (pairs_told (join_meets l rk) (paired_row rk) side starts t xs ys)) e
+    (subst (λ (l : List ℕ). Adds answer0 answer (pairs_told (join_meets k l) (paired_row l) side starts t xs ys)) f h)
+
+pub same_tells : (lk rk k r : List ℕ) (a b : List CellEvent) (t u : ℕ) (answer0 answer : List Edge) → k ≡ lk → r ≡ rk →
+    Tells (joins k r a b) t u answer0 answer → Tells (joins lk rk a b) t u answer0 answer
+same_tells lk rk k r a b t u answer0 answer e f h =
+    subst (λ (l : List ℕ). Tells (joins l rk a b) t u answer0 answer) e (subst (λ (l : List ℕ). Tells (joins k l a b) t u answer0 answer) f h)
+
+pub same_if_among : (b : Bool) (row : List Datum) (x : Datum) → b ≡ true → row ≡ row ++ cond b [] (x ∷ [])
+same_if_among b row x h = sym (append_nil row) ∙ ap (λ c. row ++ cond c [] (x ∷ [])) (sym h)
+
+pub more_if_outside : (b : Bool) (row : List Datum) (x : Datum) → b ≡ false → row ++ x ∷ [] ≡ row ++ cond b [] (x ∷ [])
+more_if_outside b row x h = ap (λ c. row ++ cond c [] (x ∷ [])) (sym h)

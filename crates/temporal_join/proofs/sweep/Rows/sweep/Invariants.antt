@@ -1,0 +1,22 @@
+use Rattle.std.proofs.Common.{◌≡◌, ◌+◌, ◌≤◌, ◌-◌, ℕ, List, drop, length}
+use Rattle.edge_history.specs.History.{CellEvent}
+use Rattle.plan_model.specs.Keys.{paired_row}
+use Rattle.sweep_laws.specs.Sweeps.{IsDue}
+use Rattle.sweep_laws.specs.Pairs.{Held}
+use Rattle.sweep_laws.specs.Joining.{JoinReached}
+use Rattle.temporal_join.specs.Joined.{join_meets}
+use Rattle.temporal_join.specs.Kept.{AreByKey, SameKeys}
+use Rattle.temporal_join.proofs.sweep.Rows.sweep.Given as goal
+
+abbrev pub decreases-loop-i : goal.decreases-loop-i
+decreases-loop-i l = (length l.left_due - l.i) + (length l.right_due - l.j)
+
+abbrev pub invariant-loop-i : goal.invariant-loop-i
+invariant-loop-i l = record {
+  within_left : l.i ≤ length l.left_due;
+  within_right : l.j ≤ length l.right_due;
+  keys : SameKeys l.fn.self l.self;
+  reached : (a b : List CellEvent) (from to : ℕ) → AreByKey l.fn.self → IsDue a from to l.left_due → IsDue b from to l.right_due → Held a b from l.fn.self.left.rows l.fn.self.right.rows →
+      (u : ℕ) × JoinReached (join_meets l.fn.self.left_key.items l.fn.self.right_key.items) (paired_row l.fn.self.right_key.items) a b from u to
+      (drop l.i l.left_due) (drop l.j l.right_due) l.self.left.rows l.self.right.rows l.fn.answer.items l.answer.items;
+}

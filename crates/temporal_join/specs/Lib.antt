@@ -1,0 +1,5 @@
+-- Callers read Joined; Pairing is cited by private contracts alone.
+pub mod Joined
+pub mod Pairing
+pub mod Kept
+pub mod States

@@ -1,0 +1,234 @@
+// The pairs of the rows of two sides.
+ghost use Rattle.std.specs.Prelude.{◌≡◌, ◌+◌, ◌≤◌, ◌++◌, ◌∷◌, [], ℕ, max, map, nat_eq, true, false, Bool, cond, List, OnOk, IfOk};
+ghost use Rattle.std.specs.List.{list_any};
+ghost use Rattle.tw_rows.specs.Bag.{total};
+ghost use Rattle.tw_rows.specs.Instant.{inf};
+ghost use Rattle.tw_rows.specs.declared.edge.HeldRow.{HeldRow};
+ghost use Rattle.edge_history.specs.Opens.{ended_of, started_of, ended_rows, started_rows};
+ghost use Rattle.plan_model.specs.Keys.{paired_row};
+ghost use Rattle.sweep_laws.specs.Moves.{Adds, told_at, HoldsEnded};
+ghost use Rattle.synopsis.specs.Held.{key_of as key_data, cell_or_zero};
+
+use smallvec::SmallVec;
+use std::alloc::Global;
+use synopsis::{HeldRow, Synopsis};
+use tw_rows::{Cells, Datum, Edge, Memory, Time};
+
+/// How rows of one side are paired with those of the other at an instant. `right` tells that they are right rows.
+#[derive(Drop)]
+pub(crate) struct Pairing<'a> {
+    pub(crate) alloc: Global,
+    pub(crate) left_key: &'a [usize],
+    pub(crate) right_key: &'a [usize],
+    pub(crate) right: bool,
+    pub(crate) at: Time,
+}
+
+fn is_among(columns: &[usize], column: usize) -> bool
+    ensures { result ≡ list_any (nat_eq column) columns.now }
+{
+    for c in columns {
+        if column == *c {
+            return true;
+        }
+    }
+    false
+}
+
+// The datum of a row in a column.
+fn cell_at(cells: &[Datum], column: usize) -> Datum
+    ensures { result ≡ cell_or_zero cells.now column }
+{
+    cells.get(column).copied().unwrap_or(Datum::Int(0))
+}
+
+// The data of a row in key columns.
+fn key_of(alloc: Global, key: &[usize], cells: &[Datum]) -> Result<SmallVec<Datum, 4>, Memory>
+    ensures { IfOk result (λ k. k.items ≡ key_data key.now cells.now) }
+{
+    let mut data = SmallVec::<Datum, 4>::new(alloc);
+    for i in 0..key.len() {
+        data.push(cell_at(cells, key[i]))?;
+    }
+    Ok(data)
+}
+
+// Puts the datum of a column last, where the column stands in no key.
+fn push_outside(
+    row: &mut SmallVec<Datum, 8>,
+    key: &[usize],
+    column: usize,
+    datum: Datum,
+) -> Result<(), Memory>
+    ensures { OnOk result (row.new.items ≡ row.old.items ++ cond (list_any (nat_eq column) key.now) [] (datum ∷ [])) }
+{
+    if is_among(key, column) {
+        return Ok(());
+    }
+    row.push(datum)?;
+    Ok(())
+}
+
+// The left row, followed by what the right row has in no column of its key.
+fn pair_cells(
+    alloc: Global,
+    right_key: &[usize],
+    left: &[Datum],
+    right: &[Datum],
+) -> Result<Cells, Memory>
+    ensures { IfOk result (λ cells. cells ≡ paired_row right_key.now left.now right.now) }
+{
+    let mut data = SmallVec::<Datum, 8>::new(alloc);
+    data.extend_from_slice(left)?;
+    for i in 0..right.len() {
+        push_outside(&mut data, right_key, i, right[i])?;
+    }
+    Cells::from_slice(alloc, data.as_slice())
+}
+
+// The other time of the edge of a pair: infinity at its start, and at its end the later start of its rows.
+fn other_time(starts: bool, a: Time, b: Time) -> Time
+    ensures { result ≡ cond starts inf (max a b) }
+{
+    if starts {
+        return Time::bounds().1;
+    }
+    if a < b { b } else { a }
+}
+
+impl<'a> Pairing<'a> {
+    ghost use Rattle.temporal_join.specs.Pairing.{own_key, other_key, pair_with, told_pairs};
+
+    // The row of a pair.
+    fn cells(&self, cells: &[Datum], other: &[Datum]) -> Result<Cells, Memory>
+        ensures { IfOk result (λ row. row ≡ cond self.now.right (paired_row self.now.right_key.now other.now cells.now) (paired_row self.now.right_key.now cells.now other.now)) }
+    {
+        if self.right {
+            pair_cells(self.alloc, self.right_key, other, cells)
+        } else {
+            pair_cells(self.alloc, self.right_key, cells, other)
+        }
+    }
+
+    // Tells the start or the end of the pair of a row with each of some rows of the other side.
+    fn tell(
+        &self,
+        answer: &mut Vec<Edge>,
+        starts: bool,
+        cells: &[Datum],
+        start: Time,
+        others: &[HeldRow],
+    ) -> Result<(), Memory>
+        ensures { OnOk result (answer.new.items ≡ answer.old.items ++ map (λ y. told_at starts self.now.at (pair_with self.now (record { cells = cells.now; start = start }) y)) others.now) }
+    {
+        for other in others {
+            answer.push(Edge {
+                sync: self.at,
+                other: other_time(starts, start, other.start),
+                cells: self.cells(cells, other.cells.items())?,
+            })?;
+        }
+        Ok(())
+    }
+
+    fn key(&self) -> &[usize]
+        ensures { result.now ≡ own_key self.now }
+    {
+        if self.right {
+            self.right_key
+        } else {
+            self.left_key
+        }
+    }
+
+    // Tells the start or the end of each pair of a row: with those rows of the other side that have its key.
+    fn tell_row(
+        &self,
+        answer: &mut Vec<Edge>,
+        starts: bool,
+        cells: &[Datum],
+        start: Time,
+        others: &Synopsis,
+    ) -> Result<(), Memory>
+        ensures { OnOk result (others.now.key ≡ other_key self.now → Adds answer.old.items answer.new.items (told_pairs self.now starts (record { cells = cells.now; start = start } ∷ []) others.now.rows)) }
+    {
+        let key = key_of(self.alloc, self.key(), cells)?;
+        self.tell(answer, starts, cells, start, others.rows_of(key.as_slice()))?;
+        Ok(())
+    }
+
+    // Takes out the row that an end edge ends, and tells the ends of its pairs.
+    fn end_one(
+        &self,
+        rows: &mut Synopsis,
+        others: &Synopsis,
+        answer: &mut Vec<Edge>,
+        edge: &Edge,
+    ) -> Result<(), Memory>
+        ensures ended { OnOk result (HoldsEnded edge.now rows.old.rows → (w : HeldRow → ℕ) → total w rows.old.rows ≡ total w rows.new.rows + total w (ended_of edge.now)) }
+        ensures told { OnOk result (others.now.key ≡ other_key self.now → HoldsEnded edge.now rows.old.rows → Adds answer.old.items answer.new.items (told_pairs self.now false (ended_of edge.now) others.now.rows)) }
+        ensures key { rows.new.key ≡ rows.old.key }
+    {
+        if !edge.is_end() || !rows.take(edge.cells.items(), edge.other) {
+            return Ok(());
+        }
+        self.tell_row(answer, false, edge.cells.items(), edge.other, others)?;
+        Ok(())
+    }
+
+    /// Takes out the rows of one side that end, and tells the ends of their pairs.
+    pub(crate) fn end_rows(
+        &self,
+        rows: &mut Synopsis,
+        others: &Synopsis,
+        answer: &mut Vec<Edge>,
+        now: &[Edge],
+    ) -> Result<(), Memory>
+        ensures ended { OnOk result (((w : HeldRow → ℕ) → total w (ended_rows now.now) ≤ total w rows.old.rows) → (w : HeldRow → ℕ) → total w rows.old.rows ≡ total w rows.new.rows + total w (ended_rows now.now)) }
+        ensures told { OnOk result (others.now.key ≡ other_key self.now → ((w : HeldRow → ℕ) → total w (ended_rows now.now) ≤ total w rows.old.rows) → Adds answer.old.items answer.new.items (told_pairs self.now false (ended_rows now.now) others.now.rows)) }
+        ensures key { rows.new.key ≡ rows.old.key }
+    {
+        for edge in now {
+            self.end_one(rows, others, answer, edge)?;
+        }
+        Ok(())
+    }
+
+    // Tells the starts of the pairs of the row that a start edge starts, and puts it in.
+    fn start_one(
+        &self,
+        rows: &mut Synopsis,
+        others: &Synopsis,
+        answer: &mut Vec<Edge>,
+        edge: &Edge,
+    ) -> Result<(), Memory>
+        ensures started { OnOk result ((w : HeldRow → ℕ) → total w rows.new.rows ≡ total w rows.old.rows + total w (started_of edge.now)) }
+        ensures told { OnOk result (others.now.key ≡ other_key self.now → Adds answer.old.items answer.new.items (told_pairs self.now true (started_of edge.now) others.now.rows)) }
+        ensures key { rows.new.key ≡ rows.old.key }
+    {
+        if edge.is_end() {
+            return Ok(());
+        }
+        self.tell_row(answer, true, edge.cells.items(), edge.sync, others)?;
+        rows.add(edge.cells.clone()?, edge.sync)?;
+        Ok(())
+    }
+
+    /// Puts in the rows of one side that start, and tells the starts of their pairs.
+    pub(crate) fn start_rows(
+        &self,
+        rows: &mut Synopsis,
+        others: &Synopsis,
+        answer: &mut Vec<Edge>,
+        now: &[Edge],
+    ) -> Result<(), Memory>
+        ensures started { OnOk result ((w : HeldRow → ℕ) → total w rows.new.rows ≡ total w rows.old.rows + total w (started_rows now.now)) }
+        ensures told { OnOk result (others.now.key ≡ other_key self.now → Adds answer.old.items answer.new.items (told_pairs self.now true (started_rows now.now) others.now.rows)) }
+        ensures key { rows.new.key ≡ rows.old.key }
+    {
+        for edge in now {
+            self.start_one(rows, others, answer, edge)?;
+        }
+        Ok(())
+    }
+}
