@@ -6,6 +6,3 @@ mod pairs;
 mod sweep;
 
 pub use join::Join;
-
-#[cfg(test)]
-mod tests;
