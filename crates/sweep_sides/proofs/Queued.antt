@@ -108,8 +108,8 @@ pub taking_more : (to : ℕ) (q0 q q2 : List Pending) (due due2 : List Edge) (e 
 taking_more to q0 q q2 due due2 e p same low is more k =
     let order : AreDueFrom k.time (p ∷ q2) = subst (λ (l : List Pending). AreDueFrom k.time l) is k.order in
     let at : AreTimed q0 → p.at ≡ e.sync = λ t.
-        let h : AreTimed (p ∷ q2) = subst (λ (l : List Pending). AreTimed l) is (k.timed t) in
-        eqb-true p.at p.edge.sync (first_timed (nat_eq p.at p.edge.sync) (failing (λ (r : Pending). nat_eq r.at r.edge.sync) q2) h) ∙ ap (λ (f : Edge). f.sync) same in
+    let h : AreTimed (p ∷ q2) = subst (λ (l : List Pending). AreTimed l) is (k.timed t) in
+    eqb-true p.at p.edge.sync (first_timed (nat_eq p.at p.edge.sync) (failing (λ (r : Pending). nat_eq r.at r.edge.sync) q2) h) ∙ ap (λ (f : Edge). f.sync) same in
     record {
       time = p.at;
       order = order.1;

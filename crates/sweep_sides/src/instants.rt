@@ -33,13 +33,7 @@ pub fn next_instant(left: &[Edge], right: &[Edge]) -> Time
     ensures { IsNext result left.now right.now }
 {
     match (left.get(0), right.get(0)) {
-        (Some(a), Some(b)) => {
-            if a.sync < b.sync {
-                a.sync
-            } else {
-                b.sync
-            }
-        }
+        (Some(a), Some(b)) => { if a.sync < b.sync { a.sync } else { b.sync } }
         (Some(a), None) => a.sync,
         (None, Some(b)) => b.sync,
         (None, None) => Time::bounds().0,
