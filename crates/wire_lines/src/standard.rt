@@ -234,6 +234,62 @@ mod tests {
         assert_eq!(rt; (broken.read_faults, broken.write_faults), (2, 1));
     }
 
+    // Its first flush and its second write fail, and its first read does; nothing fails after that.
+    #[derive(Drop)]
+    struct FailsOnce {
+        reads: u64,
+        writes: u64,
+        flushes: u64,
+    }
+
+    impl Read for FailsOnce {
+        fn read(&mut self, _into: &mut [u8]) -> io::Result<usize> {
+            self.reads = self.reads.saturating_add(1);
+            if self.reads == 1 {
+                return Err(ErrorKind::ConnectionReset.into());
+            }
+            Ok(0)
+        }
+    }
+
+    impl Write for FailsOnce {
+        fn write(&mut self, piece: &[u8]) -> io::Result<usize> {
+            self.writes = self.writes.saturating_add(1);
+            if self.writes == 2 {
+                return Err(ErrorKind::BrokenPipe.into());
+            }
+            Ok(piece.len())
+        }
+
+        fn flush(&mut self) -> io::Result<()> {
+            self.flushes = self.flushes.saturating_add(1);
+            if self.flushes == 1 {
+                return Err(ErrorKind::BrokenPipe.into());
+            }
+            Ok(())
+        }
+    }
+
+    fn once() -> FailsOnce {
+        FailsOnce {
+            reads: 0,
+            writes: 0,
+            flushes: 0,
+        }
+    }
+
+    #[test]
+    fn a_failure_is_told_and_not_tried_again(rt: HostRuntime) {
+        let mut wire = StdWire::new(once(), once());
+        assert_eq!(rt; wire.read(&mut [0u8; 4]), Err(ReadFailed));
+        assert_eq!(rt; wire.input.reads, 1);
+        assert_eq!(rt; wire.write(b"a"), Err(WriteFailed), "the flush fails");
+        assert_eq!(rt; wire.write(b"b"), Err(WriteFailed), "the write fails");
+        assert_eq!(rt; wire.write(b"c"), Ok(1));
+        assert_eq!(rt; (wire.output.writes, wire.output.flushes), (3, 2));
+        assert_eq!(rt; (wire.read_faults, wire.write_faults), (1, 2));
+    }
+
     #[test]
     fn errors_go_to_a_writer_alone(rt: HostRuntime) {
         let sink = Sink {
