@@ -1,10 +1,11 @@
 -- The rules of a stage, whatever its node.
-use Rattle.std.proofs.Common.{◌≡◌, ℕ, zero, suc, false, None, List, [], ◌++◌, refl, sym, subst}
+use Rattle.std.proofs.Common.{◌≡◌, ℕ, zero, suc, false, None, List, [], ◌++◌, ◌∙◌, refl, sym, subst}
 use Rattle.tw_rows.specs.Texts.{BeginsWith}
 use Rattle.tw_rows.specs.declared.edge.Edge.{Edge}
 use Rattle.tw_rows.specs.declared.kind.CellKind.{CellKind}
 use Rattle.edge_history.specs.Order.{is_from, failing}
 use Rattle.plan_model.specs.declared.node.Node.{Node}
+use Rattle.plan_model.specs.IsPlan.{node_kinds}
 use Rattle.plan_model.specs.Meaning.{node_events, node_closes}
 use Rattle.plan_laws.specs.Undefined.{first_below}
 use Rattle.node_laws.specs.Places.{AreDistinct, EdgesArePlaced, read_of}
@@ -42,9 +43,9 @@ keeps_longer texts more begins capacity left right n (Rows s) x y ready hl hr ou
 }
 
 -- all places in what it answered are in the table
-pub keeps_placed : (texts : List (List ℕ)) (capacity : ℕ) (left right : List CellKind) (n : Node) (s : Stage) (x y : ℕ) → IsReady texts capacity left right n s x y →
+pub keeps_placed : (texts : List (List ℕ)) → AreDistinct texts → (capacity : ℕ) (left right : List CellKind) (n : Node) (s : Stage) (x y : ℕ) → IsReady texts capacity left right n s x y →
     (hl hr out : List Edge) → StageKeeps texts n s x y hl hr out → EdgesArePlaced texts out
-keeps_placed texts capacity left right n (Rows s) x y ready hl hr out kept = made_placed texts capacity left n s ready hl out kept.came.placed kept.made
+keeps_placed texts distinct capacity left right n (Rows s) x y ready hl hr out kept = made_placed texts capacity left n s ready hl out kept.came.placed kept.made
 
 -- what it answered stands for the node
 pub stage_stands : (texts : List (List ℕ)) → AreDistinct texts → (capacity : ℕ) (left right : List CellKind) (n : Node) (s : Stage) (x y : ℕ) →
@@ -74,3 +75,7 @@ module _ (texts : List (List ℕ)) (capacity : ℕ) (kinds : List CellKind) (n :
     subst (λ c. failing (is_from c) answer ≡ 0) (sym (by_node texts capacity kinds n s is (λ m. node_closes m x y ≡ x) (λ stream. refl) (λ of test. refl) (λ of items. refl)))
         (made_later texts capacity kinds n s is l answer made x may.may.from),
   )
+
+  -- its columns are those of the node, which reads nothing on the right
+  pub rows_kinds : (right own : List CellKind) → own ≡ node_kinds n kinds [] → own ≡ node_kinds n kinds right
+  rows_kinds right own are = are ∙ by_node texts capacity kinds n s is (λ m. node_kinds m kinds [] ≡ node_kinds m kinds right) (λ stream. refl) (λ of test. refl) (λ of items. refl)

@@ -107,4 +107,4 @@ pub record StaysReady (texts : List (List ℕ)) (left right : EdgeListView) (old
 
 abbrev pub IsAnswerOf : List (List ℕ) → EdgeListView → EdgeListView → Stage → EdgeListView → Type 0
 IsAnswerOf texts left right old answer = (n : Node) (x y : ℕ) → IsReady texts left.capacity (cells_of left) (cells_of right) n old x y →
-    answer.kinds ≡ map kind_for (node_kinds n (cells_of left) (cells_of right))
+    cells_of answer ≡ node_kinds n (cells_of left) (cells_of right)

@@ -54,7 +54,6 @@ impl Stage {
         right_to: Time,
     ) -> Result<EdgeList, StepFault>
         requires ready { CanTake texts.now left right self.old left_to right_to }
-        requires plain { ArePlain left.kinds × ArePlain right.kinds }
         requires capacity { (pools.old.capacity ≡ left.capacity) × (right.capacity ≡ left.capacity) }
         requires limit { most_columns ≤ pools.old.limit }
         requires placed { EdgesArePlaced texts.now left.edges × EdgesArePlaced texts.now right.edges }
@@ -63,7 +62,6 @@ impl Stage {
         ensures defined { OnOk result (IsUndefinedAt texts.now left right self.old left_to right_to None) }
         ensures overflow { IfErr result (λ fault. (time : ℕ) → fault ≡ StepFault.Overflow time → IsUndefinedAt texts.now left right self.old left_to right_to (Some time)) }
         ensures kinds { IfOk result (IsAnswerOf texts.now left right self.old) }
-        ensures placed { IfOk result (λ answer. EdgesArePlaced texts.now answer.edges) }
         ensures capacity { IfOk result (λ answer. answer.capacity ≡ left.capacity) }
         ensures pools { pools.new.capacity ≡ pools.old.capacity }
         ensures limit { pools.new.limit ≡ pools.old.limit }
@@ -88,7 +86,6 @@ fn step_rows(
     right_to: Time,
 ) -> Result<EdgeList, StepFault>
     requires ready { CanTake texts.now left right (Stage.Rows stage.old) left_to right_to }
-    requires plain { ArePlain left.kinds × ArePlain right.kinds }
     requires capacity { (pools.old.capacity ≡ left.capacity) × (right.capacity ≡ left.capacity) }
     requires limit { most_columns ≤ pools.old.limit }
     requires placed { EdgesArePlaced texts.now left.edges × EdgesArePlaced texts.now right.edges }
@@ -97,7 +94,6 @@ fn step_rows(
     ensures defined { OnOk result (IsUndefinedAt texts.now left right (Stage.Rows stage.old) left_to right_to None) }
     ensures overflow { IfErr result (λ fault. (time : ℕ) → fault ≡ StepFault.Overflow time → IsUndefinedAt texts.now left right (Stage.Rows stage.old) left_to right_to (Some time)) }
     ensures kinds { IfOk result (IsAnswerOf texts.now left right (Stage.Rows stage.old)) }
-    ensures placed { IfOk result (λ answer. EdgesArePlaced texts.now answer.edges) }
     ensures capacity { IfOk result (λ answer. answer.capacity ≡ left.capacity) }
     ensures pools { pools.new.capacity ≡ pools.old.capacity }
     ensures limit { pools.new.limit ≡ pools.old.limit }
