@@ -69,10 +69,6 @@ fn faults_tell_their_item(rt: HostRuntime) {
             QueryFault::BadWindow { item: 2 },
         ),
         (
-            "stream s(v int); s | hop 20 10",
-            QueryFault::NotBuilt { item: 2 },
-        ),
-        (
             "stream s(v int); s | group : count as n",
             QueryFault::NotBuilt { item: 2 },
         ),
@@ -161,8 +157,8 @@ fn faults_tell_their_item(rt: HostRuntime) {
             QueryFault::NameTaken { item: 3 },
         ),
         (
-            "stream s(v int); s | delay 1152921504606846976",
-            QueryFault::NotBuilt { item: 2 },
+            "stream s(v int); s | delay 1152921504606846976 | coalesce",
+            QueryFault::NotBuilt { item: 3 },
         ),
         (
             "stream s(v int); s | delay 1152921504606846977",
