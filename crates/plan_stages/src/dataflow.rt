@@ -3,7 +3,7 @@ ghost use Rattle.std.specs.Prelude.{◌≡◌, ◌<◌, ◌≤◌, ℕ, true, So
 ghost use Rattle.tw_rows.specs.Texts.{BeginsWith};
 ghost use Rattle.plan_model.specs.declared.node.Node.{Node};
 ghost use Rattle.plan_model.specs.IsPlan.{kinds_at};
-ghost use Rattle.plan_model.specs.Reach.{is_built};
+ghost use Rattle.built_nodes.specs.Built.{is_built};
 ghost use Rattle.plan_stages.specs.Lists.{edges_at, AreGiven, IsListOf};
 ghost use Rattle.plan_stages.specs.Flows.{CanStep, Flows, GivesOn, OverflowsAt};
 ghost use Rattle.plan_stages.specs.Held.{AreFresh};

@@ -2,7 +2,7 @@
 ghost use Rattle.std.specs.Prelude.{◌≡◌, ◌≢◌, ◌≤◌, List, [], ◌∷◌, ◌++◌, true, false, None, length, IsTrue, All, IfOk, IfErr, OnOk};
 ghost use Rattle.std.specs.List.{list_all};
 ghost use Rattle.plan_model.specs.IsPlan.{PlanParts};
-ghost use Rattle.plan_model.specs.Reach.{is_built};
+ghost use Rattle.built_nodes.specs.Built.{is_built};
 ghost use Rattle.admission.specs.declared.policy.Policy.{Policy as Admitting};
 ghost use Rattle.admission.specs.Entries.{Told};
 ghost use Rattle.admission.specs.Progress.{fault as fault_of};

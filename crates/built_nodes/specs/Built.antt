@@ -1,0 +1,11 @@
+-- Which nodes of plans are built.
+use Rattle.std.specs.Prelude.{Bool, true, false}
+use Rattle.plan_model.specs.declared.node.Node.{Node}
+use Rattle.plan_model.specs.declared.node.Node.TheVariants.{Source, Where, Select}
+
+-- the nodes that can be computed today. A filter is, and a mean is not
+abbrev pub is_built : Node → Bool
+is_built (Source stream) = true
+is_built (Where of test) = true
+is_built (Select of items) = true
+is_built n = false
