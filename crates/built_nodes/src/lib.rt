@@ -12,7 +12,14 @@ pub fn built(node: &Node) -> bool
 {
     matches!(
         node,
-        Node::Source { .. } | Node::Where { .. } | Node::Select { .. }
+        Node::Source { .. }
+            | Node::Where { .. }
+            | Node::Select { .. }
+            | Node::Union { .. }
+            | Node::Delay { .. }
+            | Node::Hop { .. }
+            | Node::Duration { .. }
+            | Node::Extend { .. }
     )
 }
 
