@@ -46,6 +46,20 @@ pub record Flows (texts : List (List ℕ)) (last : ℕ) (given lists : ℕ → L
       StageKeeps texts n s (reached last (left_closing d.plan.nodes last n)) (reached last (right_closing d.plan.nodes last n))
       (left_of [] given lists n) (right_of [] lists n) (lists i)
 
+-- the step at the punctuation p may be taken with these edges, given for each stream: there is something of which the stages
+-- took their steps before, a last punctuation before p, and sources for which the edges before and these stand below p, where
+-- these come at the last punctuation or later
+pub record MayStep (texts : List (List ℕ)) (p : ℕ) (given : ℕ → List Edge) (d : DataflowView) : Type 0 where
+  pub last : ℕ
+  pub old : ℕ → List Edge
+  pub lists : ℕ → List Edge
+  pub source : Sources
+  pub distinct : AreDistinct texts
+  pub flows : Flows texts last old lists d
+  pub later : last < p
+  pub stand : SourcesStandRead texts p source (longer old given)
+  pub from : AreFrom last given
+
 -- what a step gives at the punctuation p, after `last`, for more edges of the streams: more edges of each node, `out` of them
 -- those of the root. Each node's list then stands for its events below its closing, and no node is undefined there
 pub record HasFlowed (texts : List (List ℕ)) (last p : ℕ) (source : Sources) (old given lists : ℕ → List Edge) (d : DataflowView)

@@ -5,7 +5,7 @@ ghost use Rattle.plan_model.specs.declared.node.Node.{Node};
 ghost use Rattle.plan_model.specs.IsPlan.{kinds_at};
 ghost use Rattle.built_nodes.specs.Built.{is_built};
 ghost use Rattle.plan_stages.specs.Lists.{edges_at, AreGiven, IsListOf};
-ghost use Rattle.plan_stages.specs.Flows.{CanStep, Flows, GivesOn, OverflowsAt};
+ghost use Rattle.plan_stages.specs.Flows.{MayStep, Flows, GivesOn, OverflowsAt};
 ghost use Rattle.plan_stages.specs.Held.{AreFresh};
 
 use crate::fault::PlanFault;
@@ -87,6 +87,13 @@ impl Dataflow {
         &self.plan
     }
 
+    /// What computes each node, in order of number.
+    pub fn stages(&self) -> &[Stage]
+        ensures { result.now ≡ self.now.stages }
+    {
+        &self.stages
+    }
+
     /// One step of each node, in order of number, at the punctuation `p`, which is later than the last one: of the new edges
     /// of each stream the new edges of the root. After a fault no further step may be taken.
     pub fn step(
@@ -95,12 +102,11 @@ impl Dataflow {
         given: Vec<EdgeList>,
         p: Time,
     ) -> Result<EdgeList, PlanFault>
-        requires can { (last : ℕ) × (CanStep texts.now last self.old × (last < p)) }
+        requires may { MayStep texts.now p (edges_at given.items) self.old }
         requires given { AreGiven texts.now self.old.capacity self.old.plan given.items }
         ensures flowed { IfOk result (λ out. GivesOn texts.now p (edges_at given.items) self.old self.new out.edges) }
         ensures overflow { IfErr result (λ fault. (node time : ℕ) → fault ≡ PlanFault.Overflow node time → OverflowsAt texts.now p (edges_at given.items) self.old node time) }
         ensures list { IfOk result (λ out. IsListOf texts.now self.old.capacity (kinds_at self.old.plan.schemas self.old.plan.root) out) }
-        ensures can { OnOk result (CanStep texts.now p self.new) }
         ensures plan { self.new.plan ≡ self.old.plan }
         ensures capacity { self.new.capacity ≡ self.old.capacity }
     {
