@@ -1,4 +1,6 @@
 mod Examples
+pub mod Operators
+pub mod Starting
 pub mod Rules
 pub mod Growing
 pub mod HeldLists

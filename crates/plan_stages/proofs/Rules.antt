@@ -1,5 +1,5 @@
 -- The rules of a stage, whatever its node.
-use Rattle.std.proofs.Common.{◌≡◌, ℕ, zero, suc, false, None, List, [], ◌++◌, ◌∙◌, refl, sym, subst}
+use Rattle.std.proofs.Common.{◌≡◌, ℕ, zero, suc, false, None, List, [], ◌++◌, refl, sym, subst}
 use Rattle.tw_rows.specs.Texts.{BeginsWith}
 use Rattle.tw_rows.specs.declared.edge.Edge.{Edge}
 use Rattle.tw_rows.specs.declared.kind.CellKind.{CellKind}
@@ -13,14 +13,20 @@ use Rattle.node_laws.specs.Standing.{StandsRead}
 use Rattle.node_laws.proofs.Standing.{placed_longer, node_valid, no_history}
 use Rattle.tw_rows.proofs.Knowing.{Known-refl}
 use Rattle.plan_model.specs.declared.node.Node.TheVariants.{Source}
-use Rattle.node_stage.proofs.MadeEdges.{by_node, made_more, made_longer, made_placed, made_later, made_stand}
+use Rattle.node_stage.proofs.MadeEdges.{by_node, made_more, made_longer, made_later, made_stand}
 use Rattle.node_stage.proofs.Nodes.{stage-more}
 use Rattle.plan_stages.specs.declared.stage.Stage.{Stage}
-use Rattle.plan_stages.specs.declared.stage.Stage.TheVariants.{Rows}
+use Rattle.plan_stages.specs.declared.stage.Stage.TheVariants.{Rows, Life, Union, Extend}
+use Rattle.life_laws.proofs.Lives.{lives_longer, lives_rows}
+use Rattle.life_laws.proofs.Unions.{union_longer, union_rows}
+use Rattle.life_laws.proofs.Extending.{extended_longer, extended_rows}
+use Rattle.lifetime_ops.specs.Nodes.{node_of, known}
+use Rattle.extend_op.specs.Waiting.{edges_of_pending}
 use Rattle.node_stage.specs.Made.{IsMade}
 use Rattle.node_stage.specs.Stages.{IsStageOf}
 use Rattle.node_stage.specs.declared.stage.Stage.{Stage as RowStage}
-use Rattle.plan_stages.specs.Stages.{HasCome, MayComeUpTo, HasMade, IsReady, StageKeeps, first_undefined_read}
+use Rattle.plan_stages.specs.Stages.{HasCome, MayComeUpTo, HasMade, IsReady, StageKeeps, life_standing, union_standing, extend_standing, first_undefined_read}
+use Rattle.plan_stages.proofs.Operators.{operator_stands}
 
 pub came_longer : (texts more : List (List ℕ)) → BeginsWith more texts → (x : ℕ) (h : List Edge) → HasCome texts x h → HasCome more x h
 came_longer texts more begins x h came = record {
@@ -34,6 +40,9 @@ came_longer texts more begins x h came = record {
 pub ready_longer : (texts more : List (List ℕ)) → BeginsWith more texts → (capacity : ℕ) (left right : List CellKind) (n : Node) (s : Stage) (x y : ℕ) →
     IsReady texts capacity left right n s x y → IsReady more capacity left right n s x y
 ready_longer texts more begins capacity left right n (Rows s) x y ready = stage-more texts more begins capacity left n s ready
+ready_longer texts more begins capacity left right n (Life o) x y ready = ready
+ready_longer texts more begins capacity left right n (Union o) x y ready = ready
+ready_longer texts more begins capacity left right n (Extend o) x y ready = ready
 
 pub keeps_longer : (texts more : List (List ℕ)) → BeginsWith more texts → (capacity : ℕ) (left right : List CellKind) (n : Node) (s : Stage) (x y : ℕ) →
     IsReady texts capacity left right n s x y → (hl hr out : List Edge) → StageKeeps texts n s x y hl hr out → StageKeeps more n s x y hl hr out
@@ -41,11 +50,9 @@ keeps_longer texts more begins capacity left right n (Rows s) x y ready hl hr ou
   came = came_longer texts more begins x hl kept.came;
   made = made_longer texts capacity left n s ready more begins hl out kept.came.placed kept.made;
 }
-
--- all places in what it answered are in the table
-pub keeps_placed : (texts : List (List ℕ)) → AreDistinct texts → (capacity : ℕ) (left right : List CellKind) (n : Node) (s : Stage) (x y : ℕ) → IsReady texts capacity left right n s x y →
-    (hl hr out : List Edge) → StageKeeps texts n s x y hl hr out → EdgesArePlaced texts out
-keeps_placed texts distinct capacity left right n (Rows s) x y ready hl hr out kept = made_placed texts capacity left n s ready hl out kept.came.placed kept.made
+keeps_longer texts more begins capacity left right n (Life o) x y ready hl hr out kept = lives_longer (node_of o.change) more texts o.left_to o.right_to o.carried.edges hl hr out begins kept
+keeps_longer texts more begins capacity left right n (Union o) x y ready hl hr out kept = union_longer more texts o.left_to o.right_to o.left.edges o.right.edges hl hr out begins kept
+keeps_longer texts more begins capacity left right n (Extend o) x y ready hl hr out kept = extended_longer o.by more texts o.left_to o.right_to o.carried.edges (edges_of_pending o.ends) hl hr out begins kept
 
 -- what it answered stands for the node
 pub stage_stands : (texts : List (List ℕ)) → AreDistinct texts → (capacity : ℕ) (left right : List CellKind) (n : Node) (s : Stage) (x y : ℕ) →
@@ -54,6 +61,17 @@ pub stage_stands : (texts : List (List ℕ)) → AreDistinct texts → (capacity
 stage_stands texts distinct capacity left right n (Rows s) x y ready hl hr out kept =
     made_stand texts capacity left n s ready distinct x y hl out (read_of texts hl) (read_of texts hr) kept.made
     (record { history = kept.came.history; below = kept.came.below; placed = kept.came.placed; known = Known-refl x (read_of texts hl) kept.came.low (node_valid texts (Source 0) hl [] kept.came.history no_history) })
+stage_stands texts distinct capacity left right n (Life o) x y ready hl hr out kept =
+    operator_stands capacity left right n (life_standing o) x y ready texts hl hr out (lives_rows (node_of o.change) texts o.left_to o.right_to o.carried.edges hl hr out (known o.change) distinct kept)
+stage_stands texts distinct capacity left right n (Union o) x y ready hl hr out kept =
+    operator_stands capacity left right n (union_standing o) x y ready texts hl hr out (union_rows texts o.left_to o.right_to o.left.edges o.right.edges hl hr out distinct kept)
+stage_stands texts distinct capacity left right n (Extend o) x y ready hl hr out kept =
+    operator_stands capacity left right n (extend_standing o) x y ready texts hl hr out (extended_rows o.by texts o.left_to o.right_to o.carried.edges (edges_of_pending o.ends) hl hr out distinct kept)
+
+-- and all places in it are in the table
+pub keeps_placed : (texts : List (List ℕ)) → AreDistinct texts → (capacity : ℕ) (left right : List CellKind) (n : Node) (s : Stage) (x y : ℕ) → IsReady texts capacity left right n s x y →
+    (hl hr out : List Edge) → StageKeeps texts n s x y hl hr out → EdgesArePlaced texts out
+keeps_placed texts distinct capacity left right n s x y ready hl hr out kept = (stage_stands texts distinct capacity left right n s x y ready hl hr out kept).placed
 
 -- of a Source, a Where or a Select: no instant is undefined
 never : (c : ℕ) → first_below (λ t. false) c ≡ None
@@ -76,6 +94,6 @@ module _ (texts : List (List ℕ)) (capacity : ℕ) (kinds : List CellKind) (n :
         (made_later texts capacity kinds n s is l answer made x may.may.from),
   )
 
-  -- its columns are those of the node, which reads nothing on the right
-  pub rows_kinds : (right own : List CellKind) → own ≡ node_kinds n kinds [] → own ≡ node_kinds n kinds right
-  rows_kinds right own are = are ∙ by_node texts capacity kinds n s is (λ m. node_kinds m kinds [] ≡ node_kinds m kinds right) (λ stream. refl) (λ of test. refl) (λ of items. refl)
+  -- and the answer is of the node's columns, whatever those of the right list, which it does not read
+  pub rows_kinds : (left right : List CellKind) → node_kinds n left [] ≡ node_kinds n left right
+  rows_kinds left right = by_node texts capacity kinds n s is (λ m. node_kinds m left [] ≡ node_kinds m left right) (λ stream. refl) (λ of test. refl) (λ of items. refl)

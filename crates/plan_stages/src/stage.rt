@@ -5,14 +5,18 @@ ghost use Rattle.plan_model.specs.declared.node.Node.{Node};
 ghost use Rattle.plan_model.specs.IsPlan.{most_columns};
 ghost use Rattle.built_nodes.specs.Built.{is_built};
 ghost use Rattle.node_laws.specs.Places.{EdgesArePlaced};
-ghost use Rattle.node_stage.specs.Stages.{ArePlain};
 ghost use Rattle.plan_stages.specs.Stages.{left_kinds, right_kinds, IsReady, CanTake, StageKeeps, StaysReady, KeepsOn, IsUndefinedAt, IsAnswerOf};
 
+use crate::making::{extend_stage, life_stage, rows_stage, union_stage};
+use crate::any_operator::step_operator;
 use batch::Pools;
 use edge_stream::{EdgeList, StepFault};
-use plan_model::Plan;
+use extend_op::ExtendOperator;
+use lifetime_ops::{Change, LifeOperator};
+use plan_model::{Node, Plan};
 use std::alloc::Global;
 use tw_rows::{Memory, TextTable, Time};
+use union_clip::UnionOperator;
 
 /// What computes one node of a plan. Contracts see it through `IsReady` and `StageKeeps` alone, which are by cases of what it
 /// is.
@@ -20,6 +24,12 @@ use tw_rows::{Memory, TextTable, Time};
 pub enum Stage {
     /// Of a Source, a Where or a Select.
     Rows(node_stage::Stage),
+    /// Of a Delay, a Hop or a Duration.
+    Life(LifeOperator),
+    /// Of a Union.
+    Union(UnionOperator),
+    /// Of an Extend.
+    Extend(ExtendOperator),
 }
 
 impl Stage {
@@ -33,12 +43,31 @@ impl Stage {
         texts: &mut TextTable,
     ) -> Result<Stage, Memory>
         requires node { node < length plan.now.nodes }
+        requires room { 1 ≤ capacity }
         requires built { (n : Node) → slice_get plan.now.nodes node ≡ Some n → is_built n ≡ true }
         ensures ready { IfOk result (λ s. (n : Node) → slice_get plan.now.nodes node ≡ Some n → IsReady texts.new capacity (left_kinds plan.now n) (right_kinds plan.now n) n s 0 0) }
         ensures opens { IfOk result (λ s. (n : Node) → slice_get plan.now.nodes node ≡ Some n → StageKeeps texts.new n s 0 0 [] [] []) }
         ensures begins { BeginsWith texts.new texts.old }
     {
-        Ok(Stage::Rows(node_stage::Stage::new(alloc, plan, node, capacity, texts)?))
+        let nodes = plan.nodes();
+        match &nodes[node] {
+            Node::Delay { by, .. } => {
+                life_stage(alloc, plan, node, Change::Delay { by: *by }, capacity)
+            }
+            Node::Hop { size, period, .. } => {
+                let hop = Change::Hop {
+                    size: *size,
+                    period: *period,
+                };
+                life_stage(alloc, plan, node, hop, capacity)
+            }
+            Node::Duration { by, .. } => {
+                life_stage(alloc, plan, node, Change::Duration { by: *by }, capacity)
+            }
+            Node::Union { .. } => union_stage(alloc, plan, node, capacity),
+            Node::Extend { by, .. } => extend_stage(alloc, plan, node, *by, capacity),
+            _ => rows_stage(alloc, plan, node, capacity, texts),
+        }
     }
 
     /// What the node has to tell once the new edges of its sides came in, which are then closed up to the two times. Of a
@@ -54,7 +83,7 @@ impl Stage {
         right_to: Time,
     ) -> Result<EdgeList, StepFault>
         requires ready { CanTake texts.now left right self.old left_to right_to }
-        requires capacity { (pools.old.capacity ≡ left.capacity) × (right.capacity ≡ left.capacity) }
+            requires capacity { (pools.old.capacity ≡ left.capacity) × (right.capacity ≡ left.capacity) }
         requires limit { most_columns ≤ pools.old.limit }
         requires placed { EdgesArePlaced texts.now left.edges × EdgesArePlaced texts.now right.edges }
         ensures ready { IfOk result (λ answer. StaysReady texts.now left right self.old self.new left_to right_to) }
@@ -70,6 +99,13 @@ impl Stage {
             Stage::Rows(stage) => step_rows(
                 stage, alloc, pools, texts, left, right, left_to, right_to,
             ),
+            Stage::Life(operator) => step_operator(operator, pools, left, right, left_to, right_to),
+            Stage::Union(operator) => {
+                step_operator(operator, pools, left, right, left_to, right_to)
+            }
+            Stage::Extend(operator) => {
+                step_operator(operator, pools, left, right, left_to, right_to)
+            }
         }
     }
 }

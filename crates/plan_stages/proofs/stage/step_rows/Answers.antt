@@ -1,4 +1,4 @@
-use Rattle.std.proofs.Common.{◌++◌}
+use Rattle.std.proofs.Common.{◌++◌, ◌∙◌}
 use Rattle.plan_model.specs.Meaning.{node_closes}
 use Rattle.edge_stream.specs.Listing.{cells_of}
 use Rattle.plan_stages.proofs.Rules.{rows_defined, rows_kept, rows_kinds}
@@ -13,4 +13,4 @@ returns-in-Ok-clause-defined c = λ n x y hl hr out distinct t. rows_defined c.a
 
 pub returns-in-Ok-clause-kinds : goal.returns-in-Ok-clause-kinds
 returns-in-Ok-clause-kinds c = λ n x y ready.
-    rows_kinds c.args.texts.now c.args.left.capacity (cells_of c.args.left) n c.args.stage.now ready (cells_of c.args.right) (cells_of c.in-Ok.answer) (c.in-Ok.ensures.kinds n ready)
+    c.in-Ok.ensures.kinds n ready ∙ rows_kinds c.args.texts.now c.args.left.capacity (cells_of c.args.left) n c.args.stage.now ready (cells_of c.args.left) (cells_of c.args.right)

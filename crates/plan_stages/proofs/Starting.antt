@@ -1,0 +1,145 @@
+-- Stages as they are made.
+use Rattle.std.specs.Prelude.{◌≡◌, ℕ, zero, suc, ◌<◌, ◌≤◌, true, false, Some, List, [], ◌∷◌, map, length, get_or, slice_get, slice_index_or, All}
+use Rattle.std.proofs.Common.{refl, sym, ap, subst, ◌∙◌, arith}
+use Rattle.std.proofs.lemmas.List.{length-map}
+use Rattle.std.proofs.lemmas.Option.{slice_get-get_or, slice_get_within}
+use Rattle.tw_rows.specs.Event.{alive}
+use Rattle.tw_rows.specs.Kinds.{cell_kind_of}
+use Rattle.tw_rows.specs.declared.kind.Kind.{Kind}
+use Rattle.tw_rows.specs.declared.kind.CellKind.{CellKind}
+use Rattle.tw_rows.specs.declared.schema.StreamDef.{StreamDef}
+use Rattle.edge_stream.specs.Listing.{EdgeListView, cells_of}
+use Rattle.plan_model.specs.declared.node.Node.{Node}
+use Rattle.plan_model.specs.declared.node.Node.TheVariants.{Source, Where, Select, Union as UnionNode, Delay as DelayNode, Hop as HopNode, Duration as DurationNode, Extend as ExtendNode, Session, Clip, Group, Join, Anti, Coalesce, Mean, Top, Follow}
+use Rattle.plan_model.specs.IsPlan.{PlanParts, IsPlan, IsSoundOver, kinds_at, kinds_of_schema, kinds_of_stream, node_kinds}
+use Rattle.plan_model.specs.Shape.{Shape, Stream, One, Two, shape, left_in, read_left, left_child, HasLower}
+use Rattle.built_nodes.specs.Built.{is_built}
+use Rattle.node_stage.specs.Stages.{is_of_rows}
+use Rattle.life_laws.proofs.Lives.{lives_opening}
+use Rattle.life_laws.proofs.Unions.{union_opening}
+use Rattle.life_laws.proofs.Extending.{extended_opening}
+use Rattle.lifetime_ops.specs.Nodes.{node_of}
+use Rattle.lifetime_ops.specs.declared.change.Change.{Change}
+use Rattle.lifetime_ops.specs.declared.change.Change.TheVariants.{Delay, Hop, Duration}
+use Rattle.lifetime_ops.specs.declared.life_operator.LifeOperator.{LifeOperator}
+use Rattle.union_clip.specs.declared.union.UnionOperator.{UnionOperator}
+use Rattle.extend_op.specs.Waiting.{edges_of_pending}
+use Rattle.extend_op.specs.declared.extend.ExtendOperator.{ExtendOperator}
+use Rattle.plan_stages.specs.declared.stage.Stage.TheVariants.{Life, Union, Extend}
+use Rattle.plan_stages.specs.Operating.{MeanAlike}
+use Rattle.plan_stages.specs.Stages.{left_kinds, right_kinds, changing, StartsFor}
+
+-- a node reads no more columns than a plan may have
+stream_narrow : (streams : List StreamDef) → All (λ stream. length stream.schema ≤ 32) streams → (s : ℕ) → length (slice_index_or (map (λ d. kinds_of_schema d.schema) streams) s []) ≤ 32
+stream_narrow [] narrow s = omega arith
+stream_narrow (d ∷ ds) narrow zero = (let count = length-map d.schema (λ c. cell_kind_of c.kind) in let low = narrow.0 in omega (arith, count, low))
+stream_narrow (d ∷ ds) narrow (suc s) = stream_narrow ds narrow.1 s
+
+module _ (plan : PlanParts) (whole : IsPlan plan) where
+  child_narrow : (i k : ℕ) → i ≤ length plan.nodes → k < i → length (kinds_at plan.schemas k) ≤ 32
+  child_narrow i k all low =
+      let there = slice_get-get_or plan.nodes k (Source 0) (omega (arith, all, low)) in
+      let narrow = (whole.nodes_are.each k (get_or plan.nodes k (Source 0)) there).narrow in
+      let count = length-map (slice_index_or plan.schemas k []) (λ c. cell_kind_of c.kind) in
+      omega (arith, narrow, count)
+
+  read_narrow : (i : ℕ) (s : Shape) → i ≤ length plan.nodes → HasLower i (left_in s) → length (read_left [] (kinds_of_stream plan.streams) (kinds_at plan.schemas) s) ≤ 32
+  read_narrow i (Stream stream) all lower = stream_narrow plan.streams whole.nodes_are.narrow_streams stream
+  read_narrow i (One child) all lower = child_narrow i child all lower
+  read_narrow i (Two left right) all lower = child_narrow i left all lower
+
+  pub left_narrow : (i : ℕ) (n : Node) → slice_get plan.nodes i ≡ Some n → length (left_kinds plan n) ≤ 32
+  left_narrow i n there = read_narrow i (shape n) (let low = slice_get_within plan.nodes i n there in omega (arith, low)) (whole.nodes_are.each i n there).left_lower
+
+-- of the nodes that are built those that no other stage computes are of rows
+pub rows_left : (n : Node) → is_built n ≡ true → ((left right : ℕ) → n ≡ UnionNode left right → ⊥) → ((of by : ℕ) → n ≡ DelayNode of by → ⊥) → ((of size period : ℕ) → n ≡ HopNode of size period → ⊥) →
+    ((of by : ℕ) → n ≡ DurationNode of by → ⊥) → ((of by : ℕ) → n ≡ ExtendNode of by → ⊥) → is_of_rows n ≡ true
+rows_left (Source stream) built u d h l e = refl
+rows_left (Where of test) built u d h l e = refl
+rows_left (Select of items) built u d h l e = refl
+rows_left (UnionNode left right) built u d h l e = absurd (u left right refl)
+rows_left (DelayNode of by) built u d h l e = absurd (d of by refl)
+rows_left (HopNode of size period) built u d h l e = absurd (h of size period refl)
+rows_left (DurationNode of by) built u d h l e = absurd (l of by refl)
+rows_left (ExtendNode of by) built u d h l e = absurd (e of by refl)
+rows_left (Session of timeout key) built u d h l e = absurd (cc)
+rows_left (Clip left right left_key right_key) built u d h l e = absurd (cc)
+rows_left (Group of key aggs) built u d h l e = absurd (cc)
+rows_left (Join left right left_key right_key) built u d h l e = absurd (cc)
+rows_left (Anti left right left_key right_key) built u d h l e = absurd (cc)
+rows_left (Coalesce of) built u d h l e = absurd (cc)
+rows_left (Mean of at) built u d h l e = absurd (cc)
+rows_left (Top of key by count) built u d h l e = absurd (cc)
+rows_left (Follow left right left_key right_key within) built u d h l e = absurd (cc)
+
+-- a list that was just made
+abbrev pub fresh_list : List Kind → ℕ → EdgeListView
+fresh_list kinds capacity = record { edges = []; kinds = kinds; capacity = capacity; batches = 0; room = 0 }
+
+changes_alike : (of : ℕ) (change : Change) → MeanAlike (changing of change) (node_of change)
+changes_alike of (Delay by) = record { events = λ l r. refl; closes = λ x y. refl; undefined = λ rows. refl }
+changes_alike of (Hop size period) = record { events = λ l r. refl; closes = λ x y. refl; undefined = λ rows. refl }
+changes_alike of (Duration by) = record { events = λ l r. refl; closes = λ x y. refl; undefined = λ rows. refl }
+
+changes_right : (plan : PlanParts) (of : ℕ) (change : Change) → [] ≡ right_kinds plan (changing of change)
+changes_right plan of (Delay by) = refl
+changes_right plan of (Hop size period) = refl
+changes_right plan of (Duration by) = refl
+
+module _ (plan : PlanParts) (capacity : ℕ) (kinds : List Kind) (texts : List (List ℕ)) where
+  pub life_starts : (of : ℕ) (change : Change) (o : LifeOperator) → o.change ≡ change → o.carried ≡ fresh_list kinds capacity → o.left_to ≡ 0 → o.right_to ≡ 0 → o.failed ≡ false →
+      map cell_kind_of kinds ≡ left_kinds plan (changing of change) → StartsFor texts capacity plan (changing of change) (Life o)
+  life_starts of change o same carried left_to right_to works read = record {
+    ready = record {
+      node = subst (λ k. MeanAlike (changing of change) (node_of k)) (sym same) (changes_alike of change);
+      works = works;
+      left_closed = left_to;
+      right_closed = right_to;
+      left_kinds = ap cells_of carried ∙ read;
+      right_kinds = changes_right plan of change;
+      own_kinds = ap cells_of carried ∙ read ∙ own of change;
+      batch_rows = ap (λ l. l.capacity) carried;
+    };
+    opens = lives_opening (node_of o.change) texts o.left_to o.right_to o.carried.edges (ap (λ l. l.edges) carried) left_to right_to;
+  }
+    where
+      own : (of : ℕ) (change : Change) → left_kinds plan (changing of change) ≡ node_kinds (changing of change) (left_kinds plan (changing of change)) (right_kinds plan (changing of change))
+      own of (Delay by) = refl
+      own of (Hop size period) = refl
+      own of (Duration by) = refl
+
+  pub extend_starts : (of by : ℕ) (o : ExtendOperator) → o.by ≡ by → o.carried ≡ fresh_list kinds capacity → o.ends ≡ [] → o.left_to ≡ 0 → o.right_to ≡ 0 → o.failed ≡ false →
+      map cell_kind_of kinds ≡ left_kinds plan (ExtendNode of by) → StartsFor texts capacity plan (ExtendNode of by) (Extend o)
+  extend_starts of by o same carried none left_to right_to works read = record {
+    ready = record {
+      node = subst (λ k. MeanAlike (ExtendNode of by) (ExtendNode 0 k)) (sym same) (record { events = λ l r. refl; closes = λ x y. refl; undefined = λ rows. refl });
+      works = works;
+      left_closed = left_to;
+      right_closed = right_to;
+      left_kinds = ap cells_of carried ∙ read;
+      right_kinds = refl;
+      own_kinds = ap cells_of carried ∙ read;
+      batch_rows = ap (λ l. l.capacity) carried;
+    };
+    opens = extended_opening o.by texts o.left_to o.right_to o.carried.edges (edges_of_pending o.ends) (ap (λ l. l.edges) carried) (ap edges_of_pending none) left_to right_to;
+  }
+
+  pub union_starts : (left right : ℕ) (o : UnionOperator) → o.left ≡ fresh_list kinds capacity → o.right ≡ o.left → o.left_to ≡ 0 → o.right_to ≡ 0 → o.failed ≡ false →
+      map cell_kind_of kinds ≡ left_kinds plan (UnionNode left right) → left_kinds plan (UnionNode left right) ≡ right_kinds plan (UnionNode left right) → StartsFor texts capacity plan (UnionNode left right) (Union o)
+  union_starts left right o made like left_to right_to works read alike = record {
+    ready = record {
+      node = record { events = λ l r. refl; closes = λ x y. refl; undefined = λ rows. refl };
+      works = works;
+      left_closed = left_to;
+      right_closed = right_to;
+      left_kinds = ap cells_of made ∙ read;
+      right_kinds = ap cells_of made ∙ read ∙ alike;
+      own_kinds = ap cells_of made ∙ read;
+      batch_rows = ap (λ l. l.capacity) made;
+    };
+    opens = union_opening texts o.left_to o.right_to o.left.edges o.right.edges (ap (λ l. l.edges) made) (ap (λ l. l.edges) (like ∙ made)) left_to right_to;
+  }
+
+-- both sides of a union have the same columns
+pub union_alike : (plan : PlanParts) → IsPlan plan → (i left right : ℕ) → slice_get plan.nodes i ≡ Some (UnionNode left right) → left_kinds plan (UnionNode left right) ≡ right_kinds plan (UnionNode left right)
+union_alike plan whole i left right there = (whole.nodes_are.each i (UnionNode left right) there).sound
