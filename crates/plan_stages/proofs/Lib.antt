@@ -1,6 +1,7 @@
 mod Examples
 pub mod Operators
 pub mod Starting
+pub mod Variants
 pub mod Rules
 pub mod Growing
 pub mod HeldLists

@@ -1,6 +1,5 @@
 -- A plan at work before its first step.
 use Rattle.std.specs.Prelude.{◌≡◌, ℕ, ◌+◌, ◌<◌, ◌≤◌, Some, List, [], ◌∷◌, ◌++◌, length, get_or, slice_get}
-use Rattle.std.specs.Prelude.{true}
 use Rattle.std.proofs.Common.{refl, sym, subst, arith, inl, inr}
 use Rattle.std.proofs.lemmas.Bool.{cases_lt}
 use Rattle.std.proofs.lemmas.List.{get_or_push, get_or_append_left}
@@ -9,10 +8,7 @@ use Rattle.tw_rows.specs.Texts.{BeginsWith}
 use Rattle.tw_rows.specs.declared.edge.Edge.{Edge}
 use Rattle.batch.specs.Shelves.{Shelves}
 use Rattle.plan_model.specs.declared.node.Node.{Node}
-use Rattle.plan_model.specs.declared.node.Node.TheVariants.{Source, Where, Select, Union, Delay, Hop, Duration, Extend, Session, Clip, Group, Join, Anti, Coalesce, Mean, Top, Follow}
 use Rattle.plan_model.specs.IsPlan.{PlanParts, most_columns}
-use Rattle.built_nodes.specs.Built.{is_built}
-use Rattle.node_stage.specs.Stages.{is_of_rows}
 use Rattle.plan_model.specs.Shape.{Shape, Stream, One, Two, shape, read_left, right_of, at_child, right_child}
 use Rattle.std.specs.Prelude.{Option, None}
 use Rattle.plan_stages.specs.declared.stage.Stage.{Stage}
@@ -89,23 +85,3 @@ flows_at_first texts capacity plan stages shelves fresh room same limit = record
       subst (λ l. StageKeeps texts n s 0 0 l (right_of [] (λ k. []) n) []) (sym (left_none (shape n)))
       (subst (λ r. StageKeeps texts n s 0 0 [] r []) (sym (right_none (right_child n))) (fresh.opens i n s there here));
 }
-
--- a node that is built is one of rows
-pub built_of_rows : (n : Node) → is_built n ≡ true → is_of_rows n ≡ true
-built_of_rows (Source stream) h = refl
-built_of_rows (Where of test) h = refl
-built_of_rows (Select of items) h = refl
-built_of_rows (Union left right) h = absurd (cc)
-built_of_rows (Delay of by) h = absurd (cc)
-built_of_rows (Hop of size period) h = absurd (cc)
-built_of_rows (Duration of by) h = absurd (cc)
-built_of_rows (Extend of by) h = absurd (cc)
-built_of_rows (Session of timeout key) h = absurd (cc)
-built_of_rows (Clip left right left_key right_key) h = absurd (cc)
-built_of_rows (Group of key aggs) h = absurd (cc)
-built_of_rows (Join left right left_key right_key) h = absurd (cc)
-built_of_rows (Anti left right left_key right_key) h = absurd (cc)
-built_of_rows (Coalesce of) h = absurd (cc)
-built_of_rows (Mean of at) h = absurd (cc)
-built_of_rows (Top of key by count) h = absurd (cc)
-built_of_rows (Follow left right left_key right_key within) h = absurd (cc)

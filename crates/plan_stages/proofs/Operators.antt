@@ -1,16 +1,14 @@
 -- What the trait of operators tells of a step, for the nodes of a plan.
-use Rattle.std.specs.Prelude.{◌≡◌, ℕ, ◌≤◌, false, Option, Some, None, List, [], ◌++◌}
-use Rattle.std.proofs.Common.{refl, sym, ap, subst, ◌∙◌}
+use Rattle.std.specs.Prelude.{◌≡◌, ℕ, false, Option, List, ◌++◌}
+use Rattle.std.proofs.Common.{sym, subst, ◌∙◌}
 use Rattle.tw_rows.specs.Event.{alive}
 use Rattle.tw_rows.specs.declared.edge.Edge.{Edge}
 use Rattle.tw_rows.specs.declared.kind.CellKind.{CellKind}
 use Rattle.edge_history.specs.Order.{is_from, failing}
 use Rattle.edge_stream.specs.Listing.{EdgeListView, cells_of}
 use Rattle.plan_model.specs.declared.node.Node.{Node}
-use Rattle.plan_model.specs.IsPlan.{node_kinds}
-use Rattle.plan_model.specs.Keys.{value_ops}
 use Rattle.plan_model.specs.Meaning.{node_events, node_closes}
-use Rattle.plan_laws.specs.Undefined.{undefined_over, first_below}
+use Rattle.plan_laws.specs.Undefined.{first_below}
 use Rattle.node_laws.specs.Places.{AreDistinct, read_of}
 use Rattle.node_laws.specs.Standing.{StandsRead}
 use Rattle.operator.specs.Steps.{MayCome, ComeBetween}
@@ -46,7 +44,7 @@ module _ (left right : EdgeListView) (old : Standing) where
       OperatesUndefinedAt left right old kept u v found
   undefined_operating kept u v found told texts n x y hl hr out distinct can k ml =
       let same : first_undefined_read texts old.node (hl ++ left.edges) (node_closes old.node u v) ≡ first_undefined_read texts n (hl ++ left.edges) (node_closes n u v) =
-          λ i. first_below (λ t. can.node.undefined (alive (read_of texts (hl ++ left.edges)) t) i) (can.node.closes u v i) in
+      λ i. first_below (λ t. can.node.undefined (alive (read_of texts (hl ++ left.edges)) t) i) (can.node.closes u v i) in
       sym same ∙ told texts hl hr out distinct k (subst (λ z. MayCome texts z hl left.edges) (sym can.left_closed) ml)
 
   pub operates_over : (answer : EdgeListView) → cells_of answer ≡ old.own_kinds → OperatesOver left right old answer

@@ -2,17 +2,16 @@
 use Rattle.std.specs.Prelude.{◌≡◌, ℕ, zero, suc, ◌<◌, ◌≤◌, true, false, Some, List, [], ◌∷◌, map, length, get_or, slice_get, slice_index_or, All}
 use Rattle.std.proofs.Common.{refl, sym, ap, subst, ◌∙◌, arith}
 use Rattle.std.proofs.lemmas.List.{length-map}
+use Rattle.std.proofs.lemmas.List.Elements.{All-head, All-tail}
 use Rattle.std.proofs.lemmas.Option.{slice_get-get_or, slice_get_within}
-use Rattle.tw_rows.specs.Event.{alive}
 use Rattle.tw_rows.specs.Kinds.{cell_kind_of}
 use Rattle.tw_rows.specs.declared.kind.Kind.{Kind}
-use Rattle.tw_rows.specs.declared.kind.CellKind.{CellKind}
 use Rattle.tw_rows.specs.declared.schema.StreamDef.{StreamDef}
 use Rattle.edge_stream.specs.Listing.{EdgeListView, cells_of}
 use Rattle.plan_model.specs.declared.node.Node.{Node}
 use Rattle.plan_model.specs.declared.node.Node.TheVariants.{Source, Where, Select, Union as UnionNode, Delay as DelayNode, Hop as HopNode, Duration as DurationNode, Extend as ExtendNode, Session, Clip, Group, Join, Anti, Coalesce, Mean, Top, Follow}
-use Rattle.plan_model.specs.IsPlan.{PlanParts, IsPlan, IsSoundOver, kinds_at, kinds_of_schema, kinds_of_stream, node_kinds}
-use Rattle.plan_model.specs.Shape.{Shape, Stream, One, Two, shape, left_in, read_left, left_child, HasLower}
+use Rattle.plan_model.specs.IsPlan.{PlanParts, IsPlan, kinds_at, kinds_of_schema, kinds_of_stream, node_kinds}
+use Rattle.plan_model.specs.Shape.{Shape, Stream, One, Two, shape, left_in, read_left, HasLower}
 use Rattle.built_nodes.specs.Built.{is_built}
 use Rattle.node_stage.specs.Stages.{is_of_rows}
 use Rattle.life_laws.proofs.Lives.{lives_opening}
@@ -29,12 +28,16 @@ use Rattle.plan_stages.specs.declared.stage.Stage.TheVariants.{Life, Union, Exte
 use Rattle.plan_stages.specs.Operating.{MeanAlike}
 use Rattle.plan_stages.specs.Stages.{left_kinds, right_kinds, changing, StartsFor}
 
--- a node reads no more columns than a plan may have
-stream_narrow : (streams : List StreamDef) → All (λ stream. length stream.schema ≤ 32) streams → (s : ℕ) → length (slice_index_or (map (λ d. kinds_of_schema d.schema) streams) s []) ≤ 32
-stream_narrow [] narrow s = omega arith
-stream_narrow (d ∷ ds) narrow zero = (let count = length-map d.schema (λ c. cell_kind_of c.kind) in let low = narrow.0 in omega (arith, count, low))
-stream_narrow (d ∷ ds) narrow (suc s) = stream_narrow ds narrow.1 s
+-- no stream has more columns than a plan may have
+abbrev IsNarrow : StreamDef → Type 0
+IsNarrow stream = length stream.schema ≤ 32
 
+stream_narrow : (streams : List StreamDef) → All IsNarrow streams → (s : ℕ) → length (slice_index_or (map (λ d. kinds_of_schema d.schema) streams) s []) ≤ 32
+stream_narrow [] narrow s = omega arith
+stream_narrow (d ∷ ds) narrow zero = (let count = length-map d.schema (λ c. cell_kind_of c.kind) in let low = All-head IsNarrow d ds narrow in omega (arith, count, low))
+stream_narrow (d ∷ ds) narrow (suc s) = stream_narrow ds (All-tail IsNarrow d ds narrow) s
+
+-- and so a node reads no more
 module _ (plan : PlanParts) (whole : IsPlan plan) where
   child_narrow : (i k : ℕ) → i ≤ length plan.nodes → k < i → length (kinds_at plan.schemas k) ≤ 32
   child_narrow i k all low =
@@ -50,6 +53,15 @@ module _ (plan : PlanParts) (whole : IsPlan plan) where
 
   pub left_narrow : (i : ℕ) (n : Node) → slice_get plan.nodes i ≡ Some n → length (left_kinds plan n) ≤ 32
   left_narrow i n there = read_narrow i (shape n) (let low = slice_get_within plan.nodes i n there in omega (arith, low)) (whole.nodes_are.each i n there).left_lower
+
+  pub narrow_read : (i : ℕ) → i < length plan.nodes → (kinds : List Kind) → ((n : Node) → slice_get plan.nodes i ≡ Some n → map cell_kind_of kinds ≡ left_kinds plan n) → length kinds ≤ 32
+  narrow_read i low kinds read =
+      let n = get_or plan.nodes i (Source 0) in
+      let there = slice_get-get_or plan.nodes i (Source 0) low in
+      let count = length-map kinds cell_kind_of in
+      let same = ap length (read n there) in
+      let narrow = left_narrow i n there in
+      omega (arith, count, same, narrow)
 
 -- of the nodes that are built those that no other stage computes are of rows
 pub rows_left : (n : Node) → is_built n ≡ true → ((left right : ℕ) → n ≡ UnionNode left right → ⊥) → ((of by : ℕ) → n ≡ DelayNode of by → ⊥) → ((of size period : ℕ) → n ≡ HopNode of size period → ⊥) →

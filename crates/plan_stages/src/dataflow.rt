@@ -43,7 +43,8 @@ fn stages_of(
     capacity: usize,
     texts: &mut TextTable,
 ) -> Result<Vec<Stage>, Memory>
-    requires { (i : ℕ) (n : Node) → slice_get plan.now.nodes i ≡ Some n → is_built n ≡ true }
+    requires room { 1 ≤ capacity }
+    requires built { (i : ℕ) (n : Node) → slice_get plan.now.nodes i ≡ Some n → is_built n ≡ true }
     ensures fresh { IfOk result (λ stages. AreFresh texts.new capacity plan.now stages.items) }
     ensures begins { BeginsWith texts.new texts.old }
 {

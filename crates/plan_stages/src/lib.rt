@@ -6,7 +6,6 @@ mod dataflow;
 mod fault;
 mod laws;
 mod making;
-
 mod reading;
 mod stage;
 mod steps;

@@ -7,8 +7,8 @@ ghost use Rattle.built_nodes.specs.Built.{is_built};
 ghost use Rattle.node_laws.specs.Places.{EdgesArePlaced};
 ghost use Rattle.plan_stages.specs.Stages.{left_kinds, right_kinds, IsReady, CanTake, StageKeeps, StaysReady, KeepsOn, IsUndefinedAt, IsAnswerOf};
 
-use crate::making::{extend_stage, life_stage, rows_stage, union_stage};
 use crate::any_operator::step_operator;
+use crate::making::{extend_stage, life_stage, rows_stage, union_stage};
 use batch::Pools;
 use edge_stream::{EdgeList, StepFault};
 use extend_op::ExtendOperator;
@@ -83,7 +83,7 @@ impl Stage {
         right_to: Time,
     ) -> Result<EdgeList, StepFault>
         requires ready { CanTake texts.now left right self.old left_to right_to }
-            requires capacity { (pools.old.capacity ≡ left.capacity) × (right.capacity ≡ left.capacity) }
+        requires capacity { (pools.old.capacity ≡ left.capacity) × (right.capacity ≡ left.capacity) }
         requires limit { most_columns ≤ pools.old.limit }
         requires placed { EdgesArePlaced texts.now left.edges × EdgesArePlaced texts.now right.edges }
         ensures ready { IfOk result (λ answer. StaysReady texts.now left right self.old self.new left_to right_to) }

@@ -1,9 +1,8 @@
-use Rattle.std.specs.Prelude.{◌≡◌, ◌≤◌, ℕ, Some, None, List, ◌++◌}
+use Rattle.std.specs.Prelude.{◌≡◌, ◌≤◌, ℕ, Some, None}
 use Rattle.std.proofs.Common.{sym, ◌∙◌, subst}
-use Rattle.std.proofs.lemmas.Result.{on_ok_weaker, IfErr-weaker, IfOk-weaker}
-use Rattle.edge_stream.specs.declared.saved.StepFault.{StepFault}
+use Rattle.std.proofs.lemmas.Result.{on_ok_weaker, IfErr-weaker}
 use Rattle.edge_stream.specs.declared.saved.StepFault.TheVariants.{Overflow}
-use Rattle.plan_stages.specs.Operating.{standing, OperatesUndefinedAt, KeepsOperating, OperatesOver}
+use Rattle.plan_stages.specs.Operating.{standing, OperatesUndefinedAt}
 use Rattle.plan_stages.proofs.Operators.{undefined_operating}
 use Rattle.plan_stages.proofs.any_operator.step_operator.Goals as goal
 
