@@ -13,6 +13,7 @@ use crate::fault::EngineFault;
 use crate::work::Work;
 use admission::Policy;
 use plan_model::Plan;
+use plan_stages::Stage;
 use std::alloc::Global;
 use std::marker::Model;
 use tw_rows::Memory;
@@ -73,6 +74,13 @@ impl Engine {
             fault: None,
             ended: false,
         })
+    }
+
+    /// What computes each node of the plan, in order of number.
+    pub fn stages(&self) -> &[Stage]
+        ensures { result.now ≡ self.now.work.dataflow.stages }
+    {
+        self.work.dataflow.stages()
     }
 
     /// Takes the line of that number, which stands without its line feed: the bytes by which the text grows.
