@@ -69,10 +69,6 @@ fn faults_tell_their_item(rt: HostRuntime) {
             QueryFault::BadWindow { item: 2 },
         ),
         (
-            "stream s(v int); s | group : count as n",
-            QueryFault::NotBuilt { item: 2 },
-        ),
-        (
             "stream s(p dec(2)); s | where p > 1.5",
             QueryFault::TypeClash { item: 2 },
         ),
@@ -123,10 +119,6 @@ fn faults_tell_their_item(rt: HostRuntime) {
         (
             "stream s(k text, v int); s | top 1001 per w by k",
             QueryFault::UnknownName { item: 2 },
-        ),
-        (
-            "stream l(k text, w int); stream r(k text, x int); l | left r on k else -1",
-            QueryFault::NotBuilt { item: 3 },
         ),
         (
             "stream l(k text, w int); stream r(k text, x int); l | left r on k",
