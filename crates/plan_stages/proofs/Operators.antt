@@ -1,5 +1,5 @@
 -- What the trait of operators tells of a step, for the nodes of a plan.
-use Rattle.std.specs.Prelude.{◌≡◌, ℕ, false, Option, List, ◌++◌}
+use Rattle.std.specs.Prelude.{◌≡◌, ◌≤◌, ℕ, false, Option, List, ◌++◌}
 use Rattle.std.proofs.Common.{sym, subst, ◌∙◌}
 use Rattle.tw_rows.specs.Event.{alive}
 use Rattle.tw_rows.specs.declared.edge.Edge.{Edge}
@@ -12,7 +12,7 @@ use Rattle.plan_laws.specs.Undefined.{first_below}
 use Rattle.node_laws.specs.Places.{AreDistinct, read_of}
 use Rattle.node_laws.specs.Standing.{StandsRead}
 use Rattle.operator.specs.Steps.{MayCome, ComeBetween}
-use Rattle.plan_stages.specs.Operating.{MeanAlike, Standing, CanOperate, Keeping, StaysOperating, KeepsOperating, first_undefined_read, OperatesUndefinedAt, OperatesOver}
+use Rattle.plan_stages.specs.Operating.{may_keep, MeanAlike, Standing, CanOperate, Keeping, StaysOperating, KeepsOperating, first_undefined_read, OperatesUndefinedAt, OperatesOver}
 
 module _ (left right : EdgeListView) (old : Standing) where
   pub stays_operating : (new : Standing) (u v : ℕ) → new.node ≡ old.node → new.has_failed ≡ false → new.left_closed ≡ u → new.right_closed ≡ v →
@@ -57,3 +57,9 @@ pub operator_stands : (capacity : ℕ) (left right : List CellKind) (n : Node) (
 operator_stands capacity left right n s x y can texts hl hr out stands =
     subst (λ c. StandsRead texts c out (node_events n (read_of texts hl) (read_of texts hr))) (can.node.closes s.left_closed s.right_closed ∙ (λ i. node_closes n (can.left_closed i) (can.right_closed i)))
     (subst (StandsRead texts (node_closes s.node s.left_closed s.right_closed) out) (can.node.events (read_of texts hl) (read_of texts hr)) stands)
+
+-- and it keeps no more entries than that node may
+pub operator_held : (capacity : ℕ) (left right : List CellKind) (n : Node) (s : Standing) (x y : ℕ) → CanOperate capacity left right n s x y → (count : ℕ) (hl hr : List Edge) →
+    count ≤ may_keep s.node s.left_closed s.right_closed hl hr → count ≤ may_keep n x y hl hr
+operator_held capacity left right n s x y can count hl hr most =
+    subst (λ m. count ≤ m) (can.node.held s.left_closed s.right_closed hl hr ∙ (λ i. may_keep n (can.left_closed i) (can.right_closed i) hl hr)) most

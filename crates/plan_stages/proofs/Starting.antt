@@ -89,9 +89,9 @@ abbrev pub fresh_list : List Kind → ℕ → EdgeListView
 fresh_list kinds capacity = record { edges = []; kinds = kinds; capacity = capacity; batches = 0; room = 0 }
 
 changes_alike : (of : ℕ) (change : Change) → MeanAlike (changing of change) (node_of change)
-changes_alike of (Delay by) = record { events = λ l r. refl; closes = λ x y. refl; undefined = λ rows. refl }
-changes_alike of (Hop size period) = record { events = λ l r. refl; closes = λ x y. refl; undefined = λ rows. refl }
-changes_alike of (Duration by) = record { events = λ l r. refl; closes = λ x y. refl; undefined = λ rows. refl }
+changes_alike of (Delay by) = record { events = λ l r. refl; closes = λ x y. refl; undefined = λ rows. refl; held = λ x y hl hr. refl }
+changes_alike of (Hop size period) = record { events = λ l r. refl; closes = λ x y. refl; undefined = λ rows. refl; held = λ x y hl hr. refl }
+changes_alike of (Duration by) = record { events = λ l r. refl; closes = λ x y. refl; undefined = λ rows. refl; held = λ x y hl hr. refl }
 
 changes_right : (plan : PlanParts) (of : ℕ) (change : Change) → [] ≡ right_kinds plan (changing of change)
 changes_right plan of (Delay by) = refl
@@ -124,7 +124,7 @@ module _ (plan : PlanParts) (capacity : ℕ) (kinds : List Kind) (texts : List (
       map cell_kind_of kinds ≡ left_kinds plan (ExtendNode of by) → StartsFor texts capacity plan (ExtendNode of by) (Extend o)
   extend_starts of by o same carried none left_to right_to works read = record {
     ready = record {
-      node = subst (λ k. MeanAlike (ExtendNode of by) (ExtendNode 0 k)) (sym same) (record { events = λ l r. refl; closes = λ x y. refl; undefined = λ rows. refl });
+      node = subst (λ k. MeanAlike (ExtendNode of by) (ExtendNode 0 k)) (sym same) (record { events = λ l r. refl; closes = λ x y. refl; undefined = λ rows. refl; held = λ x y hl hr. refl });
       works = works;
       left_closed = left_to;
       right_closed = right_to;
@@ -140,7 +140,7 @@ module _ (plan : PlanParts) (capacity : ℕ) (kinds : List Kind) (texts : List (
       map cell_kind_of kinds ≡ left_kinds plan (UnionNode left right) → left_kinds plan (UnionNode left right) ≡ right_kinds plan (UnionNode left right) → StartsFor texts capacity plan (UnionNode left right) (Union o)
   union_starts left right o made like left_to right_to works read alike = record {
     ready = record {
-      node = record { events = λ l r. refl; closes = λ x y. refl; undefined = λ rows. refl };
+      node = record { events = λ l r. refl; closes = λ x y. refl; undefined = λ rows. refl; held = λ x y hl hr. refl };
       works = works;
       left_closed = left_to;
       right_closed = right_to;

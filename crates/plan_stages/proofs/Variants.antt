@@ -1,5 +1,5 @@
 -- Stages that are operators: what a step of any operator tells is what a step of a stage owes.
-use Rattle.std.specs.Prelude.{◌≡◌, ℕ, Option, Some, None, List, Result, IfOk, IfErr, OnOk}
+use Rattle.std.specs.Prelude.{◌≡◌, ◌≤◌, ℕ, Option, Some, None, List, Result, IfOk, IfErr, OnOk}
 use Rattle.std.proofs.Common.{sym, subst}
 use Rattle.std.proofs.lemmas.Result.{IfOk-weaker, IfErr-weaker, on_ok_weaker}
 use Rattle.tw_rows.specs.declared.edge.Edge.{Edge}
@@ -15,8 +15,9 @@ use Rattle.lifetime_ops.specs.Nodes.{node_of}
 use Rattle.extend_op.specs.Waiting.{edges_of_pending}
 use Rattle.plan_stages.specs.declared.stage.Stage.{Stage}
 use Rattle.plan_stages.specs.declared.stage.Stage.TheVariants.{Life, Union, Extend}
-use Rattle.plan_stages.specs.Operating.{Standing, Keeping, CanOperate, StaysOperating, KeepsOperating, OperatesUndefinedAt}
-use Rattle.plan_stages.specs.Stages.{life_standing, union_standing, extend_standing, IsReady, StageKeeps, StaysReady, KeepsOn, IsUndefinedAt}
+use Rattle.plan_stages.proofs.Operators.{operator_held}
+use Rattle.plan_stages.specs.Operating.{may_keep, Standing, Keeping, CanOperate, StaysOperating, KeepsOperating, OperatesUndefinedAt}
+use Rattle.plan_stages.specs.Stages.{life_standing, union_standing, extend_standing, IsReady, StageKeeps, StaysReady, KeepsOn, IsUndefinedAt, KeepsAtMost}
 
 -- stages of this kind are ready and keep as their operators are and do
 pub record IsVariant {O : Type 0} (stage : O → Stage) (standing : O → Standing) (keeping : O → Keeping) : Type 0 where
@@ -51,6 +52,13 @@ module _ {O : Type 0} (stage : O → Stage) (standing : O → Standing) (keeping
   variant_overflow told = subst (λ z. IfErr r (λ fault. (time : ℕ) → fault ≡ Overflow time → IsUndefinedAt texts left right z u v (Some time))) (sym at)
       (IfErr-weaker r (λ fault. (time : ℕ) → fault ≡ Overflow time → OperatesUndefinedAt left right (standing old) (keeping old) u v (Some time)) (λ fault. (time : ℕ) → fault ≡ Overflow time → IsUndefinedAt texts left right (stage old) u v (Some time))
       (λ fault undefined time e. undefined_at (Some time) (undefined time e)) told)
+
+-- and it keeps no more entries than its node may
+pub variant_held : {O : Type 0} (stage : O → Stage) (standing : O → Standing) (keeping : O → Keeping) → IsVariant stage standing keeping → (s : Stage) (o : O) → s ≡ stage o → (count : ℕ) →
+    ((texts : List (List ℕ)) (hl hr out : List Edge) → keeping o texts hl hr out → count ≤ may_keep (standing o).node (standing o).left_closed (standing o).right_closed hl hr) → KeepsAtMost count s
+variant_held stage standing keeping is s o at count most = subst (KeepsAtMost count) (sym at)
+    (λ texts capacity left right n x y hl hr out ready kept.
+    operator_held capacity left right n (standing o) x y (is.can texts capacity left right n o x y ready) count hl hr (most texts hl hr out (is.kept texts n o x y hl hr out kept)))
 
 -- the operators that are stages
 pub life_variant : IsVariant Life life_standing (λ o texts hl hr out. KeepsLives (node_of o.change) texts o.left_to o.right_to o.carried.edges hl hr out)

@@ -11,7 +11,7 @@ use Rattle.node_laws.specs.Places.{AreDistinct}
 use Rattle.node_laws.specs.Standing.{SourcesStandRead, AllStandRead}
 use Rattle.plan_stages.specs.declared.stage.Stage.{Stage}
 use Rattle.plan_stages.specs.Lists.{longer, AreFrom}
-use Rattle.plan_stages.specs.Stages.{reached, left_closing, right_closing, left_kinds, right_kinds, IsReady, StageKeeps}
+use Rattle.plan_stages.specs.Stages.{reached, left_closing, right_closing, left_kinds, right_kinds, IsReady, StageKeeps, KeepsAtMost}
 
 -- what contracts see of a plan at work: the plan, its stages, how many rows each batch has room for, and how many columns the
 -- pools hold
@@ -81,3 +81,8 @@ GivesOn texts p given d after out = (last : ℕ) (old lists : ℕ → List Edge)
 abbrev pub OverflowsAt : List (List ℕ) → ℕ → (ℕ → List Edge) → DataflowView → ℕ → ℕ → Type 0
 OverflowsAt texts p given d node time = (last : ℕ) (old lists : ℕ → List Edge) (source : Sources) → AreDistinct texts → Flows texts last old lists d → last < p →
     SourcesStandRead texts p source (longer old given) → AreFrom last given → overflow source d.plan.nodes p ≡ Some (record { node = node; time = time })
+
+-- a pair for each stage, in order: its number, and how many entries it keeps, which are no more than its node may
+pub record AreHeldBy (stages : List Stage) (pairs : List (ℕ × ℕ)) : Type 0 where
+  pub count : length pairs ≡ length stages
+  pub each : (i : ℕ) (s : Stage) → slice_get stages i ≡ Some s → (held : ℕ) × ((slice_get pairs i ≡ Some (i, held)) × KeepsAtMost held s)

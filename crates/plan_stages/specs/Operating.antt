@@ -4,21 +4,31 @@ use Rattle.tw_rows.specs.Event.{Event, alive}
 use Rattle.tw_rows.specs.Rows.{Row}
 use Rattle.tw_rows.specs.declared.edge.Edge.{Edge}
 use Rattle.tw_rows.specs.declared.kind.CellKind.{CellKind}
+use Rattle.edge_history.specs.History.{of}
 use Rattle.edge_history.specs.Order.{is_from, failing}
 use Rattle.edge_stream.specs.Listing.{EdgeListView, cells_of}
 use Rattle.plan_model.specs.declared.node.Node.{Node}
 use Rattle.plan_model.specs.IsPlan.{node_kinds}
 use Rattle.plan_model.specs.Keys.{value_ops}
 use Rattle.plan_model.specs.Meaning.{node_events, node_closes}
+use Rattle.plan_model.specs.Nodes.{node_in}
+use Rattle.plan_laws.specs.Held.{may_hold}
 use Rattle.plan_laws.specs.Undefined.{undefined_over, first_below}
+use Rattle.node_laws.specs.Keeping.{plain_cells}
 use Rattle.node_laws.specs.Places.{AreDistinct, read_of}
 use Rattle.operator.specs.Steps.{MayCome}
 
--- both nodes mean the same of what they read. A Delay by 5 over the node 0 means the same as one over the node 3
+-- how many entries a node may keep of the edges that came in, on sides that are closed up to x and y. A Delay that is closed
+-- up to 4 may keep 4 of a start at 3 that did not end
+abbrev pub may_keep : Node → ℕ → ℕ → List Edge → List Edge → ℕ
+may_keep n x y hl hr = may_hold n x (node_closes n x y) (of hl) (of hr) (node_in plain_cells n (of hl) (of hr))
+
+-- both nodes mean the same of what they read, and may keep as much. A Delay by 5 over the node 0 means the same as one over the node 3
 pub record MeanAlike (n m : Node) : Type 0 where
   pub events : (left right : List (Event Row)) → node_events m left right ≡ node_events n left right
   pub closes : (x y : ℕ) → node_closes m x y ≡ node_closes n x y
   pub undefined : (rows : List Row) → undefined_over value_ops m rows ≡ undefined_over value_ops n rows
+  pub held : (x y : ℕ) (hl hr : List Edge) → may_keep m x y hl hr ≡ may_keep n x y hl hr
 
 -- how an operator stands: its node, up to where its sides are closed, how the columns are stored of what comes in on both
 -- sides and of what it answers, how many rows its batches have room for, and whether a step failed

@@ -26,7 +26,7 @@ use Rattle.plan_stages.specs.declared.stage.Stage.{Stage}
 use Rattle.plan_stages.specs.declared.stage.Stage.TheVariants.{Rows, Life, Union, Extend}
 use Rattle.plan_model.specs.declared.node.Node.TheVariants.{Union as UnionNode, Extend as ExtendNode, Delay as DelayNode, Hop as HopNode, Duration as DurationNode}
 use Rattle.plan_stages.specs.Operating.{Standing, CanOperate}
-pub use Rattle.plan_stages.specs.Operating.{first_undefined_read}
+pub use Rattle.plan_stages.specs.Operating.{may_keep, first_undefined_read}
 
 -- up to where a side is closed once the punctuation `last` was worked through, which closes it up to c: 0 as long as there
 -- was none, though a Delay by 5 is closed up to 5 at the punctuation 0
@@ -156,6 +156,11 @@ pub record StaysReady (texts : List (List ℕ)) (left right : EdgeListView) (old
 abbrev pub IsAnswerOf : List (List ℕ) → EdgeListView → EdgeListView → Stage → EdgeListView → Type 0
 IsAnswerOf texts left right old answer = (n : Node) (x y : ℕ) → IsReady texts left.capacity (cells_of left) (cells_of right) n old x y →
     cells_of answer ≡ node_kinds n (cells_of left) (cells_of right)
+
+-- the stage keeps no more entries than its node may, whatever came in and was answered
+abbrev pub KeepsAtMost : ℕ → Stage → Type 0
+KeepsAtMost count s = (texts : List (List ℕ)) (capacity : ℕ) (left right : List CellKind) (n : Node) (x y : ℕ) (hl hr out : List Edge) →
+    IsReady texts capacity left right n s x y → StageKeeps texts n s x y hl hr out → count ≤ may_keep n x y hl hr
 
 -- the stage stands as it was made for the node of the plan: it can take a first step, and nothing came in yet
 pub record StartsFor (texts : List (List ℕ)) (capacity : ℕ) (plan : PlanParts) (n : Node) (s : Stage) : Type 0 where

@@ -5,7 +5,7 @@ ghost use Rattle.plan_model.specs.declared.node.Node.{Node};
 ghost use Rattle.plan_model.specs.IsPlan.{kinds_at};
 ghost use Rattle.built_nodes.specs.Built.{is_built};
 ghost use Rattle.plan_stages.specs.Lists.{edges_at, AreGiven, IsListOf};
-ghost use Rattle.plan_stages.specs.Flows.{MayStep, Flows, GivesOn, OverflowsAt};
+ghost use Rattle.plan_stages.specs.Flows.{MayStep, Flows, GivesOn, OverflowsAt, AreHeldBy};
 ghost use Rattle.plan_stages.specs.Held.{AreFresh};
 
 use crate::fault::PlanFault;
@@ -55,6 +55,17 @@ fn stages_of(
     Ok(stages)
 }
 
+// For each stage its number, and how many entries it keeps.
+fn held_by(alloc: Global, stages: &[Stage]) -> Result<Vec<(usize, u64)>, Memory>
+    ensures { IfOk result (λ held. AreHeldBy stages.now held.items) }
+{
+    let mut held = Vec::new(alloc);
+    for i in 0..stages.len() {
+        held.push((i, stages[i].held()))?;
+    }
+    Ok(held)
+}
+
 impl Dataflow {
     /// The plan with a stage for each of its nodes, for batches of `capacity` rows. The texts of its nodes come into the
     /// table, and stay there where memory is wanting.
@@ -93,6 +104,13 @@ impl Dataflow {
         ensures { result.now ≡ self.now.stages }
     {
         &self.stages
+    }
+
+    /// For each node, in order, its number and how many entries its stage keeps for later steps.
+    pub fn held(&self) -> Result<Vec<(usize, u64)>, Memory>
+        ensures { IfOk result (λ held. AreHeldBy self.now.stages held.items) }
+    {
+        held_by(self.alloc, &self.stages)
     }
 
     /// One step of each node, in order of number, at the punctuation `p`, which is later than the last one: of the new edges

@@ -5,7 +5,7 @@ ghost use Rattle.plan_model.specs.declared.node.Node.{Node};
 ghost use Rattle.plan_model.specs.IsPlan.{most_columns};
 ghost use Rattle.built_nodes.specs.Built.{is_built};
 ghost use Rattle.node_laws.specs.Places.{EdgesArePlaced};
-ghost use Rattle.plan_stages.specs.Stages.{left_kinds, right_kinds, IsReady, CanTake, StageKeeps, StaysReady, KeepsOn, IsUndefinedAt, IsAnswerOf};
+ghost use Rattle.plan_stages.specs.Stages.{left_kinds, right_kinds, IsReady, CanTake, StageKeeps, StaysReady, KeepsOn, IsUndefinedAt, IsAnswerOf, KeepsAtMost};
 
 use crate::any_operator::step_operator;
 use crate::making::{extend_stage, life_stage, rows_stage, union_stage};
@@ -13,6 +13,7 @@ use batch::Pools;
 use edge_stream::{EdgeList, StepFault};
 use extend_op::ExtendOperator;
 use lifetime_ops::{Change, LifeOperator};
+use operator::Operator;
 use plan_model::{Node, Plan};
 use std::alloc::Global;
 use tw_rows::{Memory, TextTable, Time};
@@ -106,6 +107,18 @@ impl Stage {
             Stage::Extend(operator) => {
                 step_operator(operator, pools, left, right, left_to, right_to)
             }
+        }
+    }
+
+    /// How many entries it keeps for later steps.
+    pub fn held(&self) -> u64
+        ensures { KeepsAtMost result self.now }
+    {
+        match self {
+            Stage::Rows(_) => 0,
+            Stage::Life(operator) => operator.held(),
+            Stage::Union(operator) => operator.held(),
+            Stage::Extend(operator) => operator.held(),
         }
     }
 }
