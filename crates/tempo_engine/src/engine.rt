@@ -6,6 +6,7 @@ ghost use Rattle.built_nodes.specs.Built.{is_built};
 ghost use Rattle.admission.specs.declared.policy.Policy.{Policy as Admitting};
 ghost use Rattle.admission.specs.Entries.{Told};
 ghost use Rattle.admission.specs.Progress.{fault as fault_of};
+ghost use Rattle.plan_stages.specs.Flows.{AreHeldBy};
 ghost use Rattle.tempo_engine.specs.Faults.{IsFaultOf};
 ghost use Rattle.tempo_engine.specs.Output.{plan_text, told};
 
@@ -81,6 +82,14 @@ impl Engine {
         ensures { result.now ≡ self.now.work.dataflow.stages }
     {
         self.work.dataflow.stages()
+    }
+
+    /// For each node, in order, its number and how many entries it keeps for later lines. Rows that wait for a punctuation are
+    /// not among them.
+    pub fn held(&self) -> Result<Vec<(usize, u64)>, Memory>
+        ensures { IfOk result (λ held. AreHeldBy self.now.work.dataflow.stages held.items) }
+    {
+        self.work.dataflow.held()
     }
 
     /// Takes the line of that number, which stands without its line feed: the bytes by which the text grows.
