@@ -2,7 +2,10 @@
 use Rattle.std.specs.Prelude.{◌≡◌, ℕ, zero, suc, ◌≤◌, not, Bool, true, false, List, [], ◌∷◌, length, drop, refl}
 use Rattle.std.specs.Prelude.{map, get_or, take, min, ◌+◌, ◌-◌, ◌<◌}
 use Rattle.std.proofs.Common.{arith, ap, sym, ◌∙◌}
-use Rattle.batch.specs.Shelves.{Shelves, taken, all_taken, IsPartTaken}
+use Rattle.batch.specs.Shelves.{Shelves, taken, all_taken, batch_taken, IsPartTaken}
+use Rattle.batch.proofs.Stocks.{NoMore-all}
+use Rattle.edge_stream.specs.Listing.{EdgeListView, where_full, cells_of}
+use Rattle.edge_stream.specs.Taking.{room_taken}
 use Rattle.tw_rows.specs.declared.kind.CellKind.{CellKind}
 use Rattle.tw_rows.specs.declared.kind.CellKind.TheVariants.{Whole, Bit, Place}
 use Rattle.tw_rows.specs.declared.kind.Kind.{Kind}
@@ -42,3 +45,15 @@ pub part-capacity : (s t : Shelves) (ks : List CellKind) → IsPartTaken s t ks 
 part-capacity s t ks part =
     let first : Shelves = record s { words = s.words - min part.count 4; occupancies = s.occupancies - min (part.count - 4) 1 } in
     ap (λ (x : Shelves). x.capacity) part.is ∙ all_taken-capacity first (take (part.count - 5) ks)
+
+pub part-limit : (s t : Shelves) (ks : List CellKind) → IsPartTaken s t ks → t.limit ≡ s.limit
+part-limit s t ks part =
+    let first : Shelves = record s { words = s.words - min part.count 4; occupancies = s.occupancies - min (part.count - 4) 1 } in
+    ap (λ (x : Shelves). x.limit) part.is ∙ (NoMore-all first (take (part.count - 5) ks)).limit
+
+pub room_taken-limit : (l : EdgeListView) (s : Shelves) → (room_taken l s).limit ≡ s.limit
+room_taken-limit l s = pick l.room
+  where
+    pick : (r : ℕ) → (where_full r (batch_taken s (cells_of l)) s).limit ≡ s.limit
+    pick zero = (NoMore-all (record s { words = s.words - 4; occupancies = s.occupancies - 1 }) (cells_of l)).limit
+    pick (suc r) = refl
