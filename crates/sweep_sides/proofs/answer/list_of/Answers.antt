@@ -3,7 +3,7 @@ use Rattle.std.proofs.lemmas.List.{take_more}
 use Rattle.tw_rows.specs.declared.edge.Edge.{Edge}
 use Rattle.edge_history.proofs.Keeping.{KeepsOrder-next}
 use Rattle.edge_stream.proofs.Filling.{appended-kinds, appended-capacity, room_taken-capacity}
-use Rattle.sweep_sides.proofs.Cutting.{part-capacity, part-limit, room_taken-limit}
+use Rattle.carried_edges.proofs.Pools.{part-capacity, part-limit, room_taken-limit}
 use Rattle.sweep_sides.proofs.answer.list_of.Goals as goal
 
 pub append-requires-clause-order : goal.append-requires-clause-order
