@@ -9,7 +9,7 @@ use Rattle.tw_rows.specs.declared.kind.Kind.{Kind}
 use Rattle.tw_rows.specs.declared.schema.StreamDef.{StreamDef}
 use Rattle.edge_stream.specs.Listing.{EdgeListView, cells_of}
 use Rattle.plan_model.specs.declared.node.Node.{Node}
-use Rattle.plan_model.specs.declared.node.Node.TheVariants.{Source, Where, Select, Union as UnionNode, Delay as DelayNode, Hop as HopNode, Duration as DurationNode, Extend as ExtendNode, Session, Clip, Group, Join, Anti, Coalesce, Mean, Top, Follow}
+use Rattle.plan_model.specs.declared.node.Node.TheVariants.{Source, Where, Select, Union as UnionNode, Delay as DelayNode, Hop as HopNode, Duration as DurationNode, Extend as ExtendNode, Session, Clip, Group, Join as JoinNode, Anti, Coalesce, Mean, Top, Follow}
 use Rattle.plan_model.specs.IsPlan.{PlanParts, IsPlan, kinds_at, kinds_of_schema, kinds_of_stream, node_kinds}
 use Rattle.plan_model.specs.Shape.{Shape, Stream, One, Two, shape, left_in, read_left, HasLower}
 use Rattle.built_nodes.specs.Built.{is_built}
@@ -24,7 +24,12 @@ use Rattle.lifetime_ops.specs.declared.life_operator.LifeOperator.{LifeOperator}
 use Rattle.union_clip.specs.declared.union.UnionOperator.{UnionOperator}
 use Rattle.extend_op.specs.Waiting.{edges_of_pending}
 use Rattle.extend_op.specs.declared.extend.ExtendOperator.{ExtendOperator}
-use Rattle.plan_stages.specs.declared.stage.Stage.TheVariants.{Life, Union, Extend}
+use Rattle.plan_model.specs.Keys.{paired_row}
+use Rattle.temporal_join.specs.States.{IsOpening as IsJoinOpening}
+use Rattle.temporal_join.specs.declared.join.Join.{Join as JoinOperator}
+use Rattle.temporal_join.proofs.Answering.{pair_mapped}
+use Rattle.temporal_join.proofs.Resuming.{join_opening}
+use Rattle.plan_stages.specs.declared.stage.Stage.TheVariants.{Life, Union, Extend, Join}
 use Rattle.plan_stages.specs.Operating.{MeanAlike}
 use Rattle.plan_stages.specs.Stages.{left_kinds, right_kinds, changing, StartsFor}
 
@@ -65,24 +70,24 @@ module _ (plan : PlanParts) (whole : IsPlan plan) where
 
 -- of the nodes that are built those that no other stage computes are of rows
 pub rows_left : (n : Node) → is_built n ≡ true → ((left right : ℕ) → n ≡ UnionNode left right → ⊥) → ((of by : ℕ) → n ≡ DelayNode of by → ⊥) → ((of size period : ℕ) → n ≡ HopNode of size period → ⊥) →
-    ((of by : ℕ) → n ≡ DurationNode of by → ⊥) → ((of by : ℕ) → n ≡ ExtendNode of by → ⊥) → is_of_rows n ≡ true
-rows_left (Source stream) built u d h l e = refl
-rows_left (Where of test) built u d h l e = refl
-rows_left (Select of items) built u d h l e = refl
-rows_left (UnionNode left right) built u d h l e = absurd (u left right refl)
-rows_left (DelayNode of by) built u d h l e = absurd (d of by refl)
-rows_left (HopNode of size period) built u d h l e = absurd (h of size period refl)
-rows_left (DurationNode of by) built u d h l e = absurd (l of by refl)
-rows_left (ExtendNode of by) built u d h l e = absurd (e of by refl)
-rows_left (Session of timeout key) built u d h l e = absurd (cc)
-rows_left (Clip left right left_key right_key) built u d h l e = absurd (cc)
-rows_left (Group of key aggs) built u d h l e = absurd (cc)
-rows_left (Join left right left_key right_key) built u d h l e = absurd (cc)
-rows_left (Anti left right left_key right_key) built u d h l e = absurd (cc)
-rows_left (Coalesce of) built u d h l e = absurd (cc)
-rows_left (Mean of at) built u d h l e = absurd (cc)
-rows_left (Top of key by count) built u d h l e = absurd (cc)
-rows_left (Follow left right left_key right_key within) built u d h l e = absurd (cc)
+    ((of by : ℕ) → n ≡ DurationNode of by → ⊥) → ((of by : ℕ) → n ≡ ExtendNode of by → ⊥) → ((left right : ℕ) (left_key right_key : List ℕ) → n ≡ JoinNode left right left_key right_key → ⊥) → is_of_rows n ≡ true
+rows_left (Source stream) built u d h l e j = refl
+rows_left (Where of test) built u d h l e j = refl
+rows_left (Select of items) built u d h l e j = refl
+rows_left (UnionNode left right) built u d h l e j = absurd (u left right refl)
+rows_left (DelayNode of by) built u d h l e j = absurd (d of by refl)
+rows_left (HopNode of size period) built u d h l e j = absurd (h of size period refl)
+rows_left (DurationNode of by) built u d h l e j = absurd (l of by refl)
+rows_left (ExtendNode of by) built u d h l e j = absurd (e of by refl)
+rows_left (Session of timeout key) built u d h l e j = absurd (cc)
+rows_left (Clip left right left_key right_key) built u d h l e j = absurd (cc)
+rows_left (Group of key aggs) built u d h l e j = absurd (cc)
+rows_left (JoinNode left right left_key right_key) built u d h l e j = absurd (j left right left_key right_key refl)
+rows_left (Anti left right left_key right_key) built u d h l e j = absurd (cc)
+rows_left (Coalesce of) built u d h l e j = absurd (cc)
+rows_left (Mean of at) built u d h l e j = absurd (cc)
+rows_left (Top of key by count) built u d h l e j = absurd (cc)
+rows_left (Follow left right left_key right_key within) built u d h l e j = absurd (cc)
 
 -- a list that was just made
 abbrev pub fresh_list : List Kind → ℕ → EdgeListView
@@ -155,3 +160,56 @@ module _ (plan : PlanParts) (capacity : ℕ) (kinds : List Kind) (texts : List (
 -- both sides of a union have the same columns
 pub union_alike : (plan : PlanParts) → IsPlan plan → (i left right : ℕ) → slice_get plan.nodes i ≡ Some (UnionNode left right) → left_kinds plan (UnionNode left right) ≡ right_kinds plan (UnionNode left right)
 union_alike plan whole i left right there = (whole.nodes_are.each i (UnionNode left right) there).sound
+
+-- the kinds of a node's own columns
+pub own_kinds_are : (plan : PlanParts) → IsPlan plan → (i : ℕ) (n : Node) → slice_get plan.nodes i ≡ Some n → kinds_at plan.schemas i ≡ node_kinds n (left_kinds plan n) (right_kinds plan n)
+own_kinds_are plan whole i n there = (whole.nodes_are.each i n there).kinds
+
+pub told_narrow : (plan : PlanParts) → IsPlan plan → (i : ℕ) → i < length plan.nodes → (kinds : List Kind) → map cell_kind_of kinds ≡ kinds_at plan.schemas i → length kinds ≤ 32
+told_narrow plan whole i low kinds told =
+    let there = slice_get-get_or plan.nodes i (Source 0) low in
+    let narrow = (whole.nodes_are.each i (get_or plan.nodes i (Source 0)) there).narrow in
+    let count = length-map (slice_index_or plan.schemas i []) (λ c. cell_kind_of c.kind) in
+    let mapped = length-map kinds cell_kind_of in
+    let same = ap length told in
+    omega (arith, narrow, count, mapped, same)
+
+-- the right child of a join is a node of the plan, and the join is not too wide
+pub join_right : (plan : PlanParts) → IsPlan plan → (i left right : ℕ) (left_key right_key : List ℕ) → slice_get plan.nodes i ≡ Some (JoinNode left right left_key right_key) → right < length plan.nodes
+join_right plan whole i left right left_key right_key there =
+    let lower : right < i = (whole.nodes_are.each i (JoinNode left right left_key right_key) there).right_lower in
+    let low = slice_get_within plan.nodes i (JoinNode left right left_key right_key) there in
+    omega (arith, lower, low)
+
+join_kinds : (plan : PlanParts) (left right : ℕ) (left_key right_key : List ℕ) (l r : List Kind) → map cell_kind_of l ≡ left_kinds plan (JoinNode left right left_key right_key) → map cell_kind_of r ≡ kinds_at plan.schemas right →
+    map cell_kind_of (paired_row right_key l r) ≡ node_kinds (JoinNode left right left_key right_key) (left_kinds plan (JoinNode left right left_key right_key)) (right_kinds plan (JoinNode left right left_key right_key))
+join_kinds plan left right left_key right_key l r read told = sym (pair_mapped cell_kind_of right_key l r) ∙ (λ i. paired_row right_key (read i) (told i))
+
+pub join_narrow : (plan : PlanParts) → IsPlan plan → (i left right : ℕ) (left_key right_key : List ℕ) → slice_get plan.nodes i ≡ Some (JoinNode left right left_key right_key) → (l r : List Kind) →
+    map cell_kind_of l ≡ left_kinds plan (JoinNode left right left_key right_key) → map cell_kind_of r ≡ kinds_at plan.schemas right → length (paired_row right_key l r) ≤ 32
+join_narrow plan whole i left right left_key right_key there l r read told =
+    told_narrow plan whole i (slice_get_within plan.nodes i (JoinNode left right left_key right_key) there) (paired_row right_key l r)
+    (join_kinds plan left right left_key right_key l r read told ∙ sym (own_kinds_are plan whole i (JoinNode left right left_key right_key) there))
+
+join_alike : (left right : ℕ) (left_key right_key : List ℕ) → MeanAlike (JoinNode left right left_key right_key) (JoinNode 0 1 left_key right_key)
+join_alike left right left_key right_key = record { events = λ l r. refl; closes = λ x y. refl; undefined = λ rows. refl; held = λ x y hl hr. refl }
+
+pub join_starts : (plan : PlanParts) (capacity : ℕ) (l r : List Kind) (texts : List (List ℕ)) (left right : ℕ) (left_key right_key : List ℕ) (o : JoinOperator) →
+    o.sides.rows.left_key.items ≡ left_key → o.sides.rows.right_key.items ≡ right_key → o.left_kinds.items ≡ l → o.right_kinds.items ≡ r → o.own_kinds.items ≡ paired_row right_key l r → o.capacity ≡ capacity →
+    IsJoinOpening o.sides.rows.left.rows o.sides.rows.right.rows o.sides.left_waiting o.sides.right_waiting o.left_to o.right_to o.failed →
+    map cell_kind_of l ≡ left_kinds plan (JoinNode left right left_key right_key) → map cell_kind_of r ≡ kinds_at plan.schemas right → StartsFor texts capacity plan (JoinNode left right left_key right_key) (Join o)
+join_starts plan capacity l r texts left right left_key right_key o same_left same_right left_like right_like own_like rows opening read told = record {
+  ready = record {
+    node = subst (λ k. MeanAlike (JoinNode left right left_key right_key) (JoinNode 0 1 k o.sides.rows.right_key.items)) (sym same_left)
+        (subst (λ k. MeanAlike (JoinNode left right left_key right_key) (JoinNode 0 1 left_key k)) (sym same_right) (join_alike left right left_key right_key));
+    works = opening.works;
+    left_closed = opening.left_open;
+    right_closed = opening.right_open;
+    left_kinds = ap (map cell_kind_of) left_like ∙ read;
+    right_kinds = ap (map cell_kind_of) right_like ∙ told;
+    own_kinds = ap (map cell_kind_of) own_like ∙ join_kinds plan left right left_key right_key l r read told;
+    batch_rows = rows;
+  };
+  opens = join_opening o.sides.rows.left_key.items o.sides.rows.right_key.items (map cell_kind_of o.left_kinds.items) (map cell_kind_of o.right_kinds.items) texts o.left_to o.right_to o.sides.rows.left.rows o.sides.rows.right.rows
+      o.sides.left_waiting o.sides.right_waiting opening.left_empty opening.right_empty opening.none_left opening.none_right opening.left_open opening.right_open;
+}

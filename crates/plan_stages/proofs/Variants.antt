@@ -13,11 +13,12 @@ use Rattle.life_laws.specs.Uniting.{KeepsUnion}
 use Rattle.life_laws.specs.Extending.{KeepsExtended}
 use Rattle.lifetime_ops.specs.Nodes.{node_of}
 use Rattle.extend_op.specs.Waiting.{edges_of_pending}
+use Rattle.temporal_join.specs.Operating.{IsKept}
 use Rattle.plan_stages.specs.declared.stage.Stage.{Stage}
-use Rattle.plan_stages.specs.declared.stage.Stage.TheVariants.{Life, Union, Extend}
+use Rattle.plan_stages.specs.declared.stage.Stage.TheVariants.{Life, Union, Extend, Join}
 use Rattle.plan_stages.proofs.Operators.{operator_held}
 use Rattle.plan_stages.specs.Operating.{may_keep, Standing, Keeping, CanOperate, StaysOperating, KeepsOperating, OperatesUndefinedAt}
-use Rattle.plan_stages.specs.Stages.{life_standing, union_standing, extend_standing, IsReady, StageKeeps, StaysReady, KeepsOn, IsUndefinedAt, KeepsAtMost}
+use Rattle.plan_stages.specs.Stages.{life_standing, union_standing, extend_standing, IsReady, StageKeeps, StaysReady, KeepsOn, IsUndefinedAt, KeepsAtMost, join_standing}
 
 -- stages of this kind are ready and keep as their operators are and do
 pub record IsVariant {O : Type 0} (stage : O → Stage) (standing : O → Standing) (keeping : O → Keeping) : Type 0 where
@@ -69,3 +70,6 @@ union_variant = record { can = λ texts capacity left right n o x y h. h; ready 
 
 pub extend_variant : IsVariant Extend extend_standing (λ o texts hl hr out. KeepsExtended o.by texts o.left_to o.right_to o.carried.edges (edges_of_pending o.ends) hl hr out)
 extend_variant = record { can = λ texts capacity left right n o x y h. h; ready = λ texts capacity left right n o x y h. h; kept = λ texts n o x y hl hr out h. h; keeps = λ texts n o x y hl hr out h. h }
+
+pub join_variant : IsVariant Join join_standing (λ o texts hl hr out. IsKept o texts hl hr out)
+join_variant = record { can = λ texts capacity left right n o x y h. h; ready = λ texts capacity left right n o x y h. h; kept = λ texts n o x y hl hr out h. h; keeps = λ texts n o x y hl hr out h. h }

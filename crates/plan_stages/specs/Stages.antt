@@ -1,6 +1,7 @@
 -- Stages by the case of their node: when one can take a step, and what it keeps of the edges that came in and were answered.
-use Rattle.std.specs.Prelude.{◌≡◌, ℕ, ◌≤◌, zero, suc, Option, List, [], ◌++◌}
+use Rattle.std.specs.Prelude.{◌≡◌, ℕ, ◌≤◌, zero, suc, Option, List, [], ◌++◌, map}
 use Rattle.tw_rows.specs.Instant.{inf}
+use Rattle.tw_rows.specs.Kinds.{cell_kind_of}
 use Rattle.tw_rows.specs.declared.edge.Edge.{Edge}
 use Rattle.tw_rows.specs.declared.kind.CellKind.{CellKind}
 use Rattle.edge_history.specs.Order.{is_below, is_from, failing, IsHistory}
@@ -22,9 +23,11 @@ use Rattle.lifetime_ops.specs.declared.life_operator.LifeOperator.{LifeOperator}
 use Rattle.union_clip.specs.declared.union.UnionOperator.{UnionOperator}
 use Rattle.extend_op.specs.Waiting.{edges_of_pending}
 use Rattle.extend_op.specs.declared.extend.ExtendOperator.{ExtendOperator}
+use Rattle.temporal_join.specs.Operating.{IsKept}
+use Rattle.temporal_join.specs.declared.join.Join.{Join as JoinOperator}
 use Rattle.plan_stages.specs.declared.stage.Stage.{Stage}
-use Rattle.plan_stages.specs.declared.stage.Stage.TheVariants.{Rows, Life, Union, Extend}
-use Rattle.plan_model.specs.declared.node.Node.TheVariants.{Union as UnionNode, Extend as ExtendNode, Delay as DelayNode, Hop as HopNode, Duration as DurationNode}
+use Rattle.plan_stages.specs.declared.stage.Stage.TheVariants.{Rows, Life, Union, Extend, Join}
+use Rattle.plan_model.specs.declared.node.Node.TheVariants.{Union as UnionNode, Extend as ExtendNode, Delay as DelayNode, Hop as HopNode, Duration as DurationNode, Join as JoinNode}
 use Rattle.plan_stages.specs.Operating.{Standing, CanOperate}
 pub use Rattle.plan_stages.specs.Operating.{may_keep, first_undefined_read}
 
@@ -100,6 +103,18 @@ extend_standing o = record {
   has_failed = o.failed;
 }
 
+abbrev pub join_standing : JoinOperator → Standing
+join_standing o = record {
+  node = JoinNode 0 1 o.sides.rows.left_key.items o.sides.rows.right_key.items;
+  left_closed = o.left_to;
+  right_closed = o.right_to;
+  left_kinds = map cell_kind_of o.left_kinds.items;
+  right_kinds = map cell_kind_of o.right_kinds.items;
+  own_kinds = map cell_kind_of o.own_kinds.items;
+  batch_rows = o.capacity;
+  has_failed = o.failed;
+}
+
 -- the stage can take a step of the node, over lists of columns that are stored as `left` and `right`, in batches of the
 -- capacity, whose texts are read from the table; its sides are closed up to x and y
 abbrev pub IsReady : List (List ℕ) → ℕ → List CellKind → List CellKind → Node → Stage → ℕ → ℕ → Type 0
@@ -107,6 +122,7 @@ IsReady texts capacity left right n (Rows s) x y = IsStageOf texts capacity left
 IsReady texts capacity left right n (Life o) x y = CanOperate capacity left right n (life_standing o) x y
 IsReady texts capacity left right n (Union o) x y = CanOperate capacity left right n (union_standing o) x y
 IsReady texts capacity left right n (Extend o) x y = CanOperate capacity left right n (extend_standing o) x y
+IsReady texts capacity left right n (Join o) x y = CanOperate capacity left right n (join_standing o) x y
 
 -- the stage can take a step of some node over these two lists, which closes its sides up to u and v
 pub record CanTake (texts : List (List ℕ)) (left right : EdgeListView) (s : Stage) (u v : ℕ) : Type 0 where
@@ -129,6 +145,7 @@ StageKeeps texts n (Rows s) x y hl hr out = HasMade texts n x hl out
 StageKeeps texts n (Life o) x y hl hr out = KeepsLives (node_of o.change) texts o.left_to o.right_to o.carried.edges hl hr out
 StageKeeps texts n (Union o) x y hl hr out = KeepsUnion texts o.left_to o.right_to o.left.edges o.right.edges hl hr out
 StageKeeps texts n (Extend o) x y hl hr out = KeepsExtended o.by texts o.left_to o.right_to o.carried.edges (edges_of_pending o.ends) hl hr out
+StageKeeps texts n (Join o) x y hl hr out = IsKept o texts hl hr out
 
 -- what is asked of what was kept and of two lists, so that a step keeps it: the lists come on the sides that the stage is
 -- closed up to, and close them up to u and v

@@ -3,6 +3,7 @@ ghost use Rattle.std.specs.Prelude.{◌≡◌, ◌<◌, ◌≤◌, ℕ, true, So
 ghost use Rattle.tw_rows.specs.Kinds.{cell_kind_of};
 ghost use Rattle.tw_rows.specs.Texts.{BeginsWith};
 ghost use Rattle.plan_model.specs.declared.node.Node.{Node};
+ghost use Rattle.plan_model.specs.IsPlan.{kinds_at, kinds_of_schema};
 ghost use Rattle.node_stage.specs.Stages.{is_of_rows};
 ghost use Rattle.plan_stages.specs.Stages.{left_kinds, changing, StartsFor};
 
@@ -12,7 +13,8 @@ use lifetime_ops::{Change, LifeOperator};
 use node_stage::read_kinds;
 use plan_model::Plan;
 use std::alloc::Global;
-use tw_rows::{Kind, Memory, TextTable};
+use temporal_join::Join;
+use tw_rows::{Kind, Memory, Schema, TextTable};
 use union_clip::UnionOperator;
 
 // The kinds of the columns that a node of the plan reads on the left.
@@ -24,6 +26,28 @@ fn kinds_read(alloc: Global, plan: &Plan, node: usize) -> Result<Vec<Kind>, Memo
     let nodes = plan.nodes();
     let kinds = read_kinds(alloc, plan, node)?;
     prove!(node < nodes.len());
+    Ok(kinds)
+}
+
+// The kinds of the columns of a node of the plan.
+fn kinds_told(alloc: Global, plan: &Plan, node: usize) -> Result<Vec<Kind>, Memory>
+    requires { node < length plan.now.nodes }
+    ensures kinds { IfOk result (λ v. map cell_kind_of v.items ≡ kinds_at plan.now.schemas node) }
+    ensures width { IfOk result (λ v. length v.items ≤ 32) }
+{
+    let schemas = plan.schemas();
+    let kinds = column_kinds(alloc, &schemas[node])?;
+    Ok(kinds)
+}
+
+// The kinds of the columns of a schema.
+fn column_kinds(alloc: Global, schema: &Schema) -> Result<Vec<Kind>, Memory>
+    ensures { IfOk result (λ v. map cell_kind_of v.items ≡ kinds_of_schema schema.now) }
+{
+    let mut kinds = Vec::new(alloc);
+    for column in schema.items() {
+        kinds.push(column.kind)?;
+    }
     Ok(kinds)
 }
 
@@ -98,4 +122,34 @@ pub(crate) fn extend_stage(
     let kinds = kinds_read(alloc, plan, node)?;
     let operator = ExtendOperator::new(alloc, by, &kinds, capacity)?;
     Ok(Stage::Extend(operator))
+}
+
+/// The stage of a Join of the plan, by these keys of the left and of the right child.
+pub(crate) fn join_stage(
+    alloc: Global,
+    plan: &Plan,
+    node: usize,
+    right: usize,
+    left_key: &[usize],
+    right_key: &[usize],
+    capacity: usize,
+) -> Result<Stage, Memory>
+    requires node { node < length plan.now.nodes }
+    requires room { 1 ≤ capacity }
+    requires is { (n : Node) → slice_get plan.now.nodes node ≡ Some n → (left : ℕ) × (n ≡ Node.Join left right left_key.now right_key.now) }
+    ensures { IfOk result (λ s. (texts : List (List ℕ)) (n : Node) → slice_get plan.now.nodes node ≡ Some n → StartsFor texts capacity plan.now n s) }
+{
+    // Its call tells the proof what a plan keeps.
+    let _ = plan.nodes();
+    let left_kinds = kinds_read(alloc, plan, node)?;
+    let right_kinds = kinds_told(alloc, plan, right)?;
+    let operator = Join::new(
+        alloc,
+        left_key,
+        right_key,
+        &left_kinds,
+        &right_kinds,
+        capacity,
+    )?;
+    Ok(Stage::Join(operator))
 }

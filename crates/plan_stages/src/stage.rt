@@ -8,7 +8,7 @@ ghost use Rattle.node_laws.specs.Places.{EdgesArePlaced};
 ghost use Rattle.plan_stages.specs.Stages.{left_kinds, right_kinds, IsReady, CanTake, StageKeeps, StaysReady, KeepsOn, IsUndefinedAt, IsAnswerOf, KeepsAtMost};
 
 use crate::any_operator::step_operator;
-use crate::making::{extend_stage, life_stage, rows_stage, union_stage};
+use crate::making::{extend_stage, join_stage, life_stage, rows_stage, union_stage};
 use batch::Pools;
 use edge_stream::{EdgeList, StepFault};
 use extend_op::ExtendOperator;
@@ -16,6 +16,7 @@ use lifetime_ops::{Change, LifeOperator};
 use operator::Operator;
 use plan_model::{Node, Plan};
 use std::alloc::Global;
+use temporal_join::Join;
 use tw_rows::{Memory, TextTable, Time};
 use union_clip::UnionOperator;
 
@@ -31,6 +32,8 @@ pub enum Stage {
     Union(UnionOperator),
     /// Of an Extend.
     Extend(ExtendOperator),
+    /// Of a Join.
+    Join(Join),
 }
 
 impl Stage {
@@ -67,6 +70,20 @@ impl Stage {
             }
             Node::Union { .. } => union_stage(alloc, plan, node, capacity),
             Node::Extend { by, .. } => extend_stage(alloc, plan, node, *by, capacity),
+            Node::Join {
+                right,
+                left_key,
+                right_key,
+                ..
+            } => join_stage(
+                alloc,
+                plan,
+                node,
+                *right,
+                left_key.items(),
+                right_key.items(),
+                capacity,
+            ),
             _ => rows_stage(alloc, plan, node, capacity, texts),
         }
     }
@@ -107,6 +124,9 @@ impl Stage {
             Stage::Extend(operator) => {
                 step_operator(operator, pools, left, right, left_to, right_to)
             }
+            Stage::Join(operator) => {
+                step_operator(operator, pools, left, right, left_to, right_to)
+            }
         }
     }
 
@@ -119,6 +139,7 @@ impl Stage {
             Stage::Life(operator) => operator.held(),
             Stage::Union(operator) => operator.held(),
             Stage::Extend(operator) => operator.held(),
+            Stage::Join(operator) => operator.held(),
         }
     }
 }

@@ -30,4 +30,4 @@ returns c =
     let bound = c.loop-i.auto.i-end in
     let end : c.loop-i.i ≡ length stages = omega (arith, test, bound) in
     held_all stages c.loop-i.held.items (before.count ∙ end)
-        (subst (λ k. (j : ℕ) (s : Stage) (d : ℕ × ℕ) → j < k → (h : ℕ) × ((get_or c.loop-i.held.items j d ≡ (j, h)) × KeepsAtMost h (get_or stages j s))) end before.each)
+    (subst (λ k. (j : ℕ) (s : Stage) (d : ℕ × ℕ) → j < k → (h : ℕ) × ((get_or c.loop-i.held.items j d ≡ (j, h)) × KeepsAtMost h (get_or stages j s))) end before.each)

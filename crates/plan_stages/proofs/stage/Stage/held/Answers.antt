@@ -1,4 +1,4 @@
-use Rattle.plan_stages.proofs.Variants.{variant_held, life_variant, union_variant, extend_variant}
+use Rattle.plan_stages.proofs.Variants.{variant_held, life_variant, union_variant, extend_variant, join_variant}
 use Rattle.plan_stages.proofs.stage.Stage.held.Goals as goal
 
 pub returns-in-Life : goal.returns-in-Life
@@ -9,3 +9,6 @@ returns-in-Union c = variant_held _ _ _ union_variant c.args.self.now c.in-Union
 
 pub returns-in-Extend : goal.returns-in-Extend
 returns-in-Extend c = variant_held _ _ _ extend_variant c.args.self.now c.in-Extend.operator c.in-Extend.is c.held-in-Extend.result c.held-in-Extend.ensures
+
+pub returns-in-Join : goal.returns-in-Join
+returns-in-Join c = variant_held _ _ _ join_variant c.args.self.now c.in-Join.operator c.in-Join.is c.held-in-Join.result c.held-in-Join.ensures

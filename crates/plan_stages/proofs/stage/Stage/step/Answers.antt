@@ -1,4 +1,4 @@
-use Rattle.plan_stages.proofs.Variants.{variant_ready, variant_kept, variant_defined, variant_overflow, life_variant, union_variant, extend_variant}
+use Rattle.plan_stages.proofs.Variants.{variant_ready, variant_kept, variant_defined, variant_overflow, life_variant, union_variant, extend_variant, join_variant}
 use Rattle.plan_stages.proofs.stage.Stage.step.Goals as goal
 
 pub returns-in-Life-clause-ready : goal.returns-in-Life-clause-ready
@@ -48,3 +48,19 @@ returns-in-Extend-clause-defined c =
 pub returns-in-Extend-clause-overflow : goal.returns-in-Extend-clause-overflow
 returns-in-Extend-clause-overflow c =
     variant_overflow _ _ _ extend_variant c.args.texts.now c.args.left c.args.right c.args.self.now c.in-Extend.operator c.step_operator-in-Extend.new.operator c.in-Extend.is c.args.left_to c.args.right_to c.step_operator-in-Extend.result c.step_operator-in-Extend.ensures.overflow
+
+pub returns-in-Join-clause-ready : goal.returns-in-Join-clause-ready
+returns-in-Join-clause-ready c =
+    variant_ready _ _ _ join_variant c.args.texts.now c.args.left c.args.right c.args.self.now c.in-Join.operator c.step_operator-in-Join.new.operator c.in-Join.is c.args.left_to c.args.right_to c.step_operator-in-Join.result c.step_operator-in-Join.ensures.ready
+
+pub returns-in-Join-clause-kept : goal.returns-in-Join-clause-kept
+returns-in-Join-clause-kept c =
+    variant_kept _ _ _ join_variant c.args.texts.now c.args.left c.args.right c.args.self.now c.in-Join.operator c.step_operator-in-Join.new.operator c.in-Join.is c.args.left_to c.args.right_to c.step_operator-in-Join.result c.step_operator-in-Join.ensures.kept
+
+pub returns-in-Join-clause-defined : goal.returns-in-Join-clause-defined
+returns-in-Join-clause-defined c =
+    variant_defined _ _ _ join_variant c.args.texts.now c.args.left c.args.right c.args.self.now c.in-Join.operator c.step_operator-in-Join.new.operator c.in-Join.is c.args.left_to c.args.right_to c.step_operator-in-Join.result c.step_operator-in-Join.ensures.defined
+
+pub returns-in-Join-clause-overflow : goal.returns-in-Join-clause-overflow
+returns-in-Join-clause-overflow c =
+    variant_overflow _ _ _ join_variant c.args.texts.now c.args.left c.args.right c.args.self.now c.in-Join.operator c.step_operator-in-Join.new.operator c.in-Join.is c.args.left_to c.args.right_to c.step_operator-in-Join.result c.step_operator-in-Join.ensures.overflow
