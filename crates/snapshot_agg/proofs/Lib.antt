@@ -7,6 +7,7 @@ pub mod Sweeping
 pub mod Undefining
 pub mod Answering
 pub mod Stepping
+pub mod Standing
 pub mod Few
 pub mod Reloading
 pub mod Examples

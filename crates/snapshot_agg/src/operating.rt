@@ -121,7 +121,5 @@ impl Operator for Grouped {
         }
     }
 
-    fn laws() {
-        groups_stand_for_their_node();
-    }
+    fn laws() {}
 }
