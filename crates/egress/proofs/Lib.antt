@@ -8,6 +8,7 @@ mod Opened
 mod Ending
 mod Passes
 mod Shown
+mod Single
 mod Reaching
 mod Sweeps
 mod Putting
