@@ -14,5 +14,10 @@ mod Sweeps
 mod Putting
 pub mod Taking
 mod TakingOne
+mod Entries
+mod Copies
+mod SavedEnds
+mod SavedInstants
+mod SavedAll
 mod Placing
 mod Examples
