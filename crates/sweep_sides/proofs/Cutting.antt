@@ -1,11 +1,7 @@
 -- Lists that are cut.
 use Rattle.std.specs.Prelude.{◌≡◌, ℕ, zero, suc, ◌≤◌, not, Bool, true, false, List, [], ◌∷◌, length, drop, refl}
 use Rattle.std.specs.Prelude.{map, get_or, ◌<◌}
-use Rattle.std.proofs.Common.{arith, ap, sym, ◌∙◌}
-use Rattle.tw_rows.specs.declared.kind.Kind.{Kind}
-use Rattle.tw_rows.specs.declared.cells.Datum.{Datum}
-use Rattle.tw_rows.specs.Kinds.{cell_kind_of}
-use Rattle.tw_rows.specs.Cells.{datum_kind}
+use Rattle.std.proofs.Common.{arith, ap}
 
 pub no_not : (b : Bool) → not b ≡ false → b ≡ true
 no_not true h = refl

@@ -21,13 +21,13 @@ use Rattle.tw_rows.proofs.Bags.{total-append, total-map, total-flat_map, total_z
 use Rattle.edge_history.specs.History.{of}
 use Rattle.edge_history.specs.Side.{reaches}
 use Rattle.edge_history.specs.Order.{failing, many, is_real, is_end, is_below, is_from, IsReal, IsHistory}
-use Rattle.edge_history.specs.Balance.{is_single, given, start_edge, end_edge}
+use Rattle.edge_history.specs.Balance.{is_single}
 use Rattle.edge_history.specs.Opens.{singles_of, singles, opens, started_of, started_rows}
 use Rattle.edge_history.proofs.Waiting.{side_bound}
-use Rattle.edge_history.proofs.Sums.{weaker, sum_eq, failing-both, failing-append, failing-same}
+use Rattle.edge_history.proofs.Sums.{weaker, sum_eq, failing-both, failing-append}
 use Rattle.edge_stream.specs.declared.saved.SavedEntry.{SavedEntry}
 use Rattle.carried_edges.specs.Entries.{entries_of}
-use Rattle.carried_edges.proofs.Parts.{none_fails, all_pass}
+use Rattle.carried_edges.proofs.Parts.{none_fails}
 use Rattle.end_queue.specs.Pending.{Pending}
 use Rattle.sweep_sides.specs.Waiting.{queued, AreTimed}
 use Rattle.sweep_sides.specs.Saving.{stores, store_all, starts_of, rows_of, is_row_start, may_wait, IsSide}

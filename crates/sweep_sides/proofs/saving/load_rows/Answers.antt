@@ -1,5 +1,4 @@
-use Rattle.std.proofs.Common.{◌∙◌, map, ap, sym, subst}
-use Rattle.tw_rows.specs.Bag.{SameBag}
+use Rattle.std.proofs.Common.{◌∙◌, map, ap, sym}
 use Rattle.tw_rows.specs.Kinds.{cell_kind_of}
 use Rattle.sweep_sides.specs.Saving.{are_row_starts}
 use Rattle.sweep_sides.proofs.KeptSides.{rows_loaded}

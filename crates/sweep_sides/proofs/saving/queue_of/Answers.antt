@@ -1,4 +1,3 @@
-use Rattle.std.proofs.Common.{sym, ap}
 use Rattle.sweep_sides.proofs.KeptSides.{edge_more}
 use Rattle.sweep_sides.proofs.saving.queue_of.Goals as goal
 

@@ -1,6 +1,4 @@
-use Rattle.std.proofs.Common.{◌≡◌, ◌∙◌, ap, sym}
-use Rattle.tw_rows.specs.Bag.{total}
-use Rattle.sweep_sides.specs.Saving.{rows_of}
+use Rattle.std.proofs.Common.{◌∙◌}
 use Rattle.sweep_sides.proofs.KeptSides.{row_more, all_rows}
 use Rattle.sweep_sides.proofs.saving.rows_started.Goals as goal
 

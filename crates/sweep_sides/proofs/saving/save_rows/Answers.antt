@@ -1,7 +1,4 @@
-use Rattle.std.proofs.Common.{◌∙◌, ap, ◌++◌, arith}
-use Rattle.std.specs.Prelude.{flat_map, take}
-use Rattle.carried_edges.specs.Entries.{entries_of}
-use Rattle.sweep_sides.specs.Saving.{starts_of}
+use Rattle.std.proofs.Common.{arith}
 use Rattle.sweep_sides.proofs.KeptSides.{block_next, all_blocks}
 use Rattle.sweep_sides.proofs.saving.save_rows.Goals as goal
 
