@@ -5,5 +5,8 @@ pub mod PuttingOff
 pub mod Rerunning
 pub mod Sweeping
 pub mod Undefining
+pub mod Answering
 pub mod Stepping
+pub mod Few
+pub mod Reloading
 pub mod Examples
