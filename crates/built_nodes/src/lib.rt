@@ -20,6 +20,7 @@ pub fn built(node: &Node) -> bool
             | Node::Hop { .. }
             | Node::Duration { .. }
             | Node::Extend { .. }
+            | Node::Group { .. }
             | Node::Join { .. }
     )
 }

@@ -1,4 +1,5 @@
 mod Examples
+pub mod Grouping
 pub mod Operators
 pub mod Starting
 pub mod Variants

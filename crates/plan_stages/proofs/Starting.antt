@@ -9,7 +9,7 @@ use Rattle.tw_rows.specs.declared.kind.Kind.{Kind}
 use Rattle.tw_rows.specs.declared.schema.StreamDef.{StreamDef}
 use Rattle.edge_stream.specs.Listing.{EdgeListView, cells_of}
 use Rattle.plan_model.specs.declared.node.Node.{Node}
-use Rattle.plan_model.specs.declared.node.Node.TheVariants.{Source, Where, Select, Union as UnionNode, Delay as DelayNode, Hop as HopNode, Duration as DurationNode, Extend as ExtendNode, Session, Clip, Group, Join as JoinNode, Anti, Coalesce, Mean, Top, Follow}
+use Rattle.plan_model.specs.declared.node.Node.TheVariants.{Source, Where, Select, Union as UnionNode, Delay as DelayNode, Hop as HopNode, Duration as DurationNode, Extend as ExtendNode, Session, Clip, Group as GroupNode, Join as JoinNode, Anti, Coalesce, Mean, Top, Follow}
 use Rattle.plan_model.specs.IsPlan.{PlanParts, IsPlan, kinds_at, kinds_of_schema, kinds_of_stream, node_kinds}
 use Rattle.plan_model.specs.Shape.{Shape, Stream, One, Two, shape, left_in, read_left, HasLower}
 use Rattle.built_nodes.specs.Built.{is_built}
@@ -29,7 +29,12 @@ use Rattle.temporal_join.specs.States.{IsOpening as IsJoinOpening}
 use Rattle.temporal_join.specs.declared.join.Join.{Join as JoinOperator}
 use Rattle.temporal_join.proofs.Answering.{pair_mapped}
 use Rattle.temporal_join.proofs.Resuming.{join_opening}
-use Rattle.plan_stages.specs.declared.stage.Stage.TheVariants.{Life, Union, Extend, Join}
+use Rattle.plan_model.specs.declared.agg.Agg.{Agg}
+use Rattle.snapshot_agg.specs.Answering.{group_kinds}
+use Rattle.snapshot_agg.specs.Keeping.{IsOpening}
+use Rattle.snapshot_agg.specs.declared.grouped.Grouped.{Grouped}
+use Rattle.plan_stages.proofs.Grouping.{grouped_opens}
+use Rattle.plan_stages.specs.declared.stage.Stage.TheVariants.{Life, Union, Extend, Join, Group}
 use Rattle.plan_stages.specs.Operating.{MeanAlike}
 use Rattle.plan_stages.specs.Stages.{left_kinds, right_kinds, changing, StartsFor}
 
@@ -70,24 +75,24 @@ module _ (plan : PlanParts) (whole : IsPlan plan) where
 
 -- of the nodes that are built those that no other stage computes are of rows
 pub rows_left : (n : Node) → is_built n ≡ true → ((left right : ℕ) → n ≡ UnionNode left right → ⊥) → ((of by : ℕ) → n ≡ DelayNode of by → ⊥) → ((of size period : ℕ) → n ≡ HopNode of size period → ⊥) →
-    ((of by : ℕ) → n ≡ DurationNode of by → ⊥) → ((of by : ℕ) → n ≡ ExtendNode of by → ⊥) → ((left right : ℕ) (left_key right_key : List ℕ) → n ≡ JoinNode left right left_key right_key → ⊥) → is_of_rows n ≡ true
-rows_left (Source stream) built u d h l e j = refl
-rows_left (Where of test) built u d h l e j = refl
-rows_left (Select of items) built u d h l e j = refl
-rows_left (UnionNode left right) built u d h l e j = absurd (u left right refl)
-rows_left (DelayNode of by) built u d h l e j = absurd (d of by refl)
-rows_left (HopNode of size period) built u d h l e j = absurd (h of size period refl)
-rows_left (DurationNode of by) built u d h l e j = absurd (l of by refl)
-rows_left (ExtendNode of by) built u d h l e j = absurd (e of by refl)
-rows_left (Session of timeout key) built u d h l e j = absurd (cc)
-rows_left (Clip left right left_key right_key) built u d h l e j = absurd (cc)
-rows_left (Group of key aggs) built u d h l e j = absurd (cc)
-rows_left (JoinNode left right left_key right_key) built u d h l e j = absurd (j left right left_key right_key refl)
-rows_left (Anti left right left_key right_key) built u d h l e j = absurd (cc)
-rows_left (Coalesce of) built u d h l e j = absurd (cc)
-rows_left (Mean of at) built u d h l e j = absurd (cc)
-rows_left (Top of key by count) built u d h l e j = absurd (cc)
-rows_left (Follow left right left_key right_key within) built u d h l e j = absurd (cc)
+    ((of by : ℕ) → n ≡ DurationNode of by → ⊥) → ((of by : ℕ) → n ≡ ExtendNode of by → ⊥) → ((left right : ℕ) (left_key right_key : List ℕ) → n ≡ JoinNode left right left_key right_key → ⊥) → ((of : ℕ) (key : List ℕ) (aggs : List Agg) → n ≡ GroupNode of key aggs → ⊥) → is_of_rows n ≡ true
+rows_left (Source stream) built u d h l e j g = refl
+rows_left (Where of test) built u d h l e j g = refl
+rows_left (Select of items) built u d h l e j g = refl
+rows_left (UnionNode left right) built u d h l e j g = absurd (u left right refl)
+rows_left (DelayNode of by) built u d h l e j g = absurd (d of by refl)
+rows_left (HopNode of size period) built u d h l e j g = absurd (h of size period refl)
+rows_left (DurationNode of by) built u d h l e j g = absurd (l of by refl)
+rows_left (ExtendNode of by) built u d h l e j g = absurd (e of by refl)
+rows_left (Session of timeout key) built u d h l e j g = absurd (cc)
+rows_left (Clip left right left_key right_key) built u d h l e j g = absurd (cc)
+rows_left (GroupNode of key aggs) built u d h l e j g = absurd (g of key aggs refl)
+rows_left (JoinNode left right left_key right_key) built u d h l e j g = absurd (j left right left_key right_key refl)
+rows_left (Anti left right left_key right_key) built u d h l e j g = absurd (cc)
+rows_left (Coalesce of) built u d h l e j g = absurd (cc)
+rows_left (Mean of at) built u d h l e j g = absurd (cc)
+rows_left (Top of key by count) built u d h l e j g = absurd (cc)
+rows_left (Follow left right left_key right_key within) built u d h l e j g = absurd (cc)
 
 -- a list that was just made
 abbrev pub fresh_list : List Kind → ℕ → EdgeListView
@@ -212,4 +217,30 @@ join_starts plan capacity l r texts left right left_key right_key o same_left sa
   };
   opens = join_opening o.sides.rows.left_key.items o.sides.rows.right_key.items (map cell_kind_of o.left_kinds.items) (map cell_kind_of o.right_kinds.items) texts o.left_to o.right_to o.sides.rows.left.rows o.sides.rows.right.rows
       o.sides.left_waiting o.sides.right_waiting opening.left_empty opening.right_empty opening.none_left opening.none_right opening.left_open opening.right_open;
+}
+
+-- the columns of a group follow from those of its child
+pub group_like : (plan : PlanParts) → IsPlan plan → (i of : ℕ) (key : List ℕ) (aggs : List Agg) → slice_get plan.nodes i ≡ Some (GroupNode of key aggs) → (l own : List Kind) →
+    map cell_kind_of l ≡ left_kinds plan (GroupNode of key aggs) → map cell_kind_of own ≡ kinds_at plan.schemas i → map cell_kind_of own ≡ group_kinds key aggs (map cell_kind_of l)
+group_like plan whole i of key aggs there l own read told = told ∙ own_kinds_are plan whole i (GroupNode of key aggs) there ∙ ap (group_kinds key aggs) (sym read)
+
+group_alike : (of : ℕ) (key : List ℕ) (aggs : List Agg) → MeanAlike (GroupNode of key aggs) (GroupNode 0 key aggs)
+group_alike of key aggs = record { events = λ l r. refl; closes = λ x y. refl; undefined = λ rows. refl; held = λ x y hl hr. refl }
+
+pub group_starts : (plan : PlanParts) → IsPlan plan → (i capacity : ℕ) (left own : List Kind) (texts : List (List ℕ)) (of : ℕ) (key : List ℕ) (aggs : List Agg) → slice_get plan.nodes i ≡ Some (GroupNode of key aggs) →
+    (o : Grouped) → o.groups.key.items ≡ key → o.groups.aggs.items ≡ aggs → o.left_kinds.items ≡ left → o.kinds.items ≡ own → o.capacity ≡ capacity →
+    IsOpening o.groups.rows.rows o.running o.waiting o.left_to o.right_to o.failed → map cell_kind_of left ≡ left_kinds plan (GroupNode of key aggs) → map cell_kind_of own ≡ kinds_at plan.schemas i →
+    StartsFor texts capacity plan (GroupNode of key aggs) (Group o)
+group_starts plan whole i capacity left own texts of key aggs there o same_key same_aggs left_like own_like rows opening read told = record {
+  ready = record {
+    node = subst (λ k. MeanAlike (GroupNode of key aggs) (GroupNode 0 k o.groups.aggs.items)) (sym same_key) (subst (λ a. MeanAlike (GroupNode of key aggs) (GroupNode 0 key a)) (sym same_aggs) (group_alike of key aggs));
+    works = opening.works;
+    left_closed = opening.left;
+    right_closed = opening.right;
+    left_kinds = ap (map cell_kind_of) left_like ∙ read;
+    right_kinds = refl;
+    own_kinds = ap (map cell_kind_of) own_like ∙ told ∙ own_kinds_are plan whole i (GroupNode of key aggs) there;
+    batch_rows = rows;
+  };
+  opens = grouped_opens o.groups.key.items o.groups.aggs.items texts o.groups.rows.rows o.running o.waiting o.left_to o.right_to o.failed opening;
 }

@@ -25,9 +25,11 @@ use Rattle.extend_op.specs.Waiting.{edges_of_pending}
 use Rattle.extend_op.specs.declared.extend.ExtendOperator.{ExtendOperator}
 use Rattle.temporal_join.specs.Operating.{IsKept}
 use Rattle.temporal_join.specs.declared.join.Join.{Join as JoinOperator}
+use Rattle.snapshot_agg.specs.Keeping.{KeepsGrouped}
+use Rattle.snapshot_agg.specs.declared.grouped.Grouped.{Grouped}
 use Rattle.plan_stages.specs.declared.stage.Stage.{Stage}
-use Rattle.plan_stages.specs.declared.stage.Stage.TheVariants.{Rows, Life, Union, Extend, Join}
-use Rattle.plan_model.specs.declared.node.Node.TheVariants.{Union as UnionNode, Extend as ExtendNode, Delay as DelayNode, Hop as HopNode, Duration as DurationNode, Join as JoinNode}
+use Rattle.plan_stages.specs.declared.stage.Stage.TheVariants.{Rows, Life, Union, Extend, Join, Group}
+use Rattle.plan_model.specs.declared.node.Node.TheVariants.{Union as UnionNode, Extend as ExtendNode, Delay as DelayNode, Hop as HopNode, Duration as DurationNode, Join as JoinNode, Group as GroupNode}
 use Rattle.plan_stages.specs.Operating.{Standing, CanOperate}
 pub use Rattle.plan_stages.specs.Operating.{may_keep, first_undefined_read}
 
@@ -115,6 +117,18 @@ join_standing o = record {
   has_failed = o.failed;
 }
 
+abbrev pub group_standing : Grouped → Standing
+group_standing o = record {
+  node = GroupNode 0 o.groups.key.items o.groups.aggs.items;
+  left_closed = o.left_to;
+  right_closed = o.right_to;
+  left_kinds = map cell_kind_of o.left_kinds.items;
+  right_kinds = [];
+  own_kinds = map cell_kind_of o.kinds.items;
+  batch_rows = o.capacity;
+  has_failed = o.failed;
+}
+
 -- the stage can take a step of the node, over lists of columns that are stored as `left` and `right`, in batches of the
 -- capacity, whose texts are read from the table; its sides are closed up to x and y
 abbrev pub IsReady : List (List ℕ) → ℕ → List CellKind → List CellKind → Node → Stage → ℕ → ℕ → Type 0
@@ -123,6 +137,7 @@ IsReady texts capacity left right n (Life o) x y = CanOperate capacity left righ
 IsReady texts capacity left right n (Union o) x y = CanOperate capacity left right n (union_standing o) x y
 IsReady texts capacity left right n (Extend o) x y = CanOperate capacity left right n (extend_standing o) x y
 IsReady texts capacity left right n (Join o) x y = CanOperate capacity left right n (join_standing o) x y
+IsReady texts capacity left right n (Group o) x y = CanOperate capacity left right n (group_standing o) x y
 
 -- the stage can take a step of some node over these two lists, which closes its sides up to u and v
 pub record CanTake (texts : List (List ℕ)) (left right : EdgeListView) (s : Stage) (u v : ℕ) : Type 0 where
@@ -146,6 +161,7 @@ StageKeeps texts n (Life o) x y hl hr out = KeepsLives (node_of o.change) texts 
 StageKeeps texts n (Union o) x y hl hr out = KeepsUnion texts o.left_to o.right_to o.left.edges o.right.edges hl hr out
 StageKeeps texts n (Extend o) x y hl hr out = KeepsExtended o.by texts o.left_to o.right_to o.carried.edges (edges_of_pending o.ends) hl hr out
 StageKeeps texts n (Join o) x y hl hr out = IsKept o texts hl hr out
+StageKeeps texts n (Group o) x y hl hr out = KeepsGrouped o.groups.key.items o.groups.aggs.items texts o.groups.rows.rows o.running o.waiting o.left_to hl hr out
 
 -- what is asked of what was kept and of two lists, so that a step keeps it: the lists come on the sides that the stage is
 -- closed up to, and close them up to u and v

@@ -29,9 +29,13 @@ pub struct Dataflow {
 }
 
 impl Model for Dataflow {
+    ghost use Rattle.std.specs.Coded.{codes};
+    ghost use Rattle.plan_stages.specs.contracts.stage.Stage as stage;
     ghost use Rattle.plan_stages.specs.Flows.{DataflowView};
 
     ghost Value = { DataflowView };
+
+    ghost coded = { Prim.hlevel (codes, stage.the_row.coded) };
 
     ghost view = { λ d. record { plan = d.plan; stages = d.stages.items; capacity = d.pools.capacity; limit = d.pools.limit } };
 }

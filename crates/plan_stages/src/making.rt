@@ -11,7 +11,8 @@ use crate::stage::Stage;
 use extend_op::ExtendOperator;
 use lifetime_ops::{Change, LifeOperator};
 use node_stage::read_kinds;
-use plan_model::Plan;
+use plan_model::{Agg, Plan};
+use snapshot_agg::Grouped;
 use std::alloc::Global;
 use temporal_join::Join;
 use tw_rows::{Kind, Memory, Schema, TextTable};
@@ -152,4 +153,26 @@ pub(crate) fn join_stage(
         capacity,
     )?;
     Ok(Stage::Join(operator))
+}
+
+/// The stage of a Group of the plan, by this key and with these aggregates.
+pub(crate) fn group_stage(
+    alloc: Global,
+    plan: &Plan,
+    node: usize,
+    key: &[usize],
+    aggs: &[Agg],
+    capacity: usize,
+) -> Result<Stage, Memory>
+    requires node { node < length plan.now.nodes }
+    requires room { 1 ≤ capacity }
+    requires is { (n : Node) → slice_get plan.now.nodes node ≡ Some n → (of : ℕ) × (n ≡ Node.Group of key.now aggs.now) }
+    ensures { IfOk result (λ s. (texts : List (List ℕ)) (n : Node) → slice_get plan.now.nodes node ≡ Some n → StartsFor texts capacity plan.now n s) }
+{
+    // Its call tells the proof what a plan keeps.
+    let _ = plan.nodes();
+    let left = kinds_read(alloc, plan, node)?;
+    let own = kinds_told(alloc, plan, node)?;
+    let operator = Grouped::new(alloc, key, aggs, &left, &own, capacity)?;
+    Ok(Stage::Group(operator))
 }

@@ -8,13 +8,14 @@ ghost use Rattle.node_laws.specs.Places.{EdgesArePlaced};
 ghost use Rattle.plan_stages.specs.Stages.{left_kinds, right_kinds, IsReady, CanTake, StageKeeps, StaysReady, KeepsOn, IsUndefinedAt, IsAnswerOf, KeepsAtMost};
 
 use crate::any_operator::step_operator;
-use crate::making::{extend_stage, join_stage, life_stage, rows_stage, union_stage};
+use crate::making::{extend_stage, group_stage, join_stage, life_stage, rows_stage, union_stage};
 use batch::Pools;
 use edge_stream::{EdgeList, StepFault};
 use extend_op::ExtendOperator;
 use lifetime_ops::{Change, LifeOperator};
 use operator::Operator;
 use plan_model::{Node, Plan};
+use snapshot_agg::Grouped;
 use std::alloc::Global;
 use temporal_join::Join;
 use tw_rows::{Memory, TextTable, Time};
@@ -34,6 +35,8 @@ pub enum Stage {
     Extend(ExtendOperator),
     /// Of a Join.
     Join(Join),
+    /// Of a Group.
+    Group(Grouped),
 }
 
 impl Stage {
@@ -84,6 +87,9 @@ impl Stage {
                 right_key.items(),
                 capacity,
             ),
+            Node::Group { key, aggs, .. } => {
+                group_stage(alloc, plan, node, key.items(), aggs.items(), capacity)
+            }
             _ => rows_stage(alloc, plan, node, capacity, texts),
         }
     }
@@ -127,6 +133,9 @@ impl Stage {
             Stage::Join(operator) => {
                 step_operator(operator, pools, left, right, left_to, right_to)
             }
+            Stage::Group(operator) => {
+                step_operator(operator, pools, left, right, left_to, right_to)
+            }
         }
     }
 
@@ -140,6 +149,7 @@ impl Stage {
             Stage::Union(operator) => operator.held(),
             Stage::Extend(operator) => operator.held(),
             Stage::Join(operator) => operator.held(),
+            Stage::Group(operator) => operator.held(),
         }
     }
 }

@@ -1,4 +1,4 @@
-use Rattle.plan_stages.proofs.Variants.{variant_held, life_variant, union_variant, extend_variant, join_variant}
+use Rattle.plan_stages.proofs.Variants.{variant_held, life_variant, union_variant, extend_variant, join_variant, group_variant}
 use Rattle.plan_stages.proofs.stage.Stage.held.Goals as goal
 
 pub returns-in-Life : goal.returns-in-Life
@@ -12,3 +12,6 @@ returns-in-Extend c = variant_held _ _ _ extend_variant c.args.self.now c.in-Ext
 
 pub returns-in-Join : goal.returns-in-Join
 returns-in-Join c = variant_held _ _ _ join_variant c.args.self.now c.in-Join.operator c.in-Join.is c.held-in-Join.result c.held-in-Join.ensures
+
+pub returns-in-Group : goal.returns-in-Group
+returns-in-Group c = variant_held _ _ _ group_variant c.args.self.now c.in-Group.operator c.in-Group.is c.held-in-Group.result c.held-in-Group.ensures

@@ -1,4 +1,4 @@
-use Rattle.plan_stages.proofs.Variants.{variant_ready, variant_kept, variant_defined, variant_overflow, life_variant, union_variant, extend_variant, join_variant}
+use Rattle.plan_stages.proofs.Variants.{variant_ready, variant_kept, variant_defined, variant_overflow, life_variant, union_variant, extend_variant, join_variant, group_variant}
 use Rattle.plan_stages.proofs.stage.Stage.step.Goals as goal
 
 pub returns-in-Life-clause-ready : goal.returns-in-Life-clause-ready
@@ -64,3 +64,19 @@ returns-in-Join-clause-defined c =
 pub returns-in-Join-clause-overflow : goal.returns-in-Join-clause-overflow
 returns-in-Join-clause-overflow c =
     variant_overflow _ _ _ join_variant c.args.texts.now c.args.left c.args.right c.args.self.now c.in-Join.operator c.step_operator-in-Join.new.operator c.in-Join.is c.args.left_to c.args.right_to c.step_operator-in-Join.result c.step_operator-in-Join.ensures.overflow
+
+pub returns-in-Group-clause-ready : goal.returns-in-Group-clause-ready
+returns-in-Group-clause-ready c =
+    variant_ready _ _ _ group_variant c.args.texts.now c.args.left c.args.right c.args.self.now c.in-Group.operator c.step_operator-in-Group.new.operator c.in-Group.is c.args.left_to c.args.right_to c.step_operator-in-Group.result c.step_operator-in-Group.ensures.ready
+
+pub returns-in-Group-clause-kept : goal.returns-in-Group-clause-kept
+returns-in-Group-clause-kept c =
+    variant_kept _ _ _ group_variant c.args.texts.now c.args.left c.args.right c.args.self.now c.in-Group.operator c.step_operator-in-Group.new.operator c.in-Group.is c.args.left_to c.args.right_to c.step_operator-in-Group.result c.step_operator-in-Group.ensures.kept
+
+pub returns-in-Group-clause-defined : goal.returns-in-Group-clause-defined
+returns-in-Group-clause-defined c =
+    variant_defined _ _ _ group_variant c.args.texts.now c.args.left c.args.right c.args.self.now c.in-Group.operator c.step_operator-in-Group.new.operator c.in-Group.is c.args.left_to c.args.right_to c.step_operator-in-Group.result c.step_operator-in-Group.ensures.defined
+
+pub returns-in-Group-clause-overflow : goal.returns-in-Group-clause-overflow
+returns-in-Group-clause-overflow c =
+    variant_overflow _ _ _ group_variant c.args.texts.now c.args.left c.args.right c.args.self.now c.in-Group.operator c.step_operator-in-Group.new.operator c.in-Group.is c.args.left_to c.args.right_to c.step_operator-in-Group.result c.step_operator-in-Group.ensures.overflow
