@@ -142,9 +142,9 @@ a_column_twice_in_a_join : planned (record (over_a (S.Join (98 ∷ []) ((107 ∷
 unfolding most_reach
 a_column_twice_in_a_join = refl
 
-a_group_is_not_built : planned (over_a (S.Group ((107 ∷ []) ∷ []) [] ∷ S.Hop 60 20 ∷ [])) ≡ Err (F.NotBuilt 3)
+a_window_over_a_group : planned (over_a (S.Group ((107 ∷ []) ∷ []) [] ∷ S.Hop 60 20 ∷ [])) ≡ Err (F.NotEventLevel 4)
 unfolding most_reach
-a_group_is_not_built = refl
+a_window_over_a_group = refl
 
 -- a hop over a group, whose rows are no events
 a_hop_over_a_group : step_nodes 4 (with_nodes both_streams (record { node = Group 0 (0 ∷ []) []; schema = text_column 107 ∷ [] } ∷ [])) 2 (S.Hop 60 20) ≡ Err (F.NotEventLevel 4)
