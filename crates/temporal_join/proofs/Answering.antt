@@ -1,8 +1,7 @@
 -- What a step of a join answers: a list in order, with the columns of the pairs.
-use Rattle.std.specs.Prelude.{◌≡◌, ℕ, suc, ◌+◌, ◌≤◌, ◌&&◌, max, min, nat_eq, nat_lt, nat_le, Bool, true, false, cond, IsTrue, List, [], ◌∷◌, ◌++◌, map, flat_map, All, refl}
+use Rattle.std.specs.Prelude.{◌≡◌, ℕ, suc, ◌&&◌, max, min, nat_eq, nat_lt, nat_le, Bool, true, false, cond, IsTrue, List, [], ◌∷◌, ◌++◌, map, flat_map, All, refl}
 use Rattle.std.specs.List.{list_any}
-use Rattle.std.proofs.Common.{sym, ◌∙◌, ap, subst, arith}
-use Rattle.std.proofs.lemmas.Bool.Decides.{nat_tests}
+use Rattle.std.proofs.Common.{sym, ◌∙◌, ap, arith}
 use Rattle.std.proofs.lemmas.List.{map-append}
 use Rattle.std.proofs.lemmas.List.Elements.{All-nil, All-cons, All-head, All-tail}
 use Rattle.tw_rows.specs.Bag.{SameBag, total}
@@ -12,14 +11,13 @@ use Rattle.tw_rows.specs.declared.cells.Datum.{Datum}
 use Rattle.tw_rows.specs.declared.edge.Edge.{Edge}
 use Rattle.tw_rows.specs.declared.edge.HeldRow.{HeldRow}
 use Rattle.tw_rows.specs.declared.kind.CellKind.{CellKind}
-use Rattle.tw_rows.proofs.Bags.{total-flat_map, total_zero, total-append}
+use Rattle.tw_rows.proofs.Bags.{total-flat_map, total_zero}
 use Rattle.edge_history.specs.Balance.{news_of, news}
 use Rattle.edge_history.specs.History.{CellEvent, of}
 use Rattle.edge_history.specs.Order.{failing, KeepsOrder}
 use Rattle.edge_history.proofs.Agreeing.{same_order}
-use Rattle.edge_history.proofs.Keeping.{KeepsOrder-back}
 use Rattle.edge_history.proofs.Sums.{sum_eq, failing-All}
-use Rattle.key_nodes.specs.Joins.{with_life, joined_one, joined}
+use Rattle.key_nodes.specs.Joins.{joined_one}
 use Rattle.plan_model.specs.Keys.{outside_from, outside_key, paired_row}
 use Rattle.plan_model.specs.declared.node.Node.TheVariants.{Join}
 use Rattle.node_laws.specs.Keeping.{Keeps, plain_cells}

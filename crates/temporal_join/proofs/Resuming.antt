@@ -1,5 +1,5 @@
 -- What is kept of a join at first, in longer tables, and after it was saved and loaded.
-use Rattle.std.specs.Prelude.{◌≡◌, ℕ, ◌+◌, ◌*◌, ◌≤◌, min, true, false, List, [], ◌++◌, map, All, refl}
+use Rattle.std.specs.Prelude.{◌≡◌, ℕ, ◌+◌, ◌*◌, ◌≤◌, min, true, false, List, [], ◌++◌, map, refl}
 use Rattle.std.proofs.Common.{sym, ◌∙◌, ap, subst, arith}
 use Rattle.std.proofs.lemmas.List.{append-nil}
 use Rattle.std.proofs.lemmas.List.Elements.{All-nil}
@@ -17,7 +17,6 @@ use Rattle.edge_stream.specs.declared.saved.SavedEntry.{SavedEntry}
 use Rattle.end_queue.specs.Pending.{Pending}
 use Rattle.carried_edges.specs.Entries.{entries_of, part_of, are_of_parts}
 use Rattle.carried_edges.proofs.Parts.{part_of_own, part_of_other, part_of_append, parts_own, parts_append, all_pass}
-use Rattle.plan_model.specs.Keys.{paired_row}
 use Rattle.plan_model.specs.declared.node.Node.TheVariants.{Join}
 use Rattle.plan_laws.specs.Held.{may_hold}
 use Rattle.node_laws.specs.Keeping.{plain_cells}
@@ -26,11 +25,9 @@ use Rattle.node_laws.specs.Places.{AreDistinct, read_of}
 use Rattle.node_laws.specs.Standing.{StandsRead}
 use Rattle.node_laws.proofs.Steps.{keeps_first, keeps_read}
 use Rattle.plan_model.specs.Meaning.{node_events}
-use Rattle.sweep_laws.specs.Joining.{JoinKeeps}
 use Rattle.sweep_sides.specs.Waiting.{queued}
 use Rattle.sweep_sides.specs.Saving.{starts_of, rows_of, is_row_start, may_wait, are_row_starts, may_all_wait}
 use Rattle.sweep_sides.proofs.KeptSides.{rows_of_starts}
-use Rattle.temporal_join.specs.Joined.{join_meets}
 use Rattle.temporal_join.proofs.Answering.{node_keeps}
 use Rattle.temporal_join.specs.States.{KeepsJoin, AreSavedSides, JoinSound, JoinResumes}
 

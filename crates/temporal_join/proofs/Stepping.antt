@@ -1,5 +1,5 @@
 -- A step of a join.
-use Rattle.std.specs.Prelude.{◌≡◌, ℕ, ◌+◌, ◌≤◌, Bool, List, [], ◌++◌, filter}
+use Rattle.std.specs.Prelude.{◌≡◌, ℕ, ◌+◌, ◌≤◌, Bool, List, [], ◌++◌}
 use Rattle.std.proofs.Common.{subst, sym, ap, ◌∙◌, arith}
 use Rattle.tw_rows.specs.Bag.{SameBag, total}
 use Rattle.tw_rows.specs.Event.{cut}

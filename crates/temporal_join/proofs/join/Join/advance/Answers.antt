@@ -1,4 +1,4 @@
-use Rattle.std.proofs.Common.{◌≡◌, ◌≤◌, ◌++◌, ◌∙◌, map, min, sym, ap, subst, arith}
+use Rattle.std.proofs.Common.{◌≡◌, ◌≤◌, ◌∙◌, map, min, sym, ap, subst, arith}
 use Rattle.std.specs.Prelude.{All}
 use Rattle.tw_rows.specs.Cells.{datum_kind}
 use Rattle.tw_rows.specs.Kinds.{cell_kind_of}
@@ -6,12 +6,9 @@ use Rattle.tw_rows.specs.Instant.{inf}
 use Rattle.edge_stream.specs.Listing.{cells_of}
 use Rattle.edge_stream.proofs.Filling.{batches_given-capacity}
 use Rattle.carried_edges.proofs.Pools.{batches_given-limit}
-use Rattle.plan_model.specs.Keys.{paired_row}
 use Rattle.sweep_sides.specs.Waiting.{queued}
-use Rattle.temporal_join.specs.States.{AreSides}
 use Rattle.temporal_join.proofs.Answering.{pair_mapped}
 use Rattle.temporal_join.proofs.Stepped.{from_lesser, join_stepped, list_is}
-use Rattle.temporal_join.proofs.Stepping.{by_keys}
 use Rattle.temporal_join.proofs.join.Join.advance.Goals as goal
 
 pub returns-clause-kept : goal.returns-clause-kept

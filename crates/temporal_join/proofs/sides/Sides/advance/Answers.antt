@@ -1,4 +1,4 @@
-use Rattle.std.proofs.Common.{◌≡◌, ◌≤◌, ◌++◌, ◌∙◌, sym, ap, subst, arith}
+use Rattle.std.proofs.Common.{◌≡◌, ◌++◌, ◌∙◌, sym, ap, subst, arith}
 use Rattle.tw_rows.specs.Bag.{total}
 use Rattle.edge_history.specs.History.{of}
 use Rattle.edge_history.specs.Opens.{started_rows}
