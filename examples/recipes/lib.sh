@@ -59,12 +59,12 @@ has_lines() {
     [ -f "$1" ] && [ "$(wc -l <"$1")" -ge "$2" ]
 }
 
-# The number of the tempo that runs in what launch started.
+# The number of the tempo that runs in what launch started: the process with a query that is no shell's.
 tempo_pid() {
     local group
     for group in $(cat "$work/pids"); do
-        ps -o pid=,args= -g "$group" | awk -v program="$TEMPO" 'index($0, program " --") && !/bash/ && !/keep/ { print $1; exit }'
-    done | head -n 1
+        ps -o pid=,args= -g "$group" | awk '/ --query / && !/bash/ && !/awk/ { print $1; exit }'
+    done | grep -m 1 .
 }
 
 # Compares a file with what was wanted.
