@@ -15,7 +15,8 @@ need() {
 }
 
 begin() {
-    mkdir -p "$work" && : >>"$work/pids"
+    [ ! -s "$work/pids" ] || { echo "$recipe: it was started already; \`$recipe stop\` ends it"; exit 1; }
+    mkdir -p "$work" && : >"$work/pids"
 }
 
 # Starts a command in the background, in a session of its own.
