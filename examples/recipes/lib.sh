@@ -46,9 +46,9 @@ halt() {
     rm -f "$work/pids"
 }
 
-# Waits, for ten seconds at most, until a command holds.
+# Waits until a command holds, for ten seconds at most, or as many as $patience says.
 until_holds() {
-    for _ in $(seq 100); do
+    for _ in $(seq $((10 * ${patience:-10}))); do
         "$@" >/dev/null 2>&1 && return 0
         sleep 0.1
     done
