@@ -1,10 +1,12 @@
--- Pools keep their capacity, whatever is taken and given.
-use Rattle.std.specs.Prelude.{◌≡◌, ℕ, ◌-◌, min, List}
-use Rattle.std.proofs.Common.{◌∙◌, ap, take}
+-- Pools keep their capacity and their limit, whatever is taken and given.
+use Rattle.std.specs.Prelude.{◌≡◌, ℕ, zero, suc, ◌+◌, ◌-◌, min, List, [], ◌∷◌}
+use Rattle.std.proofs.Common.{◌∙◌, ap, refl, take}
 use Rattle.tw_rows.specs.declared.kind.CellKind.{CellKind}
-use Rattle.batch.specs.Shelves.{Shelves, IsPartTaken}
+use Rattle.tw_rows.specs.declared.kind.CellKind.TheVariants.{Whole, Bit, Place}
+use Rattle.batch.specs.Shelves.{Shelves, given, all_given, batch_given, batch_taken, IsPartTaken}
 use Rattle.batch.proofs.Stocks.{NoMore-all}
-use Rattle.edge_stream.specs.Taking.{batches_taken, AreBatchesTaken}
+use Rattle.edge_stream.specs.Listing.{EdgeListView, cells_of, where_full}
+use Rattle.edge_stream.specs.Taking.{batches_taken, batches_given, room_taken, AreBatchesTaken}
 use Rattle.edge_stream.proofs.Filling.{batches_taken-capacity}
 
 pub part-capacity : (old new : Shelves) (kinds : List CellKind) → IsPartTaken old new kinds → new.capacity ≡ old.capacity
@@ -14,3 +16,38 @@ part-capacity old new kinds part =
 
 pub some-capacity : (old new : Shelves) (kinds : List CellKind) → AreBatchesTaken old new kinds → new.capacity ≡ old.capacity
 some-capacity old new kinds some = part-capacity (batches_taken some.whole old kinds) new kinds some.part ∙ batches_taken-capacity some.whole old kinds
+
+pub part-limit : (old new : Shelves) (kinds : List CellKind) → IsPartTaken old new kinds → new.limit ≡ old.limit
+part-limit old new kinds part =
+    ap (λ s. s.limit) part.is
+    ∙ (NoMore-all (record old { words = old.words - min part.count 4; occupancies = old.occupancies - min (part.count - 4) 1 }) (take (part.count - 5) kinds)).limit
+
+pub batches_taken-limit : (n : ℕ) (s : Shelves) (ks : List CellKind) → (batches_taken n s ks).limit ≡ s.limit
+batches_taken-limit zero s ks = refl
+batches_taken-limit (suc n) s ks =
+    let before : Shelves = batches_taken n s ks in
+    (NoMore-all (record before { words = before.words - 4; occupancies = before.occupancies - 1 }) ks).limit ∙ batches_taken-limit n s ks
+
+pub some-limit : (old new : Shelves) (kinds : List CellKind) → AreBatchesTaken old new kinds → new.limit ≡ old.limit
+some-limit old new kinds some = part-limit (batches_taken some.whole old kinds) new kinds some.part ∙ batches_taken-limit some.whole old kinds
+
+pub room_taken-limit : (l : EdgeListView) (s : Shelves) → (room_taken l s).limit ≡ s.limit
+room_taken-limit l s = pick l.room
+  where
+    pick : (r : ℕ) → (where_full r (batch_taken s (cells_of l)) s).limit ≡ s.limit
+    pick zero = (NoMore-all (record s { words = s.words - 4; occupancies = s.occupancies - 1 }) (cells_of l)).limit
+    pick (suc r) = refl
+
+given-limit : (s : Shelves) (k : CellKind) → (given s k).limit ≡ s.limit
+given-limit s Whole = refl
+given-limit s Bit = refl
+given-limit s Place = refl
+
+all_given-limit : (s : Shelves) (ks : List CellKind) → (all_given s ks).limit ≡ s.limit
+all_given-limit s [] = refl
+all_given-limit s (k ∷ ks) = given-limit (all_given s ks) k ∙ all_given-limit s ks
+
+pub batches_given-limit : (n : ℕ) (s : Shelves) (ks : List CellKind) → (batches_given n s ks).limit ≡ s.limit
+batches_given-limit zero s ks = refl
+batches_given-limit (suc n) s ks =
+    batches_given-limit n (batch_given s ks) ks ∙ all_given-limit (record s { words = min (s.words + 4) s.limit; occupancies = min (s.occupancies + 1) s.limit }) ks

@@ -20,6 +20,7 @@ fn with_new(pools: &mut Pools, carried: EdgeList, new: EdgeList) -> Result<EdgeL
     ensures kinds { IfOk result (λ all. cells_of all ≡ cells_of carried) }
     ensures capacity { IfOk result (λ all. all.capacity ≡ carried.capacity) }
     ensures pools { pools.new.capacity ≡ pools.old.capacity }
+    ensures limit { pools.new.limit ≡ pools.old.limit }
 {
     if carried.cursor().rank().is_none() {
         // Its call tells the proof that the edges keep the order.
@@ -48,6 +49,7 @@ pub fn take_below(
     ensures kinds { cells_of carried.new ≡ cells_of carried.old }
     ensures capacity { carried.new.capacity ≡ carried.old.capacity }
     ensures pools { pools.new.capacity ≡ pools.old.capacity }
+    ensures limit { pools.new.limit ≡ pools.old.limit }
 {
     let empty = EdgeList::new(alloc, carried.kinds(), carried.capacity())?;
     let before = std::mem::replace(carried, empty);

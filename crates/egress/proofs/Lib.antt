@@ -8,10 +8,16 @@ mod Opened
 mod Ending
 mod Passes
 mod Shown
+mod Single
 mod Reaching
 mod Sweeps
 mod Putting
 pub mod Taking
 mod TakingOne
+mod Entries
+mod Copies
+mod SavedEnds
+mod SavedInstants
+mod SavedAll
 mod Placing
 mod Examples

@@ -116,6 +116,10 @@ module _ (texts : List (List ℕ)) (apart : AreDistinct texts) (k : Row) (cells 
     pub since_own : since_at m cells ≡ since_in texts m k
     since_own = ap (since_at m) (sym told_cells)
 
+-- placed cells stand for what they are read as
+pub stands_itself : (texts : List (List ℕ)) (cells : List Datum) → ArePlaced texts cells → stand_for texts (read_cells texts cells) cells ≡ true
+stands_itself texts cells placed = both (are_placed texts cells) (eq_by_cmp row_cmp (read_cells texts cells) (read_cells texts cells)) (placed_then texts cells placed) (row_itself (read_cells texts cells))
+
 -- cells of edges that are placed pass the tests
 pub placed_all : (texts : List (List ℕ)) (es : List Edge) → EdgesArePlaced texts es → failing (λ e. are_placed texts e.cells) es ≡ 0
 placed_all texts [] h = refl
@@ -127,8 +131,7 @@ placed_all texts (e ∷ es) h =
 pub stand_all : (texts : List (List ℕ)) (es : List Edge) → EdgesArePlaced texts es → failing (λ e. stand_for texts (read_cells texts e.cells) e.cells) es ≡ 0
 stand_all texts [] h = refl
 stand_all texts (e ∷ es) h =
-    let stands : stand_for texts (read_cells texts e.cells) e.cells ≡ true = both (are_placed texts e.cells) (eq_by_cmp row_cmp (read_cells texts e.cells) (read_cells texts e.cells))
-    (placed_then texts e.cells (All-head (λ (x : Edge). ArePlaced texts x.cells) e es h)) (row_itself (read_cells texts e.cells)) in
+    let stands : stand_for texts (read_cells texts e.cells) e.cells ≡ true = stands_itself texts e.cells (All-head (λ (x : Edge). ArePlaced texts x.cells) e es h) in
     let one : cond {A = ℕ} (stand_for texts (read_cells texts e.cells) e.cells) 0 1 ≡ 0 = ap (λ b. cond {A = ℕ} b 0 1) stands in
     let rest = stand_all texts es (All-tail (λ (x : Edge). ArePlaced texts x.cells) e es h) in
     omega (arith, one, rest)
@@ -184,7 +187,7 @@ cells_longer old more (v ∷ vs) = pick (datum_longer old more v) (cells_longer 
     pick (inl e) (inl f) = inl (λ i. e i ∷ f i)
 
 -- where only placed cells are open, nothing is open of others
-none_unplaced : (p : List Datum → Bool) (since : List Datum → List ℕ) → OpensPass p since → (c : List Datum) → p c ≡ false → since c ≡ []
+pub none_unplaced : (p : List Datum → Bool) (since : List Datum → List ℕ) → OpensPass p since → (c : List Datum) → p c ≡ false → since c ≡ []
 none_unplaced p since h c e = pick (since c) refl
   where
     pick : (l : List ℕ) → since c ≡ l → l ≡ []

@@ -193,7 +193,7 @@ single_passes p e h = pick (is_end e || nat_eq e.other inf)
     pick true = let z : cond {A = ℕ} (p e.cells) 0 1 ≡ 0 = ap (λ b. cond {A = ℕ} b 0 1) h in omega (arith, z)
     pick false = let z : cond {A = ℕ} (p e.cells) 0 1 ≡ 0 = ap (λ b. cond {A = ℕ} b 0 1) h in omega (arith, z)
 
-first_passes : (b : Bool) (n : ℕ) → cond {A = ℕ} b 0 1 + n ≡ 0 → (b ≡ true) × (n ≡ 0)
+pub first_passes : (b : Bool) (n : ℕ) → cond {A = ℕ} b 0 1 + n ≡ 0 → (b ≡ true) × (n ≡ 0)
 first_passes true n h = (refl, omega (arith, h))
 first_passes false n h = absurd (omega (arith, h))
 

@@ -6,3 +6,5 @@ pub mod Reached
 pub mod Kept
 pub mod Waiting
 pub mod Output
+pub mod Saving
+pub mod Saved

@@ -1,5 +1,5 @@
 // The rows that edges tell of, and the instant that edges show.
-ghost use Rattle.std.specs.Prelude.{◌≡◌, ℕ, suc, ◌+◌, ◌++◌, Bool, true, List, map, IfOk, OnOk};
+ghost use Rattle.std.specs.Prelude.{◌≡◌, ℕ, suc, ◌+◌, ◌++◌, Bool, true, List, [], ◌∷◌, map, IfOk, OnOk};
 ghost use Rattle.tw_rows.specs.declared.cells.Datum.{Datum as DatumOf};
 ghost use Rattle.tw_rows.specs.Cells.{IsPlaced, ArePlaced, read_datum, read_cells};
 ghost use Rattle.tw_rows.specs.Event.{AreEvents, alive};
@@ -17,6 +17,7 @@ ghost use Rattle.egress.specs.Waiting.{SameMoves};
 ghost use Rattle.egress.specs.Print.{print};
 
 use crate::moves::{Moves, add_end, add_start};
+use crate::opens::{end_row, start_row};
 use crate::sweep::show_instant;
 use indexmap::IndexMap;
 use std::alloc::Global;
@@ -91,6 +92,32 @@ fn touch(
     Ok(())
 }
 
+/// Appends the line of an instant with one edge: its row ends once, or starts once.
+fn show_edge(
+    opens: &mut IndexMap<Cells, VecDeque<Time>>,
+    out: &mut Vec<u8>,
+    alloc: Global,
+    kinds: &[Kind],
+    at: Time,
+    edge: &Edge,
+    texts: &TextTable,
+) -> Result<(), Memory>
+    requires { ArePlaced texts.now edge.now.cells }
+    ensures text { OnOk result ((events : List CellEvent) → AreEvents events → SameMoves (edge.now ∷ []) (news at (suc at) events) → AreOpen (alive (read_events texts.now events)) at (since_in texts.now opens.old) → out.new.items ≡ out.old.items ++ print kinds.now (changes_at (alive (read_events texts.now events)) at)) }
+    ensures since { OnOk result ((events : List CellEvent) → AreEvents events → SameMoves (edge.now ∷ []) (news at (suc at) events) → AreOpen (alive (read_events texts.now events)) at (since_in texts.now opens.old) → AreOpen (alive (read_events texts.now events)) (suc at) (since_in texts.now opens.new)) }
+    ensures passed { OnOk result ((p : List DatumOf → Bool) → p edge.now.cells ≡ true → OpensPass p (since_at opens.old) → OpensPass p (since_at opens.new)) }
+{
+    let _texts = texts.len();
+    let row = read_row(alloc, edge.cells.items(), texts)?;
+    if edge.is_end() {
+        end_row(opens, out, kinds, at, &row, &edge.cells, 1)?;
+        return Ok(());
+    }
+    let cells = edge.cells.clone()?;
+    start_row(opens, out, alloc, kinds, at, &row, cells, 1)?;
+    Ok(())
+}
+
 /// Appends the lines of the instant at which these edges stand: all single edges of it, in any order. Where memory is
 /// wanting, neither the text nor the open starts are to be used any more.
 pub fn show_edges(
@@ -107,6 +134,12 @@ pub fn show_edges(
     ensures since { OnOk result ((events : List CellEvent) → AreEvents events → SameMoves edges.now (news at (suc at) events) → AreOpen (alive (read_events texts.now events)) at (since_in texts.now opens.old) → AreOpen (alive (read_events texts.now events)) (suc at) (since_in texts.now opens.new)) }
     ensures passed { OnOk result ((p : List DatumOf → Bool) → failing (λ e. p e.cells) edges.now ≡ 0 → OpensPass p (since_at opens.old) → OpensPass p (since_at opens.new)) }
 {
+    let count = edges.len();
+    if count == 1 {
+        let edge = &edges[0];
+        show_edge(opens, out, alloc, kinds, at, edge, texts)?;
+        return Ok(());
+    }
     let _texts = texts.len();
     let mut touched = BTreeMap::new(alloc);
     touch(&mut touched, alloc, edges, texts)?;

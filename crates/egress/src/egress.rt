@@ -1,24 +1,28 @@
 // Output while the input goes on.
-ghost use Rattle.std.specs.Prelude.{◌≡◌, ◌≤◌, ◌-◌, ℕ, Bool, false, List, [], ◌∷◌, ◌++◌, is_err, IfOk, OnOk};
+ghost use Rattle.std.specs.Prelude.{◌≡◌, ◌≤◌, ◌-◌, ℕ, Bool, false, List, [], ◌∷◌, ◌++◌, map, All, is_err, IfOk, IfErr, OnOk, OnErr};
 ghost use Rattle.tw_rows.specs.Instant.{inf};
 ghost use Rattle.tw_rows.specs.Event.{Event, AreEvents, alive};
 ghost use Rattle.tw_rows.specs.Rows.{Row as Values};
-ghost use Rattle.tw_rows.specs.Cells.{ArePlaced};
+ghost use Rattle.tw_rows.specs.Cells.{ArePlaced, datum_kind};
+ghost use Rattle.tw_rows.specs.Kinds.{cell_kind_of};
 ghost use Rattle.tw_rows.specs.declared.cells.Datum.{Datum};
 ghost use Rattle.tw_rows.specs.declared.edge.Edge.{Edge};
-ghost use Rattle.edge_history.specs.Order.{failing, is_from, IsHistory};
+ghost use Rattle.edge_history.specs.Order.{failing, is_below, is_from, IsHistory};
 ghost use Rattle.edge_history.specs.History.{CellEvent};
-ghost use Rattle.node_laws.specs.Places.{EdgesArePlaced};
+ghost use Rattle.node_laws.specs.Places.{AreDistinct, EdgesArePlaced};
 ghost use Rattle.node_laws.specs.Standing.{StandsRead};
 ghost use Rattle.plan_model.specs.Changes.{changes};
 ghost use Rattle.egress.specs.Kept.{since_at, since_in};
 ghost use Rattle.egress.specs.Waiting.{waiting_in, HavePassed, WaitingArePlaced, Swept};
 ghost use Rattle.egress.specs.Output.{Holds, IsPlacedIn};
 ghost use Rattle.egress.specs.Print.{print, punctuation_if};
+ghost use Rattle.egress.specs.Saving.{IsSound, Resumes, EntriesArePlaced, IsOpening};
 
 use crate::edges::show_edges;
+use crate::loading::load_entries;
+use crate::saving::{copy_opens, copy_waiting, save_rest, save_waiting};
 use crate::waiting::{pop_due, put_singles};
-use edge_stream::EdgeList;
+use edge_stream::{EdgeList, LoadFault, Saved};
 use indexmap::IndexMap;
 use line_text::push_punctuation;
 use std::alloc::Global;
@@ -83,6 +87,7 @@ impl Egress {
         ensures holds { IfOk result (λ e. (texts : List (List ℕ)) → Holds texts [] 0 0 e) }
         ensures placed { IfOk result (λ e. (texts : List (List ℕ)) → IsPlacedIn texts e) }
         ensures ready { IfOk result (λ e. e.failed ≡ false) }
+        ensures opening { IfOk result IsOpening }
     {
         Ok(Egress {
             alloc,
@@ -182,5 +187,39 @@ impl Egress {
                 Err(memory)
             }
         }
+    }
+
+    /// An entry for each row that is alive just before the time up to which the edges were taken, with its end where that is
+    /// known. All that was taken is rendered.
+    pub fn save(&self) -> Result<Saved, Memory>
+        requires { self.now.failed ≡ false }
+        ensures { IfOk result (λ saved. (texts : List (List ℕ)) (h : List Edge) (c : ℕ) → AreDistinct texts → EdgesArePlaced texts h →
+            All (λ e. map datum_kind e.cells ≡ map cell_kind_of self.now.kinds.items) h → failing (is_below c) h ≡ 0 →
+            Holds texts h c c self.now → Resumes self.now.kinds.items saved c texts h) }
+    {
+        let (_, last) = Time::bounds();
+        let mut saved = Saved::new(self.alloc);
+        let mut opens = copy_opens(&self.opens)?;
+        let mut waiting = copy_waiting(&self.waiting)?;
+        save_waiting(&mut saved, &mut opens, &mut waiting, last)?;
+        save_rest(&mut saved, &mut opens, last)?;
+        Ok(saved)
+    }
+
+    /// Takes up what was saved; the next edges come from that time on. After a fault it stands as it was made.
+    pub fn load(&mut self, saved: &Saved, closed: Time) -> Result<(), LoadFault>
+        requires { IsOpening self.old }
+        ensures holds { OnOk result ((texts : List (List ℕ)) (h : List Edge) → Resumes self.old.kinds.items saved.now closed texts h → Holds texts h closed closed self.new) }
+        ensures placed { OnOk result ((texts : List (List ℕ)) → EntriesArePlaced texts saved.now → IsPlacedIn texts self.new) }
+        ensures sound { OnOk result (IsSound self.old.kinds.items saved.now closed) }
+        ensures refused { IfErr result (λ fault. fault ≡ LoadFault.NotState → IsSound self.old.kinds.items saved.now closed → ⊥) }
+        ensures opening { OnErr result (IsOpening self.new) }
+        ensures ready { OnOk result (self.new.failed ≡ false) }
+        ensures kinds { self.new.kinds.items ≡ self.old.kinds.items }
+    {
+        let loaded = load_entries(self.alloc, saved.entries(), &self.kinds, closed)?;
+        self.opens = loaded.opens;
+        self.waiting = loaded.waiting;
+        Ok(())
     }
 }

@@ -5,9 +5,11 @@
 mod edges;
 mod egress;
 mod instant_laws;
+mod loading;
 mod moves;
 mod opens;
 mod output_laws;
+mod saving;
 mod sweep;
 mod waiting;
 mod writing;

@@ -17,17 +17,17 @@ pub(crate) struct Due {
     pub(crate) edges: Vec<Edge>,
 }
 
-fn put(waiting: &mut BTreeMap<u64, Vec<Edge>>, alloc: Global, edge: Edge) -> Result<(), Memory>
+/// Puts an edge to those that wait for its instant.
+pub(crate) fn put(
+    waiting: &mut BTreeMap<u64, Vec<Edge>>,
+    alloc: Global,
+    edge: Edge,
+) -> Result<(), Memory>
     ensures { OnOk result (ArePut (waiting_in waiting.old) (waiting_in waiting.new) (edge ∷ [])) }
 {
     let instant = edge.sync.word();
-    if let Some(edges) = waiting.get_mut(&instant) {
-        edges.push(edge)?;
-        return Ok(());
-    }
-    let mut edges = Vec::new(alloc);
+    let edges = waiting.entry(instant)?.or_insert(Vec::new(alloc));
     edges.push(edge)?;
-    waiting.insert(instant, edges)?;
     Ok(())
 }
 

@@ -79,6 +79,7 @@ fn part_due(
     ensures starts_kinds { cells_of starts.new ≡ cells_of starts.old }
     ensures starts_capacity { starts.new.capacity ≡ starts.old.capacity }
     ensures pools { pools.new.capacity ≡ pools.old.capacity }
+    ensures limit { pools.new.limit ≡ pools.old.limit }
 {
     let mut cursor = due.cursor();
     while let Some(edge) = cursor.next()? {
@@ -113,6 +114,7 @@ fn take_due(
     ensures kinds { IfOk result (λ due. cells_of due ≡ cells_of like.now) }
     ensures capacity { IfOk result (λ due. due.capacity ≡ like.now.capacity) }
     ensures pools { pools.new.capacity ≡ pools.old.capacity }
+    ensures limit { pools.new.limit ≡ pools.old.limit }
 {
     // Its call tells the proof that they come due in order.
     let _ = ends.len();
@@ -173,6 +175,7 @@ impl ExtendOperator {
         ensures kinds { IfOk result (λ answer. cells_of answer ≡ cells_of self.old.carried) }
         ensures capacity { IfOk result (λ answer. answer.capacity ≡ self.old.carried.capacity) }
         ensures pools { pools.new.capacity ≡ pools.old.capacity }
+        ensures limit { pools.new.limit ≡ pools.old.limit }
         ensures left_to { OnOk result (self.new.left_to ≡ left_to) }
         ensures right_to { OnOk result (self.new.right_to ≡ right_to) }
         ensures failed { self.new.failed ≡ is_err result }

@@ -107,6 +107,7 @@ impl LifeOperator {
         ensures kinds { IfOk result (λ answer. cells_of answer ≡ cells_of self.old.carried) }
         ensures capacity { IfOk result (λ answer. answer.capacity ≡ self.old.carried.capacity) }
         ensures pools { pools.new.capacity ≡ pools.old.capacity }
+        ensures limit { pools.new.limit ≡ pools.old.limit }
         ensures left_to { OnOk result (self.new.left_to ≡ left_to) }
         ensures right_to { OnOk result (self.new.right_to ≡ right_to) }
         ensures failed { self.new.failed ≡ is_err result }

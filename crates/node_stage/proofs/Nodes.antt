@@ -11,7 +11,6 @@ use Rattle.plan_model.specs.declared.node.Node.{Node}
 use Rattle.plan_model.specs.declared.node.Node.TheVariants.{Source, Where, Select, Union, Delay, Hop, Duration, Extend, Session, Clip, Group, Join, Anti, Coalesce, Mean, Top, Follow}
 use Rattle.plan_model.specs.IsPlan.{PlanParts, IsExprOver, IsSoundOver, ReadsStream, kinds_of_stream, kinds_at, kinds_of_schema, node_kinds}
 use Rattle.plan_model.specs.Meaning.{left_child, right_of, HasLower, at_child}
-use Rattle.plan_model.specs.Reach.{is_built}
 use Rattle.plan_model.specs.Typed.{IsTyped, kind_of}
 use Rattle.plan_model.proofs.Kept.{IsNodeAt}
 use Rattle.lane_expr.specs.Steps.{expr_of, AreStepsPlaced}
@@ -20,7 +19,7 @@ use Rattle.lane_expr.proofs.Typing.{expr_of-more, AreStepsPlaced-more}
 use Rattle.where_select.specs.Projects.{exprs_of}
 use Rattle.node_stage.specs.declared.stage.Stage.{Stage}
 use Rattle.node_stage.specs.declared.stage.Stage.TheVariants.{Source as SourceStage, Where as WhereStage, Select as SelectStage}
-use Rattle.node_stage.specs.Stages.{kinds_read, IsStageOf}
+use Rattle.node_stage.specs.Stages.{is_of_rows, kinds_read, IsStageOf}
 
 -- a table that has grown
 module _ (texts more : List (List ℕ)) (begins : BeginsWith more texts) where
@@ -95,25 +94,25 @@ childless (Mean of at) e = absurd (cc)
 childless (Top of key by count) e = absurd (cc)
 childless (Follow left right left_key right_key within) e = absurd (cc)
 
--- a node that is built is a Source, a Where or a Select
-pub built_alone : (n : Node) → is_built n ≡ true → ((x : ℕ) → n ≡ Source x → ⊥) → ((x : ℕ) (test : List ExprNode) → n ≡ Where x test → ⊥) → ((x : ℕ) (items : List (List ExprNode)) → n ≡ Select x items → ⊥) → ⊥
-built_alone (Source stream) h a b d = a stream refl
-built_alone (Where of test) h a b d = b of test refl
-built_alone (Select of items) h a b d = d of items refl
-built_alone (Union left right) h a b d = absurd (cc)
-built_alone (Delay of by) h a b d = absurd (cc)
-built_alone (Hop of size period) h a b d = absurd (cc)
-built_alone (Duration of by) h a b d = absurd (cc)
-built_alone (Extend of by) h a b d = absurd (cc)
-built_alone (Session of timeout key) h a b d = absurd (cc)
-built_alone (Clip left right left_key right_key) h a b d = absurd (cc)
-built_alone (Group of key aggs) h a b d = absurd (cc)
-built_alone (Join left right left_key right_key) h a b d = absurd (cc)
-built_alone (Anti left right left_key right_key) h a b d = absurd (cc)
-built_alone (Coalesce of) h a b d = absurd (cc)
-built_alone (Mean of at) h a b d = absurd (cc)
-built_alone (Top of key by count) h a b d = absurd (cc)
-built_alone (Follow left right left_key right_key within) h a b d = absurd (cc)
+-- a node of rows is a Source, a Where or a Select
+pub of_rows_alone : (n : Node) → is_of_rows n ≡ true → ((x : ℕ) → n ≡ Source x → ⊥) → ((x : ℕ) (test : List ExprNode) → n ≡ Where x test → ⊥) → ((x : ℕ) (items : List (List ExprNode)) → n ≡ Select x items → ⊥) → ⊥
+of_rows_alone (Source stream) h a b d = a stream refl
+of_rows_alone (Where of test) h a b d = b of test refl
+of_rows_alone (Select of items) h a b d = d of items refl
+of_rows_alone (Union left right) h a b d = absurd (cc)
+of_rows_alone (Delay of by) h a b d = absurd (cc)
+of_rows_alone (Hop of size period) h a b d = absurd (cc)
+of_rows_alone (Duration of by) h a b d = absurd (cc)
+of_rows_alone (Extend of by) h a b d = absurd (cc)
+of_rows_alone (Session of timeout key) h a b d = absurd (cc)
+of_rows_alone (Clip left right left_key right_key) h a b d = absurd (cc)
+of_rows_alone (Group of key aggs) h a b d = absurd (cc)
+of_rows_alone (Join left right left_key right_key) h a b d = absurd (cc)
+of_rows_alone (Anti left right left_key right_key) h a b d = absurd (cc)
+of_rows_alone (Coalesce of) h a b d = absurd (cc)
+of_rows_alone (Mean of at) h a b d = absurd (cc)
+of_rows_alone (Top of key by count) h a b d = absurd (cc)
+of_rows_alone (Follow left right left_key right_key within) h a b d = absurd (cc)
 
 module _ (plan : PlanParts) (i : ℕ) (n : Node) (at : IsNodeAt plan i n) where
   pub stream_there : (stream : ℕ) → n ≡ Source stream → stream < length plan.streams

@@ -1,5 +1,5 @@
 -- Which stage computes which node.
-use Rattle.std.specs.Prelude.{◌≡◌, ℕ, ◌≤◌, List, [], length, map, All}
+use Rattle.std.specs.Prelude.{◌≡◌, ℕ, ◌≤◌, Bool, true, false, List, [], length, map, All}
 use Rattle.tw_rows.specs.Kinds.{cell_kind_of}
 use Rattle.tw_rows.specs.declared.kind.CellKind.{CellKind}
 use Rattle.tw_rows.specs.declared.kind.Kind.{Kind}
@@ -14,6 +14,13 @@ use Rattle.where_select.specs.Filters.{Sieve}
 use Rattle.where_select.specs.Projects.{exprs_of}
 use Rattle.node_stage.specs.declared.stage.Stage.{Stage}
 use Rattle.node_stage.specs.declared.stage.Stage.TheVariants.{Source as SourceStage, Where as WhereStage, Select as SelectStage}
+
+-- a node that makes each row of one row that it reads, or of none: a Source, a Where or a Select
+abbrev pub is_of_rows : Node → Bool
+is_of_rows (Source stream) = true
+is_of_rows (Where of test) = true
+is_of_rows (Select of items) = true
+is_of_rows n = false
 
 -- the kinds of the columns that a node of the plan reads: its child's, or those of its stream. A select of a stream with
 -- sym text, qty int reads Place, Whole

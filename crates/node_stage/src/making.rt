@@ -3,11 +3,10 @@ ghost use Rattle.std.specs.Prelude.{◌≡◌, ◌<◌, ◌≤◌, true, Some, l
 ghost use Rattle.tw_rows.specs.Kinds.{cell_kind_of};
 ghost use Rattle.tw_rows.specs.Texts.{BeginsWith};
 ghost use Rattle.plan_model.specs.IsPlan.{kinds_of_schema, kinds_of_stream, kinds_at};
-ghost use Rattle.plan_model.specs.Reach.{is_built};
 ghost use Rattle.plan_model.specs.Typed.{IsTyped, kind_of};
 ghost use Rattle.lane_expr.specs.Steps.{AreStepsPlaced};
 ghost use Rattle.where_select.specs.Projects.{exprs_of};
-ghost use Rattle.node_stage.specs.Stages.{kinds_read, IsFor, IsFilterOf, IsProjectOf, IsStageOf};
+ghost use Rattle.node_stage.specs.Stages.{is_of_rows, kinds_read, IsFor, IsFilterOf, IsProjectOf, IsStageOf};
 
 use crate::stage::Stage;
 use lane_expr::Kernel;
@@ -17,8 +16,8 @@ use tw_rows::{CellKind, Kind, Memory, Schema, StreamDef, TextTable};
 use where_select::{Filter, Project};
 
 impl Stage {
-    /// The stage of a node of the plan that is built, for batches of `capacity` rows. The texts of the node come into
-    /// the table, and stay there where memory is wanting.
+    /// The stage of a Source, a Where or a Select of the plan, for batches of `capacity` rows. The texts of the node come
+    /// into the table, and stay there where memory is wanting.
     pub fn new(
         alloc: Global,
         plan: &Plan,
@@ -27,7 +26,7 @@ impl Stage {
         texts: &mut TextTable,
     ) -> Result<Stage, Memory>
         requires node { node < length plan.now.nodes }
-        requires built { (n : Node) → slice_get plan.now.nodes node ≡ Some n → is_built n ≡ true }
+        requires rows { (n : Node) → slice_get plan.now.nodes node ≡ Some n → is_of_rows n ≡ true }
         ensures stage { IfOk result (λ s. (n : Node) → slice_get plan.now.nodes node ≡ Some n → IsStageOf texts.new capacity (kinds_read plan.now n) n s) }
         ensures begins { BeginsWith texts.new texts.old }
     {

@@ -95,6 +95,7 @@ pub trait Operator: Drop {
         ensures kinds { IfOk result (λ answer. cells_of answer ≡ own_kinds self.old) }
         ensures capacity { IfOk result (λ answer. answer.capacity ≡ batch_rows self.old) }
         ensures pools { pools.new.capacity ≡ pools.old.capacity }
+        ensures limit { pools.new.limit ≡ pools.old.limit }
         ensures left_to { OnOk result (Self.left_closed self.new ≡ left_to) }
         ensures right_to { OnOk result (Self.right_closed self.new ≡ right_to) }
         ensures failed { has_failed self.new ≡ is_err result }

@@ -1,4 +1,4 @@
--- What the nodes of a plan are like: whether their rows are events, how far they look back, and which of them are built.
+-- What the nodes of a plan are like: whether their rows are events, and how far they look back.
 use Rattle.std.specs.Prelude.{ℕ, ◌+◌, ◌≤◌, max, Bool, true, false, ◌&&◌, List}
 use Rattle.plan_model.specs.declared.node.Node.{Node}
 use Rattle.plan_model.specs.declared.node.Node.TheVariants.{Source, Where, Select, Union, Delay, Hop, Duration, Extend, Session, Group, Join, Anti, Mean, Top, Follow}
@@ -44,10 +44,3 @@ event_level nodes n = over_nodes true (λ s. true) node_is_event_level nodes n
 abbrev pub HasPeriod : Node → Type 0
 HasPeriod (Hop of size period) = 1 ≤ period
 HasPeriod n = Unit {0}
-
--- the nodes that can be computed today
-abbrev pub is_built : Node → Bool
-is_built (Source stream) = true
-is_built (Where of test) = true
-is_built (Select of items) = true
-is_built n = false

@@ -42,7 +42,7 @@ pub use life_laws::{
 };
 pub use limits::{MOST_COLUMNS, MOST_NODES, MOST_REACH, level_over, reach_over};
 pub use lists::{AggList, ExprList, Key, NodeList, SchemaList, StreamList};
-pub use node::{Node, built};
+pub use node::Node;
 pub use over_nodes::{closes, event_level, reach};
 pub use plan::Plan;
 pub use plan_laws::{levels_tell_events, plans_are_sound};

@@ -1,7 +1,7 @@
 // Nodes of plans.
 ghost use Rattle.std.specs.Prelude.{◌≡◌};
 ghost use Rattle.plan_model.specs.Meaning.{left_child as left_child_of, right_child as right_child_of};
-ghost use Rattle.plan_model.specs.Reach.{own_duration as own_duration_of, is_built};
+ghost use Rattle.plan_model.specs.Reach.{own_duration as own_duration_of};
 
 use crate::expr::Expr;
 use crate::lists::{AggList, ExprList, Key};
@@ -167,14 +167,4 @@ impl Node {
             _ => 0,
         }
     }
-}
-
-/// Whether the node can be computed today.
-pub fn built(node: &Node) -> bool
-    ensures { result ≡ is_built node.now }
-{
-    matches!(
-        node,
-        Node::Source { .. } | Node::Where { .. } | Node::Select { .. }
-    )
 }

@@ -2,8 +2,7 @@ ghost use Rattle.std.specs.Prelude.{◌≡◌, [], ◌∷◌, length, IfOk};
 ghost use Rattle.plan_model.specs.IsPlan.{kinds_of_schema};
 
 use crate::{
-    Agg, AggList, Key, Node, NodeList, Plan, SchemaList, StreamList, built, closes, event_level,
-    reach,
+    Agg, AggList, Key, Node, NodeList, Plan, SchemaList, StreamList, closes, event_level, reach,
 };
 use std::alloc::Global;
 use std::test::*;
@@ -72,10 +71,4 @@ fn a_plan_tells_of_its_nodes(rt: HostRuntime) -> Result<(), Fail> {
     assert_eq!(rt; reach(&plan, 2), 20);
     assert_eq!(rt; reach(&plan, 3), 25);
     Ok(())
-}
-
-#[test]
-fn streams_tests_and_items_are_built(rt: HostRuntime) {
-    assert!(rt; built(&Node::Source { stream: 0 }));
-    assert!(rt; !built(&Node::Coalesce { of: 0 }));
 }

@@ -5,7 +5,7 @@ use Rattle.std.proofs.lemmas.Option.{slice_get-get_or}
 use Rattle.plan_model.specs.declared.node.Node.TheVariants.{Source}
 use Rattle.tw_rows.specs.Texts.{BeginsWith}
 use Rattle.tw_rows.specs.declared.edge.Edge.{Edge}
-use Rattle.node_laws.specs.Places.{EdgesArePlaced}
+use Rattle.node_laws.specs.Places.{AreDistinct, EdgesArePlaced}
 use Rattle.node_stage.specs.declared.stage.Stage.TheVariants.{Source as SourceStage}
 use Rattle.plan_stages.specs.declared.stage.Stage.TheVariants.{Rows}
 use Rattle.plan_stages.specs.Stages.{reached, left_closing, right_closing, left_kinds, right_kinds}
@@ -29,12 +29,12 @@ module _ (texts more : List (List ℕ)) (last : ℕ) (d : DataflowView) (begins 
         (flows.can.ready i n s at here) _ _ _ (flows.kept i n s at here);
   }
 
-pub flows_placed : (texts : List (List ℕ)) (last : ℕ) (given lists : ℕ → List Edge) (d : DataflowView) → Flows texts last given lists d → (k : ℕ) → k < length d.plan.nodes → EdgesArePlaced texts (lists k)
-flows_placed texts last given lists d flows k low =
+pub flows_placed : (texts : List (List ℕ)) (last : ℕ) (given lists : ℕ → List Edge) (d : DataflowView) → AreDistinct texts → Flows texts last given lists d → (k : ℕ) → k < length d.plan.nodes → EdgesArePlaced texts (lists k)
+flows_placed texts last given lists d distinct flows k low =
     let n = get_or d.plan.nodes k (Source 0) in
     let s = get_or d.stages k (Rows SourceStage) in
     let there = slice_get-get_or d.plan.nodes k (Source 0) low in
     let each = flows.can.count in
     let here = slice_get-get_or d.stages k (Rows SourceStage) (omega (arith, low, each)) in
-    keeps_placed texts d.capacity (left_kinds d.plan n) (right_kinds d.plan n) n s (reached last (left_closing d.plan.nodes last n)) (reached last (right_closing d.plan.nodes last n))
+    keeps_placed texts distinct d.capacity (left_kinds d.plan n) (right_kinds d.plan n) n s (reached last (left_closing d.plan.nodes last n)) (reached last (right_closing d.plan.nodes last n))
     (flows.can.ready k n s there here) _ _ _ (flows.kept k n s there here)

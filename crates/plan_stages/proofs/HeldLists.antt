@@ -8,7 +8,6 @@ use Rattle.std.proofs.lemmas.List.Elements.{All-nil}
 use Rattle.std.proofs.lemmas.Option.{slice_get-get_or, slice_get_within}
 use Rattle.tw_rows.specs.declared.edge.Edge.{Edge}
 use Rattle.tw_rows.specs.declared.kind.CellKind.{CellKind}
-use Rattle.tw_rows.specs.declared.kind.CellKind.TheVariants.{Whole, Bit, Place}
 use Rattle.tw_rows.specs.Kinds.{cell_kind_of}
 use Rattle.batch.specs.Shelves.{Shelves}
 use Rattle.batch.proofs.Stocks.{NoMore-all}
@@ -20,7 +19,6 @@ use Rattle.plan_model.specs.declared.node.Node.TheVariants.{Source}
 use Rattle.plan_model.specs.IsPlan.{PlanParts, kinds_at, kinds_of_stream}
 use Rattle.plan_model.specs.Shape.{Shape, Stream, One, Two, shape, left_in, read_left, left_child, right_child, at_child, left_of, right_of, HasLower}
 use Rattle.plan_model.proofs.Kept.{IsNodeAt}
-use Rattle.lane_expr.specs.Kernels.{kind_for}
 use Rattle.node_laws.specs.Places.{EdgesArePlaced}
 use Rattle.node_stage.proofs.Nodes.{stream_there, one_node, childless}
 use Rattle.plan_stages.specs.Lists.{edges_at, IsListOf, AreGiven}
@@ -41,19 +39,6 @@ with_list-at lists i out = ap (λ b. cond b out (lists i)) (same_number i)
 
 pub with_list-below : (lists : ℕ → List Edge) (i : ℕ) (out : List Edge) (k : ℕ) → k < i → with_list lists i out k ≡ lists k
 with_list-below lists i out k low = ap (λ b. cond b out (lists k)) (ne_eqb k i (λ e. absurd (omega (arith, low, e))))
-
--- plain kinds are stored as they say
-pub plain_stored : (kinds : List CellKind) → map cell_kind_of (map kind_for kinds) ≡ kinds
-plain_stored [] = refl
-plain_stored (k ∷ ks) = let here = stored k in let rest = plain_stored ks in λ i. here i ∷ rest i
-  where
-    stored : (k : CellKind) → cell_kind_of (kind_for k) ≡ k
-    stored Whole = refl
-    stored Bit = refl
-    stored Place = refl
-
-pub list_stored : (texts : List (List ℕ)) (capacity : ℕ) (kinds : List CellKind) (l : EdgeListView) → IsListOf texts capacity kinds l → cells_of l ≡ kinds
-list_stored texts capacity kinds l is = ap (map cell_kind_of) is.plain ∙ plain_stored kinds
 
 -- the list of a number
 pub edges_at-is : (ls : List EdgeListView) (k : ℕ) (d : EdgeListView) → k < length ls → edges_at ls k ≡ (get_or ls k d).edges
@@ -89,7 +74,7 @@ pub same_list : (texts : List (List ℕ)) (capacity : ℕ) (kinds : List CellKin
     new.edges ≡ old.edges → new.kinds ≡ old.kinds → new.capacity ≡ old.capacity → IsListWith texts capacity kinds edges new
 same_list texts capacity kinds edges old new is e k c = record {
   list = record {
-    plain = k ∙ is.list.plain;
+    cells = ap (map cell_kind_of) k ∙ is.list.cells;
     rows = c ∙ is.list.rows;
     placed = subst (EdgesArePlaced texts) (sym e) is.list.placed;
   };
@@ -245,7 +230,7 @@ module _ (texts : List (List ℕ)) (capacity : ℕ) (plan : PlanParts) (i : ℕ)
       (subst (λ ks. IsListWith texts capacity ks (right_of [] more node) l) (sym (right_of-none [] (kinds_at plan.schemas) node is))
       (subst (λ es. IsListWith texts capacity [] es l) (sym (right_of-none [] more node is))
       (record {
-        list = record { plain = ap (λ x. x.kinds) e; rows = ap (λ x. x.capacity) e; placed = subst (λ x. EdgesArePlaced texts x.edges) (sym e) (All-nil _) };
+        list = record { cells = ap cells_of e; rows = ap (λ x. x.capacity) e; placed = subst (λ x. EdgesArePlaced texts x.edges) (sym e) (All-nil _) };
         same = ap (λ x. x.edges) e;
       })))
 

@@ -1,4 +1,8 @@
 mod Examples
+pub mod Grouping
+pub mod Operators
+pub mod Starting
+pub mod Variants
 pub mod Rules
 pub mod Growing
 pub mod HeldLists

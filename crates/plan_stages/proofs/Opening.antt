@@ -1,9 +1,9 @@
 -- A plan at work before its first step.
 use Rattle.std.specs.Prelude.{◌≡◌, ℕ, ◌+◌, ◌<◌, ◌≤◌, Some, List, [], ◌∷◌, ◌++◌, length, get_or, slice_get}
-use Rattle.std.proofs.Common.{refl, sym, subst, arith, inl, inr}
+use Rattle.std.proofs.Common.{refl, sym, ap, subst, ◌∙◌, arith, inl, inr}
 use Rattle.std.proofs.lemmas.Bool.{cases_lt}
 use Rattle.std.proofs.lemmas.List.{get_or_push, get_or_append_left}
-use Rattle.std.proofs.lemmas.Option.{slice_get_within, get_or_from_slice_get}
+use Rattle.std.proofs.lemmas.Option.{slice_get-get_or, slice_get_within, get_or_from_slice_get}
 use Rattle.tw_rows.specs.Texts.{BeginsWith}
 use Rattle.tw_rows.specs.declared.edge.Edge.{Edge}
 use Rattle.batch.specs.Shelves.{Shelves}
@@ -12,8 +12,8 @@ use Rattle.plan_model.specs.IsPlan.{PlanParts, most_columns}
 use Rattle.plan_model.specs.Shape.{Shape, Stream, One, Two, shape, read_left, right_of, at_child, right_child}
 use Rattle.std.specs.Prelude.{Option, None}
 use Rattle.plan_stages.specs.declared.stage.Stage.{Stage}
-use Rattle.plan_stages.specs.Stages.{left_kinds, right_kinds, IsReady, StageKeeps}
-use Rattle.plan_stages.specs.Flows.{parts_of, Flows}
+use Rattle.plan_stages.specs.Stages.{left_kinds, right_kinds, IsReady, StageKeeps, KeepsAtMost}
+use Rattle.plan_stages.specs.Flows.{parts_of, Flows, AreHeldBy}
 use Rattle.plan_stages.specs.Held.{AreFresh}
 use Rattle.plan_stages.proofs.Rules.{ready_longer, keeps_longer}
 
@@ -84,4 +84,28 @@ flows_at_first texts capacity plan stages shelves fresh room same limit = record
   kept = λ i n s there here.
       subst (λ l. StageKeeps texts n s 0 0 l (right_of [] (λ k. []) n) []) (sym (left_none (shape n)))
       (subst (λ r. StageKeeps texts n s 0 0 [] r []) (sym (right_none (right_child n))) (fresh.opens i n s there here));
+}
+
+-- a pair for each stage
+pub held_next : (stages : List Stage) (pairs : List (ℕ × ℕ)) (i held : ℕ) (here : Stage) → length pairs ≡ i → slice_get stages i ≡ Some here → KeepsAtMost held here →
+    ((j : ℕ) (s : Stage) (d : ℕ × ℕ) → j < i → (h : ℕ) × ((get_or pairs j d ≡ (j, h)) × KeepsAtMost h (get_or stages j s))) →
+    (j : ℕ) (s : Stage) (d : ℕ × ℕ) → j < i + 1 → (h : ℕ) × ((get_or (pairs ++ (i, held) ∷ []) j d ≡ (j, h)) × KeepsAtMost h (get_or stages j s))
+held_next stages pairs i held here count there most before j s d low = elim (cases_lt j i) [
+  | inl less ↦
+      let old = before j s d less in
+      (old.0, (get_or_append_left pairs ((i, held) ∷ []) d j (omega (arith, less, count)) ∙ old.1.0, old.1.1))
+  | inr more ↦
+      let e : i ≡ j = omega (arith, low, more) in
+      subst (λ k. (h : ℕ) × ((get_or (pairs ++ (i, held) ∷ []) k d ≡ (k, h)) × KeepsAtMost h (get_or stages k s))) e
+      (held, (get_or_push pairs (i, held) d i count, subst (KeepsAtMost held) (sym (get_or_from_slice_get stages i here s there)) most))
+]
+
+pub held_all : (stages : List Stage) (pairs : List (ℕ × ℕ)) → length pairs ≡ length stages →
+    ((j : ℕ) (s : Stage) (d : ℕ × ℕ) → j < length stages → (h : ℕ) × ((get_or pairs j d ≡ (j, h)) × KeepsAtMost h (get_or stages j s))) → AreHeldBy stages pairs
+held_all stages pairs count all = record {
+  count = count;
+  each = λ i s there.
+      let low = slice_get_within stages i s there in
+      let one = all i s (0, 0) low in
+      (one.0, (slice_get-get_or pairs i (0, 0) (omega (arith, low, count)) ∙ ap Some one.1.0, subst (KeepsAtMost one.0) (get_or_from_slice_get stages i s s there) one.1.1));
 }

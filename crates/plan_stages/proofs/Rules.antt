@@ -5,6 +5,7 @@ use Rattle.tw_rows.specs.declared.edge.Edge.{Edge}
 use Rattle.tw_rows.specs.declared.kind.CellKind.{CellKind}
 use Rattle.edge_history.specs.Order.{is_from, failing}
 use Rattle.plan_model.specs.declared.node.Node.{Node}
+use Rattle.plan_model.specs.IsPlan.{node_kinds}
 use Rattle.plan_model.specs.Meaning.{node_events, node_closes}
 use Rattle.plan_laws.specs.Undefined.{first_below}
 use Rattle.node_laws.specs.Places.{AreDistinct, EdgesArePlaced, read_of}
@@ -12,14 +13,25 @@ use Rattle.node_laws.specs.Standing.{StandsRead}
 use Rattle.node_laws.proofs.Standing.{placed_longer, node_valid, no_history}
 use Rattle.tw_rows.proofs.Knowing.{Known-refl}
 use Rattle.plan_model.specs.declared.node.Node.TheVariants.{Source}
-use Rattle.node_stage.proofs.MadeEdges.{by_node, made_more, made_longer, made_placed, made_later, made_stand}
+use Rattle.node_stage.proofs.MadeEdges.{by_node, made_more, made_longer, made_later, made_stand}
 use Rattle.node_stage.proofs.Nodes.{stage-more}
 use Rattle.plan_stages.specs.declared.stage.Stage.{Stage}
-use Rattle.plan_stages.specs.declared.stage.Stage.TheVariants.{Rows}
+use Rattle.plan_stages.specs.declared.stage.Stage.TheVariants.{Rows, Life, Union, Extend, Join, Group}
+use Rattle.life_laws.proofs.Lives.{lives_longer, lives_rows}
+use Rattle.life_laws.proofs.Unions.{union_longer, union_rows}
+use Rattle.life_laws.proofs.Extending.{extended_longer, extended_rows}
+use Rattle.std.specs.Prelude.{map}
+use Rattle.tw_rows.specs.Kinds.{cell_kind_of}
+use Rattle.sweep_sides.specs.Waiting.{queued}
+use Rattle.temporal_join.proofs.Resuming.{join_longer, join_stands}
+use Rattle.plan_stages.proofs.Grouping.{grouped_longer, grouped_stands}
+use Rattle.lifetime_ops.specs.Nodes.{node_of, known}
+use Rattle.extend_op.specs.Waiting.{edges_of_pending}
 use Rattle.node_stage.specs.Made.{IsMade}
 use Rattle.node_stage.specs.Stages.{IsStageOf}
 use Rattle.node_stage.specs.declared.stage.Stage.{Stage as RowStage}
-use Rattle.plan_stages.specs.Stages.{HasCome, MayComeUpTo, HasMade, IsReady, StageKeeps, first_undefined_read}
+use Rattle.plan_stages.specs.Stages.{HasCome, MayComeUpTo, HasMade, IsReady, StageKeeps, life_standing, union_standing, extend_standing, first_undefined_read, join_standing, group_standing}
+use Rattle.plan_stages.proofs.Operators.{operator_stands}
 
 pub came_longer : (texts more : List (List ℕ)) → BeginsWith more texts → (x : ℕ) (h : List Edge) → HasCome texts x h → HasCome more x h
 came_longer texts more begins x h came = record {
@@ -33,6 +45,11 @@ came_longer texts more begins x h came = record {
 pub ready_longer : (texts more : List (List ℕ)) → BeginsWith more texts → (capacity : ℕ) (left right : List CellKind) (n : Node) (s : Stage) (x y : ℕ) →
     IsReady texts capacity left right n s x y → IsReady more capacity left right n s x y
 ready_longer texts more begins capacity left right n (Rows s) x y ready = stage-more texts more begins capacity left n s ready
+ready_longer texts more begins capacity left right n (Life o) x y ready = ready
+ready_longer texts more begins capacity left right n (Union o) x y ready = ready
+ready_longer texts more begins capacity left right n (Extend o) x y ready = ready
+ready_longer texts more begins capacity left right n (Join o) x y ready = ready
+ready_longer texts more begins capacity left right n (Group o) x y ready = ready
 
 pub keeps_longer : (texts more : List (List ℕ)) → BeginsWith more texts → (capacity : ℕ) (left right : List CellKind) (n : Node) (s : Stage) (x y : ℕ) →
     IsReady texts capacity left right n s x y → (hl hr out : List Edge) → StageKeeps texts n s x y hl hr out → StageKeeps more n s x y hl hr out
@@ -40,11 +57,11 @@ keeps_longer texts more begins capacity left right n (Rows s) x y ready hl hr ou
   came = came_longer texts more begins x hl kept.came;
   made = made_longer texts capacity left n s ready more begins hl out kept.came.placed kept.made;
 }
-
--- all places in what it answered are in the table
-pub keeps_placed : (texts : List (List ℕ)) (capacity : ℕ) (left right : List CellKind) (n : Node) (s : Stage) (x y : ℕ) → IsReady texts capacity left right n s x y →
-    (hl hr out : List Edge) → StageKeeps texts n s x y hl hr out → EdgesArePlaced texts out
-keeps_placed texts capacity left right n (Rows s) x y ready hl hr out kept = made_placed texts capacity left n s ready hl out kept.came.placed kept.made
+keeps_longer texts more begins capacity left right n (Life o) x y ready hl hr out kept = lives_longer (node_of o.change) more texts o.left_to o.right_to o.carried.edges hl hr out begins kept
+keeps_longer texts more begins capacity left right n (Union o) x y ready hl hr out kept = union_longer more texts o.left_to o.right_to o.left.edges o.right.edges hl hr out begins kept
+keeps_longer texts more begins capacity left right n (Extend o) x y ready hl hr out kept = extended_longer o.by more texts o.left_to o.right_to o.carried.edges (edges_of_pending o.ends) hl hr out begins kept
+keeps_longer texts more begins capacity left right n (Join o) x y ready hl hr out kept = join_longer o.sides.rows.left_key.items o.sides.rows.right_key.items (map cell_kind_of o.left_kinds.items) (map cell_kind_of o.right_kinds.items) more texts o.left_to o.right_to o.sides.rows.left.rows o.sides.rows.right.rows (queued o.sides.left_waiting) (queued o.sides.right_waiting) hl hr out begins kept
+keeps_longer texts more begins capacity left right n (Group o) x y ready hl hr out kept = grouped_longer o.groups.key.items o.groups.aggs.items more texts o.groups.rows.rows o.running o.waiting o.left_to hl hr out begins kept
 
 -- what it answered stands for the node
 pub stage_stands : (texts : List (List ℕ)) → AreDistinct texts → (capacity : ℕ) (left right : List CellKind) (n : Node) (s : Stage) (x y : ℕ) →
@@ -53,6 +70,23 @@ pub stage_stands : (texts : List (List ℕ)) → AreDistinct texts → (capacity
 stage_stands texts distinct capacity left right n (Rows s) x y ready hl hr out kept =
     made_stand texts capacity left n s ready distinct x y hl out (read_of texts hl) (read_of texts hr) kept.made
     (record { history = kept.came.history; below = kept.came.below; placed = kept.came.placed; known = Known-refl x (read_of texts hl) kept.came.low (node_valid texts (Source 0) hl [] kept.came.history no_history) })
+stage_stands texts distinct capacity left right n (Life o) x y ready hl hr out kept =
+    operator_stands capacity left right n (life_standing o) x y ready texts hl hr out (lives_rows (node_of o.change) texts o.left_to o.right_to o.carried.edges hl hr out (known o.change) distinct kept)
+stage_stands texts distinct capacity left right n (Union o) x y ready hl hr out kept =
+    operator_stands capacity left right n (union_standing o) x y ready texts hl hr out (union_rows texts o.left_to o.right_to o.left.edges o.right.edges hl hr out distinct kept)
+stage_stands texts distinct capacity left right n (Extend o) x y ready hl hr out kept =
+    operator_stands capacity left right n (extend_standing o) x y ready texts hl hr out (extended_rows o.by texts o.left_to o.right_to o.carried.edges (edges_of_pending o.ends) hl hr out distinct kept)
+stage_stands texts distinct capacity left right n (Join o) x y ready hl hr out kept =
+    operator_stands capacity left right n (join_standing o) x y ready texts hl hr out
+    (join_stands o.sides.rows.left_key.items o.sides.rows.right_key.items (map cell_kind_of o.left_kinds.items) (map cell_kind_of o.right_kinds.items) texts o.left_to o.right_to o.sides.rows.left.rows o.sides.rows.right.rows
+    (queued o.sides.left_waiting) (queued o.sides.right_waiting) hl hr out distinct kept)
+stage_stands texts distinct capacity left right n (Group o) x y ready hl hr out kept =
+    operator_stands capacity left right n (group_standing o) x y ready texts hl hr out (grouped_stands o.groups.key.items o.groups.aggs.items texts o.groups.rows.rows o.running o.waiting o.left_to hl hr out distinct kept)
+
+-- and all places in it are in the table
+pub keeps_placed : (texts : List (List ℕ)) → AreDistinct texts → (capacity : ℕ) (left right : List CellKind) (n : Node) (s : Stage) (x y : ℕ) → IsReady texts capacity left right n s x y →
+    (hl hr out : List Edge) → StageKeeps texts n s x y hl hr out → EdgesArePlaced texts out
+keeps_placed texts distinct capacity left right n s x y ready hl hr out kept = (stage_stands texts distinct capacity left right n s x y ready hl hr out kept).placed
 
 -- of a Source, a Where or a Select: no instant is undefined
 never : (c : ℕ) → first_below (λ t. false) c ≡ None
@@ -74,3 +108,7 @@ module _ (texts : List (List ℕ)) (capacity : ℕ) (kinds : List CellKind) (n :
     subst (λ c. failing (is_from c) answer ≡ 0) (sym (by_node texts capacity kinds n s is (λ m. node_closes m x y ≡ x) (λ stream. refl) (λ of test. refl) (λ of items. refl)))
         (made_later texts capacity kinds n s is l answer made x may.may.from),
   )
+
+  -- and the answer is of the node's columns, whatever those of the right list, which it does not read
+  pub rows_kinds : (left right : List CellKind) → node_kinds n left [] ≡ node_kinds n left right
+  rows_kinds left right = by_node texts capacity kinds n s is (λ m. node_kinds m left [] ≡ node_kinds m left right) (λ stream. refl) (λ of test. refl) (λ of items. refl)

@@ -1,15 +1,17 @@
 -- The step of one node of a plan, over the lists that it reads.
-use Rattle.std.specs.Prelude.{◌≡◌, ℕ, zero, suc, ◌+◌, ◌<◌, ◌≤◌, Some, None, List, [], map, length, get_or, slice_get, slice_set}
+use Rattle.std.specs.Prelude.{◌≡◌, ℕ, zero, suc, ◌+◌, ◌<◌, ◌≤◌, Some, None, List, [], ◌++◌, length, get_or, slice_get, slice_set}
 use Rattle.std.proofs.Common.{refl, sym, ap, subst, ◌∙◌, arith, inl, inr}
 use Rattle.std.proofs.lemmas.Bool.{cases_lt}
 use Rattle.std.proofs.lemmas.List.{get_or-set_same, get_or-set_other}
 use Rattle.std.proofs.lemmas.Option.{slice_get-get_or, slice_get_within, get_or_from_slice_get}
+use Rattle.tw_rows.specs.Cells.{ArePlaced}
 use Rattle.tw_rows.specs.Instant.{inf}
 use Rattle.tw_rows.specs.declared.edge.Edge.{Edge}
 use Rattle.tw_rows.specs.declared.kind.CellKind.{CellKind}
 use Rattle.batch.specs.Shelves.{Shelves}
 use Rattle.edge_history.specs.Order.{is_from, failing}
 use Rattle.edge_stream.specs.Listing.{EdgeListView, cells_of}
+use Rattle.edge_stream.proofs.Placed.{All-right}
 use Rattle.plan_model.specs.declared.node.Node.{Node}
 use Rattle.plan_model.specs.declared.node.Node.TheVariants.{Source}
 use Rattle.plan_model.specs.IsPlan.{PlanParts, IsPlan, kinds_at, node_kinds, most_columns}
@@ -18,7 +20,6 @@ use Rattle.plan_model.proofs.Closings.{left_rises, right_rises}
 use Rattle.plan_model.proofs.Kept.{IsPlan-ordered}
 use Rattle.plan_model.proofs.Plans.{left_of_below, at_child_below}
 use Rattle.plan_laws.specs.Undefined.{overflow}
-use Rattle.lane_expr.specs.Kernels.{kind_for}
 use Rattle.node_laws.specs.Places.{AreDistinct, EdgesArePlaced}
 use Rattle.node_laws.specs.Standing.{SourcesStandRead}
 use Rattle.plan_stages.specs.declared.stage.Stage.{Stage}
@@ -26,7 +27,7 @@ use Rattle.plan_stages.specs.Lists.{longer, AreFrom, IsListOf}
 use Rattle.plan_stages.specs.Stages.{reached, left_closing, right_closing, left_kinds, right_kinds, IsReady, CanTake, StageKeeps, KeepsOn, StaysReady, IsUndefinedAt, IsAnswerOf}
 use Rattle.plan_stages.specs.Flows.{AreReady, CanStep, Flows, HasFlowed, parts_of}
 use Rattle.plan_stages.specs.Held.{IsListWith, HeldBefore, HeldBetween}
-use Rattle.plan_stages.proofs.HeldLists.{with_list, with_list-at, with_list-below, list_stored}
+use Rattle.plan_stages.proofs.HeldLists.{with_list, with_list-at, with_list-below}
 use Rattle.plan_stages.proofs.Flowing.{Progress, progress_same, progress_next, first_found, reached_below}
 use Rattle.plan_stages.proofs.Undefining.{no_overflow, overflow_at}
 
@@ -37,10 +38,6 @@ reached_after last (suc p) c later = refl
 ready_as : (texts : List (List ℕ)) (c d : ℕ) (k l j m : List CellKind) (n : Node) (s : Stage) (x y : ℕ) → c ≡ d → k ≡ l → j ≡ m → IsReady texts c k j n s x y → IsReady texts d l m n s x y
 ready_as texts c d k l j m n s x y e f g h = subst (λ z. IsReady texts d l z n s x y) g (subst (λ z. IsReady texts d z j n s x y) f (subst (λ z. IsReady texts z k j n s x y) e h))
 
--- plain lists
-pub list_plain : (texts : List (List ℕ)) (capacity : ℕ) (kinds : List CellKind) (l : EdgeListView) → IsListOf texts capacity kinds l → l.kinds ≡ map kind_for (cells_of l)
-list_plain texts capacity kinds l is = is.plain ∙ ap (map kind_for) (sym (list_stored texts capacity kinds l is))
-
 module _ (texts : List (List ℕ)) (plan : PlanParts) (whole : IsPlan plan) (capacity p : ℕ) (within : p ≤ inf) (i : ℕ) (n : Node) (there : slice_get plan.nodes i ≡ Some n) (given more : ℕ → List Edge)
     (left right : EdgeListView) (is_left : IsListWith texts capacity (left_kinds plan n) (left_of [] given more n) left) (is_right : IsListWith texts capacity (right_kinds plan n) (right_of [] more n) right)
     (stages : List Stage) (s : Stage) (at : slice_get stages i ≡ Some s) (u v : ℕ) (eu : u ≡ left_closing plan.nodes p n) (ev : v ≡ right_closing plan.nodes p n) where
@@ -48,7 +45,7 @@ module _ (texts : List (List ℕ)) (plan : PlanParts) (whole : IsPlan plan) (cap
       IsReady texts left.capacity (cells_of left) (cells_of right) n s (reached last (left_closing plan.nodes last n)) (reached last (right_closing plan.nodes last n))
   ready_in last ready =
       ready_as texts capacity left.capacity (left_kinds plan n) (cells_of left) (right_kinds plan n) (cells_of right) n s _ _
-      (sym is_left.list.rows) (sym (list_stored texts capacity (left_kinds plan n) left is_left.list)) (sym (list_stored texts capacity (right_kinds plan n) right is_right.list)) (ready i n s there at)
+      (sym is_left.list.rows) (sym is_left.list.cells) (sym is_right.list.cells) (ready i n s there at)
 
   pub can_take : (last : ℕ) → AreReady texts capacity plan last stages → last < p → CanTake texts left right s u v
   can_take last ready later = record {
@@ -66,10 +63,10 @@ module _ (texts : List (List ℕ)) (plan : PlanParts) (whole : IsPlan plan) (cap
   pub answer_is : (last : ℕ) → AreReady texts capacity plan last stages → (answer : EdgeListView) → IsAnswerOf texts left right s answer → EdgesArePlaced texts answer.edges → answer.capacity ≡ left.capacity →
       IsListOf texts capacity (kinds_at plan.schemas i) answer
   answer_is last ready answer kinds placed rows = record {
-    plain = kinds n _ _ (ready_in last ready)
-        ∙ ap (λ l. map kind_for (node_kinds n l (cells_of right))) (list_stored texts capacity (left_kinds plan n) left is_left.list)
-        ∙ ap (λ r. map kind_for (node_kinds n (left_kinds plan n) r)) (list_stored texts capacity (right_kinds plan n) right is_right.list)
-        ∙ ap (map kind_for) (sym (whole.nodes_are.each i n there).kinds);
+    cells = kinds n _ _ (ready_in last ready)
+        ∙ ap (λ l. node_kinds n l (cells_of right)) is_left.list.cells
+        ∙ ap (node_kinds n (left_kinds plan n)) is_right.list.cells
+        ∙ sym (whole.nodes_are.each i n there).kinds;
     rows = rows ∙ is_left.list.rows;
     placed = placed;
   }
@@ -81,7 +78,7 @@ module _ (texts : List (List ℕ)) (plan : PlanParts) (whole : IsPlan plan) (cap
       subst (λ x. IsReady texts capacity (left_kinds plan n) (right_kinds plan n) n new x (right_closing plan.nodes p n)) eu
       (subst (λ y. IsReady texts capacity (left_kinds plan n) (right_kinds plan n) n new u y) ev
       (ready_as texts left.capacity capacity (cells_of left) (left_kinds plan n) (cells_of right) (right_kinds plan n) n new u v
-      is_left.list.rows (list_stored texts capacity (left_kinds plan n) left is_left.list) (list_stored texts capacity (right_kinds plan n) right is_right.list)
+      is_left.list.rows is_left.list.cells is_right.list.cells
       (stays.stays n _ _ (ready_in last ready))))
 
   module _ (last : ℕ) (source : Sources) (old lists : ℕ → List Edge) (distinct : AreDistinct texts) (later : last < p) (from : SourcesStandRead texts p source (longer old given)) (begun : AreFrom last given)
@@ -113,6 +110,13 @@ module _ (texts : List (List ℕ)) (plan : PlanParts) (whole : IsPlan plan) (cap
         (slice_set now i new)
         (λ k d lower. get_or-set_other now i k new d (λ e. absurd (omega (arith, lower, e))))
         (λ d. get_or-set_same now i new d low)
+
+    -- and the places in what it answers are in the table
+    pub answer_placed : (new : Stage) (answer : EdgeListView) → KeepsOn texts left right s new u v answer → StaysReady texts left right s new u v → IsUndefinedAt texts left right s u v None → i < length now →
+        EdgesArePlaced texts answer.edges
+    answer_placed new answer on stays undefined low =
+        let stands = (progress_made new answer on stays undefined low).stand i (omega arith) in
+        All-right (λ e. ArePlaced texts e.cells) (lists i) answer.edges (subst (λ es. EdgesArePlaced texts (lists i ++ es)) (with_list-at more i answer.edges) stands.placed)
 
 -- the stages so far are ready, also with the one that took its step
 pub ready_next : (texts : List (List ℕ)) (plan : PlanParts) (capacity p : ℕ) (now : List Stage) (i : ℕ) (n : Node) → slice_get plan.nodes i ≡ Some n → (new : Stage) → i < length now →

@@ -11,7 +11,7 @@ use Rattle.node_laws.specs.Places.{AreDistinct}
 use Rattle.node_laws.specs.Standing.{SourcesStandRead, AllStandRead}
 use Rattle.plan_stages.specs.declared.stage.Stage.{Stage}
 use Rattle.plan_stages.specs.Lists.{longer, AreFrom}
-use Rattle.plan_stages.specs.Stages.{reached, left_closing, right_closing, left_kinds, right_kinds, IsReady, StageKeeps}
+use Rattle.plan_stages.specs.Stages.{reached, left_closing, right_closing, left_kinds, right_kinds, IsReady, StageKeeps, KeepsAtMost}
 
 -- what contracts see of a plan at work: the plan, its stages, how many rows each batch has room for, and how many columns the
 -- pools hold
@@ -46,6 +46,20 @@ pub record Flows (texts : List (List ℕ)) (last : ℕ) (given lists : ℕ → L
       StageKeeps texts n s (reached last (left_closing d.plan.nodes last n)) (reached last (right_closing d.plan.nodes last n))
       (left_of [] given lists n) (right_of [] lists n) (lists i)
 
+-- the step at the punctuation p may be taken with these edges, given for each stream: there is something of which the stages
+-- took their steps before, a last punctuation before p, and sources for which the edges before and these stand below p, where
+-- these come at the last punctuation or later
+pub record MayStep (texts : List (List ℕ)) (p : ℕ) (given : ℕ → List Edge) (d : DataflowView) : Type 0 where
+  pub last : ℕ
+  pub old : ℕ → List Edge
+  pub lists : ℕ → List Edge
+  pub source : Sources
+  pub distinct : AreDistinct texts
+  pub flows : Flows texts last old lists d
+  pub later : last < p
+  pub stand : SourcesStandRead texts p source (longer old given)
+  pub from : AreFrom last given
+
 -- what a step gives at the punctuation p, after `last`, for more edges of the streams: more edges of each node, `out` of them
 -- those of the root. Each node's list then stands for its events below its closing, and no node is undefined there
 pub record HasFlowed (texts : List (List ℕ)) (last p : ℕ) (source : Sources) (old given lists : ℕ → List Edge) (d : DataflowView)
@@ -67,3 +81,8 @@ GivesOn texts p given d after out = (last : ℕ) (old lists : ℕ → List Edge)
 abbrev pub OverflowsAt : List (List ℕ) → ℕ → (ℕ → List Edge) → DataflowView → ℕ → ℕ → Type 0
 OverflowsAt texts p given d node time = (last : ℕ) (old lists : ℕ → List Edge) (source : Sources) → AreDistinct texts → Flows texts last old lists d → last < p →
     SourcesStandRead texts p source (longer old given) → AreFrom last given → overflow source d.plan.nodes p ≡ Some (record { node = node; time = time })
+
+-- a pair for each stage, in order: its number, and how many entries it keeps, which are no more than its node may
+pub record AreHeldBy (stages : List Stage) (pairs : List (ℕ × ℕ)) : Type 0 where
+  pub count : length pairs ≡ length stages
+  pub each : (i : ℕ) (s : Stage) → slice_get stages i ≡ Some s → (held : ℕ) × ((slice_get pairs i ≡ Some (i, held)) × KeepsAtMost held s)

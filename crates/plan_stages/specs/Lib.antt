@@ -1,5 +1,6 @@
--- Callers read Lists, Stages and Flows; private contracts alone cite Held.
+-- Callers read Lists, Stages and Flows; private contracts alone cite Operating and Held.
 pub mod Lists
+pub mod Operating
 pub mod Stages
 pub mod Flows
 pub mod Held

@@ -1,12 +1,11 @@
 -- Lists of edges by number: those of streams and those of nodes.
-use Rattle.std.specs.Prelude.{◌≡◌, ℕ, zero, suc, List, [], ◌∷◌, ◌++◌, length, map, slice_get, Some}
+use Rattle.std.specs.Prelude.{◌≡◌, ℕ, zero, suc, List, [], ◌∷◌, ◌++◌, length, slice_get, Some}
 use Rattle.tw_rows.specs.declared.edge.Edge.{Edge}
 use Rattle.tw_rows.specs.declared.kind.CellKind.{CellKind}
 use Rattle.edge_history.specs.Order.{is_from, failing}
-use Rattle.edge_stream.specs.Listing.{EdgeListView}
+use Rattle.edge_stream.specs.Listing.{EdgeListView, cells_of}
 use Rattle.plan_model.specs.IsPlan.{PlanParts, kinds_of_stream}
 use Rattle.node_laws.specs.Places.{EdgesArePlaced}
-use Rattle.lane_expr.specs.Kernels.{kind_for}
 
 -- the edges of the list of that number, and none past the lists
 abbrev pub edges_at : List EdgeListView → ℕ → List Edge
@@ -22,10 +21,10 @@ longer lists more k = lists k ++ more k
 abbrev pub AreFrom : ℕ → (ℕ → List Edge) → Type 0
 AreFrom c lists = (k : ℕ) → failing (is_from c) (lists k) ≡ 0
 
--- the list is one of columns that are stored so, each of the plain kind that is, in batches of this capacity, and its places
--- are in the table. A column of decimals with 2 places is stored as whole numbers, and so is a column of ints here
+-- the list is one of columns that are stored so, in batches of this capacity, and its places are in the table. A column of
+-- decimals with 2 places is stored as whole numbers, as a column of ints is
 pub record IsListOf (texts : List (List ℕ)) (capacity : ℕ) (kinds : List CellKind) (l : EdgeListView) : Type 0 where
-  pub plain : l.kinds ≡ map kind_for kinds
+  pub cells : cells_of l ≡ kinds
   pub rows : l.capacity ≡ capacity
   pub placed : EdgesArePlaced texts l.edges
 

@@ -3,9 +3,9 @@ ghost use Rattle.std.specs.Prelude.{◌≡◌, ◌<◌, ◌≤◌, ℕ, true, So
 ghost use Rattle.tw_rows.specs.Texts.{BeginsWith};
 ghost use Rattle.plan_model.specs.declared.node.Node.{Node};
 ghost use Rattle.plan_model.specs.IsPlan.{kinds_at};
-ghost use Rattle.plan_model.specs.Reach.{is_built};
+ghost use Rattle.built_nodes.specs.Built.{is_built};
 ghost use Rattle.plan_stages.specs.Lists.{edges_at, AreGiven, IsListOf};
-ghost use Rattle.plan_stages.specs.Flows.{CanStep, Flows, GivesOn, OverflowsAt};
+ghost use Rattle.plan_stages.specs.Flows.{MayStep, Flows, GivesOn, OverflowsAt, AreHeldBy};
 ghost use Rattle.plan_stages.specs.Held.{AreFresh};
 
 use crate::fault::PlanFault;
@@ -29,9 +29,13 @@ pub struct Dataflow {
 }
 
 impl Model for Dataflow {
+    ghost use Rattle.std.specs.Coded.{codes};
+    ghost use Rattle.plan_stages.specs.contracts.stage.Stage as stage;
     ghost use Rattle.plan_stages.specs.Flows.{DataflowView};
 
     ghost Value = { DataflowView };
+
+    ghost coded = { Prim.hlevel (codes, stage.the_row.coded) };
 
     ghost view = { λ d. record { plan = d.plan; stages = d.stages.items; capacity = d.pools.capacity; limit = d.pools.limit } };
 }
@@ -43,7 +47,8 @@ fn stages_of(
     capacity: usize,
     texts: &mut TextTable,
 ) -> Result<Vec<Stage>, Memory>
-    requires { (i : ℕ) (n : Node) → slice_get plan.now.nodes i ≡ Some n → is_built n ≡ true }
+    requires room { 1 ≤ capacity }
+    requires built { (i : ℕ) (n : Node) → slice_get plan.now.nodes i ≡ Some n → is_built n ≡ true }
     ensures fresh { IfOk result (λ stages. AreFresh texts.new capacity plan.now stages.items) }
     ensures begins { BeginsWith texts.new texts.old }
 {
@@ -52,6 +57,17 @@ fn stages_of(
         stages.push(Stage::new(alloc, plan, i, capacity, texts)?)?;
     }
     Ok(stages)
+}
+
+// For each stage its number, and how many entries it keeps.
+fn held_by(alloc: Global, stages: &[Stage]) -> Result<Vec<(usize, u64)>, Memory>
+    ensures { IfOk result (λ held. AreHeldBy stages.now held.items) }
+{
+    let mut held = Vec::new(alloc);
+    for i in 0..stages.len() {
+        held.push((i, stages[i].held()))?;
+    }
+    Ok(held)
 }
 
 impl Dataflow {
@@ -87,6 +103,20 @@ impl Dataflow {
         &self.plan
     }
 
+    /// What computes each node, in order of number.
+    pub fn stages(&self) -> &[Stage]
+        ensures { result.now ≡ self.now.stages }
+    {
+        &self.stages
+    }
+
+    /// For each node, in order, its number and how many entries its stage keeps for later steps.
+    pub fn held(&self) -> Result<Vec<(usize, u64)>, Memory>
+        ensures { IfOk result (λ held. AreHeldBy self.now.stages held.items) }
+    {
+        held_by(self.alloc, &self.stages)
+    }
+
     /// One step of each node, in order of number, at the punctuation `p`, which is later than the last one: of the new edges
     /// of each stream the new edges of the root. After a fault no further step may be taken.
     pub fn step(
@@ -95,12 +125,11 @@ impl Dataflow {
         given: Vec<EdgeList>,
         p: Time,
     ) -> Result<EdgeList, PlanFault>
-        requires can { (last : ℕ) × (CanStep texts.now last self.old × (last < p)) }
+        requires may { MayStep texts.now p (edges_at given.items) self.old }
         requires given { AreGiven texts.now self.old.capacity self.old.plan given.items }
         ensures flowed { IfOk result (λ out. GivesOn texts.now p (edges_at given.items) self.old self.new out.edges) }
         ensures overflow { IfErr result (λ fault. (node time : ℕ) → fault ≡ PlanFault.Overflow node time → OverflowsAt texts.now p (edges_at given.items) self.old node time) }
         ensures list { IfOk result (λ out. IsListOf texts.now self.old.capacity (kinds_at self.old.plan.schemas self.old.plan.root) out) }
-        ensures can { OnOk result (CanStep texts.now p self.new) }
         ensures plan { self.new.plan ≡ self.old.plan }
         ensures capacity { self.new.capacity ≡ self.old.capacity }
     {

@@ -2,7 +2,7 @@
 ghost use Rattle.std.specs.Prelude.{ℕ, ◌<◌, List, length};
 ghost use Rattle.tw_rows.specs.Texts.{BeginsWith};
 ghost use Rattle.tw_rows.specs.declared.edge.Edge.{Edge};
-ghost use Rattle.node_laws.specs.Places.{EdgesArePlaced};
+ghost use Rattle.node_laws.specs.Places.{AreDistinct, EdgesArePlaced};
 ghost use Rattle.plan_stages.specs.Flows.{DataflowView, CanStep, Flows};
 
 /// A table that grows changes nothing of a plan at work.
@@ -16,5 +16,6 @@ pub fn plans_flow_on_with_longer_tables()
 /// All places in the edges that the nodes answered are in the table.
 pub fn answers_have_their_places()
     ensures { (texts : List (List ℕ)) (last : ℕ) (given lists : ℕ → List Edge) (d : DataflowView) →
-        Flows texts last given lists d → (k : ℕ) → k < length d.plan.nodes → EdgesArePlaced texts (lists k) }
+        AreDistinct texts → Flows texts last given lists d → (k : ℕ) → k < length d.plan.nodes →
+        EdgesArePlaced texts (lists k) }
 {}

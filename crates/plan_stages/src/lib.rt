@@ -1,9 +1,11 @@
 //! A plan at work: all its nodes take one step at each punctuation, in order of number.
 #![tactic(auto)]
 
+mod any_operator;
 mod dataflow;
 mod fault;
 mod laws;
+mod making;
 mod reading;
 mod stage;
 mod steps;

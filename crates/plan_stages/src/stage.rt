@@ -3,16 +3,23 @@ ghost use Rattle.std.specs.Prelude.{◌≡◌, ◌<◌, ◌≤◌, ℕ, true, So
 ghost use Rattle.tw_rows.specs.Texts.{BeginsWith};
 ghost use Rattle.plan_model.specs.declared.node.Node.{Node};
 ghost use Rattle.plan_model.specs.IsPlan.{most_columns};
-ghost use Rattle.plan_model.specs.Reach.{is_built};
+ghost use Rattle.built_nodes.specs.Built.{is_built};
 ghost use Rattle.node_laws.specs.Places.{EdgesArePlaced};
-ghost use Rattle.node_stage.specs.Stages.{ArePlain};
-ghost use Rattle.plan_stages.specs.Stages.{left_kinds, right_kinds, IsReady, CanTake, StageKeeps, StaysReady, KeepsOn, IsUndefinedAt, IsAnswerOf};
+ghost use Rattle.plan_stages.specs.Stages.{left_kinds, right_kinds, IsReady, CanTake, StageKeeps, StaysReady, KeepsOn, IsUndefinedAt, IsAnswerOf, KeepsAtMost};
 
+use crate::any_operator::step_operator;
+use crate::making::{extend_stage, group_stage, join_stage, life_stage, rows_stage, union_stage};
 use batch::Pools;
 use edge_stream::{EdgeList, StepFault};
-use plan_model::Plan;
+use extend_op::ExtendOperator;
+use lifetime_ops::{Change, LifeOperator};
+use operator::Operator;
+use plan_model::{Node, Plan};
+use snapshot_agg::Grouped;
 use std::alloc::Global;
+use temporal_join::Join;
 use tw_rows::{Memory, TextTable, Time};
+use union_clip::UnionOperator;
 
 /// What computes one node of a plan. Contracts see it through `IsReady` and `StageKeeps` alone, which are by cases of what it
 /// is.
@@ -20,6 +27,16 @@ use tw_rows::{Memory, TextTable, Time};
 pub enum Stage {
     /// Of a Source, a Where or a Select.
     Rows(node_stage::Stage),
+    /// Of a Delay, a Hop or a Duration.
+    Life(LifeOperator),
+    /// Of a Union.
+    Union(UnionOperator),
+    /// Of an Extend.
+    Extend(ExtendOperator),
+    /// Of a Join.
+    Join(Join),
+    /// Of a Group.
+    Group(Grouped),
 }
 
 impl Stage {
@@ -33,12 +50,48 @@ impl Stage {
         texts: &mut TextTable,
     ) -> Result<Stage, Memory>
         requires node { node < length plan.now.nodes }
+        requires room { 1 ≤ capacity }
         requires built { (n : Node) → slice_get plan.now.nodes node ≡ Some n → is_built n ≡ true }
         ensures ready { IfOk result (λ s. (n : Node) → slice_get plan.now.nodes node ≡ Some n → IsReady texts.new capacity (left_kinds plan.now n) (right_kinds plan.now n) n s 0 0) }
         ensures opens { IfOk result (λ s. (n : Node) → slice_get plan.now.nodes node ≡ Some n → StageKeeps texts.new n s 0 0 [] [] []) }
         ensures begins { BeginsWith texts.new texts.old }
     {
-        Ok(Stage::Rows(node_stage::Stage::new(alloc, plan, node, capacity, texts)?))
+        let nodes = plan.nodes();
+        match &nodes[node] {
+            Node::Delay { by, .. } => {
+                life_stage(alloc, plan, node, Change::Delay { by: *by }, capacity)
+            }
+            Node::Hop { size, period, .. } => {
+                let hop = Change::Hop {
+                    size: *size,
+                    period: *period,
+                };
+                life_stage(alloc, plan, node, hop, capacity)
+            }
+            Node::Duration { by, .. } => {
+                life_stage(alloc, plan, node, Change::Duration { by: *by }, capacity)
+            }
+            Node::Union { .. } => union_stage(alloc, plan, node, capacity),
+            Node::Extend { by, .. } => extend_stage(alloc, plan, node, *by, capacity),
+            Node::Join {
+                right,
+                left_key,
+                right_key,
+                ..
+            } => join_stage(
+                alloc,
+                plan,
+                node,
+                *right,
+                left_key.items(),
+                right_key.items(),
+                capacity,
+            ),
+            Node::Group { key, aggs, .. } => {
+                group_stage(alloc, plan, node, key.items(), aggs.items(), capacity)
+            }
+            _ => rows_stage(alloc, plan, node, capacity, texts),
+        }
     }
 
     /// What the node has to tell once the new edges of its sides came in, which are then closed up to the two times. Of a
@@ -54,7 +107,6 @@ impl Stage {
         right_to: Time,
     ) -> Result<EdgeList, StepFault>
         requires ready { CanTake texts.now left right self.old left_to right_to }
-        requires plain { ArePlain left.kinds × ArePlain right.kinds }
         requires capacity { (pools.old.capacity ≡ left.capacity) × (right.capacity ≡ left.capacity) }
         requires limit { most_columns ≤ pools.old.limit }
         requires placed { EdgesArePlaced texts.now left.edges × EdgesArePlaced texts.now right.edges }
@@ -63,7 +115,6 @@ impl Stage {
         ensures defined { OnOk result (IsUndefinedAt texts.now left right self.old left_to right_to None) }
         ensures overflow { IfErr result (λ fault. (time : ℕ) → fault ≡ StepFault.Overflow time → IsUndefinedAt texts.now left right self.old left_to right_to (Some time)) }
         ensures kinds { IfOk result (IsAnswerOf texts.now left right self.old) }
-        ensures placed { IfOk result (λ answer. EdgesArePlaced texts.now answer.edges) }
         ensures capacity { IfOk result (λ answer. answer.capacity ≡ left.capacity) }
         ensures pools { pools.new.capacity ≡ pools.old.capacity }
         ensures limit { pools.new.limit ≡ pools.old.limit }
@@ -72,6 +123,33 @@ impl Stage {
             Stage::Rows(stage) => step_rows(
                 stage, alloc, pools, texts, left, right, left_to, right_to,
             ),
+            Stage::Life(operator) => step_operator(operator, pools, left, right, left_to, right_to),
+            Stage::Union(operator) => {
+                step_operator(operator, pools, left, right, left_to, right_to)
+            }
+            Stage::Extend(operator) => {
+                step_operator(operator, pools, left, right, left_to, right_to)
+            }
+            Stage::Join(operator) => {
+                step_operator(operator, pools, left, right, left_to, right_to)
+            }
+            Stage::Group(operator) => {
+                step_operator(operator, pools, left, right, left_to, right_to)
+            }
+        }
+    }
+
+    /// How many entries it keeps for later steps.
+    pub fn held(&self) -> u64
+        ensures { KeepsAtMost result self.now }
+    {
+        match self {
+            Stage::Rows(_) => 0,
+            Stage::Life(operator) => operator.held(),
+            Stage::Union(operator) => operator.held(),
+            Stage::Extend(operator) => operator.held(),
+            Stage::Join(operator) => operator.held(),
+            Stage::Group(operator) => operator.held(),
         }
     }
 }
@@ -88,7 +166,6 @@ fn step_rows(
     right_to: Time,
 ) -> Result<EdgeList, StepFault>
     requires ready { CanTake texts.now left right (Stage.Rows stage.old) left_to right_to }
-    requires plain { ArePlain left.kinds × ArePlain right.kinds }
     requires capacity { (pools.old.capacity ≡ left.capacity) × (right.capacity ≡ left.capacity) }
     requires limit { most_columns ≤ pools.old.limit }
     requires placed { EdgesArePlaced texts.now left.edges × EdgesArePlaced texts.now right.edges }
@@ -97,7 +174,6 @@ fn step_rows(
     ensures defined { OnOk result (IsUndefinedAt texts.now left right (Stage.Rows stage.old) left_to right_to None) }
     ensures overflow { IfErr result (λ fault. (time : ℕ) → fault ≡ StepFault.Overflow time → IsUndefinedAt texts.now left right (Stage.Rows stage.old) left_to right_to (Some time)) }
     ensures kinds { IfOk result (IsAnswerOf texts.now left right (Stage.Rows stage.old)) }
-    ensures placed { IfOk result (λ answer. EdgesArePlaced texts.now answer.edges) }
     ensures capacity { IfOk result (λ answer. answer.capacity ≡ left.capacity) }
     ensures pools { pools.new.capacity ≡ pools.old.capacity }
     ensures limit { pools.new.limit ≡ pools.old.limit }

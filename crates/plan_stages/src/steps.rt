@@ -4,7 +4,7 @@ ghost use Rattle.plan_model.specs.declared.node.Node.{Node};
 ghost use Rattle.plan_model.specs.IsPlan.{kinds_at};
 ghost use Rattle.plan_stages.specs.Lists.{edges_at, AreGiven, IsListOf};
 ghost use Rattle.plan_stages.specs.Stages.{left_closing as left_closing_of, right_closing as right_closing_of};
-ghost use Rattle.plan_stages.specs.Flows.{parts_of, CanStep, GivesOn, OverflowsAt};
+ghost use Rattle.plan_stages.specs.Flows.{parts_of, MayStep, GivesOn, OverflowsAt};
 
 use crate::fault::PlanFault;
 use crate::reading::{left_list, right_list};
@@ -60,12 +60,11 @@ pub(crate) fn step_all(
     mut given: Vec<EdgeList>,
     p: Time,
 ) -> Result<EdgeList, PlanFault>
-    requires can { (last : ℕ) × (CanStep texts.now last (parts_of plan.now stages.old.items pools.old) × (last < p)) }
+    requires may { MayStep texts.now p (edges_at given.items) (parts_of plan.now stages.old.items pools.old) }
     requires given { AreGiven texts.now pools.old.capacity plan.now given.items }
     ensures flowed { IfOk result (λ out. GivesOn texts.now p (edges_at given.items) (parts_of plan.now stages.old.items pools.old) (parts_of plan.now stages.new.items pools.new) out.edges) }
     ensures overflow { IfErr result (λ fault. (node time : ℕ) → fault ≡ PlanFault.Overflow node time → OverflowsAt texts.now p (edges_at given.items) (parts_of plan.now stages.old.items pools.old) node time) }
     ensures list { IfOk result (λ out. IsListOf texts.now pools.old.capacity (kinds_at plan.now.schemas plan.now.root) out) }
-    ensures can { OnOk result (CanStep texts.now p (parts_of plan.now stages.new.items pools.new)) }
     ensures capacity { pools.new.capacity ≡ pools.old.capacity }
 {
     // Its call tells the proof that it is a time.

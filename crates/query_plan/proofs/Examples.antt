@@ -84,10 +84,6 @@ streams_are_sources = refl
 anti : step_nodes 3 both_streams 0 (S.Anti (98 ∷ []) ((107 ∷ []) ∷ [])) ≡ Ok (record { node = Group 1 (1 ∷ []) []; schema = text_column 107 ∷ [] } ∷ record { node = Anti 0 2 (0 ∷ []) (0 ∷ []); schema = text_column 107 ∷ int_column 118 ∷ [] } ∷ [])
 anti = refl
 
-an_anti_is_not_built : planned (over_a (S.Anti (98 ∷ []) ((107 ∷ []) ∷ []) ∷ [])) ≡ Err (F.NotBuilt 3)
-unfolding most_reach
-an_anti_is_not_built = refl
-
 -- join b on k, whose right columns are w and k
 join : step_nodes 3 both_streams 0 (S.Join (98 ∷ []) ((107 ∷ []) ∷ [])) ≡ Ok (record { node = Join 0 1 (0 ∷ []) (1 ∷ []); schema = text_column 107 ∷ int_column 118 ∷ int_column 119 ∷ [] } ∷ [])
 join = refl
@@ -106,9 +102,9 @@ group = refl
 a_sum_of_texts : step_nodes 3 both_streams 0 (S.Group [] (record { fun = G.Sum; column = Some (107 ∷ []); name = 116 ∷ [] } ∷ [])) ≡ Err (F.TypeClash 3)
 a_sum_of_texts = refl
 
-a_hop_is_not_built : planned (over_a (S.Hop 60 20 ∷ [])) ≡ Err (F.NotBuilt 3)
+a_coalesce_is_not_built : planned (over_a (S.Coalesce ∷ [])) ≡ Err (F.NotBuilt 3)
 unfolding most_reach
-a_hop_is_not_built = refl
+a_coalesce_is_not_built = refl
 
 a_period_that_does_not_divide : planned (over_a (S.Hop 60 25 ∷ [])) ≡ Err (F.BadWindow 3)
 unfolding most_reach
@@ -119,7 +115,7 @@ too_far : planned (over_a (S.Delay 1152921504606846977 ∷ [])) ≡ Err (F.Reach
 unfolding most_reach
 too_far = refl
 
-not_too_far : planned (over_a (S.Delay 1152921504606846976 ∷ [])) ≡ Err (F.NotBuilt 3)
+not_too_far : planned (over_a (S.Delay 1152921504606846976 ∷ S.Coalesce ∷ [])) ≡ Err (F.NotBuilt 4)
 unfolding most_reach
 not_too_far = refl
 
@@ -146,9 +142,9 @@ a_column_twice_in_a_join : planned (record (over_a (S.Join (98 ∷ []) ((107 ∷
 unfolding most_reach
 a_column_twice_in_a_join = refl
 
-a_group_is_not_built : planned (over_a (S.Group ((107 ∷ []) ∷ []) [] ∷ S.Hop 60 20 ∷ [])) ≡ Err (F.NotBuilt 3)
+a_window_over_a_group : planned (over_a (S.Group ((107 ∷ []) ∷ []) [] ∷ S.Hop 60 20 ∷ [])) ≡ Err (F.NotEventLevel 4)
 unfolding most_reach
-a_group_is_not_built = refl
+a_window_over_a_group = refl
 
 -- a hop over a group, whose rows are no events
 a_hop_over_a_group : step_nodes 4 (with_nodes both_streams (record { node = Group 0 (0 ∷ []) []; schema = text_column 107 ∷ [] } ∷ [])) 2 (S.Hop 60 20) ≡ Err (F.NotEventLevel 4)

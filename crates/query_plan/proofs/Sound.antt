@@ -16,7 +16,8 @@ use Rattle.plan_model.specs.declared.fault.QueryFault.TheVariants as F
 use Rattle.plan_model.specs.declared.node.Node.{Node}
 use Rattle.plan_model.specs.declared.node.Node.TheVariants.{Source, Where, Select, Union, Delay, Hop, Duration, Extend, Session, Clip, Coalesce, Top, Follow}
 use Rattle.plan_model.specs.IsPlan.{kinds_of_schema, kinds_at, IsWindow, AreNarrow, PlanParts, IsPlan, most_columns}
-use Rattle.plan_model.specs.Reach.{event_level, is_built}
+use Rattle.plan_model.specs.Reach.{event_level}
+use Rattle.built_nodes.specs.Built.{is_built}
 use Rattle.plan_model.proofs.Growing.{no_nodes}
 use Rattle.query_text.specs.declared.query.Item.{Item}
 use Rattle.query_text.specs.declared.query.Let.{Let}

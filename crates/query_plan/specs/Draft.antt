@@ -8,7 +8,8 @@ use Rattle.plan_model.specs.declared.fault.QueryFault.{QueryFault}
 use Rattle.plan_model.specs.declared.fault.QueryFault.TheVariants as F
 use Rattle.plan_model.specs.declared.node.Node.{Node}
 use Rattle.plan_model.specs.declared.node.Node.TheVariants.{Source, Where, Select, Union, Delay, Hop, Duration, Extend, Session, Clip, Group, Join, Anti, Coalesce, Mean, Top, Follow}
-use Rattle.plan_model.specs.Reach.{reach, is_built}
+use Rattle.plan_model.specs.Reach.{reach}
+use Rattle.built_nodes.specs.Built.{is_built}
 use Rattle.plan_model.specs.IsPlan.{most_reach, most_nodes, most_columns}
 use Rattle.query_columns.specs.Schemas.{name_twice, key_twice}
 

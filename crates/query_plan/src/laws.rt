@@ -2,7 +2,7 @@
 ghost use Rattle.std.specs.Prelude.{ℕ, ◌≡◌, List, IsTrue};
 ghost use Rattle.std.specs.List.{list_all};
 ghost use Rattle.plan_model.specs.IsPlan.{PlanParts, IsPlan};
-ghost use Rattle.plan_model.specs.Reach.{is_built};
+ghost use Rattle.built_nodes.specs.Built.{is_built};
 ghost use Rattle.query_text.specs.declared.query.Query.{Query};
 ghost use Rattle.query_text.specs.declared.query.QueryStep.{QueryStep};
 ghost use Rattle.query_plan.specs.Draft.{Draft, Planned, admitted};

@@ -1,11 +1,12 @@
 // Left joins: a join that keeps the left rows without a partner.
-ghost use Rattle.std.specs.Prelude.{◌≡◌, ◌+◌, ◌<◌, ◌^◌, ◌++◌, ◌∷◌, [], ok_or, IfOk, length, map};
+ghost use Rattle.std.specs.Prelude.{◌≡◌, ◌+◌, ◌<◌, ◌^◌, ◌++◌, ◌∷◌, [], ok_or, IfOk, OnOk, length, map};
 ghost use Rattle.tw_rows.specs.Instant.{instants};
 ghost use Rattle.plan_model.specs.declared.fault.QueryFault.TheVariants as F;
 ghost use Rattle.query_columns.specs.Names.{tree_exprs};
 ghost use Rattle.query_columns.specs.Types.{tree_types};
 ghost use Rattle.query_plan.specs.Answer.{Is};
-ghost use Rattle.query_plan.specs.Steps.{columns_alone, filled_node, left_nodes, left_step};
+ghost use Rattle.plan_model.specs.declared.node.Node.{Node};
+ghost use Rattle.query_plan.specs.Steps.{anti_node, columns_alone, filled_node, join_node, joined, key_group, left_nodes, left_step};
 
 use crate::checks::needs;
 use crate::draft::{Draft, PlannedNode};
@@ -81,6 +82,60 @@ fn filled_node(
     Ok(PlannedNode { node, schema })
 }
 
+/// The union of the pairs, which have number `first`, and the filled rows three nodes behind them.
+fn left_union(
+    alloc: Global,
+    draft: &Draft,
+    at: usize,
+    sides: &Sides,
+    first: usize,
+) -> Result<PlannedNode, Memory>
+    requires { first < 2 ^ 63 }
+    ensures { IfOk result (λ p. p ≡ record { node = Node.Union first (first + 3); schema = joined draft.now at sides.now }) }
+{
+    let schema = joined_schema(alloc, draft, at, sides)?;
+    let node = Node::Union {
+        left: first,
+        right: first + 3,
+    };
+    Ok(PlannedNode { node, schema })
+}
+
+/// Puts the pairs of a left join last, and the keys of its right rows behind them.
+fn push_pairs(
+    nodes: &mut Vec<PlannedNode>,
+    alloc: Global,
+    draft: &Draft,
+    at: usize,
+    sides: &Sides,
+) -> Result<(), Memory>
+    ensures { OnOk result (nodes.new.items ≡ nodes.old.items ++ join_node draft.now at sides.now ∷ key_group draft.now sides.now ∷ []) }
+{
+    nodes.push(join_node(alloc, draft, at, sides)?)?;
+    nodes.push(key_group(alloc, draft, sides)?)?;
+    Ok(())
+}
+
+/// Puts the left rows without a partner last, and the union of the pairs, which have number `first`, and these rows with
+/// the literals.
+fn push_rest(
+    nodes: &mut Vec<PlannedNode>,
+    alloc: Global,
+    draft: &Draft,
+    at: usize,
+    sides: &Sides,
+    first: usize,
+    filled: PlannedNode,
+) -> Result<(), Memory>
+    requires { first < 2 ^ 63 }
+    ensures { OnOk result (nodes.new.items ≡ nodes.old.items ++ anti_node draft.now at sides.now (first + 1) ∷ filled ∷ record { node = Node.Union first (first + 3); schema = joined draft.now at sides.now } ∷ []) }
+{
+    nodes.push(anti_node(alloc, draft, at, sides, first + 1)?)?;
+    nodes.push(filled)?;
+    nodes.push(left_union(alloc, draft, at, sides, first)?)?;
+    Ok(())
+}
+
 /// The five nodes of a left join behind `first` nodes.
 fn left_nodes(
     alloc: Global,
@@ -93,18 +148,10 @@ fn left_nodes(
     requires { first < 2 ^ 63 }
     ensures { IfOk result (λ v. v.items ≡ left_nodes draft.now at sides.now first fills.items) }
 {
-    let join = join_node(alloc, draft, at, sides)?;
-    let group = key_group(alloc, draft, sides)?;
-    let anti = anti_node(alloc, draft, at, sides, first + 1)?;
     let filled = filled_node(alloc, draft, at, sides, first + 2, fills)?;
-    let union = PlannedNode {
-        node: Node::Union {
-            left: first,
-            right: first + 3,
-        },
-        schema: joined_schema(alloc, draft, at, sides)?,
-    };
-    let nodes = vec![in alloc; join, group, anti, filled, union]?;
+    let mut nodes = Vec::new(alloc);
+    push_pairs(&mut nodes, alloc, draft, at, sides)?;
+    push_rest(&mut nodes, alloc, draft, at, sides, first, filled)?;
     Ok(nodes)
 }
 

@@ -69,14 +69,6 @@ fn faults_tell_their_item(rt: HostRuntime) {
             QueryFault::BadWindow { item: 2 },
         ),
         (
-            "stream s(v int); s | hop 20 10",
-            QueryFault::NotBuilt { item: 2 },
-        ),
-        (
-            "stream s(v int); s | group : count as n",
-            QueryFault::NotBuilt { item: 2 },
-        ),
-        (
             "stream s(p dec(2)); s | where p > 1.5",
             QueryFault::TypeClash { item: 2 },
         ),
@@ -129,10 +121,6 @@ fn faults_tell_their_item(rt: HostRuntime) {
             QueryFault::UnknownName { item: 2 },
         ),
         (
-            "stream l(k text, w int); stream r(k text, x int); l | left r on k else -1",
-            QueryFault::NotBuilt { item: 3 },
-        ),
-        (
             "stream l(k text, w int); stream r(k text, x int); l | left r on k",
             QueryFault::TypeClash { item: 3 },
         ),
@@ -161,8 +149,8 @@ fn faults_tell_their_item(rt: HostRuntime) {
             QueryFault::NameTaken { item: 3 },
         ),
         (
-            "stream s(v int); s | delay 1152921504606846976",
-            QueryFault::NotBuilt { item: 2 },
+            "stream s(v int); s | delay 1152921504606846976 | coalesce",
+            QueryFault::NotBuilt { item: 3 },
         ),
         (
             "stream s(v int); s | delay 1152921504606846977",

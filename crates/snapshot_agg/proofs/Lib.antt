@@ -5,5 +5,9 @@ pub mod PuttingOff
 pub mod Rerunning
 pub mod Sweeping
 pub mod Undefining
+pub mod Answering
 pub mod Stepping
+pub mod Standing
+pub mod Few
+pub mod Reloading
 pub mod Examples

@@ -1,5 +1,5 @@
 -- Edges that are put to those that wait, and taken out again.
-use Rattle.std.specs.Prelude.{◌≡◌, ℕ, ◌+◌, ◌<◌, ◌≤◌, ◌⊎◌, ◌↔◌, IsTrue, nat_eq, nat_lt, nat_le, Bool, true, false, cond, List, [], ◌∷◌, ◌++◌, All, refl}
+use Rattle.std.specs.Prelude.{◌≡◌, ℕ, ◌+◌, ◌<◌, ◌≤◌, ◌⊎◌, ◌↔◌, IsTrue, nat_eq, nat_lt, nat_le, Bool, true, false, cond, ◌||◌, List, [], ◌∷◌, ◌++◌, map, All, refl}
 use Rattle.std.proofs.Common.{inl, inr, sym, ◌∙◌, ap, subst, arith}
 use Rattle.std.proofs.lemmas.Bool.{cases_lt}
 use Rattle.std.proofs.lemmas.Bool.Decides.{nat_tests}
@@ -7,7 +7,13 @@ use Rattle.std.proofs.lemmas.List.Elements.{All-head, All-tail}
 use Rattle.tw_rows.specs.Bag.{total}
 use Rattle.tw_rows.specs.declared.edge.Edge.{Edge}
 use Rattle.tw_rows.proofs.Bags.{total-append, total-map}
-use Rattle.edge_history.specs.Order.{failing, is_from, is_below}
+use Rattle.tw_rows.specs.Cells.{datum_kind}
+use Rattle.tw_rows.specs.Instant.{inf}
+use Rattle.tw_rows.specs.declared.kind.CellKind.{CellKind}
+use Rattle.edge_history.specs.Balance.{given, start_edge, end_edge}
+use Rattle.edge_history.specs.Order.{failing, is_end, is_from, is_below}
+use Rattle.snapshot_agg.specs.Answering.{are_stored, is_stored}
+use Rattle.snapshot_agg.proofs.Answering.{kinds_stored}
 use Rattle.edge_history.specs.Opens.{singles, singles_of}
 use Rattle.end_queue.specs.Pending.{Pending, put_pending}
 use Rattle.snapshot_agg.specs.Waiting.{edges_in, WaitForThemselves}
@@ -92,3 +98,14 @@ not_due b s t h e = pick (cases_lt s t)
 -- the edge that is read next
 pub singles_next : (w : Edge → ℕ) (e : Edge) (old new : List Edge) → old ≡ e ∷ new → total w (singles old) ≡ total w (singles_of e) + total w (singles new)
 singles_next w e old new is = ap (λ l. total w (singles l)) is ∙ total-append w (singles_of e) (singles new)
+
+-- the single edges of an edge have its cells
+pub stored_singles : (kinds : List CellKind) (e : Edge) → map datum_kind e.cells ≡ kinds → failing (is_stored kinds) (singles_of e) ≡ 0
+stored_singles kinds e h = pick (is_end e || nat_eq e.other inf)
+  where
+    z : cond {A = ℕ} (are_stored kinds e.cells) 0 1 ≡ 0
+    z = ap (λ b. cond {A = ℕ} b 0 1) (kinds_stored kinds e.cells h)
+
+    pick : (b : Bool) → failing (is_stored kinds) (cond b (e ∷ []) (start_edge (given e) ∷ end_edge (given e) ∷ [])) ≡ 0
+    pick true = omega (arith, z)
+    pick false = omega (arith, z)

@@ -1,7 +1,11 @@
 -- A whole step of a group, in the form in which code has it.
-use Rattle.std.specs.Prelude.{◌≡◌, ℕ, ◌+◌, ◌≤◌, Option, Some, None, List, [], ◌++◌, refl}
+use Rattle.std.specs.Prelude.{◌≡◌, ℕ, ◌+◌, ◌≤◌, Option, Some, None, Bool, true, ◌&&◌, List, [], ◌∷◌, ◌++◌, map, All, refl}
 use Rattle.std.proofs.Common.{sym, ◌∙◌, ap, subst, arith}
+use Rattle.std.proofs.lemmas.Bool.{and_parts}
+use Rattle.std.proofs.lemmas.List.Elements.{All-nil, All-cons}
+use Rattle.tw_rows.specs.Cells.{datum_kind}
 use Rattle.tw_rows.specs.Instant.{inf}
+use Rattle.tw_rows.specs.declared.kind.CellKind.{CellKind}
 use Rattle.tw_rows.specs.Bag.{total}
 use Rattle.tw_rows.specs.Event.{alive}
 use Rattle.tw_rows.specs.SameCells.{same_cells}
@@ -9,7 +13,12 @@ use Rattle.tw_rows.specs.declared.cells.Datum.{Datum}
 use Rattle.tw_rows.specs.declared.edge.Edge.{Edge}
 use Rattle.tw_rows.specs.declared.edge.HeldRow.{HeldRow}
 use Rattle.tw_rows.proofs.Bags.{total-append}
-use Rattle.edge_history.specs.Order.{failing, is_from, is_below, Rises, IsHistory}
+use Rattle.edge_history.specs.Order.{failing, is_real, is_from, is_below, Rises, KeepsOrder, IsHistory}
+use Rattle.edge_history.proofs.Agreeing.{same_order}
+use Rattle.edge_history.proofs.Sums.{weaker}
+use Rattle.operator.specs.Steps.{ComeBetween}
+use Rattle.snapshot_agg.specs.Answering.{group_kinds, is_stored, is_answered, AreRunsOf, IsSoFar}
+use Rattle.snapshot_agg.proofs.Answering.{stored_kinds, first_passes}
 use Rattle.edge_history.specs.History.{CellEvent, of}
 use Rattle.edge_history.specs.Opens.{singles}
 use Rattle.edge_history.proofs.Telling.{told_nothing}
@@ -61,21 +70,21 @@ module _ (key : List ℕ) (aggs : List Agg) (came new waiting due deref rest : L
   takes w = parts w ∙ sym (puts w)
 
   pub step_keeps : (rows2 : List HeldRow) (run2 : List Datum → Option Run) (answer0 answer : List Edge) → answer0 ≡ [] →
-      ((a : List CellEvent) (s t : ℕ) → IsDue a s t deref → GroupSweeping (tell key aggs) (bad key aggs) a s rows run →
-      GroupSweeping (tell key aggs) (bad key aggs) a t rows2 run2 × Tells (grouped (key_data key) same_cells same_cells (tell key aggs) a) s t answer0 answer × IsDefined (bad key aggs) a s t) →
+      ((a : List CellEvent) (t : ℕ) → IsDue a c t deref → GroupSweeping (tell key aggs) (bad key aggs) a c rows run →
+      GroupSweeping (tell key aggs) (bad key aggs) a t rows2 run2 × Tells (grouped (key_data key) same_cells same_cells (tell key aggs) a) c t answer0 answer × IsDefined (bad key aggs) a c t) →
       Kept key aggs rows2 run2 rest d (came ++ new) (out ++ answer)
   step_keeps rows2 run2 answer0 answer empty swept =
       group_step (key_data key) same_cells keys_tell (tell key aggs) (tell_is_group key aggs) (bad key aggs) (bad_by_key key aggs)
       came new waiting (waiting ++ singles new) due rest c d low high whole from puts takes below later up rows run out k rows2 run2 answer0 answer empty
-      (λ due_is s. swept (of (came ++ new)) c d (subst (IsDue (of (came ++ new)) c d) (sym same) due_is) s)
+      (λ due_is s. swept (of (came ++ new)) d (subst (IsDue (of (came ++ new)) c d) (sym same) due_is) s)
 
   pub step_stops : (t : ℕ) →
-      ((a : List CellEvent) (s u : ℕ) → IsDue a s u deref → GroupSweeping (tell key aggs) (bad key aggs) a s rows run → IsFirstUndefined (bad key aggs) a s u t) →
+      ((a : List CellEvent) (u : ℕ) → IsDue a c u deref → GroupSweeping (tell key aggs) (bad key aggs) a c rows run → IsFirstUndefined (bad key aggs) a c u t) →
       first_below (λ v. is_undefined_in plain_cells key aggs (alive (of (came ++ new)) v)) d ≡ Some t
   step_stops t cause =
       let f = group_step_undefined (key_data key) same_cells keys_tell (tell key aggs) (tell_is_group key aggs) (bad key aggs) (bad_by_key key aggs)
       came new waiting (waiting ++ singles new) due rest c d low high whole from puts takes below later up rows run out k t
-      (λ due_is s. cause (of (came ++ new)) c d (subst (IsDue (of (came ++ new)) c d) (sym same) due_is) s) in
+      (λ due_is s. cause (of (came ++ new)) d (subst (IsDue (of (came ++ new)) c d) (sym same) due_is) s) in
       least_below (λ v. is_undefined_in plain_cells key aggs (alive (of (came ++ new)) v)) d t f.high
       (some_undefined key aggs f.found.0 (alive (of (came ++ new)) t) f.found.1)
       (λ u before. all_defined key aggs (alive (of (came ++ new)) u) (λ q. f.first q u (omega arith) before))
@@ -84,3 +93,40 @@ pub kept_defined : (key : List ℕ) (aggs : List Agg) (rows : List HeldRow) (run
     Kept key aggs rows run waiting d came out → first_below (λ v. is_undefined_in plain_cells key aggs (alive (of came) v)) d ≡ None
 kept_defined key aggs rows run waiting d came out k =
     none_below (λ v. is_undefined_in plain_cells key aggs (alive (of came) v)) d (λ t low. all_defined key aggs (alive (of came) t) (λ q. k.defined q t (omega arith) low))
+
+-- an answer with no edge yet
+pub so_far_empty : (kinds : List CellKind) (from to : ℕ) (run : List Datum → Option Run) (answer : List Edge) → answer ≡ [] → AreRunsOf kinds from run → IsSoFar kinds from from to run answer
+so_far_empty kinds from to run answer empty runs =
+    subst (IsSoFar kinds from from to run) (sym empty) (record { runs = runs; order = record { rises = tt; below = refl }; answered = refl })
+
+-- an answer up to a time is a list that its columns may hold, between the two times
+pub so_far_whole : (kinds : List CellKind) (from to : ℕ) (run : List Datum → Option Run) (answer : List Edge) → IsSoFar kinds from to to run answer →
+    KeepsOrder answer × All (λ e. map datum_kind e.cells ≡ kinds) answer × ComeBetween from to answer
+so_far_whole kinds from to run answer s = (
+  (same_order answer).1 (s.order.rises, weaker (is_answered kinds from to) is_real answer (λ e h. (parts e h).0) s.answered),
+  all_kinds answer s.answered,
+  record {
+    from = weaker (is_answered kinds from to) (is_from from) answer (λ e h. (parts e h).1) s.answered;
+    below = weaker (is_answered kinds from to) (is_below to) answer (λ e h. (parts e h).2) s.answered;
+  },
+)
+  where
+    parts : (e : Edge) → is_answered kinds from to e ≡ true → (is_real e ≡ true) × (is_from from e ≡ true) × (is_below to e ≡ true) × (is_stored kinds e ≡ true)
+    parts e h =
+        let a = and_parts (is_real e) (is_from from e && (is_below to e && is_stored kinds e)) h in
+        let b = and_parts (is_from from e) (is_below to e && is_stored kinds e) a.1 in
+        let c = and_parts (is_below to e) (is_stored kinds e) b.1 in
+        (a.0, b.0, c.0, c.1)
+
+    all_kinds : (es : List Edge) → failing (is_answered kinds from to) es ≡ 0 → All (λ e. map datum_kind e.cells ≡ kinds) es
+    all_kinds [] h = All-nil (λ (e : Edge). map datum_kind e.cells ≡ kinds)
+    all_kinds (e ∷ es) h =
+        All-cons (λ (e : Edge). map datum_kind e.cells ≡ kinds) e es (stored_kinds kinds e.cells (parts e (first_passes (is_answered kinds from to e) _ h)).3) (all_kinds es (omega (arith, h)))
+
+-- the same, where the kinds are told by those of the operator
+pub so_far_in : (key : List ℕ) (aggs : List Agg) (left cells own : List CellKind) (from to : ℕ) (waiting : List Edge) (run run2 : List Datum → Option Run) (answer : List Edge) →
+    own ≡ group_kinds key aggs left → cells ≡ left → failing (is_stored left) waiting ≡ 0 → AreRunsOf own from run →
+    (failing (is_stored cells) waiting ≡ 0 → AreRunsOf (group_kinds key aggs cells) from run → IsSoFar (group_kinds key aggs cells) from to to run2 answer) → IsSoFar own from to to run2 answer
+so_far_in key aggs left cells own from to waiting run run2 answer like same stored runs told =
+    let e = like ∙ ap (group_kinds key aggs) (sym same) in
+    subst (λ k. IsSoFar k from to to run2 answer) (sym e) (told (subst (λ k. failing (is_stored k) waiting ≡ 0) (sym same) stored) (subst (λ k. AreRunsOf k from run) e runs))

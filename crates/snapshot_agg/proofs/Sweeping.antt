@@ -10,7 +10,8 @@ use Rattle.tw_rows.specs.SameCells.{same_cells}
 use Rattle.tw_rows.specs.declared.cells.Datum.{Datum}
 use Rattle.tw_rows.specs.declared.edge.Edge.{Edge}
 use Rattle.tw_rows.specs.declared.edge.HeldRow.{HeldRow}
-use Rattle.edge_history.specs.Order.{failing}
+use Rattle.edge_history.specs.Order.{failing, is_from}
+use Rattle.edge_history.proofs.Telling.{answer_from}
 use Rattle.edge_history.specs.History.{CellEvent}
 use Rattle.edge_history.specs.Balance.{news}
 use Rattle.edge_history.specs.Opens.{ended_rows, started_rows, bare}
@@ -20,6 +21,8 @@ use Rattle.sweep_laws.specs.Sweeps.{is_at, IsPast, IsDue, InOrder, Tells}
 use Rattle.sweep_laws.specs.Running.{Run}
 use Rattle.sweep_laws.specs.Grouping.{keys_of, EndsTold, StartsTold, IsEarly, GroupSweeping, IsDefined, IsFirstUndefined, GroupReached}
 use Rattle.sweep_laws.proofs.GroupReaching.{group_instant, group_instant_undefined, group_reach_start, group_reach_step, group_reach_undefined, group_reach_end}
+use Rattle.tw_rows.specs.declared.kind.CellKind.{CellKind}
+use Rattle.snapshot_agg.specs.Answering.{group_kinds, is_stored, IsSoFar}
 use Rattle.snapshot_agg.specs.Words.{key_data, tell, bad}
 use Rattle.snapshot_agg.proofs.Totaling.{keys_tell, tell_is_group, bad_by_key}
 use Rattle.snapshot_agg.proofs.Lists.{starts_at, drop_past}
@@ -37,6 +40,11 @@ InstantTold t now rows rows2 run run2 before after key aggs = (a : List CellEven
 abbrev pub InstantUndefined : ℕ → List Edge → List HeldRow → (List Datum → Option Run) → List ℕ → List Agg → Type 0
 InstantUndefined t now rows run key aggs = (a : List CellEvent) → t < inf → AreEvents a → SameBag now (news t (suc t) a) →
     GroupSweeping (tell key aggs) (bad key aggs) a t rows run → IsFirstUndefined (bad key aggs) a t (suc t) t
+
+-- and the answer goes on
+abbrev pub InstantSoFar : List CellKind → ℕ → ℕ → ℕ → List Edge → (List Datum → Option Run) → (List Datum → Option Run) → List Edge → List Edge → List ℕ → List Agg → Type 0
+InstantSoFar left from to t now run run2 before after key aggs = from ≤ t → t < to → failing (is_stored left) now ≡ 0 →
+    IsSoFar (group_kinds key aggs left) from t to run before → IsSoFar (group_kinds key aggs left) from (suc t) to run2 after
 
 pub instant_told : (key : List ℕ) (aggs : List Agg) (t : ℕ) (now : List Edge) (rows rows2 : List HeldRow) (run0 run1 run2 : List Datum → Option Run) (answer0 answer1 answer2 : List Edge) →
     Moved now rows rows2 →
@@ -98,6 +106,13 @@ pub sweep_starts : (key : List ℕ) (aggs : List Agg) (a : List CellEvent) (from
     IsDue a from to due → GroupSweeping (tell key aggs) (bad key aggs) a from rows run → Reached key aggs a from to due rows run answer answer
 sweep_starts key aggs a from to due rows run answer d s =
     (from, group_reach_start (key_data key) same_cells keys_tell (tell key aggs) (tell_is_group key aggs) (bad key aggs) (bad_by_key key aggs) a from to due rows run answer d s)
+
+-- no edge comes before the time from which the sweep goes on
+pub sweep_from : (key : List ℕ) (aggs : List Agg) (a : List CellEvent) (from to n : ℕ) (due : List Edge) (rows : List HeldRow) (run : List Datum → Option Run) (answer : List Edge) →
+    (failing (is_from from) due ≡ 0 → n ≡ 0) → IsDue a from to due → GroupSweeping (tell key aggs) (bad key aggs) a from rows run → Reached key aggs a from to (drop n due) rows run answer answer
+sweep_from key aggs a from to n due rows run answer none d s =
+    let z = answer_from from to due a d.news_of in
+    subst (λ m. Reached key aggs a from to (drop m due) rows run answer answer) (sym (none z)) (sweep_starts key aggs a from to due rows run answer d s)
 
 pub sweep_ends : (key : List ℕ) (aggs : List Agg) (a : List CellEvent) (from to i : ℕ) (due : List Edge) (rows : List HeldRow) (run : List Datum → Option Run) (answer0 answer1 : List Edge) →
     length due ≤ i → Reached key aggs a from to (drop i due) rows run answer0 answer1 →

@@ -1,11 +1,14 @@
 -- What a group keeps from step to step.
-use Rattle.std.specs.Prelude.{ℕ, List}
+use Rattle.std.specs.Prelude.{◌≡◌, ℕ, ◌≤◌, Bool, false, List, []}
 use Rattle.indexmap.specs.IndexMap.{IndexMap}
+use Rattle.tw_rows.specs.Instant.{inf}
 use Rattle.tw_rows.specs.SameCells.{same_cells}
 use Rattle.tw_rows.specs.declared.cells.Datum.{Datum}
 use Rattle.tw_rows.specs.declared.edge.Edge.{Edge}
 use Rattle.tw_rows.specs.declared.edge.HeldRow.{HeldRow}
+use Rattle.edge_history.specs.Order.{IsHistory}
 use Rattle.end_queue.specs.Pending.{Pending}
+use Rattle.node_laws.specs.Places.{EdgesArePlaced}
 use Rattle.plan_model.specs.declared.agg.Agg.{Agg}
 use Rattle.sweep_laws.specs.Grouping.{GroupKeeps}
 use Rattle.snapshot_agg.specs.Words.{key_data, tell, bad}
@@ -17,3 +20,22 @@ use Rattle.snapshot_agg.specs.Waiting.{edges_in}
 abbrev pub KeepsGroup : {S : Type 0} → List ℕ → List Agg → List HeldRow → IndexMap (List Datum) HeldRow S → List Pending → ℕ → List Edge → List Edge → Type 0
 KeepsGroup key aggs rows running waiting to came out =
     GroupKeeps (key_data key) same_cells (tell key aggs) (bad key aggs) rows (run_of running) (edges_in waiting) to came out
+
+-- the same, closed up to x, with places in a table, and beside a right side of which nothing is read
+pub record KeepsGrouped {S : Type 0} (key : List ℕ) (aggs : List Agg) (texts : List (List ℕ)) (rows : List HeldRow)
+    (running : IndexMap (List Datum) HeldRow S) (waiting : List Pending) (x : ℕ) (left right out : List Edge) : Type 0 where
+  pub group : KeepsGroup key aggs rows running waiting x left out
+  pub low : x ≤ inf
+  pub left_placed : EdgesArePlaced texts left
+  pub right_history : IsHistory right
+  pub right_placed : EdgesArePlaced texts right
+
+-- no row is kept or told, no edge waits, no side is closed, and no step failed
+pub record IsOpening {S : Type 0} (rows : List HeldRow) (running : IndexMap (List Datum) HeldRow S) (waiting : List Pending)
+    (x y : ℕ) (failed : Bool) : Type 0 where
+  pub no_rows : rows ≡ []
+  pub no_runs : running.entries ≡ []
+  pub none : waiting ≡ []
+  pub left : x ≡ 0
+  pub right : y ≡ 0
+  pub works : failed ≡ false

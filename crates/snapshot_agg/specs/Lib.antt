@@ -5,3 +5,6 @@ pub mod Totaled
 pub mod Told
 pub mod Waiting
 pub mod Keeping
+pub mod Answering
+pub mod OneProof
+pub mod Saving

@@ -4,9 +4,14 @@
 mod grouped;
 mod groups;
 mod laws;
+mod loading;
+mod operating;
 mod passes;
+mod pooled;
+mod saving;
 mod state;
 mod sweep;
+mod telling;
 mod totals;
 mod waiting;
 

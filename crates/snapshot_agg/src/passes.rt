@@ -100,6 +100,19 @@ fn end_key(
     Ok(())
 }
 
+/// Keeps that the row of a key is told since a time.
+pub(crate) fn put_run(
+    running: &mut Running,
+    key: &Cells,
+    row: Cells,
+    start: Time,
+) -> Result<(), Memory>
+    ensures { OnOk result (Reruns running.old running.new key.now (Some (record { row = row; start = start }))) }
+{
+    running.insert(key.clone()?, HeldRow { cells: row, start })?;
+    Ok(())
+}
+
 // Tells that a row starts.
 fn begin_run(
     running: &mut Running,
@@ -116,14 +129,7 @@ fn begin_run(
         other: Time::bounds().1,
         cells: row.clone()?,
     })?;
-    running.insert(
-        key.clone()?,
-        HeldRow {
-            cells: row,
-            start: t,
-        },
-    )?;
-    Ok(())
+    put_run(running, key, row, t)
 }
 
 /// Tells the start of the row of a key, if none is told.

@@ -4,6 +4,8 @@ ghost use Rattle.tw_rows.specs.Bag.{total};
 ghost use Rattle.tw_rows.specs.declared.edge.Edge.{Edge};
 ghost use Rattle.edge_history.specs.Order.{failing, is_below, is_from, Rises};
 ghost use Rattle.edge_history.specs.Opens.{singles_of, singles};
+ghost use Rattle.edge_stream.specs.Listing.{cells_of};
+ghost use Rattle.snapshot_agg.specs.Answering.{is_stored};
 ghost use Rattle.snapshot_agg.specs.Waiting.{edges_in, WaitForThemselves};
 
 use edge_history::in_order;
@@ -91,6 +93,7 @@ pub(crate) fn take_due(
     ensures later { OnOk result (failing (is_from to) (edges_in waiting.new) ≡ 0) }
     ensures order { IfOk result (λ due. Rises 0 due.items) }
     ensures own { OnOk result (WaitForThemselves waiting.new) }
+    ensures stored { OnOk result (failing (is_stored (cells_of new.now)) (singles new.now.edges) ≡ 0) }
 {
     let mut due = Vec::new(alloc);
     pop_all(&mut due, waiting, to)?;

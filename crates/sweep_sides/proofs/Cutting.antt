@@ -1,14 +1,7 @@
 -- Lists that are cut.
 use Rattle.std.specs.Prelude.{◌≡◌, ℕ, zero, suc, ◌≤◌, not, Bool, true, false, List, [], ◌∷◌, length, drop, refl}
-use Rattle.std.specs.Prelude.{map, get_or, take, min, ◌+◌, ◌-◌, ◌<◌}
-use Rattle.std.proofs.Common.{arith, ap, sym, ◌∙◌}
-use Rattle.batch.specs.Shelves.{Shelves, taken, all_taken, IsPartTaken}
-use Rattle.tw_rows.specs.declared.kind.CellKind.{CellKind}
-use Rattle.tw_rows.specs.declared.kind.CellKind.TheVariants.{Whole, Bit, Place}
-use Rattle.tw_rows.specs.declared.kind.Kind.{Kind}
-use Rattle.tw_rows.specs.declared.cells.Datum.{Datum}
-use Rattle.tw_rows.specs.Kinds.{cell_kind_of}
-use Rattle.tw_rows.specs.Cells.{datum_kind}
+use Rattle.std.specs.Prelude.{map, get_or, ◌<◌}
+use Rattle.std.proofs.Common.{arith, ap}
 
 pub no_not : (b : Bool) → not b ≡ false → b ≡ true
 no_not true h = refl
@@ -28,17 +21,3 @@ differ_at f g (x ∷ xs) [] i d e low lower apart same = absurd (omega (arith, l
 differ_at f g (x ∷ xs) (y ∷ ys) zero d e low lower apart same = apart (ap (λ l. get_or l 0 (f x)) same)
 differ_at f g (x ∷ xs) (y ∷ ys) (suc i) d e low lower apart same =
     differ_at f g xs ys i d e (omega (arith, low)) (omega (arith, lower)) apart (ap (drop 1) same)
-
-taken-capacity : (s : Shelves) (k : CellKind) → (taken s k).capacity ≡ s.capacity
-taken-capacity s Whole = refl
-taken-capacity s Bit = refl
-taken-capacity s Place = refl
-
-all_taken-capacity : (s : Shelves) (ks : List CellKind) → (all_taken s ks).capacity ≡ s.capacity
-all_taken-capacity s [] = refl
-all_taken-capacity s (k ∷ ks) = all_taken-capacity (taken s k) ks ∙ taken-capacity s k
-
-pub part-capacity : (s t : Shelves) (ks : List CellKind) → IsPartTaken s t ks → t.capacity ≡ s.capacity
-part-capacity s t ks part =
-    let first : Shelves = record s { words = s.words - min part.count 4; occupancies = s.occupancies - min (part.count - 4) 1 } in
-    ap (λ (x : Shelves). x.capacity) part.is ∙ all_taken-capacity first (take (part.count - 5) ks)

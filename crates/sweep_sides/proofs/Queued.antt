@@ -1,5 +1,5 @@
 -- What putting in and taking out make of what waits.
-use Rattle.std.specs.Prelude.{◌≡◌, ℕ, zero, suc, ◌+◌, ◌<◌, ◌≤◌, nat_eq, nat_lt, nat_le, ◌||◌, Bool, true, false, cond, List, [], ◌∷◌, ◌++◌, map, All, refl}
+use Rattle.std.specs.Prelude.{◌≡◌, ℕ, ◌+◌, ◌<◌, ◌≤◌, nat_eq, nat_lt, nat_le, ◌||◌, Bool, true, false, cond, List, [], ◌∷◌, ◌++◌, All, refl}
 use Rattle.std.proofs.Common.{sym, ◌∙◌, ap, subst, arith}
 use Rattle.std.proofs.lemmas.Bool.{eqb-true, eq-eqb}
 use Rattle.std.proofs.lemmas.Bool.Decides.{nat_tests}
@@ -11,7 +11,6 @@ use Rattle.edge_history.specs.Order.{failing, is_below, is_from, is_end}
 use Rattle.edge_history.specs.Balance.{is_single, given, start_edge, end_edge}
 use Rattle.edge_history.specs.Opens.{singles_of}
 use Rattle.tw_rows.specs.Instant.{inf}
-use Rattle.tw_rows.specs.declared.cells.Datum.{Datum}
 use Rattle.end_queue.specs.Pending.{Pending, put_pending, AreDueFrom}
 use Rattle.sweep_laws.specs.Sweeps.{SyncsRise}
 use Rattle.sweep_sides.specs.Waiting.{queued, AreTimed}

@@ -11,7 +11,7 @@ use std::alloc::Global;
 use tw_rows::{Datum, Edge, Kind, Memory, cell_of};
 
 // Whether the cells are stored as these kinds are.
-fn has_kinds(cells: &[Datum], kinds: &[Kind]) -> bool
+pub(crate) fn has_kinds(cells: &[Datum], kinds: &[Kind]) -> bool
     ensures { IsTrue result ↔ (map datum_kind cells.now ≡ map cell_kind_of kinds.now) }
 {
     if cells.len() != kinds.len() {
@@ -40,6 +40,7 @@ pub fn list_of(
     ensures kinds { IfOk result (λ list. list.kinds ≡ kinds.now) }
     ensures capacity { IfOk result (λ list. list.capacity ≡ capacity) }
     ensures pools { pools.new.capacity ≡ pools.old.capacity }
+    ensures limit { pools.new.limit ≡ pools.old.limit }
 {
     let mut list = EdgeList::new(alloc, kinds, capacity)?;
     if !keeps_order(edges) {

@@ -1,10 +1,12 @@
 // Edges that wait until they are due.
-ghost use Rattle.std.specs.Prelude.{◌≡◌, ◌+◌, ℕ, OnOk, IfOk};
+ghost use Rattle.std.specs.Prelude.{◌≡◌, ◌+◌, ℕ, All, map, OnOk, IfOk};
 ghost use Rattle.tw_rows.specs.Bag.{total};
+ghost use Rattle.tw_rows.specs.Cells.{datum_kind};
 ghost use Rattle.tw_rows.specs.declared.edge.Edge.{Edge};
-ghost use Rattle.edge_history.specs.Order.{failing, is_below, is_from};
+ghost use Rattle.edge_history.specs.Order.{failing, is_below, is_from, KeepsOrder};
 ghost use Rattle.edge_history.specs.Balance.{is_single as single};
 ghost use Rattle.edge_history.specs.Opens.{singles, singles_of};
+ghost use Rattle.edge_stream.specs.Listing.{cells_of};
 ghost use Rattle.sweep_laws.specs.Sweeps.{SyncsRise};
 ghost use Rattle.sweep_sides.specs.Waiting.{queued, AreTimed};
 
@@ -15,13 +17,13 @@ use tw_rows::{Edge, Memory, Time};
 
 // Whether the edge tells of a start or of an end, and not of both.
 #[tactic(auto, unfolding(tw_rows::specs::Instant::inf))]
-fn is_single(edge: &Edge) -> bool
+pub(crate) fn is_single(edge: &Edge) -> bool
     ensures { result ≡ single edge.now }
 {
     edge.is_end() || edge.other == Time::INF
 }
 
-fn put(queue: &mut EndQueue, edge: Edge) -> Result<(), Memory>
+pub(crate) fn put(queue: &mut EndQueue, edge: Edge) -> Result<(), Memory>
     ensures put { OnOk result ((w : Edge → ℕ) → total w (queued queue.new) ≡ total w (queued queue.old) + w edge) }
     ensures timed { OnOk result (AreTimed queue.old → AreTimed queue.new) }
 {
@@ -57,6 +59,8 @@ fn put_singles(queue: &mut EndQueue, edge: Edge) -> Result<(), Memory>
 pub fn put_all(queue: &mut EndQueue, edges: &EdgeList) -> Result<(), Memory>
     ensures put { OnOk result ((w : Edge → ℕ) → total w (queued queue.new) ≡ total w (queued queue.old) + total w (singles edges.now.edges)) }
     ensures timed { OnOk result (AreTimed queue.old → AreTimed queue.new) }
+    ensures order { KeepsOrder edges.now.edges }
+    ensures cells { OnOk result (All (λ e. map datum_kind e.cells ≡ cells_of edges.now) edges.now.edges) }
 {
     let mut cursor = edges.cursor();
     while let Some(edge) = cursor.next()? {

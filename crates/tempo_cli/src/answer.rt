@@ -2,7 +2,7 @@
 ghost use Rattle.std.specs.Prelude.{◌≡◌, ◌≤◌, ◌<◌, ◌+◌, ℕ, List, OnOk, IfErr, min, length, IsTrue};
 ghost use Rattle.std.specs.List.{list_all};
 ghost use Rattle.wire_lines.specs.Journal.{Grows};
-ghost use Rattle.plan_model.specs.Reach.{is_built};
+ghost use Rattle.built_nodes.specs.Built.{is_built};
 ghost use Rattle.tempo_cli.specs.Status.{Counts};
 ghost use Rattle.tempo_cli.specs.Table.{limit, Ends};
 ghost use Rattle.tempo_cli.specs.Told.{answers};

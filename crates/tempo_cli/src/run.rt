@@ -7,7 +7,7 @@ ghost use Rattle.tempo_cli.specs.Feeding.{IsAsked};
 ghost use Rattle.tempo_cli.specs.Status.{Counts, IsNoted};
 ghost use Rattle.command_line.specs.Words.{AreWithin, asked_by};
 ghost use Rattle.std.specs.List.{list_all};
-ghost use Rattle.plan_model.specs.Reach.{is_built};
+ghost use Rattle.built_nodes.specs.Built.{is_built};
 ghost use Rattle.plan_model.specs.declared.fault.QueryFault.{QueryFault as SomeFault};
 
 use crate::answer::answer;

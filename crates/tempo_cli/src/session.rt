@@ -4,7 +4,7 @@ ghost use Rattle.std.specs.List.{list_all};
 ghost use Rattle.wire_lines.specs.Lines.{HasNoLf};
 ghost use Rattle.tempo_engine.specs.Faults.{IsFaultOf};
 ghost use Rattle.tempo_cli.specs.Table.{limit, IsDone, IsEnd};
-ghost use Rattle.plan_model.specs.Reach.{is_built};
+ghost use Rattle.built_nodes.specs.Built.{is_built};
 ghost use Rattle.tempo_cli.specs.Feeding.{Asked, answers_to, status_at, Took, Holds, WantsBytes, Comes, Ended, HasLess, IsOwn, StopsOwn};
 
 use crate::status::Status;

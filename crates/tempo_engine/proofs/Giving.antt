@@ -8,33 +8,36 @@ use Rattle.tw_rows.specs.declared.kind.Kind.{Kind}
 use Rattle.tw_rows.specs.declared.kind.Kind.TheVariants.{Int, Bool as Flag, Text, Dec}
 use Rattle.tw_rows.specs.declared.schema.ColumnDef.{ColumnDef}
 use Rattle.tw_rows.specs.declared.schema.StreamDef.{StreamDef}
-use Rattle.edge_stream.specs.Listing.{EdgeListView}
+use Rattle.edge_stream.specs.Listing.{EdgeListView, cells_of}
 use Rattle.plan_model.specs.IsPlan.{PlanParts, kinds_of_schema, kinds_of_stream}
 use Rattle.node_laws.specs.Places.{EdgesArePlaced}
-use Rattle.lane_expr.specs.Kernels.{kind_for}
 use Rattle.admission.specs.declared.policy.Policy.{Policy}
-use Rattle.ingress.specs.Admits.{IsFor, SameFixed, AreListsOf, kinds_of, cells_of}
+use Rattle.ingress.specs.Admits.{IsFor, SameFixed, AreListsOf, kinds_of}
 use Rattle.ingress.specs.Fits.{plain, stream_kinds}
 use Rattle.ingress.specs.declared.ingress.Ingress.{Ingress}
 use Rattle.plan_stages.specs.Lists.{edges_at, IsListOf, AreGiven}
 
-plain_is : (kind : Kind) → plain kind ≡ kind_for (cell_kind_of kind)
-plain_is Int = refl
-plain_is Flag = refl
-plain_is Text = refl
-plain_is (Dec places) = refl
+cell_of_plain : (kind : Kind) → cell_kind_of (plain kind) ≡ cell_kind_of kind
+cell_of_plain Int = refl
+cell_of_plain Flag = refl
+cell_of_plain Text = refl
+cell_of_plain (Dec places) = refl
 
-columns_plain : (schema : List ColumnDef) → map (λ c. plain c.kind) schema ≡ map kind_for (kinds_of_schema schema)
-columns_plain [] = refl
-columns_plain (c ∷ schema) = (let k = plain_is c.kind in let r = columns_plain schema in cc)
+cells_of_columns : (schema : List ColumnDef) → map cell_kind_of (map (λ c. plain c.kind) schema) ≡ kinds_of_schema schema
+cells_of_columns [] = refl
+cells_of_columns (c ∷ schema) = (let k = cell_of_plain c.kind in let r = cells_of_columns schema in cc)
 
--- the kinds of the lists are those of the streams, one by one
-kinds_there : (lists : List EdgeListView) (streams : List StreamDef) → map (λ l. l.kinds) lists ≡ stream_kinds streams → (s : ℕ) (l : EdgeListView) → slice_get lists s ≡ Some l →
-    l.kinds ≡ map kind_for (kinds_of_stream streams s)
-kinds_there [] streams is s l there = absurd (let t = there in cc)
-kinds_there (x ∷ lists) [] is s l there = absurd (let t = is in cc)
-kinds_there (x ∷ lists) (d ∷ streams) is zero l there = (let t = there in let k : x.kinds ≡ map (λ c. plain c.kind) d.schema = (let e = is in cc) in let m : x ≡ l = cc in ap (λ y. y.kinds) (sym m) ∙ k ∙ columns_plain d.schema)
-kinds_there (x ∷ lists) (d ∷ streams) is (suc s) l there = kinds_there lists streams (let e = is in cc) s l there
+-- the cells of the lists are those of the streams, one by one
+cells_there : (lists : List EdgeListView) (streams : List StreamDef) → map (λ l. l.kinds) lists ≡ stream_kinds streams → (s : ℕ) (l : EdgeListView) → slice_get lists s ≡ Some l →
+    cells_of l ≡ kinds_of_stream streams s
+cells_there [] streams is s l there = absurd (let t = there in cc)
+cells_there (x ∷ lists) [] is s l there = absurd (let t = is in cc)
+cells_there (x ∷ lists) (d ∷ streams) is zero l there =
+    let t = there in
+    let k : x.kinds ≡ map (λ c. plain c.kind) d.schema = (let e = is in cc) in
+    let m : x ≡ l = cc in
+    ap cells_of (sym m) ∙ ap (map cell_kind_of) k ∙ cells_of_columns d.schema
+cells_there (x ∷ lists) (d ∷ streams) is (suc s) l there = cells_there lists streams (let e = is in cc) s l there
 
 capacity_there : (rows : ℕ) (lists : List EdgeListView) → All (λ l. l.capacity ≡ rows) lists → (s : ℕ) (l : EdgeListView) → slice_get lists s ≡ Some l → l.capacity ≡ rows
 capacity_there rows [] all s l there = absurd (let t = there in cc)
@@ -51,7 +54,7 @@ pub given_are : (texts : List (List ℕ)) (plan : PlanParts) (policy : Policy) (
 given_are texts plan policy rows i lists fixed are placed = record {
   count = sym (length-map lists (λ l. l.kinds)) ∙ ap length (are.kinds ∙ fixed.kinds) ∙ length-map plan.streams _;
   each = λ s l there. record {
-    plain = kinds_there lists plan.streams (are.kinds ∙ fixed.kinds) s l there;
+    cells = cells_there lists plan.streams (are.kinds ∙ fixed.kinds) s l there;
     rows = capacity_there i.capacity lists are.capacity s l there ∙ fixed.capacity;
     placed = subst (EdgesArePlaced texts) (edges_there lists s l there) (placed s);
   };

@@ -2,10 +2,11 @@
 ghost use Rattle.std.specs.Prelude.{◌≡◌, ◌≢◌, ◌≤◌, List, [], ◌∷◌, ◌++◌, true, false, None, length, IsTrue, All, IfOk, IfErr, OnOk};
 ghost use Rattle.std.specs.List.{list_all};
 ghost use Rattle.plan_model.specs.IsPlan.{PlanParts};
-ghost use Rattle.plan_model.specs.Reach.{is_built};
+ghost use Rattle.built_nodes.specs.Built.{is_built};
 ghost use Rattle.admission.specs.declared.policy.Policy.{Policy as Admitting};
 ghost use Rattle.admission.specs.Entries.{Told};
 ghost use Rattle.admission.specs.Progress.{fault as fault_of};
+ghost use Rattle.plan_stages.specs.Flows.{AreHeldBy};
 ghost use Rattle.tempo_engine.specs.Faults.{IsFaultOf};
 ghost use Rattle.tempo_engine.specs.Output.{plan_text, told};
 
@@ -13,6 +14,7 @@ use crate::fault::EngineFault;
 use crate::work::Work;
 use admission::Policy;
 use plan_model::Plan;
+use plan_stages::Stage;
 use std::alloc::Global;
 use std::marker::Model;
 use tw_rows::Memory;
@@ -73,6 +75,21 @@ impl Engine {
             fault: None,
             ended: false,
         })
+    }
+
+    /// What computes each node of the plan, in order of number.
+    pub fn stages(&self) -> &[Stage]
+        ensures { result.now ≡ self.now.work.dataflow.stages }
+    {
+        self.work.dataflow.stages()
+    }
+
+    /// For each node, in order, its number and how many entries it keeps for later lines. Rows that wait for a punctuation are
+    /// not among them.
+    pub fn held(&self) -> Result<Vec<(usize, u64)>, Memory>
+        ensures { IfOk result (λ held. AreHeldBy self.now.work.dataflow.stages held.items) }
+    {
+        self.work.dataflow.held()
     }
 
     /// Takes the line of that number, which stands without its line feed: the bytes by which the text grows.

@@ -3,7 +3,7 @@ ghost use Rattle.std.specs.Prelude.{◌≡◌, ◌≢◌, ◌<◌, ◌≤◌, �
 ghost use Rattle.tw_rows.specs.Instant.{inf};
 ghost use Rattle.plan_model.specs.declared.node.Node.{Node};
 ghost use Rattle.plan_model.specs.IsPlan.{PlanParts};
-ghost use Rattle.plan_model.specs.Reach.{is_built};
+ghost use Rattle.built_nodes.specs.Built.{is_built};
 ghost use Rattle.plan_laws.specs.Undefined.{overflow};
 ghost use Rattle.node_laws.specs.Places.{AreDistinct};
 ghost use Rattle.admission.specs.declared.policy.Policy.{Policy as Admitting};

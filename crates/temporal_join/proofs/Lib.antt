@@ -1,2 +1,6 @@
 pub mod Partners
 pub mod Stepping
+pub mod Rowing
+pub mod Answering
+pub mod Stepped
+pub mod Resuming

@@ -1,10 +1,10 @@
 -- The rows of the other side with which a row is paired.
-use Rattle.std.specs.Prelude.{◌≡◌, ℕ, zero, suc, ◌+◌, ◌<◌, ◌↔◌, max, nat_eq, nat_lt, IsTrue, Bool, true, false, cond, List, [], ◌∷◌, ◌++◌, map, filter, flat_map, length, get_or, take, refl}
+use Rattle.std.specs.Prelude.{◌≡◌, ℕ, zero, suc, ◌+◌, ◌<◌, ◌↔◌, max, nat_eq, nat_lt, IsTrue, Bool, true, false, cond, List, [], ◌∷◌, ◌++◌, map, filter, length, get_or, take, refl}
 use Rattle.std.specs.List.{list_any}
 use Rattle.std.proofs.Common.{sym, ◌∙◌, ap, subst, arith, append_assoc}
 use Rattle.std.proofs.lemmas.Bool.Decides.{nat_tests}
 use Rattle.std.proofs.lemmas.List.{take_more}
-use Rattle.tw_rows.specs.Bag.{SameBag, total}
+use Rattle.tw_rows.specs.Bag.{total}
 use Rattle.tw_rows.specs.SameCells.{same_cells, cells_are_same, same_itself}
 use Rattle.tw_rows.specs.declared.cells.Datum.{Datum}
 use Rattle.tw_rows.specs.declared.edge.Edge.{Edge}
@@ -138,13 +138,13 @@ outside_next {X} c key (y ∷ xs) (suc i) x low is =
     go false h = ap (λ l. y ∷ l) h
 
 -- a pair's row, one more column of the right row
-pub pair_next : (key : List ℕ) (left right row row2 : List Datum) (i : ℕ) (x : Datum) → i < length right → x ≡ get_or right i x → row ≡ left ++ outside_from 0 key (take i right) →
+pub pair_next : {X : Type 0} (key : List ℕ) (left right row row2 : List X) (i : ℕ) (x : X) → i < length right → x ≡ get_or right i x → row ≡ left ++ outside_from 0 key (take i right) →
     row2 ≡ row ++ cond (list_any (nat_eq i) key) [] (x ∷ []) → row2 ≡ left ++ outside_from 0 key (take (i + 1) right)
-pair_next key left right row row2 i x low is before pushed =
+pair_next {X} key left right row row2 i x low is before pushed =
     let z : 0 + i ≡ i = omega arith in
     let o : suc i ≡ i + 1 = omega arith in
-    pushed ∙ (ap (λ (l : List Datum). l ++ cond (list_any (nat_eq i) key) [] (x ∷ [])) before ∙ (append_assoc left (outside_from 0 key (take i right)) (cond (list_any (nat_eq i) key) [] (x ∷ []))
-    ∙ ap (λ (l : List Datum). left ++ l) (ap (λ n. outside_from 0 key (take i right) ++ cond (list_any (nat_eq n) key) [] (x ∷ [])) (sym z)
+    pushed ∙ (ap (λ (l : List X). l ++ cond (list_any (nat_eq i) key) [] (x ∷ [])) before ∙ (append_assoc left (outside_from 0 key (take i right)) (cond (list_any (nat_eq i) key) [] (x ∷ []))
+    ∙ ap (λ (l : List X). left ++ l) (ap (λ n. outside_from 0 key (take i right) ++ cond (list_any (nat_eq n) key) [] (x ∷ [])) (sym z)
     ∙ (sym (outside_next 0 key right i x low is) ∙ ap (λ n. outside_from 0 key (take n right)) o))))
 
 get_or_any : {X : Type 0} (xs : List X) (i : ℕ) (d e : X) → i < length xs → get_or xs i d ≡ get_or xs i e
@@ -152,7 +152,7 @@ get_or_any [] i d e low = absurd (omega (arith, low))
 get_or_any (x ∷ xs) zero d e low = refl
 get_or_any (x ∷ xs) (suc i) d e low = get_or_any xs i d e (omega (arith, low))
 
-pub pair_next_at : (key : List ℕ) (left right row row2 : List Datum) (i : ℕ) (d : Datum) → i < length right → row ≡ left ++ outside_from 0 key (take i right) →
+pub pair_next_at : {X : Type 0} (key : List ℕ) (left right row row2 : List X) (i : ℕ) (d : X) → i < length right → row ≡ left ++ outside_from 0 key (take i right) →
     row2 ≡ row ++ cond (list_any (nat_eq i) key) [] (get_or right i d ∷ []) → row2 ≡ left ++ outside_from 0 key (take (i + 1) right)
 pair_next_at key left right row row2 i d low before pushed =
     pair_next key left right row row2 i (get_or right i d) low (get_or_any right i d (get_or right i d) low) before pushed
@@ -169,8 +169,8 @@ pub same_tells : (lk rk k r : List ℕ) (a b : List CellEvent) (t u : ℕ) (answ
 same_tells lk rk k r a b t u answer0 answer e f h =
     subst (λ (l : List ℕ). Tells (joins l rk a b) t u answer0 answer) e (subst (λ (l : List ℕ). Tells (joins k l a b) t u answer0 answer) f h)
 
-pub same_if_among : (b : Bool) (row : List Datum) (x : Datum) → b ≡ true → row ≡ row ++ cond b [] (x ∷ [])
+pub same_if_among : {X : Type 0} (b : Bool) (row : List X) (x : X) → b ≡ true → row ≡ row ++ cond b [] (x ∷ [])
 same_if_among b row x h = sym (append_nil row) ∙ ap (λ c. row ++ cond c [] (x ∷ [])) (sym h)
 
-pub more_if_outside : (b : Bool) (row : List Datum) (x : Datum) → b ≡ false → row ++ x ∷ [] ≡ row ++ cond b [] (x ∷ [])
+pub more_if_outside : {X : Type 0} (b : Bool) (row : List X) (x : X) → b ≡ false → row ++ x ∷ [] ≡ row ++ cond b [] (x ∷ [])
 more_if_outside b row x h = ap (λ c. row ++ cond c [] (x ∷ [])) (sym h)

@@ -1,5 +1,5 @@
 -- The events of a Join over rows of cells, and what an operator keeps of it.
-use Rattle.std.specs.Prelude.{ℕ, min, Bool, List}
+use Rattle.std.specs.Prelude.{ℕ, Bool, List}
 use Rattle.tw_rows.specs.declared.cells.Datum.{Datum}
 use Rattle.edge_history.specs.History.{CellEvent}
 use Rattle.key_nodes.specs.Joins.{joined}

@@ -1,9 +1,8 @@
 -- Pairs of a row of one side with rows of the other.
-use Rattle.std.specs.Prelude.{ℕ, max, Bool, cond, List, map}
+use Rattle.std.specs.Prelude.{ℕ, max, Bool, cond, List}
 use Rattle.tw_rows.specs.declared.edge.Edge.{Edge}
 use Rattle.tw_rows.specs.declared.edge.HeldRow.{HeldRow}
 use Rattle.plan_model.specs.Keys.{paired_row}
-use Rattle.sweep_laws.specs.Moves.{told_at}
 use Rattle.sweep_laws.specs.Pairs.{pairs_told}
 use Rattle.temporal_join.specs.declared.pairs.Pairing.{Pairing}
 use Rattle.temporal_join.specs.Joined.{join_meets}

@@ -2,7 +2,9 @@
 #![tactic(auto)]
 
 mod join;
+mod operating;
 mod pairs;
+mod sides;
 mod sweep;
 
 pub use join::Join;

@@ -24,7 +24,7 @@ pub(crate) struct Pairing<'a> {
     pub(crate) at: Time,
 }
 
-fn is_among(columns: &[usize], column: usize) -> bool
+pub(crate) fn is_among(columns: &[usize], column: usize) -> bool
     ensures { result ≡ list_any (nat_eq column) columns.now }
 {
     for c in columns {
@@ -166,6 +166,7 @@ impl<'a> Pairing<'a> {
         edge: &Edge,
     ) -> Result<(), Memory>
         ensures ended { OnOk result (HoldsEnded edge.now rows.old.rows → (w : HeldRow → ℕ) → total w rows.old.rows ≡ total w rows.new.rows + total w (ended_of edge.now)) }
+        ensures fewer { OnOk result ((w : HeldRow → ℕ) → total w rows.new.rows ≤ total w rows.old.rows) }
         ensures told { OnOk result (others.now.key ≡ other_key self.now → HoldsEnded edge.now rows.old.rows → Adds answer.old.items answer.new.items (told_pairs self.now false (ended_of edge.now) others.now.rows)) }
         ensures key { rows.new.key ≡ rows.old.key }
     {
@@ -185,6 +186,7 @@ impl<'a> Pairing<'a> {
         now: &[Edge],
     ) -> Result<(), Memory>
         ensures ended { OnOk result (((w : HeldRow → ℕ) → total w (ended_rows now.now) ≤ total w rows.old.rows) → (w : HeldRow → ℕ) → total w rows.old.rows ≡ total w rows.new.rows + total w (ended_rows now.now)) }
+        ensures fewer { OnOk result ((w : HeldRow → ℕ) → total w rows.new.rows ≤ total w rows.old.rows) }
         ensures told { OnOk result (others.now.key ≡ other_key self.now → ((w : HeldRow → ℕ) → total w (ended_rows now.now) ≤ total w rows.old.rows) → Adds answer.old.items answer.new.items (told_pairs self.now false (ended_rows now.now) others.now.rows)) }
         ensures key { rows.new.key ≡ rows.old.key }
     {

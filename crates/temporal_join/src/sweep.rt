@@ -1,10 +1,12 @@
 // The sweep over the instants of what is due on both sides.
 ghost use Rattle.std.specs.Prelude.{◌≡◌, ◌+◌, ◌<◌, ◌≤◌, ℕ, suc, List, OnOk};
-ghost use Rattle.tw_rows.specs.Bag.{SameBag};
+ghost use Rattle.tw_rows.specs.Bag.{SameBag, total};
 ghost use Rattle.tw_rows.specs.Event.{AreEvents};
 ghost use Rattle.tw_rows.specs.Instant.{inf};
 ghost use Rattle.edge_history.specs.History.{CellEvent};
 ghost use Rattle.edge_history.specs.Balance.{news};
+ghost use Rattle.edge_history.specs.Opens.{started_rows};
+ghost use Rattle.tw_rows.specs.declared.edge.HeldRow.{HeldRow};
 ghost use Rattle.sweep_laws.specs.Sweeps.{IsDue, Tells};
 ghost use Rattle.sweep_laws.specs.Pairs.{Held};
 ghost use Rattle.temporal_join.specs.Joined.{joins};
@@ -38,6 +40,8 @@ impl Rows {
     ) -> Result<(), Memory>
         ensures swept { OnOk result ((a b : List CellEvent) → AreByKey self.old → t < inf → AreEvents a → AreEvents b → SameBag now_left.now (news t (suc t) a) → SameBag now_right.now (news t (suc t) b) → Held a b t self.old.left.rows self.old.right.rows →
             Held a b (suc t) self.new.left.rows self.new.right.rows × Tells (joins self.old.left_key.items self.old.right_key.items a b) t (suc t) answer.old.items answer.new.items) }
+        ensures left_rows { OnOk result ((w : HeldRow → ℕ) → total w self.new.left.rows ≤ total w self.old.left.rows + total w (started_rows now_left.now)) }
+        ensures right_rows { OnOk result ((w : HeldRow → ℕ) → total w self.new.right.rows ≤ total w self.old.right.rows + total w (started_rows now_right.now)) }
         ensures keys { SameKeys self.old self.new }
     {
         let left = Pairing {
@@ -70,6 +74,8 @@ impl Rows {
     ) -> Result<(), Memory>
         ensures swept { OnOk result ((a b : List CellEvent) (from to : ℕ) → AreByKey self.old → IsDue a from to left_due.now → IsDue b from to right_due.now → Held a b from self.old.left.rows self.old.right.rows →
             Held a b to self.new.left.rows self.new.right.rows × Tells (joins self.old.left_key.items self.old.right_key.items a b) from to answer.old.items answer.new.items) }
+        ensures left_rows { OnOk result ((w : HeldRow → ℕ) → total w self.new.left.rows ≤ total w self.old.left.rows + total w (started_rows left_due.now)) }
+        ensures right_rows { OnOk result ((w : HeldRow → ℕ) → total w self.new.right.rows ≤ total w self.old.right.rows + total w (started_rows right_due.now)) }
         ensures keys { SameKeys self.old self.new }
     {
         let mut i = 0;

@@ -6,7 +6,7 @@ use Rattle.tw_rows.specs.Kinds.{cell_kind_of}
 use Rattle.tw_rows.specs.declared.edge.Edge.{Edge}
 use Rattle.edge_stream.specs.Listing.{cells_of}
 use Rattle.edge_stream.proofs.Filling.{appended-kinds, appended-capacity, room_taken-capacity}
-use Rattle.carried_edges.proofs.Pools.{part-capacity}
+use Rattle.carried_edges.proofs.Pools.{part-capacity, part-limit, room_taken-limit}
 use Rattle.life_laws.specs.Extending.{extended_starts, extended_ends}
 use Rattle.extend_op.specs.Waiting.{edges_of_pending}
 use Rattle.extend_op.proofs.Waiting.{end_true, end_false, next_is, rest_in_order, start_passed, start_next, start_in_order, ends_next, ends_skip}
@@ -27,6 +27,7 @@ loop-edge-preserved-in-Continue-branch-3 c =
       kinds = i.kinds;
       capacity = i.capacity;
       room = i.room;
+      limit = i.limit;
     }
 
 pub append-requires-clause-order : goal.append-requires-clause-order
@@ -38,6 +39,10 @@ append-requires-clause-order c =
 pub returns-in_err-append-clause-pools : goal.returns-in_err-append-clause-pools
 returns-in_err-append-clause-pools c =
     part-capacity c.loop-edge.pools c.append.new.pools (cells_of c.loop-edge.starts) c.in_err-append.ensures.err_pools ∙ c.loop-edge.invariant.room
+
+pub returns-in_err-append-clause-limit : goal.returns-in_err-append-clause-limit
+returns-in_err-append-clause-limit c =
+    part-limit c.loop-edge.pools c.append.new.pools (cells_of c.loop-edge.starts) c.in_err-append.ensures.err_pools ∙ c.loop-edge.invariant.limit
 
 pub loop-edge-preserved-in_ok-append : goal.loop-edge-preserved-in_ok-append
 loop-edge-preserved-in_ok-append c =
@@ -58,6 +63,7 @@ loop-edge-preserved-in_ok-append c =
       kinds = ap cells_of ok ∙ ap (map cell_kind_of) (appended-kinds l new) ∙ i.kinds;
       capacity = ap (λ v. v.capacity) ok ∙ appended-capacity l new ∙ i.capacity;
       room = ap (λ s. s.capacity) pools ∙ room_taken-capacity l c.loop-edge.pools ∙ i.room;
+      limit = ap (λ s. s.limit) pools ∙ room_taken-limit l c.loop-edge.pools ∙ i.limit;
     }
 
 pub loop-edge-preserved : goal.loop-edge-preserved
@@ -79,4 +85,5 @@ loop-edge-preserved c =
       kinds = ap cells_of ok ∙ ap (map cell_kind_of) (appended-kinds l new) ∙ i.kinds;
       capacity = ap (λ v. v.capacity) ok ∙ appended-capacity l new ∙ i.capacity;
       room = ap (λ s. s.capacity) pools ∙ room_taken-capacity l c.loop-edge.pools ∙ i.room;
+      limit = ap (λ s. s.limit) pools ∙ room_taken-limit l c.loop-edge.pools ∙ i.limit;
     }

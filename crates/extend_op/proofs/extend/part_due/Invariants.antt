@@ -19,6 +19,7 @@ invariant-loop-edge l = record {
   kinds : cells_of l.starts ≡ cells_of l.fn.starts;
   capacity : l.starts.capacity ≡ l.fn.starts.capacity;
   room : l.pools.capacity ≡ l.fn.pools.capacity;
+  limit : l.pools.limit ≡ l.fn.pools.limit;
 }
 
 abbrev pub decreases-loop-edge : goal.decreases-loop-edge

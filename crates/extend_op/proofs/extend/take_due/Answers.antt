@@ -1,7 +1,7 @@
 use Rattle.std.proofs.Common.{◌∙◌, ◌++◌, ap}
 use Rattle.edge_stream.specs.Listing.{cells_of}
 use Rattle.edge_stream.proofs.Filling.{appended-kinds, appended-capacity, room_taken-capacity}
-use Rattle.carried_edges.proofs.Pools.{part-capacity}
+use Rattle.carried_edges.proofs.Pools.{part-capacity, part-limit, room_taken-limit}
 use Rattle.extend_op.specs.Waiting.{edges_of_pending}
 use Rattle.extend_op.proofs.Waiting.{ends_in_order, next_in_order, taken_next, taken_low, rest_waits}
 use Rattle.extend_op.proofs.extend.take_due.Goals as goal
@@ -22,6 +22,10 @@ pub returns-in_err-append-clause-pools : goal.returns-in_err-append-clause-pools
 returns-in_err-append-clause-pools c =
     part-capacity c.loop-edge.pools c.append.new.pools (cells_of c.loop-edge.due) c.in_err-append.ensures.err_pools ∙ c.loop-edge.invariant.room
 
+pub returns-in_err-append-clause-limit : goal.returns-in_err-append-clause-limit
+returns-in_err-append-clause-limit c =
+    part-limit c.loop-edge.pools c.append.new.pools (cells_of c.loop-edge.due) c.in_err-append.ensures.err_pools ∙ c.loop-edge.invariant.limit
+
 pub loop-edge-preserved-in_ok-append : goal.loop-edge-preserved-in_ok-append
 loop-edge-preserved-in_ok-append c =
     let l = c.loop-edge.due in
@@ -36,6 +40,7 @@ loop-edge-preserved-in_ok-append c =
       kinds = ap (λ v. v.kinds) ok ∙ appended-kinds l c.in-Some.edge ∙ i.kinds;
       capacity = ap (λ v. v.capacity) ok ∙ appended-capacity l c.in-Some.edge ∙ i.capacity;
       room = ap (λ s. s.capacity) pools ∙ room_taken-capacity l c.loop-edge.pools ∙ i.room;
+      limit = ap (λ s. s.limit) pools ∙ room_taken-limit l c.loop-edge.pools ∙ i.limit;
     }
 
 pub loop-edge-preserved : goal.loop-edge-preserved
@@ -52,4 +57,5 @@ loop-edge-preserved c =
       kinds = ap (λ v. v.kinds) ok ∙ appended-kinds l c.in-Some.edge ∙ i.kinds;
       capacity = ap (λ v. v.capacity) ok ∙ appended-capacity l c.in-Some.edge ∙ i.capacity;
       room = ap (λ s. s.capacity) pools ∙ room_taken-capacity l c.loop-edge.pools ∙ i.room;
+      limit = ap (λ s. s.limit) pools ∙ room_taken-limit l c.loop-edge.pools ∙ i.limit;
     }

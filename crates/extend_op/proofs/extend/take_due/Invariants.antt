@@ -14,6 +14,7 @@ invariant-loop-edge l = record {
   kinds : l.due.kinds ≡ l.like.kinds;
   capacity : l.due.capacity ≡ l.like.capacity;
   room : l.pools.capacity ≡ l.fn.pools.capacity;
+  limit : l.pools.limit ≡ l.fn.pools.limit;
 }
 
 abbrev pub decreases-loop-edge : goal.decreases-loop-edge

@@ -5,7 +5,7 @@ use Rattle.plan_stages.specs.Lists.{edges_at}
 use Rattle.plan_stages.specs.Held.{HeldBefore}
 use Rattle.plan_stages.proofs.HeldLists.{with_list, held_first, held_next}
 use Rattle.plan_stages.proofs.Flowing.{Progress, no_progress}
-use Rattle.plan_stages.proofs.Stepping.{list_plain, reads, stage_there, node_there, can_take, answer_is, ready_out, ready_next, undefined_found, progress_made, next_progress, can_again, has_flowed}
+use Rattle.plan_stages.proofs.Stepping.{reads, stage_there, node_there, can_take, answer_is, ready_out, ready_next, undefined_found, progress_made, answer_placed, next_progress, has_flowed}
 use Rattle.plan_stages.proofs.steps.step_all.Goals as goal
 
 pub loop-i-init : goal.loop-i-init
@@ -41,7 +41,8 @@ step-requires-clause-ready c =
     let whole = c.nodes-nodes.ensures.kept in
     let stages = c.args.stages.now.items in
     let s = c.index_mut.result.now in
-    let can = c.requires.can.1.0 in
+    let may = c.requires.may in
+    let can = may.flows.can in
     let each = can.count in
     let at = stage_there c.loop-i.stages.items stages i s (omega (arith, low, each)) c.index_mut.ensures.value (before.behind i s (omega arith)) in
     let u = c.left_closing-left_to.result in
@@ -49,25 +50,7 @@ step-requires-clause-ready c =
     let eu = c.left_closing-left_to.ensures n here.1 in
     let ev = c.right_closing-right_to.ensures n here.1 in
     let within = c.word.ensures.within in
-    can_take texts plan whole capacity c.args.p within i n here.1 given before.more left right read.is_left read.is_right stages s at u v eu ev c.requires.can.0 can.ready c.requires.can.1.1
-
-pub step-requires-clause-plain : goal.step-requires-clause-plain
-step-requires-clause-plain c =
-    let before = c.loop-i.invariant in
-    let texts = c.args.texts.now in
-    let plan = c.args.plan.now in
-    let capacity = c.args.pools.now.capacity in
-    let given = edges_at c.args.given.items in
-    let i = c.loop-i.i in
-    let test = c.loop-i-test.true in
-    let count = ap length c.nodes-nodes.ensures.nodes in
-    let low : i < length plan.nodes = omega (arith, test, count) in
-    let here = node_there plan.nodes i low in
-    let n = here.0 in
-    let left = c.in_ok-left.left in
-    let right = c.in_ok-right.right in
-    let read = reads texts capacity c.loop-i.pools.capacity c.left_list.new.pools.capacity plan i given before.more n here.1 c.loop-i.given.items c.loop-i.made.items c.left_list.new.streams.items c.left_list.new.made.items c.right_list.new.made.items left right before.pools c.left_list.ensures.pools before.held c.in_ok-left.ensures.list c.in_ok-left.ensures.held c.in_ok-right.ensures.list c.in_ok-right.ensures.held in
-    (list_plain texts capacity _ left read.is_left.list, list_plain texts capacity _ right read.is_right.list)
+    can_take texts plan whole capacity c.args.p within i n here.1 given before.more left right read.is_left read.is_right stages s at u v eu ev may.last can.ready may.later
 
 pub step-requires-clause-capacity : goal.step-requires-clause-capacity
 step-requires-clause-capacity c =
@@ -124,7 +107,8 @@ returns-in-Err-clause-overflow c = λ node time e last old lists source distinct
     let whole = c.nodes-nodes.ensures.kept in
     let stages = c.args.stages.now.items in
     let s = c.index_mut.result.now in
-    let can = c.requires.can.1.0 in
+    let may = c.requires.may in
+    let can = may.flows.can in
     let each = can.count in
     let at = stage_there c.loop-i.stages.items stages i s (omega (arith, low, each)) c.index_mut.ensures.value (before.behind i s (omega arith)) in
     let u = c.left_closing-left_to.result in
@@ -156,7 +140,8 @@ loop-i-preserved c =
     let whole = c.nodes-nodes.ensures.kept in
     let stages = c.args.stages.now.items in
     let s = c.index_mut.result.now in
-    let can = c.requires.can.1.0 in
+    let may = c.requires.may in
+    let can = may.flows.can in
     let each = can.count in
     let at = stage_there c.loop-i.stages.items stages i s (omega (arith, low, each)) c.index_mut.ensures.value (before.behind i s (omega arith)) in
     let u = c.left_closing-left_to.result in
@@ -169,10 +154,13 @@ loop-i-preserved c =
     let told = c.in-Ok.ensures in
     let now = c.loop-i.stages.items in
     let pushed = c.in_ok-push-in-Ok.ensures.items in
-    let list = answer_is texts plan whole capacity c.args.p within i n here.1 given before.more left right read.is_left read.is_right stages s at u v eu ev c.requires.can.0 can.ready out told.kinds told.placed told.capacity in
     let made = c.right_list.ensures.made ∙ c.left_list.ensures.made ∙ before.count in
     let long = before.long in
     let within_now : i < length now = omega (arith, low, each, long) in
+    let placed =
+    answer_placed texts plan whole capacity c.args.p within i n here.1 given before.more left right read.is_left read.is_right stages s at u v eu ev may.last may.source may.old may.lists may.distinct may.later may.stand may.from can.ready (may.flows.kept i n s here.1 at) now
+    (before.progress may.last may.old may.lists may.source may.distinct may.flows may.later may.stand may.from) new out told.kept told.ready told.defined within_now in
+    let list = answer_is texts plan whole capacity c.args.p within i n here.1 given before.more left right read.is_left read.is_right stages s at u v eu ev may.last can.ready out told.kinds placed told.capacity in
     record {
       more = with_list before.more i out.edges;
       held = subst (HeldBefore texts capacity plan (i + 1) given (with_list before.more i out.edges) c.left_list.new.streams.items) (sym pushed)
@@ -181,7 +169,7 @@ loop-i-preserved c =
       streams = c.left_list.ensures.streams ∙ before.streams;
       long = length-set now i new ∙ before.long;
       behind = λ j d above. get_or-set_other now i j new d (λ e. absurd (omega (arith, above, e))) ∙ before.behind j d (omega (arith, above));
-      ready = ready_next texts plan capacity c.args.p now i n here.1 new within_now before.ready (ready_out texts plan whole capacity c.args.p within i n here.1 given before.more left right read.is_left read.is_right stages s at u v eu ev c.requires.can.0 can.ready new told.ready);
+      ready = ready_next texts plan capacity c.args.p now i n here.1 new within_now before.ready (ready_out texts plan whole capacity c.args.p within i n here.1 given before.more left right read.is_left read.is_right stages s at u v eu ev may.last can.ready new told.ready);
       progress = λ last old lists source distinct flows later from begun.
           next_progress texts plan last c.args.p source old given lists (with_list before.more i out.edges) (slice_set now i new) i
           (progress_made texts plan whole capacity c.args.p within i n here.1 given before.more left right read.is_left read.is_right stages s at u v eu ev last source old lists distinct later from begun flows.can.ready (flows.kept i n s here.1 at) now
@@ -210,14 +198,3 @@ returns-clause-flowed c = λ last old lists source distinct flows later from beg
     (subst (Progress texts plan last c.args.p source old given lists before.more now) end (before.progress last old lists source distinct flows later from begun))
     c.swap_remove.result.edges
     (ap (λ l. l.edges) (c.swap_remove.ensures.value ∙ ap (λ r. get_or c.loop-i.made.items r c.swap_remove.result) c.root.ensures.root) ∙ at.same)
-
-pub returns-clause-can : goal.returns-clause-can
-returns-clause-can c =
-    let before = c.loop-i.invariant in
-    let plan = c.args.plan.now in
-    let count = ap length c.nodes-nodes.ensures.nodes in
-    let test = c.loop-i-test.false in
-    let bound = c.loop-i.auto.i-end in
-    let end : c.loop-i.i ≡ length plan.nodes = omega (arith, test, bound, count) in
-    can_again c.args.texts.now plan c.requires.can.0 c.args.p c.requires.can.1.1 c.args.stages.now.items c.loop-i.stages.items c.args.pools.now c.loop-i.pools c.requires.can.1.0 before.long before.pools before.limit
-    (λ j m d low there. before.ready j m d (omega (arith, low, end)) there)

@@ -3,17 +3,20 @@ use Rattle.std.proofs.Common.{sym, ◌∙◌, ap, subst, arith}
 use Rattle.sweep_laws.specs.Grouping.{IsFirstUndefined}
 use Rattle.snapshot_agg.specs.Words.{bad}
 use Rattle.snapshot_agg.specs.Totaled.{run_of}
-use Rattle.std.specs.Prelude.{take, get_or}
-use Rattle.snapshot_agg.proofs.Sweeping.{InstantTold, InstantUndefined, for_both, within_rest, sweep_more, sweep_stops, sweep_starts, sweep_ends}
+use Rattle.std.specs.Prelude.{take, drop, get_or}
+use Rattle.snapshot_agg.proofs.Sweeping.{InstantTold, InstantUndefined, for_both, InstantSoFar, within_rest, sweep_more, sweep_stops, sweep_from, sweep_ends}
+use Rattle.snapshot_agg.specs.Answering.{group_kinds}
+use Rattle.snapshot_agg.proofs.Answering.{going_starts, going_more, going_ends}
 use Rattle.snapshot_agg.proofs.sweep.sweep_due.Goals as goal
 
 pub loop-done-init : goal.loop-done-init
 loop-done-init c =
     let g = c.args.groups.now in
     record {
-      within = omega arith;
+      within = c.first_from-done.ensures.within;
       counted = c.requires.counted;
-      reached = λ a from to d s. sweep_starts g.key.items g.aggs.items a from to c.args.due.now g.rows.rows (run_of c.args.running.now) c.args.answer.now.items d s;
+      reached = λ a to d s. sweep_from g.key.items g.aggs.items a c.args.from to c.first_from-done.result c.args.due.now g.rows.rows (run_of c.args.running.now) c.args.answer.now.items c.first_from-done.ensures.none d s;
+      so_far = λ left to low high stored below up s. going_starts (group_kinds g.key.items g.aggs.items left) c.args.from to c.first_from-done.result c.args.due.now (run_of c.args.running.now) c.args.answer.now.items low up c.first_from-done.ensures.head s;
       same_key = refl;
       same_aggs = refl;
     }
@@ -30,18 +33,25 @@ loop-done-preserved c =
     record {
       within = within_rest g.key.items g.aggs.items due left i n d c.loop-done-test.true c.rest-left.ensures c.first_instant-n.ensures.within;
       counted = c.in-Ok.ensures.counted;
-      reached = λ a from to b s. sweep_more g.key.items g.aggs.items due left i n d c.loop-done-test.true c.rest-left.ensures
-          c.first_instant-n.ensures.same c.first_instant-n.ensures.next a from to g1.rows.rows c.sweep_instant.new.groups.rows.rows
+      reached = λ a to b s. sweep_more g.key.items g.aggs.items due left i n d c.loop-done-test.true c.rest-left.ensures
+          c.first_instant-n.ensures.same c.first_instant-n.ensures.next a c.args.from to g1.rows.rows c.sweep_instant.new.groups.rows.rows
           (run_of c.loop-done.running) (run_of c.sweep_instant.new.running) c.args.answer.now.items c.loop-done.answer.items c.sweep_instant.new.answer.items
           (for_both (InstantTold (get_or due i d).sync (take n left) g1.rows.rows c.sweep_instant.new.groups.rows.rows (run_of c.loop-done.running) (run_of c.sweep_instant.new.running) c.loop-done.answer.items c.sweep_instant.new.answer.items)
           g1.key.items g.key.items g1.aggs.items g.aggs.items (ap (λ x. x.items) c.loop-done.invariant.same_key) (ap (λ x. x.items) c.loop-done.invariant.same_aggs) c.in-Ok.ensures.swept)
-          (c.loop-done.invariant.reached a from to b s);
+          (c.loop-done.invariant.reached a to b s);
+      so_far = λ left to low high stored below up s.
+          going_more (group_kinds g.key.items g.aggs.items left) left c.args.from to i n due c.rest-left.result.now d (run_of c.loop-done.running) (run_of c.sweep_instant.new.running) c.loop-done.answer.items c.sweep_instant.new.answer.items
+          c.loop-done-test.true c.rest-left.ensures c.first_instant-n.ensures.next below stored
+          (for_both (InstantSoFar left c.args.from to (get_or due i d).sync (take n c.rest-left.result.now) (run_of c.loop-done.running) (run_of c.sweep_instant.new.running) c.loop-done.answer.items c.sweep_instant.new.answer.items)
+          g1.key.items g.key.items g1.aggs.items g.aggs.items (ap (λ x. x.items) c.loop-done.invariant.same_key) (ap (λ x. x.items) c.loop-done.invariant.same_aggs)
+          (λ f b z k. c.in-Ok.ensures.so_far left c.args.from to f b high z k))
+          (c.loop-done.invariant.so_far left to low high stored below up s);
       same_key = c.in-Ok.ensures.key ∙ c.loop-done.invariant.same_key;
       same_aggs = c.in-Ok.ensures.aggs ∙ c.loop-done.invariant.same_aggs;
     }
 
 pub returns-in-Err-clause-overflow : goal.returns-in-Err-clause-overflow
-returns-in-Err-clause-overflow c = λ v e a from to b s.
+returns-in-Err-clause-overflow c = λ v e a to b s.
     let g = c.args.groups.now in
     let g1 = c.loop-done.groups in
     let due = c.args.due.now in
@@ -50,15 +60,20 @@ returns-in-Err-clause-overflow c = λ v e a from to b s.
     let n = c.first_instant-n.result in
     let d = c.index-due-done.result in
     let o = c.in-Err.ensures.overflow v e in
-    subst (IsFirstUndefined (bad g.key.items g.aggs.items) a from to) (sym o.0)
+    subst (IsFirstUndefined (bad g.key.items g.aggs.items) a c.args.from to) (sym o.0)
     (sweep_stops g.key.items g.aggs.items due left i n d c.loop-done-test.true c.rest-left.ensures
-    c.first_instant-n.ensures.same c.first_instant-n.ensures.next a from to g1.rows.rows (run_of c.loop-done.running) c.args.answer.now.items c.loop-done.answer.items
+    c.first_instant-n.ensures.same c.first_instant-n.ensures.next a c.args.from to g1.rows.rows (run_of c.loop-done.running) c.args.answer.now.items c.loop-done.answer.items
     (for_both (InstantUndefined (get_or due i d).sync (take n left) g1.rows.rows (run_of c.loop-done.running))
     g1.key.items g.key.items g1.aggs.items g.aggs.items (ap (λ x. x.items) c.loop-done.invariant.same_key) (ap (λ x. x.items) c.loop-done.invariant.same_aggs) o.1)
-    (c.loop-done.invariant.reached a from to b s))
+    (c.loop-done.invariant.reached a to b s))
 
 pub returns-clause-swept : goal.returns-clause-swept
-returns-clause-swept c = λ a from to d s.
+returns-clause-swept c = λ a to d s.
     let g = c.args.groups.now in
-    sweep_ends g.key.items g.aggs.items a from to c.loop-done.done c.args.due.now c.loop-done.groups.rows.rows (run_of c.loop-done.running) c.args.answer.now.items c.loop-done.answer.items
-    (let z = c.loop-done-test.false in omega (arith, z)) (c.loop-done.invariant.reached a from to d s)
+    sweep_ends g.key.items g.aggs.items a c.args.from to c.loop-done.done c.args.due.now c.loop-done.groups.rows.rows (run_of c.loop-done.running) c.args.answer.now.items c.loop-done.answer.items
+    (let z = c.loop-done-test.false in omega (arith, z)) (c.loop-done.invariant.reached a to d s)
+
+pub returns-clause-so_far : goal.returns-clause-so_far
+returns-clause-so_far c = λ left to low high stored below up s.
+    let g = c.args.groups.now in
+    going_ends (group_kinds g.key.items g.aggs.items left) c.args.from to (drop c.loop-done.done c.args.due.now) (run_of c.loop-done.running) c.loop-done.answer.items (c.loop-done.invariant.so_far left to low high stored below up s)

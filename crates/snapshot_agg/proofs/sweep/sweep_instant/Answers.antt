@@ -1,7 +1,9 @@
 use Rattle.std.specs.Prelude.{◌≡◌}
 use Rattle.std.proofs.Common.{ap}
 use Rattle.snapshot_agg.specs.Totaled.{run_of}
-use Rattle.snapshot_agg.proofs.Sweeping.{InstantTold, InstantUndefined, instant_told, instant_undefined, for_both}
+use Rattle.snapshot_agg.proofs.Sweeping.{InstantTold, InstantUndefined, InstantSoFar, instant_told, instant_undefined, for_both}
+use Rattle.edge_history.specs.Opens.{bare}
+use Rattle.snapshot_agg.proofs.Answering.{instant_so_far}
 use Rattle.snapshot_agg.proofs.sweep.sweep_instant.Goals as goal
 
 pub returns-then-found-clause-overflow : goal.returns-then-found-clause-overflow
@@ -24,3 +26,13 @@ returns-clause-swept c =
     (instant_told g1.key.items g1.aggs.items c.args.t c.args.now.now g.rows.rows g1.rows.rows
     (run_of c.args.running.now) (run_of c.tell_ends.new.running) (run_of c.tell_starts.new.running) c.args.answer.now.items c.tell_ends.new.answer.items c.tell_starts.new.answer.items
     c.in_ok-apply.ensures.moved (c.in_ok-found.ensures.no c.if-found.false) c.in_ok-tell_ends.ensures.told c.in_ok-tell_starts.ensures.told c.in_ok-tell_ends.ensures.order c.in_ok-tell_starts.ensures.order)
+
+pub returns-clause-so_far : goal.returns-clause-so_far
+returns-clause-so_far c = λ left from to low mid high stored s.
+    let g = c.args.groups.now in
+    let g1 = c.apply.new.groups in
+    for_both (InstantSoFar left from to c.args.t c.args.now.now (run_of c.args.running.now) (run_of c.tell_starts.new.running) c.args.answer.now.items c.tell_starts.new.answer.items) g1.key.items g.key.items g1.aggs.items g.aggs.items
+    (ap (λ x. x.items) c.in_ok-apply.ensures.key) (ap (λ x. x.items) c.in_ok-apply.ensures.aggs)
+    (λ f b z k. instant_so_far g1.key.items g1.aggs.items left from c.args.t to f b high c.args.now.now z (bare g1.rows.rows)
+    (run_of c.args.running.now) (run_of c.tell_ends.new.running) (run_of c.tell_starts.new.running) c.args.answer.now.items c.tell_ends.new.answer.items c.tell_starts.new.answer.items
+    c.in_ok-tell_ends.ensures.told c.in_ok-tell_starts.ensures.told c.in_ok-tell_ends.ensures.order c.in_ok-tell_starts.ensures.order k) low mid stored s

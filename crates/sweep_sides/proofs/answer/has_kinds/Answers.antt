@@ -1,4 +1,4 @@
-use Rattle.std.proofs.Common.{◌≡◌, ◌∙◌, sym, ap, not, true, true≢false, arith}
+use Rattle.std.proofs.Common.{◌≡◌, ◌∙◌, sym, ap, not, true≢false, arith}
 use Rattle.tw_rows.specs.Kinds.{cell_kind_of}
 use Rattle.tw_rows.specs.Cells.{datum_kind}
 use Rattle.tw_rows.proofs.CellEquality.{cell_kind_eq-Decides}

@@ -1,4 +1,4 @@
-use Rattle.std.proofs.Common.{◌≡◌, take, map, length}
+use Rattle.std.proofs.Common.{◌≡◌, take, map}
 use Rattle.tw_rows.specs.Kinds.{cell_kind_of}
 use Rattle.tw_rows.specs.Cells.{datum_kind}
 use Rattle.sweep_sides.proofs.answer.has_kinds.Given as goal

@@ -3,7 +3,7 @@ use Rattle.std.proofs.lemmas.List.{take_more}
 use Rattle.tw_rows.specs.declared.edge.Edge.{Edge}
 use Rattle.edge_history.proofs.Keeping.{KeepsOrder-next}
 use Rattle.edge_stream.proofs.Filling.{appended-kinds, appended-capacity, room_taken-capacity}
-use Rattle.sweep_sides.proofs.Cutting.{part-capacity}
+use Rattle.carried_edges.proofs.Pools.{part-capacity, part-limit, room_taken-limit}
 use Rattle.sweep_sides.proofs.answer.list_of.Goals as goal
 
 pub append-requires-clause-order : goal.append-requires-clause-order
@@ -13,6 +13,9 @@ append-requires-clause-order c =
 
 pub returns-in_err-append-clause-pools : goal.returns-in_err-append-clause-pools
 returns-in_err-append-clause-pools c = part-capacity c.loop-edge.pools c.append.new.pools _ c.in_err-append.ensures.err_pools ∙ c.loop-edge.invariant.pools
+
+pub returns-in_err-append-clause-limit : goal.returns-in_err-append-clause-limit
+returns-in_err-append-clause-limit c = part-limit c.loop-edge.pools c.append.new.pools _ c.in_err-append.ensures.err_pools ∙ c.loop-edge.invariant.limit
 
 pub loop-edge-preserved : goal.loop-edge-preserved
 loop-edge-preserved c =
@@ -25,4 +28,5 @@ loop-edge-preserved c =
       kinds = ap (λ l. l.kinds) c.in_ok-append.ensures.ok ∙ (appended-kinds list x ∙ k.kinds);
       capacity = ap (λ l. l.capacity) c.in_ok-append.ensures.ok ∙ (appended-capacity list x ∙ k.capacity);
       pools = ap (λ s. s.capacity) c.in_ok-append.ensures.pools ∙ (room_taken-capacity list c.loop-edge.pools ∙ k.pools);
+      limit = ap (λ s. s.limit) c.in_ok-append.ensures.pools ∙ (room_taken-limit list c.loop-edge.pools ∙ k.limit);
     }

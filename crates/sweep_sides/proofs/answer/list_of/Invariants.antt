@@ -7,4 +7,5 @@ invariant-loop-edge l = record {
   kinds : l.list.kinds ≡ l.kinds;
   capacity : l.list.capacity ≡ l.capacity;
   pools : l.pools.capacity ≡ l.fn.pools.capacity;
+  limit : l.pools.limit ≡ l.fn.pools.limit;
 }

@@ -1,4 +1,4 @@
-use Rattle.std.proofs.Common.{◌+◌, ℕ, sym, ◌∙◌, ap, arith, cond}
+use Rattle.std.proofs.Common.{ℕ, sym, ◌∙◌, ap, arith, cond}
 use Rattle.tw_rows.proofs.Fronts.{total_more}
 use Rattle.sweep_laws.specs.Sweeps.{is_at}
 use Rattle.sweep_sides.proofs.Cutting.{no_not}

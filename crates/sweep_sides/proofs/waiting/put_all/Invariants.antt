@@ -1,7 +1,10 @@
-use Rattle.std.proofs.Common.{◌≡◌, ◌+◌, ℕ, length}
+use Rattle.std.proofs.Common.{◌≡◌, ◌+◌, ℕ, length, map}
+use Rattle.std.specs.Prelude.{All}
 use Rattle.tw_rows.specs.Bag.{total}
+use Rattle.tw_rows.specs.Cells.{datum_kind}
 use Rattle.tw_rows.specs.declared.edge.Edge.{Edge}
 use Rattle.edge_history.specs.Opens.{singles}
+use Rattle.edge_stream.specs.Listing.{cells_of}
 use Rattle.sweep_sides.specs.Waiting.{queued, AreTimed}
 use Rattle.sweep_sides.proofs.waiting.put_all.Given as goal
 
@@ -9,6 +12,8 @@ abbrev pub invariant-loop-edge : goal.invariant-loop-edge
 invariant-loop-edge l = record {
   put : (w : Edge → ℕ) → total w (queued l.queue) + total w (singles l.cursor.edges) ≡ total w (queued l.fn.queue) + total w (singles l.edges.edges);
   timed : AreTimed l.fn.queue → AreTimed l.queue;
+  kinds : l.cursor.kinds ≡ cells_of l.edges;
+  cells : All (λ e. map datum_kind e.cells ≡ cells_of l.edges) l.cursor.edges → All (λ e. map datum_kind e.cells ≡ cells_of l.edges) l.edges.edges;
 }
 
 abbrev pub decreases-loop-edge : goal.decreases-loop-edge

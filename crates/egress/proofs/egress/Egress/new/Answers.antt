@@ -1,4 +1,4 @@
-use Rattle.std.proofs.Common.{sym, ◌∙◌, ap, arith}
+use Rattle.std.proofs.Common.{refl, sym, ◌∙◌, ap, arith}
 use Rattle.edge_history.specs.Order.{failing}
 use Rattle.tw_rows.specs.SameCells.{same_cells}
 use Rattle.std.specs.Map.{lookup}
@@ -20,4 +20,12 @@ returns-clause-holds c = λ texts. record {
     opens = λ cells t rest is. absurd (let z = sym (ap (λ es. times_if (lookup (same_cells cells) es)) c.new.ensures.empty) ∙ is in cc);
     waits = λ t. ap (λ es. failing (λ e. p e.cells) (edges_if (items_if (lookup (eq_by_cmp nat_cmp t) es)))) c.new-2.ensures.empty;
   };
+}
+
+pub returns-clause-opening : goal.returns-clause-opening
+returns-clause-opening c = record {
+  closed = λ cells. ap (λ es. times_if (lookup (same_cells cells) es)) c.new.ensures.empty;
+  none = λ t. ap (λ es. items_if (lookup (eq_by_cmp nat_cmp t) es)) c.new-2.ensures.empty;
+  empty = c.new-3.ensures.items;
+  works = refl;
 }

@@ -5,7 +5,7 @@ use Rattle.edge_history.proofs.Sums.{failing-kept}
 use Rattle.edge_stream.specs.Listing.{cells_of}
 use Rattle.edge_stream.specs.Taking.{batches_taken}
 use Rattle.edge_stream.proofs.Filling.{batches_given-capacity, batches_taken-capacity}
-use Rattle.carried_edges.proofs.Pools.{some-capacity}
+use Rattle.carried_edges.proofs.Pools.{some-capacity, some-limit, batches_given-limit, batches_taken-limit}
 use Rattle.extend_op.specs.Waiting.{IsWaitingEnd}
 use Rattle.extend_op.proofs.Waiting.{extended_advance}
 use Rattle.extend_op.proofs.extend.ExtendOperator.advance.Goals as goal
@@ -81,3 +81,31 @@ returns-in_err-ends-clause-pools c =
 pub returns-in_err-answer-clause-pools : goal.returns-in_err-answer-clause-pools
 returns-in_err-answer-clause-pools c =
     some-capacity c.take_due.new.pools c.merge.new.pools (cells_of c.part_due.new.starts) c.in_err-answer.ensures.err_pools ∙ c.take_due.ensures.pools ∙ ap (λ s. s.capacity) c.give_back-2.ensures ∙ batches_given-capacity c.in_ok-due.due.batches c.part_due.new.pools (cells_of c.in_ok-due.due) ∙ c.part_due.ensures.pools ∙ c.take_below.ensures.pools ∙ ap (λ s. s.capacity) c.give_back.ensures ∙ batches_given-capacity c.args.right.batches c.args.pools.now (cells_of c.args.right)
+
+pub returns-clause-limit : goal.returns-clause-limit
+returns-clause-limit c =
+    let starts = c.part_due.new.starts in
+    let kinds = cells_of starts in
+    let taken = batches_taken c.in_ok-answer.answer.batches c.take_due.new.pools kinds in
+    ap (λ s. s.limit) c.in_ok-answer.ensures.pools ∙ batches_given-limit (starts.batches + c.in_ok-ends.ends.batches) taken kinds
+    ∙ batches_taken-limit c.in_ok-answer.answer.batches c.take_due.new.pools kinds ∙ c.take_due.ensures.limit ∙ ap (λ s. s.limit) c.give_back-2.ensures ∙ batches_given-limit c.in_ok-due.due.batches c.part_due.new.pools (cells_of c.in_ok-due.due) ∙ c.part_due.ensures.limit ∙ c.take_below.ensures.limit ∙ ap (λ s. s.limit) c.give_back.ensures ∙ batches_given-limit c.args.right.batches c.args.pools.now (cells_of c.args.right)
+
+pub returns-in_err-due-clause-limit : goal.returns-in_err-due-clause-limit
+returns-in_err-due-clause-limit c =
+    c.take_below.ensures.limit ∙ ap (λ s. s.limit) c.give_back.ensures ∙ batches_given-limit c.args.right.batches c.args.pools.now (cells_of c.args.right)
+
+pub returns-in_err-starts-clause-limit : goal.returns-in_err-starts-clause-limit
+returns-in_err-starts-clause-limit c =
+    c.take_below.ensures.limit ∙ ap (λ s. s.limit) c.give_back.ensures ∙ batches_given-limit c.args.right.batches c.args.pools.now (cells_of c.args.right)
+
+pub returns-in_err-part_due-clause-limit : goal.returns-in_err-part_due-clause-limit
+returns-in_err-part_due-clause-limit c =
+    c.part_due.ensures.limit ∙ c.take_below.ensures.limit ∙ ap (λ s. s.limit) c.give_back.ensures ∙ batches_given-limit c.args.right.batches c.args.pools.now (cells_of c.args.right)
+
+pub returns-in_err-ends-clause-limit : goal.returns-in_err-ends-clause-limit
+returns-in_err-ends-clause-limit c =
+    c.take_due.ensures.limit ∙ ap (λ s. s.limit) c.give_back-2.ensures ∙ batches_given-limit c.in_ok-due.due.batches c.part_due.new.pools (cells_of c.in_ok-due.due) ∙ c.part_due.ensures.limit ∙ c.take_below.ensures.limit ∙ ap (λ s. s.limit) c.give_back.ensures ∙ batches_given-limit c.args.right.batches c.args.pools.now (cells_of c.args.right)
+
+pub returns-in_err-answer-clause-limit : goal.returns-in_err-answer-clause-limit
+returns-in_err-answer-clause-limit c =
+    some-limit c.take_due.new.pools c.merge.new.pools (cells_of c.part_due.new.starts) c.in_err-answer.ensures.err_pools ∙ c.take_due.ensures.limit ∙ ap (λ s. s.limit) c.give_back-2.ensures ∙ batches_given-limit c.in_ok-due.due.batches c.part_due.new.pools (cells_of c.in_ok-due.due) ∙ c.part_due.ensures.limit ∙ c.take_below.ensures.limit ∙ ap (λ s. s.limit) c.give_back.ensures ∙ batches_given-limit c.args.right.batches c.args.pools.now (cells_of c.args.right)

@@ -3,6 +3,7 @@ use Rattle.edge_history.specs.Order.{failing, is_from}
 use Rattle.edge_history.proofs.Sums.{failing-kept}
 use Rattle.edge_stream.specs.Listing.{cells_of}
 use Rattle.edge_stream.proofs.Filling.{batches_given-capacity}
+use Rattle.carried_edges.proofs.Pools.{batches_given-limit}
 use Rattle.lifetime_ops.proofs.Answering.{advanced}
 use Rattle.lifetime_ops.proofs.life_operator.LifeOperator.advance.Goals as goal
 
@@ -32,3 +33,12 @@ returns-in_err-answer-clause-pools c = c.take_below.ensures.pools ∙ ap (λ s. 
 
 pub returns-in_err-due-clause-pools : goal.returns-in_err-due-clause-pools
 returns-in_err-due-clause-pools c = c.take_below.ensures.pools ∙ ap (λ s. s.capacity) c.give_back.ensures ∙ batches_given-capacity c.args.right.batches c.args.pools.now (cells_of c.args.right)
+
+pub returns-clause-limit : goal.returns-clause-limit
+returns-clause-limit c = c.take_below.ensures.limit ∙ ap (λ s. s.limit) c.give_back.ensures ∙ batches_given-limit c.args.right.batches c.args.pools.now (cells_of c.args.right)
+
+pub returns-in_err-answer-clause-limit : goal.returns-in_err-answer-clause-limit
+returns-in_err-answer-clause-limit c = c.take_below.ensures.limit ∙ ap (λ s. s.limit) c.give_back.ensures ∙ batches_given-limit c.args.right.batches c.args.pools.now (cells_of c.args.right)
+
+pub returns-in_err-due-clause-limit : goal.returns-in_err-due-clause-limit
+returns-in_err-due-clause-limit c = c.take_below.ensures.limit ∙ ap (λ s. s.limit) c.give_back.ensures ∙ batches_given-limit c.args.right.batches c.args.pools.now (cells_of c.args.right)

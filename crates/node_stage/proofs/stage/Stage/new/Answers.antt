@@ -4,7 +4,7 @@ use Rattle.tw_rows.specs.Kinds.{cell_kind_of}
 use Rattle.plan_model.specs.Typed.{IsTyped}
 use Rattle.plan_model.proofs.Kept.{node_at}
 use Rattle.node_stage.specs.Stages.{kinds_read, IsFilterOf, IsProjectOf}
-use Rattle.node_stage.proofs.Nodes.{where_sound, select_typed, select_few, one_node, built_alone}
+use Rattle.node_stage.proofs.Nodes.{where_sound, select_typed, select_few, one_node, of_rows_alone}
 use Rattle.node_stage.proofs.stage.Stage.new.Goals as goal
 
 pub filter_of-requires-clause-typed : goal.filter_of-requires-clause-typed
@@ -75,4 +75,4 @@ unreachable-requires c =
     let plan = c.args.plan.now in
     let n = c.index-nodes-node.result in
     let at = node_at plan _ c.args.node n c.nodes-nodes.ensures.kept c.nodes-nodes.ensures.nodes c.requires.node c.index-nodes-node.is in
-    built_alone n (c.requires.built n at.here) c.in_default.not-Source c.in_default.not-Where c.in_default.not-Select
+    of_rows_alone n (c.requires.rows n at.here) c.in_default.not-Source c.in_default.not-Where c.in_default.not-Select

@@ -1,4 +1,4 @@
-use Rattle.plan_model.specs.Reach.{is_built}
+use Rattle.built_nodes.specs.Built.{is_built}
 use Rattle.tempo_engine.proofs.Keeping.{all_there}
 use Rattle.tempo_engine.proofs.engine.Engine.new.Goals as goal
 

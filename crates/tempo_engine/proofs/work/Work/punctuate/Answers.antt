@@ -23,6 +23,24 @@ step-requires-clause-given c =
     subst (λ q. AreGiven e.texts e.dataflow.capacity q c.in-Ok.given.items) (sym due.went.planned)
     (given_are e.texts plan c.requires.1.0 e.dataflow.capacity e.ingress c.in-Ok.given.items due.went.fixed c.in-Ok.ensures.lists (c.in-Ok.ensures.placed e.texts c.requires.1.1.0.after due.went.given due.went.took.follows))
 
+pub step-requires-clause-may : goal.step-requires-clause-may
+step-requires-clause-may c =
+    let w = c.requires.1.1.0 in
+    let due = c.requires.1.1.1 in
+    let e = c.args.self.now in
+    let follows = c.in-Ok.ensures.follows e.texts w.after due.went.given due.went.took.follows in
+    record {
+      last = w.last;
+      old = due.went.given;
+      lists = due.went.lists;
+      source = rows w.after;
+      distinct = c.each_text_once.ensures;
+      flows = due.went.flows;
+      later = due.above;
+      stand = (let l = follows_stand e.texts w.after (longer due.went.given (edges_at c.in-Ok.given.items)) c.release.new.self follows in rw c.in-Ok.ensures.released at l);
+      from = λ s. (let l = c.in-Ok.ensures.later e.texts w.after due.went.given due.went.took.follows s in rw due.went.released at l);
+    }
+
 pub returns-in-Err-step-clause-overflow : goal.returns-in-Err-step-clause-overflow
 returns-in-Err-step-clause-overflow c = λ node time is plan policy w due.
     let e = c.args.self.now in

@@ -7,7 +7,7 @@ use Rattle.temporal_join.specs.Joined.{join_meets}
 use Rattle.temporal_join.proofs.pairs.Pairing.end_rows.Goals as goal
 
 pub loop-edge-init : goal.loop-edge-init
-loop-edge-init c = record { key = refl; ended = λ fit w. omega arith; told = λ k fit. adds_none c.args.answer.now.items }
+loop-edge-init c = record { key = refl; ended = λ fit w. omega arith; fewer = λ w. omega arith; told = λ k fit. adds_none c.args.answer.now.items }
 
 pub loop-edge-preserved : goal.loop-edge-preserved
 loop-edge-preserved c =
@@ -24,6 +24,7 @@ loop-edge-preserved c =
           let m = rows_more ended_of w c.args.now.now i x low is in
           let bw = b w in
           omega (arith, e, m, bw);
+      fewer = λ w. (let a = c.in_ok-end_one.ensures.fewer w in let b = c.loop-edge.invariant.fewer w in omega (arith, a, b));
       told = λ k fit.
           rows_told_more (join_meets p.left_key.now p.right_key.now) (paired_row p.right_key.now) ended_of p.right false p.at x c.args.now.now c.args.others.now.rows i
           c.args.answer.now.items c.loop-edge.answer.items c.end_one.new.answer.items

@@ -11,6 +11,7 @@ invariant-loop-edge l = record {
   key : l.rows.key ≡ l.fn.rows.key;
   ended : ((w : HeldRow → ℕ) → total w (ended_rows l.now) ≤ total w l.fn.rows.rows) → (w : HeldRow → ℕ) →
       total w l.fn.rows.rows ≡ total w l.rows.rows + total w (ended_rows (take l.edge-index l.now));
+  fewer : (w : HeldRow → ℕ) → total w l.rows.rows ≤ total w l.fn.rows.rows;
   told : l.others.key ≡ other_key l.self → ((w : HeldRow → ℕ) → total w (ended_rows l.now) ≤ total w l.fn.rows.rows) →
       Adds l.fn.answer.items l.answer.items (told_pairs l.self false (ended_rows (take l.edge-index l.now)) l.others.rows);
 }

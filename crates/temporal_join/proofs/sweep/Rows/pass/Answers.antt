@@ -1,4 +1,4 @@
-use Rattle.std.proofs.Common.{◌∙◌, sym, refl, true, false}
+use Rattle.std.proofs.Common.{◌∙◌, sym, refl, arith, true, false}
 use Rattle.edge_history.specs.Opens.{ended_rows, started_rows}
 use Rattle.plan_model.specs.Keys.{paired_row}
 use Rattle.sweep_laws.proofs.JoinTelling.{held_then, told_then}
@@ -38,6 +38,8 @@ returns c =
             told_then (join_meets lk rk) (paired_row rk) a b t nl nr s.left.rows left1 left2 s.right.rows right1 right2 a0 a1 a2 a3 a4
                 low la lb il ir h c.in_ok-end_rows.ensures.ended (λ fit. same_told lk rk _ _ false false t (ended_rows nl) s.right.rows a0 a1 l1 r1 (c.in_ok-end_rows.ensures.told by_right fit)) c.in_ok-end_rows-2.ensures.ended (λ fit. same_told lk rk _ _ true false t (ended_rows nr) left1 a1 a2 l2 r2 (c.in_ok-end_rows-2.ensures.told (c.in_ok-end_rows.ensures.key ∙ by_left) fit)) c.in_ok-start_rows.ensures.started s1 c.in_ok-start_rows-2.ensures.started s2,
           );
+      left_rows = λ w. (let a = c.in_ok-end_rows.ensures.fewer w in let b = c.in_ok-start_rows.ensures.started w in omega (arith, a, b));
+      right_rows = λ w. (let a = c.in_ok-end_rows-2.ensures.fewer w in let b = c.in_ok-start_rows-2.ensures.started w in omega (arith, a, b));
       keys = record {
         left_key = refl;
         right_key = refl;

@@ -1,5 +1,6 @@
 use Rattle.std.proofs.Common.{◌≡◌, ◌∙◌, ◌+◌, suc, sym, ap, subst, arith, drop, length, refl, List}
 use Rattle.std.proofs.lemmas.List.{drop-drop, length-drop}
+use Rattle.tw_rows.specs.Bag.{total}
 use Rattle.tw_rows.specs.declared.edge.Edge.{Edge}
 use Rattle.plan_model.specs.Keys.{paired_row}
 use Rattle.sweep_laws.specs.Joining.{JoinReached}
@@ -8,6 +9,7 @@ use Rattle.sweep_sides.proofs.Cutting.{drop_past}
 use Rattle.temporal_join.specs.Joined.{join_meets}
 use Rattle.temporal_join.specs.Kept.{AreByKey}
 use Rattle.temporal_join.proofs.Partners.{same_tells}
+use Rattle.temporal_join.proofs.Rowing.{rows_past}
 use Rattle.temporal_join.proofs.sweep.Rows.sweep.Goals as goal
 
 pub loop-i-init : goal.loop-i-init
@@ -17,6 +19,8 @@ loop-i-init c =
       within_left = omega arith;
       within_right = omega arith;
       keys = record { left_key = refl; right_key = refl; left = refl; right = refl };
+      left_rows = λ w. omega arith;
+      right_rows = λ w. omega arith;
       reached = λ a b from to by dl dr h.
           (from, join_reach_start (join_meets s.left_key.items s.right_key.items) (paired_row s.right_key.items) a b from to c.args.left_due.now c.args.right_due.now s.left.rows s.right.rows c.args.answer.now.items dl dr h);
     }
@@ -63,6 +67,10 @@ loop-i-preserved c =
         left = keys2.left ∙ keys.left;
         right = keys2.right ∙ keys.right;
       };
+      left_rows = λ w.
+          rows_past w i n ldue lrest (total w s.left.rows) (total w now.left.rows) (total w later.left.rows) el (c.loop-i.invariant.left_rows w) (c.in_ok-pass.ensures.left_rows w);
+      right_rows = λ w.
+          rows_past w j m rdue rrest (total w s.right.rows) (total w now.right.rows) (total w later.right.rows) er (c.loop-i.invariant.right_rows w) (c.in_ok-pass.ensures.right_rows w);
       reached = λ a b from to by dl dr h.
           let r = c.loop-i.invariant.reached a b from to by dl dr h in
           let by2 : AreByKey now = record { left = keys.left ∙ (by.left ∙ sym left_same); right = keys.right ∙ (by.right ∙ sym right_same) } in
@@ -93,5 +101,7 @@ returns c =
           join_reach_end (join_meets s.left_key.items s.right_key.items) (paired_row s.right_key.items) a b from r.0 to (drop c.loop-i.i c.args.left_due.now) (drop c.loop-i.j c.args.right_due.now)
           c.loop-i.self.left.rows c.loop-i.self.right.rows c.args.answer.now.items c.loop-i.answer.items
           (drop_past c.args.left_due.now c.loop-i.i (omega (arith, p))) (drop_past c.args.right_due.now c.loop-i.j (omega (arith, q))) r.1;
+      left_rows = λ w. (let a = c.loop-i.invariant.left_rows w in omega (arith, a));
+      right_rows = λ w. (let a = c.loop-i.invariant.right_rows w in omega (arith, a));
       keys = c.loop-i.invariant.keys;
     }

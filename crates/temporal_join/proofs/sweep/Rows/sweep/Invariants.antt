@@ -1,4 +1,7 @@
-use Rattle.std.proofs.Common.{◌≡◌, ◌+◌, ◌≤◌, ◌-◌, ℕ, List, drop, length}
+use Rattle.std.proofs.Common.{◌+◌, ◌≤◌, ◌-◌, ℕ, List, drop, length}
+use Rattle.tw_rows.specs.Bag.{total}
+use Rattle.tw_rows.specs.declared.edge.HeldRow.{HeldRow}
+use Rattle.edge_history.specs.Opens.{started_rows}
 use Rattle.edge_history.specs.History.{CellEvent}
 use Rattle.plan_model.specs.Keys.{paired_row}
 use Rattle.sweep_laws.specs.Sweeps.{IsDue}
@@ -16,6 +19,8 @@ invariant-loop-i l = record {
   within_left : l.i ≤ length l.left_due;
   within_right : l.j ≤ length l.right_due;
   keys : SameKeys l.fn.self l.self;
+  left_rows : (w : HeldRow → ℕ) → total w l.self.left.rows + total w (started_rows (drop l.i l.left_due)) ≤ total w l.fn.self.left.rows + total w (started_rows l.left_due);
+  right_rows : (w : HeldRow → ℕ) → total w l.self.right.rows + total w (started_rows (drop l.j l.right_due)) ≤ total w l.fn.self.right.rows + total w (started_rows l.right_due);
   reached : (a b : List CellEvent) (from to : ℕ) → AreByKey l.fn.self → IsDue a from to l.left_due → IsDue b from to l.right_due → Held a b from l.fn.self.left.rows l.fn.self.right.rows →
       (u : ℕ) × JoinReached (join_meets l.fn.self.left_key.items l.fn.self.right_key.items) (paired_row l.fn.self.right_key.items) a b from u to
       (drop l.i l.left_due) (drop l.j l.right_due) l.self.left.rows l.self.right.rows l.fn.answer.items l.answer.items;

@@ -4,7 +4,7 @@ use Rattle.edge_history.proofs.Sums.{failing-kept}
 use Rattle.edge_stream.specs.Listing.{cells_of}
 use Rattle.edge_stream.specs.Taking.{batches_taken}
 use Rattle.edge_stream.proofs.Filling.{batches_given-capacity, batches_taken-capacity}
-use Rattle.carried_edges.proofs.Pools.{some-capacity}
+use Rattle.carried_edges.proofs.Pools.{some-capacity, some-limit, batches_given-limit, batches_taken-limit}
 use Rattle.union_clip.proofs.Uniting.{united}
 use Rattle.union_clip.proofs.union.UnionOperator.advance.Goals as goal
 
@@ -40,3 +40,15 @@ returns-clause-pools c =
 pub returns-in_err-answer-clause-pools : goal.returns-in_err-answer-clause-pools
 returns-in_err-answer-clause-pools c =
     some-capacity c.take_below-2.new.pools c.merge.new.pools (cells_of c.in_ok-left_due.left_due) c.in_err-answer.ensures.err_pools ∙ c.take_below-2.ensures.pools ∙ c.take_below.ensures.pools
+
+pub returns-clause-limit : goal.returns-clause-limit
+returns-clause-limit c =
+    let due = c.in_ok-left_due.left_due in
+    let kinds = cells_of due in
+    let taken = batches_taken c.in_ok-answer.answer.batches c.take_below-2.new.pools kinds in
+    ap (λ s. s.limit) c.in_ok-answer.ensures.pools ∙ batches_given-limit (due.batches + c.in_ok-right_due.right_due.batches) taken kinds
+    ∙ batches_taken-limit c.in_ok-answer.answer.batches c.take_below-2.new.pools kinds ∙ c.take_below-2.ensures.limit ∙ c.take_below.ensures.limit
+
+pub returns-in_err-answer-clause-limit : goal.returns-in_err-answer-clause-limit
+returns-in_err-answer-clause-limit c =
+    some-limit c.take_below-2.new.pools c.merge.new.pools (cells_of c.in_ok-left_due.left_due) c.in_err-answer.ensures.err_pools ∙ c.take_below-2.ensures.limit ∙ c.take_below.ensures.limit

@@ -1,0 +1,9 @@
+pub mod Keys
+pub mod Flips
+pub mod Instants
+pub mod Steps
+pub mod RowKeys
+pub mod Passes
+pub mod Changes
+pub mod WholePass
+pub mod Cuts

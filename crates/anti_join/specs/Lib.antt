@@ -1,0 +1,6 @@
+-- Callers read AntiJoined; the rest is cited by private contracts alone.
+pub mod AntiJoined
+pub mod Free
+pub mod Holding
+pub mod Rows
+pub mod States

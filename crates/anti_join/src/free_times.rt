@@ -1,0 +1,97 @@
+// The times since which keys are free.
+ghost use Rattle.std.specs.Prelude.{◌≡◌, [], ◌∷◌, not, filter, ◌≤◌, List, IfOk, OnOk, OnErr};
+ghost use Rattle.tw_rows.specs.Bag.{SameBag};
+ghost use Rattle.tw_rows.specs.declared.cells.Datum.{Datum};
+ghost use Rattle.tw_rows.specs.declared.edge.HeldRow.{HeldRow};
+ghost use Rattle.edge_history.specs.Order.{many};
+ghost use Rattle.synopsis.specs.Held.{key_of, is_of_key};
+ghost use Rattle.anti_join.specs.Free.{free_since};
+
+use std::alloc::Global;
+use std::marker::Model;
+use synopsis::{KeyRoom, Synopsis};
+use tw_rows::{Cells, Datum, Memory, Time};
+
+/// For each of some keys the time since which it is free, as the start of a row with that key.
+#[derive(Drop)]
+pub(crate) struct FreeTimes {
+    rows: Synopsis,
+    room: KeyRoom,
+}
+
+impl Model for FreeTimes {
+    ghost use Rattle.std.specs.Prelude.{◌≡◌, ◌≤◌, List};
+    ghost use Rattle.tw_rows.specs.declared.cells.Datum.{Datum};
+    ghost use Rattle.edge_history.specs.Order.{many};
+    ghost use Rattle.synopsis.specs.Held.{is_of_key};
+    ghost use Rattle.anti_join.specs.Free.{KeyTimes};
+
+    ghost Value = { KeyTimes };
+
+    ghost view = { λ f. record { key = f.rows.key; rows = f.rows.rows } };
+
+    ghost invariant = { λ f. (f.room.columns ≡ f.rows.key) × ((key : List Datum) → many (is_of_key f.rows.key key) f.rows.rows ≤ 1) };
+}
+
+// Takes out the row with this key, if there is one.
+fn take_key(rows: &mut Synopsis, key: &[Datum]) -> Result<(), Memory>
+    ensures ok { OnOk result (((values : List Datum) → many (is_of_key rows.old.key values) rows.old.rows ≤ 1) → SameBag rows.new.rows (filter (λ r. not (is_of_key rows.old.key key.now r)) rows.old.rows)) }
+    ensures err { OnErr result (rows.new.rows ≡ rows.old.rows) }
+    ensures key { rows.new.key ≡ rows.old.key }
+{
+    let found = rows.rows_of(key);
+    if found.is_empty() {
+        return Ok(());
+    }
+    let first = &found[0];
+    let cells = first.cells.clone()?;
+    let start = first.start;
+    let _ = rows.take(cells.items(), start);
+    Ok(())
+}
+
+impl FreeTimes {
+    /// No times, of keys in these columns.
+    pub(crate) fn new(alloc: Global, key: &[usize]) -> Result<FreeTimes, Memory>
+        ensures key { IfOk result (λ f. f.key ≡ key.now) }
+        ensures rows { IfOk result (λ f. f.rows ≡ []) }
+    {
+        Ok(FreeTimes {
+            rows: Synopsis::new(alloc, key)?,
+            room: KeyRoom::new(alloc, key)?,
+        })
+    }
+
+    /// The time since which the key is free.
+    pub(crate) fn since(&self, key: &[Datum]) -> Time
+        ensures { result ≡ free_since self.now.key self.now.rows key.now }
+    {
+        let _ = &self.room;
+        let found = self.rows.rows_of(key);
+        if found.is_empty() {
+            return Time::bounds().0;
+        }
+        found[0].start
+    }
+
+    /// Forgets the time of the key of a row.
+    pub(crate) fn forget(&mut self, cells: &[Datum]) -> Result<(), Memory>
+        ensures ok { OnOk result (SameBag self.new.rows (filter (λ r. not (is_of_key self.old.key (key_of self.old.key cells.now) r)) self.old.rows)) }
+        ensures key { self.new.key ≡ self.old.key }
+    {
+        self.room.write(cells);
+        take_key(&mut self.rows, self.room.values())?;
+        Ok(())
+    }
+
+    /// The key of a row is free since that time.
+    pub(crate) fn set(&mut self, cells: Cells, at: Time) -> Result<(), Memory>
+        ensures ok { OnOk result (SameBag self.new.rows (record { cells = cells; start = at } ∷ filter (λ r. not (is_of_key self.old.key (key_of self.old.key cells) r)) self.old.rows)) }
+        ensures key { self.new.key ≡ self.old.key }
+    {
+        self.room.write(cells.items());
+        take_key(&mut self.rows, self.room.values())?;
+        self.rows.add(cells, at)?;
+        Ok(())
+    }
+}

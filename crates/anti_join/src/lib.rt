@@ -1,0 +1,8 @@
+//! The operator of an Anti.
+#![tactic(auto)]
+
+mod anti;
+mod free_times;
+mod sweep;
+
+pub use anti::Anti;

@@ -1,0 +1,34 @@
+use Rattle.std.specs.Prelude.{◌++◌, map}
+use Rattle.std.specs.Map.{lookup}
+use Rattle.std.proofs.Common.{◌∙◌, ap}
+use Rattle.tw_rows.specs.Instant.{inf}
+use Rattle.tw_rows.specs.SameCells.{same_cells}
+use Rattle.egress.specs.Kept.{times_if, since_at}
+use Rattle.egress.specs.Saved.{entry_at}
+use Rattle.egress.proofs.Entries.{nothing}
+use Rattle.egress.proofs.SavedEnds.{rest_first, rest_next, rest_last, popped_own, popped_others}
+use Rattle.egress.proofs.saving.save_rest.Goals as goal
+
+pub rows-init : goal.rows-init
+rows-init c = rest_first c.args.saved.now (since_at c.args.opens.now)
+
+pub rows-preserved-in_ok-save_starts : goal.rows-preserved-in_ok-save_starts
+rows-preserved-in_ok-save_starts c =
+    rest_next c.args.saved.now c.rows.saved c.save_starts.new.saved (since_at c.args.opens.now) (since_at c.rows.opens) (since_at c.pop.new.self) c.in-Some.cells c.rows.invariant
+    (c.in_ok-save_starts.ensures
+    ∙ ap (λ t. c.rows.saved ++ map (entry_at t c.in-Some.cells) c.in-Some.since.items) c.requires
+    ∙ ap (λ l. c.rows.saved ++ map (entry_at inf c.in-Some.cells) l) (popped_own c.rows.opens c.pop.new.self c.in-Some.cells c.in-Some.since c.in-Some.ensures.entries c.in-Some.ensures.updates.0))
+    (popped_others c.rows.opens c.pop.new.self c.in-Some.cells c.in-Some.since c.in-Some.ensures.entries c.in-Some.ensures.updates.0)
+
+pub rows-preserved : goal.rows-preserved
+rows-preserved c =
+    rest_next c.args.saved.now c.rows.saved c.save_starts.new.saved (since_at c.args.opens.now) (since_at c.rows.opens) (since_at c.pop.new.self) c.in-Some.cells c.rows.invariant
+    (c.in_ok-save_starts.ensures
+    ∙ ap (λ t. c.rows.saved ++ map (entry_at t c.in-Some.cells) c.in-Some.since.items) c.requires
+    ∙ ap (λ l. c.rows.saved ++ map (entry_at inf c.in-Some.cells) l) (popped_own c.rows.opens c.pop.new.self c.in-Some.cells c.in-Some.since c.in-Some.ensures.entries c.in-Some.ensures.updates.0))
+    (popped_others c.rows.opens c.pop.new.self c.in-Some.cells c.in-Some.since c.in-Some.ensures.entries c.in-Some.ensures.updates.0)
+
+pub returns : goal.returns
+returns c =
+    let none = nothing c.rows.opens.entries (λ low. let z = c.in_default.ensures.found.1 low in absurd (cc)) in
+    rest_last c.args.saved.now c.rows.saved (since_at c.args.opens.now) (since_at c.rows.opens) (λ q. ap (λ es. times_if (lookup (same_cells q) es)) none) c.rows.invariant

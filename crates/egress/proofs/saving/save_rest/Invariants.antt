@@ -1,0 +1,11 @@
+-- Entries were added for the rows that were taken out.
+use Rattle.indexmap.specs.IndexMap.{index_map_len}
+use Rattle.egress.specs.Kept.{since_at}
+use Rattle.egress.proofs.SavedEnds.{RestSo}
+use Rattle.egress.proofs.saving.save_rest.Given as goal
+
+abbrev pub invariant-rows : goal.invariant-rows
+invariant-rows l = RestSo l.fn.saved l.saved (since_at l.fn.opens) (since_at l.opens)
+
+abbrev pub decreases-rows : goal.decreases-rows
+decreases-rows l = index_map_len l.opens

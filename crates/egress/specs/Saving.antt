@@ -1,0 +1,75 @@
+-- What an output saves, as entries: one for each row that is alive just before a time, with its end where that is known.
+use Rattle.std.specs.Prelude.{◌≡◌, ℕ, suc, ◌<◌, ◌≤◌, nat_lt, Bool, false, cond, None, List, [], ◌∷◌, map, filter, flat_map, All}
+use Rattle.std.specs.List.Sorted.{IsNonDecreasing}
+use Rattle.tw_rows.specs.Instant.{inf}
+use Rattle.tw_rows.specs.Event.{alive}
+use Rattle.tw_rows.specs.Kinds.{cell_kind_of}
+use Rattle.tw_rows.specs.Cells.{datum_kind, ArePlaced}
+use Rattle.tw_rows.specs.SameCells.{same_cells}
+use Rattle.tw_rows.specs.declared.cells.Datum.{Datum}
+use Rattle.tw_rows.specs.declared.kind.Kind.{Kind}
+use Rattle.tw_rows.specs.declared.edge.Edge.{Edge}
+use Rattle.edge_stream.specs.declared.saved.SavedEntry.{SavedEntry}
+use Rattle.edge_history.specs.Order.{failing, IsHistory}
+use Rattle.edge_history.specs.History.{of}
+use Rattle.edge_history.specs.Balance.{news}
+use Rattle.node_laws.specs.Places.{read_events}
+use Rattle.egress.specs.Instants.{AreOpen}
+use Rattle.egress.specs.Kept.{cells_of, since_at}
+use Rattle.egress.specs.Waiting.{edges_at, waiting_in, SameMoves}
+use Rattle.egress.specs.declared.egress.Egress.{Egress}
+
+-- the entries of a row, by its cells
+abbrev pub entries_of : List SavedEntry → List Datum → List SavedEntry
+entries_of saved cells = filter (λ e. same_cells e.cells cells) saved
+
+-- the open starts of a row in entries, and its ends, infinity for one that is not known. Of the entries [1, 9) and [3, inf)
+-- of one row: 1 and 3, and 9 and infinity
+abbrev pub starts_of : List SavedEntry → List Datum → List ℕ
+starts_of saved cells = map (λ e. e.sync) (entries_of saved cells)
+
+abbrev pub others_of : List SavedEntry → List Datum → List ℕ
+others_of saved cells = map (λ e. e.other) (entries_of saved cells)
+
+-- the end edge of an entry whose end is known. Which start it had is not told
+abbrev pub end_of : SavedEntry → List Edge
+end_of e = cond (nat_lt e.other inf) (record { sync = e.other; other = 0; cells = e.cells } ∷ []) []
+
+abbrev pub ends_of : List SavedEntry → List Edge
+ends_of saved = flat_map end_of saved
+
+-- an entry of a row of the kinds that began before the time and has not ended before it: at 3, [1, 3) and not [3, 9)
+pub record IsKept (kinds : List Kind) (closed : ℕ) (e : SavedEntry) : Type 0 where
+  pub part : e.part ≡ 0
+  pub cells : map datum_kind e.cells ≡ map cell_kind_of kinds
+  pub begun : e.sync < closed
+  pub going : closed ≤ e.other
+  pub bounded : e.other ≤ inf
+
+-- entries that an output can have at a time: among equal rows neither the starts nor the ends fall from entry to entry.
+-- Of a row with the open starts 1 and 3 and a known end at 9: [1, 9), and then [3, inf)
+pub record IsSound (kinds : List Kind) (saved : List SavedEntry) (closed : ℕ) : Type 0 where
+  pub high : closed ≤ inf
+  pub each : All (IsKept kinds closed) saved
+  pub starts : (cells : List Datum) → IsNonDecreasing (starts_of saved cells)
+  pub others : (cells : List Datum) → IsNonDecreasing (others_of saved cells)
+
+-- such entries are what an output keeps at the time after the edges h: their starts are those that are open, and their ends
+-- those that the events of h have from then on. They have no cells but those of h
+pub record Resumes (kinds : List Kind) (saved : List SavedEntry) (closed : ℕ) (texts : List (List ℕ)) (h : List Edge) : Type 0 where
+  pub sound : IsSound kinds saved closed
+  pub history : IsHistory h
+  pub opened : AreOpen (alive (read_events texts (of h))) closed (λ r. starts_of saved (cells_of texts r))
+  pub ends : (t : ℕ) → closed ≤ t → t < inf → SameMoves (edges_at t (ends_of saved)) (news t (suc t) (of h))
+  pub cells : (p : List Datum → Bool) → failing (λ e. p e.cells) h ≡ 0 → failing (λ e. p e.cells) saved ≡ 0
+
+-- each place in the entries is that of a text of the table
+abbrev pub EntriesArePlaced : List (List ℕ) → List SavedEntry → Type 0
+EntriesArePlaced texts saved = All (λ e. ArePlaced texts e.cells) saved
+
+-- nothing is open, nothing waits, nothing is to be rendered, and memory was not wanting: as `new` makes it
+pub record IsOpening (o : Egress) : Type 0 where
+  pub closed : (cells : List Datum) → since_at o.opens cells ≡ []
+  pub none : (t : ℕ) → waiting_in o.waiting t ≡ None
+  pub empty : o.text.items ≡ []
+  pub works : o.failed ≡ false

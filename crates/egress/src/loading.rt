@@ -1,0 +1,198 @@
+// Saved entries, taken up again.
+ghost use Rattle.std.specs.Prelude.{◌≡◌, ◌↔◌, ℕ, List, [], ◌∷◌, ◌++◌, None, cond, map, nat_lt, replicate, IsTrue, IfOk, IfErr, OnOk};
+ghost use Rattle.std.specs.List.Sorted.{IsNonDecreasing};
+ghost use Rattle.tw_rows.specs.Instant.{inf};
+ghost use Rattle.tw_rows.specs.Cells.{datum_kind};
+ghost use Rattle.tw_rows.specs.Kinds.{cell_kind_of};
+ghost use Rattle.tw_rows.specs.SameCells.{same_cells as same};
+ghost use Rattle.tw_rows.specs.declared.cells.Datum.{Datum as DatumOf};
+ghost use Rattle.egress.specs.Kept.{since_at};
+ghost use Rattle.egress.specs.Waiting.{waiting_in, ArePut};
+ghost use Rattle.egress.specs.Saving.{starts_of, end_of, ends_of, IsKept, IsSound};
+
+use crate::opens::open_row;
+use crate::waiting::put;
+use edge_stream::{LoadFault, SavedEntry};
+use indexmap::IndexMap;
+use std::alloc::Global;
+use std::collections::{BTreeMap, VecDeque};
+use tw_rows::{Cells, Datum, Edge, Kind, Memory, Time, cell_of};
+
+/// What is kept of entries: the open starts of each row, its ends, and the edges of those that are known.
+#[derive(Drop)]
+pub(crate) struct Loaded {
+    pub(crate) opens: IndexMap<Cells, VecDeque<Time>>,
+    pub(crate) ends: IndexMap<Cells, VecDeque<Time>>,
+    pub(crate) waiting: BTreeMap<u64, Vec<Edge>>,
+}
+
+// Whether a column of the kind stores the datum.
+fn stores(kind: Kind, datum: Datum) -> bool
+    ensures { IsTrue result ↔ (datum_kind datum ≡ cell_kind_of kind) }
+{
+    datum.cell_kind() == cell_of(kind)
+}
+
+// Whether the cells are stored as columns of these kinds are.
+fn is_stored_as(cells: &[Datum], kinds: &[Kind]) -> bool
+    ensures { IsTrue result ↔ (map datum_kind cells.now ≡ map cell_kind_of kinds.now) }
+{
+    if cells.len() != kinds.len() {
+        return false;
+    }
+    for i in 0..cells.len() {
+        if !stores(kinds[i], cells[i]) {
+            return false;
+        }
+    }
+    true
+}
+
+// Whether an output of these kinds keeps such an entry at the time.
+fn is_kept(entry: &SavedEntry, kinds: &[Kind], closed: Time) -> bool
+    ensures { IsTrue result ↔ IsKept kinds.now closed entry.now }
+{
+    let part = entry.part;
+    let sync = entry.sync.word();
+    let other = entry.other.word();
+    let closing = closed.word();
+    if part != 0 {
+        return false;
+    }
+    if sync >= closing {
+        return false;
+    }
+    if other < closing {
+        return false;
+    }
+    is_stored_as(entry.cells.items(), kinds)
+}
+
+// Whether none of the times is after this one.
+fn is_last(times: &VecDeque<Time>, time: Time) -> bool
+    requires { IsNonDecreasing times.now.items }
+    ensures { IsTrue result ↔ IsNonDecreasing (times.now.items ++ time ∷ []) }
+{
+    let Some(back) = times.back() else {
+        return true;
+    };
+    let last = back.word();
+    let next = time.word();
+    if next < last {
+        return false;
+    }
+    true
+}
+
+// Whether no time of the row is after this one.
+fn comes_after(times: &IndexMap<Cells, VecDeque<Time>>, cells: &Cells, time: Time) -> bool
+    requires { IsNonDecreasing (since_at times.now cells.now) }
+    ensures { IsTrue result ↔ IsNonDecreasing (since_at times.now cells.now ++ time ∷ []) }
+{
+    let Some(since) = times.get(cells) else {
+        return true;
+    };
+    is_last(since, time)
+}
+
+// Whether the time is no infinity.
+fn is_instant(time: Time) -> bool
+    ensures { result ≡ nat_lt time inf }
+{
+    time < Time::bounds().1
+}
+
+// Puts the end of the entry, if it is known.
+fn put_end(
+    waiting: &mut BTreeMap<u64, Vec<Edge>>,
+    alloc: Global,
+    entry: &SavedEntry,
+) -> Result<(), Memory>
+    ensures { OnOk result (ArePut (waiting_in waiting.old) (waiting_in waiting.new) (end_of entry.now)) }
+{
+    let known = is_instant(entry.other);
+    if !known {
+        return Ok(());
+    }
+    let cells = entry.cells.clone()?;
+    let end = Edge {
+        sync: entry.other,
+        other: Time::ZERO,
+        cells,
+    };
+    put(waiting, alloc, end)?;
+    Ok(())
+}
+
+// Keeps what one more entry tells.
+fn keep_entry(loaded: &mut Loaded, alloc: Global, entry: &SavedEntry) -> Result<(), Memory>
+    ensures opens { OnOk result ((c : List DatumOf) → since_at loaded.new.opens c ≡ cond (same entry.now.cells c) (since_at loaded.old.opens c ++ replicate 1 entry.now.sync) (since_at loaded.old.opens c)) }
+    ensures ends { OnOk result ((c : List DatumOf) → since_at loaded.new.ends c ≡ cond (same entry.now.cells c) (since_at loaded.old.ends c ++ replicate 1 entry.now.other) (since_at loaded.old.ends c)) }
+    ensures waiting { OnOk result (ArePut (waiting_in loaded.old.waiting) (waiting_in loaded.new.waiting) (end_of entry.now)) }
+{
+    let cells = entry.cells.clone()?;
+    let again = entry.cells.clone()?;
+    open_row(&mut loaded.opens, alloc, cells, entry.sync, 1)?;
+    open_row(&mut loaded.ends, alloc, again, entry.other, 1)?;
+    put_end(&mut loaded.waiting, alloc, entry)?;
+    Ok(())
+}
+
+// Takes up one more entry, if an output can have it after those before.
+fn load_entry(
+    loaded: &mut Loaded,
+    alloc: Global,
+    kinds: &[Kind],
+    closed: Time,
+    entry: &SavedEntry,
+) -> Result<(), LoadFault>
+    requires starts { (c : List DatumOf) → IsNonDecreasing (since_at loaded.old.opens c) }
+    requires others { (c : List DatumOf) → IsNonDecreasing (since_at loaded.old.ends c) }
+    ensures opens { OnOk result ((c : List DatumOf) → since_at loaded.new.opens c ≡ cond (same entry.now.cells c) (since_at loaded.old.opens c ++ replicate 1 entry.now.sync) (since_at loaded.old.opens c)) }
+    ensures ends { OnOk result ((c : List DatumOf) → since_at loaded.new.ends c ≡ cond (same entry.now.cells c) (since_at loaded.old.ends c ++ replicate 1 entry.now.other) (since_at loaded.old.ends c)) }
+    ensures waiting { OnOk result (ArePut (waiting_in loaded.old.waiting) (waiting_in loaded.new.waiting) (end_of entry.now)) }
+    ensures kept { OnOk result (IsKept kinds.now closed entry.now) }
+    ensures starts { OnOk result (IsNonDecreasing (since_at loaded.old.opens entry.now.cells ++ entry.now.sync ∷ [])) }
+    ensures others { OnOk result (IsNonDecreasing (since_at loaded.old.ends entry.now.cells ++ entry.now.other ∷ [])) }
+    ensures refused { IfErr result (λ fault. fault ≡ LoadFault.NotState → IsKept kinds.now closed entry.now → IsNonDecreasing (since_at loaded.old.opens entry.now.cells ++ entry.now.sync ∷ []) → IsNonDecreasing (since_at loaded.old.ends entry.now.cells ++ entry.now.other ∷ []) → ⊥) }
+{
+    if !is_kept(entry, kinds, closed) {
+        return Err(LoadFault::NotState);
+    }
+    if !comes_after(&loaded.opens, &entry.cells, entry.sync) {
+        return Err(LoadFault::NotState);
+    }
+    if !comes_after(&loaded.ends, &entry.cells, entry.other) {
+        return Err(LoadFault::NotState);
+    }
+    keep_entry(loaded, alloc, entry)?;
+    Ok(())
+}
+
+/// Takes up the entries, if an output of these kinds can have them at the time.
+pub(crate) fn load_entries(
+    alloc: Global,
+    entries: &[SavedEntry],
+    kinds: &[Kind],
+    closed: Time,
+) -> Result<Loaded, LoadFault>
+    ensures opens { IfOk result (λ loaded. (c : List DatumOf) → since_at loaded.opens c ≡ starts_of entries.now c) }
+    ensures waiting { IfOk result (λ loaded. ArePut (λ t. None) (waiting_in loaded.waiting) (ends_of entries.now)) }
+    ensures sound { OnOk result (IsSound kinds.now entries.now closed) }
+    ensures refused { IfErr result (λ fault. fault ≡ LoadFault.NotState → IsSound kinds.now entries.now closed → ⊥) }
+{
+    // Its call tells the proof that it is a time.
+    let _ = closed.word();
+    let opens = IndexMap::new(alloc);
+    let ends = IndexMap::new(alloc);
+    let waiting = BTreeMap::new(alloc);
+    let mut loaded = Loaded {
+        opens,
+        ends,
+        waiting,
+    };
+    for entry in entries {
+        load_entry(&mut loaded, alloc, kinds, closed, entry)?;
+    }
+    Ok(loaded)
+}

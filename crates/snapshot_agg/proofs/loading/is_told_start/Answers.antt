@@ -1,0 +1,14 @@
+use Rattle.std.specs.Prelude.{◌≡◌, ◌&&◌, nat_lt, true}
+use Rattle.std.proofs.Common.{◌∙◌, sym, ap, map, arith}
+use Rattle.std.proofs.lemmas.Bool.Decides.{nat_tests}
+use Rattle.tw_rows.specs.Kinds.{cell_kind_of}
+use Rattle.snapshot_agg.specs.Answering.{are_stored}
+use Rattle.snapshot_agg.proofs.Answering.{stored_test}
+use Rattle.snapshot_agg.proofs.loading.is_told_start.Goals as goal
+
+pub returns-then-lt : goal.returns-then-lt
+returns-then-lt c =
+    let e = c.args.edge.now in
+    let kinds = map cell_kind_of c.args.kinds.now in
+    let z : nat_lt e.sync c.args.to ≡ true = grind (arith, nat_tests) in
+    stored_test c.is_stored_as.result kinds e.cells c.is_stored_as.ensures ∙ ap (λ b. b && are_stored kinds e.cells) (sym z)

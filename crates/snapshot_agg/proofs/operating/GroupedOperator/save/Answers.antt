@@ -1,0 +1,26 @@
+use Rattle.std.specs.Prelude.{◌++◌, map}
+use Rattle.std.proofs.Common.{◌∙◌, ap}
+use Rattle.tw_rows.specs.Kinds.{cell_kind_of}
+use Rattle.carried_edges.specs.Entries.{entries_of}
+use Rattle.snapshot_agg.proofs.Reloading.{saved_sound, saved_resumes}
+use Rattle.snapshot_agg.proofs.operating.GroupedOperator.save.Goals as goal
+
+pub returns-clause-sound : goal.returns-clause-sound
+returns-clause-sound c =
+    let s = c.args.self.now in
+    let g = s.groups in
+    saved_sound g.key.items g.aggs.items (map cell_kind_of s.left_kinds.items) (map cell_kind_of s.kinds.items) s.left_to g.rows.rows s.running s.waiting
+    c.deref.result.now c.deref-2.result.now c.deref-3.result.now (c.deref.ensures.value ∙ c.in_ok-rows.ensures) (c.deref-2.ensures.value ∙ c.in_ok-waiting.ensures) (c.deref-3.ensures.value ∙ c.in_ok-told.ensures)
+    c.save_edges.new.saved c.save_edges-2.new.saved c.save_edges-3.new.saved
+    (c.in_ok-save_edges.ensures ∙ ap (λ l. l ++ entries_of 0 c.deref.result.now) c.new-saved.ensures) c.in_ok-save_edges-2.ensures c.in_ok-save_edges-3.ensures c.len.ensures.unique
+    (s.later c.requires) (s.stored c.requires) (s.runs c.requires)
+
+pub returns-clause-resumes : goal.returns-clause-resumes
+returns-clause-resumes c = λ texts hl hr out k.
+    let s = c.args.self.now in
+    let g = s.groups in
+    saved_resumes g.key.items g.aggs.items (map cell_kind_of s.left_kinds.items) (map cell_kind_of s.kinds.items) s.left_to g.rows.rows s.running s.waiting
+    c.deref.result.now c.deref-2.result.now c.deref-3.result.now (c.deref.ensures.value ∙ c.in_ok-rows.ensures) (c.deref-2.ensures.value ∙ c.in_ok-waiting.ensures) (c.deref-3.ensures.value ∙ c.in_ok-told.ensures)
+    c.save_edges.new.saved c.save_edges-2.new.saved c.save_edges-3.new.saved
+    (c.in_ok-save_edges.ensures ∙ ap (λ l. l ++ entries_of 0 c.deref.result.now) c.new-saved.ensures) c.in_ok-save_edges-2.ensures c.in_ok-save_edges-3.ensures c.len.ensures.unique
+    texts hl hr out (returns-clause-sound c) k

@@ -1,0 +1,31 @@
+use Rattle.std.proofs.Common.{map}
+use Rattle.tw_rows.specs.Kinds.{cell_kind_of}
+use Rattle.sweep_sides.specs.Waiting.{queued}
+use Rattle.temporal_join.proofs.Resuming.{join_opening, join_longer, join_stands}
+use Rattle.temporal_join.proofs.operating.JoinOperator.laws.Goals as goal
+
+pub returns-clause-opens : goal.returns-clause-opens
+returns-clause-opens c = λ s o. (
+  (λ texts.
+      let r = s.sides.rows in
+      join_opening r.left_key.items r.right_key.items (map cell_kind_of s.left_kinds.items) (map cell_kind_of s.right_kinds.items) texts s.left_to s.right_to r.left.rows r.right.rows
+      s.sides.left_waiting s.sides.right_waiting o.left_empty o.right_empty o.none_left o.none_right o.left_open o.right_open),
+  o.works,
+  o.left_open,
+  o.right_open,
+)
+
+pub returns-clause-stands : goal.returns-clause-stands
+returns-clause-stands c = λ s texts hl hr out apart k.
+    let r = s.sides.rows in
+    join_stands r.left_key.items r.right_key.items (map cell_kind_of s.left_kinds.items) (map cell_kind_of s.right_kinds.items) texts s.left_to s.right_to r.left.rows r.right.rows
+    (queued s.sides.left_waiting) (queued s.sides.right_waiting) hl hr out apart k
+
+pub returns-clause-grows : goal.returns-clause-grows
+returns-clause-grows c = λ s new old hl hr out b k.
+    let r = s.sides.rows in
+    join_longer r.left_key.items r.right_key.items (map cell_kind_of s.left_kinds.items) (map cell_kind_of s.right_kinds.items) new old s.left_to s.right_to r.left.rows r.right.rows
+    (queued s.sides.left_waiting) (queued s.sides.right_waiting) hl hr out b k
+
+pub returns-clause-resumes_sound : goal.returns-clause-resumes_sound
+returns-clause-resumes_sound c = λ s saved x y texts hl hr out r. r.sound
