@@ -30,7 +30,7 @@ halt() {
     [ -f "$work/pids" ] || return 0
     local pid
     for pid in $(tac "$work/pids"); do
-        kill -TERM -- "-$pid" 2>/dev/null
+        kill "-${halt_signal:-TERM}" -- "-$pid" 2>/dev/null
     done
     for _ in $(seq 50); do
         local left=0
