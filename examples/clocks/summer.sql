@@ -1,0 +1,1 @@
+select began, ended, 'summer' from clock where c1 = 'Berlin' and c2 > 60

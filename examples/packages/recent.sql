@@ -1,0 +1,1 @@
+select began, began + 15, c1 from installs where c2 > 50000

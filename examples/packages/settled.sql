@@ -1,0 +1,1 @@
+select began, ended + 30, c1 from installs where c2 > 100000

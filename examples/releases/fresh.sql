@@ -1,0 +1,1 @@
+select began, began + 604800, c1 from releases
