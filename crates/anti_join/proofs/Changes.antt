@@ -1,9 +1,9 @@
 -- What one edge changes, in the words of the code.
-use Rattle.std.specs.Prelude.{◌≡◌, ℕ, suc, ◌+◌, ◌<◌, ◌≤◌, nat_eq, not, ◌&&◌, Bool, true, false, cond, Some, None, List, [], ◌∷◌, ◌++◌, map, filter, flat_map, length, refl}
+use Rattle.std.specs.Prelude.{◌≡◌, ℕ, ◌+◌, ◌≤◌, nat_eq, not, ◌&&◌, Bool, true, false, cond, Some, None, List, [], ◌∷◌, ◌++◌, map, filter, flat_map, refl}
 use Rattle.std.proofs.Common.{sym, ◌∙◌, ap, subst, arith}
 use Rattle.std.proofs.lemmas.Bool.{eqb-true}
 use Rattle.tw_rows.specs.Bag.{SameBag, total}
-use Rattle.tw_rows.specs.SameCells.{same_cells, cells_are_same, same_itself}
+use Rattle.tw_rows.specs.SameCells.{same_cells, cells_are_same}
 use Rattle.tw_rows.specs.declared.cells.Datum.{Datum}
 use Rattle.tw_rows.specs.declared.edge.Edge.{Edge}
 use Rattle.tw_rows.specs.declared.edge.HeldRow.{HeldRow}
@@ -13,8 +13,8 @@ use Rattle.synopsis.specs.Held.{key_of, is_of_key}
 use Rattle.sweep_laws.specs.Moves.{Adds}
 use Rattle.sweep_laws.specs.Antijoining.{flip_end, flip_start}
 use Rattle.anti_join.specs.Free.{is_free_key, free_since, status_of, told_since}
-use Rattle.anti_join.proofs.Keys.{kept_length, first_passes, is_none, forgotten, put_in}
-use Rattle.anti_join.proofs.Flips.{OneMore, adds_key, adds_nothing, end_of_key, end_of_none, start_of_key, start_of_none, same_end, same_start, since_then, since_as}
+use Rattle.anti_join.proofs.Keys.{forgotten, put_in}
+use Rattle.anti_join.proofs.Flips.{OneMore, adds_key, adds_nothing, end_of_key, end_of_none, start_of_key, start_of_none, same_end, same_start}
 
 -- a right row more, whose key was written
 pub more_by : (rk columns : List ℕ) (v items cells : List Datum) (start : ℕ) (fewer more : List HeldRow) → columns ≡ rk → v ≡ key_of columns items → items ≡ cells →

@@ -1,13 +1,12 @@
 -- One instant of an anti-join over the rows and times that it keeps, and the time between two.
-use Rattle.std.specs.Prelude.{◌≡◌, ◌⊎◌, ℕ, zero, suc, ◌+◌, ◌<◌, ◌≤◌, max, nat_eq, nat_lt, not, ◌&&◌, Bool, true, false, cond, Option, Some, None, List, [], ◌∷◌, map, flat_map, refl}
-use Rattle.std.specs.List.{list_any}
-use Rattle.std.proofs.Common.{inl, inr, sym, ◌∙◌, ap, subst, arith}
+use Rattle.std.specs.Prelude.{◌≡◌, ◌⊎◌, ℕ, zero, suc, ◌+◌, ◌<◌, ◌≤◌, max, nat_eq, nat_lt, not, ◌&&◌, Bool, true, false, cond, Option, Some, None, List, [], ◌∷◌, flat_map, refl}
+use Rattle.std.proofs.Common.{inl, inr, sym, ◌∙◌, ap, arith}
 use Rattle.std.proofs.lemmas.Bool.{eqb-true, eq-eqb}
 use Rattle.std.proofs.lemmas.Bool.Decides.{nat_tests}
 use Rattle.tw_rows.specs.Instant.{inf}
 use Rattle.tw_rows.specs.Bag.{SameBag, total}
-use Rattle.tw_rows.specs.Event.{AreEvents, Known}
-use Rattle.tw_rows.specs.SameCells.{same_cells, same_itself}
+use Rattle.tw_rows.specs.Event.{AreEvents}
+use Rattle.tw_rows.specs.SameCells.{same_itself}
 use Rattle.tw_rows.specs.declared.cells.Datum.{Datum}
 use Rattle.tw_rows.specs.declared.edge.Edge.{Edge}
 use Rattle.tw_rows.specs.declared.edge.HeldRow.{HeldRow}
@@ -15,7 +14,7 @@ use Rattle.tw_rows.proofs.Bags.{total-flat_map, total-map, total_same}
 use Rattle.edge_history.specs.Order.{failing, many}
 use Rattle.edge_history.specs.History.{CellEvent}
 use Rattle.edge_history.specs.Balance.{news}
-use Rattle.edge_history.specs.Opens.{opens, ended_rows, started_rows, bare, is_new}
+use Rattle.edge_history.specs.Opens.{ended_rows, started_rows, bare, is_new}
 use Rattle.edge_history.proofs.Sums.{sum_eq, weaker, failing-both}
 use Rattle.edge_history.proofs.Opening.{ends_there, starts_new}
 use Rattle.edge_history.proofs.Retaining.{AreEvents-none_fails}
@@ -24,7 +23,7 @@ use Rattle.key_nodes.proofs.Bags.{any_by_weight}
 use Rattle.synopsis.specs.Held.{key_of, is_of_key}
 use Rattle.sweep_laws.specs.Sweeps.{Tells}
 use Rattle.sweep_laws.specs.Moves.{Adds}
-use Rattle.sweep_laws.specs.Antijoining.{judged, IsAgo, Judging, end_of, start_at, flip_end, flip_start, begin_of}
+use Rattle.sweep_laws.specs.Antijoining.{judged, IsAgo, end_of, flip_end, flip_start, begin_of}
 use Rattle.sweep_laws.proofs.Adding.{adds_bag}
 use Rattle.sweep_laws.proofs.AntiTelling.{anti_then, anti_told_then, anti_between}
 use Rattle.anti_join.specs.AntiJoined.{anti_meets, antis}

@@ -1,5 +1,5 @@
 -- Rows by their keys, and the times that are kept of keys.
-use Rattle.std.specs.Prelude.{◌≡◌, ℕ, zero, suc, ◌+◌, ◌<◌, ◌≤◌, nat_eq, not, Bool, true, false, cond, List, [], ◌∷◌, filter, length, get_or, drop, refl}
+use Rattle.std.specs.Prelude.{◌≡◌, ℕ, ◌+◌, ◌≤◌, nat_eq, not, Bool, true, false, cond, List, [], ◌∷◌, filter, length, get_or, drop, refl}
 use Rattle.std.proofs.Common.{sym, ◌∙◌, ap, subst, arith}
 use Rattle.std.proofs.lemmas.Bool.{eqb-true, eq-eqb, and_from}
 use Rattle.tw_rows.specs.Bag.{SameBag, total}
@@ -10,7 +10,7 @@ use Rattle.tw_rows.proofs.Bags.{total-filter, total-add, total_same, total_zero}
 use Rattle.edge_history.specs.Order.{many}
 use Rattle.edge_history.specs.Opens.{is_held}
 use Rattle.synopsis.specs.Held.{key_of, is_of_key}
-use Rattle.anti_join.specs.Free.{is_free_key, free_since}
+use Rattle.anti_join.specs.Free.{free_since}
 
 both : (b : Bool) (n : ℕ) → n ≡ cond b n 0 + cond (not b) n 0
 both true n = omega arith
@@ -25,11 +25,11 @@ parted w p xs =
     let d = total_same w (λ x. cond (p x) (w x) 0 + cond (not (p x)) (w x) 0) xs (λ x. both (p x) (w x)) in
     omega (arith, a, b, c, d)
 
-ones : {X : Type 0} (xs : List X) → total (λ x. 1) xs ≡ length xs
+pub ones : {X : Type 0} (xs : List X) → total (λ x. 1) xs ≡ length xs
 ones [] = refl
 ones (x ∷ xs) = let h = ones xs in omega (arith, h)
 
-weigh_none : {X : Type 0} (w : X → ℕ) (l : List X) → length l ≡ 0 → total w l ≡ 0
+pub weigh_none : {X : Type 0} (w : X → ℕ) (l : List X) → length l ≡ 0 → total w l ≡ 0
 weigh_none w [] h = refl
 weigh_none w (y ∷ l) h = absurd (omega (arith, h))
 

@@ -7,3 +7,8 @@ pub mod Passes
 pub mod Changes
 pub mod WholePass
 pub mod Cuts
+pub mod Answering
+pub mod Stepped
+pub mod Held
+pub mod Resuming
+pub mod Starting

@@ -1,8 +1,7 @@
 -- The passes over the edges of an instant, edge by edge.
-use Rattle.std.specs.Prelude.{◌≡◌, ℕ, suc, ◌+◌, ◌<◌, ◌≤◌, nat_eq, not, ◌&&◌, Bool, true, false, cond, Some, None, List, [], ◌∷◌, ◌++◌, map, filter, flat_map, length, get_or, take, refl}
+use Rattle.std.specs.Prelude.{◌≡◌, ℕ, ◌+◌, ◌<◌, ◌≤◌, not, ◌&&◌, Bool, true, false, cond, List, [], ◌∷◌, ◌++◌, flat_map, length, get_or, take, refl}
 use Rattle.std.proofs.Common.{sym, ◌∙◌, ap, subst, arith}
-use Rattle.tw_rows.specs.Bag.{SameBag, total}
-use Rattle.tw_rows.specs.SameCells.{same_cells}
+use Rattle.tw_rows.specs.Bag.{total}
 use Rattle.tw_rows.specs.declared.cells.Datum.{Datum}
 use Rattle.tw_rows.specs.declared.edge.Edge.{Edge}
 use Rattle.tw_rows.specs.declared.edge.HeldRow.{HeldRow}

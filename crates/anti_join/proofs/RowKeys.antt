@@ -1,13 +1,14 @@
 -- The keys of the rows stay, and what is told by keys that are the same.
-use Rattle.std.specs.Prelude.{◌≡◌, ℕ, zero, suc, ◌+◌, ◌<◌, ◌≤◌, not, ◌&&◌, cond, List, [], flat_map, length, get_or, take, refl}
+use Rattle.std.specs.Prelude.{◌≡◌, ℕ, zero, suc, ◌+◌, ◌<◌, ◌≤◌, not, ◌&&◌, cond, List, flat_map, length, get_or, take, refl}
 use Rattle.std.proofs.Common.{sym, ◌∙◌, subst, arith}
-use Rattle.tw_rows.specs.Bag.{total}
+use Rattle.tw_rows.specs.Bag.{SameBag, total}
 use Rattle.tw_rows.specs.declared.cells.Datum.{Datum}
 use Rattle.tw_rows.specs.declared.edge.Edge.{Edge}
 use Rattle.tw_rows.specs.declared.edge.HeldRow.{HeldRow}
 use Rattle.edge_history.specs.Order.{many}
 use Rattle.edge_history.specs.Opens.{ended_of, ended_rows}
-use Rattle.edge_history.specs.History.{CellEvent}
+use Rattle.edge_history.specs.History.{CellEvent, of}
+use Rattle.edge_history.specs.Balance.{news}
 use Rattle.synopsis.specs.Held.{KeyedRows, key_of, is_of_key}
 use Rattle.sweep_laws.specs.Moves.{Adds}
 use Rattle.sweep_laws.specs.Sweeps.{Tells}
@@ -19,7 +20,6 @@ use Rattle.anti_join.specs.Holding.{AntiHeld, AntiKeeps}
 use Rattle.anti_join.specs.Rows.{AreByKey, SameKeys, SetsTimes, ForgetsTimes, ends_told, starts_told, time_of, times_of, lefts_of}
 use Rattle.sweep_laws.proofs.Adding.{rows_more}
 use Rattle.anti_join.proofs.Passes.{since_more}
-use Rattle.anti_join.proofs.Steps.{kept_none}
 
 pub keys_stay : (s : Rows) → SameKeys s s
 keys_stay s = record { left_key = refl; right_key = refl; left = refl; right = refl; times = refl }
@@ -62,17 +62,6 @@ pub kept_by : (s later : Rows) (left_waiting right_waiting : List Edge) (to : �
 kept_by s later left_waiting right_waiting to hl hr out k h =
     subst (λ (l : List ℕ). AntiKeeps l later.right.key later.left.rows later.right.rows later.times.rows left_waiting right_waiting to hl hr out) (sym k.left)
     (subst (λ (r : List ℕ). AntiKeeps s.left.key r later.left.rows later.right.rows later.times.rows left_waiting right_waiting to hl hr out) (sym k.right) h)
-
--- as it was made nothing is kept, of no edges
-pub made : (s : Rows) (left_waiting right_waiting : List Edge) (to : ℕ) → s.left.rows ≡ [] → s.right.rows ≡ [] → s.times.rows ≡ [] → left_waiting ≡ [] → right_waiting ≡ [] → to ≡ 0 →
-    AntiKeeps s.left.key s.right.key s.left.rows s.right.rows s.times.rows left_waiting right_waiting to [] [] []
-made s lw rw to l r t el er z =
-    subst (λ (x : List HeldRow). AntiKeeps s.left.key s.right.key x s.right.rows s.times.rows lw rw to [] [] []) (sym l)
-    (subst (λ (x : List HeldRow). AntiKeeps s.left.key s.right.key [] x s.times.rows lw rw to [] [] []) (sym r)
-    (subst (λ (x : List HeldRow). AntiKeeps s.left.key s.right.key [] [] x lw rw to [] [] []) (sym t)
-    (subst (λ (x : List Edge). AntiKeeps s.left.key s.right.key [] [] [] x rw to [] [] []) (sym el)
-    (subst (λ (x : List Edge). AntiKeeps s.left.key s.right.key [] [] [] [] x to [] [] []) (sym er)
-    (subst (λ (x : ℕ). AntiKeeps s.left.key s.right.key [] [] [] [] [] x [] [] []) (sym z) (kept_none s.left.key s.right.key))))))
 
 -- what is told by the keys, the left rows and the times as they were at first
 pub ends_by : (t : ℕ) (s now later : Rows) (a0 a1 : List Edge) → SameKeys s now → now.left ≡ s.left → now.times ≡ s.times → Adds a0 a1 (flat_map (ends_told t now later) now.left.rows) →
@@ -158,3 +147,25 @@ gone_more s now later l es i x low is k left none before g here some = pick (man
         let b = before (omega (arith, m, e, some)) in
         let f = fewer_there s now later l k g in
         omega (arith, b, f)
+
+-- what is kept by the columns of the rooms is kept by the keys of the rows, and the other way
+pub keys_by : (s : Rows) (lw rw : List Edge) (to : ℕ) (hl hr out : List Edge) → AreByKey s → AntiKeeps s.left_key.columns s.right_key.columns s.left.rows s.right.rows s.times.rows lw rw to hl hr out →
+    AntiKeeps s.left.key s.right.key s.left.rows s.right.rows s.times.rows lw rw to hl hr out
+keys_by s lw rw to hl hr out by h =
+    subst (λ (l : List ℕ). AntiKeeps l s.right.key s.left.rows s.right.rows s.times.rows lw rw to hl hr out) by.left
+    (subst (λ (r : List ℕ). AntiKeeps s.left_key.columns r s.left.rows s.right.rows s.times.rows lw rw to hl hr out) by.right h)
+
+pub keys_back : (s : Rows) (lw rw : List Edge) (to : ℕ) (hl hr out : List Edge) → AreByKey s → AntiKeeps s.left.key s.right.key s.left.rows s.right.rows s.times.rows lw rw to hl hr out →
+    AntiKeeps s.left_key.columns s.right_key.columns s.left.rows s.right.rows s.times.rows lw rw to hl hr out
+keys_back s lw rw to hl hr out by h =
+    subst (λ (l : List ℕ). AntiKeeps l s.right_key.columns s.left.rows s.right.rows s.times.rows lw rw to hl hr out) (sym by.left)
+    (subst (λ (r : List ℕ). AntiKeeps s.left.key r s.left.rows s.right.rows s.times.rows lw rw to hl hr out) (sym by.right) h)
+
+pub news_by : (s : Rows) → AreByKey s → (c d : ℕ) (hl hr told : List Edge) → SameBag told (news c d (antis s.left.key s.right.key (of hl) (of hr))) →
+    SameBag told (news c d (antis s.left_key.columns s.right_key.columns (of hl) (of hr)))
+news_by s by c d hl hr told h =
+    subst (λ (l : List ℕ). SameBag told (news c d (antis l s.right_key.columns (of hl) (of hr)))) (sym by.left)
+    (subst (λ (r : List ℕ). SameBag told (news c d (antis s.left.key r (of hl) (of hr)))) (sym by.right) h)
+
+pub times_key : (s : Rows) → AreByKey s → s.times.key ≡ s.left_key.columns
+times_key s by = by.times ∙ sym by.left

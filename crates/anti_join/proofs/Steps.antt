@@ -1,12 +1,11 @@
 -- An anti-join from instant to instant, and a whole step of it.
-use Rattle.std.specs.Prelude.{◌≡◌, ℕ, suc, ◌+◌, ◌<◌, ◌≤◌, min, max, ◌&&◌, nat_lt, nat_le, Bool, true, false, cond, Some, None, List, [], ◌++◌, take, drop, filter, refl}
+use Rattle.std.specs.Prelude.{◌≡◌, ℕ, suc, ◌+◌, ◌<◌, ◌≤◌, min, max, ◌&&◌, nat_lt, nat_le, false, cond, Some, None, List, [], ◌++◌, take, drop, refl}
 use Rattle.std.proofs.Common.{inr, sym, ◌∙◌, ap, subst, arith}
 use Rattle.std.proofs.lemmas.Bool.Decides.{nat_tests}
 use Rattle.tw_rows.specs.Instant.{inf}
 use Rattle.tw_rows.specs.Bag.{SameBag, total}
 use Rattle.tw_rows.specs.Event.{AreEvents, Known}
 use Rattle.tw_rows.specs.SameCells.{same_cells}
-use Rattle.tw_rows.specs.declared.cells.Datum.{Datum}
 use Rattle.tw_rows.specs.declared.edge.Edge.{Edge}
 use Rattle.tw_rows.specs.declared.edge.HeldRow.{HeldRow}
 use Rattle.tw_rows.proofs.Bags.{SameBag-refl}

@@ -1,6 +1,6 @@
 -- One instant, from the passes over its edges.
 use Rattle.std.specs.Prelude.{◌≡◌, ℕ, suc, ◌+◌, ◌<◌, ◌≤◌, not, ◌&&◌, cond, List, flat_map}
-use Rattle.std.proofs.Common.{sym, ◌∙◌, ap, subst, arith}
+use Rattle.std.proofs.Common.{sym, ◌∙◌, ap, subst}
 use Rattle.tw_rows.specs.Instant.{inf}
 use Rattle.tw_rows.specs.Bag.{SameBag, total}
 use Rattle.tw_rows.specs.Event.{AreEvents}
@@ -21,7 +21,6 @@ use Rattle.anti_join.specs.Free.{KeyTimes, is_free_key, free_since, status_of}
 use Rattle.anti_join.specs.Holding.{AntiHeld}
 use Rattle.anti_join.specs.Rows.{SameKeys, SetsTimes, ForgetsTimes, left_key_of, status, free, ends_told, starts_told, lefts_of, times_of}
 use Rattle.anti_join.proofs.Instants.{held_then, told_then}
-use Rattle.anti_join.proofs.Passes.{begin_told}
 
 ends_at : (t : ℕ) (lk k : List ℕ) (right old : KeyedRows) (times times2 : KeyTimes) (right2 left : List HeldRow) (a0 a1 : List Edge) → k ≡ lk → old ≡ right → times2 ≡ times →
     Adds a0 a1 (flat_map (λ r. flip_end (is_free_key old.key right2 (key_of k r.cells)) (status_of k old.key old.rows times2.rows (key_of k r.cells)) t r) left) →

@@ -4,3 +4,4 @@ pub mod Free
 pub mod Holding
 pub mod Rows
 pub mod States
+pub mod Operating

@@ -1,97 +1,151 @@
-// What an anti-join keeps, and its steps.
-ghost use Rattle.std.specs.Prelude.{◌≡◌, ◌≤◌, ◌++◌, ℕ, min, false, is_err, List, [], IfOk, OnOk};
-ghost use Rattle.tw_rows.specs.Bag.{SameBag};
+// The operator of an anti-join.
+ghost use Rattle.std.specs.Prelude.{◌≡◌, ◌≤◌, ◌++◌, ℕ, min, map, length, false, is_err, List, [], IfOk, OnOk};
+ghost use Rattle.tw_rows.specs.Kinds.{cell_kind_of};
 ghost use Rattle.tw_rows.specs.declared.edge.Edge.{Edge};
-ghost use Rattle.edge_history.specs.Order.{failing, is_from, IsHistory};
-ghost use Rattle.edge_history.specs.History.{of};
-ghost use Rattle.edge_history.specs.Balance.{news};
-ghost use Rattle.anti_join.specs.AntiJoined.{antis};
+ghost use Rattle.edge_stream.specs.Listing.{cells_of};
+ghost use Rattle.anti_join.specs.Rows.{AreByKey, SameKeys};
+ghost use Rattle.anti_join.specs.States.{IsWorking};
 
 use crate::free_times::FreeTimes;
+use crate::sides::Sides;
 use crate::sweep::Rows;
+use batch::Pools;
 use edge_stream::EdgeList;
 use end_queue::EndQueue;
 use std::alloc::Global;
-use sweep_sides::{put_all, take_due};
+use sweep_sides::list_of;
 use synopsis::{KeyRoom, Synopsis};
-use tw_rows::{Edge, Memory, Time};
+use tw_rows::{Kind, Memory, Time};
 
 /// An anti-join: of the rows of the left side those that have the data of no right row in their key columns. What is kept of a
-/// side is its rows that are alive just before `to`, the lesser of the times up to which the sides are closed, and its edges
-/// from then on.
+/// side is its rows that are alive just before the lesser of the times up to which the sides are closed, and its edges from
+/// then on.
 #[derive(Drop)]
 pub struct Anti {
-    pub(crate) rows: Rows,
-    pub(crate) left_waiting: EndQueue,
-    pub(crate) right_waiting: EndQueue,
-    pub(crate) to: Time,
+    pub(crate) sides: Sides,
+    pub(crate) left_kinds: Vec<Kind>,
+    pub(crate) right_kinds: Vec<Kind>,
+    pub(crate) capacity: usize,
+    pub(crate) left_to: Time,
+    pub(crate) right_to: Time,
     pub(crate) failed: bool,
+    ghost by_key: { AreByKey sides.rows },
+    ghost working: { failed ≡ false → IsWorking sides left_kinds.items right_kinds.items capacity (min left_to right_to) },
 }
 
-fn lesser(a: Time, b: Time) -> Time
+// The lesser of two times.
+pub(crate) fn lesser(a: Time, b: Time) -> Time
     ensures { result ≡ min a b }
 {
     if a < b { a } else { b }
 }
 
-impl Anti {
-    ghost use Rattle.anti_join.specs.States.{AntiKept};
+// No rows and no edges, by these key columns.
+fn no_sides(alloc: Global, left_key: &[usize], right_key: &[usize]) -> Result<Sides, Memory>
+    ensures left_key { IfOk result (λ s. s.rows.left_key.columns ≡ left_key.now) }
+    ensures right_key { IfOk result (λ s. s.rows.right_key.columns ≡ right_key.now) }
+    ensures by { IfOk result (λ s. AreByKey s.rows) }
+    ensures rows { IfOk result (λ s. (s.rows.left.rows ≡ []) × (s.rows.right.rows ≡ []) × (s.rows.times.rows ≡ [])) }
+    ensures waiting { IfOk result (λ s. (s.left_waiting ≡ []) × (s.right_waiting ≡ [])) }
+{
+    Ok(Sides {
+        rows: Rows {
+            alloc,
+            left_key: KeyRoom::new(alloc, left_key)?,
+            right_key: KeyRoom::new(alloc, right_key)?,
+            left: Synopsis::new(alloc, left_key)?,
+            right: Synopsis::new(alloc, right_key)?,
+            times: FreeTimes::new(alloc, left_key)?,
+        },
+        left_waiting: EndQueue::new(alloc),
+        right_waiting: EndQueue::new(alloc),
+    })
+}
 
-    /// An anti-join of nothing yet, by these key columns.
-    pub fn new(alloc: Global, left_key: &[usize], right_key: &[usize]) -> Result<Anti, Memory>
-        ensures kept { IfOk result (λ j. AntiKept j [] [] []) }
-        ensures left_key { IfOk result (λ j. j.rows.left.key ≡ left_key.now) }
-        ensures right_key { IfOk result (λ j. j.rows.right.key ≡ right_key.now) }
-        ensures to { IfOk result (λ j. j.to ≡ 0) }
-        ensures works { IfOk result (λ j. j.failed ≡ false) }
+impl Anti {
+    ghost use Rattle.operator.specs.Steps.{MayCome, ComeBetween};
+    ghost use Rattle.anti_join.specs.States.{IsOpening};
+    ghost use Rattle.anti_join.specs.Operating.{IsKept};
+
+    /// An anti-join of nothing yet, by these key columns, of rows with columns of these kinds, in batches of that capacity.
+    pub fn new(
+        alloc: Global,
+        left_key: &[usize],
+        right_key: &[usize],
+        left_kinds: &[Kind],
+        right_kinds: &[Kind],
+        capacity: usize,
+    ) -> Result<Anti, Memory>
+        requires width { length left_kinds.now ≤ 32 }
+        requires room { 1 ≤ capacity }
+        ensures left_key { IfOk result (λ j. j.sides.rows.left_key.columns ≡ left_key.now) }
+        ensures right_key { IfOk result (λ j. j.sides.rows.right_key.columns ≡ right_key.now) }
+        ensures left_kinds { IfOk result (λ j. j.left_kinds.items ≡ left_kinds.now) }
+        ensures right_kinds { IfOk result (λ j. j.right_kinds.items ≡ right_kinds.now) }
+        ensures capacity { IfOk result (λ j. j.capacity ≡ capacity) }
+        ensures opening { IfOk result (λ j. IsOpening j.sides.rows.left.rows j.sides.rows.right.rows j.sides.rows.times.rows j.sides.left_waiting j.sides.right_waiting j.left_to j.right_to j.failed) }
     {
         Ok(Anti {
-            rows: Rows {
-                alloc,
-                left_key: KeyRoom::new(alloc, left_key)?,
-                right_key: KeyRoom::new(alloc, right_key)?,
-                left: Synopsis::new(alloc, left_key)?,
-                right: Synopsis::new(alloc, right_key)?,
-                times: FreeTimes::new(alloc, left_key)?,
-            },
-            left_waiting: EndQueue::new(alloc),
-            right_waiting: EndQueue::new(alloc),
-            to: Time::bounds().0,
+            sides: no_sides(alloc, left_key, right_key)?,
+            left_kinds: Vec::from_slice(alloc, left_kinds)?,
+            right_kinds: Vec::from_slice(alloc, right_kinds)?,
+            capacity,
+            left_to: Time::bounds().0,
+            right_to: Time::bounds().0,
             failed: false,
         })
     }
 
-    /// Takes the new edges of both sides, which are closed up to the two times, and tells what happens to the rows that meet
+    /// Takes the new edges of both sides, which are closed up to the two times, and answers what happens to the rows that meet
     /// none up to the lesser of them.
-    pub fn advance(
+    pub(crate) fn advance(
         &mut self,
-        left: &EdgeList,
-        right: &EdgeList,
+        pools: &mut Pools,
+        left: EdgeList,
+        right: EdgeList,
         left_to: Time,
         right_to: Time,
-    ) -> Result<Vec<Edge>, Memory>
-        requires rises { self.old.to ≤ min left_to right_to }
-        ensures kept { IfOk result (λ answer. (hl hr out : List Edge) → AntiKept self.old hl hr out → IsHistory (hl ++ left.now.edges) → IsHistory (hr ++ right.now.edges) → failing (is_from self.old.to) left.now.edges ≡ 0 → failing (is_from self.old.to) right.now.edges ≡ 0 →
-            AntiKept self.new (hl ++ left.now.edges) (hr ++ right.now.edges) (out ++ answer.items)) }
-        ensures news { IfOk result (λ answer. (hl hr out : List Edge) → AntiKept self.old hl hr out → IsHistory (hl ++ left.now.edges) → IsHistory (hr ++ right.now.edges) → failing (is_from self.old.to) left.now.edges ≡ 0 → failing (is_from self.old.to) right.now.edges ≡ 0 →
-            SameBag answer.items (news self.old.to self.new.to (antis self.old.rows.left.key self.old.rows.right.key (of (hl ++ left.now.edges)) (of (hr ++ right.now.edges))))) }
-        ensures to { OnOk result (self.new.to ≡ min left_to right_to) }
+    ) -> Result<EdgeList, Memory>
+        requires works { self.old.failed ≡ false }
+        requires left_rises { self.old.left_to ≤ left_to }
+        requires right_rises { self.old.right_to ≤ right_to }
+        requires left_kinds { cells_of left ≡ map cell_kind_of self.old.left_kinds.items }
+        requires right_kinds { cells_of right ≡ map cell_kind_of self.old.right_kinds.items }
+        requires left_capacity { left.capacity ≡ self.old.capacity }
+        requires right_capacity { right.capacity ≡ self.old.capacity }
+        requires capacity { pools.old.capacity ≡ self.old.capacity }
+        ensures kept { IfOk result (λ answer. (texts : List (List ℕ)) (hl hr out : List Edge) → IsKept self.old texts hl hr out →
+            MayCome texts self.old.left_to hl left.edges → MayCome texts self.old.right_to hr right.edges →
+            IsKept self.new texts (hl ++ left.edges) (hr ++ right.edges) (out ++ answer.edges)
+            × ComeBetween (min self.old.left_to self.old.right_to) (min left_to right_to) answer.edges) }
+        ensures kinds { IfOk result (λ answer. cells_of answer ≡ map cell_kind_of self.old.left_kinds.items) }
+        ensures capacity { IfOk result (λ answer. answer.capacity ≡ self.old.capacity) }
+        ensures pools { pools.new.capacity ≡ pools.old.capacity }
+        ensures limit { pools.new.limit ≡ pools.old.limit }
+        ensures left_to { OnOk result (self.new.left_to ≡ left_to) }
+        ensures right_to { OnOk result (self.new.right_to ≡ right_to) }
         ensures failed { self.new.failed ≡ is_err result }
-        ensures left_key { self.new.rows.left.key ≡ self.old.rows.left.key }
-        ensures right_key { self.new.rows.right.key ≡ self.old.rows.right.key }
+        ensures keys { SameKeys self.old.sides.rows self.new.sides.rows }
+        ensures left_like { self.new.left_kinds.items ≡ self.old.left_kinds.items }
+        ensures right_like { self.new.right_kinds.items ≡ self.old.right_kinds.items }
+        ensures rows_like { self.new.capacity ≡ self.old.capacity }
     {
         self.failed = true;
         // Their calls tell the proof that both are times.
         let _ = (left_to.word(), right_to.word());
         let to = lesser(left_to, right_to);
-        put_all(&mut self.left_waiting, left)?;
-        put_all(&mut self.right_waiting, right)?;
-        let left_due = take_due(&mut self.left_waiting, self.rows.alloc, to)?;
-        let right_due = take_due(&mut self.right_waiting, self.rows.alloc, to)?;
-        let mut answer = Vec::new(self.rows.alloc);
-        self.rows
-            .sweep(&mut answer, left_due.as_slice(), right_due.as_slice())?;
-        self.to = to;
+        let told = self.sides.advance(&left, &right, to)?;
+        left.give_back(pools);
+        right.give_back(pools);
+        let answer = list_of(
+            self.sides.rows.alloc,
+            pools,
+            self.left_kinds.as_slice(),
+            self.capacity,
+            told.as_slice(),
+        )?;
+        self.left_to = left_to;
+        self.right_to = right_to;
         self.failed = false;
         Ok(answer)
     }

@@ -1,16 +1,17 @@
 // The times since which keys are free.
-ghost use Rattle.std.specs.Prelude.{◌≡◌, [], ◌∷◌, not, filter, ◌≤◌, List, IfOk, OnOk, OnErr};
+ghost use Rattle.std.specs.Prelude.{◌≡◌, [], ◌∷◌, not, filter, length, ◌≤◌, List, IfOk, OnOk, OnErr};
 ghost use Rattle.tw_rows.specs.Bag.{SameBag};
 ghost use Rattle.tw_rows.specs.declared.cells.Datum.{Datum};
 ghost use Rattle.tw_rows.specs.declared.edge.HeldRow.{HeldRow};
 ghost use Rattle.edge_history.specs.Order.{many};
+ghost use Rattle.sweep_sides.specs.Saving.{rows_of};
 ghost use Rattle.synopsis.specs.Held.{key_of, is_of_key};
 ghost use Rattle.anti_join.specs.Free.{free_since};
 
 use std::alloc::Global;
 use std::marker::Model;
 use synopsis::{KeyRoom, Synopsis};
-use tw_rows::{Cells, Datum, Memory, Time};
+use tw_rows::{Cells, Datum, Edge, Memory, Time};
 
 /// For each of some keys the time since which it is free, as the start of a row with that key.
 #[derive(Drop)]
@@ -93,5 +94,39 @@ impl FreeTimes {
         take_key(&mut self.rows, self.room.values())?;
         self.rows.add(cells, at)?;
         Ok(())
+    }
+
+    /// The times of the keys of edges that start rows; of equal keys the last one.
+    pub(crate) fn of_starts(
+        alloc: Global,
+        key: &[usize],
+        edges: &[Edge],
+    ) -> Result<FreeTimes, Memory>
+        ensures key { IfOk result (λ f. f.key ≡ key.now) }
+        ensures rows { IfOk result (λ f. ((k : List Datum) → many (is_of_key key.now k) (rows_of edges.now) ≤ 1) → SameBag f.rows (rows_of edges.now)) }
+    {
+        let mut times = FreeTimes::new(alloc, key)?;
+        for edge in edges {
+            times.set(edge.cells.clone()?, edge.sync)?;
+        }
+        Ok(times)
+    }
+
+    /// How many times are kept.
+    pub(crate) fn len(&self) -> usize
+        ensures count { result ≡ length self.now.rows }
+        ensures single { (k : List Datum) → many (is_of_key self.now.key k) self.now.rows ≤ 1 }
+    {
+        let _ = &self.room;
+        self.rows.len()
+    }
+
+    /// The rows whose starts are the times, one a key.
+    pub(crate) fn rows(&self) -> &Synopsis
+        ensures rows { result.now.rows ≡ self.now.rows }
+        ensures single { (k : List Datum) → many (is_of_key self.now.key k) self.now.rows ≤ 1 }
+    {
+        let _ = &self.room;
+        &self.rows
     }
 }

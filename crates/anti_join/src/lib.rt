@@ -3,6 +3,8 @@
 
 mod anti;
 mod free_times;
+mod operating;
+mod sides;
 mod sweep;
 
 pub use anti::Anti;

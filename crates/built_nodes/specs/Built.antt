@@ -1,7 +1,7 @@
 -- Which nodes of plans are built.
 use Rattle.std.specs.Prelude.{Bool, true, false}
 use Rattle.plan_model.specs.declared.node.Node.{Node}
-use Rattle.plan_model.specs.declared.node.Node.TheVariants.{Source, Where, Select, Union, Delay, Hop, Duration, Extend, Group, Join}
+use Rattle.plan_model.specs.declared.node.Node.TheVariants.{Source, Where, Select, Union, Delay, Hop, Duration, Extend, Group, Join, Anti}
 
 -- the nodes that can be computed today. A filter is, and a mean is not
 abbrev pub is_built : Node → Bool
@@ -15,4 +15,5 @@ is_built (Duration of by) = true
 is_built (Extend of by) = true
 is_built (Group of key aggs) = true
 is_built (Join left right left_key right_key) = true
+is_built (Anti left right left_key right_key) = true
 is_built n = false

@@ -22,6 +22,7 @@ pub fn built(node: &Node) -> bool
             | Node::Extend { .. }
             | Node::Group { .. }
             | Node::Join { .. }
+            | Node::Anti { .. }
     )
 }
 

@@ -9,7 +9,7 @@ use Rattle.tw_rows.specs.declared.kind.Kind.{Kind}
 use Rattle.tw_rows.specs.declared.schema.StreamDef.{StreamDef}
 use Rattle.edge_stream.specs.Listing.{EdgeListView, cells_of}
 use Rattle.plan_model.specs.declared.node.Node.{Node}
-use Rattle.plan_model.specs.declared.node.Node.TheVariants.{Source, Where, Select, Union as UnionNode, Delay as DelayNode, Hop as HopNode, Duration as DurationNode, Extend as ExtendNode, Session, Clip, Group as GroupNode, Join as JoinNode, Anti, Coalesce, Mean, Top, Follow}
+use Rattle.plan_model.specs.declared.node.Node.TheVariants.{Source, Where, Select, Union as UnionNode, Delay as DelayNode, Hop as HopNode, Duration as DurationNode, Extend as ExtendNode, Session, Clip, Group as GroupNode, Join as JoinNode, Anti as AntiNode, Coalesce, Mean, Top, Follow}
 use Rattle.plan_model.specs.IsPlan.{PlanParts, IsPlan, kinds_at, kinds_of_schema, kinds_of_stream, node_kinds}
 use Rattle.plan_model.specs.Shape.{Shape, Stream, One, Two, shape, left_in, read_left, HasLower}
 use Rattle.built_nodes.specs.Built.{is_built}
@@ -34,7 +34,10 @@ use Rattle.snapshot_agg.specs.Answering.{group_kinds}
 use Rattle.snapshot_agg.specs.Keeping.{IsOpening}
 use Rattle.snapshot_agg.specs.declared.grouped.Grouped.{Grouped}
 use Rattle.plan_stages.proofs.Grouping.{grouped_opens}
-use Rattle.plan_stages.specs.declared.stage.Stage.TheVariants.{Life, Union, Extend, Join, Group}
+use Rattle.anti_join.specs.States.{IsOpening as IsAntiOpening}
+use Rattle.anti_join.specs.declared.anti.Anti.{Anti as AntiOperator}
+use Rattle.anti_join.proofs.Resuming.{anti_opening}
+use Rattle.plan_stages.specs.declared.stage.Stage.TheVariants.{Life, Union, Extend, Join, Group, Anti}
 use Rattle.plan_stages.specs.Operating.{MeanAlike}
 use Rattle.plan_stages.specs.Stages.{left_kinds, right_kinds, changing, StartsFor}
 
@@ -75,24 +78,24 @@ module _ (plan : PlanParts) (whole : IsPlan plan) where
 
 -- of the nodes that are built those that no other stage computes are of rows
 pub rows_left : (n : Node) → is_built n ≡ true → ((left right : ℕ) → n ≡ UnionNode left right → ⊥) → ((of by : ℕ) → n ≡ DelayNode of by → ⊥) → ((of size period : ℕ) → n ≡ HopNode of size period → ⊥) →
-    ((of by : ℕ) → n ≡ DurationNode of by → ⊥) → ((of by : ℕ) → n ≡ ExtendNode of by → ⊥) → ((left right : ℕ) (left_key right_key : List ℕ) → n ≡ JoinNode left right left_key right_key → ⊥) → ((of : ℕ) (key : List ℕ) (aggs : List Agg) → n ≡ GroupNode of key aggs → ⊥) → is_of_rows n ≡ true
-rows_left (Source stream) built u d h l e j g = refl
-rows_left (Where of test) built u d h l e j g = refl
-rows_left (Select of items) built u d h l e j g = refl
-rows_left (UnionNode left right) built u d h l e j g = absurd (u left right refl)
-rows_left (DelayNode of by) built u d h l e j g = absurd (d of by refl)
-rows_left (HopNode of size period) built u d h l e j g = absurd (h of size period refl)
-rows_left (DurationNode of by) built u d h l e j g = absurd (l of by refl)
-rows_left (ExtendNode of by) built u d h l e j g = absurd (e of by refl)
-rows_left (Session of timeout key) built u d h l e j g = absurd (cc)
-rows_left (Clip left right left_key right_key) built u d h l e j g = absurd (cc)
-rows_left (GroupNode of key aggs) built u d h l e j g = absurd (g of key aggs refl)
-rows_left (JoinNode left right left_key right_key) built u d h l e j g = absurd (j left right left_key right_key refl)
-rows_left (Anti left right left_key right_key) built u d h l e j g = absurd (cc)
-rows_left (Coalesce of) built u d h l e j g = absurd (cc)
-rows_left (Mean of at) built u d h l e j g = absurd (cc)
-rows_left (Top of key by count) built u d h l e j g = absurd (cc)
-rows_left (Follow left right left_key right_key within) built u d h l e j g = absurd (cc)
+    ((of by : ℕ) → n ≡ DurationNode of by → ⊥) → ((of by : ℕ) → n ≡ ExtendNode of by → ⊥) → ((left right : ℕ) (left_key right_key : List ℕ) → n ≡ JoinNode left right left_key right_key → ⊥) → ((of : ℕ) (key : List ℕ) (aggs : List Agg) → n ≡ GroupNode of key aggs → ⊥) → ((left right : ℕ) (left_key right_key : List ℕ) → n ≡ AntiNode left right left_key right_key → ⊥) → is_of_rows n ≡ true
+rows_left (Source stream) built u d h l e j g a = refl
+rows_left (Where of test) built u d h l e j g a = refl
+rows_left (Select of items) built u d h l e j g a = refl
+rows_left (UnionNode left right) built u d h l e j g a = absurd (u left right refl)
+rows_left (DelayNode of by) built u d h l e j g a = absurd (d of by refl)
+rows_left (HopNode of size period) built u d h l e j g a = absurd (h of size period refl)
+rows_left (DurationNode of by) built u d h l e j g a = absurd (l of by refl)
+rows_left (ExtendNode of by) built u d h l e j g a = absurd (e of by refl)
+rows_left (Session of timeout key) built u d h l e j g a = absurd (cc)
+rows_left (Clip left right left_key right_key) built u d h l e j g a = absurd (cc)
+rows_left (GroupNode of key aggs) built u d h l e j g a = absurd (g of key aggs refl)
+rows_left (JoinNode left right left_key right_key) built u d h l e j g a = absurd (j left right left_key right_key refl)
+rows_left (AntiNode left right left_key right_key) built u d h l e j g a = absurd (a left right left_key right_key refl)
+rows_left (Coalesce of) built u d h l e j g a = absurd (cc)
+rows_left (Mean of at) built u d h l e j g a = absurd (cc)
+rows_left (Top of key by count) built u d h l e j g a = absurd (cc)
+rows_left (Follow left right left_key right_key within) built u d h l e j g a = absurd (cc)
 
 -- a list that was just made
 abbrev pub fresh_list : List Kind → ℕ → EdgeListView
@@ -243,4 +246,34 @@ group_starts plan whole i capacity left own texts of key aggs there o same_key s
     batch_rows = rows;
   };
   opens = grouped_opens o.groups.key.items o.groups.aggs.items texts o.groups.rows.rows o.running o.waiting o.left_to o.right_to o.failed opening;
+}
+
+-- the right child of an anti-join is a node of the plan
+pub anti_right : (plan : PlanParts) → IsPlan plan → (i left right : ℕ) (left_key right_key : List ℕ) → slice_get plan.nodes i ≡ Some (AntiNode left right left_key right_key) → right < length plan.nodes
+anti_right plan whole i left right left_key right_key there =
+    let lower : right < i = (whole.nodes_are.each i (AntiNode left right left_key right_key) there).right_lower in
+    let low = slice_get_within plan.nodes i (AntiNode left right left_key right_key) there in
+    omega (arith, lower, low)
+
+anti_alike : (left right : ℕ) (left_key right_key : List ℕ) → MeanAlike (AntiNode left right left_key right_key) (AntiNode 0 1 left_key right_key)
+anti_alike left right left_key right_key = record { events = λ l r. refl; closes = λ x y. refl; undefined = λ rows. refl; held = λ x y hl hr. refl }
+
+pub anti_starts : (plan : PlanParts) (capacity : ℕ) (l r : List Kind) (texts : List (List ℕ)) (left right : ℕ) (left_key right_key : List ℕ) (o : AntiOperator) →
+    o.sides.rows.left_key.columns ≡ left_key → o.sides.rows.right_key.columns ≡ right_key → o.left_kinds.items ≡ l → o.right_kinds.items ≡ r → o.capacity ≡ capacity →
+    IsAntiOpening o.sides.rows.left.rows o.sides.rows.right.rows o.sides.rows.times.rows o.sides.left_waiting o.sides.right_waiting o.left_to o.right_to o.failed →
+    map cell_kind_of l ≡ left_kinds plan (AntiNode left right left_key right_key) → map cell_kind_of r ≡ kinds_at plan.schemas right → StartsFor texts capacity plan (AntiNode left right left_key right_key) (Anti o)
+anti_starts plan capacity l r texts left right left_key right_key o same_left same_right left_like right_like rows opening read told = record {
+  ready = record {
+    node = subst (λ k. MeanAlike (AntiNode left right left_key right_key) (AntiNode 0 1 k o.sides.rows.right_key.columns)) (sym same_left)
+        (subst (λ k. MeanAlike (AntiNode left right left_key right_key) (AntiNode 0 1 left_key k)) (sym same_right) (anti_alike left right left_key right_key));
+    works = opening.works;
+    left_closed = opening.left_open;
+    right_closed = opening.right_open;
+    left_kinds = ap (map cell_kind_of) left_like ∙ read;
+    right_kinds = ap (map cell_kind_of) right_like ∙ told;
+    own_kinds = ap (map cell_kind_of) left_like ∙ read;
+    batch_rows = rows;
+  };
+  opens = anti_opening o.sides.rows.left_key.columns o.sides.rows.right_key.columns (map cell_kind_of o.left_kinds.items) (map cell_kind_of o.right_kinds.items) texts o.left_to o.right_to o.sides.rows.left.rows o.sides.rows.right.rows o.sides.rows.times.rows
+      o.sides.left_waiting o.sides.right_waiting opening.left_empty opening.right_empty opening.times_empty opening.none_left opening.none_right opening.left_open opening.right_open;
 }

@@ -27,9 +27,11 @@ use Rattle.temporal_join.specs.Operating.{IsKept}
 use Rattle.temporal_join.specs.declared.join.Join.{Join as JoinOperator}
 use Rattle.snapshot_agg.specs.Keeping.{KeepsGrouped}
 use Rattle.snapshot_agg.specs.declared.grouped.Grouped.{Grouped}
+use Rattle.anti_join.specs.Operating.{IsKept as IsAntiKept}
+use Rattle.anti_join.specs.declared.anti.Anti.{Anti as AntiOperator}
 use Rattle.plan_stages.specs.declared.stage.Stage.{Stage}
-use Rattle.plan_stages.specs.declared.stage.Stage.TheVariants.{Rows, Life, Union, Extend, Join, Group}
-use Rattle.plan_model.specs.declared.node.Node.TheVariants.{Union as UnionNode, Extend as ExtendNode, Delay as DelayNode, Hop as HopNode, Duration as DurationNode, Join as JoinNode, Group as GroupNode}
+use Rattle.plan_stages.specs.declared.stage.Stage.TheVariants.{Rows, Life, Union, Extend, Join, Group, Anti}
+use Rattle.plan_model.specs.declared.node.Node.TheVariants.{Union as UnionNode, Extend as ExtendNode, Delay as DelayNode, Hop as HopNode, Duration as DurationNode, Join as JoinNode, Group as GroupNode, Anti as AntiNode}
 use Rattle.plan_stages.specs.Operating.{Standing, CanOperate}
 pub use Rattle.plan_stages.specs.Operating.{may_keep, first_undefined_read}
 
@@ -129,6 +131,18 @@ group_standing o = record {
   has_failed = o.failed;
 }
 
+abbrev pub anti_standing : AntiOperator → Standing
+anti_standing o = record {
+  node = AntiNode 0 1 o.sides.rows.left_key.columns o.sides.rows.right_key.columns;
+  left_closed = o.left_to;
+  right_closed = o.right_to;
+  left_kinds = map cell_kind_of o.left_kinds.items;
+  right_kinds = map cell_kind_of o.right_kinds.items;
+  own_kinds = map cell_kind_of o.left_kinds.items;
+  batch_rows = o.capacity;
+  has_failed = o.failed;
+}
+
 -- the stage can take a step of the node, over lists of columns that are stored as `left` and `right`, in batches of the
 -- capacity, whose texts are read from the table; its sides are closed up to x and y
 abbrev pub IsReady : List (List ℕ) → ℕ → List CellKind → List CellKind → Node → Stage → ℕ → ℕ → Type 0
@@ -138,6 +152,7 @@ IsReady texts capacity left right n (Union o) x y = CanOperate capacity left rig
 IsReady texts capacity left right n (Extend o) x y = CanOperate capacity left right n (extend_standing o) x y
 IsReady texts capacity left right n (Join o) x y = CanOperate capacity left right n (join_standing o) x y
 IsReady texts capacity left right n (Group o) x y = CanOperate capacity left right n (group_standing o) x y
+IsReady texts capacity left right n (Anti o) x y = CanOperate capacity left right n (anti_standing o) x y
 
 -- the stage can take a step of some node over these two lists, which closes its sides up to u and v
 pub record CanTake (texts : List (List ℕ)) (left right : EdgeListView) (s : Stage) (u v : ℕ) : Type 0 where
@@ -162,6 +177,7 @@ StageKeeps texts n (Union o) x y hl hr out = KeepsUnion texts o.left_to o.right_
 StageKeeps texts n (Extend o) x y hl hr out = KeepsExtended o.by texts o.left_to o.right_to o.carried.edges (edges_of_pending o.ends) hl hr out
 StageKeeps texts n (Join o) x y hl hr out = IsKept o texts hl hr out
 StageKeeps texts n (Group o) x y hl hr out = KeepsGrouped o.groups.key.items o.groups.aggs.items texts o.groups.rows.rows o.running o.waiting o.left_to hl hr out
+StageKeeps texts n (Anti o) x y hl hr out = IsAntiKept o texts hl hr out
 
 -- what is asked of what was kept and of two lists, so that a step keeps it: the lists come on the sides that the stage is
 -- closed up to, and close them up to u and v

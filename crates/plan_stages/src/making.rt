@@ -8,6 +8,7 @@ ghost use Rattle.node_stage.specs.Stages.{is_of_rows};
 ghost use Rattle.plan_stages.specs.Stages.{left_kinds, changing, StartsFor};
 
 use crate::stage::Stage;
+use anti_join::Anti;
 use extend_op::ExtendOperator;
 use lifetime_ops::{Change, LifeOperator};
 use node_stage::read_kinds;
@@ -175,4 +176,34 @@ pub(crate) fn group_stage(
     let own = kinds_told(alloc, plan, node)?;
     let operator = Grouped::new(alloc, key, aggs, &left, &own, capacity)?;
     Ok(Stage::Group(operator))
+}
+
+/// The stage of an Anti of the plan, by these keys of the left and of the right child.
+pub(crate) fn anti_stage(
+    alloc: Global,
+    plan: &Plan,
+    node: usize,
+    right: usize,
+    left_key: &[usize],
+    right_key: &[usize],
+    capacity: usize,
+) -> Result<Stage, Memory>
+    requires node { node < length plan.now.nodes }
+    requires room { 1 ≤ capacity }
+    requires is { (n : Node) → slice_get plan.now.nodes node ≡ Some n → (left : ℕ) × (n ≡ Node.Anti left right left_key.now right_key.now) }
+    ensures { IfOk result (λ s. (texts : List (List ℕ)) (n : Node) → slice_get plan.now.nodes node ≡ Some n → StartsFor texts capacity plan.now n s) }
+{
+    // Its call tells the proof what a plan keeps.
+    let _ = plan.nodes();
+    let left_kinds = kinds_read(alloc, plan, node)?;
+    let right_kinds = kinds_told(alloc, plan, right)?;
+    let operator = Anti::new(
+        alloc,
+        left_key,
+        right_key,
+        &left_kinds,
+        &right_kinds,
+        capacity,
+    )?;
+    Ok(Stage::Anti(operator))
 }

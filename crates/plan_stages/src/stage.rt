@@ -8,7 +8,10 @@ ghost use Rattle.node_laws.specs.Places.{EdgesArePlaced};
 ghost use Rattle.plan_stages.specs.Stages.{left_kinds, right_kinds, IsReady, CanTake, StageKeeps, StaysReady, KeepsOn, IsUndefinedAt, IsAnswerOf, KeepsAtMost};
 
 use crate::any_operator::step_operator;
-use crate::making::{extend_stage, group_stage, join_stage, life_stage, rows_stage, union_stage};
+use crate::making::{
+    anti_stage, extend_stage, group_stage, join_stage, life_stage, rows_stage, union_stage,
+};
+use anti_join::Anti;
 use batch::Pools;
 use edge_stream::{EdgeList, StepFault};
 use extend_op::ExtendOperator;
@@ -37,6 +40,8 @@ pub enum Stage {
     Join(Join),
     /// Of a Group.
     Group(Grouped),
+    /// Of an Anti.
+    Anti(Anti),
 }
 
 impl Stage {
@@ -90,6 +95,20 @@ impl Stage {
             Node::Group { key, aggs, .. } => {
                 group_stage(alloc, plan, node, key.items(), aggs.items(), capacity)
             }
+            Node::Anti {
+                right,
+                left_key,
+                right_key,
+                ..
+            } => anti_stage(
+                alloc,
+                plan,
+                node,
+                *right,
+                left_key.items(),
+                right_key.items(),
+                capacity,
+            ),
             _ => rows_stage(alloc, plan, node, capacity, texts),
         }
     }
@@ -136,6 +155,9 @@ impl Stage {
             Stage::Group(operator) => {
                 step_operator(operator, pools, left, right, left_to, right_to)
             }
+            Stage::Anti(operator) => {
+                step_operator(operator, pools, left, right, left_to, right_to)
+            }
         }
     }
 
@@ -150,6 +172,7 @@ impl Stage {
             Stage::Extend(operator) => operator.held(),
             Stage::Join(operator) => operator.held(),
             Stage::Group(operator) => operator.held(),
+            Stage::Anti(operator) => operator.held(),
         }
     }
 }

@@ -1,5 +1,4 @@
-use Rattle.std.specs.Prelude.{filter}
-use Rattle.std.proofs.Common.{◌≡◌, ◌∙◌, ◌∷◌, sym, ap, drop, ℕ, ◌+◌}
+use Rattle.std.proofs.Common.{◌∙◌, sym, ap, drop, ◌+◌}
 use Rattle.tw_rows.specs.Bag.{total}
 use Rattle.synopsis.specs.Held.{is_of_key}
 use Rattle.edge_history.specs.Order.{many}

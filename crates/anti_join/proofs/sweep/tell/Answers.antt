@@ -1,4 +1,3 @@
-use Rattle.std.proofs.Common.{◌≡◌}
 use Rattle.tw_rows.specs.declared.edge.Edge.{Edge}
 use Rattle.anti_join.specs.Free.{told_since}
 use Rattle.anti_join.proofs.Flips.{told_next, told_is}

@@ -1,69 +1,75 @@
-use Rattle.std.proofs.Common.{◌≡◌, ◌≤◌, ◌++◌, ◌∙◌, sym, subst, arith, min}
+use Rattle.std.proofs.Common.{◌≡◌, ◌≤◌, ◌++◌, ◌∙◌, map, min, sym, ap, subst, arith}
+use Rattle.std.specs.Prelude.{All}
+use Rattle.tw_rows.specs.Cells.{datum_kind}
+use Rattle.tw_rows.specs.Kinds.{cell_kind_of}
 use Rattle.tw_rows.specs.Instant.{inf}
-use Rattle.edge_history.specs.History.{of}
-use Rattle.sweep_laws.specs.Sweeps.{IsDue}
+use Rattle.edge_stream.specs.Listing.{cells_of}
+use Rattle.edge_stream.proofs.Filling.{batches_given-capacity}
+use Rattle.carried_edges.proofs.Pools.{batches_given-limit}
 use Rattle.sweep_sides.specs.Waiting.{queued}
-use Rattle.anti_join.proofs.RowKeys.{by_then, kept_by}
-use Rattle.anti_join.proofs.Steps.{anti_step, anti_news}
+use Rattle.anti_join.proofs.Stepped.{from_lesser, anti_stepped, list_is}
+use Rattle.anti_join.proofs.RowKeys.{keys_by, keys_back, news_by}
 use Rattle.anti_join.proofs.anti.Anti.advance.Goals as goal
 
 pub returns-clause-kept : goal.returns-clause-kept
-returns-clause-kept c = λ hl hr out k wl wr fl fr.
+returns-clause-kept c = λ texts hl hr out k ml mr.
     let s = c.args.self.now in
-    let lk = s.rows.left.key in
-    let rk = s.rows.right.key in
-    let later = c.sweep.new.self in
-    let keys = c.in_ok-sweep.ensures.keys in
-    let nl = c.args.left.now.edges in
-    let nr = c.args.right.now.edges in
-    let to2 = c.lesser-to.result in
-    let e : to2 ≡ min c.args.left_to c.args.right_to = c.lesser-to.ensures in
-    let b = c.word.ensures.within in
-    let r = c.requires in
-    let low : s.to ≤ to2 = omega (arith, r, e) in
-    let high : to2 ≤ inf = omega (arith, b, e) in
-    let tl = c.in_ok-put_all.ensures.timed k.left_timed in
-    let tr = c.in_ok-put_all-2.ensures.timed k.right_timed in
-    let dl = c.in_ok-left_due.ensures in
-    let dr = c.in_ok-right_due.ensures in
-    record {
-      by = by_then s.rows later keys k.by;
-      left_timed = dl.timed tl;
-      right_timed = dr.timed tr;
-      kept = kept_by s.rows later (queued c.take_due.new.queue) (queued c.take_due-2.new.queue) to2 (hl ++ nl) (hr ++ nr) (out ++ c.sweep.new.answer.items) keys
-          (anti_step lk rk s.to to2 hl hr nl nr
-          (queued s.left_waiting) (queued c.put_all.new.queue) (queued c.take_due.new.queue) c.in_ok-left_due.left_due.items
-          (queued s.right_waiting) (queued c.put_all-2.new.queue) (queued c.take_due-2.new.queue) c.in_ok-right_due.right_due.items
-          low high wl wr fl fr c.in_ok-put_all.ensures.put c.in_ok-put_all-2.ensures.put dl.parts dr.parts
-          (dl.below tl) (dr.below tr) (dl.rest tl) (dr.rest tr) (dl.order tl) (dr.order tr)
-          s.rows.left.rows later.left.rows s.rows.right.rows later.right.rows s.rows.times.rows later.times.rows out c.new-answer.result.items c.sweep.new.answer.items k.kept c.new-answer.ensures.items
-          (λ da db h. c.in_ok-sweep.ensures.swept (of (hl ++ nl)) (of (hr ++ nr)) s.to to2 k.by
-          (subst (IsDue (of (hl ++ nl)) s.to to2) (sym c.as_slice.ensures.value) da) (subst (IsDue (of (hr ++ nr)) s.to to2) (sym c.as_slice-2.ensures.value) db) h));
-    }
+    let w = s.working c.requires.works in
+    let lk = s.sides.rows.left_key.columns in
+    let rk = s.sides.rows.right_key.columns in
+    let left_kinds = map cell_kind_of s.left_kinds.items in
+    let right_kinds = map cell_kind_of s.right_kinds.items in
+    let l = c.args.left.edges in
+    let r = c.args.right.edges in
+    let to = c.lesser-to.result in
+    let e : to ≡ min c.args.left_to c.args.right_to = c.lesser-to.ensures in
+    let xu = c.requires.left_rises in
+    let yv = c.requires.right_rises in
+    let lu : c.args.left_to ≤ inf = c.word.ensures.within in
+    let lv : c.args.right_to ≤ inf = c.word-2.ensures.within in
+    let low : min s.left_to s.right_to ≤ to = omega (arith, xu, yv, e) in
+    let lx : min s.left_to s.right_to ≤ s.left_to = omega arith in
+    let ly : min s.left_to s.right_to ≤ s.right_to = omega arith in
+    let t = c.in_ok-told.ensures in
+    let told = c.in_ok-told.told.items in
+    let new = c.advance.new.self in
+    let p = t.kept (min s.left_to s.right_to) hl hr out low (record { by = s.by_key; left_timed = w.sides.left.timed; right_timed = w.sides.right.timed; kept = keys_by s.sides.rows (queued s.sides.left_waiting) (queued s.sides.right_waiting) (min s.left_to s.right_to) hl hr out s.by_key k.kept })
+    ml.history mr.history (from_lesser (min s.left_to s.right_to) s.left_to l lx ml.from) (from_lesser (min s.left_to s.right_to) s.right_to r ly mr.from) in
+    anti_stepped lk rk new.rows.left_key.columns new.rows.right_key.columns left_kinds right_kinds texts s.left_to s.right_to c.args.left_to c.args.right_to to
+    s.sides.rows.left.rows s.sides.rows.right.rows s.sides.rows.times.rows new.rows.left.rows new.rows.right.rows new.rows.times.rows
+    (queued s.sides.left_waiting) (queued s.sides.right_waiting) (queued new.left_waiting) (queued new.right_waiting) hl hr l r out told c.in_ok-answer.answer.edges
+    lu lv e k ml mr
+    (subst (λ ks. All (λ x. map datum_kind x.cells ≡ ks) l) c.requires.left_kinds t.left_cells)
+    (subst (λ ks. All (λ x. map datum_kind x.cells ≡ ks) r) c.requires.right_kinds t.right_cells)
+    (keys_back new.rows (queued new.left_waiting) (queued new.right_waiting) to (hl ++ l) (hr ++ r) (out ++ told) p.0.by p.0.kept) (news_by s.sides.rows s.by_key (min s.left_to s.right_to) to (hl ++ l) (hr ++ r) told p.1)
+    (list_is s.left_kinds.items c.as_slice.result.now told c.as_slice-2.result.now c.in_ok-answer.answer.edges c.as_slice.ensures.value c.as_slice-2.ensures.value c.in_ok-answer.ensures.edges)
 
-pub returns-clause-news : goal.returns-clause-news
-returns-clause-news c = λ hl hr out k wl wr fl fr.
-    let s = c.args.self.now in
-    let lk = s.rows.left.key in
-    let rk = s.rows.right.key in
-    let later = c.sweep.new.self in
-    let nl = c.args.left.now.edges in
-    let nr = c.args.right.now.edges in
-    let to2 = c.lesser-to.result in
-    let e : to2 ≡ min c.args.left_to c.args.right_to = c.lesser-to.ensures in
-    let b = c.word.ensures.within in
-    let r = c.requires in
-    let low : s.to ≤ to2 = omega (arith, r, e) in
-    let high : to2 ≤ inf = omega (arith, b, e) in
-    let tl = c.in_ok-put_all.ensures.timed k.left_timed in
-    let tr = c.in_ok-put_all-2.ensures.timed k.right_timed in
-    let dl = c.in_ok-left_due.ensures in
-    let dr = c.in_ok-right_due.ensures in
-    anti_news lk rk s.to to2 hl hr nl nr
-    (queued s.left_waiting) (queued c.put_all.new.queue) (queued c.take_due.new.queue) c.in_ok-left_due.left_due.items
-    (queued s.right_waiting) (queued c.put_all-2.new.queue) (queued c.take_due-2.new.queue) c.in_ok-right_due.right_due.items
-    low high wl wr fl fr c.in_ok-put_all.ensures.put c.in_ok-put_all-2.ensures.put dl.parts dr.parts
-    (dl.below tl) (dr.below tr) (dl.rest tl) (dr.rest tr) (dl.order tl) (dr.order tr)
-    s.rows.left.rows later.left.rows s.rows.right.rows later.right.rows s.rows.times.rows later.times.rows out c.new-answer.result.items c.sweep.new.answer.items k.kept c.new-answer.ensures.items
-    (λ da db h. c.in_ok-sweep.ensures.swept (of (hl ++ nl)) (of (hr ++ nr)) s.to to2 k.by
-    (subst (IsDue (of (hl ++ nl)) s.to to2) (sym c.as_slice.ensures.value) da) (subst (IsDue (of (hr ++ nr)) s.to to2) (sym c.as_slice-2.ensures.value) db) h)
+pub give_back-requires-2 : goal.give_back-requires-2
+give_back-requires-2 c =
+    ap (λ s. s.capacity) c.give_back.ensures ∙ batches_given-capacity c.args.left.batches c.args.pools.now (cells_of c.args.left)
+    ∙ c.requires.capacity ∙ sym c.requires.right_capacity
+
+pub list_of-requires-clause-pools : goal.list_of-requires-clause-pools
+list_of-requires-clause-pools c =
+    ap (λ s. s.capacity) c.give_back-2.ensures ∙ batches_given-capacity c.args.right.batches c.give_back.new.pools (cells_of c.args.right)
+    ∙ ap (λ s. s.capacity) c.give_back.ensures ∙ batches_given-capacity c.args.left.batches c.args.pools.now (cells_of c.args.left) ∙ c.requires.capacity
+
+pub returns-in_err-answer-clause-pools : goal.returns-in_err-answer-clause-pools
+returns-in_err-answer-clause-pools c =
+    c.list_of.ensures.pools ∙ ap (λ s. s.capacity) c.give_back-2.ensures ∙ batches_given-capacity c.args.right.batches c.give_back.new.pools (cells_of c.args.right)
+    ∙ ap (λ s. s.capacity) c.give_back.ensures ∙ batches_given-capacity c.args.left.batches c.args.pools.now (cells_of c.args.left)
+
+pub returns-clause-pools : goal.returns-clause-pools
+returns-clause-pools c =
+    c.list_of.ensures.pools ∙ ap (λ s. s.capacity) c.give_back-2.ensures ∙ batches_given-capacity c.args.right.batches c.give_back.new.pools (cells_of c.args.right)
+    ∙ ap (λ s. s.capacity) c.give_back.ensures ∙ batches_given-capacity c.args.left.batches c.args.pools.now (cells_of c.args.left)
+
+pub returns-in_err-answer-clause-limit : goal.returns-in_err-answer-clause-limit
+returns-in_err-answer-clause-limit c =
+    c.list_of.ensures.limit ∙ ap (λ s. s.limit) c.give_back-2.ensures ∙ batches_given-limit c.args.right.batches c.give_back.new.pools (cells_of c.args.right)
+    ∙ ap (λ s. s.limit) c.give_back.ensures ∙ batches_given-limit c.args.left.batches c.args.pools.now (cells_of c.args.left)
+
+pub returns-clause-limit : goal.returns-clause-limit
+returns-clause-limit c =
+    c.list_of.ensures.limit ∙ ap (λ s. s.limit) c.give_back-2.ensures ∙ batches_given-limit c.args.right.batches c.give_back.new.pools (cells_of c.args.right)
+    ∙ ap (λ s. s.limit) c.give_back.ensures ∙ batches_given-limit c.args.left.batches c.args.pools.now (cells_of c.args.left)

@@ -1,8 +1,7 @@
-use Rattle.std.proofs.Common.{◌≡◌, ◌∙◌, sym, ap, subst, List, not}
+use Rattle.std.proofs.Common.{◌∙◌, sym, ap, subst, List, not}
 use Rattle.std.specs.Prelude.{filter}
 use Rattle.tw_rows.specs.Bag.{SameBag}
 use Rattle.tw_rows.specs.declared.edge.HeldRow.{HeldRow}
-use Rattle.edge_history.specs.Order.{many}
 use Rattle.synopsis.specs.Held.{key_of, is_of_key}
 use Rattle.anti_join.proofs.Keys.{few_left, few_put}
 use Rattle.anti_join.proofs.free_times.FreeTimes.set.Goals as goal

@@ -1,4 +1,4 @@
-use Rattle.std.proofs.Common.{◌∙◌, ◌∷◌, sym, ap, arith, drop}
+use Rattle.std.proofs.Common.{◌∙◌, sym, ap, arith, drop}
 use Rattle.tw_rows.specs.declared.edge.HeldRow.{HeldRow}
 use Rattle.anti_join.specs.Free.{KeyTimes, free_since}
 use Rattle.anti_join.proofs.Keys.{is_none, head_is, since_one, since_none}

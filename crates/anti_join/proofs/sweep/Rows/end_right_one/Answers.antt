@@ -1,5 +1,5 @@
 use Rattle.synopsis.specs.Held.{KeyedRows}
-use Rattle.std.proofs.Common.{◌≡◌, ◌∙◌, ◌∷◌, [], sym, ap, subst, arith, cond, not, ◌&&◌, true, false, refl}
+use Rattle.std.proofs.Common.{◌≡◌, ◌∙◌, ◌∷◌, [], sym, ap, arith, cond, not, ◌&&◌, true, false, refl}
 use Rattle.tw_rows.specs.Bag.{total}
 use Rattle.tw_rows.specs.declared.edge.HeldRow.{HeldRow}
 use Rattle.edge_history.specs.Order.{is_end, many}

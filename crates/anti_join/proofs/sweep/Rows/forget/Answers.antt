@@ -1,8 +1,4 @@
-use Rattle.std.proofs.Common.{◌≡◌, ◌≤◌, ◌+◌, ◌⊎◌, inl, inr, ℕ, zero, suc, arith, ◌∙◌, ap, refl, subst, cond}
-use Rattle.tw_rows.specs.declared.cells.Datum.{Datum}
-use Rattle.edge_history.specs.Opens.{ended_of}
-use Rattle.synopsis.specs.Held.{is_of_key}
-use Rattle.sweep_laws.proofs.Adding.{rows_more}
+use Rattle.std.proofs.Common.{arith, ◌∙◌, refl}
 use Rattle.anti_join.proofs.RowKeys.{keys_stay, keys_then, by_then, forgets_times, gone_more}
 use Rattle.anti_join.proofs.sweep.Rows.forget.Goals as goal
 

@@ -1,4 +1,4 @@
-use Rattle.std.proofs.Common.{◌≡◌, ◌∙◌, sym, ap, arith, true, false, refl, nat_eq}
+use Rattle.std.proofs.Common.{◌≡◌, ◌∙◌, sym, ap, arith, false, refl, nat_eq}
 use Rattle.edge_history.specs.Order.{is_end, many}
 use Rattle.synopsis.specs.Held.{key_of, is_of_key}
 use Rattle.tw_rows.specs.SameCells.{cells_are_same, same_cells}

@@ -1,4 +1,4 @@
-use Rattle.std.proofs.Common.{◌≡◌, ◌+◌, ◌≤◌, ◌-◌, ℕ, List, drop, take, length}
+use Rattle.std.proofs.Common.{◌+◌, ◌≤◌, ◌-◌, ℕ, List, drop, take, length}
 use Rattle.tw_rows.specs.Bag.{total}
 use Rattle.tw_rows.specs.declared.edge.HeldRow.{HeldRow}
 use Rattle.edge_history.specs.Opens.{started_rows}

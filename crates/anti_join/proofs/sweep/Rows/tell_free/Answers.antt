@@ -1,12 +1,10 @@
 use Rattle.std.specs.Prelude.{filter}
-use Rattle.std.proofs.Common.{◌≡◌, ◌∙◌, ◌++◌, ◌∷◌, ◌≤◌, sym, ap, arith, map, length, drop, refl, List, nat_eq, true, ℕ, None}
-use Rattle.tw_rows.specs.declared.cells.Datum.{Datum}
+use Rattle.std.proofs.Common.{◌≡◌, ◌∙◌, ◌++◌, ◌∷◌, ◌≤◌, sym, ap, arith, map, length, drop, refl, None}
 use Rattle.tw_rows.specs.declared.edge.HeldRow.{HeldRow}
 use Rattle.edge_history.specs.Order.{many}
 use Rattle.synopsis.specs.Held.{key_of, is_of_key}
 use Rattle.tw_rows.specs.SameCells.{cells_are_same}
 use Rattle.anti_join.specs.Free.{told_since}
-use Rattle.anti_join.specs.Rows.{SetsTime}
 use Rattle.anti_join.proofs.Keys.{kept_length, first_passes, is_none, head_is}
 use Rattle.anti_join.proofs.Changes.{set_since, set_early, set_few, set_none}
 use Rattle.anti_join.proofs.RowKeys.{keys_stay}

@@ -1,4 +1,4 @@
-use Rattle.plan_stages.proofs.Variants.{variant_held, life_variant, union_variant, extend_variant, join_variant, group_variant}
+use Rattle.plan_stages.proofs.Variants.{variant_held, life_variant, union_variant, extend_variant, join_variant, group_variant, anti_variant}
 use Rattle.plan_stages.proofs.stage.Stage.held.Goals as goal
 
 pub returns-in-Life : goal.returns-in-Life
@@ -15,3 +15,6 @@ returns-in-Join c = variant_held _ _ _ join_variant c.args.self.now c.in-Join.op
 
 pub returns-in-Group : goal.returns-in-Group
 returns-in-Group c = variant_held _ _ _ group_variant c.args.self.now c.in-Group.operator c.in-Group.is c.held-in-Group.result c.held-in-Group.ensures
+
+pub returns-in-Anti : goal.returns-in-Anti
+returns-in-Anti c = variant_held _ _ _ anti_variant c.args.self.now c.in-Anti.operator c.in-Anti.is c.held-in-Anti.result c.held-in-Anti.ensures

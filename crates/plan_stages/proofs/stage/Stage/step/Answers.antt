@@ -1,4 +1,4 @@
-use Rattle.plan_stages.proofs.Variants.{variant_ready, variant_kept, variant_defined, variant_overflow, life_variant, union_variant, extend_variant, join_variant, group_variant}
+use Rattle.plan_stages.proofs.Variants.{variant_ready, variant_kept, variant_defined, variant_overflow, life_variant, union_variant, extend_variant, join_variant, group_variant, anti_variant}
 use Rattle.plan_stages.proofs.stage.Stage.step.Goals as goal
 
 pub returns-in-Life-clause-ready : goal.returns-in-Life-clause-ready
@@ -80,3 +80,19 @@ returns-in-Group-clause-defined c =
 pub returns-in-Group-clause-overflow : goal.returns-in-Group-clause-overflow
 returns-in-Group-clause-overflow c =
     variant_overflow _ _ _ group_variant c.args.texts.now c.args.left c.args.right c.args.self.now c.in-Group.operator c.step_operator-in-Group.new.operator c.in-Group.is c.args.left_to c.args.right_to c.step_operator-in-Group.result c.step_operator-in-Group.ensures.overflow
+
+pub returns-in-Anti-clause-ready : goal.returns-in-Anti-clause-ready
+returns-in-Anti-clause-ready c =
+    variant_ready _ _ _ anti_variant c.args.texts.now c.args.left c.args.right c.args.self.now c.in-Anti.operator c.step_operator-in-Anti.new.operator c.in-Anti.is c.args.left_to c.args.right_to c.step_operator-in-Anti.result c.step_operator-in-Anti.ensures.ready
+
+pub returns-in-Anti-clause-kept : goal.returns-in-Anti-clause-kept
+returns-in-Anti-clause-kept c =
+    variant_kept _ _ _ anti_variant c.args.texts.now c.args.left c.args.right c.args.self.now c.in-Anti.operator c.step_operator-in-Anti.new.operator c.in-Anti.is c.args.left_to c.args.right_to c.step_operator-in-Anti.result c.step_operator-in-Anti.ensures.kept
+
+pub returns-in-Anti-clause-defined : goal.returns-in-Anti-clause-defined
+returns-in-Anti-clause-defined c =
+    variant_defined _ _ _ anti_variant c.args.texts.now c.args.left c.args.right c.args.self.now c.in-Anti.operator c.step_operator-in-Anti.new.operator c.in-Anti.is c.args.left_to c.args.right_to c.step_operator-in-Anti.result c.step_operator-in-Anti.ensures.defined
+
+pub returns-in-Anti-clause-overflow : goal.returns-in-Anti-clause-overflow
+returns-in-Anti-clause-overflow c =
+    variant_overflow _ _ _ anti_variant c.args.texts.now c.args.left c.args.right c.args.self.now c.in-Anti.operator c.step_operator-in-Anti.new.operator c.in-Anti.is c.args.left_to c.args.right_to c.step_operator-in-Anti.result c.step_operator-in-Anti.ensures.overflow

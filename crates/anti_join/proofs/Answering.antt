@@ -1,0 +1,113 @@
+-- What a step of an anti-join answers: a list in order, with the columns of the left rows.
+use Rattle.std.specs.Prelude.{◌≡◌, ℕ, zero, suc, ◌&&◌, nat_eq, nat_lt, nat_le, Bool, true, false, cond, IsTrue, Option, Some, None, List, [], ◌∷◌, ◌++◌, map, All, refl}
+use Rattle.std.proofs.Common.{◌∙◌, ap, subst, arith}
+use Rattle.std.proofs.lemmas.List.Elements.{All-nil, All-cons, All-head, All-tail}
+use Rattle.tw_rows.specs.Bag.{SameBag, total}
+use Rattle.tw_rows.specs.Cells.{datum_kind}
+use Rattle.tw_rows.specs.Instant.{inf}
+use Rattle.tw_rows.specs.SameCells.{same_cells}
+use Rattle.tw_rows.specs.declared.cells.Datum.{Datum}
+use Rattle.tw_rows.specs.declared.edge.Edge.{Edge}
+use Rattle.tw_rows.specs.declared.edge.HeldRow.{HeldRow}
+use Rattle.tw_rows.specs.declared.kind.CellKind.{CellKind}
+use Rattle.tw_rows.proofs.Bags.{total-flat_map, total_zero}
+use Rattle.edge_history.specs.Balance.{news_of, news}
+use Rattle.edge_history.specs.History.{CellEvent, of}
+use Rattle.edge_history.specs.Order.{failing, KeepsOrder}
+use Rattle.edge_history.proofs.Agreeing.{same_order}
+use Rattle.edge_history.proofs.Sums.{sum_eq, failing-All}
+use Rattle.key_nodes.specs.Antis.{alone_at}
+use Rattle.key_nodes.specs.Runs.{goes_on, runs}
+use Rattle.plan_model.specs.declared.node.Node.TheVariants.{Anti}
+use Rattle.node_laws.specs.Keeping.{Keeps, plain_cells}
+use Rattle.node_laws.proofs.Standing.{all_of}
+use Rattle.node_laws.proofs.Steps.{keeps_stand}
+use Rattle.sweep_sides.specs.Saving.{store_all}
+use Rattle.sweep_sides.proofs.KeptSides.{kinds_stored, stored_kinds}
+use Rattle.anti_join.specs.AntiJoined.{anti_meets, antis}
+use Rattle.anti_join.specs.States.{KeepsAnti}
+
+-- one test from another, item by item
+module _ {X : Type 0} (P Q : X → Type 0) (h : (x : X) → P x → Q x) where
+  pub All-weaker : (xs : List X) → All P xs → All Q xs
+  All-weaker [] a = All-nil Q
+  All-weaker (x ∷ xs) a = All-cons Q x xs (h x (All-head P x xs a)) (All-weaker xs (All-tail P x xs a))
+
+abbrev row_stored : List CellKind → CellEvent → Bool
+row_stored kinds e = store_all kinds e.row
+
+-- the events of edges have the columns of the edges
+pub events_stored : (kinds : List CellKind) (h : List Edge) → All (λ e. map datum_kind e.cells ≡ kinds) h → failing (row_stored kinds) (of h) ≡ 0
+events_stored kinds h cells =
+    (failing-All (row_stored kinds) (of h)).1 (all_of (λ cells. IsTrue (store_all kinds cells)) h
+    (All-weaker (λ (e : Edge). map datum_kind e.cells ≡ kinds) (λ (e : Edge). IsTrue (store_all kinds e.cells)) (λ e k. kinds_stored kinds e.cells k) h cells))
+
+module _ (lk rk : List ℕ) (own : List CellKind) where
+  abbrev lost : CellEvent → ℕ
+  lost e = cond (row_stored own e) 0 1
+
+  go_on : (o : Option (List Datum)) (t : ℕ) (es : List CellEvent) → ((r : List Datum) → o ≡ Some r → store_all own r ≡ true) → total lost es ≡ 0 → total lost (goes_on same_cells o t es) ≡ 0
+  go_on None t es h z = z
+  go_on (Some r) t [] h z = let s = ap (λ b. cond {A = ℕ} b 0 1) (h r refl) in omega (arith, s)
+  go_on (Some r) t (e ∷ es) h z = pick (nat_eq e.end t && same_cells e.row r)
+    where
+      pick : (b : Bool) → total lost (cond b (record { row = e.row; start = e.start; end = suc t } ∷ es) (record { row = r; start = t; end = suc t } ∷ e ∷ es)) ≡ 0
+      pick true = z
+      pick false = let s = ap (λ b. cond {A = ℕ} b 0 1) (h r refl) in omega (arith, s, z)
+
+  runs_stored : (f : ℕ → Option (List Datum)) (n : ℕ) → ((t : ℕ) (r : List Datum) → f t ≡ Some r → store_all own r ≡ true) → total lost (runs same_cells f n) ≡ 0
+  runs_stored f zero h = refl
+  runs_stored f (suc n) h = go_on (f n) n (runs same_cells f n) (λ r e. h n r e) (runs_stored f n h)
+
+  of_row : (b : Bool) (x r : List Datum) → cond b (Some x) None ≡ Some r → store_all own x ≡ true → store_all own r ≡ true
+  of_row true x r e h = let same : x ≡ r = cc in subst (λ (l : List Datum). store_all own l ≡ true) same h
+  of_row false x r e h = absurd (cc)
+
+  antis_stored : (a b : List CellEvent) → failing (row_stored own) a ≡ 0 → total lost (antis lk rk a b) ≡ 0
+  antis_stored a b ha =
+      total-flat_map lost (λ e. runs same_cells (alone_at (anti_meets lk rk) b e) inf) a
+      ∙ (sum_eq (row_stored own) (λ e. total lost (runs same_cells (alone_at (anti_meets lk rk) b e) inf)) (λ e. 0) a
+      (λ e he. runs_stored (alone_at (anti_meets lk rk) b e) inf (λ t r k. of_row _ e.row r k he)) ha
+      ∙ total_zero a)
+
+  abbrev missed : Edge → ℕ
+  missed e = cond (store_all own e.cells) 0 1
+
+  news_one : (c d : ℕ) (e : CellEvent) → row_stored own e ≡ true → total missed (news_of c d e) ≡ 0
+  news_one c d e h = go (nat_le c e.start && nat_lt e.start d) (nat_le c e.end && nat_lt e.end d)
+    where
+      none : cond {A = ℕ} (store_all own e.row) 0 1 ≡ 0
+      none = ap (λ t. cond {A = ℕ} t 0 1) h
+
+      go : (s t : Bool) → total missed (cond s (record { sync = e.start; other = inf; cells = e.row } ∷ []) [] ++ cond t (record { sync = e.end; other = e.start; cells = e.row } ∷ []) []) ≡ 0
+      go true true = let z = none in omega (arith, z)
+      go true false = let z = none in omega (arith, z)
+      go false true = let z = none in omega (arith, z)
+      go false false = refl
+
+  pub told_cells : (c d : ℕ) (hl hr answer : List Edge) → All (λ e. map datum_kind e.cells ≡ own) hl →
+      SameBag answer (news c d (antis lk rk (of hl) (of hr))) → All (λ e. map datum_kind e.cells ≡ own) answer
+  told_cells c d hl hr answer cl same =
+      let none = antis_stored (of hl) (of hr) (events_stored own hl cl) in
+      let each = same.weigh (λ e. cond {A = ℕ} (store_all own e.cells) 0 1)
+      ∙ (total-flat_map (λ (e : Edge). cond {A = ℕ} (store_all own e.cells) 0 1) (news_of c d) (antis lk rk (of hl) (of hr))
+      ∙ (sum_eq (row_stored own) (λ e. total missed (news_of c d e)) (λ e. 0) (antis lk rk (of hl) (of hr)) (news_one c d) none ∙ total_zero (antis lk rk (of hl) (of hr)))) in
+      All-weaker (λ (e : Edge). IsTrue (store_all own e.cells)) (λ (e : Edge). map datum_kind e.cells ≡ own) (λ e k. stored_kinds own e.cells k) answer
+      ((failing-All (λ (e : Edge). store_all own e.cells) answer).0 each)
+
+-- AN ANTI-JOIN AS A NODE
+module _ (lk rk : List ℕ) (left_kinds right_kinds : List CellKind) (texts : List (List ℕ)) (x y : ℕ) (left right times : List HeldRow) (lw rw hl hr out : List Edge)
+    (k : KeepsAnti lk rk left_kinds right_kinds texts x y left right times lw rw hl hr out) where
+  pub node_keeps : Keeps plain_cells (Anti 0 1 lk rk) texts x y hl hr out
+  node_keeps = record {
+    left_history = k.kept.left_history;
+    right_history = k.kept.right_history;
+    left_placed = k.left_placed;
+    right_placed = k.right_placed;
+    told = k.kept.told;
+  }
+
+  pub out_order : KeepsOrder out
+  out_order =
+      let s = keeps_stand (λ test row. false) (λ items row. row) (Anti 0 1 lk rk) texts x y hl hr out k.left_low k.right_low node_keeps in
+      (same_order out).1 (s.history.order, s.history.real)

@@ -1,0 +1,186 @@
+-- What is kept of an anti-join at first, in longer tables, and after it was saved and loaded.
+use Rattle.std.specs.Prelude.{◌≡◌, ℕ, ◌+◌, ◌*◌, ◌≤◌, min, true, false, List, [], ◌++◌, map, refl}
+use Rattle.std.proofs.Common.{sym, ◌∙◌, ap, subst, arith}
+use Rattle.std.proofs.lemmas.List.{append-nil}
+use Rattle.std.proofs.lemmas.List.Elements.{All-nil}
+use Rattle.tw_rows.specs.Bag.{SameBag}
+use Rattle.tw_rows.specs.Cells.{ArePlaced, datum_kind}
+use Rattle.tw_rows.specs.Texts.{BeginsWith}
+use Rattle.tw_rows.specs.declared.cells.Datum.{Datum}
+use Rattle.tw_rows.specs.declared.edge.Edge.{Edge}
+use Rattle.tw_rows.specs.declared.edge.HeldRow.{HeldRow}
+use Rattle.tw_rows.specs.declared.kind.CellKind.{CellKind}
+use Rattle.tw_rows.proofs.Bags.{SameBag-trans}
+use Rattle.edge_history.specs.History.{CellEvent, of}
+use Rattle.edge_history.specs.Order.{failing, many}
+use Rattle.edge_history.specs.Side.{reaches}
+use Rattle.edge_stream.specs.declared.saved.SavedEntry.{SavedEntry}
+use Rattle.end_queue.specs.Pending.{Pending}
+use Rattle.carried_edges.specs.Entries.{entries_of, part_of, are_of_parts}
+use Rattle.carried_edges.proofs.Parts.{part_of_own, part_of_other, part_of_append, parts_own, parts_append, all_pass}
+use Rattle.plan_model.specs.declared.node.Node.TheVariants.{Anti}
+use Rattle.plan_laws.specs.Held.{may_hold}
+use Rattle.node_laws.proofs.Standing.{placed_longer}
+use Rattle.node_laws.specs.Places.{AreDistinct, read_of}
+use Rattle.node_laws.specs.Standing.{StandsRead}
+use Rattle.node_laws.proofs.Steps.{keeps_read}
+use Rattle.plan_model.specs.Meaning.{node_events}
+use Rattle.synopsis.specs.Held.{is_of_key}
+use Rattle.sweep_sides.specs.Waiting.{queued}
+use Rattle.sweep_sides.specs.Saving.{starts_of, rows_of, is_row_start, may_wait, are_row_starts, may_all_wait}
+use Rattle.sweep_sides.proofs.KeptSides.{rows_of_starts}
+use Rattle.anti_join.proofs.Held.{held_same}
+use Rattle.anti_join.proofs.Steps.{kept_none}
+use Rattle.anti_join.proofs.Answering.{node_keeps}
+use Rattle.anti_join.specs.States.{KeepsAnti, AreSavedSides, AntiSound, AntiResumes}
+
+module _ (lk rk : List ℕ) (lc rc : List CellKind) where
+  anti_first : (texts : List (List ℕ)) → KeepsAnti lk rk lc rc texts 0 0 [] [] [] (queued []) (queued []) [] [] []
+  anti_first texts = record {
+    left_placed = All-nil (λ (e : Edge). ArePlaced texts e.cells);
+    right_placed = All-nil (λ (e : Edge). ArePlaced texts e.cells);
+    left_cells = All-nil (λ (e : Edge). map datum_kind e.cells ≡ lc);
+    right_cells = All-nil (λ (e : Edge). map datum_kind e.cells ≡ rc);
+    left_low = omega arith;
+    right_low = omega arith;
+    kept = kept_none lk rk;
+  }
+
+  pub anti_opening : (texts : List (List ℕ)) (x y : ℕ) (left right times : List HeldRow) (lq rq : List Pending) → left ≡ [] → right ≡ [] → times ≡ [] → lq ≡ [] → rq ≡ [] → x ≡ 0 → y ≡ 0 →
+      KeepsAnti lk rk lc rc texts x y left right times (queued lq) (queued rq) [] [] []
+  anti_opening texts x y left right times lq rq a b t c d e f = rw (a, b, t, c, d, e, f) (anti_first texts)
+
+  pub anti_longer : (new old : List (List ℕ)) (x y : ℕ) (left right times : List HeldRow) (lw rw hl hr out : List Edge) → BeginsWith new old →
+      KeepsAnti lk rk lc rc old x y left right times lw rw hl hr out → KeepsAnti lk rk lc rc new x y left right times lw rw hl hr out
+  anti_longer new old x y left right times lw rw hl hr out b k = record {
+    left_placed = placed_longer new old b hl k.left_placed;
+    right_placed = placed_longer new old b hr k.right_placed;
+    left_cells = k.left_cells;
+    right_cells = k.right_cells;
+    left_low = k.left_low;
+    right_low = k.right_low;
+    kept = k.kept;
+  }
+
+  -- what was answered stands, read, for the events of the node
+  pub anti_stands : (texts : List (List ℕ)) (x y : ℕ) (left right times : List HeldRow) (lw rw hl hr out : List Edge) → AreDistinct texts →
+      KeepsAnti lk rk lc rc texts x y left right times lw rw hl hr out → StandsRead texts (min x y) out (node_events (Anti 0 1 lk rk) (read_of texts hl) (read_of texts hr))
+  anti_stands texts x y left right times lw rw hl hr out apart k =
+      keeps_read (λ test row. false) (λ items row. row) (Anti 0 1 lk rk) texts x y hl hr out refl apart k.left_low k.right_low (node_keeps lk rk lc rc texts x y left right times lw rw hl hr out k)
+
+  -- the same rows, times and edges in another order
+  same_kept : (texts : List (List ℕ)) (x y : ℕ) (left right times left2 right2 times2 : List HeldRow) (lw rw lw2 rw2 hl hr out : List Edge) →
+      SameBag left2 left → SameBag right2 right → SameBag times2 times → SameBag lw2 lw → SameBag rw2 rw →
+      KeepsAnti lk rk lc rc texts x y left right times lw rw hl hr out → KeepsAnti lk rk lc rc texts x y left2 right2 times2 lw2 rw2 hl hr out
+  same_kept texts x y left right times left2 right2 times2 lw rw lw2 rw2 hl hr out a b t c d k = record {
+    left_placed = k.left_placed;
+    right_placed = k.right_placed;
+    left_cells = k.left_cells;
+    right_cells = k.right_cells;
+    left_low = k.left_low;
+    right_low = k.right_low;
+    kept = record {
+      left_history = k.kept.left_history;
+      right_history = k.kept.right_history;
+      left_waits = SameBag-trans _ _ _ c k.kept.left_waits;
+      right_waits = SameBag-trans _ _ _ d k.kept.right_waits;
+      now = held_same lk rk (of hl) (of hr) (min x y) left right times left2 right2 times2 a b t k.kept.now;
+      told = k.kept.told;
+    };
+  }
+
+  -- LOADING
+  pub anti_loaded : (lk2 rk2 : List ℕ) (texts : List (List ℕ)) (x y : ℕ) (left right times left2 right2 times2 : List HeldRow) (lq rq lq2 rq2 hl hr out : List Edge) → lk2 ≡ lk → rk2 ≡ rk →
+      SameBag left2 left → SameBag right2 right → SameBag times2 times → SameBag lq2 lq → SameBag rq2 rq →
+      KeepsAnti lk rk lc rc texts x y left right times lq rq hl hr out → KeepsAnti lk2 rk2 lc rc texts x y left2 right2 times2 lq2 rq2 hl hr out
+  anti_loaded lk2 rk2 texts x y left right times left2 right2 times2 lq rq lq2 rq2 hl hr out e f a b t c d k =
+      rw (e, f) (same_kept texts x y left right times left2 right2 times2 lq rq lq2 rq2 hl hr out a b t c d k)
+
+pub anti_bound : (lk rk : List ℕ) (x to n m l r : ℕ) (a b own : List CellEvent) → r ≤ n + m + l → n ≤ 2 * many (reaches to) a → m ≤ 2 * many (reaches to) b → l ≤ many (reaches to) a →
+    r ≤ may_hold (Anti 0 1 lk rk) x to a b own
+anti_bound lk rk x to n m l r a b own sum left right times = omega (arith, sum, left, right, times)
+
+pub same_saved : (lc rc lc2 rc2 : List CellKind) (to to2 : ℕ) (entries : List SavedEntry) → lc2 ≡ lc → rc2 ≡ rc → to2 ≡ to → AreSavedSides lc2 rc2 to2 entries → AreSavedSides lc rc to entries
+same_saved lc rc lc2 rc2 to to2 entries e f g s =
+    subst (λ (k : List CellKind). AreSavedSides k rc to entries) e (subst (λ (k : List CellKind). AreSavedSides lc2 k to entries) f (subst (λ (t : ℕ). AreSavedSides lc2 rc2 t entries) g s))
+
+-- SAVING
+module _ (left right times : List HeldRow) (lw rw : List Edge) (s0 s1 s2 s3 s4 s5 : List SavedEntry) (empty : s0 ≡ []) (e1 : s1 ≡ s0 ++ entries_of 0 (starts_of left))
+    (e2 : s2 ≡ s1 ++ entries_of 1 (starts_of right)) (e3 : s3 ≡ s2 ++ entries_of 2 lw) (e4 : s4 ≡ s3 ++ entries_of 3 rw) (e5 : s5 ≡ s4 ++ entries_of 4 (starts_of times)) where
+  abbrev p0 : List SavedEntry
+  p0 = entries_of 0 (starts_of left)
+
+  abbrev p1 : List SavedEntry
+  p1 = entries_of 1 (starts_of right)
+
+  abbrev p2 : List SavedEntry
+  p2 = entries_of 2 lw
+
+  abbrev p3 : List SavedEntry
+  p3 = entries_of 3 rw
+
+  abbrev p4 : List SavedEntry
+  p4 = entries_of 4 (starts_of times)
+
+  all : s5 ≡ p0 ++ p1 ++ p2 ++ p3 ++ p4
+  all = e5 ∙ ap (λ s. s ++ p4) (e4 ∙ ap (λ s. s ++ p3) (e3 ∙ ap (λ s. s ++ p2) (e2 ∙ ap (λ s. s ++ p1) (e1 ∙ ap (λ s. s ++ p0) empty))))
+
+  cut_of : (p : ℕ) → part_of p s5 ≡ part_of p p0 ++ part_of p p1 ++ part_of p p2 ++ part_of p p3 ++ part_of p p4
+  cut_of p =
+      ap (part_of p) all ∙ (part_of_append p (p0 ++ p1 ++ p2 ++ p3) p4
+      ∙ ap (λ l. l ++ part_of p p4) (part_of_append p (p0 ++ p1 ++ p2) p3
+      ∙ (ap (λ l. l ++ part_of p p3) (part_of_append p (p0 ++ p1) p2) ∙ ap (λ l. l ++ part_of p p2 ++ part_of p p3) (part_of_append p p0 p1))))
+
+  left_part : part_of 0 s5 ≡ starts_of left
+  left_part =
+      cut_of 0 ∙ ((λ i. part_of_own 0 (starts_of left) i ++ part_of_other 0 1 (starts_of right) refl i ++ part_of_other 0 2 lw refl i ++ part_of_other 0 3 rw refl i ++ part_of_other 0 4 (starts_of times) refl i)
+      ∙ (append-nil (starts_of left ++ [] ++ [] ++ []) ∙ (append-nil (starts_of left ++ [] ++ []) ∙ (append-nil (starts_of left ++ []) ∙ append-nil (starts_of left)))))
+
+  right_part : part_of 1 s5 ≡ starts_of right
+  right_part =
+      cut_of 1 ∙ ((λ i. part_of_other 1 0 (starts_of left) refl i ++ part_of_own 1 (starts_of right) i ++ part_of_other 1 2 lw refl i ++ part_of_other 1 3 rw refl i ++ part_of_other 1 4 (starts_of times) refl i)
+      ∙ (append-nil (starts_of right ++ [] ++ []) ∙ (append-nil (starts_of right ++ []) ∙ append-nil (starts_of right))))
+
+  left_rest : part_of 2 s5 ≡ lw
+  left_rest =
+      cut_of 2 ∙ ((λ i. part_of_other 2 0 (starts_of left) refl i ++ part_of_other 2 1 (starts_of right) refl i ++ part_of_own 2 lw i ++ part_of_other 2 3 rw refl i ++ part_of_other 2 4 (starts_of times) refl i)
+      ∙ (append-nil (lw ++ []) ∙ append-nil lw))
+
+  right_rest : part_of 3 s5 ≡ rw
+  right_rest =
+      cut_of 3 ∙ ((λ i. part_of_other 3 0 (starts_of left) refl i ++ part_of_other 3 1 (starts_of right) refl i ++ part_of_other 3 2 lw refl i ++ part_of_own 3 rw i ++ part_of_other 3 4 (starts_of times) refl i) ∙ append-nil rw)
+
+  times_part : part_of 4 s5 ≡ starts_of times
+  times_part =
+      cut_of 4 ∙ (λ i. part_of_other 4 0 (starts_of left) refl i ++ part_of_other 4 1 (starts_of right) refl i ++ part_of_other 4 2 lw refl i ++ part_of_other 4 3 rw refl i ++ part_of_own 4 (starts_of times) i)
+
+  of_parts : are_of_parts 5 s5 ≡ true
+  of_parts =
+      ap (are_of_parts 5) all ∙ parts_append 5 (p0 ++ p1 ++ p2 ++ p3) p4 (parts_append 5 (p0 ++ p1 ++ p2) p3
+      (parts_append 5 (p0 ++ p1) p2 (parts_append 5 p0 p1 (parts_own 5 0 (starts_of left) refl) (parts_own 5 1 (starts_of right) refl)) (parts_own 5 2 lw refl)) (parts_own 5 3 rw refl)) (parts_own 5 4 (starts_of times) refl)
+
+  pub anti_saved : (lc rc : List CellKind) (to : ℕ) → failing (is_row_start lc to) (starts_of left) ≡ 0 → failing (is_row_start rc to) (starts_of right) ≡ 0 →
+      failing (may_wait lc to) lw ≡ 0 → failing (may_wait rc to) rw ≡ 0 → AntiSound lc rc to s5
+  anti_saved lc rc to a b c d = record {
+    parts = of_parts;
+    sides = record {
+      left = ap (are_row_starts lc to) left_part ∙ all_pass (is_row_start lc to) (starts_of left) a;
+      right = ap (are_row_starts rc to) right_part ∙ all_pass (is_row_start rc to) (starts_of right) b;
+      left_waiting = ap (may_all_wait lc to) left_rest ∙ all_pass (may_wait lc to) lw c;
+      right_waiting = ap (may_all_wait rc to) right_rest ∙ all_pass (may_wait rc to) rw d;
+    };
+  }
+
+  pub anti_resumed : (lk rk : List ℕ) (lc rc : List CellKind) (texts : List (List ℕ)) (x y : ℕ) (hl hr out : List Edge) → ((k : List Datum) → many (is_of_key lk k) times ≤ 1) → AntiSound lc rc (min x y) s5 →
+      KeepsAnti lk rk lc rc texts x y left right times lw rw hl hr out → AntiResumes lk rk lc rc texts x y s5 hl hr out
+  anti_resumed lk rk lc rc texts x y hl hr out single sound k =
+      let t = ap rows_of times_part ∙ rows_of_starts times in
+      record {
+        sound = sound;
+        single = λ l. subst (λ (a : List HeldRow). many (is_of_key lk l) a ≤ 1) (sym t) (single l);
+        keeps = subst (λ (a : List HeldRow). KeepsAnti lk rk lc rc texts x y a (rows_of (part_of 1 s5)) (rows_of (part_of 4 s5)) (part_of 2 s5) (part_of 3 s5) hl hr out) (sym (ap rows_of left_part ∙ rows_of_starts left))
+            (subst (λ (a : List HeldRow). KeepsAnti lk rk lc rc texts x y left a (rows_of (part_of 4 s5)) (part_of 2 s5) (part_of 3 s5) hl hr out) (sym (ap rows_of right_part ∙ rows_of_starts right))
+            (subst (λ (a : List HeldRow). KeepsAnti lk rk lc rc texts x y left right a (part_of 2 s5) (part_of 3 s5) hl hr out) (sym t)
+            (subst (λ (a : List Edge). KeepsAnti lk rk lc rc texts x y left right times a (part_of 3 s5) hl hr out) (sym left_rest)
+            (subst (λ (a : List Edge). KeepsAnti lk rk lc rc texts x y left right times lw a hl hr out) (sym right_rest) k))));
+      }
