@@ -16,14 +16,12 @@ PROGRAM = Path(__file__).resolve().parent.parent / "crates/tempo_cli/out/tempo_c
 
 
 class Run(NamedTuple):
-    """A run: seconds by the clock, user and system seconds, kilobytes held at most, and the digests of all bytes written
-    and of the lines other than punctuations."""
+    """A run: seconds by the clock, user and system seconds, kilobytes held at most, and the digest of what was written."""
 
     wall: float
     processor: float
     kilobytes: int
     digest: str
-    changes: str
 
 
 def digest_of(lines):
@@ -48,8 +46,9 @@ def wait_for(run):
     return run.returncode, usage, held
 
 
-def timed(words, path, keep=None):
-    """Runs the words over the file. What they write goes to a file, so that no reader's time counts."""
+def timed(words, path, keep=None, punctuations=True):
+    """Runs the words over the file. What they write goes to a file, so that no reader's time counts. The digest is that of
+    all bytes, or that of the lines other than punctuations."""
     keep = keep or tempfile.TemporaryFile()
     keep.seek(0)
     keep.truncate()
@@ -61,17 +60,13 @@ def timed(words, path, keep=None):
     if status != 0:
         sys.exit(f"bench: {' '.join(map(str, words))} ended with {status}")
     keep.seek(0)
-    written, changes = hashlib.sha256(), hashlib.sha256()
-    for line in keep:
-        written.update(line)
-        if not line.startswith(b"*"):
-            changes.update(line)
-    return Run(wall, usage.ru_utime + usage.ru_stime, held, written.hexdigest(), changes.hexdigest())
+    pieces = iter(lambda: keep.read(1 << 20), b"") if punctuations else (line for line in keep if line[:1] != b"*")
+    return Run(wall, usage.ru_utime + usage.ru_stime, held, digest_of(pieces))
 
 
 def in_turn(jobs, rounds=5):
     """Runs each job, words and a file, `rounds` times, all of them in turn. For each name the least of its times, its most
-    memory and its digests. Ends the script where two runs of one job write different bytes."""
+    memory and its digest. Ends the script where two runs of one job write different bytes."""
     runs = {name: [] for name in jobs}
     with tempfile.TemporaryFile() as keep:
         for _ in range(rounds):
@@ -82,7 +77,7 @@ def in_turn(jobs, rounds=5):
         if len({run.digest for run in all_runs}) != 1:
             sys.exit(f"bench: {name} wrote different bytes in two runs")
         wall, processor = (min(run[i] for run in all_runs) for i in (0, 1))
-        least[name] = Run(wall, processor, max(run.kilobytes for run in all_runs), all_runs[0].digest, all_runs[0].changes)
+        least[name] = Run(wall, processor, max(run.kilobytes for run in all_runs), all_runs[0].digest)
     return least
 
 
@@ -90,8 +85,9 @@ def beside(name, run, other_name, other, wanted=None):
     """Prints a run and its ratio to another, by the processor and by the clock."""
     ratio = run.processor / other.processor
     limit = f" (wanted {wanted}: {'met' if ratio <= wanted else 'MISSED'})" if wanted else ""
+    memory = f", {run.kilobytes / 1024:.0f} MB" if run.kilobytes else ""
     print(
-        f"{name}: {run.processor:.2f} s of processor, {run.wall:.2f} s by the clock, {run.kilobytes / 1024:.0f} MB; "
+        f"{name}: {run.processor:.2f} s of processor, {run.wall:.2f} s by the clock{memory}; "
         f"{ratio:.2f} times {other_name} by the processor, {run.wall / other.wall:.2f} by the clock{limit}",
         flush=True,
     )
@@ -99,13 +95,12 @@ def beside(name, run, other_name, other, wanted=None):
 
 def changes(events):
     """The start and end lines, without punctuations, that the definition of output gives for events: triples of a row of
-    ints and texts, a start and an end, where None is no end. At each instant the net change of equal rows, ends before
-    starts, each in row order, and an end names the earliest open start of its row."""
+    ints and texts, a start and an end. At each instant the net change of equal rows, ends before starts, each in row order,
+    and an end names the earliest open start of its row."""
     net = defaultdict(lambda: defaultdict(int))
     for row, start, end in events:
         net[start][row] += 1
-        if end is not None:
-            net[end][row] -= 1
+        net[end][row] -= 1
     opened = defaultdict(deque)
     for at in sorted(net):
         rows = sorted(net[at].items())

@@ -55,9 +55,9 @@ def holds_definition(program, path, halves):
     """Whether each query writes the lines of the definition."""
     all_events, good = list(events(path)), True
     for name, (query, life) in LIVES.items():
-        run = timed([program, "--query", query], halves if query == HALVES else path)
+        run = timed([program, "--query", query], halves if query == HALVES else path, punctuations=False)
         expected = digest_of(changes((row, *life(start, end)) for row, start, end in all_events))
-        if run.changes != expected:
+        if run.digest != expected:
             print(f"{name}: not the lines of the definition")
             good = False
     return good
