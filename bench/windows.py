@@ -5,7 +5,8 @@ usage: bench/windows.py [COUNT] [--program PATH]
 
 Over COUNT trades (1,000,000 if not given) with a punctuation after each 100: `hop 60 60`, `tumble 60`, `delay 5`,
 `extend 5`, `duration 5`, and the union of two streams that have half of the lines each, all in turn, the least of five runs;
-wanted is at most 1.3 times the stream alone. Then a step over ten edges, five starts and five ends, with 100,000 rows
+wanted is at most 1.3 times the stream alone. The tumbling window is also told beside the stream alone over lives that are
+those windows already, which has the same output. Then a step over ten edges, five starts and five ends, with 100,000 rows
 alive beside one with 100 alive: the difference of a run of many steps and of one that ends where so many are alive, by step.
 Then ten times as many trades, wanted at most 11 times as long.
 Ends with status 1 where the program fails, where two runs differ, or where what is written over a tenth of the trades is
@@ -41,6 +42,20 @@ def write_halves(path, halves):
     with open(path, "rb") as lines, open(halves, "wb") as out:
         for i, line in enumerate(lines):
             out.write(line if line.startswith(b"*") else line.replace(b"trades", b"ab"[i % 2 : i % 2 + 1], 1))
+
+
+def write_windows(path, windows):
+    """The same lines, each life the window of 60 that its start is in, and the punctuations between windows."""
+    with open(path) as lines, open(windows, "w") as out:
+        last = 0
+        for line in lines:
+            stream, form, start, *rest = line.split(",")
+            window = int(start) // 60 * 60
+            if stream != "*":
+                out.write(",".join([stream, form, str(window), str(window + 60), *rest[1:]]))
+            elif window > last:
+                out.write(f"*,punct,{window}\n")
+                last = window
 
 
 def events(path):
@@ -104,6 +119,11 @@ def main(read):
         alone = least["the stream alone"]
         for name, run in least.items():
             beside(f"{read.count} trades, {name}", run, "the stream alone", alone, None if run is alone else 1.3)
+        write_windows(path, folder / "windows")
+        words = [read.program, "--query", TRADES]
+        given = in_turn({"given": (words, folder / "windows")})["given"]
+        beside("tumble 60", least["tumble 60"], "the stream alone over lives that are windows", given)
+        good = good and given.digest == least["tumble 60"].digest
         step = {"the stream alone": "", "hop": " | hop {life} 1", "duration": " | duration {life}"}
         step |= {"delay": " | delay 5", "extend": " | extend 5"}
         few, many = (step_times(read.program, folder, step, alive) for alive in (100, 100_000))
