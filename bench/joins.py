@@ -6,10 +6,10 @@ usage: bench/joins.py YARDSTICK [COUNT] [--keys KEYS] [--program PATH]
 YARDSTICK is a program that, called as `YARDSTICK gen COUNT KEYS SEED`, writes COUNT lines of two streams with a punctuation
 after each 100, and, called as `YARDSTICK join`, reads them and writes by hand the bytes of `l | join r on k`.
 Over COUNT lines (1,000,000 if not given) of KEYS keys (1,000): the join beside it, wanted at most 2.5 times; beside
-PostgreSQL (two tables of lives as ranges, an index of one by key, in a server of this script's own) and SQLite (the same
-with starts and ends), which write the pairs in no order and whose loading counts, once each, where they are installed. Then a
-step over ten edges with 100,000 rows alive on each side beside one with 100 alive, where each row that comes meets one. Then
-ten times as many lines of ten times as many keys, wanted at most 11 times as long.
+PostgreSQL (two tables of lives as ranges, an index of one by key, then one by key and life, in a server of this script's
+own) and SQLite (an index by key), once each, where they are installed: they write the pairs in no order, and their loading
+counts. Then a step over ten edges with 100,000 rows alive on each side beside one with 100 alive, where each row that comes
+meets one. Then ten times as many lines of ten times as many keys, wanted at most 11 times as long.
 Ends with status 1 where a program fails, or its bytes differ from the yardstick's, or the pairs of a database do not give
 the same lines by the definition.
 """
@@ -33,11 +33,16 @@ create unlogged table l (life int8range, k int8, w int8);
 create unlogged table r (life int8range, k int8, x int8);
 \\copy l from '{left}' csv
 \\copy r from '{right}' csv
-create index on r (k);
+{index}
 analyze;
 """
+POSTGRES_INDEXES = {
+    "an index by key": "create index on r (k);",
+    "an index by key and life": "create extension btree_gist; create index on r using gist (k, life);",
+}
 POSTGRES_JOIN = """
-\\copy (select lower(b.life), upper(b.life), k, w, x from (select l.k, w, x, l.life * r.life as life from l join r on l.k = r.k where l.life && r.life) b) to '{pairs}' csv
+create view b as select l.k, w, x, l.life * r.life as life from l join r on l.k = r.k where l.life && r.life;
+\\copy (select lower(life), upper(life), k, w, x from b) to '{pairs}' csv
 """
 SQLITE = """
 create table l (start integer, stop integer, k integer, w integer);
@@ -114,31 +119,34 @@ class Server:
 
 
 def postgres(lines, folder):
-    """A run of the join in PostgreSQL, from empty tables, less what a start and a stop take."""
+    """Runs of the join in PostgreSQL with each index, from empty tables, less what a start and a stop take."""
     installed = sorted(Path("/usr/lib/postgresql").glob("*/bin"))
     if not installed or not shutil.which("psql"):
-        return None
+        return
     write_tables(lines, folder, '"[{},{})"')
-    home = folder / "server"
-    home.mkdir()
-    server = Server(installed[-1], home)
-    idle, _ = server.seconds("")
     pairs = folder / "pairs"
-    script = POSTGRES_LOAD + POSTGRES_JOIN
-    spent, wall = server.seconds(script.format(left=folder / "left", right=folder / "right", pairs=pairs))
-    return Run(wall, spent - idle, 0, digest_of(changes(pairs_of(pairs))))
+    for number, (name, index) in enumerate(POSTGRES_INDEXES.items()):
+        home = folder / f"server{number}"
+        home.mkdir()
+        server = Server(installed[-1], home)
+        idle, _ = server.seconds("")
+        script = POSTGRES_LOAD + POSTGRES_JOIN
+        tables = {"left": folder / "left", "right": folder / "right", "index": index}
+        spent, wall = server.seconds(script.format(pairs=pairs, **tables))
+        yield f"PostgreSQL with {name}", Run(wall, spent - idle, 0, digest_of(changes(pairs_of(pairs))))
 
 
 def sqlite(lines, folder):
     """A run of the join in SQLite, from empty tables."""
     if not shutil.which("sqlite3"):
-        return None
+        return
     write_tables(lines, folder, "{},{}")
     pairs = folder / "pairs"
     script = SQLITE.format(left=folder / "left", right=folder / "right", pairs=pairs)
     before, began = child_seconds(), time.monotonic()
     subprocess.run(["sqlite3", "-bail", folder / "sqlite"], input=script.encode(), check=True)
-    return Run(time.monotonic() - began, child_seconds() - before, 0, digest_of(changes(pairs_of(pairs))))
+    spent, wall = child_seconds() - before, time.monotonic() - began
+    yield "SQLite", Run(wall, spent, 0, digest_of(changes(pairs_of(pairs))))
 
 
 def write_alive(path, alive, steps):
@@ -180,9 +188,8 @@ def main(read):
         for database in (postgres, sqlite):
             place = folder / database.__name__
             place.mkdir(0o755)
-            run = database(lines, place)
-            if run:
-                beside(f"the same in {database.__name__}", run, "the join", ours)
+            for name_of, run in database(lines, place):
+                beside(f"the same in {name_of}", run, "the join", ours)
                 good = good and run.digest == expected
             shutil.rmtree(place)
         few, many = (step_time(program, folder, alive) for alive in (100, 100_000))
