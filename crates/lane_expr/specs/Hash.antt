@@ -1,24 +1,13 @@
 -- The keys and hashes of rows.
-use Rattle.std.specs.Prelude.{ℕ, pos, ◌*◌, ◌%◌, ◌^◌, true, false, List, [], ◌∷◌, map, fold, slice_index_or, bit_xor}
-use Rattle.std.specs.Int.{cast_unsigned, w64}
+use Rattle.std.specs.Prelude.{ℕ, pos, List, [], ◌∷◌, map, fold, slice_index_or}
+use Rattle.tw_rows.specs.Words.{word_of, mixed}
 use Rattle.tw_rows.specs.declared.cells.Datum.{Datum}
-use Rattle.tw_rows.specs.declared.cells.Datum.TheVariants.{Int, Bool as Flag, Text}
+use Rattle.tw_rows.specs.declared.cells.Datum.TheVariants.{Int}
 use Rattle.batch.specs.Rows.{Row}
-
--- the word of a datum: an int's 64 bits, 1 for a true flag and 0 for a false one, the place of a text
-abbrev pub word_of : Datum → ℕ
-word_of (Int x) = cast_unsigned w64 x
-word_of (Flag false) = 0
-word_of (Flag true) = 1
-word_of (Text place) = place
 
 -- the word of a row's cell in a column
 abbrev pub word_at : List Datum → ℕ → ℕ
 word_at cells column = word_of (slice_index_or cells column (Int (pos 0)))
-
--- the hash once a word more is in it
-abbrev pub mixed : ℕ → ℕ → ℕ
-mixed hash word = (bit_xor hash word * 1099511628211) % 2 ^ 64
 
 -- the word of the first key column, or 0 where there is none
 abbrev pub key_of : List Datum → List ℕ → ℕ

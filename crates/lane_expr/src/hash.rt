@@ -1,16 +1,13 @@
 // The keys and hashes of rows.
 ghost use Rattle.std.specs.Prelude.{◌≡◌, ◌<◌, length, All, pos, slice_index_or};
 ghost use Rattle.lane_expr.specs.Running.{cells_of};
-ghost use Rattle.lane_expr.specs.Hash.{word_of, mixed, key_of, hash_of, hashed};
+ghost use Rattle.lane_expr.specs.Hash.{key_of, hash_of, hashed};
 
 use batch::Batch;
-use tw_rows::Datum;
+use tw_rows::{Datum, mix_words};
 
 /// What a hash begins with.
 const FIRST: u64 = 14695981039346656037;
-
-/// What a hash is multiplied by at each word.
-const FACTOR: u64 = 1099511628211;
 
 /// Sets the key and the hash of each row, occupied or not, by its key columns. Rows whose key columns are equal
 /// have equal hashes, whatever their batch.
@@ -41,7 +38,7 @@ fn first_word(batch: &Batch, row: usize, key: &[usize]) -> u64
     ensures { result ≡ key_of (cells_of batch.now.rows row) key.now }
 {
     match key.first() {
-        Some(column) => word(cell_at(batch, row, *column)),
+        Some(column) => cell_at(batch, row, *column).word(),
         None => 0,
     }
 }
@@ -54,25 +51,7 @@ fn hash_at(batch: &Batch, row: usize, key: &[usize]) -> u64
 {
     let mut hash = FIRST;
     for column in key {
-        hash = mix(hash, word(cell_at(batch, row, *column)));
+        hash = mix_words(hash, cell_at(batch, row, *column).word());
     }
     hash
-}
-
-// The hash once a word more is in it.
-fn mix(hash: u64, word: u64) -> u64
-    ensures { result ≡ mixed hash word }
-{
-    (hash ^ word).wrapping_mul(FACTOR)
-}
-
-// The word of a datum.
-fn word(datum: Datum) -> u64
-    ensures { result ≡ word_of datum }
-{
-    match datum {
-        Datum::Int(number) => number.cast_unsigned(),
-        Datum::Bool(flag) => u64::from(flag),
-        Datum::Text(place) => place,
-    }
 }

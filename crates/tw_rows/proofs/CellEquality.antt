@@ -1,13 +1,13 @@
 -- Equality of data and of cells decides whether they are the same.
-use Rattle.std.specs.Prelude.{◌≡◌, ℕ, ℤ, true, false, List, refl}
+use Rattle.std.specs.Prelude.{◌≡◌, ℕ, List, refl}
 use Rattle.std.proofs.Common.{ap}
 use Rattle.std.specs.Bool.{Decides, one_answer}
 use Rattle.std.specs.Cmp.Lexicographic.{pointwise}
-use Rattle.std.proofs.lemmas.Bool.Decides.{Decides-int_eq, Decides-eqb}
+use Rattle.std.proofs.lemmas.Bool.Decides.{Decides-eqb}
 use Rattle.std.proofs.lemmas.Slice.Eq.{slice_eq-Decides}
 use Rattle.tw_rows.specs.SameCells.{same_cells, same_cells-Decides}
+use Rattle.tw_rows.specs.Words.{datum_eq-Decides}
 use Rattle.tw_rows.specs.declared.cells.Datum.{Datum}
-use Rattle.tw_rows.specs.declared.cells.Datum.TheVariants.{Int, Bool as Flag, Text}
 use Rattle.tw_rows.specs.declared.kind.Kind.{Kind}
 use Rattle.tw_rows.specs.declared.kind.Kind.TheVariants.{Int as IntKind, Bool as FlagKind, Text as TextKind, Dec as DecKind}
 use Rattle.tw_rows.specs.declared.kind.CellKind.{CellKind}
@@ -15,31 +15,6 @@ use Rattle.tw_rows.specs.declared.kind.CellKind.TheVariants.{Whole, Bit, Place}
 use Rattle.tw_rows.specs.contracts.cells.DatumPartialEq.TheImpl as datum_block
 use Rattle.tw_rows.specs.contracts.kind.KindPartialEq.TheImpl as kind_block
 use Rattle.tw_rows.specs.contracts.kind.CellKindPartialEq.TheImpl as cell_kind_block
-
-abbrev int_part : Datum → ℤ → ℤ
-int_part (Int x) d = x
-int_part (Flag b) d = d
-int_part (Text t) d = d
-
-abbrev place_part : Datum → ℕ
-place_part (Int x) = 0
-place_part (Flag b) = 0
-place_part (Text t) = t
-
--- `==` on data
-pub datum_eq-Decides : (a b : Datum) → Decides (datum_block.ghosts.eq a b) (a ≡ b)
-datum_eq-Decides (Int x) (Int y) = let d = Decides-int_eq x y in (λ h. ap Int (d.0 h), λ h. d.1 (ap (λ e. int_part e x) h))
-datum_eq-Decides (Int x) (Flag b) = (λ h. absurd (cc), λ h. absurd (cc))
-datum_eq-Decides (Int x) (Text t) = (λ h. absurd (cc), λ h. absurd (cc))
-datum_eq-Decides (Flag a) (Int y) = (λ h. absurd (cc), λ h. absurd (cc))
-datum_eq-Decides (Flag false) (Flag false) = (λ h. refl, λ h. refl)
-datum_eq-Decides (Flag false) (Flag true) = (λ h. absurd (cc), λ h. absurd (cc))
-datum_eq-Decides (Flag true) (Flag false) = (λ h. absurd (cc), λ h. absurd (cc))
-datum_eq-Decides (Flag true) (Flag true) = (λ h. refl, λ h. refl)
-datum_eq-Decides (Flag a) (Text t) = (λ h. absurd (cc), λ h. absurd (cc))
-datum_eq-Decides (Text s) (Int y) = (λ h. absurd (cc), λ h. absurd (cc))
-datum_eq-Decides (Text s) (Flag b) = (λ h. absurd (cc), λ h. absurd (cc))
-datum_eq-Decides (Text s) (Text t) = let d = Decides-eqb s t in (λ h. ap Text (d.0 h), λ h. d.1 (ap place_part h))
 
 -- `==` on cells
 pub cells_eq-Decides : (a b : List Datum) → Decides (pointwise datum_block.ghosts.eq a b) (a ≡ b)

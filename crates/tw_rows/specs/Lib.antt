@@ -8,3 +8,4 @@ pub mod Kinds
 pub mod Texts
 pub mod Cells
 pub mod SameCells
+pub mod Words

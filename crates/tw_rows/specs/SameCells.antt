@@ -28,12 +28,13 @@ same_cells [] (b ∷ bs) = false
 same_cells (a ∷ rest) [] = false
 same_cells (a ∷ rest) (b ∷ bs) = same_datum a b && same_cells rest bs
 
-abbrev int_part : Datum → ℤ → ℤ
+-- the number of an int, and of others d; the place of a text, and of others 0
+abbrev pub int_part : Datum → ℤ → ℤ
 int_part (Int x) d = x
 int_part (Flag b) d = d
 int_part (Text t) d = d
 
-abbrev place_part : Datum → ℕ
+abbrev pub place_part : Datum → ℕ
 place_part (Int x) = 0
 place_part (Flag b) = 0
 place_part (Text t) = t

@@ -8,7 +8,7 @@ ghost use Rattle.tw_rows.specs.Texts.{BeginsWith};
 ghost use Rattle.tw_rows.specs.Cells.{datum_kind, IsPlaced, ArePlaced, read_datum, read_cells, with_value, with_row};
 ghost use Rattle.tw_rows.specs.SameCells.{same_cells as same, same_cells-Decides, same_cells_equiv};
 ghost use Rattle.tw_rows.specs.declared.cells.Datum.{Datum};
-ghost use Rattle.tw_rows.specs.contracts.cells.DatumHash.TheImpl as datum_hash;
+ghost use Rattle.tw_rows.specs.Words.{word_of, mixed, word_of_cells, datum_eq-Decides};
 
 use crate::kind::CellKind;
 use crate::memory::Memory;
@@ -20,11 +20,22 @@ use std::hash::{Hash, Hasher};
 use std::marker::Model;
 
 /// A value as cells hold it: a text is its place in the table of texts.
-#[derive(Clone, Copy, Debug, PartialEq, Eq, Hash)]
+#[derive(Clone, Copy, Debug, PartialEq, Eq)]
 pub enum Datum {
     Int(i64),
     Bool(bool),
     Text(u64),
+}
+
+/// A datum is hashed as its word.
+impl Hash for Datum {
+    ghost hash_input = { λ d. fed.u64 (word_of d) };
+
+    ghost respects_eq = { (same_Alike (λ d. fed.u64 (word_of d)) datum_eq-Decides).fed };
+
+    fn hash<H: Hasher>(&self, state: &mut H) {
+        self.word().hash(state);
+    }
 }
 
 /// The int 0, with which unused room for cells is filled.
@@ -45,6 +56,17 @@ impl Datum {
             Datum::Int(_) => CellKind::Whole,
             Datum::Bool(_) => CellKind::Bit,
             Datum::Text(_) => CellKind::Place,
+        }
+    }
+
+    /// The datum as 64 bits: an int's, 0 or 1 for a flag, the place of a text.
+    pub fn word(self) -> u64
+        ensures { result ≡ word_of self }
+    {
+        match self {
+            Datum::Int(number) => number.cast_unsigned(),
+            Datum::Bool(flag) => u64::from(flag),
+            Datum::Text(place) => place,
         }
     }
 }
@@ -113,14 +135,36 @@ impl Eq for Cells {
     ghost laws = { same_cells_equiv };
 }
 
+/// Cells are hashed as one word, since the cells of a map are of the same columns: each cell's word is mixed in.
 impl Hash for Cells {
-    ghost hash_input = { fed.slice datum_hash.ghosts.hash_input };
+    ghost hash_input = { λ cells. fed.u64 (word_of_cells cells) };
 
-    ghost respects_eq = { (same_Alike (fed.slice datum_hash.ghosts.hash_input) same_cells-Decides).fed };
+    ghost respects_eq = { (same_Alike (λ cells. fed.u64 (word_of_cells cells)) same_cells-Decides).fed };
 
     fn hash<H: Hasher>(&self, state: &mut H) {
-        self.items().hash(state);
+        mixed_words(self.items()).hash(state);
     }
+}
+
+/// What words are multiplied by as they are mixed: the prime of the FNV hash of 64 bits.
+const FACTOR: u64 = 1099511628211;
+
+// The word of the cells.
+fn mixed_words(cells: &[Datum]) -> u64
+    ensures { result ≡ word_of_cells cells.now }
+{
+    let mut words = 0;
+    for datum in cells {
+        words = mix_words(words, datum.word());
+    }
+    words
+}
+
+/// The words once one more is mixed in, as the FNV hash of 64 bits mixes a byte.
+pub fn mix_words(words: u64, word: u64) -> u64
+    ensures { result ≡ mixed words word }
+{
+    (words ^ word).wrapping_mul(FACTOR)
 }
 
 /// Whether the cells are the same, as `==` has it.
