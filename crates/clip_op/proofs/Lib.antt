@@ -6,3 +6,5 @@ pub mod Cuts
 pub mod KeyRules
 pub mod Answering
 pub mod Stepped
+pub mod Held
+pub mod Resuming

@@ -2,6 +2,7 @@
 #![tactic(auto)]
 
 mod clip;
+mod operating;
 mod sides;
 mod starts;
 mod sweep;
