@@ -1,0 +1,10 @@
+pub mod Leaving
+pub mod Meeting
+pub mod RightEdges
+pub mod Steps
+pub mod Cuts
+pub mod KeyRules
+pub mod Answering
+pub mod Stepped
+pub mod Held
+pub mod Resuming

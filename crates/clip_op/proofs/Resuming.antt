@@ -1,0 +1,145 @@
+-- What is kept of a clip at first, in longer tables, and after it was saved and loaded.
+use Rattle.std.specs.Prelude.{◌≡◌, ℕ, min, true, false, List, [], ◌++◌, map, refl}
+use Rattle.std.proofs.Common.{sym, ◌∙◌, ap, subst, arith}
+use Rattle.std.proofs.lemmas.List.{append-nil}
+use Rattle.std.proofs.lemmas.List.Elements.{All-nil}
+use Rattle.tw_rows.specs.Bag.{SameBag}
+use Rattle.tw_rows.specs.Cells.{ArePlaced, datum_kind}
+use Rattle.tw_rows.specs.Texts.{BeginsWith}
+use Rattle.tw_rows.specs.declared.edge.Edge.{Edge}
+use Rattle.tw_rows.specs.declared.edge.HeldRow.{HeldRow}
+use Rattle.tw_rows.specs.declared.kind.CellKind.{CellKind}
+use Rattle.tw_rows.proofs.Bags.{SameBag-trans}
+use Rattle.edge_history.specs.Order.{failing}
+use Rattle.edge_stream.specs.declared.saved.SavedEntry.{SavedEntry}
+use Rattle.end_queue.specs.Pending.{Pending}
+use Rattle.carried_edges.specs.Entries.{entries_of, part_of, are_of_parts}
+use Rattle.carried_edges.proofs.Parts.{part_of_own, part_of_other, part_of_append, parts_own, parts_append, all_pass}
+use Rattle.plan_model.specs.Meaning.{node_events}
+use Rattle.plan_model.specs.declared.node.Node.TheVariants.{Clip}
+use Rattle.node_laws.specs.Places.{AreDistinct, read_of}
+use Rattle.node_laws.specs.Standing.{StandsRead}
+use Rattle.node_laws.proofs.Standing.{placed_longer}
+use Rattle.node_laws.proofs.Steps.{keeps_read}
+use Rattle.sweep_sides.specs.Waiting.{queued}
+use Rattle.sweep_sides.specs.Saving.{starts_of, rows_of, is_row_start, may_wait, are_row_starts, may_all_wait}
+use Rattle.sweep_sides.proofs.KeptSides.{rows_of_starts}
+use Rattle.clip_op.specs.States.{KeepsClip, AreSavedSides, ClipSound, ClipResumes}
+use Rattle.clip_op.proofs.Answering.{node_keeps}
+use Rattle.clip_op.proofs.Steps.{kept_none}
+
+module _ (lk rk : List ℕ) (lc rc : List CellKind) where
+  clip_first : (texts : List (List ℕ)) → KeepsClip lk rk lc rc texts 0 0 [] (queued []) (queued []) [] [] []
+  clip_first texts = record {
+    left_placed = All-nil (λ (e : Edge). ArePlaced texts e.cells);
+    right_placed = All-nil (λ (e : Edge). ArePlaced texts e.cells);
+    left_cells = All-nil (λ (e : Edge). map datum_kind e.cells ≡ lc);
+    right_cells = All-nil (λ (e : Edge). map datum_kind e.cells ≡ rc);
+    left_low = omega arith;
+    right_low = omega arith;
+    kept = kept_none lk rk;
+  }
+
+  pub clip_opening : (texts : List (List ℕ)) (x y : ℕ) (left : List HeldRow) (lq rq : List Pending) → left ≡ [] → lq ≡ [] → rq ≡ [] → x ≡ 0 → y ≡ 0 →
+      KeepsClip lk rk lc rc texts x y left (queued lq) (queued rq) [] [] []
+  clip_opening texts x y left lq rq a b c d e = rw (a, b, c, d, e) (clip_first texts)
+
+  pub clip_longer : (new old : List (List ℕ)) (x y : ℕ) (left : List HeldRow) (lw rw hl hr out : List Edge) → BeginsWith new old →
+      KeepsClip lk rk lc rc old x y left lw rw hl hr out → KeepsClip lk rk lc rc new x y left lw rw hl hr out
+  clip_longer new old x y left lw rw hl hr out b k = record {
+    left_placed = placed_longer new old b hl k.left_placed;
+    right_placed = placed_longer new old b hr k.right_placed;
+    left_cells = k.left_cells;
+    right_cells = k.right_cells;
+    left_low = k.left_low;
+    right_low = k.right_low;
+    kept = k.kept;
+  }
+
+  -- what was answered stands, read, for the events of the node
+  pub clip_stands : (texts : List (List ℕ)) (x y : ℕ) (left : List HeldRow) (lw rw hl hr out : List Edge) → AreDistinct texts →
+      KeepsClip lk rk lc rc texts x y left lw rw hl hr out → StandsRead texts (min x y) out (node_events (Clip 0 1 lk rk) (read_of texts hl) (read_of texts hr))
+  clip_stands texts x y left lw rw hl hr out apart k =
+      keeps_read (λ test row. false) (λ items row. row) (Clip 0 1 lk rk) texts x y hl hr out refl apart k.left_low k.right_low (node_keeps lk rk lc rc texts x y left lw rw hl hr out k)
+
+  -- LOADING: the same rows and edges in another order
+  same_kept : (texts : List (List ℕ)) (x y : ℕ) (left left2 : List HeldRow) (lw rw lw2 rw2 hl hr out : List Edge) → SameBag left2 left → SameBag lw2 lw → SameBag rw2 rw →
+      KeepsClip lk rk lc rc texts x y left lw rw hl hr out → KeepsClip lk rk lc rc texts x y left2 lw2 rw2 hl hr out
+  same_kept texts x y left left2 lw rw lw2 rw2 hl hr out a c d k = record {
+    left_placed = k.left_placed;
+    right_placed = k.right_placed;
+    left_cells = k.left_cells;
+    right_cells = k.right_cells;
+    left_low = k.left_low;
+    right_low = k.right_low;
+    kept = record {
+      left_history = k.kept.left_history;
+      right_history = k.kept.right_history;
+      left_waits = SameBag-trans _ _ _ c k.kept.left_waits;
+      right_waits = SameBag-trans _ _ _ d k.kept.right_waits;
+      now = SameBag-trans _ _ _ a k.kept.now;
+      told = k.kept.told;
+    };
+  }
+
+  pub clip_loaded : (lk2 rk2 : List ℕ) (texts : List (List ℕ)) (x y : ℕ) (left left2 : List HeldRow) (lq rq lq2 rq2 hl hr out : List Edge) → lk2 ≡ lk → rk2 ≡ rk →
+      SameBag left2 left → SameBag lq2 lq → SameBag rq2 rq → KeepsClip lk rk lc rc texts x y left lq rq hl hr out → KeepsClip lk2 rk2 lc rc texts x y left2 lq2 rq2 hl hr out
+  clip_loaded lk2 rk2 texts x y left left2 lq rq lq2 rq2 hl hr out e f a c d k =
+      rw (e, f) (same_kept texts x y left left2 lq rq lq2 rq2 hl hr out a c d k)
+
+pub same_saved : (lc rc lc2 rc2 : List CellKind) (to to2 : ℕ) (entries : List SavedEntry) → lc2 ≡ lc → rc2 ≡ rc → to2 ≡ to → AreSavedSides lc2 rc2 to2 entries → AreSavedSides lc rc to entries
+same_saved lc rc lc2 rc2 to to2 entries e f g s =
+    subst (λ (k : List CellKind). AreSavedSides k rc to entries) e (subst (λ (k : List CellKind). AreSavedSides lc2 k to entries) f (subst (λ (t : ℕ). AreSavedSides lc2 rc2 t entries) g s))
+
+-- SAVING
+module _ (left : List HeldRow) (lw rw : List Edge) (s0 s1 s2 s3 : List SavedEntry) (empty : s0 ≡ []) (e1 : s1 ≡ s0 ++ entries_of 0 (starts_of left))
+    (e2 : s2 ≡ s1 ++ entries_of 1 lw) (e3 : s3 ≡ s2 ++ entries_of 2 rw) where
+  abbrev p0 : List SavedEntry
+  p0 = entries_of 0 (starts_of left)
+
+  abbrev p1 : List SavedEntry
+  p1 = entries_of 1 lw
+
+  abbrev p2 : List SavedEntry
+  p2 = entries_of 2 rw
+
+  all : s3 ≡ p0 ++ p1 ++ p2
+  all = e3 ∙ ap (λ s. s ++ p2) (e2 ∙ ap (λ s. s ++ p1) (e1 ∙ ap (λ s. s ++ p0) empty))
+
+  cut_of : (p : ℕ) → part_of p s3 ≡ part_of p p0 ++ part_of p p1 ++ part_of p p2
+  cut_of p = ap (part_of p) all ∙ (part_of_append p (p0 ++ p1) p2 ∙ ap (λ l. l ++ part_of p p2) (part_of_append p p0 p1))
+
+  left_part : part_of 0 s3 ≡ starts_of left
+  left_part =
+      cut_of 0 ∙ ((λ i. part_of_own 0 (starts_of left) i ++ part_of_other 0 1 lw refl i ++ part_of_other 0 2 rw refl i)
+      ∙ (append-nil (starts_of left ++ []) ∙ append-nil (starts_of left)))
+
+  left_rest : part_of 1 s3 ≡ lw
+  left_rest = cut_of 1 ∙ ((λ i. part_of_other 1 0 (starts_of left) refl i ++ part_of_own 1 lw i ++ part_of_other 1 2 rw refl i) ∙ append-nil lw)
+
+  right_rest : part_of 2 s3 ≡ rw
+  right_rest = cut_of 2 ∙ (λ i. part_of_other 2 0 (starts_of left) refl i ++ part_of_other 2 1 lw refl i ++ part_of_own 2 rw i)
+
+  of_parts : are_of_parts 3 s3 ≡ true
+  of_parts =
+      ap (are_of_parts 3) all
+      ∙ parts_append 3 (p0 ++ p1) p2 (parts_append 3 p0 p1 (parts_own 3 0 (starts_of left) refl) (parts_own 3 1 lw refl)) (parts_own 3 2 rw refl)
+
+  pub clip_saved : (lc rc : List CellKind) (to : ℕ) → failing (is_row_start lc to) (starts_of left) ≡ 0 → failing (may_wait lc to) lw ≡ 0 → failing (may_wait rc to) rw ≡ 0 → ClipSound lc rc to s3
+  clip_saved lc rc to a c d = record {
+    parts = of_parts;
+    sides = record {
+      left = ap (are_row_starts lc to) left_part ∙ all_pass (is_row_start lc to) (starts_of left) a;
+      left_waiting = ap (may_all_wait lc to) left_rest ∙ all_pass (may_wait lc to) lw c;
+      right_waiting = ap (may_all_wait rc to) right_rest ∙ all_pass (may_wait rc to) rw d;
+    };
+  }
+
+  pub clip_resumed : (lk rk : List ℕ) (lc rc : List CellKind) (texts : List (List ℕ)) (x y : ℕ) (hl hr out : List Edge) → ClipSound lc rc (min x y) s3 →
+      KeepsClip lk rk lc rc texts x y left lw rw hl hr out → ClipResumes lk rk lc rc texts x y s3 hl hr out
+  clip_resumed lk rk lc rc texts x y hl hr out sound k = record {
+    sound = sound;
+    keeps = subst (λ (a : List HeldRow). KeepsClip lk rk lc rc texts x y a (part_of 1 s3) (part_of 2 s3) hl hr out) (sym (ap rows_of left_part ∙ rows_of_starts left))
+        (subst (λ (a : List Edge). KeepsClip lk rk lc rc texts x y left a (part_of 2 s3) hl hr out) (sym left_rest)
+        (subst (λ (a : List Edge). KeepsClip lk rk lc rc texts x y left lw a hl hr out) (sym right_rest) k));
+  }

@@ -1,0 +1,74 @@
+use Rattle.std.proofs.Common.{◌≡◌, ◌≤◌, ◌++◌, ◌∙◌, map, min, sym, ap, subst, arith}
+use Rattle.std.specs.Prelude.{All}
+use Rattle.tw_rows.specs.Cells.{datum_kind}
+use Rattle.tw_rows.specs.Kinds.{cell_kind_of}
+use Rattle.tw_rows.specs.Instant.{inf}
+use Rattle.edge_stream.specs.Listing.{cells_of}
+use Rattle.edge_stream.proofs.Filling.{batches_given-capacity}
+use Rattle.carried_edges.proofs.Pools.{batches_given-limit}
+use Rattle.sweep_sides.specs.Waiting.{queued}
+use Rattle.clip_op.proofs.Stepped.{from_lesser, clip_stepped, list_is}
+use Rattle.clip_op.proofs.clip.Clip.advance.Goals as goal
+
+pub returns-clause-kept : goal.returns-clause-kept
+returns-clause-kept c = λ texts hl hr out k ml mr.
+    let s = c.args.self.now in
+    let w = s.working c.requires.works in
+    let lk = s.sides.rows.left.key in
+    let rk = s.sides.rows.right_key.columns in
+    let left_kinds = map cell_kind_of s.left_kinds.items in
+    let right_kinds = map cell_kind_of s.right_kinds.items in
+    let l = c.args.left.edges in
+    let r = c.args.right.edges in
+    let to = c.lesser-to.result in
+    let e : to ≡ min c.args.left_to c.args.right_to = c.lesser-to.ensures in
+    let xu = c.requires.left_rises in
+    let yv = c.requires.right_rises in
+    let lu : c.args.left_to ≤ inf = c.word.ensures.within in
+    let lv : c.args.right_to ≤ inf = c.word-2.ensures.within in
+    let low : min s.left_to s.right_to ≤ to = omega (arith, xu, yv, e) in
+    let lx : min s.left_to s.right_to ≤ s.left_to = omega arith in
+    let ly : min s.left_to s.right_to ≤ s.right_to = omega arith in
+    let t = c.in_ok-told.ensures in
+    let told = c.in_ok-told.told.items in
+    let new = c.advance.new.self in
+    let p = t.kept (min s.left_to s.right_to) hl hr out low (record { left_timed = w.sides.left.timed; right_timed = w.sides.right.timed; kept = k.kept })
+    ml.history mr.history (from_lesser (min s.left_to s.right_to) s.left_to l lx ml.from) (from_lesser (min s.left_to s.right_to) s.right_to r ly mr.from) in
+    clip_stepped lk rk new.rows.left.key new.rows.right_key.columns left_kinds right_kinds texts s.left_to s.right_to c.args.left_to c.args.right_to to
+    s.sides.rows.left.rows new.rows.left.rows
+    (queued s.sides.left_waiting) (queued s.sides.right_waiting) (queued new.left_waiting) (queued new.right_waiting) hl hr l r out told c.in_ok-answer.answer.edges
+    lu lv e k ml mr
+    (subst (λ ks. All (λ x. map datum_kind x.cells ≡ ks) l) c.requires.left_kinds t.left_cells)
+    (subst (λ ks. All (λ x. map datum_kind x.cells ≡ ks) r) c.requires.right_kinds t.right_cells)
+    p.0.kept p.1
+    (list_is s.left_kinds.items c.as_slice.result.now told c.as_slice-2.result.now c.in_ok-answer.answer.edges c.as_slice.ensures.value c.as_slice-2.ensures.value c.in_ok-answer.ensures.edges)
+
+pub give_back-requires-2 : goal.give_back-requires-2
+give_back-requires-2 c =
+    ap (λ s. s.capacity) c.give_back.ensures ∙ batches_given-capacity c.args.left.batches c.args.pools.now (cells_of c.args.left)
+    ∙ c.requires.capacity ∙ sym c.requires.right_capacity
+
+pub list_of-requires-clause-pools : goal.list_of-requires-clause-pools
+list_of-requires-clause-pools c =
+    ap (λ s. s.capacity) c.give_back-2.ensures ∙ batches_given-capacity c.args.right.batches c.give_back.new.pools (cells_of c.args.right)
+    ∙ ap (λ s. s.capacity) c.give_back.ensures ∙ batches_given-capacity c.args.left.batches c.args.pools.now (cells_of c.args.left) ∙ c.requires.capacity
+
+pub returns-in_err-answer-clause-pools : goal.returns-in_err-answer-clause-pools
+returns-in_err-answer-clause-pools c =
+    c.list_of.ensures.pools ∙ ap (λ s. s.capacity) c.give_back-2.ensures ∙ batches_given-capacity c.args.right.batches c.give_back.new.pools (cells_of c.args.right)
+    ∙ ap (λ s. s.capacity) c.give_back.ensures ∙ batches_given-capacity c.args.left.batches c.args.pools.now (cells_of c.args.left)
+
+pub returns-clause-pools : goal.returns-clause-pools
+returns-clause-pools c =
+    c.list_of.ensures.pools ∙ ap (λ s. s.capacity) c.give_back-2.ensures ∙ batches_given-capacity c.args.right.batches c.give_back.new.pools (cells_of c.args.right)
+    ∙ ap (λ s. s.capacity) c.give_back.ensures ∙ batches_given-capacity c.args.left.batches c.args.pools.now (cells_of c.args.left)
+
+pub returns-in_err-answer-clause-limit : goal.returns-in_err-answer-clause-limit
+returns-in_err-answer-clause-limit c =
+    c.list_of.ensures.limit ∙ ap (λ s. s.limit) c.give_back-2.ensures ∙ batches_given-limit c.args.right.batches c.give_back.new.pools (cells_of c.args.right)
+    ∙ ap (λ s. s.limit) c.give_back.ensures ∙ batches_given-limit c.args.left.batches c.args.pools.now (cells_of c.args.left)
+
+pub returns-clause-limit : goal.returns-clause-limit
+returns-clause-limit c =
+    c.list_of.ensures.limit ∙ ap (λ s. s.limit) c.give_back-2.ensures ∙ batches_given-limit c.args.right.batches c.give_back.new.pools (cells_of c.args.right)
+    ∙ ap (λ s. s.limit) c.give_back.ensures ∙ batches_given-limit c.args.left.batches c.args.pools.now (cells_of c.args.left)

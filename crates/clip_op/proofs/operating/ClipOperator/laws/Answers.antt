@@ -1,0 +1,31 @@
+use Rattle.std.proofs.Common.{map}
+use Rattle.tw_rows.specs.Kinds.{cell_kind_of}
+use Rattle.sweep_sides.specs.Waiting.{queued}
+use Rattle.clip_op.proofs.Resuming.{clip_opening, clip_longer, clip_stands}
+use Rattle.clip_op.proofs.operating.ClipOperator.laws.Goals as goal
+
+pub returns-clause-opens : goal.returns-clause-opens
+returns-clause-opens c = λ s o. (
+  (λ texts.
+      let r = s.sides.rows in
+      clip_opening r.left.key r.right_key.columns (map cell_kind_of s.left_kinds.items) (map cell_kind_of s.right_kinds.items) texts s.left_to s.right_to r.left.rows
+      s.sides.left_waiting s.sides.right_waiting o.left_empty o.none_left o.none_right o.left_open o.right_open),
+  o.works,
+  o.left_open,
+  o.right_open,
+)
+
+pub returns-clause-stands : goal.returns-clause-stands
+returns-clause-stands c = λ s texts hl hr out apart k.
+    let r = s.sides.rows in
+    clip_stands r.left.key r.right_key.columns (map cell_kind_of s.left_kinds.items) (map cell_kind_of s.right_kinds.items) texts s.left_to s.right_to r.left.rows
+    (queued s.sides.left_waiting) (queued s.sides.right_waiting) hl hr out apart k
+
+pub returns-clause-grows : goal.returns-clause-grows
+returns-clause-grows c = λ s new old hl hr out b k.
+    let r = s.sides.rows in
+    clip_longer r.left.key r.right_key.columns (map cell_kind_of s.left_kinds.items) (map cell_kind_of s.right_kinds.items) new old s.left_to s.right_to r.left.rows
+    (queued s.sides.left_waiting) (queued s.sides.right_waiting) hl hr out b k
+
+pub returns-clause-resumes_sound : goal.returns-clause-resumes_sound
+returns-clause-resumes_sound c = λ s saved x y texts hl hr out r. r.sound

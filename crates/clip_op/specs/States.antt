@@ -1,0 +1,74 @@
+-- What a clip keeps between its steps, and what it saves.
+use Rattle.std.specs.Prelude.{◌≡◌, ℕ, ◌≤◌, min, Bool, true, false, List, [], length, map, All}
+use Rattle.tw_rows.specs.Cells.{datum_kind}
+use Rattle.tw_rows.specs.Kinds.{cell_kind_of}
+use Rattle.tw_rows.specs.Instant.{inf}
+use Rattle.tw_rows.specs.declared.edge.Edge.{Edge}
+use Rattle.tw_rows.specs.declared.edge.HeldRow.{HeldRow}
+use Rattle.tw_rows.specs.declared.kind.Kind.{Kind}
+use Rattle.tw_rows.specs.declared.kind.CellKind.{CellKind}
+use Rattle.edge_stream.specs.declared.saved.SavedEntry.{SavedEntry}
+use Rattle.end_queue.specs.Pending.{Pending}
+use Rattle.carried_edges.specs.Entries.{part_of, are_of_parts}
+use Rattle.node_laws.specs.Places.{EdgesArePlaced}
+use Rattle.sweep_sides.specs.Waiting.{queued, AreTimed}
+use Rattle.sweep_sides.specs.Saving.{IsSide, rows_of, are_row_starts, may_all_wait}
+use Rattle.clip_op.specs.declared.sides.Sides.{Sides}
+use Rattle.clip_op.specs.Holding.{ClipKeeps}
+
+-- it can be what is left, swept up to a time, after the edges hl and hr came in on both sides and out was answered
+pub record SidesKeep (s : Sides) (to : ℕ) (hl hr out : List Edge) : Type 0 where
+  pub left_timed : AreTimed s.left_waiting
+  pub right_timed : AreTimed s.right_waiting
+  pub kept : ClipKeeps s.rows.left.key s.rows.right_key.columns s.rows.left.rows (queued s.left_waiting) (queued s.right_waiting) to hl hr out
+
+-- left rows that began before a time, and edges of both sides from it on, of such columns
+pub record AreSides (left_kinds right_kinds : List CellKind) (to : ℕ) (s : Sides) : Type 0 where
+  pub left : IsSide left_kinds to s.rows.left.rows s.left_waiting
+  pub right : IsSide right_kinds to [] s.right_waiting
+
+-- the same of a clip that works
+pub record IsWorking (s : Sides) (left_kinds right_kinds : List Kind) (capacity to : ℕ) : Type 0 where
+  pub sides : AreSides (map cell_kind_of left_kinds) (map cell_kind_of right_kinds) to s
+  pub width : length left_kinds ≤ 32
+  pub room : 1 ≤ capacity
+
+-- the rows and the edges that wait can be what is left after the edges hl and hr came in, closed up to x on the left and to y
+-- on the right, and out was answered: swept up to the lesser of both. Of a start at 3 on the left, closed up to 4, and one at
+-- 5 on the right, closed up to 7, the left row is kept, and the right start waits
+pub record KeepsClip (left_key right_key : List ℕ) (left_kinds right_kinds : List CellKind) (texts : List (List ℕ)) (x y : ℕ)
+    (left : List HeldRow) (left_waiting right_waiting hl hr out : List Edge) : Type 0 where
+  pub left_placed : EdgesArePlaced texts hl
+  pub right_placed : EdgesArePlaced texts hr
+  pub left_cells : All (λ e. map datum_kind e.cells ≡ left_kinds) hl
+  pub right_cells : All (λ e. map datum_kind e.cells ≡ right_kinds) hr
+  pub left_low : x ≤ inf
+  pub right_low : y ≤ inf
+  pub kept : ClipKeeps left_key right_key left left_waiting right_waiting (min x y) hl hr out
+
+-- no row is kept, no edge waits, no side is closed, and no step failed
+pub record IsOpening (left : List HeldRow) (left_waiting right_waiting : List Pending) (x y : ℕ) (failed : Bool) : Type 0 where
+  pub left_empty : left ≡ []
+  pub none_left : left_waiting ≡ []
+  pub none_right : right_waiting ≡ []
+  pub left_open : x ≡ 0
+  pub right_open : y ≡ 0
+  pub works : failed ≡ false
+
+-- the entries of the part 0 are left rows that began before a time, as their starts, and those of 1 and 2 edges of the left
+-- and of the right side that wait from it on. Up to 7, a row may have begun at 6, and none at 7
+pub record AreSavedSides (left_kinds right_kinds : List CellKind) (to : ℕ) (entries : List SavedEntry) : Type 0 where
+  pub left : are_row_starts left_kinds to (part_of 0 entries) ≡ true
+  pub left_waiting : may_all_wait left_kinds to (part_of 1 entries) ≡ true
+  pub right_waiting : may_all_wait right_kinds to (part_of 2 entries) ≡ true
+
+-- there are no entries of other parts
+pub record ClipSound (left_kinds right_kinds : List CellKind) (to : ℕ) (entries : List SavedEntry) : Type 0 where
+  pub parts : are_of_parts 3 entries ≡ true
+  pub sides : AreSavedSides left_kinds right_kinds to entries
+
+-- the entries are what is kept after the edges came in and were answered
+pub record ClipResumes (left_key right_key : List ℕ) (left_kinds right_kinds : List CellKind) (texts : List (List ℕ)) (x y : ℕ)
+    (entries : List SavedEntry) (hl hr out : List Edge) : Type 0 where
+  pub sound : ClipSound left_kinds right_kinds (min x y) entries
+  pub keeps : KeepsClip left_key right_key left_kinds right_kinds texts x y (rows_of (part_of 0 entries)) (part_of 1 entries) (part_of 2 entries) hl hr out

@@ -1,0 +1,10 @@
+//! The operator of a Clip.
+#![tactic(auto)]
+
+mod clip;
+mod operating;
+mod sides;
+mod starts;
+mod sweep;
+
+pub use clip::Clip;
