@@ -1,6 +1,7 @@
 pub mod Kept
 pub mod Lists
 pub mod Totaling
+pub mod Touching
 pub mod PuttingOff
 pub mod Rerunning
 pub mod Sweeping

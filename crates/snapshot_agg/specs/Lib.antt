@@ -3,6 +3,7 @@ pub mod Words
 pub mod States
 pub mod Totaled
 pub mod Told
+pub mod Touching
 pub mod Waiting
 pub mod Keeping
 pub mod Answering

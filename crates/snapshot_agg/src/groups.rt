@@ -1,5 +1,6 @@
 // The rows that are alive, and what is kept of those of each key.
-ghost use Rattle.std.specs.Prelude.{◌≡◌, ℕ, ◌+◌, ◌<◌, ◌≤◌, ◌^◌, false, Bool, Option, List, [], ◌∷◌, length, map, IfOk, OnOk};
+ghost use Rattle.std.specs.Prelude.{◌≡◌, ℕ, ◌+◌, ◌<◌, ◌≤◌, ◌^◌, ◌||◌, false, Bool, Option, List, [], ◌∷◌, length, map, IfOk, OnOk};
+ghost use Rattle.std.specs.List.{list_any};
 ghost use Rattle.indexmap.specs.IndexMap.{get};
 ghost use Rattle.tw_rows.specs.Bag.{SameBag, total};
 ghost use Rattle.tw_rows.specs.SameCells.{same_cells};
@@ -14,7 +15,7 @@ ghost use Rattle.synopsis.specs.Held.{cell_or_zero};
 ghost use Rattle.snapshot_agg.specs.Totaled.{IsTotalOf, Totaled};
 ghost use Rattle.snapshot_agg.specs.Told.{IsTold, row_in};
 
-use crate::totals::Totals;
+use crate::totals::{Totals, touch};
 use indexmap::IndexMap;
 use plan_model::Agg;
 use smallvec::SmallVec;
@@ -37,6 +38,8 @@ pub(crate) struct Groups {
     pub(crate) aggs: Vec<Agg>,
     pub(crate) rows: Synopsis,
     pub(crate) totals: IndexMap<Cells, Totals>,
+    // The keys of the rows that came or went since the list was cleared.
+    pub(crate) touched: Vec<Cells>,
 }
 
 // The datum of a row in a column. One that is not there reads as the int 0.
@@ -58,9 +61,10 @@ pub(crate) fn key_of(alloc: Global, key: &[usize], cells: &[Datum]) -> Result<Ce
     Ok(key)
 }
 
-// Takes a row in among those of its key.
+// Takes a row in among those of its key, which is touched.
 fn add_to(
     totals: &mut IndexMap<Cells, Totals>,
+    touched: &mut Vec<Cells>,
     alloc: Global,
     aggs: &[Agg],
     key: Cells,
@@ -69,29 +73,37 @@ fn add_to(
     requires { (rows : List (List Datum)) × IsTotalOf (get same_cells totals.old key) aggs.now rows × (length rows < 2 ^ 63) }
     ensures others { OnOk result ((q : List Datum) → same_cells key q ≡ false → get same_cells totals.new q ≡ get same_cells totals.old q) }
     ensures own { OnOk result ((rows : List (List Datum)) → IsTotalOf (get same_cells totals.old key) aggs.now rows → IsTotalOf (get same_cells totals.new key) aggs.now (cells.now ∷ rows)) }
+    ensures touched { OnOk result ((q : List Datum) → list_any (same_cells q) touched.new.items ≡ (list_any (same_cells q) touched.old.items || same_cells q key)) }
 {
     if let Some(there) = totals.get_mut(&key) {
-        return there.add(cells);
+        return there.add(touched, &key, cells);
     }
     let mut new = Totals::new(alloc, aggs)?;
-    new.add(cells)?;
+    new.add(touched, &key, cells)?;
     totals.insert(key, new)?;
     Ok(())
 }
 
-// Gives up a row of a key that is there. The last row takes the totals with it.
-fn take_from(totals: &mut IndexMap<Cells, Totals>, key: &Cells, cells: &[Datum])
+// Gives up a row of a key that is there, which is touched. The last row takes the totals with it.
+fn take_from(
+    totals: &mut IndexMap<Cells, Totals>,
+    touched: &mut Vec<Cells>,
+    key: &Cells,
+    cells: &[Datum],
+) -> Result<(), Memory>
     requires { (aggs : List Agg) × (rows : List (List Datum)) × (rest : List (List Datum)) × IsTotalOf (get same_cells totals.old key.now) aggs rows × SameBag rows (cells.now ∷ rest) }
-    ensures others { (q : List Datum) → same_cells key.now q ≡ false → get same_cells totals.new q ≡ get same_cells totals.old q }
-    ensures own { (aggs : List Agg) (rows rest : List (List Datum)) → IsTotalOf (get same_cells totals.old key.now) aggs rows → SameBag rows (cells.now ∷ rest) → IsTotalOf (get same_cells totals.new key.now) aggs rest }
+    ensures others { OnOk result ((q : List Datum) → same_cells key.now q ≡ false → get same_cells totals.new q ≡ get same_cells totals.old q) }
+    ensures own { OnOk result ((aggs : List Agg) (rows rest : List (List Datum)) → IsTotalOf (get same_cells totals.old key.now) aggs rows → SameBag rows (cells.now ∷ rest) → IsTotalOf (get same_cells totals.new key.now) aggs rest) }
+    ensures touched { OnOk result ((q : List Datum) → list_any (same_cells q) touched.new.items ≡ (list_any (same_cells q) touched.old.items || same_cells q key.now)) }
 {
     if let Some(there) = totals.get_mut(key) {
-        there.remove(cells);
+        there.remove(touched, key, cells)?;
         if there.count() > 0 {
-            return;
+            return Ok(());
         }
     }
     totals.swap_remove(key);
+    Ok(())
 }
 
 impl Told {
@@ -132,14 +144,17 @@ impl Groups {
             aggs: Vec::from_slice(alloc, aggs)?,
             rows: Synopsis::new(alloc, key)?,
             totals: IndexMap::new(alloc),
+            touched: Vec::new(alloc),
         })
     }
 
-    /// Puts in a row.
+    /// Puts in a row. Its key is touched.
     pub(crate) fn add(&mut self, cells: &Cells, start: Time) -> Result<(), Memory>
         requires counted { Totaled self.old.key.items self.old.aggs.items self.old.rows.rows self.old.totals }
         ensures counted { OnOk result (Totaled self.new.key.items self.new.aggs.items self.new.rows.rows self.new.totals) }
         ensures added { OnOk result ((w : HeldRow → ℕ) → total w self.new.rows.rows ≡ total w self.old.rows.rows + w (record { cells = cells.now; start = start })) }
+        ensures touched { OnOk result ((q : List Datum) → list_any (same_cells q) self.new.touched.items
+            ≡ (list_any (same_cells q) self.old.touched.items || same_cells q (key_data self.old.key.items cells.now))) }
         ensures key { self.new.key ≡ self.old.key }
         ensures aggs { self.new.aggs ≡ self.old.aggs }
     {
@@ -148,26 +163,36 @@ impl Groups {
             return Err(Memory);
         }
         let key = key_of(self.alloc, &self.key, cells.items())?;
-        add_to(&mut self.totals, self.alloc, &self.aggs, key, cells.items())?;
+        add_to(
+            &mut self.totals,
+            &mut self.touched,
+            self.alloc,
+            &self.aggs,
+            key,
+            cells.items(),
+        )?;
         let row = Cells::from_slice(self.alloc, cells.items())?;
         self.rows.add(row, start)?;
         Ok(())
     }
 
-    /// Takes out a row that began then, if there is one.
+    /// Takes out a row that began then, if there is one. Its key is touched.
     pub(crate) fn take(&mut self, cells: &Cells, start: Time) -> Result<(), Memory>
         requires counted { Totaled self.old.key.items self.old.aggs.items self.old.rows.rows self.old.totals }
         ensures counted { OnOk result (Totaled self.new.key.items self.new.aggs.items self.new.rows.rows self.new.totals) }
         ensures taken { OnOk result (1 ≤ many (is_held cells.now start) self.old.rows.rows → (w : HeldRow → ℕ) →
             total w self.old.rows.rows ≡ total w self.new.rows.rows + w (record { cells = cells.now; start = start })) }
+        ensures touched { OnOk result ((q : List Datum) → list_any (same_cells q) self.new.touched.items
+            ≡ (list_any (same_cells q) self.old.touched.items || same_cells q (key_data self.old.key.items cells.now))) }
         ensures key { self.new.key ≡ self.old.key }
         ensures aggs { self.new.aggs ≡ self.old.aggs }
     {
+        let key = key_of(self.alloc, &self.key, cells.items())?;
         if !self.rows.take(cells.items(), start) {
+            touch(&mut self.touched, &key, usize::MAX)?;
             return Ok(());
         }
-        let key = key_of(self.alloc, &self.key, cells.items())?;
-        take_from(&mut self.totals, &key, cells.items());
+        take_from(&mut self.totals, &mut self.touched, &key, cells.items())?;
         Ok(())
     }
 

@@ -1,5 +1,5 @@
-// The passes over the edges of one instant.
-ghost use Rattle.std.specs.Prelude.{◌≡◌, ◌+◌, ◌*◌, ◌<◌, ◌≤◌, ◌++◌, ℕ, suc, true, false, Some, List, [], ◌∷◌, OnOk, IfOk};
+// The pass over the edges of one instant, and those over the keys that it touched.
+ghost use Rattle.std.specs.Prelude.{◌≡◌, ◌+◌, ◌*◌, ◌<◌, ◌≤◌, ◌++◌, ◌||◌, ℕ, suc, true, false, Some, List, [], ◌∷◌, OnOk, IfOk};
 ghost use Rattle.std.specs.List.{list_any};
 ghost use Rattle.tw_rows.specs.Bag.{total};
 ghost use Rattle.tw_rows.specs.Instant.{inf};
@@ -10,11 +10,12 @@ ghost use Rattle.edge_history.specs.Opens.{ended_of, started_of, ended_rows, sta
 ghost use Rattle.sweep_laws.specs.Sweeps.{InOrder};
 ghost use Rattle.sweep_laws.specs.Moves.{HoldsEnded};
 ghost use Rattle.sweep_laws.specs.Running.{end_part, start_part, kept, begun_at};
-ghost use Rattle.sweep_laws.specs.Grouping.{keys_of, EndsTold, StartsTold, IsEarly};
+ghost use Rattle.sweep_laws.specs.Grouping.{keys_of, IsEarly};
 ghost use Rattle.snapshot_agg.specs.Words.{key_data, tell, bad};
 ghost use Rattle.snapshot_agg.specs.Totaled.{Totaled, run_of, Reruns};
+ghost use Rattle.snapshot_agg.specs.Touching.{EndsOfKeys, StartsOfKeys};
 
-use crate::groups::{Groups, Told, key_of};
+use crate::groups::{Groups, Told};
 use indexmap::IndexMap;
 use tw_rows::{Cells, Edge, HeldRow, Memory, Time};
 
@@ -26,6 +27,8 @@ fn apply_one(groups: &mut Groups, edge: &Edge) -> Result<(), Memory>
     ensures counted { OnOk result (Totaled groups.new.key.items groups.new.aggs.items groups.new.rows.rows groups.new.totals) }
     ensures moved { OnOk result (HoldsEnded edge.now groups.old.rows.rows → (w : HeldRow → ℕ) →
         total w groups.new.rows.rows + total w (ended_of edge.now) ≡ total w groups.old.rows.rows + total w (started_of edge.now)) }
+    ensures touched { OnOk result ((q : List Datum) → list_any (same_cells q) groups.new.touched.items
+        ≡ (list_any (same_cells q) groups.old.touched.items || same_cells q (key_data groups.old.key.items edge.now.cells))) }
     ensures key { groups.new.key ≡ groups.old.key }
     ensures aggs { groups.new.aggs ≡ groups.old.aggs }
 {
@@ -36,31 +39,32 @@ fn apply_one(groups: &mut Groups, edge: &Edge) -> Result<(), Memory>
     }
 }
 
-/// Takes out the rows that end and puts in those that start.
+/// Takes out the rows that end and puts in those that start. The keys of the edges are touched then, and no other.
 pub(crate) fn apply(groups: &mut Groups, now: &[Edge]) -> Result<(), Memory>
     requires counted { Totaled groups.old.key.items groups.old.aggs.items groups.old.rows.rows groups.old.totals }
     ensures counted { OnOk result (Totaled groups.new.key.items groups.new.aggs.items groups.new.rows.rows groups.new.totals) }
     ensures moved { OnOk result (((w : HeldRow → ℕ) → total w (ended_rows now.now) ≤ total w groups.old.rows.rows) → (w : HeldRow → ℕ) →
         total w groups.new.rows.rows + total w (ended_rows now.now) ≡ total w groups.old.rows.rows + total w (started_rows now.now)) }
+    ensures touched { OnOk result ((q : List Datum) → list_any (same_cells q) groups.new.touched.items ≡ list_any (same_cells q) (keys_of (key_data groups.old.key.items) now.now)) }
     ensures key { groups.new.key ≡ groups.old.key }
     ensures aggs { groups.new.aggs ≡ groups.old.aggs }
 {
+    groups.touched.clear();
     for edge in now {
         apply_one(groups, edge)?;
     }
     Ok(())
 }
 
-/// Whether the group of one of the edges is undefined.
-pub(crate) fn has_undefined(groups: &Groups, now: &[Edge]) -> Result<bool, Memory>
+/// Whether the group of one of the keys is undefined.
+pub(crate) fn has_undefined(groups: &Groups, keys: &[Cells]) -> Result<bool, Memory>
     requires counted { Totaled groups.now.key.items groups.now.aggs.items groups.now.rows.rows groups.now.totals }
     ensures yes { IfOk result (λ found. found ≡ true → (k : List Datum) × (bad groups.now.key.items groups.now.aggs.items k (bare groups.now.rows.rows) ≡ true)) }
-    ensures no { IfOk result (λ found. found ≡ false → (k : List Datum) → list_any (same_cells k) (keys_of (key_data groups.now.key.items) now.now) ≡ true →
+    ensures no { IfOk result (λ found. found ≡ false → (k : List Datum) → list_any (same_cells k) keys.now ≡ true →
         bad groups.now.key.items groups.now.aggs.items k (bare groups.now.rows.rows) ≡ false) }
 {
-    for edge in now {
-        let key = key_of(groups.alloc, &groups.key, edge.cells.items())?;
-        let told = groups.told(&key)?;
+    for key in keys {
+        let told = groups.told(key)?;
         if told.is_undefined() {
             return Ok(true);
         }
@@ -157,44 +161,42 @@ fn start_key(
     }
 }
 
-/// Tells the ends at an instant of the rows of the edges' groups.
+/// Tells the ends at an instant of the rows of the keys' groups.
 pub(crate) fn tell_ends(
     groups: &Groups,
     running: &mut Running,
     answer: &mut Vec<Edge>,
     t: Time,
-    now: &[Edge],
+    keys: &[Cells],
 ) -> Result<(), Memory>
     requires counted { Totaled groups.now.key.items groups.now.aggs.items groups.now.rows.rows groups.now.totals }
-    requires fine { (k : List Datum) → list_any (same_cells k) (keys_of (key_data groups.now.key.items) now.now) ≡ true → bad groups.now.key.items groups.now.aggs.items k (bare groups.now.rows.rows) ≡ false }
+    requires fine { (k : List Datum) → list_any (same_cells k) keys.now ≡ true → bad groups.now.key.items groups.now.aggs.items k (bare groups.now.rows.rows) ≡ false }
     ensures order { OnOk result (((k : List Datum) → IsEarly t (run_of running.old k)) → InOrder (2 * t) answer.old.items → InOrder (2 * t) answer.new.items) }
-    ensures told { OnOk result (EndsTold (key_data groups.now.key.items) same_cells t now.now (λ k. tell groups.now.key.items groups.now.aggs.items k (bare groups.now.rows.rows))
+    ensures told { OnOk result (EndsOfKeys t keys.now (λ k. tell groups.now.key.items groups.now.aggs.items k (bare groups.now.rows.rows))
         (run_of running.old) (run_of running.new) answer.old.items answer.new.items) }
 {
-    for edge in now {
-        let key = key_of(groups.alloc, &groups.key, edge.cells.items())?;
-        end_key(groups, running, answer, t, &key)?;
+    for key in keys {
+        end_key(groups, running, answer, t, key)?;
     }
     Ok(())
 }
 
-/// Tells the starts at an instant of the rows of the edges' groups.
+/// Tells the starts at an instant of the rows of the keys' groups.
 pub(crate) fn tell_starts(
     groups: &Groups,
     running: &mut Running,
     answer: &mut Vec<Edge>,
     t: Time,
-    now: &[Edge],
+    keys: &[Cells],
 ) -> Result<(), Memory>
     requires counted { Totaled groups.now.key.items groups.now.aggs.items groups.now.rows.rows groups.now.totals }
-    requires fine { (k : List Datum) → list_any (same_cells k) (keys_of (key_data groups.now.key.items) now.now) ≡ true → bad groups.now.key.items groups.now.aggs.items k (bare groups.now.rows.rows) ≡ false }
+    requires fine { (k : List Datum) → list_any (same_cells k) keys.now ≡ true → bad groups.now.key.items groups.now.aggs.items k (bare groups.now.rows.rows) ≡ false }
     ensures order { OnOk result (t < inf → InOrder (suc (2 * t)) answer.old.items → InOrder (suc (2 * t)) answer.new.items) }
-    ensures told { OnOk result (StartsTold (key_data groups.now.key.items) same_cells t now.now (λ k. tell groups.now.key.items groups.now.aggs.items k (bare groups.now.rows.rows))
+    ensures told { OnOk result (StartsOfKeys t keys.now (λ k. tell groups.now.key.items groups.now.aggs.items k (bare groups.now.rows.rows))
         (run_of running.old) (run_of running.new) answer.old.items answer.new.items) }
 {
-    for edge in now {
-        let key = key_of(groups.alloc, &groups.key, edge.cells.items())?;
-        start_key(groups, running, answer, t, &key)?;
+    for key in keys {
+        start_key(groups, running, answer, t, key)?;
     }
     Ok(())
 }

@@ -57,7 +57,8 @@ fn first_from(due: &[Edge], from: Time) -> usize
 }
 
 /// One instant: the rows that end leave and those that start come, then no group that was touched may be undefined, and
-/// then the rows that changed are told.
+/// then the rows that changed are told. Only the first pass goes over the edges: each key is told once, however many rows
+/// of it came and went.
 fn sweep_instant(
     groups: &mut Groups,
     running: &mut Running,
@@ -81,12 +82,13 @@ fn sweep_instant(
     ensures aggs { groups.new.aggs ≡ groups.old.aggs }
 {
     apply(groups, now)?;
-    let found = has_undefined(groups, now)?;
+    let keys = groups.touched.as_slice();
+    let found = has_undefined(groups, keys)?;
     if found {
         return Err(StepFault::Overflow { time: t });
     }
-    tell_ends(groups, running, answer, t, now)?;
-    tell_starts(groups, running, answer, t, now)?;
+    tell_ends(groups, running, answer, t, keys)?;
+    tell_starts(groups, running, answer, t, keys)?;
     Ok(())
 }
 

@@ -1,5 +1,7 @@
 // What is kept of the rows of one key.
-ghost use Rattle.std.specs.Prelude.{◌≡◌, ℕ, ◌<◌, ◌≤◌, ◌^◌, List, [], ◌∷◌, length, IfOk, OnOk};
+ghost use Rattle.std.specs.Prelude.{◌≡◌, ℕ, ◌<◌, ◌≤◌, ◌^◌, ◌||◌, true, List, [], ◌∷◌, length, IfOk, OnOk};
+ghost use Rattle.std.specs.List.{list_any};
+ghost use Rattle.tw_rows.specs.SameCells.{same_cells};
 ghost use Rattle.tw_rows.specs.Bag.{SameBag};
 ghost use Rattle.tw_rows.specs.declared.cells.Datum.{Datum};
 ghost use Rattle.plan_model.specs.declared.agg.Agg.{Agg};
@@ -7,8 +9,9 @@ ghost use Rattle.snapshot_agg.specs.States.{AreStatesOf, IsTotals, told_row};
 
 use crate::state::State;
 use plan_model::Agg;
+use smallvec::SmallVec;
 use std::alloc::Global;
-use tw_rows::{Cells, Datum, Memory};
+use tw_rows::{Cells, Datum, Memory, same_cells};
 
 /// A group of more rows is undefined.
 const MOST_ROWS: u64 = 4611686018427387904;
@@ -18,6 +21,30 @@ const MOST_ROWS: u64 = 4611686018427387904;
 pub(crate) struct Totals {
     count: u64,
     states: Vec<State>,
+    // Where the key stood among the keys that are touched. It may stand there no longer.
+    place: usize,
+}
+
+// Whether the key stands at the place.
+fn stands_at(touched: &[Cells], key: &Cells, place: usize) -> bool
+    ensures { result ≡ true → list_any (same_cells key.now) touched.now ≡ true }
+{
+    match touched.get(place) {
+        Some(there) => same_cells(key, there),
+        None => false,
+    }
+}
+
+/// Has the key among those that are touched, and tells its place. If it stands at the place that is given, it is there.
+pub(crate) fn touch(touched: &mut Vec<Cells>, key: &Cells, place: usize) -> Result<usize, Memory>
+    ensures { OnOk result ((q : List Datum) → list_any (same_cells q) touched.new.items ≡ (list_any (same_cells q) touched.old.items || same_cells q key.now)) }
+{
+    if stands_at(touched, key, place) {
+        return Ok(place);
+    }
+    let next = touched.len();
+    touched.push(key.clone()?)?;
+    Ok(next)
 }
 
 fn add_all(states: &mut [State], cells: &[Datum]) -> Result<(), Memory>
@@ -48,7 +75,11 @@ impl Totals {
         for agg in aggs {
             states.push(State::new(alloc, *agg))?;
         }
-        Ok(Totals { count: 0, states })
+        Ok(Totals {
+            count: 0,
+            states,
+            place: 0,
+        })
     }
 
     /// How many rows there are.
@@ -58,24 +89,40 @@ impl Totals {
         self.count
     }
 
-    /// Takes in a row.
-    pub(crate) fn add(&mut self, cells: &[Datum]) -> Result<(), Memory>
+    /// Takes in a row of the key, which is touched.
+    pub(crate) fn add(
+        &mut self,
+        touched: &mut Vec<Cells>,
+        key: &Cells,
+        cells: &[Datum],
+    ) -> Result<(), Memory>
         requires { (aggs : List Agg) × (rows : List (List Datum)) × IsTotals self.old.count self.old.states.items aggs rows × (length rows < 2 ^ 63) }
-        ensures { OnOk result ((aggs : List Agg) (rows : List (List Datum)) → IsTotals self.old.count self.old.states.items aggs rows →
+        ensures own { OnOk result ((aggs : List Agg) (rows : List (List Datum)) → IsTotals self.old.count self.old.states.items aggs rows →
             IsTotals self.new.count self.new.states.items aggs (cells.now ∷ rows)) }
+        ensures touched { OnOk result ((q : List Datum) → list_any (same_cells q) touched.new.items ≡ (list_any (same_cells q) touched.old.items || same_cells q key.now)) }
     {
+        self.place = touch(touched, key, self.place)?;
         self.count += 1;
-        add_all(&mut self.states, cells)
+        add_all(&mut self.states, cells)?;
+        Ok(())
     }
 
-    /// Gives up a row that is there.
-    pub(crate) fn remove(&mut self, cells: &[Datum])
+    /// Gives up a row that is there, of the key, which is touched.
+    pub(crate) fn remove(
+        &mut self,
+        touched: &mut Vec<Cells>,
+        key: &Cells,
+        cells: &[Datum],
+    ) -> Result<(), Memory>
         requires { (aggs : List Agg) × (rows : List (List Datum)) × (rest : List (List Datum)) × IsTotals self.old.count self.old.states.items aggs rows × SameBag rows (cells.now ∷ rest) }
-        ensures { (aggs : List Agg) (rows rest : List (List Datum)) → IsTotals self.old.count self.old.states.items aggs rows → SameBag rows (cells.now ∷ rest) →
-            IsTotals self.new.count self.new.states.items aggs rest }
+        ensures own { OnOk result ((aggs : List Agg) (rows rest : List (List Datum)) → IsTotals self.old.count self.old.states.items aggs rows → SameBag rows (cells.now ∷ rest) →
+            IsTotals self.new.count self.new.states.items aggs rest) }
+        ensures touched { OnOk result ((q : List Datum) → list_any (same_cells q) touched.new.items ≡ (list_any (same_cells q) touched.old.items || same_cells q key.now)) }
     {
+        self.place = touch(touched, key, self.place)?;
         self.count -= 1;
         remove_all(&mut self.states, cells);
+        Ok(())
     }
 
     /// The row of the group, unless it is undefined.
@@ -87,14 +134,14 @@ impl Totals {
         if self.count > MOST_ROWS {
             return Ok(None);
         }
-        let mut data = Vec::from_slice(alloc, key)?;
+        let mut data = SmallVec::<Datum, 4>::from_slice(alloc, key)?;
         for state in &self.states {
             match state.value() {
                 Some(x) => data.push(Datum::Int(x))?,
                 None => return Ok(None),
             }
         }
-        let row = Cells::from_slice(alloc, &data)?;
+        let row = Cells::from_slice(alloc, data.as_slice())?;
         Ok(Some(row))
     }
 }

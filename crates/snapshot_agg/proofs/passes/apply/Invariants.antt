@@ -1,7 +1,12 @@
-use Rattle.std.proofs.Common.{◌≡◌, ◌+◌, ◌≤◌, take, ℕ}
+use Rattle.std.proofs.Common.{◌≡◌, ◌+◌, ◌≤◌, take, ℕ, List}
+use Rattle.std.specs.List.{list_any}
 use Rattle.tw_rows.specs.Bag.{total}
 use Rattle.tw_rows.specs.declared.edge.HeldRow.{HeldRow}
+use Rattle.tw_rows.specs.SameCells.{same_cells}
+use Rattle.tw_rows.specs.declared.cells.Datum.{Datum}
 use Rattle.edge_history.specs.Opens.{ended_rows, started_rows}
+use Rattle.sweep_laws.specs.Grouping.{keys_of}
+use Rattle.snapshot_agg.specs.Words.{key_data}
 use Rattle.snapshot_agg.specs.Totaled.{Totaled}
 use Rattle.snapshot_agg.proofs.passes.apply.Given as goal
 
@@ -10,6 +15,7 @@ invariant-loop-edge l = record {
   counted : Totaled l.groups.key.items l.groups.aggs.items l.groups.rows.rows l.groups.totals;
   moved : ((w : HeldRow → ℕ) → total w (ended_rows l.now) ≤ total w l.fn.groups.rows.rows) → (w : HeldRow → ℕ) →
       total w l.groups.rows.rows + total w (ended_rows (take l.edge-index l.now)) ≡ total w l.fn.groups.rows.rows + total w (started_rows (take l.edge-index l.now));
+  touched : (q : List Datum) → list_any (same_cells q) l.groups.touched.items ≡ list_any (same_cells q) (keys_of (key_data l.fn.groups.key.items) (take l.edge-index l.now));
   same_key : l.groups.key ≡ l.fn.groups.key;
   same_aggs : l.groups.aggs ≡ l.fn.groups.aggs;
 }

@@ -1,4 +1,5 @@
-use Rattle.std.specs.Prelude.{◌≡◌, ◌+◌, ℕ, ◌∷◌}
+use Rattle.std.specs.Prelude.{◌≡◌, ◌+◌, ℕ, ◌∷◌, ◌||◌}
+use Rattle.std.specs.List.{list_any}
 use Rattle.std.proofs.Common.{subst, sym, ◌∙◌, ap, arith}
 use Rattle.indexmap.specs.IndexMap.{get}
 use Rattle.tw_rows.specs.Bag.{total}
@@ -17,6 +18,12 @@ add_to-requires c =
       subst (λ b. IsTotalOf (get same_cells g.totals k) b (of_key g.key.items k g.rows.rows)) (sym c.deref-2.ensures.value) (c.requires.counted.of_key k),
       let f = few_of_key g.key.items k g.rows.rows in let e = c.len.ensures in let z = c.if-len.false in omega (arith, f, e, z),
     )
+
+pub returns-clause-touched : goal.returns-clause-touched
+returns-clause-touched c = λ q.
+    let g = c.args.self.now in
+    let is : c.in_ok-key.key ≡ key_data g.key.items c.args.cells.now = c.in_ok-key.ensures ∙ ap (λ l. key_data l c.items.result.now) c.deref.ensures.value ∙ ap (key_data g.key.items) c.items.ensures in
+    c.in_ok-add_to.ensures.touched q ∙ ap (λ l. list_any (same_cells q) g.touched.items || same_cells q l) is
 
 pub returns-clause-counted : goal.returns-clause-counted
 returns-clause-counted c =

@@ -1,6 +1,8 @@
-use Rattle.std.specs.Prelude.{◌≡◌, ◌+◌, ℕ, ◌∷◌, refl}
+use Rattle.std.specs.Prelude.{◌≡◌, ◌+◌, ℕ, ◌∷◌, ◌||◌, refl}
+use Rattle.std.specs.List.{list_any}
 use Rattle.std.proofs.Common.{subst, sym, ◌∙◌, ap}
 use Rattle.tw_rows.specs.Bag.{SameBag, total}
+use Rattle.tw_rows.specs.SameCells.{same_cells}
 use Rattle.tw_rows.specs.declared.edge.HeldRow.{HeldRow}
 use Rattle.snapshot_agg.specs.Words.{key_data}
 use Rattle.snapshot_agg.proofs.Totaling.{of_key, own_key, totaled_taken}
@@ -12,9 +14,9 @@ take_from-requires c =
     let rows2 = c.take.new.self.rows in
     let cells = c.args.cells.now in
     let k = c.in_ok-key.key in
-    let is : k ≡ key_data g.key.items cells = c.in_ok-key.ensures ∙ ap (λ l. key_data l c.items-2.result.now) c.deref.ensures.value ∙ ap (key_data g.key.items) c.items-2.ensures in
+    let is : k ≡ key_data g.key.items cells = c.in_ok-key.ensures ∙ ap (λ l. key_data l c.items.result.now) c.deref.ensures.value ∙ ap (key_data g.key.items) c.items.ensures in
     let more : (w : HeldRow → ℕ) → total w g.rows.rows ≡ total w rows2 + w (record { cells = cells; start = c.args.start }) =
-    λ w. c.if-not-take.ensures.taken refl w ∙ ap (λ l. total w rows2 + w (record { cells = l; start = c.args.start })) c.items.ensures in (
+    λ w. c.if-not-take.ensures.taken refl w ∙ ap (λ l. total w rows2 + w (record { cells = l; start = c.args.start })) c.items-2.ensures in (
       g.aggs.items,
       of_key g.key.items k g.rows.rows,
       of_key g.key.items k rows2,
@@ -29,8 +31,14 @@ returns-clause-counted c =
     let rows2 = c.take.new.self.rows in
     let cells = c.args.cells.now in
     let k = c.in_ok-key.key in
-    let is : k ≡ key_data g.key.items cells = c.in_ok-key.ensures ∙ ap (λ l. key_data l c.items-2.result.now) c.deref.ensures.value ∙ ap (key_data g.key.items) c.items-2.ensures in
+    let is : k ≡ key_data g.key.items cells = c.in_ok-key.ensures ∙ ap (λ l. key_data l c.items.result.now) c.deref.ensures.value ∙ ap (key_data g.key.items) c.items.ensures in
     let more : (w : HeldRow → ℕ) → total w g.rows.rows ≡ total w rows2 + w (record { cells = cells; start = c.args.start }) =
-    λ w. c.if-not-take.ensures.taken refl w ∙ ap (λ l. total w rows2 + w (record { cells = l; start = c.args.start })) c.items.ensures in
-    totaled_taken g.key.items rows2 g.rows.rows cells c.args.start more g.aggs.items g.totals c.take_from.new.totals k is c.requires.counted c.take_from.ensures.others
-    (λ rs rest h same. c.take_from.ensures.own g.aggs.items rs rest h (subst (λ l. SameBag rs (l ∷ rest)) (sym c.items-3.ensures) same))
+    λ w. c.if-not-take.ensures.taken refl w ∙ ap (λ l. total w rows2 + w (record { cells = l; start = c.args.start })) c.items-2.ensures in
+    totaled_taken g.key.items rows2 g.rows.rows cells c.args.start more g.aggs.items g.totals c.take_from.new.totals k is c.requires.counted c.in_ok-take_from.ensures.others
+    (λ rs rest h same. c.in_ok-take_from.ensures.own g.aggs.items rs rest h (subst (λ l. SameBag rs (l ∷ rest)) (sym c.items-3.ensures) same))
+
+pub returns-clause-touched : goal.returns-clause-touched
+returns-clause-touched c = λ q.
+    let g = c.args.self.now in
+    let is : c.in_ok-key.key ≡ key_data g.key.items c.args.cells.now = c.in_ok-key.ensures ∙ ap (λ l. key_data l c.items.result.now) c.deref.ensures.value ∙ ap (key_data g.key.items) c.items.ensures in
+    c.in_ok-take_from.ensures.touched q ∙ ap (λ l. list_any (same_cells q) g.touched.items || same_cells q l) is

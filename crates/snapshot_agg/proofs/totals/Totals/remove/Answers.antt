@@ -12,8 +12,8 @@ overflow_sub-self c =
     let b = length_same _ _ r.4 in
     omega (arith, a, b)
 
-pub returns : goal.returns
-returns c = λ aggs rows rest h same.
+pub returns-clause-own : goal.returns-clause-own
+returns-clause-own c = λ aggs rows rest h same.
     let e = length_same rows (c.args.cells.now ∷ rest) same in
     let a = h.is_count in
     let b = h.few in

@@ -32,7 +32,7 @@ loop-state-preserved c = λ aggs rows h.
     let l = c.deref-state-items.result.now in
     let fits : SFits w64 c.in-Some.x = search rules in
     let same : to_z w64 (of_z w64 c.in-Some.x) ≡ c.in-Some.x = to_z-of_z w64 c.in-Some.x fits in
-    let push : c.push.new.self.items ≡ c.loop-state.data.items ++ Int c.in-Some.x ∷ [] = cc c.in_ok-push-in-Some.ensures.items in
+    let push : c.push.new.self.items ≡ c.loop-state.data.items ++ Int c.in-Some.x ∷ [] = cc c.in_ok-push-in-Some.ensures.ok in
     row_more c.args.key.now aggs c.loop-state.state-index c.loop-state.data.items c.push.new.self.items rows l c.state-item.result c.in-Some.x c.in-Some.x
     (states_at c.loop-state.state-index l aggs c.state-item.result rows c.loop-state-test.true c.state-item.is
     (subst (λ x. AreStatesOf x aggs rows) (sym c.deref-state-items.ensures.value) h.are_states))
@@ -41,6 +41,6 @@ loop-state-preserved c = λ aggs rows h.
 
 pub returns : goal.returns
 returns c = λ aggs rows h.
-    ap Some (c.in_ok-row.ensures.ok ∙ c.deref.ensures.value)
+    ap Some (c.in_ok-row.ensures.ok ∙ c.as_slice.ensures)
     ∙ row_whole c.args.self.now.count c.loop-state.state-index c.args.self.now.states.items c.args.key.now aggs c.loop-state.data.items rows c.if-self-gt-MOST_ROWS.false
     (some_rows c.args.self.now.count c.args.self.now.states.items c.requires.0 aggs c.requires.1 rows c.requires.2 c.requires.3 h) (let z = c.loop-state-test.false in let y = ap length c.deref-state-items.ensures.value in omega (arith, z, y)) h (c.loop-state.invariant aggs rows h)
