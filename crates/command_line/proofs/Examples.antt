@@ -44,7 +44,7 @@ module _ (q r : Text) where
   unfolding clap_on_literals are_taken
   no_other_word_is_taken = refl
 
-  another_mode_is_not_taken : are_taken (codes "tempo" ∷ query ∷ codes "--mode=sample" ∷ []) ≡ false
+  another_mode_is_not_taken : are_taken (codes "tempo" ∷ query ∷ codes "--mode=samples" ∷ []) ≡ false
   unfolding clap_on_literals are_taken
   another_mode_is_not_taken = refl
 

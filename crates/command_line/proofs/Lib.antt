@@ -6,5 +6,6 @@ pub mod Distinct
 pub mod Taken
 pub mod Faults
 pub mod Spelled
+pub mod Same
 pub mod Printed
 mod Examples

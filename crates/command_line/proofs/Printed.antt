@@ -17,32 +17,34 @@ use Rattle.command_line.specs.Words.{AreWithin, Asked, SpellsCommand, are_taken,
 use Rattle.admission.specs.declared.policy.Lateness.{Lateness}
 use Rattle.admission.specs.declared.policy.Lateness.TheVariants.{Refuse, Drop, Adjust}
 use Rattle.command_line.specs.declared.words.Mode.{Mode}
-use Rattle.command_line.specs.declared.words.Mode.TheVariants.{Run, Explain}
+use Rattle.command_line.specs.declared.words.Mode.TheVariants.{Run, Explain, Sample}
 use Rattle.command_line.proofs.Taken.{Passes, modes, ways, tempo_shape}
 use Rattle.command_line.proofs.Faults.{takes_from}
 
 -- the words, with the modes and the numbers as texts
-abbrev words_with : Text → Text → Text → Text → Text → Text → Bool → List Text
-words_with query mode number late lateness period header =
-    codes "tempo" ∷ (codes "--query=" ++ query) ∷ (codes "--mode=" ++ mode) ∷ (codes "--batch=" ++ number) ∷ (codes "--late=" ++ late)
-    ∷ (codes "--lateness=" ++ lateness) ∷ (codes "--punctuate=" ++ period) ∷ header_words header
+abbrev words_with : Text → Text → Text → Text → Text → Text → Text → Text → Bool → List Text
+words_with query mode batch late lateness period number events header =
+    codes "tempo" ∷ (codes "--query=" ++ query) ∷ (codes "--mode=" ++ mode) ∷ (codes "--batch=" ++ batch) ∷ (codes "--late=" ++ late)
+    ∷ (codes "--lateness=" ++ lateness) ∷ (codes "--punctuate=" ++ period) ∷ (codes "--number=" ++ number) ∷ (codes "--events=" ++ events) ∷ header_words header
 
 -- what clap asks of a word with a value that has this test
 abbrev asks : Bool → Bool
 asks t = (t && true) && true
 
-all_pass : (a b c d e : Bool) → a ≡ true → b ≡ true → c ≡ true → d ≡ true → e ≡ true → (asks a && (asks b && (asks c && (asks d && (asks e && true))))) ≡ true
-all_pass a b c d e p q r s t = rw (p, q, r, s, t) refl
+all_pass : (a b c d e f g : Bool) → a ≡ true → b ≡ true → c ≡ true → d ≡ true → e ≡ true → f ≡ true → g ≡ true →
+    (asks a && (asks b && (asks c && (asks d && (asks e && (asks f && (asks g && true))))))) ≡ true
+all_pass a b c d e f g p q r s t u v = rw (p, q, r, s, t, u, v) refl
 
-module _ (query mode number late lateness period : Text) where
+module _ (query mode batch late lateness period number events : Text) where
   abbrev given : Bool → List Text
-  given header = words_with query mode number late lateness period header
+  given header = words_with query mode batch late lateness period number events header
 
-  passes : (header : Bool) → accepts false modes mode ≡ true → accepts false (vp.Unsigned 1 8192) number ≡ true → accepts false ways late ≡ true →
-      accepts false (vp.Unsigned 0 1152921504606846975) lateness ≡ true → accepts false (vp.Unsigned 0 1152921504606846975) period ≡ true → Passes tempo_shape (drop 1 (given header))
+  passes : (header : Bool) → accepts false modes mode ≡ true → accepts false (vp.Unsigned 1 8192) batch ≡ true → accepts false ways late ≡ true →
+      accepts false (vp.Unsigned 0 1152921504606846975) lateness ≡ true → accepts false (vp.Unsigned 0 1152921504606846975) period ≡ true →
+      accepts false (vp.Unsigned 0 4294967295) number ≡ true → accepts false (vp.Unsigned 1 1000000) events ≡ true → Passes tempo_shape (drop 1 (given header))
   unfolding clap_on_literals
-  passes true a b c d e = record { walks = all_pass (accepts false modes mode) (accepts false (vp.Unsigned 1 8192) number) (accepts false ways late) (accepts false (vp.Unsigned 0 1152921504606846975) lateness) (accepts false (vp.Unsigned 0 1152921504606846975) period) a b c d e; settles = refl; query = refl }
-  passes false a b c d e = record { walks = all_pass (accepts false modes mode) (accepts false (vp.Unsigned 1 8192) number) (accepts false ways late) (accepts false (vp.Unsigned 0 1152921504606846975) lateness) (accepts false (vp.Unsigned 0 1152921504606846975) period) a b c d e; settles = refl; query = refl }
+  passes true a b c d e f g = record { walks = all_pass (accepts false modes mode) (accepts false (vp.Unsigned 1 8192) batch) (accepts false ways late) (accepts false (vp.Unsigned 0 1152921504606846975) lateness) (accepts false (vp.Unsigned 0 1152921504606846975) period) (accepts false (vp.Unsigned 0 4294967295) number) (accepts false (vp.Unsigned 1 1000000) events) a b c d e f g; settles = refl; query = refl }
+  passes false a b c d e f g = record { walks = all_pass (accepts false modes mode) (accepts false (vp.Unsigned 1 8192) batch) (accepts false ways late) (accepts false (vp.Unsigned 0 1152921504606846975) lateness) (accepts false (vp.Unsigned 0 1152921504606846975) period) (accepts false (vp.Unsigned 0 4294967295) number) (accepts false (vp.Unsigned 1 1000000) events) a b c d e f g; settles = refl; query = refl }
 
   query_is : (header : Bool) → first_of (codes "query") (matches_of tempo_app (given header)) ≡ Some query
   unfolding clap_on_literals
@@ -54,7 +56,7 @@ module _ (query mode number late lateness period : Text) where
   mode_is true = refl
   mode_is false = refl
 
-  batch_is : (header : Bool) → first_of (codes "batch") (matches_of tempo_app (given header)) ≡ Some number
+  batch_is : (header : Bool) → first_of (codes "batch") (matches_of tempo_app (given header)) ≡ Some batch
   unfolding clap_on_literals
   batch_is true = refl
   batch_is false = refl
@@ -74,6 +76,16 @@ module _ (query mode number late lateness period : Text) where
   punctuate_is true = refl
   punctuate_is false = refl
 
+  number_is : (header : Bool) → first_of (codes "number") (matches_of tempo_app (given header)) ≡ Some number
+  unfolding clap_on_literals
+  number_is true = refl
+  number_is false = refl
+
+  events_is : (header : Bool) → first_of (codes "events") (matches_of tempo_app (given header)) ≡ Some events
+  unfolding clap_on_literals
+  events_is true = refl
+  events_is false = refl
+
   header_is : (header : Bool) → first_of (codes "header") (matches_of tempo_app (given header)) ≡ Some (bool_text header)
   unfolding clap_on_literals
   header_is true = refl
@@ -82,6 +94,7 @@ module _ (query mode number late lateness period : Text) where
 mode_passes : (m : Mode) → accepts false modes (mode_text m) ≡ true
 mode_passes Run = refl
 mode_passes Explain = refl
+mode_passes Sample = refl
 
 late_passes : (l : Lateness) → accepts false ways (late_text l) ≡ true
 late_passes Refuse = refl
@@ -94,15 +107,15 @@ no_plus (d ∷ ds) h =
     let plus : (d == 43) ≡ false = ne_eqb d 43 (λ e. omega (arith, digit_from_value d h.1.0)) in
     ap (λ (b : Bool). drop (cond b 1 0) (d ∷ ds)) plus
 
-number_is : (n : ℕ) → n < 2 ^ 64 → (without_leading_plus (decimal n) ≡ decimal n) × (digits_value 10 (without_leading_plus (decimal n)) ≡ n) × IsNumeral 10 (decimal n)
-number_is n fits =
+decimal_said : (n : ℕ) → n < 2 ^ 64 → (without_leading_plus (decimal n) ≡ decimal n) × (digits_value 10 (without_leading_plus (decimal n)) ≡ n) × IsNumeral 10 (decimal n)
+decimal_said n fits =
     let written = decimal_is_IsNumeral n fits in
     let same = no_plus (decimal n) written.0 in
     (same, ap (digits_value 10) same ∙ written.1, written.0)
 
 in_range : (low high n : ℕ) → low ≤ n → n ≤ high → n < 2 ^ 64 → accepts false (vp.Unsigned low high) (decimal n) ≡ true
 in_range low high n least most small =
-    let number = number_is n small in
+    let number = decimal_said n small in
     Accepts-accepts false (vp.Unsigned low high) (decimal n)
     (rw number.0 number.2, rw number.1 small, rw number.1 least, rw number.1 most)
 
@@ -112,19 +125,26 @@ printed a w =
     let batch : a.batch < 2 ^ 64 = omega (arith, w.most) in
     let lateness : a.policy.lateness < 2 ^ 64 = omega (arith, w.lateness) in
     let period : a.policy.period < 2 ^ 64 = omega (arith, w.period) in
+    let number : a.number < 2 ^ 64 = omega (arith, w.number) in
+    let events : a.events < 2 ^ 64 = omega (arith, w.events) in
     let m = mode_text a.mode in
+    let b = decimal a.batch in
     let l = late_text a.policy.late in
-    let number = decimal a.batch in
     let older = decimal a.policy.lateness in
     let every = decimal a.policy.period in
+    let n = decimal a.number in
+    let many = decimal a.events in
     record {
-      taken = takes_from modes ways (words_for a) refl (passes a.query m number l older every a.header (mode_passes a.mode) (in_range 1 8192 a.batch w.least w.most batch)
-          (late_passes a.policy.late) (in_range 0 1152921504606846975 a.policy.lateness (omega arith) w.lateness lateness) (in_range 0 1152921504606846975 a.policy.period (omega arith) w.period period));
-      query = query_is a.query m number l older every a.header;
-      mode = mode_is a.query m number l older every a.header;
-      batch = ap (option_map number_said) (batch_is a.query m number l older every a.header) ∙ ap (λ (n : ℕ). Some n) (number_is a.batch batch).1;
-      header = header_is a.query m number l older every a.header;
-      late = late_is a.query m number l older every a.header;
-      lateness = ap (option_map number_said) (lateness_is a.query m number l older every a.header) ∙ ap (λ (n : ℕ). Some n) (number_is a.policy.lateness lateness).1;
-      punctuate = ap (option_map number_said) (punctuate_is a.query m number l older every a.header) ∙ ap (λ (n : ℕ). Some n) (number_is a.policy.period period).1;
+      taken = takes_from modes ways (words_for a) refl (passes a.query m b l older every n many a.header (mode_passes a.mode) (in_range 1 8192 a.batch w.least w.most batch)
+          (late_passes a.policy.late) (in_range 0 1152921504606846975 a.policy.lateness (omega arith) w.lateness lateness) (in_range 0 1152921504606846975 a.policy.period (omega arith) w.period period)
+          (in_range 0 4294967295 a.number (omega arith) w.number number) (in_range 1 1000000 a.events w.some_events w.events events));
+      query = query_is a.query m b l older every n many a.header;
+      mode = mode_is a.query m b l older every n many a.header;
+      batch = ap (option_map number_said) (batch_is a.query m b l older every n many a.header) ∙ ap (λ (n : ℕ). Some n) (decimal_said a.batch batch).1;
+      header = header_is a.query m b l older every n many a.header;
+      late = late_is a.query m b l older every n many a.header;
+      lateness = ap (option_map number_said) (lateness_is a.query m b l older every n many a.header) ∙ ap (λ (n : ℕ). Some n) (decimal_said a.policy.lateness lateness).1;
+      punctuate = ap (option_map number_said) (punctuate_is a.query m b l older every n many a.header) ∙ ap (λ (n : ℕ). Some n) (decimal_said a.policy.period period).1;
+      number = ap (option_map number_said) (number_is a.query m b l older every n many a.header) ∙ ap (λ (n : ℕ). Some n) (decimal_said a.number number).1;
+      events = ap (option_map number_said) (events_is a.query m b l older every n many a.header) ∙ ap (λ (n : ℕ). Some n) (decimal_said a.events events).1;
     }

@@ -1,5 +1,5 @@
 -- Words that are taken spell a command, and clap's getters give it.
-use Rattle.std.proofs.Common.{◌≡◌, ◌∙◌, ◌≤◌, ◌||◌, Bool, true, false, refl, sym, ap, true≢false, List, codes, Some, option_map}
+use Rattle.std.proofs.Common.{◌≡◌, ◌∙◌, ◌≤◌, ◌||◌, ℕ, Bool, true, false, refl, sym, ap, true≢false, List, codes, Some, option_map}
 use Rattle.std.specs.Str.{bytes_eq}
 use Rattle.std.proofs.lemmas.Slice.Eq.{bytes_eq-Decides}
 use Rattle.clap.specs.Values.{IsUnsignedIn, bool_text}
@@ -16,17 +16,18 @@ use Rattle.admission.specs.declared.policy.Lateness.{Lateness}
 use Rattle.admission.specs.declared.policy.Lateness.TheVariants.{Refuse, Drop, Adjust}
 use Rattle.clap.specs.ValueTests.{accepts}
 use Rattle.command_line.specs.declared.words.Mode.{Mode}
-use Rattle.command_line.specs.declared.words.Mode.TheVariants.{Run, Explain}
-use Rattle.command_line.proofs.Taken.{batch_built, header_built, last_rows, late_built, mode_built, modes, ways, tempo_shape, values_of_words}
+use Rattle.command_line.specs.declared.words.Mode.TheVariants.{Run, Explain, Sample}
+use Rattle.command_line.proofs.Taken.{header_built, last_rows, late_built, mode_built, modes, ways, tempo_shape, values_of_words}
 use Rattle.command_line.proofs.Faults.{passes_of}
 
 mode_said : (v : Text) → value_passes mode_built v ≡ true → (m : Mode) × (v ≡ mode_text m)
-mode_said v e = go (bytes_eq (codes "run") v) refl (bytes_eq (codes "explain") v) refl e
+mode_said v e = go (bytes_eq (codes "run") v) refl (bytes_eq (codes "explain") v) refl (bytes_eq (codes "sample") v) refl e
   where
-    go : (a : Bool) → bytes_eq (codes "run") v ≡ a → (b : Bool) → bytes_eq (codes "explain") v ≡ b → (a || (b || false)) ≡ true → (m : Mode) × (v ≡ mode_text m)
-    go true p b q x = (Run, sym ((bytes_eq-Decides (codes "run") v).0 p))
-    go false p true q x = (Explain, sym ((bytes_eq-Decides (codes "explain") v).0 q))
-    go false p false q x = absurd (true≢false (sym x))
+    go : (a : Bool) → bytes_eq (codes "run") v ≡ a → (b : Bool) → bytes_eq (codes "explain") v ≡ b → (d : Bool) → bytes_eq (codes "sample") v ≡ d → (a || (b || (d || false))) ≡ true → (m : Mode) × (v ≡ mode_text m)
+    go true p b q d r x = (Run, sym ((bytes_eq-Decides (codes "run") v).0 p))
+    go false p true q d r x = (Explain, sym ((bytes_eq-Decides (codes "explain") v).0 q))
+    go false p false q true r x = (Sample, sym ((bytes_eq-Decides (codes "sample") v).0 r))
+    go false p false q false r x = absurd (true≢false (sym x))
 
 header_said : (v : Text) → value_passes header_built v ≡ true → (b : Bool) × (v ≡ bool_text b)
 header_said v e = go (bytes_eq v (codes "true")) refl (bytes_eq v (codes "false")) refl e
@@ -45,11 +46,8 @@ late_said v e = go (bytes_eq (codes "refuse") v) refl (bytes_eq (codes "drop") v
     go false p false q true r x = (Adjust, sym ((bytes_eq-Decides (codes "adjust") v).0 r))
     go false p false q false r x = absurd (true≢false (sym x))
 
-time_said : (v : Text) → accepts false (vp.Unsigned 0 1152921504606846975) v ≡ true → IsUnsignedIn 0 1152921504606846975 v
-time_said v e = accepts-Accepts false (vp.Unsigned 0 1152921504606846975) v e
-
-batch_said : (v : Text) → value_passes batch_built v ≡ true → IsUnsignedIn 1 8192 v
-batch_said v e = accepts-Accepts false (vp.Unsigned 1 8192) v e
+number_is_said : (least most : ℕ) (v : Text) → accepts false (vp.Unsigned least most) v ≡ true → IsUnsignedIn least most v
+number_is_said least most v e = accepts-Accepts false (vp.Unsigned least most) v e
 
 -- the command that the words spell
 pub record Spelled (words : List Text) : Type 0 where
@@ -66,10 +64,12 @@ spelled words taken =
     let values = values_of_words given (passes_of modes ways words taken) in
     let mode = mode_said values.mode.text values.mode.passes in
     let header = header_said values.header.text values.header.passes in
-    let range = batch_said values.batch.text values.batch.passes in
+    let batch = number_is_said 1 8192 values.batch.text values.batch.passes in
     let late = late_said values.late.text values.late.passes in
-    let lateness = time_said values.lateness.text values.lateness.passes in
-    let punctuate = time_said values.punctuate.text values.punctuate.passes in
+    let lateness = number_is_said 0 1152921504606846975 values.lateness.text values.lateness.passes in
+    let punctuate = number_is_said 0 1152921504606846975 values.punctuate.text values.punctuate.passes in
+    let number = number_is_said 0 4294967295 values.number.text values.number.passes in
+    let events = number_is_said 1 1000000 values.events.text values.events.passes in
     record {
       asked = record {
         query = values.query.text;
@@ -77,6 +77,8 @@ spelled words taken =
         batch = number_said values.batch.text;
         header = header.0;
         policy = record { lateness = number_said values.lateness.text; late = late.0; period = number_said values.punctuate.text };
+        number = number_said values.number.text;
+        events = number_said values.events.text;
       };
       spells = record {
         taken = taken;
@@ -87,18 +89,19 @@ spelled words taken =
         late = values.late.first ∙ ap (λ (t : Text). Some t) late.1;
         lateness = ap (option_map number_said) values.lateness.first;
         punctuate = ap (option_map number_said) values.punctuate.first;
+        number = ap (option_map number_said) values.number.first;
+        events = ap (option_map number_said) values.events.first;
       };
-      within = record { least = range.2; most = range.3; lateness = lateness.3; period = punctuate.3 };
+      within = record { least = batch.2; most = batch.3; lateness = lateness.3; period = punctuate.3; number = number.3; some_events = events.2; events = events.3 };
       shows = λ f same. record {
         query = first_value-rows f (codes "query") ∙ ap (first_of (codes "query")) same ∙ values.query.first;
         mode = first_value-rows f (codes "mode") ∙ ap (first_of (codes "mode")) same ∙ values.mode.first ∙ ap (λ (t : Text). Some t) mode.1;
-        number = values.batch.text;
-        batch_text = one_text-rows f (codes "batch") ∙ ap (one_of (codes "batch")) same ∙ values.batch.one;
-        in_range = range;
-        batch = refl;
+        batch = record { text = values.batch.text; one = one_text-rows f (codes "batch") ∙ ap (one_of (codes "batch")) same ∙ values.batch.one; in_range = batch; number_is = refl };
         header = one_text-rows f (codes "header") ∙ ap (one_of (codes "header")) same ∙ values.header.one ∙ ap (λ (t : Text). Some t) header.1;
         late = first_value-rows f (codes "late") ∙ ap (first_of (codes "late")) same ∙ values.late.first ∙ ap (λ (t : Text). Some t) late.1;
         lateness = record { text = values.lateness.text; one = one_text-rows f (codes "lateness") ∙ ap (one_of (codes "lateness")) same ∙ values.lateness.one; in_range = lateness; number_is = refl };
         punctuate = record { text = values.punctuate.text; one = one_text-rows f (codes "punctuate") ∙ ap (one_of (codes "punctuate")) same ∙ values.punctuate.one; in_range = punctuate; number_is = refl };
+        number = record { text = values.number.text; one = one_text-rows f (codes "number") ∙ ap (one_of (codes "number")) same ∙ values.number.one; in_range = number; number_is = refl };
+        events = record { text = values.events.text; one = one_text-rows f (codes "events") ∙ ap (one_of (codes "events")) same ∙ values.events.one; in_range = events; number_is = refl };
       };
     }

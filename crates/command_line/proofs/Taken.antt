@@ -8,7 +8,7 @@ use Rattle.clap.specs.Takes.{is_given, settle_passes, use_passes, walk_passes}
 use Rattle.clap.specs.declared.builder.value_parser.ValueParser.{ValueParser}
 use Rattle.clap.specs.declared.builder.value_parser.Reading.TheVariants as reading
 use Rattle.clap.proofs.WalkLemmas.{both}
-use Rattle.command_line.specs.Options.{among, batch_rule, header_rule, late_names, late_rule, lateness_rule, mode_names, mode_rule, option_rules, punctuate_rule, query_rule, tempo_app_with}
+use Rattle.command_line.specs.Options.{among, batch_rule, events_rule, header_rule, late_names, late_rule, lateness_rule, mode_names, mode_rule, number_rule, option_rules, punctuate_rule, query_rule, tempo_app_with}
 use Rattle.command_line.proofs.Distinct.{Each, are_distinct, defaults_keep, each_in, one_of_id, row_by_default}
 use Rattle.command_line.proofs.Kept.{IsIn, settling_keeps, walk_keeps}
 use Rattle.command_line.proofs.Rows.{AllFit, Reads, default_fits, flag_use, given_has, no_default, reads_of, row_found, set_use}
@@ -44,6 +44,12 @@ lateness_built = built_rule lateness_rule
 
 abbrev pub punctuate_built : Rule
 punctuate_built = built_rule punctuate_rule
+
+abbrev pub number_built : Rule
+number_built = built_rule number_rule
+
+abbrev pub events_built : Rule
+events_built = built_rule events_rule
 
 abbrev pub help_built : Rule
 help_built = built_rule help_rule
@@ -82,6 +88,12 @@ of_lateness = inr (inr (inr (inr (inr (inl refl)))))
 of_punctuate : IsIn punctuate_built tempo_rules
 of_punctuate = inr (inr (inr (inr (inr (inr (inl refl))))))
 
+of_number : IsIn number_built tempo_rules
+of_number = inr (inr (inr (inr (inr (inr (inr (inl refl)))))))
+
+of_events : IsIn events_built tempo_rules
+of_events = inr (inr (inr (inr (inr (inr (inr (inr (inl refl))))))))
+
 -- ---- one use, and one default: a line for each option
 
 Uses : Rule → Type 0
@@ -110,8 +122,14 @@ uses = (
             (
               set_use tempo_rules punctuate_built of_punctuate,
               (
-                (λ vs rows p k. absurd (by_help vs rows p)),
-                tt,
+                set_use tempo_rules number_built of_number,
+                (
+                  set_use tempo_rules events_built of_events,
+                  (
+                    (λ vs rows p k. absurd (by_help vs rows p)),
+                    tt,
+                  ),
+                ),
               ),
             ),
           ),
@@ -148,8 +166,14 @@ keeps = (
             (
               default_fits tempo_rules punctuate_built of_punctuate (codes "0") refl refl,
               (
-                keeps_none help_built refl,
-                tt,
+                default_fits tempo_rules number_built of_number (codes "0") refl refl,
+                (
+                  default_fits tempo_rules events_built of_events (codes "1000") refl refl,
+                  (
+                    keeps_none help_built refl,
+                    tt,
+                  ),
+                ),
               ),
             ),
           ),
@@ -194,6 +218,8 @@ pub record Values (rows : List Row) : Type 0 where
   pub late : Reads late_built (codes "late") rows
   pub lateness : Reads lateness_built (codes "lateness") rows
   pub punctuate : Reads punctuate_built (codes "punctuate") rows
+  pub number : Reads number_built (codes "number") rows
+  pub events : Reads events_built (codes "events") rows
 
 value_of_rule : (a : Rule) → IsIn a tempo_rules → reading_by a ≡ reading.AsWritten → (rows : List Row) → K rows → has_row a.id rows ≡ true → Reads a a.id rows
 value_of_rule a of plain rows k has = reads_of tempo_rules a a.id rows (λ x in_ same. one_of_id tempo_rules apart x a in_ of same) plain (row_found tempo_rules a.id rows k has)
@@ -212,4 +238,6 @@ values_of_words words p =
       late = value_of_rule late_built of_late refl rows k (row_by_default late_built (codes "refuse") refl refl tempo_rules of_late before);
       lateness = value_of_rule lateness_built of_lateness refl rows k (row_by_default lateness_built (codes "0") refl refl tempo_rules of_lateness before);
       punctuate = value_of_rule punctuate_built of_punctuate refl rows k (row_by_default punctuate_built (codes "0") refl refl tempo_rules of_punctuate before);
+      number = value_of_rule number_built of_number refl rows k (row_by_default number_built (codes "0") refl refl tempo_rules of_number before);
+      events = value_of_rule events_built of_events refl rows k (row_by_default events_built (codes "1000") refl refl tempo_rules of_events before);
     }

@@ -17,7 +17,7 @@ abbrev pub among : List Text → ValueParser
 among names = vp.Names (behind (map (λ name. behind name) names))
 
 abbrev pub mode_names : List Text
-mode_names = codes "run" ∷ codes "explain" ∷ []
+mode_names = codes "run" ∷ codes "explain" ∷ codes "sample" ∷ []
 
 abbrev pub late_names : List Text
 late_names = codes "refuse" ∷ codes "drop" ∷ codes "adjust" ∷ []
@@ -58,14 +58,22 @@ lateness_rule = time_rule (codes "lateness")
 abbrev pub punctuate_rule : Rule
 punctuate_rule = time_rule (codes "punctuate")
 
+-- --number: a whole number from 0 to 2^32 - 1, from which events are generated; 0 where it does not stand: --number 7
+abbrev pub number_rule : Rule
+number_rule = record (option_rule (codes "number")) { parser = Some (vp.Unsigned 0 4294967295); defaults = codes "0" ∷ [] }
+
+-- --events: how many events are generated, from 1 to 1000000; 1000 where it does not stand: --events 100
+abbrev pub events_rule : Rule
+events_rule = record (option_rule (codes "events")) { parser = Some (vp.Unsigned 1 1000000); defaults = codes "1000" ∷ [] }
+
 -- the options, where the values of --mode and of --late are given by parsers
 abbrev pub option_rules : ValueParser → ValueParser → List Rule
-option_rules modes ways = query_rule ∷ mode_rule modes ∷ batch_rule ∷ header_rule ∷ late_rule ways ∷ lateness_rule ∷ punctuate_rule ∷ []
+option_rules modes ways = query_rule ∷ mode_rule modes ∷ batch_rule ∷ header_rule ∷ late_rule ways ∷ lateness_rule ∷ punctuate_rule ∷ number_rule ∷ events_rule ∷ []
 
 -- the command tempo with its options; clap adds --help itself
 abbrev pub tempo_app_with : ValueParser → ValueParser → App
 tempo_app_with modes ways = fold with_rule (new_app (codes "tempo")) (option_rules modes ways)
 
--- the command tempo, where the values of --mode are run and explain, and those of --late refuse, drop and adjust
+-- the command tempo, where the values of --mode are run, explain and sample, and those of --late refuse, drop and adjust
 abbrev pub tempo_app : App
 tempo_app = tempo_app_with (among mode_names) (among late_names)

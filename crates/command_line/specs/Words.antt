@@ -12,27 +12,31 @@ use Rattle.admission.specs.declared.policy.Lateness.{Lateness}
 use Rattle.admission.specs.declared.policy.Lateness.TheVariants.{Refuse, Drop, Adjust}
 use Rattle.command_line.specs.Options.{tempo_app}
 use Rattle.command_line.specs.declared.words.Mode.{Mode}
-use Rattle.command_line.specs.declared.words.Mode.TheVariants.{Run, Explain}
+use Rattle.command_line.specs.declared.words.Mode.TheVariants.{Run, Explain, Sample}
 use Rattle.command_line.specs.declared.words.CommandLine.{CommandLine}
 use Rattle.command_line.specs.declared.words.WordsFault.{WordsFault}
 use Rattle.command_line.specs.declared.words.WordsFault.TheVariants.{Refused, Memory}
 
--- what is asked for: --query s asks for the query s in the mode Run, with batches of 1024 and no header
+-- what is asked for: --query s asks for the query s in the mode Run, with batches of 1024 and no header; in the mode Sample it
+-- would be for 1000 events from the number 0
 pub record Asked : Type 0 where
   pub query : Text
   pub mode : Mode
   pub batch : ℕ
   pub header : Bool
   pub policy : Policy
+  pub number : ℕ
+  pub events : ℕ
 
 -- what a command line asks for, with the query as text
 abbrev pub asked_by : CommandLine → Asked
-asked_by c = record { query = c.query.now; mode = c.mode; batch = c.batch; header = c.header; policy = c.policy }
+asked_by c = record { query = c.query.now; mode = c.mode; batch = c.batch; header = c.header; policy = c.policy; number = c.number; events = c.events }
 
 -- the word for a mode: explain for Explain
 abbrev pub mode_text : Mode → Text
 mode_text Run = codes "run"
 mode_text Explain = codes "explain"
+mode_text Sample = codes "sample"
 
 -- the word for what becomes of late lines: drop for Drop
 abbrev pub late_text : Lateness → Text
@@ -62,6 +66,8 @@ pub record SpellsCommand (words : List Text) (a : Asked) : Type 0 where
   pub late : value_of words (codes "late") ≡ Some (late_text a.policy.late)
   pub lateness : option_map number_said (value_of words (codes "lateness")) ≡ Some a.policy.lateness
   pub punctuate : option_map number_said (value_of words (codes "punctuate")) ≡ Some a.policy.period
+  pub number : option_map number_said (value_of words (codes "number")) ≡ Some a.number
+  pub events : option_map number_said (value_of words (codes "events")) ≡ Some a.events
 
 -- the word --header, where a header is asked for
 abbrev pub header_words : Bool → List Text
@@ -69,10 +75,12 @@ header_words true = codes "--header" ∷ []
 header_words false = []
 
 -- words that print what is asked for: tempo --query=s --mode=run --batch=1024 --late=refuse --lateness=0 --punctuate=0
+-- --number=0 --events=1000
 abbrev pub words_for : Asked → List Text
 words_for a =
     codes "tempo" ∷ (codes "--query=" ++ a.query) ∷ (codes "--mode=" ++ mode_text a.mode) ∷ (codes "--batch=" ++ decimal a.batch) ∷ (codes "--late=" ++ late_text a.policy.late)
-    ∷ (codes "--lateness=" ++ decimal a.policy.lateness) ∷ (codes "--punctuate=" ++ decimal a.policy.period) ∷ header_words a.header
+    ∷ (codes "--lateness=" ++ decimal a.policy.lateness) ∷ (codes "--punctuate=" ++ decimal a.policy.period)
+    ∷ (codes "--number=" ++ decimal a.number) ∷ (codes "--events=" ++ decimal a.events) ∷ header_words a.header
 
 -- the numbers of what is asked for are those that the options take
 pub record AreWithin (a : Asked) : Type 0 where
@@ -80,28 +88,30 @@ pub record AreWithin (a : Asked) : Type 0 where
   pub most : a.batch ≤ 8192
   pub lateness : a.policy.lateness ≤ 1152921504606846975
   pub period : a.policy.period ≤ 1152921504606846975
+  pub number : a.number ≤ 4294967295
+  pub some_events : 1 ≤ a.events
+  pub events : a.events ≤ 1000000
 
 -- the cause holds of the words: for Refused, clap does not take them; Memory may come with any words
 abbrev pub HasCause : List Text → WordsFault → Type 0
 HasCause words (Refused text) = are_taken words ≡ false
 HasCause words Memory = ⊤
 
--- clap's getters give this number for an option that is a time
-pub record ShowsTime (f : Found) (name : Text) (number : ℕ) : Type 0 where
+-- clap's getters give this number for an option that takes whole numbers from least to most: 7 for batch after --batch 007
+pub record ShowsNumber (f : Found) (name : Text) (least most number : ℕ) : Type 0 where
   pub text : Text
   pub one : one_text f name ≡ Some text
-  pub in_range : IsUnsignedIn 0 1152921504606846975 text
+  pub in_range : IsUnsignedIn least most text
   pub number_is : number_said text ≡ number
 
 -- clap's getters give what is asked for: the first value of query is s where the query s is asked for
 pub record ShowsCommand (f : Found) (a : Asked) : Type 0 where
   pub query : first_value f (codes "query") ≡ Some a.query
   pub mode : first_value f (codes "mode") ≡ Some (mode_text a.mode)
-  pub number : Text
-  pub batch_text : one_text f (codes "batch") ≡ Some number
-  pub in_range : IsUnsignedIn 1 8192 number
-  pub batch : number_said number ≡ a.batch
+  pub batch : ShowsNumber f (codes "batch") 1 8192 a.batch
   pub header : one_text f (codes "header") ≡ Some (bool_text a.header)
   pub late : first_value f (codes "late") ≡ Some (late_text a.policy.late)
-  pub lateness : ShowsTime f (codes "lateness") a.policy.lateness
-  pub punctuate : ShowsTime f (codes "punctuate") a.policy.period
+  pub lateness : ShowsNumber f (codes "lateness") 0 1152921504606846975 a.policy.lateness
+  pub punctuate : ShowsNumber f (codes "punctuate") 0 1152921504606846975 a.policy.period
+  pub number : ShowsNumber f (codes "number") 0 4294967295 a.number
+  pub events : ShowsNumber f (codes "events") 1 1000000 a.events

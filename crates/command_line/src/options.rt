@@ -3,13 +3,13 @@ ghost use Rattle.std.specs.Prelude.{◌≡◌, ◌∷◌, [], IfOk, List, codes,
 ghost use Rattle.std.specs.Borrow.{Bor};
 ghost use Rattle.clap.specs.Words.{Text, app_of, new_app, rule_of};
 ghost use Rattle.clap.specs.declared.builder.value_parser.ValueParser.TheVariants.{Names};
-ghost use Rattle.command_line.specs.Options.{batch_rule, header_rule, late_names, late_rule, lateness_rule, mode_names, mode_rule, punctuate_rule, query_rule, tempo_app_with};
+ghost use Rattle.command_line.specs.Options.{batch_rule, events_rule, header_rule, late_names, late_rule, lateness_rule, mode_names, mode_rule, number_rule, punctuate_rule, query_rule, tempo_app_with};
 
 use clap::builder::ValueParser;
 use clap::{Arg, ArgAction, Command};
 use std::alloc::{AllocError, Global};
 
-static MODES: [&str; 2] = ["run", "explain"];
+static MODES: [&str; 3] = ["run", "explain", "sample"];
 
 static WAYS: [&str; 3] = ["refuse", "drop", "adjust"];
 
@@ -37,7 +37,7 @@ fn mode_option<'a>(alloc: Global) -> Arg<'a>
         .action(ArgAction::Set)
         .value_parser(MODES.as_slice())
         .default_value("run")
-        .help("Whether the query is answered or explained")
+        .help("Whether the query is answered, explained, or answered for generated events")
 }
 
 fn batch_option<'a>(alloc: Global) -> Arg<'a>
@@ -99,6 +99,30 @@ fn punctuate_option<'a>(alloc: Global) -> Arg<'a>
         .help("The period of punctuations, or 0 for none")
 }
 
+fn number_option<'a>(alloc: Global) -> Arg<'a>
+    ensures rule { rule_of result ≡ number_rule }
+    ensures local { result.global ≡ false }
+{
+    Arg::new(alloc, "number")
+        .long("number")
+        .action(ArgAction::Set)
+        .value_parser(ValueParser::unsigned(0, 4294967295))
+        .default_value("0")
+        .help("The number that the generated events are drawn from")
+}
+
+fn events_option<'a>(alloc: Global) -> Arg<'a>
+    ensures rule { rule_of result ≡ events_rule }
+    ensures local { result.global ≡ false }
+{
+    Arg::new(alloc, "events")
+        .long("events")
+        .action(ArgAction::Set)
+        .value_parser(ValueParser::unsigned(1, 1000000))
+        .default_value("1000")
+        .help("How many events are generated")
+}
+
 fn bare_command<'a>(alloc: Global) -> Command<'a>
     ensures { app_of result ≡ new_app (codes "tempo") }
 {
@@ -118,5 +142,7 @@ pub(crate) fn tempo_command<'a>(alloc: Global) -> Result<Command<'a>, AllocError
         .arg(header_option(alloc))?
         .arg(late_option(alloc))?
         .arg(lateness_option(alloc))?
-        .arg(punctuate_option(alloc))
+        .arg(punctuate_option(alloc))?
+        .arg(number_option(alloc))?
+        .arg(events_option(alloc))
 }

@@ -7,14 +7,16 @@ fn told(alloc: Global, text: &str) -> Result<String, AllocError> {
     let words: Vec<&str> = text.split('|').collect(alloc)?;
     match read_words(alloc, words.as_slice()) {
         Ok(asked) => format!(in alloc;
-            "[{}] {:?} {} {} {:?} {} {}",
+            "[{}] {:?} {} {} {:?} {} {} {} {}",
             asked.query,
             asked.mode,
             asked.batch,
             asked.header,
             asked.policy.late,
             asked.policy.lateness,
-            asked.policy.period
+            asked.policy.period,
+            asked.number,
+            asked.events
         ),
         Err(WordsFault::Refused { .. }) => String::from_str(alloc, "refused"),
         Err(WordsFault::Memory) => String::from_str(alloc, "memory"),
@@ -24,36 +26,49 @@ fn told(alloc: Global, text: &str) -> Result<String, AllocError> {
 #[test]
 fn words_ask_for_their_command(rt: HostRuntime) {
     let cases = [
-        ("tempo|--query|q", "[q] Run 1024 false Refuse 0 0"),
-        ("tempo|--query|", "[] Run 1024 false Refuse 0 0"),
-        ("tempo|--query=", "[] Run 1024 false Refuse 0 0"),
-        ("tempo|--query=-q", "[-q] Run 1024 false Refuse 0 0"),
-        ("tempo|--query|-", "[-] Run 1024 false Refuse 0 0"),
-        ("tempo|--query|q|--", "[q] Run 1024 false Refuse 0 0"),
+        ("tempo|--query|q", "[q] Run 1024 false Refuse 0 0 0 1000"),
+        ("tempo|--query|", "[] Run 1024 false Refuse 0 0 0 1000"),
+        ("tempo|--query=", "[] Run 1024 false Refuse 0 0 0 1000"),
+        ("tempo|--query=-q", "[-q] Run 1024 false Refuse 0 0 0 1000"),
+        ("tempo|--query|-", "[-] Run 1024 false Refuse 0 0 0 1000"),
+        ("tempo|--query|q|--", "[q] Run 1024 false Refuse 0 0 0 1000"),
         (
             "tempo|--query|a b = c",
-            "[a b = c] Run 1024 false Refuse 0 0",
+            "[a b = c] Run 1024 false Refuse 0 0 0 1000",
         ),
-        ("tempo|--query|q|--batch=+7", "[q] Run 7 false Refuse 0 0"),
-        ("tempo|--batch|007|--query|q", "[q] Run 7 false Refuse 0 0"),
-        ("tempo|--query|q|--batch|1", "[q] Run 1 false Refuse 0 0"),
+        (
+            "tempo|--query|q|--batch=+7",
+            "[q] Run 7 false Refuse 0 0 0 1000",
+        ),
+        (
+            "tempo|--batch|007|--query|q",
+            "[q] Run 7 false Refuse 0 0 0 1000",
+        ),
+        (
+            "tempo|--query|q|--batch|1",
+            "[q] Run 1 false Refuse 0 0 0 1000",
+        ),
         (
             "tempo|--query|q|--batch|8192",
-            "[q] Run 8192 false Refuse 0 0",
+            "[q] Run 8192 false Refuse 0 0 0 1000",
         ),
         (
             "tempo|--query|q|--mode|run",
-            "[q] Run 1024 false Refuse 0 0",
+            "[q] Run 1024 false Refuse 0 0 0 1000",
         ),
         (
             "tempo|--header|--query=q|--mode|explain",
-            "[q] Explain 1024 true Refuse 0 0",
+            "[q] Explain 1024 true Refuse 0 0 0 1000",
         ),
         (
             "tempo|--query|q|--late|adjust|--lateness|5|--punctuate=1152921504606846975",
-            "[q] Run 1024 false Adjust 5 1152921504606846975",
+            "[q] Run 1024 false Adjust 5 1152921504606846975 0 1000",
         ),
-        ("--query|--query|q", "[q] Run 1024 false Refuse 0 0"),
+        (
+            "tempo|--query|q|--mode=sample|--number|4294967295|--events|+1000000",
+            "[q] Sample 1024 false Refuse 0 0 4294967295 1000000",
+        ),
+        ("--query|--query|q", "[q] Run 1024 false Refuse 0 0 0 1000"),
     ];
     for (text, wanted) in cases {
         let given = told(rt.alloc(), text).expect(&rt, "memory");
@@ -72,7 +87,9 @@ fn other_words_are_refused(rt: HostRuntime) {
         "tempo|--query|q|--batch|x",
         "tempo|--query|q|--batch|",
         "tempo|--query|q|--batch|18446744073709551617",
-        "tempo|--query|q|--mode|sample",
+        "tempo|--query|q|--number|4294967296",
+        "tempo|--query|q|--events|0",
+        "tempo|--query|q|--events|1000001",
         "tempo|--query|q|--mode|Run",
         "tempo|--query|q|--late|late",
         "tempo|--query|q|--lateness|1152921504606846976",
@@ -116,6 +133,8 @@ fn refusals_tell_what_is_wrong(rt: HostRuntime) {
         "--late",
         "--lateness",
         "--punctuate",
+        "--number",
+        "--events",
     ] {
         assert!(rt; help.as_str().contains(option), "at {option}");
     }

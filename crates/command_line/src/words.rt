@@ -1,9 +1,9 @@
 // The words, and what they ask for.
 ghost use Rattle.std.specs.Prelude.{◌≡◌, ℕ, Bool, IfErr, IfOk, Some, List, codes, map, true};
 ghost use Rattle.clap.specs.Words.{Text, found_of, kind_of, matches_of, one_text, first_value, rows_of};
-ghost use Rattle.clap.specs.Values.{IsUnsignedIn, bool_text};
+ghost use Rattle.clap.specs.Values.{bool_text};
 ghost use Rattle.command_line.specs.Options.{tempo_app};
-ghost use Rattle.command_line.specs.Words.{AreWithin, Asked, HasCause, ShowsCommand, ShowsTime, SpellsCommand, are_taken, asked_by, late_text, mode_text, number_said};
+ghost use Rattle.command_line.specs.Words.{AreWithin, Asked, HasCause, ShowsCommand, ShowsNumber, SpellsCommand, are_taken, asked_by, late_text, mode_text};
 ghost use Rattle.admission.specs.declared.policy.Lateness.{Lateness as SomeLateness};
 
 use crate::options::tempo_command;
@@ -19,6 +19,8 @@ pub enum Mode {
     Run,
     /// It is explained.
     Explain,
+    /// It is answered for generated events, and the lines of the answer are counted.
+    Sample,
 }
 
 /// What the words ask for. The query is a part of the words.
@@ -32,6 +34,10 @@ pub struct CommandLine<'a> {
     pub header: bool,
     /// How late lines and punctuations are taken.
     pub policy: Policy,
+    /// The number that generated events are drawn from.
+    pub number: u64,
+    /// How many events are generated.
+    pub events: u64,
 }
 
 /// Why words give no command line.
@@ -61,12 +67,13 @@ fn mode_of(matches: &ArgMatches<'_>) -> Mode
 {
     match matches.get_str("mode") {
         Some("explain") => Mode::Explain,
+        Some("sample") => Mode::Sample,
         _ => Mode::Run,
     }
 }
 
 fn batch_of(matches: &ArgMatches<'_>) -> usize
-    ensures { (t : Text) → one_text (found_of matches.now) (codes "batch") ≡ Some t → IsUnsignedIn 1 8192 t → result ≡ number_said t }
+    ensures { (n : ℕ) → ShowsNumber (found_of matches.now) (codes "batch") 1 8192 n → result ≡ n }
 {
     matches.get_one::<usize>("batch").unwrap_or(0)
 }
@@ -81,8 +88,8 @@ fn late_of(matches: &ArgMatches<'_>) -> Lateness
     }
 }
 
-fn time_of(matches: &ArgMatches<'_>, name: &str) -> u64
-    ensures { (n : ℕ) → ShowsTime (found_of matches.now) name.now n → result ≡ n }
+fn number_of(matches: &ArgMatches<'_>, name: &str) -> u64
+    ensures { (least most n : ℕ) → ShowsNumber (found_of matches.now) name.now least most n → result ≡ n }
 {
     matches.get_one::<u64>(name).unwrap_or(0)
 }
@@ -91,9 +98,9 @@ fn policy_of(matches: &ArgMatches<'_>) -> Policy
     ensures { (a : Asked) → ShowsCommand (found_of matches.now) a → result ≡ a.policy }
 {
     Policy {
-        lateness: time_of(matches, "lateness"),
+        lateness: number_of(matches, "lateness"),
         late: late_of(matches),
-        period: time_of(matches, "punctuate"),
+        period: number_of(matches, "punctuate"),
     }
 }
 
@@ -107,6 +114,8 @@ fn command_of<'a>(matches: &ArgMatches<'a>) -> CommandLine<'a>
         batch: batch_of(matches),
         header: header_of(matches),
         policy: policy_of(matches),
+        number: number_of(matches, "number"),
+        events: number_of(matches, "events"),
     }
 }
 

@@ -1,0 +1,4 @@
+pub mod Free
+pub mod Coming
+pub mod Bytes
+mod Examples

@@ -1,0 +1,35 @@
+// A sample against the reference, and counts of a text in parts.
+use crate::{LineCounts, Sample};
+use tw_rows::Memory;
+
+#[test]
+fn a_sample_is_that_of_its_number(rt: HostRuntime) -> Result<(), Memory> {
+    let mut sample = Sample::new(7, 2);
+    let mut line = Vec::new(rt.alloc());
+    for wanted in [
+        "trades,interval,1,4,0,S0,107,7",
+        "trades,interval,3,16,1,S0,117,2",
+    ] {
+        if let Some(next) = sample.next_line() {
+            next.write(&mut line)?;
+        }
+        assert!(rt; line.as_slice() == wanted.as_bytes(), "{wanted}");
+    }
+    assert!(rt; sample.next_line().is_none());
+    Ok(())
+}
+
+#[test]
+fn lines_are_counted_in_parts(rt: HostRuntime) -> Result<(), Memory> {
+    let mut counts = LineCounts::new(rt.alloc());
+    for part in [
+        "out,start,1,inf,a\nou",
+        "t,end,4,1,a\n*,pu",
+        "nct,inf\nout,start,",
+    ] {
+        counts.add(part.as_bytes())?;
+    }
+    let summary = counts.summary(rt.alloc())?;
+    assert!(rt; summary.as_slice() == b"starts 1\nends 1\npuncts 1\n".as_slice());
+    Ok(())
+}
