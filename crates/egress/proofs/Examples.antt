@@ -4,8 +4,9 @@ use Rattle.tw_rows.specs.Rows.{Row}
 use Rattle.tw_rows.specs.declared.row.Value.TheVariants.{Int, Text}
 use Rattle.tw_rows.specs.declared.cells.Datum.TheVariants.{Int as IntDatum, Text as PlaceDatum}
 use Rattle.plan_model.specs.Changes.{Started, Ended}
+use Rattle.egress.specs.declared.moves.Moves.{Moves}
 use Rattle.egress.specs.Instants.{end_lines, start_lines, instant_lines, open_after}
-use Rattle.egress.specs.Kept.{cells_of, are_placed, stand_for}
+use Rattle.egress.specs.Kept.{ends_in, starts_in, rows_of, cells_of, are_placed, stand_for}
 
 abbrev seven : Row
 seven = Int (pos 7) ∷ []
@@ -44,3 +45,23 @@ other_text = refl
 place_stands : stand_for two_texts (Text (98 ∷ []) ∷ []) (PlaceDatum 1 ∷ []) ≡ true
 unfolding two_texts
 place_stands = refl
+
+-- moves of the row `b`: it ends twice and starts once
+of_b : Moves
+of_b = record { cells = PlaceDatum 1 ∷ []; ends = 2; starts = 1 }
+
+rows_are_read : rows_of two_texts (of_b ∷ []) ≡ (Text (98 ∷ []) ∷ []) ∷ []
+unfolding two_texts of_b
+rows_are_read = refl
+
+row_ends_twice : ends_in two_texts (of_b ∷ []) (Text (98 ∷ []) ∷ []) ≡ 2
+unfolding two_texts of_b
+row_ends_twice = refl
+
+row_starts_once : starts_in two_texts (of_b ∷ []) (Text (98 ∷ []) ∷ []) ≡ 1
+unfolding two_texts of_b
+row_starts_once = refl
+
+other_row_stays : ends_in two_texts (of_b ∷ []) (Text (97 ∷ []) ∷ []) ≡ 0
+unfolding two_texts of_b
+other_row_stays = refl

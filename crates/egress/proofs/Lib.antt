@@ -4,6 +4,9 @@ mod Passing
 mod Moving
 mod Tallied
 mod Counted
+mod Gathered
+mod Ordered
+mod Instant
 mod Opened
 mod Ending
 mod Passes

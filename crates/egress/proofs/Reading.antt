@@ -128,14 +128,6 @@ placed_all texts (e ∷ es) h =
     let rest = placed_all texts es (All-tail (λ (x : Edge). ArePlaced texts x.cells) e es h) in
     omega (arith, one, rest)
 
-pub stand_all : (texts : List (List ℕ)) (es : List Edge) → EdgesArePlaced texts es → failing (λ e. stand_for texts (read_cells texts e.cells) e.cells) es ≡ 0
-stand_all texts [] h = refl
-stand_all texts (e ∷ es) h =
-    let stands : stand_for texts (read_cells texts e.cells) e.cells ≡ true = stands_itself texts e.cells (All-head (λ (x : Edge). ArePlaced texts x.cells) e es h) in
-    let one : cond {A = ℕ} (stand_for texts (read_cells texts e.cells) e.cells) 0 1 ≡ 0 = ap (λ b. cond {A = ℕ} b 0 1) stands in
-    let rest = stand_all texts es (All-tail (λ (x : Edge). ArePlaced texts x.cells) e es h) in
-    omega (arith, one, rest)
-
 -- A LONGER TABLE
 place_longer : (p : List ℕ → Bool) (xs ys : List (List ℕ)) →
     (position_or_len p (xs ++ ys) ≡ position_or_len p xs) ⊎ ((length xs ≤ position_or_len p (xs ++ ys)) × (length xs ≤ position_or_len p xs))

@@ -109,11 +109,10 @@ module _ (texts : List (List ℕ)) (apart : AreDistinct texts) (events : List Ce
     own_starts : since_at m e.cells ≡ since_in texts m own
     own_starts = since_own texts apart own e.cells (stands_itself texts e.cells placed) m n
 
-    pub end_line : is_end e ≡ true → (kinds : List Kind) (before after : List ℕ) (row : Row) → row ≡ own →
-        after ≡ before ++ print kinds (map (λ s. Ended at s row) (take 1 (since_at m e.cells))) → after ≡ before ++ print kinds (changes_at rows at)
-    end_line ended kinds before after row read is =
-        is ∙ ap (λ q. before ++ print kinds (map (λ s. Ended at s q) (take 1 (since_at m e.cells)))) read
-        ∙ ap (λ l. before ++ print kinds (map (λ s. Ended at s own) (take 1 l))) own_starts
+    pub end_line : is_end e ≡ true → (kinds : List Kind) (before after : List ℕ) →
+        after ≡ before ++ print kinds (map (λ s. Ended at s own) (take 1 (since_at m e.cells))) → after ≡ before ++ print kinds (changes_at rows at)
+    end_line ended kinds before after is =
+        is ∙ ap (λ l. before ++ print kinds (map (λ s. Ended at s own) (take 1 l))) own_starts
         ∙ ap (λ l. before ++ print kinds l) (sym (one_ended rows at own (since_in texts m) opened (end_moves texts events valid at e same ended)))
 
     pub end_open : is_end e ≡ true → ((c : List Datum) → since_at n c ≡ cond (same_cells e.cells c) (drop 1 (since_at m c)) (since_at m c)) →
@@ -122,18 +121,16 @@ module _ (texts : List (List ℕ)) (apart : AreDistinct texts) (events : List Ce
         ended_open rows at own (since_in texts m) opened (end_moves texts events valid at e same ended) (since_in texts n)
         (since_set texts apart own e.cells (stands_itself texts e.cells placed) m n (drop 1) set)
 
-    pub start_line : is_end e ≡ false → (kinds : List Kind) (before after : List ℕ) (row : Row) → row ≡ own →
-        after ≡ before ++ print kinds (replicate 1 (Started at row)) → after ≡ before ++ print kinds (changes_at rows at)
-    start_line starts kinds before after row read is =
-        is ∙ ap (λ q. before ++ print kinds (replicate 1 (Started at q))) read
-        ∙ ap (λ l. before ++ print kinds l) (sym (one_started rows at own (since_in texts m) opened (start_moves texts events valid at e same starts)))
+    pub start_line : is_end e ≡ false → (kinds : List Kind) (before after : List ℕ) →
+        after ≡ before ++ print kinds (replicate 1 (Started at own)) → after ≡ before ++ print kinds (changes_at rows at)
+    start_line starts kinds before after is =
+        is ∙ ap (λ l. before ++ print kinds l) (sym (one_started rows at own (since_in texts m) opened (start_moves texts events valid at e same starts)))
 
-    pub start_open : is_end e ≡ false → (cells : List Datum) → cells ≡ e.cells →
-        ((c : List Datum) → since_at n c ≡ cond (same_cells cells c) (since_at m c ++ replicate 1 at) (since_at m c)) → AreOpen rows (suc at) (since_in texts n)
-    start_open starts cells is set =
+    pub start_open : is_end e ≡ false →
+        ((c : List Datum) → since_at n c ≡ cond (same_cells e.cells c) (since_at m c ++ replicate 1 at) (since_at m c)) → AreOpen rows (suc at) (since_in texts n)
+    start_open starts set =
         started_open rows at own (since_in texts m) opened (start_moves texts events valid at e same starts) (since_in texts n)
-        (since_set texts apart own e.cells (stands_itself texts e.cells placed) m n (λ l. l ++ replicate 1 at)
-        (λ c. set c ∙ ap (λ k. cond (same_cells k c) (since_at m c ++ replicate 1 at) (since_at m c)) is))
+        (since_set texts apart own e.cells (stands_itself texts e.cells placed) m n (λ l. l ++ replicate 1 at) set)
 
 -- a list of one element
 pub only : {X : Type 0} (xs : List X) (x : X) → length xs ≡ 1 → x ≡ get_or xs 0 x → xs ≡ x ∷ []

@@ -1,35 +1,18 @@
 -- Edges that are counted row by row.
 use Rattle.std.specs.Prelude.{◌≡◌, ◌↔◌, IsTrue, ℕ, zero, suc, ◌+◌, ◌<◌, Bool, true, false, cond, List, [], ◌∷◌, ◌++◌, length, get_or, map, flat_map, take, refl}
 use Rattle.std.specs.Ordering.{eq_by_cmp}
-use Rattle.std.specs.BTreeMap.{BTreeMap}
-use Rattle.std.specs.Map.{lookup}
 use Rattle.std.proofs.Common.{sym, ◌∙◌, ap, arith}
 use Rattle.std.proofs.lemmas.Bool.{lt-ltb, ltb-true}
 use Rattle.std.proofs.lemmas.List.{take_more}
 use Rattle.tw_rows.specs.Bag.{total}
-use Rattle.tw_rows.specs.Cells.{IsPlaced, ArePlaced, read_cells}
-use Rattle.tw_rows.specs.Event.{AreEvents, alive}
+use Rattle.tw_rows.specs.Cells.{read_cells}
 use Rattle.tw_rows.specs.Rows.{Row, row_cmp}
-use Rattle.tw_rows.specs.declared.cells.Datum.{Datum}
 use Rattle.tw_rows.specs.declared.edge.Edge.{Edge}
 use Rattle.tw_rows.specs.declared.edge.HeldRow.{HeldRow}
 use Rattle.tw_rows.proofs.Bags.{total-append, total-map, total-flat_map}
-use Rattle.edge_history.specs.History.{CellEvent}
-use Rattle.edge_history.specs.Balance.{news}
 use Rattle.edge_history.specs.Order.{failing, is_end}
 use Rattle.edge_history.specs.Opens.{bare, ended_of, started_of, ended_rows, started_rows}
-use Rattle.node_laws.specs.Places.{read_events}
 use Rattle.plan_model.specs.Opens.{how_often}
-use Rattle.egress.specs.declared.moves.Moves.{Moves}
-use Rattle.egress.specs.Instants.{AreMoves}
-use Rattle.egress.specs.Kept.{ends_if, starts_if, ends_in, starts_in}
-use Rattle.egress.specs.Waiting.{SameMoves}
-use Rattle.egress.proofs.Moving.{edges_move}
-
-pub placed_at : (texts : List (List ℕ)) (cells : List Datum) (i : ℕ) (d : Datum) → ArePlaced texts cells → i < length cells → IsPlaced texts (get_or cells i d)
-placed_at texts [] i d h low = absurd (omega (arith, low))
-placed_at texts (c ∷ cs) zero d h low = h.0
-placed_at texts (c ∷ cs) (suc i) d h low = placed_at texts cs i d h.1 (omega (arith, low))
 
 -- a test that none fails is passed at each place
 pub passes_at : {X : Type 0} (q : X → Bool) (xs : List X) (i : ℕ) (d : X) → i < length xs → failing q xs ≡ 0 → q (get_or xs i d) ≡ true
@@ -48,6 +31,12 @@ module _ (texts : List (List ℕ)) (r : Row) where
   abbrev pub started_often : List Edge → ℕ
   started_often es = how_often r (map (read_cells texts) (bare (started_rows es)))
 
+  abbrev pub how_ended : Edge → ℕ
+  how_ended e = how_often r (map (read_cells texts) (bare (ended_of e)))
+
+  abbrev pub how_started : Edge → ℕ
+  how_started e = how_often r (map (read_cells texts) (bare (started_of e)))
+
   abbrev weight : HeldRow → ℕ
   weight h = cond (eq_by_cmp row_cmp r (read_cells texts h.cells)) 1 0
 
@@ -64,7 +53,7 @@ module _ (texts : List (List ℕ)) (r : Row) where
       ∙ total-append (λ x. total weight (f x)) (take i es) (get_or es i d ∷ [])
       ∙ (let a = total-flat_map weight f (take i es) in omega (arith, a))
 
-  ended_more : (es : List Edge) (i : ℕ) (d : Edge) → i < length es →
+  pub ended_more : (es : List Edge) (i : ℕ) (d : Edge) → i < length es →
       ended_often (take (i + 1) es) ≡ ended_often (take i es) + how_often r (map (read_cells texts) (bare (ended_of (get_or es i d))))
   ended_more es i d low =
       let a = often (ended_rows (take (i + 1) es)) in
@@ -73,7 +62,7 @@ module _ (texts : List (List ℕ)) (r : Row) where
       let c = more ended_of es i d low in
       omega (arith, a, b, c, e)
 
-  started_more : (es : List Edge) (i : ℕ) (d : Edge) → i < length es →
+  pub started_more : (es : List Edge) (i : ℕ) (d : Edge) → i < length es →
       started_often (take (i + 1) es) ≡ started_often (take i es) + how_often r (map (read_cells texts) (bare (started_of (get_or es i d))))
   started_more es i d low =
       let a = often (started_rows (take (i + 1) es)) in
@@ -81,20 +70,6 @@ module _ (texts : List (List ℕ)) (r : Row) where
       let e = often (started_of (get_or es i d)) in
       let c = more started_of es i d low in
       omega (arith, a, b, c, e)
-
-  pub ends_then : (es : List Edge) (i : ℕ) (e : Edge) (n now old : ℕ) → i < length es → e ≡ get_or es i e →
-      n ≡ now + how_often r (map (read_cells texts) (bare (ended_of e))) → now ≡ old + ended_often (take i es) → n ≡ old + ended_often (take (i + 1) es)
-  ends_then es i e n now old low is f g =
-      let a = ended_more es i e low in
-      let b = ap (λ x. how_often r (map (read_cells texts) (bare (ended_of x)))) is in
-      omega (arith, a, b, f, g)
-
-  pub starts_then : (es : List Edge) (i : ℕ) (e : Edge) (n now old : ℕ) → i < length es → e ≡ get_or es i e →
-      n ≡ now + how_often r (map (read_cells texts) (bare (started_of e))) → now ≡ old + started_often (take i es) → n ≡ old + started_often (take (i + 1) es)
-  starts_then es i e n now old low is f g =
-      let a = started_more es i e low in
-      let b = ap (λ x. how_often r (map (read_cells texts) (bare (started_of x)))) is in
-      omega (arith, a, b, f, g)
 
   -- an end edge ends its row, and starts none; any other starts it
   pub end_ends : (e : Edge) → is_end e ≡ true → how_often r (map (read_cells texts) (bare (ended_of e))) ≡ how_often r (read_cells texts e.cells ∷ [])
@@ -109,12 +84,17 @@ module _ (texts : List (List ℕ)) (r : Row) where
   pub start_starts : (e : Edge) → is_end e ≡ false → how_often r (map (read_cells texts) (bare (started_of e))) ≡ how_often r (read_cells texts e.cells ∷ [])
   start_starts e h = ap (λ b. how_often r (map (read_cells texts) (bare (cond b [] (record { cells = e.cells; start = e.sync } ∷ []))))) h
 
-  pub tallied : (e : Edge) (old new x : ℕ) (row : Row) → new ≡ old + how_often r (row ∷ []) → row ≡ read_cells texts e.cells →
-      x ≡ how_often r (read_cells texts e.cells ∷ []) → new ≡ old + x
-  tallied e old new x row h same is = h ∙ ap (λ q. old + how_often r (q ∷ [])) same ∙ ap (λ n. old + n) (sym is)
+pub one_ended : (e : Edge) → is_end e ≡ true → 1 ≡ length (ended_of e)
+one_ended e h = ap (λ b. length {A = HeldRow} (cond b (record { cells = e.cells; start = e.other } ∷ []) [])) (sym h)
 
-pub not_tallied : (old new x : ℕ) → new ≡ old → x ≡ 0 → new ≡ old + x
-not_tallied old new x h is = omega (arith, h, is)
+pub none_started : (e : Edge) → is_end e ≡ true → 0 ≡ length (started_of e)
+none_started e h = ap (λ b. length {A = HeldRow} (cond b [] (record { cells = e.cells; start = e.sync } ∷ []))) (sym h)
+
+pub none_ended : (e : Edge) → is_end e ≡ false → 0 ≡ length (ended_of e)
+none_ended e h = ap (λ b. length {A = HeldRow} (cond b (record { cells = e.cells; start = e.other } ∷ []) [])) (sym h)
+
+pub one_started : (e : Edge) → is_end e ≡ false → 1 ≡ length (started_of e)
+one_started e h = ap (λ b. length {A = HeldRow} (cond b [] (record { cells = e.cells; start = e.sync } ∷ []))) (sym h)
 
 pub is_end_from : (b : Bool) (e : Edge) → (IsTrue b ↔ (e.other < e.sync)) → b ≡ true → is_end e ≡ true
 is_end_from b e h t = lt-ltb e.other e.sync (h.0 t)
@@ -125,15 +105,3 @@ no_end_from b e h t = pick (is_end e) refl
     pick : (x : Bool) → is_end e ≡ x → x ≡ false
     pick false f = refl
     pick true f = absurd (let z : b ≡ true = h.1 (ltb-true e.other e.sync f) in cc)
-
--- what is counted in a map that was empty are the moves of the instant
-pub counted_moves : (texts : List (List ℕ)) (events : List CellEvent) (t : ℕ) (now : List Edge) (m0 m : BTreeMap Row Moves) → m0.entries ≡ [] →
-    ((r : Row) → ends_in m r ≡ ends_in m0 r + ended_often texts r now) → ((r : Row) → starts_in m r ≡ starts_in m0 r + started_often texts r now) →
-    AreEvents events → SameMoves now (news t (suc t) events) → AreMoves (alive (read_events texts events)) t (ends_in m) (starts_in m)
-counted_moves texts events t now m0 m none e f valid same r =
-    let a = edges_move texts events t now valid same r in
-    let b = e r in
-    let c = f r in
-    let y : ends_in m0 r ≡ 0 = ap (λ es. ends_if (lookup (eq_by_cmp row_cmp r) es)) none in
-    let z : starts_in m0 r ≡ 0 = ap (λ es. starts_if (lookup (eq_by_cmp row_cmp r) es)) none in
-    omega (arith, a, b, c, y, z)

@@ -1,11 +1,11 @@
--- What is kept of rows in maps: how often each ends and starts at an instant, and its open starts.
-use Rattle.std.specs.Prelude.{◌≡◌, ℕ, nat_lt, ◌&&◌, Bool, true, Option, Some, None, List, [], ◌∷◌, map, length}
+-- What is kept of rows: how often each ends and starts at an instant, and its open starts.
+use Rattle.std.specs.Prelude.{◌≡◌, ℕ, nat_lt, ◌&&◌, Bool, true, cond, Option, Some, None, List, [], ◌∷◌, map, length, All}
 use Rattle.std.specs.Ordering.{eq_by_cmp}
 use Rattle.std.specs.Str.{bytes_eq}
 use Rattle.std.specs.List.{position_or_len}
-use Rattle.std.specs.BTreeMap.{get, BTreeMap}
 use Rattle.std.specs.declared.collections.VecDeque.{VecDeque}
 use Rattle.indexmap.specs.IndexMap.{get as value_at, IndexMap}
+use Rattle.tw_rows.specs.Bag.{total}
 use Rattle.tw_rows.specs.Rows.{Row, row_cmp}
 use Rattle.tw_rows.specs.declared.row.Value.{Value}
 use Rattle.tw_rows.specs.declared.row.Value.TheVariants.{Int, Bool as Flag, Text}
@@ -13,23 +13,23 @@ use Rattle.tw_rows.specs.declared.cells.Datum.{Datum}
 use Rattle.tw_rows.specs.declared.cells.Datum.TheVariants.{Int as IntDatum, Bool as FlagDatum, Text as PlaceDatum}
 use Rattle.tw_rows.specs.SameCells.{same_cells}
 use Rattle.tw_rows.specs.Cells.{read_cells}
-use Rattle.node_laws.specs.Places.{AreDistinct}
 use Rattle.egress.specs.declared.moves.Moves.{Moves}
 
-abbrev pub ends_if : Option Moves → ℕ
-ends_if None = 0
-ends_if (Some m) = m.ends
+-- how often a row ends at the instant, and how often it starts; 0 where no moves are of it. Of moves of the row 7 with two
+-- ends and one start it ends twice and starts once, and the row 8 never
+abbrev pub ends_in : List (List ℕ) → List Moves → Row → ℕ
+ends_in texts touched r = total (λ m. cond (eq_by_cmp row_cmp r (read_cells texts m.cells)) m.ends 0) touched
 
-abbrev pub starts_if : Option Moves → ℕ
-starts_if None = 0
-starts_if (Some m) = m.starts
+abbrev pub starts_in : List (List ℕ) → List Moves → Row → ℕ
+starts_in texts touched r = total (λ m. cond (eq_by_cmp row_cmp r (read_cells texts m.cells)) m.starts 0) touched
 
--- how often a row ends at the instant, and how often it starts; 0 where the map does not have it
-abbrev pub ends_in : BTreeMap Row Moves → Row → ℕ
-ends_in touched r = ends_if (get row_cmp touched r)
+-- the rows of moves, in their order. With the text `a`, moves of the cells place 0 are of the row `a`
+abbrev pub rows_of : List (List ℕ) → List Moves → List Row
+rows_of texts touched = map (λ m. read_cells texts m.cells) touched
 
-abbrev pub starts_in : BTreeMap Row Moves → Row → ℕ
-starts_in touched r = starts_if (get row_cmp touched r)
+-- the cells of all moves pass the test, as that of being placed in a table
+abbrev pub KeepCells : (List Datum → Bool) → List Moves → Type 0
+KeepCells p touched = All (λ m. p m.cells ≡ true) touched
 
 -- the datum is no place, or that of a text of the table. With one text place 0 passes, and place 1 does not
 abbrev pub is_placed : List (List ℕ) → Datum → Bool
@@ -45,15 +45,6 @@ are_placed texts (d ∷ ds) = is_placed texts d && are_placed texts ds
 -- the cells are placed and read as the row. With the text `a`, place 0 stands for the row `a`
 abbrev pub stand_for : List (List ℕ) → Row → List Datum → Bool
 stand_for texts r cells = are_placed texts cells && eq_by_cmp row_cmp (read_cells texts cells) r
-
--- each row and the cells that are kept of it pass the test, as `stand_for` of a table
-abbrev pub KeepsCells : (Row → List Datum → Bool) → BTreeMap Row Moves → Type 0
-KeepsCells p touched = (r : Row) (m : Moves) → get row_cmp touched r ≡ Some m → p r m.cells ≡ true
-
--- the rows of an instant with cells that stand for them, in a table without a text twice
-pub record AreTold (texts : List (List ℕ)) (touched : BTreeMap Row Moves) : Type 0 where
-  pub distinct : AreDistinct texts
-  pub cells : KeepsCells (stand_for texts) touched
 
 abbrev pub times_if : {S : Type 0} → Option (VecDeque ℕ S) → List ℕ
 times_if None = []

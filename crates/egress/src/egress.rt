@@ -58,7 +58,7 @@ fn show_due(
     ensures passed { OnOk result ((p : List Datum → Bool) → HavePassed p (since_at opens.old) (waiting_in waiting.old) → HavePassed p (since_at opens.new) (waiting_in waiting.new)) }
 {
     'instants: while let Some(due) = pop_due(waiting, to) {
-        show_edges(opens, out, alloc, kinds, due.at, &due.edges, texts)?;
+        show_edges(opens, out, alloc, kinds, due.at, due.edges, texts)?;
     }
     Ok(())
 }

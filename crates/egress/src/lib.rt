@@ -8,6 +8,7 @@ mod instant_laws;
 mod loading;
 mod moves;
 mod opens;
+mod order;
 mod output_laws;
 mod saving;
 mod sweep;

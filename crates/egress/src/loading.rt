@@ -130,10 +130,8 @@ fn keep_entry(loaded: &mut Loaded, alloc: Global, entry: &SavedEntry) -> Result<
     ensures ends { OnOk result ((c : List DatumOf) → since_at loaded.new.ends c ≡ cond (same entry.now.cells c) (since_at loaded.old.ends c ++ replicate 1 entry.now.other) (since_at loaded.old.ends c)) }
     ensures waiting { OnOk result (ArePut (waiting_in loaded.old.waiting) (waiting_in loaded.new.waiting) (end_of entry.now)) }
 {
-    let cells = entry.cells.clone()?;
-    let again = entry.cells.clone()?;
-    open_row(&mut loaded.opens, alloc, cells, entry.sync, 1)?;
-    open_row(&mut loaded.ends, alloc, again, entry.other, 1)?;
+    open_row(&mut loaded.opens, alloc, &entry.cells, entry.sync, 1)?;
+    open_row(&mut loaded.ends, alloc, &entry.cells, entry.other, 1)?;
     put_end(&mut loaded.waiting, alloc, entry)?;
     Ok(())
 }

@@ -1,19 +1,25 @@
 // The rows that an instant touches, with how often each ends and starts there.
-ghost use Rattle.std.specs.Prelude.{◌≡◌, ◌+◌, Bool, true, List, [], ◌∷◌, OnOk};
-ghost use Rattle.tw_rows.specs.Rows.{Row as Values};
+ghost use Rattle.std.specs.Prelude.{◌≡◌, ℕ, ◌+◌, Bool, true, List, [], ◌∷◌, ◌++◌, map, length, All, IfOk, OnOk};
+ghost use Rattle.std.specs.List.{dedup};
+ghost use Rattle.std.specs.Ordering.{eq_by_cmp};
+ghost use Rattle.tw_rows.specs.Cells.{ArePlaced, read_cells};
+ghost use Rattle.tw_rows.specs.Rows.{Row, row_cmp};
 ghost use Rattle.tw_rows.specs.declared.cells.Datum.{Datum};
+ghost use Rattle.edge_history.specs.Opens.{bare, ended_of, started_of, ended_rows, started_rows};
+ghost use Rattle.edge_history.specs.Order.{failing};
+ghost use Rattle.node_laws.specs.Places.{AreDistinct, EdgesArePlaced};
 ghost use Rattle.plan_model.specs.Opens.{how_often};
-ghost use Rattle.egress.specs.Kept.{ends_in, starts_in, KeepsCells};
+ghost use Rattle.egress.specs.Kept.{ends_in, starts_in, rows_of, KeepCells};
 
-use std::collections::BTreeMap;
-use tw_rows::{Cells, Memory, Row};
+use std::alloc::Global;
+use tw_rows::{Cells, Edge, Memory, same_cells};
 
 /// How often a row ends and starts at one instant, and its cells.
 #[derive(Drop)]
 pub struct Moves {
+    pub cells: Cells,
     pub ends: usize,
     pub starts: usize,
-    pub cells: Cells,
 }
 
 /// The counts alone.
@@ -23,61 +29,77 @@ pub(crate) struct Counts {
     pub(crate) starts: usize,
 }
 
-fn counts_of(touched: &BTreeMap<Row, Moves>, row: &Row) -> Counts
-    ensures ends { result.ends ≡ ends_in touched.now row.now }
-    ensures starts { result.starts ≡ starts_in touched.now row.now }
+fn counts_of(edge: &Edge) -> Counts
+    ensures ends { result.ends ≡ length (ended_of edge.now) }
+    ensures starts { result.starts ≡ length (started_of edge.now) }
 {
-    match touched.get(row) {
-        Some(moves) => Counts {
-            ends: moves.ends,
-            starts: moves.starts,
-        },
-        None => Counts { ends: 0, starts: 0 },
+    if edge.is_end() {
+        Counts { ends: 1, starts: 0 }
+    } else {
+        Counts { ends: 0, starts: 1 }
     }
 }
 
-/// Counts an end of the row. A count that has no room is want of memory.
-pub(crate) fn add_end(
-    touched: &mut BTreeMap<Row, Moves>,
-    row: Row,
-    cells: Cells,
-) -> Result<(), Memory>
-    ensures ends { OnOk result ((r : Values) → ends_in touched.new r ≡ ends_in touched.old r + how_often r (row ∷ [])) }
-    ensures starts { OnOk result ((r : Values) → starts_in touched.new r ≡ starts_in touched.old r) }
-    ensures cells { OnOk result ((p : Values → List Datum → Bool) → p row cells ≡ true → KeepsCells p touched.old → KeepsCells p touched.new) }
+/// The moves, and so many more of the same row. A count that has no room is want of memory.
+fn more_moves(moves: Moves, counts: Counts) -> Result<Moves, Memory>
+    ensures cells { IfOk result (λ m. m.cells ≡ moves.cells) }
+    ensures ends { IfOk result (λ m. m.ends ≡ moves.ends + counts.ends) }
+    ensures starts { IfOk result (λ m. m.starts ≡ moves.starts + counts.starts) }
 {
-    let counts = counts_of(touched, &row);
-    if counts.ends == usize::MAX {
-        return Err(Memory);
-    }
-    let counted = Moves {
-        ends: counts.ends + 1,
-        starts: counts.starts,
+    let ends = moves.ends.checked_add(counts.ends).ok_or(Memory)?;
+    let starts = moves.starts.checked_add(counts.starts).ok_or(Memory)?;
+    Ok(Moves {
+        cells: moves.cells,
+        ends,
+        starts,
+    })
+}
+
+/// Adds the moves of a row.
+fn push_moves(touched: &mut Vec<Moves>, edge: &Edge, counts: Counts) -> Result<(), Memory>
+    ensures { OnOk result (touched.new.items ≡ touched.old.items ++ record { cells = edge.now.cells; ends = counts.ends; starts = counts.starts } ∷ []) }
+{
+    let cells = edge.cells.clone()?;
+    touched.push(Moves {
         cells,
-    };
-    touched.insert(row, counted)?;
-    Ok(())
-}
-
-/// Counts a start of the row. A count that has no room is want of memory.
-pub(crate) fn add_start(
-    touched: &mut BTreeMap<Row, Moves>,
-    row: Row,
-    cells: Cells,
-) -> Result<(), Memory>
-    ensures ends { OnOk result ((r : Values) → ends_in touched.new r ≡ ends_in touched.old r) }
-    ensures starts { OnOk result ((r : Values) → starts_in touched.new r ≡ starts_in touched.old r + how_often r (row ∷ [])) }
-    ensures cells { OnOk result ((p : Values → List Datum → Bool) → p row cells ≡ true → KeepsCells p touched.old → KeepsCells p touched.new) }
-{
-    let counts = counts_of(touched, &row);
-    if counts.starts == usize::MAX {
-        return Err(Memory);
-    }
-    let counted = Moves {
         ends: counts.ends,
-        starts: counts.starts + 1,
-        cells,
-    };
-    touched.insert(row, counted)?;
+        starts: counts.starts,
+    })?;
     Ok(())
+}
+
+/// Counts an end of the row of an end edge, and a start of that of any other, with the last row where it is the same.
+fn count_edge(touched: &mut Vec<Moves>, edge: &Edge) -> Result<(), Memory>
+    ensures ends { OnOk result ((texts : List (List ℕ)) (r : Row) → ends_in texts touched.new.items r ≡ ends_in texts touched.old.items r + how_often r (map (read_cells texts) (bare (ended_of edge.now)))) }
+    ensures starts { OnOk result ((texts : List (List ℕ)) (r : Row) → starts_in texts touched.new.items r ≡ starts_in texts touched.old.items r + how_often r (map (read_cells texts) (bare (started_of edge.now)))) }
+    ensures rows { OnOk result ((texts : List (List ℕ)) (before : List Row) → AreDistinct texts → All (λ m. ArePlaced texts m.cells) touched.old.items → ArePlaced texts edge.now.cells → rows_of texts touched.old.items ≡ dedup (eq_by_cmp row_cmp) before → rows_of texts touched.new.items ≡ dedup (eq_by_cmp row_cmp) (before ++ read_cells texts edge.now.cells ∷ [])) }
+    ensures cells { OnOk result ((p : List Datum → Bool) → p edge.now.cells ≡ true → KeepCells p touched.old.items → KeepCells p touched.new.items) }
+{
+    let counts = counts_of(edge);
+    let Some(last) = touched.pop() else {
+        push_moves(touched, edge, counts)?;
+        return Ok(());
+    };
+    if same_cells(&last.cells, &edge.cells) {
+        let more = more_moves(last, counts)?;
+        touched.push(more)?;
+        return Ok(());
+    }
+    touched.push(last)?;
+    push_moves(touched, edge, counts)?;
+    Ok(())
+}
+
+/// What edges of one instant end and start, row by row. Edges of one row stand beside each other.
+pub(crate) fn gather(alloc: Global, edges: &[Edge]) -> Result<Vec<Moves>, Memory>
+    ensures ends { IfOk result (λ touched. (texts : List (List ℕ)) (r : Row) → ends_in texts touched.items r ≡ how_often r (map (read_cells texts) (bare (ended_rows edges.now)))) }
+    ensures starts { IfOk result (λ touched. (texts : List (List ℕ)) (r : Row) → starts_in texts touched.items r ≡ how_often r (map (read_cells texts) (bare (started_rows edges.now)))) }
+    ensures rows { IfOk result (λ touched. (texts : List (List ℕ)) → AreDistinct texts → EdgesArePlaced texts edges.now → rows_of texts touched.items ≡ dedup (eq_by_cmp row_cmp) (map (λ e. read_cells texts e.cells) edges.now)) }
+    ensures cells { IfOk result (λ touched. (p : List Datum → Bool) → failing (λ e. p e.cells) edges.now ≡ 0 → KeepCells p touched.items) }
+{
+    let mut touched = Vec::new(alloc);
+    for edge in edges {
+        count_edge(&mut touched, edge)?;
+    }
+    Ok(touched)
 }

@@ -1,5 +1,6 @@
 // The open starts of rows, and the lines that end and start them.
 ghost use Rattle.std.specs.Prelude.{◌≡◌, ◌++◌, List, map, take, drop, cond, replicate, OnOk, length};
+ghost use Rattle.tw_rows.specs.Cells.{ArePlaced, read_cells};
 ghost use Rattle.tw_rows.specs.declared.cells.Datum.{Datum};
 ghost use Rattle.tw_rows.specs.SameCells.{same_cells as same};
 ghost use Rattle.plan_model.specs.Changes.{Started, Ended};
@@ -10,13 +11,29 @@ use indexmap::IndexMap;
 use line_text::{Form, push_event};
 use std::alloc::Global;
 use std::collections::VecDeque;
-use tw_rows::{Cells, Kind, Memory, Row, Time};
+use tw_rows::{Cells, Kind, Memory, TextTable, Time};
 
 #[tactic(auto, unfolding(tw_rows::specs::Instant::inf))]
-fn push_start(out: &mut Vec<u8>, kinds: &[Kind], at: Time, row: &Row) -> Result<(), Memory>
-    ensures { OnOk result (out.new.items ≡ out.old.items ++ line_text kinds.now (Started at row.now)) }
+fn push_start(
+    out: &mut Vec<u8>,
+    kinds: &[Kind],
+    at: Time,
+    cells: &Cells,
+    texts: &TextTable,
+) -> Result<(), Memory>
+    requires { ArePlaced texts.now cells.now }
+    ensures { OnOk result (out.new.items ≡ out.old.items ++ line_text kinds.now (Started at (read_cells texts.now cells.now))) }
 {
-    push_event(out, "out", Form::Start, at, Time::INF, kinds, row)
+    push_event(
+        out,
+        "out",
+        Form::Start,
+        at,
+        Time::INF,
+        kinds,
+        cells.items(),
+        texts,
+    )
 }
 
 fn push_end(
@@ -24,11 +41,22 @@ fn push_end(
     kinds: &[Kind],
     at: Time,
     start: Time,
-    row: &Row,
+    cells: &Cells,
+    texts: &TextTable,
 ) -> Result<(), Memory>
-    ensures { OnOk result (out.new.items ≡ out.old.items ++ line_text kinds.now (Ended at start row.now)) }
+    requires { ArePlaced texts.now cells.now }
+    ensures { OnOk result (out.new.items ≡ out.old.items ++ line_text kinds.now (Ended at start (read_cells texts.now cells.now))) }
 {
-    push_event(out, "out", Form::End, at, start, kinds, row)
+    push_event(
+        out,
+        "out",
+        Form::End,
+        at,
+        start,
+        kinds,
+        cells.items(),
+        texts,
+    )
 }
 
 /// Ends the first of the open starts of a row, so many of them or all.
@@ -37,15 +65,17 @@ fn end_first(
     out: &mut Vec<u8>,
     kinds: &[Kind],
     at: Time,
-    row: &Row,
+    cells: &Cells,
+    texts: &TextTable,
     count: usize,
 ) -> Result<(), Memory>
+    requires { ArePlaced texts.now cells.now }
     ensures since { OnOk result (since.new.items ≡ drop count since.old.items) }
-    ensures text { OnOk result (out.new.items ≡ out.old.items ++ print kinds.now (map (λ s. Ended at s row.now) (take count since.old.items))) }
+    ensures text { OnOk result (out.new.items ≡ out.old.items ++ print kinds.now (map (λ s. Ended at s (read_cells texts.now cells.now)) (take count since.old.items))) }
 {
     for _ in 0..count {
         match since.pop_front() {
-            Some(start) => push_end(out, kinds, at, start, row)?,
+            Some(start) => push_end(out, kinds, at, start, cells, texts)?,
             None => return Ok(()),
         }
     }
@@ -58,17 +88,18 @@ pub(crate) fn end_row(
     out: &mut Vec<u8>,
     kinds: &[Kind],
     at: Time,
-    row: &Row,
     cells: &Cells,
+    texts: &TextTable,
     count: usize,
 ) -> Result<(), Memory>
+    requires { ArePlaced texts.now cells.now }
     ensures since { OnOk result ((c : List Datum) → since_at opens.new c ≡ cond (same cells.now c) (drop count (since_at opens.old c)) (since_at opens.old c)) }
-    ensures text { OnOk result (out.new.items ≡ out.old.items ++ print kinds.now (map (λ s. Ended at s row.now) (take count (since_at opens.old cells.now)))) }
+    ensures text { OnOk result (out.new.items ≡ out.old.items ++ print kinds.now (map (λ s. Ended at s (read_cells texts.now cells.now)) (take count (since_at opens.old cells.now)))) }
 {
     let Some(since) = opens.get_mut(cells) else {
         return Ok(());
     };
-    end_first(since, out, kinds, at, row, count)?;
+    end_first(since, out, kinds, at, cells, texts, count)?;
     if since.is_empty() {
         opens.swap_remove(cells);
     }
@@ -80,13 +111,15 @@ fn push_starts(
     out: &mut Vec<u8>,
     kinds: &[Kind],
     at: Time,
-    row: &Row,
+    cells: &Cells,
+    texts: &TextTable,
     count: usize,
 ) -> Result<(), Memory>
-    ensures { OnOk result (out.new.items ≡ out.old.items ++ print kinds.now (replicate count (Started at row.now))) }
+    requires { ArePlaced texts.now cells.now }
+    ensures { OnOk result (out.new.items ≡ out.old.items ++ print kinds.now (replicate count (Started at (read_cells texts.now cells.now)))) }
 {
     for _ in 0..count {
-        push_start(out, kinds, at, row)?;
+        push_start(out, kinds, at, cells, texts)?;
     }
     Ok(())
 }
@@ -104,19 +137,20 @@ fn open_more(since: &mut VecDeque<Time>, at: Time, count: usize) -> Result<(), M
 pub(crate) fn open_row(
     opens: &mut IndexMap<Cells, VecDeque<Time>>,
     alloc: Global,
-    cells: Cells,
+    cells: &Cells,
     at: Time,
     count: usize,
 ) -> Result<(), Memory>
-    ensures { OnOk result ((c : List Datum) → since_at opens.new c ≡ cond (same cells c) (since_at opens.old c ++ replicate count at) (since_at opens.old c)) }
+    ensures { OnOk result ((c : List Datum) → since_at opens.new c ≡ cond (same cells.now c) (since_at opens.old c ++ replicate count at) (since_at opens.old c)) }
 {
-    if let Some(since) = opens.get_mut(&cells) {
+    if let Some(since) = opens.get_mut(cells) {
         open_more(since, at, count)?;
         return Ok(());
     }
     let mut since = VecDeque::new(alloc);
     open_more(&mut since, at, count)?;
-    opens.insert(cells, since)?;
+    let kept = cells.clone()?;
+    opens.insert(kept, since)?;
     Ok(())
 }
 
@@ -127,16 +161,17 @@ pub(crate) fn start_row(
     alloc: Global,
     kinds: &[Kind],
     at: Time,
-    row: &Row,
-    cells: Cells,
+    cells: &Cells,
+    texts: &TextTable,
     count: usize,
 ) -> Result<(), Memory>
-    ensures since { OnOk result ((c : List Datum) → since_at opens.new c ≡ cond (same cells c) (since_at opens.old c ++ replicate count at) (since_at opens.old c)) }
-    ensures text { OnOk result (out.new.items ≡ out.old.items ++ print kinds.now (replicate count (Started at row.now))) }
+    requires { ArePlaced texts.now cells.now }
+    ensures since { OnOk result ((c : List Datum) → since_at opens.new c ≡ cond (same cells.now c) (since_at opens.old c ++ replicate count at) (since_at opens.old c)) }
+    ensures text { OnOk result (out.new.items ≡ out.old.items ++ print kinds.now (replicate count (Started at (read_cells texts.now cells.now)))) }
 {
     if count == 0 {
         return Ok(());
     }
-    push_starts(out, kinds, at, row, count)?;
+    push_starts(out, kinds, at, cells, texts, count)?;
     open_row(opens, alloc, cells, at, count)
 }

@@ -3,6 +3,8 @@ use Rattle.std.proofs.Common.{◌≡◌, ◌<◌, ◌≤◌, ◌+◌, ℕ, zero,
 use Rattle.std.specs.Prelude.{codes, ◌⊎◌}
 use Rattle.std.proofs.lemmas.List.{append-nil}
 use Rattle.csv.specs.Writing.{default_writer, field_text, fields_text, is_blank}
+use Rattle.tw_rows.specs.Cells.{IsPlaced, ArePlaced}
+use Rattle.tw_rows.specs.declared.cells.Datum.{Datum}
 use Rattle.tw_rows.specs.declared.kind.Kind.{Kind}
 use Rattle.tw_rows.specs.declared.row.Value.{Value}
 use Rattle.line_text.specs.Fields.{form_text, time_text, value_text, row_texts, event_fields, punctuation_fields}
@@ -74,6 +76,11 @@ drop_past (x ∷ ks) (y ∷ vs) (suc n) (inr h) = drop_past ks vs n (inr (omega 
 pub values_all : (ks : List Kind) (vs : List Value) (n : ℕ) (out all : List ℕ) → (length ks ≤ n) ⊎ (length vs ≤ n) →
     out ++ fields_text default_writer (row_texts (drop n ks) (drop n vs)) ≡ all → out ≡ all
 values_all ks vs n out all h e = sym (append-nil out) ∙ ap (λ (l : List ℕ). out ++ l) (sym (drop_past ks vs n h)) ∙ e
+
+pub placed_at : (texts : List (List ℕ)) (cells : List Datum) (i : ℕ) (d : Datum) → ArePlaced texts cells → i < length cells → IsPlaced texts (get_or cells i d)
+placed_at texts [] i d h low = absurd (omega (arith, low))
+placed_at texts (c ∷ cs) zero d h low = h.0
+placed_at texts (c ∷ cs) (suc i) d h low = placed_at texts cs i d h.1 (omega (arith, low))
 
 event_pieces : (a b c d e n l v : List ℕ) → b ≡ a ++ n → c ≡ b ++ l → d ≡ c ++ v → e ≡ d ++ 10 ∷ [] → e ≡ a ++ ((n ++ (l ++ v)) ++ ([] ++ 10 ∷ []))
 event_pieces a b c d e n l v p q r s = rw (s, r, q, p) (simp append_assoc refl)

@@ -1,12 +1,13 @@
 // Fields: values, times and texts.
 ghost use Rattle.std.specs.Prelude.{◌≡◌, ◌++◌, ◌∷◌, [], OnOk, OnErr};
 ghost use Rattle.csv.specs.Writing.{default_writer, field_text, needs_byte, escaped};
+ghost use Rattle.tw_rows.specs.Cells.{IsPlaced, read_datum};
 ghost use Rattle.line_text.specs.Fields.{value_text, time_text, places_of};
 ghost use Rattle.line_text.specs.Record.{Begins};
 
 use crate::number::push_number;
 use itoa::Buffer;
-use tw_rows::{Kind, Memory, Time, Value};
+use tw_rows::{Datum, Kind, Memory, TextTable, Time};
 
 /// Whether a field with that byte stands between double quotes.
 fn needs_quotes(byte: u8) -> bool
@@ -67,17 +68,23 @@ fn places_of(kind: Kind) -> u8
     }
 }
 
-/// Appends a value of a column of that kind as a field.
-#[tactic(auto, using(crate::proofs::Begin::begin_steps))]
-pub fn push_value(out: &mut Vec<u8>, kind: Kind, value: &Value) -> Result<(), Memory>
-    ensures ok { OnOk result (out.new.items ≡ out.old.items ++ field_text default_writer (value_text kind value.now)) }
+/// Appends the value that a datum of a column of that kind stands for, as a field.
+#[tactic(auto, using(crate::proofs::Begin::begin_steps, std::proofs::lemmas::Option::get_or_from_slice_get))]
+pub fn push_datum(
+    out: &mut Vec<u8>,
+    kind: Kind,
+    datum: Datum,
+    texts: &TextTable,
+) -> Result<(), Memory>
+    requires { IsPlaced texts.now datum }
+    ensures ok { OnOk result (out.new.items ≡ out.old.items ++ field_text default_writer (value_text kind (read_datum texts.now datum))) }
     ensures err { OnErr result (Begins out.old.items out.new.items) }
 {
-    match value {
-        Value::Int(number) => push_number(out, places_of(kind), *number)?,
-        Value::Bool(true) => out.extend_from_slice(b"true")?,
-        Value::Bool(false) => out.extend_from_slice(b"false")?,
-        Value::Text(text) => push_text(out, text.as_str())?,
+    match datum {
+        Datum::Int(number) => push_number(out, places_of(kind), number)?,
+        Datum::Bool(true) => out.extend_from_slice(b"true")?,
+        Datum::Bool(false) => out.extend_from_slice(b"false")?,
+        Datum::Text(place) => push_text(out, texts.text(place))?,
     }
     Ok(())
 }

@@ -6,7 +6,7 @@ mod form;
 mod line;
 mod number;
 
-pub use field::{push_text, push_time, push_value};
+pub use field::{push_datum, push_text, push_time};
 pub use form::Form;
 pub use line::{push_event, push_punctuation};
 pub use number::push_number;

@@ -1,12 +1,13 @@
 // Lines of events and of punctuations.
 ghost use Rattle.std.specs.Prelude.{◌≡◌, ◌++◌, ◌∷◌, [], List, ℕ, OnOk, OnErr, map};
+ghost use Rattle.tw_rows.specs.Cells.{ArePlaced, read_cells};
 ghost use Rattle.csv.specs.Writing.{default_writer, field_text, fields_text};
 ghost use Rattle.line_text.specs.Fields.{form_text, time_text, row_texts, event_fields, punctuation_fields};
 ghost use Rattle.line_text.specs.Record.{record_text, Begins};
 
-use crate::field::{push_text, push_time, push_value};
+use crate::field::{push_datum, push_text, push_time};
 use crate::form::Form;
-use tw_rows::{Kind, Memory, Row, Time, Value};
+use tw_rows::{Datum, Kind, Memory, TextTable, Time};
 
 fn word_of(form: Form) -> &'static str
     ensures { result.now ≡ form_text form }
@@ -33,15 +34,21 @@ fn push_life(out: &mut Vec<u8>, form: Form, sync: Time, other: Time) -> Result<(
     Ok(())
 }
 
-/// Appends the values, a comma before each.
+/// Appends the values of the cells, a comma before each.
 #[tactic(auto, using(crate::proofs::Begin::begin_steps))]
-fn push_values(out: &mut Vec<u8>, kinds: &[Kind], values: &[Value]) -> Result<(), Memory>
-    ensures ok { OnOk result (out.new.items ≡ out.old.items ++ fields_text default_writer (row_texts kinds.now values.now)) }
+fn push_cells(
+    out: &mut Vec<u8>,
+    kinds: &[Kind],
+    cells: &[Datum],
+    texts: &TextTable,
+) -> Result<(), Memory>
+    requires { ArePlaced texts.now cells.now }
+    ensures ok { OnOk result (out.new.items ≡ out.old.items ++ fields_text default_writer (row_texts kinds.now (read_cells texts.now cells.now))) }
     ensures err { OnErr result (Begins out.old.items out.new.items) }
 {
-    for (kind, value) in kinds.iter().zip(values) {
+    for (kind, datum) in kinds.iter().zip(cells) {
         out.push(b',')?;
-        push_value(out, *kind, value)?;
+        push_datum(out, *kind, *datum, texts)?;
     }
     Ok(())
 }
@@ -54,19 +61,21 @@ fn push_event_fields(
     sync: Time,
     other: Time,
     kinds: &[Kind],
-    row: &Row,
+    cells: &[Datum],
+    texts: &TextTable,
 ) -> Result<(), Memory>
-    ensures ok { OnOk result (out.new.items ≡ out.old.items ++ record_text (event_fields kinds.now name.now form sync other row.now)) }
+    requires { ArePlaced texts.now cells.now }
+    ensures ok { OnOk result (out.new.items ≡ out.old.items ++ record_text (event_fields kinds.now name.now form sync other (read_cells texts.now cells.now))) }
     ensures err { OnErr result (Begins out.old.items out.new.items) }
 {
     push_text(out, name)?;
     push_life(out, form, sync, other)?;
-    push_values(out, kinds, row.values())?;
+    push_cells(out, kinds, cells, texts)?;
     out.push(b'\n')?;
     Ok(())
 }
 
-/// Appends the line that says this of an event of a row with columns of these kinds. Where memory is wanting, nothing is
+/// Appends the line that says this of an event of the row of these cells, with columns of these kinds. Where memory is wanting, nothing is
 /// appended.
 #[tactic(auto, using(crate::proofs::Begin::Begins_take))]
 pub fn push_event(
@@ -76,13 +85,15 @@ pub fn push_event(
     sync: Time,
     other: Time,
     kinds: &[Kind],
-    row: &Row,
+    cells: &[Datum],
+    texts: &TextTable,
 ) -> Result<(), Memory>
-    ensures ok { OnOk result (out.new.items ≡ out.old.items ++ record_text (event_fields kinds.now name.now form sync other row.now)) }
+    requires { ArePlaced texts.now cells.now }
+    ensures ok { OnOk result (out.new.items ≡ out.old.items ++ record_text (event_fields kinds.now name.now form sync other (read_cells texts.now cells.now))) }
     ensures err { OnErr result (out.new.items ≡ out.old.items) }
 {
     let before = out.len();
-    let pushed = push_event_fields(out, name, form, sync, other, kinds, row);
+    let pushed = push_event_fields(out, name, form, sync, other, kinds, cells, texts);
     if pushed.is_err() {
         out.truncate(before);
     }
@@ -121,7 +132,7 @@ mod tests {
     use super::{push_event, push_punctuation};
     use crate::form::Form;
     use std::alloc::Global;
-    use tw_rows::{Kind, Label, Memory, Row, Time, Value};
+    use tw_rows::{Kind, Label, Memory, Row, TextTable, Time, Value, to_cells};
 
     /// A row of each kind of value.
     fn row(alloc: Global) -> Result<Row, Memory> {
@@ -136,11 +147,21 @@ mod tests {
 
     /// An interval of that row, and a punctuation.
     fn lines(alloc: Global) -> Result<Vec<u8>, Memory> {
-        let row = row(alloc)?;
+        let mut texts = TextTable::new(alloc);
+        let cells = to_cells(alloc, &row(alloc)?, &mut texts)?;
         let kinds = [Kind::Text, Kind::Int, Kind::Dec(2), Kind::Bool, Kind::Text];
         let (start, end) = Time::bounds();
         let mut out = Vec::new(alloc);
-        push_event(&mut out, "s", Form::Interval, start, end, &kinds, &row)?;
+        push_event(
+            &mut out,
+            "s",
+            Form::Interval,
+            start,
+            end,
+            &kinds,
+            cells.items(),
+            &texts,
+        )?;
         push_punctuation(&mut out, "*", end)?;
         Ok(out)
     }

@@ -10,30 +10,25 @@ use Rattle.egress.proofs.Placing.{popped_placed, rest_placed}
 use Rattle.egress.proofs.egress.show_due.Goals as goal
 
 pub show_edges-requires : goal.show_edges-requires
-show_edges-requires c =
-    subst (EdgesArePlaced c.args.texts.now) (sym (c.deref.ensures.value))
-    (popped_placed c.args.texts.now (waiting_in c.instants.waiting) (waiting_in c.pop_due.new.waiting) c.in-Some.due.at c.in-Some.due.edges.items c.in-Some.ensures.some c.instants.invariant.placed)
+show_edges-requires c = popped_placed c.args.texts.now (waiting_in c.instants.waiting) (waiting_in c.pop_due.new.waiting) c.in-Some.due.at c.in-Some.due.edges.items c.in-Some.ensures.some c.instants.invariant.placed
 
 pub instants-preserved : goal.instants-preserved
-instants-preserved c =
-    let is = c.deref.ensures.value in
-    record {
-      swept = λ events a start valid low s.
-          going_next c.args.texts.now c.args.kinds.now events valid a c.args.to c.pop_due.ensures.within
-          (since_in c.args.texts.now c.instants.opens) (since_in c.args.texts.now c.show_edges.new.opens) (waiting_in c.instants.waiting) (waiting_in c.pop_due.new.waiting) c.instants.out.items c.show_edges.new.out.items
-          c.in-Some.due.at c.deref.result.now (subst (λ es. ArePopped (waiting_in c.instants.waiting) (waiting_in c.pop_due.new.waiting) c.in-Some.due.at es) (sym is) c.in-Some.ensures.some) c.in-Some.ensures.below
-          (λ same opened. c.in_ok-show_edges.ensures.text events valid same opened)
-          (λ same opened. c.in_ok-show_edges.ensures.since events valid same opened)
-          (c.instants.invariant.swept events a start valid low s);
-      placed = rest_placed c.args.texts.now (waiting_in c.instants.waiting) (waiting_in c.pop_due.new.waiting) c.in-Some.due.at c.in-Some.due.edges.items c.in-Some.ensures.some c.instants.invariant.placed;
-      passed = λ p h.
-          let was = c.instants.invariant.passed p h in
-          record {
-            opens = c.in_ok-show_edges.ensures.passed p
-                (subst (λ (es : List Edge). failing (λ e. p e.cells) es ≡ 0) (sym is) (popped_passes p (waiting_in c.instants.waiting) (waiting_in c.pop_due.new.waiting) c.in-Some.due.at c.in-Some.due.edges.items c.in-Some.ensures.some was.waits)) was.opens;
-            waits = rest_passes p (waiting_in c.instants.waiting) (waiting_in c.pop_due.new.waiting) c.in-Some.due.at c.in-Some.due.edges.items c.in-Some.ensures.some was.waits;
-          };
-    }
+instants-preserved c = record {
+  swept = λ events a start valid low s.
+      going_next c.args.texts.now c.args.kinds.now events valid a c.args.to c.pop_due.ensures.within
+      (since_in c.args.texts.now c.instants.opens) (since_in c.args.texts.now c.show_edges.new.opens) (waiting_in c.instants.waiting) (waiting_in c.pop_due.new.waiting) c.instants.out.items c.show_edges.new.out.items
+      c.in-Some.due.at c.in-Some.due.edges.items c.in-Some.ensures.some c.in-Some.ensures.below
+      (λ same opened. c.in_ok-show_edges.ensures.text events valid same opened)
+      (λ same opened. c.in_ok-show_edges.ensures.since events valid same opened)
+      (c.instants.invariant.swept events a start valid low s);
+  placed = rest_placed c.args.texts.now (waiting_in c.instants.waiting) (waiting_in c.pop_due.new.waiting) c.in-Some.due.at c.in-Some.due.edges.items c.in-Some.ensures.some c.instants.invariant.placed;
+  passed = λ p h.
+      let was = c.instants.invariant.passed p h in
+      record {
+        opens = c.in_ok-show_edges.ensures.passed p (popped_passes p (waiting_in c.instants.waiting) (waiting_in c.pop_due.new.waiting) c.in-Some.due.at c.in-Some.due.edges.items c.in-Some.ensures.some was.waits) was.opens;
+        waits = rest_passes p (waiting_in c.instants.waiting) (waiting_in c.pop_due.new.waiting) c.in-Some.due.at c.in-Some.due.edges.items c.in-Some.ensures.some was.waits;
+      };
+}
 
 pub instants-init : goal.instants-init
 instants-init c = record {

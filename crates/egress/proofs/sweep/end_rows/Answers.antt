@@ -1,37 +1,32 @@
-use Rattle.std.proofs.Common.{refl, sym, ◌∙◌, subst, ◌-◌, ◌++◌}
-use Rattle.std.specs.Prelude.{flat_map}
-use Rattle.std.specs.BTreeMap.{keys}
-use Rattle.egress.specs.Instants.{end_lines}
-use Rattle.egress.specs.Print.{print}
-use Rattle.egress.specs.Kept.{ends_in, starts_in, since_in}
-use Rattle.egress.proofs.Passes.{Ending, ending_first, ending_next, ending_last, no_net}
+use Rattle.egress.specs.Kept.{since_at, since_in}
+use Rattle.std.proofs.Common.{arith}
+use Rattle.egress.proofs.Passing.{dropped_pass}
+use Rattle.egress.proofs.Shown.{own_placed, ending_first, ending_next, ending_last}
 use Rattle.egress.proofs.sweep.end_rows.Goals as goal
 
-pub loop-row-preserved : goal.loop-row-preserved
-loop-row-preserved c = record {
-  ending = λ texts told.
-      ending_next (ends_in c.args.touched.now) (starts_in c.args.touched.now) c.args.at c.args.kinds.now (since_in texts c.args.opens.now) _
-      c.in-Some.row.now c.loop-row.row-iterator c.next.new.self (since_in texts c.loop-row.opens) (since_in texts c.end_one.new.opens) c.loop-row.out.items c.end_one.new.out.items
-      (ends_in c.args.touched.now c.in-Some.row.now - starts_in c.args.touched.now c.in-Some.row.now) refl
-      (c.in_ok-end_one.ensures.since texts told) (c.in_ok-end_one.ensures.text texts told) c.in-Some.ensures.steps (c.loop-row.invariant.ending texts told);
-  passed = λ p h. c.in_ok-end_one.ensures.passed p (c.loop-row.invariant.passed p h);
-}
+pub end_row-requires : goal.end_row-requires
+end_row-requires c = own_placed c.args.texts.now c.args.touched.now c.args.at c.requires.ordered c.len-texts.ensures.distinct c.requires.placed c.loop-moves.moves-index c.moves-item.result c.loop-moves-test.true c.moves-item.is
 
-pub loop-row-init : goal.loop-row-init
-loop-row-init c = record {
-  ending = λ texts told.
-      subst (λ rest. Ending (ends_in c.args.touched.now) (starts_in c.args.touched.now) c.args.at c.args.kinds.now (since_in texts c.args.opens.now)
-      (c.args.out.now.items ++ print c.args.kinds.now (flat_map (end_lines (ends_in c.args.touched.now) (starts_in c.args.touched.now) c.args.at (since_in texts c.args.opens.now)) (keys c.args.touched.now)))
-      rest (since_in texts c.args.opens.now) c.args.out.now.items)
-      (sym (c.into_iter-row-iterator.ensures.into_iter_gives ∙ c.keys-row-items.ensures.rest))
-      (ending_first (ends_in c.args.touched.now) (starts_in c.args.touched.now) c.args.at c.args.kinds.now (since_in texts c.args.opens.now) _
-      (keys c.args.touched.now) (since_in texts c.args.opens.now) c.args.out.now.items c.keys-row-items.ensures.ordered (no_net c.args.touched.now) (λ r. refl) refl);
+pub loop-moves-init : goal.loop-moves-init
+loop-moves-init c = record {
+  ending = ending_first c.args.texts.now c.args.touched.now c.args.at c.requires.ordered c.args.kinds.now (since_in c.args.texts.now c.args.opens.now) c.args.out.now.items;
   passed = λ p h. h;
 }
 
+pub loop-moves-preserved : goal.loop-moves-preserved
+loop-moves-preserved c = record {
+  ending = ending_next c.args.texts.now c.args.touched.now c.args.at c.requires.ordered c.len-texts.ensures.distinct c.requires.placed c.loop-moves.moves-index c.moves-item.result c.loop-moves-test.true c.moves-item.is
+      c.loop-moves.opens c.end_row.new.opens c.args.kinds.now (since_in c.args.texts.now c.args.opens.now) c.args.out.now.items c.loop-moves.out.items c.end_row.new.out.items c.saturating_sub-count.result
+      c.saturating_sub-count.ensures c.in_ok-end_row.ensures.since c.in_ok-end_row.ensures.text c.loop-moves.invariant.ending;
+  passed = λ p h. dropped_pass p (since_at c.loop-moves.opens) (since_at c.end_row.new.opens) (c.loop-moves.invariant.passed p h) c.moves-item.result.cells c.saturating_sub-count.result c.in_ok-end_row.ensures.since;
+}
+
 pub returns-clause-since : goal.returns-clause-since
-returns-clause-since c = λ texts told.
-    (ending_last (ends_in c.args.touched.now) (starts_in c.args.touched.now) c.args.at c.args.kinds.now (since_in texts c.args.opens.now) _ (since_in texts c.loop-row.opens) c.loop-row.out.items
-    (subst (λ rest. Ending (ends_in c.args.touched.now) (starts_in c.args.touched.now) c.args.at c.args.kinds.now (since_in texts c.args.opens.now)
-    (c.args.out.now.items ++ print c.args.kinds.now (flat_map (end_lines (ends_in c.args.touched.now) (starts_in c.args.touched.now) c.args.at (since_in texts c.args.opens.now)) (keys c.args.touched.now)))
-    rest (since_in texts c.loop-row.opens) c.loop-row.out.items) c.in-None.ensures.steps.0 (c.loop-row.invariant.ending texts told))).1
+returns-clause-since c =
+    (ending_last c.args.texts.now c.args.touched.now c.args.at c.requires.ordered c.args.kinds.now (since_in c.args.texts.now c.args.opens.now) c.args.out.now.items c.loop-moves.moves-index
+    (since_in c.args.texts.now c.loop-moves.opens) c.loop-moves.out.items (omega arith) c.loop-moves.invariant.ending).1
+
+pub returns-clause-text : goal.returns-clause-text
+returns-clause-text c =
+    (ending_last c.args.texts.now c.args.touched.now c.args.at c.requires.ordered c.args.kinds.now (since_in c.args.texts.now c.args.opens.now) c.args.out.now.items c.loop-moves.moves-index
+    (since_in c.args.texts.now c.loop-moves.opens) c.loop-moves.out.items (omega arith) c.loop-moves.invariant.ending).0
