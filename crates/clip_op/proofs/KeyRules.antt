@@ -1,5 +1,5 @@
 -- The keys stay, and what is swept and kept by keys that are the same.
-use Rattle.std.specs.Prelude.{◌≡◌, ℕ, suc, List, refl}
+use Rattle.std.specs.Prelude.{ℕ, List, refl}
 use Rattle.std.proofs.Common.{sym, ◌∙◌, subst}
 use Rattle.tw_rows.specs.declared.edge.Edge.{Edge}
 use Rattle.tw_rows.specs.declared.edge.HeldRow.{HeldRow}

@@ -1,19 +1,18 @@
 -- The starts of a right side: which they are, and what waits of them.
-use Rattle.std.specs.Prelude.{◌≡◌, ℕ, ◌+◌, ◌<◌, ◌≤◌, ◌&&◌, ◌||◌, not, nat_eq, nat_lt, nat_le, Bool, true, false, cond, List, [], ◌∷◌, ◌++◌, map, filter, flat_map, All, refl}
-use Rattle.std.proofs.Common.{sym, ◌∙◌, ap, subst, arith}
-use Rattle.std.proofs.lemmas.Bool.{and_parts, eqb-true}
+use Rattle.std.specs.Prelude.{◌≡◌, ℕ, ◌+◌, ◌<◌, ◌≤◌, ◌&&◌, ◌||◌, not, nat_eq, nat_lt, Bool, true, false, cond, List, [], ◌∷◌, ◌++◌, map, filter, All, refl}
+use Rattle.std.proofs.Common.{sym, ◌∙◌, ap, arith}
+use Rattle.std.proofs.lemmas.Bool.{eqb-true}
 use Rattle.std.proofs.lemmas.Bool.Decides.{nat_tests}
 use Rattle.std.proofs.lemmas.List.Elements.{All-head, All-tail, All-nil}
 use Rattle.tw_rows.specs.Instant.{inf}
 use Rattle.tw_rows.specs.Bag.{SameBag, total}
 use Rattle.tw_rows.specs.Cells.{datum_kind}
 use Rattle.tw_rows.specs.declared.edge.Edge.{Edge}
-use Rattle.tw_rows.specs.declared.edge.HeldRow.{HeldRow}
 use Rattle.tw_rows.specs.declared.kind.CellKind.{CellKind}
 use Rattle.tw_rows.proofs.Bags.{total-filter, total-flat_map, SameBag-trans}
 use Rattle.edge_history.specs.Order.{failing, is_real, is_end, is_from, is_below, IsReal, IsHistory}
 use Rattle.edge_history.specs.History.{of}
-use Rattle.edge_history.specs.Balance.{news, is_single, given, start_edge, end_edge}
+use Rattle.edge_history.specs.Balance.{news, is_single, start_edge, end_edge}
 use Rattle.edge_history.specs.Opens.{singles_of, singles, is_start}
 use Rattle.edge_history.proofs.Sums.{weaker}
 use Rattle.edge_history.proofs.Retaining.{events_of_are, valid_from, AreEvents-from}

@@ -25,7 +25,6 @@ use Rattle.sweep_laws.proofs.Sides.{side_now, side_none, side_rest, next_between
 use Rattle.sweep_laws.proofs.Unending.{clipped_unending}
 use Rattle.clip_op.specs.Clipped.{clip_meets, clips}
 use Rattle.clip_op.specs.Holding.{ClipHeld, ClipReached, ClipKeeps}
-use Rattle.clip_op.specs.Waiting.{starts_from}
 use Rattle.clip_op.proofs.RightEdges.{starts_due_are}
 
 module _ (lk rk : List ℕ) where

@@ -1,4 +1,4 @@
-use Rattle.std.proofs.Common.{◌≡◌, ◌≤◌, ◌++◌, ◌∙◌, map, min, sym, ap, subst, arith}
+use Rattle.std.proofs.Common.{◌≡◌, ◌≤◌, ◌∙◌, map, min, sym, ap, subst, arith}
 use Rattle.std.specs.Prelude.{All}
 use Rattle.tw_rows.specs.Cells.{datum_kind}
 use Rattle.tw_rows.specs.Kinds.{cell_kind_of}

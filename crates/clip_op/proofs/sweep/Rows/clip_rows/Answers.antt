@@ -1,12 +1,10 @@
 use Rattle.std.specs.Prelude.{filter, take}
-use Rattle.std.proofs.Common.{◌≡◌, ◌+◌, ◌∙◌, ◌||◌, sym, ap, subst, List, ℕ, Bool}
+use Rattle.std.proofs.Common.{◌+◌, ◌∙◌, ◌||◌, sym, ap, subst, List, ℕ}
 use Rattle.std.proofs.lemmas.List.Folds.{list_any_more}
 use Rattle.tw_rows.specs.declared.cells.Datum.{Datum}
 use Rattle.tw_rows.specs.declared.edge.Edge.{Edge}
-use Rattle.tw_rows.specs.declared.edge.HeldRow.{HeldRow}
 use Rattle.synopsis.specs.Held.{key_of, is_of_key}
 use Rattle.clip_op.specs.Clipped.{clip_meets}
-use Rattle.clip_op.specs.Keys.{SameKeys}
 use Rattle.clip_op.specs.Leaving.{is_met, Leave}
 use Rattle.clip_op.proofs.KeyRules.{keys_stay, keys_then}
 use Rattle.clip_op.proofs.Leaving.{leave_untested, leave_tested}
