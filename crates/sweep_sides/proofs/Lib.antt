@@ -1,3 +1,4 @@
 pub mod Queued
 pub mod Cutting
 pub mod KeptSides
+pub mod TakenIn

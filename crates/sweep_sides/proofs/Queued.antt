@@ -89,16 +89,16 @@ later_bound t u (e ∷ es) low h = go (nat_le e.sync t) refl h (λ g. later_boun
         omega (arith, le, s)
     go false is h r = absurd (omega (arith, h))
 
-le_true : (m n : ℕ) → m ≤ n → nat_le m n ≡ true
+pub le_true : (m n : ℕ) → m ≤ n → nat_le m n ≡ true
 le_true m n h = grind (arith, nat_tests)
 
-lt_true : (m n : ℕ) → m < n → nat_lt m n ≡ true
+pub lt_true : (m n : ℕ) → m < n → nat_lt m n ≡ true
 lt_true m n h = grind (arith, nat_tests)
 
-zero_of : (b : Bool) → b ≡ true → ◌≡◌ {A = ℕ} (cond b 0 1) 0
+pub zero_of : (b : Bool) → b ≡ true → ◌≡◌ {A = ℕ} (cond b 0 1) 0
 zero_of b h = ap (λ c. cond {A = ℕ} c 0 1) h
 
-first_timed : (b : Bool) (n : ℕ) → cond b 0 1 + n ≡ 0 → b ≡ true
+pub first_timed : (b : Bool) (n : ℕ) → cond b 0 1 + n ≡ 0 → b ≡ true
 first_timed true n h = refl
 first_timed false n h = absurd (omega (arith, h))
 

@@ -5,9 +5,11 @@
 mod answer;
 mod instants;
 mod saving;
+mod taking;
 mod waiting;
 
 pub use answer::list_of;
 pub use instants::{first_instant, next_instant, rest};
 pub use saving::{kept_count, load_rows, load_waiting, save_rows, save_waiting};
+pub use taking::take_in;
 pub use waiting::{put_all, take_due};

@@ -84,7 +84,7 @@ fn is_open(edge: &Edge) -> bool
     edge.other == Time::bounds().1
 }
 
-fn comes_before(edge: &Edge, to: Time) -> bool
+pub(crate) fn comes_before(edge: &Edge, to: Time) -> bool
     ensures { result ≡ is_below to edge.now }
 {
     edge.sync < to

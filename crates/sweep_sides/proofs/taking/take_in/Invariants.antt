@@ -1,0 +1,22 @@
+use Rattle.std.proofs.Common.{◌≡◌, ◌+◌, ℕ, length, map}
+use Rattle.std.specs.Prelude.{All}
+use Rattle.tw_rows.specs.Bag.{total}
+use Rattle.tw_rows.specs.Cells.{datum_kind}
+use Rattle.tw_rows.specs.declared.edge.Edge.{Edge}
+use Rattle.edge_history.specs.Opens.{singles}
+use Rattle.edge_history.specs.Order.{failing, is_below}
+use Rattle.edge_stream.specs.Listing.{cells_of}
+use Rattle.sweep_sides.specs.Waiting.{queued, AreTimed}
+use Rattle.sweep_sides.proofs.taking.take_in.Given as goal
+
+abbrev pub invariant-loop-due : goal.invariant-loop-due
+invariant-loop-due l = record {
+  parts : (w : Edge → ℕ) → (total w l.due.items + total w (queued l.queue)) + total w (singles l.cursor.edges) ≡ total w (queued l.fn.queue) + total w (singles l.edges.edges);
+  early : failing (is_below l.to) l.due.items ≡ 0;
+  timed : AreTimed l.fn.queue → AreTimed l.queue;
+  kinds : l.cursor.kinds ≡ cells_of l.edges;
+  cells : All (λ e. map datum_kind e.cells ≡ cells_of l.edges) l.cursor.edges → All (λ e. map datum_kind e.cells ≡ cells_of l.edges) l.edges.edges;
+}
+
+abbrev pub decreases-loop-due : goal.decreases-loop-due
+decreases-loop-due l = length l.cursor.edges
