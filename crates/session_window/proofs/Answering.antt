@@ -1,0 +1,133 @@
+-- What a step of a Session answers: a list in order, with the columns of its rows.
+use Rattle.std.specs.Prelude.{◌≡◌, ℕ, ◌≤◌, ◌&&◌, nat_lt, nat_le, Bool, true, false, cond, IsTrue, List, [], ◌∷◌, ◌++◌, map, All, refl}
+use Rattle.std.proofs.Common.{sym, ◌∙◌, ap, subst, arith}
+use Rattle.std.proofs.lemmas.Bool.Decides.{nat_tests}
+use Rattle.std.proofs.lemmas.List.Elements.{All-nil, All-cons, All-head, All-tail, All-append}
+use Rattle.tw_rows.specs.Bag.{SameBag, total}
+use Rattle.tw_rows.specs.Cells.{datum_kind}
+use Rattle.tw_rows.specs.Kinds.{cell_kind_of}
+use Rattle.tw_rows.specs.Instant.{inf}
+use Rattle.tw_rows.specs.SameCells.{same_cells}
+use Rattle.tw_rows.specs.declared.edge.Edge.{Edge}
+use Rattle.tw_rows.specs.declared.edge.HeldRow.{HeldRow}
+use Rattle.tw_rows.specs.declared.kind.Kind.{Kind}
+use Rattle.tw_rows.specs.declared.kind.CellKind.{CellKind}
+use Rattle.tw_rows.proofs.Bags.{total-map, total-flat_map, total_zero}
+use Rattle.edge_history.specs.Balance.{news_of, news, Told}
+use Rattle.edge_history.specs.History.{CellEvent, of}
+use Rattle.edge_history.specs.Order.{failing, KeepsOrder}
+use Rattle.edge_history.proofs.Agreeing.{same_order}
+use Rattle.edge_history.proofs.Keeping.{KeepsOrder-back}
+use Rattle.edge_history.proofs.Sums.{sum_eq, failing-All}
+use Rattle.edge_history.proofs.Telling.{answer_from, answer_below}
+use Rattle.end_queue.specs.Pending.{Pending}
+use Rattle.key_nodes.specs.Sessions.{session}
+use Rattle.plan_model.specs.declared.node.Node.TheVariants.{Session}
+use Rattle.plan_model.specs.Nodes.{node_in}
+use Rattle.node_laws.specs.Keeping.{Keeps, plain_cells}
+use Rattle.node_laws.proofs.Standing.{all_of}
+use Rattle.node_laws.proofs.Steps.{keeps_stand}
+use Rattle.operator.specs.Steps.{MayCome, ComeBetween}
+use Rattle.sweep_sides.specs.Saving.{store_all}
+use Rattle.sweep_sides.proofs.KeptSides.{kinds_stored, stored_kinds}
+use Rattle.synopsis.specs.Held.{key_of}
+use Rattle.session_window.specs.Windows.{windows}
+use Rattle.session_window.specs.Holding.{SessionKeeps}
+use Rattle.session_window.specs.States.{KeepsSession}
+
+-- one test from another, item by item
+module _ {X : Type 0} (P Q : X → Type 0) (h : (x : X) → P x → Q x) where
+  All-weaker : (xs : List X) → All P xs → All Q xs
+  All-weaker [] a = All-nil Q
+  All-weaker (x ∷ xs) a = All-cons Q x xs (h x (All-head P x xs a)) (All-weaker xs (All-tail P x xs a))
+
+abbrev row_stored : List CellKind → CellEvent → Bool
+row_stored kinds e = store_all kinds e.row
+
+-- the events of edges have the columns of the edges, and so have those of sessions and what is told of them
+events_stored : (kinds : List CellKind) (h : List Edge) → All (λ e. map datum_kind e.cells ≡ kinds) h → failing (row_stored kinds) (of h) ≡ 0
+events_stored kinds h cells =
+    (failing-All (row_stored kinds) (of h)).1 (all_of (λ cells. IsTrue (store_all kinds cells)) h
+    (All-weaker (λ (e : Edge). map datum_kind e.cells ≡ kinds) (λ (e : Edge). IsTrue (store_all kinds e.cells)) (λ e k. kinds_stored kinds e.cells k) h cells))
+
+windows_stored : (kinds : List CellKind) (columns : List ℕ) (timeout : ℕ) (a : List CellEvent) → failing (row_stored kinds) a ≡ 0 → failing (row_stored kinds) (windows columns timeout a) ≡ 0
+windows_stored kinds columns timeout a h = total-map (λ (e : CellEvent). cond {A = ℕ} (store_all kinds e.row) 0 1) (session (key_of columns) same_cells timeout a) a ∙ h
+
+news_one : (own : List CellKind) (c d : ℕ) (e : CellEvent) → row_stored own e ≡ true → total (λ (x : Edge). cond {A = ℕ} (store_all own x.cells) 0 1) (news_of c d e) ≡ 0
+news_one own c d e h = go (nat_le c e.start && nat_lt e.start d) (nat_le c e.end && nat_lt e.end d)
+  where
+    none : cond {A = ℕ} (store_all own e.row) 0 1 ≡ 0
+    none = ap (λ t. cond {A = ℕ} t 0 1) h
+
+    go : (s t : Bool) → total (λ (x : Edge). cond {A = ℕ} (store_all own x.cells) 0 1) (cond s (record { sync = e.start; other = inf; cells = e.row } ∷ []) [] ++ cond t (record { sync = e.end; other = e.start; cells = e.row } ∷ []) []) ≡ 0
+    go true true = let z = none in omega (arith, z)
+    go true false = let z = none in omega (arith, z)
+    go false true = let z = none in omega (arith, z)
+    go false false = refl
+
+told_cells : (own : List CellKind) (columns : List ℕ) (timeout c d : ℕ) (h answer : List Edge) → All (λ e. map datum_kind e.cells ≡ own) h →
+    SameBag answer (news c d (windows columns timeout (of h))) → All (λ e. map datum_kind e.cells ≡ own) answer
+told_cells own columns timeout c d h answer cells same =
+    let none = windows_stored own columns timeout (of h) (events_stored own h cells) in
+    let each = same.weigh (λ e. cond {A = ℕ} (store_all own e.cells) 0 1)
+    ∙ (total-flat_map (λ (e : Edge). cond {A = ℕ} (store_all own e.cells) 0 1) (news_of c d) (windows columns timeout (of h))
+    ∙ (sum_eq (row_stored own) (λ e. total (λ (x : Edge). cond {A = ℕ} (store_all own x.cells) 0 1) (news_of c d e)) (λ e. 0) (windows columns timeout (of h)) (news_one own c d) none ∙ total_zero (windows columns timeout (of h)))) in
+    All-weaker (λ (e : Edge). IsTrue (store_all own e.cells)) (λ (e : Edge). map datum_kind e.cells ≡ own) (λ e k. stored_kinds own e.cells k) answer
+    ((failing-All (λ (e : Edge). store_all own e.cells) answer).0 each)
+
+-- the events of the node
+pub windows_are : (columns : List ℕ) (timeout : ℕ) (a b : List CellEvent) → 1 ≤ timeout → windows columns timeout a ≡ node_in plain_cells (Session 0 timeout columns) a b
+windows_are columns timeout a b pos = sym (ap (λ c. cond c (windows columns timeout a) []) (above timeout pos))
+  where
+    above : (n : ℕ) → 1 ≤ n → nat_lt 0 n ≡ true
+    above n l = grind (arith, nat_tests)
+
+module _ (columns : List ℕ) (timeout : ℕ) (kinds : List CellKind) (texts : List (List ℕ)) (x : ℕ) (rows : List HeldRow) (ends : List Pending) (waiting left right out : List Edge) (pos : 1 ≤ timeout)
+    (k : KeepsSession columns timeout kinds texts x rows ends waiting left right out) where
+  pub node_keeps : Keeps plain_cells (Session 0 timeout columns) texts x 0 left right out
+  node_keeps = record {
+    left_history = k.kept.history;
+    right_history = k.right_history;
+    left_placed = k.left_placed;
+    right_placed = k.right_placed;
+    told = subst (λ (l : List CellEvent). Told x out l) (windows_are columns timeout (of left) (of right) pos) k.kept.told;
+  }
+
+  pub out_order : KeepsOrder out
+  out_order =
+      let s = keeps_stand (λ test row. false) (λ items row. row) (Session 0 timeout columns) texts x 0 left right out k.low (omega arith) node_keeps in
+      (same_order out).1 (s.history.order, s.history.real)
+
+-- a step of what is kept: kept2 is what the side keeps after it, told its news, and the answer the list of these
+pub session_stepped : (columns columns2 : List ℕ) (timeout timeout2 : ℕ) (kinds : List CellKind) (texts : List (List ℕ)) (x y u : ℕ) (rows rows2 : List HeldRow) (ends ends2 : List Pending)
+    (waiting waiting2 hl hr l r out told answer : List Edge) → 1 ≤ timeout2 → u ≤ inf →
+    KeepsSession columns timeout kinds texts x rows ends waiting hl hr out → MayCome texts x hl l → MayCome texts y hr r →
+    All (λ e. map datum_kind e.cells ≡ kinds) l → SessionKeeps columns2 timeout2 rows2 ends2 waiting2 u (hl ++ l) (out ++ told) →
+    SameBag told (news x u (windows columns timeout (of (hl ++ l)))) →
+    (KeepsOrder told → All (λ e. map datum_kind e.cells ≡ kinds) told → answer ≡ told) →
+    KeepsSession columns2 timeout2 kinds texts u rows2 ends2 waiting2 (hl ++ l) (hr ++ r) (out ++ answer) × ComeBetween x u answer
+session_stepped columns columns2 timeout timeout2 kinds texts x y u rows rows2 ends ends2 waiting waiting2 hl hr l r out told answer pos lu k ml mr cells kept2 same listed =
+    let cells_l : All (λ e. map datum_kind e.cells ≡ kinds) (hl ++ l) = All-append (λ (e : Edge). map datum_kind e.cells ≡ kinds) hl l k.left_cells cells in
+    let keeps : KeepsSession columns2 timeout2 kinds texts u rows2 ends2 waiting2 (hl ++ l) (hr ++ r) (out ++ told) = record {
+      left_placed = ml.placed;
+      left_cells = cells_l;
+      low = lu;
+      right_history = mr.history;
+      right_placed = mr.placed;
+      kept = kept2;
+    } in
+    let order = KeepsOrder-back out told (out_order columns2 timeout2 kinds texts u rows2 ends2 waiting2 (hl ++ l) (hr ++ r) (out ++ told) pos keeps) in
+    let is = listed order (told_cells kinds columns timeout x u (hl ++ l) told cells_l same) in
+    let events = windows columns timeout (of (hl ++ l)) in (
+      subst (λ (z : List Edge). KeepsSession columns2 timeout2 kinds texts u rows2 ends2 waiting2 (hl ++ l) (hr ++ r) (out ++ z)) (sym is) keeps,
+      subst (λ (z : List Edge). ComeBetween x u z) (sym is) (record { from = answer_from x u told events same; below = answer_below x u told events same }),
+    )
+
+-- the list of what was told, of equal kinds and edges
+pub list_is : (kinds kinds2 : List Kind) (told told2 answer : List Edge) → kinds2 ≡ kinds → told2 ≡ told →
+    (KeepsOrder told2 → All (λ e. map datum_kind e.cells ≡ map cell_kind_of kinds2) told2 → answer ≡ told2) →
+    KeepsOrder told → All (λ e. map datum_kind e.cells ≡ map cell_kind_of kinds) told → answer ≡ told
+list_is kinds kinds2 told told2 answer e f h order cells =
+    h (subst KeepsOrder (sym f) order)
+    (subst (λ (ks : List Kind). All (λ (x : Edge). map datum_kind x.cells ≡ map cell_kind_of ks) told2) (sym e)
+    (subst (λ (l : List Edge). All (λ (x : Edge). map datum_kind x.cells ≡ map cell_kind_of kinds) l) (sym f) cells)) ∙ f

@@ -1,0 +1,12 @@
+pub mod Members
+pub mod OpenKeys
+pub mod Keys
+pub mod Awaiting
+pub mod Likes
+pub mod Instants
+pub mod Steps
+pub mod Starting
+pub mod Answering
+pub mod Loading
+pub mod Resuming
+pub mod Examples

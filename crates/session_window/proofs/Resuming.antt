@@ -1,0 +1,279 @@
+-- What is kept of a Session at first, in longer tables, how much it is, and after it was saved and loaded.
+use Rattle.std.specs.Prelude.{◌≡◌, ℕ, zero, suc, ◌+◌, ◌*◌, ◌≤◌, ◌&&◌, nat_eq, nat_lt, nat_le, Bool, true, false, cond, Option, None, Some, List, [], ◌∷◌, ◌++◌, filter, length, map, refl}
+use Rattle.std.proofs.Common.{sym, ◌∙◌, ap, subst, arith}
+use Rattle.std.proofs.lemmas.Bool.Decides.{nat_tests}
+use Rattle.std.proofs.lemmas.List.{append-nil, length-map}
+use Rattle.std.proofs.lemmas.List.Elements.{All-nil}
+use Rattle.tw_rows.specs.Bag.{SameBag, total}
+use Rattle.tw_rows.specs.Cells.{ArePlaced, datum_kind}
+use Rattle.tw_rows.specs.Instant.{inf, later}
+use Rattle.tw_rows.specs.SameCells.{same_cells, same_itself}
+use Rattle.tw_rows.specs.Texts.{BeginsWith}
+use Rattle.tw_rows.specs.declared.cells.Datum.{Datum}
+use Rattle.tw_rows.specs.declared.edge.Edge.{Edge}
+use Rattle.tw_rows.specs.declared.edge.HeldRow.{HeldRow}
+use Rattle.tw_rows.specs.declared.kind.CellKind.{CellKind}
+use Rattle.tw_rows.proofs.Bags.{SameBag-refl, SameBag-trans, SameBag-filter, total-flat_map, total-filter, total_same, total_swap, total_zero}
+use Rattle.edge_history.specs.History.{CellEvent, of}
+use Rattle.edge_history.specs.Order.{failing, many, is_from, IsHistory}
+use Rattle.edge_history.specs.Opens.{opens, open_of, singles, is_start}
+use Rattle.edge_history.specs.Side.{reaches}
+use Rattle.edge_history.proofs.Sums.{sum_le, weaker}
+use Rattle.edge_history.proofs.Waiting.{side_bound}
+use Rattle.edge_stream.specs.declared.saved.SavedEntry.{SavedEntry}
+use Rattle.end_queue.specs.Pending.{Pending}
+use Rattle.carried_edges.specs.Entries.{entries_of, part_of, are_of_parts}
+use Rattle.carried_edges.proofs.Parts.{part_of_own, part_of_other, part_of_append, parts_own, parts_append, all_pass as all_of_list}
+use Rattle.plan_model.specs.declared.node.Node.TheVariants.{Session}
+use Rattle.plan_model.specs.Meaning.{node_events}
+use Rattle.plan_model.specs.Nodes.{node_in}
+use Rattle.plan_laws.specs.Held.{may_hold}
+use Rattle.node_laws.specs.Keeping.{plain_cells}
+use Rattle.node_laws.specs.Places.{AreDistinct, read_of}
+use Rattle.node_laws.specs.Standing.{StandsRead}
+use Rattle.node_laws.proofs.Standing.{placed_longer}
+use Rattle.node_laws.proofs.Steps.{keeps_read}
+use Rattle.synopsis.specs.Held.{key_of, is_of_key}
+use Rattle.synopsis.proofs.Keyed.{ones}
+use Rattle.sweep_sides.specs.Waiting.{queued}
+use Rattle.sweep_sides.specs.Saving.{starts_of, rows_of, is_row_start, may_wait, are_row_starts, may_all_wait}
+use Rattle.sweep_sides.proofs.KeptSides.{rows_of_starts}
+use Rattle.session_window.specs.Kept.{is_for, is_for_at, keeps_to, waits_from, is_placed_at, HasOne}
+use Rattle.session_window.specs.Windows.{windows}
+use Rattle.session_window.specs.Holding.{SessionHeld}
+use Rattle.session_window.specs.States.{KeepsSession, IsOpening, SessionSound, SessionResumes}
+use Rattle.session_window.proofs.Members.{In, found, counted, passes, all_pass}
+use Rattle.session_window.proofs.Keys.{same_turned, parts, last_there}
+use Rattle.session_window.proofs.Steps.{kept_none}
+use Rattle.session_window.proofs.Answering.{node_keeps, windows_are}
+
+module _ (columns : List ℕ) (timeout : ℕ) (kinds : List CellKind) (pos : 1 ≤ timeout) where
+  session_first : (texts : List (List ℕ)) → KeepsSession columns timeout kinds texts 0 [] [] [] [] [] []
+  session_first texts = record {
+    left_placed = All-nil (λ (e : Edge). ArePlaced texts e.cells);
+    left_cells = All-nil (λ (e : Edge). map datum_kind e.cells ≡ kinds);
+    low = omega arith;
+    right_history = record { order = tt; real = refl; paired = λ cells start. omega arith };
+    right_placed = All-nil (λ (e : Edge). ArePlaced texts e.cells);
+    kept = kept_none columns timeout pos;
+  }
+
+  pub session_opening : (texts : List (List ℕ)) (rows : List HeldRow) (ends waiting : List Pending) (x y : ℕ) (failed : Bool) → IsOpening rows ends waiting x y failed →
+      KeepsSession columns timeout kinds texts x rows ends (queued waiting) [] [] []
+  session_opening texts rows ends waiting x y failed o =
+      let a = o.no_rows in
+      let b = o.no_ends in
+      let c = o.none in
+      let d = o.left in
+      rw (a, b, c, d) (session_first texts)
+
+  pub session_longer : (new old : List (List ℕ)) (x : ℕ) (rows : List HeldRow) (ends : List Pending) (waiting left right out : List Edge) → BeginsWith new old →
+      KeepsSession columns timeout kinds old x rows ends waiting left right out → KeepsSession columns timeout kinds new x rows ends waiting left right out
+  session_longer new old x rows ends waiting left right out b k = record {
+    left_placed = placed_longer new old b left k.left_placed;
+    left_cells = k.left_cells;
+    low = k.low;
+    right_history = k.right_history;
+    right_placed = placed_longer new old b right k.right_placed;
+    kept = k.kept;
+  }
+
+  -- what was answered stands, read, for the events of the node
+  pub session_stands : (texts : List (List ℕ)) (x : ℕ) (rows : List HeldRow) (ends : List Pending) (waiting left right out : List Edge) → AreDistinct texts →
+      KeepsSession columns timeout kinds texts x rows ends waiting left right out → StandsRead texts x out (node_events (Session 0 timeout columns) (read_of texts left) (read_of texts right))
+  session_stands texts x rows ends waiting left right out apart k =
+      keeps_read (λ test row. false) (λ items row. row) (Session 0 timeout columns) texts x 0 left right out refl apart k.low (omega arith)
+      (node_keeps columns timeout kinds texts x rows ends waiting left right out pos k)
+
+  -- LOADING
+  held_again : (a : List CellEvent) (t : ℕ) (rows rows2 : List HeldRow) (ends ends2 : List Pending) → t ≤ inf → SameBag rows2 rows → HasOne columns rows2 ends2 → failing (is_placed_at t) ends2 ≡ 0 →
+      SessionHeld columns timeout a t rows ends → SessionHeld columns timeout a t rows2 ends2
+  held_again a t rows rows2 ends ends2 low same one placed h = record {
+    last = h.last;
+    now = record {
+      open_rows = SameBag-trans _ _ _ same h.now.open_rows;
+      lasts = h.now.lasts;
+      all = λ k l. same.weigh (λ r. cond (same_cells k (key_of columns r.cells)) 1 0) ∙ h.now.all k l;
+    };
+    lasts = λ k s l.
+        let f = SameBag-filter (is_of_key columns k) rows2 rows same in
+        let y = h.lasts k s l in
+        record {
+          there = (let a = f.weigh (λ r. cond (nat_eq r.start s) 1 0) in let b = y.there in omega (arith, a, b));
+          none_later = f.weigh (λ r. cond (nat_lt s r.start) 1 0) ∙ y.none_later;
+        };
+    awaits = record { one = one; in_time = λ k n some. of_entry k n (found (is_for_at k n) ends2 some) };
+    later = weaker (is_placed_at t) (waits_from t) ends2 (λ p e. from p.at e) placed;
+  }
+    where
+      from : (n : ℕ) → nat_eq n t ≡ true → nat_le t n ≡ true
+      from n e = grind (arith, nat_tests)
+
+      equal : (m n : ℕ) → nat_eq m n ≡ true → m ≡ n
+      equal m n e = grind (arith, nat_tests)
+
+      le : (m n : ℕ) → m ≤ n → nat_le m n ≡ true
+      le m n l = grind (arith, nat_tests)
+
+      both : (a b : Bool) → a ≡ true → b ≡ true → (a && b) ≡ true
+      both true b h k = k
+      both false b h k = absurd (cc)
+
+      some_rows : (n e : ℕ) → 1 ≤ e → e ≡ cond (nat_eq n 0) 0 1 → 1 ≤ n
+      some_rows zero e l i = absurd (let z : cond {A = ℕ} (nat_eq 0 0) 0 1 ≡ 0 = refl in omega (arith, l, i, z))
+      some_rows (suc n) e l i = omega arith
+
+      kept : (k : List Datum) (n : ℕ) → n ≡ t → (r : HeldRow) × (is_of_key columns k r ≡ true) × In r rows2 → (o : Option ℕ) → h.last k ≡ o → 1 ≤ many (keeps_to timeout columns k n) rows2
+      kept k n e r None l = absurd (
+          let z = same.weigh (λ x. cond (same_cells k (key_of columns x.cells)) 1 0) ∙ h.now.all k l in
+          let c = counted (λ (x : HeldRow). same_cells k (key_of columns x.cells)) r.0 rows2 r.2 (same_turned k (key_of columns r.0.cells) ∙ r.1) in
+          omega (arith, z, c))
+      kept k n e r (Some s) l =
+          let x = last_there (is_of_key columns k) rows s (h.lasts k s l) in
+          let y = (h.now.lasts k s l).1 in
+          let c = counted (keeps_to timeout columns k n) x.0 rows x.3
+          (both (is_of_key columns k x.0) (nat_le n (later timeout x.0.start)) x.2 (le n (later timeout x.0.start) (let z = x.1 in omega (arith, e, y, z, low)))) in
+          let v = same.weigh (λ r. cond (keeps_to timeout columns k n r) 1 0) in
+          omega (arith, c, v)
+
+      of_entry : (k : List Datum) (n : ℕ) → (p : Pending) × (is_for_at k n p ≡ true) × In p ends2 → 1 ≤ many (keeps_to timeout columns k n) rows2
+      of_entry k n p =
+          let q = parts (same_cells p.0.edge.cells k) (nat_eq p.0.at n) p.1 in
+          let e = equal p.0.at t (passes (is_placed_at t) p.0 ends2 p.2 placed) in
+          let f = equal p.0.at n q.1 in
+          let m = counted (is_for k) p.0 ends2 p.2 q.0 in
+          kept k n (omega (arith, e, f)) (found (is_of_key columns k) rows2 (some_rows (many (is_of_key columns k) rows2) (many (is_for k) ends2) m (one k))) (h.last k) refl
+
+  pub session_loaded : (columns2 : List ℕ) (timeout2 : ℕ) (texts : List (List ℕ)) (x : ℕ) (rows rows2 : List HeldRow) (ends ends2 : List Pending) (waiting waiting2 left right out : List Edge) →
+      columns2 ≡ columns → timeout2 ≡ timeout → SameBag rows2 rows → SameBag waiting2 waiting → HasOne columns rows2 ends2 → failing (is_placed_at x) ends2 ≡ 0 →
+      KeepsSession columns timeout kinds texts x rows ends waiting left right out → KeepsSession columns2 timeout2 kinds texts x rows2 ends2 waiting2 left right out
+  session_loaded columns2 timeout2 texts x rows rows2 ends ends2 waiting waiting2 left right out e f a b one placed k =
+      subst (λ (l : List ℕ). KeepsSession l timeout2 kinds texts x rows2 ends2 waiting2 left right out) (sym e)
+      (subst (λ n. KeepsSession columns n kinds texts x rows2 ends2 waiting2 left right out) (sym f) (record {
+        left_placed = k.left_placed;
+        left_cells = k.left_cells;
+        low = k.low;
+        right_history = k.right_history;
+        right_placed = k.right_placed;
+        kept = record {
+          history = k.kept.history;
+          waits = SameBag-trans _ _ _ b k.kept.waits;
+          now = held_again (of left) x rows rows2 ends ends2 k.low a one placed k.kept.now;
+          told = k.kept.told;
+        };
+      }))
+
+-- HOW MUCH IS KEPT
+-- no more entries than rows
+ends_few : (columns : List ℕ) (rows : List HeldRow) (ends : List Pending) → HasOne columns rows ends → length ends ≤ length rows
+ends_few columns rows ends one =
+    let a = ones ends in
+    let b = ones rows in
+    let s = sum_le (λ (p : Pending). nat_lt 0 (many (is_of_key columns p.edge.cells) rows)) (λ p. 1) (λ p. many (is_of_key columns p.edge.cells) rows) ends (λ p h. some (many (is_of_key columns p.edge.cells) rows) h)
+    (all_pass (λ (p : Pending). nat_lt 0 (many (is_of_key columns p.edge.cells) rows)) ends has_rows) in
+    let t = total_swap (λ (p : Pending) (r : HeldRow). cond {A = ℕ} (is_of_key columns p.edge.cells r) 1 0) ends rows in
+    let u = sum_le (λ r. true) (λ (r : HeldRow). total (λ (p : Pending). cond {A = ℕ} (is_of_key columns p.edge.cells r) 1 0) ends) (λ r. 1) rows (λ r _. at_most r) (total_zero rows) in
+    omega (arith, a, b, s, t, u)
+  where
+    some : (n : ℕ) → nat_lt 0 n ≡ true → 1 ≤ n
+    some n h = grind (arith, nat_tests)
+
+    above : (n : ℕ) → 1 ≤ n → nat_lt 0 n ≡ true
+    above n h = grind (arith, nat_tests)
+
+    not_none : (n e : ℕ) → 1 ≤ e → e ≡ cond (nat_eq n 0) 0 1 → 1 ≤ n
+    not_none zero e l i = absurd (let z : cond {A = ℕ} (nat_eq 0 0) 0 1 ≡ 0 = refl in omega (arith, l, i, z))
+    not_none (suc n) e l i = omega arith
+
+    has_rows : (p : Pending) → In p ends → nat_lt 0 (many (is_of_key columns p.edge.cells) rows) ≡ true
+    has_rows p i =
+        above (many (is_of_key columns p.edge.cells) rows)
+        (not_none (many (is_of_key columns p.edge.cells) rows) (many (is_for p.edge.cells) ends) (counted (is_for p.edge.cells) p ends i (same_itself p.edge.cells)) (one p.edge.cells))
+
+    one_most : (b : Bool) → cond {A = ℕ} b 0 1 ≤ 1
+    one_most b = grind arith
+
+    at_most : (r : HeldRow) → total (λ (p : Pending). cond {A = ℕ} (is_of_key columns p.edge.cells r) 1 0) ends ≤ 1
+    at_most r =
+        let a = total_same (λ (p : Pending). cond {A = ℕ} (is_of_key columns p.edge.cells r) 1 0) (λ p. cond (is_for (key_of columns r.cells) p) 1 0) ends
+        (λ p. ap (λ b. cond {A = ℕ} b 1 0) (same_turned (key_of columns r.cells) p.edge.cells)) in
+        let b = one (key_of columns r.cells) in
+        let c = one_most (nat_eq (many (is_of_key columns (key_of columns r.cells)) rows) 0) in
+        omega (arith, a, b, c)
+
+-- no more open rows than events that do not end before the time
+open_few : (t : ℕ) (a : List CellEvent) (rows : List HeldRow) → SameBag rows (opens t a) → length rows ≤ many (reaches t) a
+open_few t a rows h =
+    let n = ones rows ∙ h.weigh (λ r. 1) ∙ total-flat_map (λ r. 1) (open_of t) a in
+    let l = each a in
+    omega (arith, n, l)
+  where
+    one : (b c : Bool) (r : HeldRow) → total (λ x. 1) (cond (b && c) (r ∷ []) []) ≤ cond c 1 0
+    one true true r = omega arith
+    one true false r = omega arith
+    one false true r = omega arith
+    one false false r = omega arith
+
+    each : (es : List CellEvent) → total (λ e. total (λ r. 1) (open_of t e)) es ≤ many (reaches t) es
+    each [] = omega arith
+    each (e ∷ es) =
+        let a = one (nat_lt e.start t) (nat_le t e.end) (record { cells = e.row; start = e.start }) in
+        let r = each es in
+        omega (arith, a, r)
+
+-- the starts that wait are no more than twice the events that do not end before the time
+starts_few : (h : List Edge) (to : ℕ) (waiting : List Edge) → IsHistory h → SameBag waiting (filter is_start (filter (is_from to) (singles h))) → length waiting ≤ 2 * many (reaches to) (of h)
+starts_few h to waiting k q =
+    let a = side_bound h (opens to (of h)) (filter (is_from to) (singles h)) to k (SameBag-refl _) (SameBag-refl _) in
+    let n = ones waiting ∙ q.weigh (λ e. 1) ∙ total-filter (λ e. 1) is_start (filter (is_from to) (singles h)) in
+    let l = less (filter (is_from to) (singles h)) in
+    let m = ones (filter (is_from to) (singles h)) in
+    omega (arith, a, n, l, m)
+  where
+    less : (es : List Edge) → total (λ e. cond {A = ℕ} (is_start e) 1 0) es ≤ total (λ e. 1) es
+    less [] = omega arith
+    less (e ∷ es) = let a = one (is_start e) in let b = less es in omega (arith, a, b)
+      where
+        one : (b : Bool) → cond {A = ℕ} b 1 0 ≤ 1
+        one b = grind arith
+
+pub session_bound : (columns : List ℕ) (timeout : ℕ) (kinds : List CellKind) (texts : List (List ℕ)) (x : ℕ) (rows : List HeldRow) (ends waiting : List Pending) (left right out : List Edge) (n m l r : ℕ) →
+    1 ≤ timeout → KeepsSession columns timeout kinds texts x rows ends (queued waiting) left right out → n ≡ length rows → m ≡ length ends → l ≡ length waiting → r ≤ n + m + l →
+    r ≤ may_hold (Session 0 timeout columns) x x (of left) (of right) (node_in plain_cells (Session 0 timeout columns) (of left) (of right))
+session_bound columns timeout kinds texts x rows ends waiting left right out n m l r pos k a b c sum =
+    let e = ends_few columns rows ends k.kept.now.awaits.one in
+    let f = open_few x (windows columns timeout (of left)) rows k.kept.now.now.open_rows in
+    let g = starts_few left x (queued waiting) k.kept.history k.kept.waits in
+    let q = length-map waiting (λ (p : Pending). p.edge) in
+    let o = ap (λ (l : List CellEvent). many (reaches x) l) (windows_are columns timeout (of left) (of right) pos) in
+    omega (arith, a, b, c, sum, e, f, g, q, o)
+
+-- SAVING
+module _ (rows : List HeldRow) (waiting : List Edge) (s0 s1 s2 : List SavedEntry) (empty : s0 ≡ []) (e1 : s1 ≡ s0 ++ entries_of 0 (starts_of rows)) (e2 : s2 ≡ s1 ++ entries_of 1 waiting) where
+  all : s2 ≡ entries_of 0 (starts_of rows) ++ entries_of 1 waiting
+  all = e2 ∙ ap (λ s. s ++ entries_of 1 waiting) (e1 ∙ ap (λ s. s ++ entries_of 0 (starts_of rows)) empty)
+
+  cut_of : (p : ℕ) → part_of p s2 ≡ part_of p (entries_of 0 (starts_of rows)) ++ part_of p (entries_of 1 waiting)
+  cut_of p = ap (part_of p) all ∙ part_of_append p (entries_of 0 (starts_of rows)) (entries_of 1 waiting)
+
+  rows_part : part_of 0 s2 ≡ starts_of rows
+  rows_part = cut_of 0 ∙ ((λ i. part_of_own 0 (starts_of rows) i ++ part_of_other 0 1 waiting refl i) ∙ append-nil (starts_of rows))
+
+  waiting_part : part_of 1 s2 ≡ waiting
+  waiting_part = cut_of 1 ∙ (λ i. part_of_other 1 0 (starts_of rows) refl i ++ part_of_own 1 waiting i)
+
+  pub session_saved : (kinds : List CellKind) (x : ℕ) → failing (is_row_start kinds x) (starts_of rows) ≡ 0 → failing (may_wait kinds x) waiting ≡ 0 → SessionSound kinds x s2
+  session_saved kinds x a b = record {
+    parts = ap (are_of_parts 2) all ∙ parts_append 2 (entries_of 0 (starts_of rows)) (entries_of 1 waiting) (parts_own 2 0 (starts_of rows) refl) (parts_own 2 1 waiting refl);
+    rows = ap (are_row_starts kinds x) rows_part ∙ all_of_list (is_row_start kinds x) (starts_of rows) a;
+    waiting = ap (may_all_wait kinds x) waiting_part ∙ all_of_list (may_wait kinds x) waiting b;
+  }
+
+  pub session_resumed : (columns : List ℕ) (timeout : ℕ) (kinds : List CellKind) (texts : List (List ℕ)) (x : ℕ) (ends : List Pending) (left right out : List Edge) → SessionSound kinds x s2 →
+      KeepsSession columns timeout kinds texts x rows ends waiting left right out → SessionResumes columns timeout kinds texts x s2 left right out
+  session_resumed columns timeout kinds texts x ends left right out sound k = record {
+    sound = sound;
+    ends = ends;
+    keeps = subst (λ (a : List HeldRow). KeepsSession columns timeout kinds texts x a ends (part_of 1 s2) left right out) (sym (ap rows_of rows_part ∙ rows_of_starts rows))
+        (subst (λ (a : List Edge). KeepsSession columns timeout kinds texts x rows ends a left right out) (sym waiting_part) k);
+  }

@@ -1,0 +1,18 @@
+use Rattle.std.proofs.Common.{map}
+use Rattle.tw_rows.specs.Kinds.{cell_kind_of}
+use Rattle.sweep_sides.specs.Waiting.{queued}
+use Rattle.session_window.proofs.Resuming.{session_saved, session_resumed}
+use Rattle.session_window.proofs.operating.SessionOperator.save.Goals as goal
+
+pub returns-clause-sound : goal.returns-clause-sound
+returns-clause-sound c =
+    let s = c.args.self.now in
+    let w = (s.working c.requires).side in
+    session_saved s.side.sessions.rows.rows (queued s.side.waiting) c.new-saved.result c.save_open.new.saved c.save_waiting.new.saved c.new-saved.ensures c.in_ok-save_open.ensures c.in_ok-save_waiting.ensures
+    (map cell_kind_of s.kinds.items) s.left_to w.started w.later
+
+pub returns-clause-resumes : goal.returns-clause-resumes
+returns-clause-resumes c = λ texts hl hr out k.
+    let s = c.args.self.now in
+    session_resumed s.side.sessions.rows.rows (queued s.side.waiting) c.new-saved.result c.save_open.new.saved c.save_waiting.new.saved c.new-saved.ensures c.in_ok-save_open.ensures c.in_ok-save_waiting.ensures
+    s.side.sessions.rows.key s.side.sessions.timeout (map cell_kind_of s.kinds.items) texts s.left_to s.side.sessions.ends hl hr out (returns-clause-sound c) k

@@ -1,0 +1,14 @@
+//! The operator of a Session.
+#![tactic(auto)]
+
+mod one_session;
+mod open_rows;
+mod operating;
+mod saving;
+mod session;
+mod sessions;
+mod side;
+mod starts;
+mod times;
+
+pub use session::Session;
