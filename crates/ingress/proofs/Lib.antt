@@ -12,3 +12,5 @@ mod Leaving
 pub mod LinesFit
 mod Lines
 mod FirstShape
+mod Counting
+mod KeptExamples
