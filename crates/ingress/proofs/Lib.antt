@@ -13,4 +13,6 @@ pub mod LinesFit
 mod Lines
 mod FirstShape
 mod Counting
+mod SavedAll
+mod LoadedAll
 mod KeptExamples
