@@ -19,7 +19,7 @@ use Rattle.ingress.specs.declared.opens.OpenKey.{OpenKey}
 use Rattle.ingress.specs.declared.opens.OpenStart.{OpenStart}
 use Rattle.ingress.specs.OpenKeys.{same_key, same_key-Decides}
 use Rattle.ingress.specs.Held.{IsHeld, start_of, open_row}
-use Rattle.ingress.specs.Keeping.{CellOpen, is_named, first_of, without_first_of, cell_row, ended_row, row_of_open, cell_rows, more_rows, Keeps, Changed, StillKeeps, HasEnded}
+use Rattle.ingress.specs.Keeping.{CellOpen, kept_state, kept_of, is_named, first_of, without_first_of, cell_row, ended_row, row_of_open, cell_rows, more_rows, Keeps, Changed, StillKeeps, HasEnded}
 use Rattle.ingress.proofs.Holding.{put_held, out_held, start_held, same_held}
 
 -- an edge whose life is a row, and the end of an open row
@@ -43,10 +43,10 @@ pub real_edge : (cells : List Datum) (sync other : ℕ) → sync < inf → other
 real_edge cells sync other a b c = grind (arith, nat_tests)
 
 -- a test of equal numbers, either way
-same_number : (k : ℕ) → nat_eq k k ≡ true
+pub same_number : (k : ℕ) → nat_eq k k ≡ true
 same_number k = (Decides-eqb k k).1 refl
 
-other_number : (k s : ℕ) → k ≢ s → nat_eq k s ≡ false
+pub other_number : (k s : ℕ) → k ≢ s → nat_eq k s ≡ false
 other_number k s apart = go (nat_eq k s) refl
   where
     go : (b : Bool) → nat_eq k s ≡ b → b ≡ false
@@ -107,21 +107,30 @@ no_row end o (inr late) = go o.state.dropped (nat_lt o.state.start end) refl
 same_bag : {X : Type 0} (xs ys : List X) → xs ≡ ys → SameBag xs ys
 same_bag xs ys e = subst (SameBag xs) e (SameBag-refl xs)
 
+-- what was not dropped is kept as it is
+pub kept_live : (given : ℕ) (st : OpenStart) → st.dropped ≡ false → kept_state given st ≡ st
+kept_live given st live = ap (λ b. record { start = cond b given st.start; dropped = st.dropped }) live
+
+-- an open start that is kept as one that was not dropped is that one
+pub live_same : (given : ℕ) (st state : OpenStart) → kept_state given st ≡ state → state.dropped ≡ false → st ≡ state
+live_same given st state is live = sym (kept_live given st (ap (λ x. x.dropped) is ∙ live)) ∙ is
+
 -- the queue that a key finds, with one open start more
-named_more : (k : OpenKey) (o : CellOpen) (xs : List CellOpen) →
-    map (λ x. x.state) (filter (is_named k) (xs ++ o ∷ [])) ≡ map (λ x. x.state) (filter (is_named k) xs) ++ cond (same_key o.key k) (o.state ∷ []) []
-named_more k o [] = go (same_key o.key k)
-  where
-    go : (b : Bool) → map (λ (x : CellOpen). x.state) (cond b (o ∷ []) []) ≡ cond b (o.state ∷ []) []
-    go true = refl
-    go false = refl
-named_more k o (x ∷ xs) = go (is_named k x) (named_more k o xs)
-  where
-    go : (b : Bool) → map (λ x. x.state) (filter (is_named k) (xs ++ o ∷ [])) ≡ map (λ x. x.state) (filter (is_named k) xs) ++ cond (same_key o.key k) (o.state ∷ []) [] →
-        map (λ (x : CellOpen). x.state) (cond b (x ∷ filter (is_named k) (xs ++ o ∷ [])) (filter (is_named k) (xs ++ o ∷ [])))
-        ≡ map (λ (x : CellOpen). x.state) (cond b (x ∷ filter (is_named k) xs) (filter (is_named k) xs)) ++ cond (same_key o.key k) (o.state ∷ []) []
-    go true rest = ap (λ l. x.state ∷ l) rest
-    go false rest = rest
+module _ (f : CellOpen → OpenStart) where
+  pub named_more : (k : OpenKey) (o : CellOpen) (xs : List CellOpen) →
+      map f (filter (is_named k) (xs ++ o ∷ [])) ≡ map f (filter (is_named k) xs) ++ cond (same_key o.key k) (f o ∷ []) []
+  named_more k o [] = go (same_key o.key k)
+    where
+      go : (b : Bool) → map f (cond b (o ∷ []) []) ≡ cond b (f o ∷ []) []
+      go true = refl
+      go false = refl
+  named_more k o (x ∷ xs) = go (is_named k x) (named_more k o xs)
+    where
+      go : (b : Bool) → map f (filter (is_named k) (xs ++ o ∷ [])) ≡ map f (filter (is_named k) xs) ++ cond (same_key o.key k) (f o ∷ []) [] →
+          map f (cond b (x ∷ filter (is_named k) (xs ++ o ∷ [])) (filter (is_named k) (xs ++ o ∷ [])))
+          ≡ map f (cond b (x ∷ filter (is_named k) xs) (filter (is_named k) xs)) ++ cond (same_key o.key k) (f o ∷ []) []
+      go true rest = ap (λ l. f x ∷ l) rest
+      go false rest = rest
 
 -- the first open start that a key names
 open_or : CellOpen → Option CellOpen → CellOpen
@@ -225,12 +234,12 @@ module _ (p : ℕ) (w w2 : List (List Edge)) (starts starts2 : OpenKey → List 
               let f = ap v (whole v cells start end less).1 in
               omega (arith, a, b, c, d, e, f);
         }));
-    queued = λ k. ap (λ f. f k) q ∙ (keeps.queued k ∙ ap (λ l. map (λ x. x.state) (filter (is_named k) l)) (sym o));
+    queued = λ k. ap (λ f. f k) q ∙ (keeps.queued k ∙ ap (λ l. map kept_of (filter (is_named k) l)) (sym o));
   }
 
   -- an open start comes, and its edge waits
   module _ (o : CellOpen) (m : made2 ≡ made) (is : opens2 ≡ opens ++ o ∷ []) (own : o.key.stream ≡ s)
-      (q : (k : OpenKey) → starts2 k ≡ cond (same_key o.key k) (starts k ++ o.state ∷ []) (starts k)) where
+      (q : (k : OpenKey) → starts2 k ≡ cond (same_key o.key k) (starts k ++ kept_of o ∷ []) (starts k)) where
     rows_weigh : (v : CellEvent → ℕ) (k : ℕ) → total v (cell_rows made2 opens2 k) ≡ total v (cell_rows made opens k) + total v (row_of_open k o)
     rows_weigh v k = ap (λ f. total v (cell_rows f opens2 k)) m ∙ (ap (λ l. total v (cell_rows made l k)) is ∙ open_weigh v k made opens o)
 
@@ -242,13 +251,13 @@ module _ (p : ℕ) (w w2 : List (List Edge)) (starts starts2 : OpenKey → List 
           omega (arith, a, b);
     }
 
-    named : (k : OpenKey) → starts2 k ≡ map (λ x. x.state) (filter (is_named k) opens2)
-    named k = q k ∙ (go (same_key o.key k) (keeps.queued k) ∙ (sym (named_more k o opens) ∙ ap (λ l. map (λ x. x.state) (filter (is_named k) l)) (sym is)))
+    named : (k : OpenKey) → starts2 k ≡ map kept_of (filter (is_named k) opens2)
+    named k = q k ∙ (go (same_key o.key k) (keeps.queued k) ∙ (sym (named_more kept_of k o opens) ∙ ap (λ l. map kept_of (filter (is_named k) l)) (sym is)))
       where
-        go : (b : Bool) → starts k ≡ map (λ x. x.state) (filter (is_named k) opens) →
-            cond b (starts k ++ o.state ∷ []) (starts k) ≡ map (λ x. x.state) (filter (is_named k) opens) ++ cond b (o.state ∷ []) []
-        go true e = ap (λ l. l ++ o.state ∷ []) e
-        go false e = e ∙ sym (append-nil (map (λ x. x.state) (filter (is_named k) opens)))
+        go : (b : Bool) → starts k ≡ map kept_of (filter (is_named k) opens) →
+            cond b (starts k ++ kept_of o ∷ []) (starts k) ≡ map kept_of (filter (is_named k) opens) ++ cond b (kept_of o ∷ []) []
+        go true e = ap (λ l. l ++ kept_of o ∷ []) e
+        go false e = e ∙ sym (append-nil (map kept_of (filter (is_named k) opens)))
 
     row_here : row_of_open s o ≡ ended_row inf o
     row_here = ap (λ n. row_of_open n o) (sym own) ∙ row_there o
@@ -313,15 +322,15 @@ module _ (p : ℕ) (w w2 : List (List Edge)) (starts starts2 : OpenKey → List 
           omega (arith, a, b, c, d, e, z);
     }
 
-    left_named : (k : OpenKey) → starts2 k ≡ map (λ x. x.state) (filter (is_named k) opens2)
-    left_named k = q k ∙ (go (same_key key k) (keeps.queued k) ∙ (ap (map (λ x. x.state)) (sym (without_named key o k opens found)) ∙ ap (λ l. map (λ x. x.state) (filter (is_named k) l)) (sym is)))
+    left_named : (k : OpenKey) → starts2 k ≡ map kept_of (filter (is_named k) opens2)
+    left_named k = q k ∙ (go (same_key key k) (keeps.queued k) ∙ (ap (map kept_of) (sym (without_named key o k opens found)) ∙ ap (λ l. map kept_of (filter (is_named k) l)) (sym is)))
       where
-        fewer : (f : List CellOpen) → drop 1 (map (λ (x : CellOpen). x.state) f) ≡ map (λ (x : CellOpen). x.state) (drop 1 f)
+        fewer : (f : List CellOpen) → drop 1 (map kept_of f) ≡ map kept_of (drop 1 f)
         fewer [] = refl
         fewer (x ∷ f) = refl
 
-        go : (b : Bool) → starts k ≡ map (λ x. x.state) (filter (is_named k) opens) →
-            cond b (drop 1 (starts k)) (starts k) ≡ map (λ (x : CellOpen). x.state) (cond b (drop 1 (filter (is_named k) opens)) (filter (is_named k) opens))
+        go : (b : Bool) → starts k ≡ map kept_of (filter (is_named k) opens) →
+            cond b (drop 1 (starts k)) (starts k) ≡ map kept_of (cond b (drop 1 (filter (is_named k) opens)) (filter (is_named k) opens))
         go true e = ap (drop 1) e ∙ fewer (filter (is_named k) opens)
         go false e = e
 
@@ -406,12 +415,12 @@ alive_life cells start end less = go (nat_lt start end) refl
     go false e = absurd (grind (arith, nat_tests))
 
 -- what is first in the queue of a key
-head_named : (key : OpenKey) (xs : List CellOpen) → slice_get (map (λ x. x.state) (filter (is_named key) xs)) 0 ≡ option_map (λ (o : CellOpen). o.state) (first_of (is_named key) xs)
+head_named : (key : OpenKey) (xs : List CellOpen) → slice_get (map kept_of (filter (is_named key) xs)) 0 ≡ option_map kept_of (first_of (is_named key) xs)
 head_named key [] = refl
 head_named key (x ∷ xs) = go (is_named key x) (head_named key xs)
   where
-    go : (b : Bool) → slice_get (map (λ x. x.state) (filter (is_named key) xs)) 0 ≡ option_map (λ (o : CellOpen). o.state) (first_of (is_named key) xs) →
-        slice_get (map (λ (x : CellOpen). x.state) (cond b (x ∷ filter (is_named key) xs) (filter (is_named key) xs))) 0 ≡ option_map (λ (o : CellOpen). o.state) (cond b (Some x) (first_of (is_named key) xs))
+    go : (b : Bool) → slice_get (map kept_of (filter (is_named key) xs)) 0 ≡ option_map kept_of (first_of (is_named key) xs) →
+        slice_get (map kept_of (cond b (x ∷ filter (is_named key) xs) (filter (is_named key) xs))) 0 ≡ option_map kept_of (cond b (Some x) (first_of (is_named key) xs))
     go true rest = refl
     go false rest = rest
 
@@ -452,24 +461,27 @@ state_or d (Some x) = x
 
 module _ (key : OpenKey) (at p : ℕ) (w w2 : List (List Edge)) (starts starts2 : OpenKey → List OpenStart) (made : ℕ → List CellEvent) (opens : List CellOpen)
     (out : ℕ → List Edge) (keeps : Keeps p w starts made opens out) where
-  head_is : slice_get (starts key) 0 ≡ option_map (λ (o : CellOpen). o.state) (first_of (is_named key) opens)
+  head_is : slice_get (starts key) 0 ≡ option_map kept_of (first_of (is_named key) opens)
   head_is = ap (λ l. slice_get l 0) (keeps.queued key) ∙ head_named key opens
 
   pub none_ended : None ≡ slice_get (starts key) 0 → HasEnded key at p w starts made opens out None (first_of (is_named key) opens)
   none_ended none = go (first_of (is_named key) opens) (none ∙ head_is)
     where
-      go : (x : Option CellOpen) → None ≡ option_map (λ (o : CellOpen). o.state) x → HasEnded key at p w starts made opens out None x
+      go : (x : Option CellOpen) → None ≡ option_map kept_of x → HasEnded key at p w starts made opens out None x
       go None e = (refl, keeps)
       go (Some o) e = absurd (cc)
 
   module _ (there : key.stream < length w) (changed : Changed key.stream w w2) (high : at ≤ inf) (late : p ≤ at)
       (q : (k : OpenKey) → starts2 k ≡ cond (same_key key k) (drop 1 (starts k)) (starts k)) where
-    one_ended : (o : CellOpen) → first_of (is_named key) opens ≡ Some o → EndedRow key at (get_or w key.stream []) (get_or w2 key.stream []) o.state →
+    one_ended : (o : CellOpen) → first_of (is_named key) opens ≡ Some o → EndedRow key at (get_or w key.stream []) (get_or w2 key.stream []) (kept_of o) →
         Keeps p w2 starts2 (more_rows key.stream (ended_row at o) made) (without_first_of (is_named key) opens) out
-    one_ended o found row = go o.state.dropped refl (cases_lt o.state.start at) (cases_lt o.state.start inf) (cases_lt at inf)
+    one_ended o found kept_row = go o.state.dropped refl (cases_lt o.state.start at) (cases_lt o.state.start inf) (cases_lt at inf)
       where
         same : o.key ≡ key
         same = first_key key o opens found
+
+        live_row : o.state.dropped ≡ false → EndedRow key at (get_or w key.stream []) (get_or w2 key.stream []) o.state
+        live_row d = subst (EndedRow key at (get_or w key.stream []) (get_or w2 key.stream [])) (kept_live o.key.given o.state d) kept_row
 
         quiet : ended_row at o ≡ ended_row inf o → get_or w2 key.stream [] ≡ get_or w key.stream [] → Keeps p w2 starts2 (more_rows key.stream (ended_row at o) made) (without_first_of (is_named key) opens) out
         quiet e is = quiet_end_comes p w w2 starts starts2 made (more_rows key.stream (ended_row at o) made) opens (without_first_of (is_named key) opens) out keeps key.stream changed
@@ -477,25 +489,25 @@ module _ (key : OpenKey) (at p : ℕ) (w w2 : List (List Edge)) (starts starts2 
 
         go : (d : Bool) → o.state.dropped ≡ d → (o.state.start < at) ⊎ (at ≤ o.state.start) → (o.state.start < inf) ⊎ (inf ≤ o.state.start) → (at < inf) ⊎ (inf ≤ at) →
             Keeps p w2 starts2 (more_rows key.stream (ended_row at o) made) (without_first_of (is_named key) opens) out
-        go true d a b c = quiet (no_row at o (inl d) ∙ sym (no_row inf o (inl d))) (row.dropped d)
+        go true d a b c = quiet (no_row at o (inl d) ∙ sym (no_row inf o (inl d))) (kept_row.dropped d)
         go false d (inl less) b (inl early) =
             end_comes p w w2 starts starts2 made (more_rows key.stream (ended_row at o) made) opens (without_first_of (is_named key) opens) out keeps key.stream changed
             key o at found refl refl refl q d less early late
-            (subst (λ (k : OpenKey). SameBag (get_or w2 key.stream []) (record { sync = at; other = o.state.start; cells = k.cells } ∷ get_or w key.stream [])) (sym same) (row.ends d less early))
-        go false d (inl less) b (inr over) = let is : at ≡ inf = omega (arith, high, over) in quiet (ap (λ n. ended_row n o) is) (row.stays less over)
+            (subst (λ (k : OpenKey). SameBag (get_or w2 key.stream []) (record { sync = at; other = o.state.start; cells = k.cells } ∷ get_or w key.stream [])) (sym same) ((live_row d).ends d less early))
+        go false d (inl less) b (inr over) = let is : at ≡ inf = omega (arith, high, over) in quiet (ap (λ n. ended_row n o) is) ((live_row d).stays less over)
         go false d (inr more) (inl early) c =
             empty_end_comes p w w2 starts starts2 made (more_rows key.stream (ended_row at o) made) opens (without_first_of (is_named key) opens) out keeps key.stream changed
             key o at found refl refl refl q d early more
             (subst (λ (k : OpenKey). SameBag (start_of k.cells o.state.start ∷ get_or w2 key.stream []) (get_or w key.stream [])) (sym same)
-            (row.empty d early more (open_start_waits p w starts made opens out keeps key o found there d early (omega (arith, late, more)))))
-        go false d (inr more) (inr endless) c = quiet (no_row at o (inr more) ∙ sym (no_row inf o (inr endless))) (row.endless endless)
+            ((live_row d).empty d early more (open_start_waits p w starts made opens out keeps key o found there d early (omega (arith, late, more)))))
+        go false d (inr more) (inr endless) c = quiet (no_row at o (inr more) ∙ sym (no_row inf o (inr endless))) ((live_row d).endless endless)
 
     pub some_ended : (st : OpenStart) → Some st ≡ slice_get (starts key) 0 → EndedRow key at (get_or w key.stream []) (get_or w2 key.stream []) st →
         HasEnded key at p w2 starts2 made opens out (Some st) (first_of (is_named key) opens)
     unfolding state_or
     some_ended st first row = go (first_of (is_named key) opens) refl (first ∙ head_is)
       where
-        go : (x : Option CellOpen) → first_of (is_named key) opens ≡ x → Some st ≡ option_map (λ (o : CellOpen). o.state) x → HasEnded key at p w2 starts2 made opens out (Some st) x
+        go : (x : Option CellOpen) → first_of (is_named key) opens ≡ x → Some st ≡ option_map kept_of x → HasEnded key at p w2 starts2 made opens out (Some st) x
         go None f e = absurd (cc)
         go (Some o) f e = (e, one_ended o f (subst (EndedRow key at (get_or w key.stream []) (get_or w2 key.stream [])) (ap (state_or st) e) row))
 

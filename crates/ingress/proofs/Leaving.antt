@@ -20,7 +20,7 @@ use Rattle.admission.specs.Admission.{Admission}
 use Rattle.ingress.specs.Held.{IsHeld}
 use Rattle.ingress.specs.Keeping.{cell_rows}
 use Rattle.ingress.specs.OpenKeys.{starts_in}
-use Rattle.ingress.specs.Admits.{SameFixed, AreReleased, edges_at, longer, Follows}
+use Rattle.ingress.specs.Admits.{SameFixed, IsStored, AreReleased, edges_at, longer, Follows}
 use Rattle.ingress.specs.declared.ingress.Ingress.{Ingress}
 use Rattle.ingress.proofs.Holding.{given_held, held_stands}
 use Rattle.ingress.specs.Fits.{HasShape, is_fit}
@@ -159,6 +159,7 @@ module _ (old : Ingress) (q : ℕ) (lists : List EdgeListView) (texts : List (Li
       queued = λ k. ap (λ o. starts_in o.starts k) opens ∙ f.keeps.queued k;
     };
     declared = subst (λ n. All (λ o. o.key.stream < n) f.opens) (sym (ap (λ k. length k.items) fixed.kinds)) f.declared;
+    stored = subst (λ cells. All (IsStored cells) f.opens) (sym (ap (λ k. map (λ x. map cell_kind_of x) (map (λ x. x.items) k.items)) fixed.kinds)) f.stored;
     none_made = λ s past. f.none_made s (more s past);
     none_given = λ s past. ap (λ l. l ++ edges_at lists s) (f.none_given s (more s past)) ∙ none_past s (more s past);
   }

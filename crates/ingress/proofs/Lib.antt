@@ -12,3 +12,7 @@ mod Leaving
 pub mod LinesFit
 mod Lines
 mod FirstShape
+mod Counting
+mod SavedAll
+mod LoadedAll
+mod KeptExamples

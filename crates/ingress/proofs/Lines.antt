@@ -1,5 +1,5 @@
 -- What is kept after a line, and what admission says of it.
-use Rattle.std.specs.Prelude.{◌≡◌, ℕ, ◌-◌, ◌<◌, ◌≤◌, max, nat_eq, nat_lt, Bool, true, false, cond, ◌&&◌, Option, Some, None, option_map, All, List, [], ◌∷◌, ◌++◌, length, map, refl}
+use Rattle.std.specs.Prelude.{◌≡◌, ℕ, ◌-◌, ◌<◌, ◌≤◌, max, nat_eq, nat_lt, Bool, true, false, cond, ◌&&◌, Option, Some, None, option_map, All, List, [], ◌∷◌, ◌++◌, length, get_or, map, refl}
 use Rattle.std.proofs.Common.{sym, ◌∙◌, ap, subst, arith}
 use Rattle.std.proofs.lemmas.Bool.{eqb-true}
 use Rattle.std.proofs.lemmas.List.{map-append}
@@ -26,7 +26,7 @@ use Rattle.admission.specs.Admission.{Admission, Open, raised, more_of, closes_o
 use Rattle.admission.specs.Answers.{became_closed, event_answer, answer}
 use Rattle.admission.specs.declared.policy.Admitted.{Admitted}
 use Rattle.admission.specs.declared.policy.Policy.{Policy}
-use Rattle.ingress.specs.Admits.{read_open, Follows, Admits}
+use Rattle.ingress.specs.Admits.{cells_of, read_open, IsStored, Follows, Admits}
 use Rattle.ingress.specs.Entering.{key_of, HasClosed, HasEntered}
 use Rattle.ingress.specs.Fits.{row_cells, AreFit, HasShape}
 use Rattle.ingress.specs.Keeping.{CellOpen, is_named, first_of, without_first_of, ended_row, more_rows, Keeps}
@@ -36,6 +36,14 @@ use Rattle.ingress.specs.declared.opens.OpenStart.{OpenStart}
 use Rattle.ingress.specs.Streams.{bound_in, mark_in}
 use Rattle.ingress.specs.declared.entering.EventLine.{EventLine}
 use Rattle.ingress.specs.declared.ingress.Ingress.{Ingress}
+
+-- the cells of a row are stored as its values
+pub cells_kinds : (texts : List (List ℕ)) (cells : List Datum) → map datum_kind cells ≡ row_cells (read_cells texts cells)
+cells_kinds texts [] = refl
+cells_kinds texts (d ∷ ds) = let a = datum_kind-read texts d in let b = cells_kinds texts ds in λ i. a i ∷ b i
+
+pub cells_same : (old new : Ingress) → new.kinds ≡ old.kinds → cells_of new ≡ cells_of old
+cells_same old new kinds = ap (λ k. map (λ x. map cell_kind_of x) (map (λ x. x.items) k.items)) kinds
 
 -- times that are raised
 pub raised_same : (s t : ℕ) (f g : ℕ → ℕ) (k : ℕ) → f k ≡ g k → raised s t f k ≡ raised s t g k
@@ -56,8 +64,8 @@ module _ (texts : List (List ℕ)) (given : ℕ → List Edge) (a : Admission) (
       (made : ℕ → List CellEvent) (opens : List CellOpen) → ((s : ℕ) → b.made s ≡ read_events texts (made s)) → b.opens ≡ map (read_open texts) opens →
       ((s : ℕ) → EventsArePlaced texts (made s)) → All (λ o. ArePlaced texts o.key.cells) opens →
       Keeps old.released new.held.waiting.items (starts_in new.held.opens.starts) made opens given →
-      All (λ o. o.key.stream < length old.kinds.items) opens → ((s : ℕ) → length old.kinds.items ≤ s → made s ≡ []) → Follows texts b given new
-  follows_from b new kinds released bounds marks made opens read_made read_opens placed_made placed_opens keeps declared none = record {
+      All (λ o. o.key.stream < length old.kinds.items) opens → All (IsStored (cells_of old)) opens → ((s : ℕ) → length old.kinds.items ≤ s → made s ≡ []) → Follows texts b given new
+  follows_from b new kinds released bounds marks made opens read_made read_opens placed_made placed_opens keeps declared stored none = record {
     instant = subst (λ n. n ≤ inf) (sym released) f.instant;
     bounds = λ s less. bounds s (fewer s less);
     marks = λ s less. marks s (fewer s less);
@@ -69,6 +77,7 @@ module _ (texts : List (List ℕ)) (given : ℕ → List Edge) (a : Admission) (
     opens_placed = placed_opens;
     keeps = subst (λ n. Keeps n new.held.waiting.items (starts_in new.held.opens.starts) made opens given) (sym released) keeps;
     declared = subst (λ n. All (λ o. o.key.stream < n) opens) (sym (ap (λ k. length k.items) kinds)) declared;
+    stored = subst (λ cells. All (IsStored cells) opens) (sym (cells_same old new kinds)) stored;
     none_made = λ s past. none s (more s past);
     none_given = λ s past. f.none_given s (more s past);
   }
@@ -86,14 +95,14 @@ module _ (texts : List (List ℕ)) (given : ℕ → List Edge) (a : Admission) (
       ((s : ℕ) → b.made s ≡ a.made s) → b.opens ≡ a.opens → Follows texts b given new
   follows_marks b new kinds released held bounds marks made opens =
       follows_from b new kinds released bounds marks f.made f.opens (λ s. made s ∙ f.reads_made s) (opens ∙ f.reads_opens) f.made_placed f.opens_placed
-      (subst (λ h. Keeps old.released h.waiting.items (starts_in h.opens.starts) f.made f.opens given) (sym held) f.keeps) f.declared f.none_made
+      (subst (λ h. Keeps old.released h.waiting.items (starts_in h.opens.starts) f.made f.opens given) (sym held) f.keeps) f.declared f.stored f.none_made
 
   -- what waits is kept otherwise, for the same lines
   pub follows_kept : (new : Ingress) → new.kinds ≡ old.kinds → new.released ≡ old.released → new.watermarks ≡ old.watermarks →
       Keeps old.released new.held.waiting.items (starts_in new.held.opens.starts) f.made f.opens given → Follows texts a given new
   follows_kept new kinds released marks keeps =
       follows_from a new kinds released (λ s less. f.bounds s less ∙ sym (ap (λ m. bound_in m.streams.items s) marks)) (λ s less. f.marks s less ∙ sym (ap (λ m. mark_in m.streams.items s) marks))
-      f.made f.opens f.reads_made f.reads_opens f.made_placed f.opens_placed keeps f.declared f.none_made
+      f.made f.opens f.reads_made f.reads_opens f.made_placed f.opens_placed keeps f.declared f.stored f.none_made
 
 and_assoc : (a b c : Bool) → (a && b && c) ≡ (a && (b && c))
 and_assoc true b c = refl
@@ -226,11 +235,13 @@ pub record AfterLine (texts : List (List ℕ)) (given : ℕ → List Edge) (a : 
   pub opens_placed : All (λ o. ArePlaced texts o.key.cells) opens
   pub keeps : Keeps old.released waiting starts made opens given
   pub declared : All (λ o. o.key.stream < length old.kinds.items) opens
+  pub stored : All (IsStored (cells_of old)) opens
   pub none_made : (s : ℕ) → length old.kinds.items ≤ s → made s ≡ []
 
 module _ (texts : List (List ℕ)) (distinct : AreDistinct texts) (given : ℕ → List Edge) (a : Admission) (old : Ingress) (f : Follows texts a given old)
     (waiting : List (List Edge)) (starts : OpenKey → List OpenStart)
-    (line : EventLine) (cells : List Datum) (placed : ArePlaced texts cells) (low : line.stream < length old.kinds.items) where
+    (line : EventLine) (cells : List Datum) (placed : ArePlaced texts cells) (low : line.stream < length old.kinds.items)
+    (own_kinds : map datum_kind cells ≡ get_or (cells_of old) line.stream []) where
   abbrev row : Row
   row = read_cells texts cells
 
@@ -268,6 +279,7 @@ module _ (texts : List (List ℕ)) (distinct : AreDistinct texts) (given : ℕ �
     opens_placed = without_all names (λ o. ArePlaced texts o.key.cells) f.opens f.opens_placed;
     keeps = keeps;
     declared = without_all names (λ o. o.key.stream < length old.kinds.items) f.opens f.declared;
+    stored = without_all names (IsStored (cells_of old)) f.opens f.stored;
     none_made = more_none texts line.stream (ended_row line.at o) f.made (length old.kinds.items) low f.none_made;
   }
 
@@ -294,6 +306,7 @@ module _ (texts : List (List ℕ)) (distinct : AreDistinct texts) (given : ℕ �
       opens_placed = f.opens_placed;
       keeps = h.1;
       declared = f.declared;
+      stored = f.stored;
       none_made = more_none texts line.stream (cond line.dropped [] (with_life cells line.at line.other)) f.made (length old.kinds.items) low f.none_made;
     },
     refl,
@@ -313,6 +326,7 @@ module _ (texts : List (List ℕ)) (distinct : AreDistinct texts) (given : ℕ �
       keeps = h.1;
       declared = All-append (λ (o : CellOpen). o.key.stream < length old.kinds.items) f.opens (own ∷ []) f.declared
           (All-cons (λ (o : CellOpen). o.key.stream < length old.kinds.items) own [] low (All-nil (λ (o : CellOpen). o.key.stream < length old.kinds.items)));
+      stored = All-append (IsStored (cells_of old)) f.opens (own ∷ []) f.stored (All-cons (IsStored (cells_of old)) own [] own_kinds (All-nil (IsStored (cells_of old))));
       none_made = f.none_made;
     },
     refl,
@@ -339,7 +353,7 @@ line_admitted policy texts given a old new k s form sync other row at dropped no
       follows = follows_from texts given a old k.follows (record a { made = l.made_after; opens = l.opens_after; bound = raised s (sync - policy.lateness) a.bound }) new kinds released
           (λ j less. raised_same s (sync - policy.lateness) a.bound (bound_in old.watermarks.streams.items) j (k.follows.bounds j less) ∙ sym (bounds j))
           (λ j less. k.follows.marks j less ∙ sym (marks j))
-          l.made l.opens l.reads_made l.reads_opens l.made_placed l.opens_placed l.keeps l.declared l.none_made;
+          l.made l.opens l.reads_made l.reads_opens l.made_placed l.opens_placed l.keeps l.declared l.stored l.none_made;
       low = λ j less.
           let n = ap (λ x. length x.items) kinds in
           let b = k.low j (omega (arith, n, less)) in
@@ -358,11 +372,6 @@ line_unmatched policy a s form sync other row at dropped none is_at is_dropped i
 pub line_answered : (policy : Policy) (a : Admission) (s : ℕ) (form : Form) (sync other : ℕ) (row : Row) (at : ℕ) (dropped : Bool) (x : Admitted) →
     at ≡ max sync (a.bound s) → dropped ≡ (nat_lt sync (a.bound s) && drops policy.late) → x ≡ event_answer a s form other row at dropped → x ≡ answer policy a (Event s form sync other row)
 line_answered policy a s form sync other row at dropped x is_at is_dropped is = is ∙ (λ i. event_answer a s form other row (is_at i) (is_dropped i))
-
--- the cells of a row are stored as its values
-pub cells_kinds : (texts : List (List ℕ)) (cells : List Datum) → map datum_kind cells ≡ row_cells (read_cells texts cells)
-cells_kinds texts [] = refl
-cells_kinds texts (d ∷ ds) = let a = datum_kind-read texts d in let b = cells_kinds texts ds in λ i. a i ∷ b i
 
 pub shape_entered : (kinds : List (List Kind)) (capacity count after_count : ℕ) (held after : List (List Edge)) → after_count ≡ count → length after ≡ length held →
     AreFit (map (λ k. map cell_kind_of k) kinds) after → HasShape kinds capacity count held → HasShape kinds capacity after_count after
@@ -393,16 +402,16 @@ pub line_late : (policy : Policy) (texts : List (List ℕ)) (given : ℕ → Lis
 line_late policy texts given a old line n low k = let x = k.low line.stream low in let y = n.at_is in omega (arith, x, y)
 
 pub event_taken : (policy : Policy) (texts : List (List ℕ)) → AreDistinct texts → (given : ℕ → List Edge) (a : Admission) (old new : Ingress) (k : Admits texts a given old) (line : EventLine) (cells : List Datum) →
-    ArePlaced texts cells → (own : Row) → read_cells texts cells ≡ own → line.stream < length old.kinds.items → Known policy a line → (m : Option Admitted) (x : Admitted) → m ≡ Some x →
+    ArePlaced texts cells → (own : Row) → read_cells texts cells ≡ own → line.stream < length old.kinds.items → row_cells own ≡ get_or (cells_of old) line.stream [] → Known policy a line → (m : Option Admitted) (x : Admitted) → m ≡ Some x →
     HasEntered line.form line cells old.released new.held.waiting.items (starts_in new.held.opens.starts) k.follows.made k.follows.opens given m →
     new.kinds ≡ old.kinds → new.released ≡ old.released →
     ((j : ℕ) → bound_in new.watermarks.streams.items j ≡ raised line.stream (line.sync - policy.lateness) (bound_in old.watermarks.streams.items) j) →
     ((j : ℕ) → mark_in new.watermarks.streams.items j ≡ mark_in old.watermarks.streams.items j) →
     (b : Admission) × ((admit policy a (Event line.stream line.form line.sync line.other own) ≡ Taken b) × Admits texts b given new
     × (x ≡ answer policy a (Event line.stream line.form line.sync line.other own)))
-event_taken policy texts distinct given a old new k line cells placed own reads low n m x is h kinds released bounds marks =
-    let r = subst (Says texts distinct given a old k.follows new.held.waiting.items (starts_in new.held.opens.starts) line cells placed low line.form) is
-    (says texts distinct given a old k.follows new.held.waiting.items (starts_in new.held.opens.starts) line cells placed low line.form m h) in
+event_taken policy texts distinct given a old new k line cells placed own reads low fits n m x is h kinds released bounds marks =
+    let r = subst (Says texts distinct given a old k.follows new.held.waiting.items (starts_in new.held.opens.starts) line cells placed low (cells_kinds texts cells ∙ ap row_cells reads ∙ fits) line.form) is
+    (says texts distinct given a old k.follows new.held.waiting.items (starts_in new.held.opens.starts) line cells placed low (cells_kinds texts cells ∙ ap row_cells reads ∙ fits) line.form m h) in
     let t = line_admitted policy texts given a old new k line.stream line.form line.sync line.other (read_cells texts cells) line.at line.dropped n.passes n.at_is n.dropped_is r.0 kinds released bounds marks in (
       t.0,
       (
@@ -414,13 +423,13 @@ event_taken policy texts distinct given a old new k line cells placed own reads 
     )
 
 pub event_unmatched : (policy : Policy) (texts : List (List ℕ)) → AreDistinct texts → (given : ℕ → List Edge) (a : Admission) (old : Ingress) (k : Admits texts a given old) (line : EventLine) (cells : List Datum) →
-    ArePlaced texts cells → (own : Row) → read_cells texts cells ≡ own → line.stream < length old.kinds.items → Known policy a line → (m : Option Admitted) → m ≡ None →
+    ArePlaced texts cells → (own : Row) → read_cells texts cells ≡ own → line.stream < length old.kinds.items → row_cells own ≡ get_or (cells_of old) line.stream [] → Known policy a line → (m : Option Admitted) → m ≡ None →
     (waiting : List (List Edge)) (starts : OpenKey → List OpenStart) →
     HasEntered line.form line cells old.released waiting starts k.follows.made k.follows.opens given m →
     (admit policy a (Event line.stream line.form line.sync line.other own) ≡ Unmatched) × Keeps old.released waiting starts k.follows.made k.follows.opens given
-event_unmatched policy texts distinct given a old k line cells placed own reads low n m is waiting starts h =
-    let r = subst (Says texts distinct given a old k.follows waiting starts line cells placed low line.form) is
-    (says texts distinct given a old k.follows waiting starts line cells placed low line.form m h) in (
+event_unmatched policy texts distinct given a old k line cells placed own reads low fits n m is waiting starts h =
+    let r = subst (Says texts distinct given a old k.follows waiting starts line cells placed low (cells_kinds texts cells ∙ ap row_cells reads ∙ fits) line.form) is
+    (says texts distinct given a old k.follows waiting starts line cells placed low (cells_kinds texts cells ∙ ap row_cells reads ∙ fits) line.form m h) in (
       ap (λ q. admit policy a (Event line.stream line.form line.sync line.other q)) (sym reads)
           ∙ line_unmatched policy a line.stream line.form line.sync line.other (read_cells texts cells) line.at line.dropped n.passes n.at_is n.dropped_is r.0,
       r.1,

@@ -129,6 +129,7 @@ follows_longer new old a given i b f = record {
   opens_placed = All-weaker (λ o. ArePlaced old o.key.cells) (λ o. ArePlaced new o.key.cells) (λ o k. ArePlaced-begins new old o.key.cells b k) f.opens f.opens_placed;
   keeps = f.keeps;
   declared = f.declared;
+  stored = f.stored;
   none_made = f.none_made;
   none_given = f.none_given;
 }

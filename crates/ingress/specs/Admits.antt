@@ -1,7 +1,7 @@
 -- What the code keeps of the lines that were admitted.
 use Rattle.std.specs.Prelude.{◌≡◌, ℕ, zero, suc, ◌<◌, ◌≤◌, All, List, [], ◌∷◌, ◌++◌, length, get_or, map, filter}
 use Rattle.tw_rows.specs.Instant.{inf}
-use Rattle.tw_rows.specs.Cells.{ArePlaced, read_cells}
+use Rattle.tw_rows.specs.Cells.{ArePlaced, read_cells, datum_kind}
 use Rattle.tw_rows.specs.Kinds.{cell_kind_of}
 use Rattle.tw_rows.specs.declared.edge.Edge.{Edge}
 use Rattle.tw_rows.specs.declared.kind.Kind.{Kind}
@@ -72,6 +72,10 @@ read_open texts o = record {
   dropped = o.state.dropped;
 }
 
+-- the cells of an open start are stored as those of its stream are
+abbrev pub IsStored : List (List CellKind) → CellOpen → Type 0
+IsStored cells o = map datum_kind o.key.cells ≡ get_or cells o.key.stream []
+
 -- of the lines that were admitted, which gave `a`, and of the edges given so far, the code keeps the bounds and the marks, the
 -- rows in cells, the open starts, and the edges that wait; all places are in the table, and of streams that were not declared
 -- there is nothing
@@ -87,6 +91,7 @@ pub record Follows (texts : List (List ℕ)) (a : Admission) (given : ℕ → Li
   pub opens_placed : All (λ o. ArePlaced texts o.key.cells) opens
   pub keeps : Keeps i.released i.held.waiting.items (starts_in i.held.opens.starts) made opens given
   pub declared : All (λ o. o.key.stream < length i.kinds.items) opens
+  pub stored : All (IsStored (cells_of i)) opens
   pub none_made : (s : ℕ) → length i.kinds.items ≤ s → made s ≡ []
   pub none_given : (s : ℕ) → length i.kinds.items ≤ s → given s ≡ []
 

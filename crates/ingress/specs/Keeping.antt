@@ -15,6 +15,14 @@ pub record CellOpen : Type 0 where
   pub key : OpenKey
   pub state : OpenStart
 
+-- what is in use of an open start that was given at that time, as it is kept: of one that was dropped the start is of no
+-- use, and the given one stands for it. A start at 4 that was late by a bound of 10 is kept at 10, or at 4 where it was dropped
+abbrev pub kept_state : ℕ → OpenStart → OpenStart
+kept_state given st = record { start = cond st.dropped given st.start; dropped = st.dropped }
+
+abbrev pub kept_of : CellOpen → OpenStart
+kept_of o = kept_state o.key.given o.state
+
 -- the end line that names this key closes the open start
 abbrev pub is_named : OpenKey → CellOpen → Bool
 is_named k o = same_key o.key k
@@ -52,7 +60,7 @@ more_rows s rows made k = cond (nat_eq k s) (made k ++ rows) (made k)
 pub record Keeps (p : ℕ) (waiting : List (List Edge)) (starts : OpenKey → List OpenStart)
     (made : ℕ → List CellEvent) (opens : List CellOpen) (given : ℕ → List Edge) : Type 0 where
   pub held : (s : ℕ) → s < length waiting → IsHeld p (given s) (get_or waiting s []) (cell_rows made opens s)
-  pub queued : (k : OpenKey) → starts k ≡ map (λ o. o.state) (filter (is_named k) opens)
+  pub queued : (k : OpenKey) → starts k ≡ map kept_of (filter (is_named k) opens)
 
 -- the waiting edges of stream s are others now, and those of the other streams are as they were
 pub record Changed (s : ℕ) (before after : List (List Edge)) : Type 0 where
@@ -69,4 +77,4 @@ abbrev pub HasEnded : OpenKey → ℕ → ℕ → List (List Edge) → (OpenKey 
     Option OpenStart → Option CellOpen → Type 0
 HasEnded key at p waiting starts made opens given answer None = (answer ≡ None) × Keeps p waiting starts made opens given
 HasEnded key at p waiting starts made opens given answer (Some o) =
-    (answer ≡ Some o.state) × Keeps p waiting starts (more_rows key.stream (ended_row at o) made) (without_first_of (is_named key) opens) given
+    (answer ≡ Some (kept_of o)) × Keeps p waiting starts (more_rows key.stream (ended_row at o) made) (without_first_of (is_named key) opens) given

@@ -7,3 +7,6 @@ pub mod Ranks
 pub mod Fits
 pub mod Entering
 pub mod Admits
+pub mod Counts
+pub mod Saving
+pub mod Loaded

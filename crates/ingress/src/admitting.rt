@@ -1,5 +1,6 @@
 // Lines that are admitted, one by one.
-ghost use Rattle.std.specs.Prelude.{◌≡◌, ℕ, ◌-◌, ◌<◌, ◌≤◌, ◌&&◌, nat_lt, List, [], length, get_or, map, IfSome, IfOk, IfErr, OnErr, MatchOption};
+ghost use Rattle.std.specs.Prelude.{◌≡◌, ℕ, ◌+◌, ◌-◌, ◌^◌, min, ◌<◌, ◌≤◌, ◌&&◌, nat_lt, List, [], length, get_or, map, IfSome, IfOk, IfErr, OnErr, MatchOption};
+ghost use Rattle.tw_rows.specs.Bag.{total};
 ghost use Rattle.tw_rows.specs.Texts.{BeginsWith};
 ghost use Rattle.tw_rows.specs.declared.edge.Edge.{Edge};
 ghost use Rattle.tw_rows.specs.declared.schema.StreamDef.{StreamDef};
@@ -8,6 +9,7 @@ ghost use Rattle.admission.specs.Admission.{Admission, nothing, Taken, admit as 
 ghost use Rattle.admission.specs.Answers.{answer as answer_of};
 ghost use Rattle.row_reader.specs.declared.entry.Entry.TheVariants as entries;
 ghost use Rattle.ingress.specs.Fits.{Fits, plain, row_cells};
+ghost use Rattle.ingress.specs.Counts.{may_hold};
 ghost use Rattle.ingress.specs.Admits.{cells_of, IsFor, SameFixed, Follows, Admits, Refuses};
 
 use crate::entering::EventLine;
@@ -217,6 +219,17 @@ impl Ingress {
         ensures { (texts : List (List ℕ)) (a : Admission) (given : ℕ → List Edge) → Follows texts a given self.now → result ≡ a.mark stream }
     {
         self.watermarks.mark(stream)
+    }
+
+    /// How many edges wait and how many starts are open, dropped ones too, or the greatest number where there are more. It
+    /// goes through them.
+    pub fn held(&self) -> u64
+        ensures count { (texts : List (List ℕ)) (a : Admission) (given : ℕ → List Edge) → Follows texts a given self.now →
+            result ≡ min (length a.opens + total (λ l. length l) self.now.held.waiting.items) (2 ^ 64 - 1) }
+        ensures bound { (texts : List (List ℕ)) (a : Admission) (given : ℕ → List Edge) → Follows texts a given self.now →
+            result ≤ may_hold (length self.now.kinds.items) self.now.released a }
+    {
+        self.held.held()
     }
 
     /// The last punctuation at which edges were released, and 0 before the first.

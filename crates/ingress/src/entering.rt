@@ -11,7 +11,7 @@ ghost use Rattle.line_text.specs.declared.form.Form.TheVariants as forms;
 ghost use Rattle.admission.specs.Answers.{became as became_of};
 ghost use Rattle.ingress.specs.Entering.{HasEntered};
 ghost use Rattle.ingress.specs.Fits.{AreFit};
-ghost use Rattle.ingress.specs.Keeping.{CellOpen, Keeps, StillKeeps};
+ghost use Rattle.ingress.specs.Keeping.{CellOpen, kept_state, Keeps, StillKeeps};
 ghost use Rattle.ingress.specs.OpenKeys.{starts_in};
 
 use crate::held_streams::{HeldStreams, infinity, is_before};
@@ -41,6 +41,16 @@ fn became(dropped: bool, start: Time, end: Time) -> Admitted
         Admitted::Kept
     } else {
         Admitted::Emptied
+    }
+}
+
+// The open start of a start line. One that is dropped keeps the start that was given.
+fn open_state(line: &EventLine) -> OpenStart
+    ensures { result ≡ kept_state line.now.sync (record { start = line.now.at; dropped = line.now.dropped }) }
+{
+    OpenStart {
+        start: if line.dropped { line.sync } else { line.at },
+        dropped: line.dropped,
     }
 }
 
@@ -90,14 +100,10 @@ impl HeldStreams {
     {
         let key = OpenKey {
             stream: line.stream,
-            given: line.sync.word(),
+            given: line.sync,
             cells,
         };
-        let state = OpenStart {
-            start: line.at,
-            dropped: line.dropped,
-        };
-        self.open_start(key, state)?;
+        self.open_start(key, open_state(line))?;
         Ok(Some(became(line.dropped, line.at, infinity())))
     }
 
@@ -112,7 +118,7 @@ impl HeldStreams {
     {
         let key = OpenKey {
             stream: line.stream,
-            given: line.other.word(),
+            given: line.other,
             cells,
         };
         let Some(state) = self.end_start(&key, line.at)? else {

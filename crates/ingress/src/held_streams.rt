@@ -1,7 +1,8 @@
 // What is held of all streams: the edges that wait for a punctuation, and the open starts.
-ghost use Rattle.std.specs.Prelude.{◌≡◌, ℕ, ◌<◌, ◌≤◌, ◌↔◌, IsTrue, true, false, List, [], ◌∷◌, ◌++◌, length, get_or, map, filter, Some, IfOk, OnOk, OnErr};
+ghost use Rattle.std.specs.Prelude.{◌≡◌, ℕ, ◌+◌, ◌-◌, ◌^◌, ◌<◌, ◌≤◌, ◌↔◌, min, IsTrue, true, false, List, [], ◌∷◌, ◌++◌, length, get_or, map, filter, Some, IfOk, OnOk, OnErr};
 ghost use Rattle.tw_rows.specs.Instant.{inf};
-ghost use Rattle.tw_rows.specs.Bag.{SameBag};
+ghost use Rattle.tw_rows.specs.Bag.{total, SameBag};
+ghost use Rattle.indexmap.specs.IndexMap.{IsUnique};
 ghost use Rattle.tw_rows.specs.declared.edge.Edge.{Edge};
 ghost use Rattle.tw_rows.specs.Cells.{datum_kind};
 ghost use Rattle.tw_rows.specs.declared.kind.CellKind.{CellKind};
@@ -9,9 +10,11 @@ ghost use Rattle.edge_history.specs.Order.{many, starts_it, is_from};
 ghost use Rattle.edge_history.specs.History.{CellEvent};
 ghost use Rattle.ingress.specs.Held.{start_of};
 ghost use Rattle.key_nodes.specs.Joins.{with_life};
-ghost use Rattle.ingress.specs.OpenKeys.{starts_in};
+ghost use Rattle.ingress.specs.OpenKeys.{same_key, starts_in};
+ghost use Rattle.ingress.specs.Loaded.{opens_in};
+ghost use Rattle.ingress.specs.declared.opens.OpenStart.{OpenStart as Opened};
 ghost use Rattle.ingress.specs.Fits.{AreFit};
-ghost use Rattle.ingress.specs.Keeping.{CellOpen, Keeps, StillKeeps, Changed, HasEnded, more_rows, first_of, is_named};
+ghost use Rattle.ingress.specs.Keeping.{CellOpen, kept_state, Keeps, StillKeeps, Changed, HasEnded, more_rows, first_of, is_named};
 
 use crate::opens::{OpenKey, OpenStart, OpenStarts};
 use crate::waiting::Waiting;
@@ -63,8 +66,20 @@ impl HeldStreams {
         })
     }
 
+    /// How many edges wait and how many starts are open, or the greatest number where there are more. It goes through them.
+    pub fn held(&self) -> u64
+        ensures count { result ≡ min (length (opens_in self.now.opens.starts.entries) + total (λ l. length l) self.now.waiting.items) (2 ^ 64 - 1) }
+        ensures unique { IsUnique same_key self.now.opens.starts }
+    {
+        let mut held = self.opens.len();
+        for waiting in &self.waiting {
+            held = held.saturating_add(waiting.len());
+        }
+        held
+    }
+
     // Adds an edge of a stream.
-    fn put(&mut self, stream: usize, edge: Edge) -> Result<(), Memory>
+    pub(crate) fn put(&mut self, stream: usize, edge: Edge) -> Result<(), Memory>
         requires { stream < length self.old.waiting.items }
         ensures changed { Changed stream self.old.waiting.items self.new.waiting.items }
         ensures ok { OnOk result (SameBag (get_or self.new.waiting.items stream []) (edge ∷ get_or self.old.waiting.items stream [])) }
@@ -117,9 +132,9 @@ impl HeldStreams {
     /// One more open start. It starts at the bound of its stream or later.
     pub fn open_start(&mut self, key: OpenKey, state: OpenStart) -> Result<(), Memory>
         requires { key.stream < length self.old.waiting.items }
-        ensures ok { OnOk result ((p : ℕ) (made : ℕ → List CellEvent) (opens : List CellOpen) (given : ℕ → List Edge) → p ≤ state.start →
+        ensures ok { OnOk result ((st : Opened) (p : ℕ) (made : ℕ → List CellEvent) (opens : List CellOpen) (given : ℕ → List Edge) → kept_state key.given st ≡ state → p ≤ st.start →
             Keeps p self.old.waiting.items (starts_in self.old.opens.starts) made opens given →
-            Keeps p self.new.waiting.items (starts_in self.new.opens.starts) made (opens ++ record { key = key; state = state } ∷ []) given) }
+            Keeps p self.new.waiting.items (starts_in self.new.opens.starts) made (opens ++ record { key = key; state = st } ∷ []) given) }
         ensures err { OnErr result (StillKeeps self.old.waiting.items (starts_in self.old.opens.starts) self.new.waiting.items (starts_in self.new.opens.starts)) }
         ensures len { length self.new.waiting.items ≡ length self.old.waiting.items }
         ensures fit { (kinds : List (List CellKind)) → AreFit kinds self.old.waiting.items → map datum_kind key.cells ≡ get_or kinds key.stream [] → AreFit kinds self.new.waiting.items }

@@ -1,6 +1,7 @@
 // What admission keeps between two lines.
 ghost use Rattle.std.specs.Prelude.{◌≡◌, map, length};
 ghost use Rattle.ingress.specs.Fits.{HasShape};
+ghost use Rattle.ingress.specs.Streams.{AreAbove};
 ghost use Rattle.ingress.specs.declared.ingress.Refusal.TheVariants as refusals;
 
 use crate::held_streams::HeldStreams;
@@ -20,6 +21,7 @@ pub struct Ingress {
     pub(crate) released: Time,
     pub(crate) alloc: Global,
     ghost shape: { HasShape (map (λ k. k.items) kinds.items) capacity (length watermarks.streams.items) held.waiting.items },
+    ghost above: { AreAbove watermarks.streams.items },
 }
 
 /// Why an entry was refused.

@@ -8,8 +8,10 @@ mod held_laws;
 mod held_streams;
 mod ingress;
 mod ingress_laws;
+mod loading;
 mod opens;
 mod releasing;
+mod saving;
 mod waiting;
 mod watermarks;
 

@@ -1,11 +1,13 @@
 // Starts that wait for their ends.
-ghost use Rattle.std.specs.Prelude.{◌≡◌, ◌++◌, [], ◌∷◌, cond, drop, slice_get, OnOk, OnErr};
+ghost use Rattle.std.specs.Prelude.{◌≡◌, ◌++◌, ◌-◌, ◌^◌, [], ◌∷◌, cond, length, min, drop, slice_get, OnOk, OnErr};
 ghost use Rattle.std.specs.Cmp.{partial_equiv_from_equiv, decided};
 ghost use Rattle.std.specs.Hash as fed;
 ghost use Rattle.std.specs.Hash.{same_Alike};
 ghost use Rattle.tw_rows.specs.contracts.cells.CellsHash.TheImpl as cells_hash;
 ghost use Rattle.ingress.specs.declared.opens.OpenKey.{OpenKey as Key};
 ghost use Rattle.ingress.specs.OpenKeys.{same_key, same_key-Decides, starts_in};
+ghost use Rattle.ingress.specs.Loaded.{opens_in};
+ghost use Rattle.indexmap.specs.IndexMap.{IsUnique};
 
 use indexmap::IndexMap;
 use std::alloc::Global;
@@ -17,7 +19,7 @@ use tw_rows::{Cells, Memory, Time};
 #[derive(Drop)]
 pub struct OpenKey {
     pub stream: usize,
-    pub given: u64,
+    pub given: Time,
     pub cells: Cells,
 }
 
@@ -42,7 +44,7 @@ impl Hash for OpenKey {
 
     fn hash<H: Hasher>(&self, state: &mut H) {
         self.stream.hash(state);
-        self.given.hash(state);
+        self.given.word().hash(state);
         self.cells.hash(state);
     }
 }
@@ -59,6 +61,12 @@ pub struct OpenStart {
 pub struct OpenStarts {
     pub(crate) starts: IndexMap<OpenKey, VecDeque<OpenStart>>,
     alloc: Global,
+}
+
+fn count(starts: &VecDeque<OpenStart>) -> u64
+    ensures { result ≡ length starts.now.items }
+{
+    starts.len() as u64
 }
 
 impl OpenStarts {
@@ -81,10 +89,22 @@ impl OpenStarts {
             starts.push_back(start)?;
             return Ok(());
         }
-        let mut starts = VecDeque::new(self.alloc);
+        let mut starts = VecDeque::with_capacity(self.alloc, 1)?;
         starts.push_back(start)?;
         self.starts.insert(key, starts)?;
         Ok(())
+    }
+
+    /// How many open starts there are, or the greatest number where there are more. It goes through the keys.
+    pub fn len(&self) -> u64
+        ensures count { result ≡ min (length (opens_in self.now.starts.entries)) (2 ^ 64 - 1) }
+        ensures unique { IsUnique same_key self.now.starts }
+    {
+        let mut len: u64 = 0;
+        for (_, starts) in self.starts.iter() {
+            len = len.saturating_add(count(starts));
+        }
+        len
     }
 
     /// The first of the open starts that the key names.

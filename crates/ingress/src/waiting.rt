@@ -1,5 +1,5 @@
 // Edges that wait for their time.
-ghost use Rattle.std.specs.Prelude.{◌≡◌, ◌+◌, ◌*◌, ◌^◌, ◌<◌, ◌≤◌, length, get_or, filter, true, false, IsTrue, IfSome, IsNone, OnOk, OnErr, [], ◌∷◌, ◌++◌};
+ghost use Rattle.std.specs.Prelude.{◌≡◌, ◌+◌, ◌-◌, ◌*◌, ◌^◌, ◌<◌, ◌≤◌, min, length, get_or, filter, true, false, IsTrue, IfSome, IsNone, OnOk, OnErr, [], ◌∷◌, ◌++◌};
 ghost use Rattle.tw_rows.specs.Instant.{inf};
 ghost use Rattle.tw_rows.specs.Bag.{SameBag};
 ghost use Rattle.tw_rows.specs.declared.edge.Edge.{Edge};
@@ -18,7 +18,7 @@ use tw_rows::{Cells, Edge, Memory, Time, same_cells};
 /// Edges in order, from which those before a time are taken first. An edge is added in logarithmic time.
 #[derive(Drop)]
 pub struct Waiting {
-    ranks: BTreeMap<u64, Vec<Edge>>,
+    pub(crate) ranks: BTreeMap<u64, Vec<Edge>>,
     alloc: Global,
 }
 
@@ -91,6 +91,12 @@ fn remove_start(edges: &mut Vec<Edge>, cells: &Cells, start: Time) -> bool
     }
 }
 
+fn count(edges: &[Edge]) -> u64
+    ensures { result ≡ length edges.now }
+{
+    edges.len() as u64
+}
+
 impl Waiting {
     /// No edge.
     pub fn new(alloc: Global) -> Waiting
@@ -112,10 +118,22 @@ impl Waiting {
             edges.push(edge)?;
             return Ok(());
         }
-        let mut edges = Vec::new(self.alloc);
+        // most times have one edge
+        let mut edges = Vec::with_capacity(self.alloc, 1)?;
         edges.push(edge)?;
         self.ranks.insert(rank, edges)?;
         Ok(())
+    }
+
+    /// How many edges wait, or the greatest number where there are more. It goes through their times.
+    pub fn len(&self) -> u64
+        ensures { result ≡ min (length self.now) (2 ^ 64 - 1) }
+    {
+        let mut len: u64 = 0;
+        for (_, edges) in self.ranks.iter() {
+            len = len.saturating_add(count(edges));
+        }
+        len
     }
 
     /// Takes a start edge out, if it is there. Only the edges that start at that time are looked at.

@@ -1,10 +1,11 @@
 use Rattle.std.specs.Prelude.{cond, [], ◌∷◌, ◌++◌, get_or, map}
-use Rattle.std.proofs.Common.{refl, ◌∙◌, ap, arith}
+use Rattle.std.proofs.Common.{refl, sym, subst, ◌∙◌, ◌≤◌, ap, arith}
 use Rattle.tw_rows.specs.Cells.{datum_kind}
 use Rattle.ingress.specs.OpenKeys.{same_key, starts_in}
-use Rattle.ingress.specs.Keeping.{CellOpen}
+use Rattle.ingress.specs.Keeping.{CellOpen, Keeps}
+use Rattle.ingress.specs.declared.opens.OpenStart.{OpenStart}
 use Rattle.ingress.proofs.Fitting.{put_fits, out_fits, same_fits, edge_fits}
-use Rattle.ingress.proofs.Keep.{start_comes, still_kept, changed_again, put_back, as_start}
+use Rattle.ingress.proofs.Keep.{kept_live, live_same, start_comes, still_kept, changed_again, put_back, as_start}
 use Rattle.ingress.proofs.held_streams.HeldStreams.open_start.Goals as goal
 
 pub returns-in-Err-clause-err : goal.returns-in-Err-clause-err
@@ -20,14 +21,17 @@ returns-in-Err-clause-err c =
     (λ k. ap (λ x. starts_in x.starts k) c.take_out.ensures.opens ∙ (c.in-Err.ensures.err k ∙ ap (λ x. starts_in x.starts k) c.put.ensures.opens))
 
 pub returns-clause-ok : goal.returns-clause-ok
-returns-clause-ok c = λ p made opens given late keeps.
+returns-clause-ok c = λ st p made opens given is late keeps.
     let s = c.args.key.stream in
     let live = c.is_live.ensures.0 c.if-not-is_live.false in
+    let same = live_same c.args.key.given st c.args.state is live.0 in
     let o : CellOpen = record { key = c.args.key; state = c.args.state } in
+    subst (λ (x : OpenStart). p ≤ x.start → Keeps p c.put.new.self.waiting.items (starts_in c.open-2.new.self.starts) made (opens ++ record { key = c.args.key; state = x } ∷ []) given) (sym same) (λ late2.
     start_comes p c.args.self.now.waiting.items c.put.new.self.waiting.items (starts_in c.args.self.now.opens.starts) (starts_in c.open-2.new.self.starts) made made opens (opens ++ o ∷ []) given keeps s c.put.ensures.changed
-    o refl refl refl (λ k. c.in_default.ensures.ok k ∙ ap (λ l. cond (same_key c.args.key k) (l ++ c.args.state ∷ []) l) (ap (λ x. starts_in x.starts k) c.put.ensures.opens))
-    live.0 live.1 late
-    (as_start (get_or c.put.new.self.waiting.items s []) (get_or c.args.self.now.waiting.items s []) c.args.key.cells c.in_ok-clone.field-0 c.args.state.start c.infinity.result c.infinity.ensures (c.in_ok-clone.ensures.cases ∙ c.in_ok-cells.ensures.cases) c.in_ok-put.ensures.ok)
+    o refl refl refl (λ k. c.in_default.ensures.ok k ∙ ap (λ l. cond (same_key c.args.key k) (l ++ c.args.state ∷ []) l) (ap (λ x. starts_in x.starts k) c.put.ensures.opens)
+    ∙ ap (λ x. cond (same_key c.args.key k) (starts_in c.args.self.now.opens.starts k ++ x ∷ []) (starts_in c.args.self.now.opens.starts k)) (sym (kept_live c.args.key.given c.args.state live.0)))
+    live.0 live.1 late2
+    (as_start (get_or c.put.new.self.waiting.items s []) (get_or c.args.self.now.waiting.items s []) c.args.key.cells c.in_ok-clone.field-0 c.args.state.start c.infinity.result c.infinity.ensures (c.in_ok-clone.ensures.cases ∙ c.in_ok-cells.ensures.cases) c.in_ok-put.ensures.ok)) late
 
 pub returns-in-Err-clause-fit : goal.returns-in-Err-clause-fit
 returns-in-Err-clause-fit c = λ kinds fit is.

@@ -1,5 +1,5 @@
 use Rattle.std.specs.Prelude.{ℕ, List}
-use Rattle.std.proofs.Common.{◌∙◌, ap, sym, refl}
+use Rattle.std.proofs.Common.{◌∙◌, ap, sym, refl, arith}
 use Rattle.tw_rows.specs.declared.edge.Edge.{Edge}
 use Rattle.admission.specs.Admission.{Admission, raised}
 use Rattle.ingress.specs.Admits.{cells_of, Admits}
@@ -7,7 +7,7 @@ use Rattle.ingress.specs.Fits.{row_cells}
 use Rattle.ingress.specs.OpenKeys.{starts_in}
 use Rattle.ingress.specs.Streams.{bound_in}
 use Rattle.ingress.specs.declared.entering.EventLine.{EventLine}
-use Rattle.ingress.proofs.Lines.{Known, known_line, line_late, event_taken, event_unmatched, follows_kept, cells_kinds, shape_entered}
+use Rattle.ingress.proofs.Lines.{Known, raised_above, known_line, line_late, event_taken, event_unmatched, follows_kept, cells_kinds, shape_entered}
 use Rattle.ingress.proofs.Ranked.{always}
 use Rattle.ingress.proofs.Reading.{admits_longer}
 use Rattle.ingress.proofs.ingress.Ingress.admit_event.Goals as goal
@@ -21,12 +21,14 @@ pub invariant_of-self : goal.invariant_of-self
 invariant_of-self c = let i = c.args.self.now in record {
   shape = shape_entered _ i.capacity _ _ i.held.waiting.items c.enter.new.self.waiting.items refl c.enter.ensures.len
       (c.enter.ensures.fit (cells_of i) i.shape.fit (cells_kinds c.to_cells.new.texts c.in_ok-cells.cells ∙ ap row_cells c.in_ok-cells.ensures.read ∙ c.requires.cells)) i.shape;
+  above = i.above;
 }
 
 pub invariant_of-self-in_default-entered : goal.invariant_of-self-in_default-entered
 invariant_of-self-in_default-entered c = let i = c.args.self.now in record {
   shape = shape_entered _ i.capacity _ _ i.held.waiting.items c.enter.new.self.waiting.items refl c.enter.ensures.len
       (c.enter.ensures.fit (cells_of i) i.shape.fit (cells_kinds c.to_cells.new.texts c.in_ok-cells.cells ∙ ap row_cells c.in_ok-cells.ensures.read ∙ c.requires.cells)) i.shape;
+  above = i.above;
 }
 
 pub returns-in_default-clause-err : goal.returns-in_default-clause-err
@@ -47,7 +49,7 @@ returns-in_default-entered-clause-refused c = λ a given k.
     let n : Known i.policy a line = known_line i.policy a line c.bound-bound.result (k.follows.bounds c.args.stream c.requires.stream ∙ sym c.bound-bound.ensures)
     c.is_refused.result c.is_refused.ensures c.if-is_refused.false c.later.ensures c.is_dropped.ensures in
     let h = c.in-Ok.ensures.ok i.released l.follows.made l.follows.opens given (line_late i.policy texts given a i line n c.requires.stream l) l.follows.keeps in
-    (event_unmatched i.policy texts c.len-count.ensures.distinct given a i l line c.in_ok-cells.cells c.in_ok-cells.ensures.placed c.args.row.now c.in_ok-cells.ensures.read c.requires.stream n
+    (event_unmatched i.policy texts c.len-count.ensures.distinct given a i l line c.in_ok-cells.cells c.in_ok-cells.ensures.placed c.args.row.now c.in_ok-cells.ensures.read c.requires.stream c.requires.cells n
     c.in-Ok.entered c.in_default-entered.is c.enter.new.self.waiting.items (starts_in c.enter.new.self.opens.starts) h).0
 
 pub returns-in_default-entered-clause-err : goal.returns-in_default-entered-clause-err
@@ -59,7 +61,7 @@ returns-in_default-entered-clause-err c = λ a given k.
     let n : Known i.policy a line = known_line i.policy a line c.bound-bound.result (k.follows.bounds c.args.stream c.requires.stream ∙ sym c.bound-bound.ensures)
     c.is_refused.result c.is_refused.ensures c.if-is_refused.false c.later.ensures c.is_dropped.ensures in
     let h = c.in-Ok.ensures.ok i.released l.follows.made l.follows.opens given (line_late i.policy texts given a i line n c.requires.stream l) l.follows.keeps in
-    let u = event_unmatched i.policy texts c.len-count.ensures.distinct given a i l line c.in_ok-cells.cells c.in_ok-cells.ensures.placed c.args.row.now c.in_ok-cells.ensures.read c.requires.stream n
+    let u = event_unmatched i.policy texts c.len-count.ensures.distinct given a i l line c.in_ok-cells.cells c.in_ok-cells.ensures.placed c.args.row.now c.in_ok-cells.ensures.read c.requires.stream c.requires.cells n
     c.in-Ok.entered c.in_default-entered.is c.enter.new.self.waiting.items (starts_in c.enter.new.self.opens.starts) h in
     record {
       follows = follows_kept texts given a i l.follows _ refl refl refl u.1;
@@ -70,6 +72,12 @@ pub invariant_of-self-2 : goal.invariant_of-self-2
 invariant_of-self-2 c = let i = c.args.self.now in record {
   shape = shape_entered _ i.capacity _ _ i.held.waiting.items c.enter.new.self.waiting.items c.raise_bound.ensures.len c.enter.ensures.len
       (c.enter.ensures.fit (cells_of i) i.shape.fit (cells_kinds c.to_cells.new.texts c.in_ok-cells.cells ∙ ap row_cells c.in_ok-cells.ensures.read ∙ c.requires.cells)) i.shape;
+  above = λ s.
+      let a = i.above s in
+      let b = c.raise_bound.ensures.bounds s in
+      let m = c.raise_bound.ensures.marks s in
+      let u = raised_above c.args.stream c.reduced.result (bound_in i.watermarks.streams.items) s in
+      omega (arith, a, b, m, u);
 }
 
 pub returns-clause-ok : goal.returns-clause-ok
@@ -81,7 +89,7 @@ returns-clause-ok c = λ a given k.
     let n : Known i.policy a line = known_line i.policy a line c.bound-bound.result (k.follows.bounds c.args.stream c.requires.stream ∙ sym c.bound-bound.ensures)
     c.is_refused.result c.is_refused.ensures c.if-is_refused.false c.later.ensures c.is_dropped.ensures in
     let h = c.in-Ok.ensures.ok i.released l.follows.made l.follows.opens given (line_late i.policy texts given a i line n c.requires.stream l) l.follows.keeps in
-    event_taken i.policy texts c.len-count.ensures.distinct given a i _ l line c.in_ok-cells.cells c.in_ok-cells.ensures.placed c.args.row.now c.in_ok-cells.ensures.read c.requires.stream n
+    event_taken i.policy texts c.len-count.ensures.distinct given a i _ l line c.in_ok-cells.cells c.in_ok-cells.ensures.placed c.args.row.now c.in_ok-cells.ensures.read c.requires.stream c.requires.cells n
     c.in-Ok.entered c.in-Some.answer c.in-Some.is h refl refl
     (λ j. c.raise_bound.ensures.bounds j ∙ ap (λ t. raised c.args.stream t (bound_in i.watermarks.streams.items) j) c.reduced.ensures)
     c.raise_bound.ensures.marks

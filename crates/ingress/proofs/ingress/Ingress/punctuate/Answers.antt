@@ -4,8 +4,25 @@ use Rattle.std.proofs.lemmas.List.{length-map}
 use Rattle.admission.specs.Admission.{raised, admit}
 use Rattle.row_reader.specs.declared.entry.Entry.TheVariants.{Punct}
 use Rattle.ingress.specs.Streams.{bound_in, mark_in}
+use Rattle.ingress.proofs.Marks.{above_raised, above_all}
 use Rattle.ingress.proofs.Lines.{raised_same, raised_above, follows_marks}
 use Rattle.ingress.proofs.ingress.Ingress.punctuate.Goals as goal
+
+pub invariant_of-self : goal.invariant_of-self
+invariant_of-self c = let i = c.args.self.now in record {
+  shape = (let h = i.shape in record { marks = c.raise.ensures.len ∙ h.marks; waiting = h.waiting; room = h.room; width = h.width; fit = h.fit });
+  above = λ s.
+      let a = above_raised c.in-Some.stream c.args.time (mark_in i.watermarks.streams.items) (bound_in i.watermarks.streams.items) s (i.above s) in
+      let b = c.raise.ensures.bounds s in
+      let m = c.raise.ensures.marks s in
+      omega (arith, a, b, m);
+}
+
+pub invariant_of-self-in-None : goal.invariant_of-self-in-None
+invariant_of-self-in-None c = let i = c.args.self.now in record {
+  shape = (let h = i.shape in record { marks = c.raise_all.ensures.len ∙ h.marks; waiting = h.waiting; room = h.room; width = h.width; fit = h.fit });
+  above = above_all c.args.time i.watermarks.streams.items c.raise_all.new.self.streams.items c.raise_all.ensures.len c.raise_all.ensures.bounds c.raise_all.ensures.marks i.above;
+}
 
 pub returns-in-Some-clause-admits : goal.returns-in-Some-clause-admits
 returns-in-Some-clause-admits c = λ texts a given k.

@@ -5,6 +5,7 @@ use Rattle.ingress.proofs.ingress.Ingress.release.Goals as goal
 pub invariant_of-self : goal.invariant_of-self
 invariant_of-self c = record {
   shape = shape_left c.args.p _ c.args.self.now.capacity _ c.args.self.now.held.waiting.items c.drop_below.new.self.waiting.items c.drop_below.ensures.waiting c.drop_below.ensures.len c.args.self.now.shape;
+  above = c.args.self.now.above;
 }
 
 pub returns-clause-follows : goal.returns-clause-follows

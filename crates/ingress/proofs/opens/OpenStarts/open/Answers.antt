@@ -15,5 +15,5 @@ returns-in-Some-clause-ok c =
 
 pub returns-clause-ok : goal.returns-clause-ok
 returns-clause-ok c =
-    new_starts c.args.self.now.starts c.insert.new.self c.args.key c.args.start c.new-starts.result c.push_back-2.new.self (sym c.in_default.ensures.value) c.new-starts.ensures.items c.in_ok-push_back-2.ensures.items
+    new_starts c.args.self.now.starts c.insert.new.self c.args.key c.args.start c.in_ok-starts.starts c.push_back-2.new.self (sym c.in_default.ensures.value) c.in_ok-starts.ensures.items c.in_ok-push_back-2.ensures.items
     c.get_mut.follows.lender-at-none c.get_mut.follows.holds-at-none c.in_ok-insert.ensures.updates.0

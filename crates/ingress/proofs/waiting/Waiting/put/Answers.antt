@@ -31,14 +31,14 @@ returns-in-Some-clause-ok c =
 
 pub invariant_of-self-2 : goal.invariant_of-self-2
 invariant_of-self-2 c =
-    new_ranked c.rank_of-rank.result c.self.inside.ranks.entries c.insert.new.self.entries c.new-edges.result c.push-2.new.self c.self.invariant
-    c.args.edge (sym c.rank_of-rank.ensures) c.new-edges.ensures.items c.in_ok-push-2.ensures.items
+    new_ranked c.rank_of-rank.result c.self.inside.ranks.entries c.insert.new.self.entries c.in_ok-edges.edges c.push-2.new.self c.self.invariant
+    c.args.edge (sym c.rank_of-rank.ensures) c.in_ok-edges.ensures.items c.in_ok-push-2.ensures.items
     (c.in_ok-insert.ensures.entries ∙ ap (λ m. insert_entry nat_cmp m.entries c.rank_of-rank.result c.push-2.new.self) c.get_mut.follows.holds-at-none)
 
 pub returns-clause-ok : goal.returns-clause-ok
 returns-clause-ok c =
     subst (λ l. SameBag (edges_at c.insert.new.self.entries) (c.args.edge ∷ l)) c.self.view_is
-    (new_edges c.rank_of-rank.result c.self.inside.ranks.entries c.insert.new.self.entries c.new-edges.result c.push-2.new.self c.self.invariant
-    c.args.edge (sym c.rank_of-rank.ensures) c.new-edges.ensures.items c.in_ok-push-2.ensures.items
+    (new_edges c.rank_of-rank.result c.self.inside.ranks.entries c.insert.new.self.entries c.in_ok-edges.edges c.push-2.new.self c.self.invariant
+    c.args.edge (sym c.rank_of-rank.ensures) c.in_ok-edges.ensures.items c.in_ok-push-2.ensures.items
     (c.in_ok-insert.ensures.entries ∙ ap (λ m. insert_entry nat_cmp m.entries c.rank_of-rank.result c.push-2.new.self) c.get_mut.follows.holds-at-none)
     (sym c.in_default.ensures.value))

@@ -1,0 +1,227 @@
+// Saved entries, taken up again.
+ghost use Rattle.std.specs.Prelude.{◌≡◌, ◌↔◌, ◌+◌, ◌*◌, ◌/◌, ◌%◌, ◌<◌, ◌≤◌, ℕ, List, ◌∷◌, ◌++◌, [], ◌&&◌, true, false, nat_le, get_or, map, length, All, IsTrue, IfOk, IfErr, OnOk, OnErr};
+ghost use Rattle.tw_rows.specs.Cells.{datum_kind};
+ghost use Rattle.tw_rows.specs.Kinds.{cell_kind_of};
+ghost use Rattle.tw_rows.specs.declared.edge.Edge.{Edge as EdgeOf};
+ghost use Rattle.tw_rows.specs.declared.kind.CellKind.{CellKind};
+ghost use Rattle.edge_history.specs.Order.{is_real};
+ghost use Rattle.edge_stream.specs.declared.saved.SavedEntry.{SavedEntry as EntryOf};
+ghost use Rattle.carried_edges.specs.Entries.{saved_edge};
+ghost use Rattle.admission.specs.Admission.{Admission};
+ghost use Rattle.ingress.specs.Admits.{cells_of, SameFixed, Follows, Admits};
+ghost use Rattle.ingress.specs.OpenKeys.{starts_in};
+ghost use Rattle.ingress.specs.Saving.{stream_of, IsSoundEntry, IsSound, Resumes};
+ghost use Rattle.ingress.specs.Loaded.{Loads};
+ghost use Rattle.ingress.specs.Streams.{bound_in, mark_in};
+
+use crate::held_streams::HeldStreams;
+use crate::ingress::Ingress;
+use crate::opens::{OpenKey, OpenStart};
+use crate::watermarks::{Watermark, Watermarks};
+use edge_stream::{LoadFault, Saved, SavedEntry};
+use std::alloc::Global;
+use tw_rows::{Cells, Datum, Edge, Kind, Memory, Time, cell_of};
+
+// Whether a column of the kind stores the datum.
+fn stores(kind: Kind, datum: Datum) -> bool
+    ensures { IsTrue result ↔ (datum_kind datum ≡ cell_kind_of kind) }
+{
+    datum.cell_kind() == cell_of(kind)
+}
+
+// Whether the cells are stored as columns of these kinds are.
+fn is_stored_as(cells: &[Datum], kinds: &[Kind]) -> bool
+    ensures { IsTrue result ↔ (map datum_kind cells.now ≡ map cell_kind_of kinds.now) }
+{
+    if cells.len() != kinds.len() {
+        return false;
+    }
+    for i in 0..cells.len() {
+        if !stores(kinds[i], cells[i]) {
+            return false;
+        }
+    }
+    true
+}
+
+// Whether the entry, as an edge, is real and comes from the time on.
+fn is_sound_edge(entry: &SavedEntry, last: Time) -> bool
+    ensures { result ≡ (is_real (saved_edge entry.now) && nat_le last entry.now.sync) }
+{
+    let sync = entry.sync.word();
+    let other = entry.other.word();
+    let from = last.word();
+    let infinity = Time::bounds().1.word();
+    sync < infinity && other != sync && from <= sync
+}
+
+// Whether the times of an entry of that role may be there after the time.
+fn are_sound_times(entry: &SavedEntry, role: u64, last: Time) -> bool
+    ensures yes { IsTrue result → ((role ≡ 0 → (is_real (saved_edge entry.now) ≡ true) × (last ≤ entry.now.sync)) × (role ≡ 2 → entry.now.sync ≡ entry.now.other)) }
+    ensures no { result ≡ false → (role ≡ 0 → (is_real (saved_edge entry.now) ≡ true) × (last ≤ entry.now.sync)) → (role ≡ 2 → entry.now.sync ≡ entry.now.other) → ⊥ }
+{
+    if role == 0 {
+        return is_sound_edge(entry, last);
+    }
+    if role == 2 {
+        return entry.sync == entry.other;
+    }
+    true
+}
+
+// Whether admission with columns of these kinds can have the entry at the punctuation.
+fn is_sound_entry(kinds: &[Vec<Kind>], entry: &SavedEntry, last: Time) -> bool
+    ensures yes { IsTrue result → IsSoundEntry (map (λ k. map cell_kind_of k) (map (λ k. k.items) kinds.now)) last entry.now }
+    ensures no { result ≡ false → IsSoundEntry (map (λ k. map cell_kind_of k) (map (λ k. k.items) kinds.now)) last entry.now → ⊥ }
+{
+    let stream = entry.part / 3;
+    if stream >= kinds.len() as u64 {
+        return false;
+    }
+    if !is_stored_as(entry.cells.items(), &kinds[stream as usize]) {
+        return false;
+    }
+    are_sound_times(entry, entry.part % 3, last)
+}
+
+impl HeldStreams {
+    // Takes up the edge of an entry.
+    fn take_up_edge(&mut self, entry: &SavedEntry, stream: usize) -> Result<(), Memory>
+        requires stream { stream ≡ stream_of entry.now }
+        requires low { stream < length self.old.waiting.items }
+        requires role { entry.now.part % 3 ≡ 0 }
+        ensures ok { OnOk result ((cells : List (List CellKind)) (last : ℕ) (saved : List EntryOf) → Loads cells last saved self.old.waiting.items (starts_in self.old.opens.starts) → IsSoundEntry cells last entry.now →
+            Loads cells last (saved ++ entry.now ∷ []) self.new.waiting.items (starts_in self.new.opens.starts)) }
+        ensures len { length self.new.waiting.items ≡ length self.old.waiting.items }
+    {
+        let edge = Edge {
+            sync: entry.sync,
+            other: entry.other,
+            cells: entry.cells.clone()?,
+        };
+        self.put(stream, edge)?;
+        Ok(())
+    }
+
+    // Takes up the open start of an entry.
+    fn take_up_start(&mut self, entry: &SavedEntry, stream: usize) -> Result<(), Memory>
+        requires stream { stream ≡ stream_of entry.now }
+        requires role { 1 ≤ entry.now.part % 3 }
+        ensures ok { OnOk result ((cells : List (List CellKind)) (last : ℕ) (saved : List EntryOf) → Loads cells last saved self.old.waiting.items (starts_in self.old.opens.starts) → IsSoundEntry cells last entry.now →
+            Loads cells last (saved ++ entry.now ∷ []) self.new.waiting.items (starts_in self.new.opens.starts)) }
+        ensures len { length self.new.waiting.items ≡ length self.old.waiting.items }
+    {
+        let key = OpenKey {
+            stream,
+            given: entry.other,
+            cells: entry.cells.clone()?,
+        };
+        let state = OpenStart {
+            start: entry.sync,
+            dropped: entry.part % 3 == 2,
+        };
+        self.opens.open(key, state)?;
+        Ok(())
+    }
+
+    // Takes up an entry of one of the streams.
+    fn take_up(&mut self, entry: &SavedEntry) -> Result<(), Memory>
+        requires { stream_of entry.now < length self.old.waiting.items }
+        ensures ok { OnOk result ((cells : List (List CellKind)) (last : ℕ) (saved : List EntryOf) → Loads cells last saved self.old.waiting.items (starts_in self.old.opens.starts) → IsSoundEntry cells last entry.now →
+            Loads cells last (saved ++ entry.now ∷ []) self.new.waiting.items (starts_in self.new.opens.starts)) }
+        ensures len { length self.new.waiting.items ≡ length self.old.waiting.items }
+    {
+        let stream = (entry.part / 3) as usize;
+        if entry.part % 3 == 0 {
+            self.take_up_edge(entry, stream)
+        } else {
+            self.take_up_start(entry, stream)
+        }
+    }
+}
+
+// What is held of the entries, if admission with columns of these kinds can have them at the punctuation.
+fn load_entries(
+    alloc: Global,
+    entries: &[SavedEntry],
+    kinds: &[Vec<Kind>],
+    last: Time,
+) -> Result<HeldStreams, LoadFault>
+    ensures loads { IfOk result (λ held. Loads (map (λ k. map cell_kind_of k) (map (λ k. k.items) kinds.now)) last entries.now held.waiting.items (starts_in held.opens.starts)) }
+    ensures refused { IfErr result (λ fault. fault ≡ LoadFault.NotState → All (IsSoundEntry (map (λ k. map cell_kind_of k) (map (λ k. k.items) kinds.now)) last) entries.now → ⊥) }
+{
+    let mut held = HeldStreams::new(alloc, kinds.len())?;
+    for entry in entries {
+        if !is_sound_entry(kinds, entry, last) {
+            return Err(LoadFault::NotState);
+        }
+        held.take_up(entry)?;
+    }
+    Ok(held)
+}
+
+// Whether no bound is below the punctuation, or below the mark of its stream.
+fn are_sound_marks(bounds: &[Time], marks: &[Time], last: Time) -> bool
+    requires { length marks.now ≡ length bounds.now }
+    ensures { IsTrue result ↔ ((s : ℕ) → s < length bounds.now → (last ≤ get_or bounds.now s 0) × (get_or marks.now s 0 ≤ get_or bounds.now s 0)) }
+{
+    for i in 0..bounds.len() {
+        if bounds[i] < last || bounds[i] < marks[i] {
+            return false;
+        }
+    }
+    true
+}
+
+impl Watermarks {
+    /// These bounds and marks.
+    pub(crate) fn of(alloc: Global, bounds: &[Time], marks: &[Time]) -> Result<Watermarks, Memory>
+        requires { length marks.now ≡ length bounds.now }
+        ensures len { IfOk result (λ w. length w.streams.items ≡ length bounds.now) }
+        ensures bounds { IfOk result (λ w. (s : ℕ) → s < length bounds.now → bound_in w.streams.items s ≡ get_or bounds.now s 0) }
+        ensures marks { IfOk result (λ w. (s : ℕ) → s < length bounds.now → mark_in w.streams.items s ≡ get_or marks.now s 0) }
+    {
+        let mut streams = Vec::new(alloc);
+        for i in 0..bounds.len() {
+            streams.push(Watermark {
+                bound: bounds[i],
+                mark: marks[i],
+            })?;
+        }
+        Ok(Watermarks { streams })
+    }
+}
+
+impl Ingress {
+    /// Takes up entries that were saved, with the bounds and the marks of all streams and the last punctuation. After a fault
+    /// all stays as it was.
+    pub fn load(
+        &mut self,
+        saved: &Saved,
+        bounds: &[Time],
+        marks: &[Time],
+        last: Time,
+    ) -> Result<(), LoadFault>
+        requires bounds { length bounds.now ≡ length self.old.kinds.items }
+        requires marks { length marks.now ≡ length self.old.kinds.items }
+        ensures admits { OnOk result ((texts : List (List ℕ)) (a : Admission) (given : ℕ → List EdgeOf) →
+            Resumes (cells_of self.old) saved.now (λ s. get_or bounds.now s 0) (λ s. get_or marks.now s 0) last texts a given → Admits texts a given self.new) }
+        ensures sound { OnOk result (IsSound (cells_of self.old) saved.now (λ s. get_or bounds.now s 0) (λ s. get_or marks.now s 0) last) }
+        ensures refused { IfErr result (λ fault. fault ≡ LoadFault.NotState → IsSound (cells_of self.old) saved.now (λ s. get_or bounds.now s 0) (λ s. get_or marks.now s 0) last → ⊥) }
+        ensures released { OnOk result (self.new.released ≡ last) }
+        ensures err { OnErr result (self.new ≡ self.old) }
+        ensures fixed { SameFixed self.old self.new }
+    {
+        // its call tells the proof that it is a time
+        let _ = last.word();
+        if !are_sound_marks(bounds, marks, last) {
+            return Err(LoadFault::NotState);
+        }
+        let watermarks = Watermarks::of(self.alloc, bounds, marks)?;
+        let held = load_entries(self.alloc, saved.entries(), &self.kinds, last)?;
+        self.watermarks = watermarks;
+        self.held = held;
+        self.released = last;
+        Ok(())
+    }
+}
