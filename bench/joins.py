@@ -1,15 +1,16 @@
 #!/usr/bin/env python3
-"""Times a join by key beside a program written by hand, PostgreSQL and SQLite.
+"""Times a join and an anti-join by key beside a program written by hand, and the join beside PostgreSQL and SQLite.
 
 usage: bench/joins.py YARDSTICK [COUNT] [--keys KEYS] [--program PATH]
 
 YARDSTICK is a program that, called as `YARDSTICK gen COUNT KEYS SEED`, writes COUNT lines of two streams with a punctuation
-after each 100, and, called as `YARDSTICK join`, reads them and writes by hand the bytes of `l | join r on k`.
-Over COUNT lines (1,000,000 if not given) of KEYS keys (1,000): the join beside it, wanted at most 2.5 times; beside
+after each 100, and, called as `YARDSTICK join` or `YARDSTICK anti`, reads them and writes by hand the bytes of
+`l | join r on k` or `l | anti r on k`.
+Over COUNT lines (1,000,000 if not given) of KEYS keys (1,000): both beside it, wanted at most 2.5 times; the join beside
 PostgreSQL (two tables of lives as ranges, an index of one by key, then one by key and life, in a server of this script's
 own) and SQLite (an index by key), once each, where they are installed: they write the pairs in no order, and their loading
-counts. Then a step over ten edges with 100,000 rows alive on each side beside one with 100 alive, where each row that comes
-meets one. Then ten times as many lines of ten times as many keys, wanted at most 11 times as long.
+counts. Then, of both, a step over ten edges with 100,000 rows alive on each side beside one with 100 alive, where each row
+that comes meets one. Then ten times as many lines of ten times as many keys, wanted at most 11 times as long.
 Ends with status 1 where a program fails, or its bytes differ from the yardstick's, or the pairs of a database do not give
 the same lines by the definition.
 """
@@ -24,7 +25,8 @@ from pathlib import Path
 
 from runs import Run, arguments, beside, changes, digest_of, in_turn, timed
 
-JOIN = "stream l(k int, w int); stream r(k int, x int); l | join r on k"
+STREAMS = "stream l(k int, w int); stream r(k int, x int); "
+QUERIES = {"join": STREAMS + "l | join r on k", "anti": STREAMS + "l | anti r on k"}
 STEPS = 20_000
 SEED = 7
 
@@ -161,15 +163,20 @@ def write_alive(path, alive, steps):
             out.write(f"*,punct,{at + 1}\n")
 
 
-def step_time(program, folder, alive):
-    """The processor's microseconds of a step with so many rows alive on each side."""
+def step_time(program, folder, query, alive):
+    """The processor's microseconds of a step of the query with so many rows alive on each side."""
     jobs = {}
     for steps in (0, STEPS):
         path = folder / f"steps{steps}"
         write_alive(path, alive, steps)
-        jobs[steps] = ([program, "--query", JOIN], path)
+        jobs[steps] = ([program, "--query", query], path)
     least = in_turn(jobs)
     return (least[STEPS].processor - least[0].processor) / STEPS * 1e6
+
+
+def jobs_of(program, yardstick, kind, lines):
+    """The runs of the kind of query over the lines, in the program and by hand."""
+    return {"ours": ([program, "--query", QUERIES[kind]], lines), "theirs": ([yardstick, kind], lines)}
 
 
 def main(read):
@@ -179,11 +186,13 @@ def main(read):
         folder.chmod(0o755)
         lines = folder / "lines"
         generate(yardstick, read.count, read.keys, lines)
-        jobs = {"ours": ([program, "--query", JOIN], lines), "theirs": ([yardstick, "join"], lines)}
-        least = in_turn(jobs)
-        ours = least["ours"]
-        beside(f"{read.count} lines, {read.keys} keys, the join", ours, "the yardstick", least["theirs"], 2.5)
-        good = ours.digest == least["theirs"].digest
+        good, runs = True, {}
+        for kind in QUERIES:
+            least = in_turn(jobs_of(program, yardstick, kind, lines))
+            runs[kind] = least["ours"]
+            beside(f"{read.count} lines, {read.keys} keys, the {kind}", least["ours"], "the yardstick", least["theirs"], 2.5)
+            good = good and least["ours"].digest == least["theirs"].digest
+        jobs, ours = jobs_of(program, yardstick, "join", lines), runs["join"]
         expected = timed(*jobs["ours"], punctuations=False).digest
         for database in (postgres, sqlite):
             place = folder / database.__name__
@@ -192,12 +201,13 @@ def main(read):
                 beside(f"the same in {name_of}", run, "the join", ours)
                 good = good and run.digest == expected
             shutil.rmtree(place)
-        few, many = (step_time(program, folder, alive) for alive in (100, 100_000))
-        print(
-            f"a step over ten edges: {few:.1f} us with 100 rows alive on each side, {many:.1f} us with 100,000: "
-            f"{many / few:.2f} times",
-            flush=True,
-        )
+        for kind, query in QUERIES.items():
+            few, many = (step_time(program, folder, query, alive) for alive in (100, 100_000))
+            print(
+                f"a step of the {kind} over ten edges: {few:.1f} us with 100 rows alive on each side, "
+                f"{many:.1f} us with 100,000: {many / few:.2f} times",
+                flush=True,
+            )
         generate(yardstick, 10 * read.count, 10 * read.keys, lines)
         least = in_turn(jobs, 1)
         beside(f"{10 * read.count} lines, {10 * read.keys} keys", least["ours"], "a tenth of the lines", ours, 11)

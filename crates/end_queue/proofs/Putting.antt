@@ -1,10 +1,10 @@
 -- What putting in and taking out make of the entries of a queue.
-use Rattle.std.specs.Prelude.{◌≡◌, ℕ, ◌+◌, ◌<◌, ◌≤◌, nat_lt, Bool, true, false, cond, List, [], ◌∷◌, map, All, Option, None, Some, slice_get, refl}
+use Rattle.std.specs.Prelude.{◌≡◌, ℕ, ◌+◌, ◌<◌, ◌≤◌, nat_lt, Bool, true, false, cond, List, [], ◌∷◌, ◌++◌, map, All, Option, None, Some, slice_get, refl}
 use Rattle.std.specs.declared.cmp.Ordering.{Ordering}
 use Rattle.std.specs.declared.cmp.Ordering.TheVariants.{Less, Equal, Greater}
 use Rattle.std.specs.BTreeMap.{insert_entry}
 use Rattle.std.specs.Map.{keys_of}
-use Rattle.std.specs.Ordering.{nat_cmp, ordering_then, match_ordering}
+use Rattle.std.specs.Ordering.{nat_cmp, ordering_then, match_ordering, is_gt}
 use Rattle.std.proofs.Common.{sym, ◌∙◌, ap, arith}
 use Rattle.std.proofs.lemmas.Bool.Decides.{nat_tests}
 use Rattle.std.proofs.lemmas.List.Elements.{All-nil, All-cons, All-head, All-tail, All-weaker, All-get_or}
@@ -108,3 +108,36 @@ time_shown es i s p h g = ap at_or (sym (slice_get-map pending_of es i ∙ ap (o
 pub edges_shown : (es : List Stored) → map (λ e. e.1) es ≡ map (λ p. p.edge) (map pending_of es)
 edges_shown [] = refl
 edges_shown (e ∷ es) = ap (λ l. e.1 ∷ l) (edges_shown es)
+
+-- keys before those of a time, and keys from them on
+abbrev pub is_past : ℕ → (ℕ × ℕ) → Bool
+is_past below k = is_gt (ordering_then (nat_cmp below k.0) (nat_cmp 0 k.1))
+
+past_time : (t b n : ℕ) → is_gt (ordering_then (nat_cmp b t) (nat_cmp 0 n)) ≡ true → t < b
+past_time t b n h = grind (arith, nat_tests)
+
+from_time : (t b n : ℕ) → is_gt (ordering_then (nat_cmp b t) (nat_cmp 0 n)) ≡ false → b ≤ t
+from_time t b n h = grind (arith, nat_tests)
+
+pub all_past : (es : List Stored) (u below : ℕ) → u ≡ below → All (λ k. is_past u k ≡ true) (keys_of es) → All (λ p. p.at < below) (map pending_of es)
+all_past [] u below same h = All-nil (λ (p : Pending). p.at < below)
+all_past (e ∷ es) u below same h =
+    let here = past_time e.0.0 u e.0.1 (All-head (λ (k : ℕ × ℕ). is_past u k ≡ true) e.0 (keys_of es) h) in
+    All-cons (λ (p : Pending). p.at < below) (pending_of e) (map pending_of es) (omega (arith, here, same))
+    (all_past es u below same (All-tail (λ (k : ℕ × ℕ). is_past u k ≡ true) e.0 (keys_of es) h))
+
+pub all_later : (es : List Stored) (u below : ℕ) → u ≡ below → All (λ k. is_past u k ≡ false) (keys_of es) → All (λ p. below ≤ p.at) (map pending_of es)
+all_later [] u below same h = All-nil (λ (p : Pending). below ≤ p.at)
+all_later (e ∷ es) u below same h =
+    let here = from_time e.0.0 u e.0.1 (All-head (λ (k : ℕ × ℕ). is_past u k ≡ false) e.0 (keys_of es) h) in
+    All-cons (λ (p : Pending). below ≤ p.at) (pending_of e) (map pending_of es) (omega (arith, here, same))
+    (all_later es u below same (All-tail (λ (k : ℕ × ℕ). is_past u k ≡ false) e.0 (keys_of es) h))
+
+-- the entries that are left, and those that are taken, are the entries
+pub shown_parts : (es fs : List Stored) → map pending_of (es ++ fs) ≡ map pending_of es ++ map pending_of fs
+shown_parts [] fs = refl
+shown_parts (e ∷ es) fs = ap (λ l. pending_of e ∷ l) (shown_parts es fs)
+
+pub queue_left : (taken left : List Stored) (n : ℕ) → IsQueue (taken ++ left) n → IsQueue left n
+queue_left [] left n q = q
+queue_left (s ∷ taken) left n q = queue_left taken left n (queue_popped (s ∷ (taken ++ left)) (taken ++ left) s n refl q)

@@ -1,13 +1,14 @@
 //! Edges that wait for their times.
 #![tactic(auto)]
 
-ghost use Rattle.std.specs.Prelude.{◌≡◌, ◌<◌, ◌≤◌, ◌∷◌, [], length, map, All, slice_get, Some, IfSome, IfNone, IfOk, OnOk, OnErr};
+ghost use Rattle.std.specs.Prelude.{◌≡◌, ◌<◌, ◌≤◌, ◌∷◌, ◌++◌, [], List, length, map, All, slice_get, Some, false, IfSome, IfNone, IfOk, OnOk, OnErr};
 ghost use Rattle.std.specs.BTreeMap.{btree_map_len};
 ghost use Rattle.end_queue.specs.Pending.{Pending, put_pending, AreDueFrom};
 
 use std::alloc::Global;
 use std::collections::BTreeMap;
 use std::marker::Model;
+use std::mem::replace;
 use tw_rows::{Edge, Memory, Time};
 
 #[cfg(test)]
@@ -53,6 +54,16 @@ fn copied(alloc: Global, edges: &BTreeMap<(u64, u64), Edge>) -> Result<Vec<Edge>
     Ok(copy)
 }
 
+// Puts the edges last, in the order of their keys.
+fn push_all(due: &mut Vec<Edge>, edges: BTreeMap<(u64, u64), Edge>) -> Result<(), Memory>
+    ensures { OnOk result (due.new.items ≡ due.old.items ++ map (λ e. e.1) edges.entries) }
+{
+    for edge in edges.into_values() {
+        due.push(edge)?;
+    }
+    Ok(())
+}
+
 impl EndQueue {
     /// No edge waits.
     pub fn new(alloc: Global) -> EndQueue
@@ -92,6 +103,30 @@ impl EndQueue {
             Some((_, edge)) => Some(edge),
             None => None,
         }
+    }
+
+    // Whether an edge may be due before a time.
+    fn may_be_due(&self, below: Time) -> bool
+        ensures { result ≡ false → All (λ p. below ≤ p.at) self.now }
+    {
+        let Some((key, _)) = self.edges.first_key_value() else {
+            return false;
+        };
+        key.0 < below.word()
+    }
+
+    /// Takes out all edges that are due before `below`, and puts them last, in the order in which they come due. After want
+    /// of memory edges that were due may be lost.
+    pub fn pop_all(&mut self, below: Time, due: &mut Vec<Edge>) -> Result<(), Memory>
+        ensures { OnOk result ((taken : List Pending) × (self.old ≡ taken ++ self.new) × (due.new.items ≡ due.old.items ++ map (λ p. p.edge) taken) × All (λ p. p.at < below) taken × All (λ p. below ≤ p.at) self.new) }
+    {
+        if !self.may_be_due(below) {
+            return Ok(());
+        }
+        let rest = self.edges.split_off(&(below.word(), 0))?;
+        let taken = replace(&mut self.edges, rest);
+        push_all(due, taken)?;
+        Ok(())
     }
 
     /// How many edges wait.

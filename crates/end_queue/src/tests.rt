@@ -32,6 +32,9 @@ fn edges_come_out_when_they_are_due(rt: HostRuntime) -> Result<(), Fail> {
     }
     assert_eq!(rt; due(&mut queue, 9), 214);
     assert_eq!(rt; queue.len(), 1);
-    assert_eq!(rt; due(&mut queue, 10), 3);
+    let mut rest = Vec::new(alloc);
+    queue.pop_all(Time::ZERO.plus(10), &mut rest)?;
+    assert_eq!(rt; queue.len(), 0);
+    assert_eq!(rt; rest.len(), 1);
     Ok(())
 }

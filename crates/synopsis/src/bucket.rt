@@ -16,6 +16,14 @@ fn hash_of(cells: &[Datum], start: Time) -> u64 {
     BuildHasherDefault::<FoldHasher>::default().hash_one((cells, start.word()))
 }
 
+fn marks_of(alloc: Global, rows: &[HeldRow]) -> Result<Marks, Memory> {
+    let mut marks = Marks::new(alloc);
+    for row in rows {
+        marks.push(hash_of(row.cells.items(), row.start))?;
+    }
+    Ok(marks)
+}
+
 // Whether the row has these cells and this start.
 fn is_row(row: &HeldRow, cells: &[Datum], start: Time) -> bool
     ensures { result ≡ is_held cells.now start row.now }
@@ -23,11 +31,15 @@ fn is_row(row: &HeldRow, cells: &[Datum], start: Time) -> bool
     row.start == start && row.cells.items() == cells
 }
 
+// Among fewer rows than these one is found by a walk.
+const MANY: usize = 8;
+
 /// Rows, in no order, each found by its cells and its start.
 #[derive(Drop)]
 pub struct Bucket {
     rows: Vec<HeldRow>,
-    marks: Marks,
+    // There since the rows were many.
+    marks: Option<Box<Marks>>,
 }
 
 impl Model for Bucket {
@@ -46,7 +58,7 @@ impl Bucket {
     {
         Bucket {
             rows: Vec::new(alloc),
-            marks: Marks::new(alloc),
+            marks: None,
         }
     }
 
@@ -57,15 +69,28 @@ impl Bucket {
         self.rows.as_slice()
     }
 
+    // Marks the row that comes next, where it is marked, and makes the index where there are many rows and none.
+    fn mark_next(&mut self, alloc: Global, cells: &[Datum], start: Time) -> Result<(), Memory>
+        ensures { self.new ≡ self.old }
+    {
+        if self.marks.is_none() && self.rows.len() >= MANY {
+            self.marks = Some(Box::new(alloc, marks_of(alloc, self.rows.as_slice())?)?);
+        }
+        if let Some(marks) = &mut self.marks {
+            marks.push(hash_of(cells, start))?;
+        }
+        Ok(())
+    }
+
     /// Puts in a row, as the last.
-    pub fn add(&mut self, cells: Cells, start: Time) -> Result<(), Memory>
+    pub fn add(&mut self, alloc: Global, cells: Cells, start: Time) -> Result<(), Memory>
         ensures ok { OnOk result (self.new ≡ self.old ++ record { cells = cells; start = start } ∷ []) }
         ensures err { OnErr result (self.new ≡ self.old) }
     {
-        let hash = hash_of(cells.items(), start);
-        self.marks.push(hash)?;
+        self.mark_next(alloc, cells.items(), start)?;
         if self.rows.push(HeldRow { cells, start }).is_err() {
-            self.marks.swap_remove(self.rows.len(), hash);
+            // It is made anew with the next row.
+            self.marks = None;
             return Err(Memory);
         }
         Ok(())
@@ -75,9 +100,12 @@ impl Bucket {
     pub(crate) fn guess(&self, cells: &[Datum], start: Time) -> Option<usize>
         ensures found { IfSome result (IsPlace cells.now start self.now) }
     {
+        let Some(marks) = &self.marks else {
+            return None;
+        };
         let hash = hash_of(cells, start);
-        for number in (0..self.marks.count(hash)).rev() {
-            let place = self.marks.place(hash, number)?;
+        for number in (0..marks.count(hash)).rev() {
+            let place = marks.place(hash, number)?;
             if is_row(self.rows.get(place)?, cells, start) {
                 return Some(place);
             }
@@ -109,15 +137,17 @@ impl Bucket {
         }
     }
 
-    // The place of the row that is to go: that of the last number of its hash, with which it changes places.
-    fn brought_last(&mut self, place: usize, hash: u64) -> usize
+    // Takes the mark of the row that is to go, and tells its place then: it has changed places with the row whose mark it is.
+    fn unmarked(&mut self, place: usize, cells: &[Datum], start: Time) -> usize
         requires within { place < length self.old }
         ensures within { result < length self.new }
         ensures same { IsPermutation self.old self.new }
         ensures moved { (d : HeldRow) → get_or self.new result d ≡ get_or self.old place d }
     {
-        let number = self.marks.count(hash).saturating_sub(1);
-        match self.marks.place(hash, number) {
+        let Some(marks) = &mut self.marks else {
+            return place;
+        };
+        match marks.take(hash_of(cells, start)) {
             Some(last) if last < self.rows.len() => {
                 self.rows.as_mut_slice().swap(place, last);
                 last
@@ -135,10 +165,8 @@ impl Bucket {
         let Some(i) = self.find(cells, start) else {
             return false;
         };
-        let hash = hash_of(cells, start);
-        let place = self.brought_last(i, hash);
+        let place = self.unmarked(i, cells, start);
         self.rows.swap_remove(place);
-        self.marks.swap_remove(place, hash);
         true
     }
 }

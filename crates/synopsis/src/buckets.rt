@@ -25,11 +25,11 @@ pub fn put_row(
     ensures err { OnErr result (buckets.new.entries ≡ buckets.old.entries) }
 {
     if let Some(bucket) = buckets.get_mut(key) {
-        bucket.add(cells, start)?;
+        bucket.add(alloc, cells, start)?;
         return Ok(());
     }
     let mut bucket = Bucket::new(alloc);
-    bucket.add(cells, start)?;
+    bucket.add(alloc, cells, start)?;
     let owned = Vec::from_slice(alloc, key)?;
     buckets.insert(owned, bucket)?;
     Ok(())

@@ -43,16 +43,16 @@ impl Marks {
         Ok(())
     }
 
-    /// Takes the mark at the place, which is that of the hash's last number; the last mark moves into the gap.
-    pub fn swap_remove(&mut self, place: usize, hash: u64) {
-        self.marks.swap_remove_index(place);
-        let mut is_last = false;
-        if let Some(count) = self.counts.get_mut(&hash) {
-            *count = count.saturating_sub(1);
-            is_last = *count == 0;
-        }
-        if is_last {
+    /// Takes the mark of the hash's last number and tells its place; the last mark moves into the gap.
+    pub fn take(&mut self, hash: u64) -> Option<usize> {
+        let count = self.counts.get_mut(&hash)?;
+        *count = count.saturating_sub(1);
+        let number = *count;
+        if number == 0 {
             self.counts.swap_remove(&hash);
         }
+        let place = self.marks.get_index_of(&(hash, number))?;
+        self.marks.swap_remove_index(place);
+        Some(place)
     }
 }

@@ -6,16 +6,16 @@ use Rattle.synopsis.proofs.Bags.{taken_out}
 use Rattle.synopsis.proofs.bucket.Bucket.take.Goals as goal
 
 pub swap_remove-requires : goal.swap_remove-requires
-swap_remove-requires c = let size : List HeldRow → _ = length in let v = ap size c.self.view_is in omega (arith, v, c.brought_last-place.ensures.within)
+swap_remove-requires c = let size : List HeldRow → _ = length in let v = ap size c.self.view_is in omega (arith, v, c.unmarked-place.ensures.within)
 
 pub returns-clause-taken : goal.returns-clause-taken
 returns-clause-taken c = λ _ w.
     let d = c.swap_remove.result in
     let rows = c.self.inside.rows.items in
-    let i = c.brought_last-place.result in
+    let i = c.unmarked-place.result in
     let cells = c.args.cells.now in
     let test = is_held cells c.args.start in
-    let e = c.brought_last-place.ensures in
+    let e = c.unmarked-place.ensures in
     let same : IsPermutation c.args.self.now rows = subst (λ l. IsPermutation c.args.self.now l) (sym c.self.view_is) e.same in
     let low : i < length rows = subst (λ l. i < length l) (sym c.self.view_is) e.within in
     let held : test (get_or rows i d) ≡ true = ap (λ l. test (get_or l i d)) c.self.view_is ∙ (ap test (e.moved d) ∙ c.in-Some.ensures.found.held d) in
