@@ -66,20 +66,11 @@ below_push to xs ys e is low h =
     let z = below_test to e.sync low in
     omega (arith, a, z, h)
 
--- the first entry is taken out
 own_first : (at s n : ℕ) → cond {A = ℕ} (nat_eq at s) 0 1 + n ≡ 0 → at ≡ s
 own_first at s n h = grind (arith, nat_tests)
 
-pub popped_own : (p : Pending) (old new : List Pending) → old ≡ p ∷ new → WaitForThemselves old → WaitForThemselves new × (p.edge.sync ≡ p.at)
-popped_own p old new is h =
-    let z : WaitForThemselves (p ∷ new) = subst WaitForThemselves is h in
-    (omega (arith, z), sym (own_first p.at p.edge.sync _ z))
-
-pub popped_edges : (w : Edge → ℕ) (p : Pending) (old new : List Pending) → old ≡ p ∷ new → total w (edges_in old) ≡ w p.edge + total w (edges_in new)
-popped_edges w p old new is = ap (λ l. total w (edges_in l)) is
-
 -- where no entry is due, no edge is
-pub none_due : (to : ℕ) (ps : List Pending) → WaitForThemselves ps → All (λ p. to ≤ p.at) ps → failing (is_from to) (edges_in ps) ≡ 0
+none_due : (to : ℕ) (ps : List Pending) → WaitForThemselves ps → All (λ p. to ≤ p.at) ps → failing (is_from to) (edges_in ps) ≡ 0
 none_due to [] h a = refl
 none_due to (p ∷ ps) h a =
     let e = own_first p.at p.edge.sync _ h in
@@ -87,6 +78,51 @@ none_due to (p ∷ ps) h a =
     let z = from_test to p.edge.sync (omega (arith, e, low)) in
     let r = none_due to ps (omega (arith, h)) (All-tail (λ (q : Pending). to ≤ q.at) p ps a) in
     omega (arith, z, r)
+
+-- all entries that are due are taken out
+all_due : (to : ℕ) (ps : List Pending) → WaitForThemselves ps → All (λ p. p.at < to) ps → failing (is_below to) (edges_in ps) ≡ 0
+all_due to [] h a = refl
+all_due to (p ∷ ps) h a =
+    let e = own_first p.at p.edge.sync _ h in
+    let low = All-head (λ (q : Pending). q.at < to) p ps a in
+    let z = below_test to p.edge.sync (omega (arith, e, low)) in
+    let r = all_due to ps (omega (arith, h)) (All-tail (λ (q : Pending). q.at < to) p ps a) in
+    omega (arith, z, r)
+
+edges_both : (w : Edge → ℕ) (ps qs : List Pending) → total w (edges_in (ps ++ qs)) ≡ total w (edges_in ps) + total w (edges_in qs)
+edges_both w [] qs = omega arith
+edges_both w (p ∷ ps) qs = let h = edges_both w ps qs in omega (arith, h)
+
+own_both : (ps qs : List Pending) → WaitForThemselves (ps ++ qs) → WaitForThemselves ps × WaitForThemselves qs
+own_both ps qs h =
+    let a = total-append (λ (p : Pending). cond {A = ℕ} (nat_eq p.at p.edge.sync) 0 1) ps qs in
+    (omega (arith, a, h), omega (arith, a, h))
+
+pub record Popped (to : ℕ) (old new : List Pending) (due0 due1 : List Edge) : Type 0 where
+  pub parts : (w : Edge → ℕ) → total w due1 + total w (edges_in new) ≡ total w due0 + total w (edges_in old)
+  pub below : failing (is_below to) due0 ≡ 0 → failing (is_below to) due1 ≡ 0
+  pub later : failing (is_from to) (edges_in new) ≡ 0
+  pub own : WaitForThemselves new
+
+pub all_popped : (to : ℕ) (old new taken : List Pending) (due0 due1 : List Edge) → old ≡ taken ++ new → due1 ≡ due0 ++ map (λ p. p.edge) taken →
+    All (λ p. p.at < to) taken → All (λ p. to ≤ p.at) new → WaitForThemselves old → Popped to old new due0 due1
+all_popped to old new taken due0 due1 is pushed early late h =
+    let o = own_both taken new (subst WaitForThemselves is h) in
+    record {
+      parts = λ w.
+          let a = ap (total w) pushed in
+          let b = total-append w due0 (edges_in taken) in
+          let d = ap (λ l. total w (edges_in l)) is in
+          let e = edges_both w taken new in
+          omega (arith, a, b, d, e);
+      below = λ k.
+          let z = all_due to taken o.0 early in
+          let a = ap (failing (is_below to)) pushed in
+          let b = total-append (λ (e : Edge). cond {A = ℕ} (is_below to e) 0 1) due0 (edges_in taken) in
+          omega (arith, z, a, b, k);
+      later = none_due to new o.1 late;
+      own = o.1;
+    }
 
 pub not_due : (b : Bool) (s t : ℕ) → IsTrue b ↔ (s < t) → b ≡ false → t ≤ s
 not_due b s t h e = pick (cases_lt s t)

@@ -74,9 +74,7 @@ fn pop_all(due: &mut Vec<Edge>, waiting: &mut EndQueue, to: Time) -> Result<(), 
     ensures later { OnOk result (failing (is_from to) (edges_in waiting.new) ≡ 0) }
     ensures own { OnOk result (WaitForThemselves waiting.new) }
 {
-    while let Some(edge) = waiting.pop_due(to) {
-        due.push(edge)?;
-    }
+    waiting.pop_all(to, due)?;
     Ok(())
 }
 
