@@ -23,7 +23,7 @@ use carried_edges::edges_of_part;
 use edge_stream::{EdgeList, LoadFault, Saved};
 use end_queue::EndQueue;
 use std::alloc::Global;
-use sweep_sides::{load_rows, load_waiting, put_all, take_due};
+use sweep_sides::{load_rows, load_waiting, take_in};
 use tw_rows::{Edge, Kind, Memory, Time};
 
 /// The rows of both sides that are alive, and the edges of both sides that wait.
@@ -64,10 +64,8 @@ impl Sides {
         ensures right_cells { OnOk result (All (λ e. map datum_kind e.cells ≡ cells_of right.now) right.now.edges) }
         ensures keys { SameKeys self.old.rows self.new.rows }
     {
-        put_all(&mut self.left_waiting, left)?;
-        put_all(&mut self.right_waiting, right)?;
-        let left_due = take_due(&mut self.left_waiting, self.rows.alloc, to)?;
-        let right_due = take_due(&mut self.right_waiting, self.rows.alloc, to)?;
+        let left_due = take_in(&mut self.left_waiting, self.rows.alloc, left, to)?;
+        let right_due = take_in(&mut self.right_waiting, self.rows.alloc, right, to)?;
         let mut answer = Vec::new(self.rows.alloc);
         self.rows
             .sweep(&mut answer, left_due.as_slice(), right_due.as_slice())?;

@@ -5,7 +5,7 @@ use Rattle.edge_history.specs.Opens.{started_rows}
 use Rattle.edge_stream.specs.Listing.{cells_of}
 use Rattle.sweep_laws.specs.Sweeps.{IsDue}
 use Rattle.sweep_sides.specs.Waiting.{queued}
-use Rattle.sweep_sides.proofs.KeptSides.{side_stepped}
+use Rattle.sweep_sides.proofs.TakenIn.{both, both_weighs, both_parted, side_taken}
 use Rattle.anti_join.proofs.RowKeys.{by_then, kept_by}
 use Rattle.anti_join.proofs.Steps.{anti_step, anti_news}
 use Rattle.anti_join.proofs.sides.Sides.advance.Goals as goal
@@ -21,30 +21,34 @@ returns-clause-kept c = λ from hl hr out low k wl wr fl fr.
     let nr = c.args.right.now.edges in
     let to2 = c.args.to in
     let high = c.requires in
-    let tl = c.in_ok-put_all.ensures.timed k.left_timed in
-    let tr = c.in_ok-put_all-2.ensures.timed k.right_timed in
+    let tl = k.left_timed in
+    let tr = k.right_timed in
+    let ql = c.take_in.new.queue in
+    let qr = c.take_in-2.new.queue in
     let dl = c.in_ok-left_due.ensures in
     let dr = c.in_ok-right_due.ensures in (
       record {
         by = by_then s.rows later keys k.by;
         left_timed = dl.timed tl;
         right_timed = dr.timed tr;
-        kept = kept_by s.rows later (queued c.take_due.new.queue) (queued c.take_due-2.new.queue) to2
+        kept = kept_by s.rows later (queued ql) (queued qr) to2
             (hl ++ nl) (hr ++ nr) (out ++ c.sweep.new.answer.items) keys
             (anti_step lk rk from to2 hl hr nl nr
-            (queued s.left_waiting) (queued c.put_all.new.queue) (queued c.take_due.new.queue) c.in_ok-left_due.left_due.items
-            (queued s.right_waiting) (queued c.put_all-2.new.queue) (queued c.take_due-2.new.queue) c.in_ok-right_due.right_due.items
-            low high wl wr fl fr c.in_ok-put_all.ensures.put c.in_ok-put_all-2.ensures.put dl.parts dr.parts
-            (dl.below tl) (dr.below tr) (dl.rest tl) (dr.rest tr) (dl.order tl) (dr.order tr)
+            (queued s.left_waiting) (both s.left_waiting nl) (queued ql) c.in_ok-left_due.left_due.items
+            (queued s.right_waiting) (both s.right_waiting nr) (queued qr) c.in_ok-right_due.right_due.items
+            low high wl wr fl fr (both_weighs s.left_waiting nl) (both_weighs s.right_waiting nr)
+            (both_parted s.left_waiting ql nl c.in_ok-left_due.left_due.items dl.parts) (both_parted s.right_waiting qr nr c.in_ok-right_due.right_due.items dr.parts)
+            (dl.below tl) (dr.below tr) (dl.rest tl) (dr.rest tr) dl.order dr.order
             s.rows.left.rows later.left.rows s.rows.right.rows later.right.rows s.rows.times.rows later.times.rows out c.new-answer.result.items c.sweep.new.answer.items k.kept c.new-answer.ensures.items
             (λ da db h. c.in_ok-sweep.ensures.swept (of (hl ++ nl)) (of (hr ++ nr)) from to2 k.by
             (subst (IsDue (of (hl ++ nl)) from to2) (sym c.as_slice.ensures.value) da) (subst (IsDue (of (hr ++ nr)) from to2) (sym c.as_slice-2.ensures.value) db) h));
       },
       anti_news lk rk from to2 hl hr nl nr
-          (queued s.left_waiting) (queued c.put_all.new.queue) (queued c.take_due.new.queue) c.in_ok-left_due.left_due.items
-          (queued s.right_waiting) (queued c.put_all-2.new.queue) (queued c.take_due-2.new.queue) c.in_ok-right_due.right_due.items
-          low high wl wr fl fr c.in_ok-put_all.ensures.put c.in_ok-put_all-2.ensures.put dl.parts dr.parts
-          (dl.below tl) (dr.below tr) (dl.rest tl) (dr.rest tr) (dl.order tl) (dr.order tr)
+          (queued s.left_waiting) (both s.left_waiting nl) (queued ql) c.in_ok-left_due.left_due.items
+          (queued s.right_waiting) (both s.right_waiting nr) (queued qr) c.in_ok-right_due.right_due.items
+          low high wl wr fl fr (both_weighs s.left_waiting nl) (both_weighs s.right_waiting nr)
+          (both_parted s.left_waiting ql nl c.in_ok-left_due.left_due.items dl.parts) (both_parted s.right_waiting qr nr c.in_ok-right_due.right_due.items dr.parts)
+          (dl.below tl) (dr.below tr) (dl.rest tl) (dr.rest tr) dl.order dr.order
           s.rows.left.rows later.left.rows s.rows.right.rows later.right.rows s.rows.times.rows later.times.rows out c.new-answer.result.items c.sweep.new.answer.items k.kept c.new-answer.ensures.items
           (λ da db h. c.in_ok-sweep.ensures.swept (of (hl ++ nl)) (of (hr ++ nr)) from to2 k.by
           (subst (IsDue (of (hl ++ nl)) from to2) (sym c.as_slice.ensures.value) da) (subst (IsDue (of (hr ++ nr)) from to2) (sym c.as_slice-2.ensures.value) db) h),
@@ -56,13 +60,13 @@ returns-clause-sides c = λ from low a.
     let later = c.sweep.new.self in
     let dl = c.in_ok-left_due.ensures in
     let dr = c.in_ok-right_due.ensures in
-    let tl = c.in_ok-put_all.ensures.timed a.left.timed in
-    let tr = c.in_ok-put_all-2.ensures.timed a.right.timed in
+    let tl = a.left.timed in
+    let tr = a.right.timed in
     record {
-      left = side_stepped (cells_of c.args.left.now) from c.args.to s.rows.left.rows later.left.rows s.left_waiting c.put_all.new.queue c.take_due.new.queue c.args.left.now.edges c.in_ok-left_due.left_due.items
-          low a.left c.put_all.ensures.order.real c.in_ok-put_all.ensures.cells c.in_ok-put_all.ensures.put dl.parts (dl.below tl) (dl.rest tl) (dl.timed tl)
+      left = side_taken (cells_of c.args.left.now) from c.args.to s.rows.left.rows later.left.rows s.left_waiting c.take_in.new.queue c.args.left.now.edges c.in_ok-left_due.left_due.items
+          low a.left c.take_in.ensures.list.real dl.cells dl.parts (dl.below tl) (dl.rest tl) (dl.timed tl)
           (λ w. let f = c.in_ok-sweep.ensures.left_rows w in let e = ap (λ l. total w (started_rows l)) c.as_slice.ensures.value in omega (arith, f, e));
-      right = side_stepped (cells_of c.args.right.now) from c.args.to s.rows.right.rows later.right.rows s.right_waiting c.put_all-2.new.queue c.take_due-2.new.queue c.args.right.now.edges c.in_ok-right_due.right_due.items
-          low a.right c.put_all-2.ensures.order.real c.in_ok-put_all-2.ensures.cells c.in_ok-put_all-2.ensures.put dr.parts (dr.below tr) (dr.rest tr) (dr.timed tr)
+      right = side_taken (cells_of c.args.right.now) from c.args.to s.rows.right.rows later.right.rows s.right_waiting c.take_in-2.new.queue c.args.right.now.edges c.in_ok-right_due.right_due.items
+          low a.right c.take_in-2.ensures.list.real dr.cells dr.parts (dr.below tr) (dr.rest tr) (dr.timed tr)
           (λ w. let f = c.in_ok-sweep.ensures.right_rows w in let e = ap (λ l. total w (started_rows l)) c.as_slice-2.ensures.value in omega (arith, f, e));
     }
