@@ -1,8 +1,10 @@
-ghost use Rattle.std.specs.Prelude.{◌≡◌, [], ◌∷◌, IfOk};
+ghost use Rattle.std.specs.Prelude.{◌≡◌, [], ◌∷◌, length, IfOk};
 ghost use Rattle.ingress.specs.Admits.{cells_of};
 
 use crate::{Ingress, Refusal};
 use admission::{Admitted, Lateness, Policy};
+use batch::Pools;
+use edge_stream::Saved;
 use line_text::Form;
 use row_reader::Entry;
 use std::alloc::Global;
@@ -18,7 +20,9 @@ fn at(number: u64) -> Time {
 
 // Admission of one stream without columns.
 fn one_stream(alloc: Global, policy: Policy) -> Result<Ingress, Memory>
-    ensures { IfOk result (λ i. cells_of i ≡ [] ∷ []) }
+    ensures cells { IfOk result (λ i. cells_of i ≡ [] ∷ []) }
+    ensures count { IfOk result (λ i. length i.kinds.items ≡ 1) }
+    ensures capacity { IfOk result (λ i. i.capacity ≡ 4) }
 {
     let stream = StreamDef {
         name: Label::new(alloc, "s")?,
@@ -40,7 +44,8 @@ struct Line {
 // Admits the line.
 fn check(rt: &impl Abort, alloc: Global, ingress: &mut Ingress, line: &Line)
     requires { cells_of ingress.old ≡ [] ∷ [] }
-    ensures { cells_of ingress.new ≡ [] ∷ [] }
+    ensures cells { cells_of ingress.new ≡ [] ∷ [] }
+    ensures capacity { ingress.new.capacity ≡ ingress.old.capacity }
 {
     let entry = Entry::Event {
         stream: 0,
@@ -57,6 +62,7 @@ fn check(rt: &impl Abort, alloc: Global, ingress: &mut Ingress, line: &Line)
 // Admits the lines in order.
 fn check_all(rt: &impl Abort, alloc: Global, ingress: &mut Ingress, lines: &[Line])
     requires { cells_of ingress.old ≡ [] ∷ [] }
+    ensures { ingress.new.capacity ≡ ingress.old.capacity }
 {
     for line in lines {
         check(rt, alloc, ingress, line);
@@ -153,5 +159,67 @@ fn ends_find_their_starts(rt: HostRuntime) -> Result<(), Fail> {
         end(12, 1, Ok(Admitted::Kept)),
     ];
     check_all(&rt, rt.alloc(), &mut ingress, &lines);
+    Ok(())
+}
+
+fn keeping() -> Policy {
+    Policy {
+        lateness: 0,
+        late: Lateness::Adjust,
+        period: 0,
+    }
+}
+
+// What is saved of a start at 4, an interval from 6 and a start at 7.
+fn saved_lines(rt: &impl Abort, alloc: Global) -> Result<Saved, Memory> {
+    let mut ingress = one_stream(alloc, keeping())?;
+    check_all(
+        rt,
+        alloc,
+        &mut ingress,
+        &[start(4), interval(6, None), start(7)],
+    );
+    ingress.save()
+}
+
+// Admission that goes on from what was saved.
+fn resumed(alloc: Global, saved: &Saved) -> Result<Ingress, Memory>
+    ensures cells { IfOk result (λ i. cells_of i ≡ [] ∷ []) }
+    ensures capacity { IfOk result (λ i. i.capacity ≡ 4) }
+{
+    let mut ingress = one_stream(alloc, keeping())?;
+    match ingress.load(saved, &[at(7)], &[Time::ZERO], Time::ZERO) {
+        Ok(()) => Ok(ingress),
+        Err(_) => Err(Memory),
+    }
+}
+
+// How many edges are released before the time.
+fn released(alloc: Global, ingress: &mut Ingress, p: Time) -> Result<u64, Memory>
+    requires { ingress.old.capacity ≡ 4 }
+{
+    if p < ingress.released() {
+        return Ok(0);
+    }
+    let mut pools = Pools::new(alloc, 8, 4)?;
+    let lists = ingress.release(&mut pools, p)?;
+    match lists.first() {
+        Some(list) => Ok(list.len()),
+        None => Ok(0),
+    }
+}
+
+#[test]
+fn saved_starts_find_their_ends(rt: HostRuntime) -> Result<(), Fail> {
+    let saved = saved_lines(&rt, rt.alloc())?;
+    let mut ingress = resumed(rt.alloc(), &saved)?;
+    assert!(rt; ingress.held() == 5);
+    let lines = [
+        end(9, 4, Ok(Admitted::Kept)),
+        end(12, 4, Err(Refusal::NoStart)),
+    ];
+    check_all(&rt, rt.alloc(), &mut ingress, &lines);
+    assert!(rt; released(rt.alloc(), &mut ingress, at(7))? == 2);
+    assert!(rt; ingress.held() == 3);
     Ok(())
 }

@@ -3,4 +3,7 @@ use Rattle.ingress.specs.Admits.{cells_of}
 use Rattle.ingress.proofs.tests.check_all.Given as goal
 
 abbrev pub invariant-loop-line : goal.invariant-loop-line
-invariant-loop-line g l = cells_of l.ingress ≡ [] ∷ []
+invariant-loop-line g l = record {
+  cells : cells_of l.ingress ≡ [] ∷ [];
+  capacity : l.ingress.capacity ≡ l.initial.ingress.capacity;
+}
