@@ -20,9 +20,11 @@ pub fn built(node: &Node) -> bool
             | Node::Hop { .. }
             | Node::Duration { .. }
             | Node::Extend { .. }
+            | Node::Session { .. }
             | Node::Group { .. }
             | Node::Join { .. }
             | Node::Anti { .. }
+            | Node::Clip { .. }
     )
 }
 

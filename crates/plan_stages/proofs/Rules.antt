@@ -16,7 +16,7 @@ use Rattle.plan_model.specs.declared.node.Node.TheVariants.{Source}
 use Rattle.node_stage.proofs.MadeEdges.{by_node, made_more, made_longer, made_later, made_stand}
 use Rattle.node_stage.proofs.Nodes.{stage-more}
 use Rattle.plan_stages.specs.declared.stage.Stage.{Stage}
-use Rattle.plan_stages.specs.declared.stage.Stage.TheVariants.{Rows, Life, Union, Extend, Join, Group, Anti}
+use Rattle.plan_stages.specs.declared.stage.Stage.TheVariants.{Rows, Life, Union, Extend, Join, Group, Anti, Session, Clip}
 use Rattle.life_laws.proofs.Lives.{lives_longer, lives_rows}
 use Rattle.life_laws.proofs.Unions.{union_longer, union_rows}
 use Rattle.life_laws.proofs.Extending.{extended_longer, extended_rows}
@@ -26,12 +26,14 @@ use Rattle.sweep_sides.specs.Waiting.{queued}
 use Rattle.temporal_join.proofs.Resuming.{join_longer, join_stands}
 use Rattle.plan_stages.proofs.Grouping.{grouped_longer, grouped_stands}
 use Rattle.anti_join.proofs.Resuming.{anti_longer, anti_stands}
+use Rattle.clip_op.proofs.Resuming.{clip_longer, clip_stands}
+use Rattle.session_window.proofs.Resuming.{session_longer, session_stands}
 use Rattle.lifetime_ops.specs.Nodes.{node_of, known}
 use Rattle.extend_op.specs.Waiting.{edges_of_pending}
 use Rattle.node_stage.specs.Made.{IsMade}
 use Rattle.node_stage.specs.Stages.{IsStageOf}
 use Rattle.node_stage.specs.declared.stage.Stage.{Stage as RowStage}
-use Rattle.plan_stages.specs.Stages.{HasCome, MayComeUpTo, HasMade, IsReady, StageKeeps, life_standing, union_standing, extend_standing, first_undefined_read, join_standing, group_standing, anti_standing}
+use Rattle.plan_stages.specs.Stages.{HasCome, MayComeUpTo, HasMade, IsReady, StageKeeps, life_standing, union_standing, extend_standing, first_undefined_read, join_standing, group_standing, anti_standing, session_standing, clip_standing}
 use Rattle.plan_stages.proofs.Operators.{operator_stands}
 
 pub came_longer : (texts more : List (List ℕ)) → BeginsWith more texts → (x : ℕ) (h : List Edge) → HasCome texts x h → HasCome more x h
@@ -52,6 +54,8 @@ ready_longer texts more begins capacity left right n (Extend o) x y ready = read
 ready_longer texts more begins capacity left right n (Join o) x y ready = ready
 ready_longer texts more begins capacity left right n (Group o) x y ready = ready
 ready_longer texts more begins capacity left right n (Anti o) x y ready = ready
+ready_longer texts more begins capacity left right n (Clip o) x y ready = ready
+ready_longer texts more begins capacity left right n (Session o) x y ready = ready
 
 pub keeps_longer : (texts more : List (List ℕ)) → BeginsWith more texts → (capacity : ℕ) (left right : List CellKind) (n : Node) (s : Stage) (x y : ℕ) →
     IsReady texts capacity left right n s x y → (hl hr out : List Edge) → StageKeeps texts n s x y hl hr out → StageKeeps more n s x y hl hr out
@@ -64,7 +68,9 @@ keeps_longer texts more begins capacity left right n (Union o) x y ready hl hr o
 keeps_longer texts more begins capacity left right n (Extend o) x y ready hl hr out kept = extended_longer o.by more texts o.left_to o.right_to o.carried.edges (edges_of_pending o.ends) hl hr out begins kept
 keeps_longer texts more begins capacity left right n (Join o) x y ready hl hr out kept = join_longer o.sides.rows.left_key.items o.sides.rows.right_key.items (map cell_kind_of o.left_kinds.items) (map cell_kind_of o.right_kinds.items) more texts o.left_to o.right_to o.sides.rows.left.rows o.sides.rows.right.rows (queued o.sides.left_waiting) (queued o.sides.right_waiting) hl hr out begins kept
 keeps_longer texts more begins capacity left right n (Group o) x y ready hl hr out kept = grouped_longer o.groups.key.items o.groups.aggs.items more texts o.groups.rows.rows o.running o.waiting o.left_to hl hr out begins kept
+keeps_longer texts more begins capacity left right n (Session o) x y ready hl hr out kept = session_longer o.side.sessions.rows.key o.side.sessions.timeout (map cell_kind_of o.kinds.items) o.positive more texts o.left_to o.side.sessions.rows.rows o.side.sessions.ends (queued o.side.waiting) hl hr out begins kept
 keeps_longer texts more begins capacity left right n (Anti o) x y ready hl hr out kept = anti_longer o.sides.rows.left_key.columns o.sides.rows.right_key.columns (map cell_kind_of o.left_kinds.items) (map cell_kind_of o.right_kinds.items) more texts o.left_to o.right_to o.sides.rows.left.rows o.sides.rows.right.rows o.sides.rows.times.rows (queued o.sides.left_waiting) (queued o.sides.right_waiting) hl hr out begins kept
+keeps_longer texts more begins capacity left right n (Clip o) x y ready hl hr out kept = clip_longer o.sides.rows.left.key o.sides.rows.right_key.columns (map cell_kind_of o.left_kinds.items) (map cell_kind_of o.right_kinds.items) more texts o.left_to o.right_to o.sides.rows.left.rows (queued o.sides.left_waiting) (queued o.sides.right_waiting) hl hr out begins kept
 
 -- what it answered stands for the node
 pub stage_stands : (texts : List (List ℕ)) → AreDistinct texts → (capacity : ℕ) (left right : List CellKind) (n : Node) (s : Stage) (x y : ℕ) →
@@ -85,8 +91,12 @@ stage_stands texts distinct capacity left right n (Join o) x y ready hl hr out k
     (queued o.sides.left_waiting) (queued o.sides.right_waiting) hl hr out distinct kept)
 stage_stands texts distinct capacity left right n (Group o) x y ready hl hr out kept =
     operator_stands capacity left right n (group_standing o) x y ready texts hl hr out (grouped_stands o.groups.key.items o.groups.aggs.items texts o.groups.rows.rows o.running o.waiting o.left_to hl hr out distinct kept)
+stage_stands texts distinct capacity left right n (Session o) x y ready hl hr out kept =
+    operator_stands capacity left right n (session_standing o) x y ready texts hl hr out (session_stands o.side.sessions.rows.key o.side.sessions.timeout (map cell_kind_of o.kinds.items) o.positive texts o.left_to o.side.sessions.rows.rows o.side.sessions.ends (queued o.side.waiting) hl hr out distinct kept)
 stage_stands texts distinct capacity left right n (Anti o) x y ready hl hr out kept =
     operator_stands capacity left right n (anti_standing o) x y ready texts hl hr out (anti_stands o.sides.rows.left_key.columns o.sides.rows.right_key.columns (map cell_kind_of o.left_kinds.items) (map cell_kind_of o.right_kinds.items) texts o.left_to o.right_to o.sides.rows.left.rows o.sides.rows.right.rows o.sides.rows.times.rows (queued o.sides.left_waiting) (queued o.sides.right_waiting) hl hr out distinct kept)
+stage_stands texts distinct capacity left right n (Clip o) x y ready hl hr out kept =
+    operator_stands capacity left right n (clip_standing o) x y ready texts hl hr out (clip_stands o.sides.rows.left.key o.sides.rows.right_key.columns (map cell_kind_of o.left_kinds.items) (map cell_kind_of o.right_kinds.items) texts o.left_to o.right_to o.sides.rows.left.rows (queued o.sides.left_waiting) (queued o.sides.right_waiting) hl hr out distinct kept)
 
 -- and all places in it are in the table
 pub keeps_placed : (texts : List (List ℕ)) → AreDistinct texts → (capacity : ℕ) (left right : List CellKind) (n : Node) (s : Stage) (x y : ℕ) → IsReady texts capacity left right n s x y →

@@ -9,7 +9,7 @@ use Rattle.tw_rows.specs.declared.kind.Kind.{Kind}
 use Rattle.tw_rows.specs.declared.schema.StreamDef.{StreamDef}
 use Rattle.edge_stream.specs.Listing.{EdgeListView, cells_of}
 use Rattle.plan_model.specs.declared.node.Node.{Node}
-use Rattle.plan_model.specs.declared.node.Node.TheVariants.{Source, Where, Select, Union as UnionNode, Delay as DelayNode, Hop as HopNode, Duration as DurationNode, Extend as ExtendNode, Session, Clip, Group as GroupNode, Join as JoinNode, Anti as AntiNode, Coalesce, Mean, Top, Follow}
+use Rattle.plan_model.specs.declared.node.Node.TheVariants.{Source, Where, Select, Union as UnionNode, Delay as DelayNode, Hop as HopNode, Duration as DurationNode, Extend as ExtendNode, Session as SessionNode, Clip as ClipNode, Group as GroupNode, Join as JoinNode, Anti as AntiNode, Coalesce, Mean, Top, Follow}
 use Rattle.plan_model.specs.IsPlan.{PlanParts, IsPlan, kinds_at, kinds_of_schema, kinds_of_stream, node_kinds}
 use Rattle.plan_model.specs.Shape.{Shape, Stream, One, Two, shape, left_in, read_left, HasLower}
 use Rattle.built_nodes.specs.Built.{is_built}
@@ -35,9 +35,15 @@ use Rattle.snapshot_agg.specs.Keeping.{IsOpening}
 use Rattle.snapshot_agg.specs.declared.grouped.Grouped.{Grouped}
 use Rattle.plan_stages.proofs.Grouping.{grouped_opens}
 use Rattle.anti_join.specs.States.{IsOpening as IsAntiOpening}
+use Rattle.clip_op.specs.States.{IsOpening as IsClipOpening}
 use Rattle.anti_join.specs.declared.anti.Anti.{Anti as AntiOperator}
+use Rattle.clip_op.specs.declared.clip.Clip.{Clip as ClipOperator}
 use Rattle.anti_join.proofs.Resuming.{anti_opening}
-use Rattle.plan_stages.specs.declared.stage.Stage.TheVariants.{Life, Union, Extend, Join, Group, Anti}
+use Rattle.clip_op.proofs.Resuming.{clip_opening}
+use Rattle.session_window.specs.States.{IsOpening as IsSessionOpening}
+use Rattle.session_window.specs.declared.session.Session.{Session as SessionOperator}
+use Rattle.session_window.proofs.Resuming.{session_opening}
+use Rattle.plan_stages.specs.declared.stage.Stage.TheVariants.{Life, Union, Extend, Join, Group, Anti, Session, Clip}
 use Rattle.plan_stages.specs.Operating.{MeanAlike}
 use Rattle.plan_stages.specs.Stages.{left_kinds, right_kinds, changing, StartsFor}
 
@@ -78,24 +84,24 @@ module _ (plan : PlanParts) (whole : IsPlan plan) where
 
 -- of the nodes that are built those that no other stage computes are of rows
 pub rows_left : (n : Node) → is_built n ≡ true → ((left right : ℕ) → n ≡ UnionNode left right → ⊥) → ((of by : ℕ) → n ≡ DelayNode of by → ⊥) → ((of size period : ℕ) → n ≡ HopNode of size period → ⊥) →
-    ((of by : ℕ) → n ≡ DurationNode of by → ⊥) → ((of by : ℕ) → n ≡ ExtendNode of by → ⊥) → ((left right : ℕ) (left_key right_key : List ℕ) → n ≡ JoinNode left right left_key right_key → ⊥) → ((of : ℕ) (key : List ℕ) (aggs : List Agg) → n ≡ GroupNode of key aggs → ⊥) → ((left right : ℕ) (left_key right_key : List ℕ) → n ≡ AntiNode left right left_key right_key → ⊥) → is_of_rows n ≡ true
-rows_left (Source stream) built u d h l e j g a = refl
-rows_left (Where of test) built u d h l e j g a = refl
-rows_left (Select of items) built u d h l e j g a = refl
-rows_left (UnionNode left right) built u d h l e j g a = absurd (u left right refl)
-rows_left (DelayNode of by) built u d h l e j g a = absurd (d of by refl)
-rows_left (HopNode of size period) built u d h l e j g a = absurd (h of size period refl)
-rows_left (DurationNode of by) built u d h l e j g a = absurd (l of by refl)
-rows_left (ExtendNode of by) built u d h l e j g a = absurd (e of by refl)
-rows_left (Session of timeout key) built u d h l e j g a = absurd (cc)
-rows_left (Clip left right left_key right_key) built u d h l e j g a = absurd (cc)
-rows_left (GroupNode of key aggs) built u d h l e j g a = absurd (g of key aggs refl)
-rows_left (JoinNode left right left_key right_key) built u d h l e j g a = absurd (j left right left_key right_key refl)
-rows_left (AntiNode left right left_key right_key) built u d h l e j g a = absurd (a left right left_key right_key refl)
-rows_left (Coalesce of) built u d h l e j g a = absurd (cc)
-rows_left (Mean of at) built u d h l e j g a = absurd (cc)
-rows_left (Top of key by count) built u d h l e j g a = absurd (cc)
-rows_left (Follow left right left_key right_key within) built u d h l e j g a = absurd (cc)
+    ((of by : ℕ) → n ≡ DurationNode of by → ⊥) → ((of by : ℕ) → n ≡ ExtendNode of by → ⊥) → ((left right : ℕ) (left_key right_key : List ℕ) → n ≡ JoinNode left right left_key right_key → ⊥) → ((of : ℕ) (key : List ℕ) (aggs : List Agg) → n ≡ GroupNode of key aggs → ⊥) → ((left right : ℕ) (left_key right_key : List ℕ) → n ≡ AntiNode left right left_key right_key → ⊥) → ((of timeout : ℕ) (key : List ℕ) → n ≡ SessionNode of timeout key → ⊥) → ((left right : ℕ) (left_key right_key : List ℕ) → n ≡ ClipNode left right left_key right_key → ⊥) → is_of_rows n ≡ true
+rows_left (Source stream) built u d h l e j g a s c = refl
+rows_left (Where of test) built u d h l e j g a s c = refl
+rows_left (Select of items) built u d h l e j g a s c = refl
+rows_left (UnionNode left right) built u d h l e j g a s c = absurd (u left right refl)
+rows_left (DelayNode of by) built u d h l e j g a s c = absurd (d of by refl)
+rows_left (HopNode of size period) built u d h l e j g a s c = absurd (h of size period refl)
+rows_left (DurationNode of by) built u d h l e j g a s c = absurd (l of by refl)
+rows_left (ExtendNode of by) built u d h l e j g a s c = absurd (e of by refl)
+rows_left (SessionNode of timeout key) built u d h l e j g a s c = absurd (s of timeout key refl)
+rows_left (ClipNode left right left_key right_key) built u d h l e j g a s c = absurd (c left right left_key right_key refl)
+rows_left (GroupNode of key aggs) built u d h l e j g a s c = absurd (g of key aggs refl)
+rows_left (JoinNode left right left_key right_key) built u d h l e j g a s c = absurd (j left right left_key right_key refl)
+rows_left (AntiNode left right left_key right_key) built u d h l e j g a s c = absurd (a left right left_key right_key refl)
+rows_left (Coalesce of) built u d h l e j g a s c = absurd (cc)
+rows_left (Mean of at) built u d h l e j g a s c = absurd (cc)
+rows_left (Top of key by count) built u d h l e j g a s c = absurd (cc)
+rows_left (Follow left right left_key right_key within) built u d h l e j g a s c = absurd (cc)
 
 -- a list that was just made
 abbrev pub fresh_list : List Kind → ℕ → EdgeListView
@@ -276,4 +282,60 @@ anti_starts plan capacity l r texts left right left_key right_key o same_left sa
   };
   opens = anti_opening o.sides.rows.left_key.columns o.sides.rows.right_key.columns (map cell_kind_of o.left_kinds.items) (map cell_kind_of o.right_kinds.items) texts o.left_to o.right_to o.sides.rows.left.rows o.sides.rows.right.rows o.sides.rows.times.rows
       o.sides.left_waiting o.sides.right_waiting opening.left_empty opening.right_empty opening.times_empty opening.none_left opening.none_right opening.left_open opening.right_open;
+}
+
+-- the timeout of a session of a plan is at least 1
+pub session_lasts : (plan : PlanParts) → IsPlan plan → (i of timeout : ℕ) (key : List ℕ) → slice_get plan.nodes i ≡ Some (SessionNode of timeout key) → 1 ≤ timeout
+session_lasts plan whole i of timeout key there = (whole.nodes_are.each i (SessionNode of timeout key) there).sound.0
+
+session_alike : (of timeout : ℕ) (key : List ℕ) → MeanAlike (SessionNode of timeout key) (SessionNode 0 timeout key)
+session_alike of timeout key = record { events = λ l r. refl; closes = λ x y. refl; undefined = λ rows. refl; held = λ x y hl hr. refl }
+
+pub session_starts : (plan : PlanParts) (capacity : ℕ) (l : List Kind) (texts : List (List ℕ)) (of timeout : ℕ) (key : List ℕ) (o : SessionOperator) →
+    o.side.sessions.rows.key ≡ key → o.side.sessions.timeout ≡ timeout → o.kinds.items ≡ l → o.capacity ≡ capacity →
+    IsSessionOpening o.side.sessions.rows.rows o.side.sessions.ends o.side.waiting o.left_to o.right_to o.failed →
+    map cell_kind_of l ≡ left_kinds plan (SessionNode of timeout key) → StartsFor texts capacity plan (SessionNode of timeout key) (Session o)
+session_starts plan capacity l texts of timeout key o same_key same_timeout like rows opening read = record {
+  ready = record {
+    node = subst (λ k. MeanAlike (SessionNode of timeout key) (SessionNode 0 o.side.sessions.timeout k)) (sym same_key)
+        (subst (λ n. MeanAlike (SessionNode of timeout key) (SessionNode 0 n key)) (sym same_timeout) (session_alike of timeout key));
+    works = opening.works;
+    left_closed = opening.left;
+    right_closed = opening.right;
+    left_kinds = ap (map cell_kind_of) like ∙ read;
+    right_kinds = refl;
+    own_kinds = ap (map cell_kind_of) like ∙ read;
+    batch_rows = rows;
+  };
+  opens = session_opening o.side.sessions.rows.key o.side.sessions.timeout (map cell_kind_of o.kinds.items) o.positive texts o.side.sessions.rows.rows o.side.sessions.ends o.side.waiting o.left_to o.right_to o.failed opening;
+}
+
+-- the right child of a clip is a node of the plan
+pub clip_right : (plan : PlanParts) → IsPlan plan → (i left right : ℕ) (left_key right_key : List ℕ) → slice_get plan.nodes i ≡ Some (ClipNode left right left_key right_key) → right < length plan.nodes
+clip_right plan whole i left right left_key right_key there =
+    let lower : right < i = (whole.nodes_are.each i (ClipNode left right left_key right_key) there).right_lower in
+    let low = slice_get_within plan.nodes i (ClipNode left right left_key right_key) there in
+    omega (arith, lower, low)
+
+clip_alike : (left right : ℕ) (left_key right_key : List ℕ) → MeanAlike (ClipNode left right left_key right_key) (ClipNode 0 1 left_key right_key)
+clip_alike left right left_key right_key = record { events = λ l r. refl; closes = λ x y. refl; undefined = λ rows. refl; held = λ x y hl hr. refl }
+
+pub clip_starts : (plan : PlanParts) (capacity : ℕ) (l r : List Kind) (texts : List (List ℕ)) (left right : ℕ) (left_key right_key : List ℕ) (o : ClipOperator) →
+    o.sides.rows.left.key ≡ left_key → o.sides.rows.right_key.columns ≡ right_key → o.left_kinds.items ≡ l → o.right_kinds.items ≡ r → o.capacity ≡ capacity →
+    IsClipOpening o.sides.rows.left.rows o.sides.left_waiting o.sides.right_waiting o.left_to o.right_to o.failed →
+    map cell_kind_of l ≡ left_kinds plan (ClipNode left right left_key right_key) → map cell_kind_of r ≡ kinds_at plan.schemas right → StartsFor texts capacity plan (ClipNode left right left_key right_key) (Clip o)
+clip_starts plan capacity l r texts left right left_key right_key o same_left same_right left_like right_like rows opening read told = record {
+  ready = record {
+    node = subst (λ k. MeanAlike (ClipNode left right left_key right_key) (ClipNode 0 1 k o.sides.rows.right_key.columns)) (sym same_left)
+        (subst (λ k. MeanAlike (ClipNode left right left_key right_key) (ClipNode 0 1 left_key k)) (sym same_right) (clip_alike left right left_key right_key));
+    works = opening.works;
+    left_closed = opening.left_open;
+    right_closed = opening.right_open;
+    left_kinds = ap (map cell_kind_of) left_like ∙ read;
+    right_kinds = ap (map cell_kind_of) right_like ∙ told;
+    own_kinds = ap (map cell_kind_of) left_like ∙ read;
+    batch_rows = rows;
+  };
+  opens = clip_opening o.sides.rows.left.key o.sides.rows.right_key.columns (map cell_kind_of o.left_kinds.items) (map cell_kind_of o.right_kinds.items) texts o.left_to o.right_to o.sides.rows.left.rows
+      o.sides.left_waiting o.sides.right_waiting opening.left_empty opening.none_left opening.none_right opening.left_open opening.right_open;
 }

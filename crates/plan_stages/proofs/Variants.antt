@@ -16,11 +16,13 @@ use Rattle.extend_op.specs.Waiting.{edges_of_pending}
 use Rattle.temporal_join.specs.Operating.{IsKept}
 use Rattle.snapshot_agg.specs.Keeping.{KeepsGrouped}
 use Rattle.anti_join.specs.Operating.{IsKept as IsAntiKept}
+use Rattle.clip_op.specs.Operating.{IsKept as IsClipKept}
+use Rattle.session_window.specs.Operating.{IsKept as IsSessionKept}
 use Rattle.plan_stages.specs.declared.stage.Stage.{Stage}
-use Rattle.plan_stages.specs.declared.stage.Stage.TheVariants.{Life, Union, Extend, Join, Group, Anti}
+use Rattle.plan_stages.specs.declared.stage.Stage.TheVariants.{Life, Union, Extend, Join, Group, Anti, Session, Clip}
 use Rattle.plan_stages.proofs.Operators.{operator_held}
 use Rattle.plan_stages.specs.Operating.{may_keep, Standing, Keeping, CanOperate, StaysOperating, KeepsOperating, OperatesUndefinedAt}
-use Rattle.plan_stages.specs.Stages.{life_standing, union_standing, extend_standing, IsReady, StageKeeps, StaysReady, KeepsOn, IsUndefinedAt, KeepsAtMost, join_standing, group_standing, anti_standing}
+use Rattle.plan_stages.specs.Stages.{life_standing, union_standing, extend_standing, IsReady, StageKeeps, StaysReady, KeepsOn, IsUndefinedAt, KeepsAtMost, join_standing, group_standing, anti_standing, session_standing, clip_standing}
 
 -- stages of this kind are ready and keep as their operators are and do
 pub record IsVariant {O : Type 0} (stage : O → Stage) (standing : O → Standing) (keeping : O → Keeping) : Type 0 where
@@ -81,3 +83,9 @@ group_variant = record { can = λ texts capacity left right n o x y h. h; ready 
 
 pub anti_variant : IsVariant Anti anti_standing (λ o texts hl hr out. IsAntiKept o texts hl hr out)
 anti_variant = record { can = λ texts capacity left right n o x y h. h; ready = λ texts capacity left right n o x y h. h; kept = λ texts n o x y hl hr out h. h; keeps = λ texts n o x y hl hr out h. h }
+
+pub session_variant : IsVariant Session session_standing (λ o texts hl hr out. IsSessionKept o texts hl hr out)
+session_variant = record { can = λ texts capacity left right n o x y h. h; ready = λ texts capacity left right n o x y h. h; kept = λ texts n o x y hl hr out h. h; keeps = λ texts n o x y hl hr out h. h }
+
+pub clip_variant : IsVariant Clip clip_standing (λ o texts hl hr out. IsClipKept o texts hl hr out)
+clip_variant = record { can = λ texts capacity left right n o x y h. h; ready = λ texts capacity left right n o x y h. h; kept = λ texts n o x y hl hr out h. h; keeps = λ texts n o x y hl hr out h. h }

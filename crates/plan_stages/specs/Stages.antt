@@ -28,10 +28,14 @@ use Rattle.temporal_join.specs.declared.join.Join.{Join as JoinOperator}
 use Rattle.snapshot_agg.specs.Keeping.{KeepsGrouped}
 use Rattle.snapshot_agg.specs.declared.grouped.Grouped.{Grouped}
 use Rattle.anti_join.specs.Operating.{IsKept as IsAntiKept}
+use Rattle.clip_op.specs.Operating.{IsKept as IsClipKept}
+use Rattle.session_window.specs.Operating.{IsKept as IsSessionKept}
+use Rattle.session_window.specs.declared.session.Session.{Session as SessionOperator}
 use Rattle.anti_join.specs.declared.anti.Anti.{Anti as AntiOperator}
+use Rattle.clip_op.specs.declared.clip.Clip.{Clip as ClipOperator}
 use Rattle.plan_stages.specs.declared.stage.Stage.{Stage}
-use Rattle.plan_stages.specs.declared.stage.Stage.TheVariants.{Rows, Life, Union, Extend, Join, Group, Anti}
-use Rattle.plan_model.specs.declared.node.Node.TheVariants.{Union as UnionNode, Extend as ExtendNode, Delay as DelayNode, Hop as HopNode, Duration as DurationNode, Join as JoinNode, Group as GroupNode, Anti as AntiNode}
+use Rattle.plan_stages.specs.declared.stage.Stage.TheVariants.{Rows, Life, Union, Extend, Join, Group, Anti, Session, Clip}
+use Rattle.plan_model.specs.declared.node.Node.TheVariants.{Union as UnionNode, Extend as ExtendNode, Delay as DelayNode, Hop as HopNode, Duration as DurationNode, Join as JoinNode, Group as GroupNode, Anti as AntiNode, Session as SessionNode, Clip as ClipNode}
 use Rattle.plan_stages.specs.Operating.{Standing, CanOperate}
 pub use Rattle.plan_stages.specs.Operating.{may_keep, first_undefined_read}
 
@@ -131,9 +135,33 @@ group_standing o = record {
   has_failed = o.failed;
 }
 
+abbrev pub session_standing : SessionOperator → Standing
+session_standing o = record {
+  node = SessionNode 0 o.side.sessions.timeout o.side.sessions.rows.key;
+  left_closed = o.left_to;
+  right_closed = o.right_to;
+  left_kinds = map cell_kind_of o.kinds.items;
+  right_kinds = [];
+  own_kinds = map cell_kind_of o.kinds.items;
+  batch_rows = o.capacity;
+  has_failed = o.failed;
+}
+
 abbrev pub anti_standing : AntiOperator → Standing
 anti_standing o = record {
   node = AntiNode 0 1 o.sides.rows.left_key.columns o.sides.rows.right_key.columns;
+  left_closed = o.left_to;
+  right_closed = o.right_to;
+  left_kinds = map cell_kind_of o.left_kinds.items;
+  right_kinds = map cell_kind_of o.right_kinds.items;
+  own_kinds = map cell_kind_of o.left_kinds.items;
+  batch_rows = o.capacity;
+  has_failed = o.failed;
+}
+
+abbrev pub clip_standing : ClipOperator → Standing
+clip_standing o = record {
+  node = ClipNode 0 1 o.sides.rows.left.key o.sides.rows.right_key.columns;
   left_closed = o.left_to;
   right_closed = o.right_to;
   left_kinds = map cell_kind_of o.left_kinds.items;
@@ -152,7 +180,9 @@ IsReady texts capacity left right n (Union o) x y = CanOperate capacity left rig
 IsReady texts capacity left right n (Extend o) x y = CanOperate capacity left right n (extend_standing o) x y
 IsReady texts capacity left right n (Join o) x y = CanOperate capacity left right n (join_standing o) x y
 IsReady texts capacity left right n (Group o) x y = CanOperate capacity left right n (group_standing o) x y
+IsReady texts capacity left right n (Session o) x y = CanOperate capacity left right n (session_standing o) x y
 IsReady texts capacity left right n (Anti o) x y = CanOperate capacity left right n (anti_standing o) x y
+IsReady texts capacity left right n (Clip o) x y = CanOperate capacity left right n (clip_standing o) x y
 
 -- the stage can take a step of some node over these two lists, which closes its sides up to u and v
 pub record CanTake (texts : List (List ℕ)) (left right : EdgeListView) (s : Stage) (u v : ℕ) : Type 0 where
@@ -177,7 +207,9 @@ StageKeeps texts n (Union o) x y hl hr out = KeepsUnion texts o.left_to o.right_
 StageKeeps texts n (Extend o) x y hl hr out = KeepsExtended o.by texts o.left_to o.right_to o.carried.edges (edges_of_pending o.ends) hl hr out
 StageKeeps texts n (Join o) x y hl hr out = IsKept o texts hl hr out
 StageKeeps texts n (Group o) x y hl hr out = KeepsGrouped o.groups.key.items o.groups.aggs.items texts o.groups.rows.rows o.running o.waiting o.left_to hl hr out
+StageKeeps texts n (Session o) x y hl hr out = IsSessionKept o texts hl hr out
 StageKeeps texts n (Anti o) x y hl hr out = IsAntiKept o texts hl hr out
+StageKeeps texts n (Clip o) x y hl hr out = IsClipKept o texts hl hr out
 
 -- what is asked of what was kept and of two lists, so that a step keeps it: the lists come on the sides that the stage is
 -- closed up to, and close them up to u and v

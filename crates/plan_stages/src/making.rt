@@ -9,10 +9,12 @@ ghost use Rattle.plan_stages.specs.Stages.{left_kinds, changing, StartsFor};
 
 use crate::stage::Stage;
 use anti_join::Anti;
+use clip_op::Clip;
 use extend_op::ExtendOperator;
 use lifetime_ops::{Change, LifeOperator};
 use node_stage::read_kinds;
 use plan_model::{Agg, Plan};
+use session_window::Session;
 use snapshot_agg::Grouped;
 use std::alloc::Global;
 use temporal_join::Join;
@@ -126,6 +128,27 @@ pub(crate) fn extend_stage(
     Ok(Stage::Extend(operator))
 }
 
+/// The stage of a Session of the plan, with this timeout and this key.
+pub(crate) fn session_stage(
+    alloc: Global,
+    plan: &Plan,
+    node: usize,
+    timeout: u64,
+    key: &[usize],
+    capacity: usize,
+) -> Result<Stage, Memory>
+    requires node { node < length plan.now.nodes }
+    requires room { 1 ≤ capacity }
+    requires is { (n : Node) → slice_get plan.now.nodes node ≡ Some n → (of : ℕ) × (n ≡ Node.Session of timeout key.now) }
+    ensures { IfOk result (λ s. (texts : List (List ℕ)) (n : Node) → slice_get plan.now.nodes node ≡ Some n → StartsFor texts capacity plan.now n s) }
+{
+    // Its call tells the proof what a plan keeps.
+    let _ = plan.nodes();
+    let kinds = kinds_read(alloc, plan, node)?;
+    let operator = Session::new(alloc, timeout, key, &kinds, capacity)?;
+    Ok(Stage::Session(operator))
+}
+
 /// The stage of a Join of the plan, by these keys of the left and of the right child.
 pub(crate) fn join_stage(
     alloc: Global,
@@ -206,4 +229,34 @@ pub(crate) fn anti_stage(
         capacity,
     )?;
     Ok(Stage::Anti(operator))
+}
+
+/// The stage of a Clip of the plan, by these keys of the left and of the right child.
+pub(crate) fn clip_stage(
+    alloc: Global,
+    plan: &Plan,
+    node: usize,
+    right: usize,
+    left_key: &[usize],
+    right_key: &[usize],
+    capacity: usize,
+) -> Result<Stage, Memory>
+    requires node { node < length plan.now.nodes }
+    requires room { 1 ≤ capacity }
+    requires is { (n : Node) → slice_get plan.now.nodes node ≡ Some n → (left : ℕ) × (n ≡ Node.Clip left right left_key.now right_key.now) }
+    ensures { IfOk result (λ s. (texts : List (List ℕ)) (n : Node) → slice_get plan.now.nodes node ≡ Some n → StartsFor texts capacity plan.now n s) }
+{
+    // Its call tells the proof what a plan keeps.
+    let _ = plan.nodes();
+    let left_kinds = kinds_read(alloc, plan, node)?;
+    let right_kinds = kinds_told(alloc, plan, right)?;
+    let operator = Clip::new(
+        alloc,
+        left_key,
+        right_key,
+        &left_kinds,
+        &right_kinds,
+        capacity,
+    )?;
+    Ok(Stage::Clip(operator))
 }

@@ -9,15 +9,18 @@ ghost use Rattle.plan_stages.specs.Stages.{left_kinds, right_kinds, IsReady, Can
 
 use crate::any_operator::step_operator;
 use crate::making::{
-    anti_stage, extend_stage, group_stage, join_stage, life_stage, rows_stage, union_stage,
+    anti_stage, clip_stage, extend_stage, group_stage, join_stage, life_stage, rows_stage,
+    session_stage, union_stage,
 };
 use anti_join::Anti;
 use batch::Pools;
+use clip_op::Clip;
 use edge_stream::{EdgeList, StepFault};
 use extend_op::ExtendOperator;
 use lifetime_ops::{Change, LifeOperator};
 use operator::Operator;
 use plan_model::{Node, Plan};
+use session_window::Session;
 use snapshot_agg::Grouped;
 use std::alloc::Global;
 use temporal_join::Join;
@@ -42,6 +45,10 @@ pub enum Stage {
     Group(Grouped),
     /// Of an Anti.
     Anti(Anti),
+    /// Of a Clip.
+    Clip(Clip),
+    /// Of a Session.
+    Session(Session),
 }
 
 impl Stage {
@@ -95,12 +102,29 @@ impl Stage {
             Node::Group { key, aggs, .. } => {
                 group_stage(alloc, plan, node, key.items(), aggs.items(), capacity)
             }
+            Node::Session { timeout, key, .. } => {
+                session_stage(alloc, plan, node, *timeout, key.items(), capacity)
+            }
             Node::Anti {
                 right,
                 left_key,
                 right_key,
                 ..
             } => anti_stage(
+                alloc,
+                plan,
+                node,
+                *right,
+                left_key.items(),
+                right_key.items(),
+                capacity,
+            ),
+            Node::Clip {
+                right,
+                left_key,
+                right_key,
+                ..
+            } => clip_stage(
                 alloc,
                 plan,
                 node,
@@ -155,7 +179,13 @@ impl Stage {
             Stage::Group(operator) => {
                 step_operator(operator, pools, left, right, left_to, right_to)
             }
+            Stage::Session(operator) => {
+                step_operator(operator, pools, left, right, left_to, right_to)
+            }
             Stage::Anti(operator) => {
+                step_operator(operator, pools, left, right, left_to, right_to)
+            }
+            Stage::Clip(operator) => {
                 step_operator(operator, pools, left, right, left_to, right_to)
             }
         }
@@ -173,6 +203,8 @@ impl Stage {
             Stage::Join(operator) => operator.held(),
             Stage::Group(operator) => operator.held(),
             Stage::Anti(operator) => operator.held(),
+            Stage::Clip(operator) => operator.held(),
+            Stage::Session(operator) => operator.held(),
         }
     }
 }

@@ -1,4 +1,4 @@
-use Rattle.plan_stages.proofs.Variants.{variant_held, life_variant, union_variant, extend_variant, join_variant, group_variant, anti_variant}
+use Rattle.plan_stages.proofs.Variants.{variant_held, life_variant, union_variant, extend_variant, join_variant, group_variant, anti_variant, session_variant, clip_variant}
 use Rattle.plan_stages.proofs.stage.Stage.held.Goals as goal
 
 pub returns-in-Life : goal.returns-in-Life
@@ -18,3 +18,9 @@ returns-in-Group c = variant_held _ _ _ group_variant c.args.self.now c.in-Group
 
 pub returns-in-Anti : goal.returns-in-Anti
 returns-in-Anti c = variant_held _ _ _ anti_variant c.args.self.now c.in-Anti.operator c.in-Anti.is c.held-in-Anti.result c.held-in-Anti.ensures
+
+pub returns-in-Session : goal.returns-in-Session
+returns-in-Session c = variant_held _ _ _ session_variant c.args.self.now c.in-Session.operator c.in-Session.is c.held-in-Session.result c.held-in-Session.ensures
+
+pub returns-in-Clip : goal.returns-in-Clip
+returns-in-Clip c = variant_held _ _ _ clip_variant c.args.self.now c.in-Clip.operator c.in-Clip.is c.held-in-Clip.result c.held-in-Clip.ensures

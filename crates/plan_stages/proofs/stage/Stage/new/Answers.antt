@@ -14,5 +14,5 @@ rows_stage-requires c =
     record {
       node = c.requires.node;
       rows = λ m there. subst (λ k. is_of_rows k ≡ true) (one_node plan c.args.node n at m there)
-          (rows_left n (c.requires.built n at.here) other.not-Union other.not-Delay other.not-Hop other.not-Duration other.not-Extend other.not-Join other.not-Group other.not-Anti);
+          (rows_left n (c.requires.built n at.here) other.not-Union other.not-Delay other.not-Hop other.not-Duration other.not-Extend other.not-Join other.not-Group other.not-Anti other.not-Session other.not-Clip);
     }

@@ -1,4 +1,4 @@
-use Rattle.plan_stages.proofs.Variants.{variant_ready, variant_kept, variant_defined, variant_overflow, life_variant, union_variant, extend_variant, join_variant, group_variant, anti_variant}
+use Rattle.plan_stages.proofs.Variants.{variant_ready, variant_kept, variant_defined, variant_overflow, life_variant, union_variant, extend_variant, join_variant, group_variant, anti_variant, session_variant, clip_variant}
 use Rattle.plan_stages.proofs.stage.Stage.step.Goals as goal
 
 pub returns-in-Life-clause-ready : goal.returns-in-Life-clause-ready
@@ -96,3 +96,35 @@ returns-in-Anti-clause-defined c =
 pub returns-in-Anti-clause-overflow : goal.returns-in-Anti-clause-overflow
 returns-in-Anti-clause-overflow c =
     variant_overflow _ _ _ anti_variant c.args.texts.now c.args.left c.args.right c.args.self.now c.in-Anti.operator c.step_operator-in-Anti.new.operator c.in-Anti.is c.args.left_to c.args.right_to c.step_operator-in-Anti.result c.step_operator-in-Anti.ensures.overflow
+
+pub returns-in-Session-clause-ready : goal.returns-in-Session-clause-ready
+returns-in-Session-clause-ready c =
+    variant_ready _ _ _ session_variant c.args.texts.now c.args.left c.args.right c.args.self.now c.in-Session.operator c.step_operator-in-Session.new.operator c.in-Session.is c.args.left_to c.args.right_to c.step_operator-in-Session.result c.step_operator-in-Session.ensures.ready
+
+pub returns-in-Session-clause-kept : goal.returns-in-Session-clause-kept
+returns-in-Session-clause-kept c =
+    variant_kept _ _ _ session_variant c.args.texts.now c.args.left c.args.right c.args.self.now c.in-Session.operator c.step_operator-in-Session.new.operator c.in-Session.is c.args.left_to c.args.right_to c.step_operator-in-Session.result c.step_operator-in-Session.ensures.kept
+
+pub returns-in-Session-clause-defined : goal.returns-in-Session-clause-defined
+returns-in-Session-clause-defined c =
+    variant_defined _ _ _ session_variant c.args.texts.now c.args.left c.args.right c.args.self.now c.in-Session.operator c.step_operator-in-Session.new.operator c.in-Session.is c.args.left_to c.args.right_to c.step_operator-in-Session.result c.step_operator-in-Session.ensures.defined
+
+pub returns-in-Session-clause-overflow : goal.returns-in-Session-clause-overflow
+returns-in-Session-clause-overflow c =
+    variant_overflow _ _ _ session_variant c.args.texts.now c.args.left c.args.right c.args.self.now c.in-Session.operator c.step_operator-in-Session.new.operator c.in-Session.is c.args.left_to c.args.right_to c.step_operator-in-Session.result c.step_operator-in-Session.ensures.overflow
+
+pub returns-in-Clip-clause-ready : goal.returns-in-Clip-clause-ready
+returns-in-Clip-clause-ready c =
+    variant_ready _ _ _ clip_variant c.args.texts.now c.args.left c.args.right c.args.self.now c.in-Clip.operator c.step_operator-in-Clip.new.operator c.in-Clip.is c.args.left_to c.args.right_to c.step_operator-in-Clip.result c.step_operator-in-Clip.ensures.ready
+
+pub returns-in-Clip-clause-kept : goal.returns-in-Clip-clause-kept
+returns-in-Clip-clause-kept c =
+    variant_kept _ _ _ clip_variant c.args.texts.now c.args.left c.args.right c.args.self.now c.in-Clip.operator c.step_operator-in-Clip.new.operator c.in-Clip.is c.args.left_to c.args.right_to c.step_operator-in-Clip.result c.step_operator-in-Clip.ensures.kept
+
+pub returns-in-Clip-clause-defined : goal.returns-in-Clip-clause-defined
+returns-in-Clip-clause-defined c =
+    variant_defined _ _ _ clip_variant c.args.texts.now c.args.left c.args.right c.args.self.now c.in-Clip.operator c.step_operator-in-Clip.new.operator c.in-Clip.is c.args.left_to c.args.right_to c.step_operator-in-Clip.result c.step_operator-in-Clip.ensures.defined
+
+pub returns-in-Clip-clause-overflow : goal.returns-in-Clip-clause-overflow
+returns-in-Clip-clause-overflow c =
+    variant_overflow _ _ _ clip_variant c.args.texts.now c.args.left c.args.right c.args.self.now c.in-Clip.operator c.step_operator-in-Clip.new.operator c.in-Clip.is c.args.left_to c.args.right_to c.step_operator-in-Clip.result c.step_operator-in-Clip.ensures.overflow
