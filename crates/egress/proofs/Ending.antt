@@ -76,6 +76,14 @@ module _ (kinds : List Kind) where
       ∙ sym (flat_map-append (line_text kinds) (replicate n line) (line ∷ []))
       ∙ ap (print kinds) (replicate_more n line))
 
+-- a row of which nothing is open has no end lines
+pub no_lines : (kinds : List Kind) (f : ℕ → Line) (out since : List ℕ) (count : ℕ) → since ≡ [] → out ≡ out ++ print kinds (map f (take count since))
+no_lines kinds f out since count e = sym (append-nil out) ∙ ap (λ l. out ++ print kinds (map f l)) (nothing count ∙ ap (take count) (sym e))
+  where
+    nothing : (i : ℕ) → [] ≡ take {A = ℕ} i []
+    nothing zero = refl
+    nothing (suc i) = refl
+
 pub times_more : (now old start : List ℕ) (n t : ℕ) → now ≡ old ++ t ∷ [] → old ≡ start ++ replicate n t → now ≡ start ++ replicate (n + 1) t
 times_more now old start n t e h =
     e ∙ ap (λ l. l ++ t ∷ []) h

@@ -36,8 +36,16 @@ module _ {S H : Type 0} (m n : IndexMap (List Datum) (VecDeque ℕ S) H) (k : Li
           empty ∙ nothing count ∙ ap (drop count) (sym empty)
       pick false e = refl
 
+  pub none_taken : (count : ℕ) → get same_cells m k ≡ None → ((q : List Datum) → get same_cells n q ≡ cond (same_cells k q) None (get same_cells m q)) →
+      (r : List Datum) → since_at n r ≡ cond (same_cells k r) (drop count (since_at m r)) (since_at m r)
+  none_taken count none set = set_since (drop count) None set (nothing count ∙ ap (λ o. drop count (times_if o)) (sym none))
+    where
+      nothing : (i : ℕ) → [] ≡ drop {A = ℕ} i []
+      nothing zero = refl
+      nothing (suc i) = refl
+
   module _ (d : VecDeque ℕ S) (found : Some d ≡ get same_cells m k) where
-    times_are : d.items ≡ since_at m k
+    pub times_are : d.items ≡ since_at m k
     times_are = ap times_if found
 
     pub ended_since : (count : ℕ) (d2 : VecDeque ℕ S) → d2.items ≡ drop count d.items →
@@ -50,16 +58,11 @@ module _ {S H : Type 0} (m n : IndexMap (List Datum) (VecDeque ℕ S) H) (k : Li
         (r : List Datum) → since_at n r ≡ cond (same_cells k r) (since_at m r ++ replicate count at) (since_at m r)
     started_since count at d2 e set = set_since (λ l. l ++ replicate count at) (Some d2) set (e ∙ ap (λ l. l ++ replicate count at) times_are)
 
-    -- and the row is let go where nothing of it is open
-    pub gone_since : (n2 : IndexMap (List Datum) (VecDeque ℕ S) H) (count : ℕ) (d2 : VecDeque ℕ S) → d2.items ≡ drop count d.items → d2.items ≡ [] →
-        ((q : List Datum) → get same_cells n q ≡ cond (same_cells k q) (Some d2) (get same_cells m q)) →
-        ((q : List Datum) → get same_cells n2 q ≡ cond (same_cells k q) None (get same_cells n q)) →
-        (r : List Datum) → since_at n2 r ≡ cond (same_cells k r) (drop count (since_at m r)) (since_at m r)
-    gone_since n2 count d2 e empty set gone r = ap times_if (gone r) ∙ (pick (same_cells k r) refl ∙ ended_since count d2 e set r)
-      where
-        pick : (b : Bool) → same_cells k r ≡ b → times_if (cond b None (get same_cells n r)) ≡ since_at n r
-        pick true f = sym empty ∙ sym (ap times_if (set r) ∙ ap (λ b. times_if (cond b (Some d2) (get same_cells m r))) f)
-        pick false f = refl
+    -- a row that was taken out, all of whose open starts are ended
+    pub all_ended : (count : ℕ) (d2 : VecDeque ℕ S) → d2.items ≡ drop count d.items → d2.items ≡ [] →
+        ((q : List Datum) → get same_cells n q ≡ cond (same_cells k q) None (get same_cells m q)) →
+        (r : List Datum) → since_at n r ≡ cond (same_cells k r) (drop count (since_at m r)) (since_at m r)
+    all_ended count d2 e empty set = set_since (drop count) None set (sym empty ∙ e ∙ ap (drop count) times_are)
 
   pub new_since : (count at : ℕ) (d d2 : VecDeque ℕ S) → get same_cells m k ≡ None → d.items ≡ [] → d2.items ≡ d.items ++ replicate count at →
       (m2 : IndexMap (List Datum) (VecDeque ℕ S) H) → m2 ≡ m →
@@ -68,3 +71,22 @@ module _ {S H : Type 0} (m n : IndexMap (List Datum) (VecDeque ℕ S) H) (k : Li
   new_since count at d d2 none empty e m2 same set = set_since (λ l. l ++ replicate count at) (Some d2)
       (λ q. set q ∙ ap (λ x. cond (same_cells k q) (Some d2) (get same_cells x q)) same)
       (e ∙ ap (λ l. l ++ replicate count at) (empty ∙ sym (ap times_if none)))
+
+-- a row that was taken out and is put back with what is left
+pub some_ended : {S H : Type 0} (m n n2 : IndexMap (List Datum) (VecDeque ℕ S) H) (k kept : List Datum) (d d2 : VecDeque ℕ S) → Some d ≡ get same_cells m k → kept ≡ k →
+    (count : ℕ) → d2.items ≡ drop count d.items →
+    ((q : List Datum) → get same_cells n q ≡ cond (same_cells k q) None (get same_cells m q)) →
+    ((q : List Datum) → get same_cells n2 q ≡ cond (same_cells kept q) (Some d2) (get same_cells n q)) →
+    (r : List Datum) → since_at n2 r ≡ cond (same_cells k r) (drop count (since_at m r)) (since_at m r)
+some_ended m n n2 k kept d d2 found is count e gone set =
+    set_since m n2 k (drop count) (Some d2) (λ q. set q ∙ ap (λ c. cond (same_cells c q) (Some d2) (get same_cells n q)) is ∙ pick q (same_cells k q) refl)
+    (e ∙ ap (λ o. drop count (times_if o)) found)
+  where
+    pick : (q : List Datum) (b : Bool) → same_cells k q ≡ b → cond b (Some d2) (get same_cells n q) ≡ cond b (Some d2) (get same_cells m q)
+    pick q true f = refl
+    pick q false f = gone q ∙ ap (λ c. cond c None (get same_cells m q)) f
+
+-- nothing is ended
+pub none_ended : (b : Bool) (l : List ℕ) (count : ℕ) → count ≡ 0 → l ≡ cond b (drop count l) l
+none_ended true l count e = ap (λ n. drop n l) (sym e)
+none_ended false l count e = refl

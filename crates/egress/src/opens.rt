@@ -82,7 +82,8 @@ fn end_first(
     Ok(())
 }
 
-/// The end lines of a row at an instant. Only that row is looked at, and it is let go with its last open start.
+/// The end lines of a row at an instant. Only that row is looked at. It is taken out, and put back unless its last open start
+/// is ended, since most rows have one.
 pub(crate) fn end_row(
     opens: &mut IndexMap<Cells, VecDeque<Time>>,
     out: &mut Vec<u8>,
@@ -96,13 +97,18 @@ pub(crate) fn end_row(
     ensures since { OnOk result ((c : List Datum) → since_at opens.new c ≡ cond (same cells.now c) (drop count (since_at opens.old c)) (since_at opens.old c)) }
     ensures text { OnOk result (out.new.items ≡ out.old.items ++ print kinds.now (map (λ s. Ended at s (read_cells texts.now cells.now)) (take count (since_at opens.old cells.now)))) }
 {
-    let Some(since) = opens.get_mut(cells) else {
+    if count == 0 {
+        return Ok(());
+    }
+    let Some(mut since) = opens.swap_remove(cells) else {
         return Ok(());
     };
-    end_first(since, out, kinds, at, cells, texts, count)?;
+    end_first(&mut since, out, kinds, at, cells, texts, count)?;
     if since.is_empty() {
-        opens.swap_remove(cells);
+        return Ok(());
     }
+    let kept = cells.clone()?;
+    opens.insert(kept, since)?;
     Ok(())
 }
 

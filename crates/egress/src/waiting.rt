@@ -1,5 +1,5 @@
 // The edges that wait until they are due, by the numbers of their instants.
-ghost use Rattle.std.specs.Prelude.{◌≡◌, ◌<◌, ◌≤◌, ◌+◌, ℕ, [], ◌∷◌, IfSome, IfNone, IsSome, is_some, if◌then◌else◌, None, OnOk};
+ghost use Rattle.std.specs.Prelude.{◌≡◌, ◌<◌, ◌≤◌, ◌+◌, ℕ, [], ◌∷◌, ◌++◌, IfSome, IfNone, IsSome, is_some, if◌then◌else◌, None, OnOk};
 ghost use Rattle.std.specs.Ordering.{nat_cmp};
 ghost use Rattle.std.specs.BTreeMap.{get, btree_map_len, IsLowerBound};
 ghost use Rattle.tw_rows.specs.Instant.{inf};
@@ -17,6 +17,19 @@ pub(crate) struct Due {
     pub(crate) edges: Vec<Edge>,
 }
 
+/// Adds an edge. The first takes room for itself alone, since most instants have one.
+fn push_edge(edges: &mut Vec<Edge>, edge: Edge) -> Result<(), Memory>
+    ensures { OnOk result (edges.new.items ≡ edges.old.items ++ edge ∷ []) }
+{
+    if edges.is_empty() {
+        edges.reserve_exact(1)?;
+        edges.push(edge)?;
+        return Ok(());
+    }
+    edges.push(edge)?;
+    Ok(())
+}
+
 /// Puts an edge to those that wait for its instant.
 pub(crate) fn put(
     waiting: &mut BTreeMap<u64, Vec<Edge>>,
@@ -27,7 +40,7 @@ pub(crate) fn put(
 {
     let instant = edge.sync.word();
     let edges = waiting.entry(instant)?.or_insert(Vec::new(alloc));
-    edges.push(edge)?;
+    push_edge(edges, edge)?;
     Ok(())
 }
 
