@@ -1,5 +1,5 @@
 -- Copies of what is kept are the same.
-use Rattle.std.specs.Prelude.{◌≡◌, ℕ, Option, Some, None, Vec, refl}
+use Rattle.std.specs.Prelude.{◌≡◌, ℕ, Option, Some, None, Vec}
 use Rattle.std.specs.declared.collections.VecDeque.{VecDeque}
 use Rattle.std.specs.List.{AllZip}
 use Rattle.std.specs.Option.{MatchOption, IsSomeAnd}

@@ -1,5 +1,5 @@
 -- Entries that are taken up one by one, and what an output keeps of them.
-use Rattle.std.specs.Prelude.{◌≡◌, ℕ, zero, suc, ◌+◌, ◌-◌, ◌<◌, ◌≤◌, nat_eq, nat_lt, Bool, true, false, cond, Option, Some, None, List, [], ◌∷◌, ◌++◌, map, filter, flat_map, replicate, length, All, refl}
+use Rattle.std.specs.Prelude.{◌≡◌, ℕ, suc, ◌+◌, ◌-◌, ◌<◌, ◌≤◌, nat_eq, nat_lt, Bool, true, false, cond, None, List, [], ◌∷◌, ◌++◌, map, replicate, length, All, refl}
 use Rattle.std.specs.List.Sorted.{IsNonDecreasing}
 use Rattle.std.proofs.Common.{sym, ◌∙◌, ap, subst, arith, get_or, take, drop}
 use Rattle.std.proofs.lemmas.Bool.Decides.{nat_tests}
@@ -21,9 +21,8 @@ use Rattle.edge_history.specs.History.{of}
 use Rattle.edge_history.specs.Balance.{news}
 use Rattle.edge_history.proofs.Sums.{failing-append, failing-filter}
 use Rattle.node_laws.specs.Places.{read_events, EdgesArePlaced}
-use Rattle.egress.specs.Instants.{AreOpen}
-use Rattle.egress.specs.Kept.{cells_of, since_at, since_in, OpensPass}
-use Rattle.egress.specs.Waiting.{Waiting, edges_if, edges_at, waiting_in, ArePut, HavePassed, SameMoves, Swept, WaitingArePlaced}
+use Rattle.egress.specs.Kept.{cells_of, since_at, since_in}
+use Rattle.egress.specs.Waiting.{Waiting, edges_if, edges_at, waiting_in, ArePut, SameMoves, WaitingArePlaced}
 use Rattle.egress.specs.Output.{Holds}
 use Rattle.egress.specs.Reached.{Reached}
 use Rattle.egress.specs.Saving.{entries_of, starts_of, others_of, end_of, ends_of, IsKept, IsSound, Resumes, EntriesArePlaced}

@@ -1,8 +1,8 @@
 -- The moves of an instant, from its edges.
-use Rattle.std.specs.Prelude.{◌≡◌, ℕ, suc, ◌+◌, Bool, true, List, [], ◌∷◌, ◌++◌, All, map, length, IsPermutation, refl}
+use Rattle.std.specs.Prelude.{◌≡◌, ℕ, suc, Bool, true, List, All, map, IsPermutation, refl}
 use Rattle.std.specs.List.{dedup}
 use Rattle.std.specs.List.Sorted.{IsSorted, IsStrictlySortedBy}
-use Rattle.std.proofs.Common.{sym, ◌∙◌, ap, subst, arith}
+use Rattle.std.proofs.Common.{sym, ◌∙◌, subst, arith}
 use Rattle.std.proofs.lemmas.List.Elements.{All-weaker}
 use Rattle.std.proofs.lemmas.List.Kept.{IsStrictlySortedBy-dedup}
 use Rattle.std.proofs.lemmas.List.Sorted.{All-permutation}
@@ -16,7 +16,7 @@ use Rattle.tw_rows.proofs.Bags.{SameBag-from_IsPermutation, SameBag-sym, SameBag
 use Rattle.edge_history.specs.Balance.{news}
 use Rattle.edge_history.specs.History.{CellEvent}
 use Rattle.edge_history.specs.Order.{failing}
-use Rattle.node_laws.specs.Places.{read_events, AreDistinct, EdgesArePlaced}
+use Rattle.node_laws.specs.Places.{read_events, EdgesArePlaced}
 use Rattle.egress.specs.declared.moves.Moves.{Moves}
 use Rattle.egress.specs.Instants.{AreMoves}
 use Rattle.egress.specs.Kept.{are_placed, ends_in, starts_in, rows_of, KeepCells}

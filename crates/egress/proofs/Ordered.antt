@@ -1,5 +1,5 @@
 -- Cells compare as the rows that they stand for.
-use Rattle.std.specs.Prelude.{◌≡◌, ℕ, pos, ◌+◌, ◌<◌, ◌≤◌, min, List, [], ◌∷◌, length, drop, map, refl}
+use Rattle.std.specs.Prelude.{◌≡◌, ℕ, pos, ◌+◌, ◌<◌, min, List, [], ◌∷◌, length, drop, map}
 use Rattle.std.specs.List.Sorted.{IsSorted, IsSortedBy}
 use Rattle.std.specs.Ordering.{nat_cmp, is_lt, ordering_then, MatchOrdering}
 use Rattle.std.specs.Cmp.{ranks}

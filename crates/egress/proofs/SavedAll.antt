@@ -1,8 +1,7 @@
 -- What is saved is what goes on.
-use Rattle.std.specs.Prelude.{◌≡◌, ℕ, zero, suc, ◌+◌, ◌-◌, ◌<◌, ◌≤◌, nat_eq, ◌&&◌, Bool, true, false, cond, None, List, [], ◌∷◌, ◌++◌, map, filter, replicate, length, All, refl}
-use Rattle.std.specs.declared.collections.VecDeque.{VecDeque}
+use Rattle.std.specs.Prelude.{◌≡◌, ℕ, zero, suc, ◌<◌, ◌≤◌, ◌&&◌, Bool, true, false, cond, List, [], ◌∷◌, ◌++◌, map, replicate, length, All, refl}
 use Rattle.std.specs.List.Sorted.{IsNonDecreasing, IsNonDecreasingBy}
-use Rattle.std.proofs.Common.{sym, ◌∙◌, ap, subst, arith, get_or, drop}
+use Rattle.std.proofs.Common.{sym, ◌∙◌, ap, subst, arith}
 use Rattle.std.proofs.lemmas.Bool.{and_parts}
 use Rattle.std.proofs.lemmas.List.{append-nil, length-map, get_or-map}
 use Rattle.std.proofs.lemmas.List.Elements.{All-nil, All-cons, All-head, All-tail, All-append, All-weaker, All-replicate, All-drop}
@@ -28,11 +27,10 @@ use Rattle.edge_history.proofs.Sums.{failing-append}
 use Rattle.node_laws.specs.Places.{read_events, AreDistinct, EdgesArePlaced}
 use Rattle.node_laws.proofs.Standing.{of_valid}
 use Rattle.plan_model.specs.Opens.{rise, starts_before, ends_before, open_before}
-use Rattle.egress.specs.Instants.{AreOpen}
-use Rattle.egress.specs.Kept.{cells_of, are_placed, since_at, since_in}
+use Rattle.egress.specs.Kept.{cells_of, are_placed, since_at}
 use Rattle.egress.specs.Waiting.{edges_if, edges_at, waiting_in, SameMoves, WaitingArePlaced}
 use Rattle.egress.specs.Output.{Holds}
-use Rattle.egress.specs.Saving.{entries_of, starts_of, others_of, end_of, ends_of, IsKept, Resumes}
+use Rattle.egress.specs.Saving.{entries_of, starts_of, end_of, ends_of, IsKept, Resumes}
 use Rattle.egress.specs.Saved.{EndAt, TakenEnds, TakenRest, IsSettled}
 use Rattle.egress.specs.declared.egress.Egress.{Egress}
 use Rattle.egress.proofs.Entries.{starts_append}

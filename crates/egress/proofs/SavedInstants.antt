@@ -1,5 +1,5 @@
 -- Entries of all that waits, instant by instant, and of what is open after it.
-use Rattle.std.specs.Prelude.{◌≡◌, ℕ, zero, suc, ◌+◌, ◌-◌, ◌<◌, ◌≤◌, nat_eq, nat_lt, ◌&&◌, Bool, true, false, cond, Some, None, List, [], ◌∷◌, ◌++◌, map, flat_map, replicate, length, All, refl}
+use Rattle.std.specs.Prelude.{◌≡◌, ℕ, zero, suc, ◌+◌, ◌-◌, ◌<◌, ◌≤◌, nat_eq, nat_lt, ◌&&◌, Bool, true, false, cond, None, List, [], ◌∷◌, ◌++◌, map, replicate, length, All, refl}
 use Rattle.std.specs.List.Sorted.{IsNonDecreasingBy}
 use Rattle.std.specs.Ordering.{eq_by_cmp}
 use Rattle.std.proofs.Common.{sym, ◌∙◌, ap, subst, arith, drop}
@@ -23,13 +23,13 @@ use Rattle.edge_stream.specs.declared.saved.SavedEntry.{SavedEntry}
 use Rattle.edge_history.specs.Order.{is_end, is_below, is_from, failing, IsHistory}
 use Rattle.edge_history.specs.History.{CellEvent, of}
 use Rattle.edge_history.specs.Balance.{news}
-use Rattle.edge_history.specs.Opens.{singles_of, singles, bare, ended_of, started_of, ended_rows, started_rows}
+use Rattle.edge_history.specs.Opens.{singles_of, bare, started_of, ended_rows, started_rows}
 use Rattle.edge_history.proofs.Sums.{failing-append, sum_eq}
 use Rattle.edge_history.proofs.Opening.{singles_are_news}
 use Rattle.edge_history.proofs.Waiting.{news_between}
 use Rattle.edge_history.proofs.Retaining.{events_of_are}
 use Rattle.node_laws.specs.Places.{read_events, AreDistinct, EdgesArePlaced}
-use Rattle.plan_model.specs.Opens.{how_often, before, open_before}
+use Rattle.plan_model.specs.Opens.{how_often, before}
 use Rattle.plan_model.specs.Changes.{changes_at}
 use Rattle.plan_model.proofs.Counting.{open_length}
 use Rattle.egress.specs.Instants.{AreMoves, AreOpen}

@@ -1,6 +1,5 @@
 -- An instant with one edge touches one row.
 use Rattle.std.specs.Prelude.{◌≡◌, ℕ, suc, ◌+◌, ◌-◌, ◌||◌, Bool, true, false, cond, List, [], ◌∷◌, ◌++◌, take, drop, map, replicate, length, refl}
-use Rattle.std.specs.List.{list_any}
 use Rattle.std.specs.List.Sorted.{IsStrictlySortedBy}
 use Rattle.std.specs.Ordering.{eq_by_cmp}
 use Rattle.std.specs.declared.collections.VecDeque.{VecDeque}
@@ -22,7 +21,7 @@ use Rattle.node_laws.specs.Places.{read_events, AreDistinct}
 use Rattle.plan_model.specs.Opens.{how_often}
 use Rattle.plan_model.specs.Changes.{Started, Ended, changes_at}
 use Rattle.plan_model.proofs.InOrder.{row_itself}
-use Rattle.egress.specs.Instants.{instant_lines, end_lines, start_lines, AreMoves, AreOpen, AreTouched}
+use Rattle.egress.specs.Instants.{instant_lines, AreMoves, AreOpen, AreTouched}
 use Rattle.egress.specs.Kept.{since_at, since_in}
 use Rattle.egress.specs.Print.{print}
 use Rattle.egress.specs.Waiting.{SameMoves}

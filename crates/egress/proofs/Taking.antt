@@ -35,7 +35,7 @@ use Rattle.plan_model.proofs.Steady.{often_same, changes_same}
 use Rattle.egress.specs.Kept.{are_placed, since_at, since_in}
 use Rattle.egress.specs.Print.{print}
 use Rattle.egress.specs.Reached.{Reached}
-use Rattle.egress.specs.Waiting.{Waiting, edges_if, waiting_in, edges_at, ArePut, ArePopped, SameMoves, HavePassed, Swept}
+use Rattle.egress.specs.Waiting.{Waiting, edges_if, edges_at, ArePut, ArePopped, SameMoves, Swept}
 use Rattle.egress.specs.Output.{Holds}
 use Rattle.egress.specs.declared.egress.Egress.{Egress}
 use Rattle.egress.proofs.Moving.{weigh_ended, weigh_started}

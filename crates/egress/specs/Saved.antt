@@ -1,5 +1,5 @@
 -- How entries are made of what is kept. These words are used inside the crate only.
-use Rattle.std.specs.Prelude.{◌≡◌, ℕ, suc, ◌<◌, ◌≤◌, Bool, cond, List, [], ◌∷◌, ◌++◌, map, drop, length, All}
+use Rattle.std.specs.Prelude.{◌≡◌, ℕ, suc, ◌<◌, ◌≤◌, Bool, cond, List, ◌++◌, map, drop, length, All}
 use Rattle.std.specs.List.Sorted.{IsNonDecreasingBy}
 use Rattle.tw_rows.specs.Bag.{total}
 use Rattle.tw_rows.specs.Event.{AreEvents}

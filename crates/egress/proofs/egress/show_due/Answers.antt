@@ -1,9 +1,8 @@
-use Rattle.std.proofs.Common.{◌≡◌, List, sym, ◌∙◌, ap, subst}
-use Rattle.tw_rows.specs.declared.edge.Edge.{Edge}
+use Rattle.std.proofs.Common.{sym, ◌∙◌, ap, subst}
 use Rattle.edge_history.specs.Order.{failing}
 use Rattle.node_laws.specs.Places.{EdgesArePlaced}
 use Rattle.egress.specs.Kept.{since_in}
-use Rattle.egress.specs.Waiting.{edges_if, waiting_in, ArePopped}
+use Rattle.egress.specs.Waiting.{edges_if, waiting_in}
 use Rattle.egress.proofs.Sweeps.{going_next, going_last}
 use Rattle.egress.proofs.Taking.{popped_passes, rest_passes}
 use Rattle.egress.proofs.Placing.{popped_placed, rest_placed}

@@ -1,11 +1,10 @@
-use Rattle.std.specs.Prelude.{◌+◌, [], ◌∷◌, ◌++◌, map, length, refl}
-use Rattle.std.proofs.Common.{◌≡◌, true, sym, ◌∙◌, ap, arith}
+use Rattle.std.specs.Prelude.{◌+◌, [], ◌∷◌, ◌++◌, length, refl}
+use Rattle.std.proofs.Common.{sym, ◌∙◌, ap, arith}
 use Rattle.std.proofs.lemmas.List.{append-nil, map-append, nil_from_length}
-use Rattle.tw_rows.specs.Cells.{ArePlaced, read_cells}
-use Rattle.tw_rows.specs.declared.cells.Datum.{Datum}
+use Rattle.tw_rows.specs.Cells.{read_cells}
 use Rattle.edge_history.specs.Opens.{ended_of, started_of}
 use Rattle.egress.specs.declared.moves.Moves.{Moves}
-use Rattle.egress.specs.Kept.{rows_of, KeepCells}
+use Rattle.egress.specs.Kept.{rows_of}
 use Rattle.egress.proofs.Counted.{ended_by, started_by, counted_new, counted_more}
 use Rattle.egress.proofs.Gathered.{rows_first, rows_stay, rows_grow, rows_apart, last_placed, left_kept, push_kept}
 use Rattle.egress.proofs.moves.count_edge.Goals as goal

@@ -1,4 +1,4 @@
-use Rattle.std.specs.Prelude.{◌+◌, take, drop}
+use Rattle.std.specs.Prelude.{◌+◌, take}
 use Rattle.std.proofs.Common.{sym, ◌∙◌}
 use Rattle.tw_rows.specs.Cells.{read_cells}
 use Rattle.plan_model.specs.Changes.{Ended}

@@ -1,6 +1,4 @@
-use Rattle.std.specs.Prelude.{◌++◌, map}
-use Rattle.std.proofs.Common.{sym, ◌∙◌, ap}
-use Rattle.std.proofs.lemmas.List.{append-nil}
+use Rattle.std.proofs.Common.{◌∙◌, ap}
 use Rattle.egress.specs.Saved.{entry_at}
 use Rattle.egress.proofs.SavedEnds.{starts_more}
 use Rattle.egress.proofs.saving.save_starts.Goals as goal

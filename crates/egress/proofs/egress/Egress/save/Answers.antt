@@ -1,12 +1,9 @@
-use Rattle.std.specs.Prelude.{◌≡◌, List, []}
-use Rattle.std.proofs.Common.{sym, ◌∙◌, ap, subst}
-use Rattle.tw_rows.specs.declared.cells.Datum.{Datum}
-use Rattle.tw_rows.specs.declared.edge.Edge.{Edge}
-use Rattle.edge_stream.specs.declared.saved.SavedEntry.{SavedEntry}
+use Rattle.std.specs.Prelude.{◌≡◌, []}
+use Rattle.std.proofs.Common.{sym, subst}
 use Rattle.edge_history.specs.History.{of}
 use Rattle.egress.specs.Kept.{cells_of, since_at, since_in}
-use Rattle.egress.specs.Waiting.{Waiting, waiting_in, Swept, WaitingArePlaced}
-use Rattle.egress.specs.Saved.{TakenEnds, TakenRest}
+use Rattle.egress.specs.Waiting.{waiting_in, Swept, WaitingArePlaced}
+use Rattle.egress.specs.Saved.{TakenEnds}
 use Rattle.egress.proofs.SavedAll.{settles, save_resumes, waits_placed}
 use Rattle.egress.proofs.egress.Egress.save.Goals as goal
 

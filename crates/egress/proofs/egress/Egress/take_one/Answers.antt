@@ -1,6 +1,5 @@
 use Rattle.std.specs.Prelude.{[], ◌∷◌}
-use Rattle.std.proofs.Common.{◌++◌, refl, sym, subst, arith}
-use Rattle.std.proofs.lemmas.Bool.Decides.{nat_tests}
+use Rattle.std.proofs.Common.{sym, subst}
 use Rattle.std.proofs.lemmas.List.Elements.{All-nil, All-cons}
 use Rattle.tw_rows.specs.Cells.{ArePlaced}
 use Rattle.tw_rows.specs.declared.edge.Edge.{Edge}
