@@ -1,3 +1,4 @@
+pub mod Examples
 pub mod Leaving
 pub mod Meeting
 pub mod RightEdges
