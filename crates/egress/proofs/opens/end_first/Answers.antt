@@ -9,8 +9,8 @@ pub loop-preserved : goal.loop-preserved
 loop-preserved c =
     let xs = c.args.since.now.items in
     let first = sym c.loop.invariant.0 ∙ c.in-Some.ensures.items in (
-      sym (next_dropped c.loop.counter xs c.pop_front.new.self.items c.in-Some.start first),
+      sym (next_dropped c.loop.counter xs _ c.in-Some.start first),
       mapped_more c.args.kinds.now (λ s. Ended c.args.at s (read_cells c.args.texts.now c.args.cells.now)) c.args.out.now.items c.loop.out.items c.push_end.new.out.items
-          (take c.loop.counter xs) (take (c.loop.counter + 1) xs) c.in-Some.start (next_taken c.loop.counter xs c.pop_front.new.self.items c.in-Some.start first)
+          (take c.loop.counter xs) (take (c.loop.counter + 1) xs) c.in-Some.start (next_taken c.loop.counter xs _ c.in-Some.start first)
           c.loop.invariant.1 c.in_ok-push_end-in-Some.ensures,
     )
