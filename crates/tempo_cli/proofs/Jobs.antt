@@ -19,17 +19,18 @@ use Rattle.query_plan.specs.Planned.{planned}
 use Rattle.command_line.specs.Words.{Asked, SpellsCommand, are_taken, late_text, mode_text}
 use Rattle.std.specs.Str.{bytes_eq}
 use Rattle.std.proofs.lemmas.Slice.Eq.{bytes_eq-Decides}
-use Rattle.admission.specs.declared.policy.Policy.{Policy}
 use Rattle.admission.specs.declared.policy.Lateness.{Lateness}
 use Rattle.admission.specs.declared.policy.Lateness.TheVariants as ways
 use Rattle.command_line.specs.declared.words.Mode.{Mode}
-use Rattle.command_line.specs.declared.words.Mode.TheVariants.{Run, Explain}
+use Rattle.command_line.specs.declared.words.Mode.TheVariants.{Run, Explain, Sample}
+use Rattle.command_line.proofs.Same.{asked_is, policy_is}
 use Rattle.command_line.proofs.Spelled.{spelled}
 use Rattle.tempo_cli.specs.Answers.{Answers}
-use Rattle.tempo_cli.specs.Jobs.{HasPlan, HasPlanFault, HasFault, Job, NoWords, NoPlan, Planned, IsJob, Does, DoesMode, HasQueryReason, IsPlanned, query_status}
+use Rattle.tempo_cli.specs.Jobs.{HasPlan, HasPlanFault, HasFault, Tells, Job, NoWords, NoPlan, Planned, IsJob, Does, DoesMode, HasQueryReason, IsPlanned, query_status}
 use Rattle.tempo_cli.specs.Feeding.{IsOwn, IsAsked}
 use Rattle.tempo_cli.specs.Status.{Counts}
 use Rattle.tempo_cli.specs.Table.{limit, Ends}
+use Rattle.tempo_cli.specs.Summing.{Sums}
 use Rattle.tempo_cli.specs.Told.{answers}
 use Rattle.tempo_cli.specs.declared.status.Status.{Status}
 use Rattle.tempo_cli.specs.declared.status.Status.TheVariants.{Done, BadWords, BadQuery, Malformed, Late, Overflow, InputTooLong, ReadFault, WriteFault, Memory}
@@ -61,6 +62,7 @@ fault_once text f g (inr h) (inr k) =
 pub memory_does : (mode : Mode) (asked : Asked) (plan : PlanParts) → DoesMode mode asked plan Memory []
 memory_does Run asked plan = no_memory (answers plan asked.policy asked.header) refl
 memory_does Explain asked plan = record { outs_alone = All-nil IsOut; told = refl }
+memory_does Sample asked plan = (refl, tt)
 
 -- a run over lines without fault is done, or memory was wanting
 pub complete : (a : Answers) (status : Status) (J : List Entry) (reads reads' writes writes' : ℕ) → Ends a status J → Counts reads reads' writes writes' status →
@@ -76,11 +78,33 @@ complete a ReadFault J r r' w w' ends counts none few reads writes = absurd (rea
 complete a WriteFault J r r' w w' ends counts none few reads writes = absurd (writes counts)
 complete a Memory J r r' w w' ends counts none few reads writes = inr refl
 
+pub complete_told : (plan : PlanParts) (status : Status) (J : List Entry) (reads reads' writes writes' : ℕ) → Tells plan status J → Counts reads reads' writes writes' status →
+    (Rose writes writes' → ⊥) → (status ≡ Done) ⊎ (status ≡ Memory)
+complete_told plan Done J r r' w w' tells counts writes = inl refl
+complete_told plan WriteFault J r r' w w' tells counts writes = absurd (writes counts)
+complete_told plan Memory J r r' w w' tells counts writes = inr refl
+complete_told plan status J r r' w w' tells counts writes = absurd tells.told
+
+pub complete_summed : (a : Answers) (lines : List (List ℕ)) (status : Status) (J : List Entry) (reads reads' writes writes' : ℕ) → Sums a lines status J → Counts reads reads' writes writes' status →
+    a.fault lines true ≡ None → (Rose writes writes' → ⊥) → (status ≡ Done) ⊎ (status ≡ Memory)
+complete_summed a lines Done J r r' w w' sums counts none writes = inl refl
+complete_summed a lines (Malformed line cause) J r r' w w' sums counts none writes = absurd (let e = sym sums.1 ∙ none in cc)
+complete_summed a lines (Late line time bound) J r r' w w' sums counts none writes = absurd (let e = sym sums.1 ∙ none in cc)
+complete_summed a lines (Overflow punct node time) J r r' w w' sums counts none writes = absurd (let e = sym sums.1 ∙ none in cc)
+complete_summed a lines WriteFault J r r' w w' sums counts none writes = absurd (writes counts)
+complete_summed a lines Memory J r r' w w' sums counts none writes = inr refl
+complete_summed a lines status J r r' w w' sums counts none writes = absurd sums.1
+
 mode_once : (m n : Mode) → mode_text m ≡ mode_text n → m ≡ n
 mode_once Run Run e = refl
 mode_once Run Explain e = cc
+mode_once Run Sample e = cc
 mode_once Explain Run e = cc
 mode_once Explain Explain e = refl
+mode_once Explain Sample e = cc
+mode_once Sample Run e = cc
+mode_once Sample Explain e = cc
+mode_once Sample Sample e = refl
 
 flag_once : (b d : Bool) → bool_text b ≡ bool_text d → b ≡ d
 flag_once true true e = refl
@@ -105,30 +129,18 @@ late_once ways.Adjust ways.Refuse e = apart (codes "adjust") (codes "refuse") re
 late_once ways.Adjust ways.Drop e = apart (codes "adjust") (codes "drop") refl e
 late_once ways.Adjust ways.Adjust e = refl
 
-policy_is : (p r : Policy) → p.lateness ≡ r.lateness → p.late ≡ r.late → p.period ≡ r.period → p ≡ r
-policy_is p r e f g =
-    let one : p ≡ record { lateness = r.lateness; late = p.late; period = p.period } = ap (λ (n : ℕ). let x : Policy = record { lateness = n; late = p.late; period = p.period } in x) e in
-    let two : record { lateness = r.lateness; late = p.late; period = p.period } ≡ record { lateness = r.lateness; late = r.late; period = p.period } = ap (λ (n : Lateness). let x : Policy = record { lateness = r.lateness; late = n; period = p.period } in x) f in
-    one ∙ (two ∙ ap (λ (n : ℕ). let x : Policy = record { lateness = r.lateness; late = r.late; period = n } in x) g)
-
-asked_is : (a b : Asked) → a.query ≡ b.query → a.mode ≡ b.mode → a.batch ≡ b.batch → a.header ≡ b.header → a.policy ≡ b.policy → a ≡ b
-asked_is a b query mode batch header policy =
-    let one : a ≡ record { query = b.query; mode = a.mode; batch = a.batch; header = a.header; policy = a.policy } = ap (λ (n : List ℕ). let x : Asked = record { query = n; mode = a.mode; batch = a.batch; header = a.header; policy = a.policy } in x) query in
-    let two : record { query = b.query; mode = a.mode; batch = a.batch; header = a.header; policy = a.policy } ≡ record { query = b.query; mode = b.mode; batch = a.batch; header = a.header; policy = a.policy } = ap (λ (n : Mode). let x : Asked = record { query = b.query; mode = n; batch = a.batch; header = a.header; policy = a.policy } in x) mode in
-    let three : record { query = b.query; mode = b.mode; batch = a.batch; header = a.header; policy = a.policy } ≡ record { query = b.query; mode = b.mode; batch = b.batch; header = a.header; policy = a.policy } = ap (λ (n : ℕ). let x : Asked = record { query = b.query; mode = b.mode; batch = n; header = a.header; policy = a.policy } in x) batch in
-    let four : record { query = b.query; mode = b.mode; batch = b.batch; header = a.header; policy = a.policy } ≡ record { query = b.query; mode = b.mode; batch = b.batch; header = b.header; policy = a.policy } = ap (λ (n : Bool). let x : Asked = record { query = b.query; mode = b.mode; batch = b.batch; header = n; policy = a.policy } in x) header in
-    one ∙ (two ∙ (three ∙ (four ∙ ap (λ (n : Policy). let x : Asked = record { query = b.query; mode = b.mode; batch = b.batch; header = b.header; policy = n } in x) policy)))
-
 -- words spell one command
 pub one_command : (words : List (List ℕ)) (a b : Asked) → SpellsCommand words a → SpellsCommand words b → a ≡ b
-one_command words a b p q = asked_is a b
+one_command words a b p q = asked_is a.query b.query a.mode b.mode a.batch b.batch a.header b.header a.policy b.policy a.number b.number a.events b.events
     (some_once _ a.query b.query p.query q.query)
     (mode_once a.mode b.mode (some_once _ (mode_text a.mode) (mode_text b.mode) p.mode q.mode))
     (some_once _ a.batch b.batch p.batch q.batch)
     (flag_once a.header b.header (some_once _ (bool_text a.header) (bool_text b.header) p.header q.header))
-    (policy_is a.policy b.policy (some_once _ a.policy.lateness b.policy.lateness p.lateness q.lateness)
+    (policy_is a.policy.lateness b.policy.lateness a.policy.late b.policy.late a.policy.period b.policy.period (some_once _ a.policy.lateness b.policy.lateness p.lateness q.lateness)
     (late_once a.policy.late b.policy.late (some_once _ (late_text a.policy.late) (late_text b.policy.late) p.late q.late))
     (some_once _ a.policy.period b.policy.period p.punctuate q.punctuate))
+    (some_once _ a.number b.number p.number q.number)
+    (some_once _ a.events b.events p.events q.events)
 
 -- what was done for the command that the words spell was done for the job that they ask for
 pub does_of : {a b : Option (List Entry)} (words : List (List ℕ)) (asked : Asked) (status : Status) → SpellsCommand words asked →

@@ -6,3 +6,4 @@ pub mod Stopping
 pub mod Journals
 pub mod Pieces
 pub mod Jobs
+pub mod Summed

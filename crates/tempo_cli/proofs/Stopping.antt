@@ -7,16 +7,17 @@ use Rattle.wire_lines.specs.Cutter.{CutterState}
 use Rattle.wire_lines.specs.Cuts.{GivesLine}
 use Rattle.admission.specs.Progress.{Fault, fault}
 use Rattle.tempo_engine.specs.Faults.{IsFaultOf}
+use Rattle.tempo_engine.specs.Output.{plan_text}
 use Rattle.tempo_engine.specs.declared.fault.EngineFault.{EngineFault}
 use Rattle.tempo_engine.specs.declared.fault.EngineFault.TheVariants.{Bad, Late, Overflow, Memory}
 use Rattle.tempo_cli.specs.Answers.{Answers, IsFinal, IsFront}
 use Rattle.tempo_cli.specs.Told.{told}
-use Rattle.tempo_cli.specs.Table.{limit, IsEnd, IsRefused, IsShort}
+use Rattle.tempo_cli.specs.Table.{limit, IsDone, IsEnd, IsRefused, IsShort}
 use Rattle.tempo_cli.specs.Feeding.{Asked, answers_to, status_at, Took, Within, Ended}
 use Rattle.tempo_cli.specs.declared.session.Session.{Session}
 use Rattle.tempo_cli.proofs.Lines.{lines_are_free}
 use Rattle.tempo_cli.proofs.Moves.{refused, short}
-use Rattle.tempo_cli.proofs.Fed.{same_fault}
+use Rattle.tempo_cli.proofs.Fed.{same_fault, same_text}
 use Rattle.tempo_cli.proofs.Final.{answers_final}
 
 -- at a line
@@ -73,6 +74,17 @@ end_stops q bytes written s e f is = go f (subst (IsFaultOf f) (same_fault q.pla
     go (Late n time bound) h = refused_end (answers_to q) final bytes written _ e.few e.fine e.so_far h
     go (Overflow punctuation node time) h = refused_end (answers_to q) final bytes written _ e.few e.fine e.so_far h
     go Memory h = short_end (answers_to q) bytes written e.so_far
+
+-- all that is due was written
+pub end_done : (q : Asked) (bytes written out : List ℕ) (s : Session) (e : Ended q bytes written s) → fault q.plan q.policy e.engine.fed true ≡ None →
+    plan_text q.plan q.policy e.engine.fed true ≡ plan_text q.plan q.policy e.engine.fed false ++ out → IsDone (answers_to q) bytes (written ++ out) true
+end_done q bytes written out s e fine grows =
+    let all = told q.plan.streams q.header (lines bytes true) in
+    record {
+      at_end = refl;
+      no_fault = sym (same_fault q.plan q.policy e.engine.fed all true e.engine.same) ∙ fine;
+      written = ap (λ x. x ++ out) (e.so_far ∙ sym (same_text q.plan q.policy e.engine.fed all false e.engine.same)) ∙ (sym grows ∙ same_text q.plan q.policy e.engine.fed all true e.engine.same);
+    }
 
 -- a front of what is due for the last line went out
 pub end_front : (q : Asked) (bytes before out front : List ℕ) (s : Session) → Ended q bytes (before ++ out) s → IsFront front out → IsFront (before ++ front) ((answers_to q).text (lines bytes true) true)

@@ -12,10 +12,12 @@ use Rattle.query_plan.specs.Planned.{planned}
 use Rattle.query_plan.specs.Explained.{explained}
 use Rattle.command_line.specs.Words.{Asked, SpellsCommand, are_taken}
 use Rattle.command_line.specs.declared.words.Mode.{Mode}
-use Rattle.command_line.specs.declared.words.Mode.TheVariants.{Run, Explain}
+use Rattle.command_line.specs.declared.words.Mode.TheVariants.{Run, Explain, Sample}
+use Rattle.sample_trades.specs.Lines.{sample_lines}
 use Rattle.tempo_cli.specs.Answers.{IsFront}
 use Rattle.tempo_cli.specs.Table.{Ends}
 use Rattle.tempo_cli.specs.Told.{answers}
+use Rattle.tempo_cli.specs.Summing.{Sums}
 use Rattle.tempo_cli.specs.declared.status.Status.{Status}
 use Rattle.tempo_cli.specs.declared.status.Status.TheVariants.{Done, BadWords, BadQuery, WriteFault, Memory}
 
@@ -60,10 +62,12 @@ pub record Tells (plan : PlanParts) (status : Status) (J : List Entry) : Type 0 
   pub outs_alone : All IsOut J
   pub told : IsTold status (explained plan) (outs J)
 
--- in mode run the query is answered, and in mode explain its plan is told
+-- in mode run the query is answered, in mode explain its plan is told, and in mode sample the answer to generated lines is
+-- summed up
 abbrev pub DoesMode : Mode → Asked → PlanParts → Status → List Entry → Type 0
 DoesMode Run asked plan status J = Ends (answers plan asked.policy asked.header) status J
 DoesMode Explain asked plan status J = Tells plan status J
+DoesMode Sample asked plan status J = Sums (answers plan asked.policy asked.header) (sample_lines asked.number asked.events) status J
 
 -- what a run has done for a job. J is what it added to the journal of its wire. Where nothing is asked for that can be done,
 -- nothing came in or went out

@@ -7,6 +7,7 @@ mod answer;
 mod laws;
 mod note;
 mod run;
+mod sampling;
 mod session;
 mod status;
 #[cfg(test)]
@@ -15,6 +16,7 @@ mod tests;
 pub use laws::{runs_are_complete, words_ask_for_one_job};
 use note::note;
 pub use run::run;
+pub use sampling::Sampling;
 pub use session::{Session, Step};
 pub use status::Status;
 use std::alloc::{AllocError, Global};

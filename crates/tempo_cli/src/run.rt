@@ -12,12 +12,14 @@ ghost use Rattle.plan_model.specs.declared.fault.QueryFault.{QueryFault as SomeF
 
 use crate::answer::answer;
 use crate::note::note;
+use crate::sampling::sum_up;
 use crate::status::Status;
 use command_line::{CommandLine, Mode, WordsFault, read_words};
 use egress::send;
 use plan_model::{Plan, QueryError};
 use query_plan::{explain, plan};
 use query_text::parse;
+use sample_trades::Sample;
 use std::alloc::Global;
 use tempo_engine::Options;
 use wire_lines::{Wire, WriteFailed};
@@ -48,20 +50,23 @@ fn tell<W: Wire>(alloc: Global, plan: &Plan, wire: &mut W) -> Status
 /// Does what the mode says with the plan.
 fn do_mode<W: Wire>(alloc: Global, asked: &CommandLine<'_>, plan: Plan, wire: &mut W) -> Status
     requires batch { 1 ≤ asked.now.batch }
+    requires events { asked.now.events ≤ 1000000 }
     requires built { IsTrue (list_all is_built plan.nodes) }
     ensures asked { IsAsked result }
     ensures does { Grows (W.journal wire.old) (W.journal wire.new) (DoesMode asked.now.mode (asked_by asked.now) plan result) }
     ensures counts { Counts (W.read_faults wire.old) (W.read_faults wire.new) (W.write_faults wire.old) (W.write_faults wire.new) result }
 {
+    let options = Options {
+        batch: asked.batch,
+        policy: asked.policy,
+    };
     match asked.mode {
-        Mode::Run => {
-            let options = Options {
-                batch: asked.batch,
-                policy: asked.policy,
-            };
-            answer(alloc, plan, options, asked.header, wire)
-        }
+        Mode::Run => answer(alloc, plan, options, asked.header, wire),
         Mode::Explain => tell(alloc, &plan, wire),
+        Mode::Sample => {
+            let sample = Sample::new(asked.number, asked.events);
+            sum_up(alloc, plan, options, asked.header, sample, wire)
+        }
     }
 }
 

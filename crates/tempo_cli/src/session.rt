@@ -42,7 +42,7 @@ pub enum Step {
 }
 
 /// The status of a run that the engine's fault ends.
-fn status_of(fault: EngineFault) -> Status
+pub(crate) fn status_of(fault: EngineFault) -> Status
     ensures status { result ≡ status_at fault }
     ensures own { IsOwn result }
 {
@@ -63,7 +63,7 @@ fn status_of(fault: EngineFault) -> Status
 }
 
 /// Feeds the line of that number; a header is not read.
-fn feed(
+pub(crate) fn feed(
     alloc: Global,
     engine: &mut Engine,
     header: bool,
@@ -84,7 +84,6 @@ fn feed(
 
 impl Session {
     /// Nothing fed. With a header line 1 is not read.
-    #[tactic(auto, unfolding(crate::specs::Table::limit))]
     pub fn new(alloc: Global, plan: Plan, options: Options, header: bool) -> Result<Session, Memory>
         requires batch { 1 ≤ options.batch }
         requires built { IsTrue (list_all is_built plan.nodes) }

@@ -136,6 +136,32 @@ fn queries_are_explained_or_refused(rt: HostRuntime) -> Result<(), Memory> {
 }
 
 #[test]
+fn an_answer_to_generated_lines_is_summed_up(rt: HostRuntime) -> Result<(), Memory> {
+    let cases = [
+        (
+            "stream trades(id int, sym text, px int, qty int); trades",
+            0,
+            "starts 200\nends 200\npuncts 3\n",
+            "",
+        ),
+        (
+            "stream trades(id int, sym text, px int); trades",
+            4,
+            "",
+            "line 1: wrong number of fields\n",
+        ),
+    ];
+    for (query, number, output, note) in cases {
+        let words = ["tempo", "--query", query, "--mode", "sample", "--events", "200"];
+        let ran = run_over(rt.alloc(), &words, "x", 1, None)?;
+        assert_eq!(rt; ran.status.number(), number, "{query}");
+        assert!(rt; ran.output.as_slice() == output.as_bytes(), "{query}");
+        assert!(rt; ran.notes.as_slice() == note.as_bytes(), "{query}");
+    }
+    Ok(())
+}
+
+#[test]
 fn a_failed_call_has_its_status(rt: HostRuntime) -> Result<(), Memory> {
     let cases = [
         (0, 8, "", "read failed\n"),

@@ -1,0 +1,189 @@
+// A query answered over generated lines, and the summary of the answer.
+ghost use Rattle.std.specs.Prelude.{◌≡◌, ◌≤◌, ◌<◌, ◌+◌, [], IfOk, IfErr, OnOk, List, ℕ, None, map, length, IsTrue, true, false};
+ghost use Rattle.std.specs.List.{list_all};
+ghost use Rattle.wire_lines.specs.Journal.{Grows};
+ghost use Rattle.built_nodes.specs.Built.{is_built};
+ghost use Rattle.sample_trades.specs.Lines.{line_of};
+ghost use Rattle.sample_trades.specs.ToCome.{to_come};
+ghost use Rattle.tempo_cli.specs.Told.{answers};
+ghost use Rattle.tempo_cli.specs.Summing.{IsFailed, Sums, summary_for};
+ghost use Rattle.tempo_cli.specs.Feeding.{Asked, answers_to, IsAsked, IsOwn};
+ghost use Rattle.tempo_cli.specs.Sampled.{Sampled};
+ghost use Rattle.tempo_cli.specs.Status.{Counts};
+
+use crate::session::{feed, status_of};
+use crate::status::Status;
+use egress::send;
+use plan_model::Plan;
+use sample_trades::{LineCounts, Sample};
+use std::alloc::Global;
+use tempo_engine::{Engine, Options};
+use tw_rows::Memory;
+use wire_lines::{Wire, WriteFailed};
+
+/// A query at work on generated lines: the lines still to come, the one that was fed last and its number, and the counts of the
+/// answer so far.
+#[derive(Drop)]
+pub struct Sampling {
+    pub alloc: Global,
+    pub engine: Engine,
+    pub header: bool,
+    pub sample: Sample,
+    pub line: Vec<u8>,
+    pub number: u64,
+    pub counts: LineCounts,
+}
+
+impl Sampling {
+    /// No line fed.
+    pub fn new(
+        alloc: Global,
+        plan: Plan,
+        options: Options,
+        header: bool,
+        sample: Sample,
+    ) -> Result<Sampling, Memory>
+        requires batch { 1 ≤ options.batch }
+        requires built { IsTrue (list_all is_built plan.nodes) }
+        ensures sampled { IfOk result (λ s. Sampled (record { plan = plan; policy = options.policy; header = header }) (map line_of (to_come sample)) s) }
+        ensures number { IfOk result (λ s. s.number ≡ 0) }
+        ensures to_come { IfOk result (λ s. to_come s.sample ≡ to_come sample) }
+    {
+        let engine = Engine::new(alloc, plan, options)?;
+        let counts = LineCounts::new(alloc);
+        Ok(Sampling {
+            alloc,
+            engine,
+            header,
+            sample,
+            line: Vec::new(alloc),
+            number: 0,
+            counts,
+        })
+    }
+
+    /// What the next line comes to: it is counted, and there may be another; or there was none.
+    fn feed_next(&mut self) -> Result<bool, Status>
+        requires few { self.old.number + length (to_come self.old.sample) ≤ 2000000 }
+        ensures few { IfOk result (λ _. self.new.number + length (to_come self.new.sample) ≤ 2000000) }
+        ensures sampled { IfOk result (λ _. (q : Asked) (all : List (List ℕ)) → Sampled q all self.old → Sampled q all self.new) }
+        ensures less { IfOk result (λ more. more ≡ true → length (to_come self.new.sample) < length (to_come self.old.sample)) }
+        ensures end { IfOk result (λ more. more ≡ false → to_come self.new.sample ≡ []) }
+        ensures failed { IfErr result (λ status. (q : Asked) (all : List (List ℕ)) → Sampled q all self.old → IsFailed (answers_to q) all status) }
+        ensures own { IfErr result IsOwn }
+    {
+        let Some(next) = self.sample.next_line() else {
+            return Ok(false);
+        };
+        match next.write(&mut self.line) {
+            Ok(()) => {}
+            Err(Memory) => return Err(Status::Memory),
+        }
+        self.number += 1;
+        let out = match feed(
+            self.alloc,
+            &mut self.engine,
+            self.header,
+            self.number,
+            &self.line,
+        ) {
+            Ok(out) => out,
+            Err(fault) => return Err(status_of(fault)),
+        };
+        match self.counts.add(&out) {
+            Ok(()) => Ok(true),
+            Err(Memory) => Err(Status::Memory),
+        }
+    }
+
+    fn feed_all(&mut self) -> Result<(), Status>
+        requires few { self.old.number + length (to_come self.old.sample) ≤ 2000000 }
+        ensures sampled { OnOk result ((q : Asked) (all : List (List ℕ)) → Sampled q all self.old → Sampled q all self.new) }
+        ensures end { OnOk result (to_come self.new.sample ≡ []) }
+        ensures failed { IfErr result (λ status. (q : Asked) (all : List (List ℕ)) → Sampled q all self.old → IsFailed (answers_to q) all status) }
+        ensures own { IfErr result IsOwn }
+    {
+        'lines: loop {
+            match self.feed_next() {
+                Ok(more) => {
+                    if !more {
+                        return Ok(());
+                    }
+                }
+                Err(status) => return Err(status),
+            }
+        }
+    }
+
+    /// The summary, after all lines.
+    fn finish(&mut self) -> Result<Vec<u8>, Status>
+        requires end { to_come self.old.sample ≡ [] }
+        ensures fine { IfOk result (λ _. (q : Asked) (all : List (List ℕ)) → Sampled q all self.old → (answers_to q).fault all true ≡ None) }
+        ensures text { IfOk result (λ text. (q : Asked) (all : List (List ℕ)) → Sampled q all self.old → text.items ≡ summary_for (answers_to q) all) }
+        ensures failed { IfErr result (λ status. (q : Asked) (all : List (List ℕ)) → Sampled q all self.old → IsFailed (answers_to q) all status) }
+        ensures own { IfErr result IsOwn }
+    {
+        let last = match self.engine.finish() {
+            Ok(last) => last,
+            Err(fault) => return Err(status_of(fault)),
+        };
+        match self.counts.add(&last) {
+            Ok(()) => {}
+            Err(Memory) => return Err(Status::Memory),
+        }
+        match self.counts.summary(self.alloc) {
+            Ok(text) => Ok(text),
+            Err(Memory) => Err(Status::Memory),
+        }
+    }
+}
+
+/// The summary of what the plan answers to the lines.
+fn summed_up(
+    alloc: Global,
+    plan: Plan,
+    options: Options,
+    header: bool,
+    sample: Sample,
+) -> Result<Vec<u8>, Status>
+    requires batch { 1 ≤ options.batch }
+    requires built { IsTrue (list_all is_built plan.nodes) }
+    requires few { length (to_come sample) ≤ 2000000 }
+    ensures fine { IfOk result (λ _. (answers plan options.policy header).fault (map line_of (to_come sample)) true ≡ None) }
+    ensures text { IfOk result (λ text. text.items ≡ summary_for (answers plan options.policy header) (map line_of (to_come sample))) }
+    ensures failed { IfErr result (IsFailed (answers plan options.policy header) (map line_of (to_come sample))) }
+    ensures own { IfErr result IsOwn }
+{
+    let Ok(mut sampling) = Sampling::new(alloc, plan, options, header, sample) else {
+        return Err(Status::Memory);
+    };
+    match sampling.feed_all() {
+        Ok(()) => sampling.finish(),
+        Err(status) => Err(status),
+    }
+}
+
+/// Answers the lines of the sample, and writes the summary of the answer.
+pub fn sum_up<W: Wire>(
+    alloc: Global,
+    plan: Plan,
+    options: Options,
+    header: bool,
+    sample: Sample,
+    wire: &mut W,
+) -> Status
+    requires batch { 1 ≤ options.batch }
+    requires built { IsTrue (list_all is_built plan.nodes) }
+    requires few { length (to_come sample) ≤ 2000000 }
+    ensures sums { Grows (W.journal wire.old) (W.journal wire.new) (Sums (answers plan options.policy header) (map line_of (to_come sample)) result) }
+    ensures asked { IsAsked result }
+    ensures counts { Counts (W.read_faults wire.old) (W.read_faults wire.new) (W.write_faults wire.old) (W.write_faults wire.new) result }
+{
+    match summed_up(alloc, plan, options, header, sample) {
+        Ok(text) => match send(wire, &text) {
+            Ok(()) => Status::Done,
+            Err(WriteFailed) => Status::WriteFault,
+        },
+        Err(status) => status,
+    }
+}
