@@ -34,7 +34,9 @@ use row_reader::Entry;
 use std::alloc::Global;
 use std::collections::VecDeque;
 use std::time::Instant;
-use tw_rows::{CellKind, ColumnDef, Kind, Label, Memory, Row, Schema, StreamDef, TextTable, Time, Value};
+use tw_rows::{
+    CellKind, ColumnDef, Kind, Label, Memory, Row, Schema, StreamDef, TextTable, Time, Value,
+};
 
 const GROUP: u64 = 100;
 
@@ -78,24 +80,29 @@ fn entry(alloc: Global, number: u64, form: Form, sync: Time, other: Time) -> Res
     })
 }
 
-// A trade of the number.
-fn trade(alloc: Global, number: u64) -> Result<Entry, Memory>
-    ensures { IfOk result (λ e. Fits ((CellKind.Whole ∷ CellKind.Place ∷ CellKind.Whole ∷ CellKind.Whole ∷ []) ∷ []) e) }
-{
-    let sync = at(number.wrapping_mul(2));
-    entry(alloc, number, Form::Interval, sync, sync.plus(1 + number.wrapping_mul(104729) % 20))
+// The times of the line of that number: of a trade, a start, or an end.
+fn times(form: Form, number: u64) -> (Time, Time) {
+    match form {
+        Form::Interval => {
+            let sync = at(number.wrapping_mul(2));
+            (sync, sync.plus(1 + number.wrapping_mul(104729) % 20))
+        }
+        Form::Start => (at(number), Time::bounds().1),
+        Form::End => (at(1_000_000), at(number)),
+    }
 }
 
-fn start(alloc: Global, number: u64) -> Result<Entry, Memory>
+// The line of that number: ends go down from it.
+fn line(alloc: Global, form: Form, first: u64, i: u64) -> Result<Entry, Memory>
     ensures { IfOk result (λ e. Fits ((CellKind.Whole ∷ CellKind.Place ∷ CellKind.Whole ∷ CellKind.Whole ∷ []) ∷ []) e) }
 {
-    entry(alloc, number, Form::Start, at(number), Time::bounds().1)
-}
-
-fn end(alloc: Global, number: u64) -> Result<Entry, Memory>
-    ensures { IfOk result (λ e. Fits ((CellKind.Whole ∷ CellKind.Place ∷ CellKind.Whole ∷ CellKind.Whole ∷ []) ∷ []) e) }
-{
-    entry(alloc, number, Form::End, at(1_000_000), at(number))
+    let number = if matches!(&form, Form::End) {
+        first.wrapping_sub(i)
+    } else {
+        first.wrapping_add(i)
+    };
+    let (sync, other) = times(form, number);
+    entry(alloc, number, form, sync, other)
 }
 
 // The entries of that kind from a number on: trades, starts or ends.
@@ -104,12 +111,7 @@ fn entries(alloc: Global, form: Form, first: u64) -> Result<VecDeque<Entry>, Mem
 {
     let mut entries = VecDeque::new(alloc);
     for i in 0..GROUP {
-        let made = match form {
-            Form::Interval => trade(alloc, first.wrapping_add(i))?,
-            Form::Start => start(alloc, first.wrapping_add(i))?,
-            Form::End => end(alloc, first.wrapping_sub(i))?,
-        };
-        entries.push_back(made)?;
+        entries.push_back(line(alloc, form, first, i)?)?;
     }
     Ok(entries)
 }
@@ -168,7 +170,7 @@ fn admit_all(ingress: &mut Ingress, texts: &mut TextTable, mut entries: VecDeque
     ensures capacity { ingress.new.capacity ≡ ingress.old.capacity }
 {
     let mut refused: u64 = 0;
-    'entries: while let Some(entry) = entries.pop_front() {
+    'lines: while let Some(entry) = entries.pop_front() {
         if ingress.admit(entry, texts).is_err() {
             refused = refused.wrapping_add(1);
         }
@@ -179,8 +181,8 @@ fn admit_all(ingress: &mut Ingress, texts: &mut TextTable, mut entries: VecDeque
 // Releases the edges before a time, and tells how many there are.
 fn release(ingress: &mut Ingress, pools: &mut Pools, p: Time) -> Result<u64, Memory>
     requires capacity { pools.old.capacity ≡ ingress.old.capacity }
-    ensures cells { cells_of ingress.new ≡ cells_of ingress.old }
-    ensures capacity { ingress.new.capacity ≡ ingress.old.capacity }
+    ensures cells { OnOk result (cells_of ingress.new ≡ cells_of ingress.old) }
+    ensures capacity { OnOk result (ingress.new.capacity ≡ ingress.old.capacity) }
     ensures pools { OnOk result (pools.new.capacity ≡ pools.old.capacity) }
 {
     let last = ingress.released();
@@ -199,11 +201,115 @@ fn count(lists: &[EdgeList]) -> u64 {
     edges
 }
 
+// Admission at work, with its table of texts and the columns that are lent.
+#[derive(Drop)]
+struct Work {
+    ingress: Ingress,
+    texts: TextTable,
+    pools: Pools,
+}
+
+fn begun(alloc: Global) -> Result<Work, Memory>
+    ensures cells { IfOk result (λ w. cells_of w.ingress ≡ (CellKind.Whole ∷ CellKind.Place ∷ CellKind.Whole ∷ CellKind.Whole ∷ []) ∷ []) }
+    ensures capacity { IfOk result (λ w. w.ingress.capacity ≡ 128) }
+    ensures pools { IfOk result (λ w. w.pools.capacity ≡ 128) }
+{
+    let ingress = made(alloc)?;
+    let pools = Pools::new(alloc, 64, ROWS)?;
+    Ok(Work {
+        ingress,
+        texts: TextTable::new(alloc),
+        pools,
+    })
+}
+
+// Admits a hundred lines: the nanoseconds, and how many were refused.
+fn admit_group(
+    rt: &HostRuntime,
+    alloc: Global,
+    work: &mut Work,
+    form: Form,
+    first: u64,
+) -> Result<(u128, u64), anyhow::Error>
+    requires cells { cells_of work.old.ingress ≡ (CellKind.Whole ∷ CellKind.Place ∷ CellKind.Whole ∷ CellKind.Whole ∷ []) ∷ [] }
+    ensures cells { OnOk result (cells_of work.new.ingress ≡ (CellKind.Whole ∷ CellKind.Place ∷ CellKind.Whole ∷ CellKind.Whole ∷ []) ∷ []) }
+    ensures capacity { OnOk result (work.new.ingress.capacity ≡ work.old.ingress.capacity) }
+    ensures pools { OnOk result (work.new.pools ≡ work.old.pools) }
+{
+    let entries = entries(alloc, form, first)?;
+    let began = Instant::now(rt)?;
+    let refused = admit_all(&mut work.ingress, &mut work.texts, entries);
+    Ok((began.elapsed(rt)?.as_nanos(), refused))
+}
+
+// Releases the edges before a time: the nanoseconds, and how many edges there are.
+fn release_group(rt: &HostRuntime, work: &mut Work, p: Time) -> Result<(u128, u64), anyhow::Error>
+    requires capacity { work.old.pools.capacity ≡ work.old.ingress.capacity }
+    ensures cells { OnOk result (cells_of work.new.ingress ≡ cells_of work.old.ingress) }
+    ensures capacity { OnOk result (work.new.ingress.capacity ≡ work.old.ingress.capacity) }
+    ensures pools { OnOk result (work.new.pools.capacity ≡ work.old.pools.capacity) }
+{
+    let began = Instant::now(rt)?;
+    let edges = release(&mut work.ingress, &mut work.pools, p)?;
+    Ok((began.elapsed(rt)?.as_nanos(), edges))
+}
+
+// Trades, with a punctuation each hundred: the nanoseconds of admission and of release, and the edges.
+fn run_trades(rt: &HostRuntime, alloc: Global) -> Result<(u128, u128, u64), anyhow::Error> {
+    let mut work = begun(alloc)?;
+    let mut admitted: u128 = 0;
+    let mut released: u128 = 0;
+    let mut edges: u64 = 0;
+    for group in 0..10000u64 {
+        let first = group.wrapping_mul(GROUP);
+        let (spent, _) = admit_group(rt, alloc, &mut work, Form::Interval, first)?;
+        admitted = admitted.wrapping_add(spent);
+        let (spent, given) = release_group(rt, &mut work, at(first.wrapping_mul(2)))?;
+        released = released.wrapping_add(spent);
+        edges = edges.wrapping_add(given);
+    }
+    Ok((admitted, released, edges))
+}
+
+// So many groups of starts, or of ends from the last number down: the nanoseconds, and how many were refused.
+fn run_groups(
+    rt: &HostRuntime,
+    alloc: Global,
+    work: &mut Work,
+    form: Form,
+) -> Result<(u128, u64), anyhow::Error>
+    requires cells { cells_of work.old.ingress ≡ (CellKind.Whole ∷ CellKind.Place ∷ CellKind.Whole ∷ CellKind.Whole ∷ []) ∷ [] }
+    ensures cells { OnOk result (cells_of work.new.ingress ≡ (CellKind.Whole ∷ CellKind.Place ∷ CellKind.Whole ∷ CellKind.Whole ∷ []) ∷ []) }
+{
+    let mut spent: u128 = 0;
+    let mut refused: u64 = 0;
+    for group in 0..3000u64 {
+        let done = group.wrapping_mul(GROUP);
+        let first = if matches!(&form, Form::End) {
+            299_999u64.wrapping_sub(done)
+        } else {
+            done
+        };
+        let (time, late) = admit_group(rt, alloc, work, form, first)?;
+        spent = spent.wrapping_add(time);
+        refused = refused.wrapping_add(late);
+    }
+    Ok((spent, refused))
+}
+
+// Open starts, and their ends in opposite order.
+fn run_opens(rt: &HostRuntime, alloc: Global) -> Result<(u128, u128, u64), anyhow::Error> {
+    let mut work = begun(alloc)?;
+    let (opened, late) = run_groups(rt, alloc, &mut work, Form::Start)?;
+    let (ended, unmatched) = run_groups(rt, alloc, &mut work, Form::End)?;
+    Ok((opened, ended, late.wrapping_add(unmatched)))
+}
+
 fn main(rt: HostRuntime) -> Result<(), anyhow::Error> {
     let alloc = rt.alloc();
     for _ in 0..3 {
-        let (spent, out, edges) = run_trades(&rt, alloc)?;
-        println!(rt; "{spent} {out} {edges}")?;
+        let (admitted, released, edges) = run_trades(&rt, alloc)?;
+        println!(rt; "{admitted} {released} {edges}")?;
     }
     for _ in 0..3 {
         let (opened, ended, refused) = run_opens(&rt, alloc)?;
@@ -211,53 +317,36 @@ fn main(rt: HostRuntime) -> Result<(), anyhow::Error> {
     }
     Ok(())
 }
-
-// Trades, with a punctuation each hundred: the nanoseconds of admission and of release, and the edges.
-fn run_trades(rt: &HostRuntime, alloc: Global) -> Result<(u128, u128, u64), anyhow::Error> {
-    let mut ingress = made(alloc)?;
-    let mut texts = TextTable::new(alloc);
-    let mut pools = Pools::new(alloc, 64, ROWS)?;
-    let mut spent: u128 = 0;
-    let mut out: u128 = 0;
-    let mut edges: u64 = 0;
-    for group in 0..10000u64 {
-        let entries = entries(alloc, Form::Interval, group.wrapping_mul(GROUP))?;
-        let began = Instant::now(rt)?;
-        let refused = admit_all(&mut ingress, &mut texts, entries);
-        spent = spent.wrapping_add(began.elapsed(rt)?.as_nanos());
-        let began = Instant::now(rt)?;
-        let given = release(&mut ingress, &mut pools, at(group.wrapping_mul(GROUP).wrapping_mul(2)))?;
-        out = out.wrapping_add(began.elapsed(rt)?.as_nanos());
-        edges = edges.wrapping_add(given).wrapping_add(refused.wrapping_mul(1_000_000_000));
-    }
-    Ok((spent, out, edges))
-}
-
-// Open starts, and their ends in opposite order.
-fn run_opens(rt: &HostRuntime, alloc: Global) -> Result<(u128, u128, u64), anyhow::Error> {
-    let mut ingress = made(alloc)?;
-    let mut texts = TextTable::new(alloc);
-    let mut opened: u128 = 0;
-    let mut ended: u128 = 0;
-    let mut refused: u64 = 0;
-    for group in 0..3000u64 {
-        let entries = entries(alloc, Form::Start, group.wrapping_mul(GROUP))?;
-        let began = Instant::now(rt)?;
-        refused = refused.wrapping_add(admit_all(&mut ingress, &mut texts, entries));
-        opened = opened.wrapping_add(began.elapsed(rt)?.as_nanos());
-    }
-    for group in 0..3000u64 {
-        let last = 300_000u64.wrapping_sub(group.wrapping_mul(GROUP)).wrapping_sub(1);
-        let entries = entries(alloc, Form::End, last)?;
-        let began = Instant::now(rt)?;
-        refused = refused.wrapping_add(admit_all(&mut ingress, &mut texts, entries));
-        ended = ended.wrapping_add(began.elapsed(rt)?.as_nanos());
-    }
-    Ok((opened, ended, refused))
-}
 """
 
 PROOFS = {
+    "admit_all/Answers.antt": """use Rattle.std.specs.Prelude.{All, map}
+use Rattle.std.proofs.Common.{◌∙◌, ap, sym, subst, length, arith, [], ◌∷◌}
+use Rattle.std.proofs.lemmas.List.Elements.{All-head, All-tail}
+use Rattle.tw_rows.specs.Kinds.{cell_kind_of}
+use Rattle.tw_rows.specs.declared.kind.CellKind.TheVariants.{Whole, Place}
+use Rattle.row_reader.specs.declared.entry.Entry.{Entry}
+use Rattle.ingress.specs.Fits.{Fits}
+use Rattle.ingress_bench.proofs.admit_all.Goals as goal
+
+abbrev IsFit : Entry → Type 0
+IsFit e = Fits ((Whole ∷ Place ∷ Whole ∷ Whole ∷ []) ∷ []) e
+
+pub admit-requires : goal.admit-requires
+admit-requires c =
+    subst (λ cells. Fits cells c.in-Some.entry) (sym c.lines.invariant.cells)
+    (All-head IsFit c.in-Some.entry c.pop_front.new.self.items (subst (All IsFit) c.in-Some.ensures.items c.lines.invariant.fit))
+
+pub lines-preserved : goal.lines-preserved
+lines-preserved c = record {
+  fit = All-tail IsFit c.in-Some.entry c.pop_front.new.self.items (subst (All IsFit) c.in-Some.ensures.items c.lines.invariant.fit);
+  cells = ap (λ k. map (λ x. map cell_kind_of x) (map (λ x. x.items) k.items)) c.admit.ensures.fixed.kinds ∙ c.lines.invariant.cells;
+  capacity = c.admit.ensures.fixed.capacity ∙ c.lines.invariant.capacity;
+}
+
+pub lines-smaller : goal.lines-smaller
+lines-smaller c = omega (arith, ap length c.in-Some.ensures.items)
+""",
     "admit_all/Invariants.antt": """use Rattle.std.proofs.Common.{◌≡◌, [], ◌∷◌, length}
 use Rattle.std.specs.Prelude.{All}
 use Rattle.tw_rows.specs.declared.kind.CellKind.TheVariants.{Whole, Place}
@@ -265,15 +354,15 @@ use Rattle.ingress.specs.Fits.{Fits}
 use Rattle.ingress.specs.Admits.{cells_of}
 use Rattle.ingress_bench.proofs.admit_all.Given as goal
 
-abbrev pub invariant-entries : goal.invariant-entries
-invariant-entries l = record {
+abbrev pub invariant-lines : goal.invariant-lines
+invariant-lines l = record {
   fit : All (λ e. Fits ((Whole ∷ Place ∷ Whole ∷ Whole ∷ []) ∷ []) e) l.entries.items;
   cells : cells_of l.ingress ≡ (Whole ∷ Place ∷ Whole ∷ Whole ∷ []) ∷ [];
   capacity : l.ingress.capacity ≡ l.initial.ingress.capacity;
 }
 
-abbrev pub decreases-entries : goal.decreases-entries
-decreases-entries l = length l.entries.items
+abbrev pub decreases-lines : goal.decreases-lines
+decreases-lines l = length l.entries.items
 """,
     "entries/Invariants.antt": """use Rattle.std.proofs.Common.{[], ◌∷◌}
 use Rattle.std.specs.Prelude.{All}
@@ -284,22 +373,21 @@ use Rattle.ingress_bench.proofs.entries.Given as goal
 abbrev pub invariant-loop-i : goal.invariant-loop-i
 invariant-loop-i l = All (λ e. Fits ((Whole ∷ Place ∷ Whole ∷ Whole ∷ []) ∷ []) e) l.entries.items
 """,
-    "run_opens/Invariants.antt": """use Rattle.std.proofs.Common.{◌≡◌, [], ◌∷◌}
+    "release/Answers.antt": """use Rattle.std.specs.Prelude.{map}
+use Rattle.std.proofs.Common.{ap, refl}
+use Rattle.tw_rows.specs.Kinds.{cell_kind_of}
+use Rattle.ingress_bench.proofs.release.Goals as goal
+
+pub returns-clause-cells : goal.returns-clause-cells
+returns-clause-cells c = ap (λ k. map (λ x. map cell_kind_of x) (map (λ x. x.items) k.items)) c.release.ensures.fixed.kinds
+""",
+    "run_groups/Invariants.antt": """use Rattle.std.proofs.Common.{◌≡◌, [], ◌∷◌}
 use Rattle.tw_rows.specs.declared.kind.CellKind.TheVariants.{Whole, Place}
 use Rattle.ingress.specs.Admits.{cells_of}
-use Rattle.ingress_bench.proofs.run_opens.Given as goal
+use Rattle.ingress_bench.proofs.run_groups.Given as goal
 
 abbrev pub invariant-loop-group : goal.invariant-loop-group
-invariant-loop-group l = record {
-  cells : cells_of l.ingress ≡ (Whole ∷ Place ∷ Whole ∷ Whole ∷ []) ∷ [];
-  capacity : l.ingress.capacity ≡ 128;
-}
-
-abbrev pub invariant-loop-group-2 : goal.invariant-loop-group-2
-invariant-loop-group-2 l = record {
-  cells : cells_of l.ingress ≡ (Whole ∷ Place ∷ Whole ∷ Whole ∷ []) ∷ [];
-  capacity : l.ingress.capacity ≡ 128;
-}
+invariant-loop-group l = cells_of l.work.ingress ≡ (Whole ∷ Place ∷ Whole ∷ Whole ∷ []) ∷ []
 """,
     "run_trades/Invariants.antt": """use Rattle.std.proofs.Common.{◌≡◌, [], ◌∷◌}
 use Rattle.tw_rows.specs.declared.kind.CellKind.TheVariants.{Whole, Place}
@@ -308,9 +396,9 @@ use Rattle.ingress_bench.proofs.run_trades.Given as goal
 
 abbrev pub invariant-loop-group : goal.invariant-loop-group
 invariant-loop-group l = record {
-  cells : cells_of l.ingress ≡ (Whole ∷ Place ∷ Whole ∷ Whole ∷ []) ∷ [];
-  capacity : l.ingress.capacity ≡ 128;
-  pools : l.pools.capacity ≡ 128;
+  cells : cells_of l.work.ingress ≡ (Whole ∷ Place ∷ Whole ∷ Whole ∷ []) ∷ [];
+  capacity : l.work.ingress.capacity ≡ 128;
+  pools : l.work.pools.capacity ≡ 128;
 }
 """,
 }
