@@ -25,7 +25,7 @@ use tempo_engine::Options;
 use wire_lines::{Wire, WriteFailed};
 
 /// The plan of the query that the text spells.
-fn plan_of(alloc: Global, text: &str) -> Result<Plan, QueryError>
+pub(crate) fn plan_of(alloc: Global, text: &str) -> Result<Plan, QueryError>
     ensures { IsPlanned text.now result }
 {
     let query = parse(alloc, text)?;

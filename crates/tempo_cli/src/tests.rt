@@ -1,8 +1,13 @@
-// The whole run over wires in memory, against worked examples.
-use crate::run::run;
+// The whole run over wires in memory, and an engine line by line, against worked examples.
+use crate::run::{plan_of, run};
 use crate::status::Status;
+use admission::{Lateness, Policy};
+use plan_model::QueryError;
+use row_reader::BadLine;
 use std::alloc::Global;
-use tw_rows::Memory;
+use std::process::Abort;
+use tempo_engine::{Engine, EngineFault, Options};
+use tw_rows::{Memory, Time};
 use wire_lines::MemoryWire;
 
 const FILTER: &str = "stream s(k text, v int); s | where v > 10";
@@ -152,7 +157,9 @@ fn an_answer_to_generated_lines_is_summed_up(rt: HostRuntime) -> Result<(), Memo
         ),
     ];
     for (query, number, output, note) in cases {
-        let words = ["tempo", "--query", query, "--mode", "sample", "--events", "200"];
+        let words = [
+            "tempo", "--query", query, "--mode", "sample", "--events", "200",
+        ];
         let ran = run_over(rt.alloc(), &words, "x", 1, None)?;
         assert_eq!(rt; ran.status.number(), number, "{query}");
         assert!(rt; ran.output.as_slice() == output.as_bytes(), "{query}");
@@ -187,6 +194,115 @@ fn other_words_are_refused(rt: HostRuntime) -> Result<(), Memory> {
         assert_eq!(rt; ran.status, Status::BadWords);
         assert_eq!(rt; ran.steps, 0);
         assert!(rt; !ran.notes.is_empty());
+    }
+    Ok(())
+}
+
+const REFUSE: Policy = Policy {
+    lateness: 0,
+    late: Lateness::Refuse,
+    period: 10,
+};
+
+fn engine_of(alloc: Global, query: &str, policy: Policy) -> Result<Engine, QueryError> {
+    let plan = plan_of(alloc, query)?;
+    Ok(Engine::new(alloc, plan, Options { batch: 2, policy })?)
+}
+
+/// What the engine answers to the line of that number.
+fn answered(
+    rt: &impl Abort,
+    engine: &mut Engine,
+    number: u64,
+    line: &str,
+) -> Result<Vec<u8>, EngineFault> {
+    let bytes = line.as_bytes();
+    assert!(rt; bytes.len() <= 65536 && !bytes.contains(&b'\n'));
+    engine.feed_line(number, bytes)
+}
+
+/// Feeds lines that stand beside what each of them is to add to the text.
+fn feed_lines(rt: &impl Abort, engine: &mut Engine, lines: &[(&str, &str)]) {
+    let mut number: u64 = 0;
+    for (line, text) in lines {
+        number = number.saturating_add(1);
+        match answered(rt, engine, number, line) {
+            Ok(bytes) => assert!(rt; bytes.as_slice() == text.as_bytes(), "{line}"),
+            Err(_) => panic!(rt; "{line}"),
+        }
+    }
+}
+
+/// Line 6 is late: its time is 3, and the bound of its stream 22.
+fn late_line() -> EngineFault {
+    EngineFault::Late {
+        line: 6,
+        time: Time::ZERO.plus(3),
+        bound: Time::ZERO.plus(22),
+    }
+}
+
+#[test]
+fn an_engine_answers_each_line(rt: HostRuntime) -> Result<(), QueryError> {
+    let union = "stream l(k text, w int); stream r(k text, x int); l | union r";
+    let mut engine = engine_of(rt.alloc(), union, REFUSE)?;
+    let lines = [
+        ("l,interval,25,30,a,1", ""),
+        ("r,interval,5,8,b,2", ""),
+        (
+            "r,interval,14,16,c,3",
+            "out,start,5,inf,b,2\nout,end,8,5,b,2\n*,punct,10\n",
+        ),
+        ("l,punct,40", ""),
+        (
+            "r,punct,22",
+            "out,start,14,inf,c,3\nout,end,16,14,c,3\n*,punct,22\n",
+        ),
+    ];
+    feed_lines(&rt, &mut engine, &lines);
+    let fault = answered(&rt, &mut engine, 6, "r,interval,3,9,d,4").err();
+    assert_eq!(rt; fault, Some(late_line()));
+    assert_eq!(rt; engine.finish().err(), Some(late_line()));
+    Ok(())
+}
+
+#[test]
+fn an_engine_tells_an_end_without_its_start(rt: HostRuntime) -> Result<(), QueryError> {
+    let mut engine = engine_of(rt.alloc(), ALL, REFUSE)?;
+    let lines = [
+        ("s,start,1,inf,a,1", ""),
+        ("*,punct,3", "out,start,1,inf,a,1\n*,punct,3\n"),
+    ];
+    feed_lines(&rt, &mut engine, &lines);
+    let bad = EngineFault::Bad {
+        line: 3,
+        cause: BadLine::NoStart,
+    };
+    let fault = answered(&rt, &mut engine, 3, "s,end,4,2,a,1").err();
+    assert_eq!(rt; fault, Some(bad));
+    Ok(())
+}
+
+#[test]
+fn an_engine_moves_late_lines_to_the_bound(rt: HostRuntime) -> Result<(), QueryError> {
+    let policy = Policy {
+        lateness: 5,
+        late: Lateness::Adjust,
+        period: 10,
+    };
+    let mut engine = engine_of(rt.alloc(), ALL, policy)?;
+    let lines = [
+        ("s,interval,3,20,a,1", ""),
+        ("s,interval,12,20,a,2", ""),
+        ("s,interval,8,20,a,3", ""),
+        ("s,interval,6,20,a,4", ""),
+    ];
+    feed_lines(&rt, &mut engine, &lines);
+    let text =
+        "out,start,3,inf,a,1\nout,start,7,inf,a,4\nout,start,8,inf,a,3\nout,start,12,inf,a,2\nout,end,20,3,a,1\nout,end,20,12,a,2\nout,end,20,8,a,3\nout,end,20,7,a,4\n*,punct,inf\n";
+    match engine.finish() {
+        Ok(bytes) => assert!(rt; bytes.as_slice() == text.as_bytes()),
+        Err(_) => panic!(rt; "the end"),
     }
     Ok(())
 }
