@@ -1,5 +1,5 @@
 // One node of a plan at work.
-ghost use Rattle.std.specs.Prelude.{◌≡◌, ℕ, ◌≤◌, ◌<◌, ◌↔◌, Bool, true, false, is_err, Option, Some, IsErr, List, [], ◌++◌, length, IfOk, IfErr, OnOk, OnErr};
+ghost use Rattle.std.specs.Prelude.{◌≡◌, ℕ, ◌-◌, ◌^◌, ◌≤◌, ◌<◌, ◌↔◌, Bool, true, false, is_err, Option, Some, IsErr, List, [], ◌++◌, length, min, IfOk, IfErr, OnOk, OnErr};
 ghost use Rattle.tw_rows.specs.Instant.{inf};
 ghost use Rattle.tw_rows.specs.Event.{alive};
 ghost use Rattle.tw_rows.specs.Texts.{BeginsWith};
@@ -57,6 +57,9 @@ pub trait Operator: Drop {
     /// Such entries are what it keeps after edges came in and were answered, as in `keeps`.
     ghost resumes: { Self → List SavedEntry → ℕ → ℕ → List (List ℕ) → List Edge → List Edge → List Edge → Type 0 };
 
+    /// How many entries it keeps.
+    ghost entries: { Self → ℕ };
+
     /// The greatest number of entries that it may keep after edges came in and were answered.
     ghost most: { Self → List Edge → List Edge → List Edge → ℕ };
 
@@ -105,17 +108,18 @@ pub trait Operator: Drop {
         ensures own_like { own_kinds self.new ≡ own_kinds self.old }
         ensures rows_like { batch_rows self.new ≡ batch_rows self.old };
 
-    /// How many entries it keeps.
+    /// How many entries it keeps, or the greatest number that there is room for.
     fn held(&self) -> u64
-        ensures { (texts : List (List ℕ)) (hl hr out : List Edge) → keeps self.now texts hl hr out → result ≤ most self.now hl hr out };
+        ensures { result ≡ min (entries self.now) (2 ^ 64 - 1) };
 
     /// Whether a step failed.
     fn failed(&self) -> bool
         ensures { result ≡ has_failed self.now };
 
-    /// What it keeps, as entries.
+    /// What it keeps, as entries, and no more of them than it keeps.
     fn save(&self) -> Result<Saved, Memory>
         requires { has_failed self.now ≡ false }
+        ensures few { IfOk result (λ saved. length saved ≤ entries self.now) }
         ensures sound { IfOk result (λ saved. sound self.now saved (Self.left_closed self.now) (Self.right_closed self.now)) }
         ensures resumes { IfOk result (λ saved. (texts : List (List ℕ)) (hl hr out : List Edge) → keeps self.now texts hl hr out →
             resumes self.now saved (Self.left_closed self.now) (Self.right_closed self.now) texts hl hr out) };
@@ -143,12 +147,14 @@ pub trait Operator: Drop {
 
     /// What holds of every operator. As it is made it keeps nothing, of no edges, and works. What it answered stands, read,
     /// for the events of its node, of the rows that are read of what came in. A table that grows changes nothing of what it
-    /// keeps. Entries that resume edges are sound. A call does nothing but tell a proof of this.
+    /// keeps. It keeps no more entries than it may. Entries that resume edges are sound. A call does nothing but tell a
+    /// proof of this.
     fn laws()
         ensures opens { (s : Self) → is_opening s → ((texts : List (List ℕ)) → keeps s texts [] [] []) × (has_failed s ≡ false) × (Self.left_closed s ≡ 0) × (Self.right_closed s ≡ 0) }
         ensures stands { (s : Self) (texts : List (List ℕ)) (hl hr out : List Edge) → AreDistinct texts → keeps s texts hl hr out →
             StandsRead texts (node_closes (node s) (Self.left_closed s) (Self.right_closed s)) out (node_events (node s) (read_of texts hl) (read_of texts hr)) }
         ensures grows { (s : Self) (new old : List (List ℕ)) (hl hr out : List Edge) → BeginsWith new old → keeps s old hl hr out → keeps s new hl hr out }
+        ensures bounded { (s : Self) (texts : List (List ℕ)) (hl hr out : List Edge) → keeps s texts hl hr out → entries s ≤ most s hl hr out }
         ensures resumes_sound { (s : Self) (saved : List SavedEntry) (x y : ℕ) (texts : List (List ℕ)) (hl hr out : List Edge) →
             resumes s saved x y texts hl hr out → sound s saved x y };
 }
