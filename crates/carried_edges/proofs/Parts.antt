@@ -3,7 +3,7 @@ use Rattle.std.specs.Prelude.{◌≡◌, ℕ, ◌+◌, ◌<◌, ◌&&◌, nat_eq
 use Rattle.std.specs.List.{list_all}
 use Rattle.std.proofs.Common.{sym, ◌∙◌, ap, arith, subst, get_or, take}
 use Rattle.std.proofs.lemmas.Bool.Decides.{nat_tests}
-use Rattle.std.proofs.lemmas.List.{map-append, length-map, get_or-map}
+use Rattle.std.proofs.lemmas.List.{map-append, length-append, length-map, get_or-map}
 use Rattle.std.proofs.lemmas.List.Elements.{filter-append, All-get_or, All-more}
 use Rattle.std.proofs.lemmas.List.Folds.{list_all-append}
 use Rattle.tw_rows.specs.Cells.{datum_kind}
@@ -28,6 +28,10 @@ pub part_of_append : (p : ℕ) (xs ys : List SavedEntry) → part_of p (xs ++ ys
 part_of_append p xs ys =
     ap (map saved_edge) (filter-append (λ (s : SavedEntry). nat_eq s.part p) xs ys)
     ∙ map-append saved_edge (filter (λ (s : SavedEntry). nat_eq s.part p) xs) (filter (λ (s : SavedEntry). nat_eq s.part p) ys)
+
+-- what is saved of a part is an entry for each of its edges
+pub saved_length : (before after : List SavedEntry) (p : ℕ) (es : List Edge) → after ≡ before ++ entries_of p es → length after ≡ length before + length es
+saved_length before after p es is = ap length is ∙ length-append before (entries_of p es) ∙ ap (λ n. length before + n) (length-map es (entry_of p))
 
 pub parts_own : (n p : ℕ) (es : List Edge) → nat_lt p n ≡ true → are_of_parts n (entries_of p es) ≡ true
 parts_own n p [] low = refl

@@ -11,7 +11,7 @@ use batch::Pools;
 use edge_history::keeps_order;
 use edge_stream::{EdgeList, LoadFault, Saved, SavedEntry};
 use std::alloc::Global;
-use tw_rows::{Cells, Datum, Edge, Kind, Memory, Time, cell_of};
+use tw_rows::{Datum, Edge, Kind, Memory, Time, cell_of};
 
 /// Adds the edges, in order, as entries of that part.
 pub fn save_edges(saved: &mut Saved, part: u64, edges: &[Edge]) -> Result<(), Memory>
@@ -72,23 +72,22 @@ pub fn edges_of_part(alloc: Global, saved: &Saved, part: u64) -> Result<Vec<Edge
     Ok(edges)
 }
 
-// Whether a column of the kind stores the datum.
-fn stores(kind: Kind, datum: Datum) -> bool
+/// Whether a column of the kind stores the datum.
+pub fn stores(kind: Kind, datum: Datum) -> bool
     ensures { IsTrue result ↔ (datum_kind datum ≡ cell_kind_of kind) }
 {
     datum.cell_kind() == cell_of(kind)
 }
 
-// Whether the cells are stored as columns of these kinds are.
-fn is_stored_as(cells: &Cells, kinds: &[Kind]) -> bool
+/// Whether the cells are stored as columns of these kinds are.
+pub fn is_stored_as(cells: &[Datum], kinds: &[Kind]) -> bool
     ensures { IsTrue result ↔ (map datum_kind cells.now ≡ map cell_kind_of kinds.now) }
 {
-    let items = cells.items();
-    if items.len() != kinds.len() {
+    if cells.len() != kinds.len() {
         return false;
     }
-    for i in 0..items.len() {
-        if !stores(kinds[i], items[i]) {
+    for i in 0..cells.len() {
+        if !stores(kinds[i], cells[i]) {
             return false;
         }
     }
@@ -100,7 +99,7 @@ fn are_stored_as(edges: &[Edge], kinds: &[Kind]) -> bool
     ensures { IsTrue result ↔ All (λ e. map datum_kind e.cells ≡ map cell_kind_of kinds.now) edges.now }
 {
     for edge in edges {
-        if !is_stored_as(&edge.cells, kinds) {
+        if !is_stored_as(edge.cells.items(), kinds) {
             return false;
         }
     }

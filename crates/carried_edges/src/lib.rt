@@ -5,4 +5,6 @@ mod carried;
 mod entries;
 
 pub use carried::take_below;
-pub use entries::{are_of_parts, edges_of_part, is_edge_part, load_part, save_edges, save_part};
+pub use entries::{
+    are_of_parts, edges_of_part, is_edge_part, is_stored_as, load_part, save_edges, save_part, stores,
+};

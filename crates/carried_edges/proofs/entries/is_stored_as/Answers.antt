@@ -1,8 +1,6 @@
-use Rattle.std.proofs.Common.{◌∙◌, map, ap}
-use Rattle.tw_rows.specs.Cells.{datum_kind}
 use Rattle.carried_edges.proofs.Parts.{stored_at}
 use Rattle.carried_edges.proofs.entries.is_stored_as.Goals as goal
 
 pub returns-then-not-stores : goal.returns-then-not-stores
 returns-then-not-stores c =
-    (λ h. absurd (cc), λ same. c.if-not-stores.ensures.1 (stored_at c.items-items.result.now c.args.kinds.now c.loop-i.i _ _ c.loop-i-test.true (ap (map datum_kind) c.items-items.ensures ∙ same)))
+    (λ h. absurd (cc), λ same. c.if-not-stores.ensures.1 (stored_at c.args.cells.now c.args.kinds.now c.loop-i.i _ _ c.loop-i-test.true same))
