@@ -1,9 +1,9 @@
 -- Ends that are loaded and saved.
-use Rattle.std.specs.Prelude.{◌≡◌, ℕ, ◌+◌, ◌*◌, ◌<◌, ◌≤◌, suc, Bool, true, List, [], ◌∷◌, ◌++◌, length, map, All, IsTrue, refl}
+use Rattle.std.specs.Prelude.{◌≡◌, ℕ, ◌+◌, ◌*◌, ◌<◌, ◌≤◌, Bool, true, List, [], ◌∷◌, ◌++◌, length, map, All, IsTrue, refl}
 use Rattle.std.specs.List.{list_all}
 use Rattle.std.proofs.Common.{sym, ◌∙◌, ap, arith, subst, get_or, take}
 use Rattle.std.proofs.lemmas.Bool.Decides.{nat_tests}
-use Rattle.std.proofs.lemmas.List.{append-nil, take_more}
+use Rattle.std.proofs.lemmas.List.{append-nil, length-map, take_more}
 use Rattle.std.proofs.lemmas.List.Elements.{All-nil, All-cons, All-head, All-tail, All-get_or}
 use Rattle.tw_rows.specs.Cells.{datum_kind}
 use Rattle.tw_rows.specs.Bag.{SameBag, total}
@@ -12,7 +12,6 @@ use Rattle.tw_rows.specs.declared.kind.CellKind.{CellKind}
 use Rattle.tw_rows.proofs.Bags.{total-append}
 use Rattle.edge_history.specs.Order.{is_end, is_from, is_real, failing, IsReal, KeepsOrder}
 use Rattle.edge_history.specs.History.{of}
-use Rattle.edge_history.proofs.Agreeing.{same_order}
 use Rattle.edge_history.proofs.Sums.{failing-same, failing-All}
 use Rattle.edge_stream.specs.declared.saved.SavedEntry.{SavedEntry}
 use Rattle.end_queue.specs.Pending.{Pending, put_pending, AreDueFrom}
@@ -23,7 +22,7 @@ use Rattle.node_laws.specs.Keeping.{plain_cells}
 use Rattle.life_laws.specs.Extending.{KeepsExtended}
 use Rattle.life_laws.proofs.Bound.{extended_bound}
 use Rattle.carried_edges.specs.Entries.{entries_of, part_of, are_of_parts, IsEdgePart}
-use Rattle.carried_edges.proofs.Parts.{part_of_own, part_of_other, part_of_append, parts_own, parts_append, none_fails}
+use Rattle.carried_edges.proofs.Parts.{part_of_own, part_of_other, part_of_append, saved_length, parts_own, parts_append, none_fails}
 use Rattle.extend_op.specs.Saving.{ExtendSound, ExtendResumes}
 use Rattle.extend_op.specs.Waiting.{edges_of_pending, IsWaitingEnd}
 use Rattle.extend_op.proofs.Waiting.{total-put, All-put, ends_in_order, late_edges}
@@ -72,8 +71,14 @@ all_ends kinds (p ∷ ps) all =
     let here : is_end p.edge ≡ true = (All-head (IsWaitingEnd kinds) p ps all).end in
     rw here (all_ends kinds ps (All-tail (IsWaitingEnd kinds) p ps all))
 
-pub ends_are_real : (kinds : List CellKind) (ps : List Pending) → AreDueFrom 0 ps → All (IsWaitingEnd kinds) ps → failing is_real (edges_of_pending ps) ≡ 0
-ends_are_real kinds ps due all = ((same_order (edges_of_pending ps)).0 (ends_in_order kinds ps due all)).1
+real_passes : (e : Edge) → IsReal e → is_real e ≡ true
+real_passes e h = let a = h.instant in let b = h.bounded in let c = h.apart in grind (arith, nat_tests)
+
+ends_are_real : (kinds : List CellKind) (ps : List Pending) → All (IsWaitingEnd kinds) ps → failing is_real (edges_of_pending ps) ≡ 0
+ends_are_real kinds [] all = refl
+ends_are_real kinds (p ∷ ps) all =
+    let here : is_real p.edge ≡ true = real_passes p.edge (All-head (IsWaitingEnd kinds) p ps all).real in
+    rw here (ends_are_real kinds ps (All-tail (IsWaitingEnd kinds) p ps all))
 
 pub extended_same : (by : ℕ) (texts : List (List ℕ)) (x y : ℕ) (carried carried2 waiting waiting2 left right out : List Edge) → carried2 ≡ carried → SameBag waiting waiting2 →
     KeepsExtended by texts x y carried waiting left right out → KeepsExtended by texts x y carried2 waiting2 left right out
@@ -99,17 +104,13 @@ extended_same by texts x y carried carried2 waiting waiting2 left right out is s
   waits = k.waits;
 })
 
-pub extended_held : (by : ℕ) (texts : List (List ℕ)) (x y n : ℕ) (carried left right out : List Edge) (kinds : List CellKind) (ps : List Pending) → AreDueFrom 0 ps → All (IsWaitingEnd kinds) ps →
-    n ≤ length carried + length ps → KeepsExtended by texts x y carried (edges_of_pending ps) left right out →
-    n ≤ may_hold (Extend 0 by) x x (of left) (of right) (node_in plain_cells (Extend 0 by) (of left) (of right))
-extended_held by texts x y n carried left right out kinds ps due all few k =
-    let b = extended_bound by texts x y carried (edges_of_pending ps) left right out (ends_are_real kinds ps due all) k in
-    let len : length (edges_of_pending ps) ≡ length ps = pending_length ps in
-    omega (arith, b, few, len)
-  where
-    pending_length : (qs : List Pending) → length (edges_of_pending qs) ≡ length qs
-    pending_length [] = refl
-    pending_length (q ∷ qs) = ap (λ m. suc m) (pending_length qs)
+pub extended_held : (by : ℕ) (texts : List (List ℕ)) (x y : ℕ) (carried left right out : List Edge) (kinds : List CellKind) (ps : List Pending) → All (IsWaitingEnd kinds) ps →
+    KeepsExtended by texts x y carried (edges_of_pending ps) left right out →
+    length carried + length ps ≤ may_hold (Extend 0 by) x x (of left) (of right) (node_in plain_cells (Extend 0 by) (of left) (of right))
+extended_held by texts x y carried left right out kinds ps all k =
+    let b = extended_bound by texts x y carried (edges_of_pending ps) left right out (ends_are_real kinds ps all) k in
+    let len : length (edges_of_pending ps) ≡ length ps = length-map ps (λ p. p.edge) in
+    omega (arith, b, len)
 
 -- SAVING
 module _ (carried : List Edge) (ends : List Pending) (ends_copy : List Edge) (first entries : List SavedEntry) (copied : ends_copy ≡ edges_of_pending ends) (one : first ≡ [] ++ entries_of 0 carried) (two : entries ≡ first ++ entries_of 1 ends_copy) where
@@ -125,6 +126,13 @@ module _ (carried : List Edge) (ends : List Pending) (ends_copy : List Edge) (fi
   ends_part =
       ap (part_of 1) all ∙ part_of_append 1 (entries_of 0 carried) (entries_of 1 (edges_of_pending ends))
       ∙ (λ i. part_of_other 1 0 carried refl i ++ part_of_own 1 (edges_of_pending ends) i)
+
+  pub extend_few : length entries ≤ length carried + length ends
+  extend_few =
+      let a = saved_length [] first 0 carried one in
+      let b = saved_length first entries 1 ends_copy two in
+      let c = ap length copied ∙ length-map ends (λ p. p.edge) in
+      omega (arith, a, b, c)
 
   pub extend_saved : (kinds : List CellKind) (x : ℕ) → KeepsOrder carried → All (λ e. map datum_kind e.cells ≡ kinds) carried → failing (is_from x) carried ≡ 0 →
       AreDueFrom 0 ends → All (IsWaitingEnd kinds) ends → All (λ p. x ≤ p.at) ends → ExtendSound kinds x entries

@@ -67,7 +67,7 @@ fn load_ends(
 }
 
 impl Operator for ExtendOperator {
-    ghost use Rattle.std.specs.Prelude.{[], nat_eq, nat_lt, cond, Some, None};
+    ghost use Rattle.std.specs.Prelude.{[], ◌+◌, nat_eq, nat_lt, cond, Some, None, length};
     ghost use Rattle.edge_stream.specs.declared.saved.PartRow.TheVariants.{Left};
     ghost use Rattle.edge_history.specs.History.{of};
     ghost use Rattle.plan_model.specs.declared.node.Node.TheVariants.{Extend};
@@ -100,6 +100,8 @@ impl Operator for ExtendOperator {
     ghost sound = { λ s saved x y. ExtendSound (cells_of s.carried) x saved };
 
     ghost resumes = { λ s saved x y texts hl hr out. ExtendResumes s.by (cells_of s.carried) texts x y saved hl hr out };
+
+    ghost entries = { λ s. length s.carried.edges + length s.ends };
 
     ghost most = { λ s hl hr out. may_hold (Extend 0 s.by) s.left_to s.left_to (of hl) (of hr) (node_in plain_cells (Extend 0 s.by) (of hl) (of hr)) };
 

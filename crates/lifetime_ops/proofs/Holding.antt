@@ -21,11 +21,11 @@ no_group (Delay by) = refl
 no_group (Hop size period) = refl
 no_group (Duration by) = refl
 
-pub held_within : (change : Change) (texts : List (List ℕ)) (x y n : ℕ) (carried left right out : List Edge) → n ≤ length carried → KeepsLives (node_of change) texts x y carried left right out →
-    n ≤ may_hold (node_of change) x (node_closes (node_of change) x y) (of left) (of right) (node_in plain_cells (node_of change) (of left) (of right))
-held_within (Delay by) texts x y n carried left right out few k = let b = carried_bound (DelayNode 0 by) texts x y carried left right out k in omega (arith, b, few)
-held_within (Hop size period) texts x y n carried left right out few k = let b = carried_bound (HopNode 0 size period) texts x y carried left right out k in omega (arith, b, few)
-held_within (Duration by) texts x y n carried left right out few k = let b = carried_bound (DurationNode 0 by) texts x y carried left right out k in omega (arith, b, few)
+pub held_within : (change : Change) (texts : List (List ℕ)) (x y : ℕ) (carried left right out : List Edge) → KeepsLives (node_of change) texts x y carried left right out →
+    length carried ≤ may_hold (node_of change) x (node_closes (node_of change) x y) (of left) (of right) (node_in plain_cells (node_of change) (of left) (of right))
+held_within (Delay by) texts x y carried left right out k = let b = carried_bound (DelayNode 0 by) texts x y carried left right out k in omega (arith, b)
+held_within (Hop size period) texts x y carried left right out k = let b = carried_bound (HopNode 0 size period) texts x y carried left right out k in omega (arith, b)
+held_within (Duration by) texts x y carried left right out k = let b = carried_bound (DurationNode 0 by) texts x y carried left right out k in omega (arith, b)
 
 -- what is kept of the same node, closed up to the same times
 pub kept_at : (n m : Node) (texts : List (List ℕ)) (x y u v : ℕ) (carried left right out : List Edge) → m ≡ n → u ≡ x → v ≡ y → KeepsLives n texts x y carried left right out → KeepsLives m texts u v carried left right out

@@ -10,7 +10,7 @@ use operator::Operator;
 use tw_rows::{Memory, Time};
 
 impl Operator for LifeOperator {
-    ghost use Rattle.std.specs.Prelude.{[], nat_eq, cond, Some, None};
+    ghost use Rattle.std.specs.Prelude.{[], nat_eq, cond, Some, None, length};
     ghost use Rattle.edge_stream.specs.declared.saved.PartRow.TheVariants.{Left};
     ghost use Rattle.edge_history.specs.History.{of};
     ghost use Rattle.plan_model.specs.Meaning.{node_closes};
@@ -44,6 +44,8 @@ impl Operator for LifeOperator {
     ghost sound = { λ s saved x y. LifeSound (node_of s.change) (cells_of s.carried) x saved };
 
     ghost resumes = { λ s saved x y texts hl hr out. LifeResumes (node_of s.change) (cells_of s.carried) texts x y saved hl hr out };
+
+    ghost entries = { λ s. length s.carried.edges };
 
     ghost most = { λ s hl hr out. may_hold (node_of s.change) s.left_to (node_closes (node_of s.change) s.left_to s.right_to) (of hl) (of hr) (node_in plain_cells (node_of s.change) (of hl) (of hr)) };
 

@@ -1,6 +1,6 @@
 -- What is saved of edges that are carried on two sides.
-use Rattle.std.specs.Prelude.{◌≡◌, ℕ, min, true, List, [], ◌++◌, map, All, refl}
-use Rattle.std.proofs.Common.{sym, ◌∙◌, ap, subst}
+use Rattle.std.specs.Prelude.{◌≡◌, ℕ, ◌+◌, ◌≤◌, min, true, List, [], ◌++◌, length, map, All, refl}
+use Rattle.std.proofs.Common.{sym, ◌∙◌, ap, arith, subst}
 use Rattle.tw_rows.specs.Cells.{datum_kind}
 use Rattle.tw_rows.specs.declared.edge.Edge.{Edge}
 use Rattle.tw_rows.specs.declared.kind.CellKind.{CellKind}
@@ -9,7 +9,7 @@ use Rattle.edge_stream.specs.declared.saved.SavedEntry.{SavedEntry}
 use Rattle.life_laws.specs.Uniting.{KeepsUnion}
 use Rattle.std.proofs.lemmas.List.{append-nil}
 use Rattle.carried_edges.specs.Entries.{entries_of, part_of, are_of_parts, IsEdgePart}
-use Rattle.carried_edges.proofs.Parts.{part_of_own, part_of_other, part_of_append, parts_own, parts_append}
+use Rattle.carried_edges.proofs.Parts.{part_of_own, part_of_other, part_of_append, saved_length, parts_own, parts_append}
 use Rattle.union_clip.specs.Saving.{UnionSound, UnionResumes}
 
 module _ (left right : List Edge) (first entries : List SavedEntry) (one : first ≡ [] ++ entries_of 0 left) (two : entries ≡ first ++ entries_of 1 right) where
@@ -25,6 +25,9 @@ module _ (left right : List Edge) (first entries : List SavedEntry) (one : first
   right_part =
       ap (part_of 1) all ∙ part_of_append 1 (entries_of 0 left) (entries_of 1 right)
       ∙ (λ i. part_of_other 1 0 left refl i ++ part_of_own 1 right i)
+
+  pub union_few : length entries ≤ length left + length right
+  union_few = let a = saved_length [] first 0 left one in let b = saved_length first entries 1 right two in omega (arith, a, b)
 
   pub union_saved : (kinds right_kinds : List CellKind) (x y : ℕ) → right_kinds ≡ kinds → KeepsOrder left → KeepsOrder right →
       All (λ e. map datum_kind e.cells ≡ kinds) left → All (λ e. map datum_kind e.cells ≡ right_kinds) right →

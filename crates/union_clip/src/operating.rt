@@ -10,7 +10,7 @@ use operator::Operator;
 use tw_rows::{Memory, Time};
 
 impl Operator for UnionOperator {
-    ghost use Rattle.std.specs.Prelude.{nat_eq, min, cond, Some, None};
+    ghost use Rattle.std.specs.Prelude.{◌+◌, nat_eq, min, cond, Some, None, length};
     ghost use Rattle.edge_stream.specs.declared.saved.PartRow.TheVariants.{Left, Right};
     ghost use Rattle.edge_history.specs.History.{of};
     ghost use Rattle.plan_model.specs.declared.node.Node.TheVariants.{Union};
@@ -43,6 +43,8 @@ impl Operator for UnionOperator {
     ghost sound = { λ s saved x y. UnionSound (cells_of s.left) (cells_of s.left) x y saved };
 
     ghost resumes = { λ s saved x y texts hl hr out. UnionResumes (cells_of s.left) (cells_of s.left) texts x y saved hl hr out };
+
+    ghost entries = { λ s. length s.left.edges + length s.right.edges };
 
     ghost most = { λ s hl hr out. may_hold (Union 0 1) s.left_to (min s.left_to s.right_to) (of hl) (of hr) (node_in plain_cells (Union 0 1) (of hl) (of hr)) };
 

@@ -1,8 +1,13 @@
 use Rattle.std.proofs.Common.{◌++◌, ◌∙◌, ap}
 use Rattle.edge_stream.specs.Listing.{cells_of}
 use Rattle.carried_edges.specs.Entries.{entries_of}
-use Rattle.extend_op.proofs.Loading.{extend_saved, extend_resumed}
+use Rattle.extend_op.proofs.Loading.{extend_few, extend_saved, extend_resumed}
 use Rattle.extend_op.proofs.operating.ExtendOperatorOperator.save.Goals as goal
+
+pub returns-clause-few : goal.returns-clause-few
+returns-clause-few c =
+    let s = c.args.self.now in
+    extend_few s.carried.edges s.ends c.deref.result.now c.save_part.new.saved c.save_edges.new.saved (c.deref.ensures.value ∙ c.in_ok-ends.ensures) (c.in_ok-save_part.ensures.entries ∙ ap (λ l. l ++ entries_of 0 s.carried.edges) c.new-saved.ensures) c.in_ok-save_edges.ensures
 
 pub returns-clause-sound : goal.returns-clause-sound
 returns-clause-sound c =

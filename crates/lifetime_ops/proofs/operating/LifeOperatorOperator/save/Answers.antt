@@ -1,9 +1,16 @@
-use Rattle.std.proofs.Common.{◌++◌, ◌∙◌, ap}
+use Rattle.std.proofs.Common.{◌++◌, ◌∙◌, ap, length, arith}
 use Rattle.edge_stream.specs.Listing.{cells_of}
 use Rattle.carried_edges.specs.Entries.{entries_of}
+use Rattle.carried_edges.proofs.Parts.{saved_length}
 use Rattle.lifetime_ops.specs.Nodes.{node_of}
 use Rattle.lifetime_ops.proofs.Saving.{life_saved, life_resumed}
 use Rattle.lifetime_ops.proofs.operating.LifeOperatorOperator.save.Goals as goal
+
+pub returns-clause-few : goal.returns-clause-few
+returns-clause-few c =
+    let len = saved_length c.new-saved.result c.save_part.new.saved 0 c.args.self.now.carried.edges c.in_ok-save_part.ensures.entries in
+    let none = ap length c.new-saved.ensures in
+    omega (arith, len, none)
 
 pub returns-clause-sound : goal.returns-clause-sound
 returns-clause-sound c =

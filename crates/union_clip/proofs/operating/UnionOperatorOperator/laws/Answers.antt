@@ -1,4 +1,5 @@
-use Rattle.life_laws.proofs.Unions.{union_opening, union_rows, union_longer}
+use Rattle.std.proofs.Common.{◌+◌, length, arith}
+use Rattle.life_laws.proofs.Unions.{union_opening, union_rows, union_longer, union_bound}
 use Rattle.union_clip.proofs.operating.UnionOperatorOperator.laws.Goals as goal
 
 pub returns-clause-opens : goal.returns-clause-opens
@@ -9,6 +10,9 @@ returns-clause-stands c = λ s texts hl hr out apart k. union_rows texts s.left_
 
 pub returns-clause-grows : goal.returns-clause-grows
 returns-clause-grows c = λ s new old hl hr out b k. union_longer new old s.left_to s.right_to s.left.edges s.right.edges hl hr out b k
+
+pub returns-clause-bounded : goal.returns-clause-bounded
+returns-clause-bounded c = λ s texts hl hr out k. union_bound texts s.left_to s.right_to (length s.left.edges + length s.right.edges) s.left.edges s.right.edges hl hr out (omega arith) k
 
 pub returns-clause-resumes_sound : goal.returns-clause-resumes_sound
 returns-clause-resumes_sound c = λ s saved x y texts hl hr out r. r.sound

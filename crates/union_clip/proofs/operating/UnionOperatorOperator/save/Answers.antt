@@ -1,8 +1,13 @@
 use Rattle.std.proofs.Common.{◌++◌, ◌∙◌, ap}
 use Rattle.edge_stream.specs.Listing.{cells_of}
 use Rattle.carried_edges.specs.Entries.{entries_of}
-use Rattle.union_clip.proofs.Saving.{union_saved, union_resumed}
+use Rattle.union_clip.proofs.Saving.{union_few, union_saved, union_resumed}
 use Rattle.union_clip.proofs.operating.UnionOperatorOperator.save.Goals as goal
+
+pub returns-clause-few : goal.returns-clause-few
+returns-clause-few c =
+    let s = c.args.self.now in
+    union_few s.left.edges s.right.edges c.save_part.new.saved c.save_part-2.new.saved (c.in_ok-save_part.ensures.entries ∙ ap (λ l. l ++ entries_of 0 s.left.edges) c.new-saved.ensures) c.in_ok-save_part-2.ensures.entries
 
 pub returns-clause-sound : goal.returns-clause-sound
 returns-clause-sound c =
