@@ -6,5 +6,6 @@ mod entries;
 
 pub use carried::take_below;
 pub use entries::{
-    are_of_parts, edges_of_part, is_edge_part, is_stored_as, load_part, save_edges, save_part, stores,
+    are_of_parts, edges_of_part, is_edge_part, is_stored_as, load_part, save_edges, save_part,
+    stores,
 };

@@ -1,5 +1,5 @@
 -- Ends that are loaded and saved.
-use Rattle.std.specs.Prelude.{◌≡◌, ℕ, ◌+◌, ◌*◌, ◌<◌, ◌≤◌, Bool, true, List, [], ◌∷◌, ◌++◌, length, map, All, IsTrue, refl}
+use Rattle.std.specs.Prelude.{◌≡◌, ℕ, ◌+◌, ◌*◌, ◌<◌, ◌≤◌, Bool, true, cond, List, [], ◌∷◌, ◌++◌, length, map, All, IsTrue, refl}
 use Rattle.std.specs.List.{list_all}
 use Rattle.std.proofs.Common.{sym, ◌∙◌, ap, arith, subst, get_or, take}
 use Rattle.std.proofs.lemmas.Bool.Decides.{nat_tests}
@@ -77,8 +77,9 @@ real_passes e h = let a = h.instant in let b = h.bounded in let c = h.apart in g
 ends_are_real : (kinds : List CellKind) (ps : List Pending) → All (IsWaitingEnd kinds) ps → failing is_real (edges_of_pending ps) ≡ 0
 ends_are_real kinds [] all = refl
 ends_are_real kinds (p ∷ ps) all =
-    let here : is_real p.edge ≡ true = real_passes p.edge (All-head (IsWaitingEnd kinds) p ps all).real in
-    rw here (ends_are_real kinds ps (All-tail (IsWaitingEnd kinds) p ps all))
+    let here : cond {A = ℕ} (is_real p.edge) 0 1 ≡ 0 = ap (λ b. cond {A = ℕ} b 0 1) (real_passes p.edge (All-head (IsWaitingEnd kinds) p ps all).real) in
+    let rest = ends_are_real kinds ps (All-tail (IsWaitingEnd kinds) p ps all) in
+    omega (arith, here, rest)
 
 pub extended_same : (by : ℕ) (texts : List (List ℕ)) (x y : ℕ) (carried carried2 waiting waiting2 left right out : List Edge) → carried2 ≡ carried → SameBag waiting waiting2 →
     KeepsExtended by texts x y carried waiting left right out → KeepsExtended by texts x y carried2 waiting2 left right out
