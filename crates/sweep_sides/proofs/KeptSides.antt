@@ -27,7 +27,7 @@ use Rattle.edge_history.proofs.Waiting.{side_bound}
 use Rattle.edge_history.proofs.Sums.{weaker, sum_eq, failing-both, failing-append}
 use Rattle.edge_stream.specs.declared.saved.SavedEntry.{SavedEntry}
 use Rattle.carried_edges.specs.Entries.{entries_of}
-use Rattle.carried_edges.proofs.Parts.{none_fails}
+use Rattle.carried_edges.proofs.Parts.{saved_length, none_fails}
 use Rattle.end_queue.specs.Pending.{Pending}
 use Rattle.sweep_sides.specs.Waiting.{queued, AreTimed}
 use Rattle.sweep_sides.specs.Saving.{stores, store_all, starts_of, rows_of, is_row_start, may_wait, IsSide}
@@ -335,9 +335,24 @@ row_more edges i e cells old new low is same put so_far w =
 pub all_rows : (edges : List Edge) (rows : List HeldRow) (i : ℕ) → length edges ≤ i → ((w : HeldRow → ℕ) → total w rows ≡ total w (rows_of (take i edges))) → SameBag rows (rows_of edges)
 all_rows edges rows i far so_far = record { weigh = λ w. so_far w ∙ ap (λ l. total w (rows_of l)) (take_all i edges far) }
 
-pub side_bounded : (h : List Edge) (to : ℕ) (rows : List HeldRow) (waiting : List Pending) (n : ℕ) → n ≤ length rows + length waiting → IsHistory h → SameBag rows (opens to (of h)) →
-    SameBag (queued waiting) (filter (is_from to) (singles h)) → n ≤ 2 * many (reaches to) (of h)
-side_bounded h to rows waiting n few history held waits =
+-- HOW MUCH IS KEPT
+-- at most two for each event that does not end before the time up to which it is kept
+pub side_bounded : (h : List Edge) (to : ℕ) (rows : List HeldRow) (waiting : List Pending) → IsHistory h → SameBag rows (opens to (of h)) →
+    SameBag (queued waiting) (filter (is_from to) (singles h)) → length rows + length waiting ≤ 2 * many (reaches to) (of h)
+side_bounded h to rows waiting history held waits =
     let a = side_bound h rows (queued waiting) to history held waits in
     let b = length-map waiting (λ (p : Pending). p.edge) in
-    omega (arith, a, b, few)
+    omega (arith, a, b)
+
+-- and how many entries are saved of it: one for each row, and one for each edge that waits
+pub rows_added : (part : ℕ) (rows : List HeldRow) (saved0 saved1 : List SavedEntry) → saved1 ≡ saved0 ++ entries_of part (starts_of rows) → length saved1 ≡ length saved0 + length rows
+rows_added part rows saved0 saved1 is =
+    let a = saved_length saved0 saved1 part (starts_of rows) is in
+    let b : length (starts_of rows) ≡ length rows = length-map rows (λ (r : HeldRow). record { sync = r.start; other = inf; cells = r.cells }) in
+    omega (arith, a, b)
+
+pub waiting_added : (part : ℕ) (waiting : List Pending) (saved0 saved1 : List SavedEntry) → saved1 ≡ saved0 ++ entries_of part (queued waiting) → length saved1 ≡ length saved0 + length waiting
+waiting_added part waiting saved0 saved1 is =
+    let a = saved_length saved0 saved1 part (queued waiting) is in
+    let b = length-map waiting (λ (p : Pending). p.edge) in
+    omega (arith, a, b)
