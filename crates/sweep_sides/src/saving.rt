@@ -8,9 +8,8 @@ ghost use Rattle.carried_edges.specs.Entries.{entries_of, part_of};
 ghost use Rattle.sweep_sides.specs.Waiting.{queued, AreTimed};
 ghost use Rattle.sweep_sides.specs.Saving.{store_all, starts_of, rows_of, is_row_start, may_wait, are_row_starts, may_all_wait};
 
-use crate::answer::has_kinds;
 use crate::waiting::{is_single, put};
-use carried_edges::{edges_of_part, save_edges};
+use carried_edges::{edges_of_part, is_stored_as, save_edges};
 use edge_stream::{LoadFault, Saved, SavedEntry};
 use end_queue::EndQueue;
 use std::alloc::Global;
@@ -24,8 +23,8 @@ pub fn kept_count(rows: &Synopsis, waiting: &EndQueue) -> u64
     (rows.len() as u64).saturating_add(waiting.len() as u64)
 }
 
-// Adds the starts of rows as entries of that part.
-fn save_block(saved: &mut Saved, part: u64, rows: &[HeldRow]) -> Result<(), Memory>
+/// Adds the starts of the rows as entries of that part.
+pub fn save_block(saved: &mut Saved, part: u64, rows: &[HeldRow]) -> Result<(), Memory>
     ensures { OnOk result (saved.new ≡ saved.old ++ entries_of part (starts_of rows.now)) }
 {
     for row in rows {
@@ -67,7 +66,7 @@ pub fn save_waiting(
 fn stores(edge: &Edge, kinds: &[Kind]) -> bool
     ensures { result ≡ store_all (map cell_kind_of kinds.now) edge.now.cells }
 {
-    has_kinds(edge.cells.items(), kinds)
+    is_stored_as(edge.cells.items(), kinds)
 }
 
 // Whether the edge has no end yet.
