@@ -2,6 +2,7 @@
 //! results in place.
 #![tactic(auto)]
 
+mod marks;
 mod numbers;
 mod places;
 
