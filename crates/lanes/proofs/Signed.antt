@@ -1,19 +1,16 @@
 -- An operation on signed lanes, from what it does to the bits.
-use Rattle.std.proofs.Common.{◌≡◌, ℕ, zero, suc, ◌+◌, ◌-◌, ◌*◌, ◌%◌, ◌/◌, ◌^◌, ◌<◌, ◌≤◌, Bool, true, false, cond, eqb, List, [], ◌∷◌, map, length, get_or, set, refl, sym, ap, ap₂, ◌∙◌, subst, arith, w64, Fits, ℤ, pos, ◌+ℤ◌, ◌-ℤ◌, ◌*ℤ◌}
-use Rattle.std.specs.Int.{int_wrap, Width}
+use Rattle.std.proofs.Common.{◌≡◌, ℕ, zero, suc, ◌+◌, ◌-◌, ◌*◌, ◌%◌, ◌^◌, ◌<◌, ◌≤◌, Bool, true, false, cond, eqb, List, [], ◌∷◌, map, length, set, refl, sym, ap, ap₂, ◌∙◌, arith, w64, Fits, ℤ, pos, ◌+ℤ◌, ◌-ℤ◌, ◌*ℤ◌}
+use Rattle.std.specs.Int.{int_wrap}
 use Rattle.std.proofs.lemmas.Int.{to_z-of_z, wrapping_add-bits, wrapping_sub-bits, wrapping_mul-bits}
-use Rattle.std.proofs.lemmas.Simd.{tops_compared, mask_l-mod, length-zip2, get_or-zip2, length-put_chunk, Each1-from_get_or}
+use Rattle.std.proofs.lemmas.Simd.{tops_compared, length-zip2, get_or-zip2, Each1-from_get_or}
 use lib.ListN.{replicate}
-use Rattle.std.proofs.lemmas.List.{get_or-map}
 use Rattle.std.proofs.lemmas.Bool.{eqb-true, eq-eqb}
-use mir.Val.{to_z, of_z, SFits, bits, hbits}
+use mir.Val.{to_z, of_z, SFits}
 use mir.Facts.{Fits-of_z}
 use mir.ValLaws.{to_z-Fits}
-use lib.Signed.{lt_z}
 use lib.Lanes.{zip2, Each1, mask_l, top}
 use lib.ListN.{length-map}
 use Rattle.std.specs.Ordering.{int_eq}
-use Rattle.std.specs.Prelude.{int_lt}
 use Rattle.std.proofs.lemmas.Bool.Decides.{Decides-int_eq}
 use Rattle.occupancy.specs.Bits.{test}
 use Rattle.lanes.specs.Lanes.{number, place}

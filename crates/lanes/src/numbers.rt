@@ -6,8 +6,7 @@ ghost use Rattle.std.specs.Ordering.{int_eq};
 ghost use Rattle.occupancy.specs.Bits.{test};
 ghost use Rattle.lanes.specs.Lanes.{number};
 
-use crate::BLOCK;
-use crate::marks::{PART, joined};
+use crate::{BLOCK, EQUAL, ORDERED};
 use divisor::Divisor;
 use std::simd::prelude::*;
 
@@ -104,35 +103,33 @@ pub fn rests(into: &mut Numbers, of: &Numbers, by: &Divisor)
 pub fn marks_below(left: &Numbers, right: &Numbers) -> u64
     ensures { (k : ℕ) → k < 64 → test result k ≡ int_lt (number left.now.lanes k) (number right.now.lanes k) }
 {
-    joined(
-        part_below(left, right, 0),
-        part_below(left, right, PART),
-        part_below(left, right, 2 * PART),
-        part_below(left, right, 3 * PART),
-    )
+    let mut word = 0;
+    for part in 0..BLOCK / ORDERED {
+        word |= part_below(left, right, ORDERED * part) << (ORDERED * part);
+    }
+    word
 }
 
 /// Tells by bit k of a word whether the numbers of lane k are the same.
 pub fn marks_same(left: &Numbers, right: &Numbers) -> u64
     ensures { (k : ℕ) → k < 64 → test result k ≡ int_eq (number left.now.lanes k) (number right.now.lanes k) }
 {
-    joined(
-        part_same(left, right, 0),
-        part_same(left, right, PART),
-        part_same(left, right, 2 * PART),
-        part_same(left, right, 3 * PART),
-    )
+    let mut word = 0;
+    for part in 0..BLOCK / EQUAL {
+        word |= part_same(left, right, EQUAL * part) << (EQUAL * part);
+    }
+    word
 }
 
 // The marks of the part from the lane `at` on: whether the left number is below the right one.
 #[inline(always)]
 fn part_below(left: &Numbers, right: &Numbers, at: usize) -> u64
-    requires { at + 16 ≤ 64 }
-    ensures few { result < 2 ^ 16 }
-    ensures marks { (k : ℕ) → k < 16 → test result k ≡ int_lt (number left.now.lanes (at + k)) (number right.now.lanes (at + k)) }
+    requires { at + 4 ≤ 64 }
+    ensures few { result < 2 ^ 4 }
+    ensures marks { (k : ℕ) → k < 4 → test result k ≡ int_lt (number left.now.lanes (at + k)) (number right.now.lanes (at + k)) }
 {
-    let left = i64x16::from_slice(&left.lanes[at..]);
-    let right = i64x16::from_slice(&right.lanes[at..]);
+    let left = i64x4::from_slice(&left.lanes[at..]);
+    let right = i64x4::from_slice(&right.lanes[at..]);
     left.simd_lt(right).to_bitmask()
 }
 

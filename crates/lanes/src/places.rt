@@ -3,8 +3,7 @@ ghost use Rattle.std.specs.Prelude.{◌≡◌, ◌+◌, ◌≤◌, ◌<◌, ◌^
 ghost use Rattle.occupancy.specs.Bits.{test};
 ghost use Rattle.lanes.specs.Lanes.{place};
 
-use crate::BLOCK;
-use crate::marks::{PART, joined};
+use crate::{BLOCK, EQUAL};
 use std::simd::prelude::*;
 
 /// 64 places.
@@ -47,12 +46,11 @@ pub fn load_places(into: &mut Places, column: &[u64], first: usize, count: usize
 pub fn marks_same_places(left: &Places, right: &Places) -> u64
     ensures { (k : ℕ) → k < 64 → test result k ≡ (place left.now.lanes k == place right.now.lanes k) }
 {
-    joined(
-        part_same(left, right, 0),
-        part_same(left, right, PART),
-        part_same(left, right, 2 * PART),
-        part_same(left, right, 3 * PART),
-    )
+    let mut word = 0;
+    for part in 0..BLOCK / EQUAL {
+        word |= part_same(left, right, EQUAL * part) << (EQUAL * part);
+    }
+    word
 }
 
 // The marks of the part from the lane `at` on: whether the places are the same.

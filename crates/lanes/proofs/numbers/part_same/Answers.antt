@@ -6,6 +6,6 @@ returns c =
     let a = c.args.left.now in
     let b = c.args.right.now in
     record {
-      few = few_numbers _ a.lanes b.lanes c.args.at c.requires a.long b.long;
-      marks = part_same a.lanes b.lanes c.args.at c.requires a.long b.long a.whole b.whole;
+      few = few_numbers _ a.lanes b.lanes 16 c.args.at c.requires a.long b.long;
+      marks = part_same a.lanes b.lanes 16 c.args.at c.requires a.long b.long a.whole b.whole;
     }

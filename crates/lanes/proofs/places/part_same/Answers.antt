@@ -6,6 +6,6 @@ returns c =
     let a = c.args.left.now in
     let b = c.args.right.now in
     record {
-      few = few_places _ a.lanes b.lanes c.args.at c.requires a.long b.long;
-      marks = part_places a.lanes b.lanes c.args.at c.requires a.long b.long;
+      few = few_places _ a.lanes b.lanes 16 c.args.at c.requires a.long b.long;
+      marks = part_places a.lanes b.lanes 16 c.args.at c.requires a.long b.long;
     }
