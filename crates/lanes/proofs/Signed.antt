@@ -1,19 +1,16 @@
 -- An operation on signed lanes, from what it does to the bits.
-use Rattle.std.proofs.Common.{◌≡◌, ℕ, zero, suc, ◌+◌, ◌-◌, ◌*◌, ◌%◌, ◌/◌, ◌^◌, ◌<◌, ◌≤◌, Bool, true, false, cond, eqb, List, [], ◌∷◌, map, length, get_or, set, refl, sym, ap, ap₂, ◌∙◌, subst, arith, w64, Fits, ℤ, pos, ◌+ℤ◌, ◌-ℤ◌, ◌*ℤ◌}
-use Rattle.std.specs.Int.{int_wrap, Width}
+use Rattle.std.proofs.Common.{◌≡◌, ℕ, zero, suc, ◌+◌, ◌-◌, ◌*◌, ◌%◌, ◌^◌, ◌<◌, ◌≤◌, Bool, true, false, cond, eqb, List, [], ◌∷◌, map, length, set, refl, sym, ap, ap₂, ◌∙◌, arith, w64, Fits, ℤ, pos, ◌+ℤ◌, ◌-ℤ◌, ◌*ℤ◌}
+use Rattle.std.specs.Int.{int_wrap}
 use Rattle.std.proofs.lemmas.Int.{to_z-of_z, wrapping_add-bits, wrapping_sub-bits, wrapping_mul-bits}
-use Rattle.std.proofs.lemmas.Simd.{tops_compared, mask_l-mod, length-zip2, get_or-zip2, length-put_chunk, Each1-from_get_or}
+use Rattle.std.proofs.lemmas.Simd.{tops_compared, length-zip2, get_or-zip2, Each1-from_get_or}
 use lib.ListN.{replicate}
-use Rattle.std.proofs.lemmas.List.{get_or-map}
 use Rattle.std.proofs.lemmas.Bool.{eqb-true, eq-eqb}
-use mir.Val.{to_z, of_z, SFits, bits, hbits}
+use mir.Val.{to_z, of_z, SFits}
 use mir.Facts.{Fits-of_z}
 use mir.ValLaws.{to_z-Fits}
-use lib.Signed.{lt_z}
 use lib.Lanes.{zip2, Each1, mask_l, top}
 use lib.ListN.{length-map}
 use Rattle.std.specs.Ordering.{int_eq}
-use Rattle.std.specs.Prelude.{int_lt}
 use Rattle.std.proofs.lemmas.Bool.Decides.{Decides-int_eq}
 use Rattle.occupancy.specs.Bits.{test}
 use Rattle.lanes.specs.Lanes.{number, place}
@@ -87,19 +84,15 @@ by_places (x ∷ xs) p zero = p.0
 by_places (x ∷ xs) p (suc k) = by_places xs p.1 k
 
 -- lanes whose bits are the same
-marked_equal : (xs ys : List ℕ) (n : ℕ) → n ≤ 64 → length xs ≡ n → length ys ≡ n → (k : ℕ) → k < n
+pub marked_equal : (xs ys : List ℕ) (n : ℕ) → n ≤ 64 → length xs ≡ n → length ys ≡ n → (k : ℕ) → k < n
     → test (mask_l (map (top 63) (zip2 (λ a b. cond (eqb a b) (2 ^ 64 - 1) 0) xs ys)) % 2 ^ 64) k ≡ eqb (place xs k) (place ys k)
 marked_equal xs ys n few long other k lt =
     ap (λ ms. test (mask_l ms % 2 ^ 64) k) (tops_compared w64 eqb xs ys)
     ∙ test-mod (mask_l (zip2 eqb xs ys)) k (omega arith) ∙ test-mask_l (zip2 eqb xs ys) k
     ∙ get_or-zip2 eqb xs ys k 0 0 false (omega arith) (omega arith)
 
-pub marked_places : (xs ys : List ℕ) → length xs ≡ 64 → length ys ≡ 64 → (k : ℕ) → k < 64
-    → test (mask_l (map (top 63) (zip2 (λ a b. cond (eqb a b) (2 ^ 64 - 1) 0) xs ys)) % 2 ^ 64) k ≡ eqb (place xs k) (place ys k)
-marked_places xs ys long other k lt = marked_equal xs ys 64 (omega arith) long other k lt
-
 -- two numbers of 64 bits are the same where their bits are
-bits_equal : (x y : ℤ) → SFits w64 x → SFits w64 y → eqb (of_z w64 x) (of_z w64 y) ≡ int_eq x y
+pub bits_equal : (x y : ℤ) → SFits w64 x → SFits w64 y → eqb (of_z w64 x) (of_z w64 y) ≡ int_eq x y
 bits_equal x y p q = go (eqb (of_z w64 x) (of_z w64 y)) (int_eq x y) refl refl
   where
     go : (a b : Bool) → eqb (of_z w64 x) (of_z w64 y) ≡ a → int_eq x y ≡ b → a ≡ b
@@ -111,14 +104,6 @@ bits_equal x y p q = go (eqb (of_z w64 x) (of_z w64 y)) (int_eq x y) refl refl
     go false true e f =
         let same : x ≡ y = (Decides-int_eq x y).0 f in
         sym e ∙ eq-eqb (of_z w64 x) (of_z w64 y) (ap (of_z w64) same)
-
--- numbers that are the same
-pub marked_same : (xs ys : List ℤ) → length xs ≡ 64 → length ys ≡ 64 → IsWhole xs → IsWhole ys → (k : ℕ) → k < 64
-    → test (mask_l (map (top 63) (zip2 (λ a b. cond (eqb a b) (2 ^ 64 - 1) 0) (map (of_z w64) xs) (map (of_z w64) ys))) % 2 ^ 64) k ≡ int_eq (number xs k) (number ys k)
-marked_same xs ys long other p q k lt =
-    marked_equal (map (of_z w64) xs) (map (of_z w64) ys) 64 (omega arith) (length-map xs (of_z w64) ∙ long) (length-map ys (of_z w64) ∙ other) k lt
-    ∙ ap₂ eqb (get_or-map (of_z w64) xs k (pos 0) 0 (omega arith)) (get_or-map (of_z w64) ys k (pos 0) 0 (omega arith))
-    ∙ bits_equal (number xs k) (number ys k) (p k) (q k)
 
 pub whole_put : (xs : List ℤ) (k : ℕ) (z : ℤ) → IsWhole xs → SFits w64 z → IsWhole (set xs k z)
 whole_put xs k z p f = by_places (set xs k z) (whole_set xs k z (each_whole xs p) f)

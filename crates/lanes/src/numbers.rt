@@ -1,12 +1,12 @@
 // Blocks of numbers.
-ghost use Rattle.std.specs.Prelude.{◌≡◌, ◌+◌, ◌≤◌, ◌<◌, ◌+ℤ◌, ◌-ℤ◌, ◌*ℤ◌, neg_ℤ, ℕ, pos, length, int_lt};
+ghost use Rattle.std.specs.Prelude.{◌≡◌, ◌+◌, ◌≤◌, ◌<◌, ◌^◌, ◌+ℤ◌, ◌-ℤ◌, ◌*ℤ◌, neg_ℤ, ℕ, pos, length, int_lt};
 ghost use Rattle.std.specs.Int.RustNames.{FitsSigned};
 ghost use Rattle.std.specs.Int.{int_wrap, int_div_euclid, int_rem_euclid, w64};
 ghost use Rattle.std.specs.Ordering.{int_eq};
 ghost use Rattle.occupancy.specs.Bits.{test};
 ghost use Rattle.lanes.specs.Lanes.{number};
 
-use crate::BLOCK;
+use crate::{BLOCK, EQUAL, ORDERED};
 use divisor::Divisor;
 use std::simd::prelude::*;
 
@@ -103,16 +103,44 @@ pub fn rests(into: &mut Numbers, of: &Numbers, by: &Divisor)
 pub fn marks_below(left: &Numbers, right: &Numbers) -> u64
     ensures { (k : ℕ) → k < 64 → test result k ≡ int_lt (number left.now.lanes k) (number right.now.lanes k) }
 {
-    let left = i64x64::from_array(left.lanes);
-    let right = i64x64::from_array(right.lanes);
-    left.simd_lt(right).to_bitmask()
+    let mut word = 0;
+    for part in 0..BLOCK / ORDERED {
+        word |= part_below(left, right, ORDERED * part) << (ORDERED * part);
+    }
+    word
 }
 
 /// Tells by bit k of a word whether the numbers of lane k are the same.
 pub fn marks_same(left: &Numbers, right: &Numbers) -> u64
     ensures { (k : ℕ) → k < 64 → test result k ≡ int_eq (number left.now.lanes k) (number right.now.lanes k) }
 {
-    let left = i64x64::from_array(left.lanes);
-    let right = i64x64::from_array(right.lanes);
+    let mut word = 0;
+    for part in 0..BLOCK / EQUAL {
+        word |= part_same(left, right, EQUAL * part) << (EQUAL * part);
+    }
+    word
+}
+
+// The marks of the part from the lane `at` on: whether the left number is below the right one.
+#[inline(always)]
+fn part_below(left: &Numbers, right: &Numbers, at: usize) -> u64
+    requires { at + 4 ≤ 64 }
+    ensures few { result < 2 ^ 4 }
+    ensures marks { (k : ℕ) → k < 4 → test result k ≡ int_lt (number left.now.lanes (at + k)) (number right.now.lanes (at + k)) }
+{
+    let left = i64x4::from_slice(&left.lanes[at..]);
+    let right = i64x4::from_slice(&right.lanes[at..]);
+    left.simd_lt(right).to_bitmask()
+}
+
+// The marks of the part from the lane `at` on: whether the numbers are the same.
+#[inline(always)]
+fn part_same(left: &Numbers, right: &Numbers, at: usize) -> u64
+    requires { at + 16 ≤ 64 }
+    ensures few { result < 2 ^ 16 }
+    ensures marks { (k : ℕ) → k < 16 → test result k ≡ int_eq (number left.now.lanes (at + k)) (number right.now.lanes (at + k)) }
+{
+    let left = i64x16::from_slice(&left.lanes[at..]);
+    let right = i64x16::from_slice(&right.lanes[at..]);
     left.simd_eq(right).to_bitmask()
 }

@@ -1,9 +1,9 @@
 // Blocks of places.
-ghost use Rattle.std.specs.Prelude.{◌≡◌, ◌+◌, ◌≤◌, ◌<◌, ◌==◌, ℕ, length};
+ghost use Rattle.std.specs.Prelude.{◌≡◌, ◌+◌, ◌≤◌, ◌<◌, ◌^◌, ◌==◌, ℕ, length};
 ghost use Rattle.occupancy.specs.Bits.{test};
 ghost use Rattle.lanes.specs.Lanes.{place};
 
-use crate::BLOCK;
+use crate::{BLOCK, EQUAL};
 use std::simd::prelude::*;
 
 /// 64 places.
@@ -46,7 +46,21 @@ pub fn load_places(into: &mut Places, column: &[u64], first: usize, count: usize
 pub fn marks_same_places(left: &Places, right: &Places) -> u64
     ensures { (k : ℕ) → k < 64 → test result k ≡ (place left.now.lanes k == place right.now.lanes k) }
 {
-    let left = u64x64::from_array(left.lanes);
-    let right = u64x64::from_array(right.lanes);
+    let mut word = 0;
+    for part in 0..BLOCK / EQUAL {
+        word |= part_same(left, right, EQUAL * part) << (EQUAL * part);
+    }
+    word
+}
+
+// The marks of the part from the lane `at` on: whether the places are the same.
+#[inline(always)]
+fn part_same(left: &Places, right: &Places, at: usize) -> u64
+    requires { at + 16 ≤ 64 }
+    ensures few { result < 2 ^ 16 }
+    ensures marks { (k : ℕ) → k < 16 → test result k ≡ (place left.now.lanes (at + k) == place right.now.lanes (at + k)) }
+{
+    let left = u64x16::from_slice(&left.lanes[at..]);
+    let right = u64x16::from_slice(&right.lanes[at..]);
     left.simd_eq(right).to_bitmask()
 }

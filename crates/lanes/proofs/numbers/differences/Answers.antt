@@ -1,4 +1,4 @@
-use Rattle.std.proofs.Common.{◌+◌, ◌-◌, ◌*◌, ◌%◌, ◌^◌, ◌-ℤ◌, w64, arith}
+use Rattle.std.proofs.Common.{◌+◌, ◌-◌, ◌%◌, ◌^◌, ◌-ℤ◌, w64, arith}
 use Rattle.std.specs.Int.{int_wrap}
 use Rattle.lanes.proofs.Signed.{signed_at, differences as law, made}
 use Rattle.lanes.proofs.numbers.differences.Goals as goal

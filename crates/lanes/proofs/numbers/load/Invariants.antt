@@ -1,5 +1,4 @@
-use Rattle.std.proofs.Common.{◌≡◌, ℕ, ◌+◌, ◌<◌, length, pos}
-use Rattle.std.specs.Int.{int_rem_euclid}
+use Rattle.std.proofs.Common.{◌≡◌, ℕ, ◌+◌, ◌<◌, length}
 use Rattle.lanes.specs.Lanes.{number}
 use Rattle.lanes.proofs.Signed.{IsWhole}
 use Rattle.lanes.proofs.numbers.load.Given as goal

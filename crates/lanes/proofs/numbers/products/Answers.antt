@@ -1,4 +1,4 @@
-use Rattle.std.proofs.Common.{◌+◌, ◌-◌, ◌*◌, ◌%◌, ◌^◌, ◌*ℤ◌, w64, arith}
+use Rattle.std.proofs.Common.{◌*◌, ◌%◌, ◌^◌, ◌*ℤ◌, w64, arith}
 use Rattle.std.specs.Int.{int_wrap}
 use Rattle.lanes.proofs.Signed.{signed_at, products as law, made}
 use Rattle.lanes.proofs.numbers.products.Goals as goal

@@ -1,10 +1,9 @@
-use Rattle.std.proofs.Common.{◌≡◌, ℕ, ◌+◌, ◌<◌, ◌∙◌, refl, sym, ap, subst, arith, rules, ℤ, pos, length, get_or, set, w64, below_more, get_or-set_same, get_or-set_other}
+use Rattle.std.proofs.Common.{◌≡◌, ◌∙◌, sym, ap, subst, arith, pos, get_or, w64, below_more, get_or-set_same, get_or-set_other}
 use Rattle.std.specs.Int.{int_div_euclid}
 use Rattle.std.proofs.lemmas.List.{length-set}
 use Rattle.std.proofs.lemmas.Int.{to_z-of_z}
 use mir.Val.{SFits, to_z, of_z}
-use Rattle.lanes.proofs.Signed.{whole_put, by_places, whole_replicate, zero_whole}
-use lib.ListN.{replicate}
+use Rattle.lanes.proofs.Signed.{whole_put}
 use Rattle.lanes.proofs.numbers.quotients.Goals as goal
 
 pub loop-k-preserved : goal.loop-k-preserved

@@ -1,4 +1,4 @@
-use Rattle.std.proofs.Common.{◌≡◌, ◌∙◌, sym, subst, arith, w64, pos, ℤ}
+use Rattle.std.proofs.Common.{◌≡◌, ◌∙◌, sym, subst, w64, pos, ℤ}
 use Rattle.std.proofs.lemmas.Simd.{length-replicate, get_or-replicate}
 use Rattle.std.proofs.lemmas.Int.{to_z-of_z}
 use lib.ListN.{replicate}
