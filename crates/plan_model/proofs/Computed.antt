@@ -10,12 +10,13 @@ use Rattle.plan_model.specs.declared.expr.CompareOp.TheVariants.{Eq, Lt, Le, Gt}
 use Rattle.plan_model.specs.declared.expr.ExprNode.{ExprNode}
 use Rattle.plan_model.specs.declared.expr.ExprNode.TheVariants.{Column, Int as ConstInt, Bool as ConstBool, Text as ConstText, Neg, Not, Arith, Div, Mod, Compare, And, Or}
 use Rattle.plan_model.specs.Expr.{value}
-use Rattle.plan_model.specs.FilterPlan.{filter_plan}
+use Rattle.plan_model.specs.declared.node.Node.{Node}
+use Rattle.plan_model.specs.declared.node.Node.TheVariants.{Source, Where}
 use Rattle.plan_model.specs.Meaning.{Sources, events, closes, snapshots}
 
--- the first column is above the number, as in `v > 10`
-abbrev first_above : ℤ → List ExprNode
-first_above number = Column 0 ∷ ConstInt number ∷ Compare Gt 0 1 ∷ []
+-- the rows of stream 0 whose first column is above 10, as of `s | where v > 10`; its root is node 1
+abbrev above_ten : List Node
+above_ten = Source 0 ∷ Where 0 (Column 0 ∷ ConstInt (pos 10) ∷ Compare Gt 0 1 ∷ []) ∷ []
 
 abbrev row_of : ℕ → Row
 row_of v = Int (pos v) ∷ []
@@ -27,38 +28,38 @@ event v start end = record { row = row_of v; start = start; end = end }
 abbrev two_lives : Sources
 two_lives stream = event 12 1 5 ∷ event 7 2 4 ∷ []
 
-above_ten_events : events two_lives (filter_plan (first_above (pos 10))) 1 ≡ event 12 1 5 ∷ []
+above_ten_events : events two_lives above_ten 1 ≡ event 12 1 5 ∷ []
 above_ten_events = refl
 
-above_ten_at_0 : snapshots two_lives (filter_plan (first_above (pos 10))) 1 0 ≡ []
+above_ten_at_0 : snapshots two_lives above_ten 1 0 ≡ []
 above_ten_at_0 = refl
 
-above_ten_at_1 : snapshots two_lives (filter_plan (first_above (pos 10))) 1 1 ≡ row_of 12 ∷ []
+above_ten_at_1 : snapshots two_lives above_ten 1 1 ≡ row_of 12 ∷ []
 above_ten_at_1 = refl
 
-above_ten_at_3 : snapshots two_lives (filter_plan (first_above (pos 10))) 1 3 ≡ row_of 12 ∷ []
+above_ten_at_3 : snapshots two_lives above_ten 1 3 ≡ row_of 12 ∷ []
 above_ten_at_3 = refl
 
-above_ten_at_4 : snapshots two_lives (filter_plan (first_above (pos 10))) 1 4 ≡ row_of 12 ∷ []
+above_ten_at_4 : snapshots two_lives above_ten 1 4 ≡ row_of 12 ∷ []
 above_ten_at_4 = refl
 
-above_ten_at_5 : snapshots two_lives (filter_plan (first_above (pos 10))) 1 5 ≡ []
+above_ten_at_5 : snapshots two_lives above_ten 1 5 ≡ []
 above_ten_at_5 = refl
 
-all_rows_at_3 : snapshots two_lives (filter_plan (first_above (pos 10))) 0 3 ≡ row_of 12 ∷ row_of 7 ∷ []
+all_rows_at_3 : snapshots two_lives above_ten 0 3 ≡ row_of 12 ∷ row_of 7 ∷ []
 all_rows_at_3 = refl
 
 -- equal rows whose lives touch at 5 are one row at each instant
 abbrev touching_lives : Sources
 touching_lives stream = event 12 1 5 ∷ event 12 5 8 ∷ []
 
-touching_at_4 : snapshots touching_lives (filter_plan (first_above (pos 10))) 1 4 ≡ row_of 12 ∷ []
+touching_at_4 : snapshots touching_lives above_ten 1 4 ≡ row_of 12 ∷ []
 touching_at_4 = refl
 
-touching_at_5 : snapshots touching_lives (filter_plan (first_above (pos 10))) 1 5 ≡ row_of 12 ∷ []
+touching_at_5 : snapshots touching_lives above_ten 1 5 ≡ row_of 12 ∷ []
 touching_at_5 = refl
 
-touching_at_8 : snapshots touching_lives (filter_plan (first_above (pos 10))) 1 8 ≡ []
+touching_at_8 : snapshots touching_lives above_ten 1 8 ≡ []
 touching_at_8 = refl
 
 -- equal rows whose lives overlap are counted each
@@ -69,14 +70,14 @@ overlap_at_4 = refl
 abbrev endless_life : Sources
 endless_life stream = event 12 3 inf ∷ []
 
-endless_at_2 : snapshots endless_life (filter_plan (first_above (pos 10))) 1 2 ≡ []
+endless_at_2 : snapshots endless_life above_ten 1 2 ≡ []
 endless_at_2 = refl
 
-endless_at_last : snapshots endless_life (filter_plan (first_above (pos 10))) 1 2305843009213693951 ≡ row_of 12 ∷ []
+endless_at_last : snapshots endless_life above_ten 1 2305843009213693951 ≡ row_of 12 ∷ []
 unfolding inf
 endless_at_last = refl
 
-closed_at_7 : closes (filter_plan (first_above (pos 10))) 1 7 ≡ 7
+closed_at_7 : closes above_ten 1 7 ≡ 7
 closed_at_7 = refl
 
 -- the greatest and the least number of an i64

@@ -15,7 +15,6 @@ pub mod Closings
 pub mod SameNodes
 pub mod NodeLaws
 pub mod PlanLaws
-pub mod FilterPlans
 pub mod Wrapping
 pub mod Dividing
 pub mod Comparing

@@ -12,7 +12,6 @@ pub mod Groups
 pub mod Shape
 pub mod Nodes
 pub mod Meaning
-pub mod FilterPlan
 pub mod Typed
 pub mod Reach
 pub mod IsPlan
