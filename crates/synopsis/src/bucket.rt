@@ -33,7 +33,7 @@ fn is_row(row: &HeldRow, cells: &[Datum], start: Time) -> bool
 }
 
 // Among fewer rows than these one is found by a walk.
-const MANY: usize = 8;
+const MANY: usize = 32;
 
 /// Rows, in no order, each found by its cells and its start.
 #[derive(Drop)]
