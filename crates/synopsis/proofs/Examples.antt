@@ -3,6 +3,7 @@ use Rattle.std.specs.Prelude.{◌≡◌, pos, true, false, List, [], ◌∷◌, 
 use Rattle.tw_rows.specs.SameCells.{same_cells}
 use Rattle.tw_rows.specs.declared.cells.Datum.{Datum}
 use Rattle.tw_rows.specs.declared.cells.Datum.TheVariants.{Int}
+use Rattle.synopsis.specs.Words.{folded}
 use Rattle.synopsis.specs.Held.{key_of, is_of_key}
 
 abbrev row : List Datum
@@ -23,3 +24,8 @@ row_has_its_key = refl
 row_has_no_other_key : is_of_key (2 ∷ []) (Int (pos 6) ∷ []) (record { cells = row; start = 3 }) ≡ false
 unfolding same_cells
 row_has_no_other_key = refl
+
+-- the product of small words has no upper half
+small_words_are_multiplied : folded 3 5 ≡ 15
+unfolding folded
+small_words_are_multiplied = refl

@@ -7,13 +7,14 @@ ghost use Rattle.edge_history.specs.Opens.{is_held};
 ghost use Rattle.synopsis.specs.Held.{IsPlace};
 
 use crate::marks::Marks;
+use crate::word_hasher::WordHasher;
 use std::alloc::Global;
-use std::hash::{BuildHasher, BuildHasherDefault, FoldHasher};
+use std::hash::{BuildHasher, BuildHasherDefault};
 use std::marker::Model;
 use tw_rows::{Cells, Datum, HeldRow, Memory, Time};
 
 fn hash_of(cells: &[Datum], start: Time) -> u64 {
-    BuildHasherDefault::<FoldHasher>::default().hash_one((cells, start.word()))
+    BuildHasherDefault::<WordHasher>::default().hash_one((cells, start.word()))
 }
 
 fn marks_of(alloc: Global, rows: &[HeldRow]) -> Result<Marks, Memory> {
@@ -32,7 +33,7 @@ fn is_row(row: &HeldRow, cells: &[Datum], start: Time) -> bool
 }
 
 // Among fewer rows than these one is found by a walk.
-const MANY: usize = 8;
+const MANY: usize = 32;
 
 /// Rows, in no order, each found by its cells and its start.
 #[derive(Drop)]

@@ -8,14 +8,19 @@ ghost use Rattle.synopsis.specs.Held.{key_of, is_of_key};
 ghost use Rattle.synopsis.specs.Buckets.{rows_in, AreKeyed};
 
 use crate::bucket::Bucket;
+use crate::word_hasher::WordHasher;
 use indexmap::IndexMap;
 use std::alloc::Global;
+use std::hash::BuildHasherDefault;
 use tw_rows::{Cells, Datum, HeldRow, Memory, Time};
+
+/// Buckets, each with its key.
+pub type KeyBuckets = IndexMap<Vec<Datum>, Bucket, BuildHasherDefault<WordHasher>>;
 
 /// Puts a row into the bucket of its key, which is made where there is none.
 pub fn put_row(
     alloc: Global,
-    buckets: &mut IndexMap<Vec<Datum>, Bucket>,
+    buckets: &mut KeyBuckets,
     key: &[Datum],
     cells: Cells,
     start: Time,
@@ -36,12 +41,7 @@ pub fn put_row(
 }
 
 /// Takes a row with these cells that began then out of the bucket of the key, if there is one. No bucket is left empty.
-pub fn take_row(
-    buckets: &mut IndexMap<Vec<Datum>, Bucket>,
-    key: &[Datum],
-    cells: &[Datum],
-    start: Time,
-) -> bool
+pub fn take_row(buckets: &mut KeyBuckets, key: &[Datum], cells: &[Datum], start: Time) -> bool
     ensures taken { result ≡ true → (w : HeldRow → ℕ) → total w (rows_in buckets.old.entries) ≡ total w (rows_in buckets.new.entries) + w (record { cells = cells.now; start = start }) }
     ensures none { result ≡ false → (columns : List ℕ) → key.now ≡ key_of columns cells.now → AreKeyed columns buckets.old.entries → many (is_held cells.now start) (rows_in buckets.old.entries) ≡ 0 }
     ensures unchanged { result ≡ false → buckets.new.entries ≡ buckets.old.entries }
@@ -62,7 +62,7 @@ pub fn take_row(
 }
 
 /// The rows of a key.
-pub fn rows_with<'a>(buckets: &'a IndexMap<Vec<Datum>, Bucket>, key: &[Datum]) -> &'a [HeldRow]
+pub fn rows_with<'a>(buckets: &'a KeyBuckets, key: &[Datum]) -> &'a [HeldRow]
     ensures { (columns : List ℕ) → AreKeyed columns buckets.now.entries → result.now ≡ filter (is_of_key columns key.now) (rows_in buckets.now.entries) }
 {
     // Its call tells the proof that no key stands twice.

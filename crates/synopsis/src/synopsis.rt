@@ -6,11 +6,11 @@ ghost use Rattle.edge_history.specs.Order.{many};
 ghost use Rattle.edge_history.specs.Opens.{is_held};
 ghost use Rattle.synopsis.specs.Held.{is_of_key};
 
-use crate::bucket::Bucket;
-use crate::buckets::{put_row, rows_with, take_row};
+use crate::buckets::{KeyBuckets, put_row, rows_with, take_row};
 use crate::key_room::KeyRoom;
 use indexmap::IndexMap;
 use std::alloc::Global;
+use std::hash::BuildHasherDefault;
 use std::marker::Model;
 use tw_rows::{Cells, Datum, HeldRow, Memory, Time};
 
@@ -20,7 +20,7 @@ use tw_rows::{Cells, Datum, HeldRow, Memory, Time};
 pub struct Synopsis {
     alloc: Global,
     key: KeyRoom,
-    buckets: IndexMap<Vec<Datum>, Bucket>,
+    buckets: KeyBuckets,
     count: usize,
 }
 
@@ -45,7 +45,7 @@ impl Synopsis {
         Ok(Synopsis {
             alloc,
             key: KeyRoom::new(alloc, key)?,
-            buckets: IndexMap::new(alloc),
+            buckets: IndexMap::with_hasher(alloc, BuildHasherDefault::new()),
             count: 0,
         })
     }
