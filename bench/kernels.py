@@ -4,8 +4,8 @@
 
 usage: bench/kernels.py
 
-The program that is timed is proved first. Of five rounds the best counts. Ends with status 1 where a mask and its loop
-do not find the same number of rows.
+The program that is timed is proved first. In each of forty rounds the mask is timed and then its loop, and of each the
+best round counts. Ends with status 1 where a mask and its loop do not find the same number of rows.
 """
 import sys
 
@@ -32,7 +32,7 @@ use tw_rows::{CellKind, Cells, Datum, Edge, Kind, Label, TextTable, Time};
 
 const ROWS: usize = 1024;
 const BATCHES: usize = 1000;
-const ROUNDS: usize = 5;
+const ROUNDS: usize = 40;
 
 // The nodes of `v mod 7 = 0 and v > 100`.
 fn with_mod(alloc: Global) -> Result<Vec<ExprNode>, anyhow::Error>
@@ -164,26 +164,33 @@ fn masked(kernel: &mut Kernel, batch: &Batch, texts: &TextTable, mask: &mut Occu
     found
 }
 
-// The best time of all masks over these rows, and how many rows they hold.
+// Times all masks over these rows, and the plain loops over the same.
 fn time_masks(
     rt: &HostRuntime,
     alloc: Global,
     kernel: &mut Kernel,
     batch: &Batch,
     texts: &TextTable,
-) -> Result<(usize, u128), anyhow::Error>
+    plain: &Plain,
+) -> Result<(), anyhow::Error>
     requires kind { result_kind kernel.old ≡ CellKind.Bit }
     requires reads { CanRead texts.now kernel.old batch.now }
 {
     let mut mask = Occupancy::new(alloc, batch.rows())?;
     let mut found = 0;
+    let mut plainly = 0;
     let mut best = u128::MAX;
+    let mut best_loop = u128::MAX;
     for _ in 0..ROUNDS {
         let began = Instant::now(rt)?;
         found = masked(kernel, batch, texts, &mut mask);
         best = best.min(began.elapsed(rt)?.as_nanos());
+        let began = Instant::now(rt)?;
+        plainly = plain.count();
+        best_loop = best_loop.min(began.elapsed(rt)?.as_nanos());
     }
-    Ok((found, best))
+    println!(rt; "{found} {plainly} {best} {best_loop}")?;
+    Ok(())
 }
 
 fn by_kernel(
@@ -192,7 +199,8 @@ fn by_kernel(
     nodes: Vec<ExprNode>,
     numbers: &[i64],
     places: &[u64],
-) -> Result<(usize, u128), anyhow::Error>
+    plain: &Plain,
+) -> Result<(), anyhow::Error>
     requires expr { IsExpr nodes.items }
     requires typed { IsTyped (CellKind.Whole ∷ CellKind.Place ∷ []) nodes.items }
     requires kind { kind_of nodes.items (CellKind.Whole ∷ CellKind.Place ∷ []) ≡ CellKind.Bit }
@@ -203,10 +211,28 @@ fn by_kernel(
     }
     let mut kernel = kernel_of(alloc, nodes, &mut texts)?;
     let batch = batch_of(alloc, &texts, numbers, places)?;
-    if batch.rows() > ROWS {
-        return Ok((0, 0));
+    if batch.rows() <= ROWS {
+        time_masks(rt, alloc, &mut kernel, &batch, &texts, plain)?;
     }
-    time_masks(rt, alloc, &mut kernel, &batch, &texts)
+    Ok(())
+}
+
+// A test by a plain loop over a slice.
+#[derive(Clone, Copy)]
+enum Plain<'a> {
+    WithMod(&'a [i64]),
+    Between(&'a [i64]),
+    SamePlace(&'a [u64]),
+}
+
+impl Plain<'_> {
+    fn count(&self) -> usize {
+        match self {
+            Plain::WithMod(numbers) => loop_with_mod(numbers),
+            Plain::Between(numbers) => loop_between(numbers),
+            Plain::SamePlace(places) => loop_same_place(places, 1),
+        }
+    }
 }
 
 // The first test by a plain loop.
@@ -248,39 +274,6 @@ fn loop_same_place(places: &[u64], place: u64) -> usize {
     found
 }
 
-fn time_mod(rt: &HostRuntime, numbers: &[i64]) -> Result<(usize, u128), anyhow::Error> {
-    let mut found = 0;
-    let mut best = u128::MAX;
-    for _ in 0..ROUNDS {
-        let began = Instant::now(rt)?;
-        found = loop_with_mod(numbers);
-        best = best.min(began.elapsed(rt)?.as_nanos());
-    }
-    Ok((found, best))
-}
-
-fn time_between(rt: &HostRuntime, numbers: &[i64]) -> Result<(usize, u128), anyhow::Error> {
-    let mut found = 0;
-    let mut best = u128::MAX;
-    for _ in 0..ROUNDS {
-        let began = Instant::now(rt)?;
-        found = loop_between(numbers);
-        best = best.min(began.elapsed(rt)?.as_nanos());
-    }
-    Ok((found, best))
-}
-
-fn time_places(rt: &HostRuntime, places: &[u64]) -> Result<(usize, u128), anyhow::Error> {
-    let mut found = 0;
-    let mut best = u128::MAX;
-    for _ in 0..ROUNDS {
-        let began = Instant::now(rt)?;
-        found = loop_same_place(places, 1);
-        best = best.min(began.elapsed(rt)?.as_nanos());
-    }
-    Ok((found, best))
-}
-
 fn main(rt: HostRuntime) -> Result<(), anyhow::Error> {
     let alloc = rt.alloc();
     let mut numbers = Vec::new(alloc);
@@ -289,16 +282,9 @@ fn main(rt: HostRuntime) -> Result<(), anyhow::Error> {
         numbers.push(i as i64)?;
         places.push((i % 3) as u64)?;
     }
-    let (mask, kernel) = by_kernel(&rt, alloc, with_mod(alloc)?, &numbers, &places)?;
-    let (plain, plain_loop) = time_mod(&rt, &numbers)?;
-    println!(rt; "{mask} {plain} {kernel} {plain_loop}")?;
-    let (mask, kernel) = by_kernel(&rt, alloc, between(alloc)?, &numbers, &places)?;
-    let (plain, plain_loop) = time_between(&rt, &numbers)?;
-    println!(rt; "{mask} {plain} {kernel} {plain_loop}")?;
-    let (mask, kernel) = by_kernel(&rt, alloc, same_text(alloc)?, &numbers, &places)?;
-    let (plain, plain_loop) = time_places(&rt, &places)?;
-    println!(rt; "{mask} {plain} {kernel} {plain_loop}")?;
-    Ok(())
+    by_kernel(&rt, alloc, with_mod(alloc)?, &numbers, &places, &Plain::WithMod(&numbers))?;
+    by_kernel(&rt, alloc, between(alloc)?, &numbers, &places, &Plain::Between(&numbers))?;
+    by_kernel(&rt, alloc, same_text(alloc)?, &numbers, &places, &Plain::SamePlace(&places))
 }
 """
 

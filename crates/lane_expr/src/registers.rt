@@ -12,11 +12,11 @@ use tw_rows::{CellKind, Datum};
 /// The results of a step over the 64 rows of a block. Those that are stored as its kind says are of use.
 #[derive(Clone, Copy, Drop)]
 pub struct Register {
-    pub(crate) kind: CellKind,
     pub(crate) numbers: Numbers,
     pub(crate) places: Places,
     // Bit j is the truth value of row j.
     pub(crate) bits: u64,
+    pub(crate) kind: CellKind,
 }
 
 impl Register {
@@ -25,10 +25,10 @@ impl Register {
         ensures { result.kind ≡ kind }
     {
         Register {
-            kind,
             numbers: Numbers::filled(0),
             places: Places::filled(0),
             bits: 0,
+            kind,
         }
     }
 

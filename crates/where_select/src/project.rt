@@ -11,6 +11,8 @@ use batch::{Batch, Payload, Pools};
 use lane_expr::Kernel;
 use smallvec::SmallVec;
 use std::alloc::Global;
+use std::error::Error;
+use std::fmt;
 use std::marker::Model;
 use tw_rows::{CellKind, Kind, Memory, TextTable, cell_of};
 
@@ -22,6 +24,20 @@ const WIDTH: usize = 32;
 pub struct NoColumn {
     pub batch: Batch,
 }
+
+impl fmt::Debug for NoColumn {
+    fn fmt<W: fmt::Write>(&self, f: &mut fmt::Formatter<W>) -> fmt::Result {
+        write!(f, "NoColumn")
+    }
+}
+
+impl fmt::Display for NoColumn {
+    fn fmt<W: fmt::Write>(&self, f: &mut fmt::Formatter<W>) -> fmt::Result {
+        write!(f, "too few free columns for the items of a projection")
+    }
+}
+
+impl Error for NoColumn {}
 
 /// Makes the columns of batches anew, one for each item. Contracts see the items.
 #[derive(Drop)]
