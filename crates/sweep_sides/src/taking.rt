@@ -27,10 +27,32 @@ fn pop_before(queue: &mut EndQueue, due: &mut Vec<Edge>, below: Time) -> Result<
     Ok(())
 }
 
-// Puts a start or an end last, and of an interval the start, whose end waits.
-fn push_due(queue: &mut EndQueue, due: &mut Vec<Edge>, edge: Edge) -> Result<(), Memory>
-    ensures parts { OnOk result ((w : Edge → ℕ) → total w due.new.items + total w (queued queue.new) ≡ (total w due.old.items + total w (queued queue.old)) + total w (singles_of edge)) }
-    ensures early { OnOk result ((to : ℕ) → edge.sync < to → failing (is_below to) due.old.items ≡ 0 → failing (is_below to) due.new.items ≡ 0) }
+// Puts an end last, if it comes before a time. Else it waits.
+fn place_end(queue: &mut EndQueue, ends: &mut Vec<Edge>, to: Time, end: Edge) -> Result<(), Memory>
+    ensures parts { OnOk result ((w : Edge → ℕ) → total w ends.new.items + total w (queued queue.new) ≡ (total w ends.old.items + total w (queued queue.old)) + w end) }
+    ensures early { OnOk result (failing (is_below to) ends.old.items ≡ 0 → failing (is_below to) ends.new.items ≡ 0) }
+    ensures timed { OnOk result (AreTimed queue.old → AreTimed queue.new) }
+{
+    if comes_before(&end, to) {
+        ends.push(end)?;
+        return Ok(());
+    }
+    put(queue, end)?;
+    Ok(())
+}
+
+// Puts a start or an end last, and of an interval the start, whose end comes to the ends that are due or waits.
+fn push_due(
+    queue: &mut EndQueue,
+    due: &mut Vec<Edge>,
+    ends: &mut Vec<Edge>,
+    to: Time,
+    edge: Edge,
+) -> Result<(), Memory>
+    ensures parts { OnOk result ((w : Edge → ℕ) → (total w due.new.items + total w ends.new.items) + total w (queued queue.new)
+        ≡ ((total w due.old.items + total w ends.old.items) + total w (queued queue.old)) + total w (singles_of edge)) }
+    ensures early { OnOk result (edge.sync < to → failing (is_below to) due.old.items ≡ 0 → failing (is_below to) due.new.items ≡ 0) }
+    ensures ends_early { OnOk result (failing (is_below to) ends.old.items ≡ 0 → failing (is_below to) ends.new.items ≡ 0) }
     ensures timed { OnOk result (AreTimed queue.old → AreTimed queue.new) }
 {
     if is_single(&edge) {
@@ -48,21 +70,29 @@ fn push_due(queue: &mut EndQueue, due: &mut Vec<Edge>, edge: Edge) -> Result<(),
         cells: edge.cells,
     };
     due.push(start)?;
-    put(queue, end)?;
+    place_end(queue, ends, to, end)?;
     Ok(())
 }
 
 // Takes in an edge: one that is due before a time is put last, and each other waits.
-fn take_edge(queue: &mut EndQueue, due: &mut Vec<Edge>, to: Time, edge: Edge) -> Result<(), Memory>
-    ensures parts { OnOk result ((w : Edge → ℕ) → total w due.new.items + total w (queued queue.new) ≡ (total w due.old.items + total w (queued queue.old)) + total w (singles_of edge)) }
+fn take_edge(
+    queue: &mut EndQueue,
+    due: &mut Vec<Edge>,
+    ends: &mut Vec<Edge>,
+    to: Time,
+    edge: Edge,
+) -> Result<(), Memory>
+    ensures parts { OnOk result ((w : Edge → ℕ) → (total w due.new.items + total w ends.new.items) + total w (queued queue.new)
+        ≡ ((total w due.old.items + total w ends.old.items) + total w (queued queue.old)) + total w (singles_of edge)) }
     ensures early { OnOk result (failing (is_below to) due.old.items ≡ 0 → failing (is_below to) due.new.items ≡ 0) }
+    ensures ends_early { OnOk result (failing (is_below to) ends.old.items ≡ 0 → failing (is_below to) ends.new.items ≡ 0) }
     ensures timed { OnOk result (AreTimed queue.old → AreTimed queue.new) }
 {
     if !comes_before(&edge, to) {
         put_singles(queue, edge)?;
         return Ok(());
     }
-    push_due(queue, due, edge)?;
+    push_due(queue, due, ends, to, edge)?;
     Ok(())
 }
 
@@ -98,11 +128,13 @@ pub fn take_in(
     ensures cells { OnOk result (All (λ e. map datum_kind e.cells ≡ cells_of edges.now) edges.now.edges) }
 {
     let mut due = Vec::new(alloc);
+    let mut ends = Vec::new(alloc);
     let mut cursor = edges.cursor();
     while let Some(edge) = cursor.next()? {
-        take_edge(queue, &mut due, to, edge)?;
+        take_edge(queue, &mut due, &mut ends, to, edge)?;
     }
     pop_before(queue, &mut due, to)?;
+    due.append(&mut ends)?;
     by_sync(&mut due)?;
     Ok(due)
 }

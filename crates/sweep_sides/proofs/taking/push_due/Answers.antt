@@ -12,7 +12,7 @@ returns-then-is_single-clause-parts c = λ w.
     omega (arith, a, b)
 
 pub returns-then-is_single-clause-early : goal.returns-then-is_single-clause-early
-returns-then-is_single-clause-early c = λ to low h. early_push to c.args.due.now.items c.push.new.self.items c.args.edge c.in_ok-push.ensures.items low h
+returns-then-is_single-clause-early c = λ low h. early_push c.args.to c.args.due.now.items c.push.new.self.items c.args.edge c.in_ok-push.ensures.items low h
 
 pub returns-clause-parts : goal.returns-clause-parts
 returns-clause-parts c = λ w.
@@ -20,12 +20,12 @@ returns-clause-parts c = λ w.
     let x : Edge = record { sync = e.sync; other = c.bounds.result.1; cells = e.cells } in
     let y : Edge = record { sync = e.other; other = e.sync; cells = c.in_ok-clone.field-0 } in
     let a = push_weighs w c.args.due.now.items c.push-2.new.self.items x c.in_ok-push-2.ensures.items in
-    let b = c.in_ok-put.ensures.put w in
+    let b = c.in_ok-place_end.ensures.parts w in
     let begins = ap (λ n. record e { sync = e.sync; other = n; cells = e.cells }) c.bounds.ensures.infinity in
     let ends = ap (λ l. record e { sync = e.other; other = e.sync; cells = l }) c.in_ok-clone.ensures.cases in
     let s = two_singles e x y (sym c.is_single.ensures ∙ c.if-is_single.false) begins ends w in
     omega (arith, a, b, s)
 
 pub returns-clause-early : goal.returns-clause-early
-returns-clause-early c = λ to low h.
-    early_push to c.args.due.now.items c.push-2.new.self.items (record { sync = c.args.edge.sync; other = c.bounds.result.1; cells = c.args.edge.cells }) c.in_ok-push-2.ensures.items low h
+returns-clause-early c = λ low h.
+    early_push c.args.to c.args.due.now.items c.push-2.new.self.items (record { sync = c.args.edge.sync; other = c.bounds.result.1; cells = c.args.edge.cells }) c.in_ok-push-2.ensures.items low h
