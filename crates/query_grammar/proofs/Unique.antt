@@ -404,7 +404,7 @@ items_unique (i ∷ is) (j ∷ js) y z h k e =
     record { it = ap (λ x. x ∷ is) u.it ∙ ap (λ x. j ∷ x) v.it; rest = v.rest }
 
 -- Which step stands first, as a number: steps of two kinds begin with two words.
-abbrev step_at : List Token → ℕ
+abbrev pub step_at : List Token → ℕ
 step_at (fixed S.Where ∷ ts) = 0
 step_at (fixed S.Select ∷ ts) = 1
 step_at (fixed S.Union ∷ ts) = 2
@@ -425,7 +425,7 @@ step_at (fixed S.Follow ∷ ts) = 16
 step_at ts = 17
 
 -- likewise of a step
-abbrev step_number : G.Step → ℕ
+abbrev pub step_number : G.Step → ℕ
 step_number (G.where_ c) = 0
 step_number (G.select i is) = 1
 step_number (G.union n) = 2
@@ -444,7 +444,7 @@ step_number (G.left n o e) = 14
 step_number (G.top n p c) = 15
 step_number (G.follow n o m) = 16
 
-step_begins : (s : G.Step) (z : List Token) → step_at (step_then s z) ≡ step_number s
+pub step_begins : (s : G.Step) (z : List Token) → step_at (step_then s z) ≡ step_number s
 step_begins (G.where_ c) z = refl
 step_begins (G.select i is) z = refl
 step_begins (G.union n) z = refl
@@ -462,6 +462,10 @@ step_begins G.coalesce z = refl
 step_begins (G.left n o e) z = refl
 step_begins (G.top n p c) z = refl
 step_begins (G.follow n o m) z = refl
+
+-- a step of another number is not spelled by these tokens
+pub no_other_step : (s : G.Step) (z ts : List Token) (n : ℕ) → step_at ts ≡ n → ts ≡ step_then s z → (n == step_number s) ≡ false → ⊥
+no_other_step s z ts n a e f = true≢false (sym (eq-eqb n (step_number s) (sym a ∙ ap step_at e ∙ step_begins s z)) ∙ f)
 
 one_step : (a b : G.Step) (y z : List Token) → step_then a y ≡ step_then b z → (step_number a == step_number b) ≡ true
 one_step a b y z e = eq-eqb (step_number a) (step_number b) (sym (step_begins a y) ∙ ap step_at e ∙ step_begins b z)
