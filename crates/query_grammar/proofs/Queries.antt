@@ -1,5 +1,5 @@
 -- Every query that the grammar spells, the machine reads.
-use Rattle.std.proofs.Common.{◌≡◌, ℕ, suc, ◌<◌, Bool, true, false, List, [], ◌∷◌, None, refl, ap, ◌∙◌, lit<}
+use Rattle.std.proofs.Common.{◌≡◌, ℕ, suc, ◌<◌, Bool, true, false, List, [], ◌∷◌, None, refl, ap, sym, ◌∙◌, true≢false, lit<}
 use Rattle.query_words.specs.declared.word.Sign.{Sign}
 use Rattle.query_words.specs.declared.word.Sign.TheVariants as S
 use Rattle.query_grammar.specs.declared.kind.Kind.{Kind}
@@ -75,14 +75,14 @@ end_skips : (s : Symbol) (k : List Symbol) (z : List Token) → ends_step z ≡ 
 end_skips s k [] h e b c = skips s k [] e tt
 end_skips s k (fixed S.Bar ∷ ts) h e b c = skips s k (fixed S.Bar ∷ ts) e b
 end_skips s k (fixed S.Semicolon ∷ ts) h e b c = skips s k (fixed S.Semicolon ∷ ts) e c
-end_skips s k (_ ∷ ts) h e b c = cc
+end_skips s k (_ ∷ ts) h e b c = absurd (true≢false (sym h))
 
 pub low_end : (z : List Token) → ends_step z ≡ true → rank z < 1
 unfolding binds
 low_end [] h = lit< tt
 low_end (fixed S.Bar ∷ ts) h = lit< tt
 low_end (fixed S.Semicolon ∷ ts) h = lit< tt
-low_end (_ ∷ ts) h = cc
+low_end (_ ∷ ts) h = absurd (true≢false (sym h))
 
 -- what may follow the names of a key
 abbrev pub ends_key : List Token → Bool
@@ -95,7 +95,7 @@ pub key_ends : (z : List Token) → ends_step z ≡ true → ends_key z ≡ true
 key_ends [] h = refl
 key_ends (fixed S.Bar ∷ ts) h = refl
 key_ends (fixed S.Semicolon ∷ ts) h = refl
-key_ends (_ ∷ ts) h = cc
+key_ends (_ ∷ ts) h = absurd (true≢false (sym h))
 
 key_skips : (s : Symbol) (k : List Symbol) (z : List Token) → ends_key z ≡ true → may_end s ≡ true → choose s (K.Fixed S.Else) ≡ skip → choose s (K.Fixed S.Within) ≡ skip → choose s (K.Fixed S.By) ≡ skip
     → choose s (K.Fixed S.Bar) ≡ skip → choose s (K.Fixed S.Semicolon) ≡ skip → stuck (s ∷ k) z ≡ stuck k z
@@ -105,7 +105,7 @@ key_skips s k (fixed S.Within ∷ ts) h e a b c d f = skips s k (fixed S.Within 
 key_skips s k (fixed S.By ∷ ts) h e a b c d f = skips s k (fixed S.By ∷ ts) e c
 key_skips s k (fixed S.Bar ∷ ts) h e a b c d f = skips s k (fixed S.Bar ∷ ts) e d
 key_skips s k (fixed S.Semicolon ∷ ts) h e a b c d f = skips s k (fixed S.Semicolon ∷ ts) e f
-key_skips s k (_ ∷ ts) h e a b c d f = cc
+key_skips s k (_ ∷ ts) h e a b c d f = absurd (true≢false (sym h))
 
 more_names_end : (k : List Symbol) (z : List Token) → ends_key z ≡ true → stuck (Y.MoreNames ∷ k) z ≡ stuck k z
 unfolding at_more_names
@@ -237,11 +237,11 @@ tail_after (K.Fixed S.GreaterEqual) k h = refl
 tail_after (K.Fixed S.And) k h = refl
 tail_after (K.Fixed S.Or) k h = refl
 tail_after (K.Fixed S.As) k h = refl
-tail_after _ k h = cc
+tail_after _ k h = absurd (true≢false (sym h))
 
 tail_next : (k : List Symbol) (z : List Token) → begins_on z ≡ true → stuck (Y.ItemRest ∷ k) z ≡ stuck (Y.Factors ∷ Y.Terms ∷ Y.Test ∷ Y.Ands ∷ Y.Ors ∷ Y.Word S.As ∷ Y.Named ∷ k) z
 unfolding stuck
-tail_next k [] h = cc
+tail_next k [] h = absurd (true≢false (sym h))
 tail_next k (t ∷ ts) h = ap (λ a. stuck_then (λ k'. stuck k' ts) a (t ∷ ts)) (tail_after (kind t) k h)
 
 item_name : (n : List ℕ) (k : List Symbol) (z : List Token) → stuck (Y.Item ∷ k) (name n ∷ z) ≡ stuck (Y.ItemRest ∷ k) z
@@ -293,11 +293,22 @@ item_named (G.expr (G.conj (G.cmp (G.sum (G.prod (G.atom (G.column m)) fs) ts) t
     ∙ ors_read os (Y.Word S.As ∷ Y.Named ∷ k) z0 (low_as (name n ∷ z))
     ∙ as_next n k z
 
-item_rest_end : (k : List Symbol) (z : List Token) → ends_item z ≡ true → stuck (Y.ItemRest ∷ k) z ≡ stuck k z
+item_rest_bar : choose Y.ItemRest (K.Fixed S.Bar) ≡ skip
 unfolding at_item_rest at_factors at_terms at_test at_ands at_ors at_word
-item_rest_end k [] h = end_skips Y.ItemRest k [] h refl refl refl
-item_rest_end k (fixed S.Comma ∷ ts) h = skips Y.ItemRest k (fixed S.Comma ∷ ts) refl refl
-item_rest_end k (t ∷ ts) h = end_skips Y.ItemRest k (t ∷ ts) h refl refl refl
+item_rest_bar = refl
+
+item_rest_semicolon : choose Y.ItemRest (K.Fixed S.Semicolon) ≡ skip
+unfolding at_item_rest at_factors at_terms at_test at_ands at_ors at_word
+item_rest_semicolon = refl
+
+item_rest_comma : choose Y.ItemRest (K.Fixed S.Comma) ≡ skip
+unfolding at_item_rest at_factors at_terms at_test at_ands at_ors at_word
+item_rest_comma = refl
+
+item_rest_end : (k : List Symbol) (z : List Token) → ends_item z ≡ true → stuck (Y.ItemRest ∷ k) z ≡ stuck k z
+item_rest_end k [] h = end_skips Y.ItemRest k [] h refl item_rest_bar item_rest_semicolon
+item_rest_end k (fixed S.Comma ∷ ts) h = skips Y.ItemRest k (fixed S.Comma ∷ ts) refl item_rest_comma
+item_rest_end k (t ∷ ts) h = end_skips Y.ItemRest k (t ∷ ts) h refl item_rest_bar item_rest_semicolon
 
 item_read : (i : G.Item) (k : List Symbol) (z : List Token) → ends_item z ≡ true → stuck (Y.Item ∷ k) (item_then i z) ≡ stuck k z
 item_read (G.alone n) k z h = item_name n k z ∙ item_rest_end k z h
@@ -311,7 +322,7 @@ pub ends_both : (z : List Token) → ends_step z ≡ true → ends_item z ≡ tr
 ends_both [] h = refl
 ends_both (fixed S.Bar ∷ ts) h = refl
 ends_both (fixed S.Semicolon ∷ ts) h = refl
-ends_both (_ ∷ ts) h = cc
+ends_both (_ ∷ ts) h = absurd (true≢false (sym h))
 
 pub ends_items : (is : List G.Item) (z : List Token) → ends_step z ≡ true → ends_item (items_then is z) ≡ true
 ends_items [] z h = ends_both z h

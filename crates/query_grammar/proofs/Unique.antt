@@ -1,7 +1,9 @@
 -- No list of tokens spells two queries.
-use Rattle.std.proofs.Common.{◌≡◌, ℕ, suc, ◌<◌, Bool, true, false, subst, List, [], ◌∷◌, refl, ap, sym, ◌∙◌, arith}
+use Rattle.std.proofs.Common.{◌≡◌, ℕ, suc, ◌<◌, Bool, true, false, subst, List, [], ◌∷◌, refl, ap, sym, ◌∙◌, arith, true≢false}
+use Rattle.std.specs.Bool.{◌==◌}
+use Rattle.std.proofs.lemmas.Bool.{eq-eqb}
 use Rattle.query_words.specs.declared.word.Sign.TheVariants as S
-use Rattle.query_grammar.specs.Token.{Token, name, int, fixed}
+use Rattle.query_grammar.specs.Token.{Token, name, int, dec, str, fixed}
 use Rattle.query_grammar.specs.Follows.{Lacks, ends_step, ends_item}
 use Rattle.query_grammar.specs.Grammar as G
 use Rattle.query_grammar.specs.Grammar.{fun_sign, expr_then, ors_then, conj_then, ands_then, neg_then, test_then, sum_then, terms_then, prod_then, factors_then, unary_then, atom_then, more_names_then, names_then, item_then, items_then, agg_then, aggs_then, by_then, on_then, per_then, lit_then, lits_then, else_then, step_then, steps_then, pipe_then, let_then, lets_then, col_then, cols_then, stream_then, streams_then, query_tokens}
@@ -294,15 +296,51 @@ per_unique (G.per_names a) (G.per_names b) y z h k l m e =
     let f : names_then a y ≡ names_then b z = cc in
     let v = names_unique a b y z l m f in record { it = ap G.per_names v.it; rest = v.rest }
 
+-- which literal stands first, as a number
+abbrev lit_at : List Token → ℕ
+lit_at (int n ∷ ts) = 0
+lit_at (fixed S.Minus ∷ int n ∷ ts) = 1
+lit_at (dec u p ∷ ts) = 2
+lit_at (fixed S.Minus ∷ dec u p ∷ ts) = 3
+lit_at (str s ∷ ts) = 4
+lit_at (fixed S.True ∷ ts) = 5
+lit_at (fixed S.False ∷ ts) = 6
+lit_at ts = 7
+
+-- likewise of a literal
+abbrev lit_number : G.Lit → ℕ
+lit_number (G.int_lit n) = 0
+lit_number (G.minus_int n) = 1
+lit_number (G.dec_lit u p) = 2
+lit_number (G.minus_dec u p) = 3
+lit_number (G.text_lit s) = 4
+lit_number G.true_lit = 5
+lit_number G.false_lit = 6
+
+lit_begins : (l : G.Lit) (z : List Token) → lit_at (lit_then l z) ≡ lit_number l
+lit_begins (G.int_lit n) z = refl
+lit_begins (G.minus_int n) z = refl
+lit_begins (G.dec_lit u p) z = refl
+lit_begins (G.minus_dec u p) z = refl
+lit_begins (G.text_lit s) z = refl
+lit_begins G.true_lit z = refl
+lit_begins G.false_lit z = refl
+
+one_lit : (a b : G.Lit) (y z : List Token) → lit_then a y ≡ lit_then b z → (lit_number a == lit_number b) ≡ true
+one_lit a b y z e = eq-eqb (lit_number a) (lit_number b) (sym (lit_begins a y) ∙ ap lit_at e ∙ lit_begins b z)
+
+of_one_lit : (a b : G.Lit) (y z : List Token) → lit_then a y ≡ lit_then b z → (lit_number a == lit_number b) ≡ true → Both a b y z
+of_one_lit (G.int_lit n) (G.int_lit m) y z e o = let g : n ≡ m = cc in record { it = ap G.int_lit g; rest = cc }
+of_one_lit (G.minus_int n) (G.minus_int m) y z e o = let g : n ≡ m = cc in record { it = ap G.minus_int g; rest = cc }
+of_one_lit (G.dec_lit n p) (G.dec_lit m q) y z e o = let g : n ≡ m = cc in let h : p ≡ q = cc in record { it = ap (λ x. G.dec_lit x p) g ∙ ap (G.dec_lit m) h; rest = cc }
+of_one_lit (G.minus_dec n p) (G.minus_dec m q) y z e o = let g : n ≡ m = cc in let h : p ≡ q = cc in record { it = ap (λ x. G.minus_dec x p) g ∙ ap (G.minus_dec m) h; rest = cc }
+of_one_lit (G.text_lit n) (G.text_lit m) y z e o = let g : n ≡ m = cc in record { it = ap G.text_lit g; rest = cc }
+of_one_lit G.true_lit G.true_lit y z e o = record { it = refl; rest = cc }
+of_one_lit G.false_lit G.false_lit y z e o = record { it = refl; rest = cc }
+of_one_lit _ _ y z e o = absurd (true≢false (sym o))
+
 lit_unique : (a b : G.Lit) (y z : List Token) → lit_then a y ≡ lit_then b z → Both a b y z
-lit_unique (G.int_lit n) (G.int_lit m) y z e = let g : n ≡ m = cc in record { it = ap G.int_lit g; rest = cc }
-lit_unique (G.minus_int n) (G.minus_int m) y z e = let g : n ≡ m = cc in record { it = ap G.minus_int g; rest = cc }
-lit_unique (G.dec_lit n p) (G.dec_lit m q) y z e = let g : n ≡ m = cc in let h : p ≡ q = cc in record { it = ap (λ x. G.dec_lit x p) g ∙ ap (G.dec_lit m) h; rest = cc }
-lit_unique (G.minus_dec n p) (G.minus_dec m q) y z e = let g : n ≡ m = cc in let h : p ≡ q = cc in record { it = ap (λ x. G.minus_dec x p) g ∙ ap (G.minus_dec m) h; rest = cc }
-lit_unique (G.text_lit n) (G.text_lit m) y z e = let g : n ≡ m = cc in record { it = ap G.text_lit g; rest = cc }
-lit_unique G.true_lit G.true_lit y z e = record { it = refl; rest = cc }
-lit_unique G.false_lit G.false_lit y z e = record { it = refl; rest = cc }
-lit_unique _ _ y z e = cc
+lit_unique a b y z e = of_one_lit a b y z e (one_lit a b y z e)
 
 lits_unique : (as_ bs : List G.Lit) (y z : List Token) → Lacks (fixed S.Comma) y → Lacks (fixed S.Comma) z → lits_then as_ y ≡ lits_then bs z → Both as_ bs y z
 lits_unique [] [] y z h k e = record { it = refl; rest = e }
@@ -365,42 +403,109 @@ items_unique (i ∷ is) (j ∷ js) y z h k e =
     let v = items_unique is js y z h k u.rest in
     record { it = ap (λ x. x ∷ is) u.it ∙ ap (λ x. j ∷ x) v.it; rest = v.rest }
 
-step_unique : (a b : G.Step) (y z : List Token) → ends_step y ≡ true → ends_step z ≡ true → step_then a y ≡ step_then b z → Both a b y z
-step_unique (G.where_ c) (G.where_ d) y z h k e =
+-- Which step stands first, as a number: steps of two kinds begin with two words.
+abbrev pub step_at : List Token → ℕ
+step_at (fixed S.Where ∷ ts) = 0
+step_at (fixed S.Select ∷ ts) = 1
+step_at (fixed S.Union ∷ ts) = 2
+step_at (fixed S.Delay ∷ ts) = 3
+step_at (fixed S.Duration ∷ ts) = 4
+step_at (fixed S.Extend ∷ ts) = 5
+step_at (fixed S.Tumble ∷ ts) = 6
+step_at (fixed S.Hop ∷ ts) = 7
+step_at (fixed S.Session ∷ ts) = 8
+step_at (fixed S.Clip ∷ ts) = 9
+step_at (fixed S.Join ∷ ts) = 10
+step_at (fixed S.Anti ∷ ts) = 11
+step_at (fixed S.Group ∷ ts) = 12
+step_at (fixed S.Coalesce ∷ ts) = 13
+step_at (fixed S.Left ∷ ts) = 14
+step_at (fixed S.Top ∷ ts) = 15
+step_at (fixed S.Follow ∷ ts) = 16
+step_at ts = 17
+
+-- likewise of a step
+abbrev pub step_number : G.Step → ℕ
+step_number (G.where_ c) = 0
+step_number (G.select i is) = 1
+step_number (G.union n) = 2
+step_number (G.delay n) = 3
+step_number (G.duration n) = 4
+step_number (G.extend n) = 5
+step_number (G.tumble n) = 6
+step_number (G.hop n p) = 7
+step_number (G.session n b) = 8
+step_number (G.clip n o) = 9
+step_number (G.join n o) = 10
+step_number (G.anti n o) = 11
+step_number (G.group b a as_) = 12
+step_number G.coalesce = 13
+step_number (G.left n o e) = 14
+step_number (G.top n p c) = 15
+step_number (G.follow n o m) = 16
+
+pub step_begins : (s : G.Step) (z : List Token) → step_at (step_then s z) ≡ step_number s
+step_begins (G.where_ c) z = refl
+step_begins (G.select i is) z = refl
+step_begins (G.union n) z = refl
+step_begins (G.delay n) z = refl
+step_begins (G.duration n) z = refl
+step_begins (G.extend n) z = refl
+step_begins (G.tumble n) z = refl
+step_begins (G.hop n p) z = refl
+step_begins (G.session n b) z = refl
+step_begins (G.clip n o) z = refl
+step_begins (G.join n o) z = refl
+step_begins (G.anti n o) z = refl
+step_begins (G.group b a as_) z = refl
+step_begins G.coalesce z = refl
+step_begins (G.left n o e) z = refl
+step_begins (G.top n p c) z = refl
+step_begins (G.follow n o m) z = refl
+
+-- a step of another number is not spelled by these tokens
+pub no_other_step : (s : G.Step) (z ts : List Token) (n : ℕ) → step_at ts ≡ n → ts ≡ step_then s z → (n == step_number s) ≡ false → ⊥
+no_other_step s z ts n a e f = true≢false (sym (eq-eqb n (step_number s) (sym a ∙ ap step_at e ∙ step_begins s z)) ∙ f)
+
+one_step : (a b : G.Step) (y z : List Token) → step_then a y ≡ step_then b z → (step_number a == step_number b) ≡ true
+one_step a b y z e = eq-eqb (step_number a) (step_number b) (sym (step_begins a y) ∙ ap step_at e ∙ step_begins b z)
+
+of_one_step : (a b : G.Step) (y z : List Token) → ends_step y ≡ true → ends_step z ≡ true → step_then a y ≡ step_then b z → (step_number a == step_number b) ≡ true → Both a b y z
+of_one_step (G.where_ c) (G.where_ d) y z h k e o =
     let f : expr_then c y ≡ expr_then d z = cc in
     let u = expr_unique c d y z (low_end y h) (low_end z k) f in record { it = ap G.where_ u.it; rest = u.rest }
-step_unique (G.select i is) (G.select j js) y z h k e =
+of_one_step (G.select i is) (G.select j js) y z h k e o =
     let f : item_then i (items_then is y) ≡ item_then j (items_then js z) = cc in
     let u = item_unique i j _ _ (ends_items is y h) (ends_items js z k) f in
     let v = items_unique is js y z h k u.rest in
     record { it = ap (λ x. G.select x is) u.it ∙ ap (G.select j) v.it; rest = v.rest }
-step_unique (G.hop n p) (G.hop m q) y z h k e = let f : n ≡ m = cc in let g : p ≡ q = cc in record { it = ap (λ x. G.hop x p) f ∙ ap (G.hop m) g; rest = cc }
-step_unique (G.union n) (G.union m) y z h k e = let g : n ≡ m = cc in record { it = ap G.union g; rest = cc }
-step_unique (G.delay n) (G.delay m) y z h k e = let g : n ≡ m = cc in record { it = ap G.delay g; rest = cc }
-step_unique (G.duration n) (G.duration m) y z h k e = let g : n ≡ m = cc in record { it = ap G.duration g; rest = cc }
-step_unique (G.extend n) (G.extend m) y z h k e = let g : n ≡ m = cc in record { it = ap G.extend g; rest = cc }
-step_unique (G.tumble n) (G.tumble m) y z h k e = let g : n ≡ m = cc in record { it = ap G.tumble g; rest = cc }
-step_unique (G.session n a) (G.session m b) y z h k e =
+of_one_step (G.hop n p) (G.hop m q) y z h k e o = let f : n ≡ m = cc in let g : p ≡ q = cc in record { it = ap (λ x. G.hop x p) f ∙ ap (G.hop m) g; rest = cc }
+of_one_step (G.union n) (G.union m) y z h k e o = let g : n ≡ m = cc in record { it = ap G.union g; rest = cc }
+of_one_step (G.delay n) (G.delay m) y z h k e o = let g : n ≡ m = cc in record { it = ap G.delay g; rest = cc }
+of_one_step (G.duration n) (G.duration m) y z h k e o = let g : n ≡ m = cc in record { it = ap G.duration g; rest = cc }
+of_one_step (G.extend n) (G.extend m) y z h k e o = let g : n ≡ m = cc in record { it = ap G.extend g; rest = cc }
+of_one_step (G.tumble n) (G.tumble m) y z h k e o = let g : n ≡ m = cc in record { it = ap G.tumble g; rest = cc }
+of_one_step (G.session n a) (G.session m b) y z h k e o =
     let g : n ≡ m = cc in
     let f : by_then a y ≡ by_then b z = cc in
     let v = by_unique a b y z (ends_without _ y (λ w. refl) h) (ends_without _ z (λ w. refl) k) (ends_without _ y (λ w. refl) h) (ends_without _ z (λ w. refl) k) f in
     record { it = ap (λ x. G.session x a) g ∙ ap (G.session m) v.it; rest = v.rest }
-step_unique (G.clip n a) (G.clip m b) y z h k e =
+of_one_step (G.clip n a) (G.clip m b) y z h k e o =
     let g : n ≡ m = cc in
     let f : on_then a y ≡ on_then b z = cc in
     let v = on_unique a b y z (ends_without _ y (λ w. refl) h) (ends_without _ z (λ w. refl) k) (ends_without _ y (λ w. refl) h) (ends_without _ z (λ w. refl) k) f in
     record { it = ap (λ x. G.clip x a) g ∙ ap (G.clip m) v.it; rest = v.rest }
-step_unique (G.join n a) (G.join m b) y z h k e =
+of_one_step (G.join n a) (G.join m b) y z h k e o =
     let g : n ≡ m = cc in
     let f : on_then a y ≡ on_then b z = cc in
     let v = on_unique a b y z (ends_without _ y (λ w. refl) h) (ends_without _ z (λ w. refl) k) (ends_without _ y (λ w. refl) h) (ends_without _ z (λ w. refl) k) f in
     record { it = ap (λ x. G.join x a) g ∙ ap (G.join m) v.it; rest = v.rest }
-step_unique (G.anti n a) (G.anti m b) y z h k e =
+of_one_step (G.anti n a) (G.anti m b) y z h k e o =
     let g : n ≡ m = cc in
     let f : on_then a y ≡ on_then b z = cc in
     let v = on_unique a b y z (ends_without _ y (λ w. refl) h) (ends_without _ z (λ w. refl) k) (ends_without _ y (λ w. refl) h) (ends_without _ z (λ w. refl) k) f in
     record { it = ap (λ x. G.anti x a) g ∙ ap (G.anti m) v.it; rest = v.rest }
-step_unique (G.group a x xs) (G.group b v vs) y z h k e =
+of_one_step (G.group a x xs) (G.group b v vs) y z h k e o =
     let f : by_then a (fixed S.Colon ∷ agg_then x (aggs_then xs y)) ≡ by_then b (fixed S.Colon ∷ agg_then v (aggs_then vs z)) = cc in
     let u = by_unique a b _ _ (λ w q. cc) (λ w q. cc) (λ w q. cc) (λ w q. cc) f in
     let r = u.rest in
@@ -408,8 +513,8 @@ step_unique (G.group a x xs) (G.group b v vs) y z h k e =
     let s = agg_unique x v _ _ g in
     let t = aggs_unique xs vs y z (ends_without _ y (λ w. refl) h) (ends_without _ z (λ w. refl) k) s.rest in
     record { it = ap (λ q. G.group q x xs) u.it ∙ ap (λ q. G.group b q xs) s.it ∙ ap (λ q. G.group b v q) t.it; rest = t.rest }
-step_unique G.coalesce G.coalesce y z h k e = record { it = refl; rest = cc }
-step_unique (G.left n a u) (G.left m b v) y z h k e =
+of_one_step G.coalesce G.coalesce y z h k e o = record { it = refl; rest = cc }
+of_one_step (G.left n a u) (G.left m b v) y z h k e o =
     let g : n ≡ m = cc in
     let f : on_then a (else_then u y) ≡ on_then b (else_then v z) = cc in
     let i = ends_else u y h in
@@ -417,21 +522,24 @@ step_unique (G.left n a u) (G.left m b v) y z h k e =
     let p = on_unique a b _ _ (key_without _ _ (λ w. refl) i) (key_without _ _ (λ w. refl) j) (key_without _ _ (λ w. refl) i) (key_without _ _ (λ w. refl) j) f in
     let q = else_unique u v y z h k p.rest in
     record { it = ap (λ x. G.left x a u) g ∙ ap (λ x. G.left m x u) p.it ∙ ap (G.left m b) q.it; rest = q.rest }
-step_unique (G.top n a c) (G.top m b d) y z h k e =
+of_one_step (G.top n a c) (G.top m b d) y z h k e o =
     let g : n ≡ m = cc in
     let f : per_then a (fixed S.By ∷ name c ∷ y) ≡ per_then b (fixed S.By ∷ name d ∷ z) = cc in
     let p = per_unique a b _ _ (λ w q. cc) (λ w q. cc) (λ w q. cc) (λ w q. cc) f in
     let r = p.rest in
     let i : c ≡ d = cc in
     record { it = ap (λ x. G.top x a c) g ∙ ap (λ x. G.top m x c) p.it ∙ ap (G.top m b) i; rest = cc }
-step_unique (G.follow n a i) (G.follow m b j) y z h k e =
+of_one_step (G.follow n a i) (G.follow m b j) y z h k e o =
     let g : n ≡ m = cc in
     let f : on_then a (fixed S.Within ∷ int (suc i) ∷ y) ≡ on_then b (fixed S.Within ∷ int (suc j) ∷ z) = cc in
     let p = on_unique a b _ _ (λ w q. cc) (λ w q. cc) (λ w q. cc) (λ w q. cc) f in
     let r = p.rest in
     let l : i ≡ j = cc in
     record { it = ap (λ x. G.follow x a i) g ∙ ap (λ x. G.follow m x i) p.it ∙ ap (G.follow m b) l; rest = cc }
-step_unique _ _ y z h k e = cc
+of_one_step _ _ y z h k e o = absurd (true≢false (sym o))
+
+step_unique : (a b : G.Step) (y z : List Token) → ends_step y ≡ true → ends_step z ≡ true → step_then a y ≡ step_then b z → Both a b y z
+step_unique a b y z h k e = of_one_step a b y z h k e (one_step a b y z e)
 
 steps_unique : (ss ts : List G.Step) (y z : List Token) → ends_step y ≡ true → ends_step z ≡ true → Lacks (fixed S.Bar) y → Lacks (fixed S.Bar) z → steps_then ss y ≡ steps_then ts z → Both ss ts y z
 steps_unique [] [] y z h k l m e = record { it = refl; rest = e }

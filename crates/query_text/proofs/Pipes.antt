@@ -1,5 +1,5 @@
 -- The steps of the parser of names, items, steps and pipes.
-use Rattle.std.proofs.Common.{◌≡◌, ℕ, ◌<◌, ◌≤◌, suc, length, true, false, Some, None, List, [], ◌∷◌, ◌++◌, refl, ap, sym, subst, ◌∙◌, append_assoc, append-nil, arith, lit<}
+use Rattle.std.proofs.Common.{◌≡◌, ℕ, ◌<◌, ◌≤◌, suc, length, true, false, Some, None, List, [], ◌∷◌, ◌++◌, refl, ap, sym, subst, ◌∙◌, append_assoc, append-nil, arith, true≢false, lit<}
 use Rattle.query_words.specs.declared.word.Sign.{Sign}
 use Rattle.query_words.specs.declared.word.Sign.TheVariants as S
 use Rattle.query_grammar.specs.Token.{Token, name, fixed}
@@ -7,7 +7,7 @@ use Rattle.query_grammar.specs.Grammar as G
 use Rattle.query_grammar.specs.Grammar.{fun_sign, expr_then, unary_then, item_then, items_then, agg_then, lit_then, else_then, step_then, steps_then, pipe_then, lets_then}
 use Rattle.query_grammar.specs.Machine.{rank, binds}
 use Rattle.query_grammar.proofs.Queries.{low_end, ends_steps as steps_end}
-use Rattle.query_grammar.proofs.Unique.{one_fun, no_count}
+use Rattle.query_grammar.proofs.Unique.{one_fun, no_count, step_at, no_other_step}
 use Rattle.query_grammar.proofs.Complete.{low_as}
 use Rattle.query_text.specs.declared.tree.TreeNode.{TreeNode}
 use Rattle.query_text.specs.Spelling.{tree_of, item_of, unary_of}
@@ -18,7 +18,7 @@ use Rattle.query_text.specs.Reading.{Lacks, IsAhead, Listing, ends_pipe, ends_st
 pub step_from_pipe : (z : List Token) → ends_pipe z ≡ true → ends_step z ≡ true
 step_from_pipe [] h = refl
 step_from_pipe (fixed S.Semicolon ∷ ts) h = refl
-step_from_pipe (_ ∷ ts) h = cc
+step_from_pipe (_ ∷ ts) h = absurd (true≢false (sym h))
 
 pub low_item : (z : List Token) → ends_item z ≡ true → rank z < 1
 unfolding binds
@@ -26,7 +26,7 @@ low_item [] h = lit< tt
 low_item (fixed S.Comma ∷ ts) h = lit< tt
 low_item (fixed S.Semicolon ∷ ts) h = lit< tt
 low_item (fixed S.Bar ∷ ts) h = lit< tt
-low_item (_ ∷ ts) h = cc
+low_item (_ ∷ ts) h = absurd (true≢false (sym h))
 
 pub low_step : (z : List Token) → ends_step z ≡ true → rank z < 1
 low_step z h = low_end z h
@@ -177,71 +177,71 @@ agg_column g P old mid takes f (G.count n) z end e = let t : S.Count ≡ fun_sig
 
 pub step_where : (P : G.Step → List Token → Type 0) (old mid : List Token) → old ≡ fixed S.Where ∷ mid → ((x : G.Expr) (z : List Token) → ends_step z ≡ true → mid ≡ expr_then x z → P (G.where_ x) z) → (s : G.Step) (z : List Token) → ends_step z ≡ true → old ≡ step_then s z → P s z
 step_where P old mid takes f (G.where_ x) z end e = let s : mid ≡ expr_then x z = cc in f x z end s
-step_where P old mid takes f _ z end e = absurd (cc)
+step_where P old mid takes f s z end e = absurd (no_other_step s z old 0 (ap step_at takes) e refl)
 
 pub step_select : (P : G.Step → List Token → Type 0) (old mid : List Token) → old ≡ fixed S.Select ∷ mid → ((i : G.Item) (is : List G.Item) (z : List Token) → ends_step z ≡ true → mid ≡ select_then (i, is) z → P (G.select i is) z) → (s : G.Step) (z : List Token) → ends_step z ≡ true → old ≡ step_then s z → P s z
 step_select P old mid takes f (G.select i is) z end e = let s : mid ≡ select_then (i, is) z = cc in f i is z end s
-step_select P old mid takes f _ z end e = absurd (cc)
+step_select P old mid takes f s z end e = absurd (no_other_step s z old 1 (ap step_at takes) e refl)
 
 pub step_union : (P : G.Step → List Token → Type 0) (old mid : List Token) → old ≡ fixed S.Union ∷ mid → ((n : List ℕ) (z : List Token) → ends_step z ≡ true → mid ≡ name_then n z → P (G.union n) z) → (s : G.Step) (z : List Token) → ends_step z ≡ true → old ≡ step_then s z → P s z
 step_union P old mid takes f (G.union n) z end e = let s : mid ≡ name_then n z = cc in f n z end s
-step_union P old mid takes f _ z end e = absurd (cc)
+step_union P old mid takes f s z end e = absurd (no_other_step s z old 2 (ap step_at takes) e refl)
 
 pub step_delay : (P : G.Step → List Token → Type 0) (old mid : List Token) → old ≡ fixed S.Delay ∷ mid → ((n : ℕ) (z : List Token) → ends_step z ≡ true → mid ≡ int_then n z → P (G.delay n) z) → (s : G.Step) (z : List Token) → ends_step z ≡ true → old ≡ step_then s z → P s z
 step_delay P old mid takes f (G.delay n) z end e = let s : mid ≡ int_then n z = cc in f n z end s
-step_delay P old mid takes f _ z end e = absurd (cc)
+step_delay P old mid takes f s z end e = absurd (no_other_step s z old 3 (ap step_at takes) e refl)
 
 pub step_duration : (P : G.Step → List Token → Type 0) (old mid : List Token) → old ≡ fixed S.Duration ∷ mid → ((n : ℕ) (z : List Token) → ends_step z ≡ true → mid ≡ int_then n z → P (G.duration n) z) → (s : G.Step) (z : List Token) → ends_step z ≡ true → old ≡ step_then s z → P s z
 step_duration P old mid takes f (G.duration n) z end e = let s : mid ≡ int_then n z = cc in f n z end s
-step_duration P old mid takes f _ z end e = absurd (cc)
+step_duration P old mid takes f s z end e = absurd (no_other_step s z old 4 (ap step_at takes) e refl)
 
 pub step_extend : (P : G.Step → List Token → Type 0) (old mid : List Token) → old ≡ fixed S.Extend ∷ mid → ((n : ℕ) (z : List Token) → ends_step z ≡ true → mid ≡ int_then n z → P (G.extend n) z) → (s : G.Step) (z : List Token) → ends_step z ≡ true → old ≡ step_then s z → P s z
 step_extend P old mid takes f (G.extend n) z end e = let s : mid ≡ int_then n z = cc in f n z end s
-step_extend P old mid takes f _ z end e = absurd (cc)
+step_extend P old mid takes f s z end e = absurd (no_other_step s z old 5 (ap step_at takes) e refl)
 
 pub step_tumble : (P : G.Step → List Token → Type 0) (old mid : List Token) → old ≡ fixed S.Tumble ∷ mid → ((n : ℕ) (z : List Token) → ends_step z ≡ true → mid ≡ int_then n z → P (G.tumble n) z) → (s : G.Step) (z : List Token) → ends_step z ≡ true → old ≡ step_then s z → P s z
 step_tumble P old mid takes f (G.tumble n) z end e = let s : mid ≡ int_then n z = cc in f n z end s
-step_tumble P old mid takes f _ z end e = absurd (cc)
+step_tumble P old mid takes f s z end e = absurd (no_other_step s z old 6 (ap step_at takes) e refl)
 
 pub step_hop : (P : G.Step → List Token → Type 0) (old mid : List Token) → old ≡ fixed S.Hop ∷ mid → ((n p : ℕ) (z : List Token) → ends_step z ≡ true → mid ≡ hop_then (n, p) z → P (G.hop n p) z) → (s : G.Step) (z : List Token) → ends_step z ≡ true → old ≡ step_then s z → P s z
 step_hop P old mid takes f (G.hop n p) z end e = let s : mid ≡ hop_then (n, p) z = cc in f n p z end s
-step_hop P old mid takes f _ z end e = absurd (cc)
+step_hop P old mid takes f s z end e = absurd (no_other_step s z old 7 (ap step_at takes) e refl)
 
 pub step_session : (P : G.Step → List Token → Type 0) (old mid : List Token) → old ≡ fixed S.Session ∷ mid → ((n : ℕ) (b : G.By) (z : List Token) → ends_step z ≡ true → mid ≡ session_then (n, b) z → P (G.session n b) z) → (s : G.Step) (z : List Token) → ends_step z ≡ true → old ≡ step_then s z → P s z
 step_session P old mid takes f (G.session n b) z end e = let s : mid ≡ session_then (n, b) z = cc in f n b z end s
-step_session P old mid takes f _ z end e = absurd (cc)
+step_session P old mid takes f s z end e = absurd (no_other_step s z old 8 (ap step_at takes) e refl)
 
 pub step_clip : (P : G.Step → List Token → Type 0) (old mid : List Token) → old ≡ fixed S.Clip ∷ mid → ((n : List ℕ) (o : G.On) (z : List Token) → ends_step z ≡ true → mid ≡ operand_then (n, o) z → P (G.clip n o) z) → (s : G.Step) (z : List Token) → ends_step z ≡ true → old ≡ step_then s z → P s z
 step_clip P old mid takes f (G.clip n o) z end e = let s : mid ≡ operand_then (n, o) z = cc in f n o z end s
-step_clip P old mid takes f _ z end e = absurd (cc)
+step_clip P old mid takes f s z end e = absurd (no_other_step s z old 9 (ap step_at takes) e refl)
 
 pub step_join : (P : G.Step → List Token → Type 0) (old mid : List Token) → old ≡ fixed S.Join ∷ mid → ((n : List ℕ) (o : G.On) (z : List Token) → ends_step z ≡ true → mid ≡ operand_then (n, o) z → P (G.join n o) z) → (s : G.Step) (z : List Token) → ends_step z ≡ true → old ≡ step_then s z → P s z
 step_join P old mid takes f (G.join n o) z end e = let s : mid ≡ operand_then (n, o) z = cc in f n o z end s
-step_join P old mid takes f _ z end e = absurd (cc)
+step_join P old mid takes f s z end e = absurd (no_other_step s z old 10 (ap step_at takes) e refl)
 
 pub step_anti : (P : G.Step → List Token → Type 0) (old mid : List Token) → old ≡ fixed S.Anti ∷ mid → ((n : List ℕ) (o : G.On) (z : List Token) → ends_step z ≡ true → mid ≡ operand_then (n, o) z → P (G.anti n o) z) → (s : G.Step) (z : List Token) → ends_step z ≡ true → old ≡ step_then s z → P s z
 step_anti P old mid takes f (G.anti n o) z end e = let s : mid ≡ operand_then (n, o) z = cc in f n o z end s
-step_anti P old mid takes f _ z end e = absurd (cc)
+step_anti P old mid takes f s z end e = absurd (no_other_step s z old 11 (ap step_at takes) e refl)
 
 pub step_group : (P : G.Step → List Token → Type 0) (old mid : List Token) → old ≡ fixed S.Group ∷ mid → ((b : G.By) (a : G.Agg) (as_ : List G.Agg) (z : List Token) → ends_step z ≡ true → mid ≡ group_then (b, a, as_) z → P (G.group b a as_) z) → (s : G.Step) (z : List Token) → ends_step z ≡ true → old ≡ step_then s z → P s z
 step_group P old mid takes f (G.group b a as_) z end e = let s : mid ≡ group_then (b, a, as_) z = cc in f b a as_ z end s
-step_group P old mid takes f _ z end e = absurd (cc)
+step_group P old mid takes f s z end e = absurd (no_other_step s z old 12 (ap step_at takes) e refl)
 
 pub step_coalesce : (P : G.Step → List Token → Type 0) (old mid : List Token) → old ≡ fixed S.Coalesce ∷ mid → ((z : List Token) → ends_step z ≡ true → mid ≡ z → P G.coalesce z) → (s : G.Step) (z : List Token) → ends_step z ≡ true → old ≡ step_then s z → P s z
 step_coalesce P old mid takes f G.coalesce z end e = let s : mid ≡ z = cc in f z end s
-step_coalesce P old mid takes f _ z end e = absurd (cc)
+step_coalesce P old mid takes f s z end e = absurd (no_other_step s z old 13 (ap step_at takes) e refl)
 
 pub step_left : (P : G.Step → List Token → Type 0) (old mid : List Token) → old ≡ fixed S.Left ∷ mid → ((n : List ℕ) (o : G.On) (x : G.Else) (z : List Token) → ends_step z ≡ true → mid ≡ left_then (n, o, x) z → P (G.left n o x) z) → (s : G.Step) (z : List Token) → ends_step z ≡ true → old ≡ step_then s z → P s z
 step_left P old mid takes f (G.left n o x) z end e = let s : mid ≡ left_then (n, o, x) z = cc in f n o x z end s
-step_left P old mid takes f _ z end e = absurd (cc)
+step_left P old mid takes f s z end e = absurd (no_other_step s z old 14 (ap step_at takes) e refl)
 
 pub step_top : (P : G.Step → List Token → Type 0) (old mid : List Token) → old ≡ fixed S.Top ∷ mid → ((n : ℕ) (p : G.Per) (c : List ℕ) (z : List Token) → ends_step z ≡ true → mid ≡ top_then (n, p, c) z → P (G.top n p c) z) → (s : G.Step) (z : List Token) → ends_step z ≡ true → old ≡ step_then s z → P s z
 step_top P old mid takes f (G.top n p c) z end e = let s : mid ≡ top_then (n, p, c) z = cc in f n p c z end s
-step_top P old mid takes f _ z end e = absurd (cc)
+step_top P old mid takes f s z end e = absurd (no_other_step s z old 15 (ap step_at takes) e refl)
 
 pub step_follow : (P : G.Step → List Token → Type 0) (old mid : List Token) → old ≡ fixed S.Follow ∷ mid → ((n : List ℕ) (o : G.On) (m : ℕ) (z : List Token) → ends_step z ≡ true → mid ≡ follow_then (n, o, m) z → P (G.follow n o m) z) → (s : G.Step) (z : List Token) → ends_step z ≡ true → old ≡ step_then s z → P s z
 step_follow P old mid takes f (G.follow n o m) z end e = let s : mid ≡ follow_then (n, o, m) z = cc in f n o m z end s
-step_follow P old mid takes f _ z end e = absurd (cc)
+step_follow P old mid takes f s z end e = absurd (no_other_step s z old 16 (ap step_at takes) e refl)
 
 -- what stands behind a key
 
