@@ -15,10 +15,9 @@ use Rattle.tw_rows.specs.Bag.{SameBag}
 use Rattle.batch.specs.Shelves.{Shelves, batch_taken, IsPartTaken}
 use Rattle.batch.proofs.Stocks.{NoMore-all}
 use Rattle.edge_history.specs.Order.{rank, failing, is_real, is_from, Rises, KeepsOrder}
-use Rattle.edge_history.proofs.Agreeing.{same_order}
 use Rattle.edge_history.proofs.Keeping.{KeepsOrder-front}
 use Rattle.edge_history.proofs.Rising.{Rises-less}
-use Rattle.edge_history.proofs.Sums.{weaker, failing-parts, failing-filter}
+use Rattle.edge_history.proofs.Sums.{weaker, failing-parts}
 use Rattle.edge_stream.specs.Listing.{EdgeListView, cells_of, where_full, appended, SameShape}
 use Rattle.edge_stream.specs.Taking.{room_taken}
 use Rattle.edge_stream.proofs.Filling.{room_taken-capacity, appended-kinds, appended-capacity}
@@ -85,7 +84,7 @@ fit_kinds ks es i d e is low h =
     let f : is_fit ks e ≡ true = ap (is_fit ks) is ∙ none_fails_at (is_fit ks) es i d h low in
     stored_kinds ks e.cells (and_parts (is_real e) (are_stored ks e.cells) f).1
 
-rises_filter : (p : Edge → Bool) (r : ℕ) (es : List Edge) → Rises r es → Rises r (filter p es)
+pub rises_filter : (p : Edge → Bool) (r : ℕ) (es : List Edge) → Rises r es → Rises r (filter p es)
 rises_filter p r [] h = tt
 rises_filter p r (e ∷ es) h = go (p e) (rises_filter p (rank e) es h.1)
   where
@@ -93,16 +92,14 @@ rises_filter p r (e ∷ es) h = go (p e) (rises_filter p (rank e) es h.1)
     go true rest = (h.0, rest)
     go false rest = Rises-less (rank e) r (filter p es) h.0 rest
 
--- edges in order that fit keep the rule, and so do those of them that pass a test
-pub keeps_filtered : (p : Edge → Bool) (ks : List CellKind) (es : List Edge) → Rises 0 es → failing (is_fit ks) es ≡ 0 → KeepsOrder (filter p es)
-keeps_filtered p ks es order fit = (same_order (filter p es)).1 (rises_filter p 0 es order, failing-filter p is_real es (fit_real ks es fit))
-
 pub front_keeps : (xs ys zs all : List Edge) → xs ++ (ys ++ zs) ≡ all → KeepsOrder all → KeepsOrder (xs ++ ys)
 front_keeps xs ys zs all is h = KeepsOrder-front (xs ++ ys) zs (subst KeepsOrder (sym (append_assoc xs ys zs ∙ is)) h)
 
-pub part_fits : (ks : List CellKind) (xs ys zs all : List Edge) → xs ++ (ys ++ zs) ≡ all → failing (is_fit ks) all ≡ 0 → failing (is_fit ks) ys ≡ 0
-part_fits ks xs ys zs all is h =
-    (failing-parts (is_fit ks) ys zs (failing-parts (is_fit ks) xs (ys ++ zs) (ap (failing (is_fit ks)) is ∙ h)).1).0
+pub front_fits : (ks : List CellKind) (xs ys all : List Edge) → all ≡ xs ++ ys → failing (is_fit ks) all ≡ 0 → failing (is_fit ks) xs ≡ 0
+front_fits ks xs ys all is h = (failing-parts (is_fit ks) xs ys (ap (failing (is_fit ks)) (sym is) ∙ h)).0
+
+pub back_fits : (ks : List CellKind) (xs ys all : List Edge) → all ≡ xs ++ ys → failing (is_fit ks) all ≡ 0 → failing (is_fit ks) ys ≡ 0
+back_fits ks xs ys all is h = (failing-parts (is_fit ks) xs ys (ap (failing (is_fit ks)) (sym is) ∙ h)).1
 
 -- the list with its next edge
 pub next_keeps : (xs now es : List Edge) (i : ℕ) (d e : Edge) → e ≡ get_or es i d → i < length es → now ≡ xs ++ take i es → KeepsOrder (xs ++ es) → KeepsOrder (now ++ e ∷ [])

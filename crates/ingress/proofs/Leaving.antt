@@ -6,11 +6,11 @@ use Rattle.std.proofs.lemmas.Bool.Decides.{nat_tests}
 use Rattle.std.proofs.lemmas.List.{get_or_past, length-append, length-map, take_more}
 use Rattle.std.proofs.lemmas.List.Elements.{All-nil, All-cons, All-tail, All-append}
 use Rattle.tw_rows.specs.Instant.{inf}
-use Rattle.tw_rows.specs.Bag.{total}
+use Rattle.tw_rows.specs.Bag.{total, SameBag}
 use Rattle.tw_rows.specs.Cells.{ArePlaced}
 use Rattle.tw_rows.specs.declared.edge.Edge.{Edge}
 use Rattle.tw_rows.specs.declared.kind.Kind.{Kind}
-use Rattle.tw_rows.proofs.Bags.{total-append}
+use Rattle.tw_rows.proofs.Bags.{total-append, SameBag-refl}
 use Rattle.edge_history.specs.Order.{failing, is_below, is_from, Rises}
 use Rattle.edge_history.specs.History.{CellEvent}
 use Rattle.edge_stream.specs.Listing.{EdgeListView}
@@ -27,7 +27,7 @@ use Rattle.ingress.specs.Fits.{HasShape, is_fit}
 use Rattle.tw_rows.specs.Kinds.{cell_kind_of}
 use Rattle.ingress.specs.Streams.{bound_in, mark_in}
 use Rattle.ingress.proofs.Reading.{rows_placed}
-use Rattle.edge_history.proofs.Sums.{failing-filter, failing-kept}
+use Rattle.edge_history.proofs.Sums.{failing-filter, failing-kept, failing-same}
 
 -- the edges on both sides of a time are all edges, and those of a side are on it
 both_sides : (t : ℕ) (w : Edge → ℕ) (es : List Edge) → total w es ≡ total w (filter (is_below t) es) + total w (filter (is_from t) es)
@@ -42,7 +42,7 @@ both_sides t w (e ∷ es) = go (cases_lt e.sync t) (both_sides t w es)
 -- the lists of the first n streams
 pub record ReleasedTo (t n rows : ℕ) (kinds : List (List Kind)) (waiting : List (List Edge)) (lists : List EdgeListView) : Type 0 where
   pub long : length lists ≡ n
-  pub edges : (s : ℕ) → s < n → edges_at lists s ≡ filter (is_below t) (get_or waiting s [])
+  pub edges : (s : ℕ) → s < n → SameBag (edges_at lists s) (filter (is_below t) (get_or waiting s []))
   pub order : (s : ℕ) → s < n → Rises 0 (edges_at lists s)
   pub kinds_so_far : map (λ l. l.kinds) lists ≡ take n kinds
   pub capacity : All (λ l. l.capacity ≡ rows) lists
@@ -76,7 +76,7 @@ module _ (t rows : ℕ) (kinds : List (List Kind)) (waiting : List (List Edge)) 
   }
 
   pub released_next : (n : ℕ) (lists after : List EdgeListView) (l : EdgeListView) → after ≡ lists ++ l ∷ [] → n < length kinds → l.kinds ≡ get_or kinds n [] → l.capacity ≡ rows →
-      l.edges ≡ filter (is_below t) (get_or waiting n []) → Rises 0 l.edges → ReleasedTo t n rows kinds waiting lists → ReleasedTo t (n + 1) rows kinds waiting after
+      SameBag l.edges (filter (is_below t) (get_or waiting n [])) → Rises 0 l.edges → ReleasedTo t n rows kinds waiting lists → ReleasedTo t (n + 1) rows kinds waiting after
   released_next n lists after l is low own_kinds own_rows own_edges own_order r = subst (ReleasedTo t (n + 1) rows kinds waiting) (sym is) (record {
     long = (let a = length-append lists (l ∷ []) in let b = r.long in omega (arith, a, b));
     edges = λ s less. edges_of s less (cases_lt s n);
@@ -88,9 +88,11 @@ module _ (t rows : ℕ) (kinds : List (List Kind)) (waiting : List (List Edge)) 
       last : (s : ℕ) → s < n + 1 → n ≤ s → edges_at (lists ++ l ∷ []) s ≡ l.edges
       last s less more = (let e : s ≡ length lists = (let b = r.long in omega (arith, b, less, more)) in ap (edges_at (lists ++ l ∷ [])) e ∙ edges_last lists l)
 
-      edges_of : (s : ℕ) → s < n + 1 → (s < n) ⊎ (n ≤ s) → edges_at (lists ++ l ∷ []) s ≡ filter (is_below t) (get_or waiting s [])
-      edges_of s less (inl before) = edges_left lists l s (let b = r.long in omega (arith, b, before)) ∙ r.edges s before
-      edges_of s less (inr more) = (let e : n ≡ s = omega (arith, less, more) in last s less more ∙ own_edges ∙ ap (λ k. filter (is_below t) (get_or waiting k [])) e)
+      edges_of : (s : ℕ) → s < n + 1 → (s < n) ⊎ (n ≤ s) → SameBag (edges_at (lists ++ l ∷ []) s) (filter (is_below t) (get_or waiting s []))
+      edges_of s less (inl before) = subst (λ x. SameBag x (filter (is_below t) (get_or waiting s []))) (sym (edges_left lists l s (let b = r.long in omega (arith, b, before)))) (r.edges s before)
+      edges_of s less (inr more) =
+          let e : n ≡ s = omega (arith, less, more) in
+          subst (λ x. SameBag x (filter (is_below t) (get_or waiting s []))) (sym (last s less more)) (subst (λ k. SameBag l.edges (filter (is_below t) (get_or waiting k []))) e own_edges)
 
       order_of : (s : ℕ) → s < n + 1 → (s < n) ⊎ (n ≤ s) → Rises 0 (edges_at (lists ++ l ∷ []) s)
       order_of s less (inl before) = subst (Rises 0) (sym (edges_left lists l s (let b = r.long in omega (arith, b, before)))) (r.order s before)
@@ -102,9 +104,10 @@ module _ (t rows : ℕ) (kinds : List (List Kind)) (waiting : List (List Edge)) 
     order = λ s. order_of s (cases_lt s n);
   }
     where
-      edges_of : (s : ℕ) → (s < n) ⊎ (n ≤ s) → edges_at lists s ≡ filter (is_below t) (get_or waiting s [])
+      edges_of : (s : ℕ) → (s < n) ⊎ (n ≤ s) → SameBag (edges_at lists s) (filter (is_below t) (get_or waiting s []))
       edges_of s (inl less) = r.edges s less
-      edges_of s (inr more) = edges_past lists s (let b = r.long in omega (arith, b, more)) ∙ ap (filter (is_below t)) (sym (get_or_past waiting s [] (omega (arith, long, more))))
+      edges_of s (inr more) = subst (λ x. SameBag x (filter (is_below t) (get_or waiting s []))) (sym (edges_past lists s (let b = r.long in omega (arith, b, more))))
+          (subst (λ x. SameBag [] (filter (is_below t) x)) (sym (get_or_past waiting s [] (omega (arith, long, more)))) (SameBag-refl []))
 
       order_of : (s : ℕ) → (s < n) ⊎ (n ≤ s) → Rises 0 (edges_at lists s)
       order_of s (inl less) = r.order s less
@@ -120,13 +123,17 @@ released_keeps p q waiting after lists le r left s told rows h =
       weigh = λ w.
           let a = both_sides q w held in
           let b = total-append w (edges_at lists s) (get_or after s []) in
-          let c = ap (total w) (r.edges s) in
+          let c = (r.edges s).weigh w in
           let d = ap (total w) (left s) in
           omega (arith, a, b, c, d);
     })
     (r.order s)
-    (ap (failing (is_below q)) (r.edges s) ∙ failing-kept (is_below q) held)
+    (failing-same (is_below q) (edges_at lists s) (filter (is_below q) held) (r.edges s) (failing-kept (is_below q) held))
     (ap (failing (is_from q)) (left s) ∙ failing-kept (is_from q) held)
+
+none_weighs : (es : List Edge) → SameBag es [] → es ≡ []
+none_weighs [] same = refl
+none_weighs (e ∷ es) same = let a = same.weigh (λ x. 1) in absurd (omega (arith, a))
 
 back_of : (texts : List (List ℕ)) (xs ys : List Edge) → EdgesArePlaced texts (xs ++ ys) → EdgesArePlaced texts ys
 back_of texts [] ys h = h
@@ -138,7 +145,7 @@ module _ (old : Ingress) (q : ℕ) (lists : List EdgeListView) (texts : List (Li
   waits_long = old.shape.waiting ∙ length-map old.kinds.items _
 
   pub none_past : (s : ℕ) → length old.kinds.items ≤ s → edges_at lists s ≡ []
-  none_past s past = released.edges s ∙ ap (filter (is_below q)) (get_or_past old.held.waiting.items s [] (let l = waits_long in omega (arith, l, past)))
+  none_past s past = none_weighs (edges_at lists s) (subst (λ x. SameBag (edges_at lists s) (filter (is_below q) x)) (get_or_past old.held.waiting.items s [] (let l = waits_long in omega (arith, l, past))) (released.edges s))
 
   pub released_follows : (new : Ingress) → old.released ≤ q → q ≤ inf → SameFixed old new → new.watermarks ≡ old.watermarks → new.released ≡ q →
       ((s : ℕ) → get_or new.held.waiting.items s [] ≡ filter (is_from q) (get_or old.held.waiting.items s [])) →
@@ -175,8 +182,8 @@ module _ (old : Ingress) (q : ℕ) (lists : List EdgeListView) (texts : List (Li
     where
       go : (s < length old.kinds.items) ⊎ (length old.kinds.items ≤ s) → failing (is_from old.released) (edges_at lists s) ≡ 0
       go (inl less) =
-          ap (failing (is_from old.released)) (released.edges s)
-          ∙ failing-filter (is_below q) (is_from old.released) (get_or old.held.waiting.items s []) (f.keeps.held s (let l = waits_long in omega (arith, l, less))).from
+          failing-same (is_from old.released) (edges_at lists s) (filter (is_below q) (get_or old.held.waiting.items s [])) (released.edges s)
+          (failing-filter (is_below q) (is_from old.released) (get_or old.held.waiting.items s []) (f.keeps.held s (let l = waits_long in omega (arith, l, less))).from)
       go (inr past) = ap (failing (is_from old.released)) (none_past s past)
 
   -- the cells of the edges released have their places in the table

@@ -1,5 +1,6 @@
 mod Marks
 mod Ranked
+mod Merged
 mod Starts
 mod Queued
 mod Holding

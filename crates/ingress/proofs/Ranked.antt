@@ -21,14 +21,14 @@ always (Ok x) P p = tt
 always (Err e) P p = p
 
 -- the bounds of a rank
-rank_low : (e : Edge) → 2 * e.sync ≤ rank e
+pub rank_low : (e : Edge) → 2 * e.sync ≤ rank e
 rank_low e = go (is_end e)
   where
     go : (b : Bool) → 2 * e.sync ≤ 2 * e.sync + cond b 0 1
     go true = omega arith
     go false = omega arith
 
-rank_high : (e : Edge) → rank e ≤ 2 * e.sync + 1
+pub rank_high : (e : Edge) → rank e ≤ 2 * e.sync + 1
 rank_high e = go (is_end e)
   where
     go : (b : Bool) → 2 * e.sync + cond b 0 1 ≤ 2 * e.sync + 1

@@ -1,6 +1,7 @@
 -- What the code keeps of the lines that were admitted.
 use Rattle.std.specs.Prelude.{◌≡◌, ℕ, zero, suc, ◌<◌, ◌≤◌, All, List, [], ◌∷◌, ◌++◌, length, get_or, map, filter}
 use Rattle.tw_rows.specs.Instant.{inf}
+use Rattle.tw_rows.specs.Bag.{SameBag}
 use Rattle.tw_rows.specs.Cells.{ArePlaced, read_cells, datum_kind}
 use Rattle.tw_rows.specs.Kinds.{cell_kind_of}
 use Rattle.tw_rows.specs.declared.edge.Edge.{Edge}
@@ -59,7 +60,7 @@ pub record AreListsOf (i : Ingress) (lists : List EdgeListView) : Type 0 where
 
 -- the edges of the lists are those that wait below t, stream by stream, in order
 pub record AreReleased (t : ℕ) (waiting : List (List Edge)) (lists : List EdgeListView) : Type 0 where
-  pub edges : (s : ℕ) → edges_at lists s ≡ filter (is_below t) (get_or waiting s [])
+  pub edges : (s : ℕ) → SameBag (edges_at lists s) (filter (is_below t) (get_or waiting s []))
   pub order : (s : ℕ) → Rises 0 (edges_at lists s)
 
 -- an open start with its cells read. With the text `a` at place 0, that of the place 0 is one of `a`

@@ -1,5 +1,5 @@
 -- Edges in a map by rank.
-use Rattle.std.specs.Prelude.{◌≡◌, ℕ, suc, ◌<◌, ◌≤◌, nat_eq, Bool, List, [], ◌∷◌, flat_map, Vec}
+use Rattle.std.specs.Prelude.{◌≡◌, ℕ, suc, ◌<◌, ◌≤◌, nat_eq, nat_lt, nat_le, ◌&&◌, Bool, List, [], ◌∷◌, flat_map, Vec}
 use Rattle.tw_rows.specs.declared.edge.Edge.{Edge}
 use Rattle.batch.specs.Shelves.{Shelves}
 use Rattle.edge_history.specs.Order.{rank, failing}
@@ -7,6 +7,17 @@ use Rattle.edge_history.specs.Order.{rank, failing}
 -- the edge has this rank: a start at 5 has 11
 abbrev pub has_rank : ℕ → Edge → Bool
 has_rank r e = nat_eq (rank e) r
+
+-- the edge has a rank below r; it has r at most; its rank is from a on and below b. A start at 5 is below 12, up to 11, and
+-- between 10 and 12
+abbrev pub is_ranked_below : ℕ → Edge → Bool
+is_ranked_below r e = nat_lt (rank e) r
+
+abbrev pub is_up_to : ℕ → Edge → Bool
+is_up_to r e = nat_le (rank e) r
+
+abbrev pub is_between : ℕ → ℕ → Edge → Bool
+is_between a b e = nat_le a (rank e) && nat_lt (rank e) b
 
 -- the ranks rise from `low` on, and beside each stand edges of it alone
 abbrev pub AreRanked : {S : Type 0} → ℕ → List (ℕ × Vec Edge S) → Type 0

@@ -89,6 +89,32 @@ impl HeldStreams {
         self.waiting[stream].put(edge)
     }
 
+    // Adds an edge of a stream that may be taken out again.
+    pub(crate) fn put_by_rank(&mut self, stream: usize, edge: Edge) -> Result<(), Memory>
+        requires { stream < length self.old.waiting.items }
+        ensures changed { Changed stream self.old.waiting.items self.new.waiting.items }
+        ensures ok { OnOk result (SameBag (get_or self.new.waiting.items stream []) (edge ∷ get_or self.old.waiting.items stream [])) }
+        ensures err { OnErr result (get_or self.new.waiting.items stream [] ≡ get_or self.old.waiting.items stream []) }
+        ensures opens { self.new.opens ≡ self.old.opens }
+    {
+        self.waiting[stream].put_by_rank(edge)
+    }
+
+    // Adds the start edge of an open start that was given. Where it was moved to a later bound its end may come no later.
+    fn put_start(&mut self, stream: usize, edge: Edge, given: Time) -> Result<(), Memory>
+        requires { stream < length self.old.waiting.items }
+        ensures changed { Changed stream self.old.waiting.items self.new.waiting.items }
+        ensures ok { OnOk result (SameBag (get_or self.new.waiting.items stream []) (edge ∷ get_or self.old.waiting.items stream [])) }
+        ensures err { OnErr result (get_or self.new.waiting.items stream [] ≡ get_or self.old.waiting.items stream []) }
+        ensures opens { self.new.opens ≡ self.old.opens }
+    {
+        if edge.sync == given {
+            self.put(stream, edge)
+        } else {
+            self.put_by_rank(stream, edge)
+        }
+    }
+
     // Takes a start edge of a stream out, if it is there.
     fn take_out(&mut self, stream: usize, cells: &Cells, start: Time) -> bool
         requires { stream < length self.old.waiting.items }
@@ -143,7 +169,7 @@ impl HeldStreams {
             self.opens.open(key, state)?;
             return Ok(());
         }
-        let stream = key.stream;
+        let (stream, given) = (key.stream, key.given);
         let start = state.start;
         let cells = key.cells.clone()?;
         let edge = Edge {
@@ -151,7 +177,7 @@ impl HeldStreams {
             other: infinity(),
             cells: cells.clone()?,
         };
-        self.put(stream, edge)?;
+        self.put_start(stream, edge, given)?;
         if let Err(memory) = self.opens.open(key, state) {
             self.take_out(stream, &cells, start);
             return Err(memory);

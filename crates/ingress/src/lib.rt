@@ -3,6 +3,7 @@
 #![tactic(auto)]
 
 mod admitting;
+mod by_rank;
 mod entering;
 mod held_laws;
 mod held_streams;
@@ -15,6 +16,7 @@ mod saving;
 mod waiting;
 mod watermarks;
 
+pub use by_rank::ByRank;
 pub use entering::EventLine;
 pub use held_laws::{given_edges_stand, held_edges_are_given_in_order, held_edges_follow_the_rows};
 pub use held_streams::HeldStreams;

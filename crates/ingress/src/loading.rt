@@ -99,7 +99,7 @@ impl HeldStreams {
             other: entry.other,
             cells: entry.cells.clone()?,
         };
-        self.put(stream, edge)?;
+        self.put_by_rank(stream, edge)?;
         Ok(())
     }
 

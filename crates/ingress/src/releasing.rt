@@ -1,6 +1,7 @@
 // The edges that are released at a punctuation.
 ghost use Rattle.std.specs.Prelude.{◌≡◌, ℕ, ◌<◌, ◌≤◌, List, [], length, get_or, filter, IfOk, OnOk, OnErr};
 ghost use Rattle.tw_rows.specs.Instant.{inf};
+ghost use Rattle.tw_rows.specs.Bag.{SameBag};
 ghost use Rattle.tw_rows.specs.declared.edge.Edge.{Edge};
 ghost use Rattle.edge_history.specs.Order.{failing, is_below, is_from, Rises};
 ghost use Rattle.node_laws.specs.Places.{EdgesArePlaced};
@@ -60,7 +61,7 @@ impl Ingress {
         requires stream { stream < length self.now.kinds.items }
         ensures kinds { IfOk result (λ list. list.kinds ≡ get_or (kinds_of self.now) stream []) }
         ensures capacity { IfOk result (λ list. list.capacity ≡ self.now.capacity) }
-        ensures edges { IfOk result (λ list. list.edges ≡ filter (is_below p) (get_or self.now.held.waiting.items stream [])) }
+        ensures edges { IfOk result (λ list. SameBag list.edges (filter (is_below p) (get_or self.now.held.waiting.items stream []))) }
         ensures order { IfOk result (λ list. Rises 0 list.edges) }
         ensures pools { SamePools pools.old pools.new }
     {

@@ -10,6 +10,7 @@ ghost use Rattle.ingress.specs.OpenKeys.{same_key};
 ghost use Rattle.ingress.specs.Saving.{IsSound, Resumes};
 ghost use Rattle.ingress.specs.Loaded.{cell_open, opens_in, entry_of_open, waits_from};
 
+use crate::by_rank::ByRank;
 use crate::held_streams::HeldStreams;
 use crate::ingress::Ingress;
 use crate::opens::{OpenKey, OpenStart, OpenStarts};
@@ -17,7 +18,7 @@ use crate::waiting::Waiting;
 use carried_edges::save_edges;
 use edge_stream::{Saved, SavedEntry};
 use std::collections::VecDeque;
-use tw_rows::Memory;
+use tw_rows::{Edge, Memory};
 
 // The first part of a stream. So many streams that there is none have no room in memory.
 fn first_part(stream: usize) -> Result<u64, Memory>
@@ -31,7 +32,7 @@ fn first_part(stream: usize) -> Result<u64, Memory>
     }
 }
 
-impl Waiting {
+impl ByRank {
     /// Adds the edges, in order, as entries of that part.
     pub(crate) fn save(&self, saved: &mut Saved, part: u64) -> Result<(), Memory>
         ensures { OnOk result (saved.new ≡ saved.old ++ entries_of part self.now) }
@@ -40,6 +41,25 @@ impl Waiting {
             save_edges(saved, part, edges)?;
         }
         Ok(())
+    }
+}
+
+// Adds the edges of a queue as entries of that part.
+fn save_queue(saved: &mut Saved, part: u64, queue: &VecDeque<Edge>) -> Result<(), Memory>
+    ensures { OnOk result (saved.new ≡ saved.old ++ entries_of part queue.now.items) }
+{
+    let (first, rest) = queue.as_slices();
+    save_edges(saved, part, first)?;
+    save_edges(saved, part, rest)
+}
+
+impl Waiting {
+    /// Adds the edges as entries of that part.
+    pub(crate) fn save(&self, saved: &mut Saved, part: u64) -> Result<(), Memory>
+        ensures { OnOk result (saved.new ≡ saved.old ++ entries_of part self.now) }
+    {
+        save_queue(saved, part, &self.queue)?;
+        self.others.save(saved, part)
     }
 }
 

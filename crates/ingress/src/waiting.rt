@@ -1,75 +1,81 @@
 // Edges that wait for their time.
-ghost use Rattle.std.specs.Prelude.{◌≡◌, ◌+◌, ◌-◌, ◌*◌, ◌^◌, ◌<◌, ◌≤◌, min, length, get_or, filter, true, false, IsTrue, IfSome, IsNone, OnOk, OnErr, [], ◌∷◌, ◌++◌};
+ghost use Rattle.std.specs.Prelude.{◌≡◌, ◌-◌, ◌^◌, ◌<◌, ◌≤◌, min, length, take, drop, get_or, filter, true, false, IsTrue, IfSome, IsNone, OnOk, OnErr, [], ◌∷◌, ◌++◌};
 ghost use Rattle.tw_rows.specs.Instant.{inf};
 ghost use Rattle.tw_rows.specs.Bag.{SameBag};
 ghost use Rattle.tw_rows.specs.declared.edge.Edge.{Edge};
-ghost use Rattle.edge_history.specs.Order.{rank, many, failing, starts_it, is_below, is_from, Rises, KeepsOrder};
+ghost use Rattle.edge_history.specs.Order.{rank as edge_rank, many, failing, starts_it, is_below, is_from, Rises};
 ghost use Rattle.edge_stream.specs.Listing.{cells_of, SameShape};
 ghost use Rattle.ingress.specs.Fits.{is_fit};
-ghost use Rattle.ingress.specs.Ranks.{SamePools, IsShorterBelow, StartsFrom};
+ghost use Rattle.ingress.specs.Ranks.{SamePools};
 
+use crate::by_rank::{ByRank, end_rank, is_start_of, rank_of};
 use batch::Pools;
 use edge_stream::EdgeList;
 use std::alloc::Global;
-use std::collections::BTreeMap;
+use std::collections::VecDeque;
 use std::marker::Model;
-use tw_rows::{Cells, Edge, Memory, Time, same_cells};
+use tw_rows::{Cells, Edge, Memory, Time};
 
-/// Edges in order, from which those before a time are taken first. An edge is added in logarithmic time.
+/// Edges from which those before a time are taken first. One that comes in order is put last, and any other by its rank.
 #[derive(Drop)]
 pub struct Waiting {
-    pub(crate) ranks: BTreeMap<u64, Vec<Edge>>,
-    alloc: Global,
+    pub(crate) queue: VecDeque<Edge>,
+    pub(crate) others: ByRank,
 }
 
 impl Model for Waiting {
-    ghost use Rattle.std.specs.Prelude.{List};
+    ghost use Rattle.std.specs.Prelude.{List, ◌++◌};
     ghost use Rattle.tw_rows.specs.declared.edge.Edge.{Edge as Item};
-    ghost use Rattle.ingress.specs.Ranks.{edges_at, AreRanked};
+    ghost use Rattle.edge_history.specs.Order.{Rises};
 
     ghost Value = { List Item };
 
-    ghost view = { λ w. edges_at w.ranks.entries };
+    ghost view = { λ w. w.queue.items ++ w.others };
 
-    ghost invariant = { λ w. AreRanked 0 w.ranks.entries };
+    ghost invariant = { λ w. Rises 0 w.queue.items };
 }
 
-// Twice the number of a time, which is the rank of the ends there.
-#[tactic(auto, unfolding(tw_rows::specs::Instant::inf))]
-fn end_rank(t: Time) -> u64
-    ensures rank { result ≡ 2 * t }
-    ensures small { result < 2 ^ 63 }
+// Whether an edge of that rank comes after those of the queue.
+fn comes_last(queue: &VecDeque<Edge>, rank: u64) -> bool
+    ensures { IsTrue result → Rises 0 queue.now.items → (edge : Edge) → edge_rank edge ≡ rank → Rises 0 (queue.now.items ++ edge ∷ []) }
 {
-    t.word() * 2
+    match queue.back() {
+        Some(last) => rank_of(last) <= rank,
+        None => true,
+    }
 }
 
-// The rank of an edge: by its time, and at one time the ends first.
-fn rank_of(edge: &Edge) -> u64
-    ensures { result ≡ rank edge.now }
+// How many edges come before the time.
+fn count_below(queue: &VecDeque<Edge>, t: Time) -> usize
+    ensures within { result ≤ length queue.now.items }
+    ensures below { failing (is_below t) (take result queue.now.items) ≡ 0 }
+    ensures from { Rises 0 queue.now.items → failing (is_from t) (drop result queue.now.items) ≡ 0 }
 {
-    let ends = end_rank(edge.sync);
-    if edge.is_end() { ends } else { ends + 1 }
+    for i in 0..queue.len() {
+        if t <= queue[i].sync {
+            return i;
+        }
+    }
+    queue.len()
 }
 
-// Whether it is the start edge of these cells at that time.
-#[tactic(auto, unfolding(tw_rows::specs::Instant::inf))]
-fn is_start_of(edge: &Edge, cells: &Cells, start: Time) -> bool
-    ensures { result ≡ starts_it cells.now start edge.now }
+// Takes the first edges out.
+fn drop_front(queue: &mut VecDeque<Edge>, count: usize)
+    ensures { queue.new.items ≡ drop count queue.old.items }
 {
-    edge.other == Time::INF
-        && !edge.is_end()
-        && same_cells(&edge.cells, cells)
-        && edge.sync == start
+    for _ in 0..count {
+        queue.pop_front();
+    }
 }
 
 // The place of a start edge of these cells, if there is one.
-fn start_place(edges: &[Edge], cells: &Cells, start: Time) -> Option<usize>
-    ensures within { IfSome result (λ i. i < length edges.now) }
-    ensures some { IfSome result (λ i. (d : Edge) → starts_it cells.now start (get_or edges.now i d) ≡ true) }
-    ensures none { IsNone result → (many (starts_it cells.now start) edges.now ≡ 0) }
+fn queue_place(queue: &VecDeque<Edge>, cells: &Cells, start: Time) -> Option<usize>
+    ensures within { IfSome result (λ i. i < length queue.now.items) }
+    ensures some { IfSome result (λ i. (d : Edge) → starts_it cells.now start (get_or queue.now.items i d) ≡ true) }
+    ensures none { IsNone result → (many (starts_it cells.now start) queue.now.items ≡ 0) }
 {
-    for i in 0..edges.len() {
-        if is_start_of(&edges[i], cells, start) {
+    for i in 0..queue.len() {
+        if is_start_of(&queue[i], cells, start) {
             return Some(i);
         }
     }
@@ -77,24 +83,19 @@ fn start_place(edges: &[Edge], cells: &Cells, start: Time) -> Option<usize>
 }
 
 // Takes one start edge of these cells out, if there is one.
-fn remove_start(edges: &mut Vec<Edge>, cells: &Cells, start: Time) -> bool
-    ensures taken { IsTrue result → SameBag (record { sync = start; other = inf; cells = cells.now } ∷ edges.new.items) edges.old.items }
-    ensures kept { result ≡ false → edges.new.items ≡ edges.old.items }
-    ensures none { result ≡ false → many (starts_it cells.now start) edges.old.items ≡ 0 }
+fn remove_queued(queue: &mut VecDeque<Edge>, cells: &Cells, start: Time) -> bool
+    ensures taken { IsTrue result → SameBag (record { sync = start; other = inf; cells = cells.now } ∷ queue.new.items) queue.old.items }
+    ensures kept { result ≡ false → queue.new.items ≡ queue.old.items }
+    ensures none { result ≡ false → many (starts_it cells.now start) queue.old.items ≡ 0 }
+    ensures order { Rises 0 queue.old.items → Rises 0 queue.new.items }
 {
-    match start_place(edges, cells, start) {
+    match queue_place(queue, cells, start) {
         Some(place) => {
-            edges.remove(place);
+            queue.remove(place);
             true
         }
         None => false,
     }
-}
-
-fn count(edges: &[Edge]) -> u64
-    ensures { result ≡ length edges.now }
-{
-    edges.len() as u64
 }
 
 impl Waiting {
@@ -103,8 +104,8 @@ impl Waiting {
         ensures { result ≡ [] }
     {
         Waiting {
-            ranks: BTreeMap::new(alloc),
-            alloc,
+            queue: VecDeque::new(alloc),
+            others: ByRank::new(alloc),
         }
     }
 
@@ -113,40 +114,41 @@ impl Waiting {
         ensures ok { OnOk result (SameBag self.new (edge ∷ self.old)) }
         ensures err { OnErr result (self.new ≡ self.old) }
     {
-        let rank = rank_of(&edge);
-        if let Some(edges) = self.ranks.get_mut(&rank) {
-            edges.push(edge)?;
+        if comes_last(&self.queue, rank_of(&edge)) {
+            self.queue.push_back(edge)?;
             return Ok(());
         }
-        // most times have one edge
-        let mut edges = Vec::with_capacity(self.alloc, 1)?;
-        edges.push(edge)?;
-        self.ranks.insert(rank, edges)?;
-        Ok(())
+        self.put_by_rank(edge)
     }
 
-    /// How many edges wait, or the greatest number where there are more. It goes through their times.
+    /// Adds an edge that may be taken out again before its time: it is found by its rank then.
+    pub fn put_by_rank(&mut self, edge: Edge) -> Result<(), Memory>
+        ensures ok { OnOk result (SameBag self.new (edge ∷ self.old)) }
+        ensures err { OnErr result (self.new ≡ self.old) }
+    {
+        self.others.put(edge)
+    }
+
+    /// How many edges wait, or the greatest number where there are more. It goes through the times of those that did not come
+    /// in order.
     pub fn len(&self) -> u64
         ensures { result ≡ min (length self.now) (2 ^ 64 - 1) }
     {
-        let mut len: u64 = 0;
-        for (_, edges) in self.ranks.iter() {
-            len = len.saturating_add(count(edges));
-        }
-        len
+        let len = self.others.len();
+        len.saturating_add(self.queue.len() as u64)
     }
 
-    /// Takes a start edge out, if it is there. Only the edges that start at that time are looked at.
+    /// Takes a start edge out, if it is there. Of those that were put by rank only the edges that start at that time are
+    /// looked at.
     pub fn take_out(&mut self, cells: &Cells, start: Time) -> bool
         ensures taken { IsTrue result → SameBag (record { sync = start; other = inf; cells = cells.now } ∷ self.new) self.old }
         ensures kept { result ≡ false → self.new ≡ self.old }
         ensures none { result ≡ false → many (starts_it cells.now start) self.old ≡ 0 }
     {
-        let rank = end_rank(start) + 1;
-        if let Some(edges) = self.ranks.get_mut(&rank) {
-            return remove_start(edges, cells, start);
+        if self.others.take_out(cells, start) {
+            return true;
         }
-        false
+        remove_queued(&mut self.queue, cells, start)
     }
 
     /// Adds copies of the edges before `t` to an empty list, in order. Want of memory changes the list and the pools alone.
@@ -154,52 +156,29 @@ impl Waiting {
         requires capacity { pools.old.capacity ≡ list.old.capacity }
         requires empty { list.old.edges ≡ [] }
         requires fit { failing (is_fit (cells_of list.old)) self.now ≡ 0 }
-        ensures ok { OnOk result (list.new.edges ≡ filter (is_below t) self.now) }
-        ensures order { Rises 0 self.now }
+        ensures ok { OnOk result (SameBag list.new.edges (filter (is_below t) self.now)) }
+        ensures order { OnOk result (Rises 0 list.new.edges) }
         ensures shape { SameShape list.old list.new }
         ensures pools { SamePools pools.old pools.new }
     {
-        for (_, edges) in self.ranks.range(..end_rank(t)) {
-            append_all(pools, edges, list)?;
+        let count = count_below(&self.queue, t);
+        let mut low = 0;
+        for i in 0..count {
+            let edge = &self.queue[i];
+            let rank = rank_of(edge);
+            self.others.append_between(pools, low, rank, list)?;
+            list.append(pools, edge)?;
+            low = rank;
         }
-        Ok(())
+        self.others.append_between(pools, low, end_rank(t), list)
     }
 
     /// Takes the edges before `t` out.
     pub fn drop_below(&mut self, t: Time)
         ensures { self.new ≡ filter (is_from t) self.old }
     {
-        let end = end_rank(t);
-        'ranks: while drop_first_below(&mut self.ranks, end) {}
+        let count = count_below(&self.queue, t);
+        drop_front(&mut self.queue, count);
+        self.others.drop_below(t);
     }
-}
-
-// Adds copies of edges to the end of a list.
-fn append_all(pools: &mut Pools, edges: &[Edge], list: &mut EdgeList) -> Result<(), Memory>
-    requires capacity { pools.old.capacity ≡ list.old.capacity }
-    requires order { KeepsOrder (list.old.edges ++ edges.now) }
-    requires fit { failing (is_fit (cells_of list.old)) edges.now ≡ 0 }
-    ensures ok { OnOk result (list.new.edges ≡ list.old.edges ++ edges.now) }
-    ensures shape { SameShape list.old list.new }
-    ensures pools { SamePools pools.old pools.new }
-{
-    for edge in edges {
-        list.append(pools, edge)?;
-    }
-    Ok(())
-}
-
-// Takes the first rank out, where it is below `end`.
-fn drop_first_below(ranks: &mut BTreeMap<u64, Vec<Edge>>, end: u64) -> bool
-    ensures taken { IsTrue result → IsShorterBelow end ranks.old.entries ranks.new.entries }
-    ensures none { result ≡ false → (ranks.new.entries ≡ ranks.old.entries) × StartsFrom end ranks.old.entries }
-{
-    let Some((rank, _)) = ranks.first_key_value() else {
-        return false;
-    };
-    if end <= *rank {
-        return false;
-    }
-    ranks.pop_first();
-    true
 }

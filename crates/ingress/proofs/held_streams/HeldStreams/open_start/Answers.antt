@@ -13,12 +13,12 @@ returns-in-Err-clause-err c =
     let s = c.args.key.stream in
     let live = c.is_live.ensures.0 c.if-not-is_live.false in
     still_kept c.args.self.now.waiting.items c.take_out.new.self.waiting.items (starts_in c.args.self.now.opens.starts) (starts_in c.take_out.new.self.opens.starts) s
-    (changed_again s c.args.self.now.waiting.items c.put.new.self.waiting.items c.take_out.new.self.waiting.items c.put.ensures.changed c.take_out.ensures.changed)
-    (put_back c.in_ok-cells.cells c.args.state.start (get_or c.args.self.now.waiting.items s []) (get_or c.put.new.self.waiting.items s []) (get_or c.take_out.new.self.waiting.items s []) c.take_out.result
+    (changed_again s c.args.self.now.waiting.items c.put_start.new.self.waiting.items c.take_out.new.self.waiting.items c.put_start.ensures.changed c.take_out.ensures.changed)
+    (put_back c.in_ok-cells.cells c.args.state.start (get_or c.args.self.now.waiting.items s []) (get_or c.put_start.new.self.waiting.items s []) (get_or c.take_out.new.self.waiting.items s []) c.take_out.result
     live.1
-    (as_start (get_or c.put.new.self.waiting.items s []) (get_or c.args.self.now.waiting.items s []) c.in_ok-cells.cells c.in_ok-clone.field-0 c.args.state.start c.infinity.result c.infinity.ensures c.in_ok-clone.ensures.cases c.in_ok-put.ensures.ok)
+    (as_start (get_or c.put_start.new.self.waiting.items s []) (get_or c.args.self.now.waiting.items s []) c.in_ok-cells.cells c.in_ok-clone.field-0 c.args.state.start c.infinity.result c.infinity.ensures c.in_ok-clone.ensures.cases c.in_ok-put_start.ensures.ok)
     c.take_out.ensures.taken c.take_out.ensures.none)
-    (λ k. ap (λ x. starts_in x.starts k) c.take_out.ensures.opens ∙ (c.in-Err.ensures.err k ∙ ap (λ x. starts_in x.starts k) c.put.ensures.opens))
+    (λ k. ap (λ x. starts_in x.starts k) c.take_out.ensures.opens ∙ (c.in-Err.ensures.err k ∙ ap (λ x. starts_in x.starts k) c.put_start.ensures.opens))
 
 pub returns-clause-ok : goal.returns-clause-ok
 returns-clause-ok c = λ st p made opens given is late keeps.
@@ -26,20 +26,20 @@ returns-clause-ok c = λ st p made opens given is late keeps.
     let live = c.is_live.ensures.0 c.if-not-is_live.false in
     let same = live_same c.args.key.given st c.args.state is live.0 in
     let o : CellOpen = record { key = c.args.key; state = c.args.state } in
-    subst (λ (x : OpenStart). p ≤ x.start → Keeps p c.put.new.self.waiting.items (starts_in c.open-2.new.self.starts) made (opens ++ record { key = c.args.key; state = x } ∷ []) given) (sym same) (λ late2.
-    start_comes p c.args.self.now.waiting.items c.put.new.self.waiting.items (starts_in c.args.self.now.opens.starts) (starts_in c.open-2.new.self.starts) made made opens (opens ++ o ∷ []) given keeps s c.put.ensures.changed
-    o refl refl refl (λ k. c.in_default.ensures.ok k ∙ ap (λ l. cond (same_key c.args.key k) (l ++ c.args.state ∷ []) l) (ap (λ x. starts_in x.starts k) c.put.ensures.opens)
+    subst (λ (x : OpenStart). p ≤ x.start → Keeps p c.put_start.new.self.waiting.items (starts_in c.open-2.new.self.starts) made (opens ++ record { key = c.args.key; state = x } ∷ []) given) (sym same) (λ late2.
+    start_comes p c.args.self.now.waiting.items c.put_start.new.self.waiting.items (starts_in c.args.self.now.opens.starts) (starts_in c.open-2.new.self.starts) made made opens (opens ++ o ∷ []) given keeps s c.put_start.ensures.changed
+    o refl refl refl (λ k. c.in_default.ensures.ok k ∙ ap (λ l. cond (same_key c.args.key k) (l ++ c.args.state ∷ []) l) (ap (λ x. starts_in x.starts k) c.put_start.ensures.opens)
     ∙ ap (λ x. cond (same_key c.args.key k) (starts_in c.args.self.now.opens.starts k ++ x ∷ []) (starts_in c.args.self.now.opens.starts k)) (sym (kept_live c.args.key.given c.args.state live.0)))
     live.0 live.1 late2
-    (as_start (get_or c.put.new.self.waiting.items s []) (get_or c.args.self.now.waiting.items s []) c.args.key.cells c.in_ok-clone.field-0 c.args.state.start c.infinity.result c.infinity.ensures (c.in_ok-clone.ensures.cases ∙ c.in_ok-cells.ensures.cases) c.in_ok-put.ensures.ok)) late
+    (as_start (get_or c.put_start.new.self.waiting.items s []) (get_or c.args.self.now.waiting.items s []) c.args.key.cells c.in_ok-clone.field-0 c.args.state.start c.infinity.result c.infinity.ensures (c.in_ok-clone.ensures.cases ∙ c.in_ok-cells.ensures.cases) c.in_ok-put_start.ensures.ok)) late
 
 pub returns-in-Err-clause-fit : goal.returns-in-Err-clause-fit
 returns-in-Err-clause-fit c = λ kinds fit is.
     let s = c.args.key.stream in
     let live = c.is_live.ensures.0 c.if-not-is_live.false in
     let h = c.infinity.ensures in
-    out_fits kinds s c.put.new.self.waiting.items c.take_out.new.self.waiting.items c.take_out.ensures.changed
-    (put_fits kinds s c.args.self.now.waiting.items c.put.new.self.waiting.items c.put.ensures.changed fit c.put.result _ c.put.ensures.ok c.put.ensures.err
+    out_fits kinds s c.put_start.new.self.waiting.items c.take_out.new.self.waiting.items c.take_out.ensures.changed
+    (put_fits kinds s c.args.self.now.waiting.items c.put_start.new.self.waiting.items c.put_start.ensures.changed fit c.put_start.result _ c.put_start.ensures.ok c.put_start.ensures.err
     (edge_fits (get_or kinds s []) c.in_ok-clone.field-0 c.args.state.start c.infinity.result live.1 (omega (arith, h)) (λ e. omega (arith, e, h, live.1))
     (ap (map datum_kind) (c.in_ok-clone.ensures.cases ∙ c.in_ok-cells.ensures.cases) ∙ is)))
     c.take_out.result _ c.take_out.ensures.taken c.take_out.ensures.kept
@@ -49,10 +49,10 @@ returns-clause-fit c = λ kinds fit is.
     let s = c.args.key.stream in
     let live = c.is_live.ensures.0 c.if-not-is_live.false in
     let h = c.infinity.ensures in
-    put_fits kinds s c.args.self.now.waiting.items c.put.new.self.waiting.items c.put.ensures.changed fit c.put.result _ c.put.ensures.ok c.put.ensures.err
+    put_fits kinds s c.args.self.now.waiting.items c.put_start.new.self.waiting.items c.put_start.ensures.changed fit c.put_start.result _ c.put_start.ensures.ok c.put_start.ensures.err
     (edge_fits (get_or kinds s []) c.in_ok-clone.field-0 c.args.state.start c.infinity.result live.1 (omega (arith, h)) (λ e. omega (arith, e, h, live.1))
     (ap (map datum_kind) (c.in_ok-clone.ensures.cases ∙ c.in_ok-cells.ensures.cases) ∙ is))
 
-pub returns-in_err-put-clause-fit : goal.returns-in_err-put-clause-fit
-returns-in_err-put-clause-fit c = λ kinds fit is.
-    same_fits kinds c.args.key.stream c.args.self.now.waiting.items c.put.new.self.waiting.items c.put.ensures.changed fit c.in_err-put.ensures.err
+pub returns-in_err-put_start-clause-fit : goal.returns-in_err-put_start-clause-fit
+returns-in_err-put_start-clause-fit c = λ kinds fit is.
+    same_fits kinds c.args.key.stream c.args.self.now.waiting.items c.put_start.new.self.waiting.items c.put_start.ensures.changed fit c.in_err-put_start.ensures.err

@@ -6,5 +6,5 @@ use Rattle.ingress.proofs.held_streams.HeldStreams.take_up_edge.Goals as goal
 pub returns-clause-ok : goal.returns-clause-ok
 returns-clause-ok c = λ cells last saved l sound.
     let i = c.args.self.now in
-    edge_taken cells last saved i.waiting.items c.put.new.self.waiting.items (starts_in i.opens.starts) (starts_in c.put.new.self.opens.starts) l c.args.entry.now sound
-    c.args.stream c.in_ok-clone.field-0 c.requires.stream c.in_ok-clone.ensures.cases c.requires.role c.put.ensures.changed c.in_ok-put.ensures.ok (λ k. ap (λ o. starts_in o.starts k) c.put.ensures.opens)
+    edge_taken cells last saved i.waiting.items c.put_by_rank.new.self.waiting.items (starts_in i.opens.starts) (starts_in c.put_by_rank.new.self.opens.starts) l c.args.entry.now sound
+    c.args.stream c.in_ok-clone.field-0 c.requires.stream c.in_ok-clone.ensures.cases c.requires.role c.put_by_rank.ensures.changed c.in_ok-put_by_rank.ensures.ok (λ k. ap (λ o. starts_in o.starts k) c.put_by_rank.ensures.opens)

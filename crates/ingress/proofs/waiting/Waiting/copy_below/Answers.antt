@@ -1,70 +1,93 @@
-use Rattle.std.proofs.Common.{◌≡◌, ◌++◌, ◌∙◌, ap, sym, subst, refl, map, append_assoc}
-use Rattle.std.specs.Prelude.{filter}
-use Rattle.std.specs.BTreeMap.Range.{entries_between}
-use Rattle.std.specs.declared.ops.Bound.TheVariants.{Excluded, Unbounded}
-use Rattle.std.specs.Ordering.{nat_cmp}
+use Rattle.std.specs.Prelude.{◌≡◌, ◌<◌, true, filter, length, map}
+use Rattle.std.proofs.Common.{◌∙◌, ap, sym, subst, arith, refl}
 use Rattle.tw_rows.specs.Kinds.{cell_kind_of}
-use Rattle.edge_history.specs.Order.{failing, is_below}
-use Rattle.edge_history.proofs.Sums.{failing-filter}
+use Rattle.tw_rows.specs.Bag.{SameBag}
+use Rattle.edge_history.specs.Order.{failing, is_below, is_real}
 use Rattle.edge_stream.specs.Listing.{cells_of}
 use Rattle.ingress.specs.Fits.{is_fit}
-use Rattle.ingress.specs.Ranks.{edges_at}
-use Rattle.ingress.proofs.Ranked.{in_order}
-use Rattle.ingress.proofs.Released.{ranks_below}
-use Rattle.ingress.proofs.Fitting.{front_keeps, part_fits, keeps_filtered, pools_again, pools_same, shape_again, shape_same}
+use Rattle.ingress.proofs.Fitting.{fit_kinds, fit_real, front_fits, back_fits, none_fails_at, pools_again, pools_same, pools_next, pools_part, shape_again, shape_same, shape_next}
+use Rattle.ingress.proofs.Merged.{Merged, merged_first, next_order, merged_next, merged_all, rank_below, ok_maps}
 use Rattle.ingress.proofs.waiting.Waiting.copy_below.Goals as goal
 
-pub loop-edges-init : goal.loop-edges-init
-loop-edges-init c = record {
-  edges =
-      ap (λ l. l ++ edges_at c.into_iter-edges-iterator.result) c.requires.empty
-      ∙ ap edges_at (c.into_iter-edges-iterator.ensures.into_iter_gives ∙ c.range-edges-items.ensures.between tt)
-      ∙ ap (λ b. edges_at (entries_between nat_cmp Unbounded (Excluded b) c.self.inside.ranks.entries)) c.end_rank.ensures.rank
-      ∙ ranks_below c.args.t 0 c.self.inside.ranks.entries c.self.invariant
-      ∙ ap (filter (is_below c.args.t)) c.self.view_is;
+pub loop-i-init : goal.loop-i-init
+loop-i-init c = record {
+  merged = merged_first c.self.inside.queue.items c.self.inside.others c.args.list.now.edges c.requires.empty c.self.invariant;
+  within = omega arith;
   shape = shape_same c.args.list.now c.args.list.now refl;
   pools = pools_same c.args.pools.now;
 }
 
--- the edges so far, those of this rank and those to come
-pub loop-edges-preserved : goal.loop-edges-preserved
-loop-edges-preserved c =
-    let now = c.loop-edges.list.edges in
-    let here = c.deref.result.now in
-    let rest = edges_at c.next.new.self in
+pub append_between-requires-clause-fit : goal.append_between-requires-clause-fit
+append_between-requires-clause-fit c =
+    subst (λ ks. failing (is_fit ks) c.self.inside.others ≡ 0) (sym (ap (map cell_kind_of) c.loop-i.invariant.shape.kinds))
+    (back_fits (cells_of c.args.list.now) c.self.inside.queue.items c.self.inside.others c.args.self.now (sym c.self.view_is) c.requires.fit)
+
+pub append-requires-clause-kinds : goal.append-requires-clause-kinds
+append-requires-clause-kinds c =
+    let q = c.self.inside.queue in
+    let t = c.loop-i-test.true in
+    let n = c.count_below-count.ensures.within in
+    fit_kinds (cells_of c.args.list.now) q.items c.loop-i.i c.index-edge.result.now c.index-edge.result.now c.index-edge.ensures (omega (arith, t, n))
+    (front_fits (cells_of c.args.list.now) q.items c.self.inside.others c.args.self.now (sym c.self.view_is) c.requires.fit)
+    ∙ sym (ap (map cell_kind_of) (shape_again c.args.list.now c.loop-i.list c.append_between.new.list c.loop-i.invariant.shape c.append_between.ensures.shape).kinds)
+
+pub append-requires-clause-order : goal.append-requires-clause-order
+append-requires-clause-order c =
+    let q = c.self.inside.queue in
+    let e = c.index-edge.result.now in
+    let t = c.loop-i-test.true in
+    let n = c.count_below-count.ensures.within in
+    let ks = cells_of c.args.list.now in
+    let low : c.loop-i.i < length q.items = omega (arith, t, n) in
+    let real : is_real e ≡ true = ap is_real c.index-edge.ensures
+    ∙ none_fails_at is_real q.items c.loop-i.i e (fit_real ks q.items (front_fits ks q.items c.self.inside.others c.args.self.now (sym c.self.view_is) c.requires.fit)) low in
+    next_order q.items c.self.inside.others c.loop-i.i c.loop-i.low c.loop-i.list.edges c.append_between.new.list.edges c.loop-i.invariant.merged e c.rank_of-rank.result c.rank_of-rank.ensures
+    c.in_ok-append_between.ensures.ok c.in_ok-append_between.ensures.order c.in_ok-append_between.ensures.high real
+
+pub returns-in_err-append-clause-pools : goal.returns-in_err-append-clause-pools
+returns-in_err-append-clause-pools c =
+    pools_part c.args.pools.now c.append_between.new.pools c.append.new.pools _
+    (pools_again c.args.pools.now c.loop-i.pools c.append_between.new.pools c.loop-i.invariant.pools c.append_between.ensures.pools) c.in_err-append.ensures.err_pools
+
+pub loop-i-preserved : goal.loop-i-preserved
+loop-i-preserved c =
+    let q = c.self.inside.queue in
+    let e = c.index-edge.result.now in
+    let t = c.loop-i-test.true in
+    let n = c.count_below-count.ensures in
+    let within = n.within in
+    let ks = cells_of c.args.list.now in
+    let low : c.loop-i.i < length q.items = omega (arith, t, within) in
+    let real : is_real e ≡ true = ap is_real c.index-edge.ensures
+    ∙ none_fails_at is_real q.items c.loop-i.i e (fit_real ks q.items (front_fits ks q.items c.self.inside.others c.args.self.now (sym c.self.view_is) c.requires.fit)) low in
     record {
-      edges =
-          ap (λ x. x ++ rest) c.in_ok-append_all.ensures.ok ∙ append_assoc now here rest
-          ∙ ap (λ x. now ++ (x ++ rest)) c.deref.ensures.value ∙ sym (ap (λ it. now ++ edges_at it) c.in-Some.ensures.steps) ∙ c.loop-edges.invariant.edges;
-      shape = shape_again c.args.list.now c.loop-edges.list c.append_all.new.list c.loop-edges.invariant.shape c.append_all.ensures.shape;
-      pools = pools_again c.args.pools.now c.loop-edges.pools c.append_all.new.pools c.loop-edges.invariant.pools c.append_all.ensures.pools;
+      merged = merged_next q.items c.self.inside.others c.loop-i.i c.loop-i.low c.loop-i.list.edges c.append_between.new.list.edges c.loop-i.invariant.merged e c.rank_of-rank.result c.rank_of-rank.ensures
+          c.in_ok-append_between.ensures.ok c.in_ok-append_between.ensures.order c.in_ok-append_between.ensures.high real
+          c.append.new.self.edges low c.index-edge.ensures (ap (λ v. v.edges) c.in_ok-append.ensures.ok);
+      within =
+          let r = c.rank_of-rank.ensures in
+          let b = rank_below q.items c.self.inside.others c.args.t c.count_below-count.result n.within n.below (n.from c.self.invariant) c.loop-i.i e t c.index-edge.ensures in
+          omega (arith, r, b);
+      shape = shape_next c.args.list.now c.append_between.new.list c.append.new.self e
+          (shape_again c.args.list.now c.loop-i.list c.append_between.new.list c.loop-i.invariant.shape c.append_between.ensures.shape) c.in_ok-append.ensures.ok;
+      pools = pools_next c.args.pools.now c.append_between.new.pools c.append.new.pools c.append_between.new.list
+          (pools_again c.args.pools.now c.loop-i.pools c.append_between.new.pools c.loop-i.invariant.pools c.append_between.ensures.pools) c.in_ok-append.ensures.pools;
     }
 
-pub append_all-requires-clause-order : goal.append_all-requires-clause-order
-append_all-requires-clause-order c =
-    let now = c.loop-edges.list.edges in
-    let here = c.deref.result.now in
-    let rest = edges_at c.next.new.self in
-    front_keeps now here rest (filter (is_below c.args.t) c.args.self.now)
-    (ap (λ x. now ++ (x ++ rest)) c.deref.ensures.value ∙ sym (ap (λ it. now ++ edges_at it) c.in-Some.ensures.steps) ∙ c.loop-edges.invariant.edges)
-    (keeps_filtered (is_below c.args.t) (cells_of c.args.list.now) c.args.self.now
-    (in_order c.self.inside.ranks.entries c.args.self.now c.self.view_is c.self.invariant) c.requires.fit)
+pub append_between-requires-2-clause-fit : goal.append_between-requires-2-clause-fit
+append_between-requires-2-clause-fit c =
+    subst (λ ks. failing (is_fit ks) c.self.inside.others ≡ 0) (sym (ap (map cell_kind_of) c.loop-i.invariant.shape.kinds))
+    (back_fits (cells_of c.args.list.now) c.self.inside.queue.items c.self.inside.others c.args.self.now (sym c.self.view_is) c.requires.fit)
 
-pub append_all-requires-clause-fit : goal.append_all-requires-clause-fit
-append_all-requires-clause-fit c =
-    let now = c.loop-edges.list.edges in
-    let here = c.deref.result.now in
-    let rest = edges_at c.next.new.self in
-    subst (λ ks. failing (is_fit ks) here ≡ 0) (sym (ap (map cell_kind_of) c.loop-edges.invariant.shape.kinds))
-    (part_fits (cells_of c.args.list.now) now here rest (filter (is_below c.args.t) c.args.self.now)
-    (ap (λ x. now ++ (x ++ rest)) c.deref.ensures.value ∙ sym (ap (λ it. now ++ edges_at it) c.in-Some.ensures.steps) ∙ c.loop-edges.invariant.edges)
-    (failing-filter (is_below c.args.t) (is_fit (cells_of c.args.list.now)) c.args.self.now c.requires.fit))
-
-pub append_all-requires-clause-capacity : goal.append_all-requires-clause-capacity
-append_all-requires-clause-capacity c = c.loop-edges.invariant.pools.capacity ∙ c.requires.capacity ∙ sym c.loop-edges.invariant.shape.capacity
-
-pub returns-in_err-append_all-clause-order : goal.returns-in_err-append_all-clause-order
-returns-in_err-append_all-clause-order c = in_order c.self.inside.ranks.entries c.args.self.now c.self.view_is c.self.invariant
-
-pub returns-clause-order : goal.returns-clause-order
-returns-clause-order c = in_order c.self.inside.ranks.entries c.args.self.now c.self.view_is c.self.invariant
+pub returns-clause-ok : goal.returns-clause-ok
+returns-clause-ok c =
+    let q = c.self.inside.queue in
+    let o = c.self.inside.others in
+    let n = c.count_below-count.ensures in
+    let all : c.loop-i.i ≡ c.count_below-count.result = (let t = c.loop-i-test.false in let a = c.loop-i.auto.i-end in omega (arith, t, a)) in
+    ok_maps c.append_between-2.result _ _
+    (λ added. subst (λ l. SameBag c.append_between-2.new.list.edges (filter (is_below c.args.t) l)) c.self.view_is
+    (merged_all q.items o c.args.t c.count_below-count.result n.within n.below (n.from c.self.invariant) c.loop-i.low c.end_rank.result c.loop-i.list.edges c.append_between-2.new.list.edges
+    (subst (λ k. Merged q.items o k c.loop-i.low c.loop-i.list.edges) all c.loop-i.invariant.merged) c.end_rank.ensures.rank
+    (let w = c.loop-i.invariant.within in let r = c.end_rank.ensures.rank in omega (arith, w, r)) added))
+    c.append_between-2.ensures.ok

@@ -1,26 +1,15 @@
 use Rattle.std.specs.Prelude.{filter}
-use Rattle.std.proofs.Common.{arith, ap, length, refl, ◌∙◌}
-use Rattle.edge_history.specs.Order.{is_from}
-use Rattle.ingress.specs.Ranks.{edges_at}
-use Rattle.ingress.proofs.Released.{dropping_next, dropped_all}
+use Rattle.std.proofs.Common.{◌∙◌, ap, sym, subst}
+use Rattle.edge_history.specs.Order.{is_from, Rises}
+use Rattle.ingress.proofs.Merged.{dropped_rises, rest_left}
 use Rattle.ingress.proofs.waiting.Waiting.drop_below.Goals as goal
 
-pub ranks-init : goal.ranks-init
-ranks-init c = record { ranked = c.self.invariant; same = refl }
-
-pub ranks-preserved : goal.ranks-preserved
-ranks-preserved c =
-    dropping_next c.args.t c.end_rank-end.result c.self.inside.ranks.entries c.ranks.self-inside.ranks.entries c.drop_first_below.new.ranks.entries c.end_rank-end.ensures.rank
-    c.ranks.invariant (c.drop_first_below.ensures.taken c.ranks-test.true)
-
-pub ranks-smaller : goal.ranks-smaller
-ranks-smaller c =
-    let s = c.drop_first_below.ensures.taken c.ranks-test.true in
-    omega (arith, ap length s.is)
+pub invariant_of-self : goal.invariant_of-self
+invariant_of-self c = subst (Rises 0) (sym c.drop_front.ensures) (dropped_rises c.count_below-count.result c.self.inside.queue.items c.self.invariant)
 
 pub returns : goal.returns
 returns c =
-    let none = c.drop_first_below.ensures.none c.ranks-test.false in
-    ap edges_at none.0
-    ∙ dropped_all c.args.t c.end_rank-end.result c.self.inside.ranks.entries c.ranks.self-inside.ranks.entries c.end_rank-end.ensures.rank c.ranks.invariant none.1
+    let n = c.count_below-count.ensures in
+    rest_left c.self.inside.queue.items c.self.inside.others c.args.t c.count_below-count.result n.within n.below (n.from c.self.invariant)
+    c.drop_front.new.queue.items c.drop_below.new.self c.drop_front.ensures c.drop_below.ensures
     ∙ ap (filter (is_from c.args.t)) c.self.view_is

@@ -3,7 +3,7 @@ use Rattle.std.proofs.Common.{subst}
 use Rattle.tw_rows.specs.declared.edge.Edge.{Edge}
 use Rattle.edge_history.specs.Order.{starts_it}
 use Rattle.ingress.proofs.Starts.{start_removed}
-use Rattle.ingress.proofs.waiting.remove_start.Goals as goal
+use Rattle.ingress.proofs.by_rank.remove_start.Goals as goal
 
 pub returns-in-Some-clause-taken : goal.returns-in-Some-clause-taken
 returns-in-Some-clause-taken c = λ _. start_removed c.args.cells.now c.args.start c.args.edges.now.items c.remove.new.self.items c.in-Some.place

@@ -1,6 +1,6 @@
 use Rattle.std.proofs.Common.{refl}
 use Rattle.ingress.proofs.Released.{short_below}
-use Rattle.ingress.proofs.waiting.drop_first_below.Goals as goal
+use Rattle.ingress.proofs.by_rank.drop_first_below.Goals as goal
 
 pub returns-clause-taken : goal.returns-clause-taken
 returns-clause-taken c = λ _.

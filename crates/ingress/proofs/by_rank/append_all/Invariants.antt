@@ -1,7 +1,7 @@
 use Rattle.std.proofs.Common.{◌≡◌, ◌++◌, take}
 use Rattle.edge_stream.specs.Listing.{SameShape}
 use Rattle.ingress.specs.Ranks.{SamePools}
-use Rattle.ingress.proofs.waiting.append_all.Given as goal
+use Rattle.ingress.proofs.by_rank.append_all.Given as goal
 
 abbrev pub invariant-loop-edge : goal.invariant-loop-edge
 invariant-loop-edge l = record {

@@ -2,7 +2,7 @@ use Rattle.std.specs.Prelude.{◌++◌}
 use Rattle.std.proofs.Common.{◌∙◌, ap, sym, length, arith}
 use Rattle.std.proofs.lemmas.List.{length-append}
 use Rattle.ingress.specs.Ranks.{edges_at}
-use Rattle.ingress.proofs.waiting.Waiting.len.Goals as goal
+use Rattle.ingress.proofs.by_rank.ByRank.len.Goals as goal
 
 pub loop-edges-init : goal.loop-edges-init
 loop-edges-init c =

@@ -1,6 +1,6 @@
 use Rattle.std.proofs.Common.{◌≡◌, ◌≤◌, ◌+◌, ◌-◌, ◌^◌, min, length}
 use Rattle.ingress.specs.Ranks.{edges_at}
-use Rattle.ingress.proofs.waiting.Waiting.len.Given as goal
+use Rattle.ingress.proofs.by_rank.ByRank.len.Given as goal
 
 abbrev pub invariant-loop-edges : goal.invariant-loop-edges
 invariant-loop-edges l = record {

@@ -1,7 +1,7 @@
 use Rattle.std.proofs.Common.{◌∙◌, ap, sym, map}
 use Rattle.tw_rows.specs.Kinds.{cell_kind_of}
 use Rattle.ingress.proofs.Fitting.{fit_kinds, next_keeps, next_edges, pools_next, pools_part, shape_next}
-use Rattle.ingress.proofs.waiting.append_all.Goals as goal
+use Rattle.ingress.proofs.by_rank.append_all.Goals as goal
 
 pub append-requires-clause-capacity : goal.append-requires-clause-capacity
 append-requires-clause-capacity c = c.loop-edge.invariant.pools.capacity ∙ c.requires.capacity ∙ sym c.loop-edge.invariant.shape.capacity

@@ -3,7 +3,7 @@ use Rattle.std.proofs.Common.{◌∙◌, ap, sym}
 use Rattle.std.proofs.lemmas.List.{append_assoc, map-append}
 use Rattle.carried_edges.specs.Entries.{entry_of, entries_of}
 use Rattle.ingress.specs.Ranks.{edges_at}
-use Rattle.ingress.proofs.waiting.Waiting.save.Goals as goal
+use Rattle.ingress.proofs.by_rank.ByRank.save.Goals as goal
 
 pub loop-edges-init : goal.loop-edges-init
 loop-edges-init c =
