@@ -10,6 +10,3 @@ mod synopsis;
 pub use key_room::KeyRoom;
 pub use synopsis::Synopsis;
 pub use tw_rows::HeldRow;
-
-#[cfg(test)]
-mod tests;

@@ -1,12 +1,13 @@
+// Changes of rows as they are let out, between which what waits is saved and loaded.
 ghost use Rattle.std.specs.Prelude.{◌≡◌, ℕ, false, List, [], ◌∷◌, map, All, IfOk, OnOk};
 ghost use Rattle.tw_rows.specs.Cells.{datum_kind, ArePlaced};
 ghost use Rattle.node_laws.specs.Places.{EdgesArePlaced};
 ghost use Rattle.egress.specs.Output.{IsPlacedIn};
 
-use crate::Egress;
 use batch::Pools;
 use edge_history::keeps_order;
 use edge_stream::{EdgeList, Saved};
+use egress::Egress;
 use std::alloc::Global;
 use std::process::Abort;
 use std::test::Fail;
@@ -31,21 +32,6 @@ fn list(rt: &impl Abort, alloc: Global, start: u64, end: u64) -> Result<EdgeList
     let edges = [interval(alloc, start, end)?];
     assert!(rt; keeps_order(&edges));
     Ok(EdgeList::from_edges(alloc, &mut pools, &[Kind::Int], &edges)?)
-}
-
-#[test]
-fn ends_are_shown_when_they_are_due(rt: HostRuntime) -> Result<(), Fail> {
-    let alloc = rt.alloc();
-    let texts = TextTable::new(alloc);
-    let mut egress = Egress::new(alloc, &[Kind::Int])?;
-    egress.take(list(&rt, alloc, 3, 9)?, Time::ZERO.plus(5), &texts)?;
-    let text = egress.render(Some(Time::ZERO.plus(5)))?;
-    assert!(rt; text.as_slice() == b"out,start,3,inf,7\n*,punct,5\n".as_slice());
-    egress.take(list(&rt, alloc, 5, 6)?, Time::ZERO.plus(20), &texts)?;
-    let text = egress.render(None)?;
-    assert!(rt; text.as_slice() == b"out,start,5,inf,7\nout,end,6,3,7\nout,end,9,5,7\n".as_slice());
-    assert!(rt; !egress.failed());
-    Ok(())
 }
 
 // What is shown when the edges are taken up to `to`.

@@ -1,6 +1,7 @@
-use crate::{KeyRoom, Synopsis};
+// Rows that an operator keeps by their keys.
 use std::alloc::Global;
 use std::test::Fail;
+use synopsis::Synopsis;
 use tw_rows::{Cells, Datum, Time};
 
 // A row of two numbers.
@@ -29,14 +30,5 @@ fn rows_come_and_go(rt: HostRuntime) -> Result<(), Fail> {
     assert_eq!(rt; gone, 300);
     assert_eq!(rt; rows.block_count(), 0);
     assert!(rt; !rows.take(pair(alloc, 1, 1)?.items(), Time::ZERO.plus(4)));
-    Ok(())
-}
-
-/// The key of a row is what it has in the key columns, in their order.
-#[test]
-fn keys_are_written(rt: HostRuntime) -> Result<(), Fail> {
-    let mut room = KeyRoom::new(rt.alloc(), &[1, 0])?;
-    room.write(&[Datum::Int(5), Datum::Bool(true)]);
-    assert!(rt; room.values() == [Datum::Bool(true), Datum::Int(5)].as_slice());
     Ok(())
 }

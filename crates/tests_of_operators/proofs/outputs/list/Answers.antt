@@ -3,7 +3,7 @@ use Rattle.std.proofs.lemmas.List.Elements.{All-nil, All-cons}
 use Rattle.tw_rows.specs.Cells.{ArePlaced}
 use Rattle.tw_rows.specs.declared.edge.Edge.{Edge}
 use Rattle.node_laws.specs.Places.{EdgesArePlaced}
-use Rattle.egress.proofs.tests.list.Goals as goal
+use Rattle.tests_of_operators.proofs.outputs.list.Goals as goal
 
 pub returns : goal.returns
 returns g c = λ texts.

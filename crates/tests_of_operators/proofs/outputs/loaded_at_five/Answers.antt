@@ -11,7 +11,7 @@ use Rattle.tw_rows.specs.declared.kind.Kind.{Kind}
 use Rattle.tw_rows.specs.declared.kind.Kind.TheVariants.{Int}
 use Rattle.edge_stream.specs.declared.saved.SavedEntry.{SavedEntry}
 use Rattle.egress.specs.Saving.{IsKept, IsSound, EntriesArePlaced}
-use Rattle.egress.proofs.tests.loaded_at_five.Goals as goal
+use Rattle.tests_of_operators.proofs.outputs.loaded_at_five.Goals as goal
 
 whole_cells : (texts : List (List ℕ)) (cells : List Datum) → map datum_kind cells ≡ Whole ∷ [] → ArePlaced texts cells
 whole_cells texts [] h = absurd (cc)
