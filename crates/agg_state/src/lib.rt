@@ -13,6 +13,3 @@ pub use count::Count;
 pub use extremes::{Greatest, Least};
 pub use generic::{alone, replaced};
 pub use sum::Sum;
-
-#[cfg(test)]
-mod tests;

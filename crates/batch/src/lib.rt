@@ -10,6 +10,3 @@ mod pools;
 pub use batch::{Batch, Full};
 pub use payload::Payload;
 pub use pools::Pools;
-
-#[cfg(test)]
-mod tests;

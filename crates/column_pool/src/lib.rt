@@ -10,6 +10,3 @@ pub use bit::Bit;
 pub use cell::{Cell, same_cell};
 pub use column::Column;
 pub use pool::Pool;
-
-#[cfg(test)]
-mod tests;

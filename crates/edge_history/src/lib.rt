@@ -38,6 +38,3 @@ pub use telling_laws::{
     known_events_have_the_same_news, news_comes_between, news_comes_in_parts, news_is_told,
     nothing_is_told_at_first, told_edges_are_a_history,
 };
-
-#[cfg(test)]
-mod tests;

@@ -13,6 +13,3 @@ pub use cursor::Cursor;
 pub use laws::batches_hold_the_places_of_their_list;
 pub use list::{EdgeList, Refused};
 pub use saved::{LoadFault, PartRow, Saved, SavedEntry, StepFault};
-
-#[cfg(test)]
-mod tests;

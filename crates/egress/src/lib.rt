@@ -23,6 +23,3 @@ pub use instant_laws::{
 };
 pub use output_laws::outputs_read_longer_tables;
 pub use writing::send;
-
-#[cfg(test)]
-mod tests;

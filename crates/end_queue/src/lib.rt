@@ -11,9 +11,6 @@ use std::marker::Model;
 use std::mem::replace;
 use tw_rows::{Edge, Memory, Time};
 
-#[cfg(test)]
-mod tests;
-
 /// Edges, each with the time at which it is due. Contracts see the list of them in the order in which they come due; of
 /// equal times the one that was put first comes first.
 #[derive(Drop)]

@@ -5,6 +5,3 @@ mod extend;
 mod operating;
 
 pub use extend::ExtendOperator;
-
-#[cfg(test)]
-mod tests;

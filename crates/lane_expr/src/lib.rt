@@ -16,6 +16,3 @@ pub use hash::hash_keys;
 pub use kernel::Kernel;
 pub use laws::kernels_keep_their_expression;
 pub use step::Step;
-
-#[cfg(test)]
-mod tests;

@@ -7,6 +7,3 @@ mod operating;
 
 pub use change::Change;
 pub use life_operator::LifeOperator;
-
-#[cfg(test)]
-mod tests;

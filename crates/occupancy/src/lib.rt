@@ -178,6 +178,3 @@ impl Occupancy {
         self.capacity
     }
 }
-
-#[cfg(test)]
-mod tests;

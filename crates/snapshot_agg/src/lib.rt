@@ -17,6 +17,3 @@ mod waiting;
 
 pub use grouped::Grouped;
 pub use laws::groups_stand_for_their_node;
-
-#[cfg(test)]
-mod tests;

@@ -12,6 +12,3 @@ pub use key_room::KeyRoom;
 pub use synopsis::Synopsis;
 pub use tw_rows::HeldRow;
 pub use word_hasher::WordHasher;
-
-#[cfg(test)]
-mod tests;

@@ -27,6 +27,3 @@ pub use row::{Row, Value, cmp_row};
 pub use schema::{ColumnDef, Schema, StreamDef};
 pub use texts::TextTable;
 pub use time::Time;
-
-#[cfg(test)]
-mod tests;

@@ -5,6 +5,3 @@ mod operating;
 mod union;
 
 pub use union::UnionOperator;
-
-#[cfg(test)]
-mod tests;

@@ -10,6 +10,3 @@ pub use laws::{
     filtered_edges_are, filtered_edges_keep_order, projected_edges_are, projected_edges_keep_order,
 };
 pub use project::{NoColumn, Project};
-
-#[cfg(test)]
-mod tests;

@@ -1,0 +1,86 @@
+use column_pool::{Bit, Cell, Column, Pool, same_cell};
+use std::alloc::Global;
+use std::process::Abort;
+use std::test::*;
+
+fn check_word<T: Cell>(rt: &impl Abort, cell: T, word: u64) {
+    assert_eq!(rt; cell.to_word(), word);
+    assert!(rt; same_cell(T::from_word(word), cell), "from the word {word}");
+}
+
+#[test]
+fn cells_have_words(rt: HostRuntime) {
+    for (number, word) in [
+        (0, 0),
+        (1, 1),
+        (i64::MAX, 0x7fff_ffff_ffff_ffff),
+        (i64::MIN, 0x8000_0000_0000_0000),
+        (-1, 0xffff_ffff_ffff_ffff),
+    ] {
+        check_word::<i64>(&rt, number, word);
+    }
+    for word in [0, 1, u64::MAX] {
+        check_word::<u64>(&rt, word, word);
+    }
+    check_word(&rt, Bit::new(false), 0);
+    check_word(&rt, Bit::new(true), 1);
+    assert!(rt; Bit::from_word(2).is_set());
+    assert!(rt; Bit::from_word(u64::MAX).is_set());
+    assert!(rt; !same_cell(Bit::from_word(2), Bit::from_word(0)));
+}
+
+fn check_column<T: Cell>(rt: &impl Abort, alloc: Global, a: T, b: T) -> Result<(), Fail> {
+    let mut column = Column::new(alloc, 4)?;
+    assert!(rt; column.is_empty());
+    column.push(a);
+    column.push(b);
+    column.push(b);
+    column.set(1, a);
+    assert_eq!(rt; column.len(), 3);
+    assert_eq!(rt; column.capacity(), 4);
+    assert!(rt; same_cell(column.get(0), a));
+    assert!(rt; same_cell(column.get(1), a));
+    assert!(rt; same_cell(column.get(2), b));
+    let cells = column.as_slice();
+    assert_eq!(rt; cells.len(), 3);
+    assert!(rt; same_cell(cells[1], a) && same_cell(cells[2], b));
+    column.clear();
+    assert_eq!(rt; (column.len(), column.capacity()), (0, 4));
+    Ok(())
+}
+
+#[test]
+fn columns_are_lists(rt: HostRuntime) -> Result<(), Fail> {
+    check_column::<i64>(&rt, rt.alloc(), -7, 7)?;
+    check_column::<u64>(&rt, rt.alloc(), 0, u64::MAX)?;
+    check_column(&rt, rt.alloc(), Bit::new(true), Bit::new(false))
+}
+
+// Takes the one column of a pool many times, fills it and gives it back.
+fn check_pool<T: Cell>(rt: &impl Abort, alloc: Global, cell: T) -> Result<(), Fail> {
+    let mut pool = Pool::new(alloc, 1, 2)?;
+    assert!(rt; pool.take().is_none());
+    pool.refill(1)?;
+    assert_eq!(rt; (pool.free(), pool.limit(), pool.capacity()), (1, 1, 2));
+    for _ in 0..10_000 {
+        let mut column = pool.take().ok_or("no column is free")?;
+        assert!(rt; pool.take().is_none());
+        assert_eq!(rt; (column.len(), column.capacity()), (0, 2));
+        column.push(cell);
+        column.push(cell);
+        assert!(rt; pool.give(column).is_none());
+    }
+    let mut column = Column::new(alloc, pool.capacity())?;
+    assert_eq!(rt; column.capacity(), 2);
+    column.push(cell);
+    let back = pool.give(column).ok_or("the limit was passed")?;
+    assert_eq!(rt; (back.len(), pool.free()), (1, 1));
+    Ok(())
+}
+
+#[test]
+fn pools_lend_without_memory(rt: HostRuntime) -> Result<(), Fail> {
+    check_pool::<i64>(&rt, rt.alloc(), -7)?;
+    check_pool::<u64>(&rt, rt.alloc(), 7)?;
+    check_pool(&rt, rt.alloc(), Bit::new(true))
+}

@@ -1,0 +1,113 @@
+// Lists of edges, which are split, copied, merged and moved.
+ghost use Rattle.std.specs.Prelude.{◌≡◌, [], ◌∷◌, map, All, IfOk};
+ghost use Rattle.tw_rows.specs.Cells.{datum_kind};
+
+use crate::made::{at, int_edge};
+use batch::Pools;
+use edge_history::keeps_order;
+use edge_stream::EdgeList;
+use std::alloc::Global;
+use std::process::Abort;
+use std::test::Fail;
+use tw_rows::{CellKind, Edge, Kind};
+
+// Edges of these times.
+fn edges(alloc: Global, times: &[(u64, u64)]) -> Result<Vec<Edge>, Fail>
+    ensures { IfOk result (λ edges. All (λ e. map datum_kind e.cells ≡ CellKind.Whole ∷ []) edges.items) }
+{
+    let mut edges = Vec::new(alloc);
+    for pair in times {
+        edges.push(int_edge(alloc, *pair, 7)?)?;
+    }
+    Ok(edges)
+}
+
+// A list of these edges in batches of two.
+fn list(
+    rt: &impl Abort,
+    alloc: Global,
+    pools: &mut Pools,
+    times: &[(u64, u64)],
+) -> Result<EdgeList, Fail>
+    requires { pools.old.capacity ≡ 2 }
+    ensures { IfOk result (λ list. list.kinds ≡ Kind.Int ∷ []) }
+{
+    let edges = edges(alloc, times)?;
+    assert!(rt; keeps_order(&edges));
+    Ok(EdgeList::from_edges(alloc, pools, &[Kind::Int], &edges)?)
+}
+
+// The sync times of the edges, as the digits of a number, and how many batches hold them.
+fn digits(list: &EdgeList) -> Result<(u64, usize), Fail> {
+    let mut digits: u64 = 0;
+    let edges = list.to_vec()?;
+    for edge in &edges {
+        digits = digits.wrapping_mul(10).wrapping_add(edge.sync.word());
+    }
+    Ok((digits, list.batches()))
+}
+
+const FIVE: [(u64, u64); 5] = [(1, 9), (2, u64::MAX), (4, 2), (6, 7), (7, 8)];
+
+// Takes out the edges below 6.
+fn split(rt: &impl Abort, pools: &mut Pools, list: &mut EdgeList) -> Result<EdgeList, Fail>
+    ensures front { IfOk result (λ front. front.kinds ≡ list.old.kinds) }
+    ensures rest { list.new.kinds ≡ list.old.kinds }
+{
+    assert!(rt; pools.capacity() == list.capacity());
+    let front = list.split_below(pools, at(6))?;
+    assert_eq!(rt; digits(&front)?, (124, 2));
+    assert_eq!(rt; digits(list)?, (67, 2));
+    Ok(front)
+}
+
+// Merges the two lists, and a copy of the second one with what comes of that.
+fn merge_twice(rt: &impl Abort, pools: &mut Pools, a: EdgeList, b: EdgeList) -> Result<(), Fail>
+    requires { a.kinds ≡ b.kinds }
+{
+    assert!(rt; pools.capacity() == a.capacity() && a.capacity() == b.capacity());
+    let copy = b.copy(pools)?;
+    assert!(rt; pools.capacity() == a.capacity());
+    let whole = EdgeList::merge(pools, a, b)?;
+    assert_eq!(rt; digits(&whole)?, (12467, 3));
+    assert!(rt; pools.capacity() == whole.capacity() && copy.capacity() == whole.capacity());
+    let twice = EdgeList::merge(pools, whole, copy)?;
+    assert_eq!(rt; digits(&twice)?, (11224467, 4));
+    Ok(())
+}
+
+#[test]
+fn lists_are_split_copied_and_merged(rt: HostRuntime) -> Result<(), Fail> {
+    let alloc = rt.alloc();
+    let mut pools = Pools::new(alloc, 8, 2)?;
+    let mut rest = list(&rt, alloc, &mut pools, &FIVE)?;
+    let front = split(&rt, &mut pools, &mut rest)?;
+    merge_twice(&rt, &mut pools, rest, front)
+}
+
+// Moves the first batch of a list to an empty one.
+fn move_batch(from: &mut EdgeList, to: &mut EdgeList) -> Result<(), Fail>
+    requires empty { to.old.edges ≡ [] }
+    requires kinds { to.old.kinds ≡ from.old.kinds }
+    requires capacity { to.old.capacity ≡ from.old.capacity }
+{
+    // The cursor's call tells the proof that the edges keep the order.
+    let _ = from.cursor();
+    if let Some(batch) = from.take_batch() {
+        to.put_batch(batch)?;
+    }
+    Ok(())
+}
+
+#[test]
+fn batches_move_over(rt: HostRuntime) -> Result<(), Fail> {
+    let alloc = rt.alloc();
+    let mut pools = Pools::new(alloc, 8, 2)?;
+    let mut from = list(&rt, alloc, &mut pools, &FIVE)?;
+    let mut to = EdgeList::new(alloc, &[Kind::Int], 2)?;
+    assert!(rt; to.capacity() == from.capacity());
+    move_batch(&mut from, &mut to)?;
+    assert_eq!(rt; digits(&from)?, (467, 2));
+    assert_eq!(rt; digits(&to)?, (12, 1));
+    Ok(())
+}
