@@ -26,6 +26,7 @@ use end_queue::EndQueue;
 use indexmap::IndexMap;
 use plan_model::Agg;
 use std::alloc::Global;
+use std::hash::BuildHasherDefault;
 use tw_rows::{Kind, Memory, Time};
 
 /// The operator of a Group: the rows of its child that are alive, what is kept of them for each key, the rows that are told,
@@ -78,7 +79,7 @@ impl Grouped {
         Ok(Grouped {
             alloc,
             groups,
-            running: IndexMap::new(alloc),
+            running: IndexMap::with_hasher(alloc, BuildHasherDefault::new()),
             waiting: EndQueue::new(alloc),
             left_kinds: Vec::from_slice(alloc, left_kinds)?,
             kinds: Vec::from_slice(alloc, kinds)?,
