@@ -7,6 +7,7 @@ pub mod Rerunning
 pub mod Sweeping
 pub mod Undefining
 pub mod Answering
+pub mod Applying
 pub mod Stepping
 pub mod Standing
 pub mod Few

@@ -26,6 +26,7 @@ use end_queue::EndQueue;
 use indexmap::IndexMap;
 use plan_model::Agg;
 use std::alloc::Global;
+use std::hash::BuildHasherDefault;
 use tw_rows::{Kind, Memory, Time};
 
 /// The operator of a Group: the rows of its child that are alive, what is kept of them for each key, the rows that are told,
@@ -76,7 +77,7 @@ impl Grouped {
         ensures opening { IfOk result (λ g. IsOpening g.groups.rows.rows g.running g.waiting g.left_to g.right_to g.failed) }
     {
         let groups = Groups::new(alloc, key, aggs)?;
-        let running = IndexMap::new(alloc);
+        let running = IndexMap::with_hasher(alloc, BuildHasherDefault::new());
         keys_are_few(&groups, &running);
         Ok(Grouped {
             alloc,

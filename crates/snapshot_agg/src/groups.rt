@@ -20,8 +20,12 @@ use indexmap::IndexMap;
 use plan_model::Agg;
 use smallvec::SmallVec;
 use std::alloc::Global;
-use synopsis::Synopsis;
+use std::hash::BuildHasherDefault;
+use synopsis::{Synopsis, WordHasher};
 use tw_rows::{Cells, Datum, Memory, Time, same_cells};
+
+/// What is kept of the rows of each key.
+pub(crate) type KeyTotals = IndexMap<Cells, Totals, BuildHasherDefault<WordHasher>>;
 
 /// What is told of a group: that it is undefined, or its row, if it has one.
 #[derive(Drop)]
@@ -37,7 +41,7 @@ pub(crate) struct Groups {
     pub(crate) key: Vec<usize>,
     pub(crate) aggs: Vec<Agg>,
     pub(crate) rows: Synopsis,
-    pub(crate) totals: IndexMap<Cells, Totals>,
+    pub(crate) totals: KeyTotals,
     // The keys of the rows that came or went since the list was cleared.
     pub(crate) touched: Vec<Cells>,
 }
@@ -53,6 +57,10 @@ fn datum_at(cells: &[Datum], column: usize) -> Datum
 pub(crate) fn key_of(alloc: Global, key: &[usize], cells: &[Datum]) -> Result<Cells, Memory>
     ensures { IfOk result (λ k. k ≡ key_data key.now cells.now) }
 {
+    if key.len() == 1 {
+        let data = [datum_at(cells, key[0])];
+        return Cells::from_slice(alloc, &data);
+    }
     let mut data = SmallVec::<Datum, 4>::new(alloc);
     for column in key {
         data.push(datum_at(cells, *column))?;
@@ -63,7 +71,7 @@ pub(crate) fn key_of(alloc: Global, key: &[usize], cells: &[Datum]) -> Result<Ce
 
 // Takes a row in among those of its key, which is touched.
 fn add_to(
-    totals: &mut IndexMap<Cells, Totals>,
+    totals: &mut KeyTotals,
     touched: &mut Vec<Cells>,
     alloc: Global,
     aggs: &[Agg],
@@ -86,7 +94,7 @@ fn add_to(
 
 // Gives up a row of a key that is there, which is touched. The last row takes the totals with it.
 fn take_from(
-    totals: &mut IndexMap<Cells, Totals>,
+    totals: &mut KeyTotals,
     touched: &mut Vec<Cells>,
     key: &Cells,
     cells: &[Datum],
@@ -143,7 +151,7 @@ impl Groups {
             key: Vec::from_slice(alloc, key)?,
             aggs: Vec::from_slice(alloc, aggs)?,
             rows: Synopsis::new(alloc, key)?,
-            totals: IndexMap::new(alloc),
+            totals: IndexMap::with_hasher(alloc, BuildHasherDefault::new()),
             touched: Vec::new(alloc),
         })
     }

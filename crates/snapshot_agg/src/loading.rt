@@ -17,6 +17,7 @@ use end_queue::EndQueue;
 use indexmap::IndexMap;
 use plan_model::Agg;
 use std::alloc::Global;
+use std::hash::BuildHasherDefault;
 use tw_rows::{Cells, Datum, Edge, Kind, Memory, Time};
 
 /// What was loaded.
@@ -102,7 +103,7 @@ fn first_data(cells: &[Datum], n: usize) -> &[Datum]
 fn runs_of(alloc: Global, width: usize, starts: &[Edge]) -> Result<Running, Memory>
     ensures { IfOk result (λ running. (k : List Datum) → run_of running k ≡ run_among width starts.now k) }
 {
-    let mut running = IndexMap::new(alloc);
+    let mut running = IndexMap::with_hasher(alloc, BuildHasherDefault::new());
     for start in starts {
         let key = Cells::from_slice(alloc, first_data(start.cells.items(), width))?;
         put_run(&mut running, &key, start.cells.clone()?, start.sync)?;

@@ -17,10 +17,12 @@ ghost use Rattle.snapshot_agg.specs.Touching.{EndsOfKeys, StartsOfKeys};
 
 use crate::groups::{Groups, Told};
 use indexmap::IndexMap;
+use std::hash::BuildHasherDefault;
+use synopsis::WordHasher;
 use tw_rows::{Cells, Edge, HeldRow, Memory, Time};
 
 /// The row that is told of each key, since when.
-pub(crate) type Running = IndexMap<Cells, HeldRow>;
+pub(crate) type Running = IndexMap<Cells, HeldRow, BuildHasherDefault<WordHasher>>;
 
 fn apply_one(groups: &mut Groups, edge: &Edge) -> Result<(), Memory>
     requires counted { Totaled groups.old.key.items groups.old.aggs.items groups.old.rows.rows groups.old.totals }
@@ -39,7 +41,9 @@ fn apply_one(groups: &mut Groups, edge: &Edge) -> Result<(), Memory>
     }
 }
 
-/// Takes out the rows that end and puts in those that start. The keys of the edges are touched then, and no other.
+/// Takes out the rows that end and puts in those that start. The keys of the edges are touched then, and no other. It goes
+/// from the last edge to the first, so that starts come in before ends: a key that has rows before and after the instant
+/// keeps its totals, and stands among the touched ones once.
 pub(crate) fn apply(groups: &mut Groups, now: &[Edge]) -> Result<(), Memory>
     requires counted { Totaled groups.old.key.items groups.old.aggs.items groups.old.rows.rows groups.old.totals }
     ensures counted { OnOk result (Totaled groups.new.key.items groups.new.aggs.items groups.new.rows.rows groups.new.totals) }
@@ -50,8 +54,10 @@ pub(crate) fn apply(groups: &mut Groups, now: &[Edge]) -> Result<(), Memory>
     ensures aggs { groups.new.aggs ≡ groups.old.aggs }
 {
     groups.touched.clear();
-    for edge in now {
-        apply_one(groups, edge)?;
+    let mut next = now.len();
+    while next > 0 {
+        next -= 1;
+        apply_one(groups, &now[next])?;
     }
     Ok(())
 }

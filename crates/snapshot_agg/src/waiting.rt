@@ -36,15 +36,18 @@ fn place(due: &mut Vec<Edge>, waiting: &mut EndQueue, to: Time, edge: Edge) -> R
     Ok(())
 }
 
-// An interval is a start and an end; each other edge is one of them.
+// An interval is a start and an end; each other edge is one of them. The ends of intervals come into a list of their own.
 fn place_singles(
     due: &mut Vec<Edge>,
+    ends: &mut Vec<Edge>,
     waiting: &mut EndQueue,
     to: Time,
     edge: Edge,
 ) -> Result<(), Memory>
-    ensures parts { OnOk result ((w : Edge → ℕ) → total w due.new.items + total w (edges_in waiting.new) ≡ (total w due.old.items + total w (edges_in waiting.old)) + total w (singles_of edge)) }
+    ensures parts { OnOk result ((w : Edge → ℕ) → (total w due.new.items + total w ends.new.items) + total w (edges_in waiting.new)
+        ≡ ((total w due.old.items + total w ends.old.items) + total w (edges_in waiting.old)) + total w (singles_of edge)) }
     ensures below { OnOk result (failing (is_below to) due.old.items ≡ 0 → failing (is_below to) due.new.items ≡ 0) }
+    ensures ends_below { OnOk result (failing (is_below to) ends.old.items ≡ 0 → failing (is_below to) ends.new.items ≡ 0) }
     ensures later { OnOk result (failing (is_from to) (edges_in waiting.old) ≡ 0 → failing (is_from to) (edges_in waiting.new) ≡ 0) }
     ensures own { OnOk result (WaitForThemselves waiting.old → WaitForThemselves waiting.new) }
 {
@@ -63,7 +66,7 @@ fn place_singles(
         cells: edge.cells,
     };
     place(due, waiting, to, start)?;
-    place(due, waiting, to, end)
+    place(ends, waiting, to, end)
 }
 
 // Takes out the edges that are due by now.
@@ -94,11 +97,14 @@ pub(crate) fn take_due(
     ensures stored { OnOk result (failing (is_stored (cells_of new.now)) (singles new.now.edges) ≡ 0) }
 {
     let mut due = Vec::new(alloc);
+    let mut ends = Vec::new(alloc);
     pop_all(&mut due, waiting, to)?;
     let mut cursor = new.cursor();
     while let Some(edge) = cursor.next()? {
-        place_singles(&mut due, waiting, to, edge)?;
+        place_singles(&mut due, &mut ends, waiting, to, edge)?;
     }
+    // What waited, the new starts and their ends are mostly three lists in order, which a sort only merges.
+    due.append(&mut ends)?;
     in_order(&mut due)?;
     Ok(due)
 }

@@ -1,4 +1,4 @@
-use Rattle.std.proofs.Common.{◌≡◌, ◌+◌, ◌≤◌, take, ℕ, List}
+use Rattle.std.proofs.Common.{◌≡◌, ◌+◌, ◌≤◌, drop, ℕ, List, length}
 use Rattle.std.specs.List.{list_any}
 use Rattle.tw_rows.specs.Bag.{total}
 use Rattle.tw_rows.specs.declared.edge.HeldRow.{HeldRow}
@@ -10,12 +10,16 @@ use Rattle.snapshot_agg.specs.Words.{key_data}
 use Rattle.snapshot_agg.specs.Totaled.{Totaled}
 use Rattle.snapshot_agg.proofs.passes.apply.Given as goal
 
-abbrev pub invariant-loop-edge : goal.invariant-loop-edge
-invariant-loop-edge l = record {
+abbrev pub decreases-loop-next : goal.decreases-loop-next
+decreases-loop-next l = l.next
+
+abbrev pub invariant-loop-next : goal.invariant-loop-next
+invariant-loop-next l = record {
+  within : l.next ≤ length l.now;
   counted : Totaled l.groups.key.items l.groups.aggs.items l.groups.rows.rows l.groups.totals;
   moved : ((w : HeldRow → ℕ) → total w (ended_rows l.now) ≤ total w l.fn.groups.rows.rows) → (w : HeldRow → ℕ) →
-      total w l.groups.rows.rows + total w (ended_rows (take l.edge-index l.now)) ≡ total w l.fn.groups.rows.rows + total w (started_rows (take l.edge-index l.now));
-  touched : (q : List Datum) → list_any (same_cells q) l.groups.touched.items ≡ list_any (same_cells q) (keys_of (key_data l.fn.groups.key.items) (take l.edge-index l.now));
+      total w l.groups.rows.rows + total w (ended_rows (drop l.next l.now)) ≡ total w l.fn.groups.rows.rows + total w (started_rows (drop l.next l.now));
+  touched : (q : List Datum) → list_any (same_cells q) l.groups.touched.items ≡ list_any (same_cells q) (keys_of (key_data l.fn.groups.key.items) (drop l.next l.now));
   same_key : l.groups.key ≡ l.fn.groups.key;
   same_aggs : l.groups.aggs ≡ l.fn.groups.aggs;
 }

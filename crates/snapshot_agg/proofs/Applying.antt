@@ -1,0 +1,80 @@
+-- The edges of an instant, applied from the last one on.
+use Rattle.std.specs.Prelude.{◌≡◌, ℕ, zero, suc, ◌+◌, ◌<◌, ◌≤◌, ◌||◌, Bool, true, false, cond, List, [], ◌∷◌, length, get_or, drop, refl}
+use Rattle.std.specs.List.{list_any}
+use Rattle.std.proofs.Common.{sym, ◌∙◌, ap, arith}
+use Rattle.tw_rows.specs.Bag.{total}
+use Rattle.tw_rows.specs.SameCells.{same_cells}
+use Rattle.tw_rows.specs.declared.cells.Datum.{Datum}
+use Rattle.tw_rows.specs.declared.edge.Edge.{Edge}
+use Rattle.tw_rows.specs.declared.edge.HeldRow.{HeldRow}
+use Rattle.tw_rows.proofs.Bags.{total-append}
+use Rattle.edge_history.specs.Opens.{ended_of, started_of, ended_rows, started_rows, is_held}
+use Rattle.sweep_laws.specs.Moves.{HoldsEnded}
+use Rattle.sweep_laws.specs.Grouping.{keys_of}
+use Rattle.sweep_laws.proofs.Adding.{ended_itself}
+use Rattle.snapshot_agg.specs.Words.{key_data}
+
+-- an edge stands before those behind it
+edge_first : (es : List Edge) (i : ℕ) (x : Edge) → i < length es → x ≡ get_or es i x → drop i es ≡ x ∷ drop (suc i) es
+edge_first [] i x low is = absurd (omega (arith, low))
+edge_first (y ∷ es) zero x low is = ap (λ z. z ∷ es) (sym is)
+edge_first (y ∷ es) (suc i) x low is = edge_first es i x (omega (arith, low)) is
+
+fewer_end : (w : HeldRow → ℕ) (es : List Edge) (i : ℕ) → total w (ended_rows (drop i es)) ≤ total w (ended_rows es)
+fewer_end w [] zero = omega arith
+fewer_end w [] (suc i) = omega arith
+fewer_end w (x ∷ es) zero = omega arith
+fewer_end w (x ∷ es) (suc i) =
+    let h = fewer_end w es i in
+    let a = total-append w (ended_of x) (ended_rows es) in
+    omega (arith, h, a)
+
+or_swap : (a b : Bool) → (a || b) ≡ (b || a)
+or_swap true true = refl
+or_swap true false = refl
+or_swap false true = refl
+or_swap false false = refl
+
+-- what changed so far, from the edge at j on, and one edge before it
+module _ (now : List Edge) (i j : ℕ) (x : Edge) (next : j ≡ i + 1) (low : i < length now) (is : x ≡ get_or now i x) where
+  behind : drop j now ≡ drop (suc i) now
+  behind = ap (λ n. drop n now) (let e : j ≡ suc i = omega (arith, next) in e)
+
+  pub moved_before : (rows0 rows1 rows2 : List HeldRow) →
+      (HoldsEnded x rows1 → (w : HeldRow → ℕ) → total w rows2 + total w (ended_of x) ≡ total w rows1 + total w (started_of x)) →
+      (((w : HeldRow → ℕ) → total w (ended_rows now) ≤ total w rows0) → (w : HeldRow → ℕ) → total w rows1 + total w (ended_rows (drop j now)) ≡ total w rows0 + total w (started_rows (drop j now))) →
+      ((w : HeldRow → ℕ) → total w (ended_rows now) ≤ total w rows0) → (w : HeldRow → ℕ) →
+      total w rows2 + total w (ended_rows (drop i now)) ≡ total w rows0 + total w (started_rows (drop i now))
+  moved_before rows0 rows1 rows2 one before fit w =
+      let e = ends w in
+      let s = ap (λ l. total w (started_rows l)) (edge_first now i x low is) ∙ total-append w (started_of x) (started_rows (drop (suc i) now)) in
+      let t = ap (λ l. total w (started_rows l)) behind in
+      let u = ap (λ l. total w (ended_rows l)) behind in
+      let b = before fit w in
+      let o = one held w in
+      omega (arith, e, s, t, u, b, o)
+    where
+      ends : (v : HeldRow → ℕ) → total v (ended_rows (drop i now)) ≡ total v (ended_of x) + total v (ended_rows (drop (suc i) now))
+      ends v = ap (λ l. total v (ended_rows l)) (edge_first now i x low is) ∙ total-append v (ended_of x) (ended_rows (drop (suc i) now))
+
+      held : HoldsEnded x rows1
+      held end =
+          let d : HeldRow → ℕ = λ r. cond (is_held x.cells x.other r) 1 0 in
+          let f = fit d in
+          let b = before fit d in
+          let p = fewer_end d now i in
+          let e = ends d in
+          let u = ap (λ l. total d (ended_rows l)) behind in
+          let z = ended_itself x end in
+          omega (arith, f, b, p, e, u, z)
+
+  pub touched_before : (key key2 : List ℕ) (ks ks2 : List (List Datum)) → key2 ≡ key →
+      ((q : List Datum) → list_any (same_cells q) ks2 ≡ (list_any (same_cells q) ks || same_cells q (key_data key2 x.cells))) →
+      ((q : List Datum) → list_any (same_cells q) ks ≡ list_any (same_cells q) (keys_of (key_data key) (drop j now))) →
+      (q : List Datum) → list_any (same_cells q) ks2 ≡ list_any (same_cells q) (keys_of (key_data key) (drop i now))
+  touched_before key key2 ks ks2 own step h q =
+      let mine : Bool = same_cells q (key_data key x.cells) in
+      step q ∙ ap (λ l. list_any (same_cells q) ks || same_cells q (key_data l x.cells)) own
+      ∙ ap (λ b. b || mine) (h q) ∙ ap (λ l. list_any (same_cells q) (keys_of (key_data key) l) || mine) behind
+      ∙ or_swap (list_any (same_cells q) (keys_of (key_data key) (drop (suc i) now))) mine
+      ∙ ap (λ l. list_any (same_cells q) (keys_of (key_data key) l)) (sym (edge_first now i x low is))
