@@ -1,12 +1,11 @@
 -- What is kept of an anti-join at first, in longer tables, and after it was saved and loaded.
-use Rattle.std.specs.Prelude.{◌≡◌, ℕ, ◌+◌, ◌*◌, ◌≤◌, min, true, false, List, [], ◌++◌, map, refl}
+use Rattle.std.specs.Prelude.{◌≡◌, ℕ, ◌+◌, ◌*◌, ◌≤◌, min, true, false, cond, List, [], ◌++◌, map, refl}
 use Rattle.std.proofs.Common.{sym, ◌∙◌, ap, subst, arith}
 use Rattle.std.proofs.lemmas.List.{append-nil}
 use Rattle.std.proofs.lemmas.List.Elements.{All-nil}
 use Rattle.tw_rows.specs.Bag.{SameBag}
 use Rattle.tw_rows.specs.Cells.{ArePlaced, datum_kind}
 use Rattle.tw_rows.specs.Texts.{BeginsWith}
-use Rattle.tw_rows.specs.declared.cells.Datum.{Datum}
 use Rattle.tw_rows.specs.declared.edge.Edge.{Edge}
 use Rattle.tw_rows.specs.declared.edge.HeldRow.{HeldRow}
 use Rattle.tw_rows.specs.declared.kind.CellKind.{CellKind}
@@ -44,6 +43,7 @@ module _ (lk rk : List ℕ) (lc rc : List CellKind) where
     left_low = omega arith;
     right_low = omega arith;
     kept = kept_none lk rk;
+    single = λ k. omega arith;
   }
 
   pub anti_opening : (texts : List (List ℕ)) (x y : ℕ) (left right times : List HeldRow) (lq rq : List Pending) → left ≡ [] → right ≡ [] → times ≡ [] → lq ≡ [] → rq ≡ [] → x ≡ 0 → y ≡ 0 →
@@ -60,6 +60,7 @@ module _ (lk rk : List ℕ) (lc rc : List CellKind) where
     left_low = k.left_low;
     right_low = k.right_low;
     kept = k.kept;
+    single = k.single;
   }
 
   -- what was answered stands, read, for the events of the node
@@ -87,6 +88,7 @@ module _ (lk rk : List ℕ) (lc rc : List CellKind) where
       now = held_same lk rk (of hl) (of hr) (min x y) left right times left2 right2 times2 a b t k.kept.now;
       told = k.kept.told;
     };
+    single = λ l. (let a = t.weigh (λ r. cond (is_of_key lk l r) 1 0) in let o = k.single l in omega (arith, a, o));
   }
 
   -- LOADING
@@ -96,9 +98,10 @@ module _ (lk rk : List ℕ) (lc rc : List CellKind) where
   anti_loaded lk2 rk2 texts x y left right times left2 right2 times2 lq rq lq2 rq2 hl hr out e f a b t c d k =
       rw (e, f) (same_kept texts x y left right times left2 right2 times2 lq rq lq2 rq2 hl hr out a b t c d k)
 
-pub anti_bound : (lk rk : List ℕ) (x to n m l r : ℕ) (a b own : List CellEvent) → r ≤ n + m + l → n ≤ 2 * many (reaches to) a → m ≤ 2 * many (reaches to) b → l ≤ many (reaches to) a →
-    r ≤ may_hold (Anti 0 1 lk rk) x to a b own
-anti_bound lk rk x to n m l r a b own sum left right times = omega (arith, sum, left, right, times)
+-- at most two rows and edges for each event of a side that does not end before the time, and one time for each left one
+pub anti_bound : (lk rk : List ℕ) (x to n m l : ℕ) (a b own : List CellEvent) → n ≤ 2 * many (reaches to) a → m ≤ 2 * many (reaches to) b → l ≤ many (reaches to) a →
+    n + m + l ≤ may_hold (Anti 0 1 lk rk) x to a b own
+anti_bound lk rk x to n m l a b own left right times = omega (arith, left, right, times)
 
 pub same_saved : (lc rc lc2 rc2 : List CellKind) (to to2 : ℕ) (entries : List SavedEntry) → lc2 ≡ lc → rc2 ≡ rc → to2 ≡ to → AreSavedSides lc2 rc2 to2 entries → AreSavedSides lc rc to entries
 same_saved lc rc lc2 rc2 to to2 entries e f g s =
@@ -171,13 +174,12 @@ module _ (left right times : List HeldRow) (lw rw : List Edge) (s0 s1 s2 s3 s4 s
     };
   }
 
-  pub anti_resumed : (lk rk : List ℕ) (lc rc : List CellKind) (texts : List (List ℕ)) (x y : ℕ) (hl hr out : List Edge) → ((k : List Datum) → many (is_of_key lk k) times ≤ 1) → AntiSound lc rc (min x y) s5 →
+  pub anti_resumed : (lk rk : List ℕ) (lc rc : List CellKind) (texts : List (List ℕ)) (x y : ℕ) (hl hr out : List Edge) → AntiSound lc rc (min x y) s5 →
       KeepsAnti lk rk lc rc texts x y left right times lw rw hl hr out → AntiResumes lk rk lc rc texts x y s5 hl hr out
-  anti_resumed lk rk lc rc texts x y hl hr out single sound k =
+  anti_resumed lk rk lc rc texts x y hl hr out sound k =
       let t = ap rows_of times_part ∙ rows_of_starts times in
       record {
         sound = sound;
-        single = λ l. subst (λ (a : List HeldRow). many (is_of_key lk l) a ≤ 1) (sym t) (single l);
         keeps = subst (λ (a : List HeldRow). KeepsAnti lk rk lc rc texts x y a (rows_of (part_of 1 s5)) (rows_of (part_of 4 s5)) (part_of 2 s5) (part_of 3 s5) hl hr out) (sym (ap rows_of left_part ∙ rows_of_starts left))
             (subst (λ (a : List HeldRow). KeepsAnti lk rk lc rc texts x y left a (rows_of (part_of 4 s5)) (part_of 2 s5) (part_of 3 s5) hl hr out) (sym (ap rows_of right_part ∙ rows_of_starts right))
             (subst (λ (a : List HeldRow). KeepsAnti lk rk lc rc texts x y left right a (part_of 2 s5) (part_of 3 s5) hl hr out) (sym t)

@@ -8,16 +8,18 @@ use Rattle.tw_rows.specs.Cells.{datum_kind}
 use Rattle.tw_rows.specs.Kinds.{cell_kind_of}
 use Rattle.tw_rows.specs.declared.kind.Kind.{Kind}
 use Rattle.tw_rows.specs.Instant.{inf}
+use Rattle.tw_rows.specs.declared.cells.Datum.{Datum}
 use Rattle.tw_rows.specs.declared.edge.Edge.{Edge}
 use Rattle.tw_rows.specs.declared.edge.HeldRow.{HeldRow}
 use Rattle.tw_rows.specs.declared.kind.CellKind.{CellKind}
 use Rattle.edge_history.specs.Balance.{news}
 use Rattle.edge_history.specs.History.{of}
-use Rattle.edge_history.specs.Order.{failing, is_below, is_from, KeepsOrder}
+use Rattle.edge_history.specs.Order.{failing, many, is_below, is_from, KeepsOrder}
 use Rattle.edge_history.proofs.Keeping.{KeepsOrder-back}
 use Rattle.edge_history.proofs.Sums.{weaker}
 use Rattle.edge_history.proofs.Telling.{answer_from, answer_below}
 use Rattle.operator.specs.Steps.{MayCome, ComeBetween}
+use Rattle.synopsis.specs.Held.{is_of_key}
 use Rattle.anti_join.specs.AntiJoined.{antis}
 use Rattle.anti_join.specs.Holding.{AntiKeeps}
 use Rattle.anti_join.specs.States.{KeepsAnti}
@@ -35,11 +37,11 @@ pub anti_stepped : (lk rk lk2 rk2 : List ℕ) (left_kinds right_kinds : List Cel
     (lw rw lw2 rw2 hl hr l r out told answer : List Edge) → u ≤ inf → v ≤ inf → to ≡ min u v →
     KeepsAnti lk rk left_kinds right_kinds texts x y left right times lw rw hl hr out → MayCome texts x hl l → MayCome texts y hr r →
     All (λ e. map datum_kind e.cells ≡ left_kinds) l → All (λ e. map datum_kind e.cells ≡ right_kinds) r →
-    AntiKeeps lk2 rk2 left2 right2 times2 lw2 rw2 to (hl ++ l) (hr ++ r) (out ++ told) →
+    AntiKeeps lk2 rk2 left2 right2 times2 lw2 rw2 to (hl ++ l) (hr ++ r) (out ++ told) → ((key : List Datum) → many (is_of_key lk2 key) times2 ≤ 1) →
     SameBag told (news (min x y) to (antis lk rk (of (hl ++ l)) (of (hr ++ r)))) →
     (KeepsOrder told → All (λ e. map datum_kind e.cells ≡ left_kinds) told → answer ≡ told) →
     KeepsAnti lk2 rk2 left_kinds right_kinds texts u v left2 right2 times2 lw2 rw2 (hl ++ l) (hr ++ r) (out ++ answer) × ComeBetween (min x y) (min u v) answer
-anti_stepped lk rk lk2 rk2 left_kinds right_kinds texts x y u v to left right times left2 right2 times2 lw rw lw2 rw2 hl hr l r out told answer lu lv lesser k ml mr cl cr kept2 same listed =
+anti_stepped lk rk lk2 rk2 left_kinds right_kinds texts x y u v to left right times left2 right2 times2 lw rw lw2 rw2 hl hr l r out told answer lu lv lesser k ml mr cl cr kept2 single same listed =
     let cells_l : All (λ e. map datum_kind e.cells ≡ left_kinds) (hl ++ l) = All-append (λ (e : Edge). map datum_kind e.cells ≡ left_kinds) hl l k.left_cells cl in
     let cells_r : All (λ e. map datum_kind e.cells ≡ right_kinds) (hr ++ r) = All-append (λ (e : Edge). map datum_kind e.cells ≡ right_kinds) hr r k.right_cells cr in
     let keeps : KeepsAnti lk2 rk2 left_kinds right_kinds texts u v left2 right2 times2 lw2 rw2 (hl ++ l) (hr ++ r) (out ++ told) = record {
@@ -50,6 +52,7 @@ anti_stepped lk rk lk2 rk2 left_kinds right_kinds texts x y u v to left right ti
       left_low = lu;
       right_low = lv;
       kept = subst (λ (t : ℕ). AntiKeeps lk2 rk2 left2 right2 times2 lw2 rw2 t (hl ++ l) (hr ++ r) (out ++ told)) lesser kept2;
+      single = single;
     } in
     let order = KeepsOrder-back out told (out_order lk2 rk2 left_kinds right_kinds texts u v left2 right2 times2 lw2 rw2 (hl ++ l) (hr ++ r) (out ++ told) keeps) in
     let is = listed order (told_cells lk rk left_kinds (min x y) to (hl ++ l) (hr ++ r) told cells_l same) in

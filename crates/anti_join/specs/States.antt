@@ -41,7 +41,7 @@ pub record IsWorking (s : Sides) (left_kinds right_kinds : List Kind) (capacity 
 
 -- the rows and the edges that wait can be what is left after the edges hl and hr came in, closed up to x on the left and to y
 -- on the right, and out was answered: swept up to the lesser of both. Of a start at 3 on the left, closed up to 4, and one at
--- 5 on the right, closed up to 7, the left row is kept, and the right start waits
+-- 5 on the right, closed up to 7, the left row is kept, and the right start waits. Of the times no key has two
 pub record KeepsAnti (left_key right_key : List ℕ) (left_kinds right_kinds : List CellKind) (texts : List (List ℕ)) (x y : ℕ)
     (left right times : List HeldRow) (left_waiting right_waiting hl hr out : List Edge) : Type 0 where
   pub left_placed : EdgesArePlaced texts hl
@@ -51,6 +51,7 @@ pub record KeepsAnti (left_key right_key : List ℕ) (left_kinds right_kinds : L
   pub left_low : x ≤ inf
   pub right_low : y ≤ inf
   pub kept : AntiKeeps left_key right_key left right times left_waiting right_waiting (min x y) hl hr out
+  pub single : (k : List Datum) → many (is_of_key left_key k) times ≤ 1
 
 -- no row and no time is kept, no edge waits, no side is closed, and no step failed
 pub record IsOpening (left right times : List HeldRow) (left_waiting right_waiting : List Pending) (x y : ℕ) (failed : Bool) : Type 0 where
@@ -80,6 +81,5 @@ pub record AntiSound (left_kinds right_kinds : List CellKind) (to : ℕ) (entrie
 pub record AntiResumes (left_key right_key : List ℕ) (left_kinds right_kinds : List CellKind) (texts : List (List ℕ)) (x y : ℕ)
     (entries : List SavedEntry) (hl hr out : List Edge) : Type 0 where
   pub sound : AntiSound left_kinds right_kinds (min x y) entries
-  pub single : (k : List Datum) → many (is_of_key left_key k) (rows_of (part_of 4 entries)) ≤ 1
   pub keeps : KeepsAnti left_key right_key left_kinds right_kinds texts x y (rows_of (part_of 0 entries)) (rows_of (part_of 1 entries)) (rows_of (part_of 4 entries))
       (part_of 2 entries) (part_of 3 entries) hl hr out

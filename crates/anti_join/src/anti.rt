@@ -135,6 +135,8 @@ impl Anti {
         let _ = (left_to.word(), right_to.word());
         let to = lesser(left_to, right_to);
         let told = self.sides.advance(&left, &right, to)?;
+        // Its call tells the proof that no key has two times.
+        let _ = self.sides.rows.times.len();
         left.give_back(pools);
         right.give_back(pools);
         let answer = list_of(

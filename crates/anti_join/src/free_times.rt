@@ -123,8 +123,7 @@ impl FreeTimes {
 
     /// The rows whose starts are the times, one a key.
     pub(crate) fn rows(&self) -> &Synopsis
-        ensures rows { result.now.rows ≡ self.now.rows }
-        ensures single { (k : List Datum) → many (is_of_key self.now.key k) self.now.rows ≤ 1 }
+        ensures { result.now.rows ≡ self.now.rows }
     {
         let _ = &self.room;
         &self.rows

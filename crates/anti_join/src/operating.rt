@@ -10,7 +10,7 @@ use sweep_sides::{kept_count, save_rows, save_waiting};
 use tw_rows::{Memory, Time};
 
 impl Operator for Anti {
-    ghost use Rattle.std.specs.Prelude.{nat_eq, min, map, cond, Some, None};
+    ghost use Rattle.std.specs.Prelude.{◌+◌, nat_eq, length, min, map, cond, Some, None};
     ghost use Rattle.tw_rows.specs.Kinds.{cell_kind_of};
     ghost use Rattle.edge_stream.specs.declared.saved.PartRow.TheVariants.{Left, Right};
     ghost use Rattle.edge_history.specs.History.{of};
@@ -44,6 +44,8 @@ impl Operator for Anti {
     ghost sound = { λ s saved x y. AntiSound (map cell_kind_of s.left_kinds.items) (map cell_kind_of s.right_kinds.items) (min x y) saved };
 
     ghost resumes = { λ s saved x y texts hl hr out. AntiResumes s.sides.rows.left_key.columns s.sides.rows.right_key.columns (map cell_kind_of s.left_kinds.items) (map cell_kind_of s.right_kinds.items) texts x y saved hl hr out };
+
+    ghost entries = { λ s. (length s.sides.rows.left.rows + length s.sides.left_waiting) + (length s.sides.rows.right.rows + length s.sides.right_waiting) + length s.sides.rows.times.rows };
 
     ghost most = { λ s hl hr out. may_hold (AntiNode 0 1 s.sides.rows.left_key.columns s.sides.rows.right_key.columns) s.left_to (min s.left_to s.right_to) (of hl) (of hr) (node_in plain_cells (AntiNode 0 1 s.sides.rows.left_key.columns s.sides.rows.right_key.columns) (of hl) (of hr)) };
 

@@ -10,7 +10,6 @@ use Rattle.edge_history.specs.History.{CellEvent}
 use Rattle.edge_history.specs.Opens.{opens}
 use Rattle.clip_op.specs.Clipped.{clips}
 use Rattle.clip_op.specs.Leaving.{is_met, row_named}
-use Rattle.clip_op.specs.Waiting.{starts_in, starts_from}
 
 -- a key and a number
 abbrev row : ℕ → ℕ → List Datum
@@ -45,12 +44,3 @@ met_by_key = refl
 
 named_by_an_end : row_named (edge 5 1 7 3) ≡ held 5 1 3
 named_by_an_end = refl
-
--- an interval tells of its start, an end of none
-starts_of_edges : starts_in (edge 5 1 3 5 ∷ edge 5 1 6 inf ∷ edge 5 1 9 6 ∷ []) ≡ edge 5 1 3 inf ∷ edge 5 1 6 inf ∷ []
-unfolding inf
-starts_of_edges = refl
-
-starts_of_a_time_on : starts_from 4 (edge 5 1 3 5 ∷ edge 5 1 6 inf ∷ edge 5 1 9 6 ∷ []) ≡ edge 5 1 6 inf ∷ []
-unfolding inf
-starts_of_a_time_on = refl

@@ -16,31 +16,6 @@ use Rattle.sweep_laws.specs.Moves.{Adds, told_at}
 use Rattle.sweep_laws.proofs.Adding.{adds_none, adds_then, adds_bag, rows_more}
 use Rattle.clip_op.specs.Leaving.{row_named, Leave, EndsHeld}
 
--- the test of an end edge, as the code has it
-pub end_is : (b : Bool) (e : Edge) → IsTrue b ↔ (e.other < e.sync) → is_end e ≡ b
-end_is true e h = less e.other e.sync (h.0 refl)
-  where
-    less : (m n : ℕ) → m < n → nat_lt m n ≡ true
-    less m n h = grind (arith, nat_tests)
-end_is false e h = go (nat_lt e.other e.sync) refl
-  where
-    less : (m n : ℕ) → nat_lt m n ≡ true → m < n
-    less m n h = grind (arith, nat_tests)
-
-    no_truth : IsTrue false → ⊥
-    no_truth t = cc
-
-    go : (b : Bool) → nat_lt e.other e.sync ≡ b → nat_lt e.other e.sync ≡ false
-    go false k = k
-    go true k = absurd (no_truth (h.1 (less e.other e.sync k)))
-
--- a list that grows row by row
-pub told_next : (f : HeldRow → Edge) (rows : List HeldRow) (i : ℕ) (y : HeldRow) (e : Edge) (answer0 answer1 answer2 : List Edge) → i < length rows → y ≡ get_or rows i y →
-    e ≡ f y → answer1 ≡ answer0 ++ map f (take i rows) → answer2 ≡ answer1 ++ e ∷ [] → answer2 ≡ answer0 ++ map f (take (i + 1) rows)
-told_next f rows i y e answer0 answer1 answer2 low is it before pushed =
-    pushed ∙ (ap (λ (l : List Edge). l ++ e ∷ []) before ∙ (append_assoc answer0 (map f (take i rows)) (e ∷ [])
-    ∙ ap (λ (l : List Edge). answer0 ++ l) (ap (λ (x : Edge). map f (take i rows) ++ x ∷ []) (it ∙ ap f is) ∙ sym (map_more f rows i y low))))
-
 -- ROWS THAT LEAVE
 pub leave_none : (t : ℕ) (rows : List HeldRow) (a : List Edge) → Leave [] t rows rows a a
 leave_none t rows a = record { rows = λ w. (omega arith); told = adds_none a }
@@ -245,28 +220,3 @@ module _ (clipped : HeldRow → Bool) (t : ℕ) (now : List Edge) (i : ℕ) (x :
             let m = rows_more ended_of v now i x low is in
             omega (arith, a, b, c, d, m);
       })
-
--- ROWS THAT START
-module _ (t : ℕ) (x : Edge) where
-  pub start_none : (a : List Edge) → is_end x ≡ true → Adds a a (map (told_at true t) (started_of x))
-  start_none a e = subst (λ b. Adds a a (map (told_at true t) (cond b [] (record { cells = x.cells; start = x.sync } ∷ [])))) (sym e) (adds_none a)
-
-  pub start_told : (a0 a1 : List Edge) → is_end x ≡ false → a1 ≡ a0 ++ told_at true t (record { cells = x.cells; start = x.sync }) ∷ [] → Adds a0 a1 (map (told_at true t) (started_of x))
-  start_told a0 a1 e is =
-      subst (λ b. Adds a0 a1 (map (told_at true t) (cond b [] (record { cells = x.cells; start = x.sync } ∷ [])))) (sym e)
-      (record { added = told_at true t (record { cells = x.cells; start = x.sync }) ∷ []; is = is; bag = SameBag-refl (told_at true t (record { cells = x.cells; start = x.sync }) ∷ []) })
-
-pub starts_more : (t : ℕ) (now : List Edge) (i : ℕ) (x : Edge) (a0 a1 a2 : List Edge) → i < length now → x ≡ get_or now i x → Adds a0 a1 (map (told_at true t) (started_rows (take i now))) →
-    Adds a1 a2 (map (told_at true t) (started_of x)) → Adds a0 a2 (map (told_at true t) (started_rows (take (i + 1) now)))
-starts_more t now i x a0 a1 a2 low is h k =
-    adds_bag a0 a2 (map (told_at true t) (started_rows (take i now)) ++ map (told_at true t) (started_of x)) (map (told_at true t) (started_rows (take (i + 1) now)))
-    (adds_then a0 a1 a2 (map (told_at true t) (started_rows (take i now))) (map (told_at true t) (started_of x)) h k)
-    (record {
-      weigh = λ w.
-          let a = total-append w (map (told_at true t) (started_rows (take i now))) (map (told_at true t) (started_of x)) in
-          let b = total-map w (told_at true t) (started_rows (take i now)) in
-          let c = total-map w (told_at true t) (started_of x) in
-          let d = total-map w (told_at true t) (started_rows (take (i + 1) now)) in
-          let m = rows_more started_of (λ r. w (told_at true t r)) now i x low is in
-          omega (arith, a, b, c, d, m);
-    })

@@ -8,8 +8,8 @@ use Rattle.edge_history.specs.History.{CellEvent, of}
 use Rattle.edge_history.specs.Balance.{Told}
 use Rattle.edge_history.specs.Opens.{opens, singles}
 use Rattle.sweep_laws.specs.Sweeps.{IsDue, Tells}
+use Rattle.sweep_sides.specs.Starts.{starts_from}
 use Rattle.clip_op.specs.Clipped.{clips}
-use Rattle.clip_op.specs.Waiting.{starts_from}
 
 -- just before t: the left rows that are open and that no right start has clipped. Of a row from 3 on with a right start at 8
 -- the row is held at 8, and no more at 9

@@ -1,7 +1,6 @@
 -- Callers read Clipped; the rest is cited by private contracts alone.
 pub mod Clipped
 pub mod Leaving
-pub mod Waiting
 pub mod Holding
 pub mod Keys
 pub mod States

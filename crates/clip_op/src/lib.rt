@@ -4,7 +4,6 @@
 mod clip;
 mod operating;
 mod sides;
-mod starts;
 mod sweep;
 
 pub use clip::Clip;

@@ -15,11 +15,10 @@ ghost use Rattle.sweep_sides.specs.Saving.{rows_of};
 ghost use Rattle.clip_op.specs.Clipped.{clips};
 ghost use Rattle.clip_op.specs.Keys.{SameKeys};
 
-use crate::starts::put_starts;
 use crate::sweep::Rows;
 use edge_stream::{EdgeList, LoadFault, Saved};
 use end_queue::EndQueue;
-use sweep_sides::{load_rows, load_waiting, put_all, take_due};
+use sweep_sides::{load_rows, load_waiting, put_all, put_starts, take_due};
 use tw_rows::{Edge, Kind, Memory, Time};
 
 /// The left rows that are open and not clipped, the left edges that wait, and the right starts that do.

@@ -29,17 +29,12 @@ use Rattle.node_laws.proofs.Standing.{all_of}
 use Rattle.node_laws.proofs.Steps.{keeps_stand}
 use Rattle.operator.specs.Steps.{MayCome, ComeBetween}
 use Rattle.sweep_sides.specs.Saving.{store_all}
-use Rattle.sweep_sides.proofs.KeptSides.{kinds_stored, stored_kinds}
+use Rattle.sweep_sides.proofs.KeptSides.{kinds_stored}
+use Rattle.sweep_sides.proofs.Telling.{All-weaker, told_stored}
 use Rattle.synopsis.specs.Held.{key_of}
 use Rattle.session_window.specs.Windows.{windows}
 use Rattle.session_window.specs.Holding.{SessionKeeps}
 use Rattle.session_window.specs.States.{KeepsSession}
-
--- one test from another, item by item
-module _ {X : Type 0} (P Q : X → Type 0) (h : (x : X) → P x → Q x) where
-  All-weaker : (xs : List X) → All P xs → All Q xs
-  All-weaker [] a = All-nil Q
-  All-weaker (x ∷ xs) a = All-cons Q x xs (h x (All-head P x xs a)) (All-weaker xs (All-tail P x xs a))
 
 abbrev row_stored : List CellKind → CellEvent → Bool
 row_stored kinds e = store_all kinds e.row
@@ -53,27 +48,10 @@ events_stored kinds h cells =
 windows_stored : (kinds : List CellKind) (columns : List ℕ) (timeout : ℕ) (a : List CellEvent) → failing (row_stored kinds) a ≡ 0 → failing (row_stored kinds) (windows columns timeout a) ≡ 0
 windows_stored kinds columns timeout a h = total-map (λ (e : CellEvent). cond {A = ℕ} (store_all kinds e.row) 0 1) (session (key_of columns) same_cells timeout a) a ∙ h
 
-news_one : (own : List CellKind) (c d : ℕ) (e : CellEvent) → row_stored own e ≡ true → total (λ (x : Edge). cond {A = ℕ} (store_all own x.cells) 0 1) (news_of c d e) ≡ 0
-news_one own c d e h = go (nat_le c e.start && nat_lt e.start d) (nat_le c e.end && nat_lt e.end d)
-  where
-    none : cond {A = ℕ} (store_all own e.row) 0 1 ≡ 0
-    none = ap (λ t. cond {A = ℕ} t 0 1) h
-
-    go : (s t : Bool) → total (λ (x : Edge). cond {A = ℕ} (store_all own x.cells) 0 1) (cond s (record { sync = e.start; other = inf; cells = e.row } ∷ []) [] ++ cond t (record { sync = e.end; other = e.start; cells = e.row } ∷ []) []) ≡ 0
-    go true true = let z = none in omega (arith, z)
-    go true false = let z = none in omega (arith, z)
-    go false true = let z = none in omega (arith, z)
-    go false false = refl
-
 told_cells : (own : List CellKind) (columns : List ℕ) (timeout c d : ℕ) (h answer : List Edge) → All (λ e. map datum_kind e.cells ≡ own) h →
     SameBag answer (news c d (windows columns timeout (of h))) → All (λ e. map datum_kind e.cells ≡ own) answer
 told_cells own columns timeout c d h answer cells same =
-    let none = windows_stored own columns timeout (of h) (events_stored own h cells) in
-    let each = same.weigh (λ e. cond {A = ℕ} (store_all own e.cells) 0 1)
-    ∙ (total-flat_map (λ (e : Edge). cond {A = ℕ} (store_all own e.cells) 0 1) (news_of c d) (windows columns timeout (of h))
-    ∙ (sum_eq (row_stored own) (λ e. total (λ (x : Edge). cond {A = ℕ} (store_all own x.cells) 0 1) (news_of c d e)) (λ e. 0) (windows columns timeout (of h)) (news_one own c d) none ∙ total_zero (windows columns timeout (of h)))) in
-    All-weaker (λ (e : Edge). IsTrue (store_all own e.cells)) (λ (e : Edge). map datum_kind e.cells ≡ own) (λ e k. stored_kinds own e.cells k) answer
-    ((failing-All (λ (e : Edge). store_all own e.cells) answer).0 each)
+    told_stored own c d (windows columns timeout (of h)) answer (windows_stored own columns timeout (of h) (events_stored own h cells)) same
 
 -- the events of the node
 pub windows_are : (columns : List ℕ) (timeout : ℕ) (a b : List CellEvent) → 1 ≤ timeout → windows columns timeout a ≡ node_in plain_cells (Session 0 timeout columns) a b
@@ -122,12 +100,3 @@ session_stepped columns columns2 timeout timeout2 kinds texts x y u rows rows2 e
       subst (λ (z : List Edge). KeepsSession columns2 timeout2 kinds texts u rows2 ends2 waiting2 (hl ++ l) (hr ++ r) (out ++ z)) (sym is) keeps,
       subst (λ (z : List Edge). ComeBetween x u z) (sym is) (record { from = answer_from x u told events same; below = answer_below x u told events same }),
     )
-
--- the list of what was told, of equal kinds and edges
-pub list_is : (kinds kinds2 : List Kind) (told told2 answer : List Edge) → kinds2 ≡ kinds → told2 ≡ told →
-    (KeepsOrder told2 → All (λ e. map datum_kind e.cells ≡ map cell_kind_of kinds2) told2 → answer ≡ told2) →
-    KeepsOrder told → All (λ e. map datum_kind e.cells ≡ map cell_kind_of kinds) told → answer ≡ told
-list_is kinds kinds2 told told2 answer e f h order cells =
-    h (subst KeepsOrder (sym f) order)
-    (subst (λ (ks : List Kind). All (λ (x : Edge). map datum_kind x.cells ≡ map cell_kind_of ks) told2) (sym e)
-    (subst (λ (l : List Edge). All (λ (x : Edge). map datum_kind x.cells ≡ map cell_kind_of kinds) l) (sym f) cells)) ∙ f

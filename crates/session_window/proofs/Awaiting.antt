@@ -47,49 +47,6 @@ first_more n e h = pick (nat_eq n 0) refl
         let z = ap (λ c. cond {A = ℕ} c 0 1) (never (n + 1) (omega arith)) in
         omega (arith, x, y, z)
 
-pub end_is : (b : Bool) (x : Edge) → (IsTrue b ↔ (x.other < x.sync)) → is_end x ≡ b
-end_is true x h = below x.other x.sync (h.0 refl)
-  where
-    below : (m n : ℕ) → m < n → nat_lt m n ≡ true
-    below m n l = grind (arith, nat_tests)
-end_is false x h = pick (is_end x) refl
-  where
-    lower : (m n : ℕ) → nat_lt m n ≡ true → m < n
-    lower m n l = grind (arith, nat_tests)
-
-    pick : (b : Bool) → is_end x ≡ b → is_end x ≡ false
-    pick false e = e
-    pick true e = absurd (let z : false ≡ true = h.1 (lower x.other x.sync e) in cc)
-
--- WHAT STARTS
-pub start_told : (t : ℕ) (x : Edge) (a0 a1 : List Edge) (o : ℕ) (cells : List Datum) → is_end x ≡ false → o ≡ inf → cells ≡ x.cells →
-    a1 ≡ a0 ++ record { sync = t; other = o; cells = cells } ∷ [] → Adds a0 a1 (map (told_at true t) (started_of x))
-start_told t x a0 a1 o cells e far same is =
-    let row : HeldRow = record { cells = x.cells; start = x.sync } in
-    let one : Adds a0 a1 (told_at true t row ∷ []) = record {
-      added = told_at true t row ∷ [];
-      is = is ∙ (ap (λ n. a0 ++ record { sync = t; other = n; cells = cells } ∷ []) far ∙ ap (λ l. a0 ++ record { sync = t; other = inf; cells = l } ∷ []) same);
-      bag = SameBag-refl _;
-    } in
-    subst (λ b. Adds a0 a1 (map (told_at true t) (cond b [] (row ∷ [])))) (sym e) one
-
-pub no_start : (t : ℕ) (x : Edge) (a : List Edge) → is_end x ≡ true → Adds a a (map (told_at true t) (started_of x))
-no_start t x a e =
-    let row : HeldRow = record { cells = x.cells; start = x.sync } in
-    subst (λ b. Adds a a (map (told_at true t) (cond b [] (row ∷ [])))) (sym e) (adds_none a)
-
-pub starts_more : (t : ℕ) (now : List Edge) (i : ℕ) (x : Edge) (a0 a1 a2 : List Edge) → i < length now → x ≡ get_or now i x →
-    Adds a0 a1 (map (told_at true t) (started_rows (take i now))) → Adds a1 a2 (map (told_at true t) (started_of x)) → Adds a0 a2 (map (told_at true t) (started_rows (take (i + 1) now)))
-starts_more t now i x a0 a1 a2 low is h k = adds_bag a0 a2 _ _ (adds_then a0 a1 a2 _ _ h k) (record {
-  weigh = λ w.
-      let a = total-append w (map (told_at true t) (started_rows (take i now))) (map (told_at true t) (started_of x)) in
-      let b = total-map w (told_at true t) (started_rows (take i now)) in
-      let c = total-map w (told_at true t) (started_of x) in
-      let d = total-map w (told_at true t) (started_rows (take (i + 1) now)) in
-      let e = rows_more started_of (λ r. w (told_at true t r)) now i x low is in
-      omega (arith, a, b, c, d, e);
-})
-
 -- THE ENTRY OF A ROW THAT IS PUT IN
 pub entry_kept : (ends : List Pending) (p : Pending) (first none : Bool) → first ≡ none → first ≡ false → (w : Pending → ℕ) → total w ends ≡ total w ends + cond none (w p) 0
 entry_kept ends p first none e h w = let z = ap (λ b. cond b (w p) 0) (sym e ∙ h) in omega (arith, z)
@@ -132,27 +89,6 @@ popped_fewer t below ends rest ends2 p e is low fewer =
 
 pub is_lower : (m n : ℕ) → nat_lt m n ≡ true → m < n
 is_lower m n l = grind (arith, nat_tests)
-
--- the rows that start in parts of a list
-rows_parts : (w : HeldRow → ℕ) (xs ys : List Edge) → total w (started_rows (xs ++ ys)) ≡ total w (started_rows xs) + total w (started_rows ys)
-rows_parts w xs ys =
-    let a = total-flat_map w started_of (xs ++ ys) in
-    let b = total-append (λ x. total w (started_of x)) xs ys in
-    let c = total-flat_map w started_of xs in
-    let d = total-flat_map w started_of ys in
-    omega (arith, a, b, c, d)
-
-pub starts_more_rows : (w : HeldRow → ℕ) (due rest : List Edge) (i n : ℕ) → rest ≡ drop i due →
-    total w (started_rows (take (i + n) due)) ≡ total w (started_rows (take i due)) + total w (started_rows (take n rest))
-starts_more_rows w due rest i n e =
-    ap (λ (l : List Edge). total w (started_rows l)) (take-add i n due) ∙ (rows_parts w (take i due) (take n (drop i due))
-    ∙ ap (λ (l : List Edge). total w (started_rows (take i due)) + total w (started_rows (take n l))) (sym e))
-
-pub starts_part : (w : HeldRow → ℕ) (due : List Edge) (i : ℕ) → total w (started_rows (take i due)) ≤ total w (started_rows due)
-starts_part w due i =
-    let a = ap (λ (l : List Edge). total w (started_rows l)) (take-append-drop i due) in
-    let b = rows_parts w (take i due) (drop i due) in
-    omega (arith, a, b)
 
 pub not_before : (m n : ℕ) → nat_lt m n ≡ false → n ≤ m
 not_before m n l = grind (arith, nat_tests)

@@ -12,7 +12,7 @@ use Rattle.edge_history.specs.Order.{many}
 use Rattle.end_queue.specs.Pending.{Pending}
 use Rattle.session_window.specs.Lasts.{IsLastStart}
 use Rattle.session_window.specs.Kept.{is_for, keeps_to}
-use Rattle.session_window.specs.Starts.{starts_in}
+use Rattle.sweep_sides.specs.Starts.{starts_in}
 use Rattle.session_window.specs.Windows.{windows}
 use Rattle.session_window.specs.Holding.{IsNextTime}
 

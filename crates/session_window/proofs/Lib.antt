@@ -5,7 +5,6 @@ pub mod Awaiting
 pub mod Likes
 pub mod Instants
 pub mod Steps
-pub mod Starting
 pub mod Answering
 pub mod Loading
 pub mod Resuming

@@ -37,7 +37,7 @@ use Rattle.synopsis.specs.Held.{key_of, is_of_key}
 use Rattle.synopsis.proofs.Keyed.{ones}
 use Rattle.sweep_sides.specs.Waiting.{queued}
 use Rattle.sweep_sides.specs.Saving.{starts_of, rows_of, is_row_start, may_wait, are_row_starts, may_all_wait}
-use Rattle.sweep_sides.proofs.KeptSides.{rows_of_starts}
+use Rattle.sweep_sides.proofs.KeptSides.{rows_of_starts, open_few, starts_few}
 use Rattle.session_window.specs.Kept.{is_for, is_for_at, keeps_to, waits_from, is_placed_at, HasOne}
 use Rattle.session_window.specs.Windows.{windows}
 use Rattle.session_window.specs.Holding.{SessionHeld}
@@ -201,52 +201,15 @@ ends_few columns rows ends one =
         let c = one_most (nat_eq (many (is_of_key columns (key_of columns r.cells)) rows) 0) in
         omega (arith, a, b, c)
 
--- no more open rows than events that do not end before the time
-open_few : (t : ℕ) (a : List CellEvent) (rows : List HeldRow) → SameBag rows (opens t a) → length rows ≤ many (reaches t) a
-open_few t a rows h =
-    let n = ones rows ∙ h.weigh (λ r. 1) ∙ total-flat_map (λ r. 1) (open_of t) a in
-    let l = each a in
-    omega (arith, n, l)
-  where
-    one : (b c : Bool) (r : HeldRow) → total (λ x. 1) (cond (b && c) (r ∷ []) []) ≤ cond c 1 0
-    one true true r = omega arith
-    one true false r = omega arith
-    one false true r = omega arith
-    one false false r = omega arith
-
-    each : (es : List CellEvent) → total (λ e. total (λ r. 1) (open_of t e)) es ≤ many (reaches t) es
-    each [] = omega arith
-    each (e ∷ es) =
-        let a = one (nat_lt e.start t) (nat_le t e.end) (record { cells = e.row; start = e.start }) in
-        let r = each es in
-        omega (arith, a, r)
-
--- the starts that wait are no more than twice the events that do not end before the time
-starts_few : (h : List Edge) (to : ℕ) (waiting : List Edge) → IsHistory h → SameBag waiting (filter is_start (filter (is_from to) (singles h))) → length waiting ≤ 2 * many (reaches to) (of h)
-starts_few h to waiting k q =
-    let a = side_bound h (opens to (of h)) (filter (is_from to) (singles h)) to k (SameBag-refl _) (SameBag-refl _) in
-    let n = ones waiting ∙ q.weigh (λ e. 1) ∙ total-filter (λ e. 1) is_start (filter (is_from to) (singles h)) in
-    let l = less (filter (is_from to) (singles h)) in
-    let m = ones (filter (is_from to) (singles h)) in
-    omega (arith, a, n, l, m)
-  where
-    less : (es : List Edge) → total (λ e. cond {A = ℕ} (is_start e) 1 0) es ≤ total (λ e. 1) es
-    less [] = omega arith
-    less (e ∷ es) = let a = one (is_start e) in let b = less es in omega (arith, a, b)
-      where
-        one : (b : Bool) → cond {A = ℕ} b 1 0 ≤ 1
-        one b = grind arith
-
-pub session_bound : (columns : List ℕ) (timeout : ℕ) (kinds : List CellKind) (texts : List (List ℕ)) (x : ℕ) (rows : List HeldRow) (ends waiting : List Pending) (left right out : List Edge) (n m l r : ℕ) →
-    1 ≤ timeout → KeepsSession columns timeout kinds texts x rows ends (queued waiting) left right out → n ≡ length rows → m ≡ length ends → l ≡ length waiting → r ≤ n + m + l →
-    r ≤ may_hold (Session 0 timeout columns) x x (of left) (of right) (node_in plain_cells (Session 0 timeout columns) (of left) (of right))
-session_bound columns timeout kinds texts x rows ends waiting left right out n m l r pos k a b c sum =
+pub session_bound : (columns : List ℕ) (timeout : ℕ) (kinds : List CellKind) (texts : List (List ℕ)) (x : ℕ) (rows : List HeldRow) (ends waiting : List Pending) (left right out : List Edge) →
+    1 ≤ timeout → KeepsSession columns timeout kinds texts x rows ends (queued waiting) left right out →
+    length rows + length ends + length waiting ≤ may_hold (Session 0 timeout columns) x x (of left) (of right) (node_in plain_cells (Session 0 timeout columns) (of left) (of right))
+session_bound columns timeout kinds texts x rows ends waiting left right out pos k =
     let e = ends_few columns rows ends k.kept.now.awaits.one in
     let f = open_few x (windows columns timeout (of left)) rows k.kept.now.now.open_rows in
-    let g = starts_few left x (queued waiting) k.kept.history k.kept.waits in
-    let q = length-map waiting (λ (p : Pending). p.edge) in
+    let g = starts_few left x waiting k.kept.history k.kept.waits in
     let o = ap (λ (l : List CellEvent). many (reaches x) l) (windows_are columns timeout (of left) (of right) pos) in
-    omega (arith, a, b, c, sum, e, f, g, q, o)
+    omega (arith, e, f, g, o)
 
 -- SAVING
 module _ (rows : List HeldRow) (waiting : List Edge) (s0 s1 s2 : List SavedEntry) (empty : s0 ≡ []) (e1 : s1 ≡ s0 ++ entries_of 0 (starts_of rows)) (e2 : s2 ≡ s1 ++ entries_of 1 waiting) where

@@ -6,13 +6,13 @@ use Rattle.tw_rows.specs.SameCells.{same_cells}
 use Rattle.tw_rows.specs.declared.cells.Datum.{Datum}
 use Rattle.tw_rows.specs.declared.edge.Edge.{Edge}
 use Rattle.tw_rows.specs.declared.edge.HeldRow.{HeldRow}
-use Rattle.edge_history.specs.Order.{failing, is_from, IsHistory}
+use Rattle.edge_history.specs.Order.{failing, IsHistory}
 use Rattle.edge_history.specs.History.{CellEvent, of}
 use Rattle.edge_history.specs.Balance.{Told}
-use Rattle.edge_history.specs.Opens.{singles, is_start}
 use Rattle.end_queue.specs.Pending.{Pending}
 use Rattle.synopsis.specs.Held.{key_of, is_of_key}
 use Rattle.sweep_laws.specs.Sweeps.{IsDue, Tells, HeadFrom, StartsAt}
+use Rattle.sweep_sides.specs.Starts.{starts_from}
 use Rattle.sweep_laws.specs.Sessioning.{Sessioning}
 use Rattle.session_window.specs.Lasts.{IsLastStart}
 use Rattle.session_window.specs.Kept.{Await, waits_from}
@@ -50,6 +50,6 @@ pub record SessionReached (columns : List ℕ) (timeout : ℕ) (a : List CellEve
 -- Ends that came in are kept nowhere
 pub record SessionKeeps (columns : List ℕ) (timeout : ℕ) (rows : List HeldRow) (ends : List Pending) (waiting : List Edge) (to : ℕ) (came out : List Edge) : Type 0 where
   pub history : IsHistory came
-  pub waits : SameBag waiting (filter is_start (filter (is_from to) (singles came)))
+  pub waits : SameBag waiting (starts_from to came)
   pub now : SessionHeld columns timeout (of came) to rows ends
   pub told : Told to out (windows columns timeout (of came))

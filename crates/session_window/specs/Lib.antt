@@ -4,7 +4,6 @@ pub mod Kept
 pub mod Windows
 pub mod Holding
 pub mod Sessions
-pub mod Starts
 pub mod Sides
 pub mod States
 pub mod Operating

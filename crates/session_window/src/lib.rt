@@ -8,7 +8,6 @@ mod saving;
 mod session;
 mod sessions;
 mod side;
-mod starts;
 mod times;
 
 pub use session::Session;

@@ -9,7 +9,7 @@ use sweep_sides::save_waiting;
 use tw_rows::{Memory, Time};
 
 impl Operator for Session {
-    ghost use Rattle.std.specs.Prelude.{[], nat_lt, map, cond, Some, None};
+    ghost use Rattle.std.specs.Prelude.{◌+◌, [], nat_lt, length, map, cond, Some, None};
     ghost use Rattle.tw_rows.specs.Kinds.{cell_kind_of};
     ghost use Rattle.edge_stream.specs.declared.saved.PartRow.TheVariants.{Left};
     ghost use Rattle.edge_history.specs.History.{of};
@@ -43,6 +43,8 @@ impl Operator for Session {
     ghost sound = { λ s saved x y. SessionSound (map cell_kind_of s.kinds.items) x saved };
 
     ghost resumes = { λ s saved x y texts hl hr out. SessionResumes s.side.sessions.rows.key s.side.sessions.timeout (map cell_kind_of s.kinds.items) texts x saved hl hr out };
+
+    ghost entries = { λ s. length s.side.sessions.rows.rows + length s.side.sessions.ends + length s.side.waiting };
 
     ghost most = { λ s hl hr out. may_hold (SessionNode 0 s.side.sessions.timeout s.side.sessions.rows.key) s.left_to s.left_to (of hl) (of hr) (node_in plain_cells (SessionNode 0 s.side.sessions.timeout s.side.sessions.rows.key) (of hl) (of hr)) };
 

@@ -14,26 +14,11 @@ use crate::open_rows::OpenRows;
 use crate::session::no_side;
 use crate::sessions::Sessions;
 use crate::side::Side;
-use edge_stream::{LoadFault, Saved, SavedEntry};
+use edge_stream::{LoadFault, Saved};
 use std::alloc::Global;
-use sweep_sides::{load_rows, load_waiting};
+use sweep_sides::{load_rows, load_waiting, save_block};
 use synopsis::Synopsis;
 use tw_rows::{HeldRow, Kind, Memory, Time};
-
-// Adds the starts of rows as entries of that part.
-fn save_block(saved: &mut Saved, part: u64, rows: &[HeldRow]) -> Result<(), Memory>
-    ensures { OnOk result (saved.new ≡ saved.old ++ entries_of part (starts_of rows.now)) }
-{
-    for row in rows {
-        saved.push(SavedEntry {
-            part,
-            sync: row.start,
-            other: Time::bounds().1,
-            cells: row.cells.clone()?,
-        })?;
-    }
-    Ok(())
-}
 
 /// Adds the rows as entries of that part, each as its start.
 pub(crate) fn save_open(saved: &mut Saved, part: u64, rows: &OpenRows) -> Result<(), Memory>

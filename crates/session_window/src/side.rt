@@ -13,10 +13,9 @@ ghost use Rattle.session_window.specs.Windows.{windows};
 ghost use Rattle.session_window.specs.Sessions.{IsLike};
 
 use crate::sessions::Sessions;
-use crate::starts::put_starts;
 use edge_stream::EdgeList;
 use end_queue::EndQueue;
-use sweep_sides::take_due;
+use sweep_sides::{put_starts, take_due};
 use tw_rows::{Edge, Memory, Time};
 
 /// The sessions that go on, and the starts that wait.

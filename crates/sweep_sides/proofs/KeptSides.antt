@@ -17,19 +17,21 @@ use Rattle.tw_rows.specs.declared.edge.Edge.{Edge}
 use Rattle.tw_rows.specs.declared.edge.HeldRow.{HeldRow}
 use Rattle.tw_rows.specs.declared.kind.CellKind.{CellKind}
 use Rattle.tw_rows.specs.declared.kind.CellKind.TheVariants.{Whole, Bit, Place}
-use Rattle.tw_rows.proofs.Bags.{total-append, total-map, total-flat_map, total_zero}
-use Rattle.edge_history.specs.History.{of}
+use Rattle.tw_rows.proofs.Bags.{SameBag-refl, total-append, total-map, total-filter, total-flat_map, total_zero}
+use Rattle.edge_history.specs.History.{CellEvent, of}
 use Rattle.edge_history.specs.Side.{reaches}
 use Rattle.edge_history.specs.Order.{failing, many, is_real, is_end, is_below, is_from, IsReal, IsHistory}
 use Rattle.edge_history.specs.Balance.{is_single}
-use Rattle.edge_history.specs.Opens.{singles_of, singles, opens, started_of, started_rows}
+use Rattle.edge_history.specs.Opens.{singles_of, singles, open_of, opens, is_start, started_of, started_rows}
 use Rattle.edge_history.proofs.Waiting.{side_bound}
 use Rattle.edge_history.proofs.Sums.{weaker, sum_eq, failing-both, failing-append}
 use Rattle.edge_stream.specs.declared.saved.SavedEntry.{SavedEntry}
 use Rattle.carried_edges.specs.Entries.{entries_of}
-use Rattle.carried_edges.proofs.Parts.{none_fails}
+use Rattle.carried_edges.proofs.Parts.{saved_length, none_fails}
 use Rattle.end_queue.specs.Pending.{Pending}
+use Rattle.synopsis.proofs.Keyed.{ones}
 use Rattle.sweep_sides.specs.Waiting.{queued, AreTimed}
+use Rattle.sweep_sides.specs.Starts.{starts_from}
 use Rattle.sweep_sides.specs.Saving.{stores, store_all, starts_of, rows_of, is_row_start, may_wait, IsSide}
 use Rattle.sweep_sides.proofs.Queued.{one_single, two_singles}
 
@@ -335,9 +337,61 @@ row_more edges i e cells old new low is same put so_far w =
 pub all_rows : (edges : List Edge) (rows : List HeldRow) (i : ℕ) → length edges ≤ i → ((w : HeldRow → ℕ) → total w rows ≡ total w (rows_of (take i edges))) → SameBag rows (rows_of edges)
 all_rows edges rows i far so_far = record { weigh = λ w. so_far w ∙ ap (λ l. total w (rows_of l)) (take_all i edges far) }
 
-pub side_bounded : (h : List Edge) (to : ℕ) (rows : List HeldRow) (waiting : List Pending) (n : ℕ) → n ≤ length rows + length waiting → IsHistory h → SameBag rows (opens to (of h)) →
-    SameBag (queued waiting) (filter (is_from to) (singles h)) → n ≤ 2 * many (reaches to) (of h)
-side_bounded h to rows waiting n few history held waits =
+-- HOW MUCH IS KEPT
+-- at most two for each event that does not end before the time up to which it is kept
+pub side_bounded : (h : List Edge) (to : ℕ) (rows : List HeldRow) (waiting : List Pending) → IsHistory h → SameBag rows (opens to (of h)) →
+    SameBag (queued waiting) (filter (is_from to) (singles h)) → length rows + length waiting ≤ 2 * many (reaches to) (of h)
+side_bounded h to rows waiting history held waits =
     let a = side_bound h rows (queued waiting) to history held waits in
     let b = length-map waiting (λ (p : Pending). p.edge) in
-    omega (arith, a, b, few)
+    omega (arith, a, b)
+
+-- no more open rows than events that do not end before the time
+pub open_few : (t : ℕ) (a : List CellEvent) (rows : List HeldRow) → SameBag rows (opens t a) → length rows ≤ many (reaches t) a
+open_few t a rows h =
+    let n = ones rows ∙ h.weigh (λ r. 1) ∙ total-flat_map (λ r. 1) (open_of t) a in
+    let l = each a in
+    omega (arith, n, l)
+  where
+    one : (b c : Bool) (r : HeldRow) → total (λ x. 1) (cond (b && c) (r ∷ []) []) ≤ cond c 1 0
+    one true true r = omega arith
+    one true false r = omega arith
+    one false true r = omega arith
+    one false false r = omega arith
+
+    each : (es : List CellEvent) → total (λ e. total (λ r. 1) (open_of t e)) es ≤ many (reaches t) es
+    each [] = omega arith
+    each (e ∷ es) =
+        let a = one (nat_lt e.start t) (nat_le t e.end) (record { cells = e.row; start = e.start }) in
+        let r = each es in
+        omega (arith, a, r)
+
+-- the starts that wait are no more than twice the events that do not end before the time
+pub starts_few : (h : List Edge) (to : ℕ) (waiting : List Pending) → IsHistory h → SameBag (queued waiting) (starts_from to h) → length waiting ≤ 2 * many (reaches to) (of h)
+starts_few h to waiting k q =
+    let a = side_bound h (opens to (of h)) (filter (is_from to) (singles h)) to k (SameBag-refl _) (SameBag-refl _) in
+    let b = length-map waiting (λ (p : Pending). p.edge) in
+    let n = ones (queued waiting) ∙ q.weigh (λ e. 1) ∙ total-filter (λ e. 1) is_start (filter (is_from to) (singles h)) in
+    let l = less (filter (is_from to) (singles h)) in
+    let m = ones (filter (is_from to) (singles h)) in
+    omega (arith, a, b, n, l, m)
+  where
+    less : (es : List Edge) → total (λ e. cond {A = ℕ} (is_start e) 1 0) es ≤ total (λ e. 1) es
+    less [] = omega arith
+    less (e ∷ es) = let a = one (is_start e) in let b = less es in omega (arith, a, b)
+      where
+        one : (b : Bool) → cond {A = ℕ} b 1 0 ≤ 1
+        one b = grind arith
+
+-- and how many entries are saved of it: one for each row, and one for each edge that waits
+pub rows_added : (part : ℕ) (rows : List HeldRow) (saved0 saved1 : List SavedEntry) → saved1 ≡ saved0 ++ entries_of part (starts_of rows) → length saved1 ≡ length saved0 + length rows
+rows_added part rows saved0 saved1 is =
+    let a = saved_length saved0 saved1 part (starts_of rows) is in
+    let b : length (starts_of rows) ≡ length rows = length-map rows (λ (r : HeldRow). record { sync = r.start; other = inf; cells = r.cells }) in
+    omega (arith, a, b)
+
+pub waiting_added : (part : ℕ) (waiting : List Pending) (saved0 saved1 : List SavedEntry) → saved1 ≡ saved0 ++ entries_of part (queued waiting) → length saved1 ≡ length saved0 + length waiting
+waiting_added part waiting saved0 saved1 is =
+    let a = saved_length saved0 saved1 part (queued waiting) is in
+    let b = length-map waiting (λ (p : Pending). p.edge) in
+    omega (arith, a, b)

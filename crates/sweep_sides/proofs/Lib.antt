@@ -2,3 +2,5 @@ pub mod Queued
 pub mod Cutting
 pub mod KeptSides
 pub mod TakenIn
+pub mod Telling
+pub mod Starting

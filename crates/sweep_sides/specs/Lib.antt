@@ -1,3 +1,4 @@
 -- Callers read all of these.
 pub mod Waiting
+pub mod Starts
 pub mod Saving

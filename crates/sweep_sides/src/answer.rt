@@ -1,29 +1,15 @@
 // What was told, as a list.
-ghost use Rattle.std.specs.Prelude.{◌≡◌, ◌≤◌, ◌↔◌, IsTrue, All, length, map, IfOk};
+ghost use Rattle.std.specs.Prelude.{◌≡◌, ◌≤◌, All, length, map, IfOk};
 ghost use Rattle.tw_rows.specs.Kinds.{cell_kind_of};
 ghost use Rattle.tw_rows.specs.Cells.{datum_kind};
 ghost use Rattle.edge_history.specs.Order.{KeepsOrder};
 
 use batch::Pools;
+use carried_edges::is_stored_as;
 use edge_history::keeps_order;
 use edge_stream::EdgeList;
 use std::alloc::Global;
-use tw_rows::{Datum, Edge, Kind, Memory, cell_of};
-
-// Whether the cells are stored as these kinds are.
-pub(crate) fn has_kinds(cells: &[Datum], kinds: &[Kind]) -> bool
-    ensures { IsTrue result ↔ (map datum_kind cells.now ≡ map cell_kind_of kinds.now) }
-{
-    if cells.len() != kinds.len() {
-        return false;
-    }
-    for i in 0..cells.len() {
-        if cells[i].cell_kind() != cell_of(kinds[i]) {
-            return false;
-        }
-    }
-    true
-}
+use tw_rows::{Edge, Kind, Memory};
 
 /// A list of these edges. Where they are out of order it is empty, and it ends before one of other kinds.
 pub fn list_of(
@@ -47,7 +33,7 @@ pub fn list_of(
         return Ok(list);
     }
     for edge in edges {
-        if !has_kinds(edge.cells.items(), kinds) {
+        if !is_stored_as(edge.cells.items(), kinds) {
             return Ok(list);
         }
         list.append(pools, edge)?;

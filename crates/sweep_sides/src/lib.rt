@@ -5,11 +5,13 @@
 mod answer;
 mod instants;
 mod saving;
+mod starts;
 mod taking;
 mod waiting;
 
 pub use answer::list_of;
 pub use instants::{first_instant, next_instant, rest};
-pub use saving::{kept_count, load_rows, load_waiting, save_rows, save_waiting};
+pub use saving::{kept_count, load_rows, load_waiting, save_block, save_rows, save_waiting};
+pub use starts::put_starts;
 pub use taking::take_in;
 pub use waiting::{put_all, take_due};

@@ -1,38 +1,30 @@
 // What is kept of a side, as saved entries and back.
-ghost use Rattle.std.specs.Prelude.{◌≡◌, ◌≤◌, ◌+◌, ◌*◌, ◌++◌, ℕ, nat_eq, nat_le, List, true, map, filter, length, IfOk, IfErr, OnOk};
+ghost use Rattle.std.specs.Prelude.{◌≡◌, ◌+◌, ◌-◌, ◌^◌, ◌++◌, nat_eq, nat_le, true, map, length, min, IfOk, IfErr, OnOk};
 ghost use Rattle.tw_rows.specs.Bag.{SameBag};
 ghost use Rattle.tw_rows.specs.Instant.{inf};
 ghost use Rattle.tw_rows.specs.Kinds.{cell_kind_of};
-ghost use Rattle.tw_rows.specs.declared.edge.Edge.{Edge};
-ghost use Rattle.edge_history.specs.History.{of};
-ghost use Rattle.edge_history.specs.Order.{failing, is_below, is_from, is_real, many, IsHistory};
-ghost use Rattle.edge_history.specs.Opens.{opens, singles};
-ghost use Rattle.edge_history.specs.Side.{reaches};
+ghost use Rattle.edge_history.specs.Order.{failing, is_below, is_from, is_real};
 ghost use Rattle.carried_edges.specs.Entries.{entries_of, part_of};
 ghost use Rattle.sweep_sides.specs.Waiting.{queued, AreTimed};
 ghost use Rattle.sweep_sides.specs.Saving.{store_all, starts_of, rows_of, is_row_start, may_wait, are_row_starts, may_all_wait};
 
-use crate::answer::has_kinds;
 use crate::waiting::{is_single, put};
-use carried_edges::{edges_of_part, save_edges};
+use carried_edges::{edges_of_part, is_stored_as, save_edges};
 use edge_stream::{LoadFault, Saved, SavedEntry};
 use end_queue::EndQueue;
 use std::alloc::Global;
 use synopsis::Synopsis;
 use tw_rows::{Edge, HeldRow, Kind, Memory, Time};
 
-/// How many rows are kept of a side, and edges that wait: at most two for each event that does not end before the time up
-/// to which they are kept.
+/// How many rows are kept of a side and edges wait, or the greatest number that there is room for.
 pub fn kept_count(rows: &Synopsis, waiting: &EndQueue) -> u64
-    ensures count { result ≤ length rows.now.rows + length waiting.now }
-    ensures bounded { (h : List Edge) (to : ℕ) → IsHistory h → SameBag rows.now.rows (opens to (of h)) →
-        SameBag (queued waiting.now) (filter (is_from to) (singles h)) → result ≤ 2 * many (reaches to) (of h) }
+    ensures { result ≡ min (length rows.now.rows + length waiting.now) (2 ^ 64 - 1) }
 {
     (rows.len() as u64).saturating_add(waiting.len() as u64)
 }
 
-// Adds the starts of rows as entries of that part.
-fn save_block(saved: &mut Saved, part: u64, rows: &[HeldRow]) -> Result<(), Memory>
+/// Adds the starts of the rows as entries of that part.
+pub fn save_block(saved: &mut Saved, part: u64, rows: &[HeldRow]) -> Result<(), Memory>
     ensures { OnOk result (saved.new ≡ saved.old ++ entries_of part (starts_of rows.now)) }
 {
     for row in rows {
@@ -74,7 +66,7 @@ pub fn save_waiting(
 fn stores(edge: &Edge, kinds: &[Kind]) -> bool
     ensures { result ≡ store_all (map cell_kind_of kinds.now) edge.now.cells }
 {
-    has_kinds(edge.cells.items(), kinds)
+    is_stored_as(edge.cells.items(), kinds)
 }
 
 // Whether the edge has no end yet.

@@ -100,9 +100,9 @@ module _ (lk rk : List ℕ) (lc rc : List CellKind) where
   join_loaded lk2 rk2 texts x y left right left2 right2 lq rq lq2 rq2 hl hr out e f a b c d k =
       rw (e, f) (same_kept texts x y left right left2 right2 lq rq lq2 rq2 hl hr out a b c d k)
 
-pub join_bound : (lk rk : List ℕ) (x to n m r : ℕ) (a b own : List CellEvent) → r ≤ n + m → n ≤ 2 * many (reaches to) a → m ≤ 2 * many (reaches to) b →
-    r ≤ may_hold (Join 0 1 lk rk) x to a b own
-join_bound lk rk x to n m r a b own sum left right = omega (arith, sum, left, right)
+-- at most two entries for each event of a side that does not end before the time
+pub join_bound : (lk rk : List ℕ) (x to n m : ℕ) (a b own : List CellEvent) → n ≤ 2 * many (reaches to) a → m ≤ 2 * many (reaches to) b → n + m ≤ may_hold (Join 0 1 lk rk) x to a b own
+join_bound lk rk x to n m a b own left right = omega (arith, left, right)
 
 pub same_saved : (lc rc lc2 rc2 : List CellKind) (to to2 : ℕ) (entries : List SavedEntry) → lc2 ≡ lc → rc2 ≡ rc → to2 ≡ to → AreSavedSides lc2 rc2 to2 entries → AreSavedSides lc rc to entries
 same_saved lc rc lc2 rc2 to to2 entries e f g s =

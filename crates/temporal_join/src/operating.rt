@@ -10,7 +10,7 @@ use sweep_sides::{kept_count, load_rows, load_waiting, save_rows, save_waiting};
 use tw_rows::{Memory, Time};
 
 impl Operator for Join {
-    ghost use Rattle.std.specs.Prelude.{nat_eq, min, map, cond, Some, None};
+    ghost use Rattle.std.specs.Prelude.{◌+◌, nat_eq, length, min, map, cond, Some, None};
     ghost use Rattle.tw_rows.specs.Kinds.{cell_kind_of};
     ghost use Rattle.edge_stream.specs.declared.saved.PartRow.TheVariants.{Left, Right};
     ghost use Rattle.edge_history.specs.History.{of};
@@ -44,6 +44,8 @@ impl Operator for Join {
     ghost sound = { λ s saved x y. JoinSound (map cell_kind_of s.left_kinds.items) (map cell_kind_of s.right_kinds.items) (min x y) saved };
 
     ghost resumes = { λ s saved x y texts hl hr out. JoinResumes s.sides.rows.left_key.items s.sides.rows.right_key.items (map cell_kind_of s.left_kinds.items) (map cell_kind_of s.right_kinds.items) texts x y saved hl hr out };
+
+    ghost entries = { λ s. (length s.sides.rows.left.rows + length s.sides.left_waiting) + (length s.sides.rows.right.rows + length s.sides.right_waiting) };
 
     ghost most = { λ s hl hr out. may_hold (JoinNode 0 1 s.sides.rows.left_key.items s.sides.rows.right_key.items) s.left_to (min s.left_to s.right_to) (of hl) (of hr) (node_in plain_cells (JoinNode 0 1 s.sides.rows.left_key.items s.sides.rows.right_key.items) (of hl) (of hr)) };
 

@@ -1,7 +1,7 @@
 use Rattle.std.proofs.Common.{◌≡◌, false}
 use Rattle.tw_rows.specs.declared.edge.Edge.{Edge}
 use Rattle.sweep_laws.specs.Moves.{told_at}
-use Rattle.clip_op.proofs.Leaving.{told_next}
+use Rattle.sweep_sides.proofs.Telling.{told_next}
 use Rattle.clip_op.proofs.sweep.tell_ends.Goals as goal
 
 pub loop-row-preserved : goal.loop-row-preserved

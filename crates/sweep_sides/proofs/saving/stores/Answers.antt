@@ -7,4 +7,4 @@ use Rattle.sweep_sides.proofs.saving.stores.Goals as goal
 pub returns : goal.returns
 returns c =
     let kinds = map cell_kind_of c.args.kinds.now in
-    stored_test c.has_kinds.result kinds c.items.result.now c.has_kinds.ensures ∙ ap (store_all kinds) c.items.ensures
+    stored_test c.is_stored_as.result kinds c.items.result.now c.is_stored_as.ensures ∙ ap (store_all kinds) c.items.ensures

@@ -1,14 +1,16 @@
-use Rattle.std.proofs.Common.{◌≡◌, ◌≤◌, ◌++◌, ◌∙◌, map, min, sym, ap, subst, arith}
+use Rattle.std.proofs.Common.{◌≡◌, ◌≤◌, ◌++◌, ◌∙◌, ℕ, List, map, min, sym, ap, subst, arith}
 use Rattle.std.specs.Prelude.{All}
 use Rattle.tw_rows.specs.Cells.{datum_kind}
 use Rattle.tw_rows.specs.Kinds.{cell_kind_of}
 use Rattle.tw_rows.specs.Instant.{inf}
+use Rattle.edge_history.specs.Order.{many}
 use Rattle.edge_stream.specs.Listing.{cells_of}
 use Rattle.edge_stream.proofs.Filling.{batches_given-capacity}
 use Rattle.carried_edges.proofs.Pools.{batches_given-limit}
+use Rattle.synopsis.specs.Held.{is_of_key}
 use Rattle.sweep_sides.specs.Waiting.{queued}
 use Rattle.anti_join.proofs.Stepped.{from_lesser, anti_stepped, list_is}
-use Rattle.anti_join.proofs.RowKeys.{keys_by, keys_back, news_by}
+use Rattle.anti_join.proofs.RowKeys.{keys_by, keys_back, news_by, times_key}
 use Rattle.anti_join.proofs.anti.Anti.advance.Goals as goal
 
 pub returns-clause-kept : goal.returns-clause-kept
@@ -41,7 +43,8 @@ returns-clause-kept c = λ texts hl hr out k ml mr.
     lu lv e k ml mr
     (subst (λ ks. All (λ x. map datum_kind x.cells ≡ ks) l) c.requires.left_kinds t.left_cells)
     (subst (λ ks. All (λ x. map datum_kind x.cells ≡ ks) r) c.requires.right_kinds t.right_cells)
-    (keys_back new.rows (queued new.left_waiting) (queued new.right_waiting) to (hl ++ l) (hr ++ r) (out ++ told) p.0.by p.0.kept) (news_by s.sides.rows s.by_key (min s.left_to s.right_to) to (hl ++ l) (hr ++ r) told p.1)
+    (keys_back new.rows (queued new.left_waiting) (queued new.right_waiting) to (hl ++ l) (hr ++ r) (out ++ told) p.0.by p.0.kept)
+    (λ l. subst (λ (key : List ℕ). many (is_of_key key l) new.rows.times.rows ≤ 1) (times_key new.rows p.0.by) (c.len.ensures.single l)) (news_by s.sides.rows s.by_key (min s.left_to s.right_to) to (hl ++ l) (hr ++ r) told p.1)
     (list_is s.left_kinds.items c.as_slice.result.now told c.as_slice-2.result.now c.in_ok-answer.answer.edges c.as_slice.ensures.value c.as_slice-2.ensures.value c.in_ok-answer.ensures.edges)
 
 pub give_back-requires-2 : goal.give_back-requires-2

@@ -15,7 +15,7 @@ returns-clause-resumed c = λ texts hl hr out r.
     let t = c.in_ok-take_up.ensures in
     anti_loaded old.left_key.columns old.right_key.columns (map cell_kind_of s.left_kinds.items) (map cell_kind_of s.right_kinds.items) new.rows.left_key.columns new.rows.right_key.columns texts c.args.left_to c.args.right_to
     (rows_of (part_of 0 entries)) (rows_of (part_of 1 entries)) (rows_of (part_of 4 entries)) new.rows.left.rows new.rows.right.rows new.rows.times.rows (part_of 2 entries) (part_of 3 entries) (queued new.left_waiting) (queued new.right_waiting) hl hr out
-    (ap (λ v. v.columns) t.left_key) (ap (λ v. v.columns) t.right_key) t.rows.0 t.rows.1 (t.times r.single) t.waiting.0 t.waiting.1 r.keeps
+    (ap (λ v. v.columns) t.left_key) (ap (λ v. v.columns) t.right_key) t.rows.0 t.rows.1 (t.times r.keeps.single) t.waiting.0 t.waiting.1 r.keeps
 
 pub returns-clause-sound : goal.returns-clause-sound
 returns-clause-sound c =

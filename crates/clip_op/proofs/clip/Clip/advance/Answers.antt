@@ -7,7 +7,8 @@ use Rattle.edge_stream.specs.Listing.{cells_of}
 use Rattle.edge_stream.proofs.Filling.{batches_given-capacity}
 use Rattle.carried_edges.proofs.Pools.{batches_given-limit}
 use Rattle.sweep_sides.specs.Waiting.{queued}
-use Rattle.clip_op.proofs.Stepped.{from_lesser, clip_stepped, list_is}
+use Rattle.sweep_sides.proofs.Telling.{from_lesser, list_is}
+use Rattle.clip_op.proofs.Stepped.{clip_stepped}
 use Rattle.clip_op.proofs.clip.Clip.advance.Goals as goal
 
 pub returns-clause-kept : goal.returns-clause-kept

@@ -1,8 +1,18 @@
-use Rattle.std.proofs.Common.{map, min}
+use Rattle.std.proofs.Common.{ap, arith, length, map, min}
 use Rattle.tw_rows.specs.Kinds.{cell_kind_of}
 use Rattle.sweep_sides.specs.Waiting.{queued}
+use Rattle.sweep_sides.proofs.KeptSides.{rows_added, waiting_added}
 use Rattle.clip_op.proofs.Resuming.{clip_saved, clip_resumed}
 use Rattle.clip_op.proofs.operating.ClipOperator.save.Goals as goal
+
+pub returns-clause-few : goal.returns-clause-few
+returns-clause-few c =
+    let s = c.args.self.now.sides in
+    let none = ap length c.new-saved.ensures in
+    let left = rows_added 0 s.rows.left.rows c.new-saved.result c.save_rows.new.saved c.in_ok-save_rows.ensures in
+    let left_rest = waiting_added 1 s.left_waiting c.save_rows.new.saved c.save_waiting.new.saved c.in_ok-save_waiting.ensures in
+    let right_rest = waiting_added 2 s.right_waiting c.save_waiting.new.saved c.save_waiting-2.new.saved c.in_ok-save_waiting-2.ensures in
+    omega (arith, none, left, left_rest, right_rest)
 
 pub returns-clause-sound : goal.returns-clause-sound
 returns-clause-sound c =

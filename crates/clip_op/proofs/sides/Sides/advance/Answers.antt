@@ -1,5 +1,5 @@
 use Rattle.std.proofs.Common.{◌≡◌, ◌+◌, ◌++◌, ◌∙◌, ℕ, sym, ap, subst, arith, map}
-use Rattle.std.specs.Prelude.{filter}
+use Rattle.std.specs.Prelude.{[], filter}
 use Rattle.tw_rows.specs.Bag.{total}
 use Rattle.tw_rows.specs.declared.edge.Edge.{Edge}
 use Rattle.edge_history.specs.History.{of}
@@ -10,7 +10,7 @@ use Rattle.sweep_laws.specs.Unending.{unending}
 use Rattle.sweep_sides.specs.Waiting.{queued}
 use Rattle.sweep_sides.proofs.KeptSides.{side_stepped}
 use Rattle.clip_op.proofs.KeyRules.{kept_by}
-use Rattle.clip_op.proofs.RightEdges.{starts_are, right_stepped}
+use Rattle.sweep_sides.proofs.Starting.{starts_are, starts_stepped}
 use Rattle.clip_op.proofs.Steps.{clip_step, clip_news}
 use Rattle.clip_op.proofs.sides.Sides.advance.Goals as goal
 
@@ -29,7 +29,7 @@ returns-clause-kept c = λ from hl hr out low k wl wr fl fr.
     let dl = c.in_ok-left_due.ensures in
     let dr = c.in_ok-right_due.ensures in
     let put_r : (w : Edge → ℕ) → total w (queued c.put_starts.new.queue) ≡ total w (queued s.right_waiting) + total w (filter is_start (singles nr)) =
-    λ w. c.in_ok-put_starts.ensures.put w ∙ ap (λ n. total w (queued s.right_waiting) + n) (starts_are nr c.put_starts.ensures.order.real w) in (
+    λ w. c.in_ok-put_starts.ensures.put w ∙ ap (λ n. total w (queued s.right_waiting) + n) (starts_are w nr c.put_starts.ensures.order.real) in (
       record {
         left_timed = dl.timed tl;
         right_timed = dr.timed tr;
@@ -66,6 +66,6 @@ returns-clause-sides c = λ from low a.
       left = side_stepped (cells_of c.args.left.now) from c.args.to s.rows.left.rows later.left.rows s.left_waiting c.put_all.new.queue c.take_due.new.queue c.args.left.now.edges c.in_ok-left_due.left_due.items
           low a.left c.put_all.ensures.order.real c.in_ok-put_all.ensures.cells c.in_ok-put_all.ensures.put dl.parts (dl.below tl) (dl.rest tl) (dl.timed tl)
           (λ w. let f = c.in_ok-sweep.ensures.rows w in let e = ap (λ l. total w (started_rows l)) c.as_slice.ensures.value in omega (arith, f, e));
-      right = right_stepped (cells_of c.args.right.now) from c.args.to s.right_waiting c.put_starts.new.queue c.take_due-2.new.queue c.args.right.now.edges c.in_ok-right_due.right_due.items
-          a.right c.put_starts.ensures.order.real c.in_ok-put_starts.ensures.cells c.in_ok-put_starts.ensures.put tr dr.parts (dr.below tr) (dr.rest tr) (dr.timed tr);
+      right = starts_stepped (cells_of c.args.right.now) from c.args.to [] [] s.right_waiting c.put_starts.new.queue c.take_due-2.new.queue c.args.right.now.edges c.in_ok-right_due.right_due.items
+          low a.right c.put_starts.ensures.order.real c.in_ok-put_starts.ensures.cells c.in_ok-put_starts.ensures.put dr.parts (dr.below tr) (dr.rest tr) (dr.timed tr) (λ w. (omega arith));
     }

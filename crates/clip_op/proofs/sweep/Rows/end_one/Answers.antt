@@ -6,7 +6,8 @@ use Rattle.edge_history.specs.Opens.{is_held}
 use Rattle.sweep_laws.specs.Moves.{told_at}
 use Rattle.clip_op.specs.Leaving.{row_named}
 use Rattle.clip_op.proofs.KeyRules.{keys_stay}
-use Rattle.clip_op.proofs.Leaving.{end_is, end_none, end_missing, end_found}
+use Rattle.sweep_sides.proofs.Telling.{end_is}
+use Rattle.clip_op.proofs.Leaving.{end_none, end_missing, end_found}
 use Rattle.clip_op.proofs.sweep.Rows.end_one.Goals as goal
 
 pub returns-then-not-is_end : goal.returns-then-not-is_end

@@ -5,7 +5,7 @@ use Rattle.tw_rows.specs.declared.edge.HeldRow.{HeldRow}
 use Rattle.edge_history.specs.Order.{is_end}
 use Rattle.sweep_laws.specs.Moves.{told_at}
 use Rattle.clip_op.proofs.KeyRules.{keys_stay}
-use Rattle.clip_op.proofs.Leaving.{end_is, start_none, start_told}
+use Rattle.sweep_sides.proofs.Telling.{end_is, no_start, start_told}
 use Rattle.clip_op.proofs.sweep.Rows.start_one.Goals as goal
 
 pub returns-then-is_end : goal.returns-then-is_end
@@ -15,25 +15,21 @@ returns-then-is_end c =
     let e : is_end x ≡ true = end_is c.is_end.result x c.is_end.ensures ∙ c.if-is_end.true in
     record {
       started = λ w. (let z = ap (λ b. total w (cond b [] (row ∷ []))) e in omega (arith, z));
-      told = start_none c.args.t x c.args.answer.now.items e;
+      told = no_start c.args.t x c.args.answer.now.items e;
       keys = keys_stay c.args.self.now;
     }
 
 pub returns : goal.returns
 returns c =
     let x = c.args.edge.now in
-    let t = c.args.t in
     let row : HeldRow = record { cells = x.cells; start = x.sync } in
     let e : is_end x ≡ false = end_is c.is_end.result x c.is_end.ensures ∙ c.if-is_end.false in
-    let o = c.bounds.ensures.infinity in
-    let k = c.in_ok-clone.ensures.cases in
-    let it : record { sync = t; other = c.bounds.result.1; cells = c.in_ok-clone.field-0 } ≡ told_at true t row = λ i. record { sync = t; other = o i; cells = k i } in
     record {
       started = λ w.
           let a = c.in_ok-add.ensures.ok w in
           let b = ap (λ l. w (record { cells = l; start = x.sync })) c.in_ok-clone-2.ensures.cases in
           let z = ap (λ b. total w (cond b [] (row ∷ []))) e in
           omega (arith, a, b, z);
-      told = start_told t x c.args.answer.now.items c.push.new.self.items e (c.in_ok-push.ensures.items ∙ ap (λ (y : Edge). c.args.answer.now.items ++ y ∷ []) it);
+      told = start_told c.args.t x c.args.answer.now.items c.push.new.self.items c.bounds.result.1 c.in_ok-clone.field-0 e c.bounds.ensures.infinity c.in_ok-clone.ensures.cases c.in_ok-push.ensures.items;
       keys = record { left = c.in_ok-add.ensures.key; right = refl };
     }

@@ -2,7 +2,7 @@ use Rattle.std.proofs.Common.{arith}
 use Rattle.edge_history.specs.Opens.{started_of}
 use Rattle.sweep_laws.proofs.Adding.{adds_none, rows_more}
 use Rattle.clip_op.proofs.KeyRules.{keys_stay, keys_then}
-use Rattle.clip_op.proofs.Leaving.{starts_more}
+use Rattle.sweep_sides.proofs.Telling.{starts_more}
 use Rattle.clip_op.proofs.sweep.Rows.start_rows.Goals as goal
 
 pub loop-edge-init : goal.loop-edge-init

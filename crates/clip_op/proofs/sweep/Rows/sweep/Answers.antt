@@ -2,9 +2,8 @@ use Rattle.std.proofs.Common.{◌≡◌, ◌∙◌, ◌+◌, suc, sym, ap, subst
 use Rattle.std.proofs.lemmas.List.{drop-drop, length-drop}
 use Rattle.tw_rows.specs.declared.edge.Edge.{Edge}
 use Rattle.sweep_laws.specs.Unending.{unending}
-use Rattle.sweep_sides.proofs.Cutting.{drop_past}
+use Rattle.sweep_sides.proofs.Cutting.{drop_past, starts_before, starts_part}
 use Rattle.clip_op.specs.Holding.{ClipReached}
-use Rattle.clip_op.proofs.Cuts.{starts_before, starts_part}
 use Rattle.clip_op.proofs.KeyRules.{keys_stay, keys_then, same_swept}
 use Rattle.clip_op.proofs.Steps.{reach_start, reach_step, reach_end}
 use Rattle.clip_op.proofs.sweep.Rows.sweep.Goals as goal

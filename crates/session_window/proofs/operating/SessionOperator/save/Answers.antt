@@ -1,8 +1,17 @@
-use Rattle.std.proofs.Common.{map}
+use Rattle.std.proofs.Common.{ap, arith, length, map}
 use Rattle.tw_rows.specs.Kinds.{cell_kind_of}
 use Rattle.sweep_sides.specs.Waiting.{queued}
+use Rattle.sweep_sides.proofs.KeptSides.{rows_added, waiting_added}
 use Rattle.session_window.proofs.Resuming.{session_saved, session_resumed}
 use Rattle.session_window.proofs.operating.SessionOperator.save.Goals as goal
+
+pub returns-clause-few : goal.returns-clause-few
+returns-clause-few c =
+    let s = c.args.self.now.side in
+    let none = ap length c.new-saved.ensures in
+    let rows = rows_added 0 s.sessions.rows.rows c.new-saved.result c.save_open.new.saved c.in_ok-save_open.ensures in
+    let waiting = waiting_added 1 s.waiting c.save_open.new.saved c.save_waiting.new.saved c.in_ok-save_waiting.ensures in
+    omega (arith, none, rows, waiting)
 
 pub returns-clause-sound : goal.returns-clause-sound
 returns-clause-sound c =

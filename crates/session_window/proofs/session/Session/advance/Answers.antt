@@ -6,7 +6,8 @@ use Rattle.edge_stream.specs.Listing.{cells_of}
 use Rattle.edge_stream.proofs.Filling.{batches_given-capacity}
 use Rattle.carried_edges.proofs.Pools.{batches_given-limit}
 use Rattle.sweep_sides.specs.Waiting.{queued}
-use Rattle.session_window.proofs.Answering.{session_stepped, list_is}
+use Rattle.sweep_sides.proofs.Telling.{list_is}
+use Rattle.session_window.proofs.Answering.{session_stepped}
 use Rattle.session_window.proofs.session.Session.advance.Goals as goal
 
 pub returns-clause-kept : goal.returns-clause-kept

@@ -1,7 +1,7 @@
 use Rattle.std.proofs.Common.{arith, refl}
 use Rattle.edge_history.specs.Opens.{started_of}
 use Rattle.sweep_laws.proofs.Adding.{adds_none, rows_more}
-use Rattle.session_window.proofs.Awaiting.{starts_more}
+use Rattle.sweep_sides.proofs.Telling.{starts_more}
 use Rattle.session_window.proofs.Likes.{like_then, await_like, passes_at}
 use Rattle.session_window.proofs.sessions.Sessions.start_all.Goals as goal
 

@@ -4,7 +4,8 @@ use Rattle.tw_rows.specs.declared.edge.HeldRow.{HeldRow}
 use Rattle.end_queue.specs.Pending.{Pending}
 use Rattle.edge_history.specs.Order.{is_end}
 use Rattle.synopsis.specs.Held.{key_of}
-use Rattle.session_window.proofs.Awaiting.{opened, later_opened, end_is, start_told, no_start}
+use Rattle.sweep_sides.proofs.Telling.{end_is, start_told, no_start}
+use Rattle.session_window.proofs.Awaiting.{opened, later_opened}
 use Rattle.session_window.proofs.sessions.Sessions.start_one.Goals as goal
 
 pub returns-then-is_end : goal.returns-then-is_end

@@ -4,7 +4,8 @@ use Rattle.tw_rows.specs.declared.edge.Edge.{Edge}
 use Rattle.sweep_laws.specs.Sweeps.{Tells}
 use Rattle.session_window.specs.Holding.{SessionHeld, SessionReached, IsNextTime}
 use Rattle.session_window.specs.Windows.{windows}
-use Rattle.session_window.proofs.Awaiting.{not_before, is_lower, starts_more_rows, starts_part}
+use Rattle.sweep_sides.proofs.Cutting.{starts_before, starts_part}
+use Rattle.session_window.proofs.Awaiting.{not_before, is_lower}
 use Rattle.session_window.proofs.Likes.{like_stays, like_then, by_first, by_now, next_is, next_below}
 use Rattle.session_window.proofs.Steps.{reach_start, reach_step, reach_end, never_before}
 use Rattle.session_window.proofs.sessions.Sessions.sweep.Goals as goal
@@ -45,7 +46,7 @@ instants-preserved c =
       rows = λ w.
           let a = k.rows w in
           let b = c.in_ok-pass.ensures.rows w in
-          let d = starts_more_rows w due left i n e in
+          let d = starts_before w due left i n e in
           omega (arith, a, b, d);
       like = like_then s now after k.like c.in_ok-pass.ensures.like;
       reached = λ a pos d h.

@@ -8,7 +8,7 @@ use Rattle.sweep_laws.specs.Unending.{unending}
 use Rattle.sweep_sides.specs.Waiting.{queued}
 use Rattle.session_window.specs.Holding.{SessionKeeps}
 use Rattle.session_window.proofs.Steps.{session_step}
-use Rattle.session_window.proofs.Starting.{starts_are, starts_stepped}
+use Rattle.sweep_sides.proofs.Starting.{starts_are, starts_stepped}
 use Rattle.session_window.proofs.Likes.{by_now}
 use Rattle.session_window.proofs.side.Side.advance.Goals as goal
 

@@ -1,7 +1,12 @@
-use Rattle.std.proofs.Common.{map}
+use Rattle.std.proofs.Common.{◌+◌, length, map, min}
 use Rattle.tw_rows.specs.Kinds.{cell_kind_of}
+use Rattle.edge_history.specs.History.{of}
+use Rattle.plan_model.specs.declared.node.Node.TheVariants.{Join as JoinNode}
+use Rattle.plan_model.specs.Nodes.{node_in}
+use Rattle.node_laws.specs.Keeping.{plain_cells}
 use Rattle.sweep_sides.specs.Waiting.{queued}
-use Rattle.temporal_join.proofs.Resuming.{join_opening, join_longer, join_stands}
+use Rattle.sweep_sides.proofs.KeptSides.{side_bounded}
+use Rattle.temporal_join.proofs.Resuming.{join_opening, join_longer, join_stands, join_bound}
 use Rattle.temporal_join.proofs.operating.JoinOperator.laws.Goals as goal
 
 pub returns-clause-opens : goal.returns-clause-opens
@@ -26,6 +31,15 @@ returns-clause-grows c = λ s new old hl hr out b k.
     let r = s.sides.rows in
     join_longer r.left_key.items r.right_key.items (map cell_kind_of s.left_kinds.items) (map cell_kind_of s.right_kinds.items) new old s.left_to s.right_to r.left.rows r.right.rows
     (queued s.sides.left_waiting) (queued s.sides.right_waiting) hl hr out b k
+
+pub returns-clause-bounded : goal.returns-clause-bounded
+returns-clause-bounded c = λ s texts hl hr out k.
+    let r = s.sides.rows in
+    let to = min s.left_to s.right_to in
+    join_bound r.left_key.items r.right_key.items s.left_to to (length r.left.rows + length s.sides.left_waiting) (length r.right.rows + length s.sides.right_waiting) (of hl) (of hr)
+    (node_in plain_cells (JoinNode 0 1 r.left_key.items r.right_key.items) (of hl) (of hr))
+    (side_bounded hl to r.left.rows s.sides.left_waiting k.kept.left_history k.kept.now.left_rows k.kept.left_waits)
+    (side_bounded hr to r.right.rows s.sides.right_waiting k.kept.right_history k.kept.now.right_rows k.kept.right_waits)
 
 pub returns-clause-resumes_sound : goal.returns-clause-resumes_sound
 returns-clause-resumes_sound c = λ s saved x y texts hl hr out r. r.sound

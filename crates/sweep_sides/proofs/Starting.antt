@@ -1,4 +1,4 @@
--- The starts of new edges.
+-- The starts of new edges: which they are, and a side that keeps them alone.
 use Rattle.std.specs.Prelude.{◌≡◌, ℕ, ◌+◌, ◌<◌, ◌≤◌, ◌||◌, nat_eq, nat_lt, not, Bool, true, false, cond, List, [], ◌∷◌, ◌++◌, All, filter, map, refl}
 use Rattle.std.proofs.Common.{sym, ◌∙◌, ap, arith}
 use Rattle.std.proofs.lemmas.Bool.Decides.{nat_tests}
@@ -17,7 +17,7 @@ use Rattle.sweep_sides.specs.Waiting.{queued, AreTimed}
 use Rattle.sweep_sides.specs.Saving.{IsSide}
 use Rattle.sweep_sides.proofs.KeptSides.{side_stepped}
 use Rattle.sweep_sides.proofs.Queued.{one_single}
-use Rattle.session_window.specs.Starts.{start_in, starts_in}
+use Rattle.sweep_sides.specs.Starts.{start_in, starts_in}
 
 one_start : (w : Edge → ℕ) (e : Edge) → IsReal e → total w (start_in e) ≡ total (λ x. cond (is_start x) (w x) 0) (singles_of e)
 one_start w e r = go (is_end e) refl (nat_eq e.other inf) refl

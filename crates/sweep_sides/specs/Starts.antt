@@ -1,11 +1,11 @@
--- The edges of a right side that wait: starts alone.
+-- The starts that edges tell of.
 use Rattle.std.specs.Prelude.{ℕ, cond, List, [], ◌∷◌, flat_map, filter}
 use Rattle.tw_rows.specs.Instant.{inf}
 use Rattle.tw_rows.specs.declared.edge.Edge.{Edge}
 use Rattle.edge_history.specs.Order.{is_end, is_from}
 use Rattle.edge_history.specs.Opens.{singles, is_start}
 
--- the start that an edge tells of: of the interval [3, 5) the start at 3, and of an end none
+-- the start that the edge tells of, without the end: of the interval [3, 5) a start at 3, and of an end none
 abbrev pub start_in : Edge → List Edge
 start_in e = cond (is_end e) [] (record { sync = e.sync; other = inf; cells = e.cells } ∷ [])
 

@@ -5,8 +5,8 @@ use Rattle.tw_rows.specs.Cells.{datum_kind}
 use Rattle.tw_rows.specs.declared.edge.Edge.{Edge}
 use Rattle.edge_stream.specs.Listing.{cells_of}
 use Rattle.sweep_sides.specs.Waiting.{queued, AreTimed}
-use Rattle.clip_op.specs.Waiting.{starts_in}
-use Rattle.clip_op.proofs.starts.put_starts.Given as goal
+use Rattle.sweep_sides.specs.Starts.{starts_in}
+use Rattle.sweep_sides.proofs.starts.put_starts.Given as goal
 
 abbrev pub invariant-loop-edge : goal.invariant-loop-edge
 invariant-loop-edge l = record {

@@ -1,11 +1,10 @@
-use Rattle.std.proofs.Common.{◌≡◌, ◌∙◌, ◌∷◌, [], ap, arith, cond, true, false, refl}
+use Rattle.std.proofs.Common.{◌≡◌, ◌∙◌, ◌∷◌, [], ap, arith, cond, true, false}
 use Rattle.tw_rows.specs.Bag.{total}
 use Rattle.tw_rows.specs.Instant.{inf}
 use Rattle.tw_rows.specs.declared.edge.Edge.{Edge}
 use Rattle.edge_history.specs.Order.{is_end}
-use Rattle.sweep_sides.proofs.Queued.{put_queued, put_timed}
-use Rattle.clip_op.proofs.Leaving.{end_is}
-use Rattle.clip_op.proofs.starts.put_start.Goals as goal
+use Rattle.sweep_sides.proofs.Telling.{end_is}
+use Rattle.sweep_sides.proofs.starts.put_start.Goals as goal
 
 pub returns-then-is_end : goal.returns-then-is_end
 returns-then-is_end c =
@@ -20,12 +19,11 @@ pub returns : goal.returns
 returns c =
     let e = c.args.edge in
     let end : is_end e ≡ false = end_is c.is_end.result e c.is_end.ensures ∙ c.if-is_end.false in
-    let x : Edge = record { sync = e.sync; other = c.bounds.result.1; cells = e.cells } in
     record {
       put = λ w.
-          let a = put_queued c.args.queue.now c.put.new.self e.sync x c.in_ok-put.ensures.ok w in
+          let a = c.in_ok-put.ensures.put w in
           let z = ap (λ b. total w (cond b [] (record e { sync = e.sync; other = inf; cells = e.cells } ∷ []))) end in
           let o = ap (λ n. w (record { sync = e.sync; other = n; cells = e.cells })) c.bounds.ensures.infinity in
           omega (arith, a, z, o);
-      timed = put_timed c.args.queue.now c.put.new.self e.sync x c.in_ok-put.ensures.ok refl;
+      timed = c.in_ok-put.ensures.timed;
     }

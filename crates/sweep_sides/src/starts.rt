@@ -1,4 +1,4 @@
-// The starts of a right side, which wait until they are due.
+// Starts that wait until they are due.
 ghost use Rattle.std.specs.Prelude.{◌≡◌, ◌+◌, ℕ, All, map, OnOk};
 ghost use Rattle.tw_rows.specs.Bag.{total};
 ghost use Rattle.tw_rows.specs.Cells.{datum_kind};
@@ -6,8 +6,9 @@ ghost use Rattle.tw_rows.specs.declared.edge.Edge.{Edge};
 ghost use Rattle.edge_history.specs.Order.{KeepsOrder};
 ghost use Rattle.edge_stream.specs.Listing.{cells_of};
 ghost use Rattle.sweep_sides.specs.Waiting.{queued, AreTimed};
-ghost use Rattle.clip_op.specs.Waiting.{start_in, starts_in};
+ghost use Rattle.sweep_sides.specs.Starts.{start_in, starts_in};
 
+use crate::waiting::put;
 use edge_stream::EdgeList;
 use end_queue::EndQueue;
 use tw_rows::{Edge, Memory, Time};
@@ -25,12 +26,12 @@ fn put_start(queue: &mut EndQueue, edge: Edge) -> Result<(), Memory>
         other: Time::bounds().1,
         cells: edge.cells,
     };
-    queue.put(start.sync, start)?;
+    put(queue, start)?;
     Ok(())
 }
 
-/// Puts the starts of the edges of a list to those that wait, each for its sync. An end clips nothing, and is let go.
-pub(crate) fn put_starts(queue: &mut EndQueue, edges: &EdgeList) -> Result<(), Memory>
+/// Puts the starts that the edges of a list tell of to those that wait, each for its sync. Ends are let go.
+pub fn put_starts(queue: &mut EndQueue, edges: &EdgeList) -> Result<(), Memory>
     ensures put { OnOk result ((w : Edge → ℕ) → total w (queued queue.new) ≡ total w (queued queue.old) + total w (starts_in edges.now.edges)) }
     ensures timed { OnOk result (AreTimed queue.old → AreTimed queue.new) }
     ensures order { KeepsOrder edges.now.edges }

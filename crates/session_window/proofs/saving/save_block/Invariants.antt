@@ -1,8 +1,0 @@
--- The entries so far are those that were there, and the starts of the rows before this one.
-use Rattle.std.proofs.Common.{◌≡◌, ◌++◌, take}
-use Rattle.carried_edges.specs.Entries.{entries_of}
-use Rattle.sweep_sides.specs.Saving.{starts_of}
-use Rattle.session_window.proofs.saving.save_block.Given as goal
-
-abbrev pub invariant-loop-row : goal.invariant-loop-row
-invariant-loop-row l = l.saved ≡ l.fn.saved ++ entries_of l.part (starts_of (take l.row-index l.rows))
