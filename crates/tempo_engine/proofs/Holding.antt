@@ -1,6 +1,7 @@
 -- What an engine holds after lines.
-use Rattle.std.specs.Prelude.{◌≡◌, ℕ, ◌≤◌, Bool, true, false, Option, Some, None, Result, Ok, Err, OnOk, List, [], ◌∷◌, ◌++◌, length, slice_get}
+use Rattle.std.specs.Prelude.{◌≡◌, ℕ, ◌+◌, ◌-◌, ◌^◌, ◌≤◌, min, Bool, true, false, Option, Some, None, Result, Ok, Err, OnOk, List, [], ◌∷◌, ◌++◌, length, slice_get}
 use Rattle.std.proofs.Common.{refl, sym, ◌∙◌, ap, subst, inl, inr}
+use Rattle.tw_rows.specs.Bag.{total}
 use Rattle.tw_rows.specs.Event.{Known}
 use Rattle.tw_rows.specs.declared.edge.Edge.{Edge}
 use Rattle.tw_rows.proofs.Knowing.{Known-sym, Known-trans}
@@ -12,20 +13,23 @@ use Rattle.plan_laws.specs.Held.{node_may_hold}
 use Rattle.node_laws.specs.Places.{AreDistinct}
 use Rattle.node_laws.specs.Standing.{StandsRead, SourcesStandRead}
 use Rattle.admission.specs.declared.policy.Policy.{Policy}
-use Rattle.admission.specs.Admission.{rows}
+use Rattle.admission.specs.Admission.{Admission, rows}
 use Rattle.admission.specs.Entries.{Told, AreRead}
 use Rattle.admission.specs.Progress.{Progress, start, steps, progress, fault}
 use Rattle.admission.proofs.Finality.{end_rows, rows_final}
+use Rattle.ingress.specs.Admits.{Follows}
+use Rattle.ingress.specs.Counts.{may_hold}
 use Rattle.ingress.proofs.Reading.{follows_stand}
 use Rattle.plan_stages.specs.declared.stage.Stage.{Stage}
-use Rattle.plan_stages.specs.Flows.{DataflowView, Flows}
+use Rattle.plan_stages.specs.Flows.{DataflowView, Flows, held_from}
 use Rattle.plan_stages.specs.Stages.{entries_in}
 use Rattle.tempo_engine.specs.Output.{told}
 use Rattle.tempo_engine.specs.Went.{Went, HasFed, EngineView}
 use Rattle.tempo_engine.specs.Fed.{Fed}
-use Rattle.tempo_engine.specs.Held.{HasWorked, MadeDue, Holds}
+use Rattle.tempo_engine.specs.Held.{HasWorked, MadeDue, Holds, AreHeld, with_first}
 use Rattle.tempo_engine.specs.declared.fault.EngineFault.{EngineFault}
 use Rattle.tempo_engine.specs.declared.work.Work.{Work}
+use Rattle.tempo_engine.proofs.Sources.{first_is_a_source}
 
 pub worked_of : (plan : PlanParts) (policy : Policy) (w : Progress) (e : Work) → Went plan policy w e → HasWorked plan w e
 worked_of plan policy w e went = record {
@@ -90,6 +94,19 @@ module _ (keep : PlansKeep) (plan : PlanParts) (policy : Policy) (lines : List T
     worked = subst (HasWorked plan w) (sym same) worked;
     few = λ made due i s here. few made due i s (subst (λ x. slice_get x.dataflow.stages i ≡ Some s) same here);
   }
+
+-- the pairs tell of it
+pub is_held : (plan : PlanParts) (policy : Policy) (lines : List Told) (ended : Bool) (v : EngineView) → Holds plan policy lines ended v → (n : ℕ) (pairs first : List (ℕ × ℕ)) →
+    ((texts : List (List ℕ)) (a : Admission) (given : ℕ → List Edge) → Follows texts a given v.work.ingress → n ≡ min (length a.opens + total (λ l. length l) v.work.ingress.held.waiting.items) (2 ^ 64 - 1)) →
+    ((texts : List (List ℕ)) (a : Admission) (given : ℕ → List Edge) → Follows texts a given v.work.ingress → n ≤ may_hold (length v.work.ingress.kinds.items) v.work.ingress.released a) →
+    first ≡ held_from 0 v.work.dataflow.stages → pairs ≡ with_first n first → AreHeld plan (progress plan policy lines ended) v.work pairs
+is_held plan policy lines ended v h n pairs first count bound is told = record {
+  first = first_is_a_source plan h.sound;
+  sources = n;
+  waiting = count v.work.texts (progress plan policy lines ended).after h.worked.given h.worked.took;
+  few = (let b = bound v.work.texts (progress plan policy lines ended).after h.worked.given h.worked.took in rw (h.worked.streams, h.worked.released) at b);
+  told = told ∙ ap (with_first n) is;
+}
 
 -- the parts took a line, or told a fault
 module _ {X : Type 0} (keep : PlansKeep) (answer : Result X EngineFault) (old new : Work) (distinct : AreDistinct new.texts) (fault_now : Option EngineFault) (ok : OnOk answer (fault_now ≡ None)) (first : Option EngineFault) (was ended : Bool) where

@@ -62,4 +62,4 @@ pub record AreHeld (plan : PlanParts) (w : Progress) (e : Work) (pairs : List (�
   pub sources : ℕ
   pub waiting : sources ≡ min (length w.after.opens + total (λ l. length l) e.ingress.held.waiting.items) (2 ^ 64 - 1)
   pub few : sources ≤ may_hold (length plan.streams) w.last w.after
-  pub pairs : pairs ≡ with_first sources (held_from 0 e.dataflow.stages)
+  pub told : pairs ≡ with_first sources (held_from 0 e.dataflow.stages)
