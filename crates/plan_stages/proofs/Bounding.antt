@@ -1,5 +1,5 @@
 -- The stages of a plan keep no more entries than its nodes may, over the events of its sources.
-use Rattle.std.specs.Prelude.{◌≡◌, ℕ, ◌<◌, ◌≤◌, Some, List, [], length, get_or, slice_get}
+use Rattle.std.specs.Prelude.{◌≡◌, ℕ, ◌<◌, ◌≤◌, Some, List, [], get_or, slice_get}
 use Rattle.std.proofs.Common.{subst, le_trans, arith, inl, inr}
 use Rattle.std.proofs.lemmas.Bool.{cases_lt}
 use Rattle.std.proofs.lemmas.Option.{slice_get-get_or, slice_get_within}

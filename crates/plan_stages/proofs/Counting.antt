@@ -5,13 +5,12 @@ use Rattle.std.proofs.lemmas.Bool.{cases_lt, lt-ltb, le-ltb, le-leb}
 use Rattle.std.proofs.lemmas.Bool.Decides.{nat_tests}
 use Rattle.tw_rows.specs.Instant.{inf, later}
 use Rattle.tw_rows.specs.Bag.{total}
-use Rattle.tw_rows.specs.Event.{Event, AreEvents, cut_one, cut, seen, Known}
+use Rattle.tw_rows.specs.Event.{Event, AreEvents, seen, Known}
 use Rattle.tw_rows.specs.declared.edge.Edge.{Edge}
-use Rattle.tw_rows.proofs.Bags.{total-map, total-flat_map, total-append}
+use Rattle.tw_rows.proofs.Bags.{total-map, total-flat_map}
 use Rattle.tw_rows.proofs.Lives.{total-cut}
 use Rattle.key_nodes.proofs.Bags.{total_le}
 use Rattle.key_nodes.specs.Clips.{clip, clipped}
-use Rattle.key_nodes.specs.Joins.{with_life}
 use Rattle.key_nodes.specs.Sessions.{session}
 use Rattle.plan_model.specs.Lives.{hopped_one, hopped, lasting_one, lasting, extended_one, extended, in_sessions}
 use Rattle.plan_laws.specs.Held.{reaching}

@@ -1,9 +1,9 @@
 -- What a node may keep of the edges that came in, and of the events for which these stand.
-use Rattle.std.specs.Prelude.{◌≡◌, ℕ, ◌+◌, ◌*◌, ◌<◌, ◌≤◌, min, nat_lt, Bool, true, false, cond, List, [], ◌∷◌, ◌++◌, map, length, refl}
+use Rattle.std.specs.Prelude.{◌≡◌, ℕ, ◌+◌, ◌*◌, ◌≤◌, min, nat_lt, Bool, true, false, cond, List, [], refl}
 use Rattle.std.proofs.Common.{sym, ◌∙◌, ap, mul-zero, arith}
 use Rattle.std.proofs.lemmas.Nat.{mul-le}
-use Rattle.tw_rows.specs.Instant.{inf, later, floor_to}
-use Rattle.tw_rows.specs.Event.{Event, Known}
+use Rattle.tw_rows.specs.Instant.{inf, floor_to}
+use Rattle.tw_rows.specs.Event.{Event}
 use Rattle.tw_rows.specs.Rows.{Row}
 use Rattle.tw_rows.specs.Cells.{read_cells}
 use Rattle.tw_rows.specs.declared.cells.Datum.{Datum}
@@ -21,7 +21,7 @@ use Rattle.plan_laws.specs.Held.{reaching, agg_count, counts_answers, counted_fr
 use Rattle.built_nodes.specs.Built.{is_built}
 use Rattle.life_laws.proofs.Lives.{new_lives}
 use Rattle.node_laws.specs.Keeping.{plain_cells}
-use Rattle.node_laws.specs.Places.{AreDistinct, read_of, read_events}
+use Rattle.node_laws.specs.Places.{AreDistinct, read_of}
 use Rattle.node_laws.specs.Readings.{has_expressions}
 use Rattle.node_laws.specs.Standing.{StandsRead}
 use Rattle.node_laws.proofs.Places.{place_law}
