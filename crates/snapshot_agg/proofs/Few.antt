@@ -116,11 +116,11 @@ open_rows to rows es same =
     omega (arith, a, b, c, d)
 
 -- all together
-pub group_held : (key : List ℕ) (aggs : List Agg) (x n rows keys runs waiting : ℕ) (hl hr : List Edge) → rows ≤ reaching x (of hl) → rows + waiting ≤ 2 * reaching x (of hl) →
-    keys ≤ rows → runs ≤ rows → n ≤ rows + rows * length aggs + keys + runs + waiting →
-    n ≤ may_hold (Group 0 key aggs) x x (of hl) (of hr) (node_in plain_cells (Group 0 key aggs) (of hl) (of hr))
-group_held key aggs x n rows keys runs waiting hl hr low both fk fr few =
-    go (reaching x (of hl)) (reaching x (of hr)) (length aggs) low both few
+pub group_held : (key : List ℕ) (aggs : List Agg) (x rows keys runs waiting : ℕ) (hl hr : List Edge) → rows ≤ reaching x (of hl) → rows + waiting ≤ 2 * reaching x (of hl) →
+    keys ≤ rows → runs ≤ rows →
+    rows + rows * length aggs + keys + runs + waiting ≤ may_hold (Group 0 key aggs) x x (of hl) (of hr) (node_in plain_cells (Group 0 key aggs) (of hl) (of hr))
+group_held key aggs x rows keys runs waiting hl hr low both fk fr =
+    go (reaching x (of hl)) (reaching x (of hr)) (length aggs) low both
   where
-    go : (l r a : ℕ) → rows ≤ l → rows + waiting ≤ 2 * l → n ≤ rows + rows * a + keys + runs + waiting → n ≤ (4 + a) * ((l + r) + 0 + 0)
-    go l r a p q f = let m = mul-le-mul_left a p in omega (arith, m, fk, fr, f, p, q)
+    go : (l r a : ℕ) → rows ≤ l → rows + waiting ≤ 2 * l → rows + rows * a + keys + runs + waiting ≤ (4 + a) * ((l + r) + 0 + 0)
+    go l r a p q = let m = mul-le-mul_left a p in omega (arith, m, fk, fr, p, q)

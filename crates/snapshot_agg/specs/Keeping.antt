@@ -1,6 +1,6 @@
 -- What a group keeps from step to step.
-use Rattle.std.specs.Prelude.{◌≡◌, ℕ, ◌≤◌, Bool, false, List, []}
-use Rattle.indexmap.specs.IndexMap.{IndexMap}
+use Rattle.std.specs.Prelude.{◌≡◌, ℕ, ◌≤◌, Bool, false, List, [], length}
+use Rattle.indexmap.specs.IndexMap.{IndexMap, IsUnique}
 use Rattle.tw_rows.specs.Instant.{inf}
 use Rattle.tw_rows.specs.SameCells.{same_cells}
 use Rattle.tw_rows.specs.declared.cells.Datum.{Datum}
@@ -10,6 +10,7 @@ use Rattle.edge_history.specs.Order.{IsHistory}
 use Rattle.end_queue.specs.Pending.{Pending}
 use Rattle.node_laws.specs.Places.{EdgesArePlaced}
 use Rattle.plan_model.specs.declared.agg.Agg.{Agg}
+use Rattle.synopsis.specs.Held.{KeyedRows}
 use Rattle.sweep_laws.specs.Grouping.{GroupKeeps}
 use Rattle.snapshot_agg.specs.Words.{key_data, tell, bad}
 use Rattle.snapshot_agg.specs.Totaled.{run_of}
@@ -39,3 +40,9 @@ pub record IsOpening {S : Type 0} (rows : List HeldRow) (running : IndexMap (Lis
   pub left : x ≡ 0
   pub right : y ≡ 0
   pub works : failed ≡ false
+
+-- the keys that have rows are no more than the rows, and of each key one row is told at most. Of rows of the keys 5, 5 and 6
+-- they are two
+pub record HasFewKeys {S : Type 0} (rows : KeyedRows) (running : IndexMap (List Datum) HeldRow S) : Type 0 where
+  pub keys : length rows.blocks ≤ length rows.rows
+  pub once : IsUnique same_cells running

@@ -1,5 +1,6 @@
--- What is kept of rows has at most one proof.
+-- What is kept of rows, and of keys, has at most one proof.
 use Rattle.std.specs.Prelude.{◌≡◌, ◌⊎◌, ℕ, ℤ, Bool, false, Option, Some, None, List, [], ◌∷◌, refl}
+use Rattle.std.specs.List.{AllByRecursion, IsDistinct}
 use Rattle.std.specs.Coded.{×_prop, Π_prop, Unit-prop, le_prop, Coded, Coded-set, coded_ℕ, coded_ℤ, coded_bool, coded_list, coded⊎, code_by}
 use Rattle.std.proofs.Common.{inl, inr}
 use Rattle.indexmap.specs.IndexMap.{IndexMap, get}
@@ -7,6 +8,7 @@ use Rattle.tw_rows.specs.SameCells.{same_cells}
 use Rattle.tw_rows.specs.declared.cells.Datum.{Datum}
 use Rattle.tw_rows.specs.declared.cells.Datum.TheVariants.{Int, Bool as Flag, Text}
 use Rattle.tw_rows.specs.declared.edge.HeldRow.{HeldRow}
+use Rattle.synopsis.specs.Held.{KeyedRows}
 use Rattle.plan_model.specs.declared.agg.Agg.{Agg}
 use Rattle.plan_model.specs.declared.agg.Agg.TheVariants.{Count, Sum, Least, Greatest}
 use Rattle.snapshot_agg.specs.declared.state.State.{State}
@@ -14,6 +16,7 @@ use Rattle.snapshot_agg.specs.declared.state.State.TheVariants.{Counted, Summed,
 use Rattle.snapshot_agg.specs.declared.totals.Totals.{Totals}
 use Rattle.snapshot_agg.specs.States.{IsFor, StandsAs, IsStateOf, AreStatesOf, IsTotals}
 use Rattle.snapshot_agg.specs.Totaled.{IsTotalOf, Totaled}
+use Rattle.snapshot_agg.specs.Keeping.{HasFewKeys}
 
 abbrev parts : Datum → ℤ ⊎ (Bool ⊎ ℕ)
 parts (Int x) = inl x
@@ -81,6 +84,18 @@ total_prop (Some t) aggs rows = ×_prop (kept_prop t.count t.states.items aggs r
 
 pub totaled_prop : {S : Type 0} (key : List ℕ) (aggs : List Agg) (rows : List HeldRow) (totals : IndexMap (List Datum) Totals S) → IsProp (Totaled key aggs rows totals)
 totaled_prop key aggs rows totals = hlevel total_prop
+
+others_prop : (k : List Datum) (ks : List (List Datum)) → IsProp (AllByRecursion (λ x. same_cells k x ≡ false) ks)
+others_prop k [] = Unit-prop
+others_prop k (x ∷ ks) = ×_prop (Coded-set coded_bool (same_cells k x) false) (others_prop k ks)
+
+distinct_prop : (ks : List (List Datum)) → IsProp (IsDistinct same_cells ks)
+unfolding IsDistinct
+distinct_prop [] = Unit-prop
+distinct_prop (k ∷ ks) = ×_prop (others_prop k ks) (distinct_prop ks)
+
+pub few_prop : {S : Type 0} (rows : KeyedRows) (running : IndexMap (List Datum) HeldRow S) → IsProp (HasFewKeys rows running)
+few_prop rows running = hlevel (le_prop, distinct_prop)
 
 -- and so has what is kept while no step failed
 pub under : {P : Type 0} (failed : Bool) → IsProp P → IsProp (failed ≡ false → P)

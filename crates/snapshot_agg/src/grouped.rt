@@ -11,15 +11,15 @@ ghost use Rattle.plan_laws.specs.Undefined.{first_below};
 ghost use Rattle.plan_model.specs.RowOps.{is_undefined_in};
 ghost use Rattle.operator.specs.Steps.{MayCome, ComeBetween};
 ghost use Rattle.snapshot_agg.specs.Answering.{group_kinds, is_stored, AreRunsOf};
-ghost use Rattle.snapshot_agg.specs.Keeping.{KeepsGroup, KeepsGrouped, IsOpening};
-ghost use Rattle.snapshot_agg.specs.OneProof.{totaled_prop, under};
+ghost use Rattle.snapshot_agg.specs.Keeping.{KeepsGroup, KeepsGrouped, IsOpening, HasFewKeys};
+ghost use Rattle.snapshot_agg.specs.OneProof.{totaled_prop, few_prop, under};
 ghost use Rattle.snapshot_agg.specs.Totaled.{Totaled, run_of};
 ghost use Rattle.snapshot_agg.specs.Waiting.{edges_in, WaitForThemselves};
 
 use crate::groups::Groups;
 use crate::passes::Running;
 use crate::pooled::{give_back, list_of};
-use crate::telling::tell_due;
+use crate::telling::{keys_are_few, tell_due};
 use batch::Pools;
 use edge_stream::{EdgeList, StepFault};
 use end_queue::EndQueue;
@@ -48,6 +48,7 @@ pub struct Grouped {
     ghost later: { failed ≡ false → failing (is_from left_to) (edges_in waiting) ≡ 0 },
     ghost stored: { failed ≡ false → failing (is_stored (map cell_kind_of left_kinds.items)) (edges_in waiting) ≡ 0 },
     ghost runs: { failed ≡ false → AreRunsOf (map cell_kind_of kinds.items) left_to (run_of running) },
+    ghost few: { HasFewKeys groups.rows running } by { few_prop groups.rows running },
     ghost like: { map cell_kind_of kinds.items ≡ group_kinds groups.key.items groups.aggs.items (map cell_kind_of left_kinds.items) },
     ghost width: { length kinds.items ≤ 32 },
     ghost room: { 1 ≤ capacity },
@@ -75,10 +76,12 @@ impl Grouped {
         ensures opening { IfOk result (λ g. IsOpening g.groups.rows.rows g.running g.waiting g.left_to g.right_to g.failed) }
     {
         let groups = Groups::new(alloc, key, aggs)?;
+        let running = IndexMap::new(alloc);
+        keys_are_few(&groups, &running);
         Ok(Grouped {
             alloc,
             groups,
-            running: IndexMap::new(alloc),
+            running,
             waiting: EndQueue::new(alloc),
             left_kinds: Vec::from_slice(alloc, left_kinds)?,
             kinds: Vec::from_slice(alloc, kinds)?,

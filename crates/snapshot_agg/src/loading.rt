@@ -1,8 +1,7 @@
 // What a group kept, from saved entries.
-ghost use Rattle.std.specs.Prelude.{◌≡◌, ◌↔◌, IsTrue, ℕ, List, length, map, take, IfOk, IfErr, OnOk};
+ghost use Rattle.std.specs.Prelude.{◌≡◌, ℕ, List, length, map, take, IfOk, IfErr, OnOk};
 ghost use Rattle.std.specs.List.{list_all};
 ghost use Rattle.tw_rows.specs.Bag.{SameBag};
-ghost use Rattle.tw_rows.specs.Cells.{datum_kind};
 ghost use Rattle.tw_rows.specs.Kinds.{cell_kind_of};
 ghost use Rattle.tw_rows.specs.declared.cells.Datum.{Datum};
 ghost use Rattle.carried_edges.specs.Entries.{part_of};
@@ -12,13 +11,13 @@ ghost use Rattle.snapshot_agg.specs.Waiting.{edges_in, WaitForThemselves};
 
 use crate::groups::Groups;
 use crate::passes::{Running, put_run};
-use carried_edges::{are_of_parts, edges_of_part};
+use carried_edges::{are_of_parts, edges_of_part, is_stored_as};
 use edge_stream::{LoadFault, Saved};
 use end_queue::EndQueue;
 use indexmap::IndexMap;
 use plan_model::Agg;
 use std::alloc::Global;
-use tw_rows::{Cells, Datum, Edge, Kind, Memory, Time, cell_of};
+use tw_rows::{Cells, Datum, Edge, Kind, Memory, Time};
 
 /// What was loaded.
 #[derive(Drop)]
@@ -28,41 +27,18 @@ pub(crate) struct Loaded {
     pub(crate) running: Running,
 }
 
-// Whether a column of the kind stores the datum.
-fn stores(kind: Kind, datum: Datum) -> bool
-    ensures { IsTrue result ↔ (datum_kind datum ≡ cell_kind_of kind) }
-{
-    datum.cell_kind() == cell_of(kind)
-}
-
-// Whether the cells are stored as columns of these kinds are.
-fn is_stored_as(cells: &Cells, kinds: &[Kind]) -> bool
-    ensures { IsTrue result ↔ (map datum_kind cells.now ≡ map cell_kind_of kinds.now) }
-{
-    let items = cells.items();
-    if items.len() != kinds.len() {
-        return false;
-    }
-    for i in 0..items.len() {
-        if !stores(kinds[i], items[i]) {
-            return false;
-        }
-    }
-    true
-}
-
 // Whether the edge may wait where its side is closed up to the time.
 fn waits(edge: &Edge, kinds: &[Kind], to: Time) -> bool
     ensures { result ≡ is_waiting (map cell_kind_of kinds.now) to edge.now }
 {
-    to <= edge.sync && is_stored_as(&edge.cells, kinds)
+    to <= edge.sync && is_stored_as(edge.cells.items(), kinds)
 }
 
 // Whether the edge may be the start of a row that is told below the time.
 fn is_told_start(edge: &Edge, kinds: &[Kind], to: Time) -> bool
     ensures { result ≡ is_told (map cell_kind_of kinds.now) to edge.now }
 {
-    edge.sync < to && is_stored_as(&edge.cells, kinds)
+    edge.sync < to && is_stored_as(edge.cells.items(), kinds)
 }
 
 // Whether the edges may wait where their side is closed up to the time.

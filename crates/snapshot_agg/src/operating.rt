@@ -3,6 +3,7 @@ use crate::grouped::Grouped;
 use crate::laws::groups_stand_for_their_node;
 use crate::loading::load_parts;
 use crate::saving::{starts_of_rows, starts_of_runs};
+use crate::telling::keys_are_few;
 use batch::Pools;
 use carried_edges::save_edges;
 use edge_stream::{EdgeList, LoadFault, PartRow, Saved, StepFault};
@@ -10,7 +11,7 @@ use operator::Operator;
 use tw_rows::{Memory, Time};
 
 impl Operator for Grouped {
-    ghost use Rattle.std.specs.Prelude.{[], nat_eq, nat_lt, cond, map, Some, None};
+    ghost use Rattle.std.specs.Prelude.{◌+◌, ◌*◌, [], nat_eq, nat_lt, length, cond, map, Some, None};
     ghost use Rattle.tw_rows.specs.Kinds.{cell_kind_of};
     ghost use Rattle.edge_history.specs.History.{of};
     ghost use Rattle.edge_stream.specs.declared.saved.PartRow.TheVariants.{Left, KeyFirst};
@@ -44,6 +45,8 @@ impl Operator for Grouped {
     ghost sound = { λ s saved x y. GroupSound (map cell_kind_of s.left_kinds.items) (map cell_kind_of s.kinds.items) x saved };
 
     ghost resumes = { λ s saved x y texts hl hr out. GroupResumes (map cell_kind_of s.left_kinds.items) (map cell_kind_of s.kinds.items) s.groups.key.items s.groups.aggs.items texts x saved hl hr out };
+
+    ghost entries = { λ s. length s.groups.rows.rows + length s.groups.rows.rows * length s.groups.aggs.items + length s.groups.rows.blocks + length s.running.entries + length s.waiting };
 
     ghost most = { λ s hl hr out. may_hold (Group 0 s.groups.key.items s.groups.aggs.items) s.left_to s.left_to (of hl) (of hr) (node_in plain_cells (Group 0 s.groups.key.items s.groups.aggs.items) (of hl) (of hr)) };
 
@@ -86,8 +89,6 @@ impl Operator for Grouped {
         save_edges(&mut saved, 0, &rows)?;
         let waiting = self.waiting.edges(self.alloc)?;
         save_edges(&mut saved, 1, &waiting)?;
-        // Its call tells the proof that each key has one run.
-        let _ = self.running.len();
         let told = starts_of_runs(self.alloc, &self.running)?;
         save_edges(&mut saved, 2, &told)?;
         Ok(saved)
@@ -103,6 +104,7 @@ impl Operator for Grouped {
             &self.kinds,
             left_to,
         )?;
+        keys_are_few(&loaded.groups, &loaded.running);
         self.groups = loaded.groups;
         self.waiting = loaded.waiting;
         self.running = loaded.running;

@@ -10,7 +10,7 @@ ghost use Rattle.node_laws.specs.Keeping.{plain_cells};
 ghost use Rattle.plan_laws.specs.Undefined.{first_below};
 ghost use Rattle.plan_model.specs.RowOps.{is_undefined_in};
 ghost use Rattle.snapshot_agg.specs.Answering.{group_kinds, is_stored, AreRunsOf, IsSoFar};
-ghost use Rattle.snapshot_agg.specs.Keeping.{KeepsGroup};
+ghost use Rattle.snapshot_agg.specs.Keeping.{KeepsGroup, HasFewKeys};
 ghost use Rattle.snapshot_agg.specs.Totaled.{Totaled, run_of};
 ghost use Rattle.snapshot_agg.specs.Waiting.{edges_in, WaitForThemselves};
 
@@ -22,6 +22,13 @@ use edge_stream::{EdgeList, StepFault};
 use end_queue::EndQueue;
 use std::alloc::Global;
 use tw_rows::{Edge, Time};
+
+/// Keys are few. A call does nothing but tell a proof of this.
+pub(crate) fn keys_are_few(groups: &Groups, running: &Running)
+    ensures { HasFewKeys groups.now.rows running.now }
+{
+    let _ = (groups.rows.block_count(), running.len());
+}
 
 /// Takes in the new edges of a side that was closed up to one time and is now up to another, and tells what happens to the
 /// groups between the two.
@@ -56,14 +63,20 @@ pub(crate) fn tell_due(
         KeepsGroup groups.old.key.items groups.old.aggs.items groups.old.rows.rows running.old waiting.old from came out →
         IsHistory (came ++ left.now.edges) → failing (is_from from) left.now.edges ≡ 0 →
         first_below (λ t. is_undefined_in plain_cells groups.old.key.items groups.old.aggs.items (alive (of (came ++ left.now.edges)) t)) to ≡ Some time) }
+    ensures few { HasFewKeys groups.new.rows running.new }
     ensures key { groups.new.key ≡ groups.old.key }
     ensures aggs { groups.new.aggs ≡ groups.old.aggs }
 {
+    keys_are_few(groups, running);
     let due = take_due(alloc, waiting, left, to)?;
     let mut answer = Vec::new(alloc);
     match sweep_due(groups, running, &mut answer, &due, from) {
         Ok(()) => {}
-        Err(fault) => return Err(fault),
+        Err(fault) => {
+            keys_are_few(groups, running);
+            return Err(fault);
+        }
     }
+    keys_are_few(groups, running);
     Ok(answer)
 }

@@ -11,4 +11,4 @@ returns-then-lt c =
     let e = c.args.edge.now in
     let kinds = map cell_kind_of c.args.kinds.now in
     let z : nat_lt e.sync c.args.to ≡ true = grind (arith, nat_tests) in
-    stored_test c.is_stored_as.result kinds e.cells c.is_stored_as.ensures ∙ ap (λ b. b && are_stored kinds e.cells) (sym z)
+    stored_test c.is_stored_as.result kinds c.items.result.now c.is_stored_as.ensures ∙ ap (are_stored kinds) c.items.ensures ∙ ap (λ b. b && are_stored kinds e.cells) (sym z)
