@@ -18,12 +18,14 @@ module _ (texts more : List (List ℕ)) (last : ℕ) (d : DataflowView) (begins 
     count = can.count;
     room = can.room;
     limit = can.limit;
+    built = can.built;
     ready = λ i n s at here. ready_longer texts more begins d.capacity (left_kinds d.plan n) (right_kinds d.plan n) n s (reached last (left_closing d.plan.nodes last n)) (reached last (right_closing d.plan.nodes last n)) (can.ready i n s at here);
   }
 
   pub flows_longer : (given lists : ℕ → List Edge) → Flows texts last given lists d → Flows more last given lists d
   flows_longer given lists flows = record {
     can = can_longer flows.can;
+    first = flows.first;
     kept = λ i n s at here.
         keeps_longer texts more begins d.capacity (left_kinds d.plan n) (right_kinds d.plan n) n s (reached last (left_closing d.plan.nodes last n)) (reached last (right_closing d.plan.nodes last n))
         (flows.can.ready i n s at here) _ _ _ (flows.kept i n s at here);

@@ -10,3 +10,7 @@ pub mod Undefining
 pub mod Flowing
 pub mod Stepping
 pub mod Opening
+pub mod Counting
+pub mod MayHold
+pub mod PlanHold
+pub mod Bounding

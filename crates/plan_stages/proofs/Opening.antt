@@ -1,9 +1,9 @@
 -- A plan at work before its first step.
-use Rattle.std.specs.Prelude.{◌≡◌, ℕ, ◌+◌, ◌<◌, ◌≤◌, Some, List, [], ◌∷◌, ◌++◌, length, get_or, slice_get}
-use Rattle.std.proofs.Common.{refl, sym, ap, subst, ◌∙◌, arith, inl, inr}
+use Rattle.std.specs.Prelude.{◌≡◌, ℕ, suc, ◌+◌, ◌-◌, ◌^◌, ◌<◌, ◌≤◌, min, true, Some, List, [], ◌∷◌, ◌++◌, length, get_or, slice_get}
+use Rattle.std.proofs.Common.{refl, sym, ap, subst, ◌∙◌, take, arith, inl, inr}
 use Rattle.std.proofs.lemmas.Bool.{cases_lt}
-use Rattle.std.proofs.lemmas.List.{get_or_push, get_or_append_left}
-use Rattle.std.proofs.lemmas.Option.{slice_get-get_or, slice_get_within, get_or_from_slice_get}
+use Rattle.std.proofs.lemmas.List.{get_or_push, get_or_append_left, take_more, length-take-le}
+use Rattle.std.proofs.lemmas.Option.{slice_get_within, get_or_from_slice_get}
 use Rattle.tw_rows.specs.Texts.{BeginsWith}
 use Rattle.tw_rows.specs.declared.edge.Edge.{Edge}
 use Rattle.batch.specs.Shelves.{Shelves}
@@ -12,8 +12,9 @@ use Rattle.plan_model.specs.IsPlan.{PlanParts, most_columns}
 use Rattle.plan_model.specs.Shape.{Shape, Stream, One, Two, shape, read_left, right_of, at_child, right_child}
 use Rattle.std.specs.Prelude.{Option, None}
 use Rattle.plan_stages.specs.declared.stage.Stage.{Stage}
-use Rattle.plan_stages.specs.Stages.{left_kinds, right_kinds, IsReady, StageKeeps, KeepsAtMost}
-use Rattle.plan_stages.specs.Flows.{parts_of, Flows, AreHeldBy}
+use Rattle.plan_stages.specs.Stages.{left_kinds, right_kinds, IsReady, StageKeeps, entries_in}
+use Rattle.plan_stages.specs.Flows.{parts_of, Flows, held_from}
+use Rattle.built_nodes.specs.Built.{is_built}
 use Rattle.plan_stages.specs.Held.{AreFresh}
 use Rattle.plan_stages.proofs.Rules.{ready_longer, keeps_longer}
 
@@ -72,40 +73,33 @@ fresh_all texts capacity plan stages count fresh = record {
 }
 
 -- so the plan can take its first step
-pub flows_at_first : (texts : List (List ℕ)) (capacity : ℕ) (plan : PlanParts) (stages : List Stage) (shelves : Shelves) → AreFresh texts capacity plan stages → 1 ≤ capacity → shelves.capacity ≡ capacity → shelves.limit ≡ 32 →
+pub flows_at_first : (texts : List (List ℕ)) (capacity : ℕ) (plan : PlanParts) (stages : List Stage) (shelves : Shelves) → AreFresh texts capacity plan stages → ((i : ℕ) (n : Node) → slice_get plan.nodes i ≡ Some n → is_built n ≡ true) → 1 ≤ capacity → shelves.capacity ≡ capacity → shelves.limit ≡ 32 →
     Flows texts 0 (λ s. []) (λ k. []) (parts_of plan stages shelves)
-flows_at_first texts capacity plan stages shelves fresh room same limit = record {
+flows_at_first texts capacity plan stages shelves fresh built room same limit = record {
   can = record {
     count = fresh.count;
     room = subst (λ c. 1 ≤ c) (sym same) room;
     limit = subst (λ c. most_columns ≤ c) (sym limit) (omega arith);
+    built = built;
     ready = λ i n s there here. subst (λ c. IsReady texts c (left_kinds plan n) (right_kinds plan n) n s 0 0) (sym same) (fresh.ready i n s there here);
   };
+  first = λ none k. (refl, refl);
   kept = λ i n s there here.
       subst (λ l. StageKeeps texts n s 0 0 l (right_of [] (λ k. []) n) []) (sym (left_none (shape n)))
       (subst (λ r. StageKeeps texts n s 0 0 [] r []) (sym (right_none (right_child n))) (fresh.opens i n s there here));
 }
 
 -- a pair for each stage
-pub held_next : (stages : List Stage) (pairs : List (ℕ × ℕ)) (i held : ℕ) (here : Stage) → length pairs ≡ i → slice_get stages i ≡ Some here → KeepsAtMost held here →
-    ((j : ℕ) (s : Stage) (d : ℕ × ℕ) → j < i → (h : ℕ) × ((get_or pairs j d ≡ (j, h)) × KeepsAtMost h (get_or stages j s))) →
-    (j : ℕ) (s : Stage) (d : ℕ × ℕ) → j < i + 1 → (h : ℕ) × ((get_or (pairs ++ (i, held) ∷ []) j d ≡ (j, h)) × KeepsAtMost h (get_or stages j s))
-held_next stages pairs i held here count there most before j s d low = elim (cases_lt j i) [
-  | inl less ↦
-      let old = before j s d less in
-      (old.0, (get_or_append_left pairs ((i, held) ∷ []) d j (omega (arith, less, count)) ∙ old.1.0, old.1.1))
-  | inr more ↦
-      let e : i ≡ j = omega (arith, low, more) in
-      subst (λ k. (h : ℕ) × ((get_or (pairs ++ (i, held) ∷ []) k d ≡ (k, h)) × KeepsAtMost h (get_or stages k s))) e
-      (held, (get_or_push pairs (i, held) d i count, subst (KeepsAtMost held) (sym (get_or_from_slice_get stages i here s there)) most))
-]
+held_last : (k : ℕ) (stages : List Stage) (s : Stage) → held_from k (stages ++ s ∷ []) ≡ held_from k stages ++ (k + length stages, min (entries_in s) (2 ^ 64 - 1)) ∷ []
+held_last k [] s = (let e : k ≡ k + 0 = omega arith in λ i. (e i, min (entries_in s) (2 ^ 64 - 1)) ∷ [])
+held_last k (x ∷ stages) s =
+    let e : suc k + length stages ≡ k + suc (length stages) = omega arith in
+    ap (λ ps. (k, min (entries_in x) (2 ^ 64 - 1)) ∷ ps) (held_last (suc k) stages s ∙ (λ i. held_from (suc k) stages ++ (e i, min (entries_in s) (2 ^ 64 - 1)) ∷ []))
 
-pub held_all : (stages : List Stage) (pairs : List (ℕ × ℕ)) → length pairs ≡ length stages →
-    ((j : ℕ) (s : Stage) (d : ℕ × ℕ) → j < length stages → (h : ℕ) × ((get_or pairs j d ≡ (j, h)) × KeepsAtMost h (get_or stages j s))) → AreHeldBy stages pairs
-held_all stages pairs count all = record {
-  count = count;
-  each = λ i s there.
-      let low = slice_get_within stages i s there in
-      let one = all i s (0, 0) low in
-      (one.0, (slice_get-get_or pairs i (0, 0) (omega (arith, low, count)) ∙ ap Some one.1.0, subst (KeepsAtMost one.0) (get_or_from_slice_get stages i s s there) one.1.1));
-}
+pub held_next : (stages : List Stage) (i held : ℕ) (s : Stage) (pairs : List (ℕ × ℕ)) → i < length stages → s ≡ get_or stages i s → held ≡ min (entries_in s) (2 ^ 64 - 1) → pairs ≡ held_from 0 (take i stages) →
+    pairs ++ (i, held) ∷ [] ≡ held_from 0 (take (i + 1) stages)
+held_next stages i held s pairs low is count before =
+    let len : 0 + length (take i stages) ≡ i = (let l = length-take-le i stages (omega arith) in omega (arith, l)) in
+    (λ j. before j ++ (sym len j, count j) ∷ [])
+    ∙ sym (held_last 0 (take i stages) s)
+    ∙ ap (held_from 0) (ap (λ x. take i stages ++ x ∷ []) is ∙ sym (take_more stages i s low))

@@ -31,7 +31,7 @@ use Rattle.plan_stages.proofs.HeldLists.{with_list, with_list-at, with_list-belo
 use Rattle.plan_stages.proofs.Flowing.{Progress, progress_same, progress_next, first_found, reached_below}
 use Rattle.plan_stages.proofs.Undefining.{no_overflow, overflow_at}
 
-reached_after : (last p c : ℕ) → last < p → reached p c ≡ c
+pub reached_after : (last p c : ℕ) → last < p → reached p c ≡ c
 reached_after last zero c later = absurd (omega (arith, later))
 reached_after last (suc p) c later = refl
 
@@ -149,6 +149,7 @@ module _ (texts : List (List ℕ)) (plan : PlanParts) (last p : ℕ) (later : la
     count = long ∙ can.count;
     room = subst (λ c. 1 ≤ c) (sym capacity) can.room;
     limit = subst (λ c. most_columns ≤ c) (sym limit) can.limit;
+    built = can.built;
     ready = λ j m s at here.
         subst (λ c. IsReady texts c (left_kinds plan m) (right_kinds plan m) m s (reached p (left_closing plan.nodes p m)) (reached p (right_closing plan.nodes p m))) (sym capacity)
         (subst (λ x. IsReady texts shelves.capacity (left_kinds plan m) (right_kinds plan m) m s x (reached p (right_closing plan.nodes p m))) (sym (reached_after last p (left_closing plan.nodes p m) later))
@@ -161,6 +162,7 @@ module _ (texts : List (List ℕ)) (plan : PlanParts) (last p : ℕ) (later : la
     pub flows_again : Flows texts p (longer old given) (longer lists more) (parts_of plan after left)
     flows_again = record {
       can = can_again;
+      first = λ none k. absurd (omega (arith, none, later));
       kept = λ j m s at here.
           subst (λ x. StageKeeps texts m s x (reached p (right_closing plan.nodes p m)) (left_of [] (longer old given) (longer lists more) m) (right_of [] (longer lists more) m) (longer lists more j)) (sym (reached_after last p (left_closing plan.nodes p m) later))
           (subst (λ y. StageKeeps texts m s (left_closing plan.nodes p m) y (left_of [] (longer old given) (longer lists more) m) (right_of [] (longer lists more) m) (longer lists more j)) (sym (reached_after last p (right_closing plan.nodes p m) later))

@@ -1,6 +1,6 @@
 -- Stages that are operators: what a step of any operator tells is what a step of a stage owes.
-use Rattle.std.specs.Prelude.{◌≡◌, ◌≤◌, ℕ, Option, Some, None, List, Result, IfOk, IfErr, OnOk}
-use Rattle.std.proofs.Common.{sym, subst}
+use Rattle.std.specs.Prelude.{◌≡◌, ◌≤◌, ◌-◌, ◌^◌, ℕ, min, Option, Some, None, List, Result, IfOk, IfErr, OnOk}
+use Rattle.std.proofs.Common.{sym, subst, arith}
 use Rattle.std.proofs.lemmas.Result.{IfOk-weaker, IfErr-weaker, on_ok_weaker}
 use Rattle.tw_rows.specs.declared.edge.Edge.{Edge}
 use Rattle.tw_rows.specs.declared.kind.CellKind.{CellKind}
@@ -22,7 +22,7 @@ use Rattle.plan_stages.specs.declared.stage.Stage.{Stage}
 use Rattle.plan_stages.specs.declared.stage.Stage.TheVariants.{Life, Union, Extend, Join, Group, Anti, Session, Clip}
 use Rattle.plan_stages.proofs.Operators.{operator_held}
 use Rattle.plan_stages.specs.Operating.{may_keep, Standing, Keeping, CanOperate, StaysOperating, KeepsOperating, OperatesUndefinedAt}
-use Rattle.plan_stages.specs.Stages.{life_standing, union_standing, extend_standing, IsReady, StageKeeps, StaysReady, KeepsOn, IsUndefinedAt, KeepsAtMost, join_standing, group_standing, anti_standing, session_standing, clip_standing}
+use Rattle.plan_stages.specs.Stages.{life_standing, union_standing, extend_standing, IsReady, StageKeeps, StaysReady, KeepsOn, IsUndefinedAt, KeepsAtMost, entries_in, join_standing, group_standing, anti_standing, session_standing, clip_standing}
 
 -- stages of this kind are ready and keep as their operators are and do
 pub record IsVariant {O : Type 0} (stage : O → Stage) (standing : O → Standing) (keeping : O → Keeping) : Type 0 where
@@ -64,6 +64,10 @@ pub variant_held : {O : Type 0} (stage : O → Stage) (standing : O → Standing
 variant_held stage standing keeping is s o at count most = subst (KeepsAtMost count) (sym at)
     (λ texts capacity left right n x y hl hr out ready kept.
     operator_held capacity left right n (standing o) x y (is.can texts capacity left right n o x y ready) count hl hr (most texts hl hr out (is.kept texts n o x y hl hr out kept)))
+
+-- nor where the number is told as far as there is room for it
+pub held_few : (s : Stage) (count : ℕ) → count ≡ min (entries_in s) (2 ^ 64 - 1) → KeepsAtMost (entries_in s) s → KeepsAtMost count s
+held_few s count is most texts capacity left right n x y hl hr out ready kept = (let m = most texts capacity left right n x y hl hr out ready kept in omega (arith, is, m))
 
 -- the operators that are stages
 pub life_variant : IsVariant Life life_standing (λ o texts hl hr out. KeepsLives (node_of o.change) texts o.left_to o.right_to o.carried.edges hl hr out)

@@ -1,5 +1,5 @@
 -- A plan at work: what each of its stages keeps of the edges of streams, and what a step gives.
-use Rattle.std.specs.Prelude.{◌≡◌, ℕ, ◌<◌, ◌≤◌, Some, None, List, [], length, slice_get}
+use Rattle.std.specs.Prelude.{◌≡◌, ℕ, suc, ◌-◌, ◌^◌, ◌<◌, ◌≤◌, min, true, Some, None, List, [], ◌∷◌, length, slice_get}
 use Rattle.tw_rows.specs.declared.edge.Edge.{Edge}
 use Rattle.batch.specs.Shelves.{Shelves}
 use Rattle.edge_history.specs.Order.{is_from, failing}
@@ -7,11 +7,12 @@ use Rattle.plan_model.specs.declared.node.Node.{Node}
 use Rattle.plan_model.specs.IsPlan.{PlanParts, most_columns}
 use Rattle.plan_model.specs.Meaning.{Sources, closes, left_of, right_of}
 use Rattle.plan_laws.specs.Undefined.{overflow}
+use Rattle.built_nodes.specs.Built.{is_built}
 use Rattle.node_laws.specs.Places.{AreDistinct}
 use Rattle.node_laws.specs.Standing.{SourcesStandRead, AllStandRead}
 use Rattle.plan_stages.specs.declared.stage.Stage.{Stage}
 use Rattle.plan_stages.specs.Lists.{longer, AreFrom}
-use Rattle.plan_stages.specs.Stages.{reached, left_closing, right_closing, left_kinds, right_kinds, IsReady, StageKeeps, KeepsAtMost}
+use Rattle.plan_stages.specs.Stages.{reached, left_closing, right_closing, left_kinds, right_kinds, IsReady, StageKeeps, entries_in}
 
 -- what contracts see of a plan at work: the plan, its stages, how many rows each batch has room for, and how many columns the
 -- pools hold
@@ -30,11 +31,12 @@ abbrev pub AreReady : List (List ℕ) → ℕ → PlanParts → ℕ → List Sta
 AreReady texts capacity plan last stages = (i : ℕ) (n : Node) (s : Stage) → slice_get plan.nodes i ≡ Some n → slice_get stages i ≡ Some s →
     IsReady texts capacity (left_kinds plan n) (right_kinds plan n) n s (reached last (left_closing plan.nodes last n)) (reached last (right_closing plan.nodes last n))
 
--- the plan can take a step with this table, once the punctuation `last` was worked through; 0 is before the first one
+-- each node of the plan is built, and the plan can take a step with this table, once the punctuation `last` was worked through; 0 is before the first one
 pub record CanStep (texts : List (List ℕ)) (last : ℕ) (d : DataflowView) : Type 0 where
   pub count : length d.stages ≡ length d.plan.nodes
   pub room : 1 ≤ d.capacity
   pub limit : most_columns ≤ d.limit
+  pub built : (i : ℕ) (n : Node) → slice_get d.plan.nodes i ≡ Some n → is_built n ≡ true
   pub ready : AreReady texts d.capacity d.plan last d.stages
 
 -- the plan is as it can be once the punctuation `last` was worked through, where `given` are the edges that each stream gave
@@ -42,6 +44,7 @@ pub record CanStep (texts : List (List ℕ)) (last : ℕ) (d : DataflowView) : T
 -- are empty
 pub record Flows (texts : List (List ℕ)) (last : ℕ) (given lists : ℕ → List Edge) (d : DataflowView) : Type 0 where
   pub can : CanStep texts last d
+  pub first : last ≡ 0 → (k : ℕ) → (given k ≡ []) × (lists k ≡ [])
   pub kept : (i : ℕ) (n : Node) (s : Stage) → slice_get d.plan.nodes i ≡ Some n → slice_get d.stages i ≡ Some s →
       StageKeeps texts n s (reached last (left_closing d.plan.nodes last n)) (reached last (right_closing d.plan.nodes last n))
       (left_of [] given lists n) (right_of [] lists n) (lists i)
@@ -82,7 +85,8 @@ abbrev pub OverflowsAt : List (List ℕ) → ℕ → (ℕ → List Edge) → Dat
 OverflowsAt texts p given d node time = (last : ℕ) (old lists : ℕ → List Edge) (source : Sources) → AreDistinct texts → Flows texts last old lists d → last < p →
     SourcesStandRead texts p source (longer old given) → AreFrom last given → overflow source d.plan.nodes p ≡ Some (record { node = node; time = time })
 
--- a pair for each stage, in order: its number, and how many entries it keeps, which are no more than its node may
-pub record AreHeldBy (stages : List Stage) (pairs : List (ℕ × ℕ)) : Type 0 where
-  pub count : length pairs ≡ length stages
-  pub each : (i : ℕ) (s : Stage) → slice_get stages i ≡ Some s → (held : ℕ) × ((slice_get pairs i ≡ Some (i, held)) × KeepsAtMost held s)
+-- a pair for each stage, in order, from the number i on: its number, and how many entries it keeps, or the greatest number
+-- that there is room for. Of a Source, and a Delay over it that keeps 3, from 0 on: (0, 0) and (1, 3)
+abbrev pub held_from : ℕ → List Stage → List (ℕ × ℕ)
+held_from i [] = []
+held_from i (s ∷ stages) = (i, min (entries_in s) (2 ^ 64 - 1)) ∷ held_from (suc i) stages

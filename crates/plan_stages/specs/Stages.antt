@@ -1,5 +1,5 @@
 -- Stages by the case of their node: when one can take a step, and what it keeps of the edges that came in and were answered.
-use Rattle.std.specs.Prelude.{◌≡◌, ℕ, ◌≤◌, zero, suc, Option, List, [], ◌++◌, map}
+use Rattle.std.specs.Prelude.{◌≡◌, ℕ, ◌+◌, ◌*◌, ◌≤◌, zero, suc, Option, List, [], ◌++◌, map, length}
 use Rattle.tw_rows.specs.Instant.{inf}
 use Rattle.tw_rows.specs.Kinds.{cell_kind_of}
 use Rattle.tw_rows.specs.declared.edge.Edge.{Edge}
@@ -237,6 +237,19 @@ pub record StaysReady (texts : List (List ℕ)) (left right : EdgeListView) (old
 abbrev pub IsAnswerOf : List (List ℕ) → EdgeListView → EdgeListView → Stage → EdgeListView → Type 0
 IsAnswerOf texts left right old answer = (n : Node) (x y : ℕ) → IsReady texts left.capacity (cells_of left) (cells_of right) n old x y →
     cells_of answer ≡ node_kinds n (cells_of left) (cells_of right)
+
+-- how many entries the stage keeps for later steps: as many as its operator, and none for a Source, a Where or a Select. An
+-- Extend that carries 2 edges while 3 ends wait keeps 5
+abbrev pub entries_in : Stage → ℕ
+entries_in (Rows s) = 0
+entries_in (Life o) = length o.carried.edges
+entries_in (Union o) = length o.left.edges + length o.right.edges
+entries_in (Extend o) = length o.carried.edges + length o.ends
+entries_in (Join o) = (length o.sides.rows.left.rows + length o.sides.left_waiting) + (length o.sides.rows.right.rows + length o.sides.right_waiting)
+entries_in (Group o) = length o.groups.rows.rows + length o.groups.rows.rows * length o.groups.aggs.items + length o.groups.rows.blocks + length o.running.entries + length o.waiting
+entries_in (Session o) = length o.side.sessions.rows.rows + length o.side.sessions.ends + length o.side.waiting
+entries_in (Anti o) = (length o.sides.rows.left.rows + length o.sides.left_waiting) + (length o.sides.rows.right.rows + length o.sides.right_waiting) + length o.sides.rows.times.rows
+entries_in (Clip o) = length o.sides.rows.left.rows + length o.sides.left_waiting + length o.sides.right_waiting
 
 -- the stage keeps no more entries than its node may, whatever came in and was answered
 abbrev pub KeepsAtMost : ℕ → Stage → Type 0

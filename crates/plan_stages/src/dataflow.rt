@@ -5,7 +5,7 @@ ghost use Rattle.plan_model.specs.declared.node.Node.{Node};
 ghost use Rattle.plan_model.specs.IsPlan.{kinds_at};
 ghost use Rattle.built_nodes.specs.Built.{is_built};
 ghost use Rattle.plan_stages.specs.Lists.{edges_at, AreGiven, IsListOf};
-ghost use Rattle.plan_stages.specs.Flows.{MayStep, Flows, GivesOn, OverflowsAt, AreHeldBy};
+ghost use Rattle.plan_stages.specs.Flows.{MayStep, Flows, GivesOn, OverflowsAt, held_from};
 ghost use Rattle.plan_stages.specs.Held.{AreFresh};
 
 use crate::fault::PlanFault;
@@ -61,7 +61,7 @@ fn stages_of(
 
 // For each stage its number, and how many entries it keeps.
 fn held_by(alloc: Global, stages: &[Stage]) -> Result<Vec<(usize, u64)>, Memory>
-    ensures { IfOk result (λ held. AreHeldBy stages.now held.items) }
+    ensures { IfOk result (λ held. held.items ≡ held_from 0 stages.now) }
 {
     let mut held = Vec::new(alloc);
     for i in 0..stages.len() {
@@ -112,7 +112,7 @@ impl Dataflow {
 
     /// For each node, in order, its number and how many entries its stage keeps for later steps.
     pub fn held(&self) -> Result<Vec<(usize, u64)>, Memory>
-        ensures { IfOk result (λ held. AreHeldBy self.now.stages held.items) }
+        ensures { IfOk result (λ held. held.items ≡ held_from 0 self.now.stages) }
     {
         held_by(self.alloc, &self.stages)
     }

@@ -1,9 +1,25 @@
 // The laws of plans at work. Each is a function that does nothing; its clauses are the law.
-ghost use Rattle.std.specs.Prelude.{ℕ, ◌<◌, List, length};
+ghost use Rattle.std.specs.Prelude.{◌≡◌, ℕ, ◌<◌, ◌≤◌, Some, List, length, slice_get};
 ghost use Rattle.tw_rows.specs.Texts.{BeginsWith};
 ghost use Rattle.tw_rows.specs.declared.edge.Edge.{Edge};
+ghost use Rattle.plan_model.specs.IsPlan.{IsPlan};
+ghost use Rattle.plan_model.specs.Meaning.{Sources};
+ghost use Rattle.plan_laws.specs.Held.{node_may_hold};
 ghost use Rattle.node_laws.specs.Places.{AreDistinct, EdgesArePlaced};
+ghost use Rattle.node_laws.specs.Standing.{SourcesStandRead};
+ghost use Rattle.plan_stages.specs.declared.stage.Stage.{Stage as Kept};
+ghost use Rattle.plan_stages.specs.Stages.{entries_in, KeepsAtMost};
 ghost use Rattle.plan_stages.specs.Flows.{DataflowView, CanStep, Flows};
+
+use anti_join::Anti;
+use clip_op::Clip;
+use extend_op::ExtendOperator;
+use lifetime_ops::LifeOperator;
+use operator::Operator;
+use session_window::Session;
+use snapshot_agg::Grouped;
+use temporal_join::Join;
+use union_clip::UnionOperator;
 
 /// A table that grows changes nothing of a plan at work.
 pub fn plans_flow_on_with_longer_tables()
@@ -19,3 +35,27 @@ pub fn answers_have_their_places()
         AreDistinct texts → Flows texts last given lists d → (k : ℕ) → k < length d.plan.nodes →
         EdgesArePlaced texts (lists k) }
 {}
+
+/// No stage keeps more entries than its node may, of the edges that came in and were answered.
+pub fn stages_keep_at_most()
+    ensures { (s : Kept) → KeepsAtMost (entries_in s) s }
+{
+    LifeOperator::laws();
+    UnionOperator::laws();
+    ExtendOperator::laws();
+    Join::laws();
+    Grouped::laws();
+    Session::laws();
+    Anti::laws();
+    Clip::laws();
+}
+
+/// No stage of a plan at work keeps more entries than its node may after the last punctuation, over the events of the sources
+/// for which the edges of the streams stand. Before the first punctuation it keeps none.
+pub fn plans_keep_at_most()
+    ensures { (texts : List (List ℕ)) (last : ℕ) (source : Sources) (given lists : ℕ → List Edge) (d : DataflowView) →
+        IsPlan d.plan → AreDistinct texts → Flows texts last given lists d → SourcesStandRead texts last source given →
+        (i : ℕ) (s : Kept) → slice_get d.stages i ≡ Some s → entries_in s ≤ node_may_hold source d.plan.nodes last i }
+{
+    stages_keep_at_most();
+}

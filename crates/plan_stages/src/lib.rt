@@ -12,5 +12,8 @@ mod steps;
 
 pub use dataflow::Dataflow;
 pub use fault::PlanFault;
-pub use laws::{answers_have_their_places, plans_flow_on_with_longer_tables};
+pub use laws::{
+    answers_have_their_places, plans_flow_on_with_longer_tables, plans_keep_at_most,
+    stages_keep_at_most,
+};
 pub use stage::Stage;

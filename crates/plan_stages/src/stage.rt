@@ -1,13 +1,14 @@
 // One node of a plan at work.
-ghost use Rattle.std.specs.Prelude.{◌≡◌, ◌<◌, ◌≤◌, ℕ, true, Some, None, [], length, slice_get, IfOk, IfErr, OnOk};
+ghost use Rattle.std.specs.Prelude.{◌≡◌, ◌-◌, ◌^◌, ◌<◌, ◌≤◌, ℕ, min, true, Some, None, [], length, slice_get, IfOk, IfErr, OnOk};
 ghost use Rattle.tw_rows.specs.Texts.{BeginsWith};
 ghost use Rattle.plan_model.specs.declared.node.Node.{Node};
 ghost use Rattle.plan_model.specs.IsPlan.{most_columns};
 ghost use Rattle.built_nodes.specs.Built.{is_built};
 ghost use Rattle.node_laws.specs.Places.{EdgesArePlaced};
-ghost use Rattle.plan_stages.specs.Stages.{left_kinds, right_kinds, IsReady, CanTake, StageKeeps, StaysReady, KeepsOn, IsUndefinedAt, IsAnswerOf, KeepsAtMost};
+ghost use Rattle.plan_stages.specs.Stages.{left_kinds, right_kinds, IsReady, CanTake, StageKeeps, StaysReady, KeepsOn, IsUndefinedAt, IsAnswerOf, entries_in, KeepsAtMost};
 
 use crate::any_operator::step_operator;
+use crate::laws::stages_keep_at_most;
 use crate::making::{
     anti_stage, clip_stage, extend_stage, group_stage, join_stage, life_stage, rows_stage,
     session_stage, union_stage,
@@ -191,9 +192,19 @@ impl Stage {
         }
     }
 
-    /// How many entries it keeps for later steps.
+    /// How many entries it keeps for later steps, or the greatest number that there is room for. They are no more than its
+    /// node may keep.
     pub fn held(&self) -> u64
-        ensures { KeepsAtMost result self.now }
+        ensures exact { result ≡ min (entries_in self.now) (2 ^ 64 - 1) }
+        ensures bounded { KeepsAtMost result self.now }
+    {
+        stages_keep_at_most();
+        self.entries_kept()
+    }
+
+    // How many entries it keeps.
+    fn entries_kept(&self) -> u64
+        ensures { result ≡ min (entries_in self.now) (2 ^ 64 - 1) }
     {
         match self {
             Stage::Rows(_) => 0,

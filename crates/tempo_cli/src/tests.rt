@@ -306,3 +306,45 @@ fn an_engine_moves_late_lines_to_the_bound(rt: HostRuntime) -> Result<(), QueryE
     }
     Ok(())
 }
+
+#[test]
+fn an_engine_tells_what_it_holds(rt: HostRuntime) -> Result<(), QueryError> {
+    let policy = Policy {
+        lateness: 0,
+        late: Lateness::Refuse,
+        period: 0,
+    };
+    let group = "stream s(k text, v int); s | group by k : count as n";
+    let mut engine = engine_of(rt.alloc(), group, policy)?;
+    let lines = [
+        ("s,interval,0,1,a,1", ""),
+        ("s,interval,1,2,a,1", ""),
+        ("s,interval,2,3,a,1", ""),
+        ("s,interval,3,4,a,1", ""),
+        ("s,interval,4,5,a,1", ""),
+    ];
+    feed_lines(&rt, &mut engine, &lines);
+    // The rows wait at the source, and nothing is kept of them yet by the group.
+    let waiting = engine.held()?;
+    assert_eq!(rt; waiting.len(), 2);
+    assert!(rt; waiting[0].1 >= 5 && waiting[1].1 == 0);
+    match answered(&rt, &mut engine, 6, "*,punct,5") {
+        Ok(bytes) => assert!(rt; bytes.as_slice() == b"out,start,0,inf,a,1\n*,punct,5\n"),
+        Err(_) => panic!(rt; "the punctuation"),
+    }
+    // One row has an end that is not below 5.
+    let held = engine.held()?;
+    assert_eq!(rt; held.len(), 2);
+    assert!(rt; held[0].0 == 0 && held[0].1 <= 2);
+    assert!(rt; held[1].0 == 1 && held[1].1 <= 5);
+    Ok(())
+}
+
+#[test]
+fn a_source_alone_has_one_pair(rt: HostRuntime) -> Result<(), QueryError> {
+    let engine = engine_of(rt.alloc(), ALL, REFUSE)?;
+    let held = engine.held()?;
+    assert_eq!(rt; held.len(), 1);
+    assert!(rt; held[0].0 == 0 && held[0].1 == 0);
+    Ok(())
+}

@@ -6,3 +6,5 @@ pub mod Punctuating
 pub mod Lines
 pub mod Keeping
 mod Examples
+pub mod Holding
+pub mod Sources

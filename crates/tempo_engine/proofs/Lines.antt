@@ -16,10 +16,12 @@ use Rattle.plan_stages.specs.declared.fault.PlanFault.{PlanFault}
 use Rattle.plan_stages.specs.declared.fault.PlanFault.TheVariants.{Overflow}
 use Rattle.tempo_engine.specs.Faults.{IsFaultOf, undefined_at}
 use Rattle.tempo_engine.specs.Output.{item_text, result_kinds, plan_text}
+use Rattle.tempo_engine.specs.Held.{HasWorked}
 use Rattle.tempo_engine.specs.Went.{Went, HasFed}
 use Rattle.tempo_engine.specs.Working.{HasTaken, IsDue, IsShown}
 use Rattle.tempo_engine.specs.declared.work.Work.{Work}
 use Rattle.tempo_engine.proofs.Feeding.{read_more, after_going, due_below, quiet_next, loud_next, quiet_text, loud_text, quiet_end, loud_end, end_text}
+use Rattle.tempo_engine.proofs.Holding.{worked_of}
 use Rattle.tempo_engine.proofs.Telling.{undefined_told, end_told}
 
 module _ (plan : PlanParts) (policy : Policy) (lines : List Told) (line : Told) (valid : IsRead (length plan.streams) line.read) (old : Work) (fed : HasFed plan policy lines old)
@@ -101,6 +103,9 @@ module _ (plan : PlanParts) (policy : Policy) (lines : List Told) (e : Work) (fe
   pub closed_fine : inf ≤ e.ingress.released → fault plan policy lines true ≡ None
   closed_fine low = ap (λ w. w.fault) (quiet_end plan fed.sound policy lines fed.fine (let r = fed.went.released in omega (arith, low, r))) ∙ fed.fine
 
+  pub closed_worked : inf ≤ e.ingress.released → HasWorked plan (progress plan policy lines true) e
+  closed_worked low = subst (λ w. HasWorked plan w e) (sym (quiet_end plan fed.sound policy lines fed.fine (let r = fed.went.released in omega (arith, low, r)))) (worked_of plan policy last e fed.went)
+
   pub closed_grows : inf ≤ e.ingress.released → (bytes : List ℕ) → bytes ≡ [] → plan_text plan policy lines true ≡ plan_text plan policy lines false ++ bytes
   closed_grows low bytes is =
       ends_alike (quiet_end plan fed.sound policy lines fed.fine (let r = fed.went.released in omega (arith, low, r)))
@@ -124,6 +129,9 @@ module _ (plan : PlanParts) (policy : Policy) (lines : List Told) (e : Work) (fe
 
     pub end_fine : (bytes : List ℕ) → IsShown inf plan last bytes → fault plan policy lines true ≡ None
     end_fine bytes shown = ap (λ w. w.fault) (loud_end plan fed.sound policy lines fed.fine None end_above shown.defined) ∙ fed.fine
+
+    pub end_worked : (bytes : List ℕ) → IsShown inf plan last bytes → (new : Work) → HasWorked plan (judged inf last None) new → HasWorked plan (progress plan policy lines true) new
+    end_worked bytes shown new worked = subst (λ w. HasWorked plan w new) (sym (loud_end plan fed.sound policy lines fed.fine None end_above shown.defined)) worked
 
     pub end_grows : (bytes : List ℕ) → IsShown inf plan last bytes → plan_text plan policy lines true ≡ plan_text plan policy lines false ++ bytes
     end_grows bytes shown = end_text plan fed.sound policy lines fed.fine (item_text (result_kinds plan)) bytes end_above shown.defined shown.shown

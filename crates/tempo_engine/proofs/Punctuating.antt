@@ -27,7 +27,7 @@ use Rattle.egress.specs.Print.{print, punctuation_if}
 use Rattle.egress.specs.Waiting.{edges_if, waiting_in}
 use Rattle.egress.specs.declared.egress.Egress.{Egress}
 use Rattle.egress.proofs.Taking.{holds_longer}
-use Rattle.ingress.specs.Admits.{SameFixed, Admits}
+use Rattle.ingress.specs.Admits.{SameFixed, Follows, Admits}
 use Rattle.ingress.specs.declared.ingress.Ingress.{Ingress}
 use Rattle.batch.specs.Shelves.{Shelves}
 use Rattle.plan_stages.specs.Flows.{DataflowView, HasFlowed}
@@ -35,6 +35,7 @@ use Rattle.plan_stages.specs.Lists.{longer}
 use Rattle.plan_stages.specs.Stages.{reached}
 use Rattle.plan_stages.proofs.Growing.{flows_longer}
 use Rattle.tempo_engine.specs.Output.{item_text, result_kinds}
+use Rattle.tempo_engine.specs.Held.{HasWorked}
 use Rattle.tempo_engine.specs.Went.{Went}
 use Rattle.tempo_engine.specs.Working.{IsDue, IsShown}
 use Rattle.tempo_engine.specs.declared.work.Work.{Work}
@@ -129,6 +130,18 @@ module _ (p : ℕ) (plan : PlanParts) (policy : Policy) (w : Progress) (e : Work
       defined = defined;
       shown = is ∙ rendered_items (result_kinds plan) (rows w.after) plan due.sound e.closed to closed_rises to_low
           ∙ ap (λ c. flat_map (item_text (result_kinds plan)) (between (rows w.after) plan c to)) due.went.closed;
+    }
+
+    pub next_worked : (i : Ingress) (pools : Shelves) (g : Egress) (closed : ℕ) → SameFixed e.ingress i → Follows e.texts w.after (longer due.went.given given) i → i.released ≡ p →
+        HasWorked plan (judged p w None) (record e { ingress = i; pools = pools; dataflow = d; egress = g; closed = closed })
+    next_worked i pools g closed same took released = record {
+      given = longer due.went.given given;
+      lists = longer due.went.lists flowed.more;
+      took = took;
+      streams = ap (λ kinds. length kinds.items) same.kinds ∙ due.went.fixed.count;
+      released = released;
+      planned = planned;
+      flows = flowed.flows;
     }
 
     pub next_went : (i : Ingress) (pools : Shelves) (g : Egress) → SameFixed e.ingress i → Admits e.texts w.after (longer due.went.given given) i → i.released ≡ p →

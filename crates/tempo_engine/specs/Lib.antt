@@ -1,7 +1,8 @@
--- Callers read Output, Faults and Fed. Of Went they read what `Fed` says of the parts of an engine; Working, and the other
+-- Callers read Output, Faults, Fed and Held. Of Went they read what `Fed` says of the parts of an engine; Working, and the other
 -- words of Went and Faults, are cited by private contracts alone.
 pub mod Output
 pub mod Faults
 pub mod Went
 pub mod Fed
+pub mod Held
 pub mod Working

@@ -1,20 +1,20 @@
 // An engine: lines in, text out.
-ghost use Rattle.std.specs.Prelude.{◌≡◌, ◌≢◌, ◌≤◌, List, [], ◌∷◌, ◌++◌, true, false, None, length, IsTrue, All, IfOk, IfErr, OnOk};
+ghost use Rattle.std.specs.Prelude.{◌≡◌, ◌≢◌, ◌≤◌, Bool, List, [], ◌∷◌, ◌++◌, true, false, None, length, IsTrue, All, IfOk, IfErr, OnOk};
 ghost use Rattle.std.specs.List.{list_all};
 ghost use Rattle.plan_model.specs.IsPlan.{PlanParts};
 ghost use Rattle.built_nodes.specs.Built.{is_built};
 ghost use Rattle.admission.specs.declared.policy.Policy.{Policy as Admitting};
 ghost use Rattle.admission.specs.Entries.{Told};
-ghost use Rattle.admission.specs.Progress.{fault as fault_of};
-ghost use Rattle.plan_stages.specs.Flows.{AreHeldBy};
+ghost use Rattle.admission.specs.Progress.{progress, fault as fault_of};
 ghost use Rattle.tempo_engine.specs.Faults.{IsFaultOf};
+ghost use Rattle.tempo_engine.specs.Held.{with_first};
 ghost use Rattle.tempo_engine.specs.Output.{plan_text, told};
 
 use crate::fault::EngineFault;
-use crate::work::Work;
+use crate::work::{Work, each_text_once};
 use admission::Policy;
 use plan_model::Plan;
-use plan_stages::Stage;
+use plan_stages::{Stage, plans_keep_at_most};
 use std::alloc::Global;
 use std::marker::Model;
 use tw_rows::Memory;
@@ -60,8 +60,18 @@ fn fault_in(answer: &Result<Vec<u8>, EngineFault>) -> Option<EngineFault>
     }
 }
 
+// Lets the first pair tell this number.
+fn tell_first(pairs: &mut Vec<(usize, u64)>, number: u64)
+    ensures { pairs.new.items ≡ with_first number pairs.old.items }
+{
+    if !pairs.is_empty() {
+        pairs[0] = (pairs[0].0, number);
+    }
+}
+
 impl Engine {
     ghost use Rattle.tempo_engine.specs.Fed.{Fed};
+    ghost use Rattle.tempo_engine.specs.Held.{Holds, AreHeld};
 
     /// An engine that took no line.
     pub fn new(alloc: Global, plan: Plan, options: Options) -> Result<Engine, Memory>
@@ -84,12 +94,14 @@ impl Engine {
         self.work.dataflow.stages()
     }
 
-    /// For each node, in order, its number and how many entries it keeps for later lines. Rows that wait for a punctuation are
-    /// not among them.
+    /// For each node, in order, its number and how many entries it keeps for later lines. What waits for the Sources is told of
+    /// the first of them. The numbers are as exact as there is room for.
     pub fn held(&self) -> Result<Vec<(usize, u64)>, Memory>
-        ensures { IfOk result (λ held. AreHeldBy self.now.work.dataflow.stages held.items) }
+        ensures { IfOk result (λ held. (plan : PlanParts) (policy : Admitting) (lines : List Told) (ended : Bool) → Holds plan policy lines ended self.now → AreHeld plan (progress plan policy lines ended) self.now.work held.items) }
     {
-        self.work.dataflow.held()
+        let mut held = self.work.dataflow.held()?;
+        tell_first(&mut held, self.work.ingress.held());
+        Ok(held)
     }
 
     /// Takes the line of that number, which stands without its line feed: the bytes by which the text grows.
@@ -97,6 +109,7 @@ impl Engine {
         requires short { length line.now ≤ 65536 }
         requires no_feed { All (λ b. b ≢ 10) line.now }
         ensures fed { OnOk result ((plan : PlanParts) (policy : Admitting) (lines : List Told) → Fed plan policy lines self.old → Fed plan policy (lines ++ told plan number line.now ∷ []) self.new) }
+        ensures holds { OnOk result ((plan : PlanParts) (policy : Admitting) (lines : List Told) → Fed plan policy lines self.old → Holds plan policy (lines ++ told plan number line.now ∷ []) false self.new) }
         ensures text { IfOk result (λ bytes. (plan : PlanParts) (policy : Admitting) (lines : List Told) → Fed plan policy lines self.old → plan_text plan policy (lines ++ told plan number line.now ∷ []) false ≡ plan_text plan policy lines false ++ bytes.items) }
         ensures fault { IfErr result (λ f. (plan : PlanParts) (policy : Admitting) (lines : List Told) → Fed plan policy lines self.old → IsFaultOf f (fault_of plan policy (lines ++ told plan number line.now ∷ []) false)) }
         ensures kept { IfErr result (λ f. self.new.fault ≡ Some f) }
@@ -110,12 +123,16 @@ impl Engine {
         }
         let fed = self.work.feed_line(number, line);
         self.fault = fault_in(&fed);
+        // These calls tell the proof how much the nodes may keep.
+        each_text_once(&self.work.texts);
+        plans_keep_at_most();
         fed
     }
 
     /// The input ends here: the bytes by which the text grows.
     pub fn finish(&mut self) -> Result<Vec<u8>, EngineFault>
         ensures fine { OnOk result ((plan : PlanParts) (policy : Admitting) (lines : List Told) → Fed plan policy lines self.old → fault_of plan policy lines true ≡ None) }
+        ensures holds { OnOk result ((plan : PlanParts) (policy : Admitting) (lines : List Told) → Fed plan policy lines self.old → Holds plan policy lines true self.new) }
         ensures text { IfOk result (λ bytes. (plan : PlanParts) (policy : Admitting) (lines : List Told) → Fed plan policy lines self.old → plan_text plan policy lines true ≡ plan_text plan policy lines false ++ bytes.items) }
         ensures fault { IfErr result (λ f. (plan : PlanParts) (policy : Admitting) (lines : List Told) → Fed plan policy lines self.old → IsFaultOf f (fault_of plan policy lines true)) }
         ensures kept { IfErr result (λ f. self.new.fault ≡ Some f) }
@@ -130,6 +147,9 @@ impl Engine {
         self.ended = true;
         let finished = self.work.finish();
         self.fault = fault_in(&finished);
+        // These calls tell the proof how much the nodes may keep.
+        each_text_once(&self.work.texts);
+        plans_keep_at_most();
         finished
     }
 }

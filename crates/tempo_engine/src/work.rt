@@ -9,7 +9,7 @@ ghost use Rattle.node_laws.specs.Places.{AreDistinct};
 ghost use Rattle.admission.specs.declared.policy.Policy.{Policy as Admitting};
 ghost use Rattle.admission.specs.Admission.{rows};
 ghost use Rattle.admission.specs.Entries.{Told};
-ghost use Rattle.admission.specs.Progress.{Progress, judged, start, fault as fault_of};
+ghost use Rattle.admission.specs.Progress.{Progress, judged, start, progress, fault as fault_of};
 ghost use Rattle.tempo_engine.specs.Faults.{IsFaultOf};
 ghost use Rattle.tempo_engine.specs.Output.{result_kinds, plan_text, told};
 
@@ -38,7 +38,7 @@ pub struct Work {
 }
 
 // No text stands twice in a table.
-fn each_text_once(texts: &TextTable)
+pub(crate) fn each_text_once(texts: &TextTable)
     ensures { AreDistinct texts.now }
 {
     let _count = texts.len();
@@ -82,6 +82,7 @@ fn kinds_of_result(alloc: Global, plan: &Plan) -> Result<Vec<Kind>, AllocError>
 
 impl Work {
     ghost use Rattle.tempo_engine.specs.Went.{Went, HasFed};
+    ghost use Rattle.tempo_engine.specs.Held.{HasWorked};
     ghost use Rattle.tempo_engine.specs.Working.{HasTaken, IsDue, IsShown};
 
     // Before the first line.
@@ -117,6 +118,7 @@ impl Work {
     fn punctuate(&mut self, p: Time) -> Result<Vec<u8>, PlanFault>
         requires { (plan : PlanParts) × ((policy : Admitting) × ((w : Progress) × IsDue p plan policy w self.old)) }
         ensures went { OnOk result ((plan : PlanParts) (policy : Admitting) (w : Progress) → IsDue p plan policy w self.old → ((s : ℕ) → s < length plan.streams → p ≤ w.after.bound s) → Went plan policy (judged p w None) self.new) }
+        ensures worked { OnOk result ((plan : PlanParts) (policy : Admitting) (w : Progress) → IsDue p plan policy w self.old → HasWorked plan (judged p w None) self.new) }
         ensures shown { IfOk result (λ bytes. (plan : PlanParts) (policy : Admitting) (w : Progress) → IsDue p plan policy w self.old → IsShown p plan w bytes.items) }
         ensures overflow { IfErr result (λ fault. (node time : ℕ) → fault ≡ PlanFault.Overflow node time → (plan : PlanParts) (policy : Admitting) (w : Progress) → IsDue p plan policy w self.old → overflow (rows w.after) plan.nodes p ≡ Some (record { node = node; time = time })) }
     {
@@ -189,6 +191,7 @@ impl Work {
     pub(crate) fn finish(&mut self) -> Result<Vec<u8>, EngineFault>
         requires { (plan : PlanParts) × ((policy : Admitting) × ((lines : List Told) × HasFed plan policy lines self.old)) }
         ensures fine { OnOk result ((plan : PlanParts) (policy : Admitting) (lines : List Told) → HasFed plan policy lines self.old → fault_of plan policy lines true ≡ None) }
+        ensures worked { OnOk result ((plan : PlanParts) (policy : Admitting) (lines : List Told) → HasFed plan policy lines self.old → HasWorked plan (progress plan policy lines true) self.new) }
         ensures text { IfOk result (λ bytes. (plan : PlanParts) (policy : Admitting) (lines : List Told) → HasFed plan policy lines self.old → plan_text plan policy lines true ≡ plan_text plan policy lines false ++ bytes.items) }
         ensures fault { IfErr result (λ f. (plan : PlanParts) (policy : Admitting) (lines : List Told) → HasFed plan policy lines self.old → IsFaultOf f (fault_of plan policy lines true)) }
     {

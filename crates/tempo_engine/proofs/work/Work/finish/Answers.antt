@@ -2,7 +2,7 @@ use Rattle.std.proofs.Common.{◌≡◌, ◌<◌, ◌≤◌, false, inl, inr, ar
 use Rattle.std.proofs.lemmas.Bool.{cases_lt}
 use Rattle.tw_rows.specs.Instant.{inf}
 use Rattle.admission.specs.Progress.{progress}
-use Rattle.tempo_engine.proofs.Lines.{closed_fine, closed_grows, end_due, end_fine, end_grows, end_fault_told}
+use Rattle.tempo_engine.proofs.Lines.{closed_fine, closed_worked, closed_grows, end_due, end_fine, end_worked, end_grows, end_fault_told}
 use Rattle.tempo_engine.proofs.work.Work.finish.Goals as goal
 
 pub punctuate-requires : goal.punctuate-requires
@@ -19,6 +19,16 @@ returns-in-Ok-clause-fine c = λ plan policy lines fed.
     let s = c.in-Ok.ensures.shown in
     let t = (rw c.infinity-end.ensures at s) in
     end_fine plan policy lines c.args.self.now fed above c.in-Ok.bytes.items (t plan policy (progress plan policy lines false) (end_due plan policy lines c.args.self.now fed above))
+
+pub returns-in-Ok-clause-worked : goal.returns-in-Ok-clause-worked
+returns-in-Ok-clause-worked c = λ plan policy lines fed.
+    let above : c.args.self.now.ingress.released < inf = (let t = c.is_before.ensures.0 c.if-is_before.true in let l = c.released.ensures in let e = c.infinity-end.ensures in omega (arith, t, l, e)) in
+    let s = c.in-Ok.ensures.shown in
+    let k = c.in-Ok.ensures.worked in
+    let t = (rw c.infinity-end.ensures at s) in
+    let u = (rw c.infinity-end.ensures at k) in
+    let due = end_due plan policy lines c.args.self.now fed above in
+    end_worked plan policy lines c.args.self.now fed above c.in-Ok.bytes.items (t plan policy (progress plan policy lines false) due) c.punctuate.new.self (u plan policy (progress plan policy lines false) due)
 
 pub returns-in-Ok-clause-text : goal.returns-in-Ok-clause-text
 returns-in-Ok-clause-text c = λ plan policy lines fed.
@@ -42,6 +52,14 @@ returns-else-is_before-clause-fine c = λ plan policy lines fed.
       | inr a ↦ (let l = c.released.ensures in let e = c.infinity-end.ensures in omega (arith, a, l, e))
     ] in
     closed_fine plan policy lines c.args.self.now fed low
+
+pub returns-else-is_before-clause-worked : goal.returns-else-is_before-clause-worked
+returns-else-is_before-clause-worked c = λ plan policy lines fed.
+    let low : inf ≤ c.args.self.now.ingress.released = elim (cases_lt c.released.result c.infinity-end.result) [
+      | inl b ↦ absurd (let t = c.is_before.ensures.1 b in let f = c.if-is_before.false in cc)
+      | inr a ↦ (let l = c.released.ensures in let e = c.infinity-end.ensures in omega (arith, a, l, e))
+    ] in
+    closed_worked plan policy lines c.args.self.now fed low
 
 pub returns-else-is_before-clause-text : goal.returns-else-is_before-clause-text
 returns-else-is_before-clause-text c = λ plan policy lines fed.

@@ -12,7 +12,7 @@ use Rattle.plan_stages.specs.Lists.{AreGiven, edges_at, longer}
 use Rattle.tempo_engine.specs.Output.{result_kinds}
 use Rattle.ingress.proofs.Reading.{follows_stand}
 use Rattle.tempo_engine.proofs.Giving.{given_are}
-use Rattle.tempo_engine.proofs.Punctuating.{taken, root_stands, shown, next_went}
+use Rattle.tempo_engine.proofs.Punctuating.{taken, root_stands, shown, next_worked, next_went}
 use Rattle.tempo_engine.proofs.work.Work.punctuate.Goals as goal
 
 pub step-requires-clause-given : goal.step-requires-clause-given
@@ -72,6 +72,18 @@ returns-in-Ok-render-clause-went c = λ plan policy w due high.
     rw to_is (next_went c.args.p plan policy w e due given c.step.new.self out planned flowed c.release.new.self c.release.new.pools c.render.new.self
     c.release.ensures.fixed took c.in-Ok.ensures.released c.release.ensures.pools.capacity c.step.ensures.capacity rendered
     (c.render.ensures.placed e.texts c.in-Ok-take.ensures.placed) (let r = c.in-Ok-render.ensures.failed in let a = due.went.able in r ∙ sym a) (c.render.ensures.kinds ∙ c.take.ensures.kinds))
+
+pub returns-in-Ok-render-clause-worked : goal.returns-in-Ok-render-clause-worked
+returns-in-Ok-render-clause-worked c = λ plan policy w due.
+    let e = c.args.self.now in
+    let given = edges_at c.in-Ok.given.items in
+    let follows = c.in-Ok.ensures.follows e.texts w.after due.went.given due.went.took.follows in
+    let from : SourcesStandRead e.texts c.args.p (rows w.after) (longer due.went.given given) =
+    (let l = follows_stand e.texts w.after (longer due.went.given given) c.release.new.self follows in rw c.in-Ok.ensures.released at l) in
+    let late : (s : ℕ) → failing (is_from w.last) (given s) ≡ 0 = λ s. (let l = c.in-Ok.ensures.later e.texts w.after due.went.given due.went.took.follows s in rw due.went.released at l) in
+    let flowed = c.in-Ok-step.ensures.flowed w.last due.went.given due.went.lists (rows w.after) c.each_text_once.ensures due.went.flows due.above from late in
+    next_worked c.args.p plan policy w e due given c.step.new.self c.in-Ok-step.edges.edges (c.step.ensures.plan ∙ due.went.planned) flowed c.release.new.self c.release.new.pools c.render.new.self c.closes-to.result
+    c.release.ensures.fixed follows c.in-Ok.ensures.released
 
 pub returns-in-Ok-render-clause-shown : goal.returns-in-Ok-render-clause-shown
 returns-in-Ok-render-clause-shown c = λ plan policy w due.
