@@ -27,6 +27,3 @@ pub fn built(node: &Node) -> bool
             | Node::Clip { .. }
     )
 }
-
-#[cfg(test)]
-mod tests;

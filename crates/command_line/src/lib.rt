@@ -3,8 +3,6 @@
 
 mod laws;
 mod options;
-#[cfg(test)]
-mod tests;
 mod words;
 
 pub use laws::{commands_have_words, taken_words_spell_a_command, words_spell_one_command};

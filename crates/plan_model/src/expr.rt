@@ -101,38 +101,3 @@ impl Expr {
         self.nodes.as_slice()
     }
 }
-
-#[cfg(test)]
-mod tests {
-    use super::*;
-    use std::alloc::AllocError;
-
-    #[test]
-    fn keeps_its_nodes_in_order(rt: HostRuntime) -> Result<(), AllocError> {
-        let nodes = vec![in rt.alloc();
-            ExprNode::Column(0),
-            ExprNode::Int(10),
-            ExprNode::Compare {
-                op: CompareOp::Gt,
-                left: 0,
-                right: 1
-            },
-        ]?;
-        let expr = Expr::from_vec(nodes);
-        let items = expr.items();
-        assert_eq!(rt; items.len(), 3);
-        assert!(rt; matches!(&items[0], ExprNode::Column(0)));
-        assert!(rt; matches!(&items[1], ExprNode::Int(10)));
-        assert!(rt;
-            matches!(
-                &items[2],
-                ExprNode::Compare {
-                    op: CompareOp::Gt,
-                    left: 0,
-                    right: 1
-                }
-            )
-        );
-        Ok(())
-    }
-}

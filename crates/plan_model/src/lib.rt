@@ -16,8 +16,6 @@ mod node;
 mod over_nodes;
 mod plan;
 mod plan_laws;
-#[cfg(test)]
-mod tests;
 
 pub use agg::Agg;
 pub use arith_laws::{

@@ -191,34 +191,3 @@ impl SchemaList {
         self.schemas.as_slice()
     }
 }
-
-#[cfg(test)]
-mod tests {
-    use super::*;
-    use crate::expr::ExprNode;
-    use std::alloc::AllocError;
-
-    #[test]
-    fn lists_keep_their_items_in_order(rt: HostRuntime) -> Result<(), AllocError> {
-        let key = Key::from_vec(vec![in rt.alloc(); 2, 0, 1]?);
-        assert_eq!(rt; key.items(), [2, 0, 1].as_slice());
-        let first = Expr::from_vec(vec![in rt.alloc(); ExprNode::Column(3)]?);
-        let second = Expr::from_vec(vec![in rt.alloc(); ExprNode::Int(7)]?);
-        let list = ExprList::from_vec(vec![in rt.alloc(); first, second]?);
-        let items = list.items();
-        assert_eq!(rt; items.len(), 2);
-        assert!(rt; matches!(&items[0].items()[0], ExprNode::Column(3)));
-        assert!(rt; matches!(&items[1].items()[0], ExprNode::Int(7)));
-        let aggs = AggList::from_vec(vec![in rt.alloc();
-            Agg::Count,
-            Agg::Sum(2),
-            Agg::Least(1),
-            Agg::Greatest(0),
-        ]?);
-        let aggs = aggs.items();
-        assert_eq!(rt; aggs.len(), 4);
-        assert!(rt; matches!(&aggs[0], Agg::Count));
-        assert!(rt; matches!(&aggs[3], Agg::Greatest(0)));
-        Ok(())
-    }
-}

@@ -4,8 +4,6 @@
 
 mod names;
 mod schemas;
-#[cfg(test)]
-mod tests;
 mod types;
 
 pub use names::{aggs_of, column_of, expr_of, exprs_of, key_of, tree_exprs};

@@ -7,8 +7,6 @@ mod kind;
 mod laws;
 mod stack;
 mod symbol;
-#[cfg(test)]
-mod tests;
 
 pub use fault::{Fault, first_fault};
 pub use laws::{

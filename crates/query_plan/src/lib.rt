@@ -11,8 +11,6 @@ mod plan_text;
 mod planning;
 mod sides;
 mod steps;
-#[cfg(test)]
-mod tests;
 
 pub use laws::{built_nodes_alone, faults_are_told_in_order, plans_keep_their_rules};
 pub use plan_text::explain;

@@ -7,8 +7,6 @@ mod laws;
 mod pipe;
 mod query;
 mod stop;
-#[cfg(test)]
-mod tests;
 mod text;
 mod tree;
 

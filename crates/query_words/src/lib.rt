@@ -3,8 +3,6 @@
 
 mod laws;
 mod lex;
-#[cfg(test)]
-mod tests;
 mod word;
 
 pub use laws::{

@@ -9,8 +9,6 @@ mod number;
 mod quotes;
 mod read;
 mod record;
-#[cfg(test)]
-mod tests;
 mod value;
 
 pub use entry::{BadLine, Entry, RowFault};

@@ -6,8 +6,6 @@ mod counting;
 mod line;
 mod pieces;
 mod sampling;
-#[cfg(test)]
-mod tests;
 
 pub use counting::LineCounts;
 pub use line::{SampleLine, Trade};

@@ -1,6 +1,5 @@
 // Bytes in pieces of any size, cut into lines.
-ghost use Rattle.std.specs.Bool.{OnTrue};
-ghost use Rattle.std.specs.Prelude.{IfOk, ◌≡◌, ◌≤◌, ◌<◌, ◌+◌, ◌-◌, ℕ, List, length, drop, IsTrue};
+ghost use Rattle.std.specs.Prelude.{◌≡◌, ◌≤◌, ◌<◌, ◌+◌, ◌-◌, ℕ, List, length, drop};
 ghost use Rattle.wire_lines.specs.Lines.{line_len};
 ghost use Rattle.wire_lines.specs.Found.{found, FoundFits};
 
@@ -217,93 +216,5 @@ impl LineCutter {
             bytes: rest,
         };
         Some(line)
-    }
-}
-
-#[cfg(test)]
-mod tests {
-    use super::*;
-    use std::test::Fail;
-
-    // Writes down the lines that are given, and whether more bytes are asked for after them.
-    fn note_lines(cutter: &mut LineCutter, notes: &mut Vec<u8>) -> Result<bool, Memory>
-        ensures { IfOk result (λ asks. OnTrue asks (IsTrue cutter.new.hungry)) }
-    {
-        for _ in 0..9 {
-            match cutter.next_line() {
-                Cut::Line(line) => note(line, notes)?,
-                Cut::TooLong { number } => {
-                    notes.extend_from_slice(&[b'0' + (number % 10) as u8])?;
-                    notes.extend_from_slice(b" is too long;")?;
-                    return Ok(false);
-                }
-                Cut::TooMany => {
-                    notes.extend_from_slice(b"too many;")?;
-                    return Ok(false);
-                }
-                Cut::More => return Ok(true),
-            }
-        }
-        Ok(false)
-    }
-
-    fn note(line: Line<'_>, notes: &mut Vec<u8>) -> Result<(), Memory> {
-        notes.extend_from_slice(&[b'0' + (line.number % 10) as u8, b':'])?;
-        notes.extend_from_slice(line.bytes)?;
-        notes.extend_from_slice(b";")?;
-        Ok(())
-    }
-
-    #[test]
-    fn lines_do_not_depend_on_the_pieces(rt: HostRuntime) -> Result<(), Fail> {
-        let alloc = rt.alloc();
-        let bytes = b"ab\r\n\ncd\n\rx";
-        for size in [1, 2, 3, 5, 11] {
-            let mut cutter = LineCutter::new(alloc, 100, 100)?;
-            let mut notes = Vec::new(alloc);
-            for piece in bytes.chunks(size) {
-                assert!(rt; piece.len() <= 65536);
-                cutter.feed(piece);
-                assert!(rt; note_lines(&mut cutter, &mut notes)?);
-            }
-            if let Some(line) = cutter.last_line() {
-                note(line, &mut notes)?;
-            }
-            assert_eq!(rt;
-                notes.as_slice(),
-                b"1:ab\r;2:;3:cd;4:\rx;".as_slice(),
-                "pieces of {size}"
-            );
-        }
-        Ok(())
-    }
-
-    #[test]
-    fn long_lines_and_too_many_bytes_are_told(rt: HostRuntime) -> Result<(), Fail> {
-        let alloc = rt.alloc();
-        let table = [
-            (
-                100,
-                10,
-                b"aaaa\nbbbbbbb".as_slice(),
-                b"1:aaaa;too many;too many;".as_slice(),
-            ),
-            (3, 100, b"abc\nabcd", b"1:abc;2 is too long;2 is too long;"),
-            (3, 100, b"abcd\n", b"1 is too long;1 is too long;"),
-            (3, 3, b"abc\n", b"too many;too many;"),
-            (3, 4, b"abc\n", b"1:abc;"),
-        ];
-        for (longest, total, bytes, want) in table {
-            let mut cutter = LineCutter::new(alloc, longest, total)?;
-            let mut notes = Vec::new(alloc);
-            assert!(rt; bytes.len() <= 65536);
-            cutter.feed(bytes);
-            let asks = note_lines(&mut cutter, &mut notes)?;
-            if !asks {
-                note_lines(&mut cutter, &mut notes)?;
-            }
-            assert_eq!(rt; notes.as_slice(), want);
-        }
-        Ok(())
     }
 }

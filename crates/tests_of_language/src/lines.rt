@@ -1,5 +1,5 @@
 // Lines against what they say.
-use crate::{Entry, RowFault, read_number, read_row};
+use row_reader::{Entry, RowFault, read_row};
 use std::alloc::Global;
 use tw_rows::{ColumnDef, Kind, Label, Memory, Row, Schema, StreamDef, Time, Value};
 
@@ -259,17 +259,4 @@ fn bytes_and_first_lines(rt: HostRuntime) {
             Err(_) => panic!(rt; "no memory"),
         }
     }
-}
-
-#[test]
-fn a_number_has_one_spelling(rt: HostRuntime) {
-    assert!(rt; read_number(b"0", 1) == Some(0));
-    assert!(rt; read_number(b"17", 18) == Some(17));
-    assert!(rt; read_number(b"17", 17) == None);
-    assert!(rt; read_number(b"017", 18) == None);
-    assert!(rt; read_number(b"+17", 18) == None);
-    assert!(rt; read_number(b"-0", 18) == None);
-    assert!(rt; read_number(b"", 18) == None);
-    assert!(rt; read_number(b"18446744073709551615", u64::MAX) == None);
-    assert!(rt; read_number(b"18446744073709551616", u64::MAX) == None);
 }

@@ -1,5 +1,5 @@
 // Texts cut into words by hand.
-use crate::{Sign, Spot, Word, words};
+use query_words::{Sign, Spot, Word, words};
 
 /// Texts, and the offsets and words that they are made of.
 static TEXTS: [(&str, &[(usize, Word)]); 15] = [

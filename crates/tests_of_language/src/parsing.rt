@@ -1,9 +1,6 @@
 // Texts with the queries that they spell, or with their faults, all found by hand.
-use crate::{
-    AggList, ItemList, LetList, NameList, QueryStep, StepList, Tree, TreeList, TreeNode, parse,
-    texts_spell_one_query,
-};
-use plan_model::{ArithOp, CompareOp, QueryError, QueryFault, StreamList};
+use plan_model::{ArithOp, CompareOp, QueryError, QueryFault};
+use query_text::{QueryStep, TreeNode, parse, texts_spell_one_query};
 use std::alloc::Global;
 use tw_rows::Memory;
 
@@ -286,7 +283,7 @@ fn repeated(
 }
 
 /// Long texts in three parts, the second of which stands so many times, with their faults.
-static LONG: [(&str, &str, usize, &str, Option<QueryFault>); 7] = [
+static LONG: [(&str, &str, usize, &str, Option<QueryFault>); 13] = [
     (
         "stream s(v int); s | where ",
         "-",
@@ -309,6 +306,42 @@ static LONG: [(&str, &str, usize, &str, Option<QueryFault>); 7] = [
         200,
         "v",
         Some(QueryFault::LongExpr { at: 227 }),
+    ),
+    (
+        "stream s(v int); s | where ",
+        "-",
+        200,
+        " | delay 1",
+        Some(QueryFault::Syntax { at: 228 }),
+    ),
+    (
+        "stream s(v int); s | where ",
+        "(",
+        200,
+        "",
+        Some(QueryFault::Syntax { at: 227 }),
+    ),
+    (
+        "stream s(v int); s | where ",
+        "(",
+        300,
+        "",
+        Some(QueryFault::LongExpr { at: 227 }),
+    ),
+    (
+        "stream s(v int); s | where ",
+        "(",
+        200,
+        "=",
+        Some(QueryFault::Syntax { at: 227 }),
+    ),
+    ("stream s(v int); s | where ", "v=v|where ", 150, "v", None),
+    (
+        "stream s(v int); s | where ",
+        "v v",
+        150,
+        "",
+        Some(QueryFault::Syntax { at: 29 }),
     ),
     ("stream s(v int); s", " | delay 1", 300, "", None),
     (
@@ -556,25 +589,4 @@ fn each_step_is_read(rt: HostRuntime) {
     for (step, &want) in steps.iter().zip(OUTLINES.iter()) {
         assert_eq!(rt; outline(step), want);
     }
-}
-
-#[test]
-fn lists_keep_what_they_are_made_of(rt: HostRuntime) {
-    assert_eq!(rt; StreamList::from_vec(Vec::new(rt.alloc())).items().len(), 0);
-    assert_eq!(rt; LetList::from_vec(Vec::new(rt.alloc())).items().len(), 0);
-    assert_eq!(rt; StepList::from_vec(Vec::new(rt.alloc())).items().len(), 0);
-    assert_eq!(rt; ItemList::from_vec(Vec::new(rt.alloc())).items().len(), 0);
-    assert_eq!(rt; AggList::from_vec(Vec::new(rt.alloc())).items().len(), 0);
-    assert_eq!(rt; NameList::from_vec(Vec::new(rt.alloc())).items().len(), 0);
-    assert_eq!(rt; TreeList::from_vec(Vec::new(rt.alloc())).items().len(), 0);
-}
-
-#[test]
-fn a_tree_keeps_its_nodes(rt: HostRuntime) {
-    let Ok(nodes) = vec![in rt.alloc(); TreeNode::Int(3), TreeNode::Neg(0)] else {
-        panic!(rt; "no memory");
-    };
-    let tree = Tree::from_vec(nodes);
-    assert_eq!(rt; tree.items().len(), 2);
-    assert!(rt; matches!(&tree.items()[1], TreeNode::Neg(0)));
 }

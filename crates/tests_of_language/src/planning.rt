@@ -1,6 +1,6 @@
 // Texts of queries with their plans, or with their faults, all found by hand.
-use crate::{explain, plan};
 use plan_model::{QueryError, QueryFault};
+use query_plan::{explain, plan};
 use query_text::parse;
 use std::alloc::Global;
 use tw_rows::Memory;
@@ -27,6 +27,16 @@ fn plans_have_a_node_for_each_stream_and_step(rt: HostRuntime) {
             "stream s(p dec(2), q int); s | where p >= 1.50 | select p * q as t, q",
             3,
             2,
+        ),
+        (
+            "stream s(k text, v int); s | group by k : max v as m, count as n | join s on k",
+            3,
+            2,
+        ),
+        (
+            "stream s(k text, v int); stream t(k text); s | anti t on k",
+            4,
+            3,
         ),
     ] {
         assert_eq!(rt; planned(rt.alloc(), text), Ok((nodes, root)), "{text}");

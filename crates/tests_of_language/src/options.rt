@@ -1,5 +1,5 @@
 // Words against what they ask for.
-use crate::{WordsFault, read_words};
+use command_line::{WordsFault, read_words};
 use std::alloc::{AllocError, Global};
 
 /// What the words of a text, with `|` between each two, give.

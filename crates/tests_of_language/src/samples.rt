@@ -1,5 +1,5 @@
 // A sample against the reference, and counts of a text in parts.
-use crate::{LineCounts, Sample};
+use sample_trades::{LineCounts, Sample};
 use tw_rows::Memory;
 
 #[test]
