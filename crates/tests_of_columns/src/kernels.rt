@@ -36,7 +36,7 @@ fn thinned(rt: &impl Abort, alloc: Global, texts: &TextTable, count: usize) -> R
     ensures places { IfOk result (λ b. HoldsPlaces texts.now b.rows) }
 {
     let mut numbers = Vec::new(alloc);
-    let mut number = 0;
+    let mut number: i64 = 0;
     for _ in 0..count {
         numbers.push(number)?;
         number = number.wrapping_add(1);
