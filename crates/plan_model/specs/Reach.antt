@@ -1,7 +1,7 @@
 -- What the nodes of a plan are like: whether their rows are events, and how far they look back.
 use Rattle.std.specs.Prelude.{ℕ, ◌+◌, ◌≤◌, max, Bool, true, false, ◌&&◌, List}
 use Rattle.plan_model.specs.declared.node.Node.{Node}
-use Rattle.plan_model.specs.declared.node.Node.TheVariants.{Source, Where, Select, Union, Delay, Hop, Duration, Extend, Session, Group, Join, Anti, Mean, Top, Follow}
+use Rattle.plan_model.specs.declared.node.Node.TheVariants.{Where, Select, Union, Delay, Hop, Duration, Extend, Session, Group, Join, Anti, Mean, Top, Follow}
 use Rattle.plan_model.specs.Meaning.{over_nodes}
 
 -- how far a node itself looks back, in units of time. A hop looks back by its size
