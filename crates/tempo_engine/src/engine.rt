@@ -114,6 +114,8 @@ impl Engine {
         ensures fault { IfErr result (λ f. (plan : PlanParts) (policy : Admitting) (lines : List Told) → Fed plan policy lines self.old → IsFaultOf f (fault_of plan policy (lines ++ told plan number line.now ∷ []) false)) }
         ensures kept { IfErr result (λ f. self.new.fault ≡ Some f) }
         ensures again { (f : EngineFault) → self.old.fault ≡ Some f → result ≡ Err f }
+        ensures over { self.old.ended ≡ true → IfOk result (λ bytes. bytes.items ≡ []) }
+        ensures ended { self.new.ended ≡ self.old.ended }
     {
         if let Some(fault) = self.fault {
             return Err(fault);
@@ -137,6 +139,8 @@ impl Engine {
         ensures fault { IfErr result (λ f. (plan : PlanParts) (policy : Admitting) (lines : List Told) → Fed plan policy lines self.old → IsFaultOf f (fault_of plan policy lines true)) }
         ensures kept { IfErr result (λ f. self.new.fault ≡ Some f) }
         ensures again { (f : EngineFault) → self.old.fault ≡ Some f → result ≡ Err f }
+        ensures over { self.old.ended ≡ true → IfOk result (λ bytes. bytes.items ≡ []) }
+        ensures ended { OnOk result (self.new.ended ≡ true) }
     {
         if let Some(fault) = self.fault {
             return Err(fault);
