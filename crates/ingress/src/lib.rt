@@ -28,6 +28,3 @@ pub use ingress_laws::{
 pub use opens::{OpenKey, OpenStart, OpenStarts};
 pub use waiting::Waiting;
 pub use watermarks::{Watermark, Watermarks};
-
-#[cfg(test)]
-mod tests;
