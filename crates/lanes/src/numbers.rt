@@ -42,8 +42,27 @@ pub fn load(into: &mut Numbers, column: &[i64], first: usize, count: usize)
     requires few { count ≤ 64 }
     ensures { (k : ℕ) → k < count → number into.new.lanes k ≡ number column.now (first + k) }
 {
+    if count == BLOCK {
+        // A copy of an array is faster than the loop.
+        if let Some(block) = column[first..].first_chunk::<BLOCK>() {
+            tell_whole(block);
+            into.lanes = *block;
+            return;
+        }
+    }
     for k in 0..count {
         into.lanes[k] = column[first + k];
+    }
+}
+
+// Tells that each number of the slice is one of 64 bits, which a proof learns where it is read. The machine code has
+// no such loop.
+#[inline(always)]
+fn tell_whole(numbers: &[i64])
+    ensures { (k : ℕ) → k < length numbers.now → FitsSigned w64 (number numbers.now k) }
+{
+    for k in 0..numbers.len() {
+        let _number = numbers[k];
     }
 }
 

@@ -37,6 +37,13 @@ pub fn load_places(into: &mut Places, column: &[u64], first: usize, count: usize
     requires few { count ≤ 64 }
     ensures { (k : ℕ) → k < count → place into.new.lanes k ≡ place column.now (first + k) }
 {
+    if count == BLOCK {
+        // A copy of an array is faster than the loop.
+        if let Some(block) = column[first..].first_chunk::<BLOCK>() {
+            into.lanes = *block;
+            return;
+        }
+    }
     for k in 0..count {
         into.lanes[k] = column[first + k];
     }
