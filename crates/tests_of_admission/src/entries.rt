@@ -1,5 +1,5 @@
 // Lines in words, as entries of two streams with a column of ints each.
-ghost use Rattle.std.specs.Prelude.{◌≡◌, ◌<◌, [], ◌∷◌, IfSome, IfOk};
+ghost use Rattle.std.specs.Prelude.{◌≡◌, ◌<◌, ◌≤◌, [], ◌∷◌, length, IfSome, IfOk};
 ghost use Rattle.tw_rows.specs.declared.kind.CellKind.{CellKind};
 ghost use Rattle.plan_model.specs.IsPlan.{kinds_of_schema};
 ghost use Rattle.ingress.specs.Fits.{Fits, row_cells};
@@ -56,7 +56,8 @@ pub(crate) fn policy(words: &[&str]) -> Policy {
 }
 
 fn columns(alloc: Global) -> Result<Vec<ColumnDef>, Memory>
-    ensures { IfOk result (λ cs. kinds_of_schema cs.items ≡ CellKind.Whole ∷ []) }
+    ensures kinds { IfOk result (λ cs. kinds_of_schema cs.items ≡ CellKind.Whole ∷ []) }
+    ensures width { IfOk result (λ cs. length cs.items ≤ 32) }
 {
     let column = ColumnDef {
         name: Label::new(alloc, "v")?,
@@ -69,7 +70,8 @@ fn columns(alloc: Global) -> Result<Vec<ColumnDef>, Memory>
 
 /// A stream with a column of ints.
 pub(crate) fn stream(alloc: Global, name: &str) -> Result<StreamDef, Memory>
-    ensures { IfOk result (λ d. kinds_of_schema d.schema ≡ CellKind.Whole ∷ []) }
+    ensures kinds { IfOk result (λ d. kinds_of_schema d.schema ≡ CellKind.Whole ∷ []) }
+    ensures width { IfOk result (λ d. length d.schema ≤ 32) }
 {
     Ok(StreamDef {
         name: Label::new(alloc, name)?,
@@ -77,6 +79,7 @@ pub(crate) fn stream(alloc: Global, name: &str) -> Result<StreamDef, Memory>
     })
 }
 
+// A row of the number, which is to be below 1000.
 fn row(alloc: Global, value: u64) -> Result<Row, Memory>
     ensures { IfOk result (λ row. row_cells row ≡ CellKind.Whole ∷ []) }
 {

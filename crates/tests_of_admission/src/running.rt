@@ -28,12 +28,6 @@ fn two_streams(alloc: Global, policy: Policy) -> Result<Ingress, Memory>
 {
     let s = stream(alloc, "s")?;
     let t = stream(alloc, "t")?;
-    if s.schema.items().len() > 32 {
-        return Err(Memory);
-    }
-    if t.schema.items().len() > 32 {
-        return Err(Memory);
-    }
     Ingress::new(alloc, policy, &[s, t], 4)
 }
 
@@ -159,26 +153,25 @@ fn push_line(alloc: Global, out: &mut String, run: &mut Run, words: &[&str]) -> 
     push_due(alloc, out, run)
 }
 
-// Begins anew, and goes on from what is saved.
-fn resume(alloc: Global, run: &mut Run) -> Result<(), Memory> {
+// Begins anew, and goes on from what is saved, if that can be.
+fn resumed(alloc: Global, run: &mut Run) -> Result<&'static str, Memory> {
     let bounds = [run.ingress.bound(0), run.ingress.bound(1)];
     let marks = [run.ingress.mark(0), run.ingress.mark(1)];
     let last = run.ingress.released();
     let saved = run.ingress.save()?;
     run.ingress = two_streams(alloc, run.policy)?;
     match run.ingress.load(&saved, &bounds, &marks, last) {
-        Ok(()) => Ok(()),
-        Err(_) => Err(Memory),
+        Ok(()) => Ok("resumed"),
+        Err(_) => Ok("refused"),
     }
 }
 
-// What is told of a line: at `held` how much is held, and at `resume` that what was saved is loaded.
+// What is told of a line: at `held` how much is held, and at `resume` whether what was saved is loaded.
 fn push_told(alloc: Global, out: &mut String, run: &mut Run, words: &[&str]) -> Result<(), Memory> {
     match word(words, 0) {
         "held" => push_number(alloc, out, run.ingress.held()),
         "resume" => {
-            resume(alloc, run)?;
-            out.push_str("resumed")?;
+            out.push_str(resumed(alloc, run)?)?;
             Ok(())
         }
         _ => push_line(alloc, out, run, words),
