@@ -329,7 +329,7 @@ fn an_engine_tells_what_it_holds(rt: HostRuntime) -> Result<(), QueryError> {
     assert_eq!(rt; waiting.len(), 2);
     assert!(rt; waiting[0].1 >= 5 && waiting[1].1 == 0);
     match answered(&rt, &mut engine, 6, "*,punct,5") {
-        Ok(bytes) => assert!(rt; bytes.as_slice() == b"out,start,0,inf,a,1\n*,punct,5\n"),
+        Ok(bytes) => assert!(rt; bytes.as_slice() == "out,start,0,inf,a,1\n*,punct,5\n".as_bytes()),
         Err(_) => panic!(rt; "the punctuation"),
     }
     // One row has an end that is not below 5.
