@@ -132,8 +132,28 @@ impl<'a> Cursor<'a> {
     }
 
     /// Adds the next edge last to a list of the same kinds, and goes past it. Memory is taken only
-    /// where the list's last batch is full; want of it changes nothing but the pools.
+    /// where the list's last batch is full; want of it changes nothing but the pools. Where no edge is
+    /// left, nothing changes.
     pub fn copy_next(&mut self, pools: &mut Pools, to: &mut EdgeList) -> Result<(), Memory>
+        requires kinds { self.old.kinds ≡ cells_of to.old }
+        requires capacity { pools.old.capacity ≡ to.old.capacity }
+        requires order { (e : Edge) (rest : List Edge) → self.old.edges ≡ e ∷ rest → KeepsOrder (to.old.edges ++ e ∷ []) }
+        ensures ok { OnOk result ((e : Edge) (rest : List Edge) → self.old.edges ≡ e ∷ rest → to.new ≡ appended to.old e) }
+        ensures rest { OnOk result ((e : Edge) (rest : List Edge) → self.old.edges ≡ e ∷ rest → self.new.edges ≡ rest) }
+        ensures pools { OnOk result ((e : Edge) (rest : List Edge) → self.old.edges ≡ e ∷ rest → pools.new ≡ room_taken to.old pools.old) }
+        ensures err { OnErr result ((to.new ≡ to.old) × (self.new.edges ≡ self.old.edges)) }
+        ensures err_pools { OnErr result (IsPartTaken pools.old pools.new (cells_of to.old)) }
+        ensures kinds { self.new.kinds ≡ self.old.kinds }
+        ensures end { self.old.edges ≡ [] → OnOk result ((to.new ≡ to.old) × (pools.new ≡ pools.old) × (self.new.edges ≡ [])) }
+    {
+        if self.times().is_none() {
+            return Ok(());
+        }
+        self.copy_row_next(pools, to)
+    }
+
+    // The same where an edge is left.
+    fn copy_row_next(&mut self, pools: &mut Pools, to: &mut EdgeList) -> Result<(), Memory>
         requires kinds { self.old.kinds ≡ cells_of to.old }
         requires capacity { pools.old.capacity ≡ to.old.capacity }
         requires order { (e : Edge) (rest : List Edge) → self.old.edges ≡ e ∷ rest → KeepsOrder (to.old.edges ++ e ∷ []) }

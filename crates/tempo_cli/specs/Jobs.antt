@@ -51,16 +51,17 @@ IsJob words NoWords = are_taken words ≡ false
 IsJob words (NoPlan asked fault) = SpellsCommand words asked × HasFault asked.query fault
 IsJob words (Planned asked plan) = SpellsCommand words asked × HasPlan asked.query plan
 
--- a plan was told: its text went out, or its first bytes where a write failed, and nothing came in
-abbrev pub IsTold : Status → List ℕ → List ℕ → Type 0
-IsTold Done text out = out ≡ text
-IsTold WriteFault text out = IsFront out text
-IsTold Memory text out = out ≡ []
-IsTold status text out = ⊥
+-- a plan was told: its text went out, or its first bytes where a write failed, and nothing came in. Where memory was wanting
+-- nothing was written at all
+abbrev pub IsTold : Status → List ℕ → List Entry → Type 0
+IsTold Done text J = outs J ≡ text
+IsTold WriteFault text J = IsFront (outs J) text
+IsTold Memory text J = J ≡ []
+IsTold status text J = ⊥
 
 pub record Tells (plan : PlanParts) (status : Status) (J : List Entry) : Type 0 where
   pub outs_alone : All IsOut J
-  pub told : IsTold status (explained plan) (outs J)
+  pub told : IsTold status (explained plan) J
 
 -- in mode run the query is answered, in mode explain its plan is told, and in mode sample the answer to generated lines is
 -- summed up

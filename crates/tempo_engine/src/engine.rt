@@ -77,7 +77,8 @@ impl Engine {
     pub fn new(alloc: Global, plan: Plan, options: Options) -> Result<Engine, Memory>
         requires batch { 1 ≤ options.batch }
         requires built { IsTrue (list_all is_built plan.nodes) }
-        ensures { IfOk result (λ e. Fed plan options.policy [] e) }
+        ensures fed { IfOk result (λ e. Fed plan options.policy [] e) }
+        ensures batch { IfOk result (λ e. e.work.dataflow.capacity ≡ options.batch) }
     {
         let work = Work::new(alloc, plan, options.policy, options.batch)?;
         Ok(Engine {

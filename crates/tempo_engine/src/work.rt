@@ -94,7 +94,8 @@ impl Work {
     ) -> Result<Work, Memory>
         requires batch { 1 ≤ batch }
         requires built { (i : ℕ) (n : Node) → slice_get plan.nodes i ≡ Some n → is_built n ≡ true }
-        ensures { IfOk result (λ e. HasFed plan policy [] e) }
+        ensures fed { IfOk result (λ e. HasFed plan policy [] e) }
+        ensures batch { IfOk result (λ e. e.dataflow.capacity ≡ batch) }
     {
         let ingress = Ingress::new(alloc, policy, plan.streams(), batch)?;
         let kinds = kinds_of_result(alloc, &plan)?;

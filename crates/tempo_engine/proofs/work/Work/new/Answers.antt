@@ -1,8 +1,8 @@
 use Rattle.std.proofs.Common.{◌≡◌, List, [], refl, sym, ap, ◌∙◌, rules}
 use Rattle.tempo_engine.proofs.work.Work.new.Goals as goal
 
-pub returns : goal.returns
-returns c =
+pub returns-clause-fed : goal.returns-clause-fed
+returns-clause-fed c =
     let fixed = (rw c.streams.ensures.streams at c.in_ok-ingress.ensures.fixed) in
     record {
       sound = c.streams.ensures.kept;

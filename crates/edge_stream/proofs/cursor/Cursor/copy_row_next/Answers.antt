@@ -5,7 +5,7 @@ use Rattle.batch.proofs.Keeping.{no_row}
 use Rattle.edge_history.specs.Order.{KeepsOrder}
 use Rattle.edge_stream.specs.Listing.{appended}
 use Rattle.edge_stream.proofs.Ahead.{stands, next_edge, row_within, row_occupied, head_is}
-use Rattle.edge_stream.proofs.cursor.Cursor.copy_next.Goals as goal
+use Rattle.edge_stream.proofs.cursor.Cursor.copy_row_next.Goals as goal
 
 pub append_row-requires-clause-place : goal.append_row-requires-clause-place
 append_row-requires-clause-place c =
