@@ -136,10 +136,26 @@ impl EdgeList {
         ensures err_pools { OnErr result (IsPartTaken pools.old pools.new (cells_of self.old)) }
         ensures full { IsErr result → self.old.room ≡ 0 }
     {
-        if !has_room(&self.batches) {
-            let batch = Batch::new(self.alloc, pools, &self.kinds)?;
-            self.batches.push_back(batch)?;
+        if has_room(&self.batches) {
+            Ok(())
+        } else {
+            self.open_batch(pools)
         }
+    }
+
+    // Opens a batch. It is a function of its own since a call clears the memory of all its locals, and
+    // a batch is large.
+    fn open_batch(&mut self, pools: &mut Pools) -> Result<(), Memory>
+        requires capacity { pools.old.capacity ≡ self.old.capacity }
+        requires full { self.old.room ≡ 0 }
+        ensures ok { OnOk result (self.new ≡ with_room self.old) }
+        ensures room { OnOk result (0 < self.new.room) }
+        ensures pools { OnOk result (pools.new ≡ room_taken self.old pools.old) }
+        ensures err { OnErr result (self.new ≡ self.old) }
+        ensures err_pools { OnErr result (IsPartTaken pools.old pools.new (cells_of self.old)) }
+    {
+        let batch = Batch::new(self.alloc, pools, &self.kinds)?;
+        self.batches.push_back(batch)?;
         Ok(())
     }
 
