@@ -10,17 +10,13 @@ use Rattle.line_text.specs.Number.{fraction, units_text, number_text}
 use Rattle.line_text.proofs.Digits.{own, read_digits, HasDigits, length-fraction, digits_fraction, value-fraction}
 use Rattle.line_text.proofs.Units.{quotient-le}
 use Rattle.row_reader.specs.Number.{units_of, number_of, below_zero, above_zero, has_minus, fits_i64}
+use Rattle.row_reader.proofs.Lines.{drop_at}
 use Rattle.row_reader.proofs.Numbers.{number_of-none}
 use Rattle.row_reader.proofs.Places.{units_of-none, units_of-spelled, units_first, units_injective}
 
 pub IfNone-any : {A : Type 0} (P : Type 0) (r : Option A) → P → IfNone r P
 IfNone-any P None p = p
 IfNone-any P (Some x) p = tt
-
-drop_at : (bs : List ℕ) (i : ℕ) → i < length bs → drop i bs ≡ get_or bs i 0 ∷ drop (i + 1) bs
-drop_at [] i h = absurd (omega arith)
-drop_at (b ∷ bs) zero h = refl
-drop_at (b ∷ bs) (suc i) h = let z : suc i + 1 ≡ suc (i + 1) = omega arith in rw z (drop_at bs i (omega arith))
 
 value-le : (ds : List ℕ) (n : ℕ) → n ≤ digits_value_after 10 n ds
 value-le [] n = omega arith
@@ -31,6 +27,10 @@ pub too_great : (bs : List ℕ) (i n m d : ℕ) → i < length bs → digit_valu
 too_great bs i n m d h g e =
     let s : digits_value_after 10 n (drop i bs) ≡ digits_value_after 10 (n * 10 + digit_value (get_or bs i 0)) (drop (i + 1) bs) = ap (digits_value_after 10 n) (drop_at bs i h) in
     omega (arith, s, e, g, value-le (drop (i + 1) bs) (n * 10 + digit_value (get_or bs i 0)))
+
+-- no digits stand where another byte does
+pub no_more : (bs : List ℕ) (i : ℕ) → i < length bs → AllDigits 10 (drop i bs) → 10 ≤ digit_value (get_or bs i 0) → ⊥
+no_more bs i h all other = let here = subst (AllDigits 10) (drop_at bs i h) all in omega (arith, here.0, other)
 
 -- a canonical text of digits
 pub whole_some : (r : Option ℕ) (bs : List ℕ) → 0 < length bs → get_or bs 0 0 ≢ 48 → IfSome r (λ n. AllDigits 10 bs) → IfSome r (λ n. n ≡ digits_value_after 10 0 bs) → IfSome r (λ n. n < 2 ^ 64) →

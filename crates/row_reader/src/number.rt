@@ -1,19 +1,23 @@
 // Numbers as they are spelled.
-ghost use Rattle.std.specs.Prelude.{◌≡◌, ◌++◌, ◌∷◌, ◌^◌, ◌<◌, ◌≤◌, ℕ, List, IfSome, IfNone, length, decimal, IsTrue};
+ghost use Rattle.std.specs.Prelude.{◌≡◌, ◌++◌, ◌∷◌, ◌^◌, ◌<◌, ◌≤◌, ℕ, List, IfSome, IfNone, length, decimal, IsTrue, false};
 ghost use Rattle.std.specs.Char.{digit_value};
 ghost use Rattle.std.specs.Str.Parse.{AllDigits, digits_value_after};
 ghost use Rattle.line_text.specs.Number.{units_text};
 ghost use Rattle.row_reader.specs.Number.{units_of, number_of, below_zero, above_zero, has_minus};
 
-/// The number that the digit is.
-fn digit_of(byte: u8) -> Option<u64>
-    ensures some { IfSome result (λ d. (digit_value byte ≡ d) × (d < 10)) }
-    ensures none { IfNone result (10 ≤ digit_value byte) }
+fn is_digit(byte: u8) -> bool
+    ensures digit { IsTrue result → (48 ≤ byte) × (byte ≤ 57) }
+    ensures other { result ≡ false → 10 ≤ digit_value byte }
 {
-    match byte {
-        b'0'..=b'9' => Some((byte - b'0') as u64),
-        _ => None,
-    }
+    matches!(byte, b'0'..=b'9')
+}
+
+/// The number that the digit is.
+fn digit_of(byte: u8) -> u64
+    requires { (48 ≤ byte) × (byte ≤ 57) }
+    ensures { (digit_value byte ≡ result) × (result < 10) }
+{
+    u64::from(byte - b'0')
 }
 
 /// The number that the digits add to one: to 12 the digits `05` add 1205. `None` where another byte is among them, or the
@@ -26,7 +30,10 @@ fn read_digits(start: u64, bytes: &[u8]) -> Option<u64>
 {
     let mut number = start;
     for byte in bytes {
-        let digit = digit_of(*byte)?;
+        if !is_digit(*byte) {
+            return None;
+        }
+        let digit = digit_of(*byte);
         number = number.checked_mul(10)?.checked_add(digit)?;
     }
     Some(number)
