@@ -6,6 +6,8 @@ use Rattle.std.specs.Str.Parse.{AllDigits, digits_value, digits_value_after}
 use Rattle.std.proofs.lemmas.Bool.Decides.{Decides-ltb, eqb_tells, nat_tests}
 use Rattle.std.proofs.lemmas.Fmt.{digits_decimal, digits_value-decimal, decimal-digits_value, decimal_digit, decimal_nonempty, first_decimal, decimal_injective}
 use Rattle.std.proofs.lemmas.List.{length-append, length-drop}
+use Rattle.std.proofs.lemmas.Grind.{pow_more}
+use Rattle.std.proofs.Math.Nat.{pow-le-pow_right}
 use Rattle.line_text.specs.Number.{fraction, units_text, number_text}
 use Rattle.line_text.proofs.Digits.{own, read_digits, HasDigits, length-fraction, digits_fraction, value-fraction}
 use Rattle.line_text.proofs.Units.{quotient-le}
@@ -31,6 +33,19 @@ too_great bs i n m d h g e =
 -- no digits stand where another byte does
 pub no_more : (bs : List ℕ) (i : ℕ) → i < length bs → AllDigits 10 (drop i bs) → 10 ≤ digit_value (get_or bs i 0) → ⊥
 no_more bs i h all other = let here = subst (AllDigits 10) (drop_at bs i h) all in omega (arith, here.0, other)
+
+-- fewer than twenty digits have a number of 64 bits
+pub power_up_to : (i j : ℕ) → i ≤ j → 10 ^ i ≤ 10 ^ j
+power_up_to i j h = pow-le-pow_right (omega arith) h
+
+pub one_digit_more : (n d i : ℕ) → n < 10 ^ i → d < 10 → n * 10 + d < 10 ^ (i + 1)
+one_digit_more n d i h low = omega (arith, pow_more 10 i, h, low)
+
+pub below_short : (n i : ℕ) → n < 10 ^ i → i ≤ 19 → n < 2 ^ 64
+below_short n i h low = omega (arith, power_up_to i 19 low, h)
+
+pub digit_fits : (n d i k : ℕ) → n < 10 ^ i → i < k → k ≤ 19 → d < 10 → n * 10 + d < 2 ^ 64
+digit_fits n d i k h below low digit = below_short (n * 10 + d) (i + 1) (one_digit_more n d i h digit) (omega (arith, below, low))
 
 -- a canonical text of digits
 pub whole_some : (r : Option ℕ) (bs : List ℕ) → 0 < length bs → get_or bs 0 0 ≢ 48 → IfSome r (λ n. AllDigits 10 bs) → IfSome r (λ n. n ≡ digits_value_after 10 0 bs) → IfSome r (λ n. n < 2 ^ 64) →
