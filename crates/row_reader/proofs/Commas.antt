@@ -1,5 +1,5 @@
 -- The fields of a line without quotes are the parts between its commas.
-use Rattle.std.proofs.Common.{◌≡◌, ◌<◌, ◌≤◌, ◌+◌, ◌-◌, ℕ, suc, List, [], ◌∷◌, ◌++◌, length, take, drop, Bool, true, false, cond, ltb, Option, Some, None, get_or, refl, sym, ◌∙◌, ap, arith, inl, inr, subst}
+use Rattle.std.proofs.Common.{◌≡◌, ◌<◌, ◌≤◌, ◌+◌, ◌-◌, ℕ, suc, List, [], ◌∷◌, ◌++◌, length, take, drop, Bool, true, false, cond, ltb, Option, Some, None, refl, sym, ◌∙◌, ap, arith, inl, inr, subst}
 use Rattle.std.specs.Prelude.{◌≢◌, ◌==◌, count_by}
 use Rattle.std.specs.List.{All, position_or_len}
 use Rattle.std.proofs.lemmas.Bool.Decides.{eqb_tells, Decides-ltb, nat_tests}
@@ -90,17 +90,6 @@ cut_here (b ∷ bs) h = elim (eqb_tells b 44) [
       let one : 1 + n ≡ suc n = omega arith in
       let two : suc n + 1 ≡ suc (n + 1) = omega arith in
       rw t.0 (rw one (rw two (ap (before_first b) later)))
-      )
-]
-
-pub comma_there : (text : List ℕ) → first_comma text < length text → get_or text (first_comma text) 0 ≡ 44
-comma_there [] h = absurd (omega arith)
-comma_there (b ∷ bs) h = elim (eqb_tells b 44) [
-  | inl t ↦ rw t.0 t.1
-  | inr t ↦ (
-      let low : first_comma bs < length bs = let g : 1 + first_comma bs < suc (length bs) = rw t.0 at h in omega (arith, g) in
-      let one : 1 + first_comma bs ≡ suc (first_comma bs) = omega arith in
-      rw t.0 (rw one (comma_there bs low))
       )
 ]
 

@@ -1,6 +1,7 @@
 -- What the reading of a line keeps, step by step.
 use Rattle.std.proofs.Common.{◌≡◌, ◌<◌, ◌≤◌, ℕ, zero, suc, ◌+◌, List, [], ◌∷◌, ◌++◌, length, drop, get_or, Bool, true, false, Option, Some, None, Result, Ok, Err, refl, sym, ◌∙◌, ap, arith, append_assoc}
 use Rattle.std.specs.Str.{IsUtf8, is_utf8}
+use Rattle.std.specs.Result.{MatchResult, is_ok}
 use Rattle.std.proofs.lemmas.Str.{IsUtf8-from_is_utf8, is_utf8-from_IsUtf8}
 use Rattle.std.proofs.lemmas.List.{append-nil}
 use Rattle.tw_rows.specs.Rows.{Row}
@@ -21,6 +22,10 @@ by_test bs false e h = e
 
 pub is_utf8-false : (bs : List ℕ) → ¬ (IsUtf8 bs) → is_utf8 bs ≡ false
 is_utf8-false bs h = by_test bs (is_utf8 bs) refl h
+
+pub told_by_result : {T E : Type 0} (r : Result T E) (bs : List ℕ) (P : T → Type 0) (Q : E → Type 0) → MatchResult r (λ x. P x × IsUtf8 bs) (λ e. ¬ (IsUtf8 bs) × Q e) → is_ok r ≡ is_utf8 bs
+told_by_result (Ok x) bs P Q h = sym (is_utf8-true bs h.1)
+told_by_result (Err e) bs P Q h = sym (is_utf8-false bs h.0)
 
 pub ruleset utf8_steps = (is_utf8-true, is_utf8-false)
 

@@ -110,3 +110,17 @@ no_fields = tt
 pub record_of-AllText : (line : List ℕ) → 0 < length line → All (λ b. b ≢ 13) line → All (λ b. b ≢ 10) line → IsUtf8 line → AllText (record_of line)
 record_of-AllText line some r n u =
     subst AllText (sym (IsSplit-start line Start [] [] [] some r n refl refl refl refl).reads) (texts_from line Start [] [] r n no_fields u)
+
+-- the first of fields that are texts, and the others
+pub text_first : (fs rest : List (List ℕ)) (f : List ℕ) → AllText fs → fs ≡ f ∷ rest → IsUtf8 f
+unfolding AllText
+text_first fs rest f t e = (subst AllText e t).0
+
+pub texts_behind : (fs rest : List (List ℕ)) (f : List ℕ) → AllText fs → fs ≡ f ∷ rest → AllText rest
+unfolding AllText
+texts_behind fs rest f t e = (subst AllText e t).1
+
+pub texts_left : (fs rest : List (List ℕ)) → AllText fs → rest ≡ drop 1 fs → AllText rest
+unfolding AllText
+texts_left [] rest t e = subst AllText (sym e) tt
+texts_left (f ∷ fs) rest t e = subst AllText (sym e) t.1

@@ -6,21 +6,19 @@ use Rattle.std.specs.Str.Parse.{AllDigits, digits_value, digits_value_after}
 use Rattle.std.proofs.lemmas.Bool.Decides.{Decides-ltb, eqb_tells, nat_tests}
 use Rattle.std.proofs.lemmas.Fmt.{digits_decimal, digits_value-decimal, decimal-digits_value, decimal_digit, decimal_nonempty, first_decimal, decimal_injective}
 use Rattle.std.proofs.lemmas.List.{length-append, length-drop}
+use Rattle.std.proofs.lemmas.Grind.{pow_more}
+use Rattle.std.proofs.Math.Nat.{pow-le-pow_right}
 use Rattle.line_text.specs.Number.{fraction, units_text, number_text}
 use Rattle.line_text.proofs.Digits.{own, read_digits, HasDigits, length-fraction, digits_fraction, value-fraction}
 use Rattle.line_text.proofs.Units.{quotient-le}
 use Rattle.row_reader.specs.Number.{units_of, number_of, below_zero, above_zero, has_minus, fits_i64}
+use Rattle.row_reader.proofs.Lines.{drop_at}
 use Rattle.row_reader.proofs.Numbers.{number_of-none}
 use Rattle.row_reader.proofs.Places.{units_of-none, units_of-spelled, units_first, units_injective}
 
 pub IfNone-any : {A : Type 0} (P : Type 0) (r : Option A) → P → IfNone r P
 IfNone-any P None p = p
 IfNone-any P (Some x) p = tt
-
-drop_at : (bs : List ℕ) (i : ℕ) → i < length bs → drop i bs ≡ get_or bs i 0 ∷ drop (i + 1) bs
-drop_at [] i h = absurd (omega arith)
-drop_at (b ∷ bs) zero h = refl
-drop_at (b ∷ bs) (suc i) h = let z : suc i + 1 ≡ suc (i + 1) = omega arith in rw z (drop_at bs i (omega arith))
 
 value-le : (ds : List ℕ) (n : ℕ) → n ≤ digits_value_after 10 n ds
 value-le [] n = omega arith
@@ -31,6 +29,23 @@ pub too_great : (bs : List ℕ) (i n m d : ℕ) → i < length bs → digit_valu
 too_great bs i n m d h g e =
     let s : digits_value_after 10 n (drop i bs) ≡ digits_value_after 10 (n * 10 + digit_value (get_or bs i 0)) (drop (i + 1) bs) = ap (digits_value_after 10 n) (drop_at bs i h) in
     omega (arith, s, e, g, value-le (drop (i + 1) bs) (n * 10 + digit_value (get_or bs i 0)))
+
+-- no digits stand where another byte does
+pub no_more : (bs : List ℕ) (i : ℕ) → i < length bs → AllDigits 10 (drop i bs) → 10 ≤ digit_value (get_or bs i 0) → ⊥
+no_more bs i h all other = let here = subst (AllDigits 10) (drop_at bs i h) all in omega (arith, here.0, other)
+
+-- fewer than twenty digits have a number of 64 bits
+pub power_up_to : (i j : ℕ) → i ≤ j → 10 ^ i ≤ 10 ^ j
+power_up_to i j h = pow-le-pow_right (omega arith) h
+
+pub one_digit_more : (n d i : ℕ) → n < 10 ^ i → d < 10 → n * 10 + d < 10 ^ (i + 1)
+one_digit_more n d i h low = omega (arith, pow_more 10 i, h, low)
+
+pub below_short : (n i : ℕ) → n < 10 ^ i → i ≤ 19 → n < 2 ^ 64
+below_short n i h low = omega (arith, power_up_to i 19 low, h)
+
+pub digit_fits : (n d i k : ℕ) → n < 10 ^ i → i < k → k ≤ 19 → d < 10 → n * 10 + d < 2 ^ 64
+digit_fits n d i k h below low digit = below_short (n * 10 + d) (i + 1) (one_digit_more n d i h digit) (omega (arith, below, low))
 
 -- a canonical text of digits
 pub whole_some : (r : Option ℕ) (bs : List ℕ) → 0 < length bs → get_or bs 0 0 ≢ 48 → IfSome r (λ n. AllDigits 10 bs) → IfSome r (λ n. n ≡ digits_value_after 10 0 bs) → IfSome r (λ n. n < 2 ^ 64) →

@@ -1,11 +1,13 @@
 -- How answers of the code stand to what a line says.
-use Rattle.std.specs.Prelude.{◌≡◌, ℕ, Option, Some, None, Result, Ok, Err}
+use Rattle.std.specs.Prelude.{◌≡◌, ℕ, List, Option, Some, None, Result, Ok, Err, if◌then◌else◌, ◌==◌, length}
 use Rattle.std.specs.Borrow.{Bor}
 use Rattle.tw_rows.specs.Rows.{Row}
 use Rattle.tw_rows.specs.declared.schema.StreamDef.{StreamDef}
-use Rattle.row_reader.specs.Entry.{Read}
+use Rattle.tw_rows.specs.declared.schema.ColumnDef.{ColumnDef}
+use Rattle.row_reader.specs.Entry.{Read, row_of}
 use Rattle.row_reader.specs.declared.entry.Entry.{Entry}
-use Rattle.row_reader.specs.declared.entry.BadLine.TheVariants.{BadValue}
+use Rattle.row_reader.specs.declared.entry.BadLine.{BadLine}
+use Rattle.row_reader.specs.declared.entry.BadLine.TheVariants.{WrongFields, BadValue}
 use Rattle.row_reader.specs.declared.entry.RowFault.{RowFault}
 use Rattle.row_reader.specs.declared.entry.RowFault.TheVariants.{Bad, Memory}
 
@@ -15,10 +17,22 @@ Answers (Ok entry) read = read ≡ Ok entry
 Answers (Err (Bad cause)) read = read ≡ Err cause
 Answers (Err Memory) read = Unit {0}
 
-abbrev pub AnswersRow : Result Row RowFault → Result Row ℕ → Type 0
+abbrev pub AnswersRow : Result Row RowFault → Result Row BadLine → Type 0
 AnswersRow (Ok row) read = read ≡ Ok row
-AnswersRow (Err (Bad cause)) read = (n : ℕ) × (cause ≡ BadValue n) × (read ≡ Err n)
+AnswersRow (Err (Bad cause)) read = read ≡ Err cause
 AnswersRow (Err Memory) read = Unit {0}
+
+-- the cause, where so many fields are left as are wanted
+abbrev pub unless_wrong : ℕ → List (List ℕ) → BadLine → BadLine
+unless_wrong wanted fields cause = if length fields == wanted then cause else WrongFields
+
+abbrev pub bad_value : Result Row ℕ → Result Row BadLine
+bad_value (Ok row) = Ok row
+bad_value (Err n) = Err (BadValue n)
+
+-- the values that the fields behind the times of an event spell: where the only column is an int, `7` gives the row of 7, `7,8` is WrongFields and `a` is BadValue 1
+abbrev pub values_of : List ColumnDef → List (List ℕ) → Result Row BadLine
+values_of columns fields = if length fields == length columns then bad_value (row_of 1 columns fields) else Err WrongFields
 
 -- a stream that was found, as the code gives it
 abbrev pub IsNamed : Option (ℕ × Bor StreamDef) → Option (ℕ × StreamDef) → Type 0

@@ -9,17 +9,17 @@ use csv::StringRecord;
 #[derive(Clone, Copy)]
 pub enum Fields<'a> {
     /// Those of a line without quotes: what is left of the line, and nothing where no field is left.
-    Plain(Option<&'a str>),
+    Plain(Option<&'a [u8]>),
     /// Those of a record, from that number on.
     Record(&'a StringRecord, usize),
 }
 
-/// The text before the first comma, and what stands behind that comma.
-fn split_field(text: &str) -> (&str, Option<&str>)
+/// The bytes before the first comma, and what stands behind that comma.
+fn split_field(text: &[u8]) -> (&[u8], Option<&[u8]>)
     ensures none { IfNone result.1 (commas text.now ≡ result.0.now ∷ []) }
     ensures some { IfSome result.1 (λ rest. commas text.now ≡ result.0.now ∷ commas rest.now) }
 {
-    match text.as_bytes().iter().position(|byte| *byte == b',') {
+    match text.iter().position(|byte| *byte == b',') {
         Some(comma) => (&text[..comma], Some(&text[comma + 1..])),
         None => (text, None),
     }
@@ -31,32 +31,36 @@ fn count_commas(bytes: &[u8]) -> usize
     bytes.iter().filter(|byte| **byte == b',').count()
 }
 
-#[tactic(auto, unfolding(crate::specs::Record::field_of, csv::specs::Records::field_at))]
 impl<'a> Fields<'a> {
+    /// The next field, which is taken off, where one is left.
+    pub fn next_field(&mut self) -> Option<&'a [u8]>
+        ensures some { IfSome result (λ field. left self.old ≡ field.now ∷ left self.new) }
+        ensures none { IfNone result ((left self.old ≡ []) × (left self.new ≡ [])) }
+    {
+        match self {
+            Fields::Plain(rest) => {
+                let (field, after) = split_field((*rest)?);
+                *rest = after;
+                Some(field)
+            }
+            Fields::Record(record, next) => {
+                let record = *record;
+                let field = record.get(*next)?;
+                *next += 1;
+                Some(field.as_bytes())
+            }
+        }
+    }
+
     /// The next field, which is taken off, or nothing where no field is left.
-    pub fn take_field(&mut self) -> &'a str
+    #[tactic(auto, using(crate::proofs::Steps::taken_off, crate::proofs::Steps::none_taken))]
+    pub fn take_field(&mut self) -> &'a [u8]
         ensures field { result.now ≡ field_of (left self.old) 0 }
         ensures left { left self.new ≡ drop 1 (left self.old) }
     {
-        match self {
-            Fields::Plain(rest) => match *rest {
-                None => "",
-                Some(text) => {
-                    let (field, after) = split_field(text);
-                    *rest = after;
-                    field
-                }
-            },
-            Fields::Record(record, next) => {
-                let record = *record;
-                match record.get(*next) {
-                    Some(field) => {
-                        *next += 1;
-                        field
-                    }
-                    None => "",
-                }
-            }
+        match self.next_field() {
+            Some(field) => field,
+            None => &[],
         }
     }
 
@@ -67,7 +71,7 @@ impl<'a> Fields<'a> {
         match self {
             Fields::Plain(rest) => match rest {
                 None => 0,
-                Some(text) => 1 + count_commas(text.as_bytes()),
+                Some(text) => 1 + count_commas(text),
             },
             Fields::Record(record, next) => record.len().saturating_sub(*next),
         }

@@ -1,6 +1,6 @@
 // The bytes of a line that are read.
-ghost use Rattle.std.specs.Prelude.{◌≡◌, ◌≤◌, IsTrue, length};
-ghost use Rattle.row_reader.specs.Line.{stripped, has_mark, text_of};
+ghost use Rattle.std.specs.Prelude.{◌≡◌, ◌≢◌, ◌≤◌, ◌<◌, IsTrue, false, length};
+ghost use Rattle.row_reader.specs.Line.{stripped, has_mark, text_of, AreSimple};
 
 /// U+FEFF in UTF-8, which may stand before the first line.
 const MARK: [u8; 3] = [0xEF, 0xBB, 0xBF];
@@ -36,4 +36,22 @@ pub fn text_of_line(line: &[u8], first: bool) -> &[u8]
     } else {
         text
     }
+}
+
+/// Whether the byte is beyond ASCII, a CR or a double quote.
+fn is_special(byte: u8) -> bool
+    ensures { result ≡ false → (byte < 128) × (byte ≢ 13) × (byte ≢ 34) }
+{
+    byte >= 128 || byte == b'\r' || byte == b'"'
+}
+
+/// Whether such a byte is in the line. Few lines have one, so all bytes are looked at, without a branch at each.
+pub fn has_special(line: &[u8]) -> bool
+    ensures { result ≡ false → AreSimple line.now }
+{
+    let mut found = false;
+    for byte in line {
+        found |= is_special(*byte);
+    }
+    found
 }

@@ -1,19 +1,45 @@
 // Numbers as they are spelled.
-ghost use Rattle.std.specs.Prelude.{◌≡◌, ◌++◌, ◌∷◌, ◌^◌, ◌<◌, ◌≤◌, ℕ, List, IfSome, IfNone, length, decimal, IsTrue};
+ghost use Rattle.std.specs.Prelude.{◌≡◌, ◌++◌, ◌∷◌, ◌^◌, ◌<◌, ◌≤◌, ℕ, List, IfSome, IfNone, length, decimal, IsTrue, false};
 ghost use Rattle.std.specs.Char.{digit_value};
 ghost use Rattle.std.specs.Str.Parse.{AllDigits, digits_value_after};
 ghost use Rattle.line_text.specs.Number.{units_text};
 ghost use Rattle.row_reader.specs.Number.{units_of, number_of, below_zero, above_zero, has_minus};
 
-/// The number that the digit is.
-fn digit_of(byte: u8) -> Option<u64>
-    ensures some { IfSome result (λ d. (digit_value byte ≡ d) × (d < 10)) }
-    ensures none { IfNone result (10 ≤ digit_value byte) }
+fn is_digit(byte: u8) -> bool
+    ensures digit { IsTrue result → (48 ≤ byte) × (byte ≤ 57) }
+    ensures other { result ≡ false → 10 ≤ digit_value byte }
 {
-    match byte {
-        b'0'..=b'9' => Some((byte - b'0') as u64),
-        _ => None,
+    matches!(byte, b'0'..=b'9')
+}
+
+/// The number that the digit is.
+fn digit_of(byte: u8) -> u64
+    requires { (48 ≤ byte) × (byte ≤ 57) }
+    ensures { (digit_value byte ≡ result) × (result < 10) }
+{
+    u64::from(byte - b'0')
+}
+
+/// The number of so many digits has 64 bits, whatever they are.
+const SHORT: usize = 19;
+
+/// The number of so few digits, which are added up without a test. `None` where another byte is among them.
+#[tactic(auto, using(crate::proofs::Whole::digit_fits, crate::proofs::Whole::one_digit_more, crate::proofs::Whole::below_short))]
+fn read_short(bytes: &[u8]) -> Option<u64>
+    requires { length bytes.now ≤ 19 }
+    ensures digits { IfSome result (λ n. AllDigits 10 bytes.now) }
+    ensures value { IfSome result (λ n. n ≡ digits_value_after 10 0 bytes.now) }
+    ensures small { IfSome result (λ n. n < 2 ^ 64) }
+    ensures none { IfNone result (AllDigits 10 bytes.now → digits_value_after 10 0 bytes.now < 2 ^ 64 → ⊥) }
+{
+    let mut number: u64 = 0;
+    for byte in bytes {
+        if !is_digit(*byte) {
+            return None;
+        }
+        number = number * 10 + digit_of(*byte);
     }
+    Some(number)
 }
 
 /// The number that the digits add to one: to 12 the digits `05` add 1205. `None` where another byte is among them, or the
@@ -26,10 +52,27 @@ fn read_digits(start: u64, bytes: &[u8]) -> Option<u64>
 {
     let mut number = start;
     for byte in bytes {
-        let digit = digit_of(*byte)?;
+        if !is_digit(*byte) {
+            return None;
+        }
+        let digit = digit_of(*byte);
         number = number.checked_mul(10)?.checked_add(digit)?;
     }
     Some(number)
+}
+
+/// The number of the digits. `None` where another byte is among them, or it has more than 64 bits.
+fn number_of_digits(bytes: &[u8]) -> Option<u64>
+    ensures digits { IfSome result (λ n. AllDigits 10 bytes.now) }
+    ensures value { IfSome result (λ n. n ≡ digits_value_after 10 0 bytes.now) }
+    ensures small { IfSome result (λ n. n < 2 ^ 64) }
+    ensures none { IfNone result (AllDigits 10 bytes.now → digits_value_after 10 0 bytes.now < 2 ^ 64 → ⊥) }
+{
+    if bytes.len() <= SHORT {
+        read_short(bytes)
+    } else {
+        read_digits(0, bytes)
+    }
 }
 
 /// The number of which these are the digits, without a leading zero.
@@ -44,7 +87,7 @@ fn read_whole(bytes: &[u8]) -> Option<u64>
     if bytes[0] == b'0' {
         return if bytes.len() == 1 { Some(0) } else { None };
     }
-    read_digits(0, bytes)
+    number_of_digits(bytes)
 }
 
 /// The number below the limit that the text spells: its decimal digits alone, without a sign or a leading zero, as in

@@ -1,5 +1,7 @@
 // Times, values and words of a line.
 ghost use Rattle.std.specs.Prelude.{◌≡◌, IfOk};
+ghost use Rattle.std.specs.Str.{IsUtf8};
+ghost use Rattle.tw_rows.specs.declared.kind.Kind.TheVariants as kinds;
 ghost use Rattle.row_reader.specs.Values.{time_of, end_of, inf_of, form_of, times_of, is_alive, value_of};
 
 use crate::number::{read_number, read_places};
@@ -8,10 +10,10 @@ use std::alloc::Global;
 use tw_rows::{Kind, Label, Memory, Time, Value};
 
 #[tactic(auto, unfolding(tw_rows::specs::Instant::inf))]
-fn read_time(text: &str) -> Option<Time>
+fn read_time(text: &[u8]) -> Option<Time>
     ensures { result ≡ time_of text.now }
 {
-    match read_number(text.as_bytes(), 1 << 60) {
+    match read_number(text, 1 << 60) {
         Some(number) => Time::new(number),
         None => None,
     }
@@ -19,10 +21,10 @@ fn read_time(text: &str) -> Option<Time>
 
 /// The time that the text spells, which may be infinity.
 #[tactic(auto, unfolding(crate::specs::Values::end_of, tw_rows::specs::Instant::inf))]
-pub fn read_end(text: &str) -> Option<Time>
+pub fn read_end(text: &[u8]) -> Option<Time>
     ensures { result ≡ end_of text.now }
 {
-    if text == "inf" {
+    if text == b"inf".as_slice() {
         Some(Time::INF)
     } else {
         read_time(text)
@@ -30,22 +32,26 @@ pub fn read_end(text: &str) -> Option<Time>
 }
 
 #[tactic(auto, unfolding(crate::specs::Values::inf_of, tw_rows::specs::Instant::inf))]
-fn read_inf(text: &str) -> Option<Time>
+fn read_inf(text: &[u8]) -> Option<Time>
     ensures { result ≡ inf_of text.now }
 {
-    if text == "inf" { Some(Time::INF) } else { None }
+    if text == b"inf".as_slice() {
+        Some(Time::INF)
+    } else {
+        None
+    }
 }
 
 /// What a line of that second field says of an event.
 #[tactic(auto, unfolding(crate::specs::Values::form_of))]
-pub fn read_form(text: &str) -> Option<Form>
+pub fn read_form(text: &[u8]) -> Option<Form>
     ensures { result ≡ form_of text.now }
 {
-    if text == "interval" {
+    if text == b"interval".as_slice() {
         Some(Form::Interval)
-    } else if text == "start" {
+    } else if text == b"start".as_slice() {
         Some(Form::Start)
-    } else if text == "end" {
+    } else if text == b"end".as_slice() {
         Some(Form::End)
     } else {
         None
@@ -54,7 +60,7 @@ pub fn read_form(text: &str) -> Option<Form>
 
 /// The two times of an event line, as they stand.
 #[tactic(auto, unfolding(crate::specs::Values::times_of))]
-pub fn read_times(form: Form, sync: &str, other: &str) -> Option<(Time, Time)>
+pub fn read_times(form: Form, sync: &[u8], other: &[u8]) -> Option<(Time, Time)>
     ensures { result ≡ times_of form sync.now other.now }
 {
     let sync = read_time(sync)?;
@@ -76,19 +82,41 @@ pub fn has_life(form: Form, sync: Time, other: Time) -> bool
     }
 }
 
-/// The value of that kind that the text spells.
+/// The truth value of that name.
 #[tactic(auto, unfolding(crate::specs::Values::value_of))]
-pub fn read_value(alloc: Global, kind: Kind, text: &str) -> Result<Option<Value>, Memory>
+fn read_flag(text: &[u8]) -> Option<Value>
+    ensures { result ≡ value_of kinds.Bool text.now }
+{
+    if text == b"true".as_slice() {
+        Some(Value::Bool(true))
+    } else if text == b"false".as_slice() {
+        Some(Value::Bool(false))
+    } else {
+        None
+    }
+}
+
+/// The text of these bytes.
+fn as_text(bytes: &[u8]) -> &str
+    requires { IsUtf8 bytes.now }
+    ensures { result.now ≡ bytes.now }
+{
+    match str::from_utf8(bytes) {
+        Ok(text) => text,
+        Err(_) => unreachable!(),
+    }
+}
+
+/// The value of that kind that the bytes of a text spell.
+#[tactic(auto, unfolding(crate::specs::Values::value_of))]
+pub fn read_value(alloc: Global, kind: Kind, text: &[u8]) -> Result<Option<Value>, Memory>
+    requires { IsUtf8 text.now }
     ensures { IfOk result (λ value. value ≡ value_of kind text.now) }
 {
     Ok(match kind {
-        Kind::Int => read_places(text.as_bytes(), 0).map(Value::Int),
-        Kind::Dec(places) => read_places(text.as_bytes(), places).map(Value::Int),
-        Kind::Bool => match text {
-            "true" => Some(Value::Bool(true)),
-            "false" => Some(Value::Bool(false)),
-            _ => None,
-        },
-        Kind::Text => Some(Value::Text(Label::new(alloc, text)?)),
+        Kind::Int => read_places(text, 0).map(Value::Int),
+        Kind::Dec(places) => read_places(text, places).map(Value::Int),
+        Kind::Bool => read_flag(text),
+        Kind::Text => Some(Value::Text(Label::new(alloc, as_text(text))?)),
     })
 }

@@ -12,7 +12,7 @@ pub returns-else-bytes-eq1-clause-none : goal.returns-else-bytes-eq1-clause-none
 returns-else-bytes-eq1-clause-none c = λ n low e. leading_zero c.args.bytes.now n (search rules) (search rules) low e
 
 pub returns-clause-some : goal.returns-clause-some
-returns-clause-some c = whole_some c.read_digits.result c.args.bytes.now (search rules) (search rules) c.read_digits.ensures.digits c.read_digits.ensures.value c.read_digits.ensures.small
+returns-clause-some c = whole_some c.number_of_digits.result c.args.bytes.now (search rules) (search rules) c.number_of_digits.ensures.digits c.number_of_digits.ensures.value c.number_of_digits.ensures.small
 
 pub returns-clause-none : goal.returns-clause-none
-returns-clause-none c = whole_none c.read_digits.result c.args.bytes.now c.read_digits.ensures.none
+returns-clause-none c = whole_none c.number_of_digits.result c.args.bytes.now c.number_of_digits.ensures.none

@@ -1,54 +1,44 @@
-use Rattle.std.proofs.Common.{◌≡◌, ◌+◌, sym, ◌∙◌, ap, drop, length}
+use Rattle.std.proofs.Common.{Err, sym, ◌∙◌, ap, length, arith}
 use Rattle.std.proofs.lemmas.Result.{err_from_is_err_and}
-use Rattle.row_reader.specs.Record.{field_of}
-use Rattle.row_reader.specs.Values.{form_of, times_of}
-use Rattle.row_reader.specs.Fields.{left}
-use Rattle.row_reader.proofs.Steps.{field_of-drop, drop_again, event_bad_time, event_bad_life, event_ok, event_err}
+use Rattle.row_reader.specs.declared.entry.BadLine.{BadLine}
+use Rattle.row_reader.proofs.Steps.{heads, wanted_is, event_no_form, event_odd, event_bad_time, event_bad_life, event_ok, event_err}
+use Rattle.row_reader.proofs.TextFields.{texts_behind}
 use Rattle.row_reader.proofs.read.read_event.Goals as goal
 
+pub returns-in_default : goal.returns-in_default
+returns-in_default c = λ all w l. event_no_form c.args.stream c.args.schema.now all _ w (sym c.read_form.ensures ∙ c.in_default.is)
+
+pub returns-in_default-next_field : goal.returns-in_default-next_field
+returns-in_default-next_field c = λ all w l.
+    event_odd c.args.stream c.args.schema.now all _ _ c.in-Some.form w l (sym c.read_form.ensures ∙ c.in-Some.is) (omega (arith, ap (λ l. length l) c.in_default-next_field.ensures.none.0))
+
+pub returns-in_default-next_field-2 : goal.returns-in_default-next_field-2
+returns-in_default-next_field-2 c = λ all w l.
+    event_odd c.args.stream c.args.schema.now all _ _ c.in-Some.form w l (sym c.read_form.ensures ∙ c.in-Some.is)
+    (omega (arith, ap (λ l. length l) c.in-Some-next_field.ensures.some, ap (λ l. length l) c.in_default-next_field-2.ensures.none.0))
+
 pub returns-in_default-read_times : goal.returns-in_default-read_times
-returns-in_default-read_times c =
-    let fs = left c.args.fields in
-    let form : form_of (field_of fs 0) ≡ _ = ap form_of (sym c.take_field.ensures.field) ∙ sym c.read_form.ensures ∙ c.in-Some.is in
-    let many = sym c.count-count.ensures ∙ c.if-count-items.false ∙ ap (λ l. length l + 3) c.items.ensures in
-    let first = c.take_field-sync.ensures.field ∙ ap (λ l. field_of l 0) c.take_field.ensures.left ∙ field_of-drop 1 fs in
-    let left2 = c.take_field-sync.ensures.left ∙ ap (λ l. drop 1 l) c.take_field.ensures.left ∙ drop_again 1 fs in
-    let second = c.take_field-other.ensures.field ∙ ap (λ l. field_of l 0) left2 ∙ field_of-drop 2 fs in
-    let times = ap (λ a. times_of c.in-Some.form a (field_of fs 2)) (sym first) ∙ ap (λ b. times_of c.in-Some.form c.take_field-sync.result.now b) (sym second) ∙ sym c.read_times.ensures in
-    event_bad_time c.args.stream c.args.schema.now fs c.in-Some.form form many (times ∙ c.in_default-read_times.is)
+returns-in_default-read_times c = λ all w l.
+    let h = heads all _ _ _ _ _ _ c.in-Some.form w l (sym c.read_form.ensures ∙ c.in-Some.is) c.in-Some-next_field.ensures.some c.in-Some-next_field-2.ensures.some in
+    event_bad_time c.args.stream c.args.schema.now all _ c.in-Some.form _ _ h (sym c.read_times.ensures ∙ c.in_default-read_times.is)
+    ∙ ap (λ (b : BadLine). Err b) (wanted_is _ _ _ _ _ c.items-columns.ensures c.unless_wrong_fields-cause.ensures)
 
 pub returns-then-not-has_life : goal.returns-then-not-has_life
-returns-then-not-has_life c =
-    let fs = left c.args.fields in
-    let form : form_of (field_of fs 0) ≡ _ = ap form_of (sym c.take_field.ensures.field) ∙ sym c.read_form.ensures ∙ c.in-Some.is in
-    let many = sym c.count-count.ensures ∙ c.if-count-items.false ∙ ap (λ l. length l + 3) c.items.ensures in
-    let first = c.take_field-sync.ensures.field ∙ ap (λ l. field_of l 0) c.take_field.ensures.left ∙ field_of-drop 1 fs in
-    let left2 = c.take_field-sync.ensures.left ∙ ap (λ l. drop 1 l) c.take_field.ensures.left ∙ drop_again 1 fs in
-    let second = c.take_field-other.ensures.field ∙ ap (λ l. field_of l 0) left2 ∙ field_of-drop 2 fs in
-    let times = ap (λ a. times_of c.in-Some.form a (field_of fs 2)) (sym first) ∙ ap (λ b. times_of c.in-Some.form c.take_field-sync.result.now b) (sym second) ∙ sym c.read_times.ensures in
-    event_bad_life c.args.stream c.args.schema.now fs c.in-Some.form _ _ form many (times ∙ c.in-Some-read_times.is) (sym c.has_life.ensures ∙ c.if-not-has_life.true)
+returns-then-not-has_life c = λ all w l.
+    let h = heads all _ _ _ _ _ _ c.in-Some.form w l (sym c.read_form.ensures ∙ c.in-Some.is) c.in-Some-next_field.ensures.some c.in-Some-next_field-2.ensures.some in
+    event_bad_life c.args.stream c.args.schema.now all _ c.in-Some.form _ _ _ _ h (sym c.read_times.ensures ∙ c.in-Some-read_times.is) (sym c.has_life.ensures ∙ c.if-not-has_life.true)
+    ∙ ap (λ (b : BadLine). Err b) (wanted_is _ _ _ _ _ c.items-columns.ensures c.unless_wrong_fields-cause-then-not-has_life.ensures)
+
+pub read_values-requires : goal.read_values-requires
+read_values-requires c = texts_behind _ _ _ (texts_behind _ _ _ c.requires c.in-Some-next_field.ensures.some) c.in-Some-next_field-2.ensures.some
 
 pub returns-in_err-row : goal.returns-in_err-row
-returns-in_err-row c =
-    let fs = left c.args.fields in
-    let form : form_of (field_of fs 0) ≡ _ = ap form_of (sym c.take_field.ensures.field) ∙ sym c.read_form.ensures ∙ c.in-Some.is in
-    let many = sym c.count-count.ensures ∙ c.if-count-items.false ∙ ap (λ l. length l + 3) c.items.ensures in
-    let first = c.take_field-sync.ensures.field ∙ ap (λ l. field_of l 0) c.take_field.ensures.left ∙ field_of-drop 1 fs in
-    let left2 = c.take_field-sync.ensures.left ∙ ap (λ l. drop 1 l) c.take_field.ensures.left ∙ drop_again 1 fs in
-    let second = c.take_field-other.ensures.field ∙ ap (λ l. field_of l 0) left2 ∙ field_of-drop 2 fs in
-    let left3 = c.take_field-other.ensures.left ∙ ap (λ l. drop 1 l) left2 ∙ drop_again 2 fs in
-    let times = ap (λ a. times_of c.in-Some.form a (field_of fs 2)) (sym first) ∙ ap (λ b. times_of c.in-Some.form c.take_field-sync.result.now b) (sym second) ∙ sym c.read_times.ensures in
+returns-in_err-row c = λ all w l.
+    let h = heads all _ _ _ _ _ _ c.in-Some.form w l (sym c.read_form.ensures ∙ c.in-Some.is) c.in-Some-next_field.ensures.some c.in-Some-next_field-2.ensures.some in
     let p = err_from_is_err_and c.from_residual.result c.from_residual.ensures.1 in
-    rw (p.1, p.2) (event_err c.args.stream c.args.schema.now fs (left c.take_field-other.new.self) c.in-Some.form _ _ c.in_err-row.field-0.0 form many (times ∙ c.in-Some-read_times.is) (sym c.has_life.ensures ∙ c.if-not-has_life.false) left3 c.in_err-row.ensures)
+    rw (p.1, p.2) (event_err c.args.stream c.args.schema.now all _ c.in-Some.form _ _ _ _ c.in_err-row.field-0.0 h (sym c.read_times.ensures ∙ c.in-Some-read_times.is) (sym c.has_life.ensures ∙ c.if-not-has_life.false) c.in_err-row.ensures)
 
 pub returns : goal.returns
-returns c =
-    let fs = left c.args.fields in
-    let form : form_of (field_of fs 0) ≡ _ = ap form_of (sym c.take_field.ensures.field) ∙ sym c.read_form.ensures ∙ c.in-Some.is in
-    let many = sym c.count-count.ensures ∙ c.if-count-items.false ∙ ap (λ l. length l + 3) c.items.ensures in
-    let first = c.take_field-sync.ensures.field ∙ ap (λ l. field_of l 0) c.take_field.ensures.left ∙ field_of-drop 1 fs in
-    let left2 = c.take_field-sync.ensures.left ∙ ap (λ l. drop 1 l) c.take_field.ensures.left ∙ drop_again 1 fs in
-    let second = c.take_field-other.ensures.field ∙ ap (λ l. field_of l 0) left2 ∙ field_of-drop 2 fs in
-    let left3 = c.take_field-other.ensures.left ∙ ap (λ l. drop 1 l) left2 ∙ drop_again 2 fs in
-    let times = ap (λ a. times_of c.in-Some.form a (field_of fs 2)) (sym first) ∙ ap (λ b. times_of c.in-Some.form c.take_field-sync.result.now b) (sym second) ∙ sym c.read_times.ensures in
-    event_ok c.args.stream c.args.schema.now fs (left c.take_field-other.new.self) c.in-Some.form _ _ c.in_ok-row.row form many (times ∙ c.in-Some-read_times.is) (sym c.has_life.ensures ∙ c.if-not-has_life.false) left3 c.in_ok-row.ensures
+returns c = λ all w l.
+    let h = heads all _ _ _ _ _ _ c.in-Some.form w l (sym c.read_form.ensures ∙ c.in-Some.is) c.in-Some-next_field.ensures.some c.in-Some-next_field-2.ensures.some in
+    event_ok c.args.stream c.args.schema.now all _ c.in-Some.form _ _ _ _ c.in_ok-row.row h (sym c.read_times.ensures ∙ c.in-Some-read_times.is) (sym c.has_life.ensures ∙ c.if-not-has_life.false) c.in_ok-row.ensures

@@ -1,29 +1,51 @@
-use Rattle.std.proofs.Common.{◌≡◌, ◌<◌, ◌≤◌, ◌+◌, Ok, ℕ, List, length, get_or, ap, refl, sym, subst, ◌∙◌}
+use Rattle.std.proofs.Common.{◌≡◌, ◌<◌, ◌≤◌, ◌+◌, Ok, Err, ℕ, List, length, get_or, ap, sym, subst, ◌∙◌, arith}
 use Rattle.tw_rows.specs.Rows.{Row}
 use Rattle.tw_rows.specs.declared.schema.ColumnDef.{ColumnDef}
 use Rattle.row_reader.specs.Values.{value_of}
+use Rattle.row_reader.specs.declared.entry.BadLine.{BadLine}
+use Rattle.row_reader.proofs.TextFields.{text_first, texts_behind}
 use Rattle.row_reader.proofs.Reading.{AreRead-next, AreRead-bad, AreRead-end}
+use Rattle.row_reader.proofs.Steps.{taken_off, values_short, values_bad, values_read, as_many}
 use Rattle.row_reader.proofs.read.read_values.Goals as goal
 
 item_of : (xs columns : List ColumnDef) (n : ℕ) (d : ColumnDef) → xs ≡ columns → d ≡ get_or xs n d → d ≡ get_or columns n d
 item_of xs columns n d same h = h ∙ ap (λ l. get_or l n d) same
 
+pub returns-in_default : goal.returns-in_default
+returns-in_default c = values_short c.args.schema.now _ (λ e.
+    omega (arith, e, c.loop-i.invariant.many, ap (λ l. length l) c.in_default.ensures.none.0, c.loop-i-test.true, ap (λ l. length l) c.items-columns.ensures))
+
+pub read_value-requires : goal.read_value-requires
+read_value-requires c = text_first _ _ _ c.loop-i.invariant.texts c.in-Some.ensures.some
+
 pub returns-in-None : goal.returns-in-None
 returns-in-None c =
-    let same = c.items-columns.ensures in (
-      c.loop-i.i + 1,
-      refl,
-      AreRead-bad _ _ _ c.loop-i.i c.index-columns-i.result c.in_ok-value.field-0 _ c.loop-i.invariant (subst (λ l. c.loop-i.i < length l) same c.loop-i-test.true)
-          (item_of _ _ _ _ same c.index-columns-i.is) (c.in_ok-value.ensures ∙ ap (value_of c.index-columns-i.result.kind) c.take_field.ensures.field) c.in-None.is,
-    )
+    let same = c.items-columns.ensures in
+    let off = taken_off _ _ _ c.in-Some.ensures.some in
+    let bad = AreRead-bad _ _ _ c.loop-i.i c.index-columns-i.result c.in_ok-value.field-0 _ c.loop-i.invariant.read (subst (λ l. c.loop-i.i < length l) same c.loop-i-test.true)
+    (item_of _ _ _ _ same c.index-columns-i.is) (c.in_ok-value.ensures ∙ ap (value_of c.index-columns-i.result.kind) off.0) c.in-None.is in
+    let many = c.loop-i.invariant.many in
+    let one = ap (λ l. length l) c.in-Some.ensures.some in
+    let all = ap (λ l. length l) same in
+    values_bad c.args.schema.now _ _ (c.loop-i.i + 1) _ bad (as_many _ _ _ _ (λ e. omega (arith, e, many, one, all, c.loop-i-test.true)) (λ e. omega (arith, e, many, one, all, c.loop-i-test.true)))
+    ∙ ap (λ (b : BadLine). Err b) (sym c.unless_wrong_fields.ensures)
 
 pub loop-i-preserved : goal.loop-i-preserved
 loop-i-preserved c =
     let same = c.items-columns.ensures in
-    AreRead-next _ _ _ _ c.loop-i.i c.index-columns-i.result c.in-Some.value c.in_ok-value.field-0 _ _ c.loop-i.invariant (subst (λ l. c.loop-i.i < length l) same c.loop-i-test.true)
-    (item_of _ _ _ _ same c.index-columns-i.is) (c.in_ok-value.ensures ∙ ap (value_of c.index-columns-i.result.kind) c.take_field.ensures.field) c.in-Some.is c.in_ok-push-in-Some.ensures.items c.take_field.ensures.left
+    let off = taken_off _ _ _ c.in-Some.ensures.some in record {
+      read = AreRead-next _ _ _ _ c.loop-i.i c.index-columns-i.result c.in-Some-2.value c.in_ok-value.field-0 _ _ c.loop-i.invariant.read (subst (λ l. c.loop-i.i < length l) same c.loop-i-test.true)
+          (item_of _ _ _ _ same c.index-columns-i.is) (c.in_ok-value.ensures ∙ ap (value_of c.index-columns-i.result.kind) off.0) c.in-Some-2.is c.in_ok-push-in-Some-2.ensures.items off.1;
+      texts = texts_behind _ _ _ c.loop-i.invariant.texts c.in-Some.ensures.some;
+      many = omega (arith, c.loop-i.invariant.many, ap (λ l. length l) c.in-Some.ensures.some);
+    }
 
-pub returns : goal.returns
-returns c =
+pub returns-in-Some-next_field : goal.returns-in-Some-next_field
+returns-in-Some-next_field c = values_short c.args.schema.now _ (λ e.
+    omega (arith, e, c.loop-i.invariant.many, ap (λ l. length l) c.in-Some-next_field.ensures.some, c.loop-i-test.false, ap (λ l. length l) c.items-columns.ensures))
+
+pub returns-in-None-next_field : goal.returns-in-None-next_field
+returns-in-None-next_field c =
     let same = c.items-columns.ensures in
-    AreRead-end _ _ _ c.loop-i.i _ c.loop-i.invariant (subst (λ l. length l ≤ c.loop-i.i) same c.loop-i-test.false) ∙ ap (λ (x : Row). Ok x) (sym c.from_vec.ensures)
+    values_read c.args.schema.now _ _ (omega (arith, c.loop-i.invariant.many, ap (λ l. length l) c.in-None-next_field.ensures.none.0, c.loop-i.auto.i-end, c.loop-i-test.false, ap (λ l. length l) same))
+    (AreRead-end _ _ _ c.loop-i.i _ c.loop-i.invariant.read (subst (λ l. length l ≤ c.loop-i.i) same c.loop-i-test.false)) ∙ ap (λ (x : Row). Ok x) (sym c.from_vec.ensures)

@@ -18,4 +18,4 @@ is_instant None bytes text n same spelled none some =
 is_instant (Some t) bytes text n same spelled none some = ap Some some ∙ sym spelled ∙ ap time_of same
 
 pub returns-in-Some : goal.returns-in-Some
-returns-in-Some c = is_instant _ _ _ c.in-Some.number c.as_bytes.ensures.value (sym c.read_number.ensures ∙ c.in-Some.is) c.new.ensures.none c.new.ensures.some
+returns-in-Some c = is_instant _ _ _ c.in-Some.number refl (sym c.read_number.ensures ∙ c.in-Some.is) c.new.ensures.none c.new.ensures.some
