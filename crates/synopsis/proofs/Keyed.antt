@@ -1,15 +1,15 @@
 -- Rows in buckets: what changes where one bucket does, and which rows are those of a key.
-use Rattle.std.specs.Prelude.{◌≡◌, ℕ, zero, suc, ◌+◌, ◌≤◌, ◌<◌, ◌==◌, nat_eq, nat_lt, Bool, true, false, cond, Option, Some, None, IfSome, Result, Ok, Err, OnErr, List, [], ◌∷◌, ◌++◌, filter, flat_map, length, slice_get, get_or, drop, Vec, refl}
+use Rattle.std.specs.Prelude.{◌≡◌, ℕ, zero, suc, ◌+◌, ◌≤◌, ◌<◌, ◌==◌, nat_eq, nat_lt, Bool, true, false, cond, Option, Some, None, is_some, IfSome, Result, Ok, Err, OnErr, List, [], ◌∷◌, ◌++◌, filter, flat_map, length, slice_get, get_or, drop, Vec, refl}
 use Rattle.std.specs.List.{swap_remove, IsDistinct, AllByRecursion}
 use Rattle.std.specs.Map.{keys_of, values_of, lookup, set_value}
-use Rattle.std.proofs.Common.{sym, ◌∙◌, ap, subst, arith, length-append}
+use Rattle.std.proofs.Common.{sym, ◌∙◌, ap, arith, length-append}
 use Rattle.std.proofs.lemmas.Bool.{and_parts, eqb-true}
 use Rattle.std.proofs.lemmas.Bool.Decides.{nat_tests}
 use Rattle.std.proofs.lemmas.List.Sums.{sum_by-swap_remove}
 use Rattle.std.proofs.lemmas.Map.Keys.{IsDistinct-head, IsDistinct-tail}
 use Rattle.std.proofs.lemmas.Option.{get_or_from_slice_get, slice_get_within, slice_get-map}
 use Rattle.std.specs.Option.{option_map}
-use Rattle.indexmap.specs.IndexMap.{IndexMap, get, insert_entry}
+use Rattle.indexmap.specs.IndexMap.{IndexMap, get, insert_entry, set_value_at}
 use Rattle.indexmap.proofs.CallerLemmas.{insert_entry-new}
 use Rattle.std.specs.Cmp.Lexicographic.{pointwise}
 use Rattle.tw_rows.specs.contracts.cells.DatumPartialEq.TheImpl as datum_block
@@ -70,16 +70,6 @@ module _ {S : Type 0} (test : Vec Datum S → Bool) where
       go true h rest = ap (λ l. (e.0, l) ∷ es) (sym (ap (value_or b) h))
       go false h rest = ap (λ l. e ∷ l) (rest h)
 
-  -- what was set is found
-  pub found_again : (es : List (Entry S)) (b c : List HeldRow) → lookup test es ≡ Some b → lookup test (set_value test es c) ≡ Some c
-  found_again [] b c h = absurd (cc)
-  found_again (e ∷ es) b c h = go (test e.0) refl h (found_again es b c)
-    where
-      go : (t : Bool) → test e.0 ≡ t → cond t (Some e.1) (lookup test es) ≡ Some b → (lookup test es ≡ Some b → lookup test (set_value test es c) ≡ Some c) →
-          lookup test (cond t ((e.0, c) ∷ es) (e ∷ set_value test es c)) ≡ Some c
-      go true is h rest = ap (λ t. cond t (Some c) (lookup test es)) is
-      go false is h rest = ap (λ t. cond t (Some e.1) (lookup test (set_value test es c))) is ∙ rest h
-
 -- the rows of a bucket that fail a test, where a row that passes comes or one goes
 pub rows_weigh : {S : Type 0} (w : HeldRow → ℕ) (es : List (Entry S)) → total w (rows_in es) ≡ total (λ e. total w e.1) es
 rows_weigh {S} w es = total-flat_map w (λ (e : Entry S). e.1) es
@@ -134,55 +124,6 @@ module _ {S : Type 0} (test : Vec Datum S → Bool) (values : List Datum) (tests
       let fill = keyed.filled in
       record { own = omega (arith, m, a, own, o); filled = omega (arith, n, full, fill) }
 
-  -- a row is taken out of the bucket of its key
-  pub take_weighs : (es : List (Entry S)) (b c : List HeldRow) (cells : List Datum) (start : ℕ) → lookup test es ≡ Some b →
-      ((w : HeldRow → ℕ) → total w b ≡ total w c + w (record { cells = cells; start = start })) → (w : HeldRow → ℕ) →
-      total w (rows_in es) ≡ total w (rows_in (set_value test es c)) + w (record { cells = cells; start = start })
-  take_weighs es b c cells start h is w =
-      let f = found test es b h in
-      let m = f.moved (λ e. total w e.1) c in
-      let a = is w in
-      let x = rows_weigh w es in
-      let y = rows_weigh w (set_value test es c) in
-      omega (arith, m, a, x, y)
-
-  take_own : (es : List (Entry S)) (b c : List HeldRow) (cells : List Datum) (start : ℕ) → lookup test es ≡ Some b →
-      ((w : HeldRow → ℕ) → total w b ≡ total w c + w (record { cells = cells; start = start })) → (columns : List ℕ) → total (strays columns) es ≡ 0 →
-      total (strays columns) (set_value test es c) ≡ 0
-  take_own es b c cells start h is columns own =
-      let f = found test es b h in
-      let m = f.moved (strays columns) c in
-      let p : HeldRow → Bool = is_of_key columns f.key.items in
-      let a = is (λ r. cond {A = ℕ} (p r) 0 1) in
-      omega (arith, m, a, own)
-
-  -- a bucket that keeps a row stays
-  pub take_keyed : (es : List (Entry S)) (b c : List HeldRow) (cells : List Datum) (start : ℕ) → lookup test es ≡ Some b →
-      ((w : HeldRow → ℕ) → total w b ≡ total w c + w (record { cells = cells; start = start })) → 1 ≤ length c → (columns : List ℕ) →
-      AreKeyed columns es → AreKeyed columns (set_value test es c)
-  take_keyed es b c cells start h is some columns keyed =
-      let f = found test es b h in
-      let n = f.moved (λ e. cond {A = ℕ} (has_rows e) 0 1) c in
-      let full = cond_zero (nat_lt 0 (length c)) (positive (length c) (omega (arith, some))) in
-      let fill = keyed.filled in
-      record { own = take_own es b c cells start h is columns keyed.own; filled = omega (arith, n, full, fill) }
-
-  -- a bucket that is left empty goes
-  pub gone_keyed : (es fs : List (Entry S)) (b c : List HeldRow) (cells : List Datum) (start : ℕ) → lookup test es ≡ Some b →
-      ((w : HeldRow → ℕ) → total w b ≡ total w c + w (record { cells = cells; start = start })) → c ≡ [] → (p : Entry S) → p.1 ≡ [] →
-      ((v : Entry S → ℕ) → total v fs + v p ≡ total v (set_value test es c)) → (columns : List ℕ) → AreKeyed columns es → AreKeyed columns fs
-  gone_keyed es fs b c cells start h is empty p bare gone columns keyed =
-      let f = found test es b h in
-      let v : Entry S → ℕ = λ e. cond {A = ℕ} (has_rows e) 0 1 in
-      let n = f.moved v c in
-      let one = cond_one (nat_lt 0 (length c)) (ap (λ (l : List HeldRow). nat_lt 0 (length l)) empty) in
-      let other = cond_one (nat_lt 0 (length p.1)) (ap (λ (l : List HeldRow). nat_lt 0 (length l)) bare) in
-      let g = gone v in
-      let o = gone (strays columns) in
-      let own = take_own es b c cells start h is columns keyed.own in
-      let fill = keyed.filled in
-      record { own = omega (arith, o, own); filled = omega (arith, n, one, other, g, fill) }
-
 -- an empty bucket goes
 pub gone_weighs : {S : Type 0} (v : Entry S → ℕ) (es fs : List (Entry S)) (i : ℕ) (p : Entry S) → slice_get es i ≡ Some p → fs ≡ swap_remove es i p →
     total v fs + v p ≡ total v es
@@ -200,16 +141,14 @@ pub record Gone {S : Type 0} (es fs : List (Entry S)) : Type 0 where
   pub bare : entry.1 ≡ []
   pub weighs : (v : Entry S → ℕ) → total v fs + v entry ≡ total v es
 
-pub gone : {S : Type 0} (es fs : List (Entry S)) (i : ℕ) (r : Option (Entry S)) → r ≡ slice_get es i → IfSome r (λ p. fs ≡ swap_remove es i p) →
-    slice_get (values_of es) i ≡ Some [] → Gone es fs
-gone {S} es fs i None is set at =
-    let none : ◌≡◌ {A = Option (List HeldRow)} (Some []) None = sym at ∙ (slice_get-map (λ (e : Entry S). e.1) es i ∙ ap (option_map (λ (e : Entry S). e.1)) (sym is)) in
-    absurd (cc (none))
-gone {S} es fs i (Some p) is set at =
-    let some : ◌≡◌ {A = Option (List HeldRow)} (Some []) (Some p.1) = sym at ∙ (slice_get-map (λ (e : Entry S). e.1) es i ∙ ap (option_map (λ (e : Entry S). e.1)) (sym is)) in
+pub gone : {S : Type 0} (es fs : List (Entry S)) (i : ℕ) (r : Option (Entry S)) (k : Vec Datum S) → r ≡ slice_get es i → IfSome r (λ p. fs ≡ swap_remove es i p) →
+    slice_get es i ≡ Some (k, []) → Gone es fs
+gone {S} es fs i None k is set at = let none : ◌≡◌ {A = Option (Entry S)} None (Some (k, [])) = is ∙ at in absurd (cc (none))
+gone {S} es fs i (Some p) k is set at =
+    let some : ◌≡◌ {A = Option (Entry S)} (Some p) (Some (k, [])) = is ∙ at in
     record {
       entry = p;
-      bare = sym (ap (value_or []) some);
+      bare = ap (λ (o : Option (Entry S)). (value_or p o).1) some;
       weighs = λ v. gone_weighs v es fs i p (sym is) set;
     }
 
@@ -318,24 +257,71 @@ key_tests values k = cells_eq_same values k.items
 pub key_eqs : {S : Type 0} (k l : Vec Datum S) → key_eq k l ≡ same_cells k.items l.items
 key_eqs k l = cells_eq_same k.items l.items
 
--- a row is taken out of the bucket of its key, which goes where it is left empty
-module _ {S : Type 0} (values : List Datum) (es es1 : List (Entry S)) (b c : List HeldRow) (cells : List Datum) (start : ℕ)
-    (h : lookup (key_test values) es ≡ Some b) (set : es1 ≡ set_value (key_test values) es c)
+-- another bucket at a place
+pub record Moved {S : Type 0} (es es1 : List (Entry S)) (b c : List HeldRow) : Type 0 where
+  pub key : Vec Datum S
+  pub weighs : (v : Entry S → ℕ) → total v es1 + v (key, b) ≡ total v es + v (key, c)
+
+pub moved : {S : Type 0} (es : List (Entry S)) (i : ℕ) (k : Vec Datum S) (b c : List HeldRow) → slice_get es i ≡ Some (k, b) → Moved es (set_value_at es i c) b c
+moved [] i k b c at = absurd (cc)
+moved {S} (e ∷ es) zero k b c at =
+    let same : e ≡ (k, b) = ap (value_or e) at in
+    record {
+      key = k;
+      weighs = λ v.
+          let x = ap v same in
+          let y = ap (λ (f : Entry S). v (f.0, c)) same in
+          omega (arith, x, y);
+    }
+moved (e ∷ es) (suc i) k b c at =
+    let r = moved es i k b c at in
+    record { key = r.key; weighs = λ v. (let x = r.weighs v in omega (arith, x)) }
+
+-- the bucket that is there already in its place, and what is there then
+pub same_at : {S : Type 0} (es : List (Entry S)) (i : ℕ) (k : Vec Datum S) (b : List HeldRow) → slice_get es i ≡ Some (k, b) → set_value_at es i b ≡ es
+same_at [] i k b at = refl
+same_at {S} (e ∷ es) zero k b at = ap (λ (f : Entry S). (e.0, f.1) ∷ es) (sym (let same : e ≡ (k, b) = ap (value_or e) at in same))
+same_at (e ∷ es) (suc i) k b at = ap (λ l. e ∷ l) (same_at es i k b at)
+
+pub set_there : {S : Type 0} (es : List (Entry S)) (i : ℕ) (k : Vec Datum S) (b c : List HeldRow) → slice_get es i ≡ Some (k, b) → slice_get (set_value_at es i c) i ≡ Some (k, c)
+set_there [] i k b c at = absurd (cc)
+set_there {S} (e ∷ es) zero k b c at = ap (λ (f : Entry S). Some (f.0, c)) (let same : e ≡ (k, b) = ap (value_or e) at in same)
+set_there (e ∷ es) (suc i) k b c at = set_there es i k b c at
+
+-- the bucket of a key, by its place
+pub found_at : {S : Type 0} (es : List (Entry S)) (i : ℕ) (k : Vec Datum S) (b : List HeldRow) (o : Option (List HeldRow)) → slice_get es i ≡ Some (k, b) →
+    slice_get (values_of es) i ≡ o → Some b ≡ o
+found_at {S} es i k b o at is = sym (slice_get-map (λ (e : Entry S). e.1) es i ∙ ap (option_map (λ (e : Entry S). e.1)) at) ∙ is
+
+pub no_bucket : (o : Option (List HeldRow)) → false ≡ is_some o → None ≡ o
+no_bucket None h = refl
+no_bucket (Some b) h = absurd (cc)
+
+-- a row is taken out of its bucket, which goes where it is left empty
+module _ {S : Type 0} (es es1 : List (Entry S)) (b c : List HeldRow) (cells : List Datum) (start : ℕ) (m : Moved es es1 b c)
     (is : (w : HeldRow → ℕ) → total w b ≡ total w c + w (record { cells = cells; start = start })) where
   pub left_weighs : (w : HeldRow → ℕ) → total w (rows_in es) ≡ total w (rows_in es1) + w (record { cells = cells; start = start })
   left_weighs w =
-      let a = take_weighs (key_test values) values (key_tests values) es b c cells start h is w in
-      let e = ap (λ (l : List (Entry S)). total w (rows_in l)) set in
-      omega (arith, a, e)
+      let n = m.weighs (λ e. total w e.1) in
+      let a = is w in
+      let x = rows_weigh w es in
+      let y = rows_weigh w es1 in
+      omega (arith, n, a, x, y)
 
+  left_own : (columns : List ℕ) → total (strays columns) es ≡ 0 → total (strays columns) es1 ≡ 0
+  left_own columns own =
+      let p : HeldRow → Bool = is_of_key columns m.key.items in
+      let n = m.weighs (strays columns) in
+      let a = is (λ r. cond {A = ℕ} (p r) 0 1) in
+      omega (arith, n, a, own)
+
+  -- a bucket that keeps a row stays
   pub left_keyed : 1 ≤ length c → (columns : List ℕ) → AreKeyed columns es → AreKeyed columns es1
   left_keyed some columns keyed =
-      subst (λ (l : List (Entry S)). AreKeyed columns l) (sym set) (take_keyed (key_test values) values (key_tests values) es b c cells start h is some columns keyed)
-
-  -- the empty bucket is at that place
-  pub bare_at : (i : ℕ) → c ≡ [] → slice_get (values_of es1) i ≡ lookup (key_test values) es1 → slice_get (values_of es1) i ≡ Some []
-  bare_at i empty at =
-      at ∙ (ap (lookup (key_test values)) set ∙ (found_again (key_test values) es b c h ∙ ap (λ (l : List HeldRow). Some l) empty))
+      let n = m.weighs (λ e. cond {A = ℕ} (has_rows e) 0 1) in
+      let full = cond_zero (nat_lt 0 (length c)) (positive (length c) (omega (arith, some))) in
+      let fill = keyed.filled in
+      record { own = left_own columns keyed.own; filled = omega (arith, n, full, fill) }
 
   module _ (fs : List (Entry S)) (g : Gone es1 fs) where
     pub let_go_weighs : (w : HeldRow → ℕ) → total w (rows_in es) ≡ total w (rows_in fs) + w (record { cells = cells; start = start })
@@ -343,8 +329,15 @@ module _ {S : Type 0} (values : List Datum) (es es1 : List (Entry S)) (b c : Lis
 
     pub let_go_keyed : c ≡ [] → (columns : List ℕ) → AreKeyed columns es → AreKeyed columns fs
     let_go_keyed empty columns keyed =
-        gone_keyed (key_test values) values (key_tests values) es fs b c cells start h is empty g.entry g.bare
-        (λ v. g.weighs v ∙ ap (λ (l : List (Entry S)). total v l) set) columns keyed
+        let v : Entry S → ℕ = λ e. cond {A = ℕ} (has_rows e) 0 1 in
+        let n = m.weighs v in
+        let one = cond_one (nat_lt 0 (length c)) (ap (λ (l : List HeldRow). nat_lt 0 (length l)) empty) in
+        let other = cond_one (nat_lt 0 (length g.entry.1)) (ap (λ (l : List HeldRow). nat_lt 0 (length l)) g.bare) in
+        let a = g.weighs v in
+        let o = g.weighs (strays columns) in
+        let own = left_own columns keyed.own in
+        let fill = keyed.filled in
+        record { own = omega (arith, o, own); filled = omega (arith, n, one, other, a, fill) }
 
 pub none_left : (xs : List HeldRow) → (length xs == 0) ≡ true → xs ≡ []
 none_left [] h = refl

@@ -35,6 +35,9 @@ fn is_row(row: &HeldRow, cells: &[Datum], start: Time) -> bool
 // Among fewer rows than these one is found by a walk.
 const MANY: usize = 32;
 
+// The memory of so many rows is worth keeping for other rows.
+const FEW: usize = 8;
+
 /// Rows, in no order, each found by its cells and its start.
 #[derive(Drop)]
 pub struct Bucket {
@@ -61,6 +64,19 @@ impl Bucket {
             rows: Vec::new(alloc),
             marks: None,
         }
+    }
+
+    /// Takes all rows out. The memory of a few stays.
+    pub fn clear(&mut self)
+        ensures { self.new ≡ [] }
+    {
+        self.rows.clear();
+        self.marks = None;
+    }
+
+    /// Whether it has no index, and memory for few rows.
+    pub fn is_small(&self) -> bool {
+        self.marks.is_none() && self.rows.capacity() <= FEW
     }
 
     /// The rows, side by side.

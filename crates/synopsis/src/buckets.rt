@@ -8,6 +8,7 @@ ghost use Rattle.synopsis.specs.Held.{key_of, is_of_key};
 ghost use Rattle.synopsis.specs.Buckets.{rows_in, AreKeyed};
 
 use crate::bucket::Bucket;
+use crate::spares::{Spare, Spares};
 use crate::word_hasher::WordHasher;
 use indexmap::IndexMap;
 use std::alloc::Global;
@@ -21,6 +22,7 @@ pub type KeyBuckets = IndexMap<Vec<Datum>, Bucket, BuildHasherDefault<WordHasher
 pub fn put_row(
     alloc: Global,
     buckets: &mut KeyBuckets,
+    spares: &mut Spares,
     key: &[Datum],
     cells: Cells,
     start: Time,
@@ -33,30 +35,38 @@ pub fn put_row(
         bucket.add(alloc, cells, start)?;
         return Ok(());
     }
-    let mut bucket = Bucket::new(alloc);
+    let Spare {
+        key: mut owned,
+        mut bucket,
+    } = spares.next();
     bucket.add(alloc, cells, start)?;
-    let owned = Vec::from_slice(alloc, key)?;
+    owned.extend_from_slice(key)?;
     buckets.insert(owned, bucket)?;
     Ok(())
 }
 
 /// Takes a row with these cells that began then out of the bucket of the key, if there is one. No bucket is left empty.
-pub fn take_row(buckets: &mut KeyBuckets, key: &[Datum], cells: &[Datum], start: Time) -> bool
+pub fn take_row(
+    buckets: &mut KeyBuckets,
+    spares: &mut Spares,
+    key: &[Datum],
+    cells: &[Datum],
+    start: Time,
+) -> bool
     ensures taken { result ≡ true → (w : HeldRow → ℕ) → total w (rows_in buckets.old.entries) ≡ total w (rows_in buckets.new.entries) + w (record { cells = cells.now; start = start }) }
     ensures none { result ≡ false → (columns : List ℕ) → key.now ≡ key_of columns cells.now → AreKeyed columns buckets.old.entries → many (is_held cells.now start) (rows_in buckets.old.entries) ≡ 0 }
     ensures unchanged { result ≡ false → buckets.new.entries ≡ buckets.old.entries }
     ensures keyed { (columns : List ℕ) → AreKeyed columns buckets.old.entries → AreKeyed columns buckets.new.entries }
 {
-    let Some(bucket) = buckets.get_mut(key) else {
+    let Some(i) = buckets.get_index_of(key) else {
         return false;
     };
+    let (_, bucket) = buckets.pair_mut(i);
     if !bucket.take(cells, start) {
         return false;
     }
     if bucket.rows().is_empty() {
-        if let Some(i) = buckets.get_index_of(key) {
-            buckets.swap_remove_index(i);
-        }
+        spares.keep(buckets.swap_remove_index(i));
     }
     true
 }

@@ -1,5 +1,5 @@
 // Room for the key of a row.
-ghost use Rattle.std.specs.Prelude.{◌≡◌, ◌≤◌, IfOk, take, map, length};
+ghost use Rattle.std.specs.Prelude.{◌≡◌, ◌≤◌, IfOk, IfSome, take, map, length};
 ghost use Rattle.std.specs.Vec.{vec_len, vec_capacity};
 ghost use Rattle.synopsis.specs.Held.{KeyValues, key_of, cell_or_zero};
 
@@ -31,6 +31,20 @@ fn cell_at(cells: &[Datum], column: usize) -> Datum
     ensures { result ≡ cell_or_zero cells.now column }
 {
     cells.get(column).copied().unwrap_or(Datum::Int(0))
+}
+
+/// The data of a row in the key columns, where they stand in the row as they are: in one column.
+pub fn lone_key<'a>(columns: &[usize], cells: &'a [Datum]) -> Option<&'a [Datum]>
+    ensures { IfSome result (λ key. key.now ≡ key_of columns.now cells.now) }
+{
+    if columns.len() != 1 {
+        return None;
+    }
+    let column = columns[0];
+    if column >= cells.len() {
+        return None;
+    }
+    Some(&cells[column..column + 1])
 }
 
 // Writes the key of the cells into room that is there for it.

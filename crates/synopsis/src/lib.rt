@@ -5,10 +5,11 @@ mod bucket;
 mod buckets;
 mod key_room;
 mod marks;
+mod spares;
 mod synopsis;
 mod word_hasher;
 
-pub use key_room::KeyRoom;
+pub use key_room::{KeyRoom, lone_key};
 pub use synopsis::Synopsis;
 pub use tw_rows::HeldRow;
 pub use word_hasher::WordHasher;

@@ -7,7 +7,8 @@ ghost use Rattle.edge_history.specs.Opens.{is_held};
 ghost use Rattle.synopsis.specs.Held.{is_of_key};
 
 use crate::buckets::{KeyBuckets, put_row, rows_with, take_row};
-use crate::key_room::KeyRoom;
+use crate::key_room::{KeyRoom, lone_key};
+use crate::spares::Spares;
 use indexmap::IndexMap;
 use std::alloc::Global;
 use std::hash::BuildHasherDefault;
@@ -21,6 +22,7 @@ pub struct Synopsis {
     alloc: Global,
     key: KeyRoom,
     buckets: KeyBuckets,
+    spares: Spares,
     count: usize,
 }
 
@@ -46,6 +48,7 @@ impl Synopsis {
             alloc,
             key: KeyRoom::new(alloc, key)?,
             buckets: IndexMap::with_hasher(alloc, BuildHasherDefault::new()),
+            spares: Spares::new(alloc)?,
             count: 0,
         })
     }
@@ -64,6 +67,7 @@ impl Synopsis {
         put_row(
             self.alloc,
             &mut self.buckets,
+            &mut self.spares,
             self.key.values(),
             cells,
             start,
@@ -79,8 +83,22 @@ impl Synopsis {
         ensures unchanged { result ≡ false → self.new.rows ≡ self.old.rows }
         ensures key { self.new.key ≡ self.old.key }
     {
+        // A key of one column needs no copy.
+        if let Some(key) = lone_key(self.key.columns(), cells) {
+            if !take_row(&mut self.buckets, &mut self.spares, key, cells, start) {
+                return false;
+            }
+            self.count -= 1;
+            return true;
+        }
         self.key.write(cells);
-        if !take_row(&mut self.buckets, self.key.values(), cells, start) {
+        if !take_row(
+            &mut self.buckets,
+            &mut self.spares,
+            self.key.values(),
+            cells,
+            start,
+        ) {
             return false;
         }
         self.count -= 1;

@@ -25,6 +25,7 @@ use Rattle.node_laws.proofs.Standing.{all_of}
 use Rattle.node_laws.proofs.Steps.{keeps_stand}
 use Rattle.sweep_sides.specs.Saving.{store_all}
 use Rattle.sweep_sides.proofs.KeptSides.{kinds_stored, stored_kinds}
+use Rattle.sweep_sides.proofs.Telling.{All-weaker, told_stored}
 use Rattle.temporal_join.specs.Joined.{join_meets, joins}
 use Rattle.temporal_join.specs.States.{KeepsJoin}
 
@@ -40,12 +41,6 @@ module _ {X Y : Type 0} (f : X → Y) where
 
   pub pair_mapped : (key : List ℕ) (a b : List X) → paired_row key (map f a) (map f b) ≡ map f (paired_row key a b)
   pair_mapped key a b = ap (λ l. map f a ++ l) (outside_mapped 0 key b) ∙ sym (map-append f a (outside_key key b))
-
--- one test from another, item by item
-module _ {X : Type 0} (P Q : X → Type 0) (h : (x : X) → P x → Q x) where
-  pub All-weaker : (xs : List X) → All P xs → All Q xs
-  All-weaker [] a = All-nil Q
-  All-weaker (x ∷ xs) a = All-cons Q x xs (h x (All-head P x xs a)) (All-weaker xs (All-tail P x xs a))
 
 abbrev row_stored : List CellKind → CellEvent → Bool
 row_stored kinds e = store_all kinds e.row
@@ -84,30 +79,10 @@ module _ (lk rk : List ℕ) (left right own : List CellKind) (follows : own ≡ 
       ∙ (sum_eq (row_stored right) (λ g. total lost (joined_one (join_meets lk rk) (paired_row rk) e g)) (λ g. 0) b (λ g hg. one_stored e g he hg) hb ∙ total_zero b)) ha
       ∙ total_zero a)
 
-  abbrev missed : Edge → ℕ
-  missed e = cond (store_all own e.cells) 0 1
-
-  news_one : (c d : ℕ) (e : CellEvent) → row_stored own e ≡ true → total missed (news_of c d e) ≡ 0
-  news_one c d e h = go (nat_le c e.start && nat_lt e.start d) (nat_le c e.end && nat_lt e.end d)
-    where
-      none : cond {A = ℕ} (store_all own e.row) 0 1 ≡ 0
-      none = ap (λ t. cond {A = ℕ} t 0 1) h
-
-      go : (s t : Bool) → total missed (cond s (record { sync = e.start; other = inf; cells = e.row } ∷ []) [] ++ cond t (record { sync = e.end; other = e.start; cells = e.row } ∷ []) []) ≡ 0
-      go true true = let z = none in omega (arith, z)
-      go true false = let z = none in omega (arith, z)
-      go false true = let z = none in omega (arith, z)
-      go false false = refl
-
   pub told_cells : (c d : ℕ) (hl hr answer : List Edge) → All (λ e. map datum_kind e.cells ≡ left) hl → All (λ e. map datum_kind e.cells ≡ right) hr →
       SameBag answer (news c d (joins lk rk (of hl) (of hr))) → All (λ e. map datum_kind e.cells ≡ own) answer
   told_cells c d hl hr answer cl cr same =
-      let none = joins_stored (of hl) (of hr) (events_stored left hl cl) (events_stored right hr cr) in
-      let each = same.weigh (λ e. cond {A = ℕ} (store_all own e.cells) 0 1)
-      ∙ (total-flat_map (λ (e : Edge). cond {A = ℕ} (store_all own e.cells) 0 1) (news_of c d) (joins lk rk (of hl) (of hr))
-      ∙ (sum_eq (row_stored own) (λ e. total missed (news_of c d e)) (λ e. 0) (joins lk rk (of hl) (of hr)) (news_one c d) none ∙ total_zero (joins lk rk (of hl) (of hr)))) in
-      All-weaker (λ (e : Edge). IsTrue (store_all own e.cells)) (λ (e : Edge). map datum_kind e.cells ≡ own) (λ e k. stored_kinds own e.cells k) answer
-      ((failing-All (λ (e : Edge). store_all own e.cells) answer).0 each)
+      told_stored own c d (joins lk rk (of hl) (of hr)) answer (joins_stored (of hl) (of hr) (events_stored left hl cl) (events_stored right hr cr)) same
 
 -- A JOIN AS A NODE
 module _ (lk rk : List ℕ) (left_kinds right_kinds : List CellKind) (texts : List (List ℕ)) (x y : ℕ) (left right : List HeldRow) (lw rw hl hr out : List Edge)

@@ -89,38 +89,6 @@ row_told lk rk r starts t x others key values answer0 answer by own is =
     ∙ ap (map (told_at starts t)) (sym (partners_are lk rk r x others) ∙ sym (append_nil (partners (join_meets lk rk) (paired_row rk) r x others)))) in
     record { added = map f (filter (is_of_key key values) others); is = is; bag = record { weigh = λ w. ap (total w) same } }
 
--- a list that grows item by item
-pub told_next : (f : HeldRow → Edge) (others : List HeldRow) (i : ℕ) (y : HeldRow) (e : Edge) (answer0 answer1 answer2 : List Edge) → i < length others → y ≡ get_or others i y →
-    e ≡ f y → answer1 ≡ answer0 ++ map f (take i others) → answer2 ≡ answer1 ++ e ∷ [] → answer2 ≡ answer0 ++ map f (take (i + 1) others)
-told_next f others i y e answer0 answer1 answer2 low is it before pushed =
-    pushed ∙ (ap (λ (l : List Edge). l ++ e ∷ []) before ∙ (append_assoc answer0 (map f (take i others)) (e ∷ [])
-    ∙ ap (λ (l : List Edge). answer0 ++ l) (ap (λ (x : Edge). map f (take i others) ++ x ∷ []) (it ∙ ap f is) ∙ (sym (map-append f (take i others) (get_or others i y ∷ [])) ∙ ap (map f) (sym (take_more others i y low))))))
-  where
-    map-append : (g : HeldRow → Edge) (xs ys : List HeldRow) → map g (xs ++ ys) ≡ map g xs ++ map g ys
-    map-append g [] ys = refl
-    map-append g (x ∷ xs) ys = ap (λ (l : List Edge). g x ∷ l) (map-append g xs ys)
-
-not_less : (m n : ℕ) → (m < n → ⊥) → nat_lt m n ≡ false
-not_less m n apart = go (nat_lt m n) refl
-  where
-    go : (b : Bool) → nat_lt m n ≡ b → nat_lt m n ≡ false
-    go false h = h
-    go true h = absurd (apart (less m n h))
-      where
-        less : (m n : ℕ) → nat_lt m n ≡ true → m < n
-        less m n h = grind (arith, nat_tests)
-
-is_less : (m n : ℕ) → m < n → nat_lt m n ≡ true
-is_less m n h = grind (arith, nat_tests)
-
--- the test of an end edge, as the code has it
-pub end_is : (b : Bool) (e : Edge) → IsTrue b ↔ (e.other < e.sync) → is_end e ≡ b
-end_is true e h = is_less e.other e.sync (h.0 refl)
-end_is false e h = not_less e.other e.sync (λ l. no_truth (h.1 l))
-  where
-    no_truth : IsTrue false → ⊥
-    no_truth t = cc
-
 -- the columns that stand in no key, one more of them
 pub outside_next : {X : Type 0} (c : ℕ) (key : List ℕ) (xs : List X) (i : ℕ) (x : X) → i < length xs → x ≡ get_or xs i x →
     outside_from c key (take (suc i) xs) ≡ outside_from c key (take i xs) ++ cond (list_any (nat_eq (c + i)) key) [] (x ∷ [])

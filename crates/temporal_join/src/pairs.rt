@@ -11,7 +11,7 @@ ghost use Rattle.synopsis.specs.Held.{key_of as key_data, cell_or_zero};
 
 use smallvec::SmallVec;
 use std::alloc::Global;
-use synopsis::{HeldRow, Synopsis};
+use synopsis::{HeldRow, Synopsis, lone_key};
 use tw_rows::{Cells, Datum, Edge, Memory, Time};
 
 /// How rows of one side are paired with those of the other at an instant. `right` tells that they are right rows.
@@ -152,6 +152,11 @@ impl<'a> Pairing<'a> {
     ) -> Result<(), Memory>
         ensures { OnOk result (others.now.key ≡ other_key self.now → Adds answer.old.items answer.new.items (told_pairs self.now starts (record { cells = cells.now; start = start } ∷ []) others.now.rows)) }
     {
+        // A key of one column needs no copy.
+        if let Some(key) = lone_key(self.key(), cells) {
+            self.tell(answer, starts, cells, start, others.rows_of(key))?;
+            return Ok(());
+        }
         let key = key_of(self.alloc, self.key(), cells)?;
         self.tell(answer, starts, cells, start, others.rows_of(key.as_slice()))?;
         Ok(())

@@ -9,15 +9,14 @@ use Rattle.edge_stream.specs.Listing.{cells_of}
 use Rattle.sweep_sides.specs.Waiting.{queued, AreTimed}
 use Rattle.sweep_sides.proofs.taking.take_in.Given as goal
 
-abbrev pub invariant-loop-ends : goal.invariant-loop-ends
-invariant-loop-ends l = record {
+abbrev pub invariant-loop-due : goal.invariant-loop-due
+invariant-loop-due l = record {
   parts : (w : Edge → ℕ) → ((total w l.due.items + total w l.ends.items) + total w (queued l.queue)) + total w (singles l.cursor.edges) ≡ total w (queued l.fn.queue) + total w (singles l.edges.edges);
-  early : failing (is_below l.to) l.due.items ≡ 0;
-  ends_early : failing (is_below l.to) l.ends.items ≡ 0;
+  early : AreTimed l.fn.queue → failing (is_below l.to) l.due.items + failing (is_below l.to) l.ends.items ≡ 0;
   timed : AreTimed l.fn.queue → AreTimed l.queue;
   kinds : l.cursor.kinds ≡ cells_of l.edges;
   cells : All (λ e. map datum_kind e.cells ≡ cells_of l.edges) l.cursor.edges → All (λ e. map datum_kind e.cells ≡ cells_of l.edges) l.edges.edges;
 }
 
-abbrev pub decreases-loop-ends : goal.decreases-loop-ends
-decreases-loop-ends l = length l.cursor.edges
+abbrev pub decreases-loop-due : goal.decreases-loop-due
+decreases-loop-due l = length l.cursor.edges

@@ -1,63 +1,75 @@
-use Rattle.std.proofs.Common.{◌≡◌, ◌∙◌, sym, ap, subst, Some, None, [], refl}
-use Rattle.std.specs.Map.{set_value}
+use Rattle.std.proofs.Common.{◌≡◌, ◌∙◌, sym, ap, subst, Some, None, List, [], refl}
+use Rattle.indexmap.specs.IndexMap.{set_value_at}
+use Rattle.tw_rows.specs.declared.edge.HeldRow.{HeldRow}
 use Rattle.synopsis.specs.Buckets.{AreKeyed}
-use Rattle.synopsis.proofs.Keyed.{key_test, set_again, none_held, gone, left_weighs, left_keyed, bare_at, let_go_weighs, let_go_keyed, none_left, some_left}
+use Rattle.synopsis.proofs.Keyed.{none_held, moved, same_at, set_there, found_at, no_bucket, gone, left_weighs, left_keyed, let_go_weighs, let_go_keyed, none_left, some_left}
 use Rattle.synopsis.proofs.buckets.take_row.Goals as goal
 
 pub returns-in_default-clause-none : goal.returns-in_default-clause-none
 returns-in_default-clause-none c = λ _.
-    none_held c.args.buckets.now.entries c.args.key.now None c.args.cells.now c.args.start c.in_default.ensures.value c.get_mut.ensures.unique refl
+    none_held c.args.buckets.now.entries c.args.key.now None c.args.cells.now c.args.start (no_bucket _ c.in_default.ensures.found) c.get_index_of.ensures.unique refl
 
 pub returns-then-not-take-clause-none : goal.returns-then-not-take-clause-none
 returns-then-not-take-clause-none c = λ _.
-    none_held c.args.buckets.now.entries c.args.key.now (Some c.in-Some.bucket.now) c.args.cells.now c.args.start c.in-Some.ensures.value c.get_mut.ensures.unique
+    let b = c.pair_mut-bucket.result.1.now in
+    none_held c.args.buckets.now.entries c.args.key.now (Some b) c.args.cells.now c.args.start
+    (found_at c.args.buckets.now.entries c.in-Some.i c.pair_mut-bucket.result.0.now b _ c.pair_mut-bucket.ensures.value c.in-Some.ensures.value) c.get_index_of.ensures.unique
     (c.take.ensures.none c.if-not-take.true)
 
 pub returns-then-not-take-clause-unchanged : goal.returns-then-not-take-clause-unchanged
 returns-then-not-take-clause-unchanged c = λ _.
     let es = c.args.buckets.now.entries in
-    let test = key_test c.args.key.now in
-    (c.get_mut.follows.holds c.take.new.self).0 ∙ (ap (set_value test es) (c.take.ensures.unchanged c.if-not-take.true) ∙ set_again test es c.in-Some.bucket.now (sym c.in-Some.ensures.value))
+    let p = c.pair_mut-bucket in
+    ap (set_value_at es c.in-Some.i) (c.take.ensures.unchanged c.if-not-take.true) ∙ same_at es c.in-Some.i p.result.0.now p.result.1.now p.ensures.value
 
 pub returns-then-not-take-clause-keyed : goal.returns-then-not-take-clause-keyed
 returns-then-not-take-clause-keyed c = λ columns keyed.
     let es = c.args.buckets.now.entries in
-    let test = key_test c.args.key.now in
+    let p = c.pair_mut-bucket in
     subst (λ l. AreKeyed columns l)
-    (sym ((c.get_mut.follows.holds c.take.new.self).0 ∙ (ap (set_value test es) (c.take.ensures.unchanged c.if-not-take.true) ∙ set_again test es c.in-Some.bucket.now (sym c.in-Some.ensures.value))))
-    keyed
+    (sym (ap (set_value_at es c.in-Some.i) (c.take.ensures.unchanged c.if-not-take.true) ∙ same_at es c.in-Some.i p.result.0.now p.result.1.now p.ensures.value)) keyed
 
-pub returns-in-Some-get_index_of-clause-taken : goal.returns-in-Some-get_index_of-clause-taken
-returns-in-Some-get_index_of-clause-taken c = λ _.
+pub returns-then-is_empty-clause-taken : goal.returns-then-is_empty-clause-taken
+returns-then-is_empty-clause-taken c = λ _.
     let es = c.args.buckets.now.entries in
-    let m = c.get_mut.follows.lender c.take.new.self in
-    let empty : c.take.new.self ≡ [] = sym c.rows.ensures ∙ none_left c.rows.result.now (sym c.is_empty.ensures ∙ c.if-is_empty.true) in
-    let at = bare_at c.args.key.now es m.entries c.in-Some.bucket.now c.take.new.self c.args.cells.now c.args.start (sym c.in-Some.ensures.value) (c.get_mut.follows.holds c.take.new.self).0
-    (c.take.ensures.taken c.if-not-take.false) c.in-Some-get_index_of.i empty c.in-Some-get_index_of.ensures.value in
-    let g = gone m.entries c.swap_remove_index.new.self.entries c.in-Some-get_index_of.i c.swap_remove_index.result c.swap_remove_index.ensures.entry c.swap_remove_index.ensures.entries at in
-    let_go_weighs c.args.key.now es m.entries c.in-Some.bucket.now c.take.new.self c.args.cells.now c.args.start (sym c.in-Some.ensures.value) (c.get_mut.follows.holds c.take.new.self).0
-    (c.take.ensures.taken c.if-not-take.false) c.swap_remove_index.new.self.entries g
+    let p = c.pair_mut-bucket in
+    let k = p.result.0.now in
+    let b = p.result.1.now in
+    let left = c.take.new.self in
+    let es1 = set_value_at es c.in-Some.i left in
+    let fs = c.swap_remove_index.new.self.entries in
+    let empty : left ≡ [] = sym c.rows.ensures ∙ none_left c.rows.result.now (sym c.is_empty.ensures ∙ c.if-is_empty.true) in
+    let at = set_there es c.in-Some.i k b left p.ensures.value ∙ ap (λ (l : List HeldRow). Some (k, l)) empty in
+    let_go_weighs es es1 b left c.args.cells.now c.args.start (moved es c.in-Some.i k b left p.ensures.value) (c.take.ensures.taken c.if-not-take.false) fs
+    (gone es1 fs c.in-Some.i c.swap_remove_index.result k c.swap_remove_index.ensures.entry c.swap_remove_index.ensures.entries at)
 
-pub returns-in-Some-get_index_of-clause-keyed : goal.returns-in-Some-get_index_of-clause-keyed
-returns-in-Some-get_index_of-clause-keyed c =
+pub returns-then-is_empty-clause-keyed : goal.returns-then-is_empty-clause-keyed
+returns-then-is_empty-clause-keyed c =
     let es = c.args.buckets.now.entries in
-    let m = c.get_mut.follows.lender c.take.new.self in
-    let empty : c.take.new.self ≡ [] = sym c.rows.ensures ∙ none_left c.rows.result.now (sym c.is_empty.ensures ∙ c.if-is_empty.true) in
-    let at = bare_at c.args.key.now es m.entries c.in-Some.bucket.now c.take.new.self c.args.cells.now c.args.start (sym c.in-Some.ensures.value) (c.get_mut.follows.holds c.take.new.self).0
-    (c.take.ensures.taken c.if-not-take.false) c.in-Some-get_index_of.i empty c.in-Some-get_index_of.ensures.value in
-    let g = gone m.entries c.swap_remove_index.new.self.entries c.in-Some-get_index_of.i c.swap_remove_index.result c.swap_remove_index.ensures.entry c.swap_remove_index.ensures.entries at in
-    let_go_keyed c.args.key.now es m.entries c.in-Some.bucket.now c.take.new.self c.args.cells.now c.args.start (sym c.in-Some.ensures.value) (c.get_mut.follows.holds c.take.new.self).0
-    (c.take.ensures.taken c.if-not-take.false) c.swap_remove_index.new.self.entries g empty
+    let p = c.pair_mut-bucket in
+    let k = p.result.0.now in
+    let b = p.result.1.now in
+    let left = c.take.new.self in
+    let es1 = set_value_at es c.in-Some.i left in
+    let fs = c.swap_remove_index.new.self.entries in
+    let empty : left ≡ [] = sym c.rows.ensures ∙ none_left c.rows.result.now (sym c.is_empty.ensures ∙ c.if-is_empty.true) in
+    let at = set_there es c.in-Some.i k b left p.ensures.value ∙ ap (λ (l : List HeldRow). Some (k, l)) empty in
+    let_go_keyed es es1 b left c.args.cells.now c.args.start (moved es c.in-Some.i k b left p.ensures.value) (c.take.ensures.taken c.if-not-take.false) fs
+    (gone es1 fs c.in-Some.i c.swap_remove_index.result k c.swap_remove_index.ensures.entry c.swap_remove_index.ensures.entries at) empty
 
 pub returns-else-is_empty-clause-taken : goal.returns-else-is_empty-clause-taken
 returns-else-is_empty-clause-taken c = λ _.
-    let m = c.get_mut.follows.lender c.take.new.self in
-    left_weighs c.args.key.now c.args.buckets.now.entries m.entries c.in-Some.bucket.now c.take.new.self c.args.cells.now c.args.start (sym c.in-Some.ensures.value)
-    (c.get_mut.follows.holds c.take.new.self).0 (c.take.ensures.taken c.if-not-take.false)
+    let es = c.args.buckets.now.entries in
+    let p = c.pair_mut-bucket in
+    let left = c.take.new.self in
+    left_weighs es (set_value_at es c.in-Some.i left) p.result.1.now left c.args.cells.now c.args.start
+    (moved es c.in-Some.i p.result.0.now p.result.1.now left p.ensures.value) (c.take.ensures.taken c.if-not-take.false)
 
 pub returns-else-is_empty-clause-keyed : goal.returns-else-is_empty-clause-keyed
 returns-else-is_empty-clause-keyed c =
-    let m = c.get_mut.follows.lender c.take.new.self in
-    left_keyed c.args.key.now c.args.buckets.now.entries m.entries c.in-Some.bucket.now c.take.new.self c.args.cells.now c.args.start (sym c.in-Some.ensures.value)
-    (c.get_mut.follows.holds c.take.new.self).0 (c.take.ensures.taken c.if-not-take.false)
+    let es = c.args.buckets.now.entries in
+    let p = c.pair_mut-bucket in
+    let left = c.take.new.self in
+    left_keyed es (set_value_at es c.in-Some.i left) p.result.1.now left c.args.cells.now c.args.start
+    (moved es c.in-Some.i p.result.0.now p.result.1.now left p.ensures.value) (c.take.ensures.taken c.if-not-take.false)
     (rw (← c.rows.ensures) (some_left c.rows.result.now (sym c.is_empty.ensures ∙ c.if-is_empty.false)))

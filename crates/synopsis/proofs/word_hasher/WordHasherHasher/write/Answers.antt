@@ -1,4 +1,3 @@
-use Rattle.std.proofs.Common.{◌∙◌}
 use Rattle.synopsis.specs.Hashing.{written}
 use Rattle.synopsis.proofs.word_hasher.WordHasherHasher.write.Goals as goal
 

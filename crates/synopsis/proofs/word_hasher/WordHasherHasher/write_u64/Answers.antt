@@ -1,10 +1,8 @@
-use Rattle.std.specs.Prelude.{◌≡◌}
 use Rattle.std.specs.Hash.{le_bytes}
 use Rattle.std.proofs.Common.{◌∙◌, sym, ap, arith}
 use Rattle.std.proofs.lemmas.Nat.{from_le_bytes-to_le_bytes_8}
 use Rattle.synopsis.specs.Words.{joined}
 use Rattle.synopsis.specs.Hashing.{written}
-use Rattle.synopsis.specs.declared.word_hasher.WordHasher.{WordHasher}
 use Rattle.synopsis.proofs.word_hasher.WordHasherHasher.write_u64.Goals as goal
 
 pub returns : goal.returns

@@ -8,7 +8,8 @@ use Rattle.edge_stream.proofs.Filling.{batches_given-capacity}
 use Rattle.carried_edges.proofs.Pools.{batches_given-limit}
 use Rattle.sweep_sides.specs.Waiting.{queued}
 use Rattle.temporal_join.proofs.Answering.{pair_mapped}
-use Rattle.temporal_join.proofs.Stepped.{from_lesser, join_stepped, list_is}
+use Rattle.sweep_sides.proofs.Telling.{from_lesser, list_is}
+use Rattle.temporal_join.proofs.Stepped.{join_stepped}
 use Rattle.temporal_join.proofs.join.Join.advance.Goals as goal
 
 pub returns-clause-kept : goal.returns-clause-kept

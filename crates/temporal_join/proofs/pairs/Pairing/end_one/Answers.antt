@@ -4,7 +4,7 @@ use Rattle.tw_rows.specs.declared.edge.HeldRow.{HeldRow}
 use Rattle.edge_history.specs.Order.{is_end}
 use Rattle.sweep_laws.specs.Moves.{Adds}
 use Rattle.temporal_join.specs.Pairing.{told_pairs}
-use Rattle.temporal_join.proofs.Partners.{end_is}
+use Rattle.sweep_sides.proofs.Telling.{end_is}
 use Rattle.temporal_join.proofs.pairs.Pairing.end_one.Goals as goal
 
 pub returns : goal.returns

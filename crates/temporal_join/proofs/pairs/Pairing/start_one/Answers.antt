@@ -5,7 +5,7 @@ use Rattle.edge_history.specs.Order.{is_end}
 use Rattle.sweep_laws.specs.Moves.{Adds}
 use Rattle.sweep_laws.proofs.Adding.{adds_none}
 use Rattle.temporal_join.specs.Pairing.{told_pairs}
-use Rattle.temporal_join.proofs.Partners.{end_is}
+use Rattle.sweep_sides.proofs.Telling.{end_is}
 use Rattle.temporal_join.proofs.pairs.Pairing.start_one.Goals as goal
 
 pub returns-then-is_end : goal.returns-then-is_end

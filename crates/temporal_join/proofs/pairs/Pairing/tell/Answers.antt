@@ -4,7 +4,7 @@ use Rattle.tw_rows.specs.declared.edge.HeldRow.{HeldRow}
 use Rattle.plan_model.specs.Keys.{paired_row}
 use Rattle.sweep_laws.specs.Moves.{told_at}
 use Rattle.temporal_join.specs.Pairing.{pair_with}
-use Rattle.temporal_join.proofs.Partners.{told_next}
+use Rattle.sweep_sides.proofs.Telling.{told_next}
 use Rattle.temporal_join.proofs.pairs.Pairing.tell.Goals as goal
 
 pub loop-other-preserved : goal.loop-other-preserved

@@ -7,11 +7,20 @@ use Rattle.temporal_join.specs.Pairing.{pair_with}
 use Rattle.temporal_join.proofs.Partners.{row_told}
 use Rattle.temporal_join.proofs.pairs.Pairing.tell_row.Goals as goal
 
+pub returns-in-Some : goal.returns-in-Some
+returns-in-Some c = λ by.
+    let p = c.args.self.now in
+    let x : HeldRow = record { cells = c.args.cells.now; start = c.args.start } in
+    let f : HeldRow → Edge = λ r. told_at c.args.starts p.at (pair_with p x r) in
+    row_told p.left_key.now p.right_key.now p.right c.args.starts p.at x c.args.others.now.rows c.args.others.now.key c.in-Some.key.now c.args.answer.now.items c.tell.new.answer.items
+    by (c.in-Some.ensures ∙ ap (λ k. key_of k c.args.cells.now) c.key.ensures)
+    (c.in_ok-tell.ensures ∙ ap (λ l. c.args.answer.now.items ++ map f l) c.rows_of.ensures)
+
 pub returns : goal.returns
 returns c = λ by.
     let p = c.args.self.now in
     let x : HeldRow = record { cells = c.args.cells.now; start = c.args.start } in
     let f : HeldRow → Edge = λ r. told_at c.args.starts p.at (pair_with p x r) in
-    row_told p.left_key.now p.right_key.now p.right c.args.starts p.at x c.args.others.now.rows c.args.others.now.key c.as_slice.result.now c.args.answer.now.items c.tell.new.answer.items
-    by (c.as_slice.ensures ∙ (c.in_ok-key.ensures ∙ ap (λ k. key_of k c.args.cells.now) c.key.ensures))
-    (c.in_ok-tell.ensures ∙ ap (λ l. c.args.answer.now.items ++ map f l) c.rows_of.ensures)
+    row_told p.left_key.now p.right_key.now p.right c.args.starts p.at x c.args.others.now.rows c.args.others.now.key c.as_slice.result.now c.args.answer.now.items c.tell-2.new.answer.items
+    by (c.as_slice.ensures ∙ (c.in_ok-key.ensures ∙ ap (λ k. key_of k c.args.cells.now) c.key-2.ensures))
+    (c.in_ok-tell-2.ensures ∙ ap (λ l. c.args.answer.now.items ++ map f l) c.rows_of-2.ensures)
