@@ -169,6 +169,20 @@ impl Egress {
         taken
     }
 
+    // The text, with the punctuation line. The next text begins with as much room as this one took.
+    fn take_text(&mut self, punctuation: Option<Time>) -> Result<Vec<u8>, Memory>
+        ensures text { IfOk result (λ bytes. (texts : List (List ℕ)) (h : List Edge) (a c : ℕ) (events : List (Event Values)) → Holds texts h a c self.old → StandsRead texts c h events → bytes.items ≡ print self.old.kinds.items (changes (alive events) a (c - a)) ++ punctuation_if punctuation) }
+        ensures holds { OnOk result ((texts : List (List ℕ)) (h : List Edge) (a c : ℕ) → Holds texts h a c self.old → Holds texts h c c self.new) }
+        ensures placed { (texts : List (List ℕ)) → IsPlacedIn texts self.old → IsPlacedIn texts self.new }
+        ensures kinds { self.new.kinds.items ≡ self.old.kinds.items }
+        ensures failed { self.new.failed ≡ self.old.failed }
+    {
+        let next = Vec::with_capacity(self.alloc, self.text.len())?;
+        let mut text = std::mem::replace(&mut self.text, next);
+        push_punctuation_if(&mut text, punctuation)?;
+        Ok(text)
+    }
+
     /// The text of the changes that were taken and not yet rendered, and then a punctuation line, if there is a time for
     /// it. Want of memory is an end: `failed` is then true.
     pub fn render(&mut self, punctuation: Option<Time>) -> Result<Vec<u8>, Memory>
@@ -179,9 +193,8 @@ impl Egress {
         ensures kinds { self.new.kinds.items ≡ self.old.kinds.items }
         ensures failed { self.new.failed ≡ is_err result }
     {
-        let mut text = std::mem::replace(&mut self.text, Vec::new(self.alloc));
-        match push_punctuation_if(&mut text, punctuation) {
-            Ok(()) => Ok(text),
+        match self.take_text(punctuation) {
+            Ok(text) => Ok(text),
             Err(memory) => {
                 self.failed = true;
                 Err(memory)
