@@ -11,7 +11,7 @@ use edge_stream::EdgeList;
 use std::alloc::Global;
 use tw_rows::{Memory, Time};
 
-/// Puts the batch last.
+// Puts the batch last.
 fn put_last(list: &mut EdgeList, batch: Batch) -> Result<(), Memory>
     requires kinds { batch.kinds ≡ cells_of list.old }
     requires capacity { batch.capacity ≡ list.old.capacity }
