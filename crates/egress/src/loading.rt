@@ -97,7 +97,7 @@ fn put_end(
         other: Time::ZERO,
         cells,
     };
-    put(waiting, alloc, end)?;
+    put(waiting, alloc, end, 1)?;
     Ok(())
 }
 
