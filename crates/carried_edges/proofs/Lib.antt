@@ -1,3 +1,4 @@
 pub mod Parts
 pub mod Pools
+pub mod Joining
 pub mod Examples

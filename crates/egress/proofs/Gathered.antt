@@ -1,8 +1,11 @@
 -- The rows of moves, as they are gathered from edges.
-use Rattle.std.specs.Prelude.{◌≡◌, ℕ, Bool, true, false, cond, All, List, [], ◌∷◌, ◌++◌, refl}
+use Rattle.std.specs.Prelude.{◌≡◌, ℕ, ◌-◌, Bool, true, false, cond, All, List, [], ◌∷◌, ◌++◌, length, slice_get, Some, None, refl}
 use Rattle.std.specs.List.{dedup, dedup_from}
 use Rattle.std.specs.Ordering.{eq_by_cmp}
-use Rattle.std.proofs.Common.{sym, ◌∙◌, ap, subst}
+use Rattle.std.proofs.Common.{sym, ◌∙◌, ap, subst, arith}
+use Rattle.std.proofs.Math.Seq.{get_or-append_seam}
+use Rattle.std.proofs.lemmas.List.{length-append, map-append}
+use Rattle.std.proofs.lemmas.Option.{slice_get-get_or}
 use Rattle.std.proofs.lemmas.List.Elements.{All-nil, All-cons, All-head, All-tail, All-push}
 use Rattle.tw_rows.specs.Cells.{ArePlaced, read_cells}
 use Rattle.tw_rows.specs.Rows.{Row, row_cmp}
@@ -10,7 +13,7 @@ use Rattle.tw_rows.specs.declared.cells.Datum.{Datum}
 use Rattle.node_laws.specs.Places.{AreDistinct}
 use Rattle.plan_model.proofs.InOrder.{same_row, row_itself}
 use Rattle.egress.specs.declared.moves.Moves.{Moves}
-use Rattle.egress.specs.Kept.{cells_of, KeepCells}
+use Rattle.egress.specs.Kept.{cells_of, rows_of, KeepCells}
 use Rattle.egress.proofs.Reading.{cells_again}
 
 abbrev pub same : Row → Row → Bool
@@ -113,3 +116,36 @@ left_kept p old mid rest is keeps = all_left (λ (m : Moves). p m.cells ≡ true
 
 pub push_kept : (p : List Datum → Bool) (mid new : List Moves) (made : Moves) → new ≡ mid ++ made ∷ [] → KeepCells p mid → p made.cells ≡ true → KeepCells p new
 push_kept p mid new made is keeps own = subst (λ (l : List Moves). KeepCells p l) (sym is) (All-push (λ (m : Moves). p m.cells ≡ true) mid made keeps own)
+
+-- the last moves stand at the end
+pub last_found : (rest : List Moves) (last : Moves) → slice_get (rest ++ last ∷ []) (length (rest ++ last ∷ []) - 1) ≡ Some last
+last_found rest last =
+    let n = length-append rest (last ∷ []) in
+    let at : length (rest ++ last ∷ []) - 1 ≡ length rest = omega (arith, n) in
+    ap (slice_get (rest ++ last ∷ [])) at ∙ slice_get-get_or (rest ++ last ∷ []) (length rest) last (omega (arith, n)) ∙ ap Some (get_or-append_seam rest last [] last)
+
+pub no_last : (last : Moves) → None ≡ Some last → ⊥
+no_last last e = absurd (cc)
+
+pub same_last : (a b : Moves) → Some a ≡ Some b → a ≡ b
+same_last a b e = cc
+
+-- a list is empty, or has a last item
+from_end : {X R : Type 0} (xs : List X) → (xs ≡ [] → R) → ((rest : List X) (x : X) → xs ≡ rest ++ x ∷ [] → R) → R
+from_end [] none some = none refl
+from_end (x ∷ xs) none some = from_end xs (λ e. some [] x (ap (λ l. x ∷ l) e)) (λ rest y e. some (x ∷ rest) y (ap (λ l. x ∷ l) e))
+
+-- moves of another row than the last are one row more
+pub rows_more : (texts : List (List ℕ)) → AreDistinct texts → (before : List Row) (old : List Moves) (made : Moves) → All (λ m. ArePlaced texts m.cells) old → ArePlaced texts made.cells →
+    rows_of texts old ≡ dedup same before → ((rest : List Moves) (last : Moves) → old ≡ rest ++ last ∷ [] → last.cells ≡ made.cells → ⊥) →
+    rows_of texts (old ++ made ∷ []) ≡ dedup same (before ++ read_cells texts made.cells ∷ [])
+rows_more texts distinct before old made placed own is other =
+    let y = read_cells texts made.cells in
+    map-append (λ (m : Moves). read_cells texts m.cells) old (made ∷ [])
+    ∙ from_end old
+    (λ none. ap (λ l. rows_of texts l ++ y ∷ []) none ∙ rows_first before y (sym (ap (rows_of texts) none) ∙ is))
+    (λ rest last at.
+    let split = ap (rows_of texts) at ∙ map-append (λ (m : Moves). read_cells texts m.cells) rest (last ∷ []) in
+    ap (λ l. l ++ y ∷ []) split
+    ∙ rows_grow before (rows_of texts rest) (read_cells texts last.cells) y (sym split ∙ is)
+    (rows_apart texts distinct last.cells made.cells (last_placed texts old rest last at placed) own (other rest last at)))

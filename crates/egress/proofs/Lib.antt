@@ -12,6 +12,7 @@ mod Ending
 mod Passes
 mod Shown
 mod Single
+mod EdgeMoves
 mod Reaching
 mod Sweeps
 mod Putting

@@ -12,6 +12,8 @@ use Rattle.tw_rows.specs.declared.row.Value.TheVariants.{Int, Bool as Flag, Text
 use Rattle.tw_rows.specs.declared.cells.Datum.{Datum}
 use Rattle.tw_rows.specs.declared.cells.Datum.TheVariants.{Int as IntDatum, Bool as FlagDatum, Text as PlaceDatum}
 use Rattle.tw_rows.specs.SameCells.{same_cells}
+use Rattle.tw_rows.specs.declared.edge.Edge.{Edge}
+use Rattle.edge_history.specs.Opens.{ended_of, started_of}
 use Rattle.tw_rows.specs.Cells.{read_cells}
 use Rattle.egress.specs.declared.moves.Moves.{Moves}
 
@@ -26,6 +28,10 @@ starts_in texts touched r = total (λ m. cond (eq_by_cmp row_cmp r (read_cells t
 -- the rows of moves, in their order. With the text `a`, moves of the cells place 0 are of the row `a`
 abbrev pub rows_of : List (List ℕ) → List Moves → List Row
 rows_of texts touched = map (λ m. read_cells texts m.cells) touched
+
+-- the moves of one edge: an end edge ends its row once, and any other starts it once
+abbrev pub moves_of : Edge → Moves
+moves_of e = record { cells = e.cells; ends = length (ended_of e); starts = length (started_of e) }
 
 -- the cells of all moves pass the test, as that of being placed in a table
 abbrev pub KeepCells : (List Datum → Bool) → List Moves → Type 0

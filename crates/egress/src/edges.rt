@@ -16,6 +16,7 @@ ghost use Rattle.egress.specs.Print.{print};
 use crate::moves::gather;
 use crate::opens::{end_row, start_row};
 use crate::order::sort_by_row;
+use crate::singles::{are_single, show_singles};
 use crate::sweep::show_instant;
 use indexmap::IndexMap;
 use std::alloc::Global;
@@ -70,7 +71,12 @@ pub fn show_edges(
     }
     let _texts = texts.len();
     sort_by_row(&mut edges, texts);
-    let touched = gather(alloc, &edges)?;
+    let sorted = edges.as_slice();
+    if are_single(sorted) {
+        show_singles(opens, out, alloc, kinds, at, sorted, texts)?;
+        return Ok(());
+    }
+    let touched = gather(alloc, sorted)?;
     show_instant(opens, out, alloc, kinds, at, &touched, texts)?;
     Ok(())
 }

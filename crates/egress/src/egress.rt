@@ -21,7 +21,7 @@ ghost use Rattle.egress.specs.Saving.{IsSound, Resumes, EntriesArePlaced, IsOpen
 use crate::edges::show_edges;
 use crate::loading::load_entries;
 use crate::saving::{copy_opens, copy_waiting, save_rest, save_waiting};
-use crate::waiting::{pop_due, put_singles};
+use crate::waiting::{Expected, pop_due, put_singles};
 use edge_stream::{EdgeList, LoadFault, Saved};
 use indexmap::IndexMap;
 use line_text::push_punctuation;
@@ -106,8 +106,15 @@ impl Egress {
         self.failed
     }
 
-    /// Shows what is due, and then puts the edge to those that wait. It comes no earlier.
-    fn take_one(&mut self, edge: Edge, due: Time, texts: &TextTable) -> Result<(), Memory>
+    /// Shows what is due, and then puts the edge, which comes no earlier, to those that wait. So many are expected for its
+    /// instant.
+    fn take_one(
+        &mut self,
+        edge: Edge,
+        due: Time,
+        texts: &TextTable,
+        room: usize,
+    ) -> Result<(), Memory>
         requires placed { ArePlaced texts.now edge.cells }
         requires waiting { IsPlacedIn texts.now self.old }
         ensures holds { OnOk result ((h : List Edge) (a c : ℕ) → Holds texts.now h a c self.old → IsHistory (h ++ edge ∷ []) → c ≤ due → due ≤ edge.sync → Holds texts.now (h ++ edge ∷ []) a due self.new) }
@@ -124,7 +131,7 @@ impl Egress {
             due,
             texts,
         )?;
-        put_singles(&mut self.waiting, self.alloc, edge)?;
+        put_singles(&mut self.waiting, self.alloc, edge, room)?;
         Ok(())
     }
 
@@ -136,10 +143,12 @@ impl Egress {
         ensures kinds { self.new.kinds.items ≡ self.old.kinds.items }
         ensures failed { self.new.failed ≡ self.old.failed }
     {
+        let mut expected = Expected::new(edges.len());
         let mut cursor = edges.cursor();
         while let Some(edge) = cursor.next()? {
             let due = first_of(edge.sync, to);
-            self.take_one(edge, due, texts)?;
+            let room = expected.room(edge.sync);
+            self.take_one(edge, due, texts, room)?;
         }
         show_due(
             &mut self.opens,
@@ -169,6 +178,20 @@ impl Egress {
         taken
     }
 
+    // The text, with the punctuation line. The next text begins with as much room as this one took.
+    fn take_text(&mut self, punctuation: Option<Time>) -> Result<Vec<u8>, Memory>
+        ensures text { IfOk result (λ bytes. (texts : List (List ℕ)) (h : List Edge) (a c : ℕ) (events : List (Event Values)) → Holds texts h a c self.old → StandsRead texts c h events → bytes.items ≡ print self.old.kinds.items (changes (alive events) a (c - a)) ++ punctuation_if punctuation) }
+        ensures holds { OnOk result ((texts : List (List ℕ)) (h : List Edge) (a c : ℕ) → Holds texts h a c self.old → Holds texts h c c self.new) }
+        ensures placed { (texts : List (List ℕ)) → IsPlacedIn texts self.old → IsPlacedIn texts self.new }
+        ensures kinds { self.new.kinds.items ≡ self.old.kinds.items }
+        ensures failed { self.new.failed ≡ self.old.failed }
+    {
+        let next = Vec::with_capacity(self.alloc, self.text.len())?;
+        let mut text = std::mem::replace(&mut self.text, next);
+        push_punctuation_if(&mut text, punctuation)?;
+        Ok(text)
+    }
+
     /// The text of the changes that were taken and not yet rendered, and then a punctuation line, if there is a time for
     /// it. Want of memory is an end: `failed` is then true.
     pub fn render(&mut self, punctuation: Option<Time>) -> Result<Vec<u8>, Memory>
@@ -179,9 +202,8 @@ impl Egress {
         ensures kinds { self.new.kinds.items ≡ self.old.kinds.items }
         ensures failed { self.new.failed ≡ is_err result }
     {
-        let mut text = std::mem::replace(&mut self.text, Vec::new(self.alloc));
-        match push_punctuation_if(&mut text, punctuation) {
-            Ok(()) => Ok(text),
+        match self.take_text(punctuation) {
+            Ok(text) => Ok(text),
             Err(memory) => {
                 self.failed = true;
                 Err(memory)

@@ -11,6 +11,7 @@ mod opens;
 mod order;
 mod output_laws;
 mod saving;
+mod singles;
 mod sweep;
 mod waiting;
 mod writing;

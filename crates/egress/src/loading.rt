@@ -1,9 +1,7 @@
 // Saved entries, taken up again.
-ghost use Rattle.std.specs.Prelude.{◌≡◌, ◌↔◌, ℕ, List, [], ◌∷◌, ◌++◌, None, cond, map, nat_lt, replicate, IsTrue, IfOk, IfErr, OnOk};
+ghost use Rattle.std.specs.Prelude.{◌≡◌, ◌↔◌, ℕ, List, [], ◌∷◌, ◌++◌, None, cond, nat_lt, replicate, IsTrue, IfOk, IfErr, OnOk};
 ghost use Rattle.std.specs.List.Sorted.{IsNonDecreasing};
 ghost use Rattle.tw_rows.specs.Instant.{inf};
-ghost use Rattle.tw_rows.specs.Cells.{datum_kind};
-ghost use Rattle.tw_rows.specs.Kinds.{cell_kind_of};
 ghost use Rattle.tw_rows.specs.SameCells.{same_cells as same};
 ghost use Rattle.tw_rows.specs.declared.cells.Datum.{Datum as DatumOf};
 ghost use Rattle.egress.specs.Kept.{since_at};
@@ -12,11 +10,12 @@ ghost use Rattle.egress.specs.Saving.{starts_of, end_of, ends_of, IsKept, IsSoun
 
 use crate::opens::open_row;
 use crate::waiting::put;
+use carried_edges::is_stored_as;
 use edge_stream::{LoadFault, SavedEntry};
 use indexmap::IndexMap;
 use std::alloc::Global;
 use std::collections::{BTreeMap, VecDeque};
-use tw_rows::{Cells, Datum, Edge, Kind, Memory, Time, cell_of};
+use tw_rows::{Cells, Edge, Kind, Memory, Time};
 
 /// What is kept of entries: the open starts of each row, its ends, and the edges of those that are known.
 #[derive(Drop)]
@@ -24,28 +23,6 @@ pub(crate) struct Loaded {
     pub(crate) opens: IndexMap<Cells, VecDeque<Time>>,
     pub(crate) ends: IndexMap<Cells, VecDeque<Time>>,
     pub(crate) waiting: BTreeMap<u64, Vec<Edge>>,
-}
-
-// Whether a column of the kind stores the datum.
-fn stores(kind: Kind, datum: Datum) -> bool
-    ensures { IsTrue result ↔ (datum_kind datum ≡ cell_kind_of kind) }
-{
-    datum.cell_kind() == cell_of(kind)
-}
-
-// Whether the cells are stored as columns of these kinds are.
-fn is_stored_as(cells: &[Datum], kinds: &[Kind]) -> bool
-    ensures { IsTrue result ↔ (map datum_kind cells.now ≡ map cell_kind_of kinds.now) }
-{
-    if cells.len() != kinds.len() {
-        return false;
-    }
-    for i in 0..cells.len() {
-        if !stores(kinds[i], cells[i]) {
-            return false;
-        }
-    }
-    true
 }
 
 // Whether an output of these kinds keeps such an entry at the time.
@@ -120,7 +97,7 @@ fn put_end(
         other: Time::ZERO,
         cells,
     };
-    put(waiting, alloc, end)?;
+    put(waiting, alloc, end, 1)?;
     Ok(())
 }
 

@@ -1,5 +1,5 @@
 // The rows that an instant touches, with how often each ends and starts there.
-ghost use Rattle.std.specs.Prelude.{◌≡◌, ℕ, ◌+◌, Bool, true, List, [], ◌∷◌, ◌++◌, map, length, All, IfOk, OnOk};
+ghost use Rattle.std.specs.Prelude.{◌≡◌, ◌↔◌, ℕ, ◌+◌, Bool, true, List, [], ◌∷◌, ◌++◌, map, length, All, IsTrue, IfOk, OnOk};
 ghost use Rattle.std.specs.List.{dedup};
 ghost use Rattle.std.specs.Ordering.{eq_by_cmp};
 ghost use Rattle.tw_rows.specs.Cells.{ArePlaced, read_cells};
@@ -29,7 +29,7 @@ pub(crate) struct Counts {
     pub(crate) starts: usize,
 }
 
-fn counts_of(edge: &Edge) -> Counts
+pub(crate) fn counts_of(edge: &Edge) -> Counts
     ensures ends { result.ends ≡ length (ended_of edge.now) }
     ensures starts { result.starts ≡ length (started_of edge.now) }
 {
@@ -68,6 +68,17 @@ fn push_moves(touched: &mut Vec<Moves>, edge: &Edge, counts: Counts) -> Result<(
     Ok(())
 }
 
+// Whether there are moves, and the last are of the row of these cells.
+fn is_last(touched: &[Moves], cells: &Cells) -> bool
+    ensures some { IsTrue result → touched.now ≡ [] → ⊥ }
+    ensures same { (rest : List Moves) (last : Moves) → touched.now ≡ rest ++ last ∷ [] → IsTrue result ↔ (last.cells ≡ cells.now) }
+{
+    let Some(last) = touched.last() else {
+        return false;
+    };
+    same_cells(&last.cells, cells)
+}
+
 /// Counts an end of the row of an end edge, and a start of that of any other, with the last row where it is the same.
 fn count_edge(touched: &mut Vec<Moves>, edge: &Edge) -> Result<(), Memory>
     ensures ends { OnOk result ((texts : List (List ℕ)) (r : Row) → ends_in texts touched.new.items r ≡ ends_in texts touched.old.items r + how_often r (map (read_cells texts) (bare (ended_of edge.now)))) }
@@ -76,17 +87,15 @@ fn count_edge(touched: &mut Vec<Moves>, edge: &Edge) -> Result<(), Memory>
     ensures cells { OnOk result ((p : List Datum → Bool) → p edge.now.cells ≡ true → KeepCells p touched.old.items → KeepCells p touched.new.items) }
 {
     let counts = counts_of(edge);
-    let Some(last) = touched.pop() else {
+    if !is_last(touched, &edge.cells) {
         push_moves(touched, edge, counts)?;
         return Ok(());
-    };
-    if same_cells(&last.cells, &edge.cells) {
-        let more = more_moves(last, counts)?;
-        touched.push(more)?;
-        return Ok(());
     }
-    touched.push(last)?;
-    push_moves(touched, edge, counts)?;
+    let Some(last) = touched.pop() else {
+        return Ok(());
+    };
+    let more = more_moves(last, counts)?;
+    touched.push(more)?;
     Ok(())
 }
 
@@ -97,7 +106,7 @@ pub(crate) fn gather(alloc: Global, edges: &[Edge]) -> Result<Vec<Moves>, Memory
     ensures rows { IfOk result (λ touched. (texts : List (List ℕ)) → AreDistinct texts → EdgesArePlaced texts edges.now → rows_of texts touched.items ≡ dedup (eq_by_cmp row_cmp) (map (λ e. read_cells texts e.cells) edges.now)) }
     ensures cells { IfOk result (λ touched. (p : List Datum → Bool) → failing (λ e. p e.cells) edges.now ≡ 0 → KeepCells p touched.items) }
 {
-    let mut touched = Vec::new(alloc);
+    let mut touched = Vec::with_capacity(alloc, edges.len())?;
     for edge in edges {
         count_edge(&mut touched, edge)?;
     }

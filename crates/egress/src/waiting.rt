@@ -17,12 +17,47 @@ pub(crate) struct Due {
     pub(crate) edges: Vec<Edge>,
 }
 
-/// Adds an edge. The first takes room for itself alone, since most instants have one.
-fn push_edge(edges: &mut Vec<Edge>, edge: Edge) -> Result<(), Memory>
+/// The most edges for which room is made before they come.
+const MOST: usize = 16;
+
+/// For how many edges of an instant room is made when the first comes: as many as came for the instant before.
+#[derive(Clone, Copy)]
+pub(crate) struct Expected {
+    last: Time,
+    count: usize,
+    room: usize,
+}
+
+impl Expected {
+    /// Before the first of so many edges: they may all come for one instant.
+    pub(crate) fn new(edges: u64) -> Expected {
+        let (_, last) = Time::bounds();
+        Expected {
+            last,
+            count: edges.min(MOST as u64) as usize,
+            room: 1,
+        }
+    }
+
+    /// The room for the instant of the next edge.
+    pub(crate) fn room(&mut self, at: Time) -> usize {
+        if at == self.last {
+            self.count = self.count.saturating_add(1);
+        } else {
+            self.room = self.count.min(MOST);
+            self.count = 1;
+            self.last = at;
+        }
+        self.room
+    }
+}
+
+/// Adds an edge. The first makes room for as many as are expected.
+fn push_edge(edges: &mut Vec<Edge>, edge: Edge, room: usize) -> Result<(), Memory>
     ensures { OnOk result (edges.new.items ≡ edges.old.items ++ edge ∷ []) }
 {
     if edges.is_empty() {
-        edges.reserve_exact(1)?;
+        edges.reserve_exact(room.max(1))?;
         edges.push(edge)?;
         return Ok(());
     }
@@ -30,31 +65,33 @@ fn push_edge(edges: &mut Vec<Edge>, edge: Edge) -> Result<(), Memory>
     Ok(())
 }
 
-/// Puts an edge to those that wait for its instant.
+/// Puts an edge to those that wait for its instant, of which so many are expected.
 pub(crate) fn put(
     waiting: &mut BTreeMap<u64, Vec<Edge>>,
     alloc: Global,
     edge: Edge,
+    room: usize,
 ) -> Result<(), Memory>
     ensures { OnOk result (ArePut (waiting_in waiting.old) (waiting_in waiting.new) (edge ∷ [])) }
 {
     let instant = edge.sync.word();
     let edges = waiting.entry(instant)?.or_insert(Vec::new(alloc));
-    push_edge(edges, edge)?;
+    push_edge(edges, edge, room)?;
     Ok(())
 }
 
-/// Puts an edge: of an interval its start and its end.
+/// Puts an edge, for whose instant so many are expected: of an interval its start and its end.
 #[tactic(auto, unfolding(tw_rows::specs::Instant::inf))]
 pub(crate) fn put_singles(
     waiting: &mut BTreeMap<u64, Vec<Edge>>,
     alloc: Global,
     edge: Edge,
+    room: usize,
 ) -> Result<(), Memory>
     ensures { OnOk result (ArePut (waiting_in waiting.old) (waiting_in waiting.new) (singles_of edge)) }
 {
     if edge.is_end() || edge.other == Time::INF {
-        return put(waiting, alloc, edge);
+        return put(waiting, alloc, edge, room);
     }
     let end = Edge {
         sync: edge.other,
@@ -66,8 +103,8 @@ pub(crate) fn put_singles(
         other: Time::INF,
         cells: edge.cells,
     };
-    put(waiting, alloc, start)?;
-    put(waiting, alloc, end)
+    put(waiting, alloc, start, room)?;
+    put(waiting, alloc, end, 1)
 }
 
 fn first_instant(waiting: &BTreeMap<u64, Vec<Edge>>) -> Option<u64>

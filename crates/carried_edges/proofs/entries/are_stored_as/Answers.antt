@@ -1,7 +1,7 @@
 use Rattle.std.proofs.Common.{◌≡◌, map, rules}
 use Rattle.tw_rows.specs.Cells.{datum_kind}
 use Rattle.tw_rows.specs.Kinds.{cell_kind_of}
-use Rattle.carried_edges.proofs.Parts.{All-next, All-there}
+use Rattle.carried_edges.proofs.Parts.{All-next}
 use Rattle.carried_edges.proofs.entries.are_stored_as.Goals as goal
 
 pub loop-edge-preserved : goal.loop-edge-preserved

@@ -1,4 +1,4 @@
-use Rattle.std.proofs.Common.{◌∙◌, refl, sym}
+use Rattle.std.proofs.Common.{◌∙◌, sym}
 use Rattle.edge_history.specs.Order.{is_from}
 use Rattle.carried_edges.proofs.Parts.{none_fails, all_pass}
 use Rattle.carried_edges.proofs.entries.is_edge_part.Goals as goal

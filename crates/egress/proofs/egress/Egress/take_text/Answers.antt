@@ -4,19 +4,19 @@ use Rattle.egress.specs.Kept.{since_in}
 use Rattle.egress.specs.Waiting.{waiting_in, Swept}
 use Rattle.egress.specs.Print.{punctuation_if}
 use Rattle.egress.proofs.Taking.{rendered, swept_anew}
-use Rattle.egress.proofs.egress.Egress.render.Goals as goal
+use Rattle.egress.proofs.egress.Egress.take_text.Goals as goal
 
-pub returns-in-Ok-clause-text : goal.returns-in-Ok-clause-text
-returns-in-Ok-clause-text c = λ texts h a start events s stands.
-    c.in-Ok.ensures
+pub returns-clause-text : goal.returns-clause-text
+returns-clause-text c = λ texts h a start events s stands.
+    c.in_ok-push_punctuation_if.ensures
     ∙ ap (λ l. l ++ punctuation_if c.args.punctuation) (ap (λ v. v.items) c.replace-text.ensures.value ∙ rendered texts h a start c.args.self.now events s stands)
 
-pub returns-in-Ok-clause-holds : goal.returns-in-Ok-clause-holds
-returns-in-Ok-clause-holds c = λ texts h a start s. record {
+pub returns-clause-holds : goal.returns-clause-holds
+returns-clause-holds c = λ texts h a start s. record {
   high = s.high;
   history = s.history;
   swept = subst (λ l. Swept texts c.args.self.now.kinds.items (of h) start start (since_in texts c.args.self.now.opens) (waiting_in c.args.self.now.waiting) l)
-      (sym (ap (λ v. v.items) c.replace-text.ensures.after ∙ c.new.ensures.items))
+      (sym (ap (λ v. v.items) c.replace-text.ensures.after ∙ c.in_ok-next.ensures.items))
       (swept_anew texts c.args.self.now.kinds.items (of h) a start (since_in texts c.args.self.now.opens) (waiting_in c.args.self.now.waiting) c.args.self.now.text.items s.swept);
   cells = s.cells;
 }
