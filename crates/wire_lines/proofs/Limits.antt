@@ -1,5 +1,5 @@
 -- An answer leaves the limits of a cutter as they were.
-use Rattle.std.proofs.Common.{◌≡◌, ◌-◌, ℕ, refl}
+use Rattle.std.proofs.Common.{◌≡◌, ◌-◌, refl}
 use Rattle.wire_lines.specs.Cutter.{CutterState}
 use Rattle.wire_lines.specs.Found.{found}
 use Rattle.wire_lines.specs.Next.{after_found, after_next}

@@ -1,26 +1,31 @@
--- The length of the first line, byte by byte.
-use Rattle.std.proofs.Common.{◌≡◌, ◌≤◌, ◌<◌, ℕ, zero, suc, List, [], ◌∷◌, length, drop, get_or, arith}
+-- The length of the first line.
+use Rattle.std.proofs.Common.{◌≡◌, ◌≤◌, ◌<◌, ◌==◌, ◌∙◌, ℕ, zero, suc, Bool, true, false, List, [], ◌∷◌, length, refl, ap, arith, if◌then◌else◌}
+use Rattle.memchr.specs.Find.{Nowhere, Passes, is_byte}
 use Rattle.wire_lines.specs.Lines.{line_len}
 
 pub line_len-le : (xs : List ℕ) → line_len xs ≤ length xs
 line_len-le [] = omega arith
 line_len-le (x ∷ xs) = grind (arith, line_len-le xs)
 
--- at an LF
-pub line_len-at : (xs : List ℕ) (i : ℕ) → i < length xs → get_or xs i 0 ≡ 10 → line_len (drop i xs) ≡ 0
-line_len-at [] i h e = absurd (omega arith)
-line_len-at (x ∷ xs) zero h e = grind (arith, e)
-line_len-at (x ∷ xs) (suc i) h e = line_len-at xs i (omega arith) e
+first : (b : Bool) (n : ℕ) → b ≡ true → (if b then 0 else suc n) ≡ 0
+first true n e = refl
+first false n e = cc
 
--- at another byte
-pub line_len-past : (xs : List ℕ) (i : ℕ) → i < length xs → (get_or xs i 0 ≡ 10 → ⊥) → line_len (drop i xs) ≡ suc (line_len (drop (suc i) xs))
-line_len-past [] i h e = absurd (omega arith)
-line_len-past (x ∷ xs) zero h e = grind (arith, e)
-line_len-past (x ∷ xs) (suc i) h e = line_len-past xs i (omega arith) e
+later : (b : Bool) (n : ℕ) → (b ≡ true → ⊥) → (if b then 0 else suc n) ≡ suc n
+later true n h = absurd (h refl)
+later false n h = refl
 
-pub line_len-end : (xs : List ℕ) (i : ℕ) → i ≡ length xs → line_len (drop i xs) ≡ 0
-line_len-end [] i e = grind arith
-line_len-end (x ∷ xs) zero e = absurd (omega arith)
-line_len-end (x ∷ xs) (suc i) e = line_len-end xs i (omega arith)
+-- where an LF is found
+pub line_len-found : (xs : List ℕ) (k : ℕ) → k < length xs → Nowhere (Passes (is_byte 10) xs) 0 k → Passes (is_byte 10) xs k → line_len xs ≡ k
+line_len-found [] k h before at = absurd (omega arith)
+line_len-found (x ∷ xs) zero h before at = first (x == 10) (line_len xs) at
+line_len-found (x ∷ xs) (suc k) h before at =
+    later (x == 10) (line_len xs) (before 0 (omega arith) (omega arith))
+    ∙ ap suc (line_len-found xs k (omega arith) (λ i low high. before (suc i) (omega arith) (omega arith)) at)
 
-pub ruleset steps = (line_len-le, line_len-at, line_len-past, line_len-end)
+-- where there is none
+pub line_len-all : (xs : List ℕ) → Nowhere (Passes (is_byte 10) xs) 0 (length xs) → line_len xs ≡ length xs
+line_len-all [] none = refl
+line_len-all (x ∷ xs) none =
+    later (x == 10) (line_len xs) (none 0 (omega arith) (omega arith))
+    ∙ ap suc (line_len-all xs (λ i low high. none (suc i) (omega arith) (omega arith)))

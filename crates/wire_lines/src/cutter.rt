@@ -3,6 +3,7 @@ ghost use Rattle.std.specs.Prelude.{◌≡◌, ◌≤◌, ◌<◌, ◌+◌, ◌-
 ghost use Rattle.wire_lines.specs.Lines.{line_len};
 ghost use Rattle.wire_lines.specs.Found.{found, FoundFits};
 
+use memchr::memchr;
 use std::alloc::Global;
 use std::marker::Model;
 use tw_rows::Memory;
@@ -66,16 +67,13 @@ impl Model for LineCutter {
 }
 
 // How many bytes stand before the first LF, or all of them.
-#[tactic(auto, using(crate::proofs::LineLength::steps))]
 fn line_length(bytes: &[u8]) -> usize
     ensures { result ≡ line_len bytes.now }
 {
-    for (i, byte) in bytes.iter().enumerate() {
-        if *byte == b'\n' {
-            return i;
-        }
+    match memchr(b'\n', bytes) {
+        Some(length) => length,
+        None => bytes.len(),
     }
-    bytes.len()
 }
 
 // What stands next in the rest.
