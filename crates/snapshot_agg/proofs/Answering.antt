@@ -273,11 +273,11 @@ module _ (key : List ℕ) (aggs : List Agg) (left : List CellKind) (from t to : 
     }
 
 -- FROM INSTANT TO INSTANT
-rise_weaker : (s r : ℕ) (xs : List Edge) → s ≤ r → SyncsRise r xs → SyncsRise s xs
+pub rise_weaker : (s r : ℕ) (xs : List Edge) → s ≤ r → SyncsRise r xs → SyncsRise s xs
 rise_weaker s r [] low h = tt
 rise_weaker s r (x ∷ xs) low h = (omega (arith, low, h), h.1)
 
-rise_drop : (n r : ℕ) (xs : List Edge) → SyncsRise r xs → SyncsRise r (drop n xs)
+pub rise_drop : (n r : ℕ) (xs : List Edge) → SyncsRise r xs → SyncsRise r (drop n xs)
 rise_drop zero r xs h = h
 rise_drop (suc n) r [] h = tt
 rise_drop (suc n) r (x ∷ xs) h = rise_weaker r x.sync (drop n xs) (omega (arith, h)) (rise_drop n x.sync xs h.1)

@@ -28,8 +28,9 @@ use Rattle.plan_model.specs.Nodes.{node_in}
 use Rattle.plan_model.specs.RowOps.{rows_of_key_in, group_row_in}
 use Rattle.sweep_laws.specs.Running.{Run}
 use Rattle.sweep_laws.specs.Grouping.{row_of_run}
+use Rattle.snapshot_agg.specs.declared.totals.Totals.{Totals}
 use Rattle.snapshot_agg.specs.Words.{key_data, tell}
-use Rattle.snapshot_agg.specs.Totaled.{run_from, run_of}
+use Rattle.snapshot_agg.specs.Totaled.{IsTotalOf, Totaled, run_from, run_of}
 use Rattle.snapshot_agg.proofs.Answering.{passes}
 use Rattle.snapshot_agg.proofs.Totaling.{of_key}
 
@@ -89,6 +90,10 @@ some_rows aggs k (x ∷ xs) row h = above (length xs)
     above : (n : ℕ) → nat_lt 0 (suc n) ≡ true
     above n = grind (arith, nat_tests)
 
+keys_length : {V : Type 0} (es : List (List Datum × V)) → length (keys_of es) ≡ length es
+keys_length [] = refl
+keys_length (e ∷ es) = let r = keys_length es in omega (arith, r)
+
 -- each key of a row that is told has a row
 pub few_runs : {S : Type 0} (key : List ℕ) (aggs : List Agg) (rows : List HeldRow) (running : IndexMap (List Datum) HeldRow S) → IsUnique same_cells running →
     ((k : List Datum) → row_of_run (run_of running k) ≡ tell key aggs k (bare rows)) → length running.entries ≤ length rows
@@ -98,10 +103,25 @@ few_runs key aggs rows running once steady =
     (ap (λ o. row_of_run (run_from o)) (sym (hash_map_get_place same_cells_equiv running i k r once is)) ∙ steady k))) in
     let e = keys_length running.entries in
     omega (arith, f, e)
+
+-- and so has each key that has totals
+counts_some : (o : Option Totals) (t : Totals) (aggs : List Agg) (rs : List (List Datum)) → o ≡ Some t → IsTotalOf o aggs rs → nat_lt 0 (length rs) ≡ true
+counts_some o t aggs rs is h =
+    let z = subst (λ x. IsTotalOf x aggs rs) is h in
+    let n = z.0.is_count in
+    let m = z.1 in
+    above (length rs) (omega (arith, n, m))
   where
-    keys_length : {V : Type 0} (es : List (List Datum × V)) → length (keys_of es) ≡ length es
-    keys_length [] = refl
-    keys_length (e ∷ es) = let r = keys_length es in omega (arith, r)
+    above : (n : ℕ) → 1 ≤ n → nat_lt 0 n ≡ true
+    above n low = grind (arith, nat_tests)
+
+pub few_totals : {S : Type 0} (key : List ℕ) (aggs : List Agg) (rows : List HeldRow) (totals : IndexMap (List Datum) Totals S) → IsUnique same_cells totals →
+    Totaled key aggs rows totals → length totals.entries ≤ length rows
+few_totals key aggs rows totals once h =
+    let f = few_keys key rows (keys_of totals.entries) once
+    (keys_pass (has_some key rows) totals.entries (λ i k t is. counts_some (get same_cells totals k) t aggs (of_key key k rows) (hash_map_get_place same_cells_equiv totals i k t once is) (h.of_key k))) in
+    let e = keys_length totals.entries in
+    omega (arith, f, e)
 
 -- a row is open of an event that does not end before
 open_counts : (to : ℕ) (e : CellEvent) → total (λ x. 1) (open_of to e) ≤ cond {A = ℕ} (nat_le to e.end) 1 0

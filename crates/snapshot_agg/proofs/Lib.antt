@@ -11,5 +11,7 @@ pub mod Applying
 pub mod Stepping
 pub mod Standing
 pub mod Few
+pub mod Lined
+pub mod Queueing
 pub mod Reloading
 pub mod Examples

@@ -27,35 +27,14 @@ total-put_pending v p (q ∷ qs) = pick (nat_lt p.at q.at) (total-put_pending v 
     pick true h = refl
     pick false h = omega (arith, h)
 
-pub edges_put : (w : Edge → ℕ) (old new : List Pending) (at : ℕ) (e : Edge) → new ≡ put_pending (record { at = at; edge = e }) old →
-    total w (edges_in new) ≡ total w (edges_in old) + w e
-edges_put w old new at e is =
-    let a = total-map w (λ (p : Pending). p.edge) new in
-    let b = total-map w (λ (p : Pending). p.edge) old in
-    let c = ap (total (λ (p : Pending). w p.edge)) is ∙ total-put_pending (λ p. w p.edge) (record { at = at; edge = e }) old in
-    omega (arith, a, b, c)
-
-own_test : (at s : ℕ) → at ≡ s → cond {A = ℕ} (nat_eq at s) 0 1 ≡ 0
+pub own_test : (at s : ℕ) → at ≡ s → cond {A = ℕ} (nat_eq at s) 0 1 ≡ 0
 own_test at s h = grind (arith, nat_tests)
 
-pub own_put : (old new : List Pending) (at : ℕ) (e : Edge) → new ≡ put_pending (record { at = at; edge = e }) old → at ≡ e.sync → WaitForThemselves old → WaitForThemselves new
-own_put old new at e is same h =
-    let c = ap (total (λ (p : Pending). cond (nat_eq p.at p.edge.sync) 0 1)) is ∙ total-put_pending (λ p. cond (nat_eq p.at p.edge.sync) 0 1) (record { at = at; edge = e }) old in
-    let z = own_test at e.sync same in
-    omega (arith, c, z, h)
-
-from_test : (t s : ℕ) → t ≤ s → cond {A = ℕ} (nat_le t s) 0 1 ≡ 0
+pub from_test : (t s : ℕ) → t ≤ s → cond {A = ℕ} (nat_le t s) 0 1 ≡ 0
 from_test t s h = grind (arith, nat_tests)
 
 below_test : (t s : ℕ) → s < t → cond {A = ℕ} (nat_lt s t) 0 1 ≡ 0
 below_test t s h = grind (arith, nat_tests)
-
-pub later_put : (to : ℕ) (old new : List Pending) (at : ℕ) (e : Edge) → new ≡ put_pending (record { at = at; edge = e }) old → to ≤ e.sync →
-    failing (is_from to) (edges_in old) ≡ 0 → failing (is_from to) (edges_in new) ≡ 0
-later_put to old new at e is low h =
-    let a = edges_put (λ x. cond (is_from to x) 0 1) old new at e is in
-    let z = from_test to e.sync low in
-    omega (arith, a, z, h)
 
 pub pushed : {X : Type 0} (w : X → ℕ) (xs ys : List X) (x : X) → ys ≡ xs ++ x ∷ [] → total w ys ≡ total w xs + w x
 pushed w xs ys x e = let a = ap (total w) e in let b = total-append w xs (x ∷ []) in omega (arith, a, b)

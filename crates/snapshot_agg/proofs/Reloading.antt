@@ -18,7 +18,7 @@ use Rattle.tw_rows.proofs.Bags.{total-map, SameBag-refl, SameBag-trans, SameBag-
 use Rattle.edge_history.specs.Order.{failing, is_from, is_below}
 use Rattle.edge_history.specs.Opens.{bare}
 use Rattle.edge_history.proofs.Sums.{failing-both, failing-same, weaker}
-use Rattle.end_queue.specs.Pending.{Pending, put_pending}
+use Rattle.end_queue.specs.Pending.{Pending}
 use Rattle.edge_stream.specs.declared.saved.SavedEntry.{SavedEntry}
 use Rattle.key_nodes.specs.Groups.{has_key}
 use Rattle.node_laws.specs.Keeping.{plain_cells}
@@ -31,13 +31,13 @@ use Rattle.carried_edges.specs.Entries.{entries_of, part_of, are_of_parts}
 use Rattle.carried_edges.proofs.Parts.{part_of_own, part_of_other, part_of_append, parts_own, parts_append, none_fails}
 use Rattle.snapshot_agg.specs.Words.{key_data, tell, bad}
 use Rattle.snapshot_agg.specs.Keeping.{KeepsGrouped}
-use Rattle.snapshot_agg.specs.Waiting.{edges_in}
+use Rattle.snapshot_agg.specs.Waiting.{edges_in, own_pending}
 use Rattle.snapshot_agg.specs.Totaled.{run_from, run_of}
 use Rattle.snapshot_agg.specs.Answering.{is_stored, IsRunOf, AreRunsOf}
 use Rattle.snapshot_agg.specs.Saving.{start_of, row_of_start, later_run, run_among, is_waiting, is_told, GroupSound, GroupResumes}
 use Rattle.snapshot_agg.proofs.Answering.{some_is}
 use Rattle.snapshot_agg.proofs.Lists.{total_more}
-use Rattle.snapshot_agg.proofs.PuttingOff.{edges_put}
+use Rattle.snapshot_agg.proofs.Queueing.{edges_more}
 use Rattle.snapshot_agg.proofs.Totaling.{keys_tell, tell_is_group, bad_by_key, of_key}
 
 -- THE SAME IN ANOTHER ORDER
@@ -258,11 +258,12 @@ pub blocks_next : (blocks : List (List HeldRow)) (k : ℕ) (b : List HeldRow) �
     map start_of (flat_map (λ b. b) (take (k + 1) blocks)) ≡ map start_of (flat_map (λ b. b) (take k blocks)) ++ map start_of b
 blocks_next blocks k b h = let e : k + 1 ≡ suc k = omega arith in ap (λ n. map start_of (flat_map (λ b. b) (take n blocks))) e ∙ blocks_more blocks k b h
 
-pub queue_next : (edges : List Edge) (i : ℕ) (e : Edge) (old new : List Pending) → i < length edges → e ≡ get_or edges i e → new ≡ put_pending (record { at = e.sync; edge = e }) old →
+pub queue_next : (edges : List Edge) (i : ℕ) (e : Edge) (old new : List Pending) → i < length edges → e ≡ get_or edges i e →
+    ((w : Pending → ℕ) → total w new ≡ total w old + w (own_pending e)) →
     SameBag (take i edges) (edges_in old) → SameBag (take (i + 1) edges) (edges_in new)
 queue_next edges i e old new lt is put same = record {
   weigh = λ w.
-      let a = edges_put w old new e.sync e put in
+      let a = edges_more old new e put w in
       let b = same.weigh w in
       let d = total_more w edges i e lt in
       let f = ap w is in

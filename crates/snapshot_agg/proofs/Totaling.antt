@@ -7,7 +7,7 @@ use Rattle.tw_rows.specs.Bag.{SameBag, total}
 use Rattle.tw_rows.specs.SameCells.{same_cells, same_cells-Decides, cells_are_same, same_itself}
 use Rattle.tw_rows.specs.declared.cells.Datum.{Datum}
 use Rattle.tw_rows.specs.declared.edge.HeldRow.{HeldRow}
-use Rattle.tw_rows.proofs.Bags.{total-map, SameBag-filter, SameBag-sym}
+use Rattle.tw_rows.proofs.Bags.{total-map, SameBag-filter, SameBag-map, SameBag-sym}
 use Rattle.edge_history.specs.Opens.{bare}
 use Rattle.key_nodes.specs.Runs.{Tells as KeyTells}
 use Rattle.key_nodes.specs.Groups.{has_key, IsGroupRow}
@@ -58,6 +58,14 @@ few_of_key key k rows =
     let a = filter_few (has_key (key_in plain_cells key) same_cells k) (bare rows) in
     let b = length_map (λ (r : HeldRow). r.cells) rows in
     omega (arith, a, b)
+
+-- the same rows in another order
+pub totaled_same : {S : Type 0} (key : List ℕ) (aggs : List Agg) (rows rows2 : List HeldRow) (totals : IndexMap (List Datum) Totals S) → SameBag rows rows2 →
+    Totaled key aggs rows totals → Totaled key aggs rows2 totals
+totaled_same key aggs rows rows2 totals same h = record {
+  of_key = λ k. total_of_same (get same_cells totals k) aggs (of_key key k rows) (of_key key k rows2)
+      (SameBag-filter (has_key (key_in plain_cells key) same_cells k) (bare rows) (bare rows2) (SameBag-map (λ (r : HeldRow). r.cells) rows rows2 same)) (h.of_key k);
+}
 
 -- a row more: rows2 has it, and rows has it not
 module _ (key : List ℕ) (rows rows2 : List HeldRow) (cells : List Datum) (start : ℕ)

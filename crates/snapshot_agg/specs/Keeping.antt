@@ -10,8 +10,8 @@ use Rattle.edge_history.specs.Order.{IsHistory}
 use Rattle.end_queue.specs.Pending.{Pending}
 use Rattle.node_laws.specs.Places.{EdgesArePlaced}
 use Rattle.plan_model.specs.declared.agg.Agg.{Agg}
-use Rattle.synopsis.specs.Held.{KeyedRows}
 use Rattle.sweep_laws.specs.Grouping.{GroupKeeps}
+use Rattle.snapshot_agg.specs.declared.totals.Totals.{Totals}
 use Rattle.snapshot_agg.specs.Words.{key_data, tell, bad}
 use Rattle.snapshot_agg.specs.Totaled.{run_of}
 use Rattle.snapshot_agg.specs.Waiting.{edges_in}
@@ -43,6 +43,6 @@ pub record IsOpening {S : Type 0} (rows : List HeldRow) (running : IndexMap (Lis
 
 -- the keys that have rows are no more than the rows, and of each key one row is told at most. Of rows of the keys 5, 5 and 6
 -- they are two
-pub record HasFewKeys {S : Type 0} (rows : KeyedRows) (running : IndexMap (List Datum) HeldRow S) : Type 0 where
-  pub keys : length rows.blocks ≤ length rows.rows
+pub record HasFewKeys {S T : Type 0} (rows : List HeldRow) (totals : IndexMap (List Datum) Totals T) (running : IndexMap (List Datum) HeldRow S) : Type 0 where
+  pub keys : length totals.entries ≤ length rows
   pub once : IsUnique same_cells running

@@ -8,7 +8,6 @@ use Rattle.tw_rows.specs.SameCells.{same_cells}
 use Rattle.tw_rows.specs.declared.cells.Datum.{Datum}
 use Rattle.tw_rows.specs.declared.cells.Datum.TheVariants.{Int, Bool as Flag, Text}
 use Rattle.tw_rows.specs.declared.edge.HeldRow.{HeldRow}
-use Rattle.synopsis.specs.Held.{KeyedRows}
 use Rattle.plan_model.specs.declared.agg.Agg.{Agg}
 use Rattle.plan_model.specs.declared.agg.Agg.TheVariants.{Count, Sum, Least, Greatest}
 use Rattle.snapshot_agg.specs.declared.state.State.{State}
@@ -94,8 +93,8 @@ unfolding IsDistinct
 distinct_prop [] = Unit-prop
 distinct_prop (k ∷ ks) = ×_prop (others_prop k ks) (distinct_prop ks)
 
-pub few_prop : {S : Type 0} (rows : KeyedRows) (running : IndexMap (List Datum) HeldRow S) → IsProp (HasFewKeys rows running)
-few_prop rows running = hlevel (le_prop, distinct_prop)
+pub few_prop : {S T : Type 0} (rows : List HeldRow) (totals : IndexMap (List Datum) Totals T) (running : IndexMap (List Datum) HeldRow S) → IsProp (HasFewKeys rows totals running)
+few_prop rows totals running = hlevel (le_prop, distinct_prop)
 
 -- and so has what is kept while no step failed
 pub under : {P : Type 0} (failed : Bool) → IsProp P → IsProp (failed ≡ false → P)

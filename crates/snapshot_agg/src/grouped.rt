@@ -19,10 +19,10 @@ ghost use Rattle.snapshot_agg.specs.Waiting.{edges_in, WaitForThemselves};
 use crate::groups::Groups;
 use crate::passes::Running;
 use crate::pooled::{give_back, list_of};
+use crate::queue::Queue;
 use crate::telling::{keys_are_few, tell_due};
 use batch::Pools;
 use edge_stream::{EdgeList, StepFault};
-use end_queue::EndQueue;
 use indexmap::IndexMap;
 use plan_model::Agg;
 use std::alloc::Global;
@@ -36,7 +36,7 @@ pub struct Grouped {
     pub(crate) alloc: Global,
     pub(crate) groups: Groups,
     pub(crate) running: Running,
-    pub(crate) waiting: EndQueue,
+    pub(crate) waiting: Queue,
     // How the columns of its child and its own are stored.
     pub(crate) left_kinds: Vec<Kind>,
     pub(crate) kinds: Vec<Kind>,
@@ -49,7 +49,7 @@ pub struct Grouped {
     ghost later: { failed ≡ false → failing (is_from left_to) (edges_in waiting) ≡ 0 },
     ghost stored: { failed ≡ false → failing (is_stored (map cell_kind_of left_kinds.items)) (edges_in waiting) ≡ 0 },
     ghost runs: { failed ≡ false → AreRunsOf (map cell_kind_of kinds.items) left_to (run_of running) },
-    ghost few: { HasFewKeys groups.rows running } by { few_prop groups.rows running },
+    ghost few: { HasFewKeys groups.rows.rows groups.totals running } by { few_prop groups.rows.rows groups.totals running },
     ghost like: { map cell_kind_of kinds.items ≡ group_kinds groups.key.items groups.aggs.items (map cell_kind_of left_kinds.items) },
     ghost width: { length kinds.items ≤ 32 },
     ghost room: { 1 ≤ capacity },
@@ -83,7 +83,7 @@ impl Grouped {
             alloc,
             groups,
             running,
-            waiting: EndQueue::new(alloc),
+            waiting: Queue::new(alloc),
             left_kinds: Vec::from_slice(alloc, left_kinds)?,
             kinds: Vec::from_slice(alloc, kinds)?,
             capacity,

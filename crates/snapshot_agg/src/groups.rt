@@ -15,13 +15,14 @@ ghost use Rattle.synopsis.specs.Held.{cell_or_zero};
 ghost use Rattle.snapshot_agg.specs.Totaled.{IsTotalOf, Totaled};
 ghost use Rattle.snapshot_agg.specs.Told.{IsTold, row_in};
 
+use crate::line::Line;
 use crate::totals::{Totals, touch};
 use indexmap::IndexMap;
 use plan_model::Agg;
 use smallvec::SmallVec;
 use std::alloc::Global;
 use std::hash::BuildHasherDefault;
-use synopsis::{Synopsis, WordHasher};
+use synopsis::WordHasher;
 use tw_rows::{Cells, Datum, Memory, Time, same_cells};
 
 /// What is kept of the rows of each key.
@@ -40,7 +41,7 @@ pub(crate) struct Groups {
     pub(crate) alloc: Global,
     pub(crate) key: Vec<usize>,
     pub(crate) aggs: Vec<Agg>,
-    pub(crate) rows: Synopsis,
+    pub(crate) rows: Line,
     pub(crate) totals: KeyTotals,
     // The keys of the rows that came or went since the list was cleared.
     pub(crate) touched: Vec<Cells>,
@@ -150,7 +151,7 @@ impl Groups {
             alloc,
             key: Vec::from_slice(alloc, key)?,
             aggs: Vec::from_slice(alloc, aggs)?,
-            rows: Synopsis::new(alloc, key)?,
+            rows: Line::new(alloc, key)?,
             totals: IndexMap::with_hasher(alloc, BuildHasherDefault::new()),
             touched: Vec::new(alloc),
         })
@@ -196,11 +197,12 @@ impl Groups {
         ensures aggs { self.new.aggs ≡ self.old.aggs }
     {
         let key = key_of(self.alloc, &self.key, cells.items())?;
-        if !self.rows.take(cells.items(), start) {
-            touch(&mut self.touched, &key, usize::MAX)?;
+        let taken = self.rows.take(cells.items(), start)?;
+        if taken {
+            take_from(&mut self.totals, &mut self.touched, &key, cells.items())?;
             return Ok(());
         }
-        take_from(&mut self.totals, &mut self.touched, &key, cells.items())?;
+        touch(&mut self.touched, &key, usize::MAX)?;
         Ok(())
     }
 

@@ -4,10 +4,12 @@
 mod grouped;
 mod groups;
 mod laws;
+mod line;
 mod loading;
 mod operating;
 mod passes;
 mod pooled;
+mod queue;
 mod saving;
 mod state;
 mod sweep;

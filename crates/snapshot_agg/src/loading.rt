@@ -11,9 +11,9 @@ ghost use Rattle.snapshot_agg.specs.Waiting.{edges_in, WaitForThemselves};
 
 use crate::groups::Groups;
 use crate::passes::{Running, put_run};
+use crate::queue::Queue;
 use carried_edges::{are_of_parts, edges_of_part, is_stored_as};
 use edge_stream::{LoadFault, Saved};
-use end_queue::EndQueue;
 use indexmap::IndexMap;
 use plan_model::Agg;
 use std::alloc::Global;
@@ -24,7 +24,7 @@ use tw_rows::{Cells, Datum, Edge, Kind, Memory, Time};
 #[derive(Drop)]
 pub(crate) struct Loaded {
     pub(crate) groups: Groups,
-    pub(crate) waiting: EndQueue,
+    pub(crate) waiting: Queue,
     pub(crate) running: Running,
 }
 
@@ -81,13 +81,13 @@ fn groups_of(alloc: Global, key: &[usize], aggs: &[Agg], starts: &[Edge]) -> Res
 }
 
 // A queue of the edges, each for its own time.
-fn queue_of(alloc: Global, edges: &[Edge]) -> Result<EndQueue, Memory>
+fn queue_of(alloc: Global, edges: &[Edge]) -> Result<Queue, Memory>
     ensures edges { IfOk result (λ queue. SameBag edges.now (edges_in queue)) }
     ensures own { IfOk result WaitForThemselves }
 {
-    let mut queue = EndQueue::new(alloc);
+    let mut queue = Queue::new(alloc);
     for edge in edges {
-        queue.put(edge.sync, edge.clone()?)?;
+        queue.put(edge.clone()?)?;
     }
     Ok(queue)
 }

@@ -2,7 +2,7 @@
 use crate::grouped::Grouped;
 use crate::laws::groups_stand_for_their_node;
 use crate::loading::load_parts;
-use crate::saving::{starts_of_rows, starts_of_runs};
+use crate::saving::starts_of_runs;
 use crate::telling::keys_are_few;
 use batch::Pools;
 use carried_edges::save_edges;
@@ -46,7 +46,7 @@ impl Operator for Grouped {
 
     ghost resumes = { λ s saved x y texts hl hr out. GroupResumes (map cell_kind_of s.left_kinds.items) (map cell_kind_of s.kinds.items) s.groups.key.items s.groups.aggs.items texts x saved hl hr out };
 
-    ghost entries = { λ s. length s.groups.rows.rows + length s.groups.rows.rows * length s.groups.aggs.items + length s.groups.rows.blocks + length s.running.entries + length s.waiting };
+    ghost entries = { λ s. length s.groups.rows.rows + length s.groups.rows.rows * length s.groups.aggs.items + length s.groups.totals.entries + length s.running.entries + length s.waiting };
 
     ghost most = { λ s hl hr out. may_hold (Group 0 s.groups.key.items s.groups.aggs.items) s.left_to s.left_to (of hl) (of hr) (node_in plain_cells (Group 0 s.groups.key.items s.groups.aggs.items) (of hl) (of hr)) };
 
@@ -69,9 +69,9 @@ impl Operator for Grouped {
 
     fn held(&self) -> u64 {
         let rows = self.groups.rows.len() as u64;
-        let keys = self.groups.rows.block_count() as u64;
+        let keys = self.groups.totals.len() as u64;
         let runs = self.running.len() as u64;
-        let waiting = self.waiting.len() as u64;
+        let waiting = self.waiting.len();
         let bags = rows.saturating_mul(self.groups.aggs.as_slice().len() as u64);
         rows.saturating_add(bags)
             .saturating_add(keys)
@@ -85,7 +85,7 @@ impl Operator for Grouped {
 
     fn save(&self) -> Result<Saved, Memory> {
         let mut saved = Saved::new(self.alloc);
-        let rows = starts_of_rows(self.alloc, &self.groups.rows)?;
+        let rows = self.groups.rows.starts(self.alloc)?;
         save_edges(&mut saved, 0, &rows)?;
         let waiting = self.waiting.edges(self.alloc)?;
         save_edges(&mut saved, 1, &waiting)?;

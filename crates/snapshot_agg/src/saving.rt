@@ -4,6 +4,7 @@ ghost use Rattle.snapshot_agg.specs.Saving.{start_of};
 
 use crate::passes::Running;
 use std::alloc::Global;
+use std::collections::VecDeque;
 use synopsis::Synopsis;
 use tw_rows::{Edge, HeldRow, Memory, Time};
 
@@ -37,6 +38,16 @@ pub(crate) fn starts_of_rows(alloc: Global, rows: &Synopsis) -> Result<Vec<Edge>
         push_starts(&mut starts, rows.block(k))?;
     }
     Ok(starts)
+}
+
+/// Adds the rows of a line as starts.
+pub(crate) fn push_line(starts: &mut Vec<Edge>, line: &VecDeque<HeldRow>) -> Result<(), Memory>
+    ensures { OnOk result (starts.new.items ≡ starts.old.items ++ map start_of line.now.items) }
+{
+    for i in 0..line.len() {
+        starts.push(start_edge(&line[i])?)?;
+    }
+    Ok(())
 }
 
 /// The rows that are told as starts.

@@ -16,18 +16,29 @@ ghost use Rattle.snapshot_agg.specs.Waiting.{edges_in, WaitForThemselves};
 
 use crate::groups::Groups;
 use crate::passes::Running;
+use crate::queue::Queue;
 use crate::sweep::sweep_due;
 use crate::waiting::take_due;
 use edge_stream::{EdgeList, StepFault};
-use end_queue::EndQueue;
 use std::alloc::Global;
 use tw_rows::{Edge, Time};
 
 /// Keys are few. A call does nothing but tell a proof of this.
 pub(crate) fn keys_are_few(groups: &Groups, running: &Running)
-    ensures { HasFewKeys groups.now.rows running.now }
+    requires counted { Totaled groups.now.key.items groups.now.aggs.items groups.now.rows.rows groups.now.totals }
+    ensures { HasFewKeys groups.now.rows.rows groups.now.totals running.now }
 {
-    let _ = (groups.rows.block_count(), running.len());
+    let _ = (groups.totals.len(), running.len());
+}
+
+// Gives up what is kept of each key, of a step that failed.
+fn give_up(groups: &mut Groups, running: &Running)
+    ensures few { HasFewKeys groups.new.rows.rows groups.new.totals running.now }
+    ensures key { groups.new.key ≡ groups.old.key }
+    ensures aggs { groups.new.aggs ≡ groups.old.aggs }
+{
+    groups.totals.clear();
+    let _ = running.len();
 }
 
 /// Takes in the new edges of a side that was closed up to one time and is now up to another, and tells what happens to the
@@ -36,7 +47,7 @@ pub(crate) fn tell_due(
     alloc: Global,
     groups: &mut Groups,
     running: &mut Running,
-    waiting: &mut EndQueue,
+    waiting: &mut Queue,
     left: &EdgeList,
     from: Time,
     to: Time,
@@ -63,7 +74,7 @@ pub(crate) fn tell_due(
         KeepsGroup groups.old.key.items groups.old.aggs.items groups.old.rows.rows running.old waiting.old from came out →
         IsHistory (came ++ left.now.edges) → failing (is_from from) left.now.edges ≡ 0 →
         first_below (λ t. is_undefined_in plain_cells groups.old.key.items groups.old.aggs.items (alive (of (came ++ left.now.edges)) t)) to ≡ Some time) }
-    ensures few { HasFewKeys groups.new.rows running.new }
+    ensures few { HasFewKeys groups.new.rows.rows groups.new.totals running.new }
     ensures key { groups.new.key ≡ groups.old.key }
     ensures aggs { groups.new.aggs ≡ groups.old.aggs }
 {
@@ -73,7 +84,7 @@ pub(crate) fn tell_due(
     match sweep_due(groups, running, &mut answer, &due, from) {
         Ok(()) => {}
         Err(fault) => {
-            keys_are_few(groups, running);
+            give_up(groups, running);
             return Err(fault);
         }
     }

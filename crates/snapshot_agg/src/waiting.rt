@@ -8,9 +8,9 @@ ghost use Rattle.edge_stream.specs.Listing.{cells_of};
 ghost use Rattle.snapshot_agg.specs.Answering.{is_stored};
 ghost use Rattle.snapshot_agg.specs.Waiting.{edges_in, WaitForThemselves};
 
+use crate::queue::Queue;
 use edge_history::in_order;
 use edge_stream::EdgeList;
-use end_queue::EndQueue;
 use std::alloc::Global;
 use tw_rows::{Edge, Memory, Time};
 
@@ -22,7 +22,7 @@ fn is_due(sync: Time, to: Time) -> bool
 }
 
 // Puts an edge to those that are due, or to those that wait.
-fn place(due: &mut Vec<Edge>, waiting: &mut EndQueue, to: Time, edge: Edge) -> Result<(), Memory>
+fn place(due: &mut Vec<Edge>, waiting: &mut Queue, to: Time, edge: Edge) -> Result<(), Memory>
     ensures parts { OnOk result ((w : Edge → ℕ) → total w due.new.items + total w (edges_in waiting.new) ≡ (total w due.old.items + total w (edges_in waiting.old)) + w edge) }
     ensures below { OnOk result (failing (is_below to) due.old.items ≡ 0 → failing (is_below to) due.new.items ≡ 0) }
     ensures later { OnOk result (failing (is_from to) (edges_in waiting.old) ≡ 0 → failing (is_from to) (edges_in waiting.new) ≡ 0) }
@@ -32,7 +32,7 @@ fn place(due: &mut Vec<Edge>, waiting: &mut EndQueue, to: Time, edge: Edge) -> R
         due.push(edge)?;
         return Ok(());
     }
-    waiting.put(edge.sync, edge)?;
+    waiting.put(edge)?;
     Ok(())
 }
 
@@ -40,7 +40,7 @@ fn place(due: &mut Vec<Edge>, waiting: &mut EndQueue, to: Time, edge: Edge) -> R
 fn place_singles(
     due: &mut Vec<Edge>,
     ends: &mut Vec<Edge>,
-    waiting: &mut EndQueue,
+    waiting: &mut Queue,
     to: Time,
     edge: Edge,
 ) -> Result<(), Memory>
@@ -69,22 +69,10 @@ fn place_singles(
     place(ends, waiting, to, end)
 }
 
-// Takes out the edges that are due by now.
-fn pop_all(due: &mut Vec<Edge>, waiting: &mut EndQueue, to: Time) -> Result<(), Memory>
-    requires own { WaitForThemselves waiting.old }
-    ensures parts { OnOk result ((w : Edge → ℕ) → total w due.new.items + total w (edges_in waiting.new) ≡ total w due.old.items + total w (edges_in waiting.old)) }
-    ensures below { OnOk result (failing (is_below to) due.old.items ≡ 0 → failing (is_below to) due.new.items ≡ 0) }
-    ensures later { OnOk result (failing (is_from to) (edges_in waiting.new) ≡ 0) }
-    ensures own { OnOk result (WaitForThemselves waiting.new) }
-{
-    waiting.pop_all(to, due)?;
-    Ok(())
-}
-
 /// Takes in the starts and the ends of new edges, and takes out what comes below a time, in order.
 pub(crate) fn take_due(
     alloc: Global,
-    waiting: &mut EndQueue,
+    waiting: &mut Queue,
     new: &EdgeList,
     to: Time,
 ) -> Result<Vec<Edge>, Memory>
@@ -96,9 +84,11 @@ pub(crate) fn take_due(
     ensures own { OnOk result (WaitForThemselves waiting.new) }
     ensures stored { OnOk result (failing (is_stored (cells_of new.now)) (singles new.now.edges) ≡ 0) }
 {
-    let mut due = Vec::new(alloc);
-    let mut ends = Vec::new(alloc);
-    pop_all(&mut due, waiting, to)?;
+    // Most new edges are intervals, which are two edges each.
+    let count = new.len() as usize;
+    let mut due = Vec::with_capacity(alloc, count.saturating_mul(2))?;
+    let mut ends = Vec::with_capacity(alloc, count)?;
+    waiting.pop_all(to, &mut due)?;
     let mut cursor = new.cursor();
     while let Some(edge) = cursor.next()? {
         place_singles(&mut due, &mut ends, waiting, to, edge)?;

@@ -1,4 +1,4 @@
-use Rattle.std.specs.Prelude.{◌≡◌, ◌++◌, List, Option, length, map}
+use Rattle.std.specs.Prelude.{◌≡◌, ◌++◌, List, Option, map}
 use Rattle.std.proofs.Common.{subst, arith}
 use Rattle.tw_rows.specs.SameCells.{same_cells}
 use Rattle.tw_rows.specs.declared.cells.Datum.{Datum}

@@ -1,5 +1,7 @@
-use Rattle.std.proofs.Common.{arith}
+use Rattle.snapshot_agg.proofs.Few.{few_totals}
 use Rattle.snapshot_agg.proofs.telling.keys_are_few.Goals as goal
 
 pub returns : goal.returns
-returns c = let n = c.block_count.ensures.count in let f = c.block_count.ensures.few in record { keys = omega (arith, n, f); once = c.len.ensures.unique }
+returns c =
+    let g = c.args.groups.now in
+    record { keys = few_totals g.key.items g.aggs.items g.rows.rows g.totals c.len.ensures.unique c.requires.counted; once = c.len-2.ensures.unique }

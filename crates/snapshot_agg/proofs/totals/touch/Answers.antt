@@ -1,8 +1,7 @@
-use Rattle.std.specs.Prelude.{◌≡◌, true}
 use Rattle.std.specs.List.{list_any}
 use Rattle.std.proofs.Common.{sym, ◌∙◌, ap}
 use Rattle.tw_rows.specs.SameCells.{same_cells}
-use Rattle.snapshot_agg.proofs.Touching.{key_stands, pushed_key}
+use Rattle.snapshot_agg.proofs.Touching.{key_stands}
 use Rattle.snapshot_agg.proofs.totals.touch.Goals as goal
 
 pub returns-then-stands_at : goal.returns-then-stands_at

@@ -34,7 +34,7 @@ returns-clause-counted c =
     let b = c.deref-2.result.now in
     let is : k ≡ key_data g.key.items cells = c.in_ok-key.ensures ∙ ap (λ l. key_data l c.items.result.now) c.deref.ensures.value ∙ ap (key_data g.key.items) c.items.ensures in
     let more : (w : HeldRow → ℕ) → total w rows2 ≡ total w g.rows.rows + w (record { cells = cells; start = c.args.start }) =
-    λ w. c.in_ok-add.ensures.ok w ∙ ap (λ l. total w g.rows.rows + w (record { cells = l; start = c.args.start })) (c.in_ok-row.ensures.ok ∙ c.items-3.ensures) in
+    λ w. c.in_ok-add.ensures w ∙ ap (λ l. total w g.rows.rows + w (record { cells = l; start = c.args.start })) (c.in_ok-row.ensures.ok ∙ c.items-3.ensures) in
     totaled_added g.key.items g.rows.rows rows2 cells c.args.start more g.aggs.items g.totals c.add_to.new.totals k is c.requires.counted c.in_ok-add_to.ensures.others
     (λ rs h. let z = c.in_ok-add_to.ensures.own rs (subst (λ x. IsTotalOf (get same_cells g.totals k) x rs) (sym c.deref-2.ensures.value) h) in
     subst (λ x. IsTotalOf (get same_cells c.add_to.new.totals k) x (cells ∷ rs)) c.deref-2.ensures.value

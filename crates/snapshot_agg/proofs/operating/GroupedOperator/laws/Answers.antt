@@ -30,7 +30,7 @@ returns-clause-bounded c = λ s texts hl hr out k.
     let low = open_rows s.left_to rows (of hl) k.group.now.swept.alive_rows in
     let both = side_bound hl rows (edges_in s.waiting) s.left_to k.group.history k.group.now.swept.alive_rows k.group.waits in
     let w = length_map (λ p. p.edge) s.waiting in
-    group_held g.key.items g.aggs.items s.left_to (length rows) (length g.rows.blocks) (length s.running.entries) (length s.waiting) hl hr low (omega (arith, both, w)) s.few.keys
+    group_held g.key.items g.aggs.items s.left_to (length rows) (length g.totals.entries) (length s.running.entries) (length s.waiting) hl hr low (omega (arith, both, w)) s.few.keys
     (few_runs g.key.items g.aggs.items rows s.running s.few.once k.group.now.steady)
 
 pub returns-clause-resumes_sound : goal.returns-clause-resumes_sound

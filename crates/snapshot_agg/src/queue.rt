@@ -1,0 +1,140 @@
+// Edges that wait for their times.
+ghost use Rattle.std.specs.Prelude.{◌≡◌, ◌+◌, ◌^◌, ◌-◌, ◌≤◌, ◌++◌, ◌∷◌, ℕ, true, [], List, map, take, drop, length, min, IfOk, OnOk};
+ghost use Rattle.tw_rows.specs.Bag.{total};
+ghost use Rattle.tw_rows.specs.declared.edge.Edge.{Edge};
+ghost use Rattle.edge_history.specs.Order.{failing, is_below, is_from};
+ghost use Rattle.end_queue.specs.Pending.{Pending};
+ghost use Rattle.sweep_laws.specs.Sweeps.{SyncsRise};
+ghost use Rattle.snapshot_agg.specs.Waiting.{edges_in, own_pending, WaitForThemselves};
+
+use end_queue::EndQueue;
+use std::alloc::Global;
+use std::collections::VecDeque;
+use std::marker::Model;
+use tw_rows::{Edge, Memory, Time};
+
+/// Edges that wait, each for its own sync.
+#[derive(Drop)]
+pub(crate) struct Queue {
+    // Edges mostly come in the order of their syncs: those stand in a line.
+    line: VecDeque<Edge>,
+    // Those that came behind a later one.
+    others: EndQueue,
+}
+
+impl Model for Queue {
+    ghost use Rattle.std.specs.Prelude.{◌++◌, List, map};
+    ghost use Rattle.end_queue.specs.Pending.{Pending};
+    ghost use Rattle.sweep_laws.specs.Sweeps.{SyncsRise};
+    ghost use Rattle.snapshot_agg.specs.Waiting.{own_pending};
+
+    ghost Value = { List Pending };
+
+    ghost view = { λ q. q.others ++ map own_pending q.line.items };
+
+    ghost invariant = { λ q. SyncsRise 0 q.line.items };
+}
+
+// Whether an edge of that sync may stand behind all others.
+fn comes_last(line: &VecDeque<Edge>, sync: Time) -> bool
+    ensures { result ≡ true → SyncsRise 0 line.now.items → (edge : Edge) → edge.sync ≡ sync → SyncsRise 0 (line.now.items ++ edge ∷ []) }
+{
+    match line.back() {
+        Some(last) => last.sync <= sync,
+        None => true,
+    }
+}
+
+// How many edges stand before the first that comes at the time or later.
+fn count_below(line: &VecDeque<Edge>, to: Time) -> usize
+    ensures within { result ≤ length line.now.items }
+    ensures below { failing (is_below to) (take result line.now.items) ≡ 0 }
+    ensures from { SyncsRise 0 line.now.items → failing (is_from to) (drop result line.now.items) ≡ 0 }
+{
+    for i in 0..line.len() {
+        if to <= line[i].sync {
+            return i;
+        }
+    }
+    line.len()
+}
+
+// Moves the first edges behind those that are due.
+fn move_first(line: &mut VecDeque<Edge>, due: &mut Vec<Edge>, count: usize) -> Result<(), Memory>
+    ensures rises { SyncsRise 0 line.old.items → SyncsRise 0 line.new.items }
+    ensures line { OnOk result (line.new.items ≡ drop count line.old.items) }
+    ensures due { OnOk result (due.new.items ≡ due.old.items ++ take count line.old.items) }
+{
+    for _ in 0..count {
+        match line.pop_front() {
+            Some(edge) => due.push(edge)?,
+            None => return Ok(()),
+        }
+    }
+    Ok(())
+}
+
+// Adds copies of the edges.
+fn push_clones(copy: &mut Vec<Edge>, line: &VecDeque<Edge>) -> Result<(), Memory>
+    ensures { OnOk result (copy.new.items ≡ copy.old.items ++ line.now.items) }
+{
+    for i in 0..line.len() {
+        copy.push(line[i].clone()?)?;
+    }
+    Ok(())
+}
+
+impl Queue {
+    /// No edge waits.
+    pub(crate) fn new(alloc: Global) -> Queue
+        ensures { result ≡ [] }
+    {
+        Queue {
+            line: VecDeque::new(alloc),
+            others: EndQueue::new(alloc),
+        }
+    }
+
+    /// Puts in an edge, which waits for its sync.
+    pub(crate) fn put(&mut self, edge: Edge) -> Result<(), Memory>
+        ensures { OnOk result ((w : Pending → ℕ) → total w self.new ≡ total w self.old + w (own_pending edge)) }
+    {
+        if comes_last(&self.line, edge.sync) {
+            self.line.push_back(edge)?;
+            return Ok(());
+        }
+        self.others.put(edge.sync, edge)?;
+        Ok(())
+    }
+
+    /// Takes out the edges that come below a time, and puts them last.
+    pub(crate) fn pop_all(&mut self, to: Time, due: &mut Vec<Edge>) -> Result<(), Memory>
+        requires own { WaitForThemselves self.old }
+        ensures parts { OnOk result ((w : Edge → ℕ) → total w due.new.items + total w (edges_in self.new) ≡ total w due.old.items + total w (edges_in self.old)) }
+        ensures below { OnOk result (failing (is_below to) due.old.items ≡ 0 → failing (is_below to) due.new.items ≡ 0) }
+        ensures later { OnOk result (failing (is_from to) (edges_in self.new) ≡ 0) }
+        ensures own { OnOk result (WaitForThemselves self.new) }
+    {
+        self.others.pop_all(to, due)?;
+        let count = count_below(&self.line, to);
+        move_first(&mut self.line, due, count)?;
+        Ok(())
+    }
+
+    /// How many edges wait.
+    pub(crate) fn len(&self) -> u64
+        ensures { result ≡ min (length self.now) (2 ^ 64 - 1) }
+    {
+        let others = self.others.len() as u64;
+        others.saturating_add(self.line.len() as u64)
+    }
+
+    /// A copy of the edges.
+    pub(crate) fn edges(&self, alloc: Global) -> Result<Vec<Edge>, Memory>
+        ensures { IfOk result (λ copy. copy.items ≡ edges_in self.now) }
+    {
+        let mut copy = self.others.edges(alloc)?;
+        push_clones(&mut copy, &self.line)?;
+        Ok(copy)
+    }
+}
