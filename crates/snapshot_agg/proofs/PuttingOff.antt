@@ -12,6 +12,7 @@ use Rattle.tw_rows.specs.Instant.{inf}
 use Rattle.tw_rows.specs.declared.kind.CellKind.{CellKind}
 use Rattle.edge_history.specs.Balance.{given, start_edge, end_edge}
 use Rattle.edge_history.specs.Order.{failing, is_end, is_from, is_below}
+use Rattle.edge_history.proofs.Sums.{weaker}
 use Rattle.snapshot_agg.specs.Answering.{are_stored, is_stored}
 use Rattle.snapshot_agg.proofs.Answering.{kinds_stored}
 use Rattle.edge_history.specs.Opens.{singles, singles_of}
@@ -77,9 +78,16 @@ own_both ps qs h =
     let a = total-append (λ (p : Pending). cond {A = ℕ} (nat_eq p.at p.edge.sync) 0 1) ps qs in
     (omega (arith, a, h), omega (arith, a, h))
 
+still_below : (s t c : ℕ) → t ≤ c → nat_lt s t ≡ true → nat_lt s c ≡ true
+still_below s t c low h = grind (arith, nat_tests)
+
+-- what comes below a time comes below a later one
+pub below_later : (t c : ℕ) (es : List Edge) → t ≤ c → failing (is_below t) es ≡ 0 → failing (is_below c) es ≡ 0
+below_later t c es low h = weaker (is_below t) (is_below c) es (λ e k. still_below e.sync t c low k) h
+
 pub record Popped (to : ℕ) (old new : List Pending) (due0 due1 : List Edge) : Type 0 where
   pub parts : (w : Edge → ℕ) → total w due1 + total w (edges_in new) ≡ total w due0 + total w (edges_in old)
-  pub below : failing (is_below to) due0 ≡ 0 → failing (is_below to) due1 ≡ 0
+  pub below : (c : ℕ) → to ≤ c → failing (is_below c) due0 ≡ 0 → failing (is_below c) due1 ≡ 0
   pub later : failing (is_from to) (edges_in new) ≡ 0
   pub own : WaitForThemselves new
 
@@ -94,10 +102,10 @@ all_popped to old new taken due0 due1 is pushed early late h =
           let d = ap (λ l. total w (edges_in l)) is in
           let e = edges_both w taken new in
           omega (arith, a, b, d, e);
-      below = λ k.
-          let z = all_due to taken o.0 early in
-          let a = ap (failing (is_below to)) pushed in
-          let b = total-append (λ (e : Edge). cond {A = ℕ} (is_below to e) 0 1) due0 (edges_in taken) in
+      below = λ c low k.
+          let z = below_later to c (edges_in taken) low (all_due to taken o.0 early) in
+          let a = ap (failing (is_below c)) pushed in
+          let b = total-append (λ (e : Edge). cond {A = ℕ} (is_below c e) 0 1) due0 (edges_in taken) in
           omega (arith, z, a, b, k);
       later = none_due to new o.1 late;
       own = o.1;

@@ -12,7 +12,7 @@ use Rattle.sweep_laws.specs.Sweeps.{SyncsRise}
 use Rattle.snapshot_agg.specs.Waiting.{edges_in, own_pending, WaitForThemselves}
 use Rattle.snapshot_agg.proofs.Answering.{rise_weaker, rise_drop}
 use Rattle.snapshot_agg.proofs.Lists.{total_more}
-use Rattle.snapshot_agg.proofs.PuttingOff.{total-put_pending, pushed, own_test, from_test, Popped}
+use Rattle.snapshot_agg.proofs.PuttingOff.{total-put_pending, pushed, own_test, from_test, below_later, Popped}
 
 -- ONE EDGE MORE
 module _ (old new : List Pending) (e : Edge) (more : (w : Pending → ℕ) → total w new ≡ total w old + w (own_pending e)) where
@@ -170,10 +170,11 @@ both_popped to n others others2 line line2 due0 due1 due2 p early late rest move
       let e = split_total w n line in
       let f = p.parts w in
       omega (arith, a, b, c, d, e, f);
-  below = λ k.
-      let a = ap (failing (is_below to)) moved ∙ total-append (λ (x : Edge). cond {A = ℕ} (is_below to x) 0 1) due1 (take n line) in
-      let b = p.below k in
-      omega (arith, a, b, early);
+  below = λ c low k.
+      let a = ap (failing (is_below c)) moved ∙ total-append (λ (x : Edge). cond {A = ℕ} (is_below c x) 0 1) due1 (take n line) in
+      let b = p.below c low k in
+      let z = below_later to c (take n line) low early in
+      omega (arith, a, b, z);
   later =
       let a = ap (failing (is_from to)) (edges_both others2 line2) ∙ total-append (λ (x : Edge). cond {A = ℕ} (is_from to x) 0 1) (edges_in others2) line2 in
       let b = ap (failing (is_from to)) rest in

@@ -97,7 +97,9 @@ impl Queue {
 
     /// Puts in an edge, which waits for its sync.
     pub(crate) fn put(&mut self, edge: Edge) -> Result<(), Memory>
-        ensures { OnOk result ((w : Pending → ℕ) → total w self.new ≡ total w self.old + w (own_pending edge)) }
+        ensures parts { OnOk result ((w : Pending → ℕ) → total w self.new ≡ total w self.old + w (own_pending edge)) }
+        ensures edges { OnOk result ((w : Edge → ℕ) → total w (edges_in self.new) ≡ total w (edges_in self.old) + w edge) }
+        ensures own { OnOk result (WaitForThemselves self.old → WaitForThemselves self.new) }
     {
         if comes_last(&self.line, edge.sync) {
             self.line.push_back(edge)?;
@@ -111,7 +113,7 @@ impl Queue {
     pub(crate) fn pop_all(&mut self, to: Time, due: &mut Vec<Edge>) -> Result<(), Memory>
         requires own { WaitForThemselves self.old }
         ensures parts { OnOk result ((w : Edge → ℕ) → total w due.new.items + total w (edges_in self.new) ≡ total w due.old.items + total w (edges_in self.old)) }
-        ensures below { OnOk result (failing (is_below to) due.old.items ≡ 0 → failing (is_below to) due.new.items ≡ 0) }
+        ensures below { OnOk result ((c : ℕ) → to ≤ c → failing (is_below c) due.old.items ≡ 0 → failing (is_below c) due.new.items ≡ 0) }
         ensures later { OnOk result (failing (is_from to) (edges_in self.new) ≡ 0) }
         ensures own { OnOk result (WaitForThemselves self.new) }
     {

@@ -1,6 +1,6 @@
 // Edges that are not due yet.
 ghost use Rattle.std.specs.Prelude.{◌≡◌, ◌+◌, ◌<◌, ◌≤◌, ◌↔◌, IsTrue, ℕ, List, ◌∷◌, ◌++◌, OnOk, IfOk};
-ghost use Rattle.tw_rows.specs.Bag.{total};
+ghost use Rattle.tw_rows.specs.Bag.{SameBag, total};
 ghost use Rattle.tw_rows.specs.declared.edge.Edge.{Edge};
 ghost use Rattle.edge_history.specs.Order.{failing, is_below, is_from, Rises};
 ghost use Rattle.edge_history.specs.Opens.{singles_of, singles};
@@ -9,7 +9,7 @@ ghost use Rattle.snapshot_agg.specs.Answering.{is_stored};
 ghost use Rattle.snapshot_agg.specs.Waiting.{edges_in, WaitForThemselves};
 
 use crate::queue::Queue;
-use edge_history::in_order;
+use edge_history::{in_order, keeps_order};
 use edge_stream::EdgeList;
 use std::alloc::Global;
 use tw_rows::{Edge, Memory, Time};
@@ -25,7 +25,6 @@ fn is_due(sync: Time, to: Time) -> bool
 fn place(due: &mut Vec<Edge>, waiting: &mut Queue, to: Time, edge: Edge) -> Result<(), Memory>
     ensures parts { OnOk result ((w : Edge → ℕ) → total w due.new.items + total w (edges_in waiting.new) ≡ (total w due.old.items + total w (edges_in waiting.old)) + w edge) }
     ensures below { OnOk result (failing (is_below to) due.old.items ≡ 0 → failing (is_below to) due.new.items ≡ 0) }
-    ensures later { OnOk result (failing (is_from to) (edges_in waiting.old) ≡ 0 → failing (is_from to) (edges_in waiting.new) ≡ 0) }
     ensures own { OnOk result (WaitForThemselves waiting.old → WaitForThemselves waiting.new) }
 {
     if is_due(edge.sync, to) {
@@ -36,19 +35,16 @@ fn place(due: &mut Vec<Edge>, waiting: &mut Queue, to: Time, edge: Edge) -> Resu
     Ok(())
 }
 
-// An interval is a start and an end; each other edge is one of them. The ends of intervals come into a list of their own.
+// An interval is a start and an end, which waits even where it is due; each other edge is one of them.
 fn place_singles(
     due: &mut Vec<Edge>,
-    ends: &mut Vec<Edge>,
     waiting: &mut Queue,
     to: Time,
     edge: Edge,
 ) -> Result<(), Memory>
-    ensures parts { OnOk result ((w : Edge → ℕ) → (total w due.new.items + total w ends.new.items) + total w (edges_in waiting.new)
-        ≡ ((total w due.old.items + total w ends.old.items) + total w (edges_in waiting.old)) + total w (singles_of edge)) }
+    ensures parts { OnOk result ((w : Edge → ℕ) → total w due.new.items + total w (edges_in waiting.new)
+        ≡ (total w due.old.items + total w (edges_in waiting.old)) + total w (singles_of edge)) }
     ensures below { OnOk result (failing (is_below to) due.old.items ≡ 0 → failing (is_below to) due.new.items ≡ 0) }
-    ensures ends_below { OnOk result (failing (is_below to) ends.old.items ≡ 0 → failing (is_below to) ends.new.items ≡ 0) }
-    ensures later { OnOk result (failing (is_from to) (edges_in waiting.old) ≡ 0 → failing (is_from to) (edges_in waiting.new) ≡ 0) }
     ensures own { OnOk result (WaitForThemselves waiting.old → WaitForThemselves waiting.new) }
 {
     let infinity = Time::bounds().1;
@@ -66,7 +62,52 @@ fn place_singles(
         cells: edge.cells,
     };
     place(due, waiting, to, start)?;
-    place(ends, waiting, to, end)
+    waiting.put(end)
+}
+
+// The time behind a sync, or the other if that is less.
+fn up_to(sync: Time, to: Time) -> Time
+    ensures { result ≤ to }
+{
+    let after = sync.plus(1);
+    if after < to {
+        return after;
+    }
+    to
+}
+
+// Takes out what waits and comes before a start of that sync, unless this was done for the last one, and tells for which it
+// is done now.
+fn pop_before(
+    due: &mut Vec<Edge>,
+    waiting: &mut Queue,
+    to: Time,
+    last: Time,
+    sync: Time,
+) -> Result<Time, Memory>
+    requires own { WaitForThemselves waiting.old }
+    ensures parts { OnOk result ((w : Edge → ℕ) → total w due.new.items + total w (edges_in waiting.new) ≡ total w due.old.items + total w (edges_in waiting.old)) }
+    ensures below { OnOk result (failing (is_below to) due.old.items ≡ 0 → failing (is_below to) due.new.items ≡ 0) }
+    ensures own { OnOk result (WaitForThemselves waiting.new) }
+{
+    if sync <= last {
+        return Ok(last);
+    }
+    let below = up_to(sync, to);
+    waiting.pop_all(below, due)?;
+    Ok(sync)
+}
+
+// Puts the edges in order. They mostly are.
+fn put_in_order(due: &mut Vec<Edge>) -> Result<(), Memory>
+    ensures same { OnOk result (SameBag due.old.items due.new.items) }
+    ensures order { OnOk result (Rises 0 due.new.items) }
+{
+    if keeps_order(due.as_slice()) {
+        return Ok(());
+    }
+    in_order(due)?;
+    Ok(())
 }
 
 /// Takes in the starts and the ends of new edges, and takes out what comes below a time, in order.
@@ -84,17 +125,17 @@ pub(crate) fn take_due(
     ensures own { OnOk result (WaitForThemselves waiting.new) }
     ensures stored { OnOk result (failing (is_stored (cells_of new.now)) (singles new.now.edges) ≡ 0) }
 {
+    let mut last = Time::bounds().0;
     // Most new edges are intervals, which are two edges each.
     let count = new.len() as usize;
     let mut due = Vec::with_capacity(alloc, count.saturating_mul(2))?;
-    let mut ends = Vec::with_capacity(alloc, count)?;
-    waiting.pop_all(to, &mut due)?;
     let mut cursor = new.cursor();
     while let Some(edge) = cursor.next()? {
-        place_singles(&mut due, &mut ends, waiting, to, edge)?;
+        let passed = pop_before(&mut due, waiting, to, last, edge.sync)?;
+        place_singles(&mut due, waiting, to, edge)?;
+        last = passed;
     }
-    // What waited, the new starts and their ends are mostly three lists in order, which a sort only merges.
-    due.append(&mut ends)?;
-    in_order(&mut due)?;
+    waiting.pop_all(to, &mut due)?;
+    put_in_order(&mut due)?;
     Ok(due)
 }

@@ -12,7 +12,7 @@ loop-edge-preserved c =
     let l = c.loop-edge in
     let e = c.edge-item.result in
     let same : c.in_ok-clone.field-0 ≡ c.edge-item.result = search rules in
-    let put : (w : Pending → ℕ) → total w c.put.new.self ≡ total w l.queue + w (own_pending e) = λ w. c.in_ok-put.ensures w ∙ ap (λ x. total w l.queue + w (own_pending x)) same in
+    let put : (w : Pending → ℕ) → total w c.put.new.self ≡ total w l.queue + w (own_pending e) = λ w. c.in_ok-put.ensures.parts w ∙ ap (λ x. total w l.queue + w (own_pending x)) same in
     record {
       edges = queue_next c.args.edges.now l.edge-index e l.queue c.put.new.self c.loop-edge-test.true c.edge-item.is put l.invariant.edges;
       own = own_more l.queue c.put.new.self e put l.invariant.own;

@@ -1,6 +1,5 @@
 use Rattle.std.proofs.Common.{arith}
-use Rattle.snapshot_agg.proofs.PuttingOff.{pushed, below_push, not_due}
-use Rattle.snapshot_agg.proofs.Queueing.{edges_more, own_more, later_more}
+use Rattle.snapshot_agg.proofs.PuttingOff.{pushed, below_push}
 use Rattle.snapshot_agg.proofs.waiting.place.Goals as goal
 
 pub returns-then-is_due-clause-parts : goal.returns-then-is_due-clause-parts
@@ -11,11 +10,4 @@ returns-then-is_due-clause-below c = λ h.
     below_push c.args.to c.args.due.now.items c.push.new.self.items c.args.edge c.in_ok-push.ensures.items (c.is_due.ensures.0 c.if-is_due.true) h
 
 pub returns-clause-parts : goal.returns-clause-parts
-returns-clause-parts c = λ w. let a = edges_more c.args.waiting.now c.put.new.self c.args.edge c.in_ok-put.ensures w in omega (arith, a)
-
-pub returns-clause-later : goal.returns-clause-later
-returns-clause-later c = λ h.
-    later_more c.args.waiting.now c.put.new.self c.args.edge c.in_ok-put.ensures c.args.to (not_due c.is_due.result c.args.edge.sync c.args.to c.is_due.ensures c.if-is_due.false) h
-
-pub returns-clause-own : goal.returns-clause-own
-returns-clause-own c = λ h. own_more c.args.waiting.now c.put.new.self c.args.edge c.in_ok-put.ensures h
+returns-clause-parts c = λ w. let a = c.in_ok-put.ensures.edges w in omega (arith, a)
