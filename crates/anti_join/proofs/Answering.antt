@@ -23,15 +23,10 @@ use Rattle.node_laws.specs.Keeping.{Keeps, plain_cells}
 use Rattle.node_laws.proofs.Standing.{all_of}
 use Rattle.node_laws.proofs.Steps.{keeps_stand}
 use Rattle.sweep_sides.specs.Saving.{store_all}
-use Rattle.sweep_sides.proofs.KeptSides.{kinds_stored, stored_kinds}
+use Rattle.sweep_sides.proofs.KeptSides.{kinds_stored}
+use Rattle.sweep_sides.proofs.Telling.{All-weaker, told_stored}
 use Rattle.anti_join.specs.AntiJoined.{anti_meets, antis}
 use Rattle.anti_join.specs.States.{KeepsAnti}
-
--- one test from another, item by item
-module _ {X : Type 0} (P Q : X → Type 0) (h : (x : X) → P x → Q x) where
-  pub All-weaker : (xs : List X) → All P xs → All Q xs
-  All-weaker [] a = All-nil Q
-  All-weaker (x ∷ xs) a = All-cons Q x xs (h x (All-head P x xs a)) (All-weaker xs (All-tail P x xs a))
 
 abbrev row_stored : List CellKind → CellEvent → Bool
 row_stored kinds e = store_all kinds e.row
@@ -70,30 +65,10 @@ module _ (lk rk : List ℕ) (own : List CellKind) where
       (λ e he. runs_stored (alone_at (anti_meets lk rk) b e) inf (λ t r k. of_row _ e.row r k he)) ha
       ∙ total_zero a)
 
-  abbrev missed : Edge → ℕ
-  missed e = cond (store_all own e.cells) 0 1
-
-  news_one : (c d : ℕ) (e : CellEvent) → row_stored own e ≡ true → total missed (news_of c d e) ≡ 0
-  news_one c d e h = go (nat_le c e.start && nat_lt e.start d) (nat_le c e.end && nat_lt e.end d)
-    where
-      none : cond {A = ℕ} (store_all own e.row) 0 1 ≡ 0
-      none = ap (λ t. cond {A = ℕ} t 0 1) h
-
-      go : (s t : Bool) → total missed (cond s (record { sync = e.start; other = inf; cells = e.row } ∷ []) [] ++ cond t (record { sync = e.end; other = e.start; cells = e.row } ∷ []) []) ≡ 0
-      go true true = let z = none in omega (arith, z)
-      go true false = let z = none in omega (arith, z)
-      go false true = let z = none in omega (arith, z)
-      go false false = refl
-
   pub told_cells : (c d : ℕ) (hl hr answer : List Edge) → All (λ e. map datum_kind e.cells ≡ own) hl →
       SameBag answer (news c d (antis lk rk (of hl) (of hr))) → All (λ e. map datum_kind e.cells ≡ own) answer
   told_cells c d hl hr answer cl same =
-      let none = antis_stored (of hl) (of hr) (events_stored own hl cl) in
-      let each = same.weigh (λ e. cond {A = ℕ} (store_all own e.cells) 0 1)
-      ∙ (total-flat_map (λ (e : Edge). cond {A = ℕ} (store_all own e.cells) 0 1) (news_of c d) (antis lk rk (of hl) (of hr))
-      ∙ (sum_eq (row_stored own) (λ e. total missed (news_of c d e)) (λ e. 0) (antis lk rk (of hl) (of hr)) (news_one c d) none ∙ total_zero (antis lk rk (of hl) (of hr)))) in
-      All-weaker (λ (e : Edge). IsTrue (store_all own e.cells)) (λ (e : Edge). map datum_kind e.cells ≡ own) (λ e k. stored_kinds own e.cells k) answer
-      ((failing-All (λ (e : Edge). store_all own e.cells) answer).0 each)
+      told_stored own c d (antis lk rk (of hl) (of hr)) answer (antis_stored (of hl) (of hr) (events_stored own hl cl)) same
 
 -- AN ANTI-JOIN AS A NODE
 module _ (lk rk : List ℕ) (left_kinds right_kinds : List CellKind) (texts : List (List ℕ)) (x y : ℕ) (left right times : List HeldRow) (lw rw hl hr out : List Edge)

@@ -21,31 +21,6 @@ use Rattle.anti_join.proofs.Keys.{same_sym}
 pub still_free : (m n : ℕ) → m ≤ n → nat_eq n 0 ≡ true → nat_eq m 0 ≡ true
 still_free m n low h = grind (arith, nat_tests)
 
--- the test of an end edge, as the code has it
-pub end_is : (b : Bool) (e : Edge) → IsTrue b ↔ (e.other < e.sync) → is_end e ≡ b
-end_is true e h = less e.other e.sync (h.0 refl)
-  where
-    less : (m n : ℕ) → m < n → nat_lt m n ≡ true
-    less m n h = grind (arith, nat_tests)
-end_is false e h = go (nat_lt e.other e.sync) refl
-  where
-    less : (m n : ℕ) → nat_lt m n ≡ true → m < n
-    less m n h = grind (arith, nat_tests)
-
-    no_truth : IsTrue false → ⊥
-    no_truth t = cc
-
-    go : (b : Bool) → nat_lt e.other e.sync ≡ b → nat_lt e.other e.sync ≡ false
-    go false k = k
-    go true k = absurd (no_truth (h.1 (less e.other e.sync k)))
-
--- a list that grows row by row
-pub told_next : (f : HeldRow → Edge) (rows : List HeldRow) (i : ℕ) (y : HeldRow) (e : Edge) (answer0 answer1 answer2 : List Edge) → i < length rows → y ≡ get_or rows i y →
-    e ≡ f y → answer1 ≡ answer0 ++ map f (take i rows) → answer2 ≡ answer1 ++ e ∷ [] → answer2 ≡ answer0 ++ map f (take (i + 1) rows)
-told_next f rows i y e answer0 answer1 answer2 low is it before pushed =
-    pushed ∙ (ap (λ (l : List Edge). l ++ e ∷ []) before ∙ (append_assoc answer0 (map f (take i rows)) (e ∷ [])
-    ∙ ap (λ (l : List Edge). answer0 ++ l) (ap (λ (x : Edge). map f (take i rows) ++ x ∷ []) (it ∙ ap f is) ∙ sym (map_more f rows i y low))))
-
 -- an edge of these parts
 pub told_is : (since : Option ℕ) (t : ℕ) (r : HeldRow) (other : ℕ) (cells : List Datum) → other ≡ other_since since r.start → cells ≡ r.cells →
     record { sync = t; other = other; cells = cells } ≡ told_since since t r

@@ -78,23 +78,3 @@ times_few key (x ∷ xs) left one few =
             let y = ap (λ b. cond b 0 (many (is_of_key key k) left)) e in
             let f = few k (omega (arith, y, z)) in
             omega (arith, f)
-
--- no more open rows than events that do not end before the time
-pub open_few : (t : ℕ) (a : List CellEvent) (left : List HeldRow) → SameBag left (opens t a) → length left ≤ many (reaches t) a
-open_few t a left h =
-    let n = sym (ones left) ∙ h.weigh (λ r. 1) ∙ total-flat_map (λ r. 1) (open_of t) a in
-    let l = each a in
-    omega (arith, n, l)
-  where
-    one : (b c : Bool) (r : HeldRow) → total (λ x. 1) (cond (b && c) (r ∷ []) []) ≤ cond c 1 0
-    one true true r = omega arith
-    one true false r = omega arith
-    one false true r = omega arith
-    one false false r = omega arith
-
-    each : (es : List CellEvent) → total (λ e. total (λ r. 1) (open_of t e)) es ≤ many (reaches t) es
-    each [] = omega arith
-    each (e ∷ es) =
-        let a = one (nat_lt e.start t) (nat_le t e.end) (record { cells = e.row; start = e.start }) in
-        let r = each es in
-        omega (arith, a, r)

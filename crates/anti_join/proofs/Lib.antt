@@ -6,7 +6,6 @@ pub mod RowKeys
 pub mod Passes
 pub mod Changes
 pub mod WholePass
-pub mod Cuts
 pub mod Answering
 pub mod Stepped
 pub mod Held

@@ -25,13 +25,6 @@ use Rattle.anti_join.specs.Holding.{AntiKeeps}
 use Rattle.anti_join.specs.States.{KeepsAnti}
 use Rattle.anti_join.proofs.Answering.{told_cells, out_order}
 
--- new edges come at the lesser time or later
-pub from_lesser : (c x : ℕ) (l : List Edge) → c ≤ x → failing (is_from x) l ≡ 0 → failing (is_from c) l ≡ 0
-from_lesser c x l low = weaker (is_from x) (is_from c) l (λ e late. earlier e late)
-  where
-    earlier : (e : Edge) → is_from x e ≡ true → is_from c e ≡ true
-    earlier e h = grind (arith, nat_tests)
-
 -- a step of what is kept: kept2 is what the sides keep after it, told its news, and the answer the list of these
 pub anti_stepped : (lk rk lk2 rk2 : List ℕ) (left_kinds right_kinds : List CellKind) (texts : List (List ℕ)) (x y u v to : ℕ) (left right times left2 right2 times2 : List HeldRow)
     (lw rw lw2 rw2 hl hr l r out told answer : List Edge) → u ≤ inf → v ≤ inf → to ≡ min u v →
@@ -63,12 +56,3 @@ anti_stepped lk rk lk2 rk2 left_kinds right_kinds texts x y u v to left right ti
         below = subst (λ (t : ℕ). failing (is_below t) told ≡ 0) lesser (answer_below (min x y) to told events same);
       }),
     )
-
--- the list of what was told, of equal kinds and edges
-pub list_is : (kinds kinds2 : List Kind) (told told2 answer : List Edge) → kinds2 ≡ kinds → told2 ≡ told →
-    (KeepsOrder told2 → All (λ e. map datum_kind e.cells ≡ map cell_kind_of kinds2) told2 → answer ≡ told2) →
-    KeepsOrder told → All (λ e. map datum_kind e.cells ≡ map cell_kind_of kinds) told → answer ≡ told
-list_is kinds kinds2 told told2 answer e f h order cells =
-    h (subst KeepsOrder (sym f) order)
-    (subst (λ (ks : List Kind). All (λ (x : Edge). map datum_kind x.cells ≡ map cell_kind_of ks) told2) (sym e)
-    (subst (λ (l : List Edge). All (λ (x : Edge). map datum_kind x.cells ≡ map cell_kind_of kinds) l) (sym f) cells)) ∙ f

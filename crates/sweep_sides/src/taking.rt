@@ -30,23 +30,26 @@ fn pop_before(queue: &mut EndQueue, due: &mut Vec<Edge>, below: Time) -> Result<
 }
 
 // How many of the last ends are looked at for the place of a new one.
-const NEAR: usize = 32;
+const NEAR: usize = 16;
 
-// The place of a new end: behind the last one that comes at its time or before it. Where that stands far from the back the
-// new one is put last, out of order.
-fn place_of(ends: &VecDeque<Edge>, sync: Time) -> usize
-    ensures { result ≤ deque_len ends.now }
+// The place of a new end, behind the last one that comes at its time or before it, where that stands near the back.
+fn place_of(ends: &VecDeque<Edge>, sync: Time) -> Option<usize>
+    ensures { IfSome result (λ place. place ≤ deque_len ends.now) }
 {
     let len = ends.len();
+    if len > NEAR && sync < ends[len - NEAR].sync {
+        return None;
+    }
     for back in 0..len.min(NEAR) {
         if ends[len - 1 - back].sync <= sync {
-            return len - back;
+            return Some(len - back);
         }
     }
-    if len <= NEAR { 0 } else { len }
+    Some(0)
 }
 
-// Puts an end to those that are due, if it comes before a time. Else it waits.
+// Puts an end to those that are due, if it comes before a time and near the last of them. Else it waits, and comes out of
+// the queue where it is due.
 fn place_end(
     queue: &mut EndQueue,
     ends: &mut VecDeque<Edge>,
@@ -58,9 +61,10 @@ fn place_end(
     ensures timed { OnOk result (AreTimed queue.old → AreTimed queue.new) }
 {
     if comes_before(&end, to) {
-        let place = place_of(ends, end.sync);
-        ends.insert(place, end)?;
-        return Ok(());
+        if let Some(place) = place_of(ends, end.sync) {
+            ends.insert(place, end)?;
+            return Ok(());
+        }
     }
     put(queue, end)?;
     Ok(())
@@ -215,7 +219,7 @@ pub fn take_in(
     while let Some(edge) = cursor.next()? {
         take_edge(queue, &mut due, &mut ends, to, edge)?;
     }
-    // Nothing is due any more, which the call tells the proof.
+    // Ends that came far before the last ones.
     pop_before(queue, &mut due, to)?;
     due.append(&mut ends.into_vec())?;
     by_sync(&mut due)?;

@@ -1,6 +1,7 @@
 use Rattle.tw_rows.specs.declared.edge.Edge.{Edge}
 use Rattle.anti_join.specs.Free.{told_since}
-use Rattle.anti_join.proofs.Flips.{told_next, told_is}
+use Rattle.sweep_sides.proofs.Telling.{told_next}
+use Rattle.anti_join.proofs.Flips.{told_is}
 use Rattle.anti_join.proofs.sweep.tell.Goals as goal
 
 pub loop-row-preserved : goal.loop-row-preserved

@@ -9,7 +9,8 @@ use Rattle.edge_stream.proofs.Filling.{batches_given-capacity}
 use Rattle.carried_edges.proofs.Pools.{batches_given-limit}
 use Rattle.synopsis.specs.Held.{is_of_key}
 use Rattle.sweep_sides.specs.Waiting.{queued}
-use Rattle.anti_join.proofs.Stepped.{from_lesser, anti_stepped, list_is}
+use Rattle.sweep_sides.proofs.Telling.{from_lesser, list_is}
+use Rattle.anti_join.proofs.Stepped.{anti_stepped}
 use Rattle.anti_join.proofs.RowKeys.{keys_by, keys_back, news_by, times_key}
 use Rattle.anti_join.proofs.anti.Anti.advance.Goals as goal
 

@@ -5,8 +5,8 @@ use Rattle.plan_model.specs.declared.node.Node.TheVariants.{Anti as AntiNode}
 use Rattle.plan_model.specs.Nodes.{node_in}
 use Rattle.node_laws.specs.Keeping.{plain_cells}
 use Rattle.sweep_sides.specs.Waiting.{queued}
-use Rattle.sweep_sides.proofs.KeptSides.{side_bounded}
-use Rattle.anti_join.proofs.Held.{times_few, open_few}
+use Rattle.sweep_sides.proofs.KeptSides.{side_bounded, open_few}
+use Rattle.anti_join.proofs.Held.{times_few}
 use Rattle.anti_join.proofs.Resuming.{anti_opening, anti_longer, anti_stands, anti_bound}
 use Rattle.anti_join.proofs.operating.AntiOperator.laws.Goals as goal
 

@@ -5,7 +5,7 @@ use Rattle.edge_history.specs.Order.{is_end, many}
 use Rattle.edge_history.specs.Opens.{is_held}
 use Rattle.synopsis.specs.Held.{key_of}
 use Rattle.sweep_laws.specs.Antijoining.{end_of}
-use Rattle.anti_join.proofs.Flips.{end_is}
+use Rattle.sweep_sides.proofs.Telling.{end_is}
 use Rattle.anti_join.proofs.Passes.{end_told, ended_told, no_ended, same_status}
 use Rattle.anti_join.proofs.RowKeys.{keys_stay}
 use Rattle.anti_join.proofs.sweep.Rows.end_left_one.Goals as goal

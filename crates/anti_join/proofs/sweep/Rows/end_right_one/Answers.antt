@@ -6,7 +6,8 @@ use Rattle.edge_history.specs.Order.{is_end, many}
 use Rattle.edge_history.specs.Opens.{is_held}
 use Rattle.anti_join.specs.Free.{is_free_key, free_since}
 use Rattle.anti_join.proofs.Changes.{more_by, row_goes, row_goes_on, none_goes, since_same, free_by}
-use Rattle.anti_join.proofs.Flips.{end_is, since_then, since_as}
+use Rattle.sweep_sides.proofs.Telling.{end_is}
+use Rattle.anti_join.proofs.Flips.{since_then, since_as}
 use Rattle.anti_join.proofs.RowKeys.{keys_stay, starts_by_right}
 use Rattle.anti_join.proofs.sweep.Rows.end_right_one.Goals as goal
 

@@ -3,7 +3,7 @@ use Rattle.edge_history.specs.Order.{is_end, many}
 use Rattle.synopsis.specs.Held.{key_of, is_of_key}
 use Rattle.tw_rows.specs.SameCells.{cells_are_same, same_cells}
 use Rattle.anti_join.proofs.Changes.{ended_key, forget_same, forget_less, forget_fewer, forget_gone, is_zero, not_zero}
-use Rattle.anti_join.proofs.Flips.{end_is}
+use Rattle.sweep_sides.proofs.Telling.{end_is}
 use Rattle.anti_join.proofs.RowKeys.{keys_stay}
 use Rattle.anti_join.proofs.sweep.Rows.forget_one.Goals as goal
 

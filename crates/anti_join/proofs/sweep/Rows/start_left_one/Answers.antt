@@ -5,7 +5,7 @@ use Rattle.edge_history.specs.Order.{is_end}
 use Rattle.synopsis.specs.Held.{key_of}
 use Rattle.sweep_laws.specs.Antijoining.{begin_of}
 use Rattle.anti_join.specs.Free.{is_free_key}
-use Rattle.anti_join.proofs.Flips.{end_is}
+use Rattle.sweep_sides.proofs.Telling.{end_is}
 use Rattle.anti_join.proofs.Passes.{begin_told, started_told, no_started}
 use Rattle.anti_join.proofs.RowKeys.{keys_stay}
 use Rattle.anti_join.proofs.sweep.Rows.start_left_one.Goals as goal

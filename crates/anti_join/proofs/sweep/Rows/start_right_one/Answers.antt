@@ -3,7 +3,7 @@ use Rattle.tw_rows.specs.Bag.{total}
 use Rattle.tw_rows.specs.declared.edge.HeldRow.{HeldRow}
 use Rattle.edge_history.specs.Order.{is_end}
 use Rattle.anti_join.proofs.Changes.{more_by, row_comes, none_comes}
-use Rattle.anti_join.proofs.Flips.{end_is}
+use Rattle.sweep_sides.proofs.Telling.{end_is}
 use Rattle.anti_join.proofs.RowKeys.{keys_stay}
 use Rattle.anti_join.proofs.sweep.Rows.start_right_one.Goals as goal
 

@@ -1,9 +1,8 @@
 use Rattle.std.proofs.Common.{◌≡◌, ◌∙◌, ◌+◌, suc, sym, ap, subst, arith, drop, length, List}
 use Rattle.std.proofs.lemmas.List.{drop-drop, length-drop}
 use Rattle.tw_rows.specs.declared.edge.Edge.{Edge}
-use Rattle.sweep_sides.proofs.Cutting.{drop_past}
+use Rattle.sweep_sides.proofs.Cutting.{drop_past, starts_before, starts_part}
 use Rattle.anti_join.specs.Holding.{AntiReached}
-use Rattle.anti_join.proofs.Cuts.{starts_more, starts_part}
 use Rattle.anti_join.proofs.RowKeys.{keys_stay, keys_then, by_then, same_swept}
 use Rattle.anti_join.proofs.Steps.{reach_start, reach_step, reach_end}
 use Rattle.anti_join.proofs.sweep.Rows.sweep.Goals as goal
@@ -55,12 +54,12 @@ loop-i-preserved c =
       left_rows = λ w.
           let a = c.loop-i.invariant.left_rows w in
           let b = c.in_ok-pass.ensures.left_rows w in
-          let d = starts_more w ldue lrest i n el in
+          let d = starts_before w ldue lrest i n el in
           omega (arith, a, b, d);
       right_rows = λ w.
           let a = c.loop-i.invariant.right_rows w in
           let b = c.in_ok-pass.ensures.right_rows w in
-          let d = starts_more w rdue rrest j m er in
+          let d = starts_before w rdue rrest j m er in
           omega (arith, a, b, d);
       keys = keys_then s now later keys c.in_ok-pass.ensures.keys;
       reached = λ a b from to by dl dr h.
