@@ -1,5 +1,6 @@
 // The open starts of rows, and the lines that end and start them.
-ghost use Rattle.std.specs.Prelude.{◌≡◌, ◌++◌, List, map, take, drop, cond, replicate, OnOk, length};
+ghost use Rattle.std.specs.Prelude.{◌≡◌, ◌++◌, List, Some, map, take, drop, cond, replicate, OnOk, length};
+ghost use Rattle.indexmap.specs.IndexMap.{get};
 ghost use Rattle.tw_rows.specs.Cells.{ArePlaced, read_cells};
 ghost use Rattle.tw_rows.specs.declared.cells.Datum.{Datum};
 ghost use Rattle.tw_rows.specs.SameCells.{same_cells as same};
@@ -82,8 +83,45 @@ fn end_first(
     Ok(())
 }
 
-/// The end lines of a row at an instant. Only that row is looked at. It is taken out, and put back unless its last open start
-/// is ended, since most rows have one.
+// Puts a row back with the starts that are left of it.
+fn put_back(
+    opens: &mut IndexMap<Cells, VecDeque<Time>>,
+    cells: &Cells,
+    since: VecDeque<Time>,
+) -> Result<(), Memory>
+    ensures { OnOk result ((c : List Datum) → get same opens.new c ≡ cond (same cells.now c) (Some since) (get same opens.old c)) }
+{
+    let kept = cells.clone()?;
+    opens.insert(kept, since)?;
+    Ok(())
+}
+
+// The end lines of a row that ends. It is taken out, and put back unless its last open start is ended, since most rows have one.
+fn end_some(
+    opens: &mut IndexMap<Cells, VecDeque<Time>>,
+    out: &mut Vec<u8>,
+    kinds: &[Kind],
+    at: Time,
+    cells: &Cells,
+    texts: &TextTable,
+    count: usize,
+) -> Result<(), Memory>
+    requires { ArePlaced texts.now cells.now }
+    ensures since { OnOk result ((c : List Datum) → since_at opens.new c ≡ cond (same cells.now c) (drop count (since_at opens.old c)) (since_at opens.old c)) }
+    ensures text { OnOk result (out.new.items ≡ out.old.items ++ print kinds.now (map (λ s. Ended at s (read_cells texts.now cells.now)) (take count (since_at opens.old cells.now)))) }
+{
+    let Some(mut since) = opens.swap_remove(cells) else {
+        return Ok(());
+    };
+    end_first(&mut since, out, kinds, at, cells, texts, count)?;
+    if since.is_empty() {
+        return Ok(());
+    }
+    put_back(opens, cells, since)?;
+    Ok(())
+}
+
+/// The end lines of a row at an instant. Only that row is looked at.
 pub(crate) fn end_row(
     opens: &mut IndexMap<Cells, VecDeque<Time>>,
     out: &mut Vec<u8>,
@@ -100,16 +138,7 @@ pub(crate) fn end_row(
     if count == 0 {
         return Ok(());
     }
-    let Some(mut since) = opens.swap_remove(cells) else {
-        return Ok(());
-    };
-    end_first(&mut since, out, kinds, at, cells, texts, count)?;
-    if since.is_empty() {
-        return Ok(());
-    }
-    let kept = cells.clone()?;
-    opens.insert(kept, since)?;
-    Ok(())
+    end_some(opens, out, kinds, at, cells, texts, count)
 }
 
 /// So many start lines of a row.
