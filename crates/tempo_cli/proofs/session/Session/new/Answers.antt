@@ -17,7 +17,7 @@ returns-clause-holds c = record {
     cuts = c.in_ok-cutter.ensures.lines;
     fine = refl;
   };
-  engine = record { fed = []; took = c.in_ok-engine.ensures; same = refl };
+  engine = record { fed = []; took = c.in_ok-engine.ensures.fed; same = refl };
 }
 
 pub returns-clause-wants : goal.returns-clause-wants
