@@ -11,7 +11,7 @@ import sys
 import time
 from pathlib import Path
 
-PROGRAM = Path(__file__).resolve().parent.parent / "crates/tempo_cli/out/tempo_cli"
+PROGRAM = Path(__file__).resolve().parent.parent / "crates/tempo/out/tempo"
 QUERY = "stream s(v int); s | where v > 0"
 LIMIT = 5.0
 MIX = 7919  # a prime: steps of it visit every place before one comes twice

@@ -17,7 +17,7 @@ import sys
 import time
 from pathlib import Path
 
-PROGRAM = Path(__file__).resolve().parent.parent / "crates/tempo_cli/out/tempo_cli"
+PROGRAM = Path(__file__).resolve().parent.parent / "crates/tempo/out/tempo"
 QUERY = "stream trades(id int, sym text, px int, qty int); trades | where px > 125"
 
 

@@ -12,7 +12,7 @@ from collections import defaultdict, deque
 from pathlib import Path
 from typing import NamedTuple
 
-PROGRAM = Path(__file__).resolve().parent.parent / "crates/tempo_cli/out/tempo_cli"
+PROGRAM = Path(__file__).resolve().parent.parent / "crates/tempo/out/tempo"
 
 
 class Run(NamedTuple):

@@ -11,7 +11,7 @@ import sys
 import time
 from pathlib import Path
 
-PROGRAM = Path(__file__).resolve().parent.parent / "crates/tempo_cli/out/tempo_cli"
+PROGRAM = Path(__file__).resolve().parent.parent / "crates/tempo/out/tempo"
 QUERY = "stream s(sym text, price int, size int); s"
 LIMIT = 3.0
 NAMES = ["ACME", "GLOBEX", "INITECH", "UMBRELLA"]

@@ -1,12 +1,12 @@
 // A query answered over a wire: from the bytes that come in to the bytes that go out and the status.
-ghost use Rattle.std.specs.Prelude.{◌≡◌, ◌≤◌, ◌<◌, ◌+◌, ℕ, List, OnOk, IfErr, min, length, IsTrue};
+ghost use Rattle.std.specs.Prelude.{◌≡◌, ◌≤◌, ◌<◌, ◌+◌, ℕ, List, [], OnOk, IfErr, min, length, IsTrue};
 ghost use Rattle.std.specs.List.{list_all};
 ghost use Rattle.wire_lines.specs.Journal.{Grows};
 ghost use Rattle.built_nodes.specs.Built.{is_built};
 ghost use Rattle.tempo_cli.specs.Status.{Counts};
 ghost use Rattle.tempo_cli.specs.Table.{limit, Ends};
 ghost use Rattle.tempo_cli.specs.Told.{answers};
-ghost use Rattle.tempo_cli.specs.Feeding.{Asked, Holds, WantsBytes, IsAsked};
+ghost use Rattle.tempo_cli.specs.Feeding.{Asked, answers_to, Holds, WantsBytes, IsAsked};
 ghost use Rattle.tempo_cli.specs.Working.{Worked, Stopped, EndsWith};
 
 use crate::session::{LIMIT, Session, Step};
@@ -74,7 +74,38 @@ fn end<W: Wire>(session: &mut Session, wire: &mut W) -> Status
     }
 }
 
-/// Reads the input to its end, and writes what the plan answers as it becomes due.
+/// Reads the input to its end, and writes what is answered as it becomes due. Only `answer`, which made the session, lets it go:
+/// a proof of letting it go is dear.
+fn read_on<W: Wire>(alloc: Global, session: &mut Session, wire: &mut W) -> Status
+    requires wants { WantsBytes session.old.cutter }
+    ensures ends { (q : Asked) → Holds q [] [] session.old → Grows (W.journal wire.old) (W.journal wire.new) (Ends (answers_to q) result) }
+    ensures asked { IsAsked result }
+    ensures counts { Counts (W.read_faults wire.old) (W.read_faults wire.new) (W.write_faults wire.old) (W.write_faults wire.new) result }
+{
+    let Ok(mut buffer) = Vec::from_elem(alloc, 0u8, PIECE) else {
+        return Status::Memory;
+    };
+    let mut left = LIMIT + 1;
+    while left > 0 {
+        let into = &mut buffer[..asked(left)];
+        let count = match wire.read(into) {
+            Ok(count) => count,
+            Err(ReadFailed) => return Status::ReadFault,
+        };
+        if count == 0 {
+            return end(session, wire);
+        }
+        left -= count as u64;
+        session.take(&into[..count]);
+        match work(session, wire) {
+            Ok(()) => {}
+            Err(status) => return status,
+        }
+    }
+    Status::InputTooLong
+}
+
+/// Answers the input by the plan.
 pub fn answer<W: Wire>(
     alloc: Global,
     plan: Plan,
@@ -91,25 +122,5 @@ pub fn answer<W: Wire>(
     let Ok(mut session) = Session::new(alloc, plan, options, header) else {
         return Status::Memory;
     };
-    let Ok(mut buffer) = Vec::from_elem(alloc, 0u8, PIECE) else {
-        return Status::Memory;
-    };
-    let mut left = LIMIT + 1;
-    while left > 0 {
-        let into = &mut buffer[..asked(left)];
-        let count = match wire.read(into) {
-            Ok(count) => count,
-            Err(ReadFailed) => return Status::ReadFault,
-        };
-        if count == 0 {
-            return end(&mut session, wire);
-        }
-        left -= count as u64;
-        session.take(&into[..count]);
-        match work(&mut session, wire) {
-            Ok(()) => {}
-            Err(status) => return status,
-        }
-    }
-    Status::InputTooLong
+    read_on(alloc, &mut session, wire)
 }

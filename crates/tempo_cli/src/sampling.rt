@@ -136,6 +136,20 @@ impl Sampling {
             Err(Memory) => Err(Status::Memory),
         }
     }
+
+    /// The summary of all lines that are to come.
+    fn sum(&mut self) -> Result<Vec<u8>, Status>
+        requires few { self.old.number + length (to_come self.old.sample) ≤ 2000000 }
+        ensures fine { IfOk result (λ _. (q : Asked) (all : List (List ℕ)) → Sampled q all self.old → (answers_to q).fault all true ≡ None) }
+        ensures text { IfOk result (λ text. (q : Asked) (all : List (List ℕ)) → Sampled q all self.old → text.items ≡ summary_for (answers_to q) all) }
+        ensures failed { IfErr result (λ status. (q : Asked) (all : List (List ℕ)) → Sampled q all self.old → IsFailed (answers_to q) all status) }
+        ensures own { IfErr result IsOwn }
+    {
+        match self.feed_all() {
+            Ok(()) => self.finish(),
+            Err(status) => Err(status),
+        }
+    }
 }
 
 /// The summary of what the plan answers to the lines.
@@ -157,10 +171,7 @@ fn summed_up(
     let Ok(mut sampling) = Sampling::new(alloc, plan, options, header, sample) else {
         return Err(Status::Memory);
     };
-    match sampling.feed_all() {
-        Ok(()) => sampling.finish(),
-        Err(status) => Err(status),
-    }
+    sampling.sum()
 }
 
 /// Answers the lines of the sample, and writes the summary of the answer.

@@ -1,5 +1,5 @@
 // The lines of an input, fed to an engine as their bytes come.
-ghost use Rattle.std.specs.Prelude.{◌≡◌, ◌≤◌, ◌+◌, ◌++◌, ◌∷◌, IfOk, IfErr, IfSome, List, ℕ, [], None, true, false, length, IsTrue};
+ghost use Rattle.std.specs.Prelude.{◌≡◌, ◌≤◌, ◌+◌, ◌++◌, ◌∷◌, ◌&&◌, IfOk, IfErr, IfSome, List, ℕ, [], None, true, false, nat_eq, length, IsTrue};
 ghost use Rattle.std.specs.List.{list_all};
 ghost use Rattle.wire_lines.specs.Lines.{HasNoLf};
 ghost use Rattle.tempo_engine.specs.Faults.{IsFaultOf};
@@ -62,6 +62,13 @@ pub(crate) fn status_of(fault: EngineFault) -> Status
     }
 }
 
+/// Whether the line of that number is a header.
+fn is_header(header: bool, number: u64) -> bool
+    ensures { result ≡ (header && nat_eq number 1) }
+{
+    header && number == 1
+}
+
 /// Feeds the line of that number; a header is not read.
 pub(crate) fn feed(
     alloc: Global,
@@ -76,7 +83,7 @@ pub(crate) fn feed(
     ensures text { IfOk result (λ out. (q : Asked) (given : List (List ℕ)) → q.header ≡ header → number ≡ length given + 1 → Took q given engine.old → (answers_to q).text (given ++ line.now ∷ []) false ≡ (answers_to q).text given false ++ out.items) }
     ensures fault { IfErr result (λ f. (q : Asked) (given : List (List ℕ)) → q.header ≡ header → number ≡ length given + 1 → Took q given engine.old → IsFaultOf f ((answers_to q).fault (given ++ line.now ∷ []) false)) }
 {
-    if header && number == 1 {
+    if is_header(header, number) {
         return Ok(Vec::new(alloc));
     }
     engine.feed_line(number, line)

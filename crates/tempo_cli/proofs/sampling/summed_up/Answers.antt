@@ -5,20 +5,20 @@ use Rattle.sample_trades.specs.ToCome.{to_come}
 use Rattle.tempo_cli.specs.Feeding.{Asked}
 use Rattle.tempo_cli.proofs.sampling.summed_up.Goals as goal
 
-pub returns-in-Ok-feed_all-clause-fine : goal.returns-in-Ok-feed_all-clause-fine
-returns-in-Ok-feed_all-clause-fine c =
+pub returns-clause-fine : goal.returns-clause-fine
+returns-clause-fine c =
     let q : Asked = record { plan = c.args.plan; policy = c.args.options.policy; header = c.args.header } in
     let all : List (List ℕ) = map line_of (to_come c.args.sample) in
-    IfOk-weaker c.finish.result _ _ (λ text f. f q all (c.in-Ok-feed_all.ensures.sampled q all c.in-Ok.ensures.sampled)) c.finish.ensures.fine
+    IfOk-weaker c.sum.result _ _ (λ text f. f q all c.in-Ok.ensures.sampled) c.sum.ensures.fine
 
-pub returns-in-Ok-feed_all-clause-text : goal.returns-in-Ok-feed_all-clause-text
-returns-in-Ok-feed_all-clause-text c =
+pub returns-clause-text : goal.returns-clause-text
+returns-clause-text c =
     let q : Asked = record { plan = c.args.plan; policy = c.args.options.policy; header = c.args.header } in
     let all : List (List ℕ) = map line_of (to_come c.args.sample) in
-    IfOk-weaker c.finish.result _ _ (λ text f. f q all (c.in-Ok-feed_all.ensures.sampled q all c.in-Ok.ensures.sampled)) c.finish.ensures.text
+    IfOk-weaker c.sum.result _ _ (λ text f. f q all c.in-Ok.ensures.sampled) c.sum.ensures.text
 
-pub returns-in-Ok-feed_all-clause-failed : goal.returns-in-Ok-feed_all-clause-failed
-returns-in-Ok-feed_all-clause-failed c =
+pub returns-clause-failed : goal.returns-clause-failed
+returns-clause-failed c =
     let q : Asked = record { plan = c.args.plan; policy = c.args.options.policy; header = c.args.header } in
     let all : List (List ℕ) = map line_of (to_come c.args.sample) in
-    IfErr-weaker c.finish.result _ _ (λ status f. f q all (c.in-Ok-feed_all.ensures.sampled q all c.in-Ok.ensures.sampled)) c.finish.ensures.failed
+    IfErr-weaker c.sum.result _ _ (λ status f. f q all c.in-Ok.ensures.sampled) c.sum.ensures.failed

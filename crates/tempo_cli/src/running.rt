@@ -11,7 +11,7 @@ ghost use Rattle.built_nodes.specs.Built.{is_built};
 ghost use Rattle.plan_model.specs.declared.fault.QueryFault.{QueryFault as SomeFault};
 
 use crate::answer::answer;
-use crate::note::note;
+use crate::notes::note;
 use crate::sampling::sum_up;
 use crate::status::Status;
 use command_line::{CommandLine, Mode, WordsFault, read_words};

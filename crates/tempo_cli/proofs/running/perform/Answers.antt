@@ -6,7 +6,7 @@ use Rattle.query_plan.proofs.Sound.{planned-built}
 use Rattle.command_line.specs.Words.{asked_by}
 use Rattle.tempo_cli.specs.Jobs.{DoesMode}
 use Rattle.tempo_cli.proofs.Jobs.{plan_once, never_both, asked_reason, failed_planned, failed_unplanned, failed_reason}
-use Rattle.tempo_cli.proofs.run.perform.Goals as goal
+use Rattle.tempo_cli.proofs.running.perform.Goals as goal
 
 pub do_mode-requires-clause-built : goal.do_mode-requires-clause-built
 do_mode-requires-clause-built g c = let h = c.in-Ok.ensures in planned-built h.query c.in-Ok.plan h.plan_is

@@ -2,7 +2,7 @@ use Rattle.std.proofs.Common.{◌≡◌, map, drop}
 use Rattle.wire_lines.specs.Journal.{Grows}
 use Rattle.wire_lines.proofs.Growth.{SentBefore}
 use Rattle.tempo_cli.specs.Status.{joined_pieces}
-use Rattle.tempo_cli.proofs.note.send_pieces.Given as goal
+use Rattle.tempo_cli.proofs.notes.send_pieces.Given as goal
 
 abbrev pub invariant-loop-piece : goal.invariant-loop-piece
 invariant-loop-piece g l =

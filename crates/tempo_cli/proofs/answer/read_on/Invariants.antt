@@ -1,12 +1,12 @@
-use Rattle.std.proofs.Common.{◌≡◌, vec_len}
+use Rattle.std.proofs.Common.{◌≡◌, [], vec_len}
 use Rattle.wire_lines.specs.Journal.{Grows}
-use Rattle.tempo_cli.specs.Feeding.{WantsBytes}
+use Rattle.tempo_cli.specs.Feeding.{Asked, Holds, WantsBytes}
 use Rattle.tempo_cli.specs.Working.{Reading}
-use Rattle.tempo_cli.proofs.answer.answer.Given as goal
+use Rattle.tempo_cli.proofs.answer.read_on.Given as goal
 
 abbrev pub invariant-loop-left : goal.invariant-loop-left
 invariant-loop-left g l =
-    Grows (g.W.Wire.journal l.fn.wire) (g.W.Wire.journal l.wire) (Reading (record { plan = l.fn.plan; policy = l.fn.options.policy; header = l.fn.header }) l.session l.left)
+    ((q : Asked) → Holds q [] [] l.fn.session → Grows (g.W.Wire.journal l.fn.wire) (g.W.Wire.journal l.wire) (Reading q l.session l.left))
     × (g.W.Wire.read_faults l.wire ≡ g.W.Wire.read_faults l.fn.wire)
     × (g.W.Wire.write_faults l.wire ≡ g.W.Wire.write_faults l.fn.wire)
     × WantsBytes l.session.cutter

@@ -3,26 +3,11 @@
 
 ghost use Rattle.std.specs.Prelude.{◌≡◌, IfOk, map};
 
-mod answer;
-mod laws;
-mod note;
-mod run;
-mod sampling;
-mod session;
-mod status;
-#[cfg(test)]
-mod tests;
-
-pub use laws::{runs_are_complete, words_ask_for_one_job};
-use note::note;
-pub use run::run;
-pub use sampling::Sampling;
-pub use session::{Session, Step};
-pub use status::Status;
 use std::alloc::{AllocError, Global};
 use std::env;
 use std::io::ErrorKind;
 use std::process::ExitCode;
+use tempo_cli::{Status, note, run};
 use wire_lines::{ErrWire, StdWire};
 
 /// The words of the command line. Where one is not UTF-8 none of them is ours, and there are none.

@@ -1,0 +1,7 @@
+//! Tests of the program: whole runs over wires in memory, and an engine line by line, through public calls alone.
+#![tactic(auto)]
+
+#[cfg(test)]
+mod engines;
+#[cfg(test)]
+mod runs;
