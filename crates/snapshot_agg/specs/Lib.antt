@@ -1,6 +1,6 @@
 -- Callers read Words. What the operator keeps of its groups is cited by its own contracts alone.
 pub mod Words
-pub mod Line
+pub mod AliveRows
 pub mod States
 pub mod Totaled
 pub mod Told

@@ -15,7 +15,7 @@ ghost use Rattle.synopsis.specs.Held.{cell_or_zero};
 ghost use Rattle.snapshot_agg.specs.Totaled.{IsTotalOf, Totaled};
 ghost use Rattle.snapshot_agg.specs.Told.{IsTold, row_in};
 
-use crate::line::Line;
+use crate::row_queue::RowQueue;
 use crate::totals::{Totals, touch};
 use indexmap::IndexMap;
 use plan_model::Agg;
@@ -41,7 +41,7 @@ pub(crate) struct Groups {
     pub(crate) alloc: Global,
     pub(crate) key: Vec<usize>,
     pub(crate) aggs: Vec<Agg>,
-    pub(crate) rows: Line,
+    pub(crate) rows: RowQueue,
     pub(crate) totals: KeyTotals,
     // The keys of the rows that came or went since the list was cleared.
     pub(crate) touched: Vec<Cells>,
@@ -151,7 +151,7 @@ impl Groups {
             alloc,
             key: Vec::from_slice(alloc, key)?,
             aggs: Vec::from_slice(alloc, aggs)?,
-            rows: Line::new(alloc, key)?,
+            rows: RowQueue::new(alloc, key)?,
             totals: IndexMap::with_hasher(alloc, BuildHasherDefault::new()),
             touched: Vec::new(alloc),
         })

@@ -4,12 +4,12 @@
 mod grouped;
 mod groups;
 mod laws;
-mod line;
 mod loading;
 mod operating;
 mod passes;
 mod pooled;
 mod queue;
+mod row_queue;
 mod saving;
 mod state;
 mod sweep;

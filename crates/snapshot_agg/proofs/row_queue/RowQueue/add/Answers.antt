@@ -3,7 +3,7 @@ use Rattle.std.proofs.Common.{◌∙◌, ap, arith}
 use Rattle.tw_rows.specs.Bag.{total}
 use Rattle.tw_rows.specs.declared.edge.HeldRow.{HeldRow}
 use Rattle.snapshot_agg.proofs.Lined.{both_added, one_longer, as_long}
-use Rattle.snapshot_agg.proofs.line.Line.add.Goals as goal
+use Rattle.snapshot_agg.proofs.row_queue.RowQueue.add.Goals as goal
 
 pub returns : goal.returns
 returns c = λ w.

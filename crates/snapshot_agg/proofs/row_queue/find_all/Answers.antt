@@ -3,7 +3,7 @@ use Rattle.std.proofs.Common.{ap, arith, rules}
 use Rattle.tw_rows.specs.Bag.{total}
 use Rattle.tw_rows.specs.declared.cells.Datum.{Datum}
 use Rattle.snapshot_agg.proofs.Lined.{first_goes}
-use Rattle.snapshot_agg.proofs.line.find_all.Goals as goal
+use Rattle.snapshot_agg.proofs.row_queue.find_all.Goals as goal
 
 pub loop-row-preserved : goal.loop-row-preserved
 loop-row-preserved c = λ w.

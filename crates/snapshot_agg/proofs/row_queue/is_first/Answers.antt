@@ -1,7 +1,7 @@
 use Rattle.std.specs.Prelude.{refl}
 use Rattle.std.proofs.Common.{sym, ◌∙◌, arith}
 use Rattle.snapshot_agg.proofs.Lined.{first_is}
-use Rattle.snapshot_agg.proofs.line.is_first.Goals as goal
+use Rattle.snapshot_agg.proofs.row_queue.is_first.Goals as goal
 
 pub returns-in-Some : goal.returns-in-Some
 returns-in-Some c = λ h.

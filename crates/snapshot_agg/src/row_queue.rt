@@ -15,7 +15,7 @@ use tw_rows::{Cells, Datum, Edge, HeldRow, Memory, Time};
 
 /// Rows that are alive, each with its start.
 #[derive(Drop)]
-pub(crate) struct Line {
+pub(crate) struct RowQueue {
     // Rows mostly end in the order in which they came, as those of windows do: they stand in a line here, and one that ends
     // is first looked for at its front.
     line: VecDeque<HeldRow>,
@@ -24,9 +24,9 @@ pub(crate) struct Line {
     count: usize,
 }
 
-impl Model for Line {
+impl Model for RowQueue {
     ghost use Rattle.std.specs.Prelude.{◌≡◌, ◌++◌, length};
-    ghost use Rattle.snapshot_agg.specs.Line.{AliveRows};
+    ghost use Rattle.snapshot_agg.specs.AliveRows.{AliveRows};
 
     ghost Value = { AliveRows };
 
@@ -97,13 +97,13 @@ fn without(count: usize, taken: bool) -> usize
     count
 }
 
-impl Line {
+impl RowQueue {
     /// No rows. Those that are found are found by these key columns.
-    pub(crate) fn new(alloc: Global, key: &[usize]) -> Result<Line, Memory>
+    pub(crate) fn new(alloc: Global, key: &[usize]) -> Result<RowQueue, Memory>
         ensures { IfOk result (λ l. l.rows ≡ []) }
     {
         let found = Synopsis::new(alloc, key)?;
-        Ok(Line {
+        Ok(RowQueue {
             line: VecDeque::new(alloc),
             found,
             count: 0,

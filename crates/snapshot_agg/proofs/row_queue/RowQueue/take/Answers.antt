@@ -4,7 +4,7 @@ use Rattle.tw_rows.specs.Bag.{SameBag, total}
 use Rattle.tw_rows.specs.declared.edge.HeldRow.{HeldRow}
 use Rattle.edge_history.specs.Opens.{is_held}
 use Rattle.snapshot_agg.proofs.Lined.{first_taken, first_shortens, found_taken, still_same, shorter_by, some_there, both_same, as_long, none_here}
-use Rattle.snapshot_agg.proofs.line.Line.take.Goals as goal
+use Rattle.snapshot_agg.proofs.row_queue.RowQueue.take.Goals as goal
 
 pub overflow_sub-self : goal.overflow_sub-self
 overflow_sub-self c =

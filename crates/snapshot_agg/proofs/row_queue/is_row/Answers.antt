@@ -1,7 +1,7 @@
 use Rattle.std.proofs.Common.{◌∙◌, sym, ap, ◌&&◌}
 use Rattle.tw_rows.specs.SameCells.{same_cells}
 use Rattle.tw_rows.proofs.CellEquality.{cells_eq_same}
-use Rattle.snapshot_agg.proofs.line.is_row.Goals as goal
+use Rattle.snapshot_agg.proofs.row_queue.is_row.Goals as goal
 
 pub returns-then-eq : goal.returns-then-eq
 returns-then-eq c =

@@ -1,6 +1,6 @@
 use Rattle.std.proofs.Common.{arith}
 use Rattle.snapshot_agg.proofs.PuttingOff.{pushed}
-use Rattle.snapshot_agg.proofs.line.put.Goals as goal
+use Rattle.snapshot_agg.proofs.row_queue.put.Goals as goal
 
 pub returns-then-len-gt0-clause-ok : goal.returns-then-len-gt0-clause-ok
 returns-then-len-gt0-clause-ok c = λ w. let a = c.in_ok-add.ensures.ok w in omega (arith, a)
