@@ -12,5 +12,6 @@ pub mod ReadBack
 pub mod Printed
 pub mod Spells
 pub mod Steps
+pub mod Celled
 pub mod Printing
 pub mod Examples

@@ -8,17 +8,19 @@ use Rattle.std.proofs.lemmas.Str.{is_utf8-from_IsUtf8}
 use Rattle.std.proofs.lemmas.List.{length-drop}
 use Rattle.csv.specs.Records.{field_at}
 use Rattle.tw_rows.specs.Rows.{Row}
+use Rattle.tw_rows.specs.declared.cells.Datum.{Datum}
 use Rattle.tw_rows.specs.declared.schema.ColumnDef.{ColumnDef}
 use Rattle.tw_rows.specs.declared.schema.StreamDef.{StreamDef}
 use Rattle.line_text.specs.declared.form.Form.{Form}
 use Rattle.row_reader.specs.declared.entry.Entry.TheVariants.{Skip, Punct, Event}
+use Rattle.row_reader.specs.declared.entry.CellEntry.TheVariants.{Event as CellEvent}
 use Rattle.row_reader.specs.declared.entry.BadLine.TheVariants.{NotUtf8, StrayReturn, OddQuotes, UnknownStream, UnknownKind, WrongFields, BadTime, BadLife, BadValue}
 use Rattle.row_reader.specs.Line.{has_mark}
 use Rattle.row_reader.specs.Quotes.{odd_quotes}
 use Rattle.row_reader.specs.Record.{record_of, field_of}
 use Rattle.row_reader.specs.Values.{end_of, form_of, times_of, is_alive}
 use Rattle.row_reader.specs.Entry.{Read, text_fault, unless_bad, event, row_of, with_row, punctuation, record_entry, text_entry}
-use Rattle.row_reader.specs.Answers.{Answers, AnswersRow, unless_wrong, bad_value, values_of}
+use Rattle.row_reader.specs.Answers.{AnswersIn, AnswersCells, unless_wrong, bad_value, values_of}
 use Rattle.row_reader.specs.declared.entry.BadLine.{BadLine}
 use Rattle.row_reader.specs.declared.entry.RowFault.{RowFault}
 use Rattle.row_reader.specs.declared.entry.RowFault.TheVariants.{Bad, Memory}
@@ -185,19 +187,22 @@ by_tests true q read = refl
 by_tests false true read = refl
 by_tests false false read = refl
 
-err_row : (fault : RowFault) (r : Result Row BadLine) (more : Row → Read) (read : Read) → AnswersRow (Err fault) r → read ≡ with_values r more → Answers (Err fault) read
-err_row (Bad cause) r more read h e = e ∙ ap (λ (x : Result Row BadLine). with_values x more) h
-err_row Memory r more read h e = tt
+err_row : (texts : List (List ℕ)) (fault : RowFault) (r : Result Row BadLine) (more : Row → Read) (read : Read) → AnswersCells texts (Err fault) r → read ≡ with_values r more → AnswersIn texts (Err fault) read
+err_row texts (Bad cause) r more read h e = e ∙ ap (λ (x : Result Row BadLine). with_values x more) h
+err_row texts Memory r more read h e = tt
 
-pub event_ok : (stream : ℕ) (columns : List ColumnDef) (fs rest : List (List ℕ)) (form : Form) (a b : List ℕ) (sync other : ℕ) (row : Row) → AreHeads fs form a b rest →
-    times_of form a b ≡ Some (sync, other) → is_alive form sync other ≡ true → values_of columns rest ≡ Ok row → event stream columns fs ≡ Ok (Event stream form sync other row)
-event_ok stream columns fs rest form a b sync other row h t l r =
-    event_row stream columns fs rest form a b sync other h t l ∙ ap (λ (x : Result Row BadLine). with_values x (λ row. Ok (Event stream form sync other row))) r
+pub event_ok : (texts : List (List ℕ)) (stream : ℕ) (columns : List ColumnDef) (fs rest : List (List ℕ)) (form : Form) (a b : List ℕ) (sync other : ℕ) (cells : List Datum) → AreHeads fs form a b rest →
+    times_of form a b ≡ Some (sync, other) → is_alive form sync other ≡ true → AnswersCells texts (Ok cells) (values_of columns rest) →
+    AnswersIn texts (Ok (CellEvent stream form sync other cells)) (event stream columns fs)
+event_ok texts stream columns fs rest form a b sync other cells h t l r = (
+  event_row stream columns fs rest form a b sync other h t l ∙ ap (λ (x : Result Row BadLine). with_values x (λ row. Ok (Event stream form sync other row))) r.0,
+  r.1,
+)
 
-pub event_err : (stream : ℕ) (columns : List ColumnDef) (fs rest : List (List ℕ)) (form : Form) (a b : List ℕ) (sync other : ℕ) (fault : RowFault) → AreHeads fs form a b rest →
-    times_of form a b ≡ Some (sync, other) → is_alive form sync other ≡ true → AnswersRow (Err fault) (values_of columns rest) → Answers (Err fault) (event stream columns fs)
-event_err stream columns fs rest form a b sync other fault h t l r =
-    err_row fault (values_of columns rest) (λ row. Ok (Event stream form sync other row)) (event stream columns fs) r (event_row stream columns fs rest form a b sync other h t l)
+pub event_err : (texts : List (List ℕ)) (stream : ℕ) (columns : List ColumnDef) (fs rest : List (List ℕ)) (form : Form) (a b : List ℕ) (sync other : ℕ) (fault : RowFault) → AreHeads fs form a b rest →
+    times_of form a b ≡ Some (sync, other) → is_alive form sync other ≡ true → AnswersCells texts (Err fault) (values_of columns rest) → AnswersIn texts (Err fault) (event stream columns fs)
+event_err texts stream columns fs rest form a b sync other fault h t l r =
+    err_row texts fault (values_of columns rest) (λ row. Ok (Event stream form sync other row)) (event stream columns fs) r (event_row stream columns fs rest form a b sync other h t l)
 
 -- the values of an event
 pub values_short : (columns : List ColumnDef) (fs : List (List ℕ)) → length fs ≢ length columns → values_of columns fs ≡ Err WrongFields

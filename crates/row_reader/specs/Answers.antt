@@ -2,10 +2,14 @@
 use Rattle.std.specs.Prelude.{◌≡◌, ℕ, List, Option, Some, None, Result, Ok, Err, if◌then◌else◌, ◌==◌, length}
 use Rattle.std.specs.Borrow.{Bor}
 use Rattle.tw_rows.specs.Rows.{Row}
+use Rattle.tw_rows.specs.Cells.{ArePlaced, read_cells}
+use Rattle.tw_rows.specs.declared.cells.Datum.{Datum}
 use Rattle.tw_rows.specs.declared.schema.StreamDef.{StreamDef}
 use Rattle.tw_rows.specs.declared.schema.ColumnDef.{ColumnDef}
 use Rattle.row_reader.specs.Entry.{Read, row_of}
+use Rattle.row_reader.specs.Celled.{entry_in, IsPlacedIn}
 use Rattle.row_reader.specs.declared.entry.Entry.{Entry}
+use Rattle.row_reader.specs.declared.entry.CellEntry.{CellEntry}
 use Rattle.row_reader.specs.declared.entry.BadLine.{BadLine}
 use Rattle.row_reader.specs.declared.entry.BadLine.TheVariants.{WrongFields, BadValue}
 use Rattle.row_reader.specs.declared.entry.RowFault.{RowFault}
@@ -17,10 +21,17 @@ Answers (Ok entry) read = read ≡ Ok entry
 Answers (Err (Bad cause)) read = read ≡ Err cause
 Answers (Err Memory) read = Unit {0}
 
-abbrev pub AnswersRow : Result Row RowFault → Result Row BadLine → Type 0
-AnswersRow (Ok row) read = read ≡ Ok row
-AnswersRow (Err (Bad cause)) read = read ≡ Err cause
-AnswersRow (Err Memory) read = Unit {0}
+-- the same in cells: the places are those of texts of the table, in which the entry is the one that is told
+abbrev pub AnswersIn : List (List ℕ) → Result CellEntry RowFault → Read → Type 0
+AnswersIn texts (Ok entry) read = (read ≡ Ok (entry_in texts entry)) × IsPlacedIn texts entry
+AnswersIn texts (Err (Bad cause)) read = read ≡ Err cause
+AnswersIn texts (Err Memory) read = Unit {0}
+
+-- the values of an event in cells
+abbrev pub AnswersCells : List (List ℕ) → Result (List Datum) RowFault → Result Row BadLine → Type 0
+AnswersCells texts (Ok cells) read = (read ≡ Ok (read_cells texts cells)) × ArePlaced texts cells
+AnswersCells texts (Err (Bad cause)) read = read ≡ Err cause
+AnswersCells texts (Err Memory) read = Unit {0}
 
 -- the cause, where so many fields are left as are wanted
 abbrev pub unless_wrong : ℕ → List (List ℕ) → BadLine → BadLine

@@ -1,5 +1,5 @@
 -- Callers read Entry with what it stands on (Number, Line, Quotes, Record, Values), and Spelled, Printed and Spells, of which
--- the laws speak. Answers serves contracts, and only private contracts cite Fields.
+-- the laws speak, and Celled. Answers serves contracts, and only private contracts cite Fields.
 pub mod Number
 pub mod Line
 pub mod Quotes
@@ -7,6 +7,7 @@ pub mod Record
 pub mod Fields
 pub mod Values
 pub mod Entry
+pub mod Celled
 pub mod Answers
 pub mod Spelled
 pub mod Printed

@@ -4,7 +4,7 @@ ghost use Rattle.row_reader.specs.declared.entry.RowFault.TheVariants as faults;
 
 use line_text::Form;
 use std::alloc::{AllocError, AllocFailed};
-use tw_rows::{Memory, Row, Time};
+use tw_rows::{Cells, Memory, Row, Time};
 
 /// What a line says.
 #[derive(Drop)]
@@ -24,6 +24,23 @@ pub enum Entry {
         sync: Time,
         other: Time,
         row: Row,
+    },
+}
+
+/// What a line says, with the values of an event as cells: a text is its place in a table of texts.
+#[derive(Drop)]
+pub enum CellEntry {
+    Skip,
+    Punct {
+        stream: Option<usize>,
+        time: Time,
+    },
+    Event {
+        stream: usize,
+        form: Form,
+        sync: Time,
+        other: Time,
+        cells: Cells,
     },
 }
 

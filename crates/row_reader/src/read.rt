@@ -3,20 +3,25 @@ ghost use Rattle.std.specs.Prelude.{◌≡◌, ◌≢◌, ◌≤◌, ◌<◌, �
 ghost use Rattle.std.specs.List.{All};
 ghost use Rattle.std.specs.Str.{IsUtf8, is_utf8};
 ghost use Rattle.csv.specs.Records.{AllText};
+ghost use Rattle.tw_rows.specs.Texts.{BeginsWith};
 ghost use Rattle.row_reader.specs.Fields.{left};
 ghost use Rattle.row_reader.specs.Entry.{entry, punctuation, of_all, of_stream, event, named, record_entry, text_entry};
 ghost use Rattle.row_reader.specs.Record.{field_of};
 ghost use Rattle.row_reader.specs.Number.{same_text};
-ghost use Rattle.row_reader.specs.Answers.{Answers, AnswersRow, IsNamed, unless_wrong, values_of};
+ghost use Rattle.row_reader.specs.Answers.{AnswersIn, AnswersCells, IsNamed, unless_wrong, values_of};
 
-use crate::entry::{BadLine, Entry, RowFault};
+use crate::entry::{BadLine, CellEntry, RowFault};
 use crate::fields::Fields;
 use crate::line::{has_byte_order_mark, has_special, text_of_line};
 use crate::quotes::has_odd_quotes;
 use crate::record::read_record;
-use crate::value::{has_life, read_end, read_form, read_times, read_value};
+use crate::value::{has_life, read_datum, read_end, read_form, read_times};
+use smallvec::SmallVec;
 use std::alloc::Global;
-use tw_rows::{Row, Schema, StreamDef};
+use tw_rows::{Cells, Datum, Schema, StreamDef, TextTable};
+
+/// So many cells are kept without memory of their own.
+const SHORT: usize = 4;
 
 /// This cause, where so many fields are left as are still wanted.
 fn unless_wrong_fields(fields: &Fields, wanted: usize, cause: BadLine) -> BadLine
@@ -29,19 +34,25 @@ fn unless_wrong_fields(fields: &Fields, wanted: usize, cause: BadLine) -> BadLin
     }
 }
 
-/// The row of an event line, of which these fields are left, or why there is none.
-fn read_values(alloc: Global, schema: &Schema, fields: &mut Fields) -> Result<Row, RowFault>
+/// The cells of an event line, of which these fields are left, or why there is none.
+fn read_values(
+    alloc: Global,
+    schema: &Schema,
+    fields: &mut Fields,
+    texts: &mut TextTable,
+) -> Result<Cells, RowFault>
     requires { AllText (left fields.old) }
-    ensures { AnswersRow result (values_of schema.now (left fields.old)) }
+    ensures values { AnswersCells texts.new result (values_of schema.now (left fields.old)) }
+    ensures begins { BeginsWith texts.new texts.old }
 {
     let columns = schema.items();
-    let mut values = Vec::with_capacity(alloc, columns.len())?;
+    let mut values: SmallVec<Datum, SHORT> = SmallVec::new(alloc);
     for (i, column) in columns.iter().enumerate() {
         let Some(field) = fields.next_field() else {
             return Err(RowFault::Bad(BadLine::WrongFields));
         };
-        match read_value(alloc, column.kind, field)? {
-            Some(value) => values.push(value)?,
+        match read_datum(column.kind, field, texts)? {
+            Some(datum) => values.push(datum)?,
             None => {
                 let cause = BadLine::BadValue { column: i + 1 };
                 let wanted = columns.len() - i - 1;
@@ -51,35 +62,37 @@ fn read_values(alloc: Global, schema: &Schema, fields: &mut Fields) -> Result<Ro
     }
     match fields.next_field() {
         Some(_) => Err(RowFault::Bad(BadLine::WrongFields)),
-        None => Ok(Row::from_vec(values)),
+        None => Ok(Cells::from_slice(alloc, values.as_slice())?),
     }
 }
 
 /// The punctuation of a stream, or of all, whose fields behind `punct` these are.
 #[tactic(auto, unfolding(crate::specs::Entry::punctuation))]
-fn read_punctuation(stream: Option<usize>, mut fields: Fields) -> Result<Entry, BadLine>
-    ensures { (all : List (List ℕ)) → left fields.entry ≡ drop 1 all → result ≡ punctuation stream all }
+fn read_punctuation(stream: Option<usize>, mut fields: Fields) -> Result<CellEntry, RowFault>
+    ensures { (table all : List (List ℕ)) → left fields.entry ≡ drop 1 all → AnswersIn table result (punctuation stream all) }
 {
     if fields.count() != 1 {
-        return Err(BadLine::WrongFields);
+        return Err(RowFault::Bad(BadLine::WrongFields));
     }
     match read_end(fields.take_field()) {
-        Some(time) => Ok(Entry::Punct { stream, time }),
-        None => Err(BadLine::BadTime),
+        Some(time) => Ok(CellEntry::Punct { stream, time }),
+        None => Err(RowFault::Bad(BadLine::BadTime)),
     }
 }
 
 /// The event that has this word as its form, and these fields behind it.
-#[tactic(auto, unfolding(crate::specs::Entry::event))]
+#[tactic(auto, unfolding(crate::specs::Entry::event), using(crate::proofs::Celled::same_table))]
 fn read_event(
     alloc: Global,
     stream: usize,
     schema: &Schema,
     word: &[u8],
     mut fields: Fields,
-) -> Result<Entry, RowFault>
+    texts: &mut TextTable,
+) -> Result<CellEntry, RowFault>
     requires { AllText (left fields) }
-    ensures { (all : List (List ℕ)) → word.now ≡ field_of all 0 → left fields.entry ≡ drop 1 all → Answers result (event stream schema.now all) }
+    ensures entry { (all : List (List ℕ)) → word.now ≡ field_of all 0 → left fields.entry ≡ drop 1 all → AnswersIn texts.new result (event stream schema.now all) }
+    ensures begins { BeginsWith texts.new texts.old }
 {
     let Some(form) = read_form(word) else {
         return Err(RowFault::Bad(BadLine::UnknownKind));
@@ -99,14 +112,16 @@ fn read_event(
         let cause = unless_wrong_fields(&fields, columns, BadLine::BadLife);
         return Err(RowFault::Bad(cause));
     }
-    let row = read_values(alloc, schema, &mut fields)?;
-    Ok(Entry::Event {
-        stream,
-        form,
-        sync: times.0,
-        other: times.1,
-        row,
-    })
+    match read_values(alloc, schema, &mut fields, texts) {
+        Ok(cells) => Ok(CellEntry::Event {
+            stream,
+            form,
+            sync: times.0,
+            other: times.1,
+            cells,
+        }),
+        Err(fault) => Err(fault),
+    }
 }
 
 /// The stream of that name, with its number.
@@ -127,76 +142,93 @@ fn is_punct(word: &[u8]) -> bool
     word == b"punct".as_slice()
 }
 
-fn read_of_all(mut fields: Fields) -> Result<Entry, BadLine>
-    ensures { result ≡ of_all (left fields.entry) }
+fn read_of_all(mut fields: Fields) -> Result<CellEntry, RowFault>
+    ensures { (table : List (List ℕ)) → AnswersIn table result (of_all (left fields.entry)) }
 {
     if is_punct(fields.take_field()) {
         read_punctuation(None, fields)
     } else {
-        Err(BadLine::UnknownKind)
+        Err(RowFault::Bad(BadLine::UnknownKind))
     }
 }
 
+#[tactic(auto, using(crate::proofs::Celled::same_table))]
 fn read_of_stream(
     alloc: Global,
     number: usize,
     stream: &StreamDef,
     mut fields: Fields,
-) -> Result<Entry, RowFault>
+    texts: &mut TextTable,
+) -> Result<CellEntry, RowFault>
     requires { AllText (left fields) }
-    ensures { Answers result (of_stream number stream.now.schema (left fields.entry)) }
+    ensures entry { AnswersIn texts.new result (of_stream number stream.now.schema (left fields.entry)) }
+    ensures begins { BeginsWith texts.new texts.old }
 {
     let word = fields.take_field();
     if is_punct(word) {
-        match read_punctuation(Some(number), fields) {
-            Ok(entry) => Ok(entry),
-            Err(cause) => Err(RowFault::Bad(cause)),
-        }
+        read_punctuation(Some(number), fields)
     } else {
-        read_event(alloc, number, &stream.schema, word, fields)
+        read_event(alloc, number, &stream.schema, word, fields, texts)
     }
 }
 
-#[tactic(auto, unfolding(crate::specs::Entry::record_entry))]
-fn read_entry(alloc: Global, mut fields: Fields, streams: &[StreamDef]) -> Result<Entry, RowFault>
+#[tactic(auto, unfolding(crate::specs::Entry::record_entry), using(crate::proofs::Celled::same_table))]
+fn read_entry(
+    alloc: Global,
+    mut fields: Fields,
+    streams: &[StreamDef],
+    texts: &mut TextTable,
+) -> Result<CellEntry, RowFault>
     requires { AllText (left fields) }
-    ensures { Answers result (record_entry streams.now (left fields.entry)) }
+    ensures entry { AnswersIn texts.new result (record_entry streams.now (left fields.entry)) }
+    ensures begins { BeginsWith texts.new texts.old }
 {
     let name = fields.take_field();
     if name == b"*".as_slice() {
-        return match read_of_all(fields) {
-            Ok(entry) => Ok(entry),
-            Err(cause) => Err(RowFault::Bad(cause)),
-        };
+        return read_of_all(fields);
     }
     match find_stream(streams, name) {
-        Some((number, stream)) => read_of_stream(alloc, number, stream, fields),
+        Some((number, stream)) => read_of_stream(alloc, number, stream, fields, texts),
         None => Err(RowFault::Bad(BadLine::UnknownStream)),
     }
 }
 
 /// The entry of a text without quotes.
-fn read_plain(alloc: Global, text: &[u8], streams: &[StreamDef]) -> Result<Entry, RowFault>
+#[tactic(auto, using(crate::proofs::Celled::same_table))]
+fn read_plain(
+    alloc: Global,
+    text: &[u8],
+    streams: &[StreamDef],
+    texts: &mut TextTable,
+) -> Result<CellEntry, RowFault>
     requires utf8 { IsUtf8 text.now }
     requires some { 0 < length text.now }
     requires no_quote { All (λ b. b ≢ 34) text.now }
     requires no_return { All (λ b. b ≢ 13) text.now }
     requires no_feed { All (λ b. b ≢ 10) text.now }
-    ensures { Answers result (text_entry streams.now text.now) }
+    ensures entry { AnswersIn texts.new result (text_entry streams.now text.now) }
+    ensures begins { BeginsWith texts.new texts.old }
 {
     if has_byte_order_mark(text) {
         return Err(RowFault::Bad(BadLine::UnknownStream));
     }
-    read_entry(alloc, Fields::Plain(Some(text)), streams)
+    read_entry(alloc, Fields::Plain(Some(text)), streams, texts)
 }
 
 /// The entry of a text that may have quotes.
-fn read_quoted(alloc: Global, text: &[u8], streams: &[StreamDef]) -> Result<Entry, RowFault>
+#[tactic(auto, using(crate::proofs::Celled::same_table))]
+fn read_quoted(
+    alloc: Global,
+    text: &[u8],
+    streams: &[StreamDef],
+    texts: &mut TextTable,
+) -> Result<CellEntry, RowFault>
     requires utf8 { IsUtf8 text.now }
     requires some { 0 < length text.now }
     requires no_return { All (λ b. b ≢ 13) text.now }
     requires no_feed { All (λ b. b ≢ 10) text.now }
-    ensures { Answers result (text_entry streams.now text.now) }
+    ensures entry { AnswersIn texts.new result (text_entry streams.now text.now) }
+    ensures begins { BeginsWith texts.new texts.old }
 {
     if has_odd_quotes(text) {
         return Err(RowFault::Bad(BadLine::OddQuotes));
@@ -205,7 +237,7 @@ fn read_quoted(alloc: Global, text: &[u8], streams: &[StreamDef]) -> Result<Entr
         return Err(RowFault::Bad(BadLine::UnknownStream));
     }
     let record = read_record(alloc, text)?;
-    read_entry(alloc, Fields::Record(&record, 0), streams)
+    read_entry(alloc, Fields::Record(&record, 0), streams, texts)
 }
 
 fn is_text(bytes: &[u8]) -> bool
@@ -215,10 +247,17 @@ fn is_text(bytes: &[u8]) -> bool
 }
 
 /// The entry of bytes that may be no text, or have a CR or quotes.
-fn read_special(alloc: Global, bytes: &[u8], streams: &[StreamDef]) -> Result<Entry, RowFault>
+#[tactic(auto, using(crate::proofs::Celled::same_table))]
+fn read_special(
+    alloc: Global,
+    bytes: &[u8],
+    streams: &[StreamDef],
+    texts: &mut TextTable,
+) -> Result<CellEntry, RowFault>
     requires some { 0 < length bytes.now }
     requires no_feed { All (λ b. b ≢ 10) bytes.now }
-    ensures { Answers result (text_entry streams.now bytes.now) }
+    ensures entry { AnswersIn texts.new result (text_entry streams.now bytes.now) }
+    ensures begins { BeginsWith texts.new texts.old }
 {
     if !is_text(bytes) {
         return Err(RowFault::Bad(BadLine::NotUtf8));
@@ -227,31 +266,34 @@ fn read_special(alloc: Global, bytes: &[u8], streams: &[StreamDef]) -> Result<En
         return Err(RowFault::Bad(BadLine::StrayReturn));
     }
     if bytes.contains(&b'"') {
-        read_quoted(alloc, bytes, streams)
+        read_quoted(alloc, bytes, streams, texts)
     } else {
-        read_plain(alloc, bytes, streams)
+        read_plain(alloc, bytes, streams, texts)
     }
 }
 
-/// The entry of a line, which stands without its LF, or the first cause for which the line is bad. `first` says that the line
-/// is the first of the input, where a byte order mark may stand before it. One CR at its end is no part of the line.
-pub fn read_row(
+/// The entry of a line in cells, as `read_row` tells it. The texts that it has, if it is an event, are in the table then; those
+/// of a bad line may be.
+#[tactic(auto, using(crate::proofs::Celled::same_table))]
+pub fn read_cells(
     alloc: Global,
     line: &[u8],
     first: bool,
     streams: &[StreamDef],
-) -> Result<Entry, RowFault>
+    texts: &mut TextTable,
+) -> Result<CellEntry, RowFault>
     requires short { length line.now ≤ 65536 }
     requires no_feed { All (λ b. b ≢ 10) line.now }
-    ensures { Answers result (entry streams.now first line.now) }
+    ensures entry { AnswersIn texts.new result (entry streams.now first line.now) }
+    ensures begins { BeginsWith texts.new texts.old }
 {
     let bytes = text_of_line(line, first);
     if bytes.is_empty() {
-        return Ok(Entry::Skip);
+        return Ok(CellEntry::Skip);
     }
     if has_special(bytes) {
-        read_special(alloc, bytes, streams)
+        read_special(alloc, bytes, streams, texts)
     } else {
-        read_plain(alloc, bytes, streams)
+        read_plain(alloc, bytes, streams, texts)
     }
 }

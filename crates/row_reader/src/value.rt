@@ -1,13 +1,15 @@
 // Times, values and words of a line.
-ghost use Rattle.std.specs.Prelude.{◌≡◌, IfOk};
+ghost use Rattle.std.specs.Prelude.{◌≡◌, IfOk, IfSome, option_map};
 ghost use Rattle.std.specs.Str.{IsUtf8};
+ghost use Rattle.tw_rows.specs.Cells.{IsPlaced, read_datum as value_at};
+ghost use Rattle.tw_rows.specs.Texts.{BeginsWith};
 ghost use Rattle.tw_rows.specs.declared.kind.Kind.TheVariants as kinds;
+ghost use Rattle.tw_rows.specs.declared.row.Value.TheVariants as values;
 ghost use Rattle.row_reader.specs.Values.{time_of, end_of, inf_of, form_of, times_of, is_alive, value_of};
 
 use crate::number::{read_number, read_places};
 use line_text::Form;
-use std::alloc::Global;
-use tw_rows::{Kind, Label, Memory, Time, Value};
+use tw_rows::{Datum, Kind, Memory, TextTable, Time};
 
 #[tactic(auto, unfolding(tw_rows::specs::Instant::inf))]
 fn read_time(text: &[u8]) -> Option<Time>
@@ -84,13 +86,13 @@ pub fn has_life(form: Form, sync: Time, other: Time) -> bool
 
 /// The truth value of that name.
 #[tactic(auto, unfolding(crate::specs::Values::value_of))]
-fn read_flag(text: &[u8]) -> Option<Value>
-    ensures { result ≡ value_of kinds.Bool text.now }
+fn read_flag(text: &[u8]) -> Option<bool>
+    ensures { option_map values.Bool result ≡ value_of kinds.Bool text.now }
 {
     if text == b"true".as_slice() {
-        Some(Value::Bool(true))
+        Some(true)
     } else if text == b"false".as_slice() {
-        Some(Value::Bool(false))
+        Some(false)
     } else {
         None
     }
@@ -107,16 +109,18 @@ fn as_text(bytes: &[u8]) -> &str
     }
 }
 
-/// The value of that kind that the bytes of a text spell.
-#[tactic(auto, unfolding(crate::specs::Values::value_of))]
-pub fn read_value(alloc: Global, kind: Kind, text: &[u8]) -> Result<Option<Value>, Memory>
+/// The datum of that kind that the bytes of a text spell. A text is in the table then.
+#[tactic(auto, unfolding(crate::specs::Values::value_of), using(crate::proofs::Celled::same_table))]
+pub fn read_datum(kind: Kind, text: &[u8], texts: &mut TextTable) -> Result<Option<Datum>, Memory>
     requires { IsUtf8 text.now }
-    ensures { IfOk result (λ value. value ≡ value_of kind text.now) }
+    ensures read { IfOk result (λ datum. option_map (value_at texts.new) datum ≡ value_of kind text.now) }
+    ensures placed { IfOk result (λ datum. IfSome datum (IsPlaced texts.new)) }
+    ensures begins { BeginsWith texts.new texts.old }
 {
     Ok(match kind {
-        Kind::Int => read_places(text, 0).map(Value::Int),
-        Kind::Dec(places) => read_places(text, places).map(Value::Int),
-        Kind::Bool => read_flag(text),
-        Kind::Text => Some(Value::Text(Label::new(alloc, as_text(text))?)),
+        Kind::Int => read_places(text, 0).map(Datum::Int),
+        Kind::Dec(places) => read_places(text, places).map(Datum::Int),
+        Kind::Bool => read_flag(text).map(Datum::Bool),
+        Kind::Text => Some(Datum::Text(texts.intern(as_text(text))?)),
     })
 }

@@ -3,11 +3,11 @@ use Rattle.std.proofs.lemmas.Str.{IsUtf8-from_is_utf8}
 use Rattle.row_reader.proofs.Steps.{no_text, return_left}
 use Rattle.row_reader.proofs.read.read_special.Goals as goal
 
-pub returns-then-not-is_text : goal.returns-then-not-is_text
-returns-then-not-is_text c = no_text c.args.streams.now c.args.bytes.now (λ e. omega (arith, e, c.requires.some)) (sym c.is_text.ensures ∙ c.if-not-is_text.true)
+pub returns-then-not-is_text-clause-entry : goal.returns-then-not-is_text-clause-entry
+returns-then-not-is_text-clause-entry c = no_text c.args.streams.now c.args.bytes.now (λ e. omega (arith, e, c.requires.some)) (sym c.is_text.ensures ∙ c.if-not-is_text.true)
 
-pub returns-then-contains : goal.returns-then-contains
-returns-then-contains c =
+pub returns-then-contains-clause-entry : goal.returns-then-contains-clause-entry
+returns-then-contains-clause-entry c =
     return_left c.args.streams.now c.args.bytes.now (λ e. omega (arith, e, c.requires.some)) (sym c.is_text.ensures ∙ c.if-not-is_text.false) (sym c.contains.ensures.value ∙ c.if-contains.true)
 
 pub read_quoted-requires-clause-utf8 : goal.read_quoted-requires-clause-utf8

@@ -6,14 +6,16 @@ use Rattle.std.proofs.lemmas.Str.{IsUtf8-from_ascii}
 use Rattle.row_reader.specs.Entry.{text_entry}
 use Rattle.row_reader.proofs.Lines.{without_text_of, simple_ascii, simple_no_return, simple_no_quote}
 use Rattle.row_reader.proofs.Steps.{empty_text}
-use Rattle.row_reader.proofs.read.read_row.Goals as goal
+use Rattle.row_reader.proofs.read.read_cells.Goals as goal
 
 is_zero : (n : ℕ) → true ≡ (n == 0) → n ≡ 0
 is_zero n h = elim (eqb_tells n 0) [ inl t ↦ t.1 | inr t ↦ absurd (let f : (n == 0) ≡ false = t.0 in cc) ]
 
-pub returns-then-is_empty : goal.returns-then-is_empty
-returns-then-is_empty c =
-    ap (text_entry c.args.streams.now) (sym c.text_of_line-bytes.ensures) ∙ empty_text c.args.streams.now c.text_of_line-bytes.result.now (is_zero _ c.if-is_empty.ensures)
+pub returns-then-is_empty-clause-entry : goal.returns-then-is_empty-clause-entry
+returns-then-is_empty-clause-entry c = (
+  ap (text_entry c.args.streams.now) (sym c.text_of_line-bytes.ensures) ∙ empty_text c.args.streams.now c.text_of_line-bytes.result.now (is_zero _ c.if-is_empty.ensures),
+  tt,
+)
 
 pub read_special-requires-clause-no_feed : goal.read_special-requires-clause-no_feed
 read_special-requires-clause-no_feed c = subst (λ l. All (λ b. b ≢ 10) l) (sym c.text_of_line-bytes.ensures) (without_text_of 10 c.args.first c.args.line.now c.requires.no_feed)
