@@ -1,12 +1,14 @@
 // Lines that are admitted, one by one.
 ghost use Rattle.std.specs.Prelude.{◌≡◌, ℕ, ◌+◌, ◌-◌, ◌^◌, min, ◌<◌, ◌≤◌, ◌&&◌, nat_lt, List, [], length, get_or, map, IfSome, IfOk, IfErr, OnErr, MatchOption};
 ghost use Rattle.tw_rows.specs.Bag.{total};
+ghost use Rattle.tw_rows.specs.Cells.{ArePlaced, read_cells};
 ghost use Rattle.tw_rows.specs.Texts.{BeginsWith};
 ghost use Rattle.tw_rows.specs.declared.edge.Edge.{Edge};
 ghost use Rattle.tw_rows.specs.declared.schema.StreamDef.{StreamDef};
 ghost use Rattle.plan_model.specs.IsPlan.{AreNarrow};
 ghost use Rattle.admission.specs.Admission.{Admission, nothing, Taken, admit as admitted, allowed, refuses, drops};
 ghost use Rattle.admission.specs.Answers.{answer as answer_of};
+ghost use Rattle.row_reader.specs.Celled.{entry_in, IsPlacedIn};
 ghost use Rattle.row_reader.specs.declared.entry.Entry.TheVariants as entries;
 ghost use Rattle.ingress.specs.Fits.{Fits, plain, row_cells};
 ghost use Rattle.ingress.specs.Counts.{may_hold};
@@ -18,9 +20,9 @@ use crate::ingress::{Ingress, Refusal};
 use crate::watermarks::{Watermarks, later};
 use admission::{Admitted, Lateness, Policy};
 use line_text::Form;
-use row_reader::Entry;
+use row_reader::{CellEntry, Entry};
 use std::alloc::Global;
-use tw_rows::{Kind, Memory, Row, Schema, StreamDef, TextTable, Time, to_cells};
+use tw_rows::{Cells, Kind, Memory, Schema, StreamDef, TextTable, Time, to_cells};
 
 // The kinds of the columns, as cells hold them.
 fn plain_kinds(alloc: Global, schema: &Schema) -> Result<Vec<Kind>, Memory>
@@ -70,6 +72,34 @@ fn reduced(t: Time, by: u64) -> Time
     Time::from_word(t.word().saturating_sub(by))
 }
 
+// The entry in cells. Its texts are in the table then.
+fn cells_of_entry(alloc: Global, entry: Entry, texts: &mut TextTable) -> Result<CellEntry, Memory>
+    ensures same { IfOk result (λ cells. entry_in texts.new cells ≡ entry) }
+    ensures placed { IfOk result (λ cells. IsPlacedIn texts.new cells) }
+    ensures begins { BeginsWith texts.new texts.old }
+{
+    match entry {
+        Entry::Skip => Ok(CellEntry::Skip),
+        Entry::Punct { stream, time } => Ok(CellEntry::Punct { stream, time }),
+        Entry::Event {
+            stream,
+            form,
+            sync,
+            other,
+            row,
+        } => {
+            let cells = to_cells(alloc, &row, texts)?;
+            Ok(CellEntry::Event {
+                stream,
+                form,
+                sync,
+                other,
+                cells,
+            })
+        }
+    }
+}
+
 impl Ingress {
     /// Nothing was admitted, and batches of released edges have that capacity.
     pub fn new(
@@ -111,19 +141,39 @@ impl Ingress {
         ensures fixed { SameFixed self.old self.new }
         ensures released { self.new.released ≡ self.old.released }
     {
+        let cells = match cells_of_entry(self.alloc, entry, texts) {
+            Ok(cells) => cells,
+            Err(Memory) => return Err(Refusal::Memory),
+        };
+        self.admit_cells(cells, texts)
+    }
+
+    /// One line more, whose values are cells: what is admitted is the entry that they stand for. Want of memory changes nothing.
+    pub fn admit_cells(&mut self, entry: CellEntry, texts: &TextTable) -> Result<Admitted, Refusal>
+        requires placed { IsPlacedIn texts.now entry }
+        requires fits { Fits (cells_of self.old) (entry_in texts.now entry) }
+        ensures ok { IfOk result (λ answer. (a : Admission) (given : ℕ → List Edge) → Admits texts.now a given self.old →
+            (b : Admission) × ((admitted self.old.policy a (entry_in texts.now entry) ≡ Taken b) × Admits texts.now b given self.new
+            × (answer ≡ answer_of self.old.policy a (entry_in texts.now entry)))) }
+        ensures refused { IfErr result (λ refusal. (a : Admission) (given : ℕ → List Edge) → Admits texts.now a given self.old →
+            Refuses (admitted self.old.policy a (entry_in texts.now entry)) refusal) }
+        ensures err { OnErr result ((a : Admission) (given : ℕ → List Edge) → Admits texts.now a given self.old → Admits texts.now a given self.new) }
+        ensures fixed { SameFixed self.old self.new }
+        ensures released { self.new.released ≡ self.old.released }
+    {
         match entry {
-            Entry::Skip => Ok(Admitted::Skipped),
-            Entry::Punct { stream, time } => {
+            CellEntry::Skip => Ok(Admitted::Skipped),
+            CellEntry::Punct { stream, time } => {
                 self.punctuate(stream, time);
                 Ok(Admitted::Kept)
             }
-            Entry::Event {
+            CellEntry::Event {
                 stream,
                 form,
                 sync,
                 other,
-                row,
-            } => self.admit_event(stream, form, sync, other, &row, texts),
+                cells,
+            } => self.admit_event(stream, form, sync, other, cells, texts),
         }
     }
 
@@ -148,18 +198,18 @@ impl Ingress {
         form: Form,
         sync: Time,
         other: Time,
-        row: &Row,
-        texts: &mut TextTable,
+        cells: Cells,
+        texts: &TextTable,
     ) -> Result<Admitted, Refusal>
+        requires placed { ArePlaced texts.now cells }
         requires stream { stream < length self.old.kinds.items }
-        requires cells { row_cells row.now ≡ get_or (cells_of self.old) stream [] }
-        ensures ok { IfOk result (λ answer. (a : Admission) (given : ℕ → List Edge) → Admits texts.old a given self.old →
-            (b : Admission) × ((admitted self.old.policy a (entries.Event stream form sync other row.now) ≡ Taken b) × Admits texts.new b given self.new
-            × (answer ≡ answer_of self.old.policy a (entries.Event stream form sync other row.now)))) }
-        ensures refused { IfErr result (λ refusal. (a : Admission) (given : ℕ → List Edge) → Admits texts.old a given self.old →
-            Refuses (admitted self.old.policy a (entries.Event stream form sync other row.now)) refusal) }
-        ensures err { OnErr result ((a : Admission) (given : ℕ → List Edge) → Admits texts.old a given self.old → Admits texts.new a given self.new) }
-        ensures begins { BeginsWith texts.new texts.old }
+        requires cells { row_cells (read_cells texts.now cells) ≡ get_or (cells_of self.old) stream [] }
+        ensures ok { IfOk result (λ answer. (a : Admission) (given : ℕ → List Edge) → Admits texts.now a given self.old →
+            (b : Admission) × ((admitted self.old.policy a (entries.Event stream form sync other (read_cells texts.now cells)) ≡ Taken b) × Admits texts.now b given self.new
+            × (answer ≡ answer_of self.old.policy a (entries.Event stream form sync other (read_cells texts.now cells))))) }
+        ensures refused { IfErr result (λ refusal. (a : Admission) (given : ℕ → List Edge) → Admits texts.now a given self.old →
+            Refuses (admitted self.old.policy a (entries.Event stream form sync other (read_cells texts.now cells))) refusal) }
+        ensures err { OnErr result ((a : Admission) (given : ℕ → List Edge) → Admits texts.now a given self.old → Admits texts.now a given self.new) }
         ensures fixed { SameFixed self.old self.new }
         ensures released { self.new.released ≡ self.old.released }
     {
@@ -175,7 +225,6 @@ impl Ingress {
             at: later(sync, bound),
             dropped: is_dropped(self.policy, sync, bound),
         };
-        let cells = to_cells(self.alloc, row, texts)?;
         // each text is in the table once
         let _count = texts.len();
         let Ok(entered) = self.held.enter(&line, cells) else {

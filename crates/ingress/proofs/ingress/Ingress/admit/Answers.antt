@@ -1,27 +1,47 @@
-use Rattle.std.specs.Prelude.{◌≡◌, ℕ, IfOk, IfErr, List}
-use Rattle.std.proofs.Common.{◌∙◌, ap, sym, subst}
+use Rattle.std.specs.Prelude.{◌≡◌, ℕ, Result, Ok, Err, IfOk, IfErr, OnErr, List}
+use Rattle.std.proofs.Common.{sym, subst}
 use Rattle.tw_rows.specs.declared.edge.Edge.{Edge}
 use Rattle.admission.specs.Admission.{Admission, admit, Taken}
 use Rattle.admission.specs.Answers.{answer}
 use Rattle.row_reader.specs.declared.entry.Entry.{Entry}
-use Rattle.ingress.specs.Admits.{Admits, Refuses}
+use Rattle.ingress.specs.Admits.{cells_of, Admits, Refuses}
+use Rattle.ingress.specs.Fits.{Fits}
+use Rattle.ingress.proofs.Reading.{admits_longer}
 use Rattle.ingress.proofs.ingress.Ingress.admit.Goals as goal
 
-pub returns-in-Punct-clause-ok : goal.returns-in-Punct-clause-ok
-returns-in-Punct-clause-ok c = λ a given k.
-    let i = c.args.self.now in
-    let r = c.punctuate.ensures.admits c.args.texts.now a given k in
-    (r.0, (ap (λ e. admit i.policy a e) c.in-Punct.is ∙ r.1.0, r.1.1, sym (ap (λ e. answer i.policy a e) c.in-Punct.is)))
+on_ok : {T E : Type 0} (r : Result T E) (P Q : T → Type 0) → ((x : T) → P x → Q x) → IfOk r P → IfOk r Q
+on_ok (Ok x) P Q f h = f x h
+on_ok (Err e) P Q f h = tt
 
-pub returns-in-Event-clause-ok : goal.returns-in-Event-clause-ok
-returns-in-Event-clause-ok c =
-    let i = c.args.self.now in
-    let P : Entry → Type 0 = λ e. IfOk c.admit_event.result (λ x. (a : Admission) (given : ℕ → List Edge) → Admits c.args.texts.now a given i →
-    (b : Admission) × ((admit i.policy a e ≡ Taken b) × Admits c.admit_event.new.texts b given c.admit_event.new.self × (x ≡ answer i.policy a e))) in
-    subst P (sym c.in-Event.is) c.admit_event.ensures.ok
+on_err : {T E : Type 0} (r : Result T E) (P Q : E → Type 0) → ((x : E) → P x → Q x) → IfErr r P → IfErr r Q
+on_err (Ok x) P Q f h = tt
+on_err (Err e) P Q f h = f e h
 
-pub returns-in-Event-clause-refused : goal.returns-in-Event-clause-refused
-returns-in-Event-clause-refused c =
+after_err : {T E : Type 0} (r : Result T E) (P Q : Type 0) → (P → Q) → OnErr r P → OnErr r Q
+after_err (Ok x) P Q f h = tt
+after_err (Err e) P Q f h = f h
+
+pub returns-in-Err-clause-err : goal.returns-in-Err-clause-err
+returns-in-Err-clause-err c = λ a given k. admits_longer c.cells_of_entry.new.texts c.args.texts.now a given c.args.self.now c.in-Err.ensures.begins k
+
+pub admit_cells-requires-clause-fits : goal.admit_cells-requires-clause-fits
+admit_cells-requires-clause-fits c = subst (Fits (cells_of c.args.self.now)) (sym c.in-Ok.ensures.same) c.requires
+
+pub returns-clause-ok : goal.returns-clause-ok
+returns-clause-ok c =
     let i = c.args.self.now in
-    let P : Entry → Type 0 = λ e. IfErr c.admit_event.result (λ x. (a : Admission) (given : ℕ → List Edge) → Admits c.args.texts.now a given i → Refuses (admit i.policy a e) x) in
-    subst P (sym c.in-Event.is) c.admit_event.ensures.refused
+    let texts = c.cells_of_entry.new.texts in
+    let P : Entry → Type 0 = λ e. IfOk c.admit_cells.result (λ x. (a : Admission) (given : ℕ → List Edge) → Admits texts a given i →
+    (b : Admission) × ((admit i.policy a e ≡ Taken b) × Admits texts b given c.admit_cells.new.self × (x ≡ answer i.policy a e))) in
+    on_ok c.admit_cells.result _ _ (λ x h a given k. h a given (admits_longer texts c.args.texts.now a given i c.in-Ok.ensures.begins k)) (subst P c.in-Ok.ensures.same c.admit_cells.ensures.ok)
+
+pub returns-clause-refused : goal.returns-clause-refused
+returns-clause-refused c =
+    let i = c.args.self.now in
+    let texts = c.cells_of_entry.new.texts in
+    let P : Entry → Type 0 = λ e. IfErr c.admit_cells.result (λ x. (a : Admission) (given : ℕ → List Edge) → Admits texts a given i → Refuses (admit i.policy a e) x) in
+    on_err c.admit_cells.result _ _ (λ x h a given k. h a given (admits_longer texts c.args.texts.now a given i c.in-Ok.ensures.begins k)) (subst P c.in-Ok.ensures.same c.admit_cells.ensures.refused)
+
+pub returns-clause-err : goal.returns-clause-err
+returns-clause-err c =
+    after_err c.admit_cells.result _ _ (λ h a given k. h a given (admits_longer c.cells_of_entry.new.texts c.args.texts.now a given c.args.self.now c.in-Ok.ensures.begins k)) c.admit_cells.ensures.err
