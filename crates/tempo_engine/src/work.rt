@@ -20,7 +20,7 @@ use egress::Egress;
 use ingress::Ingress;
 use plan_model::{MOST_COLUMNS, Plan, closes};
 use plan_stages::{Dataflow, PlanFault};
-use row_reader::read_row;
+use row_reader::read_cells;
 use std::alloc::{AllocError, Global};
 use tw_rows::{ColumnDef, Kind, Memory, TextTable, Time};
 
@@ -156,11 +156,11 @@ impl Work {
         ensures fault { IfErr result (λ f. (plan : PlanParts) (policy : Admitting) (lines : List Told) → HasFed plan policy lines self.old → IsFaultOf f (fault_of plan policy (lines ++ told plan number line.now ∷ []) false)) }
     {
         let streams = self.dataflow.plan().streams();
-        let entry = match read_row(self.alloc, line, number == 1, streams) {
+        let entry = match read_cells(self.alloc, line, number == 1, streams, &mut self.texts) {
             Ok(entry) => entry,
             Err(fault) => return Err(EngineFault::of_row(number, &fault)),
         };
-        match self.ingress.admit(entry, &mut self.texts) {
+        match self.ingress.admit_cells(entry, &self.texts) {
             Ok(_) => Ok(()),
             Err(refusal) => Err(EngineFault::of_refusal(number, &refusal)),
         }
