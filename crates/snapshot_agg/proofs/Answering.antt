@@ -23,14 +23,14 @@ use Rattle.node_laws.specs.Keeping.{plain_cells}
 use Rattle.plan_model.specs.declared.agg.Agg.{Agg}
 use Rattle.plan_model.specs.IsPlan.{key_kinds}
 use Rattle.plan_model.specs.RowOps.{agg_in, group_row_in, rows_of_key_in}
-use Rattle.sweep_laws.specs.Sweeps.{is_at, IsPast, StartsAt, SyncsRise, HeadFrom, InOrder}
+use Rattle.sweep_laws.specs.Sweeps.{IsPast, StartsAt, SyncsRise, HeadFrom, InOrder}
 use Rattle.sweep_laws.specs.Running.{Run, run_end, run_start, has_row, end_part, kept, start_part, begun_at}
 use Rattle.sweep_laws.specs.Grouping.{keys_of, EndsTold, StartsTold, IsEarly}
 use Rattle.sweep_laws.proofs.Instants.{syncs_rise}
 use Rattle.sweep_laws.proofs.Ordering.{order_later}
 use Rattle.snapshot_agg.specs.Words.{key_data, tell}
 use Rattle.snapshot_agg.specs.Answering.{group_kinds, same_kind, are_stored, is_stored, is_answered, IsRunOf, AreRunsOf, IsSoFar}
-use Rattle.snapshot_agg.proofs.Lists.{starts_at, drop_past}
+use Rattle.snapshot_agg.proofs.Lists.{starts_at}
 
 -- STORED CELLS
 both_true : (a b : Bool) → a ≡ true → b ≡ true → (a && b) ≡ true

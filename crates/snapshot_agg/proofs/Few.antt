@@ -1,19 +1,19 @@
 -- How much a group keeps: keys with rows are no more than the rows.
-use Rattle.std.specs.Prelude.{◌≡◌, ℕ, suc, ◌+◌, ◌*◌, ◌<◌, ◌≤◌, nat_lt, nat_le, Bool, true, false, cond, Option, Some, None, List, [], ◌∷◌, length, map, filter, slice_get, refl}
+use Rattle.std.specs.Prelude.{◌≡◌, ℕ, suc, ◌+◌, ◌*◌, ◌≤◌, nat_lt, nat_le, Bool, true, false, cond, Option, Some, List, [], ◌∷◌, length, slice_get, refl}
 use Rattle.std.specs.List.{IsDistinct, AllByRecursion}
-use Rattle.std.specs.Map.{keys_of, lookup}
+use Rattle.std.specs.Map.{keys_of}
 use Rattle.std.proofs.Common.{sym, ◌∙◌, ap, subst, arith}
 use Rattle.std.proofs.Math.Nat.{mul-le-mul_left}
 use Rattle.std.proofs.lemmas.Bool.Decides.{nat_tests}
 use Rattle.std.proofs.lemmas.Map.Entries.{hash_map_get_place}
-use Rattle.indexmap.specs.IndexMap.{IndexMap, IsUnique, get, index_map_len}
+use Rattle.indexmap.specs.IndexMap.{IndexMap, IsUnique, get}
 use Rattle.tw_rows.specs.Bag.{SameBag, total}
 use Rattle.tw_rows.specs.SameCells.{same_cells, cells_are_same, same_itself, same_cells_equiv}
 use Rattle.tw_rows.specs.declared.cells.Datum.{Datum}
 use Rattle.tw_rows.specs.declared.edge.Edge.{Edge}
 use Rattle.tw_rows.specs.declared.edge.HeldRow.{HeldRow}
 use Rattle.tw_rows.proofs.Bags.{total-map, total-filter, total-flat_map, total_same, total_swap}
-use Rattle.edge_history.specs.Order.{failing, is_from, many, IsHistory}
+use Rattle.edge_history.specs.Order.{failing}
 use Rattle.edge_history.specs.History.{CellEvent, of}
 use Rattle.edge_history.specs.Opens.{open_of, opens, bare}
 use Rattle.edge_history.proofs.Sums.{sum_le}
@@ -25,8 +25,7 @@ use Rattle.plan_laws.specs.Held.{reaching, may_hold}
 use Rattle.plan_model.specs.declared.agg.Agg.{Agg}
 use Rattle.plan_model.specs.declared.node.Node.TheVariants.{Group}
 use Rattle.plan_model.specs.Nodes.{node_in}
-use Rattle.plan_model.specs.RowOps.{rows_of_key_in, group_row_in}
-use Rattle.sweep_laws.specs.Running.{Run}
+use Rattle.plan_model.specs.RowOps.{group_row_in}
 use Rattle.sweep_laws.specs.Grouping.{row_of_run}
 use Rattle.snapshot_agg.specs.declared.totals.Totals.{Totals}
 use Rattle.snapshot_agg.specs.Words.{key_data, tell}

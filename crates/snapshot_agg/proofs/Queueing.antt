@@ -1,16 +1,16 @@
 -- Edges that wait: those in a line and the others.
-use Rattle.std.specs.Prelude.{◌≡◌, ℕ, zero, suc, ◌+◌, ◌-◌, ◌<◌, ◌≤◌, nat_eq, nat_lt, nat_le, Bool, true, false, cond, List, [], ◌∷◌, ◌++◌, length, map, get_or, take, drop, refl}
+use Rattle.std.specs.Prelude.{◌≡◌, ℕ, zero, suc, ◌+◌, ◌-◌, ◌<◌, ◌≤◌, nat_eq, true, false, cond, List, [], ◌∷◌, ◌++◌, length, map, get_or, take, drop, refl}
 use Rattle.std.proofs.Common.{sym, ◌∙◌, ap, subst, arith}
 use Rattle.std.proofs.lemmas.Bool.Decides.{nat_tests}
 use Rattle.std.proofs.lemmas.List.{take_more, map-append}
-use Rattle.tw_rows.specs.Bag.{SameBag, total}
+use Rattle.tw_rows.specs.Bag.{total}
 use Rattle.tw_rows.specs.declared.edge.Edge.{Edge}
 use Rattle.tw_rows.proofs.Bags.{total-append, total-map}
 use Rattle.edge_history.specs.Order.{failing, is_from, is_below}
 use Rattle.end_queue.specs.Pending.{Pending, put_pending}
 use Rattle.sweep_laws.specs.Sweeps.{SyncsRise}
 use Rattle.snapshot_agg.specs.Waiting.{edges_in, own_pending, WaitForThemselves}
-use Rattle.snapshot_agg.proofs.Answering.{rise_weaker, rise_drop}
+use Rattle.snapshot_agg.proofs.Answering.{rise_drop}
 use Rattle.snapshot_agg.proofs.Lists.{total_more}
 use Rattle.snapshot_agg.proofs.PuttingOff.{total-put_pending, pushed, own_test, from_test, below_later, Popped}
 

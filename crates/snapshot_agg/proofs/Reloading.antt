@@ -1,5 +1,5 @@
 -- What a group saves, and what is loaded again.
-use Rattle.std.specs.Prelude.{◌≡◌, ℕ, zero, suc, ◌+◌, ◌<◌, ◌≤◌, ◌&&◌, nat_eq, nat_lt, nat_le, Bool, true, false, cond, Option, Some, None, List, [], ◌∷◌, ◌++◌, length, map, filter, flat_map, take, get_or, slice_get, refl}
+use Rattle.std.specs.Prelude.{◌≡◌, ℕ, zero, suc, ◌+◌, ◌<◌, ◌&&◌, nat_lt, Bool, true, false, cond, Option, Some, None, List, [], ◌∷◌, ◌++◌, length, map, filter, flat_map, take, get_or, slice_get, refl}
 use Rattle.std.specs.List.{list_all, IsDistinct, AllByRecursion}
 use Rattle.std.specs.Map.{keys_of, lookup}
 use Rattle.std.proofs.Common.{sym, ◌∙◌, ap, subst, arith}
@@ -7,7 +7,7 @@ use Rattle.std.proofs.lemmas.Bool.{and_parts}
 use Rattle.std.proofs.lemmas.Bool.Decides.{nat_tests}
 use Rattle.std.proofs.lemmas.List.{take_more}
 use Rattle.std.proofs.lemmas.Map.Entries.{hash_map_get_place}
-use Rattle.indexmap.specs.IndexMap.{IndexMap, IsUnique, get}
+use Rattle.indexmap.specs.IndexMap.{IndexMap, IsUnique}
 use Rattle.tw_rows.specs.Bag.{SameBag, total}
 use Rattle.tw_rows.specs.SameCells.{same_cells, cells_are_same, same_itself, same_cells_equiv}
 use Rattle.tw_rows.specs.declared.cells.Datum.{Datum}
@@ -38,7 +38,7 @@ use Rattle.snapshot_agg.specs.Saving.{start_of, row_of_start, later_run, run_amo
 use Rattle.snapshot_agg.proofs.Answering.{some_is}
 use Rattle.snapshot_agg.proofs.Lists.{total_more}
 use Rattle.snapshot_agg.proofs.Queueing.{edges_more}
-use Rattle.snapshot_agg.proofs.Totaling.{keys_tell, tell_is_group, bad_by_key, of_key}
+use Rattle.snapshot_agg.proofs.Totaling.{tell_is_group, bad_by_key, of_key}
 
 -- THE SAME IN ANOTHER ORDER
 pub kept_same : (key : List ℕ) (aggs : List Agg) (rows rows2 : List HeldRow) (run run2 : List Datum → Option Run) (waiting waiting2 : List Edge) (x : ℕ) (came out : List Edge) →

@@ -1,5 +1,5 @@
 -- What a group keeps, as it is made, in longer tables, and what it answered.
-use Rattle.std.specs.Prelude.{◌≡◌, ℕ, ◌≤◌, Bool, false, List, [], refl}
+use Rattle.std.specs.Prelude.{ℕ, Bool, false, List, [], refl}
 use Rattle.std.specs.Map.{lookup}
 use Rattle.std.proofs.Common.{ap, arith}
 use Rattle.std.proofs.lemmas.List.Elements.{All-nil}

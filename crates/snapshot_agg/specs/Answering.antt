@@ -1,5 +1,5 @@
 -- What a group may answer: edges in order that are stored as the columns of its rows are.
-use Rattle.std.specs.Prelude.{◌≡◌, ℕ, ◌*◌, ◌<◌, ◌&&◌, nat_eq, Bool, true, false, Option, Some, List, [], ◌∷◌, ◌++◌, map}
+use Rattle.std.specs.Prelude.{◌≡◌, ℕ, ◌*◌, ◌<◌, ◌&&◌, Bool, true, false, Option, Some, List, [], ◌∷◌, ◌++◌, map}
 use Rattle.tw_rows.specs.Cells.{datum_kind}
 use Rattle.tw_rows.specs.declared.cells.Datum.{Datum}
 use Rattle.tw_rows.specs.declared.edge.Edge.{Edge}

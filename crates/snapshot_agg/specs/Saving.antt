@@ -1,5 +1,5 @@
 -- What the operator of a Group saves: rows that are alive, edges that wait, and rows that are told, each as an edge.
-use Rattle.std.specs.Prelude.{◌≡◌, ℕ, ◌≤◌, ◌&&◌, nat_lt, Bool, true, cond, Option, Some, None, List, [], ◌∷◌, map, take, length}
+use Rattle.std.specs.Prelude.{◌≡◌, ℕ, ◌≤◌, ◌&&◌, Bool, true, cond, Option, Some, None, List, [], ◌∷◌, map, take, length}
 use Rattle.std.specs.List.{list_all}
 use Rattle.tw_rows.specs.Instant.{inf}
 use Rattle.tw_rows.specs.SameCells.{same_cells}

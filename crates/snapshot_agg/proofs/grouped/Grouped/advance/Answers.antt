@@ -1,11 +1,11 @@
 use Rattle.std.specs.Prelude.{◌≡◌, ◌++◌, true, false, map, All}
-use Rattle.std.proofs.Common.{◌∙◌, sym, ap, subst}
+use Rattle.std.proofs.Common.{◌∙◌, sym, subst}
 use Rattle.tw_rows.specs.Cells.{datum_kind}
 use Rattle.tw_rows.specs.Kinds.{cell_kind_of}
 use Rattle.edge_history.specs.Order.{failing, KeepsOrder}
 use Rattle.edge_stream.specs.Listing.{cells_of}
 use Rattle.operator.specs.Steps.{ComeBetween}
-use Rattle.snapshot_agg.specs.Answering.{group_kinds, is_stored, IsSoFar}
+use Rattle.snapshot_agg.specs.Answering.{group_kinds, is_stored}
 use Rattle.snapshot_agg.specs.Keeping.{KeepsGroup}
 use Rattle.snapshot_agg.specs.Totaled.{run_of}
 use Rattle.snapshot_agg.specs.Waiting.{edges_in}

@@ -1,4 +1,4 @@
-use Rattle.std.specs.Prelude.{◌≡◌, length, map}
+use Rattle.std.specs.Prelude.{length, map}
 use Rattle.std.proofs.Common.{◌∙◌, sym, subst}
 use Rattle.tw_rows.specs.Kinds.{cell_kind_of}
 use Rattle.carried_edges.specs.Entries.{part_of}

@@ -1,5 +1,4 @@
 use Rattle.std.proofs.Common.{◌++◌, ◌∙◌, ap, subst, sym}
-use Rattle.plan_model.specs.declared.node.Node.TheVariants.{Group}
 use Rattle.snapshot_agg.specs.Keeping.{KeepsGrouped}
 use Rattle.snapshot_agg.proofs.Sweeping.{for_both}
 use Rattle.snapshot_agg.proofs.operating.GroupedOperator.step.Goals as goal

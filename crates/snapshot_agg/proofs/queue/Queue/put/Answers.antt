@@ -1,8 +1,3 @@
-use Rattle.std.specs.Prelude.{◌≡◌, ◌+◌, ℕ}
-use Rattle.std.proofs.Common.{ap, subst, ◌∙◌}
-use Rattle.tw_rows.specs.Bag.{total}
-use Rattle.end_queue.specs.Pending.{Pending}
-use Rattle.snapshot_agg.specs.Waiting.{own_pending}
 use Rattle.snapshot_agg.proofs.Queueing.{more_in_line, more_others, edges_more, own_more}
 use Rattle.snapshot_agg.proofs.queue.Queue.put.Goals as goal
 
