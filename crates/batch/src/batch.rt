@@ -13,13 +13,10 @@ use smallvec::SmallVec;
 use std::error::Error;
 use std::fmt;
 use std::marker::Model;
-use tw_rows::{Cells, Datum, Edge, Memory, Time};
+use tw_rows::{Cells, Datum, Edge, Memory, SHORT_ROW, Time};
 
 /// How many payload columns are kept without memory of their own.
 pub(crate) const WIDTH: usize = 32;
-
-/// How many cells of one row are read without memory.
-const SHORT: usize = 4;
 
 /// A batch holds as many rows as it has room for.
 #[derive(Clone, Copy, Debug, PartialEq, Eq)]
@@ -224,14 +221,14 @@ impl Batch {
         ensures succeeds { length self.now.kinds ≤ 4 → IsOk result }
     {
         let alloc = *self.payload.allocator();
-        let mut data: SmallVec<Datum, SHORT> = SmallVec::new(alloc);
+        let mut data: SmallVec<Datum, SHORT_ROW> = SmallVec::new(alloc);
         for column in self.payload.as_slice() {
             data.push(column.datum(i))?;
         }
         Ok(Edge {
             sync: Time::from_word(self.sync.get(i)),
             other: Time::from_word(self.other.get(i)),
-            cells: Cells::from_slice(alloc, data.as_slice())?,
+            cells: Cells::new(data),
         })
     }
 

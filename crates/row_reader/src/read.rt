@@ -18,10 +18,7 @@ use crate::record::read_record;
 use crate::value::{has_life, read_datum, read_end, read_form, read_times};
 use smallvec::SmallVec;
 use std::alloc::Global;
-use tw_rows::{Cells, Datum, Schema, StreamDef, TextTable};
-
-/// So many cells are kept without memory of their own.
-const SHORT: usize = 4;
+use tw_rows::{Cells, Datum, SHORT_ROW, Schema, StreamDef, TextTable};
 
 /// This cause, where so many fields are left as are still wanted.
 fn unless_wrong_fields(fields: &Fields, wanted: usize, cause: BadLine) -> BadLine
@@ -46,7 +43,7 @@ fn read_values(
     ensures begins { BeginsWith texts.new texts.old }
 {
     let columns = schema.items();
-    let mut values: SmallVec<Datum, SHORT> = SmallVec::new(alloc);
+    let mut values: SmallVec<Datum, SHORT_ROW> = SmallVec::new(alloc);
     for (i, column) in columns.iter().enumerate() {
         let Some(field) = fields.next_field() else {
             return Err(RowFault::Bad(BadLine::WrongFields));
@@ -62,7 +59,7 @@ fn read_values(
     }
     match fields.next_field() {
         Some(_) => Err(RowFault::Bad(BadLine::WrongFields)),
-        None => Ok(Cells::from_slice(alloc, values.as_slice())?),
+        None => Ok(Cells::new(values)),
     }
 }
 

@@ -1,9 +1,9 @@
 -- Values and the kinds of columns that they fit, worked out.
-use Rattle.std.specs.Prelude.{◌≡◌, ℤ, pos, true, refl}
+use Rattle.std.specs.Prelude.{◌≡◌, pos, true, refl}
 use Rattle.tw_rows.specs.declared.kind.Kind.TheVariants.{Int, Bool as Flag, Text, Dec}
-use Rattle.tw_rows.specs.declared.kind.CellKind.TheVariants.{Whole, Bit, Place}
-use Rattle.tw_rows.specs.declared.row.Value.TheVariants.{Int as IntValue, Bool as FlagValue, Text as TextValue}
-use Rattle.tw_rows.specs.Kinds.{value_kind, cell_kind_of, FitsKind}
+use Rattle.tw_rows.specs.declared.kind.CellKind.TheVariants.{Place}
+use Rattle.tw_rows.specs.declared.row.Value.TheVariants.{Int as IntValue, Bool as FlagValue}
+use Rattle.tw_rows.specs.Kinds.{cell_kind_of, FitsKind}
 
 -- a number fits a column of ints, and one of decimals, however many places these have
 a_number_fits_ints : FitsKind (IntValue (pos 125)) Int

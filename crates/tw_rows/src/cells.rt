@@ -71,13 +71,13 @@ impl Datum {
     }
 }
 
-/// How many cells are kept without memory of their own.
-const SHORT: usize = 4;
+/// A row of at most so many cells takes no memory of its own.
+pub const SHORT_ROW: usize = 4;
 
 /// A row of data, in the order of the columns.
 #[derive(Drop)]
 pub struct Cells {
-    data: SmallVec<Datum, SHORT>,
+    data: SmallVec<Datum, SHORT_ROW>,
 }
 
 impl Model for Cells {
@@ -90,7 +90,14 @@ impl Model for Cells {
 }
 
 impl Cells {
-    /// The cells with these data. Memory is taken only for more than 4.
+    /// The cells with these data, which are moved and not copied.
+    pub fn new(cells: SmallVec<Datum, SHORT_ROW>) -> Cells
+        ensures { result ≡ cells.items }
+    {
+        Cells { data: cells }
+    }
+
+    /// A copy of these data as cells. Memory is taken only for more than 4.
     pub fn from_slice(alloc: Global, items: &[Datum]) -> Result<Cells, Memory>
         ensures ok { IfOk result (λ cells. cells ≡ items.now) }
         ensures succeeds { length items.now ≤ 4 → IsOk result }
@@ -201,7 +208,7 @@ pub fn to_cells(alloc: Global, row: &Row, texts: &mut TextTable) -> Result<Cells
     for value in row.values() {
         data.push(to_datum(value, texts)?)?;
     }
-    Ok(Cells { data })
+    Ok(Cells::new(data))
 }
 
 /// Cells stand for the same row for good: where texts come after those of a table, each datum keeps its place and its value.

@@ -62,10 +62,10 @@ pub returns-in-Some-next_field-clause-values : goal.returns-in-Some-next_field-c
 returns-in-Some-next_field-clause-values c = values_short c.args.schema.now _ (λ e.
     omega (arith, e, c.loop-i.invariant.many, ap (λ l. length l) c.in-Some-next_field.ensures.some, c.loop-i-test.false, ap (λ l. length l) c.items-columns.ensures))
 
-pub returns-clause-values : goal.returns-clause-values
-returns-clause-values c =
+pub returns-in-None-next_field-clause-values : goal.returns-in-None-next_field-clause-values
+returns-in-None-next_field-clause-values c =
     let same = c.items-columns.ensures in
-    let cells = c.in_ok-from_slice-in-None-next_field.ensures.ok ∙ c.as_slice.ensures in (
+    let cells = c.new.ensures in (
       values_read c.args.schema.now _ _ (omega (arith, c.loop-i.invariant.many, ap (λ l. length l) c.in-None-next_field.ensures.none.0, c.loop-i.auto.i-end, c.loop-i-test.false, ap (λ l. length l) same))
           (AreRead-end _ _ _ c.loop-i.i _ c.loop-i.invariant.read (subst (λ l. length l ≤ c.loop-i.i) same c.loop-i-test.false)) ∙ ap (λ ds. Ok (read_cells c.loop-i.texts ds)) (sym cells),
       subst (ArePlaced c.loop-i.texts) (sym cells) c.loop-i.invariant.placed,

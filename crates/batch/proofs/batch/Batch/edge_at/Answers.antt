@@ -45,14 +45,14 @@ returns-clause-ok c =
     edge_of_row c.self.inside c.args.self.now c.self.view_is c.self.invariant c.args.i _ c.requires
     (c.from_word.ensures ∙ sym (get_or_from_slice_get c.self.inside.sync.items c.args.i c.get.result 0 c.get.ensures))
     (c.from_word-2.ensures ∙ sym (get_or_from_slice_get c.self.inside.other.items c.args.i c.get-2.result 0 c.get-2.ensures))
-    (c.in_ok-from_slice.ensures.ok ∙ c.as_slice.ensures ∙ c.loop-column.invariant.read
+    (c.new.ensures ∙ c.loop-column.invariant.read
     ∙ take_all c.loop-column.column-index (cells_at c.self.inside.payload.items c.args.i) (omega (arith, same, long, c.loop-column-test.false)))
 
 pub returns-clause-kinds : goal.returns-clause-kinds
 returns-clause-kinds c =
     let same = ap length c.as_slice-column-items.ensures in
     let long = length-map c.self.inside.payload.items (λ p. get_or (payload_data p) c.args.i (Int (pos 0))) in
-    ap (map datum_kind) (c.in_ok-from_slice.ensures.ok ∙ c.as_slice.ensures ∙ c.loop-column.invariant.read
+    ap (map datum_kind) (c.new.ensures ∙ c.loop-column.invariant.read
     ∙ take_all c.loop-column.column-index (cells_at c.self.inside.payload.items c.args.i) (omega (arith, same, long, c.loop-column-test.false)))
     ∙ kinds-cells_at c.self.inside.payload.items c.args.i (payload_place c.self.inside c.args.self.now c.self.view_is c.self.invariant c.args.i c.requires)
     ∙ kinds_are c.self.inside c.args.self.now c.self.view_is c.self.invariant
