@@ -49,3 +49,15 @@ simple_from xs i low h more = subst AreSimple (sym (drop_at xs i low)) (h.0, h.1
 pub both_false : (a b : Bool) → (a || b) ≡ false → (a ≡ false) × (b ≡ false)
 both_false true b e = absurd (cc)
 both_false false b e = (refl, e)
+
+-- what is left of simple bytes behind a first part is simple
+pub simple_behind : (n : ℕ) (xs : List ℕ) → AreSimple xs → AreSimple (drop n xs)
+simple_behind zero xs h = h
+simple_behind (suc n) [] h = h
+simple_behind (suc n) (x ∷ xs) h = simple_behind n xs h.3
+
+-- simple bytes behind a simple first part are simple together
+pub simple_parts : (n : ℕ) (xs : List ℕ) → AreSimple (take n xs) → AreSimple (drop n xs) → AreSimple xs
+simple_parts zero xs first more = more
+simple_parts (suc n) [] first more = more
+simple_parts (suc n) (x ∷ xs) first more = (first.0, first.1, first.2, simple_parts n xs first.3 more)
