@@ -69,3 +69,8 @@ pushed_end due due2 x n sync more is =
     (ap (λ l. get_or l n (record { sync = 0; other = 0; cells = [] })) more
     ∙ (ap (λ k. get_or (due ++ x ∷ []) k (record { sync = 0; other = 0; cells = [] })) is
     ∙ get_or-append_seam due x [] (record { sync = 0; other = 0; cells = [] })))
+
+pub one_kept : (due due2 : List Edge) (p : Ending) → KeepsStarts due due2 → p.start < length due → (p.start < length due2) × (end_of due2 p ≡ end_of due p)
+one_kept due due2 p keeps low =
+    let one = keeps (p ∷ []) (All-cons (λ (q : Ending). q.start < length due) p [] low (All-nil (λ (q : Ending). q.start < length due))) in
+    (All-head (λ (q : Ending). q.start < length due2) p [] one.0, ap (λ l. get_or l 0 (end_of due p)) one.1)

@@ -121,9 +121,8 @@ fn push_end(waited: &mut VecDeque<Edge>, due: &mut Vec<Edge>, end: Ending) -> Re
     ensures parts { OnOk result ((w : Edge → ℕ) → total w due.new.items + total w waited.new.items ≡ (total w due.old.items + total w waited.old.items) + w (end_of due.old.items end)) }
     ensures kept { OnOk result (KeepsStarts due.old.items due.new.items) }
 {
-    let t = end.sync;
+    push_waited(waited, due, end.sync)?;
     let edge = end_edge(due, end)?;
-    push_waited(waited, due, t)?;
     due.push(edge)?;
     Ok(())
 }
