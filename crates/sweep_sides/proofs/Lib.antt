@@ -2,5 +2,6 @@ pub mod Queued
 pub mod Cutting
 pub mod KeptSides
 pub mod TakenIn
+pub mod KeptStarts
 pub mod Telling
 pub mod Starting

@@ -1,20 +1,18 @@
 -- Edges that are taken in, and those of them that are due.
-use Rattle.std.specs.Prelude.{◌≡◌, ℕ, zero, suc, ◌+◌, ◌<◌, ◌≤◌, nat_eq, nat_lt, Bool, true, cond, Option, Some, None, IfSome, IfNone, List, [], ◌∷◌, ◌++◌, map, length, get_or, drop, All, refl}
-use Rattle.std.specs.List.{insert}
+use Rattle.std.specs.Prelude.{◌≡◌, ℕ, suc, ◌+◌, ◌<◌, ◌≤◌, nat_eq, nat_lt, Bool, true, cond, Option, Some, None, IfSome, IfNone, List, [], ◌∷◌, ◌++◌, map, length, get_or, drop, All, refl}
 use Rattle.std.specs.Option.{option_to_list}
 use Rattle.std.specs.List.Sorted.{IsNonDecreasingBy}
 use Rattle.std.proofs.Common.{sym, ◌∙◌, ap, subst, arith}
 use Rattle.std.proofs.lemmas.Bool.{eqb-true}
 use Rattle.std.proofs.lemmas.Bool.Decides.{nat_tests}
 use Rattle.std.proofs.lemmas.List.Elements.{All-head, All-tail}
-use Rattle.std.proofs.lemmas.List.Sums.{sum_by-insert}
 use Rattle.std.proofs.lemmas.List.{drop_more}
 use Rattle.tw_rows.specs.Bag.{SameBag, total}
 use Rattle.tw_rows.specs.declared.edge.Edge.{Edge}
 use Rattle.tw_rows.specs.declared.edge.HeldRow.{HeldRow}
 use Rattle.tw_rows.specs.Cells.{datum_kind}
 use Rattle.tw_rows.specs.declared.kind.CellKind.{CellKind}
-use Rattle.tw_rows.proofs.Bags.{total-append, total-is-sum_by}
+use Rattle.tw_rows.proofs.Bags.{total-append}
 use Rattle.edge_history.specs.Order.{failing, is_below, is_from, IsReal}
 use Rattle.edge_history.specs.Opens.{singles, singles_of, started_rows}
 use Rattle.end_queue.specs.Pending.{Pending}
@@ -37,27 +35,12 @@ push_weighs w due due2 e more =
     let a = ap (total w) more ∙ total-append w due (e ∷ []) in
     omega (arith, a)
 
--- one more at a place
-pub insert_weighs : (w : Edge → ℕ) (es es2 : List Edge) (i : ℕ) (e : Edge) → es2 ≡ insert es i e → total w es2 ≡ total w es + w e
-insert_weighs w es es2 i e more =
-    let a = ap (total w) more in
-    let b = total-is-sum_by w (insert es i e) in
-    let c = total-is-sum_by w es in
-    let d = sum_by-insert w es i e in
-    omega (arith, a, b, c, d)
-
-pub early_insert : (to : ℕ) (es es2 : List Edge) (i : ℕ) (e : Edge) → es2 ≡ insert es i e → e.sync < to → failing (is_below to) es ≡ 0 → failing (is_below to) es2 ≡ 0
-early_insert to es es2 i e more low h =
-    let a = insert_weighs (λ x. cond (is_below to x) 0 1) es es2 i e more in
-    let z = zero_of (nat_lt e.sync to) (lt_true e.sync to low) in
-    omega (arith, a, h, z)
-
 -- the first one is taken out, if there is one
-pub first_out : (o : Option Edge) (es fs : List Edge) → es ≡ option_to_list o ++ fs → IfSome o (λ e. es ≡ e ∷ fs)
+pub first_out : {X : Type 0} (o : Option X) (es fs : List X) → es ≡ option_to_list o ++ fs → IfSome o (λ e. es ≡ e ∷ fs)
 first_out None es fs is = tt
 first_out (Some e) es fs is = is
 
-pub none_out : (o : Option Edge) (es fs : List Edge) → es ≡ option_to_list o ++ fs → IfNone o (fs ≡ es)
+pub none_out : {X : Type 0} (o : Option X) (es fs : List X) → es ≡ option_to_list o ++ fs → IfNone o (fs ≡ es)
 none_out None es fs is = sym is
 none_out (Some e) es fs is = tt
 

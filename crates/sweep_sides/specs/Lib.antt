@@ -2,3 +2,4 @@
 pub mod Waiting
 pub mod Starts
 pub mod Saving
+pub mod Ends

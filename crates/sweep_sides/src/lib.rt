@@ -3,6 +3,7 @@
 #![tactic(auto)]
 
 mod answer;
+mod endings;
 mod instants;
 mod saving;
 mod starts;

@@ -1,6 +1,5 @@
 // Edges that are taken in, and taken out again when they are due.
-ghost use Rattle.std.specs.Prelude.{◌≡◌, ◌+◌, ◌<◌, ◌≤◌, ◌∷◌, ℕ, All, map, IsTrue, OnOk, IfOk, IfSome, IfNone};
-ghost use Rattle.std.specs.VecDeque.{deque_len};
+ghost use Rattle.std.specs.Prelude.{◌≡◌, ◌+◌, ◌<◌, ◌≤◌, ◌∷◌, ℕ, All, map, length, cond, IsTrue, OnOk, IfOk, IfSome, IfNone};
 ghost use Rattle.tw_rows.specs.Bag.{SameBag, total};
 ghost use Rattle.tw_rows.specs.Cells.{datum_kind};
 ghost use Rattle.tw_rows.specs.declared.edge.Edge.{Edge};
@@ -9,7 +8,9 @@ ghost use Rattle.edge_history.specs.Opens.{singles, singles_of};
 ghost use Rattle.edge_stream.specs.Listing.{cells_of};
 ghost use Rattle.sweep_laws.specs.Sweeps.{SyncsRise};
 ghost use Rattle.sweep_sides.specs.Waiting.{queued, AreTimed};
+ghost use Rattle.sweep_sides.specs.Ends.{end_of, ends_of, weight, HaveStarts, KeepsStarts};
 
+use crate::endings::{Ending, Endings};
 use crate::saving::comes_before;
 use crate::waiting::{is_single, put, put_singles};
 use edge_stream::EdgeList;
@@ -29,90 +30,160 @@ fn pop_before(queue: &mut EndQueue, due: &mut Vec<Edge>, below: Time) -> Result<
     Ok(())
 }
 
-// How many of the last ends are looked at for the place of a new one.
-const NEAR: usize = 16;
-
-// The place of a new end, behind the last one that comes at its time or before it, where that stands near the back.
-fn place_of(ends: &VecDeque<Edge>, sync: Time) -> Option<usize>
-    ensures { IfSome result (λ place. place ≤ deque_len ends.now) }
+// The end as an edge.
+fn end_edge(due: &[Edge], end: Ending) -> Result<Edge, Memory>
+    requires { end.start < length due.now }
+    ensures { IfOk result (λ edge. edge ≡ end_of due.now end) }
 {
-    let len = ends.len();
-    if len > NEAR && sync < ends[len - NEAR].sync {
-        return None;
-    }
-    for back in 0..len.min(NEAR) {
-        if ends[len - 1 - back].sync <= sync {
-            return Some(len - back);
-        }
-    }
-    Some(0)
+    let start = &due[end.start];
+    Ok(Edge {
+        sync: end.sync,
+        other: start.sync,
+        cells: start.cells.clone()?,
+    })
 }
 
-// Puts an end to those that are due, if it comes before a time and near the last of them. Else it waits, and comes out of
+// Puts an end to those that wait in the queue.
+#[inline(never)]
+fn put_end(queue: &mut EndQueue, due: &[Edge], end: Ending) -> Result<(), Memory>
+    requires { end.start < length due.now }
+    ensures put { OnOk result ((w : Edge → ℕ) → total w (queued queue.new) ≡ total w (queued queue.old) + w (end_of due.now end)) }
+    ensures timed { OnOk result (AreTimed queue.old → AreTimed queue.new) }
+{
+    let edge = end_edge(due, end)?;
+    put(queue, edge)?;
+    Ok(())
+}
+
+// Puts an end to those that come, if it is due before a time and near the last of them. Else it waits, and comes out of
 // the queue where it is due.
 fn place_end(
     queue: &mut EndQueue,
-    ends: &mut VecDeque<Edge>,
+    due: &[Edge],
+    ends: &mut Endings,
     to: Time,
-    end: Edge,
+    end: Ending,
 ) -> Result<(), Memory>
-    ensures parts { OnOk result ((w : Edge → ℕ) → total w ends.new.items + total w (queued queue.new) ≡ (total w ends.old.items + total w (queued queue.old)) + w end) }
-    ensures early { OnOk result (failing (is_below to) ends.old.items ≡ 0 → failing (is_below to) ends.new.items ≡ 0) }
+    requires start { end.start < length due.now }
+    requires starts { HaveStarts due.now ends.old }
+    ensures starts { OnOk result (HaveStarts due.now ends.new) }
+    ensures parts { OnOk result ((w : Edge → ℕ) → total w (ends_of due.now ends.new) + total w (queued queue.new) ≡ (total w (ends_of due.now ends.old) + total w (queued queue.old)) + w (end_of due.now end)) }
+    ensures early { OnOk result (failing (is_below to) (ends_of due.now ends.old) ≡ 0 → failing (is_below to) (ends_of due.now ends.new) ≡ 0) }
     ensures timed { OnOk result (AreTimed queue.old → AreTimed queue.new) }
 {
-    if comes_before(&end, to) {
-        if let Some(place) = place_of(ends, end.sync) {
-            ends.insert(place, end)?;
-            return Ok(());
-        }
+    if end.sync < to && ends.is_near(end.sync) {
+        ends.put(end)?;
+        return Ok(());
     }
-    put(queue, end)?;
+    put_end(queue, due, end)?;
     Ok(())
 }
 
-// Takes out the first end, if it comes at the time or before it.
-fn next_end(ends: &mut VecDeque<Edge>, t: Time) -> Option<Edge>
-    ensures some { IfSome result (λ end. ends.old.items ≡ end ∷ ends.new.items) }
-    ensures none { IfNone result (ends.new.items ≡ ends.old.items) }
+// Takes out the first edge, if it comes at the time or before it.
+fn next_edge(waited: &mut VecDeque<Edge>, t: Time) -> Option<Edge>
+    ensures some { IfSome result (λ edge. waited.old.items ≡ edge ∷ waited.new.items) }
+    ensures none { IfNone result (waited.new.items ≡ waited.old.items) }
 {
-    if t < ends.front()?.sync {
+    if t < waited.front()?.sync {
         return None;
     }
-    ends.pop_front()
+    waited.pop_front()
 }
 
-// Moves the first ends, those that come at the time or before it, behind the edges that are due.
-fn release(ends: &mut VecDeque<Edge>, due: &mut Vec<Edge>, t: Time) -> Result<(), Memory>
-    ensures { OnOk result ((w : Edge → ℕ) → total w due.new.items + total w ends.new.items ≡ total w due.old.items + total w ends.old.items) }
+// Moves the first edges that waited, those that come at the time or before it, behind the edges that are due.
+#[inline(never)]
+fn move_waited(waited: &mut VecDeque<Edge>, due: &mut Vec<Edge>, t: Time) -> Result<(), Memory>
+    ensures parts { OnOk result ((w : Edge → ℕ) → total w due.new.items + total w waited.new.items ≡ total w due.old.items + total w waited.old.items) }
+    ensures kept { OnOk result (KeepsStarts due.old.items due.new.items) }
 {
-    while let Some(end) = next_end(ends, t) {
-        due.push(end)?;
+    while let Some(edge) = next_edge(waited, t) {
+        due.push(edge)?;
     }
     Ok(())
 }
 
-// Puts a start or an end last, and of an interval the start, whose end comes to the ends that are due or waits.
+// The same, at no cost where no edge waited.
+#[inline(always)]
+fn push_waited(waited: &mut VecDeque<Edge>, due: &mut Vec<Edge>, t: Time) -> Result<(), Memory>
+    ensures parts { OnOk result ((w : Edge → ℕ) → total w due.new.items + total w waited.new.items ≡ total w due.old.items + total w waited.old.items) }
+    ensures kept { OnOk result (KeepsStarts due.old.items due.new.items) }
+{
+    if waited.is_empty() {
+        return Ok(());
+    }
+    move_waited(waited, due, t)
+}
+
+// Puts an end last, behind the edges that waited and come before it.
+#[inline(always)]
+fn push_end(waited: &mut VecDeque<Edge>, due: &mut Vec<Edge>, end: Ending) -> Result<(), Memory>
+    requires { end.start < length due.old.items }
+    ensures parts { OnOk result ((w : Edge → ℕ) → total w due.new.items + total w waited.new.items ≡ (total w due.old.items + total w waited.old.items) + w (end_of due.old.items end)) }
+    ensures kept { OnOk result (KeepsStarts due.old.items due.new.items) }
+{
+    push_waited(waited, due, end.sync)?;
+    let edge = end_edge(due, end)?;
+    due.push(edge)?;
+    Ok(())
+}
+
+// Moves what comes at the time or before it behind the edges that are due.
+fn release(
+    ends: &mut Endings,
+    waited: &mut VecDeque<Edge>,
+    due: &mut Vec<Edge>,
+    t: Time,
+) -> Result<(), Memory>
+    requires { HaveStarts due.old.items ends.old }
+    ensures starts { OnOk result (HaveStarts due.new.items ends.new) }
+    ensures parts { OnOk result ((w : Edge → ℕ) → weight w due.new.items ends.new waited.new.items ≡ weight w due.old.items ends.old waited.old.items) }
+{
+    while let Some(end) = ends.pop_until(t) {
+        push_end(waited, due, end)?;
+    }
+    push_waited(waited, due, t)?;
+    Ok(())
+}
+
+// Moves all that comes behind the edges that are due.
+fn release_all(
+    mut ends: Endings,
+    mut waited: VecDeque<Edge>,
+    due: &mut Vec<Edge>,
+) -> Result<(), Memory>
+    requires { HaveStarts due.old.items ends }
+    ensures { OnOk result ((w : Edge → ℕ) → total w due.new.items ≡ weight w due.old.items ends waited.items) }
+{
+    while let Some(end) = ends.pop() {
+        push_end(&mut waited, due, end)?;
+    }
+    due.append(&mut waited.into_vec())?;
+    Ok(())
+}
+
+// Puts a start or an end last, and of an interval the start, whose end comes or waits.
 fn push_due(
     queue: &mut EndQueue,
     due: &mut Vec<Edge>,
-    ends: &mut VecDeque<Edge>,
+    ends: &mut Endings,
     to: Time,
     edge: Edge,
 ) -> Result<(), Memory>
-    ensures parts { OnOk result ((w : Edge → ℕ) → (total w due.new.items + total w ends.new.items) + total w (queued queue.new)
-        ≡ ((total w due.old.items + total w ends.old.items) + total w (queued queue.old)) + total w (singles_of edge)) }
+    requires { HaveStarts due.old.items ends.old }
+    ensures starts { OnOk result (HaveStarts due.new.items ends.new) }
+    ensures parts { OnOk result ((w : Edge → ℕ) → (total w due.new.items + total w (ends_of due.new.items ends.new)) + total w (queued queue.new)
+        ≡ ((total w due.old.items + total w (ends_of due.old.items ends.old)) + total w (queued queue.old)) + total w (singles_of edge)) }
     ensures early { OnOk result (edge.sync < to → failing (is_below to) due.old.items ≡ 0 → failing (is_below to) due.new.items ≡ 0) }
-    ensures ends_early { OnOk result (failing (is_below to) ends.old.items ≡ 0 → failing (is_below to) ends.new.items ≡ 0) }
+    ensures ends_early { OnOk result (failing (is_below to) (ends_of due.old.items ends.old) ≡ 0 → failing (is_below to) (ends_of due.new.items ends.new) ≡ 0) }
     ensures timed { OnOk result (AreTimed queue.old → AreTimed queue.new) }
 {
     if is_single(&edge) {
         due.push(edge)?;
         return Ok(());
     }
-    let end = Edge {
+    let end = Ending {
         sync: edge.other,
-        other: edge.sync,
-        cells: edge.cells.clone()?,
+        start: due.len(),
     };
     let start = Edge {
         sync: edge.sync,
@@ -120,28 +191,31 @@ fn push_due(
         cells: edge.cells,
     };
     due.push(start)?;
-    place_end(queue, ends, to, end)?;
+    place_end(queue, due, ends, to, end)?;
     Ok(())
 }
 
-// Takes in an edge: one that is due before a time is put behind the ends that come before it, and each other waits.
+// Takes in an edge: one that is due before a time is put behind what comes before it, and each other waits.
 fn take_edge(
     queue: &mut EndQueue,
     due: &mut Vec<Edge>,
-    ends: &mut VecDeque<Edge>,
+    ends: &mut Endings,
+    waited: &mut VecDeque<Edge>,
     to: Time,
     edge: Edge,
 ) -> Result<(), Memory>
-    ensures parts { OnOk result ((w : Edge → ℕ) → (total w due.new.items + total w ends.new.items) + total w (queued queue.new)
-        ≡ ((total w due.old.items + total w ends.old.items) + total w (queued queue.old)) + total w (singles_of edge)) }
-    ensures early { OnOk result (failing (is_below to) due.old.items + failing (is_below to) ends.old.items ≡ 0 → failing (is_below to) due.new.items + failing (is_below to) ends.new.items ≡ 0) }
+    requires { HaveStarts due.old.items ends.old }
+    ensures starts { OnOk result (HaveStarts due.new.items ends.new) }
+    ensures parts { OnOk result ((w : Edge → ℕ) → weight w due.new.items ends.new waited.new.items + total w (queued queue.new)
+        ≡ (weight w due.old.items ends.old waited.old.items + total w (queued queue.old)) + total w (singles_of edge)) }
+    ensures early { OnOk result (weight (λ e. cond (is_below to e) 0 1) due.old.items ends.old waited.old.items ≡ 0 → weight (λ e. cond (is_below to e) 0 1) due.new.items ends.new waited.new.items ≡ 0) }
     ensures timed { OnOk result (AreTimed queue.old → AreTimed queue.new) }
 {
     if !comes_before(&edge, to) {
         put_singles(queue, edge)?;
         return Ok(());
     }
-    release(ends, due, edge.sync)?;
+    release(ends, waited, due, edge.sync)?;
     push_due(queue, due, ends, to, edge)?;
     Ok(())
 }
@@ -192,8 +266,10 @@ fn popped(queue: &mut EndQueue, alloc: Global, to: Time) -> Result<VecDeque<Edge
 // Room for so many edges of a list and their ends is made at once. A long list may have few that are due.
 const SOME: u64 = 256;
 
-fn room_for(edges: &EdgeList) -> usize {
-    (edges.len().min(SOME) * 2) as usize
+fn room_for(edges: &EdgeList) -> usize
+    ensures { result ≤ 256 }
+{
+    edges.len().min(SOME) as usize
 }
 
 /// Puts the edges of a list to those that wait, each for its sync, and takes out those that are due before a time, in the
@@ -214,14 +290,15 @@ pub fn take_in(
 {
     let mut cursor = edges.cursor();
     // What waited comes in order, and so do the edges of the list. So each end goes to its place, mostly near the back.
-    let mut ends = popped(queue, alloc, to)?;
-    let mut due = Vec::with_capacity(alloc, room_for(edges))?;
+    let mut waited = popped(queue, alloc, to)?;
+    let mut ends = Endings::new(alloc, room_for(edges))?;
+    let mut due = Vec::with_capacity(alloc, 2 * room_for(edges))?;
     while let Some(edge) = cursor.next()? {
-        take_edge(queue, &mut due, &mut ends, to, edge)?;
+        take_edge(queue, &mut due, &mut ends, &mut waited, to, edge)?;
     }
+    release_all(ends, waited, &mut due)?;
     // Ends that came far before the last ones.
     pop_before(queue, &mut due, to)?;
-    due.append(&mut ends.into_vec())?;
     by_sync(&mut due)?;
     Ok(due)
 }

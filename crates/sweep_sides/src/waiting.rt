@@ -32,6 +32,7 @@ pub(crate) fn put(queue: &mut EndQueue, edge: Edge) -> Result<(), Memory>
 }
 
 // Puts an edge: of an interval its start and its end.
+#[inline(never)]
 pub(crate) fn put_singles(queue: &mut EndQueue, edge: Edge) -> Result<(), Memory>
     ensures put { OnOk result ((w : Edge → ℕ) → total w (queued queue.new) ≡ total w (queued queue.old) + total w (singles_of edge)) }
     ensures timed { OnOk result (AreTimed queue.old → AreTimed queue.new) }

@@ -1,7 +1,6 @@
 use Rattle.std.proofs.Common.{◌≡◌, ◌∙◌, ◌∷◌, [], ap, arith, cond, true, false}
 use Rattle.tw_rows.specs.Bag.{total}
 use Rattle.tw_rows.specs.Instant.{inf}
-use Rattle.tw_rows.specs.declared.edge.Edge.{Edge}
 use Rattle.edge_history.specs.Order.{is_end}
 use Rattle.sweep_sides.proofs.Telling.{end_is}
 use Rattle.sweep_sides.proofs.starts.put_start.Goals as goal

@@ -1,7 +1,5 @@
-use Rattle.std.specs.Prelude.{cond}
 use Rattle.std.proofs.Common.{ap, arith}
 use Rattle.tw_rows.specs.Bag.{total}
-use Rattle.tw_rows.specs.declared.edge.Edge.{Edge}
 use Rattle.edge_history.specs.Order.{failing, is_below}
 use Rattle.sweep_sides.proofs.taking.popped.Goals as goal
 

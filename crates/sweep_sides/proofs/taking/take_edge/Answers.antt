@@ -6,13 +6,13 @@ use Rattle.sweep_sides.proofs.taking.take_edge.Goals as goal
 
 pub returns-clause-parts : goal.returns-clause-parts
 returns-clause-parts c = λ w.
-    let a = c.in_ok-release.ensures w in
+    let a = c.in_ok-release.ensures.parts w in
     let b = c.in_ok-push_due.ensures.parts w in
     omega (arith, a, b)
 
 pub returns-clause-early : goal.returns-clause-early
 returns-clause-early c = λ h.
-    let a = c.in_ok-release.ensures (λ e. cond (is_below c.args.to e) 0 1) in
+    let a = c.in_ok-release.ensures.parts (λ e. cond (is_below c.args.to e) 0 1) in
     let due = c.in_ok-push_due.ensures.early (below_then c.args.edge c.args.to c.comes_before.result c.comes_before.ensures c.if-not-comes_before.false) (omega (arith, a, h)) in
     let ends = c.in_ok-push_due.ensures.ends_early (omega (arith, a, h)) in
-    omega (arith, due, ends)
+    omega (arith, a, h, due, ends)
