@@ -14,6 +14,8 @@ pub mod LinesFit
 mod Lines
 mod FirstShape
 mod Counting
+mod Timed
+mod HeldTimes
 mod SavedAll
 mod LoadedAll
 mod KeptExamples

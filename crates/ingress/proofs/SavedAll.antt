@@ -17,6 +17,7 @@ use Rattle.edge_history.specs.Order.{failing, is_real, is_from}
 use Rattle.edge_stream.specs.declared.saved.SavedEntry.{SavedEntry}
 use Rattle.carried_edges.specs.Entries.{entry_of, saved_edge, entries_of, part_of}
 use Rattle.carried_edges.proofs.Parts.{part_of_own, part_of_other, part_of_append}
+use Rattle.row_reader.specs.Printed.{IsEnd}
 use Rattle.admission.specs.Admission.{Admission}
 use Rattle.ingress.specs.declared.opens.OpenKey.{OpenKey}
 use Rattle.ingress.specs.declared.opens.OpenStart.{OpenStart}
@@ -27,10 +28,13 @@ use Rattle.ingress.specs.Held.{IsHeld}
 use Rattle.ingress.specs.Keeping.{CellOpen, kept_of, is_named, cell_rows}
 use Rattle.ingress.specs.Counts.{may_hold}
 use Rattle.ingress.specs.Admits.{cells_of, IsStored, Follows, Admits}
+use Rattle.ingress.specs.Times.{IsTimed}
 use Rattle.ingress.specs.Saving.{stream_of, waiting_of, open_at, open_of, opens_of, IsSoundEntry, IsSound, Resumes}
 use Rattle.ingress.specs.Loaded.{cell_open, opens_in, entry_of_open, waits_from}
 use Rattle.ingress.proofs.Fitting.{stored_kinds, none_fails_at}
 use Rattle.ingress.proofs.Keep.{other_number}
+use Rattle.ingress.proofs.Timed.{end_if}
+use Rattle.ingress.proofs.HeldTimes.{IsTimedStart, IsTimedEdge, starts_timed, held_timed}
 use Rattle.ingress.proofs.Counting.{named_in, states_back, held_within}
 
 -- PARTS
@@ -194,10 +198,12 @@ module _ (texts : List (List ℕ)) (a : Admission) (given : ℕ → List Edge) (
     }
 
 -- SOUND
--- an open start that can be saved: of a declared stream, with cells like its columns, and with the given start where it was dropped
+-- an open start that can be saved: of a declared stream, with cells like its columns and event times, and with the given start
+-- where it was dropped
 record IsWell (cells : List (List CellKind)) (k : OpenKey) (st : OpenStart) : Type 0 where
   low : k.stream < length cells
   kinds : map datum_kind k.cells ≡ get_or cells k.stream []
+  times : IsEnd st.start × IsEnd k.given
   dropped : st.dropped ≡ true → st.start ≡ k.given
 
 module _ (cells : List (List CellKind)) where
@@ -219,15 +225,18 @@ module _ (cells : List (List CellKind)) where
           go true a = All-tail (IsWell cells k) x.state (map (λ (o : CellOpen). o.state) (filter (is_named k) xs)) a
           go false a = a
 
-  named_all : (k : OpenKey) (ys : List CellOpen) → All (λ o. o.key.stream < length cells) ys → All (IsStored cells) ys → All (IsWell cells k) (map kept_of (filter (is_named k) ys))
-  named_all k [] low stored = All-nil (IsWell cells k)
-  named_all k (y ∷ ys) low stored =
-      go (same_key y.key k) refl (named_all k ys (All-tail (λ (o : CellOpen). o.key.stream < length cells) y ys low) (All-tail (IsStored cells) y ys stored))
+  named_all : (k : OpenKey) (ys : List CellOpen) → All (λ o. o.key.stream < length cells) ys → All (IsStored cells) ys → All IsTimedStart ys →
+      All (IsWell cells k) (map kept_of (filter (is_named k) ys))
+  named_all k [] low stored timed = All-nil (IsWell cells k)
+  named_all k (y ∷ ys) low stored timed =
+      go (same_key y.key k) refl
+      (named_all k ys (All-tail (λ (o : CellOpen). o.key.stream < length cells) y ys low) (All-tail (IsStored cells) y ys stored) (All-tail IsTimedStart y ys timed))
     where
       own : IsWell cells y.key (kept_of y)
       own = record {
         low = All-head (λ (o : CellOpen). o.key.stream < length cells) y ys low;
         kinds = All-head (IsStored cells) y ys stored;
+        times = (let t = All-head IsTimedStart y ys timed in (end_if y.state.dropped y.key.given y.state.start t.0 t.1, t.0));
         dropped = λ d. ap (λ b. cond b y.key.given y.state.start) d;
       }
 
@@ -243,12 +252,14 @@ module _ (cells : List (List CellKind)) where
         go true same = let d = dropped_role o.key.stream in record {
           declared = (let l = h.low in omega (arith, d.1, l));
           kinds = h.kinds ∙ ap (λ s. get_or cells s []) (sym d.1);
+          times = h.times;
           edge = λ r. absurd (omega (arith, r, d.0));
           dropped = λ r. same refl;
         }
         go false same = let d = open_role o.key.stream in record {
           declared = (let l = h.low in omega (arith, d.1, l));
           kinds = h.kinds ∙ ap (λ s. get_or cells s []) (sym d.1);
+          times = h.times;
           edge = λ r. absurd (omega (arith, r, d.0));
           dropped = λ r. absurd (omega (arith, r, d.0));
         }
@@ -256,30 +267,33 @@ module _ (cells : List (List CellKind)) where
     late_edge : (e : Edge) → is_from last e ≡ true → last ≤ e.sync
     late_edge e h = grind (arith, nat_tests)
 
-    edges_sound : (s : ℕ) (es : List Edge) → s < length cells → failing (is_fit (get_or cells s [])) es ≡ 0 → failing (is_from last) es ≡ 0 → All (IsSoundEntry cells last) (entries_of (3 * s) es)
-    edges_sound s [] low fit late = All-nil (IsSoundEntry cells last)
-    edges_sound s (e ∷ es) low fit late =
+    edges_sound : (s : ℕ) (es : List Edge) → s < length cells → failing (is_fit (get_or cells s [])) es ≡ 0 → failing (is_from last) es ≡ 0 → All IsTimedEdge es →
+        All (IsSoundEntry cells last) (entries_of (3 * s) es)
+    edges_sound s [] low fit late timed = All-nil (IsSoundEntry cells last)
+    edges_sound s (e ∷ es) low fit late timed =
         let p = and_parts (is_real e) (are_stored (get_or cells s []) e.cells) (none_fails_at (is_fit (get_or cells s [])) (e ∷ es) 0 e fit (omega arith)) in
         let d = edge_role s in
         All-cons (IsSoundEntry cells last) (entry_of (3 * s) e) (entries_of (3 * s) es)
         (record {
           declared = omega (arith, d.1, low);
           kinds = stored_kinds (get_or cells s []) e.cells p.1 ∙ ap (λ k. get_or cells k []) (sym d.1);
+          times = All-head IsTimedEdge e es timed;
           edge = λ r. (p.0, late_edge e (none_fails_at (is_from last) (e ∷ es) 0 e late (omega arith)));
           dropped = λ r. absurd (omega (arith, r, d.0));
         })
-        (edges_sound s es low (omega (arith, fit)) (omega (arith, late)))
+        (edges_sound s es low (omega (arith, fit)) (omega (arith, late)) (All-tail IsTimedEdge e es timed))
 
     waits_sound : (s : ℕ) (ws : List (List Edge)) → s + length ws ≤ length cells → ((j : ℕ) → j < length ws → failing (is_fit (get_or cells (s + j) [])) (get_or ws j []) ≡ 0) →
-        ((j : ℕ) → j < length ws → failing (is_from last) (get_or ws j []) ≡ 0) → All (IsSoundEntry cells last) (waits_from s ws)
-    waits_sound s [] long fit late = All-nil (IsSoundEntry cells last)
-    waits_sound s (w ∷ ws) long fit late =
+        ((j : ℕ) → j < length ws → failing (is_from last) (get_or ws j []) ≡ 0) → ((j : ℕ) → j < length ws → All IsTimedEdge (get_or ws j [])) → All (IsSoundEntry cells last) (waits_from s ws)
+    waits_sound s [] long fit late timed = All-nil (IsSoundEntry cells last)
+    waits_sound s (w ∷ ws) long fit late timed =
         let z : s + 0 ≡ s = omega arith in
         All-append (IsSoundEntry cells last) (entries_of (3 * s) w) (waits_from (suc s) ws)
-        (edges_sound s w (omega (arith, long)) (ap (λ k. failing (is_fit (get_or cells k [])) w) (sym z) ∙ fit 0 (omega arith)) (late 0 (omega arith)))
+        (edges_sound s w (omega (arith, long)) (ap (λ k. failing (is_fit (get_or cells k [])) w) (sym z) ∙ fit 0 (omega arith)) (late 0 (omega arith)) (timed 0 (omega arith)))
         (waits_sound (suc s) ws (omega (arith, long))
         (λ j less. (let n : suc s + j ≡ s + suc j = omega arith in ap (λ k. failing (is_fit (get_or cells k [])) (get_or ws j [])) n ∙ fit (suc j) (omega (arith, less))))
-        (λ j less. late (suc j) (omega (arith, less))))
+        (λ j less. late (suc j) (omega (arith, less)))
+        (λ j less. timed (suc j) (omega (arith, less))))
 
 waits_long : (s : ℕ) (ws : List (List Edge)) → length (waits_from s ws) ≡ total (λ w. length w) ws
 waits_long s [] = refl
@@ -291,10 +305,12 @@ waits_long s (w ∷ ws) =
 
 module _ (texts : List (List ℕ)) (a : Admission) (given : ℕ → List Edge) (i : Ingress) (saved : List SavedEntry)
     (is : saved ≡ waits_from 0 i.held.waiting.items ++ map entry_of_open (opens_in i.held.opens.starts.entries)) (unique : IsUnique same_key i.held.opens.starts) where
-  pub saved_sound : (bounds marks : ℕ → ℕ) → Admits texts a given i → ((s : ℕ) → s < length i.kinds.items → a.bound s ≡ bounds s) → ((s : ℕ) → s < length i.kinds.items → a.mark s ≡ marks s) →
-      IsSound (cells_of i) saved bounds marks i.released
-  saved_sound bounds marks k same_bounds same_marks = record {
-    high = f.instant;
+  pub saved_sound : (bounds marks : ℕ → ℕ) → Admits texts a given i → IsTimed a → IsEnd i.released → ((s : ℕ) → s < length i.kinds.items → a.bound s ≡ bounds s) →
+      ((s : ℕ) → s < length i.kinds.items → a.mark s ≡ marks s) → IsSound (cells_of i) saved bounds marks i.released
+  saved_sound bounds marks k t time same_bounds same_marks = record {
+    time = time;
+    bound_times = λ s less. subst IsEnd (same_bounds s (here s less)) (t.bounds s);
+    mark_times = λ s less. subst IsEnd (same_marks s (here s less)) (t.marks s);
     low = λ s less. (let l = k.low s (here s less) in let b = same_bounds s (here s less) in omega (arith, l, b));
     above = λ s less.
         let l = i.above s in
@@ -307,11 +323,12 @@ module _ (texts : List (List ℕ)) (a : Admission) (given : ℕ → List Edge) (
         (All-append (IsSoundEntry (cells_of i) i.released) (waits_from 0 i.held.waiting.items) (map entry_of_open xs)
         (waits_sound (cells_of i) i.released 0 i.held.waiting.items (omega (arith, long, n))
         (λ j less. ap (λ k. failing (is_fit (get_or (cells_of i) k [])) (get_or i.held.waiting.items j [])) (let z : 0 + j ≡ j = omega arith in z) ∙ i.shape.fit j)
-        (λ j less. (f.keeps.held j less).from))
+        (λ j less. (f.keeps.held j less).from)
+        (held_timed texts a given i t f))
         (All-map (IsSoundEntry (cells_of i) i.released) entry_of_open xs
         (All-weaker (λ (o : CellOpen). IsWell (cells_of i) o.key o.state) (λ (o : CellOpen). IsSoundEntry (cells_of i) i.released (entry_of_open o)) (open_sound (cells_of i) i.released) xs
         (all_named (cells_of i) xs (λ q. subst (All (IsWell (cells_of i) q)) (sym (own q))
-        (named_all (cells_of i) q f.opens (subst (λ m. All (λ o. o.key.stream < m) f.opens) (sym n) f.declared) f.stored))))));
+        (named_all (cells_of i) q f.opens (subst (λ m. All (λ o. o.key.stream < m) f.opens) (sym n) f.declared) f.stored (starts_timed texts a given i t f)))))));
   }
     where
       f : Follows texts a given i

@@ -1,7 +1,6 @@
 -- What admission saves, as entries. Of stream s the edges that wait are part 3s, the open starts part 3s + 1, and those of them
 -- that were dropped part 3s + 2.
 use Rattle.std.specs.Prelude.{◌≡◌, ℕ, ◌*◌, ◌/◌, ◌%◌, ◌<◌, ◌≤◌, nat_eq, true, cond, List, [], ◌∷◌, length, get_or, map, filter, flat_map, All}
-use Rattle.tw_rows.specs.Instant.{inf}
 use Rattle.tw_rows.specs.Cells.{ArePlaced, datum_kind}
 use Rattle.tw_rows.specs.declared.edge.Edge.{Edge}
 use Rattle.tw_rows.specs.declared.kind.CellKind.{CellKind}
@@ -10,6 +9,7 @@ use Rattle.edge_history.specs.History.{CellEvent}
 use Rattle.edge_stream.specs.declared.saved.SavedEntry.{SavedEntry}
 use Rattle.carried_edges.specs.Entries.{saved_edge, part_of}
 use Rattle.node_laws.specs.Places.{read_events, EventsArePlaced}
+use Rattle.row_reader.specs.Printed.{IsEnd}
 use Rattle.admission.specs.Admission.{Admission}
 use Rattle.ingress.specs.declared.opens.OpenKey.{OpenKey}
 use Rattle.ingress.specs.Held.{IsHeld}
@@ -41,18 +41,22 @@ open_of e = open_at (role_of e) (stream_of e) e
 abbrev pub opens_of : List SavedEntry → List CellOpen
 opens_of saved = flat_map open_of saved
 
--- an entry of one of the streams, with cells like its columns. An edge is real and comes from the time on, and an open start
--- that was dropped has the start that was given. From 4 on, an edge at 5 may be there, and one at 3 not
+-- an entry of one of the streams, with cells like its columns, and with event times, which are below 2 ^ 60, or infinity. An edge
+-- is real and comes from the time on, and an open start that was dropped has the start that was given. From 4 on, an edge at 5 may
+-- be there, and one at 3 or at 2 ^ 60 not
 pub record IsSoundEntry (cells : List (List CellKind)) (last : ℕ) (e : SavedEntry) : Type 0 where
   pub declared : stream_of e < length cells
   pub kinds : map datum_kind e.cells ≡ get_or cells (stream_of e) []
+  pub times : IsEnd e.sync × IsEnd e.other
   pub edge : role_of e ≡ 0 → (is_real (saved_edge e) ≡ true) × (last ≤ e.sync)
   pub dropped : role_of e ≡ 2 → e.sync ≡ e.other
 
--- entries, bounds and marks that admission can have at its last punctuation: no bound is below it, or below the mark of its
--- stream
+-- entries, bounds and marks that admission can have at its last punctuation: all times are event times or infinity, and no bound
+-- is below the punctuation, or below the mark of its stream
 pub record IsSound (cells : List (List CellKind)) (saved : List SavedEntry) (bounds marks : ℕ → ℕ) (last : ℕ) : Type 0 where
-  pub high : last ≤ inf
+  pub time : IsEnd last
+  pub bound_times : (s : ℕ) → s < length cells → IsEnd (bounds s)
+  pub mark_times : (s : ℕ) → s < length cells → IsEnd (marks s)
   pub low : (s : ℕ) → s < length cells → last ≤ bounds s
   pub above : (s : ℕ) → s < length cells → marks s ≤ bounds s
   pub each : All (IsSoundEntry cells last) saved

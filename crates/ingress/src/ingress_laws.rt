@@ -7,9 +7,11 @@ ghost use Rattle.tw_rows.specs.declared.schema.StreamDef.{StreamDef};
 ghost use Rattle.node_laws.specs.Standing.{SourcesStandRead};
 ghost use Rattle.row_reader.specs.Entry.{entry};
 ghost use Rattle.row_reader.specs.declared.entry.Entry.{Entry};
-ghost use Rattle.admission.specs.Admission.{Admission, rows};
+ghost use Rattle.row_reader.specs.Printed.{IsEnd};
+ghost use Rattle.admission.specs.Admission.{Admission, nothing, Taken, admit, allowed, rows};
 ghost use Rattle.admission.specs.declared.policy.Policy.{Policy};
 ghost use Rattle.ingress.specs.Fits.{Fits, stream_cells};
+ghost use Rattle.ingress.specs.Times.{HasEventTimes, IsTimed};
 ghost use Rattle.ingress.specs.Admits.{IsFor, SameFixed, Follows, Admits};
 ghost use Rattle.ingress.specs.declared.ingress.Ingress.{Ingress as Kept};
 
@@ -37,4 +39,15 @@ pub fn fixed_parts_stay()
 pub fn lines_fit_their_streams()
     ensures { (streams : List StreamDef) (first : Bool) (line : List ℕ) (e : Entry) →
         All (λ b. b ≢ 10) line → entry streams first line ≡ Ok e → Fits (stream_cells streams) e }
+{}
+
+/// The times that a line without LF says are event times, or infinity where it may say that; what is admitted of such lines has
+/// such times alone, and so do the punctuations that are due. So whatever is saved between lines has them.
+pub fn event_times_stay()
+    ensures lines { (streams : List StreamDef) (first : Bool) (line : List ℕ) (e : Entry) →
+        All (λ b. b ≢ 10) line → entry streams first line ≡ Ok e → HasEventTimes e }
+    ensures none { IsTimed nothing }
+    ensures next { (policy : Policy) (a b : Admission) (e : Entry) →
+        IsTimed a → HasEventTimes e → admit policy a e ≡ Taken b → IsTimed b }
+    ensures due { (policy : Policy) (streams : ℕ) (a : Admission) → IsTimed a → IsEnd (allowed policy streams a) }
 {}

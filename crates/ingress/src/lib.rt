@@ -22,7 +22,7 @@ pub use held_laws::{given_edges_stand, held_edges_are_given_in_order, held_edges
 pub use held_streams::HeldStreams;
 pub use ingress::{Ingress, Refusal};
 pub use ingress_laws::{
-    fixed_parts_stay, kept_lines_stay_in_longer_tables, lines_fit_their_streams,
+    event_times_stay, fixed_parts_stay, kept_lines_stay_in_longer_tables, lines_fit_their_streams,
     released_edges_stand_read,
 };
 pub use opens::{OpenKey, OpenStart, OpenStarts};

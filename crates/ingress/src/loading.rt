@@ -7,6 +7,7 @@ ghost use Rattle.tw_rows.specs.declared.kind.CellKind.{CellKind};
 ghost use Rattle.edge_history.specs.Order.{is_real};
 ghost use Rattle.edge_stream.specs.declared.saved.SavedEntry.{SavedEntry as EntryOf};
 ghost use Rattle.carried_edges.specs.Entries.{saved_edge};
+ghost use Rattle.row_reader.specs.Printed.{IsEnd};
 ghost use Rattle.admission.specs.Admission.{Admission};
 ghost use Rattle.ingress.specs.Admits.{cells_of, SameFixed, Follows, Admits};
 ghost use Rattle.ingress.specs.OpenKeys.{starts_in};
@@ -18,30 +19,25 @@ use crate::held_streams::HeldStreams;
 use crate::ingress::Ingress;
 use crate::opens::{OpenKey, OpenStart};
 use crate::watermarks::{Watermark, Watermarks};
+use carried_edges::is_stored_as;
 use edge_stream::{LoadFault, Saved, SavedEntry};
 use std::alloc::Global;
-use tw_rows::{Cells, Datum, Edge, Kind, Memory, Time, cell_of};
+use tw_rows::{Cells, Edge, Kind, Memory, Time};
 
-// Whether a column of the kind stores the datum.
-fn stores(kind: Kind, datum: Datum) -> bool
-    ensures { IsTrue result ↔ (datum_kind datum ≡ cell_kind_of kind) }
+// Whether the time is an event time, or infinity.
+#[tactic(auto, unfolding(tw_rows::specs::Instant::inf))]
+fn is_event_time(time: Time) -> bool
+    ensures { IsTrue result ↔ IsEnd time }
 {
-    datum.cell_kind() == cell_of(kind)
+    let word = time.word();
+    word < 1 << 60 || word == Time::bounds().1.word()
 }
 
-// Whether the cells are stored as columns of these kinds are.
-fn is_stored_as(cells: &[Datum], kinds: &[Kind]) -> bool
-    ensures { IsTrue result ↔ (map datum_kind cells.now ≡ map cell_kind_of kinds.now) }
+// Whether both times of the entry are event times, or infinity.
+fn has_event_times(entry: &SavedEntry) -> bool
+    ensures { IsTrue result ↔ (IsEnd entry.now.sync × IsEnd entry.now.other) }
 {
-    if cells.len() != kinds.len() {
-        return false;
-    }
-    for i in 0..cells.len() {
-        if !stores(kinds[i], cells[i]) {
-            return false;
-        }
-    }
-    true
+    is_event_time(entry.sync) && is_event_time(entry.other)
 }
 
 // Whether the entry, as an edge, is real and comes from the time on.
@@ -79,6 +75,9 @@ fn is_sound_entry(kinds: &[Vec<Kind>], entry: &SavedEntry, last: Time) -> bool
         return false;
     }
     if !is_stored_as(entry.cells.items(), &kinds[stream as usize]) {
+        return false;
+    }
+    if !has_event_times(entry) {
         return false;
     }
     are_sound_times(entry, entry.part % 3, last)
@@ -160,17 +159,34 @@ fn load_entries(
     Ok(held)
 }
 
-// Whether no bound is below the punctuation, or below the mark of its stream.
-fn are_sound_marks(bounds: &[Time], marks: &[Time], last: Time) -> bool
+// Whether a stream can have the bound and the mark at the punctuation.
+fn is_sound_mark(bound: Time, mark: Time, last: Time) -> bool
+    ensures { IsTrue result ↔ (IsEnd bound × IsEnd mark × (last ≤ bound) × (mark ≤ bound)) }
+{
+    is_event_time(bound) && is_event_time(mark) && last <= bound && mark <= bound
+}
+
+// Whether each stream can have its bound and its mark.
+fn are_each_sound(bounds: &[Time], marks: &[Time], last: Time) -> bool
     requires { length marks.now ≡ length bounds.now }
-    ensures { IsTrue result ↔ ((s : ℕ) → s < length bounds.now → (last ≤ get_or bounds.now s 0) × (get_or marks.now s 0 ≤ get_or bounds.now s 0)) }
+    ensures { IsTrue result ↔ ((s : ℕ) → s < length bounds.now →
+        IsEnd (get_or bounds.now s 0) × IsEnd (get_or marks.now s 0) × (last ≤ get_or bounds.now s 0) × (get_or marks.now s 0 ≤ get_or bounds.now s 0)) }
 {
     for i in 0..bounds.len() {
-        if bounds[i] < last || bounds[i] < marks[i] {
+        if !is_sound_mark(bounds[i], marks[i], last) {
             return false;
         }
     }
     true
+}
+
+// Whether there can be such a punctuation, and each stream can have its bound and its mark at it.
+fn are_sound_marks(bounds: &[Time], marks: &[Time], last: Time) -> bool
+    requires { length marks.now ≡ length bounds.now }
+    ensures { IsTrue result ↔ (IsEnd last × ((s : ℕ) → s < length bounds.now →
+        IsEnd (get_or bounds.now s 0) × IsEnd (get_or marks.now s 0) × (last ≤ get_or bounds.now s 0) × (get_or marks.now s 0 ≤ get_or bounds.now s 0))) }
+{
+    is_event_time(last) && are_each_sound(bounds, marks, last)
 }
 
 impl Watermarks {
@@ -212,8 +228,6 @@ impl Ingress {
         ensures err { OnErr result (self.new ≡ self.old) }
         ensures fixed { SameFixed self.old self.new }
     {
-        // its call tells the proof that it is a time
-        let _ = last.word();
         if !are_sound_marks(bounds, marks, last) {
             return Err(LoadFault::NotState);
         }

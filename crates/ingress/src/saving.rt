@@ -3,10 +3,12 @@ ghost use Rattle.std.specs.Prelude.{◌≡◌, ◌+◌, ◌*◌, ◌^◌, ◌<�
 ghost use Rattle.indexmap.specs.IndexMap.{IsUnique};
 ghost use Rattle.tw_rows.specs.declared.edge.Edge.{Edge};
 ghost use Rattle.carried_edges.specs.Entries.{entries_of};
+ghost use Rattle.row_reader.specs.Printed.{IsEnd};
 ghost use Rattle.admission.specs.Admission.{Admission};
 ghost use Rattle.ingress.specs.Admits.{cells_of, Follows, Admits};
 ghost use Rattle.ingress.specs.Counts.{may_hold};
 ghost use Rattle.ingress.specs.OpenKeys.{same_key};
+ghost use Rattle.ingress.specs.Times.{IsTimed};
 ghost use Rattle.ingress.specs.Saving.{IsSound, Resumes};
 ghost use Rattle.ingress.specs.Loaded.{cell_open, opens_in, entry_of_open, waits_from};
 
@@ -140,7 +142,7 @@ impl Ingress {
         ensures resumes { IfOk result (λ saved. (texts : List (List ℕ)) (a : Admission) (given : ℕ → List Edge) (bounds marks : ℕ → ℕ) → Follows texts a given self.now →
             ((s : ℕ) → s < length self.now.kinds.items → a.bound s ≡ bounds s) → ((s : ℕ) → s < length self.now.kinds.items → a.mark s ≡ marks s) →
             Resumes (cells_of self.now) saved bounds marks self.now.released texts a given) }
-        ensures sound { IfOk result (λ saved. (texts : List (List ℕ)) (a : Admission) (given : ℕ → List Edge) (bounds marks : ℕ → ℕ) → Admits texts a given self.now →
+        ensures sound { IfOk result (λ saved. (texts : List (List ℕ)) (a : Admission) (given : ℕ → List Edge) (bounds marks : ℕ → ℕ) → Admits texts a given self.now → IsTimed a → IsEnd self.now.released →
             ((s : ℕ) → s < length self.now.kinds.items → a.bound s ≡ bounds s) → ((s : ℕ) → s < length self.now.kinds.items → a.mark s ≡ marks s) →
             IsSound (cells_of self.now) saved bounds marks self.now.released) }
         ensures few { IfOk result (λ saved. (texts : List (List ℕ)) (a : Admission) (given : ℕ → List Edge) → Follows texts a given self.now →

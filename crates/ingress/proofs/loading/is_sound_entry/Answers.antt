@@ -21,6 +21,7 @@ returns-clause-yes c = λ t.
     record {
       declared = omega (arith, a, b);
       kinds = ap (map datum_kind) (sym c.items.ensures) ∙ c.is_stored_as.ensures.0 c.if-not-is_stored_as.false ∙ sym k;
+      times = c.has_event_times.ensures.0 c.if-not-has_event_times.false;
       edge = (c.are_sound_times.ensures.yes t).0;
       dropped = (c.are_sound_times.ensures.yes t).1;
     }

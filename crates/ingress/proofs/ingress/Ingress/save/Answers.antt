@@ -12,11 +12,11 @@ returns-clause-resumes c = λ texts a given bounds marks f same_bounds same_mark
     c.in_ok-save.ensures.unique f bounds marks same_bounds same_marks
 
 pub returns-clause-sound : goal.returns-clause-sound
-returns-clause-sound c = λ texts a given bounds marks k same_bounds same_marks.
+returns-clause-sound c = λ texts a given bounds marks k timed time same_bounds same_marks.
     let h = c.args.self.now.held in
     saved_sound texts a given c.args.self.now c.save.new.saved
     (c.in_ok-save.ensures.entries ∙ ap (λ l. l ++ (waits_from 0 h.waiting.items ++ map entry_of_open (opens_in h.opens.starts.entries))) c.new-saved.ensures)
-    c.in_ok-save.ensures.unique bounds marks k same_bounds same_marks
+    c.in_ok-save.ensures.unique bounds marks k timed time same_bounds same_marks
 
 pub returns-clause-few : goal.returns-clause-few
 returns-clause-few c = λ texts a given f.
