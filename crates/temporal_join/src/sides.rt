@@ -52,8 +52,11 @@ impl Sides {
         let mut left_due = take_in(&mut self.left_waiting, self.rows.alloc, left, to)?;
         let mut right_due = take_in(&mut self.right_waiting, self.rows.alloc, right, to)?;
         let mut answer = Vec::new(self.rows.alloc);
-        self.rows
-            .sweep(&mut answer, left_due.as_mut_slice(), right_due.as_mut_slice())?;
+        self.rows.sweep(
+            &mut answer,
+            left_due.as_mut_slice(),
+            right_due.as_mut_slice(),
+        )?;
         Ok(answer)
     }
 

@@ -97,7 +97,7 @@ loop-i-preserved c =
           c.first_instant-n.ensures.same c.first_instant-n.ensures.next c.first_instant-m.ensures.same c.first_instant-m.ensures.next
           (λ low va vb nl nr held.
           let p = c.in_ok-pass.ensures.swept a b by2 low va vb
-              (subst (λ (l : List Edge). SameBag l (news t (suc t) a)) (sym pl) nl) (subst (λ (l : List Edge). SameBag l (news t (suc t) b)) (sym pr) nr) held in
+          (subst (λ (l : List Edge). SameBag l (news t (suc t) a)) (sym pl) nl) (subst (λ (l : List Edge). SameBag l (news t (suc t) b)) (sym pr) nr) held in
           (p.0, same_tells lk rk now.left_key.items now.right_key.items a b t (suc t) a1 a2 left_same right_same p.1)) in (
             suc t,
             subst (λ l. JoinReached meets pair a b from (suc t) to l (drop (j + m) rdue) later.left.rows later.right.rows a0 a2)
