@@ -1,18 +1,16 @@
 -- What a step of a join answers: a list in order, with the columns of the pairs.
-use Rattle.std.specs.Prelude.{◌≡◌, ℕ, suc, ◌&&◌, max, min, nat_eq, nat_lt, nat_le, Bool, true, false, cond, IsTrue, List, [], ◌∷◌, ◌++◌, map, flat_map, All, refl}
+use Rattle.std.specs.Prelude.{◌≡◌, ℕ, suc, max, min, nat_eq, nat_lt, Bool, true, false, cond, IsTrue, List, [], ◌∷◌, ◌++◌, map, flat_map, All, refl}
 use Rattle.std.specs.List.{list_any}
 use Rattle.std.proofs.Common.{sym, ◌∙◌, ap, arith}
 use Rattle.std.proofs.lemmas.List.{map-append}
-use Rattle.std.proofs.lemmas.List.Elements.{All-nil, All-cons, All-head, All-tail}
 use Rattle.tw_rows.specs.Bag.{SameBag, total}
 use Rattle.tw_rows.specs.Cells.{datum_kind}
-use Rattle.tw_rows.specs.Instant.{inf}
 use Rattle.tw_rows.specs.declared.cells.Datum.{Datum}
 use Rattle.tw_rows.specs.declared.edge.Edge.{Edge}
 use Rattle.tw_rows.specs.declared.edge.HeldRow.{HeldRow}
 use Rattle.tw_rows.specs.declared.kind.CellKind.{CellKind}
 use Rattle.tw_rows.proofs.Bags.{total-flat_map, total_zero}
-use Rattle.edge_history.specs.Balance.{news_of, news}
+use Rattle.edge_history.specs.Balance.{news}
 use Rattle.edge_history.specs.History.{CellEvent, of}
 use Rattle.edge_history.specs.Order.{failing, KeepsOrder}
 use Rattle.edge_history.proofs.Agreeing.{same_order}

@@ -1,15 +1,12 @@
 -- The rows of the other side with which a row is paired.
-use Rattle.std.specs.Prelude.{◌≡◌, ℕ, zero, suc, ◌+◌, ◌<◌, ◌↔◌, max, nat_eq, nat_lt, IsTrue, Bool, true, false, cond, List, [], ◌∷◌, ◌++◌, map, filter, length, get_or, take, refl}
+use Rattle.std.specs.Prelude.{◌≡◌, ℕ, zero, suc, ◌+◌, ◌<◌, max, nat_eq, Bool, true, false, cond, List, [], ◌∷◌, ◌++◌, map, filter, length, get_or, take, refl}
 use Rattle.std.specs.List.{list_any}
 use Rattle.std.proofs.Common.{sym, ◌∙◌, ap, subst, arith, append_assoc}
-use Rattle.std.proofs.lemmas.Bool.Decides.{nat_tests}
-use Rattle.std.proofs.lemmas.List.{take_more}
 use Rattle.tw_rows.specs.Bag.{total}
 use Rattle.tw_rows.specs.SameCells.{same_cells, cells_are_same, same_itself}
 use Rattle.tw_rows.specs.declared.cells.Datum.{Datum}
 use Rattle.tw_rows.specs.declared.edge.Edge.{Edge}
 use Rattle.tw_rows.specs.declared.edge.HeldRow.{HeldRow}
-use Rattle.edge_history.specs.Order.{is_end}
 use Rattle.plan_model.specs.Keys.{outside_from, paired_row}
 use Rattle.sweep_laws.specs.Moves.{Adds, told_at}
 use Rattle.sweep_laws.specs.Pairs.{sided, partners, pairs_told}

@@ -1,21 +1,17 @@
 -- A step of the operator of a join.
-use Rattle.std.specs.Prelude.{◌≡◌, ℕ, ◌≤◌, min, true, List, ◌++◌, map, All}
-use Rattle.std.proofs.Common.{sym, ◌∙◌, subst, arith}
-use Rattle.std.proofs.lemmas.Bool.Decides.{nat_tests}
+use Rattle.std.specs.Prelude.{◌≡◌, ℕ, ◌≤◌, min, List, ◌++◌, map, All}
+use Rattle.std.proofs.Common.{sym, subst}
 use Rattle.std.proofs.lemmas.List.Elements.{All-append}
 use Rattle.tw_rows.specs.Bag.{SameBag}
 use Rattle.tw_rows.specs.Cells.{datum_kind}
-use Rattle.tw_rows.specs.Kinds.{cell_kind_of}
-use Rattle.tw_rows.specs.declared.kind.Kind.{Kind}
 use Rattle.tw_rows.specs.Instant.{inf}
 use Rattle.tw_rows.specs.declared.edge.Edge.{Edge}
 use Rattle.tw_rows.specs.declared.edge.HeldRow.{HeldRow}
 use Rattle.tw_rows.specs.declared.kind.CellKind.{CellKind}
 use Rattle.edge_history.specs.Balance.{news}
 use Rattle.edge_history.specs.History.{of}
-use Rattle.edge_history.specs.Order.{failing, is_below, is_from, KeepsOrder}
+use Rattle.edge_history.specs.Order.{failing, is_below, KeepsOrder}
 use Rattle.edge_history.proofs.Keeping.{KeepsOrder-back}
-use Rattle.edge_history.proofs.Sums.{weaker}
 use Rattle.edge_history.proofs.Telling.{answer_from, answer_below}
 use Rattle.operator.specs.Steps.{MayCome, ComeBetween}
 use Rattle.plan_model.specs.Keys.{paired_row}

@@ -11,8 +11,9 @@ ghost use Rattle.synopsis.specs.Held.{key_of as key_data, cell_or_zero};
 
 use smallvec::SmallVec;
 use std::alloc::Global;
+use std::mem::replace;
 use synopsis::{HeldRow, Synopsis, lone_key};
-use tw_rows::{Cells, Datum, Edge, Memory, Time};
+use tw_rows::{Cells, Datum, Edge, Memory, SHORT_ROW, Time};
 
 /// How rows of one side are paired with those of the other at an instant. `right` tells that they are right rows.
 #[derive(Drop)]
@@ -55,7 +56,7 @@ fn key_of(alloc: Global, key: &[usize], cells: &[Datum]) -> Result<SmallVec<Datu
 
 // Puts the datum of a column last, where the column stands in no key.
 fn push_outside(
-    row: &mut SmallVec<Datum, 8>,
+    row: &mut SmallVec<Datum, SHORT_ROW>,
     key: &[usize],
     column: usize,
     datum: Datum,
@@ -78,12 +79,12 @@ fn pair_cells(
 ) -> Result<Cells, Memory>
     ensures { IfOk result (λ cells. cells ≡ paired_row right_key.now left.now right.now) }
 {
-    let mut data = SmallVec::<Datum, 8>::new(alloc);
+    let mut data = SmallVec::new(alloc);
     data.extend_from_slice(left)?;
     for i in 0..right.len() {
         push_outside(&mut data, right_key, i, right[i])?;
     }
-    Cells::from_slice(alloc, data.as_slice())
+    Ok(Cells::new(data))
 }
 
 // The other time of the edge of a pair: infinity at its start, and at its end the later start of its rows.
@@ -141,7 +142,24 @@ impl<'a> Pairing<'a> {
         }
     }
 
+    // Tells the start or the end of each pair of a row, whose key is copied.
+    fn tell_by_copy(
+        &self,
+        answer: &mut Vec<Edge>,
+        starts: bool,
+        cells: &[Datum],
+        start: Time,
+        others: &Synopsis,
+    ) -> Result<(), Memory>
+        ensures { OnOk result (others.now.key ≡ other_key self.now → Adds answer.old.items answer.new.items (told_pairs self.now starts (record { cells = cells.now; start = start } ∷ []) others.now.rows)) }
+    {
+        let key = key_of(self.alloc, self.key(), cells)?;
+        self.tell(answer, starts, cells, start, others.rows_of(key.as_slice()))?;
+        Ok(())
+    }
+
     // Tells the start or the end of each pair of a row: with those rows of the other side that have its key.
+    #[inline(always)]
     fn tell_row(
         &self,
         answer: &mut Vec<Edge>,
@@ -153,12 +171,16 @@ impl<'a> Pairing<'a> {
         ensures { OnOk result (others.now.key ≡ other_key self.now → Adds answer.old.items answer.new.items (told_pairs self.now starts (record { cells = cells.now; start = start } ∷ []) others.now.rows)) }
     {
         // A key of one column needs no copy.
-        if let Some(key) = lone_key(self.key(), cells) {
-            self.tell(answer, starts, cells, start, others.rows_of(key))?;
+        let Some(key) = lone_key(self.key(), cells) else {
+            self.tell_by_copy(answer, starts, cells, start, others)?;
+            return Ok(());
+        };
+        let partners = others.rows_of(key);
+        // Mostly there are none.
+        if partners.is_empty() {
             return Ok(());
         }
-        let key = key_of(self.alloc, self.key(), cells)?;
-        self.tell(answer, starts, cells, start, others.rows_of(key.as_slice()))?;
+        self.tell(answer, starts, cells, start, partners)?;
         Ok(())
     }
 
@@ -175,14 +197,19 @@ impl<'a> Pairing<'a> {
         ensures told { OnOk result (others.now.key ≡ other_key self.now → HoldsEnded edge.now rows.old.rows → Adds answer.old.items answer.new.items (told_pairs self.now false (ended_of edge.now) others.now.rows)) }
         ensures key { rows.new.key ≡ rows.old.key }
     {
-        if !edge.is_end() || !rows.take(edge.cells.items(), edge.other) {
+        if !edge.is_end() {
             return Ok(());
         }
-        self.tell_row(answer, false, edge.cells.items(), edge.other, others)?;
+        let cells = edge.cells.items();
+        if !rows.take(cells, edge.other) {
+            return Ok(());
+        }
+        self.tell_row(answer, false, cells, edge.other, others)?;
         Ok(())
     }
 
-    /// Takes out the rows of one side that end, and tells the ends of their pairs.
+    /// Takes out the rows of one side that end, and tells the ends of their pairs. Of many instants one side has no edges.
+    #[inline(always)]
     pub(crate) fn end_rows(
         &self,
         rows: &mut Synopsis,
@@ -201,39 +228,41 @@ impl<'a> Pairing<'a> {
         Ok(())
     }
 
-    // Tells the starts of the pairs of the row that a start edge starts, and puts it in.
+    // Tells the starts of the pairs of the row that a start edge starts, and puts it in: its cells move out of the edge.
     fn start_one(
         &self,
         rows: &mut Synopsis,
         others: &Synopsis,
         answer: &mut Vec<Edge>,
-        edge: &Edge,
+        edge: &mut Edge,
     ) -> Result<(), Memory>
-        ensures started { OnOk result ((w : HeldRow → ℕ) → total w rows.new.rows ≡ total w rows.old.rows + total w (started_of edge.now)) }
-        ensures told { OnOk result (others.now.key ≡ other_key self.now → Adds answer.old.items answer.new.items (told_pairs self.now true (started_of edge.now) others.now.rows)) }
+        ensures started { OnOk result ((w : HeldRow → ℕ) → total w rows.new.rows ≡ total w rows.old.rows + total w (started_of edge.old)) }
+        ensures told { OnOk result (others.now.key ≡ other_key self.now → Adds answer.old.items answer.new.items (told_pairs self.now true (started_of edge.old) others.now.rows)) }
         ensures key { rows.new.key ≡ rows.old.key }
     {
         if edge.is_end() {
             return Ok(());
         }
         self.tell_row(answer, true, edge.cells.items(), edge.sync, others)?;
-        rows.add(edge.cells.clone()?, edge.sync)?;
+        let none = Cells::new(SmallVec::new(self.alloc));
+        rows.add(replace(&mut edge.cells, none), edge.sync)?;
         Ok(())
     }
 
-    /// Puts in the rows of one side that start, and tells the starts of their pairs.
+    /// Puts in the rows of one side that start, and tells the starts of their pairs. Of many instants one side has no edges.
+    #[inline(always)]
     pub(crate) fn start_rows(
         &self,
         rows: &mut Synopsis,
         others: &Synopsis,
         answer: &mut Vec<Edge>,
-        now: &[Edge],
+        now: &mut [Edge],
     ) -> Result<(), Memory>
-        ensures started { OnOk result ((w : HeldRow → ℕ) → total w rows.new.rows ≡ total w rows.old.rows + total w (started_rows now.now)) }
-        ensures told { OnOk result (others.now.key ≡ other_key self.now → Adds answer.old.items answer.new.items (told_pairs self.now true (started_rows now.now) others.now.rows)) }
+        ensures started { OnOk result ((w : HeldRow → ℕ) → total w rows.new.rows ≡ total w rows.old.rows + total w (started_rows now.old)) }
+        ensures told { OnOk result (others.now.key ≡ other_key self.now → Adds answer.old.items answer.new.items (told_pairs self.now true (started_rows now.old) others.now.rows)) }
         ensures key { rows.new.key ≡ rows.old.key }
     {
-        for edge in now {
+        for edge in now.iter_mut() {
             self.start_one(rows, others, answer, edge)?;
         }
         Ok(())

@@ -49,11 +49,14 @@ impl Sides {
         ensures right_cells { OnOk result (All (λ e. map datum_kind e.cells ≡ cells_of right.now) right.now.edges) }
         ensures keys { SameKeys self.old.rows self.new.rows }
     {
-        let left_due = take_in(&mut self.left_waiting, self.rows.alloc, left, to)?;
-        let right_due = take_in(&mut self.right_waiting, self.rows.alloc, right, to)?;
+        let mut left_due = take_in(&mut self.left_waiting, self.rows.alloc, left, to)?;
+        let mut right_due = take_in(&mut self.right_waiting, self.rows.alloc, right, to)?;
         let mut answer = Vec::new(self.rows.alloc);
-        self.rows
-            .sweep(&mut answer, left_due.as_slice(), right_due.as_slice())?;
+        self.rows.sweep(
+            &mut answer,
+            left_due.as_mut_slice(),
+            right_due.as_mut_slice(),
+        )?;
         Ok(answer)
     }
 

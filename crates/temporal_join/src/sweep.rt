@@ -30,18 +30,18 @@ pub(crate) struct Rows {
 impl Rows {
     ghost use Rattle.temporal_join.specs.Kept.{AreByKey, SameKeys};
 
-    // Goes on past one instant: first the rows that end, and then those that start.
+    // Goes on past one instant: first the rows that end, and then those that start, whose cells move out of their edges.
     fn pass(
         &mut self,
         answer: &mut Vec<Edge>,
         t: Time,
-        now_left: &[Edge],
-        now_right: &[Edge],
+        now_left: &mut [Edge],
+        now_right: &mut [Edge],
     ) -> Result<(), Memory>
-        ensures swept { OnOk result ((a b : List CellEvent) → AreByKey self.old → t < inf → AreEvents a → AreEvents b → SameBag now_left.now (news t (suc t) a) → SameBag now_right.now (news t (suc t) b) → Held a b t self.old.left.rows self.old.right.rows →
+        ensures swept { OnOk result ((a b : List CellEvent) → AreByKey self.old → t < inf → AreEvents a → AreEvents b → SameBag now_left.old (news t (suc t) a) → SameBag now_right.old (news t (suc t) b) → Held a b t self.old.left.rows self.old.right.rows →
             Held a b (suc t) self.new.left.rows self.new.right.rows × Tells (joins self.old.left_key.items self.old.right_key.items a b) t (suc t) answer.old.items answer.new.items) }
-        ensures left_rows { OnOk result ((w : HeldRow → ℕ) → total w self.new.left.rows ≤ total w self.old.left.rows + total w (started_rows now_left.now)) }
-        ensures right_rows { OnOk result ((w : HeldRow → ℕ) → total w self.new.right.rows ≤ total w self.old.right.rows + total w (started_rows now_right.now)) }
+        ensures left_rows { OnOk result ((w : HeldRow → ℕ) → total w self.new.left.rows ≤ total w self.old.left.rows + total w (started_rows now_left.old)) }
+        ensures right_rows { OnOk result ((w : HeldRow → ℕ) → total w self.new.right.rows ≤ total w self.old.right.rows + total w (started_rows now_right.old)) }
         ensures keys { SameKeys self.old self.new }
     {
         let left = Pairing {
@@ -65,17 +65,17 @@ impl Rows {
         Ok(())
     }
 
-    /// Goes through what is due on both sides, instant by instant.
+    /// Goes through what is due on both sides, instant by instant. What is left of the edges is not read again.
     pub(crate) fn sweep(
         &mut self,
         answer: &mut Vec<Edge>,
-        left_due: &[Edge],
-        right_due: &[Edge],
+        left_due: &mut [Edge],
+        right_due: &mut [Edge],
     ) -> Result<(), Memory>
-        ensures swept { OnOk result ((a b : List CellEvent) (from to : ℕ) → AreByKey self.old → IsDue a from to left_due.now → IsDue b from to right_due.now → Held a b from self.old.left.rows self.old.right.rows →
+        ensures swept { OnOk result ((a b : List CellEvent) (from to : ℕ) → AreByKey self.old → IsDue a from to left_due.old → IsDue b from to right_due.old → Held a b from self.old.left.rows self.old.right.rows →
             Held a b to self.new.left.rows self.new.right.rows × Tells (joins self.old.left_key.items self.old.right_key.items a b) from to answer.old.items answer.new.items) }
-        ensures left_rows { OnOk result ((w : HeldRow → ℕ) → total w self.new.left.rows ≤ total w self.old.left.rows + total w (started_rows left_due.now)) }
-        ensures right_rows { OnOk result ((w : HeldRow → ℕ) → total w self.new.right.rows ≤ total w self.old.right.rows + total w (started_rows right_due.now)) }
+        ensures left_rows { OnOk result ((w : HeldRow → ℕ) → total w self.new.left.rows ≤ total w self.old.left.rows + total w (started_rows left_due.old)) }
+        ensures right_rows { OnOk result ((w : HeldRow → ℕ) → total w self.new.right.rows ≤ total w self.old.right.rows + total w (started_rows right_due.old)) }
         ensures keys { SameKeys self.old self.new }
     {
         let mut i = 0;
@@ -86,7 +86,7 @@ impl Rows {
             let t = next_instant(left_rest, right_rest);
             let n = first_instant(left_rest, t);
             let m = first_instant(right_rest, t);
-            self.pass(answer, t, &left_rest[..n], &right_rest[..m])?;
+            self.pass(answer, t, &mut left_due[i..i + n], &mut right_due[j..j + m])?;
             i += n;
             j += m;
         }

@@ -15,12 +15,12 @@ returns c =
     record {
       ended = λ _ w.
           let a = c.take.ensures.taken c.if-not-take.false w in
-          let b = ap (λ l. w (record { cells = l; start = x.other })) c.items.ensures in
+          let b = ap (λ l. w (record { cells = l; start = x.other })) c.items-cells.ensures in
           let z = ap (λ t. total w (cond t (row ∷ []) [])) e in
           omega (arith, a, b, z);
       fewer = λ w. (let a = c.take.ensures.taken c.if-not-take.false w in omega (arith, a));
       told = λ k _.
           subst (λ l. Adds c.args.answer.now.items c.tell_row.new.answer.items (told_pairs c.args.self.now false l c.args.others.now.rows))
-          (ap (λ l. record row { cells = l } ∷ []) c.items-2.ensures ∙ sym (ap (λ t. cond t (row ∷ []) []) e)) (c.in_ok-tell_row.ensures k);
+          (ap (λ l. record row { cells = l } ∷ []) c.items-cells.ensures ∙ sym (ap (λ t. cond t (row ∷ []) []) e)) (c.in_ok-tell_row.ensures k);
       key = c.take.ensures.key;
     }

@@ -29,7 +29,7 @@ returns c =
     record {
       started = λ w.
           let a = c.in_ok-add.ensures.ok w in
-          let b = ap (λ l. w (record { cells = l; start = x.sync })) c.in_ok-clone.ensures.cases in
+          let b = ap (λ l. w (record { cells = l; start = x.sync })) c.replace.ensures.value in
           let z = ap (λ t. total w (cond t [] (row ∷ []))) e in
           omega (arith, a, b, z);
       told = λ k.

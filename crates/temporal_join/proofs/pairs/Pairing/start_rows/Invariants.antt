@@ -1,4 +1,5 @@
-use Rattle.std.proofs.Common.{◌≡◌, ◌+◌, take, ℕ, true}
+-- The edges from this one on are as they came.
+use Rattle.std.proofs.Common.{◌≡◌, ◌+◌, take, drop, ℕ, true}
 use Rattle.tw_rows.specs.Bag.{total}
 use Rattle.tw_rows.specs.declared.edge.HeldRow.{HeldRow}
 use Rattle.edge_history.specs.Opens.{started_rows}
@@ -9,6 +10,7 @@ use Rattle.temporal_join.proofs.pairs.Pairing.start_rows.Given as goal
 abbrev pub invariant-loop-edge : goal.invariant-loop-edge
 invariant-loop-edge l = record {
   key : l.rows.key ≡ l.fn.rows.key;
-  started : (w : HeldRow → ℕ) → total w l.rows.rows ≡ total w l.fn.rows.rows + total w (started_rows (take l.edge-index l.now));
-  told : l.others.key ≡ other_key l.self → Adds l.fn.answer.items l.answer.items (told_pairs l.self true (started_rows (take l.edge-index l.now)) l.others.rows);
+  rest : drop l.edge-index l.now ≡ drop l.edge-index l.fn.now;
+  started : (w : HeldRow → ℕ) → total w l.rows.rows ≡ total w l.fn.rows.rows + total w (started_rows (take l.edge-index l.fn.now));
+  told : l.others.key ≡ other_key l.self → Adds l.fn.answer.items l.answer.items (told_pairs l.self true (started_rows (take l.edge-index l.fn.now)) l.others.rows);
 }

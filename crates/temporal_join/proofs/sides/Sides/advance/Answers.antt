@@ -45,7 +45,7 @@ returns-clause-kept c = λ from hl hr out low k wl wr fl fr.
             (dl.below tl) (dr.below tr) (dl.rest tl) (dr.rest tr) dl.order dr.order
             s.rows.left.rows later.left.rows s.rows.right.rows later.right.rows out c.new-answer.result.items c.sweep.new.answer.items k.kept c.new-answer.ensures.items
             (λ da db h. c.in_ok-sweep.ensures.swept (of (hl ++ nl)) (of (hr ++ nr)) from to2 k.by
-            (subst (IsDue (of (hl ++ nl)) from to2) (sym c.as_slice.ensures.value) da) (subst (IsDue (of (hr ++ nr)) from to2) (sym c.as_slice-2.ensures.value) db) h));
+            (subst (IsDue (of (hl ++ nl)) from to2) (sym c.as_mut_slice.ensures.value) da) (subst (IsDue (of (hr ++ nr)) from to2) (sym c.as_mut_slice-2.ensures.value) db) h));
       },
       join_news (join_meets lk rk) (paired_row rk) from to2 hl hr nl nr
           (queued s.left_waiting) (both s.left_waiting nl) (queued ql) c.in_ok-left_due.left_due.items
@@ -55,7 +55,7 @@ returns-clause-kept c = λ from hl hr out low k wl wr fl fr.
           (dl.below tl) (dr.below tr) (dl.rest tl) (dr.rest tr) dl.order dr.order
           s.rows.left.rows later.left.rows s.rows.right.rows later.right.rows out c.new-answer.result.items c.sweep.new.answer.items k.kept c.new-answer.ensures.items
           (λ da db h. c.in_ok-sweep.ensures.swept (of (hl ++ nl)) (of (hr ++ nr)) from to2 k.by
-          (subst (IsDue (of (hl ++ nl)) from to2) (sym c.as_slice.ensures.value) da) (subst (IsDue (of (hr ++ nr)) from to2) (sym c.as_slice-2.ensures.value) db) h),
+          (subst (IsDue (of (hl ++ nl)) from to2) (sym c.as_mut_slice.ensures.value) da) (subst (IsDue (of (hr ++ nr)) from to2) (sym c.as_mut_slice-2.ensures.value) db) h),
     )
 
 pub returns-clause-sides : goal.returns-clause-sides
@@ -69,8 +69,8 @@ returns-clause-sides c = λ from low a.
     record {
       left = side_taken (cells_of c.args.left.now) from c.args.to s.rows.left.rows later.left.rows s.left_waiting c.take_in.new.queue c.args.left.now.edges c.in_ok-left_due.left_due.items
           low a.left c.take_in.ensures.list.real dl.cells dl.parts (dl.below tl) (dl.rest tl) (dl.timed tl)
-          (λ w. let f = c.in_ok-sweep.ensures.left_rows w in let e = ap (λ l. total w (started_rows l)) c.as_slice.ensures.value in omega (arith, f, e));
+          (λ w. let f = c.in_ok-sweep.ensures.left_rows w in let e = ap (λ l. total w (started_rows l)) c.as_mut_slice.ensures.value in omega (arith, f, e));
       right = side_taken (cells_of c.args.right.now) from c.args.to s.rows.right.rows later.right.rows s.right_waiting c.take_in-2.new.queue c.args.right.now.edges c.in_ok-right_due.right_due.items
           low a.right c.take_in-2.ensures.list.real dr.cells dr.parts (dr.below tr) (dr.rest tr) (dr.timed tr)
-          (λ w. let f = c.in_ok-sweep.ensures.right_rows w in let e = ap (λ l. total w (started_rows l)) c.as_slice-2.ensures.value in omega (arith, f, e));
+          (λ w. let f = c.in_ok-sweep.ensures.right_rows w in let e = ap (λ l. total w (started_rows l)) c.as_mut_slice-2.ensures.value in omega (arith, f, e));
     }
