@@ -1,3 +1,5 @@
+ghost use Rattle.std.specs.Prelude.{◌≡◌};
+
 use column_pool::{Bit, Cell, Column, Pool, same_cell};
 use std::alloc::Global;
 use std::process::Abort;
@@ -29,23 +31,37 @@ fn cells_have_words(rt: HostRuntime) {
     assert!(rt; !same_cell(Bit::from_word(2), Bit::from_word(0)));
 }
 
-fn check_column<T: Cell>(rt: &impl Abort, alloc: Global, a: T, b: T) -> Result<(), Fail> {
-    let mut column = Column::new(alloc, 4)?;
+// Makes the cells of an empty column `a`, `a` and `b`.
+fn fill<T: Cell>(rt: &impl Abort, column: &mut Column<T>, a: T, b: T) {
     assert!(rt; column.is_empty());
+    assert!(rt; column.capacity() == 4);
     column.push(a);
     column.push(b);
     column.push(b);
     column.set(1, a);
-    assert_eq!(rt; column.len(), 3);
-    assert_eq!(rt; column.capacity(), 4);
+}
+
+fn check_cells<T: Cell>(rt: &impl Abort, column: &Column<T>, a: T, b: T) {
+    assert!(rt; column.len() == 3);
     assert!(rt; same_cell(column.get(0), a));
     assert!(rt; same_cell(column.get(1), a));
     assert!(rt; same_cell(column.get(2), b));
-    let cells = column.as_slice();
-    assert_eq!(rt; cells.len(), 3);
-    assert!(rt; same_cell(cells[1], a) && same_cell(cells[2], b));
+}
+
+fn check_slice<T: Cell>(rt: &impl Abort, cells: &[T], a: T, b: T) {
+    assert!(rt; cells.len() == 3);
+    assert!(rt; same_cell(cells[1], a));
+    assert!(rt; same_cell(cells[2], b));
+}
+
+fn check_column<T: Cell>(rt: &impl Abort, alloc: Global, a: T, b: T) -> Result<(), Fail> {
+    let mut column = Column::new(alloc, 4)?;
+    fill(rt, &mut column, a, b);
+    check_cells(rt, &column, a, b);
+    check_slice(rt, column.as_slice(), a, b);
     column.clear();
-    assert_eq!(rt; (column.len(), column.capacity()), (0, 4));
+    assert!(rt; column.len() == 0);
+    assert!(rt; column.capacity() == 4);
     Ok(())
 }
 
@@ -56,25 +72,51 @@ fn columns_are_lists(rt: HostRuntime) -> Result<(), Fail> {
     check_column(&rt, rt.alloc(), Bit::new(true), Bit::new(false))
 }
 
-// Takes the one column of a pool many times, fills it and gives it back.
+// Fills an empty column with room for two cells.
+fn fill_up<T: Cell>(rt: &impl Abort, column: &mut Column<T>, cell: T)
+    ensures { column.new.capacity ≡ column.old.capacity }
+{
+    assert!(rt; column.len() == 0);
+    assert!(rt; column.capacity() == 2);
+    column.push(cell);
+    column.push(cell);
+}
+
+// Takes the one column of a pool, fills it and gives it back.
+fn lend<T: Cell>(rt: &impl Abort, pool: &mut Pool<T>, cell: T) -> Result<(), Fail> {
+    let mut column = pool.take().ok_or("no column is free")?;
+    assert!(rt; pool.take().is_none());
+    fill_up(rt, &mut column, cell);
+    assert!(rt; pool.give(column).is_none());
+    Ok(())
+}
+
+// Gives a pool that lends nothing one column more, which it hands back.
+fn give_more<T: Cell>(
+    rt: &impl Abort,
+    alloc: Global,
+    pool: &mut Pool<T>,
+    cell: T,
+) -> Result<(), Fail> {
+    let mut column = Column::new(alloc, pool.capacity())?;
+    assert!(rt; column.capacity() == 2);
+    column.push(cell);
+    let back = pool.give(column).ok_or("the limit was passed")?;
+    assert!(rt; back.len() == 1);
+    Ok(())
+}
+
+// Takes the one column of a pool many times, and gives it one more then.
 fn check_pool<T: Cell>(rt: &impl Abort, alloc: Global, cell: T) -> Result<(), Fail> {
     let mut pool = Pool::new(alloc, 1, 2)?;
     assert!(rt; pool.take().is_none());
     pool.refill(1)?;
     assert_eq!(rt; (pool.free(), pool.limit(), pool.capacity()), (1, 1, 2));
     for _ in 0..10_000 {
-        let mut column = pool.take().ok_or("no column is free")?;
-        assert!(rt; pool.take().is_none());
-        assert_eq!(rt; (column.len(), column.capacity()), (0, 2));
-        column.push(cell);
-        column.push(cell);
-        assert!(rt; pool.give(column).is_none());
+        lend(rt, &mut pool, cell)?;
     }
-    let mut column = Column::new(alloc, pool.capacity())?;
-    assert_eq!(rt; column.capacity(), 2);
-    column.push(cell);
-    let back = pool.give(column).ok_or("the limit was passed")?;
-    assert_eq!(rt; (back.len(), pool.free()), (1, 1));
+    give_more(rt, alloc, &mut pool, cell)?;
+    assert!(rt; pool.free() == 1);
     Ok(())
 }
 

@@ -1,8 +1,8 @@
 // Filters, which keep rows, and projections, which put columns for columns.
-ghost use Rattle.std.specs.Prelude.{◌≡◌, ◌≤◌, [], ◌∷◌, length, map, All, IfOk};
+ghost use Rattle.std.specs.Prelude.{◌≡◌, [], ◌∷◌, map, All, IfOk};
 ghost use Rattle.plan_model.specs.IsExpr.{IsExpr};
 ghost use Rattle.plan_model.specs.Typed.{IsTyped, kind_of};
-ghost use Rattle.lane_expr.specs.Kernels.{HoldsPlaces, CanRead, result_kind};
+ghost use Rattle.lane_expr.specs.Kernels.{CanRead, result_kind};
 
 use crate::numbers::{ROOM, batch_of, kernel_of};
 use batch::{Batch, Payload, Pools};
@@ -57,15 +57,13 @@ fn filter_by(
     Ok(())
 }
 
-// Checks that the kernel of `v > 2` leaves two of the numbers 2, 3 and 5.
-fn check_filter(rt: &impl Abort, alloc: Global, texts: &TextTable, test: Kernel) -> Result<(), Fail>
-    requires bit { result_kind test ≡ CellKind.Bit }
-    requires reads { (b : Batch) → b.kinds ≡ CellKind.Whole ∷ [] → length b.rows ≤ 67 → HoldsPlaces texts.now b.rows → CanRead texts.now test b }
-{
+// Checks that `v > 2` leaves two of the numbers 2, 3 and 5.
+fn check_filter(rt: &impl Abort, alloc: Global, texts: &mut TextTable) -> Result<(), Fail> {
+    let test = kernel_of(alloc, above_two(alloc)?, texts)?;
     let mut batch = batch_of(rt, alloc, texts, &[2, 3, 5])?;
     assert!(rt; batch.rows() <= ROOM);
     filter_by(rt, alloc, texts, test, &mut batch)?;
-    assert_eq!(rt; batch.occupied(), 2);
+    assert!(rt; batch.occupied() == 2);
     Ok(())
 }
 
@@ -89,8 +87,36 @@ fn check_column(rt: &impl Abort, batch: &Batch)
     }
 }
 
+// Pools with a free column of each sort.
+fn full_pools(rt: &impl Abort, alloc: Global, capacity: usize) -> Result<Pools, Fail>
+    ensures { IfOk result (λ pools. pools.capacity ≡ capacity) }
+{
+    let mut pools = Pools::new(alloc, 8, capacity)?;
+    assert!(rt; pools.limit() >= 1);
+    pools.refill(1)?;
+    Ok(pools)
+}
+
 // Checks that the projection puts -2, -3 and -5 into the batch.
 fn check_applied(
+    rt: &impl Abort,
+    pools: &mut Pools,
+    texts: &TextTable,
+    project: &mut Project,
+    batch: Batch,
+)
+    requires reads { All (λ k. CanRead texts.now k batch) project.old }
+    requires kinds { map result_kind project.old ≡ CellKind.Whole ∷ [] }
+    requires pools { pools.old.capacity ≡ batch.capacity }
+{
+    match project.apply(batch, pools, texts) {
+        Ok(projected) => check_column(rt, &projected),
+        Err(_) => assert!(rt; false),
+    }
+}
+
+// Checks the projection, with pools of its own.
+fn check_batch(
     rt: &impl Abort,
     alloc: Global,
     texts: &TextTable,
@@ -100,45 +126,43 @@ fn check_applied(
     requires reads { All (λ k. CanRead texts.now k batch) project.old }
     requires kinds { map result_kind project.old ≡ CellKind.Whole ∷ [] }
 {
-    let mut pools = Pools::new(alloc, 8, batch.capacity())?;
-    assert!(rt; pools.limit() >= 1);
-    pools.refill(1)?;
-    match project.apply(batch, &mut pools, texts) {
-        Ok(projected) => check_column(rt, &projected),
-        Err(_) => assert!(rt; false),
-    }
+    let mut pools = full_pools(rt, alloc, batch.capacity())?;
+    check_applied(rt, &mut pools, texts, project, batch);
     Ok(())
 }
 
-// Checks a projection to the kernel of `- v`.
-fn check_project(
+// Checks a projection of the batch to the kernel of `- v`.
+fn check_item(
     rt: &impl Abort,
     alloc: Global,
     texts: &TextTable,
     item: Kernel,
+    batch: Batch,
 ) -> Result<(), Fail>
     requires kinds { item.kinds ≡ CellKind.Whole ∷ [] }
     requires whole { result_kind item ≡ CellKind.Whole }
-    requires reads { (b : Batch) → b.kinds ≡ CellKind.Whole ∷ [] → length b.rows ≤ 67 → HoldsPlaces texts.now b.rows → CanRead texts.now item b }
+    requires reads { CanRead texts.now item batch }
 {
     let mut project = project_of(alloc, item)?;
+    check_batch(rt, alloc, texts, &mut project, batch)
+}
+
+// Checks a projection of 2, 3 and 5 to `- v`.
+fn check_project(rt: &impl Abort, alloc: Global, texts: &mut TextTable) -> Result<(), Fail> {
+    let item = kernel_of(alloc, negated(alloc)?, texts)?;
     let batch = batch_of(rt, alloc, texts, &[2, 3, 5])?;
     assert!(rt; batch.rows() <= ROOM);
-    check_applied(rt, alloc, texts, &mut project, batch)
+    check_item(rt, alloc, texts, item, batch)
 }
 
 #[test]
 fn keeps_the_rows_whose_test_is_true(rt: HostRuntime) -> Result<(), Fail> {
     let alloc = rt.alloc();
-    let mut texts = TextTable::new(alloc);
-    let test = kernel_of(alloc, above_two(alloc)?, &mut texts)?;
-    check_filter(&rt, alloc, &texts, test)
+    check_filter(&rt, alloc, &mut TextTable::new(alloc))
 }
 
 #[test]
 fn puts_values_for_cells(rt: HostRuntime) -> Result<(), Fail> {
     let alloc = rt.alloc();
-    let mut texts = TextTable::new(alloc);
-    let item = kernel_of(alloc, negated(alloc)?, &mut texts)?;
-    check_project(&rt, alloc, &texts, item)
+    check_project(&rt, alloc, &mut TextTable::new(alloc))
 }

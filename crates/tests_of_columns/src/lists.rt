@@ -9,7 +9,7 @@ use edge_stream::EdgeList;
 use std::alloc::Global;
 use std::process::Abort;
 use std::test::Fail;
-use tw_rows::{CellKind, Edge, Kind};
+use tw_rows::{CellKind, Edge, Kind, Memory};
 
 // Edges of these times.
 fn edges(alloc: Global, times: &[(u64, u64)]) -> Result<Vec<Edge>, Fail>
@@ -38,7 +38,7 @@ fn list(
 }
 
 // The sync times of the edges, as the digits of a number, and how many batches hold them.
-fn digits(list: &EdgeList) -> Result<(u64, usize), Fail> {
+fn digits(list: &EdgeList) -> Result<(u64, usize), Memory> {
     let mut digits: u64 = 0;
     let edges = list.to_vec()?;
     for edge in &edges {
@@ -56,33 +56,52 @@ fn split(rt: &impl Abort, pools: &mut Pools, list: &mut EdgeList) -> Result<Edge
 {
     assert!(rt; pools.capacity() == list.capacity());
     let front = list.split_below(pools, at(6))?;
-    assert_eq!(rt; digits(&front)?, (124, 2));
-    assert_eq!(rt; digits(list)?, (67, 2));
+    assert_eq!(rt; digits(&front), Ok((124, 2)));
+    assert_eq!(rt; digits(list), Ok((67, 2)));
     Ok(front)
+}
+
+// Merges the two lists, and checks the digits of what comes of that and its number of batches.
+fn merged(
+    rt: &impl Abort,
+    pools: &mut Pools,
+    a: EdgeList,
+    b: EdgeList,
+    wanted: (u64, usize),
+) -> Result<EdgeList, Fail>
+    requires { a.kinds ≡ b.kinds }
+    ensures { IfOk result (λ list. list.kinds ≡ a.kinds) }
+{
+    assert!(rt; pools.capacity() == a.capacity() && a.capacity() == b.capacity());
+    let whole = EdgeList::merge(pools, a, b)?;
+    assert_eq!(rt; digits(&whole), Ok(wanted));
+    Ok(whole)
 }
 
 // Merges the two lists, and a copy of the second one with what comes of that.
 fn merge_twice(rt: &impl Abort, pools: &mut Pools, a: EdgeList, b: EdgeList) -> Result<(), Fail>
     requires { a.kinds ≡ b.kinds }
 {
-    assert!(rt; pools.capacity() == a.capacity() && a.capacity() == b.capacity());
+    assert!(rt; pools.capacity() == b.capacity());
     let copy = b.copy(pools)?;
-    assert!(rt; pools.capacity() == a.capacity());
-    let whole = EdgeList::merge(pools, a, b)?;
-    assert_eq!(rt; digits(&whole)?, (12467, 3));
-    assert!(rt; pools.capacity() == whole.capacity() && copy.capacity() == whole.capacity());
-    let twice = EdgeList::merge(pools, whole, copy)?;
-    assert_eq!(rt; digits(&twice)?, (11224467, 4));
+    let whole = merged(rt, pools, a, b, (12467, 3))?;
+    let _twice = merged(rt, pools, whole, copy, (11224467, 4))?;
     Ok(())
+}
+
+// Splits a list, and merges its parts.
+fn check_parts(rt: &impl Abort, alloc: Global, pools: &mut Pools) -> Result<(), Fail>
+    requires { pools.old.capacity ≡ 2 }
+{
+    let mut rest = list(rt, alloc, pools, &FIVE)?;
+    let front = split(rt, pools, &mut rest)?;
+    merge_twice(rt, pools, rest, front)
 }
 
 #[test]
 fn lists_are_split_copied_and_merged(rt: HostRuntime) -> Result<(), Fail> {
     let alloc = rt.alloc();
-    let mut pools = Pools::new(alloc, 8, 2)?;
-    let mut rest = list(&rt, alloc, &mut pools, &FIVE)?;
-    let front = split(&rt, &mut pools, &mut rest)?;
-    merge_twice(&rt, &mut pools, rest, front)
+    check_parts(&rt, alloc, &mut Pools::new(alloc, 8, 2)?)
 }
 
 // Moves the first batch of a list to an empty one.
@@ -99,15 +118,21 @@ fn move_batch(from: &mut EdgeList, to: &mut EdgeList) -> Result<(), Fail>
     Ok(())
 }
 
-#[test]
-fn batches_move_over(rt: HostRuntime) -> Result<(), Fail> {
-    let alloc = rt.alloc();
-    let mut pools = Pools::new(alloc, 8, 2)?;
-    let mut from = list(&rt, alloc, &mut pools, &FIVE)?;
+// Moves the first batch of five edges to a list of its own.
+fn check_move(rt: &impl Abort, alloc: Global, pools: &mut Pools) -> Result<(), Fail>
+    requires { pools.old.capacity ≡ 2 }
+{
+    let mut from = list(rt, alloc, pools, &FIVE)?;
     let mut to = EdgeList::new(alloc, &[Kind::Int], 2)?;
     assert!(rt; to.capacity() == from.capacity());
     move_batch(&mut from, &mut to)?;
-    assert_eq!(rt; digits(&from)?, (467, 2));
-    assert_eq!(rt; digits(&to)?, (12, 1));
+    assert_eq!(rt; digits(&from), Ok((467, 2)));
+    assert_eq!(rt; digits(&to), Ok((12, 1)));
     Ok(())
+}
+
+#[test]
+fn batches_move_over(rt: HostRuntime) -> Result<(), Fail> {
+    let alloc = rt.alloc();
+    check_move(&rt, alloc, &mut Pools::new(alloc, 8, 2)?)
 }

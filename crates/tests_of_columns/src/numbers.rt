@@ -39,6 +39,15 @@ fn push_row(
     Ok(())
 }
 
+// A batch without rows.
+fn empty_batch(alloc: Global) -> Result<Batch, Fail>
+    ensures kinds { IfOk result (λ b. b.kinds ≡ CellKind.Whole ∷ []) }
+    ensures rows { IfOk result (λ b. b.rows ≡ []) }
+{
+    let mut pools = Pools::new(alloc, 8, ROOM)?;
+    Ok(Batch::new(alloc, &mut pools, &[Kind::Int])?)
+}
+
 /// A batch of the numbers.
 pub(crate) fn batch_of(
     rt: &impl Abort,
@@ -49,8 +58,7 @@ pub(crate) fn batch_of(
     ensures kinds { IfOk result (λ b. b.kinds ≡ CellKind.Whole ∷ []) }
     ensures places { IfOk result (λ b. HoldsPlaces texts.now b.rows) }
 {
-    let mut pools = Pools::new(alloc, 8, ROOM)?;
-    let mut batch = Batch::new(alloc, &mut pools, &[Kind::Int])?;
+    let mut batch = empty_batch(alloc)?;
     for number in numbers {
         push_row(rt, alloc, texts, &mut batch, *number)?;
     }

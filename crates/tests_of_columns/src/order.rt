@@ -2,6 +2,7 @@
 use crate::made::int_edge;
 use edge_history::{in_order, keeps_order};
 use std::alloc::Global;
+use std::process::Abort;
 use std::test::Fail;
 use tw_rows::{Datum, Edge};
 
@@ -16,6 +17,13 @@ fn edges(alloc: Global, times: &[(u64, u64)]) -> Result<Vec<Edge>, Fail> {
     Ok(edges)
 }
 
+// Checks the numbers of the edges.
+fn check_numbers(rt: &impl Abort, edges: &[Edge], numbers: &[i64]) {
+    for (edge, number) in edges.iter().zip(numbers) {
+        assert_eq!(rt; edge.cells.items(), [Datum::Int(*number)].as_slice());
+    }
+}
+
 #[test]
 fn edges_are_put_in_order(rt: HostRuntime) -> Result<(), Fail> {
     let alloc = rt.alloc();
@@ -23,8 +31,6 @@ fn edges_are_put_in_order(rt: HostRuntime) -> Result<(), Fail> {
     assert!(rt; !keeps_order(&edges));
     in_order(&mut edges)?;
     assert!(rt; keeps_order(&edges));
-    for (edge, number) in edges.iter().zip([2, 1, 3, 0]) {
-        assert_eq!(rt; edge.cells.items(), [Datum::Int(number)].as_slice());
-    }
+    check_numbers(&rt, &edges, &[2, 1, 3, 0]);
     Ok(())
 }
