@@ -1,5 +1,5 @@
 // The rows of one key.
-ghost use Rattle.std.specs.Prelude.{◌≡◌, ◌+◌, ◌≤◌, ◌<◌, ◌++◌, ◌∷◌, [], ℕ, true, false, OnOk, OnErr, IfSome, IfNone, IsPermutation, length, get_or};
+ghost use Rattle.std.specs.Prelude.{◌≡◌, ◌+◌, ◌≤◌, ◌<◌, ◌++◌, ◌∷◌, [], ℕ, true, false, OnOk, OnErr, IfOk, IfSome, IfNone, IsPermutation, length, get_or};
 ghost use Rattle.tw_rows.specs.Bag.{total};
 ghost use Rattle.tw_rows.specs.declared.edge.HeldRow.{HeldRow};
 ghost use Rattle.edge_history.specs.Order.{many};
@@ -56,27 +56,22 @@ impl Model for Bucket {
 }
 
 impl Bucket {
-    /// No rows.
-    pub fn new(alloc: Global) -> Bucket
-        ensures { result ≡ [] }
+    /// A row alone, in the memory of a list.
+    pub fn of_one(mut rows: Vec<HeldRow>, cells: Cells, start: Time) -> Result<Bucket, Memory>
+        ensures { IfOk result (λ b. b ≡ rows.items ++ record { cells = cells; start = start } ∷ []) }
     {
-        Bucket {
-            rows: Vec::new(alloc),
-            marks: None,
+        rows.push(HeldRow { cells, start })?;
+        Ok(Bucket { rows, marks: None })
+    }
+
+    /// The memory of its rows, where it is that of a few and there is no index. Its rows have no say: who takes it clears it.
+    pub fn small_room(self) -> Option<Vec<HeldRow>> {
+        let Bucket { rows, marks } = self;
+        if marks.is_none() && rows.capacity() <= FEW {
+            Some(rows)
+        } else {
+            None
         }
-    }
-
-    /// Takes all rows out. The memory of a few stays.
-    pub fn clear(&mut self)
-        ensures { self.new ≡ [] }
-    {
-        self.rows.clear();
-        self.marks = None;
-    }
-
-    /// Whether it has no index, and memory for few rows.
-    pub fn is_small(&self) -> bool {
-        self.marks.is_none() && self.rows.capacity() <= FEW
     }
 
     /// The rows, side by side.

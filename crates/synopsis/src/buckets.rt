@@ -1,5 +1,5 @@
 // Buckets by the data of their keys.
-ghost use Rattle.std.specs.Prelude.{◌≡◌, ◌+◌, ℕ, true, false, List, filter, OnOk, OnErr};
+ghost use Rattle.std.specs.Prelude.{◌≡◌, ◌+◌, ◌++◌, ℕ, true, false, List, filter, OnOk, OnErr};
 ghost use Rattle.tw_rows.specs.Bag.{total};
 ghost use Rattle.tw_rows.specs.declared.edge.HeldRow.{HeldRow};
 ghost use Rattle.edge_history.specs.Order.{many};
@@ -17,6 +17,16 @@ use tw_rows::{Cells, Datum, HeldRow, Memory, Time};
 
 /// Buckets, each with its key.
 pub type KeyBuckets = IndexMap<Vec<Datum>, Bucket, BuildHasherDefault<WordHasher>>;
+
+// Datum by datum, since a key is short.
+fn copy_key(owned: &mut Vec<Datum>, key: &[Datum]) -> Result<(), Memory>
+    ensures { OnOk result (owned.new.items ≡ owned.old.items ++ key.now) }
+{
+    for datum in key {
+        owned.push(*datum)?;
+    }
+    Ok(())
+}
 
 /// Puts a row into the bucket of its key, which is made where there is none.
 pub fn put_row(
@@ -37,11 +47,10 @@ pub fn put_row(
     }
     let Spare {
         key: mut owned,
-        mut bucket,
+        rows,
     } = spares.next();
-    bucket.add(alloc, cells, start)?;
-    owned.extend_from_slice(key)?;
-    buckets.insert(owned, bucket)?;
+    copy_key(&mut owned, key)?;
+    buckets.insert(owned, Bucket::of_one(rows, cells, start)?)?;
     Ok(())
 }
 

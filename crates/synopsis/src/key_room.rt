@@ -1,5 +1,5 @@
 // Room for the key of a row.
-ghost use Rattle.std.specs.Prelude.{◌≡◌, ◌≤◌, IfOk, IfSome, take, map, length};
+ghost use Rattle.std.specs.Prelude.{◌≡◌, ◌≤◌, true, IfOk, IfSome, take, map, length};
 ghost use Rattle.std.specs.Vec.{vec_len, vec_capacity};
 ghost use Rattle.synopsis.specs.Held.{KeyValues, key_of, cell_or_zero};
 
@@ -60,6 +60,21 @@ fn write_key(values: &mut Vec<Datum>, columns: &[usize], cells: &[Datum])
     }
 }
 
+// Writes a key of one column over one that was written before, without a loop. Tells whether the key is such a one.
+fn write_lone(values: &mut [Datum], columns: &[usize], cells: &[Datum]) -> bool
+    ensures { result ≡ true → values.new ≡ key_of columns.now cells.now }
+{
+    if columns.len() != 1 || values.len() != 1 {
+        return false;
+    }
+    let column = columns[0];
+    if column >= cells.len() {
+        return false;
+    }
+    values[0] = cells[column];
+    true
+}
+
 impl KeyRoom {
     /// Room for the keys of these columns. No later call takes memory.
     pub fn new(alloc: Global, columns: &[usize]) -> Result<KeyRoom, Memory>
@@ -77,7 +92,9 @@ impl KeyRoom {
         ensures values { self.new.values ≡ key_of self.old.columns cells.now }
         ensures columns { self.new.columns ≡ self.old.columns }
     {
-        write_key(&mut self.values, self.columns.as_slice(), cells);
+        if !write_lone(self.values.as_mut_slice(), self.columns.as_slice(), cells) {
+            write_key(&mut self.values, self.columns.as_slice(), cells);
+        }
     }
 
     /// The data that were written last.

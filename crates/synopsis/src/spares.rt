@@ -1,15 +1,15 @@
-// Buckets that were let go.
+// The memory of buckets that were let go. No answer rests on it: what is handed out is empty, whatever was kept.
 ghost use Rattle.std.specs.Prelude.{◌≡◌, []};
 
 use crate::bucket::Bucket;
 use std::alloc::Global;
-use tw_rows::{Datum, Memory};
+use tw_rows::{Datum, HeldRow, Memory};
 
-/// A bucket with its key, which can be those of any key.
+/// The memory of a key and of its rows, which can be those of any key.
 #[derive(Drop)]
 pub struct Spare {
     pub key: Vec<Datum>,
-    pub bucket: Bucket,
+    pub rows: Vec<HeldRow>,
 }
 
 // How many are kept.
@@ -31,30 +31,33 @@ impl Spares {
         })
     }
 
-    /// An empty bucket with an empty key.
+    /// An empty key, and no rows.
     pub fn next(&mut self) -> Spare
         ensures key { result.key.items ≡ [] }
-        ensures bucket { result.bucket ≡ [] }
+        ensures rows { result.rows.items ≡ [] }
     {
         match self.spares.pop() {
             Some(mut spare) => {
                 spare.key.clear();
-                spare.bucket.clear();
+                spare.rows.clear();
                 spare
             }
             None => Spare {
                 key: Vec::new(self.alloc),
-                bucket: Bucket::new(self.alloc),
+                rows: Vec::new(self.alloc),
             },
         }
     }
 
     /// Keeps the memory of a bucket that was let go, where there is room for it.
     pub fn keep(&mut self, gone: Option<(Vec<Datum>, Bucket)>) {
-        if let Some((key, bucket)) = gone {
-            if self.spares.len() < MOST && bucket.is_small() {
+        let Some((key, bucket)) = gone else {
+            return;
+        };
+        if self.spares.len() < MOST {
+            if let Some(rows) = bucket.small_room() {
                 // Where there were no room it would be let go.
-                let _ = self.spares.push(Spare { key, bucket });
+                let _ = self.spares.push(Spare { key, rows });
             }
         }
     }

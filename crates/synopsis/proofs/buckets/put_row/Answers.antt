@@ -26,12 +26,12 @@ returns-in-Some-clause-keyed c = λ columns own keyed.
 
 pub returns-clause-rows : goal.returns-clause-rows
 returns-clause-rows c =
-    new_weighs c.args.buckets.now c.insert.new.self c.args.key.now c.extend_from_slice.new.self c.add-2.new.self c.next-owned.result.bucket c.args.cells c.args.start
-    (c.in_ok-extend_from_slice.ensures.items ∙ ap (λ (l : List Datum). l ++ c.args.key.now) c.next-owned.ensures.key) c.in_default.ensures.value c.get_mut.follows.lender-at-none c.get_mut.follows.holds-at-none
-    c.in_ok-insert.ensures.entries c.next-owned.ensures.bucket c.in_ok-add-2.ensures.ok
+    new_weighs c.args.buckets.now c.insert.new.self c.args.key.now c.copy_key.new.owned c.in_ok-of_one.field-0 c.next-owned.result.rows.items c.args.cells c.args.start
+    (c.in_ok-copy_key.ensures ∙ ap (λ (l : List Datum). l ++ c.args.key.now) c.next-owned.ensures.key) c.in_default.ensures.value c.get_mut.follows.lender-at-none c.get_mut.follows.holds-at-none
+    c.in_ok-insert.ensures.entries c.next-owned.ensures.rows c.in_ok-of_one.ensures
 
 pub returns-clause-keyed : goal.returns-clause-keyed
 returns-clause-keyed c =
-    new_keyed c.args.buckets.now c.insert.new.self c.args.key.now c.extend_from_slice.new.self c.add-2.new.self c.next-owned.result.bucket c.args.cells c.args.start
-    (c.in_ok-extend_from_slice.ensures.items ∙ ap (λ (l : List Datum). l ++ c.args.key.now) c.next-owned.ensures.key) c.in_default.ensures.value c.get_mut.follows.lender-at-none c.get_mut.follows.holds-at-none
-    c.in_ok-insert.ensures.entries c.next-owned.ensures.bucket c.in_ok-add-2.ensures.ok
+    new_keyed c.args.buckets.now c.insert.new.self c.args.key.now c.copy_key.new.owned c.in_ok-of_one.field-0 c.next-owned.result.rows.items c.args.cells c.args.start
+    (c.in_ok-copy_key.ensures ∙ ap (λ (l : List Datum). l ++ c.args.key.now) c.next-owned.ensures.key) c.in_default.ensures.value c.get_mut.follows.lender-at-none c.get_mut.follows.holds-at-none
+    c.in_ok-insert.ensures.entries c.next-owned.ensures.rows c.in_ok-of_one.ensures
