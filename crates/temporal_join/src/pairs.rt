@@ -185,6 +185,7 @@ impl<'a> Pairing<'a> {
     }
 
     // Takes out the row that an end edge ends, and tells the ends of its pairs.
+    #[inline(always)]
     fn end_one(
         &self,
         rows: &mut Synopsis,
@@ -229,6 +230,7 @@ impl<'a> Pairing<'a> {
     }
 
     // Tells the starts of the pairs of the row that a start edge starts, and puts it in: its cells move out of the edge.
+    #[inline(always)]
     fn start_one(
         &self,
         rows: &mut Synopsis,
