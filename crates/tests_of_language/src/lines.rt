@@ -201,7 +201,7 @@ d,interval,0,5,+1.50,3 -> BadValue { column: 1 }\n\
 d,interval,0,5,1.50,3.00 -> BadValue { column: 2 }";
 
 /// Lines of any bytes: the line, whether it is the first of the input, and what it says.
-const MORE: [(&[u8], bool, &str); 22] = [
+static MORE: [(&[u8], bool, &str); 22] = [
     (b"t,interval,1,2,a,1", true, "WrongFields"),
     (b"r,interval,1,2,a,1", true, "UnknownStream"),
     (b"\xEF\xBB\xBF", true, "skip"),
@@ -253,7 +253,7 @@ fn lines_say_what_the_table_says(rt: HostRuntime) {
 
 #[test]
 fn bytes_and_first_lines(rt: HostRuntime) {
-    for (line, first, expected) in MORE {
+    for &(line, first, expected) in MORE.iter() {
         match read(rt.alloc(), line, first) {
             Ok(said) => assert!(rt; said.as_str() == expected, "{said}"),
             Err(_) => panic!(rt; "no memory"),

@@ -1,5 +1,6 @@
 // Wires over readers and writers, of which some fail, and wires over memory.
 use std::io::{self, ErrorKind, Read, Write};
+use std::process::Abort;
 use std::test::Fail;
 use wire_lines::{ErrWire, MemoryWire, ReadFailed, StdWire, Wire, WireStep, WriteFailed};
 
@@ -41,6 +42,15 @@ impl Write for Broken {
     }
 }
 
+// Checks a wire whose reader and writer fail.
+fn check_broken(rt: &impl Abort) {
+    let mut into = [0u8; 4];
+    let mut broken = StdWire::new(Broken, Broken);
+    assert_eq!(rt; broken.read(&mut into), Err(ReadFailed));
+    assert_eq!(rt; broken.read(&mut into), Err(ReadFailed));
+    assert_eq!(rt; broken.write(b"a"), Err(WriteFailed));
+}
+
 #[test]
 fn streams_are_a_wire(rt: HostRuntime) {
     let mut wire = StdWire::new(b"ab".as_slice(), Sink { room: 3 });
@@ -50,11 +60,7 @@ fn streams_are_a_wire(rt: HostRuntime) {
     assert_eq!(rt; wire.read(&mut into), Ok(0));
     assert_eq!(rt; wire.write(b"hey!"), Ok(3));
     assert_eq!(rt; wire.write(b"!"), Err(WriteFailed), "it takes nothing");
-
-    let mut broken = StdWire::new(Broken, Broken);
-    assert_eq!(rt; broken.read(&mut into), Err(ReadFailed));
-    assert_eq!(rt; broken.read(&mut into), Err(ReadFailed));
-    assert_eq!(rt; broken.write(b"a"), Err(WriteFailed));
+    check_broken(&rt);
 }
 
 // Its first flush and its second write fail, and its first read does; nothing fails after that.
@@ -119,11 +125,17 @@ fn errors_go_to_a_writer_alone(rt: HostRuntime) {
     assert_eq!(rt; wire.write(b"c"), Err(WriteFailed));
 }
 
-#[test]
-fn reads_and_writes_are_told(rt: HostRuntime) -> Result<(), Fail> {
-    let alloc = rt.alloc();
-    let input = Vec::from_slice(alloc, b"hello")?;
-    let mut wire = MemoryWire::new(alloc, input, 3, 8, Vec::new(alloc))?;
+// The reads of `hello` and the writes of `abc`, in their turn.
+static STEPS: [WireStep; 5] = [
+    WireStep::In { from: 0, to: 3 },
+    WireStep::Out { from: 0, to: 2 },
+    WireStep::In { from: 3, to: 5 },
+    WireStep::In { from: 5, to: 5 },
+    WireStep::Out { from: 2, to: 3 },
+];
+
+// Reads `hello` and writes `abc`.
+fn exchange(rt: &impl Abort, wire: &mut MemoryWire) {
     let mut into = [0u8; 4];
     assert_eq!(rt; wire.read(&mut into), Ok(3));
     assert_eq!(rt; into, *b"hel\0");
@@ -132,14 +144,15 @@ fn reads_and_writes_are_told(rt: HostRuntime) -> Result<(), Fail> {
     assert_eq!(rt; into, *b"lol\0");
     assert_eq!(rt; wire.read(&mut into), Ok(0));
     assert_eq!(rt; wire.write(b"c"), Ok(1));
+}
+
+#[test]
+fn reads_and_writes_are_told(rt: HostRuntime) -> Result<(), Fail> {
+    let alloc = rt.alloc();
+    let input = Vec::from_slice(alloc, b"hello")?;
+    let mut wire = MemoryWire::new(alloc, input, 3, 8, Vec::new(alloc))?;
+    exchange(&rt, &mut wire);
     assert_eq!(rt; wire.output(), b"abc".as_slice());
-    let steps = [
-        WireStep::In { from: 0, to: 3 },
-        WireStep::Out { from: 0, to: 2 },
-        WireStep::In { from: 3, to: 5 },
-        WireStep::In { from: 5, to: 5 },
-        WireStep::Out { from: 2, to: 3 },
-    ];
-    assert_eq!(rt; wire.steps(), steps.as_slice());
+    assert_eq!(rt; wire.steps(), STEPS.as_slice());
     Ok(())
 }
