@@ -10,12 +10,16 @@ Over COUNT lines (1,000,000 if not given) of KEYS keys (1,000): both beside it, 
 PostgreSQL (two tables of lives as ranges, an index of one by key, then one by key and life, in a server of this script's
 own) and SQLite (an index by key), once each, where they are installed: they write the pairs in no order, and their loading
 counts. Then, of both, a step over ten edges with 100,000 rows alive on each side beside one with 100 alive, where each row
-that comes meets one. Then ten times as many lines of ten times as many keys, wanted at most 11 times as long.
+that comes meets one: its time, beside that of the yardstick, whose rows leave the caches too, and where valgrind is installed
+its instructions, which do not hang on that.
+The first steps are left out: an anti-join groups its right side, and the first row of a group that ends out of turn brings
+all rows into an index, once. Then ten times as many lines of ten times as many keys, wanted at most 11 times as long.
 Ends with status 1 where a program fails, or its bytes differ from the yardstick's, or the pairs of a database do not give
 the same lines by the definition.
 """
 import os
 import pwd
+import re
 import shutil
 import subprocess
 import sys
@@ -27,7 +31,8 @@ from runs import Run, arguments, beside, changes, digest_of, in_turn, timed
 
 STREAMS = "stream l(k int, w int); stream r(k int, x int); "
 QUERIES = {"join": STREAMS + "l | join r on k", "anti": STREAMS + "l | anti r on k"}
-STEPS = 20_000
+STEPS = 50_000
+COUNTED_STEPS = 1_000
 SEED = 7
 
 POSTGRES_LOAD = """
@@ -163,15 +168,29 @@ def write_alive(path, alive, steps):
             out.write(f"*,punct,{at + 1}\n")
 
 
-def step_time(program, folder, query, alive):
-    """The processor's microseconds of a step of the query with so many rows alive on each side."""
-    jobs = {}
-    for steps in (0, STEPS):
-        path = folder / f"steps{steps}"
-        write_alive(path, alive, steps)
-        jobs[steps] = ([program, "--query", query], path)
-    least = in_turn(jobs)
-    return (least[STEPS].processor - least[0].processor) / STEPS * 1e6
+def step_files(folder, alive, steps):
+    """Lines of so many steps and of three times as many, by their numbers of steps."""
+    for count in (steps, 3 * steps):
+        path = folder / f"steps{count}"
+        write_alive(path, alive, count)
+        yield count, path
+
+
+def step_time(words, folder, alive):
+    """The processor's microseconds of a step of the program called so, with so many rows alive on each side."""
+    least = in_turn({count: (words, path) for count, path in step_files(folder, alive, STEPS)})
+    return (least[3 * STEPS].processor - least[STEPS].processor) / (2 * STEPS) * 1e6
+
+
+def step_instructions(words, folder, alive):
+    """The instructions of such a step."""
+    counts = {}
+    for count, path in step_files(folder, alive, COUNTED_STEPS):
+        counted = ["valgrind", "--tool=callgrind", f"--callgrind-out-file={folder / 'calls'}", *words]
+        with open(path) as lines:
+            run = subprocess.run(counted, stdin=lines, stdout=subprocess.DEVNULL, stderr=subprocess.PIPE, check=True)
+        counts[count] = int(re.search(rb"Collected : (\d+)", run.stderr)[1])
+    return (counts[3 * COUNTED_STEPS] - counts[COUNTED_STEPS]) / (2 * COUNTED_STEPS)
 
 
 def jobs_of(program, yardstick, kind, lines):
@@ -202,12 +221,17 @@ def main(read):
                 good = good and run.digest == expected
             shutil.rmtree(place)
         for kind, query in QUERIES.items():
-            few, many = (step_time(program, folder, query, alive) for alive in (100, 100_000))
-            print(
-                f"a step of the {kind} over ten edges: {few:.1f} us with 100 rows alive on each side, "
-                f"{many:.1f} us with 100,000: {many / few:.2f} times",
-                flush=True,
-            )
+            words = [program, "--query", query]
+            for name_of, called in (("", words), (" by hand", [yardstick, kind])):
+                few, many = (step_time(called, folder, alive) for alive in (100, 100_000))
+                print(
+                    f"a step of the {kind}{name_of} over ten edges: {few:.1f} us with 100 rows alive on each side, "
+                    f"{many:.1f} us with 100,000: {many / few:.2f} times",
+                    flush=True,
+                )
+            if shutil.which("valgrind"):
+                few, many = (step_instructions(words, folder, alive) for alive in (100, 100_000))
+                print(f"instructions of ours: {few:.0f} and {many:.0f}, {many / few:.2f} times", flush=True)
         generate(yardstick, 10 * read.count, 10 * read.keys, lines)
         least = in_turn(jobs, 1)
         beside(f"{10 * read.count} lines, {10 * read.keys} keys", least["ours"], "a tenth of the lines", ours, 11)
