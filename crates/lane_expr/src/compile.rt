@@ -12,7 +12,7 @@ ghost use Rattle.lane_expr.specs.Registers.{datum_of, AreFilled};
 use crate::kernel::Kernel;
 use crate::registers::Register;
 use crate::step::{Step, kind_of};
-use divisor::Divisor;
+use lanes::Divisor;
 use plan_model::{Expr, ExprNode};
 use std::alloc::Global;
 use tw_rows::{CellKind, Datum, Kind, Memory, TextTable, cell_of};

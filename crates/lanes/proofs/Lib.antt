@@ -1,3 +1,4 @@
 pub mod Signed
 pub mod Parts
 mod Loads
+pub mod Dividing

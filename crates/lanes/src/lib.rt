@@ -2,9 +2,11 @@
 //! results in place.
 #![tactic(auto)]
 
+mod divisor;
 mod numbers;
 mod places;
 
+pub use divisor::Divisor;
 pub use numbers::{
     Numbers, differences, fill, load, marks_below, marks_same, negations, products, quotients,
     rests, sums,

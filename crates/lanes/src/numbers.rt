@@ -6,8 +6,8 @@ ghost use Rattle.std.specs.Ordering.{int_eq};
 ghost use Rattle.occupancy.specs.Bits.{test};
 ghost use Rattle.lanes.specs.Lanes.{number};
 
+use crate::divisor::Divisor;
 use crate::{BLOCK, EQUAL, ORDERED};
-use divisor::Divisor;
 use std::simd::prelude::*;
 
 /// 64 numbers.

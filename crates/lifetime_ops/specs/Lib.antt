@@ -1,4 +1,6 @@
--- Callers read Nodes and Saving; Times is cited by private contracts alone.
+-- Callers read Nodes, Saving, ExtendSaving and Waiting; Times is cited by private contracts alone.
 pub mod Nodes
 pub mod Saving
+pub mod ExtendSaving
+pub mod Waiting
 pub mod Times

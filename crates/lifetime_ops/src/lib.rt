@@ -1,9 +1,12 @@
-//! The operators of a Delay, a Hop and a Duration.
+//! The operators that change lifetimes: of a Delay, a Hop, a Duration and an Extend.
 #![tactic(auto)]
 
+mod alter_lifetime;
 mod change;
-mod life_operator;
+mod extend;
+mod extending;
 mod operating;
 
+pub use alter_lifetime::AlterLifetime;
 pub use change::Change;
-pub use life_operator::LifeOperator;
+pub use extend::ExtendLifetime;

@@ -2,14 +2,14 @@
 ghost use Rattle.std.specs.Prelude.{◌≡◌};
 ghost use Rattle.edge_stream.specs.Listing.{cells_of};
 
-use crate::life_operator::LifeOperator;
+use crate::alter_lifetime::AlterLifetime;
 use batch::Pools;
 use carried_edges::{are_of_parts, load_part, save_part};
 use edge_stream::{EdgeList, LoadFault, PartRow, Saved, StepFault};
 use operator::Operator;
 use tw_rows::{Memory, Time};
 
-impl Operator for LifeOperator {
+impl Operator for AlterLifetime {
     ghost use Rattle.std.specs.Prelude.{[], nat_eq, cond, Some, None, length};
     ghost use Rattle.edge_stream.specs.declared.saved.PartRow.TheVariants.{Left};
     ghost use Rattle.edge_history.specs.History.{of};

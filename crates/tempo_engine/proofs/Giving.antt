@@ -15,7 +15,7 @@ use Rattle.admission.specs.declared.policy.Policy.{Policy}
 use Rattle.ingress.specs.Admits.{IsFor, SameFixed, AreListsOf, kinds_of}
 use Rattle.ingress.specs.Fits.{plain, stream_kinds}
 use Rattle.ingress.specs.declared.ingress.Ingress.{Ingress}
-use Rattle.plan_stages.specs.Lists.{edges_at, IsListOf, AreGiven}
+use Rattle.dataflow.specs.Lists.{edges_at, IsListOf, AreGiven}
 
 cell_of_plain : (kind : Kind) → cell_kind_of (plain kind) ≡ cell_kind_of kind
 cell_of_plain Int = refl

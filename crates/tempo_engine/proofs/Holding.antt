@@ -20,9 +20,9 @@ use Rattle.admission.proofs.Finality.{end_rows, rows_final}
 use Rattle.ingress.specs.Admits.{Follows}
 use Rattle.ingress.specs.Counts.{may_hold}
 use Rattle.ingress.proofs.Reading.{follows_stand}
-use Rattle.plan_stages.specs.declared.stage.Stage.{Stage}
-use Rattle.plan_stages.specs.Flows.{DataflowView, Flows, held_from}
-use Rattle.plan_stages.specs.Stages.{entries_in}
+use Rattle.dataflow.specs.declared.stage.Stage.{Stage}
+use Rattle.dataflow.specs.Flows.{DataflowView, Flows, held_from}
+use Rattle.dataflow.specs.Stages.{entries_in}
 use Rattle.tempo_engine.specs.Output.{told}
 use Rattle.tempo_engine.specs.Went.{Went, HasFed, EngineView}
 use Rattle.tempo_engine.specs.Fed.{Fed}

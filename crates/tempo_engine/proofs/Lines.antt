@@ -12,8 +12,8 @@ use Rattle.admission.specs.Progress.{Progress, judged, progress, fault}
 use Rattle.admission.specs.Text.{written}
 use Rattle.admission.proofs.Rising.{lines_going}
 use Rattle.admission.proofs.Steps.{allowed_low}
-use Rattle.plan_stages.specs.declared.fault.PlanFault.{PlanFault}
-use Rattle.plan_stages.specs.declared.fault.PlanFault.TheVariants.{Overflow}
+use Rattle.dataflow.specs.declared.fault.PlanFault.{PlanFault}
+use Rattle.dataflow.specs.declared.fault.PlanFault.TheVariants.{Overflow}
 use Rattle.tempo_engine.specs.Faults.{IsFaultOf, undefined_at}
 use Rattle.tempo_engine.specs.Output.{item_text, result_kinds, plan_text}
 use Rattle.tempo_engine.specs.Held.{HasWorked}

@@ -30,10 +30,10 @@ use Rattle.egress.proofs.Taking.{holds_longer}
 use Rattle.ingress.specs.Admits.{SameFixed, Follows, Admits}
 use Rattle.ingress.specs.declared.ingress.Ingress.{Ingress}
 use Rattle.batch.specs.Shelves.{Shelves}
-use Rattle.plan_stages.specs.Flows.{DataflowView, HasFlowed}
-use Rattle.plan_stages.specs.Lists.{longer}
-use Rattle.plan_stages.specs.Stages.{reached}
-use Rattle.plan_stages.proofs.Growing.{flows_longer}
+use Rattle.dataflow.specs.Flows.{DataflowView, HasFlowed}
+use Rattle.dataflow.specs.Lists.{longer}
+use Rattle.dataflow.specs.Stages.{reached}
+use Rattle.dataflow.proofs.Growing.{flows_longer}
 use Rattle.tempo_engine.specs.Output.{item_text, result_kinds}
 use Rattle.tempo_engine.specs.Held.{HasWorked}
 use Rattle.tempo_engine.specs.Went.{Went}

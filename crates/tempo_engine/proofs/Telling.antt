@@ -15,8 +15,8 @@ use Rattle.admission.specs.Progress.{progress, fault}
 use Rattle.ingress.specs.Admits.{Refuses}
 use Rattle.ingress.specs.declared.ingress.Refusal.{Refusal}
 use Rattle.ingress.specs.declared.ingress.Refusal.TheVariants as refusals
-use Rattle.plan_stages.specs.declared.fault.PlanFault.{PlanFault}
-use Rattle.plan_stages.specs.declared.fault.PlanFault.TheVariants as stepping
+use Rattle.dataflow.specs.declared.fault.PlanFault.{PlanFault}
+use Rattle.dataflow.specs.declared.fault.PlanFault.TheVariants as stepping
 use Rattle.tempo_engine.specs.Faults.{IsFaultOf, unread, refused, undefined_at}
 use Rattle.tempo_engine.proofs.Feeding.{bad_fault, late_fault, unmatched_fault, overflow_fault, end_overflow}
 

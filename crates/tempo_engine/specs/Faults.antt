@@ -6,8 +6,8 @@ use Rattle.row_reader.specs.declared.entry.RowFault.TheVariants as reading
 use Rattle.admission.specs.Progress.{Fault, Malformed, TooLate, Overflowed}
 use Rattle.ingress.specs.declared.ingress.Refusal.{Refusal}
 use Rattle.ingress.specs.declared.ingress.Refusal.TheVariants as refusals
-use Rattle.plan_stages.specs.declared.fault.PlanFault.{PlanFault}
-use Rattle.plan_stages.specs.declared.fault.PlanFault.TheVariants as stepping
+use Rattle.dataflow.specs.declared.fault.PlanFault.{PlanFault}
+use Rattle.dataflow.specs.declared.fault.PlanFault.TheVariants as stepping
 use Rattle.tempo_engine.specs.declared.fault.EngineFault.{EngineFault}
 use Rattle.tempo_engine.specs.declared.fault.EngineFault.TheVariants.{Bad, Late, Overflow, Memory}
 

@@ -11,9 +11,9 @@ use Rattle.admission.specs.Entries.{Told, AreRead}
 use Rattle.admission.specs.Progress.{Progress, progress, fault}
 use Rattle.ingress.specs.Admits.{Follows}
 use Rattle.ingress.specs.Counts.{may_hold}
-use Rattle.plan_stages.specs.declared.stage.Stage.{Stage}
-use Rattle.plan_stages.specs.Flows.{Flows, held_from}
-use Rattle.plan_stages.specs.Stages.{entries_in}
+use Rattle.dataflow.specs.declared.stage.Stage.{Stage}
+use Rattle.dataflow.specs.Flows.{Flows, held_from}
+use Rattle.dataflow.specs.Stages.{entries_in}
 use Rattle.tempo_engine.specs.Went.{EngineView}
 use Rattle.tempo_engine.specs.declared.work.Work.{Work}
 

@@ -8,7 +8,7 @@ use Rattle.admission.specs.Entries.{Told, AreRead}
 use Rattle.admission.specs.Progress.{Progress, progress, fault}
 use Rattle.admission.specs.Text.{closed_up}
 use Rattle.ingress.specs.Admits.{IsFor, Admits}
-use Rattle.plan_stages.specs.Flows.{Flows}
+use Rattle.dataflow.specs.Flows.{Flows}
 use Rattle.egress.specs.Output.{Holds, IsPlacedIn}
 use Rattle.tempo_engine.specs.Output.{result_kinds}
 use Rattle.tempo_engine.specs.declared.fault.EngineFault.{EngineFault}

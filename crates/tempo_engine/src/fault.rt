@@ -2,8 +2,8 @@
 ghost use Rattle.std.specs.Prelude.{◌≡◌};
 ghost use Rattle.tempo_engine.specs.Faults.{unread, refused, undefined_at};
 
+use dataflow::PlanFault;
 use ingress::Refusal;
-use plan_stages::PlanFault;
 use row_reader::{BadLine, RowFault};
 use tw_rows::Time;
 

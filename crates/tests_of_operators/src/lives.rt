@@ -1,8 +1,7 @@
 // Operators that change lives: what they carry is saved and loaded.
 use crate::made::Line;
 use crate::stepping::{Step, first_step, later_step};
-use extend_op::ExtendOperator;
-use lifetime_ops::{Change, LifeOperator};
+use lifetime_ops::{AlterLifetime, Change, ExtendLifetime};
 use std::alloc::Global;
 use std::process::Abort;
 use std::test::Fail;
@@ -22,7 +21,7 @@ fn check(
         left_to: 12,
         right_to: 0,
     };
-    let operator = LifeOperator::new(alloc, change, &[Kind::Int], 2)?;
+    let operator = AlterLifetime::new(alloc, change, &[Kind::Int], 2)?;
     let (told, saved) = first_step(rt, alloc, operator, &[], &first)?;
     assert_eq!(rt; told.as_slice(), early);
     let second = Step {
@@ -31,7 +30,7 @@ fn check(
         left_to: 20,
         right_to: 0,
     };
-    let operator = LifeOperator::new(alloc, change, &[Kind::Int], 2)?;
+    let operator = AlterLifetime::new(alloc, change, &[Kind::Int], 2)?;
     let told = later_step(rt, alloc, operator, &[], (&first, &saved), &second)?;
     assert_eq!(rt; told.as_slice(), late);
     Ok(())
@@ -67,7 +66,7 @@ fn extended_ends_are_saved_and_loaded(rt: HostRuntime) -> Result<(), Fail> {
         left_to: 7,
         right_to: 0,
     };
-    let operator = ExtendOperator::new(alloc, 4, &[Kind::Int], 2)?;
+    let operator = ExtendLifetime::new(alloc, 4, &[Kind::Int], 2)?;
     let (told, saved) = first_step(&rt, alloc, operator, &[], &first)?;
     assert_eq!(rt; told.as_slice(), [(3, 9, 1)].as_slice());
     let second = Step {
@@ -76,7 +75,7 @@ fn extended_ends_are_saved_and_loaded(rt: HostRuntime) -> Result<(), Fail> {
         left_to: 12,
         right_to: 0,
     };
-    let operator = ExtendOperator::new(alloc, 4, &[Kind::Int], 2)?;
+    let operator = ExtendLifetime::new(alloc, 4, &[Kind::Int], 2)?;
     let told = later_step(&rt, alloc, operator, &[], (&first, &saved), &second)?;
     assert_eq!(rt; told.as_slice(), [(8, 13, 3), (10, 2, 2)].as_slice());
     Ok(())

@@ -6,7 +6,7 @@ use clip_op::Clip;
 use std::test::Fail;
 use temporal_join::Join;
 use tw_rows::Kind;
-use union_clip::UnionOperator;
+use union_op::Union;
 
 const INT: [Kind; 1] = [Kind::Int];
 
@@ -19,7 +19,7 @@ fn sides_of_a_union_wait_for_each_other(rt: HostRuntime) -> Result<(), Fail> {
         left_to: 4,
         right_to: 7,
     };
-    let operator = UnionOperator::new(alloc, &INT, 2)?;
+    let operator = Union::new(alloc, &INT, 2)?;
     let (told, saved) = first_step(&rt, alloc, operator, &INT, &first)?;
     assert_eq!(rt; told.as_slice(), [(3, 7, 1), (3, 7, 1)].as_slice());
     let second = Step {
@@ -28,7 +28,7 @@ fn sides_of_a_union_wait_for_each_other(rt: HostRuntime) -> Result<(), Fail> {
         left_to: 8,
         right_to: 8,
     };
-    let operator = UnionOperator::new(alloc, &INT, 2)?;
+    let operator = Union::new(alloc, &INT, 2)?;
     let told = later_step(&rt, alloc, operator, &INT, (&first, &saved), &second)?;
     assert_eq!(rt; told.as_slice(), [(4, 9, 3), (5, 6, 2)].as_slice());
     Ok(())

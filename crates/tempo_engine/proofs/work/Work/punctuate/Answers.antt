@@ -8,7 +8,7 @@ use Rattle.node_laws.specs.Standing.{SourcesStandRead}
 use Rattle.admission.specs.Admission.{rows}
 use Rattle.egress.specs.Output.{Holds}
 use Rattle.egress.specs.Print.{print, punctuation_if}
-use Rattle.plan_stages.specs.Lists.{AreGiven, edges_at, longer}
+use Rattle.dataflow.specs.Lists.{AreGiven, edges_at, longer}
 use Rattle.tempo_engine.specs.Output.{result_kinds}
 use Rattle.ingress.proofs.Reading.{follows_stand}
 use Rattle.tempo_engine.proofs.Giving.{given_are}

@@ -1,0 +1,341 @@
+-- Stages as they are made.
+use Rattle.std.specs.Prelude.{◌≡◌, ℕ, zero, suc, ◌<◌, ◌≤◌, true, false, Some, List, [], ◌∷◌, map, length, get_or, slice_get, slice_index_or, All}
+use Rattle.std.proofs.Common.{refl, sym, ap, subst, ◌∙◌, arith}
+use Rattle.std.proofs.lemmas.List.{length-map}
+use Rattle.std.proofs.lemmas.List.Elements.{All-head, All-tail}
+use Rattle.std.proofs.lemmas.Option.{slice_get-get_or, slice_get_within}
+use Rattle.tw_rows.specs.Kinds.{cell_kind_of}
+use Rattle.tw_rows.specs.declared.kind.Kind.{Kind}
+use Rattle.tw_rows.specs.declared.schema.StreamDef.{StreamDef}
+use Rattle.edge_stream.specs.Listing.{EdgeListView, cells_of}
+use Rattle.plan_model.specs.declared.node.Node.{Node}
+use Rattle.plan_model.specs.declared.node.Node.TheVariants.{Source, Where, Select, Union as UnionNode, Delay as DelayNode, Hop as HopNode, Duration as DurationNode, Extend as ExtendNode, Session as SessionNode, Clip as ClipNode, Group as GroupNode, Join as JoinNode, Anti as AntiNode, Coalesce, Mean, Top, Follow}
+use Rattle.plan_model.specs.IsPlan.{PlanParts, IsPlan, kinds_at, kinds_of_schema, kinds_of_stream, node_kinds}
+use Rattle.plan_model.specs.Shape.{Shape, Stream, One, Two, shape, left_in, read_left, HasLower}
+use Rattle.built_nodes.specs.Built.{is_built}
+use Rattle.row_stage.specs.Stages.{is_of_rows}
+use Rattle.life_laws.proofs.Lives.{lives_opening}
+use Rattle.life_laws.proofs.Unions.{union_opening}
+use Rattle.life_laws.proofs.Extending.{extended_opening}
+use Rattle.lifetime_ops.specs.Nodes.{node_of}
+use Rattle.lifetime_ops.specs.declared.change.Change.{Change}
+use Rattle.lifetime_ops.specs.declared.change.Change.TheVariants.{Delay, Hop, Duration}
+use Rattle.lifetime_ops.specs.declared.alter_lifetime.AlterLifetime.{AlterLifetime}
+use Rattle.union_op.specs.declared.union.Union.{Union as UnionOperator}
+use Rattle.lifetime_ops.specs.Waiting.{edges_of_pending}
+use Rattle.lifetime_ops.specs.declared.extend.ExtendLifetime.{ExtendLifetime}
+use Rattle.plan_model.specs.Keys.{paired_row}
+use Rattle.temporal_join.specs.States.{IsOpening as IsJoinOpening}
+use Rattle.temporal_join.specs.declared.join.Join.{Join as JoinOperator}
+use Rattle.temporal_join.proofs.Answering.{pair_mapped}
+use Rattle.temporal_join.proofs.Resuming.{join_opening}
+use Rattle.plan_model.specs.declared.agg.Agg.{Agg}
+use Rattle.snapshot_agg.specs.Answering.{group_kinds}
+use Rattle.snapshot_agg.specs.Keeping.{IsOpening}
+use Rattle.snapshot_agg.specs.declared.grouped.Grouped.{Grouped}
+use Rattle.dataflow.proofs.Grouping.{grouped_opens}
+use Rattle.anti_join.specs.States.{IsOpening as IsAntiOpening}
+use Rattle.clip_op.specs.States.{IsOpening as IsClipOpening}
+use Rattle.anti_join.specs.declared.anti.Anti.{Anti as AntiOperator}
+use Rattle.clip_op.specs.declared.clip.Clip.{Clip as ClipOperator}
+use Rattle.anti_join.proofs.Resuming.{anti_opening}
+use Rattle.clip_op.proofs.Resuming.{clip_opening}
+use Rattle.session_window.specs.States.{IsOpening as IsSessionOpening}
+use Rattle.session_window.specs.declared.session.Session.{Session as SessionOperator}
+use Rattle.session_window.proofs.Resuming.{session_opening}
+use Rattle.dataflow.specs.declared.stage.Stage.TheVariants.{Life, Union, Extend, Join, Group, Anti, Session, Clip}
+use Rattle.dataflow.specs.Operating.{MeanAlike}
+use Rattle.dataflow.specs.Stages.{left_kinds, right_kinds, changing, StartsFor}
+
+-- no stream has more columns than a plan may have
+abbrev IsNarrow : StreamDef → Type 0
+IsNarrow stream = length stream.schema ≤ 32
+
+stream_narrow : (streams : List StreamDef) → All IsNarrow streams → (s : ℕ) → length (slice_index_or (map (λ d. kinds_of_schema d.schema) streams) s []) ≤ 32
+stream_narrow [] narrow s = omega arith
+stream_narrow (d ∷ ds) narrow zero = (let count = length-map d.schema (λ c. cell_kind_of c.kind) in let low = All-head IsNarrow d ds narrow in omega (arith, count, low))
+stream_narrow (d ∷ ds) narrow (suc s) = stream_narrow ds (All-tail IsNarrow d ds narrow) s
+
+-- and so a node reads no more
+module _ (plan : PlanParts) (whole : IsPlan plan) where
+  child_narrow : (i k : ℕ) → i ≤ length plan.nodes → k < i → length (kinds_at plan.schemas k) ≤ 32
+  child_narrow i k all low =
+      let there = slice_get-get_or plan.nodes k (Source 0) (omega (arith, all, low)) in
+      let narrow = (whole.nodes_are.each k (get_or plan.nodes k (Source 0)) there).narrow in
+      let count = length-map (slice_index_or plan.schemas k []) (λ c. cell_kind_of c.kind) in
+      omega (arith, narrow, count)
+
+  read_narrow : (i : ℕ) (s : Shape) → i ≤ length plan.nodes → HasLower i (left_in s) → length (read_left [] (kinds_of_stream plan.streams) (kinds_at plan.schemas) s) ≤ 32
+  read_narrow i (Stream stream) all lower = stream_narrow plan.streams whole.nodes_are.narrow_streams stream
+  read_narrow i (One child) all lower = child_narrow i child all lower
+  read_narrow i (Two left right) all lower = child_narrow i left all lower
+
+  pub left_narrow : (i : ℕ) (n : Node) → slice_get plan.nodes i ≡ Some n → length (left_kinds plan n) ≤ 32
+  left_narrow i n there = read_narrow i (shape n) (let low = slice_get_within plan.nodes i n there in omega (arith, low)) (whole.nodes_are.each i n there).left_lower
+
+  pub narrow_read : (i : ℕ) → i < length plan.nodes → (kinds : List Kind) → ((n : Node) → slice_get plan.nodes i ≡ Some n → map cell_kind_of kinds ≡ left_kinds plan n) → length kinds ≤ 32
+  narrow_read i low kinds read =
+      let n = get_or plan.nodes i (Source 0) in
+      let there = slice_get-get_or plan.nodes i (Source 0) low in
+      let count = length-map kinds cell_kind_of in
+      let same = ap length (read n there) in
+      let narrow = left_narrow i n there in
+      omega (arith, count, same, narrow)
+
+-- of the nodes that are built those that no other stage computes are of rows
+pub rows_left : (n : Node) → is_built n ≡ true → ((left right : ℕ) → n ≡ UnionNode left right → ⊥) → ((of by : ℕ) → n ≡ DelayNode of by → ⊥) → ((of size period : ℕ) → n ≡ HopNode of size period → ⊥) →
+    ((of by : ℕ) → n ≡ DurationNode of by → ⊥) → ((of by : ℕ) → n ≡ ExtendNode of by → ⊥) → ((left right : ℕ) (left_key right_key : List ℕ) → n ≡ JoinNode left right left_key right_key → ⊥) → ((of : ℕ) (key : List ℕ) (aggs : List Agg) → n ≡ GroupNode of key aggs → ⊥) → ((left right : ℕ) (left_key right_key : List ℕ) → n ≡ AntiNode left right left_key right_key → ⊥) → ((of timeout : ℕ) (key : List ℕ) → n ≡ SessionNode of timeout key → ⊥) → ((left right : ℕ) (left_key right_key : List ℕ) → n ≡ ClipNode left right left_key right_key → ⊥) → is_of_rows n ≡ true
+rows_left (Source stream) built u d h l e j g a s c = refl
+rows_left (Where of test) built u d h l e j g a s c = refl
+rows_left (Select of items) built u d h l e j g a s c = refl
+rows_left (UnionNode left right) built u d h l e j g a s c = absurd (u left right refl)
+rows_left (DelayNode of by) built u d h l e j g a s c = absurd (d of by refl)
+rows_left (HopNode of size period) built u d h l e j g a s c = absurd (h of size period refl)
+rows_left (DurationNode of by) built u d h l e j g a s c = absurd (l of by refl)
+rows_left (ExtendNode of by) built u d h l e j g a s c = absurd (e of by refl)
+rows_left (SessionNode of timeout key) built u d h l e j g a s c = absurd (s of timeout key refl)
+rows_left (ClipNode left right left_key right_key) built u d h l e j g a s c = absurd (c left right left_key right_key refl)
+rows_left (GroupNode of key aggs) built u d h l e j g a s c = absurd (g of key aggs refl)
+rows_left (JoinNode left right left_key right_key) built u d h l e j g a s c = absurd (j left right left_key right_key refl)
+rows_left (AntiNode left right left_key right_key) built u d h l e j g a s c = absurd (a left right left_key right_key refl)
+rows_left (Coalesce of) built u d h l e j g a s c = absurd (cc)
+rows_left (Mean of at) built u d h l e j g a s c = absurd (cc)
+rows_left (Top of key by count) built u d h l e j g a s c = absurd (cc)
+rows_left (Follow left right left_key right_key within) built u d h l e j g a s c = absurd (cc)
+
+-- a list that was just made
+abbrev pub fresh_list : List Kind → ℕ → EdgeListView
+fresh_list kinds capacity = record { edges = []; kinds = kinds; capacity = capacity; batches = 0; room = 0 }
+
+changes_alike : (of : ℕ) (change : Change) → MeanAlike (changing of change) (node_of change)
+changes_alike of (Delay by) = record { events = λ l r. refl; closes = λ x y. refl; undefined = λ rows. refl; held = λ x y hl hr. refl }
+changes_alike of (Hop size period) = record { events = λ l r. refl; closes = λ x y. refl; undefined = λ rows. refl; held = λ x y hl hr. refl }
+changes_alike of (Duration by) = record { events = λ l r. refl; closes = λ x y. refl; undefined = λ rows. refl; held = λ x y hl hr. refl }
+
+changes_right : (plan : PlanParts) (of : ℕ) (change : Change) → [] ≡ right_kinds plan (changing of change)
+changes_right plan of (Delay by) = refl
+changes_right plan of (Hop size period) = refl
+changes_right plan of (Duration by) = refl
+
+module _ (plan : PlanParts) (capacity : ℕ) (kinds : List Kind) (texts : List (List ℕ)) where
+  pub life_starts : (of : ℕ) (change : Change) (o : AlterLifetime) → o.change ≡ change → o.carried ≡ fresh_list kinds capacity → o.left_to ≡ 0 → o.right_to ≡ 0 → o.failed ≡ false →
+      map cell_kind_of kinds ≡ left_kinds plan (changing of change) → StartsFor texts capacity plan (changing of change) (Life o)
+  life_starts of change o same carried left_to right_to works read = record {
+    ready = record {
+      node = subst (λ k. MeanAlike (changing of change) (node_of k)) (sym same) (changes_alike of change);
+      works = works;
+      left_closed = left_to;
+      right_closed = right_to;
+      left_kinds = ap cells_of carried ∙ read;
+      right_kinds = changes_right plan of change;
+      own_kinds = ap cells_of carried ∙ read ∙ own of change;
+      batch_rows = ap (λ l. l.capacity) carried;
+    };
+    opens = lives_opening (node_of o.change) texts o.left_to o.right_to o.carried.edges (ap (λ l. l.edges) carried) left_to right_to;
+  }
+    where
+      own : (of : ℕ) (change : Change) → left_kinds plan (changing of change) ≡ node_kinds (changing of change) (left_kinds plan (changing of change)) (right_kinds plan (changing of change))
+      own of (Delay by) = refl
+      own of (Hop size period) = refl
+      own of (Duration by) = refl
+
+  pub extend_starts : (of by : ℕ) (o : ExtendLifetime) → o.by ≡ by → o.carried ≡ fresh_list kinds capacity → o.ends ≡ [] → o.left_to ≡ 0 → o.right_to ≡ 0 → o.failed ≡ false →
+      map cell_kind_of kinds ≡ left_kinds plan (ExtendNode of by) → StartsFor texts capacity plan (ExtendNode of by) (Extend o)
+  extend_starts of by o same carried none left_to right_to works read = record {
+    ready = record {
+      node = subst (λ k. MeanAlike (ExtendNode of by) (ExtendNode 0 k)) (sym same) (record { events = λ l r. refl; closes = λ x y. refl; undefined = λ rows. refl; held = λ x y hl hr. refl });
+      works = works;
+      left_closed = left_to;
+      right_closed = right_to;
+      left_kinds = ap cells_of carried ∙ read;
+      right_kinds = refl;
+      own_kinds = ap cells_of carried ∙ read;
+      batch_rows = ap (λ l. l.capacity) carried;
+    };
+    opens = extended_opening o.by texts o.left_to o.right_to o.carried.edges (edges_of_pending o.ends) (ap (λ l. l.edges) carried) (ap edges_of_pending none) left_to right_to;
+  }
+
+  pub union_starts : (left right : ℕ) (o : UnionOperator) → o.left ≡ fresh_list kinds capacity → o.right ≡ o.left → o.left_to ≡ 0 → o.right_to ≡ 0 → o.failed ≡ false →
+      map cell_kind_of kinds ≡ left_kinds plan (UnionNode left right) → left_kinds plan (UnionNode left right) ≡ right_kinds plan (UnionNode left right) → StartsFor texts capacity plan (UnionNode left right) (Union o)
+  union_starts left right o made like left_to right_to works read alike = record {
+    ready = record {
+      node = record { events = λ l r. refl; closes = λ x y. refl; undefined = λ rows. refl; held = λ x y hl hr. refl };
+      works = works;
+      left_closed = left_to;
+      right_closed = right_to;
+      left_kinds = ap cells_of made ∙ read;
+      right_kinds = ap cells_of made ∙ read ∙ alike;
+      own_kinds = ap cells_of made ∙ read;
+      batch_rows = ap (λ l. l.capacity) made;
+    };
+    opens = union_opening texts o.left_to o.right_to o.left.edges o.right.edges (ap (λ l. l.edges) made) (ap (λ l. l.edges) (like ∙ made)) left_to right_to;
+  }
+
+-- both sides of a union have the same columns
+pub union_alike : (plan : PlanParts) → IsPlan plan → (i left right : ℕ) → slice_get plan.nodes i ≡ Some (UnionNode left right) → left_kinds plan (UnionNode left right) ≡ right_kinds plan (UnionNode left right)
+union_alike plan whole i left right there = (whole.nodes_are.each i (UnionNode left right) there).sound
+
+-- the kinds of a node's own columns
+pub own_kinds_are : (plan : PlanParts) → IsPlan plan → (i : ℕ) (n : Node) → slice_get plan.nodes i ≡ Some n → kinds_at plan.schemas i ≡ node_kinds n (left_kinds plan n) (right_kinds plan n)
+own_kinds_are plan whole i n there = (whole.nodes_are.each i n there).kinds
+
+pub told_narrow : (plan : PlanParts) → IsPlan plan → (i : ℕ) → i < length plan.nodes → (kinds : List Kind) → map cell_kind_of kinds ≡ kinds_at plan.schemas i → length kinds ≤ 32
+told_narrow plan whole i low kinds told =
+    let there = slice_get-get_or plan.nodes i (Source 0) low in
+    let narrow = (whole.nodes_are.each i (get_or plan.nodes i (Source 0)) there).narrow in
+    let count = length-map (slice_index_or plan.schemas i []) (λ c. cell_kind_of c.kind) in
+    let mapped = length-map kinds cell_kind_of in
+    let same = ap length told in
+    omega (arith, narrow, count, mapped, same)
+
+-- the right child of a join is a node of the plan, and the join is not too wide
+pub join_right : (plan : PlanParts) → IsPlan plan → (i left right : ℕ) (left_key right_key : List ℕ) → slice_get plan.nodes i ≡ Some (JoinNode left right left_key right_key) → right < length plan.nodes
+join_right plan whole i left right left_key right_key there =
+    let lower : right < i = (whole.nodes_are.each i (JoinNode left right left_key right_key) there).right_lower in
+    let low = slice_get_within plan.nodes i (JoinNode left right left_key right_key) there in
+    omega (arith, lower, low)
+
+join_kinds : (plan : PlanParts) (left right : ℕ) (left_key right_key : List ℕ) (l r : List Kind) → map cell_kind_of l ≡ left_kinds plan (JoinNode left right left_key right_key) → map cell_kind_of r ≡ kinds_at plan.schemas right →
+    map cell_kind_of (paired_row right_key l r) ≡ node_kinds (JoinNode left right left_key right_key) (left_kinds plan (JoinNode left right left_key right_key)) (right_kinds plan (JoinNode left right left_key right_key))
+join_kinds plan left right left_key right_key l r read told = sym (pair_mapped cell_kind_of right_key l r) ∙ (λ i. paired_row right_key (read i) (told i))
+
+pub join_narrow : (plan : PlanParts) → IsPlan plan → (i left right : ℕ) (left_key right_key : List ℕ) → slice_get plan.nodes i ≡ Some (JoinNode left right left_key right_key) → (l r : List Kind) →
+    map cell_kind_of l ≡ left_kinds plan (JoinNode left right left_key right_key) → map cell_kind_of r ≡ kinds_at plan.schemas right → length (paired_row right_key l r) ≤ 32
+join_narrow plan whole i left right left_key right_key there l r read told =
+    told_narrow plan whole i (slice_get_within plan.nodes i (JoinNode left right left_key right_key) there) (paired_row right_key l r)
+    (join_kinds plan left right left_key right_key l r read told ∙ sym (own_kinds_are plan whole i (JoinNode left right left_key right_key) there))
+
+join_alike : (left right : ℕ) (left_key right_key : List ℕ) → MeanAlike (JoinNode left right left_key right_key) (JoinNode 0 1 left_key right_key)
+join_alike left right left_key right_key = record { events = λ l r. refl; closes = λ x y. refl; undefined = λ rows. refl; held = λ x y hl hr. refl }
+
+pub join_starts : (plan : PlanParts) (capacity : ℕ) (l r : List Kind) (texts : List (List ℕ)) (left right : ℕ) (left_key right_key : List ℕ) (o : JoinOperator) →
+    o.sides.rows.left_key.items ≡ left_key → o.sides.rows.right_key.items ≡ right_key → o.left_kinds.items ≡ l → o.right_kinds.items ≡ r → o.own_kinds.items ≡ paired_row right_key l r → o.capacity ≡ capacity →
+    IsJoinOpening o.sides.rows.left.rows o.sides.rows.right.rows o.sides.left_waiting o.sides.right_waiting o.left_to o.right_to o.failed →
+    map cell_kind_of l ≡ left_kinds plan (JoinNode left right left_key right_key) → map cell_kind_of r ≡ kinds_at plan.schemas right → StartsFor texts capacity plan (JoinNode left right left_key right_key) (Join o)
+join_starts plan capacity l r texts left right left_key right_key o same_left same_right left_like right_like own_like rows opening read told = record {
+  ready = record {
+    node = subst (λ k. MeanAlike (JoinNode left right left_key right_key) (JoinNode 0 1 k o.sides.rows.right_key.items)) (sym same_left)
+        (subst (λ k. MeanAlike (JoinNode left right left_key right_key) (JoinNode 0 1 left_key k)) (sym same_right) (join_alike left right left_key right_key));
+    works = opening.works;
+    left_closed = opening.left_open;
+    right_closed = opening.right_open;
+    left_kinds = ap (map cell_kind_of) left_like ∙ read;
+    right_kinds = ap (map cell_kind_of) right_like ∙ told;
+    own_kinds = ap (map cell_kind_of) own_like ∙ join_kinds plan left right left_key right_key l r read told;
+    batch_rows = rows;
+  };
+  opens = join_opening o.sides.rows.left_key.items o.sides.rows.right_key.items (map cell_kind_of o.left_kinds.items) (map cell_kind_of o.right_kinds.items) texts o.left_to o.right_to o.sides.rows.left.rows o.sides.rows.right.rows
+      o.sides.left_waiting o.sides.right_waiting opening.left_empty opening.right_empty opening.none_left opening.none_right opening.left_open opening.right_open;
+}
+
+-- the columns of a group follow from those of its child
+pub group_like : (plan : PlanParts) → IsPlan plan → (i of : ℕ) (key : List ℕ) (aggs : List Agg) → slice_get plan.nodes i ≡ Some (GroupNode of key aggs) → (l own : List Kind) →
+    map cell_kind_of l ≡ left_kinds plan (GroupNode of key aggs) → map cell_kind_of own ≡ kinds_at plan.schemas i → map cell_kind_of own ≡ group_kinds key aggs (map cell_kind_of l)
+group_like plan whole i of key aggs there l own read told = told ∙ own_kinds_are plan whole i (GroupNode of key aggs) there ∙ ap (group_kinds key aggs) (sym read)
+
+group_alike : (of : ℕ) (key : List ℕ) (aggs : List Agg) → MeanAlike (GroupNode of key aggs) (GroupNode 0 key aggs)
+group_alike of key aggs = record { events = λ l r. refl; closes = λ x y. refl; undefined = λ rows. refl; held = λ x y hl hr. refl }
+
+pub group_starts : (plan : PlanParts) → IsPlan plan → (i capacity : ℕ) (left own : List Kind) (texts : List (List ℕ)) (of : ℕ) (key : List ℕ) (aggs : List Agg) → slice_get plan.nodes i ≡ Some (GroupNode of key aggs) →
+    (o : Grouped) → o.groups.key.items ≡ key → o.groups.aggs.items ≡ aggs → o.left_kinds.items ≡ left → o.kinds.items ≡ own → o.capacity ≡ capacity →
+    IsOpening o.groups.rows.rows o.running o.waiting o.left_to o.right_to o.failed → map cell_kind_of left ≡ left_kinds plan (GroupNode of key aggs) → map cell_kind_of own ≡ kinds_at plan.schemas i →
+    StartsFor texts capacity plan (GroupNode of key aggs) (Group o)
+group_starts plan whole i capacity left own texts of key aggs there o same_key same_aggs left_like own_like rows opening read told = record {
+  ready = record {
+    node = subst (λ k. MeanAlike (GroupNode of key aggs) (GroupNode 0 k o.groups.aggs.items)) (sym same_key) (subst (λ a. MeanAlike (GroupNode of key aggs) (GroupNode 0 key a)) (sym same_aggs) (group_alike of key aggs));
+    works = opening.works;
+    left_closed = opening.left;
+    right_closed = opening.right;
+    left_kinds = ap (map cell_kind_of) left_like ∙ read;
+    right_kinds = refl;
+    own_kinds = ap (map cell_kind_of) own_like ∙ told ∙ own_kinds_are plan whole i (GroupNode of key aggs) there;
+    batch_rows = rows;
+  };
+  opens = grouped_opens o.groups.key.items o.groups.aggs.items texts o.groups.rows.rows o.running o.waiting o.left_to o.right_to o.failed opening;
+}
+
+-- the right child of an anti-join is a node of the plan
+pub anti_right : (plan : PlanParts) → IsPlan plan → (i left right : ℕ) (left_key right_key : List ℕ) → slice_get plan.nodes i ≡ Some (AntiNode left right left_key right_key) → right < length plan.nodes
+anti_right plan whole i left right left_key right_key there =
+    let lower : right < i = (whole.nodes_are.each i (AntiNode left right left_key right_key) there).right_lower in
+    let low = slice_get_within plan.nodes i (AntiNode left right left_key right_key) there in
+    omega (arith, lower, low)
+
+anti_alike : (left right : ℕ) (left_key right_key : List ℕ) → MeanAlike (AntiNode left right left_key right_key) (AntiNode 0 1 left_key right_key)
+anti_alike left right left_key right_key = record { events = λ l r. refl; closes = λ x y. refl; undefined = λ rows. refl; held = λ x y hl hr. refl }
+
+pub anti_starts : (plan : PlanParts) (capacity : ℕ) (l r : List Kind) (texts : List (List ℕ)) (left right : ℕ) (left_key right_key : List ℕ) (o : AntiOperator) →
+    o.sides.rows.left_key.columns ≡ left_key → o.sides.rows.right_key.columns ≡ right_key → o.left_kinds.items ≡ l → o.right_kinds.items ≡ r → o.capacity ≡ capacity →
+    IsAntiOpening o.sides.rows.left.rows o.sides.rows.right.rows o.sides.rows.times.rows o.sides.left_waiting o.sides.right_waiting o.left_to o.right_to o.failed →
+    map cell_kind_of l ≡ left_kinds plan (AntiNode left right left_key right_key) → map cell_kind_of r ≡ kinds_at plan.schemas right → StartsFor texts capacity plan (AntiNode left right left_key right_key) (Anti o)
+anti_starts plan capacity l r texts left right left_key right_key o same_left same_right left_like right_like rows opening read told = record {
+  ready = record {
+    node = subst (λ k. MeanAlike (AntiNode left right left_key right_key) (AntiNode 0 1 k o.sides.rows.right_key.columns)) (sym same_left)
+        (subst (λ k. MeanAlike (AntiNode left right left_key right_key) (AntiNode 0 1 left_key k)) (sym same_right) (anti_alike left right left_key right_key));
+    works = opening.works;
+    left_closed = opening.left_open;
+    right_closed = opening.right_open;
+    left_kinds = ap (map cell_kind_of) left_like ∙ read;
+    right_kinds = ap (map cell_kind_of) right_like ∙ told;
+    own_kinds = ap (map cell_kind_of) left_like ∙ read;
+    batch_rows = rows;
+  };
+  opens = anti_opening o.sides.rows.left_key.columns o.sides.rows.right_key.columns (map cell_kind_of o.left_kinds.items) (map cell_kind_of o.right_kinds.items) texts o.left_to o.right_to o.sides.rows.left.rows o.sides.rows.right.rows o.sides.rows.times.rows
+      o.sides.left_waiting o.sides.right_waiting opening.left_empty opening.right_empty opening.times_empty opening.none_left opening.none_right opening.left_open opening.right_open;
+}
+
+-- the timeout of a session of a plan is at least 1
+pub session_lasts : (plan : PlanParts) → IsPlan plan → (i of timeout : ℕ) (key : List ℕ) → slice_get plan.nodes i ≡ Some (SessionNode of timeout key) → 1 ≤ timeout
+session_lasts plan whole i of timeout key there = (whole.nodes_are.each i (SessionNode of timeout key) there).sound.0
+
+session_alike : (of timeout : ℕ) (key : List ℕ) → MeanAlike (SessionNode of timeout key) (SessionNode 0 timeout key)
+session_alike of timeout key = record { events = λ l r. refl; closes = λ x y. refl; undefined = λ rows. refl; held = λ x y hl hr. refl }
+
+pub session_starts : (plan : PlanParts) (capacity : ℕ) (l : List Kind) (texts : List (List ℕ)) (of timeout : ℕ) (key : List ℕ) (o : SessionOperator) →
+    o.side.sessions.rows.key ≡ key → o.side.sessions.timeout ≡ timeout → o.kinds.items ≡ l → o.capacity ≡ capacity →
+    IsSessionOpening o.side.sessions.rows.rows o.side.sessions.ends o.side.waiting o.left_to o.right_to o.failed →
+    map cell_kind_of l ≡ left_kinds plan (SessionNode of timeout key) → StartsFor texts capacity plan (SessionNode of timeout key) (Session o)
+session_starts plan capacity l texts of timeout key o same_key same_timeout like rows opening read = record {
+  ready = record {
+    node = subst (λ k. MeanAlike (SessionNode of timeout key) (SessionNode 0 o.side.sessions.timeout k)) (sym same_key)
+        (subst (λ n. MeanAlike (SessionNode of timeout key) (SessionNode 0 n key)) (sym same_timeout) (session_alike of timeout key));
+    works = opening.works;
+    left_closed = opening.left;
+    right_closed = opening.right;
+    left_kinds = ap (map cell_kind_of) like ∙ read;
+    right_kinds = refl;
+    own_kinds = ap (map cell_kind_of) like ∙ read;
+    batch_rows = rows;
+  };
+  opens = session_opening o.side.sessions.rows.key o.side.sessions.timeout (map cell_kind_of o.kinds.items) o.positive texts o.side.sessions.rows.rows o.side.sessions.ends o.side.waiting o.left_to o.right_to o.failed opening;
+}
+
+-- the right child of a clip is a node of the plan
+pub clip_right : (plan : PlanParts) → IsPlan plan → (i left right : ℕ) (left_key right_key : List ℕ) → slice_get plan.nodes i ≡ Some (ClipNode left right left_key right_key) → right < length plan.nodes
+clip_right plan whole i left right left_key right_key there =
+    let lower : right < i = (whole.nodes_are.each i (ClipNode left right left_key right_key) there).right_lower in
+    let low = slice_get_within plan.nodes i (ClipNode left right left_key right_key) there in
+    omega (arith, lower, low)
+
+clip_alike : (left right : ℕ) (left_key right_key : List ℕ) → MeanAlike (ClipNode left right left_key right_key) (ClipNode 0 1 left_key right_key)
+clip_alike left right left_key right_key = record { events = λ l r. refl; closes = λ x y. refl; undefined = λ rows. refl; held = λ x y hl hr. refl }
+
+pub clip_starts : (plan : PlanParts) (capacity : ℕ) (l r : List Kind) (texts : List (List ℕ)) (left right : ℕ) (left_key right_key : List ℕ) (o : ClipOperator) →
+    o.sides.rows.left.key ≡ left_key → o.sides.rows.right_key.columns ≡ right_key → o.left_kinds.items ≡ l → o.right_kinds.items ≡ r → o.capacity ≡ capacity →
+    IsClipOpening o.sides.rows.left.rows o.sides.left_waiting o.sides.right_waiting o.left_to o.right_to o.failed →
+    map cell_kind_of l ≡ left_kinds plan (ClipNode left right left_key right_key) → map cell_kind_of r ≡ kinds_at plan.schemas right → StartsFor texts capacity plan (ClipNode left right left_key right_key) (Clip o)
+clip_starts plan capacity l r texts left right left_key right_key o same_left same_right left_like right_like rows opening read told = record {
+  ready = record {
+    node = subst (λ k. MeanAlike (ClipNode left right left_key right_key) (ClipNode 0 1 k o.sides.rows.right_key.columns)) (sym same_left)
+        (subst (λ k. MeanAlike (ClipNode left right left_key right_key) (ClipNode 0 1 left_key k)) (sym same_right) (clip_alike left right left_key right_key));
+    works = opening.works;
+    left_closed = opening.left_open;
+    right_closed = opening.right_open;
+    left_kinds = ap (map cell_kind_of) left_like ∙ read;
+    right_kinds = ap (map cell_kind_of) right_like ∙ told;
+    own_kinds = ap (map cell_kind_of) left_like ∙ read;
+    batch_rows = rows;
+  };
+  opens = clip_opening o.sides.rows.left.key o.sides.rows.right_key.columns (map cell_kind_of o.left_kinds.items) (map cell_kind_of o.right_kinds.items) texts o.left_to o.right_to o.sides.rows.left.rows
+      o.sides.left_waiting o.sides.right_waiting opening.left_empty opening.none_left opening.none_right opening.left_open opening.right_open;
+}

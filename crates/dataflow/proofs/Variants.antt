@@ -1,0 +1,95 @@
+-- Stages that are operators: what a step of any operator tells is what a step of a stage owes.
+use Rattle.std.specs.Prelude.{◌≡◌, ◌≤◌, ◌-◌, ◌^◌, ℕ, min, Option, Some, None, List, Result, IfOk, IfErr, OnOk}
+use Rattle.std.proofs.Common.{sym, subst, arith}
+use Rattle.std.proofs.lemmas.Result.{IfOk-weaker, IfErr-weaker, on_ok_weaker}
+use Rattle.tw_rows.specs.declared.edge.Edge.{Edge}
+use Rattle.tw_rows.specs.declared.kind.CellKind.{CellKind}
+use Rattle.edge_stream.specs.Listing.{EdgeListView, cells_of}
+use Rattle.edge_stream.specs.declared.saved.StepFault.{StepFault}
+use Rattle.edge_stream.specs.declared.saved.StepFault.TheVariants.{Overflow}
+use Rattle.plan_model.specs.declared.node.Node.{Node}
+use Rattle.life_laws.specs.Keeping.{KeepsLives}
+use Rattle.life_laws.specs.Uniting.{KeepsUnion}
+use Rattle.life_laws.specs.Extending.{KeepsExtended}
+use Rattle.lifetime_ops.specs.Nodes.{node_of}
+use Rattle.lifetime_ops.specs.Waiting.{edges_of_pending}
+use Rattle.temporal_join.specs.Operating.{IsKept}
+use Rattle.snapshot_agg.specs.Keeping.{KeepsGrouped}
+use Rattle.anti_join.specs.Operating.{IsKept as IsAntiKept}
+use Rattle.clip_op.specs.Operating.{IsKept as IsClipKept}
+use Rattle.session_window.specs.Operating.{IsKept as IsSessionKept}
+use Rattle.dataflow.specs.declared.stage.Stage.{Stage}
+use Rattle.dataflow.specs.declared.stage.Stage.TheVariants.{Life, Union, Extend, Join, Group, Anti, Session, Clip}
+use Rattle.dataflow.proofs.Operators.{operator_held}
+use Rattle.dataflow.specs.Operating.{may_keep, Standing, Keeping, CanOperate, StaysOperating, KeepsOperating, OperatesUndefinedAt}
+use Rattle.dataflow.specs.Stages.{life_standing, union_standing, extend_standing, IsReady, StageKeeps, StaysReady, KeepsOn, IsUndefinedAt, KeepsAtMost, entries_in, join_standing, group_standing, anti_standing, session_standing, clip_standing}
+
+-- stages of this kind are ready and keep as their operators are and do
+pub record IsVariant {O : Type 0} (stage : O → Stage) (standing : O → Standing) (keeping : O → Keeping) : Type 0 where
+  pub can : (texts : List (List ℕ)) (capacity : ℕ) (left right : List CellKind) (n : Node) (o : O) (x y : ℕ) → IsReady texts capacity left right n (stage o) x y → CanOperate capacity left right n (standing o) x y
+  pub ready : (texts : List (List ℕ)) (capacity : ℕ) (left right : List CellKind) (n : Node) (o : O) (x y : ℕ) → CanOperate capacity left right n (standing o) x y → IsReady texts capacity left right n (stage o) x y
+  pub kept : (texts : List (List ℕ)) (n : Node) (o : O) (x y : ℕ) (hl hr out : List Edge) → StageKeeps texts n (stage o) x y hl hr out → keeping o texts hl hr out
+  pub keeps : (texts : List (List ℕ)) (n : Node) (o : O) (x y : ℕ) (hl hr out : List Edge) → keeping o texts hl hr out → StageKeeps texts n (stage o) x y hl hr out
+
+module _ {O : Type 0} (stage : O → Stage) (standing : O → Standing) (keeping : O → Keeping) (is : IsVariant stage standing keeping)
+    (texts : List (List ℕ)) (left right : EdgeListView) (s : Stage) (old new : O) (at : s ≡ stage old) (u v : ℕ) (r : Result EdgeListView StepFault) where
+  pub variant_ready : OnOk r (StaysOperating left right (standing old) (standing new) u v) → IfOk r (λ answer. StaysReady texts left right s (stage new) u v)
+  variant_ready told = subst (λ z. IfOk r (λ answer. StaysReady texts left right z (stage new) u v)) (sym at)
+      (on_ok_weaker r (λ stays. record { stays = λ n x y ready. is.ready texts left.capacity (cells_of left) (cells_of right) n new u v (stays n x y (is.can texts left.capacity (cells_of left) (cells_of right) n old x y ready)) }) told)
+
+  pub variant_kept : IfOk r (KeepsOperating left right (standing old) (keeping old) (keeping new) u v) → IfOk r (λ answer. KeepsOn texts left right s (stage new) u v answer)
+  variant_kept told = subst (λ z. IfOk r (λ answer. KeepsOn texts left right z (stage new) u v answer)) (sym at)
+      (IfOk-weaker r (KeepsOperating left right (standing old) (keeping old) (keeping new) u v) (λ answer. KeepsOn texts left right (stage old) (stage new) u v answer)
+      (λ answer keeps n x y hl hr out t.
+      let now = keeps texts n x y hl hr out (is.can texts left.capacity (cells_of left) (cells_of right) n old x y t.ready) (is.kept texts n old x y hl hr out t.kept) t.on_left.may t.on_right.may in
+      (is.keeps texts n new u v _ _ _ now.0, now.1))
+      told)
+
+  undefined_at : (found : Option ℕ) → OperatesUndefinedAt left right (standing old) (keeping old) u v found → IsUndefinedAt texts left right (stage old) u v found
+  undefined_at found told n x y hl hr out distinct t =
+      told texts n x y hl hr out distinct (is.can texts left.capacity (cells_of left) (cells_of right) n old x y t.ready) (is.kept texts n old x y hl hr out t.kept) t.on_left.may
+
+  pub variant_defined : OnOk r (OperatesUndefinedAt left right (standing old) (keeping old) u v None) → OnOk r (IsUndefinedAt texts left right s u v None)
+  variant_defined told = subst (λ z. OnOk r (IsUndefinedAt texts left right z u v None)) (sym at) (on_ok_weaker r (undefined_at None) told)
+
+  pub variant_overflow : IfErr r (λ fault. (time : ℕ) → fault ≡ Overflow time → OperatesUndefinedAt left right (standing old) (keeping old) u v (Some time)) →
+      IfErr r (λ fault. (time : ℕ) → fault ≡ Overflow time → IsUndefinedAt texts left right s u v (Some time))
+  variant_overflow told = subst (λ z. IfErr r (λ fault. (time : ℕ) → fault ≡ Overflow time → IsUndefinedAt texts left right z u v (Some time))) (sym at)
+      (IfErr-weaker r (λ fault. (time : ℕ) → fault ≡ Overflow time → OperatesUndefinedAt left right (standing old) (keeping old) u v (Some time)) (λ fault. (time : ℕ) → fault ≡ Overflow time → IsUndefinedAt texts left right (stage old) u v (Some time))
+      (λ fault undefined time e. undefined_at (Some time) (undefined time e)) told)
+
+-- and it keeps no more entries than its node may
+pub variant_held : {O : Type 0} (stage : O → Stage) (standing : O → Standing) (keeping : O → Keeping) → IsVariant stage standing keeping → (s : Stage) (o : O) → s ≡ stage o → (count : ℕ) →
+    ((texts : List (List ℕ)) (hl hr out : List Edge) → keeping o texts hl hr out → count ≤ may_keep (standing o).node (standing o).left_closed (standing o).right_closed hl hr) → KeepsAtMost count s
+variant_held stage standing keeping is s o at count most = subst (KeepsAtMost count) (sym at)
+    (λ texts capacity left right n x y hl hr out ready kept.
+    operator_held capacity left right n (standing o) x y (is.can texts capacity left right n o x y ready) count hl hr (most texts hl hr out (is.kept texts n o x y hl hr out kept)))
+
+-- nor where the number is told as far as there is room for it
+pub held_few : (s : Stage) (count : ℕ) → count ≡ min (entries_in s) (2 ^ 64 - 1) → KeepsAtMost (entries_in s) s → KeepsAtMost count s
+held_few s count is most texts capacity left right n x y hl hr out ready kept = (let m = most texts capacity left right n x y hl hr out ready kept in omega (arith, is, m))
+
+-- the operators that are stages
+pub life_variant : IsVariant Life life_standing (λ o texts hl hr out. KeepsLives (node_of o.change) texts o.left_to o.right_to o.carried.edges hl hr out)
+life_variant = record { can = λ texts capacity left right n o x y h. h; ready = λ texts capacity left right n o x y h. h; kept = λ texts n o x y hl hr out h. h; keeps = λ texts n o x y hl hr out h. h }
+
+pub union_variant : IsVariant Union union_standing (λ o texts hl hr out. KeepsUnion texts o.left_to o.right_to o.left.edges o.right.edges hl hr out)
+union_variant = record { can = λ texts capacity left right n o x y h. h; ready = λ texts capacity left right n o x y h. h; kept = λ texts n o x y hl hr out h. h; keeps = λ texts n o x y hl hr out h. h }
+
+pub extend_variant : IsVariant Extend extend_standing (λ o texts hl hr out. KeepsExtended o.by texts o.left_to o.right_to o.carried.edges (edges_of_pending o.ends) hl hr out)
+extend_variant = record { can = λ texts capacity left right n o x y h. h; ready = λ texts capacity left right n o x y h. h; kept = λ texts n o x y hl hr out h. h; keeps = λ texts n o x y hl hr out h. h }
+
+pub join_variant : IsVariant Join join_standing (λ o texts hl hr out. IsKept o texts hl hr out)
+join_variant = record { can = λ texts capacity left right n o x y h. h; ready = λ texts capacity left right n o x y h. h; kept = λ texts n o x y hl hr out h. h; keeps = λ texts n o x y hl hr out h. h }
+
+pub group_variant : IsVariant Group group_standing (λ o texts hl hr out. KeepsGrouped o.groups.key.items o.groups.aggs.items texts o.groups.rows.rows o.running o.waiting o.left_to hl hr out)
+group_variant = record { can = λ texts capacity left right n o x y h. h; ready = λ texts capacity left right n o x y h. h; kept = λ texts n o x y hl hr out h. h; keeps = λ texts n o x y hl hr out h. h }
+
+pub anti_variant : IsVariant Anti anti_standing (λ o texts hl hr out. IsAntiKept o texts hl hr out)
+anti_variant = record { can = λ texts capacity left right n o x y h. h; ready = λ texts capacity left right n o x y h. h; kept = λ texts n o x y hl hr out h. h; keeps = λ texts n o x y hl hr out h. h }
+
+pub session_variant : IsVariant Session session_standing (λ o texts hl hr out. IsSessionKept o texts hl hr out)
+session_variant = record { can = λ texts capacity left right n o x y h. h; ready = λ texts capacity left right n o x y h. h; kept = λ texts n o x y hl hr out h. h; keeps = λ texts n o x y hl hr out h. h }
+
+pub clip_variant : IsVariant Clip clip_standing (λ o texts hl hr out. IsClipKept o texts hl hr out)
+clip_variant = record { can = λ texts capacity left right n o x y h. h; ready = λ texts capacity left right n o x y h. h; kept = λ texts n o x y hl hr out h. h; keeps = λ texts n o x y hl hr out h. h }

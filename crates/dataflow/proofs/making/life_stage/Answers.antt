@@ -1,0 +1,17 @@
+use Rattle.std.specs.Prelude.{map}
+use Rattle.std.proofs.Common.{sym, ap, subst, ◌∙◌}
+use Rattle.tw_rows.specs.Kinds.{cell_kind_of}
+use Rattle.dataflow.specs.declared.stage.Stage.TheVariants.{Life}
+use Rattle.dataflow.specs.Stages.{left_kinds, StartsFor}
+use Rattle.dataflow.proofs.Starting.{life_starts}
+use Rattle.dataflow.proofs.making.life_stage.Goals as goal
+
+pub returns : goal.returns
+returns c = λ texts n there.
+    let plan = c.args.plan.now in
+    let is = c.requires.is n there in
+    let o = c.in_ok-operator.operator in
+    let made = c.in_ok-operator.ensures in
+    let read = ap (map cell_kind_of) c.deref.ensures.value ∙ c.in_ok-kinds.ensures.kinds n there ∙ ap (left_kinds plan) is.1 in
+    subst (λ m. StartsFor texts c.args.capacity plan m (Life o)) (sym is.1)
+    (life_starts plan c.args.capacity c.deref.result.now texts is.0 c.args.change o made.change made.carried made.times.0 made.times.1 made.works read)

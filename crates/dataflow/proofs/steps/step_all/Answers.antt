@@ -1,0 +1,200 @@
+use Rattle.std.proofs.Common.{◌≡◌, ◌<◌, ◌∙◌, [], length, refl, ap, sym, subst, arith, inl}
+use Rattle.std.specs.Prelude.{◌+◌, Some, get_or, slice_set}
+use Rattle.std.proofs.lemmas.List.{length_push, get_or-set_other, length-set}
+use Rattle.dataflow.specs.Lists.{edges_at}
+use Rattle.dataflow.specs.Held.{HeldBefore}
+use Rattle.dataflow.proofs.HeldLists.{with_list, held_first, held_next}
+use Rattle.dataflow.proofs.Flowing.{Progress, no_progress}
+use Rattle.dataflow.proofs.Stepping.{reads, stage_there, node_there, can_take, answer_is, ready_out, ready_next, undefined_found, progress_made, answer_placed, next_progress, has_flowed}
+use Rattle.dataflow.proofs.steps.step_all.Goals as goal
+
+pub loop-i-init : goal.loop-i-init
+loop-i-init c = record {
+  more = λ k. [];
+  held = subst (HeldBefore c.args.texts.now c.args.pools.now.capacity c.args.plan.now 0 (edges_at c.args.given.items) (λ k. []) c.args.given.items) (sym c.new-made.ensures.items) (held_first c.args.texts.now c.args.pools.now.capacity c.args.plan.now c.args.given.items (λ k. []) c.requires.given);
+  count = ap length c.new-made.ensures.items;
+  streams = refl;
+  long = refl;
+  behind = λ j d low. refl;
+  ready = λ j n d low there. absurd (omega (arith, low));
+  progress = λ last old lists source distinct flows later from begun. no_progress c.args.texts.now c.args.plan.now last c.args.p source old (edges_at c.args.given.items) lists (λ k. []) c.args.stages.now.items;
+  pools = refl;
+  limit = refl;
+}
+
+pub step-requires-clause-ready : goal.step-requires-clause-ready
+step-requires-clause-ready c =
+    let before = c.loop-i.invariant in
+    let texts = c.args.texts.now in
+    let plan = c.args.plan.now in
+    let capacity = c.args.pools.now.capacity in
+    let given = edges_at c.args.given.items in
+    let i = c.loop-i.i in
+    let test = c.loop-i-test.true in
+    let count = ap length c.nodes-nodes.ensures.nodes in
+    let low : i < length plan.nodes = omega (arith, test, count) in
+    let here = node_there plan.nodes i low in
+    let n = here.0 in
+    let left = c.in_ok-left.left in
+    let right = c.in_ok-right.right in
+    let read = reads texts capacity c.loop-i.pools.capacity c.left_list.new.pools.capacity plan i given before.more n here.1 c.loop-i.given.items c.loop-i.made.items c.left_list.new.streams.items c.left_list.new.made.items c.right_list.new.made.items left right before.pools c.left_list.ensures.pools before.held c.in_ok-left.ensures.list c.in_ok-left.ensures.held c.in_ok-right.ensures.list c.in_ok-right.ensures.held in
+    let whole = c.nodes-nodes.ensures.kept in
+    let stages = c.args.stages.now.items in
+    let s = c.index_mut.result.now in
+    let may = c.requires.may in
+    let can = may.flows.can in
+    let each = can.count in
+    let at = stage_there c.loop-i.stages.items stages i s (omega (arith, low, each)) c.index_mut.ensures.value (before.behind i s (omega arith)) in
+    let u = c.left_closing-left_to.result in
+    let v = c.right_closing-right_to.result in
+    let eu = c.left_closing-left_to.ensures n here.1 in
+    let ev = c.right_closing-right_to.ensures n here.1 in
+    let within = c.word.ensures.within in
+    can_take texts plan whole capacity c.args.p within i n here.1 given before.more left right read.is_left read.is_right stages s at u v eu ev may.last can.ready may.later
+
+pub step-requires-clause-capacity : goal.step-requires-clause-capacity
+step-requires-clause-capacity c =
+    let before = c.loop-i.invariant in
+    let texts = c.args.texts.now in
+    let plan = c.args.plan.now in
+    let capacity = c.args.pools.now.capacity in
+    let given = edges_at c.args.given.items in
+    let i = c.loop-i.i in
+    let test = c.loop-i-test.true in
+    let count = ap length c.nodes-nodes.ensures.nodes in
+    let low : i < length plan.nodes = omega (arith, test, count) in
+    let here = node_there plan.nodes i low in
+    let n = here.0 in
+    let left = c.in_ok-left.left in
+    let right = c.in_ok-right.right in
+    let read = reads texts capacity c.loop-i.pools.capacity c.left_list.new.pools.capacity plan i given before.more n here.1 c.loop-i.given.items c.loop-i.made.items c.left_list.new.streams.items c.left_list.new.made.items c.right_list.new.made.items left right before.pools c.left_list.ensures.pools before.held c.in_ok-left.ensures.list c.in_ok-left.ensures.held c.in_ok-right.ensures.list c.in_ok-right.ensures.held in
+    (c.right_list.ensures.pools ∙ c.left_list.ensures.pools ∙ before.pools ∙ sym read.is_left.list.rows, read.is_right.list.rows ∙ sym read.is_left.list.rows)
+
+pub step-requires-clause-placed : goal.step-requires-clause-placed
+step-requires-clause-placed c =
+    let before = c.loop-i.invariant in
+    let texts = c.args.texts.now in
+    let plan = c.args.plan.now in
+    let capacity = c.args.pools.now.capacity in
+    let given = edges_at c.args.given.items in
+    let i = c.loop-i.i in
+    let test = c.loop-i-test.true in
+    let count = ap length c.nodes-nodes.ensures.nodes in
+    let low : i < length plan.nodes = omega (arith, test, count) in
+    let here = node_there plan.nodes i low in
+    let n = here.0 in
+    let left = c.in_ok-left.left in
+    let right = c.in_ok-right.right in
+    let read = reads texts capacity c.loop-i.pools.capacity c.left_list.new.pools.capacity plan i given before.more n here.1 c.loop-i.given.items c.loop-i.made.items c.left_list.new.streams.items c.left_list.new.made.items c.right_list.new.made.items left right before.pools c.left_list.ensures.pools before.held c.in_ok-left.ensures.list c.in_ok-left.ensures.held c.in_ok-right.ensures.list c.in_ok-right.ensures.held in
+    (read.is_left.list.placed, read.is_right.list.placed)
+
+pub returns-in-Err-clause-overflow : goal.returns-in-Err-clause-overflow
+returns-in-Err-clause-overflow c = λ node time e last old lists source distinct flows later from begun.
+    let before = c.loop-i.invariant in
+    let texts = c.args.texts.now in
+    let plan = c.args.plan.now in
+    let capacity = c.args.pools.now.capacity in
+    let given = edges_at c.args.given.items in
+    let i = c.loop-i.i in
+    let test = c.loop-i-test.true in
+    let count = ap length c.nodes-nodes.ensures.nodes in
+    let low : i < length plan.nodes = omega (arith, test, count) in
+    let here = node_there plan.nodes i low in
+    let n = here.0 in
+    let left = c.in_ok-left.left in
+    let right = c.in_ok-right.right in
+    let read = reads texts capacity c.loop-i.pools.capacity c.left_list.new.pools.capacity plan i given before.more n here.1 c.loop-i.given.items c.loop-i.made.items c.left_list.new.streams.items c.left_list.new.made.items c.right_list.new.made.items left right before.pools c.left_list.ensures.pools before.held c.in_ok-left.ensures.list c.in_ok-left.ensures.held c.in_ok-right.ensures.list c.in_ok-right.ensures.held in
+    let whole = c.nodes-nodes.ensures.kept in
+    let stages = c.args.stages.now.items in
+    let s = c.index_mut.result.now in
+    let may = c.requires.may in
+    let can = may.flows.can in
+    let each = can.count in
+    let at = stage_there c.loop-i.stages.items stages i s (omega (arith, low, each)) c.index_mut.ensures.value (before.behind i s (omega arith)) in
+    let u = c.left_closing-left_to.result in
+    let v = c.right_closing-right_to.result in
+    let eu = c.left_closing-left_to.ensures n here.1 in
+    let ev = c.right_closing-right_to.ensures n here.1 in
+    let within = c.word.ensures.within in
+    let f = c.fault_of.ensures node time e in
+    let so_far = before.progress last old lists source distinct flows later from begun in
+    undefined_found texts plan whole capacity c.args.p within i n here.1 given before.more left right read.is_left read.is_right stages s at u v eu ev last source old lists distinct later from begun flows.can.ready (flows.kept i n s here.1 at) c.loop-i.stages.items so_far time (c.in-Err.ensures.overflow time f.1) low
+    ∙ ap (λ k. Some (record { node = k; time = time })) (sym f.0)
+
+pub loop-i-preserved : goal.loop-i-preserved
+loop-i-preserved c =
+    let before = c.loop-i.invariant in
+    let texts = c.args.texts.now in
+    let plan = c.args.plan.now in
+    let capacity = c.args.pools.now.capacity in
+    let given = edges_at c.args.given.items in
+    let i = c.loop-i.i in
+    let test = c.loop-i-test.true in
+    let count = ap length c.nodes-nodes.ensures.nodes in
+    let low : i < length plan.nodes = omega (arith, test, count) in
+    let here = node_there plan.nodes i low in
+    let n = here.0 in
+    let left = c.in_ok-left.left in
+    let right = c.in_ok-right.right in
+    let read = reads texts capacity c.loop-i.pools.capacity c.left_list.new.pools.capacity plan i given before.more n here.1 c.loop-i.given.items c.loop-i.made.items c.left_list.new.streams.items c.left_list.new.made.items c.right_list.new.made.items left right before.pools c.left_list.ensures.pools before.held c.in_ok-left.ensures.list c.in_ok-left.ensures.held c.in_ok-right.ensures.list c.in_ok-right.ensures.held in
+    let whole = c.nodes-nodes.ensures.kept in
+    let stages = c.args.stages.now.items in
+    let s = c.index_mut.result.now in
+    let may = c.requires.may in
+    let can = may.flows.can in
+    let each = can.count in
+    let at = stage_there c.loop-i.stages.items stages i s (omega (arith, low, each)) c.index_mut.ensures.value (before.behind i s (omega arith)) in
+    let u = c.left_closing-left_to.result in
+    let v = c.right_closing-right_to.result in
+    let eu = c.left_closing-left_to.ensures n here.1 in
+    let ev = c.right_closing-right_to.ensures n here.1 in
+    let within = c.word.ensures.within in
+    let out = c.in-Ok.list in
+    let new = c.step.new.self in
+    let told = c.in-Ok.ensures in
+    let now = c.loop-i.stages.items in
+    let pushed = c.in_ok-push-in-Ok.ensures.items in
+    let made = c.right_list.ensures.made ∙ c.left_list.ensures.made ∙ before.count in
+    let long = before.long in
+    let within_now : i < length now = omega (arith, low, each, long) in
+    let placed =
+    answer_placed texts plan whole capacity c.args.p within i n here.1 given before.more left right read.is_left read.is_right stages s at u v eu ev may.last may.source may.old may.lists may.distinct may.later may.stand may.from can.ready (may.flows.kept i n s here.1 at) now
+    (before.progress may.last may.old may.lists may.source may.distinct may.flows may.later may.stand may.from) new out told.kept told.ready told.defined within_now in
+    let list = answer_is texts plan whole capacity c.args.p within i n here.1 given before.more left right read.is_left read.is_right stages s at u v eu ev may.last can.ready out told.kinds placed told.capacity in
+    record {
+      more = with_list before.more i out.edges;
+      held = subst (HeldBefore texts capacity plan (i + 1) given (with_list before.more i out.edges) c.left_list.new.streams.items) (sym pushed)
+          (held_next texts capacity plan given before.more i c.left_list.new.streams.items c.right_list.new.made.items read.held made out list);
+      count = ap length pushed ∙ length_push c.right_list.new.made.items out ∙ ap (λ m. m + 1) made;
+      streams = c.left_list.ensures.streams ∙ before.streams;
+      long = length-set now i new ∙ before.long;
+      behind = λ j d above. get_or-set_other now i j new d (λ e. absurd (omega (arith, above, e))) ∙ before.behind j d (omega (arith, above));
+      ready = ready_next texts plan capacity c.args.p now i n here.1 new within_now before.ready (ready_out texts plan whole capacity c.args.p within i n here.1 given before.more left right read.is_left read.is_right stages s at u v eu ev may.last can.ready new told.ready);
+      progress = λ last old lists source distinct flows later from begun.
+          next_progress texts plan last c.args.p source old given lists (with_list before.more i out.edges) (slice_set now i new) i
+          (progress_made texts plan whole capacity c.args.p within i n here.1 given before.more left right read.is_left read.is_right stages s at u v eu ev last source old lists distinct later from begun flows.can.ready (flows.kept i n s here.1 at) now
+          (before.progress last old lists source distinct flows later from begun) new out told.kept told.ready told.defined within_now);
+      pools = c.step.ensures.pools ∙ c.right_list.ensures.pools ∙ c.left_list.ensures.pools ∙ before.pools;
+      limit = c.step.ensures.limit ∙ c.right_list.ensures.limit ∙ c.left_list.ensures.limit ∙ before.limit;
+    }
+
+pub returns-clause-flowed : goal.returns-clause-flowed
+returns-clause-flowed c = λ last old lists source distinct flows later from begun.
+    let before = c.loop-i.invariant in
+    let texts = c.args.texts.now in
+    let plan = c.args.plan.now in
+    let given = edges_at c.args.given.items in
+    let now = c.loop-i.stages.items in
+    let whole = c.nodes-nodes.ensures.kept in
+    let count = ap length c.nodes-nodes.ensures.nodes in
+    let test = c.loop-i-test.false in
+    let bound = c.loop-i.auto.i-end in
+    let end : c.loop-i.i ≡ length plan.nodes = omega (arith, test, bound, count) in
+    let rooted : plan.root < c.loop-i.i = (let low = whole.rooted in omega (arith, low, end)) in
+    let long = before.count in
+    let at = before.held.of_nodes plan.root c.swap_remove.result (omega (arith, rooted, long)) (inl refl) in
+    has_flowed texts plan last c.args.p later c.args.stages.now.items now c.args.pools.now c.loop-i.pools flows.can before.long before.pools before.limit
+    (λ j m d low there. before.ready j m d (omega (arith, low, end)) there) whole source old given lists before.more
+    (subst (Progress texts plan last c.args.p source old given lists before.more now) end (before.progress last old lists source distinct flows later from begun))
+    c.swap_remove.result.edges
+    (ap (λ l. l.edges) (c.swap_remove.ensures.value ∙ ap (λ r. get_or c.loop-i.made.items r c.swap_remove.result) c.root.ensures.root) ∙ at.same)

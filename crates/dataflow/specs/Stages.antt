@@ -1,0 +1,268 @@
+-- Stages by the case of their node: when one can take a step, and what it keeps of the edges that came in and were answered.
+use Rattle.std.specs.Prelude.{◌≡◌, ℕ, ◌+◌, ◌*◌, ◌≤◌, zero, suc, Option, List, [], ◌++◌, map, length}
+use Rattle.tw_rows.specs.Instant.{inf}
+use Rattle.tw_rows.specs.Kinds.{cell_kind_of}
+use Rattle.tw_rows.specs.declared.edge.Edge.{Edge}
+use Rattle.tw_rows.specs.declared.kind.CellKind.{CellKind}
+use Rattle.edge_history.specs.Order.{is_below, is_from, failing, IsHistory}
+use Rattle.edge_stream.specs.Listing.{EdgeListView, cells_of}
+use Rattle.plan_model.specs.declared.node.Node.{Node}
+use Rattle.plan_model.specs.IsPlan.{PlanParts, kinds_of_stream, kinds_at, node_kinds}
+use Rattle.plan_model.specs.Meaning.{closes, node_closes, left_of, right_of}
+use Rattle.node_laws.specs.Places.{AreDistinct, EdgesArePlaced}
+use Rattle.row_stage.specs.Made.{IsMade}
+use Rattle.row_stage.specs.Stages.{IsStageOf}
+use Rattle.operator.specs.Steps.{MayCome}
+use Rattle.life_laws.specs.Keeping.{KeepsLives}
+use Rattle.life_laws.specs.Uniting.{KeepsUnion}
+use Rattle.life_laws.specs.Extending.{KeepsExtended}
+use Rattle.lifetime_ops.specs.Nodes.{node_of}
+use Rattle.lifetime_ops.specs.declared.change.Change.{Change}
+use Rattle.lifetime_ops.specs.declared.change.Change.TheVariants.{Delay, Hop, Duration}
+use Rattle.lifetime_ops.specs.declared.alter_lifetime.AlterLifetime.{AlterLifetime}
+use Rattle.union_op.specs.declared.union.Union.{Union as UnionOperator}
+use Rattle.lifetime_ops.specs.Waiting.{edges_of_pending}
+use Rattle.lifetime_ops.specs.declared.extend.ExtendLifetime.{ExtendLifetime}
+use Rattle.temporal_join.specs.Operating.{IsKept}
+use Rattle.temporal_join.specs.declared.join.Join.{Join as JoinOperator}
+use Rattle.snapshot_agg.specs.Keeping.{KeepsGrouped}
+use Rattle.snapshot_agg.specs.declared.grouped.Grouped.{Grouped}
+use Rattle.anti_join.specs.Operating.{IsKept as IsAntiKept}
+use Rattle.clip_op.specs.Operating.{IsKept as IsClipKept}
+use Rattle.session_window.specs.Operating.{IsKept as IsSessionKept}
+use Rattle.session_window.specs.declared.session.Session.{Session as SessionOperator}
+use Rattle.anti_join.specs.declared.anti.Anti.{Anti as AntiOperator}
+use Rattle.clip_op.specs.declared.clip.Clip.{Clip as ClipOperator}
+use Rattle.dataflow.specs.declared.stage.Stage.{Stage}
+use Rattle.dataflow.specs.declared.stage.Stage.TheVariants.{Rows, Life, Union, Extend, Join, Group, Anti, Session, Clip}
+use Rattle.plan_model.specs.declared.node.Node.TheVariants.{Union as UnionNode, Extend as ExtendNode, Delay as DelayNode, Hop as HopNode, Duration as DurationNode, Join as JoinNode, Group as GroupNode, Anti as AntiNode, Session as SessionNode, Clip as ClipNode}
+use Rattle.dataflow.specs.Operating.{Standing, CanOperate}
+pub use Rattle.dataflow.specs.Operating.{may_keep, first_undefined_read}
+
+-- up to where a side is closed once the punctuation `last` was worked through, which closes it up to c: 0 as long as there
+-- was none, though a Delay by 5 is closed up to 5 at the punctuation 0
+abbrev pub reached : ℕ → ℕ → ℕ
+reached zero c = 0
+reached (suc last) c = c
+
+-- the closings at a punctuation of what a node reads on the left and on the right
+abbrev pub left_closing : List Node → ℕ → Node → ℕ
+left_closing nodes p n = left_of inf (λ s. p) (λ k. closes nodes k p) n
+
+abbrev pub right_closing : List Node → ℕ → Node → ℕ
+right_closing nodes p n = right_of inf (λ k. closes nodes k p) n
+
+-- how the columns are stored that a node reads on the left and on the right. A source reads those of its stream
+abbrev pub left_kinds : PlanParts → Node → List CellKind
+left_kinds plan n = left_of [] (kinds_of_stream plan.streams) (kinds_at plan.schemas) n
+
+abbrev pub right_kinds : PlanParts → Node → List CellKind
+right_kinds plan n = right_of [] (kinds_at plan.schemas) n
+
+-- the edges came to a side that is closed up to x. A start at 3 may have come to one that is closed up to 4, and to one closed up
+-- to 3 it may not
+pub record HasCome (texts : List (List ℕ)) (x : ℕ) (h : List Edge) : Type 0 where
+  pub low : x ≤ inf
+  pub history : IsHistory h
+  pub below : failing (is_below x) h ≡ 0
+  pub placed : EdgesArePlaced texts h
+
+-- the edges l may come behind those that came up to x, when the side is closed up to u. Behind a start at 3, on a side that was
+-- closed up to 4 and is closed up to 6 now, its end at 5 may come, and an end at 6 may not
+pub record MayComeUpTo (texts : List (List ℕ)) (x u : ℕ) (came l : List Edge) : Type 0 where
+  pub low : u ≤ inf
+  pub may : MayCome texts x came l
+  pub below : failing (is_below u) (came ++ l) ≡ 0
+
+-- how an operator stands: that of a Delay, a Hop or a Duration, that of a Union, and that of an Extend
+abbrev pub life_standing : AlterLifetime → Standing
+life_standing o = record {
+  node = node_of o.change;
+  left_closed = o.left_to;
+  right_closed = o.right_to;
+  left_kinds = cells_of o.carried;
+  right_kinds = [];
+  own_kinds = cells_of o.carried;
+  batch_rows = o.carried.capacity;
+  has_failed = o.failed;
+}
+
+abbrev pub union_standing : UnionOperator → Standing
+union_standing o = record {
+  node = UnionNode 0 1;
+  left_closed = o.left_to;
+  right_closed = o.right_to;
+  left_kinds = cells_of o.left;
+  right_kinds = cells_of o.left;
+  own_kinds = cells_of o.left;
+  batch_rows = o.left.capacity;
+  has_failed = o.failed;
+}
+
+abbrev pub extend_standing : ExtendLifetime → Standing
+extend_standing o = record {
+  node = ExtendNode 0 o.by;
+  left_closed = o.left_to;
+  right_closed = o.right_to;
+  left_kinds = cells_of o.carried;
+  right_kinds = [];
+  own_kinds = cells_of o.carried;
+  batch_rows = o.carried.capacity;
+  has_failed = o.failed;
+}
+
+abbrev pub join_standing : JoinOperator → Standing
+join_standing o = record {
+  node = JoinNode 0 1 o.sides.rows.left_key.items o.sides.rows.right_key.items;
+  left_closed = o.left_to;
+  right_closed = o.right_to;
+  left_kinds = map cell_kind_of o.left_kinds.items;
+  right_kinds = map cell_kind_of o.right_kinds.items;
+  own_kinds = map cell_kind_of o.own_kinds.items;
+  batch_rows = o.capacity;
+  has_failed = o.failed;
+}
+
+abbrev pub group_standing : Grouped → Standing
+group_standing o = record {
+  node = GroupNode 0 o.groups.key.items o.groups.aggs.items;
+  left_closed = o.left_to;
+  right_closed = o.right_to;
+  left_kinds = map cell_kind_of o.left_kinds.items;
+  right_kinds = [];
+  own_kinds = map cell_kind_of o.kinds.items;
+  batch_rows = o.capacity;
+  has_failed = o.failed;
+}
+
+abbrev pub session_standing : SessionOperator → Standing
+session_standing o = record {
+  node = SessionNode 0 o.side.sessions.timeout o.side.sessions.rows.key;
+  left_closed = o.left_to;
+  right_closed = o.right_to;
+  left_kinds = map cell_kind_of o.kinds.items;
+  right_kinds = [];
+  own_kinds = map cell_kind_of o.kinds.items;
+  batch_rows = o.capacity;
+  has_failed = o.failed;
+}
+
+abbrev pub anti_standing : AntiOperator → Standing
+anti_standing o = record {
+  node = AntiNode 0 1 o.sides.rows.left_key.columns o.sides.rows.right_key.columns;
+  left_closed = o.left_to;
+  right_closed = o.right_to;
+  left_kinds = map cell_kind_of o.left_kinds.items;
+  right_kinds = map cell_kind_of o.right_kinds.items;
+  own_kinds = map cell_kind_of o.left_kinds.items;
+  batch_rows = o.capacity;
+  has_failed = o.failed;
+}
+
+abbrev pub clip_standing : ClipOperator → Standing
+clip_standing o = record {
+  node = ClipNode 0 1 o.sides.rows.left.key o.sides.rows.right_key.columns;
+  left_closed = o.left_to;
+  right_closed = o.right_to;
+  left_kinds = map cell_kind_of o.left_kinds.items;
+  right_kinds = map cell_kind_of o.right_kinds.items;
+  own_kinds = map cell_kind_of o.left_kinds.items;
+  batch_rows = o.capacity;
+  has_failed = o.failed;
+}
+
+-- the stage can take a step of the node, over lists of columns that are stored as `left` and `right`, in batches of the
+-- capacity, whose texts are read from the table; its sides are closed up to x and y
+abbrev pub IsReady : List (List ℕ) → ℕ → List CellKind → List CellKind → Node → Stage → ℕ → ℕ → Type 0
+IsReady texts capacity left right n (Rows s) x y = IsStageOf texts capacity left n s
+IsReady texts capacity left right n (Life o) x y = CanOperate capacity left right n (life_standing o) x y
+IsReady texts capacity left right n (Union o) x y = CanOperate capacity left right n (union_standing o) x y
+IsReady texts capacity left right n (Extend o) x y = CanOperate capacity left right n (extend_standing o) x y
+IsReady texts capacity left right n (Join o) x y = CanOperate capacity left right n (join_standing o) x y
+IsReady texts capacity left right n (Group o) x y = CanOperate capacity left right n (group_standing o) x y
+IsReady texts capacity left right n (Session o) x y = CanOperate capacity left right n (session_standing o) x y
+IsReady texts capacity left right n (Anti o) x y = CanOperate capacity left right n (anti_standing o) x y
+IsReady texts capacity left right n (Clip o) x y = CanOperate capacity left right n (clip_standing o) x y
+
+-- the stage can take a step of some node over these two lists, which closes its sides up to u and v
+pub record CanTake (texts : List (List ℕ)) (left right : EdgeListView) (s : Stage) (u v : ℕ) : Type 0 where
+  pub node : Node
+  pub x : ℕ
+  pub y : ℕ
+  pub ready : IsReady texts left.capacity (cells_of left) (cells_of right) node s x y
+  pub left_rises : x ≤ u
+  pub right_rises : y ≤ v
+
+-- of the edges hl it made out: of starts with the rows 5 and 20 the second, where the node is `where v > 10`
+pub record HasMade (texts : List (List ℕ)) (n : Node) (x : ℕ) (hl out : List Edge) : Type 0 where
+  pub came : HasCome texts x hl
+  pub made : IsMade texts n hl out
+
+-- the stage is as it can be once hl and hr came in on its sides, which are closed up to x and y, and `out` was answered. A
+-- stage that keeps nothing of one step for the next only has to have made out of hl; an operator keeps what its trait says
+abbrev pub StageKeeps : List (List ℕ) → Node → Stage → ℕ → ℕ → List Edge → List Edge → List Edge → Type 0
+StageKeeps texts n (Rows s) x y hl hr out = HasMade texts n x hl out
+StageKeeps texts n (Life o) x y hl hr out = KeepsLives (node_of o.change) texts o.left_to o.right_to o.carried.edges hl hr out
+StageKeeps texts n (Union o) x y hl hr out = KeepsUnion texts o.left_to o.right_to o.left.edges o.right.edges hl hr out
+StageKeeps texts n (Extend o) x y hl hr out = KeepsExtended o.by texts o.left_to o.right_to o.carried.edges (edges_of_pending o.ends) hl hr out
+StageKeeps texts n (Join o) x y hl hr out = IsKept o texts hl hr out
+StageKeeps texts n (Group o) x y hl hr out = KeepsGrouped o.groups.key.items o.groups.aggs.items texts o.groups.rows.rows o.running o.waiting o.left_to hl hr out
+StageKeeps texts n (Session o) x y hl hr out = IsSessionKept o texts hl hr out
+StageKeeps texts n (Anti o) x y hl hr out = IsAntiKept o texts hl hr out
+StageKeeps texts n (Clip o) x y hl hr out = IsClipKept o texts hl hr out
+
+-- what is asked of what was kept and of two lists, so that a step keeps it: the lists come on the sides that the stage is
+-- closed up to, and close them up to u and v
+pub record Takes (texts : List (List ℕ)) (left right : EdgeListView) (s : Stage) (u v : ℕ) (n : Node) (x y : ℕ) (hl hr out : List Edge) : Type 0 where
+  pub ready : IsReady texts left.capacity (cells_of left) (cells_of right) n s x y
+  pub kept : StageKeeps texts n s x y hl hr out
+  pub on_left : MayComeUpTo texts x u hl left.edges
+  pub on_right : MayComeUpTo texts y v hr right.edges
+
+-- whatever the stage kept it keeps with the new lists and the answer, which comes at the node's last closing or later
+abbrev pub KeepsOn : List (List ℕ) → EdgeListView → EdgeListView → Stage → Stage → ℕ → ℕ → EdgeListView → Type 0
+KeepsOn texts left right old new u v answer = (n : Node) (x y : ℕ) (hl hr out : List Edge) → Takes texts left right old u v n x y hl hr out →
+    StageKeeps texts n new u v (hl ++ left.edges) (hr ++ right.edges) (out ++ answer.edges) × (failing (is_from (node_closes n x y)) answer.edges ≡ 0)
+
+-- over what came in with the new lists the node is undefined first at that instant below its new closing, or at none
+abbrev pub IsUndefinedAt : List (List ℕ) → EdgeListView → EdgeListView → Stage → ℕ → ℕ → Option ℕ → Type 0
+IsUndefinedAt texts left right old u v found = (n : Node) (x y : ℕ) (hl hr out : List Edge) → AreDistinct texts → Takes texts left right old u v n x y hl hr out →
+    first_undefined_read texts n (hl ++ left.edges) (node_closes n u v) ≡ found
+
+-- the stage can take a further step of whatever node it could take one of, and the answer is of that node's columns
+pub record StaysReady (texts : List (List ℕ)) (left right : EdgeListView) (old new : Stage) (u v : ℕ) : Type 0 where
+  pub stays : (n : Node) (x y : ℕ) → IsReady texts left.capacity (cells_of left) (cells_of right) n old x y →
+      IsReady texts left.capacity (cells_of left) (cells_of right) n new u v
+
+abbrev pub IsAnswerOf : List (List ℕ) → EdgeListView → EdgeListView → Stage → EdgeListView → Type 0
+IsAnswerOf texts left right old answer = (n : Node) (x y : ℕ) → IsReady texts left.capacity (cells_of left) (cells_of right) n old x y →
+    cells_of answer ≡ node_kinds n (cells_of left) (cells_of right)
+
+-- how many entries the stage keeps for later steps: as many as its operator, and none for a Source, a Where or a Select. An
+-- Extend that carries 2 edges while 3 ends wait keeps 5
+abbrev pub entries_in : Stage → ℕ
+entries_in (Rows s) = 0
+entries_in (Life o) = length o.carried.edges
+entries_in (Union o) = length o.left.edges + length o.right.edges
+entries_in (Extend o) = length o.carried.edges + length o.ends
+entries_in (Join o) = (length o.sides.rows.left.rows + length o.sides.left_waiting) + (length o.sides.rows.right.rows + length o.sides.right_waiting)
+entries_in (Group o) = length o.groups.rows.rows + length o.groups.rows.rows * length o.groups.aggs.items + length o.groups.totals.entries + length o.running.entries + length o.waiting
+entries_in (Session o) = length o.side.sessions.rows.rows + length o.side.sessions.ends + length o.side.waiting
+entries_in (Anti o) = (length o.sides.rows.left.rows + length o.sides.left_waiting) + (length o.sides.rows.right.rows + length o.sides.right_waiting) + length o.sides.rows.times.rows
+entries_in (Clip o) = length o.sides.rows.left.rows + length o.sides.left_waiting + length o.sides.right_waiting
+
+-- the stage keeps no more entries than its node may, whatever came in and was answered
+abbrev pub KeepsAtMost : ℕ → Stage → Type 0
+KeepsAtMost count s = (texts : List (List ℕ)) (capacity : ℕ) (left right : List CellKind) (n : Node) (x y : ℕ) (hl hr out : List Edge) →
+    IsReady texts capacity left right n s x y → StageKeeps texts n s x y hl hr out → count ≤ may_keep n x y hl hr
+
+-- the stage stands as it was made for the node of the plan: it can take a first step, and nothing came in yet
+pub record StartsFor (texts : List (List ℕ)) (capacity : ℕ) (plan : PlanParts) (n : Node) (s : Stage) : Type 0 where
+  pub ready : IsReady texts capacity (left_kinds plan n) (right_kinds plan n) n s 0 0
+  pub opens : StageKeeps texts n s 0 0 [] [] []
+
+-- the node that makes this change of lives, over the child of that number
+abbrev pub changing : ℕ → Change → Node
+changing of (Delay by) = DelayNode of by
+changing of (Hop size period) = HopNode of size period
+changing of (Duration by) = DurationNode of by

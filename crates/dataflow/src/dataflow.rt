@@ -1,0 +1,146 @@
+// A plan at work.
+ghost use Rattle.std.specs.Prelude.{◌≡◌, ◌<◌, ◌≤◌, ℕ, true, Some, List, [], slice_get, IfOk, IfErr, OnOk};
+ghost use Rattle.tw_rows.specs.Texts.{BeginsWith};
+ghost use Rattle.plan_model.specs.declared.node.Node.{Node};
+ghost use Rattle.plan_model.specs.IsPlan.{kinds_at};
+ghost use Rattle.built_nodes.specs.Built.{is_built};
+ghost use Rattle.dataflow.specs.Lists.{edges_at, AreGiven, IsListOf};
+ghost use Rattle.dataflow.specs.Flows.{MayStep, Flows, GivesOn, OverflowsAt, held_from};
+ghost use Rattle.dataflow.specs.Held.{AreFresh};
+
+use crate::fault::PlanFault;
+use crate::stage::Stage;
+use crate::steps::step_all;
+use batch::Pools;
+use edge_stream::EdgeList;
+use plan_model::{MOST_COLUMNS, Plan};
+use std::alloc::Global;
+use std::marker::Model;
+use tw_rows::{Memory, TextTable, Time};
+
+/// A plan at work. Contracts see the plan, its stages, how many rows each batch has room for, and how many columns its pools
+/// hold; `Flows` says of which edges the stages have taken steps. After a fault no further step may be taken.
+#[derive(Drop)]
+pub struct Dataflow {
+    alloc: Global,
+    plan: Plan,
+    stages: Vec<Stage>,
+    pools: Pools,
+}
+
+impl Model for Dataflow {
+    ghost use Rattle.std.specs.Coded.{codes};
+    ghost use Rattle.dataflow.specs.contracts.stage.Stage as stage;
+    ghost use Rattle.dataflow.specs.Flows.{DataflowView};
+
+    ghost Value = { DataflowView };
+
+    ghost coded = { Prim.hlevel (codes, stage.the_row.coded) };
+
+    ghost view = { λ d. record { plan = d.plan; stages = d.stages.items; capacity = d.pools.capacity; limit = d.pools.limit } };
+}
+
+// A stage for each node of the plan.
+fn stages_of(
+    alloc: Global,
+    plan: &Plan,
+    capacity: usize,
+    texts: &mut TextTable,
+) -> Result<Vec<Stage>, Memory>
+    requires room { 1 ≤ capacity }
+    requires built { (i : ℕ) (n : Node) → slice_get plan.now.nodes i ≡ Some n → is_built n ≡ true }
+    ensures fresh { IfOk result (λ stages. AreFresh texts.new capacity plan.now stages.items) }
+    ensures begins { BeginsWith texts.new texts.old }
+{
+    let mut stages = Vec::new(alloc);
+    for i in 0..plan.nodes().len() {
+        stages.push(Stage::new(alloc, plan, i, capacity, texts)?)?;
+    }
+    Ok(stages)
+}
+
+// For each stage its number, and how many entries it keeps.
+fn held_by(alloc: Global, stages: &[Stage]) -> Result<Vec<(usize, u64)>, Memory>
+    ensures { IfOk result (λ held. held.items ≡ held_from 0 stages.now) }
+{
+    let mut held = Vec::new(alloc);
+    for i in 0..stages.len() {
+        held.push((i, stages[i].held()))?;
+    }
+    Ok(held)
+}
+
+impl Dataflow {
+    /// The plan with a stage for each of its nodes, for batches of `capacity` rows. The texts of its nodes come into the
+    /// table, and stay there where memory is wanting.
+    pub fn new(
+        alloc: Global,
+        plan: Plan,
+        capacity: usize,
+        texts: &mut TextTable,
+    ) -> Result<Dataflow, Memory>
+        requires room { 1 ≤ capacity }
+        requires built { (i : ℕ) (n : Node) → slice_get plan.nodes i ≡ Some n → is_built n ≡ true }
+        ensures flows { IfOk result (λ d. Flows texts.new 0 (λ s. []) (λ k. []) d) }
+        ensures plan { IfOk result (λ d. d.plan ≡ plan) }
+        ensures capacity { IfOk result (λ d. d.capacity ≡ capacity) }
+        ensures begins { BeginsWith texts.new texts.old }
+    {
+        let stages = stages_of(alloc, &plan, capacity, texts)?;
+        let pools = Pools::new(alloc, MOST_COLUMNS, capacity)?;
+        Ok(Dataflow {
+            alloc,
+            plan,
+            stages,
+            pools,
+        })
+    }
+
+    /// The plan.
+    pub fn plan(&self) -> &Plan
+        ensures { result.now ≡ self.now.plan }
+    {
+        &self.plan
+    }
+
+    /// What computes each node, in order of number.
+    pub fn stages(&self) -> &[Stage]
+        ensures { result.now ≡ self.now.stages }
+    {
+        &self.stages
+    }
+
+    /// For each node, in order, its number and how many entries its stage keeps for later steps.
+    pub fn held(&self) -> Result<Vec<(usize, u64)>, Memory>
+        ensures { IfOk result (λ held. held.items ≡ held_from 0 self.now.stages) }
+    {
+        held_by(self.alloc, &self.stages)
+    }
+
+    /// One step of each node, in order of number, at the punctuation `p`, which is later than the last one: of the new edges
+    /// of each stream the new edges of the root. After a fault no further step may be taken.
+    pub fn step(
+        &mut self,
+        texts: &TextTable,
+        given: Vec<EdgeList>,
+        p: Time,
+    ) -> Result<EdgeList, PlanFault>
+        requires may { MayStep texts.now p (edges_at given.items) self.old }
+        requires given { AreGiven texts.now self.old.capacity self.old.plan given.items }
+        ensures flowed { IfOk result (λ out. GivesOn texts.now p (edges_at given.items) self.old self.new out.edges) }
+        ensures overflow { IfErr result (λ fault. (node time : ℕ) → fault ≡ PlanFault.Overflow node time → OverflowsAt texts.now p (edges_at given.items) self.old node time) }
+        ensures list { IfOk result (λ out. IsListOf texts.now self.old.capacity (kinds_at self.old.plan.schemas self.old.plan.root) out) }
+        ensures plan { self.new.plan ≡ self.old.plan }
+        ensures capacity { self.new.capacity ≡ self.old.capacity }
+    {
+        step_all(
+            self.alloc,
+            &mut self.pools,
+            texts,
+            &self.plan,
+            &mut self.stages,
+            given,
+            p,
+        )
+    }
+}

@@ -1,0 +1,59 @@
+// The laws of plans at work. Each is a function that does nothing; its clauses are the law.
+ghost use Rattle.std.specs.Prelude.{◌≡◌, ℕ, ◌<◌, ◌≤◌, Some, List, length, slice_get};
+ghost use Rattle.tw_rows.specs.Texts.{BeginsWith};
+ghost use Rattle.tw_rows.specs.declared.edge.Edge.{Edge};
+ghost use Rattle.plan_model.specs.IsPlan.{IsPlan};
+ghost use Rattle.plan_model.specs.Meaning.{Sources};
+ghost use Rattle.plan_laws.specs.Held.{node_may_hold};
+ghost use Rattle.node_laws.specs.Places.{AreDistinct, EdgesArePlaced};
+ghost use Rattle.node_laws.specs.Standing.{SourcesStandRead};
+ghost use Rattle.dataflow.specs.declared.stage.Stage.{Stage as Kept};
+ghost use Rattle.dataflow.specs.Stages.{entries_in, KeepsAtMost};
+ghost use Rattle.dataflow.specs.Flows.{DataflowView, CanStep, Flows};
+
+use anti_join::Anti;
+use clip_op::Clip;
+use lifetime_ops::{AlterLifetime, ExtendLifetime};
+use operator::Operator;
+use session_window::Session;
+use snapshot_agg::Grouped;
+use temporal_join::Join;
+
+/// A table that grows changes nothing of a plan at work.
+pub fn plans_flow_on_with_longer_tables()
+    ensures can { (texts more : List (List ℕ)) (last : ℕ) (d : DataflowView) → BeginsWith more texts →
+        CanStep texts last d → CanStep more last d }
+    ensures flows { (texts more : List (List ℕ)) (last : ℕ) (given lists : ℕ → List Edge) (d : DataflowView) →
+        BeginsWith more texts → Flows texts last given lists d → Flows more last given lists d }
+{}
+
+/// All places in the edges that the nodes answered are in the table.
+pub fn answers_have_their_places()
+    ensures { (texts : List (List ℕ)) (last : ℕ) (given lists : ℕ → List Edge) (d : DataflowView) →
+        AreDistinct texts → Flows texts last given lists d → (k : ℕ) → k < length d.plan.nodes →
+        EdgesArePlaced texts (lists k) }
+{}
+
+/// No stage keeps more entries than its node may, of the edges that came in and were answered.
+pub fn stages_keep_at_most()
+    ensures { (s : Kept) → KeepsAtMost (entries_in s) s }
+{
+    AlterLifetime::laws();
+    union_op::Union::laws();
+    ExtendLifetime::laws();
+    Join::laws();
+    Grouped::laws();
+    Session::laws();
+    Anti::laws();
+    Clip::laws();
+}
+
+/// No stage of a plan at work keeps more entries than its node may after the last punctuation, over the events of the sources
+/// for which the edges of the streams stand. Before the first punctuation it keeps none.
+pub fn plans_keep_at_most()
+    ensures { (texts : List (List ℕ)) (last : ℕ) (source : Sources) (given lists : ℕ → List Edge) (d : DataflowView) →
+        IsPlan d.plan → AreDistinct texts → Flows texts last given lists d → SourcesStandRead texts last source given →
+        (i : ℕ) (s : Kept) → slice_get d.stages i ≡ Some s → entries_in s ≤ node_may_hold source d.plan.nodes last i }
+{
+    stages_keep_at_most();
+}

@@ -1,0 +1,250 @@
+// One node of a plan at work.
+ghost use Rattle.std.specs.Prelude.{◌≡◌, ◌-◌, ◌^◌, ◌<◌, ◌≤◌, ℕ, min, true, Some, None, [], length, slice_get, IfOk, IfErr, OnOk};
+ghost use Rattle.tw_rows.specs.Texts.{BeginsWith};
+ghost use Rattle.plan_model.specs.declared.node.Node.{Node};
+ghost use Rattle.plan_model.specs.IsPlan.{most_columns};
+ghost use Rattle.built_nodes.specs.Built.{is_built};
+ghost use Rattle.node_laws.specs.Places.{EdgesArePlaced};
+ghost use Rattle.dataflow.specs.Stages.{left_kinds, right_kinds, IsReady, CanTake, StageKeeps, StaysReady, KeepsOn, IsUndefinedAt, IsAnswerOf, entries_in, KeepsAtMost};
+
+use crate::any_operator::step_operator;
+use crate::laws::stages_keep_at_most;
+use crate::making::{
+    anti_stage, clip_stage, extend_stage, group_stage, join_stage, life_stage, rows_stage,
+    session_stage, union_stage,
+};
+use anti_join::Anti;
+use batch::Pools;
+use clip_op::Clip;
+use edge_stream::{EdgeList, StepFault};
+use lifetime_ops::{AlterLifetime, Change, ExtendLifetime};
+use operator::Operator;
+use plan_model::{Node, Plan};
+use session_window::Session;
+use snapshot_agg::Grouped;
+use std::alloc::Global;
+use temporal_join::Join;
+use tw_rows::{Memory, TextTable, Time};
+
+/// What computes one node of a plan. Contracts see it through `IsReady` and `StageKeeps` alone, which are by cases of what it
+/// is.
+#[derive(Drop)]
+pub enum Stage {
+    /// Of a Source, a Where or a Select.
+    Rows(row_stage::RowStage),
+    /// Of a Delay, a Hop or a Duration.
+    Life(AlterLifetime),
+    /// Of a Union.
+    Union(union_op::Union),
+    /// Of an Extend.
+    Extend(ExtendLifetime),
+    /// Of a Join.
+    Join(Join),
+    /// Of a Group.
+    Group(Grouped),
+    /// Of an Anti.
+    Anti(Anti),
+    /// Of a Clip.
+    Clip(Clip),
+    /// Of a Session.
+    Session(Session),
+}
+
+impl Stage {
+    /// The stage of a node of the plan that is built, for batches of `capacity` rows. The texts of the node come into the
+    /// table, and stay there where memory is wanting.
+    pub fn new(
+        alloc: Global,
+        plan: &Plan,
+        node: usize,
+        capacity: usize,
+        texts: &mut TextTable,
+    ) -> Result<Stage, Memory>
+        requires node { node < length plan.now.nodes }
+        requires room { 1 ≤ capacity }
+        requires built { (n : Node) → slice_get plan.now.nodes node ≡ Some n → is_built n ≡ true }
+        ensures ready { IfOk result (λ s. (n : Node) → slice_get plan.now.nodes node ≡ Some n → IsReady texts.new capacity (left_kinds plan.now n) (right_kinds plan.now n) n s 0 0) }
+        ensures opens { IfOk result (λ s. (n : Node) → slice_get plan.now.nodes node ≡ Some n → StageKeeps texts.new n s 0 0 [] [] []) }
+        ensures begins { BeginsWith texts.new texts.old }
+    {
+        let nodes = plan.nodes();
+        match &nodes[node] {
+            Node::Delay { by, .. } => {
+                life_stage(alloc, plan, node, Change::Delay { by: *by }, capacity)
+            }
+            Node::Hop { size, period, .. } => {
+                let hop = Change::Hop {
+                    size: *size,
+                    period: *period,
+                };
+                life_stage(alloc, plan, node, hop, capacity)
+            }
+            Node::Duration { by, .. } => {
+                life_stage(alloc, plan, node, Change::Duration { by: *by }, capacity)
+            }
+            Node::Union { .. } => union_stage(alloc, plan, node, capacity),
+            Node::Extend { by, .. } => extend_stage(alloc, plan, node, *by, capacity),
+            Node::Join {
+                right,
+                left_key,
+                right_key,
+                ..
+            } => join_stage(
+                alloc,
+                plan,
+                node,
+                *right,
+                left_key.items(),
+                right_key.items(),
+                capacity,
+            ),
+            Node::Group { key, aggs, .. } => {
+                group_stage(alloc, plan, node, key.items(), aggs.items(), capacity)
+            }
+            Node::Session { timeout, key, .. } => {
+                session_stage(alloc, plan, node, *timeout, key.items(), capacity)
+            }
+            Node::Anti {
+                right,
+                left_key,
+                right_key,
+                ..
+            } => anti_stage(
+                alloc,
+                plan,
+                node,
+                *right,
+                left_key.items(),
+                right_key.items(),
+                capacity,
+            ),
+            Node::Clip {
+                right,
+                left_key,
+                right_key,
+                ..
+            } => clip_stage(
+                alloc,
+                plan,
+                node,
+                *right,
+                left_key.items(),
+                right_key.items(),
+                capacity,
+            ),
+            _ => rows_stage(alloc, plan, node, capacity, texts),
+        }
+    }
+
+    /// What the node has to tell once the new edges of its sides came in, which are then closed up to the two times. Of a
+    /// node with one child the right list has no columns. Want of memory loses the lists.
+    pub fn step(
+        &mut self,
+        alloc: Global,
+        pools: &mut Pools,
+        texts: &TextTable,
+        left: EdgeList,
+        right: EdgeList,
+        left_to: Time,
+        right_to: Time,
+    ) -> Result<EdgeList, StepFault>
+        requires ready { CanTake texts.now left right self.old left_to right_to }
+        requires capacity { (pools.old.capacity ≡ left.capacity) × (right.capacity ≡ left.capacity) }
+        requires limit { most_columns ≤ pools.old.limit }
+        requires placed { EdgesArePlaced texts.now left.edges × EdgesArePlaced texts.now right.edges }
+        ensures ready { IfOk result (λ answer. StaysReady texts.now left right self.old self.new left_to right_to) }
+        ensures kept { IfOk result (λ answer. KeepsOn texts.now left right self.old self.new left_to right_to answer) }
+        ensures defined { OnOk result (IsUndefinedAt texts.now left right self.old left_to right_to None) }
+        ensures overflow { IfErr result (λ fault. (time : ℕ) → fault ≡ StepFault.Overflow time → IsUndefinedAt texts.now left right self.old left_to right_to (Some time)) }
+        ensures kinds { IfOk result (IsAnswerOf texts.now left right self.old) }
+        ensures capacity { IfOk result (λ answer. answer.capacity ≡ left.capacity) }
+        ensures pools { pools.new.capacity ≡ pools.old.capacity }
+        ensures limit { pools.new.limit ≡ pools.old.limit }
+    {
+        match self {
+            Stage::Rows(stage) => step_rows(
+                stage, alloc, pools, texts, left, right, left_to, right_to,
+            ),
+            Stage::Life(operator) => step_operator(operator, pools, left, right, left_to, right_to),
+            Stage::Union(operator) => {
+                step_operator(operator, pools, left, right, left_to, right_to)
+            }
+            Stage::Extend(operator) => {
+                step_operator(operator, pools, left, right, left_to, right_to)
+            }
+            Stage::Join(operator) => {
+                step_operator(operator, pools, left, right, left_to, right_to)
+            }
+            Stage::Group(operator) => {
+                step_operator(operator, pools, left, right, left_to, right_to)
+            }
+            Stage::Session(operator) => {
+                step_operator(operator, pools, left, right, left_to, right_to)
+            }
+            Stage::Anti(operator) => {
+                step_operator(operator, pools, left, right, left_to, right_to)
+            }
+            Stage::Clip(operator) => {
+                step_operator(operator, pools, left, right, left_to, right_to)
+            }
+        }
+    }
+
+    /// How many entries it keeps for later steps, or the greatest number that there is room for. They are no more than its
+    /// node may keep.
+    pub fn held(&self) -> u64
+        ensures exact { result ≡ min (entries_in self.now) (2 ^ 64 - 1) }
+        ensures bounded { KeepsAtMost result self.now }
+    {
+        stages_keep_at_most();
+        self.entries_kept()
+    }
+
+    // How many entries it keeps.
+    fn entries_kept(&self) -> u64
+        ensures { result ≡ min (entries_in self.now) (2 ^ 64 - 1) }
+    {
+        match self {
+            Stage::Rows(_) => 0,
+            Stage::Life(operator) => operator.held(),
+            Stage::Union(operator) => operator.held(),
+            Stage::Extend(operator) => operator.held(),
+            Stage::Join(operator) => operator.held(),
+            Stage::Group(operator) => operator.held(),
+            Stage::Anti(operator) => operator.held(),
+            Stage::Clip(operator) => operator.held(),
+            Stage::Session(operator) => operator.held(),
+        }
+    }
+}
+
+// The same of a Source, a Where or a Select, which read no right list.
+fn step_rows(
+    stage: &mut row_stage::RowStage,
+    alloc: Global,
+    pools: &mut Pools,
+    texts: &TextTable,
+    left: EdgeList,
+    right: EdgeList,
+    left_to: Time,
+    right_to: Time,
+) -> Result<EdgeList, StepFault>
+    requires ready { CanTake texts.now left right (Stage.Rows stage.old) left_to right_to }
+    requires capacity { (pools.old.capacity ≡ left.capacity) × (right.capacity ≡ left.capacity) }
+    requires limit { most_columns ≤ pools.old.limit }
+    requires placed { EdgesArePlaced texts.now left.edges × EdgesArePlaced texts.now right.edges }
+    ensures ready { IfOk result (λ answer. StaysReady texts.now left right (Stage.Rows stage.old) (Stage.Rows stage.new) left_to right_to) }
+    ensures kept { IfOk result (λ answer. KeepsOn texts.now left right (Stage.Rows stage.old) (Stage.Rows stage.new) left_to right_to answer) }
+    ensures defined { OnOk result (IsUndefinedAt texts.now left right (Stage.Rows stage.old) left_to right_to None) }
+    ensures overflow { IfErr result (λ fault. (time : ℕ) → fault ≡ StepFault.Overflow time → IsUndefinedAt texts.now left right (Stage.Rows stage.old) left_to right_to (Some time)) }
+    ensures kinds { IfOk result (IsAnswerOf texts.now left right (Stage.Rows stage.old)) }
+    ensures capacity { IfOk result (λ answer. answer.capacity ≡ left.capacity) }
+    ensures pools { pools.new.capacity ≡ pools.old.capacity }
+    ensures limit { pools.new.limit ≡ pools.old.limit }
+{
+    drop(right);
+    match stage.step(alloc, pools, texts, left) {
+        Ok(answer) => Ok(answer),
+        Err(_) => Err(StepFault::Memory),
+    }
+}

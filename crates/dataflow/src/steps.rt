@@ -1,0 +1,85 @@
+// One step of each node of a plan.
+ghost use Rattle.std.specs.Prelude.{◌≡◌, ◌<◌, ◌≤◌, ℕ, Some, List, length, slice_get, IfOk, IfErr, OnOk};
+ghost use Rattle.plan_model.specs.declared.node.Node.{Node};
+ghost use Rattle.plan_model.specs.IsPlan.{kinds_at};
+ghost use Rattle.dataflow.specs.Lists.{edges_at, AreGiven, IsListOf};
+ghost use Rattle.dataflow.specs.Stages.{left_closing as left_closing_of, right_closing as right_closing_of};
+ghost use Rattle.dataflow.specs.Flows.{parts_of, MayStep, GivesOn, OverflowsAt};
+
+use crate::fault::PlanFault;
+use crate::reading::{left_list, right_list};
+use crate::stage::Stage;
+use batch::Pools;
+use edge_stream::{EdgeList, StepFault};
+use plan_model::{Plan, closes};
+use std::alloc::Global;
+use tw_rows::{TextTable, Time};
+
+// The closing of what the node of number `i` reads on the left.
+fn left_closing(plan: &Plan, i: usize, p: Time) -> Time
+    requires { i < length plan.now.nodes }
+    ensures { (n : Node) → slice_get plan.now.nodes i ≡ Some n → result ≡ left_closing_of plan.now.nodes p n }
+{
+    let nodes = plan.nodes();
+    match nodes[i].left_child() {
+        Some(child) => closes(plan, child, p),
+        None => p,
+    }
+}
+
+#[tactic(auto, unfolding(tw_rows::specs::Instant::inf))]
+// The closing of what it reads on the right: infinity where that is nothing.
+fn right_closing(plan: &Plan, i: usize, p: Time) -> Time
+    requires { i < length plan.now.nodes }
+    ensures { (n : Node) → slice_get plan.now.nodes i ≡ Some n → result ≡ right_closing_of plan.now.nodes p n }
+{
+    let nodes = plan.nodes();
+    match nodes[i].right_child() {
+        Some(child) => closes(plan, child, p),
+        None => Time::INF,
+    }
+}
+
+// The fault of the node of that number.
+fn fault_of(node: usize, fault: &StepFault) -> PlanFault
+    ensures { (k time : ℕ) → result ≡ PlanFault.Overflow k time → (k ≡ node) × (fault.now ≡ StepFault.Overflow time) }
+{
+    match fault {
+        StepFault::Overflow { time } => PlanFault::Overflow { node, time: *time },
+        StepFault::Memory => PlanFault::Memory,
+    }
+}
+
+// One step of each node of a plan, in order of number.
+pub(crate) fn step_all(
+    alloc: Global,
+    pools: &mut Pools,
+    texts: &TextTable,
+    plan: &Plan,
+    stages: &mut Vec<Stage>,
+    mut given: Vec<EdgeList>,
+    p: Time,
+) -> Result<EdgeList, PlanFault>
+    requires may { MayStep texts.now p (edges_at given.items) (parts_of plan.now stages.old.items pools.old) }
+    requires given { AreGiven texts.now pools.old.capacity plan.now given.items }
+    ensures flowed { IfOk result (λ out. GivesOn texts.now p (edges_at given.items) (parts_of plan.now stages.old.items pools.old) (parts_of plan.now stages.new.items pools.new) out.edges) }
+    ensures overflow { IfErr result (λ fault. (node time : ℕ) → fault ≡ PlanFault.Overflow node time → OverflowsAt texts.now p (edges_at given.items) (parts_of plan.now stages.old.items pools.old) node time) }
+    ensures list { IfOk result (λ out. IsListOf texts.now pools.old.capacity (kinds_at plan.now.schemas plan.now.root) out) }
+    ensures capacity { pools.new.capacity ≡ pools.old.capacity }
+{
+    // Its call tells the proof that it is a time.
+    let _ = p.word();
+    let nodes = plan.nodes();
+    let mut made: Vec<EdgeList> = Vec::new(alloc);
+    for i in 0..nodes.len() {
+        let left = left_list(alloc, pools, plan, i, &mut given, &mut made)?;
+        let right = right_list(alloc, pools, plan, i, &mut made)?;
+        let left_to = left_closing(plan, i, p);
+        let right_to = right_closing(plan, i, p);
+        match stages[i].step(alloc, pools, texts, left, right, left_to, right_to) {
+            Ok(list) => made.push(list)?,
+            Err(fault) => return Err(fault_of(i, &fault)),
+        }
+    }
+    Ok(made.swap_remove(plan.root()))
+}

@@ -1,7 +1,0 @@
-//! The operator of an Extend.
-#![tactic(auto)]
-
-mod extend;
-mod operating;
-
-pub use extend::ExtendOperator;

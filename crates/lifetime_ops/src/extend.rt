@@ -1,0 +1,201 @@
+// The operator of a node that moves the ends of lives.
+ghost use Rattle.std.specs.Prelude.{◌≡◌, ◌≤◌, ◌+◌, nat_lt, ℕ, true, false, is_err, List, [], ◌∷◌, ◌++◌, map, length, All, IfOk, OnOk};
+ghost use Rattle.tw_rows.specs.Bag.{total};
+ghost use Rattle.tw_rows.specs.Instant.{inf};
+ghost use Rattle.tw_rows.specs.Cells.{datum_kind};
+ghost use Rattle.tw_rows.specs.declared.edge.Edge.{Edge};
+ghost use Rattle.tw_rows.specs.declared.kind.CellKind.{CellKind};
+ghost use Rattle.edge_history.specs.Order.{failing, is_end, is_below, is_from, IsReal, KeepsOrder};
+ghost use Rattle.edge_stream.specs.Listing.{cells_of};
+ghost use Rattle.operator.specs.Steps.{MayCome, ComeBetween};
+ghost use Rattle.life_laws.specs.Extending.{extended_starts, extended_ends, KeepsExtended};
+ghost use Rattle.lifetime_ops.specs.Waiting.{edges_of_pending, IsWaitingEnd};
+
+use batch::Pools;
+use carried_edges::take_below;
+use edge_stream::EdgeList;
+use end_queue::EndQueue;
+use std::alloc::Global;
+use tw_rows::{Edge, Kind, Memory, Time};
+
+/// The operator of an Extend. A start or an interval edge is answered at once, its known end moved; an end waits until the
+/// time to which it moves. Edges that came too early are carried.
+#[derive(Drop)]
+pub struct ExtendLifetime {
+    pub(crate) alloc: Global,
+    pub(crate) by: u64,
+    pub(crate) carried: EdgeList,
+    pub(crate) ends: EndQueue,
+    pub(crate) left_to: Time,
+    pub(crate) right_to: Time,
+    pub(crate) failed: bool,
+    ghost late: { failed ≡ false → failing (is_from left_to) carried.edges ≡ 0 },
+    ghost waiting: { All (IsWaitingEnd (cells_of carried)) ends },
+    ghost due: { failed ≡ false → All (λ p. left_to ≤ p.at) ends },
+}
+
+// Whether the time is no infinity.
+fn is_instant(time: Time) -> bool
+    ensures { result ≡ nat_lt time inf }
+{
+    time < Time::bounds().1
+}
+
+// Puts the end at the time to which it moves, if that is no infinity.
+fn put_end(ends: &mut EndQueue, by: u64, edge: Edge) -> Result<(), Memory>
+    requires end { is_end edge ≡ true }
+    requires real { IsReal edge }
+    ensures ends { OnOk result ((w : Edge → ℕ) → total w (edges_of_pending ends.new) ≡ total w (edges_of_pending ends.old) + total w (extended_ends by (edge ∷ []))) }
+    ensures waiting { (kinds : List CellKind) → map datum_kind edge.cells ≡ kinds → All (IsWaitingEnd kinds) ends.old → All (IsWaitingEnd kinds) ends.new }
+{
+    let at = edge.sync.plus(by);
+    if !is_instant(at) {
+        return Ok(());
+    }
+    let moved = Edge {
+        sync: at,
+        other: edge.other,
+        cells: edge.cells,
+    };
+    ends.put(at, moved)?;
+    Ok(())
+}
+
+// Puts the ends among the edges into the queue, and the others, with their known ends moved, into an empty list.
+fn part_due(
+    by: u64,
+    due: &EdgeList,
+    ends: &mut EndQueue,
+    pools: &mut Pools,
+    starts: &mut EdgeList,
+) -> Result<(), Memory>
+    requires empty { starts.old.edges ≡ [] }
+    requires kinds { cells_of starts.old ≡ cells_of due.now }
+    requires capacity { pools.old.capacity ≡ starts.old.capacity }
+    requires waiting { All (IsWaitingEnd (cells_of due.now)) ends.old }
+    ensures starts { OnOk result (starts.new.edges ≡ extended_starts by due.now.edges) }
+    ensures ends { OnOk result ((w : Edge → ℕ) → total w (edges_of_pending ends.new) ≡ total w (edges_of_pending ends.old) + total w (extended_ends by due.now.edges)) }
+    ensures waiting { All (IsWaitingEnd (cells_of due.now)) ends.new }
+    ensures starts_kinds { cells_of starts.new ≡ cells_of starts.old }
+    ensures starts_capacity { starts.new.capacity ≡ starts.old.capacity }
+    ensures pools { pools.new.capacity ≡ pools.old.capacity }
+    ensures limit { pools.new.limit ≡ pools.old.limit }
+{
+    let mut cursor = due.cursor();
+    while let Some(edge) = cursor.next()? {
+        if edge.is_end() {
+            put_end(ends, by, edge)?;
+        } else {
+            let extended = Edge {
+                sync: edge.sync,
+                other: edge.other.plus(by),
+                cells: edge.cells,
+            };
+            starts.append(pools, &extended)?;
+        }
+    }
+    Ok(())
+}
+
+// Takes out of the queue the ends that are due below a time, in a list like another one.
+fn take_due(
+    alloc: Global,
+    pools: &mut Pools,
+    ends: &mut EndQueue,
+    like: &EdgeList,
+    below: Time,
+) -> Result<EdgeList, Memory>
+    requires waiting { All (IsWaitingEnd (cells_of like.now)) ends.old }
+    requires capacity { pools.old.capacity ≡ like.now.capacity }
+    ensures edges { IfOk result (λ due. edges_of_pending ends.old ≡ due.edges ++ edges_of_pending ends.new) }
+    ensures low { IfOk result (λ due. failing (is_below below) due.edges ≡ 0) }
+    ensures late { OnOk result (All (λ p. below ≤ p.at) ends.new) }
+    ensures waiting { All (IsWaitingEnd (cells_of like.now)) ends.new }
+    ensures kinds { IfOk result (λ due. cells_of due ≡ cells_of like.now) }
+    ensures capacity { IfOk result (λ due. due.capacity ≡ like.now.capacity) }
+    ensures pools { pools.new.capacity ≡ pools.old.capacity }
+    ensures limit { pools.new.limit ≡ pools.old.limit }
+{
+    // Its call tells the proof that they come due in order.
+    let _ = ends.len();
+    let mut due = EdgeList::new(alloc, like.kinds(), like.capacity())?;
+    while let Some(edge) = ends.pop_due(below) {
+        due.append(pools, &edge)?;
+    }
+    Ok(due)
+}
+
+impl ExtendLifetime {
+    /// The operator of a node that moves ends by so much, of rows with columns of these kinds, in batches of that capacity.
+    pub fn new(
+        alloc: Global,
+        by: u64,
+        kinds: &[Kind],
+        capacity: usize,
+    ) -> Result<ExtendLifetime, Memory>
+        requires width { length kinds.now ≤ 32 }
+        requires room { 1 ≤ capacity }
+        ensures by { IfOk result (λ o. o.by ≡ by) }
+        ensures carried { IfOk result (λ o. o.carried ≡ record { edges = []; kinds = kinds.now; capacity = capacity; batches = 0; room = 0 }) }
+        ensures ends { IfOk result (λ o. o.ends ≡ []) }
+        ensures times { IfOk result (λ o. (o.left_to ≡ 0) × (o.right_to ≡ 0)) }
+        ensures works { IfOk result (λ o. o.failed ≡ false) }
+    {
+        Ok(ExtendLifetime {
+            alloc,
+            by,
+            carried: EdgeList::new(alloc, kinds, capacity)?,
+            ends: EndQueue::new(alloc),
+            left_to: Time::bounds().0,
+            right_to: Time::bounds().0,
+            failed: false,
+        })
+    }
+
+    /// Answers the starts and intervals that came early enough, and the ends that are due.
+    pub(crate) fn advance(
+        &mut self,
+        pools: &mut Pools,
+        left: EdgeList,
+        right: EdgeList,
+        left_to: Time,
+        right_to: Time,
+    ) -> Result<EdgeList, Memory>
+        requires left_rises { self.old.left_to ≤ left_to }
+        requires right_rises { self.old.right_to ≤ right_to }
+        requires left_kinds { cells_of left ≡ cells_of self.old.carried }
+        requires left_capacity { left.capacity ≡ self.old.carried.capacity }
+        requires right_capacity { right.capacity ≡ self.old.carried.capacity }
+        requires capacity { pools.old.capacity ≡ self.old.carried.capacity }
+        ensures kept { IfOk result (λ answer. (texts : List (List ℕ)) (hl hr out : List Edge) →
+            KeepsExtended self.old.by texts self.old.left_to self.old.right_to self.old.carried.edges (edges_of_pending self.old.ends) hl hr out →
+            MayCome texts self.old.left_to hl left.edges → MayCome texts self.old.right_to hr right.edges →
+            KeepsExtended self.old.by texts left_to right_to self.new.carried.edges (edges_of_pending self.new.ends) (hl ++ left.edges) (hr ++ right.edges) (out ++ answer.edges)
+            × ComeBetween self.old.left_to left_to answer.edges) }
+        ensures kinds { IfOk result (λ answer. cells_of answer ≡ cells_of self.old.carried) }
+        ensures capacity { IfOk result (λ answer. answer.capacity ≡ self.old.carried.capacity) }
+        ensures pools { pools.new.capacity ≡ pools.old.capacity }
+        ensures limit { pools.new.limit ≡ pools.old.limit }
+        ensures left_to { OnOk result (self.new.left_to ≡ left_to) }
+        ensures right_to { OnOk result (self.new.right_to ≡ right_to) }
+        ensures failed { self.new.failed ≡ is_err result }
+        ensures by { self.new.by ≡ self.old.by }
+        ensures own_kinds { cells_of self.new.carried ≡ cells_of self.old.carried }
+        ensures own_capacity { self.new.carried.capacity ≡ self.old.carried.capacity }
+    {
+        self.failed = true;
+        // These calls tell the proof that both are times.
+        let _ = (left_to.word(), right_to.word());
+        right.give_back(pools);
+        let due = take_below(self.alloc, pools, &mut self.carried, left, left_to)?;
+        let mut starts = EdgeList::new(self.alloc, self.carried.kinds(), self.carried.capacity())?;
+        part_due(self.by, &due, &mut self.ends, pools, &mut starts)?;
+        due.give_back(pools);
+        let ends = take_due(self.alloc, pools, &mut self.ends, &self.carried, left_to)?;
+        let answer = EdgeList::merge(pools, starts, ends)?;
+        self.left_to = left_to;
+        self.right_to = right_to;
+        self.failed = false;
+        Ok(answer)
+    }
+}

@@ -1,0 +1,10 @@
+//! Stages: what computes one node of a plan over lists of edges in batches.
+#![tactic(auto)]
+
+mod laws;
+mod making;
+mod row_stage;
+
+pub use laws::{made_edges_stand_read, stages_keep_their_node};
+pub use making::read_kinds;
+pub use row_stage::RowStage;

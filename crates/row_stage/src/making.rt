@@ -1,0 +1,147 @@
+// The making of stages from the nodes of a plan.
+ghost use Rattle.std.specs.Prelude.{◌≡◌, ◌<◌, ◌≤◌, true, Some, length, map, slice_get, All, IfOk};
+ghost use Rattle.tw_rows.specs.Kinds.{cell_kind_of};
+ghost use Rattle.tw_rows.specs.Texts.{BeginsWith};
+ghost use Rattle.plan_model.specs.IsPlan.{kinds_of_schema, kinds_of_stream, kinds_at};
+ghost use Rattle.plan_model.specs.Typed.{IsTyped, kind_of};
+ghost use Rattle.lane_expr.specs.Steps.{AreStepsPlaced};
+ghost use Rattle.where_select.specs.Projects.{exprs_of};
+ghost use Rattle.row_stage.specs.Stages.{is_of_rows, kinds_read, IsFor, IsFilterOf, IsProjectOf, IsStageOf};
+
+use crate::row_stage::RowStage;
+use lane_expr::Kernel;
+use plan_model::{Expr, Node, Plan};
+use std::alloc::Global;
+use tw_rows::{CellKind, Kind, Memory, Schema, StreamDef, TextTable};
+use where_select::{Filter, Project};
+
+impl RowStage {
+    /// The stage of a Source, a Where or a Select of the plan, for batches of `capacity` rows. The texts of the node come
+    /// into the table, and stay there where memory is wanting.
+    pub fn new(
+        alloc: Global,
+        plan: &Plan,
+        node: usize,
+        capacity: usize,
+        texts: &mut TextTable,
+    ) -> Result<RowStage, Memory>
+        requires node { node < length plan.now.nodes }
+        requires rows { (n : Node) → slice_get plan.now.nodes node ≡ Some n → is_of_rows n ≡ true }
+        ensures stage { IfOk result (λ s. (n : Node) → slice_get plan.now.nodes node ≡ Some n → IsStageOf texts.new capacity (kinds_read plan.now n) n s) }
+        ensures begins { BeginsWith texts.new texts.old }
+    {
+        let kinds = read_kinds(alloc, plan, node)?;
+        let nodes = plan.nodes();
+        match &nodes[node] {
+            Node::Source { .. } => Ok(RowStage::Source),
+            Node::Where { test, .. } => {
+                let filter = filter_of(alloc, test, &kinds, capacity, texts)?;
+                Ok(RowStage::Where(filter))
+            }
+            Node::Select { items, .. } => {
+                let project = project_of(alloc, items.items(), &kinds, capacity, texts)?;
+                Ok(RowStage::Select(project))
+            }
+            _ => unreachable!(),
+        }
+    }
+}
+
+/// The kinds of the columns that a node of the plan reads: its child's, or those of its stream where it is a Source.
+pub fn read_kinds(alloc: Global, plan: &Plan, node: usize) -> Result<Vec<Kind>, Memory>
+    requires { node < length plan.now.nodes }
+    ensures { IfOk result (λ v. (n : Node) → slice_get plan.now.nodes node ≡ Some n → map cell_kind_of v.items ≡ kinds_read plan.now n) }
+{
+    let nodes = plan.nodes();
+    let streams = plan.streams();
+    let schemas = plan.schemas();
+    match &nodes[node] {
+        Node::Source { stream } => stream_kinds(alloc, streams, *stream),
+        other => match other.left_child() {
+            Some(child) => child_kinds(alloc, schemas, child),
+            None => unreachable!(),
+        },
+    }
+}
+
+// The kinds of the columns of the stream of that number.
+fn stream_kinds(alloc: Global, streams: &[StreamDef], stream: usize) -> Result<Vec<Kind>, Memory>
+    requires { stream < length streams.now }
+    ensures { IfOk result (λ v. map cell_kind_of v.items ≡ kinds_of_stream streams.now stream) }
+{
+    column_kinds(alloc, &streams[stream].schema)
+}
+
+// The kinds of the columns of the node of that number.
+fn child_kinds(alloc: Global, schemas: &[Schema], child: usize) -> Result<Vec<Kind>, Memory>
+    requires { child < length schemas.now }
+    ensures { IfOk result (λ v. map cell_kind_of v.items ≡ kinds_at schemas.now child) }
+{
+    column_kinds(alloc, &schemas[child])
+}
+
+// The kinds of the columns of a schema.
+fn column_kinds(alloc: Global, schema: &Schema) -> Result<Vec<Kind>, Memory>
+    ensures { IfOk result (λ v. map cell_kind_of v.items ≡ kinds_of_schema schema.now) }
+{
+    let mut kinds = Vec::new(alloc);
+    for column in schema.items() {
+        kinds.push(column.kind)?;
+    }
+    Ok(kinds)
+}
+
+// The filter of a test over columns of these kinds.
+fn filter_of(
+    alloc: Global,
+    test: &Expr,
+    kinds: &[Kind],
+    capacity: usize,
+    texts: &mut TextTable,
+) -> Result<Filter, Memory>
+    requires typed { IsTyped (map cell_kind_of kinds.now) test.now }
+    requires bit { kind_of test.now (map cell_kind_of kinds.now) ≡ CellKind.Bit }
+    ensures filter { IfOk result (λ f. IsFilterOf texts.new capacity (map cell_kind_of kinds.now) test.now f) }
+    ensures begins { BeginsWith texts.new texts.old }
+{
+    let kernel = Kernel::compile(alloc, test, kinds, texts, capacity)?;
+    Filter::new(alloc, kernel, capacity)
+}
+
+// The projection to items over columns of these kinds.
+fn project_of(
+    alloc: Global,
+    items: &[Expr],
+    kinds: &[Kind],
+    capacity: usize,
+    texts: &mut TextTable,
+) -> Result<Project, Memory>
+    requires typed { All (IsTyped (map cell_kind_of kinds.now)) items.now }
+    requires few { length items.now ≤ 32 }
+    ensures project { IfOk result (λ ks. IsProjectOf texts.new capacity (map cell_kind_of kinds.now) items.now ks) }
+    ensures begins { BeginsWith texts.new texts.old }
+{
+    let kernels = kernels_of(alloc, items, kinds, capacity, texts)?;
+    Project::new(alloc, kernels, kinds)
+}
+
+// The kernels of the items.
+fn kernels_of(
+    alloc: Global,
+    items: &[Expr],
+    kinds: &[Kind],
+    capacity: usize,
+    texts: &mut TextTable,
+) -> Result<Vec<Kernel>, Memory>
+    requires { All (IsTyped (map cell_kind_of kinds.now)) items.now }
+    ensures same { IfOk result (λ ks. exprs_of texts.new ks.items ≡ items.now) }
+    ensures placed { IfOk result (λ ks. All (λ k. AreStepsPlaced texts.new k.steps) ks.items) }
+    ensures suited { IfOk result (λ ks. All (IsFor capacity (map cell_kind_of kinds.now)) ks.items) }
+    ensures begins { BeginsWith texts.new texts.old }
+{
+    let mut kernels = Vec::new(alloc);
+    for item in items {
+        kernels.push(Kernel::compile(alloc, item, kinds, texts, capacity)?)?;
+    }
+    Ok(kernels)
+}

@@ -1,0 +1,7 @@
+//! The operator of a Union.
+#![tactic(auto)]
+
+mod operating;
+mod union;
+
+pub use union::Union;
