@@ -65,7 +65,9 @@ fn push_event_fields(
     texts: &TextTable,
 ) -> Result<(), Memory>
     requires { ArePlaced texts.now cells.now }
-    ensures ok { OnOk result (out.new.items ≡ out.old.items ++ record_text (event_fields kinds.now name.now form sync other (read_cells texts.now cells.now))) }
+    ensures ok { OnOk result (out.new.items ≡ out.old.items
+        ++ record_text (event_fields kinds.now name.now form sync other
+        (read_cells texts.now cells.now))) }
     ensures err { OnErr result (Begins out.old.items out.new.items) }
 {
     push_text(out, name)?;
@@ -89,7 +91,9 @@ pub fn push_event(
     texts: &TextTable,
 ) -> Result<(), Memory>
     requires { ArePlaced texts.now cells.now }
-    ensures ok { OnOk result (out.new.items ≡ out.old.items ++ record_text (event_fields kinds.now name.now form sync other (read_cells texts.now cells.now))) }
+    ensures ok { OnOk result (out.new.items ≡ out.old.items
+        ++ record_text (event_fields kinds.now name.now form sync other
+        (read_cells texts.now cells.now))) }
     ensures err { OnErr result (out.new.items ≡ out.old.items) }
 {
     let before = out.len();

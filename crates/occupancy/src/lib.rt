@@ -1,7 +1,9 @@
 //! Which places of a list are occupied: a list of truth values, 64 to a word, whose room is made once.
 #![tactic(auto)]
 
-ghost use Rattle.std.specs.Prelude.{◌≡◌, ℕ, ◌+◌, ◌*◌, ◌^◌, ◌%◌, ◌<◌, ◌≤◌, ◌↔◌, true, false, [], ◌∷◌, ◌++◌, length, count_by, slice_set, IfOk, IfSome, IfNone, IsTrue};
+ghost use Rattle.std.specs.Prelude.{◌≡◌, ℕ, ◌+◌, ◌*◌, ◌^◌, ◌%◌, ◌<◌, ◌≤◌, ◌↔◌, true, false, []};
+ghost use Rattle.std.specs.Prelude.{◌∷◌, ◌++◌, length, count_by, slice_set, IfOk, IfSome, IfNone};
+ghost use Rattle.std.specs.Prelude.{IsTrue};
 ghost use Rattle.occupancy.specs.Bits.{is_set_at, IsNextSet, IsNoneSet, both, test, word_bits};
 
 use std::alloc::{AllocError, Global};

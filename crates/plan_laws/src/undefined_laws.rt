@@ -8,7 +8,9 @@ ghost use Rattle.plan_model.specs.Groups.{is_undefined};
 ghost use Rattle.plan_model.specs.Keys.{value_ops};
 ghost use Rattle.plan_model.specs.Meaning.{Sources, closes, snapshots, IsOrdered, IsLevelled};
 ghost use Rattle.plan_model.specs.RowOps.{RowOps, key_in, rows_of_key_in, is_undefined_in};
-ghost use Rattle.plan_laws.specs.Undefined.{IsDefinedGroup, is_group, undefined_over, left_rows, undefined_at, first_below, first_undefined, Overflow, overflow};
+ghost use Rattle.plan_laws.specs.Undefined.{IsDefinedGroup, is_group, undefined_over, left_rows};
+ghost use Rattle.plan_laws.specs.Undefined.{undefined_at, first_below, first_undefined, Overflow};
+ghost use Rattle.plan_laws.specs.Undefined.{overflow};
 
 /// The groups of some rows are all defined exactly where each of them has at most 2^62 rows, and each of its sums is at
 /// least -2^63 and at most 2^63 - 1. A node that is no group is never undefined.

@@ -1,6 +1,8 @@
 // The laws of arithmetic, of comparisons and of truth values in expressions. Each is a function that does nothing; its
 // clauses are the law. `at` gives the values of an operator's operands by their numbers.
-ghost use Rattle.std.specs.Prelude.{◌≡◌, ◌≢◌, ◌↔◌, ◌⊎◌, ℕ, ◌<◌, ◌≤◌, ◌^◌, ℤ, pos, ◌+ℤ◌, ◌-ℤ◌, ◌*ℤ◌, ◌<ℤ◌, neg_ℤ, List, IsTrue, FitsSigned, Bool, true, false};
+ghost use Rattle.std.specs.Prelude.{◌≡◌, ◌≢◌, ◌↔◌, ◌⊎◌, ℕ, ◌<◌, ◌≤◌, ◌^◌, ℤ, pos, ◌+ℤ◌, ◌-ℤ◌};
+ghost use Rattle.std.specs.Prelude.{◌*ℤ◌, ◌<ℤ◌, neg_ℤ, List, IsTrue, FitsSigned, Bool, true};
+ghost use Rattle.std.specs.Prelude.{false};
 ghost use Rattle.std.specs.Int.{w64};
 ghost use Rattle.tw_rows.specs.Rows.{Row};
 ghost use Rattle.tw_rows.specs.declared.row.Value.{Value};

@@ -8,13 +8,19 @@ ghost use Rattle.plan_model.specs.ChangeWords.{line_cmp, start_times, named_time
 
 /// Up to any instant a row has as many start lines more than end lines as it stands among the rows of that instant.
 pub fn lines_count_rows()
-    ensures { (rows : ℕ → List Row) (r : Row) (t : ℕ) → length (start_times r (changes rows 0 (suc t))) ≡ length (named_times r (changes rows 0 (suc t))) + how_often r (rows t) }
+    ensures { (rows : ℕ → List Row) (r : Row) (t : ℕ) →
+        length (start_times r (changes rows 0 (suc t)))
+        ≡ length (named_times r (changes rows 0 (suc t))) + how_often r (rows t) }
 {}
 
 /// At an instant a row has a start line for each time that it stands there more often than just before, and an end line for each time that it stands there less often.
 pub fn lines_follow_rows()
-    ensures starts { (rows : ℕ → List Row) (r : Row) (t : ℕ) → length (start_times r (changes_at rows t)) ≡ how_often r (rows t) - how_often r (before rows t) }
-    ensures ends { (rows : ℕ → List Row) (r : Row) (t : ℕ) → length (named_times r (changes_at rows t)) ≡ how_often r (before rows t) - how_often r (rows t) }
+    ensures starts { (rows : ℕ → List Row) (r : Row) (t : ℕ) →
+        length (start_times r (changes_at rows t))
+        ≡ how_often r (rows t) - how_often r (before rows t) }
+    ensures ends { (rows : ℕ → List Row) (r : Row) (t : ℕ) →
+        length (named_times r (changes_at rows t))
+        ≡ how_often r (before rows t) - how_often r (rows t) }
 {}
 
 /// The lines stand in order of their instants; at one instant the ends before the starts, and each of these in the order of their rows.
@@ -24,7 +30,8 @@ pub fn lines_stand_in_order()
 
 /// Each end line names the earliest start line of its row that has no end line yet.
 pub fn ends_name_first_open_start()
-    ensures { (rows : ℕ → List Row) (n : ℕ) (done after : List Line) (t s : ℕ) (r : Row) → changes rows 0 n ≡ done ++ Ended t s r ∷ after → IsFirstOpen r done t s }
+    ensures { (rows : ℕ → List Row) (n : ℕ) (done after : List Line) (t s : ℕ) (r : Row) →
+        changes rows 0 n ≡ done ++ Ended t s r ∷ after → IsFirstOpen r done t s }
 {}
 
 /// What is written is final: where the rows below an instant are the same as multisets, the changes below it are the same, line by line.

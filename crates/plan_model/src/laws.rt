@@ -1,5 +1,7 @@
 // The laws of what expressions and plans mean. Each is a function that does nothing; its clauses are the law.
-ghost use Rattle.std.specs.Prelude.{◌≡◌, ◌↔◌, IsTrue, ℕ, ℤ, int_lt, int_le, not, ◌+◌, ◌-◌, ◌<◌, ◌≤◌, min, List, [], ◌∷◌, ◌++◌, length, map, filter, slice_get, true, ◌*◌, cond, nat_eq, pos, ◌≤ℤ◌};
+ghost use Rattle.std.specs.Prelude.{◌≡◌, ◌↔◌, IsTrue, ℕ, ℤ, int_lt, int_le, not, ◌+◌, ◌-◌, ◌<◌};
+ghost use Rattle.std.specs.Prelude.{◌≤◌, min, List, [], ◌∷◌, ◌++◌, length, map, filter, slice_get};
+ghost use Rattle.std.specs.Prelude.{true, ◌*◌, cond, nat_eq, pos, ◌≤ℤ◌};
 ghost use Rattle.std.specs.Int.{int_div_euclid};
 ghost use Rattle.std.specs.List.{list_any};
 ghost use Rattle.tw_rows.specs.Bag.{SameBag};
@@ -27,7 +29,9 @@ ghost use Rattle.plan_model.specs.Nodes.{event_to, events_to, node_in};
 ghost use Rattle.key_nodes.specs.Runs.{Tells};
 ghost use Rattle.key_nodes.specs.Joins.{joined_rows, joined};
 ghost use Rattle.plan_model.specs.Lives.{moved_one, moved, hopped_one, hopped, lasting_one, lasting, extended_one, extended};
-ghost use Rattle.plan_model.specs.Meaning.{Sources, left_of, right_of, node_events, events, node_closes, closes, nothing, by_events, node_meaning, meaning, snapshots, IsOrdered, IsLevelled};
+ghost use Rattle.plan_model.specs.Meaning.{Sources, left_of, right_of, node_events, events};
+ghost use Rattle.plan_model.specs.Meaning.{node_closes, closes, nothing, by_events, node_meaning};
+ghost use Rattle.plan_model.specs.Meaning.{meaning, snapshots, IsOrdered, IsLevelled};
 
 /// Each node of an expression has the value that its kind makes of its operands' values, and the expression has the
 /// value of its last node.

@@ -34,7 +34,9 @@ fn next_closing(node: &Node, done: &[Time; MOST_NODES], p: Time) -> Time
     requires period { HasPeriod node.now }
     requires left { HasLower 256 (left_child node.now) }
     requires right { HasLower 256 (right_child node.now) }
-    ensures { result ≡ node_closes node.now (left_of inf (λ s. p) (λ i. slice_index_or done.now i inf) node.now) (right_of inf (λ i. slice_index_or done.now i inf) node.now) }
+    ensures { result ≡ node_closes node.now
+        (left_of inf (λ s. p) (λ i. slice_index_or done.now i inf) node.now)
+        (right_of inf (λ i. slice_index_or done.now i inf) node.now) }
 {
     let left = match node.left_child() {
         Some(child) => done[child],
@@ -64,7 +66,9 @@ pub fn closes(plan: &Plan, node: usize, p: Time) -> Time
 fn next_level(node: &Node, done: &[bool; MOST_NODES]) -> bool
     requires left { HasLower 256 (left_child node.now) }
     requires right { HasLower 256 (right_child node.now) }
-    ensures { result ≡ node_is_event_level node.now (left_of true (λ s. true) (λ i. slice_index_or done.now i true) node.now) (right_of true (λ i. slice_index_or done.now i true) node.now) }
+    ensures { result ≡ node_is_event_level node.now
+        (left_of true (λ s. true) (λ i. slice_index_or done.now i true) node.now)
+        (right_of true (λ i. slice_index_or done.now i true) node.now) }
 {
     let left = match node.left_child() {
         Some(child) => done[child],
@@ -104,8 +108,12 @@ fn reach_within(node: &Node, left: u64, right: u64) -> u64
 fn next_reach(node: &Node, done: &[u64; MOST_NODES]) -> u64
     requires left { HasLower 256 (left_child node.now) }
     requires right { HasLower 256 (right_child node.now) }
-    requires near { node_reach node.now (left_of 0 (λ s. 0) (λ i. slice_index_or done.now i 0) node.now) (right_of 0 (λ i. slice_index_or done.now i 0) node.now) ≤ most_reach }
-    ensures { result ≡ node_reach node.now (left_of 0 (λ s. 0) (λ i. slice_index_or done.now i 0) node.now) (right_of 0 (λ i. slice_index_or done.now i 0) node.now) }
+    requires near { node_reach node.now
+        (left_of 0 (λ s. 0) (λ i. slice_index_or done.now i 0) node.now)
+        (right_of 0 (λ i. slice_index_or done.now i 0) node.now) ≤ most_reach }
+    ensures { result ≡ node_reach node.now
+        (left_of 0 (λ s. 0) (λ i. slice_index_or done.now i 0) node.now)
+        (right_of 0 (λ i. slice_index_or done.now i 0) node.now) }
 {
     let left = match node.left_child() {
         Some(child) => done[child],

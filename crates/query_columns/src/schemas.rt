@@ -3,7 +3,11 @@ ghost use Rattle.std.specs.Prelude.{◌≡◌, ◌+◌, ◌<◌, ◌^◌, ◌++�
 ghost use lib.Pointwise.{pointwise};
 ghost use Rattle.query_columns.specs.Types.{same_kind, kinds};
 ghost use Rattle.std.specs.List.{list_any};
-ghost use Rattle.query_columns.specs.Schemas.{column_at, select_schema, agg_kind, agg_columns, group_schema, count_column, join_schema, same_kinds, kinds_of_key, keys_alike, fun_takes, agg_fits, aggs_fit, is_avg, averages_from, fills_fit, same_name, name_twice, key_twice};
+ghost use Rattle.query_columns.specs.Schemas.{column_at, select_schema, agg_kind, agg_columns};
+ghost use Rattle.query_columns.specs.Schemas.{group_schema, count_column, join_schema, same_kinds};
+ghost use Rattle.query_columns.specs.Schemas.{kinds_of_key, keys_alike, fun_takes, agg_fits};
+ghost use Rattle.query_columns.specs.Schemas.{aggs_fit, is_avg, averages_from, fills_fit};
+ghost use Rattle.query_columns.specs.Schemas.{same_name, name_twice, key_twice};
 
 use crate::names::agg_column;
 use crate::types::{is_number, nth_kind, same_kind};

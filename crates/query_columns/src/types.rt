@@ -1,6 +1,9 @@
 // The kinds of expressions.
 ghost use Rattle.std.specs.Prelude.{◌≡◌, ◌-◌, IfOk, Some, option_map, length, slice_get};
-ghost use Rattle.query_columns.specs.Types.{same_kind, is_number, kinds, if_kind, if_alike, number, if_number, sum_kind, product_kind, arith_kind, arith_type, column_type, node_type, type_of, types_of, tree_types};
+ghost use Rattle.query_columns.specs.Types.{same_kind, is_number, kinds, if_kind, if_alike};
+ghost use Rattle.query_columns.specs.Types.{number, if_number, sum_kind, product_kind, arith_kind};
+ghost use Rattle.query_columns.specs.Types.{arith_type, column_type, node_type, type_of, types_of};
+ghost use Rattle.query_columns.specs.Types.{tree_types};
 
 use crate::names::column_of;
 use plan_model::ArithOp;

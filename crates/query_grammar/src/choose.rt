@@ -1,6 +1,14 @@
 // What each symbol takes: the first word of its rule, and then the symbols that the rest of the rule is read by.
 ghost use Rattle.std.specs.Prelude.{◌≡◌, List, [], ◌∷◌, IfOk};
-ghost use Rattle.query_grammar.specs.Machine.{before, choose, at_stream, at_streams, at_col, at_col_kind, at_cols, at_lets, at_pipe, at_steps, at_step, at_item, at_item_rest, at_items, at_agg, at_aggs, at_by, at_on, at_names, at_more_names, at_expr, at_ors, at_conj, at_ands, at_neg, at_test, at_sum, at_terms, at_prod, at_factors, at_unary, at_atom, at_named, at_int, at_pos, at_places, at_per, at_else, at_lits, at_lit, at_unsigned, at_word};
+ghost use Rattle.query_grammar.specs.Machine.{before, choose, at_stream, at_streams, at_col};
+ghost use Rattle.query_grammar.specs.Machine.{at_col_kind, at_cols, at_lets, at_pipe, at_steps};
+ghost use Rattle.query_grammar.specs.Machine.{at_step, at_item, at_item_rest, at_items, at_agg};
+ghost use Rattle.query_grammar.specs.Machine.{at_aggs, at_by, at_on, at_names, at_more_names};
+ghost use Rattle.query_grammar.specs.Machine.{at_expr, at_ors, at_conj, at_ands, at_neg, at_test};
+ghost use Rattle.query_grammar.specs.Machine.{at_sum, at_terms, at_prod, at_factors, at_unary};
+ghost use Rattle.query_grammar.specs.Machine.{at_atom, at_named, at_int, at_pos, at_places};
+ghost use Rattle.query_grammar.specs.Machine.{at_per, at_else, at_lits, at_lit, at_unsigned};
+ghost use Rattle.query_grammar.specs.Machine.{at_word};
 ghost use Rattle.query_grammar.specs.Grammar.{is_places};
 ghost use Rattle.query_grammar.specs.Reading.{Did};
 

@@ -128,7 +128,10 @@ fn push_rest(
     filled: PlannedNode,
 ) -> Result<(), Memory>
     requires { first < 2 ^ 63 }
-    ensures { OnOk result (nodes.new.items ≡ nodes.old.items ++ anti_node draft.now at sides.now (first + 1) ∷ filled ∷ record { node = Node.Union first (first + 3); schema = joined draft.now at sides.now } ∷ []) }
+    ensures { OnOk result (nodes.new.items ≡ nodes.old.items
+        ++ anti_node draft.now at sides.now (first + 1) ∷ filled
+        ∷ record { node = Node.Union first (first + 3); schema = joined draft.now at sides.now }
+        ∷ []) }
 {
     nodes.push(anti_node(alloc, draft, at, sides, first + 1)?)?;
     nodes.push(filled)?;

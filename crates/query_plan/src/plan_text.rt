@@ -1,6 +1,8 @@
 // The text of a plan.
 ghost use Rattle.std.specs.Prelude.{◌≡◌, ◌++◌, ◌<◌, OnOk, IfOk, [], codes, decimal, flat_map, length, map, slice_index_or};
-ghost use Rattle.query_plan.specs.Explained.{word_of as word_of_node, kind_word as word_of_kind, level_word as word_of_level, listed, column_text, children, node_line, explained};
+ghost use Rattle.query_plan.specs.Explained.{word_of as word_of_node, kind_word as word_of_kind};
+ghost use Rattle.query_plan.specs.Explained.{level_word as word_of_level, listed, column_text};
+ghost use Rattle.query_plan.specs.Explained.{children, node_line, explained};
 ghost use Rattle.plan_model.specs.Reach.{reach as reach_of, event_level as event_level_of};
 
 use itoa::Buffer;
@@ -120,7 +122,8 @@ fn columns_of(plan: &Plan, number: usize) -> &[ColumnDef]
 
 /// The word of a node between its number and its children.
 fn put_head(out: &mut Vec<u8>, number: usize, node: &Node) -> Result<(), Memory>
-    ensures { OnOk result (out.new.items ≡ out.old.items ++ decimal number ++ codes " " ++ word_of_node node.now ++ codes " " ++ listed (map decimal (children node.now))) }
+    ensures { OnOk result (out.new.items ≡ out.old.items ++ decimal number ++ codes " "
+        ++ word_of_node node.now ++ codes " " ++ listed (map decimal (children node.now))) }
 {
     put_number(out, number as u64)?;
     out.extend_from_slice(b" ")?;
@@ -133,7 +136,9 @@ fn put_head(out: &mut Vec<u8>, number: usize, node: &Node) -> Result<(), Memory>
 /// The level and the reach of a node, each behind a space.
 fn put_level(out: &mut Vec<u8>, plan: &Plan, number: usize) -> Result<(), Memory>
     requires { number < length plan.now.nodes }
-    ensures { OnOk result (out.new.items ≡ out.old.items ++ codes " " ++ word_of_level (event_level_of plan.now.nodes number) ++ codes " " ++ decimal (reach_of plan.now.nodes number)) }
+    ensures { OnOk result (out.new.items ≡ out.old.items ++ codes " "
+        ++ word_of_level (event_level_of plan.now.nodes number) ++ codes " "
+        ++ decimal (reach_of plan.now.nodes number)) }
 {
     out.extend_from_slice(b" ")?;
     out.extend_from_slice(level_word(event_level(plan, number)).as_bytes())?;

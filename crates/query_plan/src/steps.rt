@@ -5,7 +5,9 @@ ghost use Rattle.plan_model.specs.declared.fault.QueryFault.TheVariants as F;
 ghost use Rattle.query_columns.specs.Names.{key_of};
 ghost use Rattle.query_columns.specs.Types.{same_kind, types_of};
 ghost use Rattle.query_plan.specs.Answer.{Is};
-ghost use Rattle.query_plan.specs.Steps.{operand, over_events, alone, where_step, select_step, union_step, duration_step, extend_step, is_window, hop_step, session_step, step_nodes};
+ghost use Rattle.query_plan.specs.Steps.{operand, over_events, alone, where_step, select_step};
+ghost use Rattle.query_plan.specs.Steps.{union_step, duration_step, extend_step, is_window};
+ghost use Rattle.query_plan.specs.Steps.{hop_step, session_step, step_nodes};
 
 use crate::checks::needs;
 use crate::draft::{Draft, PlannedNode};

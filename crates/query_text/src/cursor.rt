@@ -3,7 +3,8 @@ ghost use Rattle.std.specs.Prelude.{◌≡◌, ℕ, ◌<◌, ◌≤◌, length, 
 ghost use Rattle.plan_model.specs.IsExpr.{IsOneLine, IsDivisor};
 ghost use Rattle.query_words.specs.Words.{words_of};
 ghost use Rattle.query_grammar.specs.Token.{name, int, str, fixed, tokens_of, unquoted};
-ghost use Rattle.query_text.specs.Reading.{Takes, IsAhead, TakesValue, TakesPos, Any, IsSmall, IsSmallDec, dec_of, TakesCompare, TakesTerm, TakesLeaf};
+ghost use Rattle.query_text.specs.Reading.{Takes, IsAhead, TakesValue, TakesPos, Any, IsSmall};
+ghost use Rattle.query_text.specs.Reading.{IsSmallDec, dec_of, TakesCompare, TakesTerm, TakesLeaf};
 ghost use Rattle.query_text.specs.IsTree.{IsTreeNode};
 
 use crate::tree::TreeNode;

@@ -1,8 +1,12 @@
 // The parser of expressions.
 ghost use Rattle.std.specs.Prelude.{◌≡◌, ◌<◌, ◌≤◌, ◌-◌, length, Some, None, IfOk, IfErr};
-ghost use Rattle.query_grammar.specs.Grammar.{expr_then, ors_then, conj_then, ands_then, neg_then, test_then, sum_then, terms_then, prod_then, factors_then, unary_then, atom_then};
+ghost use Rattle.query_grammar.specs.Grammar.{expr_then, ors_then, conj_then, ands_then, neg_then};
+ghost use Rattle.query_grammar.specs.Grammar.{test_then, sum_then, terms_then, prod_then};
+ghost use Rattle.query_grammar.specs.Grammar.{factors_then, unary_then, atom_then};
 ghost use Rattle.query_grammar.specs.Machine.{rank};
-ghost use Rattle.query_text.specs.Spelling.{expr_onto, ors_onto, conj_onto, ands_onto, neg_onto, test_onto, sum_onto, terms_onto, prod_onto, factors_onto, unary_onto, atom_onto};
+ghost use Rattle.query_text.specs.Spelling.{expr_onto, ors_onto, conj_onto, ands_onto, neg_onto};
+ghost use Rattle.query_text.specs.Spelling.{test_onto, sum_onto, terms_onto, prod_onto};
+ghost use Rattle.query_text.specs.Spelling.{factors_onto, unary_onto, atom_onto};
 ghost use Rattle.query_text.specs.Reading.{Reads, ReadsOne, Shrinks, TakesPos};
 
 use crate::cursor::Cursor;
@@ -58,7 +62,8 @@ impl<'a> Parser<'a> {
     /// `-` and what it negates, or an atom. Its nodes come behind those that are there.
     #[cycle(expression)]
     pub(crate) fn unary(&mut self) -> Result<usize, Stop>
-        ensures reads { Reads result unary_then (λ _. Unit {0}) (λ a _. self.new.nodes ≡ unary_onto a self.old.nodes) self.old.cursor self.new.cursor }
+        ensures reads { Reads result unary_then (λ _. Unit {0})
+            (λ a _. self.new.nodes ≡ unary_onto a self.old.nodes) self.old.cursor self.new.cursor }
         ensures grows { IfOk result (λ _. length self.old.nodes < length self.new.nodes) }
         ensures root { IfOk result (λ root. root ≡ length self.new.nodes - 1) }
         ensures shrinks { IfOk result (λ _. length self.new.cursor ≤ length self.old.cursor) }
@@ -103,7 +108,8 @@ impl<'a> Parser<'a> {
 
     #[cycle(expression)]
     fn prod(&mut self) -> Result<usize, Stop>
-        ensures reads { Reads result prod_then (λ z. rank z < 5) (λ a _. self.new.nodes ≡ prod_onto a self.old.nodes) self.old.cursor self.new.cursor }
+        ensures reads { Reads result prod_then (λ z. rank z < 5)
+            (λ a _. self.new.nodes ≡ prod_onto a self.old.nodes) self.old.cursor self.new.cursor }
         ensures grows { IfOk result (λ _. length self.old.nodes < length self.new.nodes) }
         ensures root { IfOk result (λ root. root ≡ length self.new.nodes - 1) }
         ensures shrinks { IfOk result (λ _. length self.new.cursor ≤ length self.old.cursor) }
@@ -146,7 +152,8 @@ impl<'a> Parser<'a> {
     #[cycle(expression)]
     fn test(&mut self) -> Result<usize, Stop>
         requires { 0 < length self.old.nodes }
-        ensures reads { Reads result test_then (λ z. rank z < 3) (λ a _. self.new.nodes ≡ test_onto a self.old.nodes) self.old.cursor self.new.cursor }
+        ensures reads { Reads result test_then (λ z. rank z < 3)
+            (λ a _. self.new.nodes ≡ test_onto a self.old.nodes) self.old.cursor self.new.cursor }
         ensures grows { IfOk result (λ _. length self.old.nodes ≤ length self.new.nodes) }
         ensures root { IfOk result (λ root. root ≡ length self.new.nodes - 1) }
         ensures shrinks { IfOk result (λ _. length self.new.cursor ≤ length self.old.cursor) }
@@ -195,7 +202,8 @@ impl<'a> Parser<'a> {
 
     #[cycle(expression)]
     fn conj(&mut self) -> Result<usize, Stop>
-        ensures reads { Reads result conj_then (λ z. rank z < 2) (λ a _. self.new.nodes ≡ conj_onto a self.old.nodes) self.old.cursor self.new.cursor }
+        ensures reads { Reads result conj_then (λ z. rank z < 2)
+            (λ a _. self.new.nodes ≡ conj_onto a self.old.nodes) self.old.cursor self.new.cursor }
         ensures grows { IfOk result (λ _. length self.old.nodes < length self.new.nodes) }
         ensures root { IfOk result (λ root. root ≡ length self.new.nodes - 1) }
         ensures shrinks { IfOk result (λ _. length self.new.cursor ≤ length self.old.cursor) }
@@ -225,7 +233,8 @@ impl<'a> Parser<'a> {
     /// An expression. Its nodes come behind those that are there.
     #[cycle(expression)]
     pub(crate) fn expr(&mut self) -> Result<usize, Stop>
-        ensures reads { Reads result expr_then (λ z. rank z < 1) (λ a _. self.new.nodes ≡ expr_onto a self.old.nodes) self.old.cursor self.new.cursor }
+        ensures reads { Reads result expr_then (λ z. rank z < 1)
+            (λ a _. self.new.nodes ≡ expr_onto a self.old.nodes) self.old.cursor self.new.cursor }
         ensures grows { IfOk result (λ _. length self.old.nodes < length self.new.nodes) }
         ensures root { IfOk result (λ root. root ≡ length self.new.nodes - 1) }
         ensures shrinks { IfOk result (λ _. length self.new.cursor ≤ length self.old.cursor) }

@@ -1,12 +1,18 @@
 // The parser of names, items, aggregates, steps and pipes.
 ghost use Rattle.std.specs.Prelude.{◌≡◌, ◌≤◌, ℕ, suc, List, [], ◌∷◌, length, map, ◌<◌, true, Some, None, IfOk};
 ghost use Rattle.query_words.specs.declared.word.Sign.TheVariants as S;
-ghost use Rattle.query_grammar.specs.Grammar.{expr_then, unary_then, names_then, by_then, on_then, per_then, else_then, item_then, agg_then, step_then, pipe_then};
+ghost use Rattle.query_grammar.specs.Grammar.{expr_then, unary_then, names_then, by_then, on_then};
+ghost use Rattle.query_grammar.specs.Grammar.{per_then, else_then, item_then, agg_then, step_then};
+ghost use Rattle.query_grammar.specs.Grammar.{pipe_then};
 ghost use Rattle.query_grammar.specs.Machine.{rank};
 ghost use Rattle.query_text.specs.declared.query.AggFun.TheVariants as F;
 ghost use Rattle.query_text.specs.declared.query.QueryStep.TheVariants as T;
 ghost use Rattle.query_text.specs.Spelling.{tree_of, unary_onto, names_of, by_of, on_of, per_of, lit_of, fills_of, item_of, agg_of, step_of, pipe_of};
-ghost use Rattle.query_text.specs.Reading.{Reads, Lacks, Any, ends_pipe, ends_step, ends_item, sign_then, name_then, int_then, as_then, computed_then, hop_then, session_then, operand_then, group_then, pos_then, left_then, top_then, follow_then, lit_list_then, select_then, agg_list_then};
+ghost use Rattle.query_text.specs.Reading.{Reads, Lacks, Any, ends_pipe, ends_step, ends_item};
+ghost use Rattle.query_text.specs.Reading.{sign_then, name_then, int_then, as_then, computed_then};
+ghost use Rattle.query_text.specs.Reading.{hop_then, session_then, operand_then, group_then};
+ghost use Rattle.query_text.specs.Reading.{pos_then, left_then, top_then, follow_then};
+ghost use Rattle.query_text.specs.Reading.{lit_list_then, select_then, agg_list_then};
 ghost use Rattle.query_grammar.specs.Token.{fixed};
 
 use crate::expression::Parser;
@@ -82,7 +88,8 @@ impl<'a> Parser<'a> {
 
     /// The key behind `by`, or none.
     fn by(&mut self) -> Result<NameList, Stop>
-        ensures reads { Reads result by_then (λ z. Lacks (fixed S.By) z × Lacks (fixed S.Comma) z) (λ b v. v ≡ by_of b) self.old.cursor self.new.cursor }
+        ensures reads { Reads result by_then (λ z. Lacks (fixed S.By) z × Lacks (fixed S.Comma) z)
+            (λ b v. v ≡ by_of b) self.old.cursor self.new.cursor }
         ensures fewer { IfOk result (λ _. length self.new.cursor ≤ length self.old.cursor) }
     {
         if self.cursor.takes(Sign::By) {
@@ -94,7 +101,8 @@ impl<'a> Parser<'a> {
 
     /// The key behind `on`, or none.
     fn on(&mut self) -> Result<NameList, Stop>
-        ensures reads { Reads result on_then (λ z. Lacks (fixed S.On) z × Lacks (fixed S.Comma) z) (λ o v. v ≡ on_of o) self.old.cursor self.new.cursor }
+        ensures reads { Reads result on_then (λ z. Lacks (fixed S.On) z × Lacks (fixed S.Comma) z)
+            (λ o v. v ≡ on_of o) self.old.cursor self.new.cursor }
         ensures fewer { IfOk result (λ _. length self.new.cursor ≤ length self.old.cursor) }
     {
         if self.cursor.takes(Sign::On) {
@@ -106,7 +114,8 @@ impl<'a> Parser<'a> {
 
     /// The key behind `per`, or none.
     fn per(&mut self) -> Result<NameList, Stop>
-        ensures reads { Reads result per_then (λ z. Lacks (fixed S.Per) z × Lacks (fixed S.Comma) z) (λ p v. v ≡ per_of p) self.old.cursor self.new.cursor }
+        ensures reads { Reads result per_then (λ z. Lacks (fixed S.Per) z × Lacks (fixed S.Comma) z)
+            (λ p v. v ≡ per_of p) self.old.cursor self.new.cursor }
         ensures fewer { IfOk result (λ _. length self.new.cursor ≤ length self.old.cursor) }
     {
         if self.cursor.takes(Sign::Per) {
@@ -155,7 +164,8 @@ impl<'a> Parser<'a> {
 
     /// The items of a select.
     fn items(&mut self) -> Result<ItemList, Stop>
-        ensures reads { Reads result select_then (λ z. ends_step z ≡ true) (λ p v. v ≡ item_of p.0 ∷ map item_of p.1) self.old.cursor self.new.cursor }
+        ensures reads { Reads result select_then (λ z. ends_step z ≡ true)
+            (λ p v. v ≡ item_of p.0 ∷ map item_of p.1) self.old.cursor self.new.cursor }
         ensures fewer { IfOk result (λ _. length self.new.cursor ≤ length self.old.cursor) }
     {
         let mut items = Vec::new(self.alloc);
@@ -170,7 +180,8 @@ impl<'a> Parser<'a> {
 
     /// An aggregate of a column, behind the word of what it does.
     fn computed(&mut self, fun: AggFun) -> Result<QueryAgg, Stop>
-        ensures reads { Reads result computed_then Any (λ p v. v ≡ record { fun = fun; column = Some p.0; name = p.1 }) self.old.cursor self.new.cursor }
+        ensures reads { Reads result computed_then Any
+            (λ p v. v ≡ record { fun = fun; column = Some p.0; name = p.1 }) self.old.cursor self.new.cursor }
         ensures fewer { IfOk result (λ _. length self.new.cursor ≤ length self.old.cursor) }
     {
         let column = self.name()?;
@@ -253,7 +264,9 @@ impl<'a> Parser<'a> {
 
     /// A group, behind its word.
     fn group(&mut self) -> Result<QueryStep, Stop>
-        ensures reads { Reads result group_then (λ z. ends_step z ≡ true) (λ p v. v ≡ T.Group (by_of p.0) (agg_of p.1 ∷ map agg_of p.2)) self.old.cursor self.new.cursor }
+        ensures reads { Reads result group_then (λ z. ends_step z ≡ true)
+            (λ p v. v ≡ T.Group (by_of p.0) (agg_of p.1
+            ∷ map agg_of p.2)) self.old.cursor self.new.cursor }
         ensures fewer { IfOk result (λ _. length self.new.cursor ≤ length self.old.cursor) }
     {
         let key = self.by()?;
@@ -290,7 +303,8 @@ impl<'a> Parser<'a> {
 
     /// The literals behind `else`, or none.
     fn fills(&mut self) -> Result<TreeList, Stop>
-        ensures reads { Reads result else_then (λ z. Lacks (fixed S.Else) z × Lacks (fixed S.Comma) z) (λ x v. v ≡ fills_of x) self.old.cursor self.new.cursor }
+        ensures reads { Reads result else_then (λ z. Lacks (fixed S.Else) z
+            × Lacks (fixed S.Comma) z) (λ x v. v ≡ fills_of x) self.old.cursor self.new.cursor }
         ensures fewer { IfOk result (λ _. length self.new.cursor ≤ length self.old.cursor) }
     {
         if self.cursor.takes(Sign::Else) {
@@ -302,7 +316,8 @@ impl<'a> Parser<'a> {
 
     /// A left join, behind its word.
     fn left(&mut self) -> Result<QueryStep, Stop>
-        ensures reads { Reads result left_then (λ z. ends_step z ≡ true) (λ p v. v ≡ T.Left p.0 (on_of p.1) (fills_of p.2)) self.old.cursor self.new.cursor }
+        ensures reads { Reads result left_then (λ z. ends_step z ≡ true)
+            (λ p v. v ≡ T.Left p.0 (on_of p.1) (fills_of p.2)) self.old.cursor self.new.cursor }
         ensures fewer { IfOk result (λ _. length self.new.cursor ≤ length self.old.cursor) }
     {
         let right = self.name()?;

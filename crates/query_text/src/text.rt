@@ -4,7 +4,9 @@ ghost use Rattle.query_words.specs.declared.word.Sign.TheVariants as S;
 ghost use Rattle.query_grammar.specs.Token.{fixed, tokens_of};
 ghost use Rattle.query_grammar.specs.Grammar.{col_then, query_then};
 ghost use Rattle.query_text.specs.Spelling.{col_of, stream_of, let_of, query_of};
-ghost use Rattle.query_text.specs.Reading.{Reads, Lacks, Any, ends_pipe, places_then, col_list_then, stream_rest_then, stream_list_then, let_rest_then, lets_list_then};
+ghost use Rattle.query_text.specs.Reading.{Reads, Lacks, Any, ends_pipe, places_then};
+ghost use Rattle.query_text.specs.Reading.{col_list_then, stream_rest_then, stream_list_then};
+ghost use Rattle.query_text.specs.Reading.{let_rest_then, lets_list_then};
 ghost use Rattle.query_text.specs.IsParse.{IsParse, fault_of};
 
 use crate::cursor::Cursor;
@@ -94,7 +96,8 @@ impl<'a> Parser<'a> {
 
     /// The streams of a query.
     fn streams(&mut self) -> Result<StreamList, Stop>
-        ensures reads { Reads result stream_list_then (Lacks (fixed S.Stream)) (λ p v. v ≡ stream_of p.0 ∷ map stream_of p.1) self.old.cursor self.new.cursor }
+        ensures reads { Reads result stream_list_then (Lacks (fixed S.Stream))
+            (λ p v. v ≡ stream_of p.0 ∷ map stream_of p.1) self.old.cursor self.new.cursor }
         ensures fewer { IfOk result (λ _. length self.new.cursor ≤ length self.old.cursor) }
     {
         self.needs(Sign::Stream)?;

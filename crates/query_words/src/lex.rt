@@ -1,8 +1,15 @@
 // Cuts a text into its words.
-ghost use Rattle.std.specs.Prelude.{◌≡◌, ℕ, ◌+◌, ◌-◌, ◌<◌, ◌≤◌, List, [], ◌∷◌, ◌++◌, length, map, take, drop, get_or, true, IfOk, IsTrue, nat_le, if◌then◌else◌, Some, None, IfSome};
+ghost use Rattle.std.specs.Prelude.{◌≡◌, ℕ, ◌+◌, ◌-◌, ◌<◌, ◌≤◌, List, [], ◌∷◌, ◌++◌, length, map};
+ghost use Rattle.std.specs.Prelude.{take, drop, get_or, true, IfOk, IsTrue, nat_le, if◌then◌else◌};
+ghost use Rattle.std.specs.Prelude.{Some, None, IfSome};
 ghost use Rattle.std.specs.List.{take_while};
 ghost use Rattle.query_words.specs.declared.word.Word.TheVariants.{Number, Bad};
-ghost use Rattle.query_words.specs.Words.{is_space, is_letter, is_digit, is_name_byte, reserved, signs, look_up, same_bytes, first_of_table, name_word, name_length, number_word, decimal_word, decimal_from, within_greatest, number_length, fraction_length, numeric_front, quoted_rest, quoted_word, front_of, words_of};
+ghost use Rattle.query_words.specs.Words.{is_space, is_letter, is_digit, is_name_byte, reserved};
+ghost use Rattle.query_words.specs.Words.{signs, look_up, same_bytes, first_of_table, name_word};
+ghost use Rattle.query_words.specs.Words.{name_length, number_word, decimal_word, decimal_from};
+ghost use Rattle.query_words.specs.Words.{within_greatest, number_length, fraction_length};
+ghost use Rattle.query_words.specs.Words.{numeric_front, quoted_rest, quoted_word, front_of};
+ghost use Rattle.query_words.specs.Words.{words_of};
 
 use crate::word::{RESERVED, SIGNS, Sign, Spot, Word};
 use std::alloc::Global;

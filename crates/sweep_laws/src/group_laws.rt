@@ -1,6 +1,7 @@
 // The laws of a group that goes from instant to instant. `key` gives the key of a row, `same` tells whether keys are equal,
 // `tell` makes the row of a key from the rows that are alive, and `bad` says of which rows a key's group is undefined.
-ghost use Rattle.std.specs.Prelude.{◌≡◌, ℕ, suc, ◌+◌, ◌*◌, ◌<◌, ◌≤◌, Bool, true, false, Option, List, [], ◌∷◌, ◌++◌, take, drop, filter, length, get_or, cond};
+ghost use Rattle.std.specs.Prelude.{◌≡◌, ℕ, suc, ◌+◌, ◌*◌, ◌<◌, ◌≤◌, Bool, true, false, Option};
+ghost use Rattle.std.specs.Prelude.{List, [], ◌∷◌, ◌++◌, take, drop, filter, length, get_or, cond};
 ghost use Rattle.std.specs.List.{list_any};
 ghost use Rattle.tw_rows.specs.Instant.{inf};
 ghost use Rattle.tw_rows.specs.Bag.{SameBag, total};
@@ -17,7 +18,9 @@ ghost use Rattle.key_nodes.specs.Runs.{Tells as KeyTells, runs};
 ghost use Rattle.key_nodes.specs.Groups.{distinct, IsGroupRow, grouped};
 ghost use Rattle.sweep_laws.specs.Sweeps.{is_at, IsPast, StartsAt, IsDue, InOrder, Tells};
 ghost use Rattle.sweep_laws.specs.Running.{Run, open_at, tells, goes, end_part, kept, start_part, begun_at};
-ghost use Rattle.sweep_laws.specs.Grouping.{keys_of, EndsTold, StartsTold, IsEarly, DependsOnKey, GroupSweeping, IsDefined, IsFirstUndefined, GroupReached, GroupKeeps};
+ghost use Rattle.sweep_laws.specs.Grouping.{keys_of, EndsTold, StartsTold, IsEarly, DependsOnKey};
+ghost use Rattle.sweep_laws.specs.Grouping.{GroupSweeping, IsDefined, IsFirstUndefined};
+ghost use Rattle.sweep_laws.specs.Grouping.{GroupReached, GroupKeeps};
 
 /// Over a stretch of instants at which the row is the same, the runs of a row tell at its beginning what leads from the run
 /// that is open there to the row, and nothing else; and the run that is open then goes on. It began before.

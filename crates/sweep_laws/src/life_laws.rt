@@ -1,5 +1,7 @@
 // The laws of one instant of sessions, clips and anti-joins.
-ghost use Rattle.std.specs.Prelude.{◌≡◌, ℕ, suc, ◌+◌, ◌<◌, ◌≤◌, ◌&&◌, ◌||◌, nat_eq, nat_le, Bool, true, false, not, cond, Option, Some, List, length, get_or, take, map, filter, flat_map};
+ghost use Rattle.std.specs.Prelude.{◌≡◌, ℕ, suc, ◌+◌, ◌<◌, ◌≤◌, ◌&&◌, ◌||◌, nat_eq, nat_le, Bool};
+ghost use Rattle.std.specs.Prelude.{true, false, not, cond, Option, Some, List, length, get_or};
+ghost use Rattle.std.specs.Prelude.{take, map, filter, flat_map};
 ghost use Rattle.std.specs.List.{list_any};
 ghost use Rattle.tw_rows.specs.Instant.{inf};
 ghost use Rattle.tw_rows.specs.Bag.{SameBag, total};

@@ -2,13 +2,9 @@
 #![tactic(auto)]
 
 #[cfg(test)]
-mod batches;
-#[cfg(test)]
 mod bits;
 #[cfg(test)]
 mod columns;
-#[cfg(test)]
-mod filters;
 #[cfg(test)]
 mod kernels;
 #[cfg(test)]

@@ -103,36 +103,3 @@ fn lists_are_split_copied_and_merged(rt: HostRuntime) -> Result<(), Fail> {
     let alloc = rt.alloc();
     check_parts(&rt, alloc, &mut Pools::new(alloc, 8, 2)?)
 }
-
-// Moves the first batch of a list to an empty one.
-fn move_batch(from: &mut EdgeList, to: &mut EdgeList) -> Result<(), Fail>
-    requires empty { to.old.edges ≡ [] }
-    requires kinds { to.old.kinds ≡ from.old.kinds }
-    requires capacity { to.old.capacity ≡ from.old.capacity }
-{
-    // The cursor's call tells the proof that the edges keep the order.
-    let _ = from.cursor();
-    if let Some(batch) = from.take_batch() {
-        to.put_batch(batch)?;
-    }
-    Ok(())
-}
-
-// Moves the first batch of five edges to a list of its own.
-fn check_move(rt: &impl Abort, alloc: Global, pools: &mut Pools) -> Result<(), Fail>
-    requires { pools.old.capacity ≡ 2 }
-{
-    let mut from = list(rt, alloc, pools, &FIVE)?;
-    let mut to = EdgeList::new(alloc, &[Kind::Int], 2)?;
-    assert!(rt; to.capacity() == from.capacity());
-    move_batch(&mut from, &mut to)?;
-    assert_eq!(rt; digits(&from), Ok((467, 2)));
-    assert_eq!(rt; digits(&to), Ok((12, 1)));
-    Ok(())
-}
-
-#[test]
-fn batches_move_over(rt: HostRuntime) -> Result<(), Fail> {
-    let alloc = rt.alloc();
-    check_move(&rt, alloc, &mut Pools::new(alloc, 8, 2)?)
-}

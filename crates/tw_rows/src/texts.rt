@@ -1,5 +1,7 @@
 // The table of all texts that cells speak of.
-ghost use Rattle.std.specs.Prelude.{◌≡◌, ◌<◌, ◌^◌, ◌↔◌, ◌≢◌, [], ◌∷◌, ◌++◌, Some, IsNone, IsOk, IfOk, OnOk, OnErr, IfSome, length, slice_get, AllPairs, Contains};
+ghost use Rattle.std.specs.Prelude.{◌≡◌, ◌<◌, ◌^◌, ◌↔◌, ◌≢◌, [], ◌∷◌, ◌++◌, Some, IsNone, IsOk};
+ghost use Rattle.std.specs.Prelude.{IfOk, OnOk, OnErr, IfSome, length, slice_get, AllPairs};
+ghost use Rattle.std.specs.Prelude.{Contains};
 ghost use Rattle.tw_rows.specs.Texts.{interned, BeginsWith};
 
 use crate::memory::Memory;
