@@ -24,3 +24,7 @@ pub mod AntiTelling
 pub mod SessionState
 pub mod Unending
 pub mod KeptKnown
+pub mod Queueing
+pub mod QueueMoves
+pub mod Matching
+pub mod Ahead

@@ -10,3 +10,5 @@ pub mod Sessioning
 pub mod Clipping
 pub mod Antijoining
 pub mod Unending
+pub mod Queues
+pub mod Waits

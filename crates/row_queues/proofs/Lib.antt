@@ -1,0 +1,5 @@
+pub mod Ending
+pub mod Opened
+pub mod Telling
+pub mod Counting
+pub mod Once

@@ -1,0 +1,3 @@
+-- Callers read Kept; Counted is cited by private contracts alone.
+pub mod Kept
+pub mod Counted
