@@ -6,8 +6,9 @@ ghost use Rattle.agg_state.specs.Amounts.{told};
 use std::alloc::Global;
 use tw_rows::Memory;
 
-/// An aggregate of a bag of ints, which is kept as ints come and go. It need not hold the bag: a relation tells of which
-/// bags it is kept.
+/// An aggregate of a bag of ints, which is kept as ints come and go, as Trill's snapshot aggregates are kept by accumulating and
+/// deaccumulating. It need not hold the bag: a relation tells of which bags it is kept. That a number too large is not told is
+/// our profile.
 pub trait Aggregate: Drop {
     /// It is kept of the bag, which is given as a list in any order.
     ghost stands: { Self → List ℤ → Type 0 };
@@ -22,7 +23,7 @@ pub trait Aggregate: Drop {
     fn new(alloc: Global) -> Self
         ensures { stands result [] };
 
-    /// Takes in an int. Want of memory changes nothing.
+    /// Takes in an int. Out of memory, it is kept of the bag as before.
     fn add(&mut self, value: i64) -> Result<(), Memory>
         requires { (bag : List ℤ) × stands self.old bag × (length bag < 2 ^ 63) }
         ensures ok { OnOk result ((bag : List ℤ) → stands self.old bag → stands self.new (value ∷ bag)) }

@@ -45,8 +45,10 @@ impl Bag {
 
     pub(crate) fn add(&mut self, value: i64) -> Result<(), Memory>
         requires { (bag : List ℤ) × IsBag self.old.counts self.old.len bag × (length bag < 2 ^ 63) }
-        ensures ok { OnOk result ((bag : List ℤ) → IsBag self.old.counts self.old.len bag → IsBag self.new.counts self.new.len (value ∷ bag)) }
-        ensures err { OnErr result ((bag : List ℤ) → IsBag self.old.counts self.old.len bag → IsBag self.new.counts self.new.len bag) }
+        ensures ok { OnOk result ((bag : List ℤ) → IsBag self.old.counts self.old.len bag →
+            IsBag self.new.counts self.new.len (value ∷ bag)) }
+        ensures err { OnErr result ((bag : List ℤ) → IsBag self.old.counts self.old.len bag →
+            IsBag self.new.counts self.new.len bag) }
     {
         let had = times(&self.counts, value);
         self.counts.insert(value, had + 1)?;
@@ -56,7 +58,8 @@ impl Bag {
 
     pub(crate) fn remove(&mut self, value: i64)
         requires { (bag : List ℤ) × (rest : List ℤ) × IsBag self.old.counts self.old.len bag × SameBag bag (value ∷ rest) }
-        ensures { (bag rest : List ℤ) → IsBag self.old.counts self.old.len bag → SameBag bag (value ∷ rest) → IsBag self.new.counts self.new.len rest }
+        ensures { (bag rest : List ℤ) → IsBag self.old.counts self.old.len bag → SameBag bag (value ∷ rest) →
+            IsBag self.new.counts self.new.len rest }
     {
         self.len -= 1;
         if let Some(count) = self.counts.get_mut(&value) {

@@ -1,5 +1,5 @@
 // How many ints there are.
-ghost use Rattle.std.specs.Prelude.{◌≡◌, ◌≤◌, ◌^◌, pos, false, length};
+ghost use Rattle.std.specs.Prelude.{◌≡◌, ◌≤◌, ◌<◌, ◌^◌, ℤ, pos, false, List, ◌∷◌, length, IsOk, OnOk, OnErr};
 ghost use Rattle.agg_state.specs.Amounts.{IsCounted};
 
 use crate::aggregate::Aggregate;
@@ -27,7 +27,16 @@ impl Aggregate for Count {
         Count { count: 0 }
     }
 
-    fn add(&mut self, _value: i64) -> Result<(), Memory> {
+    fn add(&mut self, _value: i64) -> Result<(), Memory>
+        requires { (bag : List ℤ) × IsCounted self.old.count bag × (length bag < 2 ^ 63) }
+        ensures ok { OnOk result ((bag : List ℤ) → IsCounted self.old.count bag →
+            IsCounted self.new.count (_value ∷ bag)) }
+        ensures err { OnErr result ((bag : List ℤ) → IsCounted self.old.count bag →
+            IsCounted self.new.count bag) }
+
+        // Beyond what every aggregate does: it takes no memory, and never fails.
+        ensures always { IsOk result }
+    {
         self.count += 1;
         Ok(())
     }

@@ -1,5 +1,5 @@
 // The sum of the ints.
-ghost use Rattle.std.specs.Prelude.{◌≡◌, ◌≤◌, ◌^◌, pos, negsuc, ◌+ℤ◌, ◌-ℤ◌, ◌≤ℤ◌, not};
+ghost use Rattle.std.specs.Prelude.{◌≡◌, ◌≤◌, ◌<◌, ◌^◌, ℤ, pos, negsuc, ◌+ℤ◌, ◌-ℤ◌, ◌≤ℤ◌, not, List, ◌∷◌, length, IsOk, OnOk, OnErr};
 ghost use Rattle.plan_model.specs.Amounts.{exact_sum, is_outside_i64, most_rows};
 ghost use Rattle.agg_state.specs.Amounts.{IsSummed};
 
@@ -50,7 +50,16 @@ impl Aggregate for Sum {
         Sum { total: 0, count: 0 }
     }
 
-    fn add(&mut self, value: i64) -> Result<(), Memory> {
+    fn add(&mut self, value: i64) -> Result<(), Memory>
+        requires { (bag : List ℤ) × IsSummed self.old.total self.old.count bag × (length bag < 2 ^ 63) }
+        ensures ok { OnOk result ((bag : List ℤ) → IsSummed self.old.total self.old.count bag →
+            IsSummed self.new.total self.new.count (value ∷ bag)) }
+        ensures err { OnErr result ((bag : List ℤ) → IsSummed self.old.total self.old.count bag →
+            IsSummed self.new.total self.new.count bag) }
+
+        // Beyond what every aggregate does: it takes no memory, and never fails.
+        ensures always { IsOk result }
+    {
         self.total = plus(self.total, value);
         self.count += 1;
         Ok(())

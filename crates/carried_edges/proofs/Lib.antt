@@ -1,4 +1,5 @@
 pub mod Parts
 pub mod Pools
 pub mod Joining
+pub mod Carrying
 pub mod Examples

@@ -1,10 +1,10 @@
 -- Entries of edges, part by part.
 use Rattle.std.specs.Prelude.{◌≡◌, ℕ, ◌+◌, ◌<◌, ◌&&◌, nat_eq, nat_lt, Bool, true, false, cond, List, [], ◌∷◌, ◌++◌, map, length, All, filter, refl}
 use Rattle.std.specs.List.{list_all}
-use Rattle.std.proofs.Common.{sym, ◌∙◌, ap, arith, subst, get_or, take}
+use Rattle.std.proofs.Common.{sym, ◌∙◌, ap, arith, subst, get_or}
 use Rattle.std.proofs.lemmas.Bool.Decides.{nat_tests}
 use Rattle.std.proofs.lemmas.List.{map-append, length-append, length-map, get_or-map}
-use Rattle.std.proofs.lemmas.List.Elements.{filter-append, All-get_or, All-more}
+use Rattle.std.proofs.lemmas.List.Elements.{filter-append, All-nil, All-cons, All-head, All-tail, All-get_or}
 use Rattle.std.proofs.lemmas.List.Folds.{list_all-append}
 use Rattle.tw_rows.specs.Cells.{datum_kind}
 use Rattle.tw_rows.specs.Kinds.{cell_kind_of}
@@ -58,11 +58,8 @@ module _ {X : Type 0} (p : X → Bool) where
       pick true k rest = rest (omega (arith, k))
       pick false k rest = absurd (omega (arith, k))
 
--- one item more, and the item at a place
+-- the item at a place
 module _ {X : Type 0} (P : X → Type 0) where
-  pub All-next : (xs : List X) (i : ℕ) (x : X) → i < length xs → x ≡ get_or xs i x → All P (take i xs) → P x → All P (take (i + 1) xs)
-  All-next xs i x lt is all here = All-more P xs i x lt all (subst P is here)
-
   pub All-there : (xs : List X) (i : ℕ) (x : X) → i < length xs → x ≡ get_or xs i x → All P xs → P x
   All-there xs i x lt is all = subst P (sym is) (All-get_or P xs i x lt all)
 
@@ -72,3 +69,32 @@ stored_at cells kinds i d k lt same =
     let len : length cells ≡ length kinds = sym (length-map cells datum_kind) ∙ ap length same ∙ length-map kinds cell_kind_of in
     let here : i < length kinds = omega (arith, lt, len) in
     sym (get_or-map datum_kind cells i d (datum_kind d) lt) ∙ ap (λ l. get_or l i (datum_kind d)) same ∙ get_or-map cell_kind_of kinds i k (datum_kind d) here
+
+-- what holds of the cells of the edges of each part holds of those of the entries
+module _ (P : ℕ → List Datum → Type 0) where
+  first_passes : (s : SavedEntry) (rest : List SavedEntry) → All (λ e. P s.part e.cells) (part_of s.part (s ∷ rest)) → P s.part s.cells
+  first_passes s rest all =
+      let same : nat_eq s.part s.part ≡ true = grind (arith, nat_tests) in
+      All-head (λ (e : Edge). P s.part e.cells) (saved_edge s) (part_of s.part rest) (rw same at all)
+
+  others_pass : (p : ℕ) (s : SavedEntry) (rest : List SavedEntry) → All (λ e. P p e.cells) (part_of p (s ∷ rest)) → All (λ e. P p e.cells) (part_of p rest)
+  others_pass p s rest = pick (nat_eq s.part p)
+    where
+      pick : (b : Bool) → All (λ e. P p e.cells) (map saved_edge (cond b (s ∷ filter (λ r. nat_eq r.part p) rest) (filter (λ r. nat_eq r.part p) rest))) →
+          All (λ e. P p e.cells) (part_of p rest)
+      pick true all = All-tail (λ (e : Edge). P p e.cells) (saved_edge s) (part_of p rest) all
+      pick false all = all
+
+  both_known : (n : ℕ) (s : SavedEntry) (rest : List SavedEntry) → are_of_parts n (s ∷ rest) ≡ true → (s.part < n) × (are_of_parts n rest ≡ true)
+  both_known n s rest known = pick (nat_lt s.part n) refl known
+    where
+      pick : (b : Bool) → nat_lt s.part n ≡ b → (b && are_of_parts n rest) ≡ true → (s.part < n) × (are_of_parts n rest ≡ true)
+      pick true is k = ((let low : s.part < n = grind (arith, nat_tests) in low), k)
+      pick false is k = absurd (cc)
+
+  pub parts_pass : (n : ℕ) (entries : List SavedEntry) → are_of_parts n entries ≡ true → ((p : ℕ) → p < n → All (λ e. P p e.cells) (part_of p entries)) →
+      All (λ s. P s.part s.cells) entries
+  parts_pass n [] known pass = All-nil (λ (s : SavedEntry). P s.part s.cells)
+  parts_pass n (s ∷ rest) known pass =
+      let k = both_known n s rest known in
+      All-cons (λ (r : SavedEntry). P r.part r.cells) s rest (first_passes s rest (pass s.part k.0)) (parts_pass n rest k.1 (λ p low. others_pass p s rest (pass p low)))

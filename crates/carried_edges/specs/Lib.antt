@@ -1,2 +1,3 @@
--- Callers read all of these.
+-- Callers read Entries; Few is cited by private contracts alone.
 pub mod Entries
+pub mod Few

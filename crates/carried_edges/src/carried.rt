@@ -1,22 +1,24 @@
 // Edges that are carried from step to step.
-ghost use Rattle.std.specs.Prelude.{◌≡◌, List, [], ◌++◌, filter, IfOk, IfSome, IfNone, OnOk};
+ghost use Rattle.std.specs.Prelude.{◌≡◌, ◌+◌, true, List, [], ◌++◌, filter, IfOk, IfSome, IfNone, OnOk};
 ghost use Rattle.tw_rows.specs.Bag.{SameBag};
 ghost use Rattle.tw_rows.specs.declared.edge.Edge.{Edge};
 ghost use Rattle.batch.specs.Rows.{edges_of};
 ghost use Rattle.edge_history.specs.Order.{failing, is_below, is_from, KeepsOrder};
 ghost use Rattle.edge_stream.specs.Listing.{cells_of, SameShape};
+ghost use Rattle.carried_edges.specs.Few.{may_stay};
 
 use batch::{Batch, Pools};
 use edge_stream::EdgeList;
 use std::alloc::Global;
 use tw_rows::{Memory, Time};
 
-// Puts the batch last.
-fn put_last(list: &mut EdgeList, batch: Batch) -> Result<(), Memory>
+/// Puts the batch last.
+pub fn put_last(list: &mut EdgeList, batch: Batch) -> Result<(), Memory>
     requires kinds { batch.kinds ≡ cells_of list.old }
     requires capacity { batch.capacity ≡ list.old.capacity }
     requires order { KeepsOrder (list.old.edges ++ edges_of batch.rows) }
     ensures edges { OnOk result (list.new.edges ≡ list.old.edges ++ edges_of batch.rows) }
+    ensures batches { OnOk result (list.new.batches ≡ list.old.batches + 1) }
     ensures shape { SameShape list.old list.new }
 {
     match list.put_batch(batch) {
@@ -31,6 +33,7 @@ fn put_behind(list: &mut EdgeList, later: EdgeList) -> Result<(), Memory>
     requires capacity { later.capacity ≡ list.old.capacity }
     requires order { KeepsOrder (list.old.edges ++ later.edges) }
     ensures edges { OnOk result (list.new.edges ≡ list.old.edges ++ later.edges) }
+    ensures batches { OnOk result (list.new.batches ≡ list.old.batches + later.batches) }
     ensures shape { SameShape list.old list.new }
 {
     let mut later = later;
@@ -57,20 +60,23 @@ fn copy_behind(pools: &mut Pools, list: &mut EdgeList, later: &EdgeList) -> Resu
     Ok(())
 }
 
-// Whether batches of the later list may stand behind those of the list as they are: the list has one at most, or they are
-// half full. Else many steps with few edges each would make as many batches.
-fn stay_few(list: &EdgeList, later: &EdgeList) -> bool {
+// Whether batches of the later list may stand behind those of the list as they are. Else many steps with few edges each would
+// make as many batches, and keep the memory of them.
+fn stay_few(list: &EdgeList, later: &EdgeList) -> bool
+    ensures { result ≡ may_stay list.now later.now }
+{
     let half = (later.batches() as u64).saturating_mul(later.capacity() as u64 / 2);
     list.batches() < 2 || later.len() >= half
 }
 
-// The edges of the list, and behind them those of a later one.
+// The edges of the list, and behind them those of a later one, whose batches are not copied where they may stay.
 fn joined(pools: &mut Pools, list: EdgeList, later: EdgeList) -> Result<EdgeList, Memory>
     requires kinds { cells_of later ≡ cells_of list }
     requires capacity { later.capacity ≡ list.capacity }
     requires pools { pools.old.capacity ≡ list.capacity }
     requires order { KeepsOrder (list.edges ++ later.edges) }
     ensures edges { IfOk result (λ all. all.edges ≡ list.edges ++ later.edges) }
+    ensures stay { IfOk result (λ all. may_stay list later ≡ true → all.batches ≡ list.batches + later.batches) }
     ensures shape { IfOk result (λ all. SameShape list all) }
     ensures pools { pools.new.capacity ≡ pools.old.capacity }
     ensures limit { pools.new.limit ≡ pools.old.limit }
@@ -154,7 +160,8 @@ pub fn take_below(
     requires kinds { cells_of carried.old ≡ cells_of new }
     requires capacity { carried.old.capacity ≡ new.capacity }
     requires pools { pools.old.capacity ≡ carried.old.capacity }
-    ensures edges { IfOk result (λ due. (all : List Edge) × SameBag all (carried.old.edges ++ new.edges) × KeepsOrder all × (due.edges ≡ filter (is_below below) all) × (carried.new.edges ≡ filter (is_from below) all)) }
+    ensures edges { IfOk result (λ due. (all : List Edge) × SameBag all (carried.old.edges ++ new.edges) × KeepsOrder all
+        × (due.edges ≡ filter (is_below below) all) × (carried.new.edges ≡ filter (is_from below) all)) }
     ensures due_kinds { IfOk result (λ due. cells_of due ≡ cells_of carried.old) }
     ensures due_capacity { IfOk result (λ due. due.capacity ≡ carried.old.capacity) }
     ensures kinds { cells_of carried.new ≡ cells_of carried.old }

@@ -1,15 +1,14 @@
 // Lists of edges as saved entries, and back.
-ghost use Rattle.std.specs.Prelude.{◌≡◌, ◌↔◌, ◌++◌, IsTrue, map, length, All, IfOk, IfErr, OnOk};
+ghost use Rattle.std.specs.Prelude.{◌≡◌, ◌↔◌, List, ◌∷◌, ◌++◌, IsTrue, map, All, IfSome, IfNone, IfOk, OnOk};
 ghost use Rattle.tw_rows.specs.Cells.{datum_kind};
 ghost use Rattle.tw_rows.specs.Kinds.{cell_kind_of};
-ghost use Rattle.std.specs.List.{list_all};
-ghost use Rattle.edge_history.specs.Order.{is_from, KeepsOrder};
+ghost use Rattle.edge_history.specs.Order.{rank, IsReal, KeepsOrder};
 ghost use Rattle.edge_stream.specs.Listing.{cells_of, SameShape};
-ghost use Rattle.carried_edges.specs.Entries.{entries_of, part_of, are_of_parts as of_parts, IsEdgePart};
+ghost use Rattle.edge_stream.specs.declared.saved.SavedEntry.{SavedEntry as SavedEntryOf};
+ghost use Rattle.carried_edges.specs.Entries.{saved_edge, entries_of, part_of, are_of_parts as of_parts, MayBeCarried, MayFollow, IsEdgePart};
 
 use batch::Pools;
-use edge_history::keeps_order;
-use edge_stream::{EdgeList, LoadFault, Saved, SavedEntry};
+use edge_stream::{EdgeList, Saved, SavedEntry};
 use std::alloc::Global;
 use tw_rows::{Datum, Edge, Kind, Memory, Time, cell_of};
 
@@ -94,67 +93,91 @@ pub fn is_stored_as(cells: &[Datum], kinds: &[Kind]) -> bool
     true
 }
 
-// Whether the cells of each edge are stored as columns of these kinds are.
-fn are_stored_as(edges: &[Edge], kinds: &[Kind]) -> bool
-    ensures { IsTrue result ↔ All (λ e. map datum_kind e.cells ≡ map cell_kind_of kinds.now) edges.now }
+// The place of an edge with these times in a list: by its sync time, and at one time ends first.
+fn rank_of(entry: &SavedEntry) -> u128
+    ensures { result ≡ rank (saved_edge entry.now) }
 {
-    for edge in edges {
-        if !is_stored_as(edge.cells.items(), kinds) {
+    let twice = 2 * u128::from(entry.sync.word());
+    if entry.other < entry.sync {
+        twice
+    } else {
+        twice + 1
+    }
+}
+
+// Whether an edge with these times stands at an instant, and its other time is another one.
+fn is_real(entry: &SavedEntry) -> bool
+    ensures { IsTrue result ↔ IsReal (saved_edge entry.now) }
+{
+    match (entry.sync.get(), entry.other.get()) {
+        (Some(sync), Some(other)) => other != sync,
+        (sync, _) => sync.is_some(),
+    }
+}
+
+// Whether a list with columns of these kinds may hold the edge of the entry, which does not come before the time.
+fn may_be_carried(entry: &SavedEntry, kinds: &[Kind], from: Time) -> bool
+    ensures { IsTrue result ↔ MayBeCarried (map cell_kind_of kinds.now) from (saved_edge entry.now) }
+{
+    is_real(entry) && is_stored_as(entry.cells.items(), kinds) && from <= entry.sync
+}
+
+// The least rank that further edges of the part may have behind the entry, if it may stand there.
+fn rank_behind(
+    entry: &SavedEntry,
+    part: u64,
+    kinds: &[Kind],
+    from: Time,
+    least: u128,
+) -> Option<u128>
+    ensures some { IfSome result (λ n. (rest : List SavedEntryOf) →
+        MayFollow (map cell_kind_of kinds.now) from n (part_of part rest)
+        ↔ MayFollow (map cell_kind_of kinds.now) from least (part_of part (entry.now ∷ rest))) }
+    ensures none { IfNone result ((rest : List SavedEntryOf) →
+        MayFollow (map cell_kind_of kinds.now) from least (part_of part (entry.now ∷ rest)) → ⊥) }
+{
+    if entry.part != part {
+        return Some(least);
+    }
+    let rank = rank_of(entry);
+    if rank < least {
+        return None;
+    }
+    if !may_be_carried(entry, kinds, from) {
+        return None;
+    }
+    Some(rank)
+}
+
+/// Whether a list with columns of these kinds may hold the edges of the entries of that part, and none of them comes before
+/// the time. It takes no memory.
+pub fn is_edge_part(saved: &Saved, part: u64, kinds: &[Kind], from: Time) -> bool
+    ensures { IsTrue result ↔ IsEdgePart (map cell_kind_of kinds.now) from (part_of part saved.now) }
+{
+    let entries = saved.entries();
+    let mut least = 0;
+    for entry in entries {
+        let Some(rank) = rank_behind(entry, part, kinds, from, least) else {
             return false;
-        }
+        };
+        least = rank;
     }
     true
 }
 
-// Whether the edge comes at the time or later.
-fn comes_from(edge: &Edge, from: Time) -> bool
-    ensures { result ≡ is_from from edge.now }
-{
-    from <= edge.sync
-}
-
-// Whether all edges come at the time or later.
-fn come_from(edges: &[Edge], from: Time) -> bool
-    ensures { result ≡ list_all (is_from from) edges.now }
-{
-    for edge in edges {
-        if !comes_from(edge, from) {
-            return false;
-        }
-    }
-    true
-}
-
-/// Whether a list with columns of these kinds may hold the edges, and none of them comes before the time.
-pub fn is_edge_part(edges: &[Edge], kinds: &[Kind], from: Time) -> bool
-    ensures { IsTrue result ↔ IsEdgePart (map cell_kind_of kinds.now) from edges.now }
-{
-    if !keeps_order(edges) {
-        return false;
-    }
-    if !are_stored_as(edges, kinds) {
-        return false;
-    }
-    come_from(edges, from)
-}
-
-/// A list like another one of the edges of that part, which may not come before the time.
+/// A list like another one of the edges of that part, which it may hold.
 pub fn load_part(
     alloc: Global,
     saved: &Saved,
     part: u64,
     like: &EdgeList,
-    from: Time,
-) -> Result<EdgeList, LoadFault>
+) -> Result<EdgeList, Memory>
+    requires order { KeepsOrder (part_of part saved.now) }
+    requires cells { All (λ e. map datum_kind e.cells ≡ cells_of like.now) (part_of part saved.now) }
     ensures edges { IfOk result (λ list. list.edges ≡ part_of part saved.now) }
     ensures shape { IfOk result (λ list. SameShape like.now list) }
-    ensures sound { OnOk result (IsEdgePart (cells_of like.now) from (part_of part saved.now)) }
-    ensures refused { IfErr result (λ fault. fault ≡ LoadFault.NotState → IsEdgePart (cells_of like.now) from (part_of part saved.now) → ⊥) }
 {
     let edges = edges_of_part(alloc, saved, part)?;
-    if !is_edge_part(&edges, like.kinds(), from) {
-        return Err(LoadFault::NotState);
-    }
     let mut pools = Pools::new(alloc, 0, like.capacity())?;
     let list = EdgeList::from_edges(alloc, &mut pools, like.kinds(), &edges)?;
     Ok(list)

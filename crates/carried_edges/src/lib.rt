@@ -4,7 +4,7 @@
 mod carried;
 mod entries;
 
-pub use carried::take_below;
+pub use carried::{put_last, take_below};
 pub use entries::{
     are_of_parts, edges_of_part, is_edge_part, is_stored_as, load_part, save_edges, save_part,
     stores,

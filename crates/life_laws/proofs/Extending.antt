@@ -1,5 +1,5 @@
 -- What an Extend answers, and what is kept of it from step to step.
-use Rattle.std.specs.Prelude.{◌≡◌, ℕ, ◌+◌, ◌*◌, ◌<◌, ◌≤◌, ◌&&◌, nat_lt, Bool, true, false, cond, List, [], ◌∷◌, ◌++◌, length, map, filter, flat_map, refl}
+use Rattle.std.specs.Prelude.{◌≡◌, ℕ, ◌+◌, ◌≤◌, ◌&&◌, nat_lt, Bool, true, false, cond, List, [], ◌∷◌, ◌++◌, map, filter, flat_map, refl}
 use Rattle.std.proofs.Common.{◌∙◌, ap, arith}
 use Rattle.std.proofs.lemmas.Bool.Decides.{nat_tests}
 use Rattle.std.proofs.lemmas.List.Elements.{All-nil}
@@ -15,7 +15,7 @@ use Rattle.edge_history.specs.Balance.{news_of, news}
 use Rattle.edge_history.specs.Opens.{singles_of, singles, is_start}
 use Rattle.edge_history.proofs.Agreeing.{same_order}
 use Rattle.edge_history.proofs.Retaining.{events_of_are, valid_from, AreEvents-from, AreEvents-none_fails}
-use Rattle.edge_history.proofs.Sums.{sum_eq, weaker, failing-append, failing-parts, failing-same, failing-filter, failing-kept}
+use Rattle.edge_history.proofs.Sums.{sum_eq, weaker, failing-append, failing-same, failing-filter, failing-kept}
 use Rattle.edge_history.proofs.Telling.{is_event, order_from}
 use Rattle.plan_model.specs.declared.node.Node.TheVariants.{Extend}
 use Rattle.plan_model.specs.Lives.{extended_one, extended}
@@ -28,7 +28,7 @@ use Rattle.node_laws.proofs.Standing.{no_history, placed_longer}
 use Rattle.node_laws.proofs.StepsAhead.{ahead_read}
 use Rattle.life_laws.specs.Extending.{extended_edge, is_extended, extended_edges, extended_starts, extended_ends, KeepsExtended}
 use Rattle.life_laws.proofs.Telling.{weight, Answers, waiting_shown, waiting_tell}
-use Rattle.life_laws.proofs.Steps.{parted_below, parted_from}
+use Rattle.life_laws.proofs.Steps.{below_later, parted_below, parted_from}
 
 -- EDGE BY EDGE
 extend_parts : (by : ℕ) (w : Edge → ℕ) (e : Edge) → is_real e ≡ true →
@@ -179,49 +179,53 @@ all_made_from by x h low none =
     one e true i = ap (λ c. cond {A = ℕ} c 0 1) i
     one e false i = refl
 
-below_later : (c d : ℕ) (e : Edge) → c ≤ d → is_below c e ≡ true → is_below d e ≡ true
-below_later c d e h k = grind (arith, nat_tests)
+-- what waited and what is made of edges that come so late is answered at the closing or later, without a history
+pub extended_from : (by x u : ℕ) (carried l all answer waiting waiting2 : List Edge) → x ≤ inf → SameBag all (carried ++ l) →
+    failing (is_from x) carried ≡ 0 → failing (is_from x) l ≡ 0 → failing (is_from x) waiting ≡ 0 →
+    ((w : Edge → ℕ) → total w answer + total w waiting2 ≡ total w waiting + total w (extended_edges by (filter (is_below u) all))) →
+    failing (is_from x) answer ≡ 0
+extended_from by x u carried l all answer waiting waiting2 low same late come waits moved =
+    let all_from : failing (is_from x) all ≡ 0 = failing-same (is_from x) all (carried ++ l) same (failing-append (is_from x) carried l late come) in
+    let made : failing (is_from x) (extended_edges by (filter (is_below u) all)) ≡ 0 =
+    all_made_from by x (filter (is_below u) all) low (failing-filter (is_below u) (is_from x) all all_from) in
+    let moved_from = moved (λ e. cond {A = ℕ} (is_from x e) 0 1) in
+    omega (arith, made, moved_from, waits)
 
 -- the answer, and what waits now, are what waited and what is made of the edges that are due
 pub extended_step : (by : ℕ) (texts : List (List ℕ)) (x y u v : ℕ) (carried waiting left right out l r all answer waiting2 : List Edge) → x ≤ u → u ≤ inf → y ≤ v → v ≤ inf →
     KeepsExtended by texts x y carried waiting left right out → IsHistory (left ++ l) → IsHistory (right ++ r) → EdgesArePlaced texts (left ++ l) → EdgesArePlaced texts (right ++ r) →
     failing (is_from x) l ≡ 0 → SameBag all (carried ++ l) → KeepsOrder answer → failing (is_below u) answer ≡ 0 → failing (is_from u) waiting2 ≡ 0 →
     ((w : Edge → ℕ) → total w answer + total w waiting2 ≡ total w waiting + total w (extended_edges by (filter (is_below u) all))) →
-    KeepsExtended by texts u v (filter (is_from u) all) waiting2 (left ++ l) (right ++ r) (out ++ answer) × (failing (is_from x) answer ≡ 0)
+    KeepsExtended by texts u v (filter (is_from u) all) waiting2 (left ++ l) (right ++ r) (out ++ answer)
 extended_step by texts x y u v carried waiting left right out l r all answer waiting2 xu lu yv lv k hl hr pl pr come same ordered below late moved =
     let front : List Edge = filter (is_below u) all in
     let old = (same_order answer).0 ordered in
-    let all_from : failing (is_from x) all ≡ 0 = failing-same (is_from x) all (carried ++ l) same (failing-append (is_from x) carried l
-    (failing-same (is_from x) carried (filter (is_from x) left) k.waits (failing-kept (is_from x) left)) come) in
-    let made : failing (is_from x) (extended_edges by front) ≡ 0 = all_made_from by x front k.left_low (failing-filter (is_below u) (is_from x) all all_from) in
-    let moved_from = moved (λ e. cond {A = ℕ} (is_from x e) 0 1) in
-    let from : failing (is_from x) answer ≡ 0 = omega (arith, made, moved_from, k.late) in (
-      record {
-        left_history = hl;
-        right_history = hr;
-        left_placed = pl;
-        right_placed = pr;
-        left_low = lu;
-        right_low = lv;
-        order = order_from x out answer k.below k.order from old.0;
-        real = failing-append is_real out answer k.real old.1;
-        below = failing-append (is_below u) out answer (weaker (is_below x) (is_below u) out (λ e low. below_later x u e xu low) k.below) below;
-        late = late;
-        made = record {
-          weigh = λ w.
-              let A : Edge → ℕ = λ e. cond (is_extended by e) (w (extended_edge by e)) 0 in
-              let a1 = total-append w (out ++ answer) waiting2 in
-              let a2 = total-append w out answer in
-              let a3 = k.made.weigh w in
-              let a4 = total-append w out waiting in
-              let a5 = moved w in
-              let a6 = made_weigh by w (filter (is_below x) left) in
-              let a7 = made_weigh by w front in
-              let a8 = made_weigh by w (filter (is_below u) (left ++ l)) in
-              let a9 = parted_below x u xu carried left l all k.waits same A in
-              omega (arith, a1, a2, a3, a4, a5, a6, a7, a8, a9);
-        };
-        waits = record { weigh = parted_from x u xu carried left l all k.waits same };
-      },
-      from,
-    )
+    let carried_late : failing (is_from x) carried ≡ 0 = failing-same (is_from x) carried (filter (is_from x) left) k.waits (failing-kept (is_from x) left) in
+    let from : failing (is_from x) answer ≡ 0 = extended_from by x u carried l all answer waiting waiting2 k.left_low same carried_late come k.late moved in
+    record {
+      left_history = hl;
+      right_history = hr;
+      left_placed = pl;
+      right_placed = pr;
+      left_low = lu;
+      right_low = lv;
+      order = order_from x out answer k.below k.order from old.0;
+      real = failing-append is_real out answer k.real old.1;
+      below = failing-append (is_below u) out answer (weaker (is_below x) (is_below u) out (λ e low. below_later x u e xu low) k.below) below;
+      late = late;
+      made = record {
+        weigh = λ w.
+            let A : Edge → ℕ = λ e. cond (is_extended by e) (w (extended_edge by e)) 0 in
+            let a1 = total-append w (out ++ answer) waiting2 in
+            let a2 = total-append w out answer in
+            let a3 = k.made.weigh w in
+            let a4 = total-append w out waiting in
+            let a5 = moved w in
+            let a6 = made_weigh by w (filter (is_below x) left) in
+            let a7 = made_weigh by w front in
+            let a8 = made_weigh by w (filter (is_below u) (left ++ l)) in
+            let a9 = parted_below x u xu carried left l all k.waits same A in
+            omega (arith, a1, a2, a3, a4, a5, a6, a7, a8, a9);
+      };
+      waits = record { weigh = parted_from x u xu carried left l all k.waits same };
+    }

@@ -63,10 +63,10 @@ below_parts w z t e h = grind (arith, nat_tests)
 from_part : (w : Edge → ℕ) (z t : ℕ) (e : Edge) → z ≤ t → cond (is_from z e) (cond (is_from t e) (w e) 0) 0 ≡ cond (is_from t e) (w e) 0
 from_part w z t e h = grind (arith, nat_tests)
 
-below_later : (c d : ℕ) (e : Edge) → c ≤ d → is_below c e ≡ true → is_below d e ≡ true
+pub below_later : (c d : ℕ) (e : Edge) → c ≤ d → is_below c e ≡ true → is_below d e ≡ true
 below_later c d e h k = grind (arith, nat_tests)
 
-from_earlier : (z x : ℕ) (e : Edge) → z ≤ x → is_from x e ≡ true → is_from z e ≡ true
+pub from_earlier : (z x : ℕ) (e : Edge) → z ≤ x → is_from x e ≡ true → is_from z e ≡ true
 from_earlier z x e h k = grind (arith, nat_tests)
 
 -- all that came and was carried, parted at a time, is all that came, parted there
@@ -99,12 +99,29 @@ module _ (z t : ℕ) (rising : z ≤ t) (carried left l all : List Edge) (waits 
       let a8 = total-append H left l in
       omega (arith, a1, a2, a3, a4, a5, a6, a7, a8)
 
+-- a step without a history: what is carried and what comes comes so late that what is answered comes at the closing or later
+module _ (n : Node) (lives : NewLives n) (x y u : ℕ) (carried l all : List Edge) (xu : x ≤ u) (lu : u ≤ inf) (same : SameBag all (carried ++ l))
+    (late : failing (is_from (answered_below n x)) carried ≡ 0) (come : failing (is_from x) l ≡ 0) where
+  xl : x ≤ inf
+  xl = omega (arith, xu, lu)
+
+  all_late : failing (is_from (answered_below n x)) all ≡ 0
+  all_late = failing-same (is_from (answered_below n x)) all (carried ++ l) same (failing-append (is_from (answered_below n x)) carried l late
+      (weaker (is_from x) (is_from (answered_below n x)) l (λ e k. from_earlier (answered_below n x) x e (lives.cut_low x xl) k) come))
+
+  pub lives_from : failing (is_from (node_closes n x y)) (answered n (filter (is_below (answered_below n u)) all)) ≡ 0
+  lives_from = answered_pass n (is_from (node_closes n x y)) (is_from (answered_below n x)) (filter (is_below (answered_below n u)) all)
+      (λ e k a. lives.from x y e xl a k) (failing-filter (is_below (answered_below n u)) (is_from (answered_below n x)) all all_late)
+
+-- and below the new closing
+pub lives_below : (n : Node) → NewLives n → (u v : ℕ) (all : List Edge) → u ≤ inf → failing (is_below (node_closes n u v)) (answered n (filter (is_below (answered_below n u)) all)) ≡ 0
+lives_below n lives u v all lu = answered_pass n (is_below (node_closes n u v)) (is_below (answered_below n u)) (filter (is_below (answered_below n u)) all)
+    (λ e low a. lives.below u v e lu a low) (failing-kept (is_below (answered_below n u)) all)
+
 pub lives_step : (n : Node) → NewLives n → (texts : List (List ℕ)) (x y u v : ℕ) (carried left right out l r all : List Edge) → x ≤ u → u ≤ inf → y ≤ v → v ≤ inf →
     KeepsLives n texts x y carried left right out → IsHistory (left ++ l) → IsHistory (right ++ r) → EdgesArePlaced texts (left ++ l) → EdgesArePlaced texts (right ++ r) →
     failing (is_from x) l ≡ 0 → Rises 0 all → SameBag all (carried ++ l) →
     KeepsLives n texts u v (filter (is_from (answered_below n u)) all) (left ++ l) (right ++ r) (out ++ answered n (filter (is_below (answered_below n u)) all))
-    × (failing (is_from (node_closes n x y)) (answered n (filter (is_below (answered_below n u)) all)) ≡ 0)
-    × (failing (is_below (node_closes n u v)) (answered n (filter (is_below (answered_below n u)) all)) ≡ 0)
 lives_step n lives texts x y u v carried left right out l r all xu lu yv lv k hl hr pl pr come up same =
     let c : ℕ = node_closes n x y in
     let d : ℕ = node_closes n u v in
@@ -116,35 +133,29 @@ lives_step n lives texts x y u v carried left right out l r all xu lu yv lv k hl
     let all_real : failing is_real all ≡ 0 = failing-same is_real all (carried ++ l) same (failing-append is_real carried l
     (failing-same is_real carried (filter (is_from z) left) k.waits (failing-filter (is_from z) is_real left k.left_history.real))
     (failing-parts is_real left l hl.real).1) in
-    let all_from : failing (is_from z) all ≡ 0 = failing-same (is_from z) all (carried ++ l) same (failing-append (is_from z) carried l
-    (failing-same (is_from z) carried (filter (is_from z) left) k.waits (failing-kept (is_from z) left))
-    (weaker (is_from x) (is_from z) l (λ e late. from_earlier z x e (lives.cut_low x k.left_low) late) come)) in
+    let late : failing (is_from z) carried ≡ 0 = failing-same (is_from z) carried (filter (is_from z) left) k.waits (failing-kept (is_from z) left) in
     let ordered = answered_in_order n lives front (rises_filter (is_below t) 0 all up) (failing-filter (is_below t) is_real all all_real) in
-    let from : failing (is_from c) answer ≡ 0 = answered_pass n (is_from c) (is_from z) front (λ e late a. lives.from x y e k.left_low a late) (failing-filter (is_below t) (is_from z) all all_from) in
-    let below : failing (is_below d) answer ≡ 0 = answered_pass n (is_below d) (is_below t) front (λ e low a. lives.below u v e lu a low) (failing-kept (is_below t) all) in (
-      record {
-        left_history = hl;
-        right_history = hr;
-        left_placed = pl;
-        right_placed = pr;
-        left_low = lu;
-        right_low = lv;
-        order = order_from c out answer k.below k.order from ordered.0;
-        real = failing-append is_real out answer k.real ordered.1;
-        below = failing-append (is_below d) out answer (weaker (is_below c) (is_below d) out (λ e low. below_later c d e (node_rises n x y u v xu yv lu) low) k.below) below;
-        told = record {
-          weigh = λ w.
-              let A : Edge → ℕ = λ e. cond (is_answered n e) (w (new_edge n e)) 0 in
-              let a1 = total-append w out answer in
-              let a2 = k.told.weigh w in
-              let a3 = answered_weigh n w (filter (is_below z) left) in
-              let a4 = answered_weigh n w front in
-              let a5 = parted_below z t rising carried left l all k.waits same A in
-              let a6 = answered_weigh n w (filter (is_below t) (left ++ l)) in
-              omega (arith, a1, a2, a3, a4, a5, a6);
-        };
-        waits = record { weigh = parted_from z t rising carried left l all k.waits same };
-      },
-      from,
-      below,
-    )
+    record {
+      left_history = hl;
+      right_history = hr;
+      left_placed = pl;
+      right_placed = pr;
+      left_low = lu;
+      right_low = lv;
+      order = order_from c out answer k.below k.order (lives_from n lives x y u carried l all xu lu same late come) ordered.0;
+      real = failing-append is_real out answer k.real ordered.1;
+      below = failing-append (is_below d) out answer (weaker (is_below c) (is_below d) out (λ e low. below_later c d e (node_rises n x y u v xu yv lu) low) k.below)
+          (lives_below n lives u v all lu);
+      told = record {
+        weigh = λ w.
+            let A : Edge → ℕ = λ e. cond (is_answered n e) (w (new_edge n e)) 0 in
+            let a1 = total-append w out answer in
+            let a2 = k.told.weigh w in
+            let a3 = answered_weigh n w (filter (is_below z) left) in
+            let a4 = answered_weigh n w front in
+            let a5 = parted_below z t rising carried left l all k.waits same A in
+            let a6 = answered_weigh n w (filter (is_below t) (left ++ l)) in
+            omega (arith, a1, a2, a3, a4, a5, a6);
+      };
+      waits = record { weigh = parted_from z t rising carried left l all k.waits same };
+    }

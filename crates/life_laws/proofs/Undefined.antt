@@ -1,5 +1,5 @@
 -- Nodes that are no groups are defined at each instant.
-use Rattle.std.specs.Prelude.{◌≡◌, ℕ, zero, suc, Bool, true, false, None, List, refl}
+use Rattle.std.specs.Prelude.{◌≡◌, ℕ, zero, suc, Bool, false, None, List, refl}
 use Rattle.std.proofs.Common.{◌∙◌, ap}
 use Rattle.tw_rows.specs.Rows.{Row}
 use Rattle.plan_model.specs.declared.node.Node.{Node}

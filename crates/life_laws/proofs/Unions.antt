@@ -1,7 +1,6 @@
 -- What a Union answers, and what is kept of it from step to step.
-use Rattle.std.specs.Prelude.{◌≡◌, ℕ, ◌+◌, ◌*◌, ◌≤◌, min, true, false, List, [], ◌++◌, length, filter, refl}
-use Rattle.std.proofs.Common.{◌∙◌, ap, arith}
-use Rattle.std.proofs.lemmas.Bool.Decides.{nat_tests}
+use Rattle.std.specs.Prelude.{◌≡◌, ℕ, ◌+◌, ◌≤◌, min, false, List, [], ◌++◌, length, filter, refl}
+use Rattle.std.proofs.Common.{arith}
 use Rattle.std.proofs.lemmas.List.Elements.{All-nil}
 use Rattle.tw_rows.specs.Cells.{ArePlaced}
 use Rattle.tw_rows.specs.Instant.{inf}
@@ -17,11 +16,11 @@ use Rattle.edge_history.proofs.Agreeing.{same_order}
 use Rattle.edge_history.proofs.Ahead.{time_parts}
 use Rattle.edge_history.proofs.Opening.{singles_are_news}
 use Rattle.edge_history.proofs.Retaining.{events_of_are}
-use Rattle.edge_history.proofs.Sums.{weaker, failing-append, failing-parts, failing-same, failing-filter, failing-kept}
+use Rattle.edge_history.proofs.Sums.{weaker, failing-append, failing-same, failing-filter, failing-kept}
 use Rattle.edge_history.proofs.Telling.{order_from}
 use Rattle.plan_model.specs.declared.node.Node.TheVariants.{Union}
 use Rattle.plan_model.specs.Meaning.{node_events}
-use Rattle.plan_laws.specs.Held.{reaching, may_hold}
+use Rattle.plan_laws.specs.Held.{may_hold}
 use Rattle.plan_model.specs.Nodes.{node_in}
 use Rattle.node_laws.specs.Keeping.{KeepsAhead, plain_cells}
 use Rattle.node_laws.specs.Places.{AreDistinct, EdgesArePlaced, read_of}
@@ -29,7 +28,7 @@ use Rattle.node_laws.specs.Standing.{StandsRead}
 use Rattle.node_laws.proofs.Standing.{no_history, placed_longer}
 use Rattle.node_laws.proofs.StepsAhead.{ahead_read}
 use Rattle.life_laws.proofs.Bound.{late_bound}
-use Rattle.life_laws.proofs.Steps.{parted_below, parted_from}
+use Rattle.life_laws.proofs.Steps.{below_later, from_earlier, parted_below, parted_from}
 use Rattle.life_laws.proofs.Telling.{shown_tells, singles_late}
 use Rattle.life_laws.specs.Uniting.{KeepsUnion}
 
@@ -119,65 +118,66 @@ union_bound texts x y n left_carried right_carried left right out few k =
     let b = late_bound (min x y) right right_carried k.right_history k.right_waits in
     omega (arith, a, b, few)
 
-below_later : (c d : ℕ) (e : Edge) → c ≤ d → is_below c e ≡ true → is_below d e ≡ true
-below_later c d e h k = grind (arith, nat_tests)
+-- all edges of one side, those that were carried and new ones, come at the closing or later
+side_from : (c x : ℕ) (carried l all : List Edge) → c ≤ x → SameBag all (carried ++ l) → failing (is_from c) carried ≡ 0 → failing (is_from x) l ≡ 0 → failing (is_from c) all ≡ 0
+side_from c x carried l all low same late come =
+    failing-same (is_from c) all (carried ++ l) same (failing-append (is_from c) carried l late (weaker (is_from x) (is_from c) l (λ e k. from_earlier c x e low k) come))
 
-from_earlier : (c x : ℕ) (e : Edge) → c ≤ x → is_from x e ≡ true → is_from c e ≡ true
-from_earlier c x e h k = grind (arith, nat_tests)
-
--- all edges of one side, those that were carried and new ones, come at the closing or later, and are real
-module _ (c x : ℕ) (low : c ≤ x) (carried came l all : List Edge) (waits : SameBag carried (filter (is_from c) came)) (same : SameBag all (carried ++ l)) where
-  side_from : failing (is_from x) l ≡ 0 → failing (is_from c) all ≡ 0
-  side_from come = failing-same (is_from c) all (carried ++ l) same (failing-append (is_from c) carried l
-      (failing-same (is_from c) carried (filter (is_from c) came) waits (failing-kept (is_from c) came))
-      (weaker (is_from x) (is_from c) l (λ e late. from_earlier c x e low late) come))
+-- a step without a history: what is carried and what comes comes so late that what is answered comes between the closings
+pub union_between : (x y u v : ℕ) (left_carried right_carried l r left_all right_all answer : List Edge) →
+    SameBag left_all (left_carried ++ l) → SameBag right_all (right_carried ++ r) →
+    SameBag answer (filter (is_below (min u v)) left_all ++ filter (is_below (min u v)) right_all) →
+    failing (is_from (min x y)) left_carried ≡ 0 → failing (is_from (min x y)) right_carried ≡ 0 → failing (is_from x) l ≡ 0 → failing (is_from y) r ≡ 0 →
+    (failing (is_from (min x y)) answer ≡ 0) × (failing (is_below (min u v)) answer ≡ 0)
+union_between x y u v left_carried right_carried l r left_all right_all answer left_same right_same parts left_late right_late come_left come_right =
+    let c : ℕ = min x y in
+    let d : ℕ = min u v in
+    let fl : List Edge = filter (is_below d) left_all in
+    let fr : List Edge = filter (is_below d) right_all in
+    let left_from = side_from c x left_carried l left_all (omega arith) left_same left_late come_left in
+    let right_from = side_from c y right_carried r right_all (omega arith) right_same right_late come_right in (
+      failing-same (is_from c) answer (fl ++ fr) parts (failing-append (is_from c) fl fr
+          (failing-filter (is_below d) (is_from c) left_all left_from) (failing-filter (is_below d) (is_from c) right_all right_from)),
+      failing-same (is_below d) answer (fl ++ fr) parts (failing-append (is_below d) fl fr (failing-kept (is_below d) left_all) (failing-kept (is_below d) right_all)),
+    )
 
 pub union_step : (texts : List (List ℕ)) (x y u v : ℕ) (left_carried right_carried left right out l r left_all right_all answer : List Edge) → x ≤ u → u ≤ inf → y ≤ v → v ≤ inf →
     KeepsUnion texts x y left_carried right_carried left right out → IsHistory (left ++ l) → IsHistory (right ++ r) → EdgesArePlaced texts (left ++ l) → EdgesArePlaced texts (right ++ r) →
     failing (is_from x) l ≡ 0 → failing (is_from y) r ≡ 0 → SameBag left_all (left_carried ++ l) → SameBag right_all (right_carried ++ r) → KeepsOrder answer →
     SameBag answer (filter (is_below (min u v)) left_all ++ filter (is_below (min u v)) right_all) →
     KeepsUnion texts u v (filter (is_from (min u v)) left_all) (filter (is_from (min u v)) right_all) (left ++ l) (right ++ r) (out ++ answer)
-    × (failing (is_from (min x y)) answer ≡ 0) × (failing (is_below (min u v)) answer ≡ 0)
 union_step texts x y u v left_carried right_carried left right out l r left_all right_all answer xu lu yv lv k hl hr pl pr come_left come_right left_same right_same ordered parts =
     let c : ℕ = min x y in
     let d : ℕ = min u v in
     let rising : c ≤ d = omega (arith, xu, yv) in
-    let low_x : c ≤ x = omega arith in
-    let low_y : c ≤ y = omega arith in
     let old = (same_order answer).0 ordered in
     let fl : List Edge = filter (is_below d) left_all in
     let fr : List Edge = filter (is_below d) right_all in
-    let left_from = side_from c x low_x left_carried left l left_all k.left_waits left_same come_left in
-    let right_from = side_from c y low_y right_carried right r right_all k.right_waits right_same come_right in
-    let from : failing (is_from c) answer ≡ 0 = failing-same (is_from c) answer (fl ++ fr) parts (failing-append (is_from c) fl fr
-    (failing-filter (is_below d) (is_from c) left_all left_from) (failing-filter (is_below d) (is_from c) right_all right_from)) in
-    let below : failing (is_below d) answer ≡ 0 = failing-same (is_below d) answer (fl ++ fr) parts (failing-append (is_below d) fl fr
-    (failing-kept (is_below d) left_all) (failing-kept (is_below d) right_all)) in (
-      record {
-        left_history = hl;
-        right_history = hr;
-        left_placed = pl;
-        right_placed = pr;
-        left_low = lu;
-        right_low = lv;
-        order = order_from c out answer k.below k.order from old.0;
-        real = failing-append is_real out answer k.real old.1;
-        below = failing-append (is_below d) out answer (weaker (is_below c) (is_below d) out (λ e low. below_later c d e rising low) k.below) below;
-        told = record {
-          weigh = λ w.
-              let a1 = total-append w out answer in
-              let a2 = k.told.weigh w in
-              let a3 = total-append w (filter (is_below c) left) (filter (is_below c) right) in
-              let a4 = parts.weigh w in
-              let a5 = total-append w fl fr in
-              let a6 = parted_below c d rising left_carried left l left_all k.left_waits left_same w in
-              let a7 = parted_below c d rising right_carried right r right_all k.right_waits right_same w in
-              let a8 = total-append w (filter (is_below d) (left ++ l)) (filter (is_below d) (right ++ r)) in
-              omega (arith, a1, a2, a3, a4, a5, a6, a7, a8);
-        };
-        left_waits = record { weigh = parted_from c d rising left_carried left l left_all k.left_waits left_same };
-        right_waits = record { weigh = parted_from c d rising right_carried right r right_all k.right_waits right_same };
-      },
-      from,
-      below,
-    )
+    let left_late = failing-same (is_from c) left_carried (filter (is_from c) left) k.left_waits (failing-kept (is_from c) left) in
+    let right_late = failing-same (is_from c) right_carried (filter (is_from c) right) k.right_waits (failing-kept (is_from c) right) in
+    let between = union_between x y u v left_carried right_carried l r left_all right_all answer left_same right_same parts left_late right_late come_left come_right in
+    record {
+      left_history = hl;
+      right_history = hr;
+      left_placed = pl;
+      right_placed = pr;
+      left_low = lu;
+      right_low = lv;
+      order = order_from c out answer k.below k.order between.0 old.0;
+      real = failing-append is_real out answer k.real old.1;
+      below = failing-append (is_below d) out answer (weaker (is_below c) (is_below d) out (λ e low. below_later c d e rising low) k.below) between.1;
+      told = record {
+        weigh = λ w.
+            let a1 = total-append w out answer in
+            let a2 = k.told.weigh w in
+            let a3 = total-append w (filter (is_below c) left) (filter (is_below c) right) in
+            let a4 = parts.weigh w in
+            let a5 = total-append w fl fr in
+            let a6 = parted_below c d rising left_carried left l left_all k.left_waits left_same w in
+            let a7 = parted_below c d rising right_carried right r right_all k.right_waits right_same w in
+            let a8 = total-append w (filter (is_below d) (left ++ l)) (filter (is_below d) (right ++ r)) in
+            omega (arith, a1, a2, a3, a4, a5, a6, a7, a8);
+      };
+      left_waits = record { weigh = parted_from c d rising left_carried left l left_all k.left_waits left_same };
+      right_waits = record { weigh = parted_from c d rising right_carried right r right_all k.right_waits right_same };
+    }

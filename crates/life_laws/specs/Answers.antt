@@ -2,7 +2,7 @@
 use Rattle.std.specs.Prelude.{ℕ, nat_lt, not, ◌&&◌, Bool, true, false, List, map, filter}
 use Rattle.tw_rows.specs.Instant.{inf, later, floor_to}
 use Rattle.tw_rows.specs.declared.edge.Edge.{Edge}
-use Rattle.edge_history.specs.Order.{is_end}
+use Rattle.edge_history.specs.Order.{is_end, is_below, is_from}
 use Rattle.plan_model.specs.declared.node.Node.{Node}
 use Rattle.plan_model.specs.declared.node.Node.TheVariants.{Delay, Hop, Duration}
 
@@ -48,3 +48,10 @@ answered n h = map (new_edge n) (filter (is_answered n) h)
 abbrev pub answered_below : Node → ℕ → ℕ
 answered_below (Hop of size period) x = floor_to period x
 answered_below n x = x
+
+-- what is answered and what is carried of edges, if what came is known below x
+abbrev pub answered_at : Node → ℕ → List Edge → List Edge
+answered_at n x h = answered n (filter (is_below (answered_below n x)) h)
+
+abbrev pub carried_at : Node → ℕ → List Edge → List Edge
+carried_at n x h = filter (is_from (answered_below n x)) h

@@ -1,13 +1,13 @@
 -- What an operator of a node with known lives keeps.
-use Rattle.std.specs.Prelude.{◌≡◌, ℕ, ◌≤◌, List, filter}
+use Rattle.std.specs.Prelude.{◌≡◌, ℕ, ◌≤◌, List}
 use Rattle.tw_rows.specs.Instant.{inf}
 use Rattle.tw_rows.specs.Bag.{SameBag}
 use Rattle.tw_rows.specs.declared.edge.Edge.{Edge}
-use Rattle.edge_history.specs.Order.{Rises, failing, is_real, is_below, is_from, IsHistory}
+use Rattle.edge_history.specs.Order.{Rises, failing, is_real, is_below, IsHistory}
 use Rattle.plan_model.specs.declared.node.Node.{Node}
 use Rattle.plan_model.specs.Meaning.{node_closes}
 use Rattle.node_laws.specs.Places.{EdgesArePlaced}
-use Rattle.life_laws.specs.Answers.{answered, answered_below}
+use Rattle.life_laws.specs.Answers.{answered_at, carried_at}
 
 -- of the edges that came in, on the left below x and on the right below y, those that came early enough have been answered,
 -- and the others are carried. Of a Delay of 2, closed up to 4, a start at 3 has been answered as one at 5, and one at 4
@@ -22,5 +22,5 @@ pub record KeepsLives (n : Node) (texts : List (List ℕ)) (x y : ℕ) (carried 
   pub order : Rises 0 out
   pub real : failing is_real out ≡ 0
   pub below : failing (is_below (node_closes n x y)) out ≡ 0
-  pub told : SameBag out (answered n (filter (is_below (answered_below n x)) left))
-  pub waits : SameBag carried (filter (is_from (answered_below n x)) left)
+  pub told : SameBag out (answered_at n x left)
+  pub waits : SameBag carried (carried_at n x left)

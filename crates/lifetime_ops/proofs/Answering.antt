@@ -1,22 +1,21 @@
 -- What is answered batch by batch, and what a step keeps.
-use Rattle.std.specs.Prelude.{◌≡◌, ℕ, ◌≤◌, true, List, ◌++◌, map, filter, refl}
+use Rattle.std.specs.Prelude.{◌≡◌, ℕ, ◌≤◌, List, ◌++◌, map, filter}
 use Rattle.std.proofs.Common.{sym, ◌∙◌, ap, subst}
 use Rattle.std.proofs.lemmas.List.{append_assoc, map-append}
 use Rattle.std.proofs.lemmas.List.Elements.{filter-append}
 use Rattle.tw_rows.specs.Instant.{inf}
 use Rattle.tw_rows.specs.Bag.{SameBag}
 use Rattle.tw_rows.specs.declared.edge.Edge.{Edge}
-use Rattle.edge_history.specs.Order.{KeepsOrder, is_below, is_from}
+use Rattle.edge_history.specs.Order.{KeepsOrder, failing, is_below, is_from}
 use Rattle.edge_history.proofs.Keeping.{KeepsOrder-front}
 use Rattle.edge_history.proofs.Agreeing.{same_order}
 use Rattle.plan_model.specs.Meaning.{node_closes}
 use Rattle.operator.specs.Steps.{MayCome, ComeBetween}
-use Rattle.life_laws.specs.Answers.{has_known_lives, new_edge, is_answered, answered, answered_below}
+use Rattle.life_laws.specs.Answers.{new_edge, is_answered, answered, answered_below, answered_at}
 use Rattle.life_laws.specs.Keeping.{KeepsLives}
 use Rattle.life_laws.proofs.Lives.{new_lives}
-use Rattle.life_laws.proofs.Steps.{answered_in_order, lives_step}
+use Rattle.life_laws.proofs.Steps.{answered_in_order, lives_from, lives_below, lives_step}
 use Rattle.lifetime_ops.specs.declared.change.Change.{Change}
-use Rattle.lifetime_ops.specs.declared.change.Change.TheVariants.{Delay, Hop, Duration}
 use Rattle.lifetime_ops.specs.Nodes.{node_of, known}
 
 module _ (change : Change) where
@@ -41,11 +40,22 @@ module _ (change : Change) where
       let ordered : KeepsOrder (answered (node_of change) whole) = (same_order (answered (node_of change) whole)).1 (answered_in_order (node_of change) (new_lives (node_of change) (known change)) whole old.0 old.1) in
       KeepsOrder-front (done ++ new) (answered (node_of change) rest) (subst KeepsOrder (sym all ∙ batch_next done due batch rest new is answer) ordered)
 
-  pub advanced : (texts : List (List ℕ)) (x y u v t : ℕ) (carried left right out l r all rest due answer : List Edge) → x ≤ u → u ≤ inf → y ≤ v → v ≤ inf →
-      KeepsLives (node_of change) texts x y carried left right out → MayCome texts x left l → MayCome texts y right r → KeepsOrder all → SameBag all (carried ++ l) →
-      t ≡ answered_below (node_of change) u → rest ≡ filter (is_from t) all → due ≡ filter (is_below t) all → answer ≡ answered (node_of change) due →
-      KeepsLives (node_of change) texts u v rest (left ++ l) (right ++ r) (out ++ answer) × ComeBetween (node_closes (node_of change) x y) (node_closes (node_of change) u v) answer
-  advanced texts x y u v t carried left right out l r all rest due answer xu lu yv lv k ml mr order same cut is_rest is_due is_answer =
-      let s = lives_step (node_of change) (new_lives (node_of change) (known change)) texts x y u v carried left right out l r all xu lu yv lv k
-      ml.history mr.history ml.placed mr.placed ml.from order.rises same in
-      rw (is_rest, is_answer, is_due, cut) (s.0, record { from = s.1; below = s.2 })
+  -- a step: what was carried and what came is parted at a time, and what is below it is answered
+  module _ (x y u v t : ℕ) (carried l all due answer : List Edge) (xu : x ≤ u) (lu : u ≤ inf) (cut : t ≡ answered_below (node_of change) u)
+      (same : SameBag all (carried ++ l)) (is_due : due ≡ filter (is_below t) all) (is_answer : answer ≡ answered (node_of change) due) where
+    answer_is : answer ≡ answered_at (node_of change) u all
+    answer_is = is_answer ∙ ap (answered (node_of change)) (is_due ∙ ap (λ z. filter (is_below z) all) cut)
+
+    pub between : failing (is_from (answered_below (node_of change) x)) carried ≡ 0 → failing (is_from x) l ≡ 0 →
+        ComeBetween (node_closes (node_of change) x y) (node_closes (node_of change) u v) answer
+    between late come = rw answer_is (record {
+      from = lives_from (node_of change) (new_lives (node_of change) (known change)) x y u carried l all xu lu same late come;
+      below = lives_below (node_of change) (new_lives (node_of change) (known change)) u v all lu;
+    })
+
+    pub advanced : (texts : List (List ℕ)) (left right out r rest : List Edge) → y ≤ v → v ≤ inf →
+        KeepsLives (node_of change) texts x y carried left right out → MayCome texts x left l → MayCome texts y right r → KeepsOrder all → rest ≡ filter (is_from t) all →
+        KeepsLives (node_of change) texts u v rest (left ++ l) (right ++ r) (out ++ answer)
+    advanced texts left right out r rest yv lv k ml mr order is_rest =
+        rw (is_rest, answer_is, cut) (lives_step (node_of change) (new_lives (node_of change) (known change)) texts x y u v carried left right out l r all xu lu yv lv k
+        ml.history mr.history ml.placed mr.placed ml.from order.rises same)

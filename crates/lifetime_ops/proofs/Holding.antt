@@ -5,7 +5,6 @@ use Rattle.tw_rows.specs.declared.edge.Edge.{Edge}
 use Rattle.edge_history.specs.History.{of}
 use Rattle.plan_model.specs.Meaning.{node_closes}
 use Rattle.plan_model.specs.Nodes.{node_in}
-use Rattle.plan_model.specs.declared.node.Node.{Node}
 use Rattle.plan_model.specs.declared.node.Node.TheVariants.{Delay as DelayNode, Hop as HopNode, Duration as DurationNode}
 use Rattle.plan_laws.specs.Held.{may_hold}
 use Rattle.plan_laws.specs.Undefined.{is_group}
@@ -26,7 +25,3 @@ pub held_within : (change : Change) (texts : List (List ℕ)) (x y : ℕ) (carri
 held_within (Delay by) texts x y carried left right out k = let b = carried_bound (DelayNode 0 by) texts x y carried left right out k in omega (arith, b)
 held_within (Hop size period) texts x y carried left right out k = let b = carried_bound (HopNode 0 size period) texts x y carried left right out k in omega (arith, b)
 held_within (Duration by) texts x y carried left right out k = let b = carried_bound (DurationNode 0 by) texts x y carried left right out k in omega (arith, b)
-
--- what is kept of the same node, closed up to the same times
-pub kept_at : (n m : Node) (texts : List (List ℕ)) (x y u v : ℕ) (carried left right out : List Edge) → m ≡ n → u ≡ x → v ≡ y → KeepsLives n texts x y carried left right out → KeepsLives m texts u v carried left right out
-kept_at n m texts x y u v carried left right out same left_to right_to k = rw (same, left_to, right_to) k

@@ -1,5 +1,5 @@
 -- Ends that are loaded and saved.
-use Rattle.std.specs.Prelude.{◌≡◌, ℕ, ◌+◌, ◌*◌, ◌<◌, ◌≤◌, Bool, true, cond, List, [], ◌∷◌, ◌++◌, length, map, All, IsTrue, refl}
+use Rattle.std.specs.Prelude.{◌≡◌, ℕ, zero, suc, ◌+◌, ◌<◌, ◌≤◌, ◌&&◌, ◌||◌, not, nat_eq, Bool, true, false, cond, List, [], ◌∷◌, ◌++◌, length, map, filter, All, IsTrue, refl}
 use Rattle.std.specs.List.{list_all}
 use Rattle.std.proofs.Common.{sym, ◌∙◌, ap, arith, subst, get_or, take}
 use Rattle.std.proofs.lemmas.Bool.Decides.{nat_tests}
@@ -21,9 +21,13 @@ use Rattle.plan_laws.specs.Held.{may_hold}
 use Rattle.node_laws.specs.Keeping.{plain_cells}
 use Rattle.life_laws.specs.Extending.{KeepsExtended}
 use Rattle.life_laws.proofs.Bound.{extended_bound}
-use Rattle.carried_edges.specs.Entries.{entries_of, part_of, are_of_parts, IsEdgePart}
-use Rattle.carried_edges.proofs.Parts.{part_of_own, part_of_other, part_of_append, saved_length, parts_own, parts_append, none_fails}
-use Rattle.lifetime_ops.specs.ExtendSaving.{ExtendSound, ExtendResumes}
+use Rattle.carried_edges.specs.Entries.{saved_edge, entries_of, part_of, are_of_parts, IsEdgePart}
+use Rattle.carried_edges.proofs.Parts.{part_of_own, part_of_other, part_of_append, saved_length, parts_own, parts_append, parts_pass, none_fails}
+use Rattle.edge_stream.specs.Listing.{cells_of}
+use Rattle.operator.specs.Standing.{IsStoredAs, AreStoredAs}
+use Rattle.lifetime_ops.specs.declared.extend.ExtendLifetime.{ExtendLifetime}
+use Rattle.lifetime_ops.specs.ExtendOperating.{standing}
+use Rattle.lifetime_ops.specs.ExtendSaving.{is_end_in, ExtendSound, ExtendResumes, row_of}
 use Rattle.lifetime_ops.specs.Waiting.{edges_of_pending, IsWaitingEnd}
 use Rattle.lifetime_ops.proofs.Waiting.{total-put, All-put, ends_in_order, late_edges}
 
@@ -150,3 +154,22 @@ module _ (carried : List Edge) (ends : List Pending) (ends_copy : List Edge) (fi
     sound = sound;
     keeps = subst (λ c. KeepsExtended by texts x y c (part_of 1 entries) hl hr out) (sym carried_part) (subst (λ e. KeepsExtended by texts x y carried e hl hr out) (sym ends_part) keeps);
   }
+
+-- the cells of each entry are stored as those of the child
+pub extend_stored : (o : ExtendLifetime) (entries : List SavedEntry) (x : ℕ) → ExtendSound (cells_of o.carried) x entries → AreStoredAs row_of (standing o) entries
+extend_stored o entries x sound = parts_pass (λ p cells. IsStoredAs (standing o) (row_of p) cells) 2 entries sound.parts pick
+  where
+    pick : (p : ℕ) → p < 2 → All (λ e. IsStoredAs (standing o) (row_of p) e.cells) (part_of p entries)
+    pick zero h = sound.carried.cells
+    pick (suc zero) h = sound.waiting.cells
+    pick (suc (suc p)) h = absurd (omega (arith, h))
+
+-- the entries of a part are ends where each entry is an end or of another part
+pub ends_of_part : (p : ℕ) (entries : List SavedEntry) → list_all (is_end_in p) entries ≡ list_all is_end (part_of p entries)
+ends_of_part p [] = refl
+ends_of_part p (s ∷ rest) = pick (nat_eq s.part p) (ends_of_part p rest)
+  where
+    pick : (b : Bool) → list_all (is_end_in p) rest ≡ list_all is_end (part_of p rest) →
+        ((not b || is_end (saved_edge s)) && list_all (is_end_in p) rest) ≡ list_all is_end (map saved_edge (cond b (s ∷ filter (λ r. nat_eq r.part p) rest) (filter (λ r. nat_eq r.part p) rest)))
+    pick true k = ap (λ b. is_end (saved_edge s) && b) k
+    pick false k = k

@@ -11,14 +11,14 @@ use Rattle.tw_rows.specs.Bag.{SameBag, total}
 use Rattle.tw_rows.specs.declared.edge.Edge.{Edge}
 use Rattle.tw_rows.specs.declared.kind.CellKind.{CellKind}
 use Rattle.tw_rows.proofs.Bags.{total-append, total-map, total-filter, total_zero}
-use Rattle.edge_history.specs.Order.{is_end, is_below, is_from, is_real, failing, rank, Rises, IsReal, IsHistory, KeepsOrder}
+use Rattle.edge_history.specs.Order.{is_end, is_below, is_from, failing, rank, Rises, IsReal, KeepsOrder}
 use Rattle.edge_history.specs.Opens.{is_start}
 use Rattle.edge_history.proofs.Keeping.{KeepsOrder-front, KeepsOrder-back}
-use Rattle.edge_history.proofs.Sums.{sum_eq, failing-kept, failing-append, failing-same, failing-filter}
+use Rattle.edge_history.proofs.Sums.{sum_eq, failing-kept, failing-append, failing-same}
 use Rattle.end_queue.specs.Pending.{Pending, put_pending, AreDueFrom}
 use Rattle.operator.specs.Steps.{MayCome, ComeBetween}
 use Rattle.life_laws.specs.Extending.{extended_edge, extended_edges, extended_starts, extended_ends, KeepsExtended}
-use Rattle.life_laws.proofs.Extending.{made_of_both, extended_step, starts_in_order}
+use Rattle.life_laws.proofs.Extending.{made_of_both, extended_from, extended_step, starts_in_order}
 use Rattle.lifetime_ops.specs.Waiting.{edges_of_pending, IsWaitingEnd}
 
 -- PUTTING IN
@@ -232,33 +232,39 @@ starts_below by u h none =
     ∙ total_zero h
 
 -- A STEP
-pub extended_advance : (by : ℕ) (texts : List (List ℕ)) (x y u v : ℕ) (carried left right out l r all rest due starts ends answer : List Edge) (kinds : List CellKind) (before between after : List Pending) → x ≤ u → u ≤ inf → y ≤ v → v ≤ inf →
-    KeepsExtended by texts x y carried (edges_of_pending before) left right out → MayCome texts x left l → MayCome texts y right r →
-    SameBag all (carried ++ l) → due ≡ filter (is_below u) all → rest ≡ filter (is_from u) all →
-    starts ≡ extended_starts by due → ((w : Edge → ℕ) → total w (edges_of_pending between) ≡ total w (edges_of_pending before) + total w (extended_ends by due)) →
-    edges_of_pending between ≡ ends ++ edges_of_pending after → failing (is_below u) ends ≡ 0 → All (λ p. u ≤ p.at) after → All (IsWaitingEnd kinds) after →
-    SameBag answer (starts ++ ends) → KeepsOrder answer →
-    KeepsExtended by texts u v rest (edges_of_pending after) (left ++ l) (right ++ r) (out ++ answer) × ComeBetween x u answer
-extended_advance by texts x y u v carried left right out l r all rest due starts ends answer kinds before between after xu lu yv lv k ml mr same is_due is_rest is_starts put taken low late waiting both order =
-    let front : List Edge = filter (is_below u) all in
-    let low_starts : failing (is_below u) starts ≡ 0 = rw (is_starts, is_due) (starts_below by u front (failing-kept (is_below u) all)) in
-    let below : failing (is_below u) answer ≡ 0 = failing-same (is_below u) answer (starts ++ ends) both (failing-append (is_below u) starts ends low_starts low) in
-    let s = extended_step by texts x y u v carried (edges_of_pending before) left right out l r all answer (edges_of_pending after) xu lu yv lv k
-    ml.history mr.history ml.placed mr.placed ml.from same order below (late_edges kinds u after waiting late)
-    (λ w.
-    let b1 = both.weigh w in
-    let b2 = total-append w starts ends in
-    let b3 = put w in
-    let b4 = ap (total w) taken in
-    let b5 = total-append w ends (edges_of_pending after) in
-    let b6 = made_of_both by w front in
-    let b7 = ap (λ es. total w (extended_ends by es)) is_due in
-    let b8 = ap (total w) is_starts in
-    let b9 = ap (λ es. total w (extended_starts by es)) is_due in
-    omega (arith, b1, b2, b3, b4, b5, b6, b7, b8, b9)) in
-    rw is_rest (s.0, record { from = s.1; below = below })
+module _ (by u : ℕ) (all due starts ends answer : List Edge) (before between after : List Pending) (is_due : due ≡ filter (is_below u) all) (is_starts : starts ≡ extended_starts by due)
+    (put : (w : Edge → ℕ) → total w (edges_of_pending between) ≡ total w (edges_of_pending before) + total w (extended_ends by due)) (taken : edges_of_pending between ≡ ends ++ edges_of_pending after)
+    (low : failing (is_below u) ends ≡ 0) (both : SameBag answer (starts ++ ends)) where
+  -- what is answered and what waits is what waited and what is made
+  moved : (w : Edge → ℕ) → total w answer + total w (edges_of_pending after) ≡ total w (edges_of_pending before) + total w (extended_edges by (filter (is_below u) all))
+  moved w =
+      let b1 = both.weigh w in
+      let b2 = total-append w starts ends in
+      let b3 = put w in
+      let b4 = ap (total w) taken in
+      let b5 = total-append w ends (edges_of_pending after) in
+      let b6 = made_of_both by w (filter (is_below u) all) in
+      let b7 = ap (λ es. total w (extended_ends by es)) is_due in
+      let b8 = ap (total w) is_starts in
+      let b9 = ap (λ es. total w (extended_starts by es)) is_due in
+      omega (arith, b1, b2, b3, b4, b5, b6, b7, b8, b9)
 
--- what is kept where the sides are closed up to the same times
-pub kept_at : (by by2 : ℕ) (texts : List (List ℕ)) (x y u v : ℕ) (carried waiting left right out : List Edge) → by2 ≡ by → u ≡ x → v ≡ y → KeepsExtended by texts x y carried waiting left right out →
-    KeepsExtended by2 texts u v carried waiting left right out
-kept_at by by2 texts x y u v carried waiting left right out same left_to right_to k = rw (same, left_to, right_to) k
+  below : failing (is_below u) answer ≡ 0
+  below =
+      let low_starts : failing (is_below u) starts ≡ 0 = rw (is_starts, is_due) (starts_below by u (filter (is_below u) all) (failing-kept (is_below u) all)) in
+      failing-same (is_below u) answer (starts ++ ends) both (failing-append (is_below u) starts ends low_starts low)
+
+  pub extended_between : (x : ℕ) (carried l : List Edge) (kinds : List CellKind) → x ≤ inf → SameBag all (carried ++ l) → failing (is_from x) carried ≡ 0 → failing (is_from x) l ≡ 0 →
+      All (λ p. x ≤ p.at) before → All (IsWaitingEnd kinds) before → ComeBetween x u answer
+  extended_between x carried l kinds xl same late come due waiting = record {
+    from = extended_from by x u carried l all answer (edges_of_pending before) (edges_of_pending after) xl same late come (late_edges kinds x before waiting due) moved;
+    below = below;
+  }
+
+  pub extended_advance : (texts : List (List ℕ)) (x y v : ℕ) (carried left right out l r rest : List Edge) (kinds : List CellKind) → x ≤ u → u ≤ inf → y ≤ v → v ≤ inf →
+      KeepsExtended by texts x y carried (edges_of_pending before) left right out → MayCome texts x left l → MayCome texts y right r →
+      SameBag all (carried ++ l) → rest ≡ filter (is_from u) all → All (λ p. u ≤ p.at) after → All (IsWaitingEnd kinds) after → KeepsOrder answer →
+      KeepsExtended by texts u v rest (edges_of_pending after) (left ++ l) (right ++ r) (out ++ answer)
+  extended_advance texts x y v carried left right out l r rest kinds xu lu yv lv k ml mr same is_rest late waiting order =
+      rw is_rest (extended_step by texts x y u v carried (edges_of_pending before) left right out l r all answer (edges_of_pending after) xu lu yv lv k
+      ml.history mr.history ml.placed mr.placed ml.from same order below (late_edges kinds u after waiting late) moved)

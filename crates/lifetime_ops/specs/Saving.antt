@@ -1,7 +1,9 @@
 -- What operators of this crate save.
-use Rattle.std.specs.Prelude.{◌≡◌, ℕ, Bool, true, false, List, []}
+use Rattle.std.specs.Prelude.{◌≡◌, ℕ, nat_eq, Bool, true, false, cond, Option, Some, None, List, []}
 use Rattle.tw_rows.specs.declared.edge.Edge.{Edge}
 use Rattle.tw_rows.specs.declared.kind.CellKind.{CellKind}
+use Rattle.edge_stream.specs.declared.saved.PartRow.{PartRow}
+use Rattle.edge_stream.specs.declared.saved.PartRow.TheVariants.{Left}
 use Rattle.edge_stream.specs.declared.saved.SavedEntry.{SavedEntry}
 use Rattle.plan_model.specs.declared.node.Node.{Node}
 use Rattle.life_laws.specs.Answers.{answered_below}
@@ -14,6 +16,10 @@ pub record IsOpening (carried : List Edge) (x y : ℕ) (failed : Bool) : Type 0 
   pub left : x ≡ 0
   pub right : y ≡ 0
   pub works : failed ≡ false
+
+-- whose row the cells of a part are: those of part 0 are of a left row, and there is no other part
+abbrev pub row_of : ℕ → Option PartRow
+row_of part = cond (nat_eq part 0) (Some Left) None
 
 -- the entries are of part 0 alone, a row of the left child each: edges that may be carried where the left side is closed up to
 -- x. Of a hop of period 10 closed up to 17 an edge at 12 may be carried, and one at 9 not

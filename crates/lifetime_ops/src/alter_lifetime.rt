@@ -1,23 +1,19 @@
 // The operator of a node that changes lives.
-ghost use Rattle.std.specs.Prelude.{◌≡◌, ◌≤◌, ℕ, false, is_err, List, [], ◌++◌, length, IfOk, OnOk};
-ghost use Rattle.tw_rows.specs.declared.edge.Edge.{Edge};
-ghost use Rattle.edge_history.specs.Order.{KeepsOrder, failing, is_from};
-ghost use Rattle.batch.specs.Rows.{edges_of};
+ghost use Rattle.std.specs.Prelude.{◌≡◌, ◌≤◌, false, is_err, [], ◌++◌, length, IfOk, OnOk};
+ghost use Rattle.edge_history.specs.Order.{failing, is_from};
 ghost use Rattle.edge_stream.specs.Listing.{SameShape, cells_of};
-ghost use Rattle.plan_model.specs.Meaning.{node_closes};
-ghost use Rattle.operator.specs.Steps.{MayCome, ComeBetween};
 ghost use Rattle.life_laws.specs.Answers.{answered, answered_below};
-ghost use Rattle.life_laws.specs.Keeping.{KeepsLives};
 ghost use Rattle.lifetime_ops.specs.Nodes.{node_of};
 
 use crate::change::Change;
-use batch::{Batch, Pools};
-use carried_edges::take_below;
+use batch::Pools;
+use carried_edges::{put_last, take_below};
 use edge_stream::EdgeList;
 use std::alloc::Global;
 use tw_rows::{Kind, Memory, Time};
 
-/// The operator of a Delay, a Hop or a Duration. It carries the edges that came too early to be answered.
+/// The operator of a Delay, a Hop or a Duration: Trill's `AlterEventLifetime`, whose new start and duration follow from the
+/// start alone, or move both ends. It carries the edges that are not below the time up to which it answers.
 #[derive(Drop)]
 pub struct AlterLifetime {
     pub(crate) alloc: Global,
@@ -27,20 +23,6 @@ pub struct AlterLifetime {
     pub(crate) right_to: Time,
     pub(crate) failed: bool,
     ghost late: { failed ≡ false → failing (is_from (answered_below (node_of change) left_to)) carried.edges ≡ 0 },
-}
-
-// Puts the batch last.
-fn put_last(list: &mut EdgeList, batch: Batch) -> Result<(), Memory>
-    requires kinds { batch.kinds ≡ cells_of list.old }
-    requires capacity { batch.capacity ≡ list.old.capacity }
-    requires order { KeepsOrder (list.old.edges ++ edges_of batch.rows) }
-    ensures edges { OnOk result (list.new.edges ≡ list.old.edges ++ edges_of batch.rows) }
-    ensures shape { SameShape list.old list.new }
-{
-    match list.put_batch(batch) {
-        Ok(()) => Ok(()),
-        Err(_) => Err(Memory),
-    }
 }
 
 // The edges that are answered of those of a list, made in place batch by batch.
@@ -60,6 +42,10 @@ fn answer_of(change: Change, alloc: Global, due: EdgeList) -> Result<EdgeList, M
 }
 
 impl AlterLifetime {
+    ghost use Rattle.operator.specs.Standing.{IsLike};
+    ghost use Rattle.operator.specs.Steps.{StaysKept, AnswersBetween};
+    ghost use Rattle.lifetime_ops.specs.Operating.{standing as alter_standing, IsKept};
+
     /// The operator of a node that makes this change, of rows with columns of these kinds, in batches of that capacity.
     pub fn new(
         alloc: Global,
@@ -93,17 +79,17 @@ impl AlterLifetime {
         left_to: Time,
         right_to: Time,
     ) -> Result<EdgeList, Memory>
+        requires works { self.old.failed ≡ false }
         requires left_rises { self.old.left_to ≤ left_to }
         requires right_rises { self.old.right_to ≤ right_to }
         requires left_kinds { cells_of left ≡ cells_of self.old.carried }
         requires left_capacity { left.capacity ≡ self.old.carried.capacity }
         requires right_capacity { right.capacity ≡ self.old.carried.capacity }
         requires capacity { pools.old.capacity ≡ self.old.carried.capacity }
-        ensures kept { IfOk result (λ answer. (texts : List (List ℕ)) (hl hr out : List Edge) →
-            KeepsLives (node_of self.old.change) texts self.old.left_to self.old.right_to self.old.carried.edges hl hr out →
-            MayCome texts self.old.left_to hl left.edges → MayCome texts self.old.right_to hr right.edges →
-            KeepsLives (node_of self.old.change) texts left_to right_to self.new.carried.edges (hl ++ left.edges) (hr ++ right.edges) (out ++ answer.edges)
-            × ComeBetween (node_closes (node_of self.old.change) self.old.left_to self.old.right_to) (node_closes (node_of self.old.change) left_to right_to) answer.edges) }
+        ensures kept { IfOk result (λ answer.
+            StaysKept (alter_standing self.old) (IsKept self.old) (IsKept self.new) left.edges right.edges answer.edges) }
+        ensures between { IfOk result (λ answer.
+            AnswersBetween (alter_standing self.old) left.edges right.edges left_to right_to answer.edges) }
         ensures kinds { IfOk result (λ answer. cells_of answer ≡ cells_of self.old.carried) }
         ensures capacity { IfOk result (λ answer. answer.capacity ≡ self.old.carried.capacity) }
         ensures pools { pools.new.capacity ≡ pools.old.capacity }
@@ -111,9 +97,7 @@ impl AlterLifetime {
         ensures left_to { OnOk result (self.new.left_to ≡ left_to) }
         ensures right_to { OnOk result (self.new.right_to ≡ right_to) }
         ensures failed { self.new.failed ≡ is_err result }
-        ensures change { self.new.change ≡ self.old.change }
-        ensures own_kinds { cells_of self.new.carried ≡ cells_of self.old.carried }
-        ensures own_capacity { self.new.carried.capacity ≡ self.old.carried.capacity }
+        ensures like { IsLike (alter_standing self.old) (alter_standing self.new) }
     {
         self.failed = true;
         // These calls tell the proof that both are times.

@@ -1,4 +1,4 @@
-// Changes of lives that are known at their starts.
+// Changes of lifetimes that are known at their starts.
 ghost use Rattle.std.specs.Prelude.{◌≡◌, ◌<◌, ◌≤◌, OnOk, IfOk, length, map, true};
 ghost use Rattle.tw_rows.specs.Instant.{inf, floor_to};
 ghost use Rattle.tw_rows.specs.declared.edge.Edge.{Edge};
@@ -12,14 +12,15 @@ use occupancy::Occupancy;
 use std::alloc::Global;
 use tw_rows::{Memory, Time};
 
-/// A change of lives.
+/// A change of lifetimes, as Trill's `ShiftEventLifetime`, `HoppingWindowLifetime` and `AlterEventDuration` make it. Where a new
+/// lifetime would begin at infinity or be empty, the event is dropped: that is our profile.
 #[derive(Clone, Copy, Debug, PartialEq, Eq)]
 pub enum Change {
-    /// Start and end come later by so much.
+    /// Start and end move to later times by so much.
     Delay { by: u64 },
-    /// The life starts at the greatest multiple of the period that is not above its start, and lasts for the size.
+    /// The lifetime starts at the greatest multiple of the period that is not above its start, and lasts for the size.
     Hop { size: u64, period: u64 },
-    /// The life lasts for so long, whatever its end was.
+    /// The lifetime lasts for so long, whatever its end was.
     Duration { by: u64 },
 }
 
@@ -101,7 +102,7 @@ impl Change {
         }
     }
 
-    /// Changes the edges of the batch in place to those that are answered of them. Want of memory leaves the batch.
+    /// Changes the edges of the batch in place to those that are answered of them. Out of memory, the batch stays as it was.
     pub(crate) fn apply(self, alloc: Global, batch: &mut Batch) -> Result<(), Memory>
         ensures edges { OnOk result (edges_of batch.new.rows ≡ answered (node_of self) (edges_of batch.old.rows)) }
         ensures kinds { batch.new.kinds ≡ batch.old.kinds }

@@ -7,9 +7,8 @@ ghost use Rattle.tw_rows.specs.declared.edge.Edge.{Edge};
 ghost use Rattle.tw_rows.specs.declared.kind.CellKind.{CellKind};
 ghost use Rattle.edge_history.specs.Order.{failing, is_end, is_below, is_from, IsReal, KeepsOrder};
 ghost use Rattle.edge_stream.specs.Listing.{cells_of};
-ghost use Rattle.operator.specs.Steps.{MayCome, ComeBetween};
-ghost use Rattle.life_laws.specs.Extending.{extended_starts, extended_ends, KeepsExtended};
-ghost use Rattle.lifetime_ops.specs.Waiting.{edges_of_pending, IsWaitingEnd};
+ghost use Rattle.life_laws.specs.Extending.{extended_starts, extended_ends};
+ghost use Rattle.lifetime_ops.specs.Waiting.{edges_of_pending, TakesIn, IsWaitingEnd};
 
 use batch::Pools;
 use carried_edges::take_below;
@@ -18,8 +17,8 @@ use end_queue::EndQueue;
 use std::alloc::Global;
 use tw_rows::{Edge, Kind, Memory, Time};
 
-/// The operator of an Extend. A start or an interval edge is answered at once, its known end moved; an end waits until the
-/// time to which it moves. Edges that came too early are carried.
+/// The operator of an Extend: Trill's `ExtendLifetime`. A start or an interval edge is answered at once, its known end moved; an
+/// end is pending until the time to which it moves. Edges that are not below the time up to which the side is closed are carried.
 #[derive(Drop)]
 pub struct ExtendLifetime {
     pub(crate) alloc: Global,
@@ -45,8 +44,9 @@ fn is_instant(time: Time) -> bool
 fn put_end(ends: &mut EndQueue, by: u64, edge: Edge) -> Result<(), Memory>
     requires end { is_end edge ≡ true }
     requires real { IsReal edge }
-    ensures ends { OnOk result ((w : Edge → ℕ) → total w (edges_of_pending ends.new) ≡ total w (edges_of_pending ends.old) + total w (extended_ends by (edge ∷ []))) }
-    ensures waiting { (kinds : List CellKind) → map datum_kind edge.cells ≡ kinds → All (IsWaitingEnd kinds) ends.old → All (IsWaitingEnd kinds) ends.new }
+    ensures ends { OnOk result (TakesIn ends.old ends.new (extended_ends by (edge ∷ []))) }
+    ensures waiting { (kinds : List CellKind) → map datum_kind edge.cells ≡ kinds →
+        All (IsWaitingEnd kinds) ends.old → All (IsWaitingEnd kinds) ends.new }
 {
     let at = edge.sync.plus(by);
     if !is_instant(at) {
@@ -74,7 +74,7 @@ fn part_due(
     requires capacity { pools.old.capacity ≡ starts.old.capacity }
     requires waiting { All (IsWaitingEnd (cells_of due.now)) ends.old }
     ensures starts { OnOk result (starts.new.edges ≡ extended_starts by due.now.edges) }
-    ensures ends { OnOk result ((w : Edge → ℕ) → total w (edges_of_pending ends.new) ≡ total w (edges_of_pending ends.old) + total w (extended_ends by due.now.edges)) }
+    ensures ends { OnOk result (TakesIn ends.old ends.new (extended_ends by due.now.edges)) }
     ensures waiting { All (IsWaitingEnd (cells_of due.now)) ends.new }
     ensures starts_kinds { cells_of starts.new ≡ cells_of starts.old }
     ensures starts_capacity { starts.new.capacity ≡ starts.old.capacity }
@@ -126,6 +126,10 @@ fn take_due(
 }
 
 impl ExtendLifetime {
+    ghost use Rattle.operator.specs.Standing.{IsLike};
+    ghost use Rattle.operator.specs.Steps.{StaysKept, AnswersBetween};
+    ghost use Rattle.lifetime_ops.specs.ExtendOperating.{standing as extend_standing, IsKept};
+
     /// The operator of a node that moves ends by so much, of rows with columns of these kinds, in batches of that capacity.
     pub fn new(
         alloc: Global,
@@ -161,17 +165,17 @@ impl ExtendLifetime {
         left_to: Time,
         right_to: Time,
     ) -> Result<EdgeList, Memory>
+        requires works { self.old.failed ≡ false }
         requires left_rises { self.old.left_to ≤ left_to }
         requires right_rises { self.old.right_to ≤ right_to }
         requires left_kinds { cells_of left ≡ cells_of self.old.carried }
         requires left_capacity { left.capacity ≡ self.old.carried.capacity }
         requires right_capacity { right.capacity ≡ self.old.carried.capacity }
         requires capacity { pools.old.capacity ≡ self.old.carried.capacity }
-        ensures kept { IfOk result (λ answer. (texts : List (List ℕ)) (hl hr out : List Edge) →
-            KeepsExtended self.old.by texts self.old.left_to self.old.right_to self.old.carried.edges (edges_of_pending self.old.ends) hl hr out →
-            MayCome texts self.old.left_to hl left.edges → MayCome texts self.old.right_to hr right.edges →
-            KeepsExtended self.old.by texts left_to right_to self.new.carried.edges (edges_of_pending self.new.ends) (hl ++ left.edges) (hr ++ right.edges) (out ++ answer.edges)
-            × ComeBetween self.old.left_to left_to answer.edges) }
+        ensures kept { IfOk result (λ answer.
+            StaysKept (extend_standing self.old) (IsKept self.old) (IsKept self.new) left.edges right.edges answer.edges) }
+        ensures between { IfOk result (λ answer.
+            AnswersBetween (extend_standing self.old) left.edges right.edges left_to right_to answer.edges) }
         ensures kinds { IfOk result (λ answer. cells_of answer ≡ cells_of self.old.carried) }
         ensures capacity { IfOk result (λ answer. answer.capacity ≡ self.old.carried.capacity) }
         ensures pools { pools.new.capacity ≡ pools.old.capacity }
@@ -179,9 +183,7 @@ impl ExtendLifetime {
         ensures left_to { OnOk result (self.new.left_to ≡ left_to) }
         ensures right_to { OnOk result (self.new.right_to ≡ right_to) }
         ensures failed { self.new.failed ≡ is_err result }
-        ensures by { self.new.by ≡ self.old.by }
-        ensures own_kinds { cells_of self.new.carried ≡ cells_of self.old.carried }
-        ensures own_capacity { self.new.carried.capacity ≡ self.old.carried.capacity }
+        ensures like { IsLike (extend_standing self.old) (extend_standing self.new) }
     {
         self.failed = true;
         // These calls tell the proof that both are times.

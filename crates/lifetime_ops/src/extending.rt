@@ -1,5 +1,5 @@
 // The operator of an Extend, in its form for every node.
-ghost use Rattle.std.specs.Prelude.{◌≡◌, ◌≤◌, ℕ, true, List, map, All, IfOk, IfErr, OnOk};
+ghost use Rattle.std.specs.Prelude.{◌≡◌, ◌≤◌, ◌↔◌, ℕ, true, List, IsTrue, map, All, IfOk, OnOk};
 ghost use Rattle.std.specs.List.{list_all};
 ghost use Rattle.tw_rows.specs.Bag.{SameBag};
 ghost use Rattle.tw_rows.specs.Kinds.{cell_kind_of};
@@ -7,6 +7,7 @@ ghost use Rattle.tw_rows.specs.declared.kind.CellKind.{CellKind};
 ghost use Rattle.edge_history.specs.Order.{is_end};
 ghost use Rattle.edge_stream.specs.Listing.{cells_of};
 ghost use Rattle.carried_edges.specs.Entries.{part_of, IsEdgePart};
+ghost use Rattle.lifetime_ops.specs.ExtendSaving.{is_end_in};
 ghost use Rattle.lifetime_ops.specs.Waiting.{edges_of_pending, IsWaitingEnd};
 
 use crate::extend::ExtendLifetime;
@@ -18,12 +19,13 @@ use operator::Operator;
 use std::alloc::Global;
 use tw_rows::{Edge, Kind, Memory, Time};
 
-// Whether all edges are ends.
-fn are_ends(edges: &[Edge]) -> bool
-    ensures { result ≡ list_all is_end edges.now }
+// Whether the entries of that part are ends.
+fn are_ends_of_part(saved: &Saved, part: u64) -> bool
+    ensures { result ≡ list_all (is_end_in part) saved.now }
 {
-    for edge in edges {
-        if !edge.is_end() {
+    let entries = saved.entries();
+    for entry in entries {
+        if entry.part == part && entry.other >= entry.sync {
             return false;
         }
     }
@@ -34,7 +36,8 @@ fn are_ends(edges: &[Edge]) -> bool
 fn queue_of(alloc: Global, edges: &[Edge]) -> Result<EndQueue, Memory>
     requires ends { list_all is_end edges.now ≡ true }
     ensures edges { IfOk result (λ ends. SameBag edges.now (edges_of_pending ends)) }
-    ensures waiting { IfOk result (λ ends. (kinds : List CellKind) (from : ℕ) → IsEdgePart kinds from edges.now → All (IsWaitingEnd kinds) ends × All (λ p. from ≤ p.at) ends) }
+    ensures waiting { IfOk result (λ ends. (kinds : List CellKind) (from : ℕ) → IsEdgePart kinds from edges.now →
+        All (IsWaitingEnd kinds) ends × All (λ p. from ≤ p.at) ends) }
 {
     let mut ends = EndQueue::new(alloc);
     for edge in edges {
@@ -43,69 +46,61 @@ fn queue_of(alloc: Global, edges: &[Edge]) -> Result<EndQueue, Memory>
     Ok(ends)
 }
 
-// The ends of part 1, which may not come before the time, as a queue.
-fn load_ends(
-    alloc: Global,
-    saved: &Saved,
-    kinds: &[Kind],
-    from: Time,
-) -> Result<EndQueue, LoadFault>
-    ensures edges { IfOk result (λ ends. SameBag (part_of 1 saved.now) (edges_of_pending ends)) }
-    ensures waiting { IfOk result (λ ends. All (IsWaitingEnd (map cell_kind_of kinds.now)) ends × All (λ p. from ≤ p.at) ends) }
-    ensures sound { OnOk result (IsEdgePart (map cell_kind_of kinds.now) from (part_of 1 saved.now) × (list_all is_end (part_of 1 saved.now) ≡ true)) }
-    ensures refused { IfErr result (λ fault. fault ≡ LoadFault.NotState → IsEdgePart (map cell_kind_of kinds.now) from (part_of 1 saved.now) → list_all is_end (part_of 1 saved.now) ≡ true → ⊥) }
-{
-    let edges = edges_of_part(alloc, saved, 1)?;
-    if !is_edge_part(&edges, kinds, from) {
-        return Err(LoadFault::NotState);
+impl ExtendLifetime {
+    ghost use Rattle.std.specs.Prelude.{◌↔◌, IsTrue, Err, IfErr};
+    ghost use Rattle.edge_stream.specs.Listing.{SameShape};
+    ghost use Rattle.lifetime_ops.specs.ExtendOperating.{IsState};
+
+    // Whether the entries are a state where the left side is closed up to the time. It takes no memory.
+    fn is_state(&self, saved: &Saved, left_to: Time) -> bool
+        ensures { IsTrue result ↔ IsState self.now saved.now left_to left_to }
+    {
+        let kinds = self.carried.kinds();
+        are_of_parts(saved, 2)
+            && is_edge_part(saved, 0, kinds, left_to)
+            && is_edge_part(saved, 1, kinds, left_to)
+            && are_ends_of_part(saved, 1)
     }
-    if !are_ends(&edges) {
-        return Err(LoadFault::NotState);
+
+    // The edges that are carried and the ends that are pending. What is no state is told as such, whatever memory there is.
+    fn parts_of(&self, saved: &Saved, left_to: Time) -> Result<(EdgeList, EndQueue), LoadFault>
+        ensures carried { IfOk result (λ parts. parts.0.edges ≡ part_of 0 saved.now) }
+        ensures shape { IfOk result (λ parts. SameShape self.now.carried parts.0) }
+        ensures ends { IfOk result (λ parts. SameBag (part_of 1 saved.now) (edges_of_pending parts.1)) }
+        ensures waiting { IfOk result (λ parts.
+            All (IsWaitingEnd (cells_of self.now.carried)) parts.1 × All (λ p. left_to ≤ p.at) parts.1) }
+        ensures sound { OnOk result (IsState self.now saved.now left_to left_to) }
+        ensures refused { IfErr result (λ fault. fault ≡ LoadFault.NotState →
+            IsState self.now saved.now left_to left_to → ⊥) }
+        ensures told { (IsState self.now saved.now left_to left_to → ⊥) → result ≡ Err LoadFault.NotState }
+    {
+        if !self.is_state(saved, left_to) {
+            return Err(LoadFault::NotState);
+        }
+        let carried = load_part(self.alloc, saved, 0, &self.carried)?;
+        let edges = edges_of_part(self.alloc, saved, 1)?;
+        let ends = queue_of(self.alloc, &edges)?;
+        Ok((carried, ends))
     }
-    let ends = queue_of(alloc, &edges)?;
-    Ok(ends)
 }
 
 impl Operator for ExtendLifetime {
-    ghost use Rattle.std.specs.Prelude.{[], ◌+◌, nat_eq, nat_lt, cond, Some, None, length};
-    ghost use Rattle.edge_stream.specs.declared.saved.PartRow.TheVariants.{Left};
-    ghost use Rattle.edge_history.specs.History.{of};
-    ghost use Rattle.plan_model.specs.declared.node.Node.TheVariants.{Extend};
-    ghost use Rattle.plan_model.specs.Nodes.{node_in};
-    ghost use Rattle.plan_laws.specs.Held.{may_hold};
-    ghost use Rattle.node_laws.specs.Keeping.{plain_cells};
-    ghost use Rattle.life_laws.specs.Extending.{KeepsExtended};
-    ghost use Rattle.lifetime_ops.specs.ExtendSaving.{IsOpening, ExtendSound, ExtendResumes};
+    ghost use Rattle.lifetime_ops.specs.ExtendOperating.{standing as extend_standing, entries as extend_entries, IsKept, IsState, IsResumed};
+    ghost use Rattle.lifetime_ops.specs.ExtendSaving.{IsOpening, row_of};
 
-    ghost keeps = { λ s texts hl hr out. KeepsExtended s.by texts s.left_to s.right_to s.carried.edges (edges_of_pending s.ends) hl hr out };
+    ghost keeps = { IsKept };
 
     ghost is_opening = { λ s. IsOpening s.carried.edges s.ends s.left_to s.right_to s.failed };
 
-    ghost node = { λ s. Extend 0 s.by };
+    ghost standing = { extend_standing };
 
-    ghost left_closed = { λ s. s.left_to };
+    ghost sound = { IsState };
 
-    ghost right_closed = { λ s. s.right_to };
+    ghost resumes = { IsResumed };
 
-    ghost left_kinds = { λ s. cells_of s.carried };
+    ghost entries = { extend_entries };
 
-    ghost right_kinds = { λ s. [] };
-
-    ghost own_kinds = { λ s. cells_of s.carried };
-
-    ghost batch_rows = { λ s. s.carried.capacity };
-
-    ghost has_failed = { λ s. s.failed };
-
-    ghost sound = { λ s saved x y. ExtendSound (cells_of s.carried) x saved };
-
-    ghost resumes = { λ s saved x y texts hl hr out. ExtendResumes s.by (cells_of s.carried) texts x y saved hl hr out };
-
-    ghost entries = { λ s. length s.carried.edges + length s.ends };
-
-    ghost most = { λ s hl hr out. may_hold (Extend 0 s.by) s.left_to s.left_to (of hl) (of hr) (node_in plain_cells (Extend 0 s.by) (of hl) (of hr)) };
-
-    ghost row_of_part = { λ part. cond (nat_lt part 2) (Some Left) None };
+    ghost row_of_part = { row_of };
 
     fn step(
         &mut self,
@@ -138,11 +133,7 @@ impl Operator for ExtendLifetime {
     }
 
     fn load(&mut self, saved: &Saved, left_to: Time, right_to: Time) -> Result<(), LoadFault> {
-        if !are_of_parts(saved, 2) {
-            return Err(LoadFault::NotState);
-        }
-        let carried = load_part(self.alloc, saved, 0, &self.carried, left_to)?;
-        let ends = load_ends(self.alloc, saved, self.carried.kinds(), left_to)?;
+        let (carried, ends) = self.parts_of(saved, left_to)?;
         self.carried = carried;
         self.ends = ends;
         self.left_to = left_to;

@@ -4,52 +4,59 @@ ghost use Rattle.edge_stream.specs.Listing.{cells_of};
 
 use crate::alter_lifetime::AlterLifetime;
 use batch::Pools;
-use carried_edges::{are_of_parts, load_part, save_part};
+use carried_edges::{are_of_parts, is_edge_part, load_part, save_part};
 use edge_stream::{EdgeList, LoadFault, PartRow, Saved, StepFault};
 use operator::Operator;
 use tw_rows::{Memory, Time};
 
-impl Operator for AlterLifetime {
-    ghost use Rattle.std.specs.Prelude.{[], nat_eq, cond, Some, None, length};
-    ghost use Rattle.edge_stream.specs.declared.saved.PartRow.TheVariants.{Left};
-    ghost use Rattle.edge_history.specs.History.{of};
-    ghost use Rattle.plan_model.specs.Meaning.{node_closes};
-    ghost use Rattle.plan_model.specs.Nodes.{node_in};
-    ghost use Rattle.plan_laws.specs.Held.{may_hold};
-    ghost use Rattle.node_laws.specs.Keeping.{plain_cells};
-    ghost use Rattle.life_laws.specs.Keeping.{KeepsLives};
-    ghost use Rattle.lifetime_ops.specs.Nodes.{node_of};
-    ghost use Rattle.lifetime_ops.specs.Saving.{IsOpening, LifeSound, LifeResumes};
+impl AlterLifetime {
+    ghost use Rattle.std.specs.Prelude.{◌↔◌, IsTrue, Err, IfOk, IfErr, OnOk};
+    ghost use Rattle.carried_edges.specs.Entries.{part_of};
+    ghost use Rattle.edge_stream.specs.Listing.{SameShape};
+    ghost use Rattle.lifetime_ops.specs.Operating.{IsState};
 
-    ghost keeps = { λ s texts hl hr out. KeepsLives (node_of s.change) texts s.left_to s.right_to s.carried.edges hl hr out };
+    // Whether the entries are a state where the left side is closed up to the time. It takes no memory.
+    fn is_state(&self, saved: &Saved, left_to: Time) -> bool
+        ensures { IsTrue result ↔ IsState self.now saved.now left_to left_to }
+    {
+        let from = self.change.answered_below(left_to);
+        are_of_parts(saved, 1) && is_edge_part(saved, 0, self.carried.kinds(), from)
+    }
+
+    // The edges that the entries are. What is no state is told as such, whatever memory there is.
+    fn carried_of(&self, saved: &Saved, left_to: Time) -> Result<EdgeList, LoadFault>
+        ensures edges { IfOk result (λ list. list.edges ≡ part_of 0 saved.now) }
+        ensures shape { IfOk result (λ list. SameShape self.now.carried list) }
+        ensures sound { OnOk result (IsState self.now saved.now left_to left_to) }
+        ensures refused { IfErr result (λ fault. fault ≡ LoadFault.NotState →
+            IsState self.now saved.now left_to left_to → ⊥) }
+        ensures told { (IsState self.now saved.now left_to left_to → ⊥) → result ≡ Err LoadFault.NotState }
+    {
+        if !self.is_state(saved, left_to) {
+            return Err(LoadFault::NotState);
+        }
+        let carried = load_part(self.alloc, saved, 0, &self.carried)?;
+        Ok(carried)
+    }
+}
+
+impl Operator for AlterLifetime {
+    ghost use Rattle.lifetime_ops.specs.Operating.{standing as alter_standing, entries as alter_entries, IsKept, IsState, IsResumed};
+    ghost use Rattle.lifetime_ops.specs.Saving.{IsOpening, row_of};
+
+    ghost keeps = { IsKept };
 
     ghost is_opening = { λ s. IsOpening s.carried.edges s.left_to s.right_to s.failed };
 
-    ghost node = { λ s. node_of s.change };
+    ghost standing = { alter_standing };
 
-    ghost left_closed = { λ s. s.left_to };
+    ghost sound = { IsState };
 
-    ghost right_closed = { λ s. s.right_to };
+    ghost resumes = { IsResumed };
 
-    ghost left_kinds = { λ s. cells_of s.carried };
+    ghost entries = { alter_entries };
 
-    ghost right_kinds = { λ s. [] };
-
-    ghost own_kinds = { λ s. cells_of s.carried };
-
-    ghost batch_rows = { λ s. s.carried.capacity };
-
-    ghost has_failed = { λ s. s.failed };
-
-    ghost sound = { λ s saved x y. LifeSound (node_of s.change) (cells_of s.carried) x saved };
-
-    ghost resumes = { λ s saved x y texts hl hr out. LifeResumes (node_of s.change) (cells_of s.carried) texts x y saved hl hr out };
-
-    ghost entries = { λ s. length s.carried.edges };
-
-    ghost most = { λ s hl hr out. may_hold (node_of s.change) s.left_to (node_closes (node_of s.change) s.left_to s.right_to) (of hl) (of hr) (node_in plain_cells (node_of s.change) (of hl) (of hr)) };
-
-    ghost row_of_part = { λ part. cond (nat_eq part 0) (Some Left) None };
+    ghost row_of_part = { row_of };
 
     fn step(
         &mut self,
@@ -78,11 +85,7 @@ impl Operator for AlterLifetime {
     }
 
     fn load(&mut self, saved: &Saved, left_to: Time, right_to: Time) -> Result<(), LoadFault> {
-        if !are_of_parts(saved, 1) {
-            return Err(LoadFault::NotState);
-        }
-        let from = self.change.answered_below(left_to);
-        self.carried = load_part(self.alloc, saved, 0, &self.carried, from)?;
+        self.carried = self.carried_of(saved, left_to)?;
         self.left_to = left_to;
         self.right_to = right_to;
         Ok(())

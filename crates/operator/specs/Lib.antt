@@ -1,2 +1,3 @@
 -- Callers read all of these.
+pub mod Standing
 pub mod Steps

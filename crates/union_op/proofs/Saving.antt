@@ -1,5 +1,5 @@
 -- What is saved of edges that are carried on two sides.
-use Rattle.std.specs.Prelude.{◌≡◌, ℕ, ◌+◌, ◌≤◌, min, true, List, [], ◌++◌, length, map, All, refl}
+use Rattle.std.specs.Prelude.{◌≡◌, ℕ, zero, suc, ◌+◌, ◌<◌, ◌≤◌, min, List, [], ◌++◌, length, map, All, refl}
 use Rattle.std.proofs.Common.{sym, ◌∙◌, ap, arith, subst}
 use Rattle.tw_rows.specs.Cells.{datum_kind}
 use Rattle.tw_rows.specs.declared.edge.Edge.{Edge}
@@ -9,8 +9,12 @@ use Rattle.edge_stream.specs.declared.saved.SavedEntry.{SavedEntry}
 use Rattle.life_laws.specs.Uniting.{KeepsUnion}
 use Rattle.std.proofs.lemmas.List.{append-nil}
 use Rattle.carried_edges.specs.Entries.{entries_of, part_of, are_of_parts, IsEdgePart}
-use Rattle.carried_edges.proofs.Parts.{part_of_own, part_of_other, part_of_append, saved_length, parts_own, parts_append}
-use Rattle.union_op.specs.Saving.{UnionSound, UnionResumes}
+use Rattle.edge_stream.specs.Listing.{cells_of}
+use Rattle.operator.specs.Standing.{IsStoredAs, AreStoredAs}
+use Rattle.carried_edges.proofs.Parts.{part_of_own, part_of_other, part_of_append, saved_length, parts_own, parts_append, parts_pass}
+use Rattle.union_op.specs.Operating.{standing}
+use Rattle.union_op.specs.Saving.{UnionSound, UnionResumes, row_of}
+use Rattle.union_op.specs.declared.union.Union.{Union}
 
 module _ (left right : List Edge) (first entries : List SavedEntry) (one : first ≡ [] ++ entries_of 0 left) (two : entries ≡ first ++ entries_of 1 right) where
   all : entries ≡ entries_of 0 left ++ entries_of 1 right
@@ -42,3 +46,12 @@ module _ (left right : List Edge) (first entries : List SavedEntry) (one : first
       UnionResumes kinds kinds texts x y entries hl hr out
   union_resumed kinds texts x y hl hr out sound keeps =
       record { sound = sound; keeps = subst (λ l. KeepsUnion texts x y l (part_of 1 entries) hl hr out) (sym left_part) (subst (λ r. KeepsUnion texts x y left r hl hr out) (sym right_part) keeps) }
+
+-- the cells of each entry are stored as those of its side
+pub union_stored : (o : Union) (entries : List SavedEntry) (x y : ℕ) → UnionSound (cells_of o.left) (cells_of o.left) x y entries → AreStoredAs row_of (standing o) entries
+union_stored o entries x y sound = parts_pass (λ p cells. IsStoredAs (standing o) (row_of p) cells) 2 entries sound.parts pick
+  where
+    pick : (p : ℕ) → p < 2 → All (λ e. IsStoredAs (standing o) (row_of p) e.cells) (part_of p entries)
+    pick zero h = sound.left.cells
+    pick (suc zero) h = sound.right.cells
+    pick (suc (suc p)) h = absurd (omega (arith, h))

@@ -1,2 +1,3 @@
 -- Callers read all of these.
 pub mod Saving
+pub mod Operating

@@ -1,7 +1,9 @@
 -- What the operator of a Union saves.
-use Rattle.std.specs.Prelude.{◌≡◌, ℕ, min, Bool, true, false, List, []}
+use Rattle.std.specs.Prelude.{◌≡◌, ℕ, nat_eq, min, Bool, true, false, cond, Option, Some, None, List, []}
 use Rattle.tw_rows.specs.declared.edge.Edge.{Edge}
 use Rattle.tw_rows.specs.declared.kind.CellKind.{CellKind}
+use Rattle.edge_stream.specs.declared.saved.PartRow.{PartRow}
+use Rattle.edge_stream.specs.declared.saved.PartRow.TheVariants.{Left, Right}
 use Rattle.edge_stream.specs.declared.saved.SavedEntry.{SavedEntry}
 use Rattle.carried_edges.specs.Entries.{part_of, are_of_parts, IsEdgePart}
 use Rattle.life_laws.specs.Uniting.{KeepsUnion}
@@ -13,6 +15,10 @@ pub record IsOpening (left_carried right_carried : List Edge) (x y : ℕ) (faile
   pub left : x ≡ 0
   pub right : y ≡ 0
   pub works : failed ≡ false
+
+-- whose row the cells of a part are: those of part 0 are of a left row, those of part 1 of a right one
+abbrev pub row_of : ℕ → Option PartRow
+row_of part = cond (nat_eq part 0) (Some Left) (cond (nat_eq part 1) (Some Right) None)
 
 -- the entries are of the parts 0, a row of the left child each, and 1, a row of the right child each: edges of these sides, none
 -- before the lesser of the times up to which the sides are closed

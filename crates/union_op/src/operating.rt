@@ -2,53 +2,72 @@
 ghost use Rattle.std.specs.Prelude.{◌≡◌};
 ghost use Rattle.edge_stream.specs.Listing.{cells_of};
 
-use crate::union::{Union, lesser};
+use crate::union::Union;
 use batch::Pools;
-use carried_edges::{are_of_parts, load_part, save_part};
+use carried_edges::{are_of_parts, is_edge_part, load_part, save_part};
 use edge_stream::{EdgeList, LoadFault, PartRow, Saved, StepFault};
 use operator::Operator;
 use tw_rows::{Memory, Time};
 
-impl Operator for Union {
-    ghost use Rattle.std.specs.Prelude.{◌+◌, nat_eq, min, cond, Some, None, length};
-    ghost use Rattle.edge_stream.specs.declared.saved.PartRow.TheVariants.{Left, Right};
-    ghost use Rattle.edge_history.specs.History.{of};
-    ghost use Rattle.plan_model.specs.declared.node.Node.TheVariants.{Union as UnionNode};
-    ghost use Rattle.plan_model.specs.Nodes.{node_in};
-    ghost use Rattle.plan_laws.specs.Held.{may_hold};
-    ghost use Rattle.node_laws.specs.Keeping.{plain_cells};
-    ghost use Rattle.life_laws.specs.Uniting.{KeepsUnion};
-    ghost use Rattle.union_op.specs.Saving.{IsOpening, UnionSound, UnionResumes};
+impl Union {
+    ghost use Rattle.std.specs.Prelude.{◌↔◌, IsTrue, Err, IfOk, IfErr, OnOk};
+    ghost use Rattle.carried_edges.specs.Entries.{part_of};
+    ghost use Rattle.edge_stream.specs.Listing.{SameShape};
+    ghost use Rattle.union_op.specs.Operating.{IsState};
 
-    ghost keeps = { λ s texts hl hr out. KeepsUnion texts s.left_to s.right_to s.left.edges s.right.edges hl hr out };
+    // Whether the entries are a state where the sides are closed up to these times. It takes no memory.
+    fn is_state(&self, saved: &Saved, left_to: Time, right_to: Time) -> bool
+        ensures { IsTrue result ↔ IsState self.now saved.now left_to right_to }
+    {
+        let to = left_to.min(right_to);
+        let kinds = self.left.kinds();
+        are_of_parts(saved, 2)
+            && is_edge_part(saved, 0, kinds, to)
+            && is_edge_part(saved, 1, kinds, to)
+    }
+
+    // The edges of both sides that the entries are. What is no state is told as such, whatever memory there is.
+    fn sides_of(
+        &self,
+        saved: &Saved,
+        left_to: Time,
+        right_to: Time,
+    ) -> Result<(EdgeList, EdgeList), LoadFault>
+        ensures left { IfOk result (λ sides. sides.0.edges ≡ part_of 0 saved.now) }
+        ensures right { IfOk result (λ sides. sides.1.edges ≡ part_of 1 saved.now) }
+        ensures left_shape { IfOk result (λ sides. SameShape self.now.left sides.0) }
+        ensures right_shape { IfOk result (λ sides. SameShape self.now.right sides.1) }
+        ensures sound { OnOk result (IsState self.now saved.now left_to right_to) }
+        ensures refused { IfErr result (λ fault. fault ≡ LoadFault.NotState →
+            IsState self.now saved.now left_to right_to → ⊥) }
+        ensures told { (IsState self.now saved.now left_to right_to → ⊥) → result ≡ Err LoadFault.NotState }
+    {
+        if !self.is_state(saved, left_to, right_to) {
+            return Err(LoadFault::NotState);
+        }
+        let left = load_part(self.alloc, saved, 0, &self.left)?;
+        let right = load_part(self.alloc, saved, 1, &self.right)?;
+        Ok((left, right))
+    }
+}
+
+impl Operator for Union {
+    ghost use Rattle.union_op.specs.Operating.{standing as union_standing, entries as union_entries, IsKept, IsState, IsResumed};
+    ghost use Rattle.union_op.specs.Saving.{IsOpening, row_of};
+
+    ghost keeps = { IsKept };
 
     ghost is_opening = { λ s. IsOpening s.left.edges s.right.edges s.left_to s.right_to s.failed };
 
-    ghost node = { λ s. UnionNode 0 1 };
+    ghost standing = { union_standing };
 
-    ghost left_closed = { λ s. s.left_to };
+    ghost sound = { IsState };
 
-    ghost right_closed = { λ s. s.right_to };
+    ghost resumes = { IsResumed };
 
-    ghost left_kinds = { λ s. cells_of s.left };
+    ghost entries = { union_entries };
 
-    ghost right_kinds = { λ s. cells_of s.left };
-
-    ghost own_kinds = { λ s. cells_of s.left };
-
-    ghost batch_rows = { λ s. s.left.capacity };
-
-    ghost has_failed = { λ s. s.failed };
-
-    ghost sound = { λ s saved x y. UnionSound (cells_of s.left) (cells_of s.left) x y saved };
-
-    ghost resumes = { λ s saved x y texts hl hr out. UnionResumes (cells_of s.left) (cells_of s.left) texts x y saved hl hr out };
-
-    ghost entries = { λ s. length s.left.edges + length s.right.edges };
-
-    ghost most = { λ s hl hr out. may_hold (UnionNode 0 1) s.left_to (min s.left_to s.right_to) (of hl) (of hr) (node_in plain_cells (UnionNode 0 1) (of hl) (of hr)) };
-
-    ghost row_of_part = { λ part. cond (nat_eq part 0) (Some Left) (cond (nat_eq part 1) (Some Right) None) };
+    ghost row_of_part = { row_of };
 
     fn step(
         &mut self,
@@ -78,12 +97,7 @@ impl Operator for Union {
     }
 
     fn load(&mut self, saved: &Saved, left_to: Time, right_to: Time) -> Result<(), LoadFault> {
-        if !are_of_parts(saved, 2) {
-            return Err(LoadFault::NotState);
-        }
-        let to = lesser(left_to, right_to);
-        let left = load_part(self.alloc, saved, 0, &self.left, to)?;
-        let right = load_part(self.alloc, saved, 1, &self.right, to)?;
+        let (left, right) = self.sides_of(saved, left_to, right_to)?;
         self.left = left;
         self.right = right;
         self.left_to = left_to;

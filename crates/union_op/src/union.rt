@@ -1,10 +1,7 @@
 // The operator of a Union.
-ghost use Rattle.std.specs.Prelude.{◌≡◌, ◌≤◌, ℕ, min, false, is_err, List, [], ◌++◌, length, IfOk, OnOk};
-ghost use Rattle.tw_rows.specs.declared.edge.Edge.{Edge};
+ghost use Rattle.std.specs.Prelude.{◌≡◌, ◌≤◌, min, false, is_err, [], length, IfOk, OnOk};
 ghost use Rattle.edge_history.specs.Order.{failing, is_from};
 ghost use Rattle.edge_stream.specs.Listing.{cells_of};
-ghost use Rattle.operator.specs.Steps.{MayCome, ComeBetween};
-ghost use Rattle.life_laws.specs.Uniting.{KeepsUnion};
 
 use batch::Pools;
 use carried_edges::take_below;
@@ -12,8 +9,8 @@ use edge_stream::EdgeList;
 use std::alloc::Global;
 use tw_rows::{Kind, Memory, Time};
 
-/// The operator of a Union. Where one side is closed up to a later time than the other, the edges that are not below the
-/// lesser time are carried, each side by itself.
+/// The operator of a Union, Trill's: the edges of both sides in one order, equal ones as often as they come. Where one side is
+/// closed up to a later time than the other, the edges that are not below the lesser time are carried, each side by itself.
 #[derive(Drop)]
 pub struct Union {
     pub(crate) alloc: Global,
@@ -28,14 +25,11 @@ pub struct Union {
     ghost capacity: { right.capacity ≡ left.capacity },
 }
 
-// The lesser of two times.
-pub(crate) fn lesser(a: Time, b: Time) -> Time
-    ensures { result ≡ min a b }
-{
-    if a < b { a } else { b }
-}
-
 impl Union {
+    ghost use Rattle.operator.specs.Standing.{IsLike};
+    ghost use Rattle.operator.specs.Steps.{StaysKept, AnswersBetween};
+    ghost use Rattle.union_op.specs.Operating.{standing as union_standing, IsKept};
+
     /// The operator of a Union of rows with columns of these kinds, in batches of that capacity.
     pub fn new(alloc: Global, kinds: &[Kind], capacity: usize) -> Result<Union, Memory>
         requires width { length kinds.now ≤ 32 }
@@ -64,6 +58,7 @@ impl Union {
         left_to: Time,
         right_to: Time,
     ) -> Result<EdgeList, Memory>
+        requires works { self.old.failed ≡ false }
         requires left_rises { self.old.left_to ≤ left_to }
         requires right_rises { self.old.right_to ≤ right_to }
         requires left_kinds { cells_of left ≡ cells_of self.old.left }
@@ -71,11 +66,10 @@ impl Union {
         requires left_capacity { left.capacity ≡ self.old.left.capacity }
         requires right_capacity { right.capacity ≡ self.old.left.capacity }
         requires capacity { pools.old.capacity ≡ self.old.left.capacity }
-        ensures kept { IfOk result (λ answer. (texts : List (List ℕ)) (hl hr out : List Edge) →
-            KeepsUnion texts self.old.left_to self.old.right_to self.old.left.edges self.old.right.edges hl hr out →
-            MayCome texts self.old.left_to hl left.edges → MayCome texts self.old.right_to hr right.edges →
-            KeepsUnion texts left_to right_to self.new.left.edges self.new.right.edges (hl ++ left.edges) (hr ++ right.edges) (out ++ answer.edges)
-            × ComeBetween (min self.old.left_to self.old.right_to) (min left_to right_to) answer.edges) }
+        ensures kept { IfOk result (λ answer.
+            StaysKept (union_standing self.old) (IsKept self.old) (IsKept self.new) left.edges right.edges answer.edges) }
+        ensures between { IfOk result (λ answer.
+            AnswersBetween (union_standing self.old) left.edges right.edges left_to right_to answer.edges) }
         ensures kinds { IfOk result (λ answer. cells_of answer ≡ cells_of self.old.left) }
         ensures capacity { IfOk result (λ answer. answer.capacity ≡ self.old.left.capacity) }
         ensures pools { pools.new.capacity ≡ pools.old.capacity }
@@ -83,13 +77,12 @@ impl Union {
         ensures left_to { OnOk result (self.new.left_to ≡ left_to) }
         ensures right_to { OnOk result (self.new.right_to ≡ right_to) }
         ensures failed { self.new.failed ≡ is_err result }
-        ensures own_kinds { cells_of self.new.left ≡ cells_of self.old.left }
-        ensures own_capacity { self.new.left.capacity ≡ self.old.left.capacity }
+        ensures like { IsLike (union_standing self.old) (union_standing self.new) }
     {
         self.failed = true;
         // These calls tell the proof that both are times.
         let _ = (left_to.word(), right_to.word());
-        let to = lesser(left_to, right_to);
+        let to = left_to.min(right_to);
         let left_due = take_below(self.alloc, pools, &mut self.left, left, to)?;
         let right_due = take_below(self.alloc, pools, &mut self.right, right, to)?;
         let answer = EdgeList::merge(pools, left_due, right_due)?;

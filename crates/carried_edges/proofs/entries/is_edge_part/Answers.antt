@@ -1,14 +1,18 @@
-use Rattle.std.proofs.Common.{◌∙◌, sym}
-use Rattle.edge_history.specs.Order.{is_from}
-use Rattle.carried_edges.proofs.Parts.{none_fails, all_pass}
+use Rattle.std.proofs.Common.{map, drop, rules, subst, sym}
+use Rattle.std.specs.Prelude.{◌≡◌, []}
+use Rattle.std.proofs.lemmas.List.{drop_all}
+use Rattle.tw_rows.specs.Kinds.{cell_kind_of}
+use Rattle.carried_edges.specs.Entries.{part_of, MayFollow, IsEdgePart}
+use Rattle.carried_edges.proofs.Carrying.{follow_none, follow_whole}
 use Rattle.carried_edges.proofs.entries.is_edge_part.Goals as goal
 
+pub loop-entry-init : goal.loop-entry-init
+loop-entry-init c = follow_whole (map cell_kind_of c.args.kinds.now) c.args.from (part_of c.args.part c.entries-entries.result.now)
+
 pub returns : goal.returns
-returns c = (
-  λ h. record {
-    order = c.keeps_order.ensures.0 c.if-not-keeps_order.false;
-    cells = c.are_stored_as.ensures.0 c.if-not-are_stored_as.false;
-    late = none_fails (is_from c.args.from) c.args.edges.now (sym c.come_from.ensures ∙ h);
-  },
-  λ p. c.come_from.ensures ∙ all_pass (is_from c.args.from) c.args.edges.now p.late,
-)
+returns c =
+    let kinds = map cell_kind_of c.args.kinds.now in
+    let none : drop c.loop-entry.entry-index c.entries-entries.result.now ≡ [] = drop_all c.loop-entry.entry-index c.entries-entries.result.now c.loop-entry-test.false in
+    let whole = c.loop-entry.invariant.0 (subst (λ l. MayFollow kinds c.args.from c.loop-entry.least (part_of c.args.part l)) (sym none) (follow_none kinds c.args.from c.loop-entry.least)) in
+    let all = subst (λ l. IsEdgePart kinds c.args.from (part_of c.args.part l)) c.entries-entries.ensures whole in
+    ((λ t. all), (λ p. search rules))

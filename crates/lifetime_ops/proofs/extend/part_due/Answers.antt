@@ -1,4 +1,4 @@
-use Rattle.std.proofs.Common.{◌≡◌, ◌+◌, ◌++◌, ◌∙◌, map, ap, sym, subst}
+use Rattle.std.proofs.Common.{◌≡◌, ◌+◌, ◌++◌, ◌∙◌, map, ap, subst}
 use Rattle.std.specs.Prelude.{IfSome}
 use Rattle.tw_rows.specs.Bag.{total}
 use Rattle.tw_rows.specs.Cells.{datum_kind}

@@ -1,10 +1,10 @@
-use Rattle.std.proofs.Common.{◌≡◌, ◌∙◌, ap, sym}
+use Rattle.std.proofs.Common.{◌∙◌, ap, sym}
 use Rattle.edge_history.specs.Order.{failing, is_from}
 use Rattle.edge_history.proofs.Sums.{failing-kept}
 use Rattle.edge_stream.specs.Listing.{cells_of}
 use Rattle.edge_stream.proofs.Filling.{batches_given-capacity}
 use Rattle.carried_edges.proofs.Pools.{batches_given-limit}
-use Rattle.lifetime_ops.proofs.Answering.{advanced}
+use Rattle.lifetime_ops.proofs.Answering.{advanced, between}
 use Rattle.lifetime_ops.proofs.alter_lifetime.AlterLifetime.advance.Goals as goal
 
 pub take_below-requires-clause-pools : goal.take_below-requires-clause-pools
@@ -20,10 +20,18 @@ invariant_of-self-2 c =
 pub returns-clause-kept : goal.returns-clause-kept
 returns-clause-kept c = λ texts hl hr out k ml mr.
     let cut = c.in_ok-due.ensures.edges in
-    advanced c.args.self.now.change texts c.args.self.now.left_to c.args.self.now.right_to c.args.left_to c.args.right_to c.answered_below-below.result
-    c.args.self.now.carried.edges hl hr out c.args.left.edges c.args.right.edges cut.0 c.take_below.new.carried.edges c.in_ok-due.due.edges c.in_ok-answer.answer.edges
-    c.requires.left_rises c.word.ensures.within c.requires.right_rises c.word-2.ensures.within k ml mr cut.2 cut.1
-    c.answered_below-below.ensures cut.4 cut.3 c.in_ok-answer.ensures.edges
+    let s = c.args.self.now in
+    advanced s.change s.left_to s.right_to c.args.left_to c.args.right_to c.answered_below-below.result
+    s.carried.edges c.args.left.edges cut.0 c.in_ok-due.due.edges c.in_ok-answer.answer.edges c.requires.left_rises c.word.ensures.within c.answered_below-below.ensures cut.1 cut.3 c.in_ok-answer.ensures.edges
+    texts hl hr out c.args.right.edges c.take_below.new.carried.edges c.requires.right_rises c.word-2.ensures.within k ml mr cut.2 cut.4
+
+pub returns-clause-between : goal.returns-clause-between
+returns-clause-between c = λ left right.
+    let cut = c.in_ok-due.ensures.edges in
+    let s = c.args.self.now in
+    between s.change s.left_to s.right_to c.args.left_to c.args.right_to c.answered_below-below.result
+    s.carried.edges c.args.left.edges cut.0 c.in_ok-due.due.edges c.in_ok-answer.answer.edges c.requires.left_rises c.word.ensures.within c.answered_below-below.ensures cut.1 cut.3 c.in_ok-answer.ensures.edges
+    (s.late c.requires.works) left
 
 pub returns-clause-pools : goal.returns-clause-pools
 returns-clause-pools c = c.take_below.ensures.pools ∙ ap (λ s. s.capacity) c.give_back.ensures ∙ batches_given-capacity c.args.right.batches c.args.pools.now (cells_of c.args.right)

@@ -1,13 +1,12 @@
-use Rattle.std.proofs.Common.{◌≡◌, ◌∙◌, ◌+◌, ap, sym, subst}
-use Rattle.std.specs.Prelude.{All}
+use Rattle.std.proofs.Common.{◌≤◌, ◌∙◌, ◌+◌, ap, sym, arith}
+use Rattle.tw_rows.specs.Instant.{inf}
 use Rattle.edge_history.specs.Order.{failing, is_from}
 use Rattle.edge_history.proofs.Sums.{failing-kept}
 use Rattle.edge_stream.specs.Listing.{cells_of}
 use Rattle.edge_stream.specs.Taking.{batches_taken}
 use Rattle.edge_stream.proofs.Filling.{batches_given-capacity, batches_taken-capacity}
 use Rattle.carried_edges.proofs.Pools.{some-capacity, some-limit, batches_given-limit, batches_taken-limit}
-use Rattle.lifetime_ops.specs.Waiting.{IsWaitingEnd}
-use Rattle.lifetime_ops.proofs.Waiting.{extended_advance}
+use Rattle.lifetime_ops.proofs.Waiting.{extended_advance, extended_between}
 use Rattle.lifetime_ops.proofs.extend.ExtendLifetime.advance.Goals as goal
 
 pub take_below-requires-clause-pools : goal.take_below-requires-clause-pools
@@ -47,12 +46,19 @@ pub returns-clause-kept : goal.returns-clause-kept
 returns-clause-kept c = λ texts hl hr out k ml mr.
     let cut = c.in_ok-due.ensures.edges in
     let s = c.args.self.now in
-    extended_advance s.by texts s.left_to s.right_to c.args.left_to c.args.right_to
-    s.carried.edges hl hr out c.args.left.edges c.args.right.edges cut.0 c.take_below.new.carried.edges c.in_ok-due.due.edges c.part_due.new.starts.edges c.in_ok-ends.ends.edges c.in_ok-answer.answer.edges
-    (cells_of c.take_below.new.carried) s.ends c.part_due.new.ends c.take_due.new.ends
-    c.requires.left_rises c.word.ensures.within c.requires.right_rises c.word-2.ensures.within k ml mr cut.1 cut.3 cut.4
-    c.in_ok-part_due.ensures.starts c.in_ok-part_due.ensures.ends c.in_ok-ends.ensures.edges c.in_ok-ends.ensures.low c.in_ok-ends.ensures.late c.take_due.ensures.waiting
-    c.in_ok-answer.ensures.edges c.in_ok-answer.ensures.order
+    extended_advance s.by c.args.left_to cut.0 c.in_ok-due.due.edges c.part_due.new.starts.edges c.in_ok-ends.ends.edges c.in_ok-answer.answer.edges s.ends c.part_due.new.ends c.take_due.new.ends
+    cut.3 c.in_ok-part_due.ensures.starts c.in_ok-part_due.ensures.ends c.in_ok-ends.ensures.edges c.in_ok-ends.ensures.low c.in_ok-answer.ensures.edges
+    texts s.left_to s.right_to c.args.right_to s.carried.edges hl hr out c.args.left.edges c.args.right.edges c.take_below.new.carried.edges (cells_of c.take_below.new.carried)
+    c.requires.left_rises c.word.ensures.within c.requires.right_rises c.word-2.ensures.within k ml mr cut.1 cut.4 c.in_ok-ends.ensures.late c.take_due.ensures.waiting c.in_ok-answer.ensures.order
+
+pub returns-clause-between : goal.returns-clause-between
+returns-clause-between c = λ left right.
+    let cut = c.in_ok-due.ensures.edges in
+    let s = c.args.self.now in
+    let low : s.left_to ≤ inf = omega (arith, c.requires.left_rises, c.word.ensures.within) in
+    extended_between s.by c.args.left_to cut.0 c.in_ok-due.due.edges c.part_due.new.starts.edges c.in_ok-ends.ends.edges c.in_ok-answer.answer.edges s.ends c.part_due.new.ends c.take_due.new.ends
+    cut.3 c.in_ok-part_due.ensures.starts c.in_ok-part_due.ensures.ends c.in_ok-ends.ensures.edges c.in_ok-ends.ensures.low c.in_ok-answer.ensures.edges
+    s.left_to s.carried.edges c.args.left.edges (cells_of s.carried) low cut.1 (s.late c.requires.works) left (s.due c.requires.works) s.waiting
 
 pub returns-clause-pools : goal.returns-clause-pools
 returns-clause-pools c =

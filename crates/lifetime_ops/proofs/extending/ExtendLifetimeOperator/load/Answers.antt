@@ -5,5 +5,5 @@ use Rattle.lifetime_ops.proofs.extending.ExtendLifetimeOperator.load.Goals as go
 
 pub returns-clause-resumed : goal.returns-clause-resumed
 returns-clause-resumed c = λ texts hl hr out r.
-    extended_same c.args.self.now.by texts c.args.left_to c.args.right_to (part_of 0 c.args.saved.now) c.in_ok-carried.carried.edges (part_of 1 c.args.saved.now) (edges_of_pending c.in_ok-ends.ends) hl hr out
-    c.in_ok-carried.ensures.edges c.in_ok-ends.ensures.edges r.keeps
+    extended_same c.args.self.now.by texts c.args.left_to c.args.right_to (part_of 0 c.args.saved.now) c.in_ok-carried.carried.edges (part_of 1 c.args.saved.now)
+    (edges_of_pending c.in_ok-carried.ends) hl hr out c.in_ok-carried.ensures.carried c.in_ok-carried.ensures.ends r.keeps

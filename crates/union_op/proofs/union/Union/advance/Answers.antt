@@ -1,20 +1,21 @@
-use Rattle.std.proofs.Common.{◌≡◌, ◌∙◌, ◌+◌, min, ap, sym}
+use Rattle.std.proofs.Common.{◌≡◌, ◌∙◌, ◌+◌, min, ap, sym, rules}
 use Rattle.edge_history.specs.Order.{failing, is_from}
 use Rattle.edge_history.proofs.Sums.{failing-kept}
 use Rattle.edge_stream.specs.Listing.{cells_of}
 use Rattle.edge_stream.specs.Taking.{batches_taken}
 use Rattle.edge_stream.proofs.Filling.{batches_given-capacity, batches_taken-capacity}
 use Rattle.carried_edges.proofs.Pools.{some-capacity, some-limit, batches_given-limit, batches_taken-limit}
-use Rattle.union_op.proofs.Uniting.{united}
+use Rattle.union_op.proofs.Uniting.{united, between}
 use Rattle.union_op.proofs.union.Union.advance.Goals as goal
 
 pub invariant_of-self-2 : goal.invariant_of-self-2
 invariant_of-self-2 c =
     let lc = c.in_ok-left_due.ensures.edges in
     let rc = c.in_ok-right_due.ensures.edges in
+    let to : c.min-to.result ≡ min c.args.left_to c.args.right_to = search rules in
     record {
-      left_late = λ f. ap (λ t. failing (is_from t) c.take_below.new.carried.edges) (sym c.lesser-to.ensures) ∙ ap (failing (is_from c.lesser-to.result)) lc.4 ∙ failing-kept (is_from c.lesser-to.result) lc.0;
-      right_late = λ f. ap (λ t. failing (is_from t) c.take_below-2.new.carried.edges) (sym c.lesser-to.ensures) ∙ ap (failing (is_from c.lesser-to.result)) rc.4 ∙ failing-kept (is_from c.lesser-to.result) rc.0;
+      left_late = λ f. ap (λ t. failing (is_from t) c.take_below.new.carried.edges) (sym to) ∙ ap (failing (is_from c.min-to.result)) lc.4 ∙ failing-kept (is_from c.min-to.result) lc.0;
+      right_late = λ f. ap (λ t. failing (is_from t) c.take_below-2.new.carried.edges) (sym to) ∙ ap (failing (is_from c.min-to.result)) rc.4 ∙ failing-kept (is_from c.min-to.result) rc.0;
       alike = c.take_below-2.ensures.kinds ∙ c.args.self.now.alike ∙ sym c.take_below.ensures.kinds;
       capacity = c.take_below-2.ensures.capacity ∙ c.args.self.now.capacity ∙ sym c.take_below.ensures.capacity;
     }
@@ -24,10 +25,21 @@ returns-clause-kept c = λ texts hl hr out k ml mr.
     let lc = c.in_ok-left_due.ensures.edges in
     let rc = c.in_ok-right_due.ensures.edges in
     let s = c.args.self.now in
-    united texts s.left_to s.right_to c.args.left_to c.args.right_to c.lesser-to.result
-    s.left.edges s.right.edges hl hr out c.args.left.edges c.args.right.edges lc.0 rc.0 c.take_below.new.carried.edges c.take_below-2.new.carried.edges
-    c.in_ok-left_due.left_due.edges c.in_ok-right_due.right_due.edges c.in_ok-answer.answer.edges
-    c.requires.left_rises c.word.ensures.within c.requires.right_rises c.word-2.ensures.within c.lesser-to.ensures k ml mr lc.1 rc.1 lc.3 lc.4 rc.3 rc.4 c.in_ok-answer.ensures.order c.in_ok-answer.ensures.edges
+    let to : c.min-to.result ≡ min c.args.left_to c.args.right_to = search rules in
+    united s.left_to s.right_to c.args.left_to c.args.right_to c.min-to.result s.left.edges s.right.edges c.args.left.edges c.args.right.edges lc.0 rc.0
+    c.in_ok-left_due.left_due.edges c.in_ok-right_due.right_due.edges c.in_ok-answer.answer.edges to lc.1 rc.1 lc.3 rc.3 c.in_ok-answer.ensures.edges
+    texts hl hr out c.take_below.new.carried.edges c.take_below-2.new.carried.edges
+    c.requires.left_rises c.word.ensures.within c.requires.right_rises c.word-2.ensures.within k ml mr lc.4 rc.4 c.in_ok-answer.ensures.order
+
+pub returns-clause-between : goal.returns-clause-between
+returns-clause-between c = λ left right.
+    let lc = c.in_ok-left_due.ensures.edges in
+    let rc = c.in_ok-right_due.ensures.edges in
+    let s = c.args.self.now in
+    let to : c.min-to.result ≡ min c.args.left_to c.args.right_to = search rules in
+    between s.left_to s.right_to c.args.left_to c.args.right_to c.min-to.result s.left.edges s.right.edges c.args.left.edges c.args.right.edges lc.0 rc.0
+    c.in_ok-left_due.left_due.edges c.in_ok-right_due.right_due.edges c.in_ok-answer.answer.edges to lc.1 rc.1 lc.3 rc.3 c.in_ok-answer.ensures.edges
+    (s.left_late c.requires.works) (s.right_late c.requires.works) left right
 
 pub returns-clause-pools : goal.returns-clause-pools
 returns-clause-pools c =
