@@ -1,7 +1,7 @@
 -- What a step of an anti-join answers: a list in order, with the columns of the left rows.
-use Rattle.std.specs.Prelude.{◌≡◌, ℕ, zero, suc, ◌&&◌, nat_eq, nat_lt, nat_le, Bool, true, false, cond, IsTrue, Option, Some, None, List, [], ◌∷◌, ◌++◌, map, All, refl}
+use Rattle.std.specs.Prelude.{◌≡◌, ℕ, zero, suc, ◌&&◌, nat_eq, Bool, true, false, cond, IsTrue, Option, Some, None, List, [], ◌∷◌, map, All, refl}
 use Rattle.std.proofs.Common.{◌∙◌, ap, subst, arith}
-use Rattle.std.proofs.lemmas.List.Elements.{All-nil, All-cons, All-head, All-tail}
+use Rattle.std.proofs.lemmas.List.Elements.{All-weaker}
 use Rattle.tw_rows.specs.Bag.{SameBag, total}
 use Rattle.tw_rows.specs.Cells.{datum_kind}
 use Rattle.tw_rows.specs.Instant.{inf}
@@ -11,7 +11,7 @@ use Rattle.tw_rows.specs.declared.edge.Edge.{Edge}
 use Rattle.tw_rows.specs.declared.edge.HeldRow.{HeldRow}
 use Rattle.tw_rows.specs.declared.kind.CellKind.{CellKind}
 use Rattle.tw_rows.proofs.Bags.{total-flat_map, total_zero}
-use Rattle.edge_history.specs.Balance.{news_of, news}
+use Rattle.edge_history.specs.Balance.{news}
 use Rattle.edge_history.specs.History.{CellEvent, of}
 use Rattle.edge_history.specs.Order.{failing, KeepsOrder}
 use Rattle.edge_history.proofs.Agreeing.{same_order}
@@ -22,9 +22,9 @@ use Rattle.plan_model.specs.declared.node.Node.TheVariants.{Anti}
 use Rattle.node_laws.specs.Keeping.{Keeps, plain_cells}
 use Rattle.node_laws.proofs.Standing.{all_of}
 use Rattle.node_laws.proofs.Steps.{keeps_stand}
-use Rattle.sweep_sides.specs.Saving.{store_all}
-use Rattle.sweep_sides.proofs.KeptSides.{kinds_stored}
-use Rattle.sweep_sides.proofs.Telling.{All-weaker, told_stored}
+use Rattle.sweep_laws.specs.Saving.{store_all}
+use Rattle.sweep_laws.proofs.Stored.{kinds_stored}
+use Rattle.sweep_sides.proofs.Telling.{told_stored}
 use Rattle.anti_join.specs.AntiJoined.{anti_meets, antis}
 use Rattle.anti_join.specs.States.{KeepsAnti}
 

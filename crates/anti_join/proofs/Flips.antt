@@ -1,15 +1,14 @@
 -- What is told of the rows that stay, where the right rows change one by one.
-use Rattle.std.specs.Prelude.{◌≡◌, ℕ, ◌+◌, ◌<◌, ◌≤◌, ◌↔◌, IsTrue, nat_eq, nat_lt, not, ◌&&◌, Bool, true, false, cond, Option, Some, None, List, [], ◌∷◌, ◌++◌, map, filter, flat_map, length, get_or, take, refl}
-use Rattle.std.proofs.Common.{sym, ◌∙◌, ap, arith, append_assoc}
+use Rattle.std.specs.Prelude.{◌≡◌, ℕ, ◌+◌, ◌≤◌, nat_eq, not, ◌&&◌, Bool, true, false, cond, Option, Some, None, List, [], ◌++◌, map, filter, flat_map, refl}
+use Rattle.std.proofs.Common.{sym, ◌∙◌, ap, arith}
 use Rattle.std.proofs.lemmas.Bool.Decides.{nat_tests}
-use Rattle.std.proofs.lemmas.List.{map_more}
 use Rattle.tw_rows.specs.Bag.{total}
 use Rattle.tw_rows.specs.SameCells.{same_cells, cells_are_same}
 use Rattle.tw_rows.specs.declared.cells.Datum.{Datum}
 use Rattle.tw_rows.specs.declared.edge.Edge.{Edge}
 use Rattle.tw_rows.specs.declared.edge.HeldRow.{HeldRow}
 use Rattle.tw_rows.proofs.Bags.{total-filter, total-map, total-flat_map, total-add, total-append, total_same, total_zero}
-use Rattle.edge_history.specs.Order.{many, is_end}
+use Rattle.edge_history.specs.Order.{many}
 use Rattle.synopsis.specs.Held.{key_of, is_of_key}
 use Rattle.sweep_laws.specs.Moves.{Adds}
 use Rattle.sweep_laws.specs.Antijoining.{flip_end, flip_start}

@@ -1,15 +1,14 @@
 -- What is held in another order, and how much it is.
-use Rattle.std.specs.Prelude.{◌≡◌, ℕ, zero, suc, ◌≤◌, ◌&&◌, nat_eq, nat_lt, nat_le, not, Bool, true, false, cond, Some, None, List, [], ◌∷◌, filter, length, refl}
+use Rattle.std.specs.Prelude.{◌≡◌, ℕ, zero, suc, ◌≤◌, nat_eq, not, Bool, true, false, cond, Some, None, List, [], ◌∷◌, filter, length, refl}
 use Rattle.std.proofs.Common.{sym, ◌∙◌, ap, arith}
-use Rattle.tw_rows.specs.Bag.{SameBag, total}
+use Rattle.tw_rows.specs.Bag.{SameBag}
 use Rattle.tw_rows.specs.SameCells.{same_cells, same_itself}
 use Rattle.tw_rows.specs.declared.cells.Datum.{Datum}
 use Rattle.tw_rows.specs.declared.edge.HeldRow.{HeldRow}
-use Rattle.tw_rows.proofs.Bags.{SameBag-trans, SameBag-map, total_same, total-flat_map}
+use Rattle.tw_rows.proofs.Bags.{SameBag-trans, SameBag-map, total_same}
 use Rattle.edge_history.specs.History.{CellEvent}
-use Rattle.edge_history.specs.Opens.{opens, open_of, bare}
+use Rattle.edge_history.specs.Opens.{bare}
 use Rattle.edge_history.specs.Order.{many}
-use Rattle.edge_history.specs.Side.{reaches}
 use Rattle.key_nodes.proofs.Bags.{any_of_same}
 use Rattle.synopsis.specs.Held.{key_of, is_of_key}
 use Rattle.anti_join.specs.AntiJoined.{anti_meets}

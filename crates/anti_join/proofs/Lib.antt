@@ -11,3 +11,4 @@ pub mod Stepped
 pub mod Held
 pub mod Resuming
 pub mod Starting
+pub mod Begun

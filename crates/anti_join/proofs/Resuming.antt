@@ -1,11 +1,12 @@
 -- What is kept of an anti-join at first, in longer tables, and after it was saved and loaded.
-use Rattle.std.specs.Prelude.{◌≡◌, ℕ, ◌+◌, ◌*◌, ◌≤◌, min, true, false, cond, List, [], ◌++◌, map, refl}
+use Rattle.std.specs.Prelude.{◌≡◌, ℕ, zero, suc, ◌+◌, ◌*◌, ◌<◌, ◌≤◌, min, true, false, cond, All, List, [], ◌++◌, map, refl}
 use Rattle.std.proofs.Common.{sym, ◌∙◌, ap, subst, arith}
 use Rattle.std.proofs.lemmas.List.{append-nil}
 use Rattle.std.proofs.lemmas.List.Elements.{All-nil}
 use Rattle.tw_rows.specs.Bag.{SameBag}
 use Rattle.tw_rows.specs.Cells.{ArePlaced, datum_kind}
 use Rattle.tw_rows.specs.Texts.{BeginsWith}
+use Rattle.tw_rows.specs.declared.cells.Datum.{Datum}
 use Rattle.tw_rows.specs.declared.edge.Edge.{Edge}
 use Rattle.tw_rows.specs.declared.edge.HeldRow.{HeldRow}
 use Rattle.tw_rows.specs.declared.kind.CellKind.{CellKind}
@@ -16,7 +17,7 @@ use Rattle.edge_history.specs.Side.{reaches}
 use Rattle.edge_stream.specs.declared.saved.SavedEntry.{SavedEntry}
 use Rattle.end_queue.specs.Pending.{Pending}
 use Rattle.carried_edges.specs.Entries.{entries_of, part_of, are_of_parts}
-use Rattle.carried_edges.proofs.Parts.{part_of_own, part_of_other, part_of_append, parts_own, parts_append, all_pass}
+use Rattle.carried_edges.proofs.Parts.{parts_pass, part_of_own, part_of_other, part_of_append, parts_own, parts_append, all_pass}
 use Rattle.plan_model.specs.declared.node.Node.TheVariants.{Anti}
 use Rattle.plan_laws.specs.Held.{may_hold}
 use Rattle.node_laws.proofs.Standing.{placed_longer}
@@ -25,13 +26,16 @@ use Rattle.node_laws.specs.Standing.{StandsRead}
 use Rattle.node_laws.proofs.Steps.{keeps_read}
 use Rattle.plan_model.specs.Meaning.{node_events}
 use Rattle.synopsis.specs.Held.{is_of_key}
+use Rattle.operator.specs.Standing.{Standing, IsStoredAs, AreStoredAs}
 use Rattle.sweep_sides.specs.Waiting.{queued}
-use Rattle.sweep_sides.specs.Saving.{starts_of, rows_of, is_row_start, may_wait, are_row_starts, may_all_wait}
-use Rattle.sweep_sides.proofs.KeptSides.{rows_of_starts}
+use Rattle.sweep_sides.proofs.KeptSides.{row_cells, waiting_cells}
+use Rattle.sweep_laws.specs.Saving.{starts_of, rows_of, is_row_start, may_wait, are_row_starts, may_all_wait, HaveBegun}
+use Rattle.sweep_laws.proofs.Stored.{rows_of_starts}
 use Rattle.anti_join.proofs.Held.{held_same}
 use Rattle.anti_join.proofs.Steps.{kept_none}
+use Rattle.anti_join.specs.Operating.{row_of_part}
 use Rattle.anti_join.proofs.Answering.{node_keeps}
-use Rattle.anti_join.specs.States.{KeepsAnti, AreSavedSides, AntiSound, AntiResumes}
+use Rattle.anti_join.specs.States.{KeepsAnti, AntiStored, AntiSound, AntiResumes}
 
 module _ (lk rk : List ℕ) (lc rc : List CellKind) where
   anti_first : (texts : List (List ℕ)) → KeepsAnti lk rk lc rc texts 0 0 [] [] [] (queued []) (queued []) [] [] []
@@ -103,9 +107,24 @@ pub anti_bound : (lk rk : List ℕ) (x to n m l : ℕ) (a b own : List CellEvent
     n + m + l ≤ may_hold (Anti 0 1 lk rk) x to a b own
 anti_bound lk rk x to n m l a b own left right times = omega (arith, left, right, times)
 
-pub same_saved : (lc rc lc2 rc2 : List CellKind) (to to2 : ℕ) (entries : List SavedEntry) → lc2 ≡ lc → rc2 ≡ rc → to2 ≡ to → AreSavedSides lc2 rc2 to2 entries → AreSavedSides lc rc to entries
-same_saved lc rc lc2 rc2 to to2 entries e f g s =
-    subst (λ (k : List CellKind). AreSavedSides k rc to entries) e (subst (λ (k : List CellKind). AreSavedSides lc2 k to entries) f (subst (λ (t : ℕ). AreSavedSides lc2 rc2 t entries) g s))
+-- each entry of a sound state has the cells of its row
+pub anti_rows_stored : (s : Standing) (saved : List SavedEntry) (to : ℕ) (lc rc : List CellKind) → s.left_kinds ≡ lc → s.right_kinds ≡ rc → AntiStored lc rc to saved →
+    AreStoredAs row_of_part s saved
+anti_rows_stored s saved to lc rc el er sound = parts_pass (λ part. IsStoredAs s (row_of_part part)) 5 saved sound.parts each
+  where
+    left : (p : ℕ) → All (λ e. map datum_kind e.cells ≡ lc) (part_of p saved) → All (λ e. map datum_kind e.cells ≡ s.left_kinds) (part_of p saved)
+    left p h = subst (λ (k : List CellKind). All (λ (e : Edge). map datum_kind e.cells ≡ k) (part_of p saved)) (sym el) h
+
+    right : (p : ℕ) → All (λ e. map datum_kind e.cells ≡ rc) (part_of p saved) → All (λ e. map datum_kind e.cells ≡ s.right_kinds) (part_of p saved)
+    right p h = subst (λ (k : List CellKind). All (λ (e : Edge). map datum_kind e.cells ≡ k) (part_of p saved)) (sym er) h
+
+    each : (p : ℕ) → p < 5 → All (λ e. IsStoredAs s (row_of_part p) e.cells) (part_of p saved)
+    each zero low = left 0 (row_cells lc to (part_of 0 saved) sound.left)
+    each (suc zero) low = right 1 (row_cells rc to (part_of 1 saved) sound.right)
+    each (suc (suc zero)) low = left 2 (waiting_cells lc to (part_of 2 saved) sound.left_waiting)
+    each (suc (suc (suc zero))) low = right 3 (waiting_cells rc to (part_of 3 saved) sound.right_waiting)
+    each (suc (suc (suc (suc zero)))) low = left 4 (row_cells lc to (part_of 4 saved) sound.times)
+    each (suc (suc (suc (suc (suc n))))) low = absurd (omega (arith, low))
 
 -- SAVING
 module _ (left right times : List HeldRow) (lw rw : List Edge) (s0 s1 s2 s3 s4 s5 : List SavedEntry) (empty : s0 ≡ []) (e1 : s1 ≡ s0 ++ entries_of 0 (starts_of left))
@@ -162,19 +181,21 @@ module _ (left right times : List HeldRow) (lw rw : List Edge) (s0 s1 s2 s3 s4 s
       ap (are_of_parts 5) all ∙ parts_append 5 (p0 ++ p1 ++ p2 ++ p3) p4 (parts_append 5 (p0 ++ p1 ++ p2) p3
       (parts_append 5 (p0 ++ p1) p2 (parts_append 5 p0 p1 (parts_own 5 0 (starts_of left) refl) (parts_own 5 1 (starts_of right) refl)) (parts_own 5 2 lw refl)) (parts_own 5 3 rw refl)) (parts_own 5 4 (starts_of times) refl)
 
-  pub anti_saved : (lc rc : List CellKind) (to : ℕ) → failing (is_row_start lc to) (starts_of left) ≡ 0 → failing (is_row_start rc to) (starts_of right) ≡ 0 →
-      failing (may_wait lc to) lw ≡ 0 → failing (may_wait rc to) rw ≡ 0 → AntiSound lc rc to s5
-  anti_saved lc rc to a b c d = record {
-    parts = of_parts;
-    sides = record {
+  pub anti_saved : (lk : List ℕ) (lc rc : List CellKind) (to : ℕ) → HaveBegun lc to left → HaveBegun rc to right → failing (may_wait lc to) lw ≡ 0 → failing (may_wait rc to) rw ≡ 0 → HaveBegun lc to times →
+      ((k : List Datum) → many (is_of_key lk k) times ≤ 1) → AntiSound lk lc rc to s5
+  anti_saved lk lc rc to a b c d e one = record {
+    stored = record {
+      parts = of_parts;
       left = ap (are_row_starts lc to) left_part ∙ all_pass (is_row_start lc to) (starts_of left) a;
       right = ap (are_row_starts rc to) right_part ∙ all_pass (is_row_start rc to) (starts_of right) b;
       left_waiting = ap (may_all_wait lc to) left_rest ∙ all_pass (may_wait lc to) lw c;
       right_waiting = ap (may_all_wait rc to) right_rest ∙ all_pass (may_wait rc to) rw d;
+      times = ap (are_row_starts lc to) times_part ∙ all_pass (is_row_start lc to) (starts_of times) e;
     };
+    single = λ k. subst (λ (l : List HeldRow). many (is_of_key lk k) l ≤ 1) (sym (ap rows_of times_part ∙ rows_of_starts times)) (one k);
   }
 
-  pub anti_resumed : (lk rk : List ℕ) (lc rc : List CellKind) (texts : List (List ℕ)) (x y : ℕ) (hl hr out : List Edge) → AntiSound lc rc (min x y) s5 →
+  pub anti_resumed : (lk rk : List ℕ) (lc rc : List CellKind) (texts : List (List ℕ)) (x y : ℕ) (hl hr out : List Edge) → AntiSound lk lc rc (min x y) s5 →
       KeepsAnti lk rk lc rc texts x y left right times lw rw hl hr out → AntiResumes lk rk lc rc texts x y s5 hl hr out
   anti_resumed lk rk lc rc texts x y hl hr out sound k =
       let t = ap rows_of times_part ∙ rows_of_starts times in

@@ -1,11 +1,13 @@
 -- The rows of both sides of an anti-join, by their keys.
-use Rattle.std.specs.Prelude.{◌≡◌, ℕ, ◌≤◌, ◌&&◌, not, Bool, cond, Option, List}
+use Rattle.std.specs.Prelude.{◌≡◌, ℕ, ◌<◌, ◌≤◌, ◌&&◌, not, Bool, cond, Option, List}
 use Rattle.tw_rows.specs.SameCells.{same_cells}
 use Rattle.tw_rows.specs.declared.cells.Datum.{Datum}
 use Rattle.tw_rows.specs.declared.edge.Edge.{Edge}
 use Rattle.tw_rows.specs.declared.edge.HeldRow.{HeldRow}
+use Rattle.tw_rows.specs.declared.kind.CellKind.{CellKind}
 use Rattle.edge_history.specs.Order.{many}
 use Rattle.synopsis.specs.Held.{key_of, is_of_key}
+use Rattle.sweep_laws.specs.Saving.{HaveBegun}
 use Rattle.sweep_laws.specs.Antijoining.{flip_end, flip_start}
 use Rattle.anti_join.specs.declared.sweep.Rows.{Rows}
 use Rattle.anti_join.specs.Free.{is_free_key, free_since, status_of}
@@ -71,3 +73,9 @@ pub record ForgetsTimes (old new : Rows) : Type 0 where
   pub same : (k : List Datum) → 1 ≤ lefts_of old k → time_of old new k ≡ time_of old old k
   pub less : (k : List Datum) → time_of old new k ≤ time_of old old k
   pub fewer : (k : List Datum) → times_of old new k ≤ times_of old old k
+
+-- a time that is kept anew is t, of the key of a left row: where the left rows and those whose starts are the times began before
+-- a time after t, the latter still do
+abbrev pub TimesBegin : ℕ → Rows → Rows → Type 0
+TimesBegin t old new = (kinds : List CellKind) (to : ℕ) → t < to → HaveBegun kinds to old.left.rows → HaveBegun kinds to old.times.rows →
+    HaveBegun kinds to new.times.rows

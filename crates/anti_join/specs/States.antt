@@ -15,8 +15,10 @@ use Rattle.carried_edges.specs.Entries.{part_of, are_of_parts}
 use Rattle.node_laws.specs.Places.{EdgesArePlaced}
 use Rattle.synopsis.specs.Held.{is_of_key}
 use Rattle.sweep_sides.specs.Waiting.{queued, AreTimed}
-use Rattle.sweep_sides.specs.Saving.{IsSide, rows_of, are_row_starts, may_all_wait}
+use Rattle.sweep_sides.specs.Sides.{IsSide}
+use Rattle.sweep_laws.specs.Saving.{rows_of, are_row_starts, may_all_wait, HaveBegun}
 use Rattle.anti_join.specs.declared.sides.Sides.{Sides}
+use Rattle.anti_join.specs.Times.{HaveOneTime}
 use Rattle.anti_join.specs.Holding.{AntiKeeps}
 use Rattle.anti_join.specs.Rows.{AreByKey}
 
@@ -28,10 +30,11 @@ pub record SidesKeep (s : Sides) (to : ℕ) (hl hr out : List Edge) : Type 0 whe
   pub kept : AntiKeeps s.rows.left.key s.rows.right.key s.rows.left.rows s.rows.right.rows s.rows.times.rows
       (queued s.left_waiting) (queued s.right_waiting) to hl hr out
 
--- rows that began before a time, and edges from it on, of such columns, on each side
+-- rows that began before a time, and edges from it on, of such columns, on each side; times before it, as the starts of left rows
 pub record AreSides (left_kinds right_kinds : List CellKind) (to : ℕ) (s : Sides) : Type 0 where
   pub left : IsSide left_kinds to s.rows.left.rows s.left_waiting
   pub right : IsSide right_kinds to s.rows.right.rows s.right_waiting
+  pub times : HaveBegun left_kinds to s.rows.times.rows
 
 -- the same of an anti-join that works
 pub record IsWorking (s : Sides) (left_kinds right_kinds : List Kind) (capacity to : ℕ) : Type 0 where
@@ -64,22 +67,25 @@ pub record IsOpening (left right times : List HeldRow) (left_waiting right_waiti
   pub right_open : y ≡ 0
   pub works : failed ≡ false
 
--- the entries of the parts 0 and 1 are rows of the left and of the right side that began before a time, as their starts, and
--- those of 2 and 3 edges of these sides that wait from it on. Up to 7, a row may have begun at 6, and none at 7
-pub record AreSavedSides (left_kinds right_kinds : List CellKind) (to : ℕ) (entries : List SavedEntry) : Type 0 where
+-- the entries are of five parts: 0 and 1, rows of the left and of the right side that began before a time, as their starts, 2
+-- and 3, edges of these sides that wait from it on, and 4, times before it, as the starts of left rows of their keys. Up to 7, a
+-- row may have begun at 6, and none at 7
+pub record AntiStored (left_kinds right_kinds : List CellKind) (to : ℕ) (entries : List SavedEntry) : Type 0 where
+  pub parts : are_of_parts 5 entries ≡ true
   pub left : are_row_starts left_kinds to (part_of 0 entries) ≡ true
   pub right : are_row_starts right_kinds to (part_of 1 entries) ≡ true
   pub left_waiting : may_all_wait left_kinds to (part_of 2 entries) ≡ true
   pub right_waiting : may_all_wait right_kinds to (part_of 3 entries) ≡ true
+  pub times : are_row_starts left_kinds to (part_of 4 entries) ≡ true
 
--- there are no entries of other parts; those of the part 4 are times, as the starts of left rows of their keys
-pub record AntiSound (left_kinds right_kinds : List CellKind) (to : ℕ) (entries : List SavedEntry) : Type 0 where
-  pub parts : are_of_parts 5 entries ≡ true
-  pub sides : AreSavedSides left_kinds right_kinds to entries
+-- and no key has two times
+pub record AntiSound (left_key : List ℕ) (left_kinds right_kinds : List CellKind) (to : ℕ) (entries : List SavedEntry) : Type 0 where
+  pub stored : AntiStored left_kinds right_kinds to entries
+  pub single : HaveOneTime left_key (part_of 4 entries)
 
 -- the entries are what is kept after the edges came in and were answered
 pub record AntiResumes (left_key right_key : List ℕ) (left_kinds right_kinds : List CellKind) (texts : List (List ℕ)) (x y : ℕ)
     (entries : List SavedEntry) (hl hr out : List Edge) : Type 0 where
-  pub sound : AntiSound left_kinds right_kinds (min x y) entries
+  pub sound : AntiSound left_key left_kinds right_kinds (min x y) entries
   pub keeps : KeepsAnti left_key right_key left_kinds right_kinds texts x y (rows_of (part_of 0 entries)) (rows_of (part_of 1 entries)) (rows_of (part_of 4 entries))
       (part_of 2 entries) (part_of 3 entries) hl hr out

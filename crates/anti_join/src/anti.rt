@@ -1,7 +1,6 @@
 // The operator of an anti-join.
-ghost use Rattle.std.specs.Prelude.{◌≡◌, ◌≤◌, ◌++◌, ℕ, min, map, length, false, is_err, List, [], IfOk, OnOk};
+ghost use Rattle.std.specs.Prelude.{◌≡◌, ◌≤◌, min, map, length, false, is_err, [], IfOk, OnOk};
 ghost use Rattle.tw_rows.specs.Kinds.{cell_kind_of};
-ghost use Rattle.tw_rows.specs.declared.edge.Edge.{Edge};
 ghost use Rattle.edge_stream.specs.Listing.{cells_of};
 ghost use Rattle.anti_join.specs.Rows.{AreByKey, SameKeys};
 ghost use Rattle.anti_join.specs.States.{IsWorking};
@@ -33,13 +32,6 @@ pub struct Anti {
     ghost working: { failed ≡ false → IsWorking sides left_kinds.items right_kinds.items capacity (min left_to right_to) },
 }
 
-// The lesser of two times.
-pub(crate) fn lesser(a: Time, b: Time) -> Time
-    ensures { result ≡ min a b }
-{
-    if a < b { a } else { b }
-}
-
 // No rows and no edges, by these key columns.
 fn no_sides(alloc: Global, left_key: &[usize], right_key: &[usize]) -> Result<Sides, Memory>
     ensures left_key { IfOk result (λ s. s.rows.left_key.columns ≡ left_key.now) }
@@ -63,9 +55,8 @@ fn no_sides(alloc: Global, left_key: &[usize], right_key: &[usize]) -> Result<Si
 }
 
 impl Anti {
-    ghost use Rattle.operator.specs.Steps.{MayCome, ComeBetween};
-    ghost use Rattle.anti_join.specs.States.{IsOpening};
-    ghost use Rattle.anti_join.specs.Operating.{IsKept};
+    ghost use Rattle.operator.specs.Steps.{StaysKept, ComeBetween};
+    ghost use Rattle.anti_join.specs.Operating.{standing, IsNew, IsKept};
 
     /// An anti-join of nothing yet, by these key columns, of rows with columns of these kinds, in batches of that capacity.
     pub fn new(
@@ -83,7 +74,7 @@ impl Anti {
         ensures left_kinds { IfOk result (λ j. j.left_kinds.items ≡ left_kinds.now) }
         ensures right_kinds { IfOk result (λ j. j.right_kinds.items ≡ right_kinds.now) }
         ensures capacity { IfOk result (λ j. j.capacity ≡ capacity) }
-        ensures opening { IfOk result (λ j. IsOpening j.sides.rows.left.rows j.sides.rows.right.rows j.sides.rows.times.rows j.sides.left_waiting j.sides.right_waiting j.left_to j.right_to j.failed) }
+        ensures opening { IfOk result IsNew }
     {
         Ok(Anti {
             sides: no_sides(alloc, left_key, right_key)?,
@@ -114,10 +105,10 @@ impl Anti {
         requires left_capacity { left.capacity ≡ self.old.capacity }
         requires right_capacity { right.capacity ≡ self.old.capacity }
         requires capacity { pools.old.capacity ≡ self.old.capacity }
-        ensures kept { IfOk result (λ answer. (texts : List (List ℕ)) (hl hr out : List Edge) → IsKept self.old texts hl hr out →
-            MayCome texts self.old.left_to hl left.edges → MayCome texts self.old.right_to hr right.edges →
-            IsKept self.new texts (hl ++ left.edges) (hr ++ right.edges) (out ++ answer.edges)
-            × ComeBetween (min self.old.left_to self.old.right_to) (min left_to right_to) answer.edges) }
+        ensures kept { IfOk result (λ answer. StaysKept (standing self.old)
+            (IsKept self.old) (IsKept self.new) left.edges right.edges answer.edges) }
+        ensures between { IfOk result (λ answer.
+            ComeBetween (min self.old.left_to self.old.right_to) (min left_to right_to) answer.edges) }
         ensures kinds { IfOk result (λ answer. cells_of answer ≡ map cell_kind_of self.old.left_kinds.items) }
         ensures capacity { IfOk result (λ answer. answer.capacity ≡ self.old.capacity) }
         ensures pools { pools.new.capacity ≡ pools.old.capacity }
@@ -133,7 +124,8 @@ impl Anti {
         self.failed = true;
         // Their calls tell the proof that both are times.
         let _ = (left_to.word(), right_to.word());
-        let to = lesser(left_to, right_to);
+        let from = self.left_to.min(self.right_to);
+        let to = left_to.min(right_to);
         let told = self.sides.advance(&left, &right, to)?;
         // Its call tells the proof that no key has two times.
         let _ = self.sides.rows.times.len();
@@ -144,6 +136,8 @@ impl Anti {
             pools,
             self.left_kinds.as_slice(),
             self.capacity,
+            from,
+            to,
             told.as_slice(),
         )?;
         self.left_to = left_to;

@@ -1,13 +1,15 @@
 // The times since which keys are free.
-ghost use Rattle.std.specs.Prelude.{◌≡◌, [], ◌∷◌, not, filter, length, ◌≤◌, List, IfOk, OnOk, OnErr};
+ghost use Rattle.std.specs.Prelude.{◌≡◌, [], ◌∷◌, nat_eq, not, filter, length, ◌≤◌, List, IfOk, IfErr, OnOk, OnErr};
 ghost use Rattle.tw_rows.specs.Bag.{SameBag};
 ghost use Rattle.tw_rows.specs.declared.cells.Datum.{Datum};
 ghost use Rattle.tw_rows.specs.declared.edge.HeldRow.{HeldRow};
 ghost use Rattle.edge_history.specs.Order.{many};
-ghost use Rattle.sweep_sides.specs.Saving.{rows_of};
+ghost use Rattle.sweep_laws.specs.Saving.{rows_of};
 ghost use Rattle.synopsis.specs.Held.{key_of, is_of_key};
 ghost use Rattle.anti_join.specs.Free.{free_since};
+ghost use Rattle.anti_join.specs.Times.{HaveOneTime};
 
+use edge_stream::LoadFault;
 use std::alloc::Global;
 use std::marker::Model;
 use synopsis::{KeyRoom, Synopsis};
@@ -36,7 +38,8 @@ impl Model for FreeTimes {
 
 // Takes out the row with this key, if there is one.
 fn take_key(rows: &mut Synopsis, key: &[Datum]) -> Result<(), Memory>
-    ensures ok { OnOk result (((values : List Datum) → many (is_of_key rows.old.key values) rows.old.rows ≤ 1) → SameBag rows.new.rows (filter (λ r. not (is_of_key rows.old.key key.now r)) rows.old.rows)) }
+    ensures ok { OnOk result (((values : List Datum) → many (is_of_key rows.old.key values) rows.old.rows ≤ 1) →
+        SameBag rows.new.rows (filter (λ r. not (is_of_key rows.old.key key.now r)) rows.old.rows)) }
     ensures err { OnErr result (rows.new.rows ≡ rows.old.rows) }
     ensures key { rows.new.key ≡ rows.old.key }
 {
@@ -77,7 +80,8 @@ impl FreeTimes {
 
     /// Forgets the time of the key of a row.
     pub(crate) fn forget(&mut self, cells: &[Datum]) -> Result<(), Memory>
-        ensures ok { OnOk result (SameBag self.new.rows (filter (λ r. not (is_of_key self.old.key (key_of self.old.key cells.now) r)) self.old.rows)) }
+        ensures ok { OnOk result (SameBag self.new.rows (filter (λ r. not (is_of_key self.old.key
+            (key_of self.old.key cells.now) r)) self.old.rows)) }
         ensures key { self.new.key ≡ self.old.key }
     {
         self.room.write(cells);
@@ -87,7 +91,8 @@ impl FreeTimes {
 
     /// The key of a row is free since that time.
     pub(crate) fn set(&mut self, cells: Cells, at: Time) -> Result<(), Memory>
-        ensures ok { OnOk result (SameBag self.new.rows (record { cells = cells; start = at } ∷ filter (λ r. not (is_of_key self.old.key (key_of self.old.key cells) r)) self.old.rows)) }
+        ensures ok { OnOk result (SameBag self.new.rows (record { cells = cells; start = at } ∷ filter (λ r. not
+            (is_of_key self.old.key (key_of self.old.key cells) r)) self.old.rows)) }
         ensures key { self.new.key ≡ self.old.key }
     {
         self.room.write(cells.items());
@@ -96,19 +101,44 @@ impl FreeTimes {
         Ok(())
     }
 
-    /// The times of the keys of edges that start rows; of equal keys the last one.
+    // The key of the row that an edge starts is free since its start.
+    fn set_start(&mut self, edge: &Edge) -> Result<(), Memory>
+        ensures ok { OnOk result (SameBag self.new.rows (record { cells = edge.now.cells; start = edge.now.sync }
+            ∷ filter (λ r. not (is_of_key self.old.key (key_of self.old.key edge.now.cells) r)) self.old.rows)) }
+        ensures key { self.new.key ≡ self.old.key }
+    {
+        self.set(edge.cells.clone()?, edge.sync)
+    }
+
+    // Whether no time is kept of the key of a row.
+    fn has_none(&mut self, cells: &[Datum]) -> bool
+        ensures none { result ≡ nat_eq (many (is_of_key self.old.key (key_of self.old.key cells.now)) self.old.rows) 0 }
+        ensures same { self.new ≡ self.old }
+    {
+        self.room.write(cells);
+        self.rows.rows_of(self.room.values()).is_empty()
+    }
+
+    /// The times of the keys of edges that start rows. Two of one key are no state.
     pub(crate) fn of_starts(
         alloc: Global,
         key: &[usize],
         edges: &[Edge],
-    ) -> Result<FreeTimes, Memory>
+    ) -> Result<FreeTimes, LoadFault>
         ensures key { IfOk result (λ f. f.key ≡ key.now) }
-        ensures rows { IfOk result (λ f. ((k : List Datum) → many (is_of_key key.now k) (rows_of edges.now) ≤ 1) → SameBag f.rows (rows_of edges.now)) }
+        ensures rows { IfOk result (λ f. SameBag f.rows (rows_of edges.now)) }
+        ensures single { OnOk result (HaveOneTime key.now edges.now) }
+        ensures refused { IfErr result (λ fault. fault ≡ LoadFault.NotState → HaveOneTime key.now edges.now → ⊥) }
     {
         let mut times = FreeTimes::new(alloc, key)?;
         for edge in edges {
-            times.set(edge.cells.clone()?, edge.sync)?;
+            if !times.has_none(edge.cells.items()) {
+                return Err(LoadFault::NotState);
+            }
+            times.set_start(edge)?;
         }
+        // Its call tells the proof that no key has two times.
+        let _ = times.len();
         Ok(times)
     }
 

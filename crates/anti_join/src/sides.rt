@@ -1,29 +1,30 @@
 // What an anti-join keeps of its sides, and how it takes new edges in.
-ghost use Rattle.std.specs.Prelude.{◌≡◌, ◌≤◌, ◌++◌, ℕ, All, map, List, OnOk, OnErr, IfOk, IfErr};
+ghost use Rattle.std.specs.Prelude.{◌≡◌, ◌≤◌, ◌++◌, ◌↔◌, IsTrue, ℕ, All, map, List, OnOk, OnErr, IfOk, IfErr};
 ghost use Rattle.tw_rows.specs.Bag.{SameBag};
 ghost use Rattle.tw_rows.specs.Cells.{datum_kind};
 ghost use Rattle.tw_rows.specs.Kinds.{cell_kind_of};
 ghost use Rattle.tw_rows.specs.Instant.{inf};
-ghost use Rattle.tw_rows.specs.declared.cells.Datum.{Datum};
 ghost use Rattle.tw_rows.specs.declared.edge.Edge.{Edge};
-ghost use Rattle.edge_history.specs.Order.{failing, is_from, many, IsHistory};
+ghost use Rattle.tw_rows.specs.declared.kind.CellKind.{CellKind};
+ghost use Rattle.edge_history.specs.Order.{failing, is_from, IsHistory};
 ghost use Rattle.edge_history.specs.History.{of};
 ghost use Rattle.edge_history.specs.Balance.{news};
 ghost use Rattle.edge_stream.specs.Listing.{cells_of};
 ghost use Rattle.carried_edges.specs.Entries.{part_of};
 ghost use Rattle.sweep_sides.specs.Waiting.{queued};
-ghost use Rattle.sweep_sides.specs.Saving.{rows_of};
-ghost use Rattle.synopsis.specs.Held.{is_of_key};
+ghost use Rattle.sweep_laws.specs.Saving.{rows_of};
 ghost use Rattle.anti_join.specs.AntiJoined.{antis};
 ghost use Rattle.anti_join.specs.Rows.{SameKeys, AreByKey};
+ghost use Rattle.anti_join.specs.Times.{HaveOneTime};
+ghost use Rattle.anti_join.specs.States.{AntiStored};
 
 use crate::free_times::FreeTimes;
 use crate::sweep::Rows;
-use carried_edges::edges_of_part;
+use carried_edges::{are_of_parts, edges_of_part};
 use edge_stream::{EdgeList, LoadFault, Saved};
 use end_queue::EndQueue;
 use std::alloc::Global;
-use sweep_sides::{load_rows, load_waiting, take_in};
+use sweep_sides::{are_rows, can_wait, load_rows, load_waiting, take_in};
 use tw_rows::{Edge, Kind, Memory, Time};
 
 /// The rows of both sides that are alive, and the edges of both sides that wait.
@@ -35,17 +36,47 @@ pub(crate) struct Sides {
 }
 
 // The times of that part, of keys in these columns.
-fn load_times(alloc: Global, saved: &Saved, part: u64, key: &[usize]) -> Result<FreeTimes, Memory>
+fn load_times(
+    alloc: Global,
+    saved: &Saved,
+    part: u64,
+    key: &[usize],
+) -> Result<FreeTimes, LoadFault>
     ensures key { IfOk result (λ f. f.key ≡ key.now) }
-    ensures rows { IfOk result (λ f. ((k : List Datum) → many (is_of_key key.now k) (rows_of (part_of part saved.now)) ≤ 1) → SameBag f.rows (rows_of (part_of part saved.now))) }
+    ensures rows { IfOk result (λ f. SameBag f.rows (rows_of (part_of part saved.now))) }
+    ensures single { OnOk result (HaveOneTime key.now (part_of part saved.now)) }
+    ensures refused { IfErr result (λ fault. fault ≡ LoadFault.NotState →
+        HaveOneTime key.now (part_of part saved.now) → ⊥) }
 {
     let edges = edges_of_part(alloc, saved, part)?;
-    let times = FreeTimes::of_starts(alloc, key, &edges)?;
-    Ok(times)
+    FreeTimes::of_starts(alloc, key, &edges)
+}
+
+/// Whether saved entries can be the state of an anti-join whose sides are closed up to a time, with columns of these kinds, but
+/// for keys with two times.
+pub(crate) fn is_stored(saved: &Saved, left_kinds: &[Kind], right_kinds: &[Kind], to: Time) -> bool
+    ensures { IsTrue result ↔ AntiStored (map cell_kind_of left_kinds.now) (map cell_kind_of right_kinds.now) to saved.now }
+{
+    if !are_of_parts(saved, 5) {
+        return false;
+    }
+    if !are_rows(saved, 0, left_kinds, to) {
+        return false;
+    }
+    if !are_rows(saved, 1, right_kinds, to) {
+        return false;
+    }
+    if !can_wait(saved, 2, left_kinds, to) {
+        return false;
+    }
+    if !can_wait(saved, 3, right_kinds, to) {
+        return false;
+    }
+    are_rows(saved, 4, left_kinds, to)
 }
 
 impl Sides {
-    ghost use Rattle.anti_join.specs.States.{SidesKeep, AreSides, AreSavedSides};
+    ghost use Rattle.anti_join.specs.States.{SidesKeep, AreSides};
 
     /// Takes the new edges of both sides in, and tells what happens to the rows that meet none up to a time.
     pub(crate) fn advance(
@@ -55,11 +86,15 @@ impl Sides {
         to: Time,
     ) -> Result<Vec<Edge>, Memory>
         requires { to ≤ inf }
-        ensures kept { IfOk result (λ answer. (from : ℕ) (hl hr out : List Edge) → from ≤ to → SidesKeep self.old from hl hr out →
-            IsHistory (hl ++ left.now.edges) → IsHistory (hr ++ right.now.edges) → failing (is_from from) left.now.edges ≡ 0 → failing (is_from from) right.now.edges ≡ 0 →
+        ensures kept { IfOk result (λ answer. (from : ℕ) (hl hr out : List Edge) → from ≤ to →
+            SidesKeep self.old from hl hr out → IsHistory (hl ++ left.now.edges) → IsHistory (hr ++ right.now.edges) →
+            failing (is_from from) left.now.edges ≡ 0 → failing (is_from from) right.now.edges ≡ 0 →
             SidesKeep self.new to (hl ++ left.now.edges) (hr ++ right.now.edges) (out ++ answer.items)
-            × SameBag answer.items (news from to (antis self.old.rows.left.key self.old.rows.right.key (of (hl ++ left.now.edges)) (of (hr ++ right.now.edges))))) }
-        ensures sides { OnOk result ((from : ℕ) → from ≤ to → AreSides (cells_of left.now) (cells_of right.now) from self.old → AreSides (cells_of left.now) (cells_of right.now) to self.new) }
+            × SameBag answer.items (news from to (antis self.old.rows.left.key self.old.rows.right.key (of
+            (hl ++ left.now.edges)) (of (hr ++ right.now.edges))))) }
+        ensures sides { OnOk result ((from : ℕ) → from ≤ to →
+            AreSides (cells_of left.now) (cells_of right.now) from self.old →
+            AreSides (cells_of left.now) (cells_of right.now) to self.new) }
         ensures left_cells { OnOk result (All (λ e. map datum_kind e.cells ≡ cells_of left.now) left.now.edges) }
         ensures right_cells { OnOk result (All (λ e. map datum_kind e.cells ≡ cells_of right.now) right.now.edges) }
         ensures keys { SameKeys self.old.rows self.new.rows }
@@ -72,47 +107,19 @@ impl Sides {
         Ok(answer)
     }
 
-    /// Takes up the rows, the edges and the times that were saved, with columns of these kinds and kept up to a time. A fault
-    /// changes nothing.
-    pub(crate) fn take_up(
-        &mut self,
-        saved: &Saved,
-        left_kinds: &[Kind],
-        right_kinds: &[Kind],
-        to: Time,
-    ) -> Result<(), LoadFault>
-        ensures rows { OnOk result (SameBag self.new.rows.left.rows (rows_of (part_of 0 saved.now)) × SameBag self.new.rows.right.rows (rows_of (part_of 1 saved.now))) }
-        ensures waiting { OnOk result (SameBag (queued self.new.left_waiting) (part_of 2 saved.now) × SameBag (queued self.new.right_waiting) (part_of 3 saved.now)) }
-        ensures times { OnOk result (((k : List Datum) → many (is_of_key self.old.rows.left_key.columns k) (rows_of (part_of 4 saved.now)) ≤ 1) → SameBag self.new.rows.times.rows (rows_of (part_of 4 saved.now))) }
+    /// Takes up the rows, the edges and the times that were saved. A fault changes nothing.
+    pub(crate) fn take_up(&mut self, saved: &Saved) -> Result<(), LoadFault>
+        ensures left { OnOk result (SameBag self.new.rows.left.rows (rows_of (part_of 0 saved.now))) }
+        ensures right { OnOk result (SameBag self.new.rows.right.rows (rows_of (part_of 1 saved.now))) }
+        ensures left_waiting { OnOk result (SameBag (queued self.new.left_waiting) (part_of 2 saved.now)) }
+        ensures right_waiting { OnOk result (SameBag (queued self.new.right_waiting) (part_of 3 saved.now)) }
+        ensures times { OnOk result (SameBag self.new.rows.times.rows (rows_of (part_of 4 saved.now))) }
         ensures by { OnOk result (AreByKey self.new.rows) }
-        ensures sides { OnOk result (AreSides (map cell_kind_of left_kinds.now) (map cell_kind_of right_kinds.now) to self.new) }
-        ensures sound { OnOk result (AreSavedSides (map cell_kind_of left_kinds.now) (map cell_kind_of right_kinds.now) to saved.now) }
-        ensures refused { IfErr result (λ fault. fault ≡ LoadFault.NotState → AreSavedSides (map cell_kind_of left_kinds.now) (map cell_kind_of right_kinds.now) to saved.now → ⊥) }
-        ensures err { OnErr result (self.new ≡ self.old) }
-        ensures left_key { self.new.rows.left_key ≡ self.old.rows.left_key }
-        ensures right_key { self.new.rows.right_key ≡ self.old.rows.right_key }
-    {
-        let times = load_times(self.rows.alloc, saved, 4, self.rows.left_key.columns())?;
-        self.take_up_rows(saved, left_kinds, right_kinds, to)?;
-        self.rows.times = times;
-        Ok(())
-    }
-
-    // Takes up the rows and the edges, without the times.
-    fn take_up_rows(
-        &mut self,
-        saved: &Saved,
-        left_kinds: &[Kind],
-        right_kinds: &[Kind],
-        to: Time,
-    ) -> Result<(), LoadFault>
-        ensures rows { OnOk result (SameBag self.new.rows.left.rows (rows_of (part_of 0 saved.now)) × SameBag self.new.rows.right.rows (rows_of (part_of 1 saved.now))) }
-        ensures waiting { OnOk result (SameBag (queued self.new.left_waiting) (part_of 2 saved.now) × SameBag (queued self.new.right_waiting) (part_of 3 saved.now)) }
-        ensures left_by { OnOk result (self.new.rows.left.key ≡ self.old.rows.left_key.columns) }
-        ensures right_by { OnOk result (self.new.rows.right.key ≡ self.old.rows.right_key.columns) }
-        ensures sides { OnOk result (AreSides (map cell_kind_of left_kinds.now) (map cell_kind_of right_kinds.now) to self.new) }
-        ensures sound { OnOk result (AreSavedSides (map cell_kind_of left_kinds.now) (map cell_kind_of right_kinds.now) to saved.now) }
-        ensures refused { IfErr result (λ fault. fault ≡ LoadFault.NotState → AreSavedSides (map cell_kind_of left_kinds.now) (map cell_kind_of right_kinds.now) to saved.now → ⊥) }
+        ensures sides { OnOk result ((left_kinds right_kinds : List CellKind) (to : ℕ) →
+            AntiStored left_kinds right_kinds to saved.now → AreSides left_kinds right_kinds to self.new) }
+        ensures single { OnOk result (HaveOneTime self.old.rows.left_key.columns (part_of 4 saved.now)) }
+        ensures refused { IfErr result (λ fault. fault ≡ LoadFault.NotState →
+            HaveOneTime self.old.rows.left_key.columns (part_of 4 saved.now) → ⊥) }
         ensures err { OnErr result (self.new ≡ self.old) }
         ensures left_key { self.new.rows.left_key ≡ self.old.rows.left_key }
         ensures right_key { self.new.rows.right_key ≡ self.old.rows.right_key }
@@ -120,12 +127,14 @@ impl Sides {
         let alloc = self.rows.alloc;
         let left_key = self.rows.left_key.columns();
         let right_key = self.rows.right_key.columns();
-        let left = load_rows(alloc, saved, 0, left_key, left_kinds, to)?;
-        let right = load_rows(alloc, saved, 1, right_key, right_kinds, to)?;
-        let left_waiting = load_waiting(alloc, saved, 2, left_kinds, to)?;
-        let right_waiting = load_waiting(alloc, saved, 3, right_kinds, to)?;
+        let times = load_times(alloc, saved, 4, left_key)?;
+        let left = load_rows(alloc, saved, 0, left_key)?;
+        let right = load_rows(alloc, saved, 1, right_key)?;
+        let left_waiting = load_waiting(alloc, saved, 2)?;
+        let right_waiting = load_waiting(alloc, saved, 3)?;
         self.rows.left = left;
         self.rows.right = right;
+        self.rows.times = times;
         self.left_waiting = left_waiting;
         self.right_waiting = right_waiting;
         Ok(())

@@ -1,27 +1,26 @@
 -- What a step of a clip answers: a list in order, with the columns of the left rows.
-use Rattle.std.specs.Prelude.{◌≡◌, ℕ, ◌&&◌, nat_lt, nat_le, Bool, true, false, cond, IsTrue, List, [], ◌∷◌, ◌++◌, map, All, refl}
-use Rattle.std.proofs.Common.{◌∙◌, ap, arith}
-use Rattle.std.proofs.lemmas.List.Elements.{All-nil, All-cons, All-head, All-tail}
-use Rattle.tw_rows.specs.Bag.{SameBag, total}
+use Rattle.std.specs.Prelude.{◌≡◌, ℕ, Bool, false, cond, IsTrue, List, map, All}
+use Rattle.std.proofs.Common.{◌∙◌}
+use Rattle.std.proofs.lemmas.List.Elements.{All-weaker}
+use Rattle.tw_rows.specs.Bag.{SameBag}
 use Rattle.tw_rows.specs.Cells.{datum_kind}
-use Rattle.tw_rows.specs.Instant.{inf}
 use Rattle.tw_rows.specs.declared.edge.Edge.{Edge}
 use Rattle.tw_rows.specs.declared.edge.HeldRow.{HeldRow}
 use Rattle.tw_rows.specs.declared.kind.CellKind.{CellKind}
-use Rattle.tw_rows.proofs.Bags.{total-map, total-flat_map, total_zero}
-use Rattle.edge_history.specs.Balance.{news_of, news}
+use Rattle.tw_rows.proofs.Bags.{total-map}
+use Rattle.edge_history.specs.Balance.{news}
 use Rattle.edge_history.specs.History.{CellEvent, of}
 use Rattle.edge_history.specs.Order.{failing, KeepsOrder}
 use Rattle.edge_history.proofs.Agreeing.{same_order}
-use Rattle.edge_history.proofs.Sums.{sum_eq, failing-All}
+use Rattle.edge_history.proofs.Sums.{failing-All}
 use Rattle.key_nodes.specs.Clips.{clip}
 use Rattle.plan_model.specs.declared.node.Node.TheVariants.{Clip}
 use Rattle.node_laws.specs.Keeping.{Keeps, plain_cells}
 use Rattle.node_laws.proofs.Standing.{all_of}
 use Rattle.node_laws.proofs.Steps.{keeps_stand}
-use Rattle.sweep_sides.specs.Saving.{store_all}
-use Rattle.sweep_sides.proofs.KeptSides.{kinds_stored}
-use Rattle.sweep_sides.proofs.Telling.{All-weaker, told_stored}
+use Rattle.sweep_laws.specs.Saving.{store_all}
+use Rattle.sweep_laws.proofs.Stored.{kinds_stored}
+use Rattle.sweep_sides.proofs.Telling.{told_stored}
 use Rattle.clip_op.specs.Clipped.{clip_meets, clips}
 use Rattle.clip_op.specs.States.{KeepsClip}
 

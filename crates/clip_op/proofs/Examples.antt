@@ -1,6 +1,5 @@
 -- The definitions, worked out on a few rows and edges.
 use Rattle.std.specs.Prelude.{◌≡◌, ℕ, pos, true, false, List, [], ◌∷◌, map, refl}
-use Rattle.tw_rows.specs.Instant.{inf}
 use Rattle.tw_rows.specs.SameCells.{same_cells}
 use Rattle.tw_rows.specs.declared.cells.Datum.{Datum}
 use Rattle.tw_rows.specs.declared.cells.Datum.TheVariants.{Int}

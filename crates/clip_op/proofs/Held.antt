@@ -1,13 +1,12 @@
 -- How much a clip holds.
-use Rattle.std.specs.Prelude.{◌≡◌, ℕ, ◌+◌, ◌*◌, ◌≤◌, ◌&&◌, nat_lt, nat_le, Bool, true, false, cond, List, [], ◌∷◌, filter, length, refl}
-use Rattle.std.proofs.Common.{sym, ◌∙◌, arith}
+use Rattle.std.specs.Prelude.{ℕ, ◌+◌, ◌*◌, ◌≤◌, List, filter, length}
+use Rattle.std.proofs.Common.{arith}
 use Rattle.std.proofs.lemmas.List.{length-map}
-use Rattle.tw_rows.specs.Bag.{SameBag, total}
+use Rattle.tw_rows.specs.Bag.{SameBag}
 use Rattle.tw_rows.specs.declared.edge.Edge.{Edge}
-use Rattle.tw_rows.specs.declared.edge.HeldRow.{HeldRow}
-use Rattle.tw_rows.proofs.Bags.{SameBag-refl, total-flat_map}
+use Rattle.tw_rows.proofs.Bags.{SameBag-refl}
 use Rattle.edge_history.specs.History.{CellEvent, of}
-use Rattle.edge_history.specs.Opens.{opens, open_of, singles, is_start}
+use Rattle.edge_history.specs.Opens.{opens, singles}
 use Rattle.edge_history.specs.Order.{many, is_from, IsHistory}
 use Rattle.edge_history.specs.Side.{reaches}
 use Rattle.edge_history.proofs.Waiting.{side_bound}

@@ -1,9 +1,8 @@
 -- Rows that leave, in parts and edge by edge.
-use Rattle.std.specs.Prelude.{◌≡◌, ℕ, ◌+◌, ◌<◌, ◌≤◌, ◌↔◌, IsTrue, ◌||◌, not, nat_lt, Bool, true, false, cond, List, [], ◌∷◌, ◌++◌, map, filter, length, get_or, take, drop, refl}
-use Rattle.std.proofs.Common.{sym, ◌∙◌, ap, subst, arith, append_assoc}
+use Rattle.std.specs.Prelude.{◌≡◌, ℕ, ◌+◌, ◌<◌, ◌≤◌, ◌||◌, not, Bool, true, false, cond, List, [], ◌∷◌, ◌++◌, map, filter, length, get_or, take, drop, refl}
+use Rattle.std.proofs.Common.{sym, ◌∙◌, ap, subst, arith}
 use Rattle.std.proofs.lemmas.Bool.{eq-eqb, and_from}
-use Rattle.std.proofs.lemmas.Bool.Decides.{nat_tests}
-use Rattle.std.proofs.lemmas.List.{drop_at, map_more, length-append}
+use Rattle.std.proofs.lemmas.List.{drop_at, length-append}
 use Rattle.tw_rows.specs.Bag.{SameBag, total}
 use Rattle.tw_rows.specs.SameCells.{same_itself}
 use Rattle.tw_rows.specs.declared.edge.Edge.{Edge}
@@ -11,8 +10,8 @@ use Rattle.tw_rows.specs.declared.edge.HeldRow.{HeldRow}
 use Rattle.tw_rows.proofs.Bags.{total-append, total-map, total-filter, total-flat_map, total-add, total_same, total_zero, SameBag-refl, SameBag-map}
 use Rattle.tw_rows.proofs.Fronts.{total_more, total_part}
 use Rattle.edge_history.specs.Order.{many, is_end}
-use Rattle.edge_history.specs.Opens.{ended_of, started_of, ended_rows, started_rows, is_held}
-use Rattle.sweep_laws.specs.Moves.{Adds, told_at}
+use Rattle.edge_history.specs.Opens.{ended_of, ended_rows, is_held}
+use Rattle.sweep_laws.specs.Moves.{told_at}
 use Rattle.sweep_laws.proofs.Adding.{adds_none, adds_then, adds_bag, rows_more}
 use Rattle.clip_op.specs.Leaving.{row_named, Leave, EndsHeld}
 

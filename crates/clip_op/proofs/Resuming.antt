@@ -1,5 +1,6 @@
 -- What is kept of a clip at first, in longer tables, and after it was saved and loaded.
-use Rattle.std.specs.Prelude.{◌≡◌, ℕ, min, true, false, List, [], ◌++◌, map, refl}
+use Rattle.std.specs.Prelude.{◌≡◌, ℕ, zero, suc, ◌<◌, All, min, true, false, List, [], ◌++◌, map, refl}
+use Rattle.std.specs.List.{list_all}
 use Rattle.std.proofs.Common.{sym, ◌∙◌, ap, subst, arith}
 use Rattle.std.proofs.lemmas.List.{append-nil}
 use Rattle.std.proofs.lemmas.List.Elements.{All-nil}
@@ -11,20 +12,24 @@ use Rattle.tw_rows.specs.declared.edge.HeldRow.{HeldRow}
 use Rattle.tw_rows.specs.declared.kind.CellKind.{CellKind}
 use Rattle.tw_rows.proofs.Bags.{SameBag-trans}
 use Rattle.edge_history.specs.Order.{failing}
+use Rattle.edge_history.specs.Opens.{is_start}
 use Rattle.edge_stream.specs.declared.saved.SavedEntry.{SavedEntry}
 use Rattle.end_queue.specs.Pending.{Pending}
 use Rattle.carried_edges.specs.Entries.{entries_of, part_of, are_of_parts}
-use Rattle.carried_edges.proofs.Parts.{part_of_own, part_of_other, part_of_append, parts_own, parts_append, all_pass}
+use Rattle.carried_edges.proofs.Parts.{parts_pass, part_of_own, part_of_other, part_of_append, parts_own, parts_append, all_pass}
 use Rattle.plan_model.specs.Meaning.{node_events}
 use Rattle.plan_model.specs.declared.node.Node.TheVariants.{Clip}
 use Rattle.node_laws.specs.Places.{AreDistinct, read_of}
 use Rattle.node_laws.specs.Standing.{StandsRead}
 use Rattle.node_laws.proofs.Standing.{placed_longer}
 use Rattle.node_laws.proofs.Steps.{keeps_read}
+use Rattle.operator.specs.Standing.{Standing, IsStoredAs, AreStoredAs}
 use Rattle.sweep_sides.specs.Waiting.{queued}
-use Rattle.sweep_sides.specs.Saving.{starts_of, rows_of, is_row_start, may_wait, are_row_starts, may_all_wait}
-use Rattle.sweep_sides.proofs.KeptSides.{rows_of_starts}
-use Rattle.clip_op.specs.States.{KeepsClip, AreSavedSides, ClipSound, ClipResumes}
+use Rattle.sweep_sides.proofs.KeptSides.{row_cells, waiting_cells}
+use Rattle.sweep_laws.specs.Saving.{starts_of, rows_of, is_row_start, may_wait, are_row_starts, may_all_wait}
+use Rattle.sweep_laws.proofs.Stored.{rows_of_starts}
+use Rattle.clip_op.specs.States.{KeepsClip, ClipSound, ClipResumes}
+use Rattle.clip_op.specs.Operating.{row_of_part}
 use Rattle.clip_op.proofs.Answering.{node_keeps}
 use Rattle.clip_op.proofs.Steps.{kept_none}
 
@@ -87,9 +92,22 @@ module _ (lk rk : List ℕ) (lc rc : List CellKind) where
   clip_loaded lk2 rk2 texts x y left left2 lq rq lq2 rq2 hl hr out e f a c d k =
       rw (e, f) (same_kept texts x y left left2 lq rq lq2 rq2 hl hr out a c d k)
 
-pub same_saved : (lc rc lc2 rc2 : List CellKind) (to to2 : ℕ) (entries : List SavedEntry) → lc2 ≡ lc → rc2 ≡ rc → to2 ≡ to → AreSavedSides lc2 rc2 to2 entries → AreSavedSides lc rc to entries
-same_saved lc rc lc2 rc2 to to2 entries e f g s =
-    subst (λ (k : List CellKind). AreSavedSides k rc to entries) e (subst (λ (k : List CellKind). AreSavedSides lc2 k to entries) f (subst (λ (t : ℕ). AreSavedSides lc2 rc2 t entries) g s))
+-- each entry of a sound state has the cells of its row
+pub clip_rows_stored : (s : Standing) (saved : List SavedEntry) (to : ℕ) (lc rc : List CellKind) → s.left_kinds ≡ lc → s.right_kinds ≡ rc → ClipSound lc rc to saved →
+    AreStoredAs row_of_part s saved
+clip_rows_stored s saved to lc rc el er sound = parts_pass (λ part. IsStoredAs s (row_of_part part)) 3 saved sound.parts each
+  where
+    left : (p : ℕ) → All (λ e. map datum_kind e.cells ≡ lc) (part_of p saved) → All (λ e. map datum_kind e.cells ≡ s.left_kinds) (part_of p saved)
+    left p h = subst (λ (k : List CellKind). All (λ (e : Edge). map datum_kind e.cells ≡ k) (part_of p saved)) (sym el) h
+
+    right : (p : ℕ) → All (λ e. map datum_kind e.cells ≡ rc) (part_of p saved) → All (λ e. map datum_kind e.cells ≡ s.right_kinds) (part_of p saved)
+    right p h = subst (λ (k : List CellKind). All (λ (e : Edge). map datum_kind e.cells ≡ k) (part_of p saved)) (sym er) h
+
+    each : (p : ℕ) → p < 3 → All (λ e. IsStoredAs s (row_of_part p) e.cells) (part_of p saved)
+    each zero low = left 0 (row_cells lc to (part_of 0 saved) sound.left)
+    each (suc zero) low = left 1 (waiting_cells lc to (part_of 1 saved) sound.left_waiting)
+    each (suc (suc zero)) low = right 2 (waiting_cells rc to (part_of 2 saved) sound.right_waiting)
+    each (suc (suc (suc n))) low = absurd (omega (arith, low))
 
 -- SAVING
 module _ (left : List HeldRow) (lw rw : List Edge) (s0 s1 s2 s3 : List SavedEntry) (empty : s0 ≡ []) (e1 : s1 ≡ s0 ++ entries_of 0 (starts_of left))
@@ -125,14 +143,13 @@ module _ (left : List HeldRow) (lw rw : List Edge) (s0 s1 s2 s3 : List SavedEntr
       ap (are_of_parts 3) all
       ∙ parts_append 3 (p0 ++ p1) p2 (parts_append 3 p0 p1 (parts_own 3 0 (starts_of left) refl) (parts_own 3 1 lw refl)) (parts_own 3 2 rw refl)
 
-  pub clip_saved : (lc rc : List CellKind) (to : ℕ) → failing (is_row_start lc to) (starts_of left) ≡ 0 → failing (may_wait lc to) lw ≡ 0 → failing (may_wait rc to) rw ≡ 0 → ClipSound lc rc to s3
-  clip_saved lc rc to a c d = record {
+  pub clip_saved : (lc rc : List CellKind) (to : ℕ) → failing (is_row_start lc to) (starts_of left) ≡ 0 → failing (may_wait lc to) lw ≡ 0 → failing (may_wait rc to) rw ≡ 0 → failing is_start rw ≡ 0 → ClipSound lc rc to s3
+  clip_saved lc rc to a c d e = record {
     parts = of_parts;
-    sides = record {
-      left = ap (are_row_starts lc to) left_part ∙ all_pass (is_row_start lc to) (starts_of left) a;
-      left_waiting = ap (may_all_wait lc to) left_rest ∙ all_pass (may_wait lc to) lw c;
-      right_waiting = ap (may_all_wait rc to) right_rest ∙ all_pass (may_wait rc to) rw d;
-    };
+    left = ap (are_row_starts lc to) left_part ∙ all_pass (is_row_start lc to) (starts_of left) a;
+    left_waiting = ap (may_all_wait lc to) left_rest ∙ all_pass (may_wait lc to) lw c;
+    right_waiting = ap (may_all_wait rc to) right_rest ∙ all_pass (may_wait rc to) rw d;
+    right_starts = ap (list_all is_start) right_rest ∙ all_pass is_start rw e;
   }
 
   pub clip_resumed : (lk rk : List ℕ) (lc rc : List CellKind) (texts : List (List ℕ)) (x y : ℕ) (hl hr out : List Edge) → ClipSound lc rc (min x y) s3 →

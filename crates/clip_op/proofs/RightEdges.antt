@@ -1,29 +1,18 @@
 -- The starts of a right side: which they are, and what waits of them.
-use Rattle.std.specs.Prelude.{◌≡◌, ℕ, ◌+◌, ◌<◌, ◌≤◌, ◌&&◌, ◌||◌, not, nat_eq, nat_lt, Bool, true, false, cond, List, [], ◌∷◌, ◌++◌, map, filter, All, refl}
-use Rattle.std.proofs.Common.{sym, ◌∙◌, ap, arith}
-use Rattle.std.proofs.lemmas.Bool.{eqb-true}
-use Rattle.std.proofs.lemmas.Bool.Decides.{nat_tests}
-use Rattle.std.proofs.lemmas.List.Elements.{All-head, All-tail, All-nil}
+use Rattle.std.specs.Prelude.{◌≡◌, ℕ, ◌+◌, ◌≤◌, List, ◌++◌, map, filter}
 use Rattle.tw_rows.specs.Instant.{inf}
 use Rattle.tw_rows.specs.Bag.{SameBag, total}
-use Rattle.tw_rows.specs.Cells.{datum_kind}
 use Rattle.tw_rows.specs.declared.edge.Edge.{Edge}
-use Rattle.tw_rows.specs.declared.kind.CellKind.{CellKind}
-use Rattle.tw_rows.proofs.Bags.{total-filter, total-flat_map, SameBag-trans}
-use Rattle.edge_history.specs.Order.{failing, is_real, is_end, is_from, is_below, IsReal, IsHistory}
+use Rattle.tw_rows.proofs.Bags.{SameBag-trans}
+use Rattle.edge_history.specs.Order.{failing, is_from, is_below, IsHistory}
 use Rattle.edge_history.specs.History.{of}
-use Rattle.edge_history.specs.Balance.{news, is_single, start_edge, end_edge}
-use Rattle.edge_history.specs.Opens.{singles_of, singles, is_start}
-use Rattle.edge_history.proofs.Sums.{weaker}
+use Rattle.edge_history.specs.Balance.{news}
+use Rattle.edge_history.specs.Opens.{singles, is_start}
 use Rattle.edge_history.proofs.Retaining.{events_of_are, valid_from, AreEvents-from}
 use Rattle.edge_history.proofs.Waiting.{starts_due}
-use Rattle.end_queue.specs.Pending.{Pending}
 use Rattle.sweep_laws.specs.Sweeps.{SyncsRise, IsDue}
 use Rattle.sweep_laws.specs.Unending.{unending}
 use Rattle.sweep_laws.proofs.Unending.{starts_are_news, unending_valid}
-use Rattle.sweep_sides.specs.Waiting.{queued, AreTimed}
-use Rattle.sweep_sides.specs.Saving.{store_all, may_wait, IsSide}
-use Rattle.sweep_sides.proofs.KeptSides.{both_hold, new_wait, side_stepped}
 use Rattle.sweep_sides.specs.Starts.{starts_from}
 
 -- what is due of them are the news of right events that never end

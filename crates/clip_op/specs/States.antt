@@ -1,5 +1,6 @@
 -- What a clip keeps between its steps, and what it saves.
 use Rattle.std.specs.Prelude.{◌≡◌, ℕ, ◌≤◌, min, Bool, true, false, List, [], length, map, All}
+use Rattle.std.specs.List.{list_all}
 use Rattle.tw_rows.specs.Cells.{datum_kind}
 use Rattle.tw_rows.specs.Kinds.{cell_kind_of}
 use Rattle.tw_rows.specs.Instant.{inf}
@@ -7,12 +8,15 @@ use Rattle.tw_rows.specs.declared.edge.Edge.{Edge}
 use Rattle.tw_rows.specs.declared.edge.HeldRow.{HeldRow}
 use Rattle.tw_rows.specs.declared.kind.Kind.{Kind}
 use Rattle.tw_rows.specs.declared.kind.CellKind.{CellKind}
+use Rattle.edge_history.specs.Order.{failing}
+use Rattle.edge_history.specs.Opens.{is_start}
 use Rattle.edge_stream.specs.declared.saved.SavedEntry.{SavedEntry}
 use Rattle.end_queue.specs.Pending.{Pending}
 use Rattle.carried_edges.specs.Entries.{part_of, are_of_parts}
 use Rattle.node_laws.specs.Places.{EdgesArePlaced}
 use Rattle.sweep_sides.specs.Waiting.{queued, AreTimed}
-use Rattle.sweep_sides.specs.Saving.{IsSide, rows_of, are_row_starts, may_all_wait}
+use Rattle.sweep_sides.specs.Sides.{IsSide}
+use Rattle.sweep_laws.specs.Saving.{rows_of, are_row_starts, may_all_wait}
 use Rattle.clip_op.specs.declared.sides.Sides.{Sides}
 use Rattle.clip_op.specs.Holding.{ClipKeeps}
 
@@ -22,10 +26,11 @@ pub record SidesKeep (s : Sides) (to : ℕ) (hl hr out : List Edge) : Type 0 whe
   pub right_timed : AreTimed s.right_waiting
   pub kept : ClipKeeps s.rows.left.key s.rows.right_key.columns s.rows.left.rows (queued s.left_waiting) (queued s.right_waiting) to hl hr out
 
--- left rows that began before a time, and edges of both sides from it on, of such columns
+-- left rows that began before a time, left edges and right starts from it on, of such columns
 pub record AreSides (left_kinds right_kinds : List CellKind) (to : ℕ) (s : Sides) : Type 0 where
   pub left : IsSide left_kinds to s.rows.left.rows s.left_waiting
   pub right : IsSide right_kinds to [] s.right_waiting
+  pub right_starts : failing is_start (queued s.right_waiting) ≡ 0
 
 -- the same of a clip that works
 pub record IsWorking (s : Sides) (left_kinds right_kinds : List Kind) (capacity to : ℕ) : Type 0 where
@@ -55,17 +60,14 @@ pub record IsOpening (left : List HeldRow) (left_waiting right_waiting : List Pe
   pub right_open : y ≡ 0
   pub works : failed ≡ false
 
--- the entries of the part 0 are left rows that began before a time, as their starts, and those of 1 and 2 edges of the left
--- and of the right side that wait from it on. Up to 7, a row may have begun at 6, and none at 7
-pub record AreSavedSides (left_kinds right_kinds : List CellKind) (to : ℕ) (entries : List SavedEntry) : Type 0 where
+-- the entries are of three parts: 0, left rows that began before a time, as their starts, 1, left edges that wait from it on,
+-- and 2, right starts that do. Up to 7, a row may have begun at 6, and none at 7
+pub record ClipSound (left_kinds right_kinds : List CellKind) (to : ℕ) (entries : List SavedEntry) : Type 0 where
+  pub parts : are_of_parts 3 entries ≡ true
   pub left : are_row_starts left_kinds to (part_of 0 entries) ≡ true
   pub left_waiting : may_all_wait left_kinds to (part_of 1 entries) ≡ true
   pub right_waiting : may_all_wait right_kinds to (part_of 2 entries) ≡ true
-
--- there are no entries of other parts
-pub record ClipSound (left_kinds right_kinds : List CellKind) (to : ℕ) (entries : List SavedEntry) : Type 0 where
-  pub parts : are_of_parts 3 entries ≡ true
-  pub sides : AreSavedSides left_kinds right_kinds to entries
+  pub right_starts : list_all is_start (part_of 2 entries) ≡ true
 
 -- the entries are what is kept after the edges came in and were answered
 pub record ClipResumes (left_key right_key : List ℕ) (left_kinds right_kinds : List CellKind) (texts : List (List ℕ)) (x y : ℕ)

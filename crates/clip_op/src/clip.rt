@@ -1,7 +1,6 @@
 // The operator of a clip.
-ghost use Rattle.std.specs.Prelude.{◌≡◌, ◌≤◌, ◌++◌, ℕ, min, map, length, false, is_err, List, [], IfOk, OnOk};
+ghost use Rattle.std.specs.Prelude.{◌≡◌, ◌≤◌, min, map, length, false, is_err, [], IfOk, OnOk};
 ghost use Rattle.tw_rows.specs.Kinds.{cell_kind_of};
-ghost use Rattle.tw_rows.specs.declared.edge.Edge.{Edge};
 ghost use Rattle.edge_stream.specs.Listing.{cells_of};
 ghost use Rattle.clip_op.specs.Keys.{SameKeys};
 ghost use Rattle.clip_op.specs.States.{IsWorking};
@@ -34,13 +33,6 @@ pub struct Clip {
     ghost working: { failed ≡ false → IsWorking sides left_kinds.items right_kinds.items capacity (min left_to right_to) },
 }
 
-// The lesser of two times.
-pub(crate) fn lesser(a: Time, b: Time) -> Time
-    ensures { result ≡ min a b }
-{
-    if a < b { a } else { b }
-}
-
 // No rows and no edges, by these key columns.
 fn no_sides(alloc: Global, left_key: &[usize], right_key: &[usize]) -> Result<Sides, Memory>
     ensures left_key { IfOk result (λ s. s.rows.left.key ≡ left_key.now) }
@@ -60,9 +52,8 @@ fn no_sides(alloc: Global, left_key: &[usize], right_key: &[usize]) -> Result<Si
 }
 
 impl Clip {
-    ghost use Rattle.operator.specs.Steps.{MayCome, ComeBetween};
-    ghost use Rattle.clip_op.specs.States.{IsOpening};
-    ghost use Rattle.clip_op.specs.Operating.{IsKept};
+    ghost use Rattle.operator.specs.Steps.{StaysKept, ComeBetween};
+    ghost use Rattle.clip_op.specs.Operating.{standing, IsNew, IsKept};
 
     /// A clip of nothing yet, by these key columns, of rows with columns of these kinds, in batches of that capacity.
     pub fn new(
@@ -80,7 +71,7 @@ impl Clip {
         ensures left_kinds { IfOk result (λ c. c.left_kinds.items ≡ left_kinds.now) }
         ensures right_kinds { IfOk result (λ c. c.right_kinds.items ≡ right_kinds.now) }
         ensures capacity { IfOk result (λ c. c.capacity ≡ capacity) }
-        ensures opening { IfOk result (λ c. IsOpening c.sides.rows.left.rows c.sides.left_waiting c.sides.right_waiting c.left_to c.right_to c.failed) }
+        ensures opening { IfOk result IsNew }
     {
         Ok(Clip {
             sides: no_sides(alloc, left_key, right_key)?,
@@ -112,10 +103,10 @@ impl Clip {
         requires left_capacity { left.capacity ≡ self.old.capacity }
         requires right_capacity { right.capacity ≡ self.old.capacity }
         requires capacity { pools.old.capacity ≡ self.old.capacity }
-        ensures kept { IfOk result (λ answer. (texts : List (List ℕ)) (hl hr out : List Edge) → IsKept self.old texts hl hr out →
-            MayCome texts self.old.left_to hl left.edges → MayCome texts self.old.right_to hr right.edges →
-            IsKept self.new texts (hl ++ left.edges) (hr ++ right.edges) (out ++ answer.edges)
-            × ComeBetween (min self.old.left_to self.old.right_to) (min left_to right_to) answer.edges) }
+        ensures kept { IfOk result (λ answer. StaysKept (standing self.old)
+            (IsKept self.old) (IsKept self.new) left.edges right.edges answer.edges) }
+        ensures between { IfOk result (λ answer.
+            ComeBetween (min self.old.left_to self.old.right_to) (min left_to right_to) answer.edges) }
         ensures kinds { IfOk result (λ answer. cells_of answer ≡ map cell_kind_of self.old.left_kinds.items) }
         ensures capacity { IfOk result (λ answer. answer.capacity ≡ self.old.capacity) }
         ensures pools { pools.new.capacity ≡ pools.old.capacity }
@@ -131,7 +122,8 @@ impl Clip {
         self.failed = true;
         // Their calls tell the proof that both are times.
         let _ = (left_to.word(), right_to.word());
-        let to = lesser(left_to, right_to);
+        let from = self.left_to.min(self.right_to);
+        let to = left_to.min(right_to);
         let told = self.sides.advance(&left, &right, to)?;
         left.give_back(pools);
         right.give_back(pools);
@@ -140,6 +132,8 @@ impl Clip {
             pools,
             self.left_kinds.as_slice(),
             self.capacity,
+            from,
+            to,
             told.as_slice(),
         )?;
         self.left_to = left_to;

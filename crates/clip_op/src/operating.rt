@@ -1,55 +1,31 @@
 // The operator of a Clip, in its form for every node.
-ghost use Rattle.std.specs.Prelude.{◌≡◌};
+ghost use Rattle.std.specs.Prelude.{◌≡◌, false, IfErr, OnOk, OnErr};
 
-use crate::clip::{Clip, lesser};
+use crate::clip::Clip;
+use crate::sides::is_sound;
 use batch::Pools;
-use carried_edges::are_of_parts;
 use edge_stream::{EdgeList, LoadFault, PartRow, Saved, StepFault};
 use operator::Operator;
 use sweep_sides::{kept_count, save_rows, save_waiting};
 use tw_rows::{Memory, Time};
 
 impl Operator for Clip {
-    ghost use Rattle.std.specs.Prelude.{◌+◌, nat_eq, length, min, map, cond, Some, None};
-    ghost use Rattle.tw_rows.specs.Kinds.{cell_kind_of};
-    ghost use Rattle.edge_stream.specs.declared.saved.PartRow.TheVariants.{Left, Right};
-    ghost use Rattle.edge_history.specs.History.{of};
-    ghost use Rattle.plan_model.specs.declared.node.Node.TheVariants.{Clip as ClipNode};
-    ghost use Rattle.plan_model.specs.Nodes.{node_in};
-    ghost use Rattle.plan_laws.specs.Held.{may_hold};
-    ghost use Rattle.node_laws.specs.Keeping.{plain_cells};
-    ghost use Rattle.clip_op.specs.States.{IsOpening, ClipSound, ClipResumes};
-    ghost use Rattle.clip_op.specs.Operating.{IsKept};
+    ghost use Rattle.operator.specs.Standing.{Implies, IsLike};
+    ghost use Rattle.clip_op.specs.Operating.{standing as clip_standing, entries as clip_entries, IsNew, IsKept, IsSound, Resumes, row_of_part as clip_row};
 
-    ghost keeps = { λ s texts hl hr out. IsKept s texts hl hr out };
+    ghost keeps = { IsKept };
 
-    ghost is_opening = { λ s. IsOpening s.sides.rows.left.rows s.sides.left_waiting s.sides.right_waiting s.left_to s.right_to s.failed };
+    ghost is_opening = { IsNew };
 
-    ghost node = { λ s. ClipNode 0 1 s.sides.rows.left.key s.sides.rows.right_key.columns };
+    ghost standing = { clip_standing };
 
-    ghost left_closed = { λ s. s.left_to };
+    ghost sound = { IsSound };
 
-    ghost right_closed = { λ s. s.right_to };
+    ghost resumes = { Resumes };
 
-    ghost left_kinds = { λ s. map cell_kind_of s.left_kinds.items };
+    ghost entries = { clip_entries };
 
-    ghost right_kinds = { λ s. map cell_kind_of s.right_kinds.items };
-
-    ghost own_kinds = { λ s. map cell_kind_of s.left_kinds.items };
-
-    ghost batch_rows = { λ s. s.capacity };
-
-    ghost has_failed = { λ s. s.failed };
-
-    ghost sound = { λ s saved x y. ClipSound (map cell_kind_of s.left_kinds.items) (map cell_kind_of s.right_kinds.items) (min x y) saved };
-
-    ghost resumes = { λ s saved x y texts hl hr out. ClipResumes s.sides.rows.left.key s.sides.rows.right_key.columns (map cell_kind_of s.left_kinds.items) (map cell_kind_of s.right_kinds.items) texts x y saved hl hr out };
-
-    ghost entries = { λ s. length s.sides.rows.left.rows + length s.sides.left_waiting + length s.sides.right_waiting };
-
-    ghost most = { λ s hl hr out. may_hold (ClipNode 0 1 s.sides.rows.left.key s.sides.rows.right_key.columns) s.left_to (min s.left_to s.right_to) (of hl) (of hr) (node_in plain_cells (ClipNode 0 1 s.sides.rows.left.key s.sides.rows.right_key.columns) (of hl) (of hr)) };
-
-    ghost row_of_part = { λ part. cond (nat_eq part 0) (Some Left) (cond (nat_eq part 1) (Some Left) (cond (nat_eq part 2) (Some Right) None)) };
+    ghost row_of_part = { clip_row };
 
     fn step(
         &mut self,
@@ -81,18 +57,32 @@ impl Operator for Clip {
         Ok(saved)
     }
 
-    fn load(&mut self, saved: &Saved, left_to: Time, right_to: Time) -> Result<(), LoadFault> {
-        if !are_of_parts(saved, 3) {
-            return Err(LoadFault::NotState);
-        }
-        let to = lesser(left_to, right_to);
-        self.sides.take_up(
+    /// Memory is asked for only where the entries are sound.
+    fn load(&mut self, saved: &Saved, left_to: Time, right_to: Time) -> Result<(), LoadFault>
+        requires { IsNew self.old }
+        ensures resumed { OnOk result (
+            Implies (Resumes self.old saved.now left_to right_to) (IsKept self.new)) }
+        ensures sound { OnOk result (IsSound self.old saved.now left_to right_to) }
+        ensures refused { IfErr result (λ fault. fault ≡ LoadFault.NotState →
+            IsSound self.old saved.now left_to right_to → ⊥) }
+        ensures memory { IfErr result (λ fault. fault ≡ LoadFault.Memory →
+            IsSound self.old saved.now left_to right_to) }
+        ensures left_to { OnOk result ((clip_standing self.new).left_closed ≡ left_to) }
+        ensures right_to { OnOk result ((clip_standing self.new).right_closed ≡ right_to) }
+        ensures works { OnOk result ((clip_standing self.new).has_failed ≡ false) }
+        ensures opening { OnErr result (IsNew self.new) }
+        ensures like { IsLike (clip_standing self.old) (clip_standing self.new) }
+    {
+        let to = left_to.min(right_to);
+        if !is_sound(
             saved,
-            self.left_key.as_slice(),
             self.left_kinds.as_slice(),
             self.right_kinds.as_slice(),
             to,
-        )?;
+        ) {
+            return Err(LoadFault::NotState);
+        }
+        self.sides.take_up(saved, self.left_key.as_slice())?;
         self.left_to = left_to;
         self.right_to = right_to;
         Ok(())

@@ -1,24 +1,22 @@
 -- What a step of a Session answers: a list in order, with the columns of its rows.
-use Rattle.std.specs.Prelude.{◌≡◌, ℕ, ◌≤◌, ◌&&◌, nat_lt, nat_le, Bool, true, false, cond, IsTrue, List, [], ◌∷◌, ◌++◌, map, All, refl}
+use Rattle.std.specs.Prelude.{◌≡◌, ℕ, ◌≤◌, nat_lt, Bool, true, false, cond, IsTrue, List, [], ◌++◌, map, All}
 use Rattle.std.proofs.Common.{sym, ◌∙◌, ap, subst, arith}
 use Rattle.std.proofs.lemmas.Bool.Decides.{nat_tests}
-use Rattle.std.proofs.lemmas.List.Elements.{All-nil, All-cons, All-head, All-tail, All-append}
-use Rattle.tw_rows.specs.Bag.{SameBag, total}
+use Rattle.std.proofs.lemmas.List.Elements.{All-weaker, All-append}
+use Rattle.tw_rows.specs.Bag.{SameBag}
 use Rattle.tw_rows.specs.Cells.{datum_kind}
-use Rattle.tw_rows.specs.Kinds.{cell_kind_of}
 use Rattle.tw_rows.specs.Instant.{inf}
 use Rattle.tw_rows.specs.SameCells.{same_cells}
 use Rattle.tw_rows.specs.declared.edge.Edge.{Edge}
 use Rattle.tw_rows.specs.declared.edge.HeldRow.{HeldRow}
-use Rattle.tw_rows.specs.declared.kind.Kind.{Kind}
 use Rattle.tw_rows.specs.declared.kind.CellKind.{CellKind}
-use Rattle.tw_rows.proofs.Bags.{total-map, total-flat_map, total_zero}
-use Rattle.edge_history.specs.Balance.{news_of, news, Told}
+use Rattle.tw_rows.proofs.Bags.{total-map}
+use Rattle.edge_history.specs.Balance.{news, Told}
 use Rattle.edge_history.specs.History.{CellEvent, of}
 use Rattle.edge_history.specs.Order.{failing, KeepsOrder}
 use Rattle.edge_history.proofs.Agreeing.{same_order}
 use Rattle.edge_history.proofs.Keeping.{KeepsOrder-back}
-use Rattle.edge_history.proofs.Sums.{sum_eq, failing-All}
+use Rattle.edge_history.proofs.Sums.{failing-All}
 use Rattle.edge_history.proofs.Telling.{answer_from, answer_below}
 use Rattle.end_queue.specs.Pending.{Pending}
 use Rattle.key_nodes.specs.Sessions.{session}
@@ -27,10 +25,11 @@ use Rattle.plan_model.specs.Nodes.{node_in}
 use Rattle.node_laws.specs.Keeping.{Keeps, plain_cells}
 use Rattle.node_laws.proofs.Standing.{all_of}
 use Rattle.node_laws.proofs.Steps.{keeps_stand}
-use Rattle.operator.specs.Steps.{MayCome, ComeBetween}
-use Rattle.sweep_sides.specs.Saving.{store_all}
-use Rattle.sweep_sides.proofs.KeptSides.{kinds_stored}
-use Rattle.sweep_sides.proofs.Telling.{All-weaker, told_stored}
+use Rattle.operator.specs.Steps.{MayCome}
+use Rattle.sweep_laws.specs.Saving.{store_all}
+use Rattle.sweep_laws.proofs.Stored.{kinds_stored}
+use Rattle.sweep_sides.proofs.Telling.{told_stored, between_both}
+use Rattle.sweep_sides.specs.Answers.{FitsList}
 use Rattle.synopsis.specs.Held.{key_of}
 use Rattle.session_window.specs.Windows.{windows}
 use Rattle.session_window.specs.Holding.{SessionKeeps}
@@ -82,8 +81,7 @@ pub session_stepped : (columns columns2 : List ℕ) (timeout timeout2 : ℕ) (ki
     KeepsSession columns timeout kinds texts x rows ends waiting hl hr out → MayCome texts x hl l → MayCome texts y hr r →
     All (λ e. map datum_kind e.cells ≡ kinds) l → SessionKeeps columns2 timeout2 rows2 ends2 waiting2 u (hl ++ l) (out ++ told) →
     SameBag told (news x u (windows columns timeout (of (hl ++ l)))) →
-    (KeepsOrder told → All (λ e. map datum_kind e.cells ≡ kinds) told → answer ≡ told) →
-    KeepsSession columns2 timeout2 kinds texts u rows2 ends2 waiting2 (hl ++ l) (hr ++ r) (out ++ answer) × ComeBetween x u answer
+    (FitsList kinds x u told → answer ≡ told) → KeepsSession columns2 timeout2 kinds texts u rows2 ends2 waiting2 (hl ++ l) (hr ++ r) (out ++ answer)
 session_stepped columns columns2 timeout timeout2 kinds texts x y u rows rows2 ends ends2 waiting waiting2 hl hr l r out told answer pos lu k ml mr cells kept2 same listed =
     let cells_l : All (λ e. map datum_kind e.cells ≡ kinds) (hl ++ l) = All-append (λ (e : Edge). map datum_kind e.cells ≡ kinds) hl l k.left_cells cells in
     let keeps : KeepsSession columns2 timeout2 kinds texts u rows2 ends2 waiting2 (hl ++ l) (hr ++ r) (out ++ told) = record {
@@ -95,8 +93,10 @@ session_stepped columns columns2 timeout timeout2 kinds texts x y u rows rows2 e
       kept = kept2;
     } in
     let order = KeepsOrder-back out told (out_order columns2 timeout2 kinds texts u rows2 ends2 waiting2 (hl ++ l) (hr ++ r) (out ++ told) pos keeps) in
-    let is = listed order (told_cells kinds columns timeout x u (hl ++ l) told cells_l same) in
-    let events = windows columns timeout (of (hl ++ l)) in (
-      subst (λ (z : List Edge). KeepsSession columns2 timeout2 kinds texts u rows2 ends2 waiting2 (hl ++ l) (hr ++ r) (out ++ z)) (sym is) keeps,
-      subst (λ (z : List Edge). ComeBetween x u z) (sym is) (record { from = answer_from x u told events same; below = answer_below x u told events same }),
-    )
+    let events = windows columns timeout (of (hl ++ l)) in
+    let is = listed (record {
+      order = order;
+      cells = told_cells kinds columns timeout x u (hl ++ l) told cells_l same;
+      between = between_both x u told (answer_from x u told events same) (answer_below x u told events same);
+    }) in
+    subst (λ (z : List Edge). KeepsSession columns2 timeout2 kinds texts u rows2 ends2 waiting2 (hl ++ l) (hr ++ r) (out ++ z)) (sym is) keeps

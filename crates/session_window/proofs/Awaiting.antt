@@ -1,9 +1,7 @@
 -- The entries of keys, as rows come and go.
-use Rattle.std.specs.Prelude.{◌≡◌, ◌↔◌, ◌⊎◌, IsTrue, ℕ, zero, suc, ◌+◌, ◌<◌, ◌≤◌, ◌&&◌, nat_eq, nat_le, nat_lt, Bool, true, false, cond, min, Some, List, [], ◌∷◌, ◌++◌, All, filter, length, get_or, slice_get, take, drop, map, refl}
+use Rattle.std.specs.Prelude.{◌≡◌, ◌⊎◌, ℕ, zero, suc, ◌+◌, ◌<◌, ◌≤◌, ◌&&◌, nat_eq, nat_le, nat_lt, Bool, true, false, cond, min, Some, List, [], ◌∷◌, ◌++◌, All, filter, length, get_or, slice_get, map, refl}
 use Rattle.std.proofs.Common.{inl, inr, sym, ◌∙◌, ap, subst, arith}
 use Rattle.std.proofs.lemmas.Bool.Decides.{nat_tests}
-use Rattle.std.proofs.Math.Seq.{take-add}
-use Rattle.std.proofs.lemmas.List.{take-append-drop}
 use Rattle.std.proofs.lemmas.List.Elements.{All-head, All-tail}
 use Rattle.tw_rows.specs.Bag.{total}
 use Rattle.tw_rows.specs.Instant.{inf, later}
@@ -11,13 +9,12 @@ use Rattle.tw_rows.specs.SameCells.{same_cells, same_itself, cells_are_same}
 use Rattle.tw_rows.specs.declared.cells.Datum.{Datum}
 use Rattle.tw_rows.specs.declared.edge.Edge.{Edge}
 use Rattle.tw_rows.specs.declared.edge.HeldRow.{HeldRow}
-use Rattle.tw_rows.proofs.Bags.{total-append, total-map, total-filter, total_same, total_zero, total-flat_map, SameBag-refl}
-use Rattle.edge_history.specs.Order.{many, failing, is_end}
-use Rattle.edge_history.specs.Opens.{started_of, started_rows}
+use Rattle.tw_rows.proofs.Bags.{total-append, total-map, total-filter, total_same, total_zero}
+use Rattle.edge_history.specs.Order.{many, failing}
 use Rattle.end_queue.specs.Pending.{Pending, put_pending, AreDueFrom}
 use Rattle.synopsis.specs.Held.{key_of, is_of_key}
 use Rattle.sweep_laws.specs.Moves.{Adds, told_at}
-use Rattle.sweep_laws.proofs.Adding.{adds_none, adds_then, adds_bag, rows_more}
+use Rattle.sweep_laws.proofs.Adding.{adds_none, adds_then, adds_bag}
 use Rattle.sweep_sides.proofs.Queued.{put_weighs}
 use Rattle.session_window.specs.Lasts.{IsLastStart}
 use Rattle.session_window.specs.Kept.{is_for, is_for_at, keeps_to, waits_from, waits_below, is_placed_at, Await, Ends}

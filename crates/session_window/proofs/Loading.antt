@@ -2,14 +2,9 @@
 use Rattle.std.specs.Prelude.{◌≡◌, ℕ, ◌+◌, List, [], refl}
 use Rattle.std.proofs.Common.{sym, ap, subst, arith}
 use Rattle.tw_rows.specs.Bag.{SameBag, total}
-use Rattle.tw_rows.specs.Instant.{inf}
 use Rattle.tw_rows.specs.declared.edge.HeldRow.{HeldRow}
-use Rattle.tw_rows.specs.declared.kind.CellKind.{CellKind}
-use Rattle.tw_rows.proofs.Bags.{SameBag-map}
 use Rattle.edge_history.specs.Order.{failing}
-use Rattle.edge_history.proofs.Sums.{failing-same}
 use Rattle.end_queue.specs.Pending.{Pending}
-use Rattle.sweep_sides.specs.Saving.{starts_of, is_row_start}
 use Rattle.session_window.specs.Kept.{HasOne, is_placed_at}
 
 none_yet : (columns : List ℕ) → HasOne columns [] []
@@ -23,7 +18,3 @@ none_placed t ends e = ap (λ (l : List Pending). failing (is_placed_at t) l) e
 
 pub rows_same : (rows2 rows0 rows : List HeldRow) → rows0 ≡ [] → ((w : HeldRow → ℕ) → total w rows2 ≡ total w rows0 + total w rows) → SameBag rows2 rows
 rows_same rows2 rows0 rows e h = record { weigh = λ w. (let a = h w in let b = ap (total w) e in omega (arith, a, b)) }
-
-pub started_same : (kinds : List CellKind) (to : ℕ) (rows2 rows : List HeldRow) → SameBag rows2 rows → failing (is_row_start kinds to) (starts_of rows) ≡ 0 → failing (is_row_start kinds to) (starts_of rows2) ≡ 0
-started_same kinds to rows2 rows same h =
-    failing-same (is_row_start kinds to) (starts_of rows2) (starts_of rows) (SameBag-map (λ (r : HeldRow). record { sync = r.start; other = inf; cells = r.cells }) rows2 rows same) h

@@ -1,8 +1,9 @@
 -- What is kept of a Session at first, in longer tables, how much it is, and after it was saved and loaded.
-use Rattle.std.specs.Prelude.{◌≡◌, ℕ, zero, suc, ◌+◌, ◌*◌, ◌≤◌, ◌&&◌, nat_eq, nat_lt, nat_le, Bool, true, false, cond, Option, None, Some, List, [], ◌∷◌, ◌++◌, filter, length, map, refl}
+use Rattle.std.specs.Prelude.{◌≡◌, ℕ, zero, suc, ◌+◌, ◌<◌, ◌≤◌, ◌&&◌, nat_eq, nat_lt, nat_le, Bool, true, false, cond, Option, None, Some, List, [], ◌++◌, length, map, All, refl}
+use Rattle.std.specs.List.{list_all}
 use Rattle.std.proofs.Common.{sym, ◌∙◌, ap, subst, arith}
 use Rattle.std.proofs.lemmas.Bool.Decides.{nat_tests}
-use Rattle.std.proofs.lemmas.List.{append-nil, length-map}
+use Rattle.std.proofs.lemmas.List.{append-nil}
 use Rattle.std.proofs.lemmas.List.Elements.{All-nil}
 use Rattle.tw_rows.specs.Bag.{SameBag, total}
 use Rattle.tw_rows.specs.Cells.{ArePlaced, datum_kind}
@@ -13,17 +14,16 @@ use Rattle.tw_rows.specs.declared.cells.Datum.{Datum}
 use Rattle.tw_rows.specs.declared.edge.Edge.{Edge}
 use Rattle.tw_rows.specs.declared.edge.HeldRow.{HeldRow}
 use Rattle.tw_rows.specs.declared.kind.CellKind.{CellKind}
-use Rattle.tw_rows.proofs.Bags.{SameBag-refl, SameBag-trans, SameBag-filter, total-flat_map, total-filter, total_same, total_swap, total_zero}
+use Rattle.tw_rows.proofs.Bags.{SameBag-trans, SameBag-filter, total_same, total_swap, total_zero}
 use Rattle.edge_history.specs.History.{CellEvent, of}
-use Rattle.edge_history.specs.Order.{failing, many, is_from, IsHistory}
-use Rattle.edge_history.specs.Opens.{opens, open_of, singles, is_start}
+use Rattle.edge_history.specs.Order.{failing, many}
+use Rattle.edge_history.specs.Opens.{is_start}
 use Rattle.edge_history.specs.Side.{reaches}
 use Rattle.edge_history.proofs.Sums.{sum_le, weaker}
-use Rattle.edge_history.proofs.Waiting.{side_bound}
 use Rattle.edge_stream.specs.declared.saved.SavedEntry.{SavedEntry}
 use Rattle.end_queue.specs.Pending.{Pending}
 use Rattle.carried_edges.specs.Entries.{entries_of, part_of, are_of_parts}
-use Rattle.carried_edges.proofs.Parts.{part_of_own, part_of_other, part_of_append, parts_own, parts_append, all_pass as all_of_list}
+use Rattle.carried_edges.proofs.Parts.{parts_pass, part_of_own, part_of_other, part_of_append, parts_own, parts_append, all_pass as all_of_list}
 use Rattle.plan_model.specs.declared.node.Node.TheVariants.{Session}
 use Rattle.plan_model.specs.Meaning.{node_events}
 use Rattle.plan_model.specs.Nodes.{node_in}
@@ -36,8 +36,10 @@ use Rattle.node_laws.proofs.Steps.{keeps_read}
 use Rattle.synopsis.specs.Held.{key_of, is_of_key}
 use Rattle.synopsis.proofs.Keyed.{ones}
 use Rattle.sweep_sides.specs.Waiting.{queued}
-use Rattle.sweep_sides.specs.Saving.{starts_of, rows_of, is_row_start, may_wait, are_row_starts, may_all_wait}
-use Rattle.sweep_sides.proofs.KeptSides.{rows_of_starts, open_few, starts_few}
+use Rattle.sweep_laws.specs.Saving.{starts_of, rows_of, is_row_start, may_wait, are_row_starts, may_all_wait}
+use Rattle.operator.specs.Standing.{Standing, IsStoredAs, AreStoredAs}
+use Rattle.sweep_sides.proofs.KeptSides.{row_cells, waiting_cells, open_few, starts_few}
+use Rattle.sweep_laws.proofs.Stored.{rows_of_starts}
 use Rattle.session_window.specs.Kept.{is_for, is_for_at, keeps_to, waits_from, is_placed_at, HasOne}
 use Rattle.session_window.specs.Windows.{windows}
 use Rattle.session_window.specs.Holding.{SessionHeld}
@@ -45,6 +47,7 @@ use Rattle.session_window.specs.States.{KeepsSession, IsOpening, SessionSound, S
 use Rattle.session_window.proofs.Members.{In, found, counted, passes, all_pass}
 use Rattle.session_window.proofs.Keys.{same_turned, parts, last_there}
 use Rattle.session_window.proofs.Steps.{kept_none}
+use Rattle.session_window.specs.Operating.{row_of_part}
 use Rattle.session_window.proofs.Answering.{node_keeps, windows_are}
 
 module _ (columns : List ℕ) (timeout : ℕ) (kinds : List CellKind) (pos : 1 ≤ timeout) where
@@ -163,6 +166,19 @@ module _ (columns : List ℕ) (timeout : ℕ) (kinds : List CellKind) (pos : 1 �
         };
       }))
 
+-- each entry of a sound state has the cells of its row
+pub session_rows_stored : (s : Standing) (saved : List SavedEntry) (x : ℕ) (kinds : List CellKind) → s.left_kinds ≡ kinds → SessionSound kinds x saved →
+    AreStoredAs row_of_part s saved
+session_rows_stored s saved x kinds el sound = parts_pass (λ part. IsStoredAs s (row_of_part part)) 2 saved sound.parts each
+  where
+    left : (p : ℕ) → All (λ e. map datum_kind e.cells ≡ kinds) (part_of p saved) → All (λ e. map datum_kind e.cells ≡ s.left_kinds) (part_of p saved)
+    left p h = subst (λ (k : List CellKind). All (λ (e : Edge). map datum_kind e.cells ≡ k) (part_of p saved)) (sym el) h
+
+    each : (p : ℕ) → p < 2 → All (λ e. IsStoredAs s (row_of_part p) e.cells) (part_of p saved)
+    each zero low = left 0 (row_cells kinds x (part_of 0 saved) sound.rows)
+    each (suc zero) low = left 1 (waiting_cells kinds x (part_of 1 saved) sound.waiting)
+    each (suc (suc n)) low = absurd (omega (arith, low))
+
 -- HOW MUCH IS KEPT
 -- no more entries than rows
 ends_few : (columns : List ℕ) (rows : List HeldRow) (ends : List Pending) → HasOne columns rows ends → length ends ≤ length rows
@@ -225,11 +241,12 @@ module _ (rows : List HeldRow) (waiting : List Edge) (s0 s1 s2 : List SavedEntry
   waiting_part : part_of 1 s2 ≡ waiting
   waiting_part = cut_of 1 ∙ (λ i. part_of_other 1 0 (starts_of rows) refl i ++ part_of_own 1 waiting i)
 
-  pub session_saved : (kinds : List CellKind) (x : ℕ) → failing (is_row_start kinds x) (starts_of rows) ≡ 0 → failing (may_wait kinds x) waiting ≡ 0 → SessionSound kinds x s2
-  session_saved kinds x a b = record {
+  pub session_saved : (kinds : List CellKind) (x : ℕ) → failing (is_row_start kinds x) (starts_of rows) ≡ 0 → failing (may_wait kinds x) waiting ≡ 0 → failing is_start waiting ≡ 0 → SessionSound kinds x s2
+  session_saved kinds x a b e = record {
     parts = ap (are_of_parts 2) all ∙ parts_append 2 (entries_of 0 (starts_of rows)) (entries_of 1 waiting) (parts_own 2 0 (starts_of rows) refl) (parts_own 2 1 waiting refl);
     rows = ap (are_row_starts kinds x) rows_part ∙ all_of_list (is_row_start kinds x) (starts_of rows) a;
     waiting = ap (may_all_wait kinds x) waiting_part ∙ all_of_list (may_wait kinds x) waiting b;
+    starts = ap (list_all is_start) waiting_part ∙ all_of_list is_start waiting e;
   }
 
   pub session_resumed : (columns : List ℕ) (timeout : ℕ) (kinds : List CellKind) (texts : List (List ℕ)) (x : ℕ) (ends : List Pending) (left right out : List Edge) → SessionSound kinds x s2 →

@@ -2,7 +2,6 @@
 ghost use Rattle.std.specs.Prelude.{◌≡◌, [], ◌∷◌, ◌++◌, IfOk, OnOk, OnErr};
 ghost use Rattle.session_window.specs.Lasts.{IsLastStart};
 
-use crate::times::later_of;
 use std::alloc::Global;
 use std::marker::Model;
 use tw_rows::{Cells, HeldRow, Memory, Time};
@@ -42,7 +41,7 @@ impl OneSession {
         ensures err { OnErr result (self.new ≡ self.old) }
     {
         self.rows.push(HeldRow { cells, start })?;
-        self.last = later_of(self.last, start);
+        self.last = self.last.max(start);
         Ok(())
     }
 

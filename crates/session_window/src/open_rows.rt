@@ -22,9 +22,12 @@ fn put_row(
     cells: Cells,
     start: Time,
 ) -> Result<bool, Memory>
-    ensures rows { OnOk result ((w : HeldRow → ℕ) → total w (rows_in sessions.new.entries) ≡ total w (rows_in sessions.old.entries) + w (record { cells = cells; start = start })) }
-    ensures keyed { OnOk result ((columns : List ℕ) → key.now ≡ key_of columns cells → AreKeyed columns sessions.old.entries → AreKeyed columns sessions.new.entries) }
-    ensures first { IfOk result (λ first. (columns : List ℕ) → AreKeyed columns sessions.old.entries → first ≡ nat_eq (many (is_of_key columns key.now) (rows_in sessions.old.entries)) 0) }
+    ensures rows { OnOk result ((w : HeldRow → ℕ) → total w (rows_in sessions.new.entries)
+        ≡ total w (rows_in sessions.old.entries) + w (record { cells = cells; start = start })) }
+    ensures keyed { OnOk result ((columns : List ℕ) → key.now ≡ key_of columns cells →
+        AreKeyed columns sessions.old.entries → AreKeyed columns sessions.new.entries) }
+    ensures first { IfOk result (λ first. (columns : List ℕ) → AreKeyed columns sessions.old.entries → first
+        ≡ nat_eq (many (is_of_key columns key.now) (rows_in sessions.old.entries)) 0) }
     ensures err { OnErr result (sessions.new.entries ≡ sessions.old.entries) }
 {
     if let Some(session) = sessions.get_mut(key) {
@@ -39,8 +42,10 @@ fn put_row(
 
 // The last start of the rows of a key.
 fn last_of(sessions: &IndexMap<Vec<Datum>, OneSession>, key: &[Datum]) -> Option<Time>
-    ensures some { IfSome result (λ last. (columns : List ℕ) → AreKeyed columns sessions.now.entries → IsLastStart last (filter (is_of_key columns key.now) (rows_in sessions.now.entries))) }
-    ensures none { IfNone result ((columns : List ℕ) → AreKeyed columns sessions.now.entries → filter (is_of_key columns key.now) (rows_in sessions.now.entries) ≡ []) }
+    ensures some { IfSome result (λ last. (columns : List ℕ) → AreKeyed columns sessions.now.entries →
+        IsLastStart last (filter (is_of_key columns key.now) (rows_in sessions.now.entries))) }
+    ensures none { IfNone result ((columns : List ℕ) → AreKeyed columns sessions.now.entries →
+        filter (is_of_key columns key.now) (rows_in sessions.now.entries) ≡ []) }
 {
     // Its call tells the proof that no key stands twice.
     let _ = sessions.len();
@@ -56,8 +61,10 @@ fn take_rows(
     sessions: &mut IndexMap<Vec<Datum>, OneSession>,
     key: &[Datum],
 ) -> Vec<HeldRow>
-    ensures taken { (w : HeldRow → ℕ) → total w (rows_in sessions.old.entries) ≡ total w (rows_in sessions.new.entries) + total w result.items }
-    ensures own { (columns : List ℕ) → AreKeyed columns sessions.old.entries → result.items ≡ filter (is_of_key columns key.now) (rows_in sessions.old.entries) }
+    ensures taken { (w : HeldRow → ℕ) → total w (rows_in sessions.old.entries)
+        ≡ total w (rows_in sessions.new.entries) + total w result.items }
+    ensures own { (columns : List ℕ) → AreKeyed columns sessions.old.entries →
+        result.items ≡ filter (is_of_key columns key.now) (rows_in sessions.old.entries) }
     ensures keyed { (columns : List ℕ) → AreKeyed columns sessions.old.entries → AreKeyed columns sessions.new.entries }
 {
     // Its call tells the proof that no key stands twice.
@@ -108,8 +115,10 @@ impl OpenRows {
 
     /// Puts in a row, and tells whether it is the first of its key. Want of memory changes no row.
     pub(crate) fn add(&mut self, cells: Cells, start: Time) -> Result<bool, Memory>
-        ensures ok { OnOk result ((w : HeldRow → ℕ) → total w self.new.rows ≡ total w self.old.rows + w (record { cells = cells; start = start })) }
-        ensures first { IfOk result (λ first. first ≡ nat_eq (many (is_of_key self.old.key (key_of self.old.key cells)) self.old.rows) 0) }
+        ensures ok { OnOk result ((w : HeldRow → ℕ) → total w self.new.rows ≡ total w self.old.rows
+            + w (record { cells = cells; start = start })) }
+        ensures first { IfOk result (λ first. first ≡ nat_eq (many (is_of_key self.old.key
+            (key_of self.old.key cells)) self.old.rows) 0) }
         ensures values { OnOk result (self.new.values ≡ key_of self.old.key cells) }
         ensures err { OnErr result (self.new.rows ≡ self.old.rows) }
         ensures key { self.new.key ≡ self.old.key }

@@ -1,54 +1,31 @@
 // The operator of a Session, in its form for every node.
-use crate::saving::{load_side, save_open};
+ghost use Rattle.std.specs.Prelude.{◌≡◌, false, IfErr, OnOk, OnErr};
+
+use crate::saving::{is_sound, load_side, save_open};
 use crate::session::Session;
 use batch::Pools;
-use carried_edges::are_of_parts;
 use edge_stream::{EdgeList, LoadFault, PartRow, Saved, StepFault};
 use operator::Operator;
 use sweep_sides::save_waiting;
 use tw_rows::{Memory, Time};
 
 impl Operator for Session {
-    ghost use Rattle.std.specs.Prelude.{◌+◌, [], nat_lt, length, map, cond, Some, None};
-    ghost use Rattle.tw_rows.specs.Kinds.{cell_kind_of};
-    ghost use Rattle.edge_stream.specs.declared.saved.PartRow.TheVariants.{Left};
-    ghost use Rattle.edge_history.specs.History.{of};
-    ghost use Rattle.plan_model.specs.declared.node.Node.TheVariants.{Session as SessionNode};
-    ghost use Rattle.plan_model.specs.Nodes.{node_in};
-    ghost use Rattle.plan_laws.specs.Held.{may_hold};
-    ghost use Rattle.node_laws.specs.Keeping.{plain_cells};
-    ghost use Rattle.session_window.specs.States.{IsOpening, SessionSound, SessionResumes};
-    ghost use Rattle.session_window.specs.Operating.{IsKept};
+    ghost use Rattle.operator.specs.Standing.{Implies, IsLike};
+    ghost use Rattle.session_window.specs.Operating.{standing as session_standing, entries as session_entries, IsNew, IsKept, IsSound, Resumes, row_of_part as session_row};
 
-    ghost keeps = { λ s texts hl hr out. IsKept s texts hl hr out };
+    ghost keeps = { IsKept };
 
-    ghost is_opening = { λ s. IsOpening s.side.sessions.rows.rows s.side.sessions.ends s.side.waiting s.left_to s.right_to s.failed };
+    ghost is_opening = { IsNew };
 
-    ghost node = { λ s. SessionNode 0 s.side.sessions.timeout s.side.sessions.rows.key };
+    ghost standing = { session_standing };
 
-    ghost left_closed = { λ s. s.left_to };
+    ghost sound = { IsSound };
 
-    ghost right_closed = { λ s. s.right_to };
+    ghost resumes = { Resumes };
 
-    ghost left_kinds = { λ s. map cell_kind_of s.kinds.items };
+    ghost entries = { session_entries };
 
-    ghost right_kinds = { λ s. [] };
-
-    ghost own_kinds = { λ s. map cell_kind_of s.kinds.items };
-
-    ghost batch_rows = { λ s. s.capacity };
-
-    ghost has_failed = { λ s. s.failed };
-
-    ghost sound = { λ s saved x y. SessionSound (map cell_kind_of s.kinds.items) x saved };
-
-    ghost resumes = { λ s saved x y texts hl hr out. SessionResumes s.side.sessions.rows.key s.side.sessions.timeout (map cell_kind_of s.kinds.items) texts x saved hl hr out };
-
-    ghost entries = { λ s. length s.side.sessions.rows.rows + length s.side.sessions.ends + length s.side.waiting };
-
-    ghost most = { λ s hl hr out. may_hold (SessionNode 0 s.side.sessions.timeout s.side.sessions.rows.key) s.left_to s.left_to (of hl) (of hr) (node_in plain_cells (SessionNode 0 s.side.sessions.timeout s.side.sessions.rows.key) (of hl) (of hr)) };
-
-    ghost row_of_part = { λ part. cond (nat_lt part 2) (Some Left) None };
+    ghost row_of_part = { session_row };
 
     fn step(
         &mut self,
@@ -81,8 +58,23 @@ impl Operator for Session {
         Ok(saved)
     }
 
-    fn load(&mut self, saved: &Saved, left_to: Time, right_to: Time) -> Result<(), LoadFault> {
-        if !are_of_parts(saved, 2) {
+    /// Memory is asked for only where the entries are sound.
+    fn load(&mut self, saved: &Saved, left_to: Time, right_to: Time) -> Result<(), LoadFault>
+        requires { IsNew self.old }
+        ensures resumed { OnOk result (
+            Implies (Resumes self.old saved.now left_to right_to) (IsKept self.new)) }
+        ensures sound { OnOk result (IsSound self.old saved.now left_to right_to) }
+        ensures refused { IfErr result (λ fault. fault ≡ LoadFault.NotState →
+            IsSound self.old saved.now left_to right_to → ⊥) }
+        ensures memory { IfErr result (λ fault. fault ≡ LoadFault.Memory →
+            IsSound self.old saved.now left_to right_to) }
+        ensures left_to { OnOk result ((session_standing self.new).left_closed ≡ left_to) }
+        ensures right_to { OnOk result ((session_standing self.new).right_closed ≡ right_to) }
+        ensures works { OnOk result ((session_standing self.new).has_failed ≡ false) }
+        ensures opening { OnErr result (IsNew self.new) }
+        ensures like { IsLike (session_standing self.old) (session_standing self.new) }
+    {
+        if !is_sound(saved, self.kinds.as_slice(), left_to) {
             return Err(LoadFault::NotState);
         }
         let side = load_side(
@@ -90,7 +82,6 @@ impl Operator for Session {
             self.side.sessions.timeout,
             self.side.sessions.rows.columns(),
             saved,
-            self.kinds.as_slice(),
             left_to,
         )?;
         self.side = side;

@@ -51,9 +51,8 @@ pub(crate) fn no_side(alloc: Global, timeout: u64, key: &[usize]) -> Result<Side
 }
 
 impl Session {
-    ghost use Rattle.operator.specs.Steps.{MayCome, ComeBetween};
-    ghost use Rattle.session_window.specs.States.{IsOpening};
-    ghost use Rattle.session_window.specs.Operating.{IsKept};
+    ghost use Rattle.operator.specs.Steps.{StaysKept, ComeBetween};
+    ghost use Rattle.session_window.specs.Operating.{standing, IsNew, IsKept};
 
     /// A Session of nothing yet, with this timeout and these key columns, of rows with columns of these kinds, in batches of
     /// that capacity.
@@ -71,7 +70,7 @@ impl Session {
         ensures timeout { IfOk result (λ s. s.side.sessions.timeout ≡ timeout) }
         ensures kinds { IfOk result (λ s. s.kinds.items ≡ kinds.now) }
         ensures capacity { IfOk result (λ s. s.capacity ≡ capacity) }
-        ensures opening { IfOk result (λ s. IsOpening s.side.sessions.rows.rows s.side.sessions.ends s.side.waiting s.left_to s.right_to s.failed) }
+        ensures opening { IfOk result IsNew }
     {
         Ok(Session {
             side: no_side(alloc, timeout, key)?,
@@ -98,10 +97,9 @@ impl Session {
         requires left_capacity { left.capacity ≡ self.old.capacity }
         requires right_capacity { right.capacity ≡ self.old.capacity }
         requires capacity { pools.old.capacity ≡ self.old.capacity }
-        ensures kept { IfOk result (λ answer. (texts : List (List ℕ)) (hl hr out : List Edge) → IsKept self.old texts hl hr out →
-            MayCome texts self.old.left_to hl left.edges → MayCome texts self.old.right_to hr right.edges →
-            IsKept self.new texts (hl ++ left.edges) (hr ++ right.edges) (out ++ answer.edges)
-            × ComeBetween self.old.left_to left_to answer.edges) }
+        ensures kept { IfOk result (λ answer. StaysKept (standing self.old)
+            (IsKept self.old) (IsKept self.new) left.edges right.edges answer.edges) }
+        ensures between { IfOk result (λ answer. ComeBetween self.old.left_to left_to answer.edges) }
         ensures kinds { IfOk result (λ answer. cells_of answer ≡ map cell_kind_of self.old.kinds.items) }
         ensures capacity { IfOk result (λ answer. answer.capacity ≡ self.old.capacity) }
         ensures pools { pools.new.capacity ≡ pools.old.capacity }
@@ -124,6 +122,8 @@ impl Session {
             pools,
             self.kinds.as_slice(),
             self.capacity,
+            self.left_to,
+            left_to,
             told.as_slice(),
         )?;
         self.left_to = left_to;

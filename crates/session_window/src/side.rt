@@ -6,9 +6,11 @@ ghost use Rattle.tw_rows.specs.Instant.{inf};
 ghost use Rattle.tw_rows.specs.declared.edge.Edge.{Edge};
 ghost use Rattle.edge_history.specs.Order.{failing, is_from, IsHistory};
 ghost use Rattle.edge_history.specs.History.{of};
+ghost use Rattle.edge_history.specs.Opens.{is_start};
 ghost use Rattle.edge_history.specs.Balance.{news};
 ghost use Rattle.edge_stream.specs.Listing.{cells_of};
-ghost use Rattle.sweep_sides.specs.Saving.{IsSide};
+ghost use Rattle.sweep_sides.specs.Waiting.{queued};
+ghost use Rattle.sweep_sides.specs.Sides.{IsSide};
 ghost use Rattle.session_window.specs.Windows.{windows};
 ghost use Rattle.session_window.specs.Sessions.{IsLike};
 
@@ -37,11 +39,15 @@ impl Side {
     ) -> Result<Vec<Edge>, Memory>
         requires low { from ≤ to }
         requires high { to ≤ inf }
-        ensures kept { IfOk result (λ answer. (hl out : List Edge) → 1 ≤ self.old.sessions.timeout → SideKeeps self.old from hl out →
-            IsHistory (hl ++ left.now.edges) → failing (is_from from) left.now.edges ≡ 0 →
-            SideKeeps self.new to (hl ++ left.now.edges) (out ++ answer.items)
-            × SameBag answer.items (news from to (windows self.old.sessions.rows.key self.old.sessions.timeout (of (hl ++ left.now.edges))))) }
-        ensures side { OnOk result (IsSide (cells_of left.now) from self.old.sessions.rows.rows self.old.waiting → IsSide (cells_of left.now) to self.new.sessions.rows.rows self.new.waiting) }
+        ensures kept { IfOk result (λ answer. (hl out : List Edge) → 1 ≤ self.old.sessions.timeout →
+            SideKeeps self.old from hl out → IsHistory (hl ++ left.now.edges) → failing (is_from from) left.now.edges
+            ≡ 0 → SideKeeps self.new to (hl ++ left.now.edges) (out ++ answer.items)
+            × SameBag answer.items (news from to (windows self.old.sessions.rows.key self.old.sessions.timeout (of
+            (hl ++ left.now.edges))))) }
+        ensures side { OnOk result (IsSide (cells_of left.now) from self.old.sessions.rows.rows self.old.waiting →
+            IsSide (cells_of left.now) to self.new.sessions.rows.rows self.new.waiting) }
+        ensures starts { OnOk result (failing is_start (queued self.old.waiting) ≡ 0 →
+            failing is_start (queued self.new.waiting) ≡ 0) }
         ensures cells { OnOk result (All (λ e. map datum_kind e.cells ≡ cells_of left.now) left.now.edges) }
         ensures like { IsLike self.old.sessions self.new.sessions }
     {

@@ -28,3 +28,4 @@ pub mod Queueing
 pub mod QueueMoves
 pub mod Matching
 pub mod Ahead
+pub mod Stored

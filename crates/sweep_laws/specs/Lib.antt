@@ -12,3 +12,4 @@ pub mod Antijoining
 pub mod Unending
 pub mod Queues
 pub mod Waits
+pub mod Saving

@@ -1,5 +1,5 @@
 -- What putting in and taking out make of what waits.
-use Rattle.std.specs.Prelude.{◌≡◌, ℕ, ◌+◌, ◌<◌, ◌≤◌, nat_eq, nat_lt, nat_le, ◌||◌, Bool, true, false, cond, List, [], ◌∷◌, ◌++◌, All, refl}
+use Rattle.std.specs.Prelude.{◌≡◌, ℕ, ◌+◌, ◌<◌, ◌≤◌, nat_eq, nat_lt, nat_le, Bool, true, false, cond, List, [], ◌∷◌, ◌++◌, All, refl}
 use Rattle.std.proofs.Common.{sym, ◌∙◌, ap, subst, arith}
 use Rattle.std.proofs.lemmas.Bool.{eqb-true, eq-eqb}
 use Rattle.std.proofs.lemmas.Bool.Decides.{nat_tests}
@@ -7,10 +7,7 @@ use Rattle.std.proofs.lemmas.List.Elements.{All-head, All-tail}
 use Rattle.tw_rows.specs.Bag.{total}
 use Rattle.tw_rows.specs.declared.edge.Edge.{Edge}
 use Rattle.tw_rows.proofs.Bags.{total-append, total-map}
-use Rattle.edge_history.specs.Order.{failing, is_below, is_from, is_end}
-use Rattle.edge_history.specs.Balance.{is_single, given, start_edge, end_edge}
-use Rattle.edge_history.specs.Opens.{singles_of}
-use Rattle.tw_rows.specs.Instant.{inf}
+use Rattle.edge_history.specs.Order.{failing, is_below, is_from}
 use Rattle.end_queue.specs.Pending.{Pending, put_pending, AreDueFrom}
 use Rattle.sweep_laws.specs.Sweeps.{SyncsRise}
 use Rattle.sweep_sides.specs.Waiting.{queued, AreTimed}
@@ -148,22 +145,3 @@ rest_waits to (p ∷ q) low timed =
     let z = zero_of (nat_le to p.edge.sync) (le_true to p.edge.sync (omega (arith, here, s))) in
     let r = rest_waits to q (All-tail (λ (p : Pending). to ≤ p.at) p q low) (omega (arith, timed)) in
     omega (arith, z, r)
-
--- the single edges of an edge that is one, and of an interval
-pub one_single : (e : Edge) → is_single e ≡ true → singles_of e ≡ e ∷ []
-one_single e h = ap (λ b. cond b (e ∷ []) (start_edge (given e) ∷ end_edge (given e) ∷ [])) h
-
-pub two_singles : (e x y : Edge) → is_single e ≡ false → x ≡ record { sync = e.sync; other = inf; cells = e.cells } → y ≡ record { sync = e.other; other = e.sync; cells = e.cells } →
-    (w : Edge → ℕ) → total w (singles_of e) ≡ w x + w y
-two_singles e x y h is also w =
-    let a = ap (λ b. total w (cond b (e ∷ []) (start_edge (given e) ∷ end_edge (given e) ∷ []))) h in
-    let i : is_end e ≡ false = no_end (is_end e) (nat_eq e.other inf) h in
-    let s = ap (λ b. w (record { sync = cond b e.other e.sync; other = inf; cells = e.cells })) i in
-    let t = ap (λ b. w (record { sync = cond b e.sync e.other; other = cond b e.other e.sync; cells = e.cells })) i in
-    let u = ap w is in
-    let v = ap w also in
-    omega (arith, a, s, t, u, v)
-  where
-    no_end : (b c : Bool) → (b || c) ≡ false → b ≡ false
-    no_end false c h = refl
-    no_end true c h = absurd (cc)

@@ -1,9 +1,10 @@
 -- The starts of new edges: which they are, and a side that keeps them alone.
 use Rattle.std.specs.Prelude.{◌≡◌, ℕ, ◌+◌, ◌<◌, ◌≤◌, ◌||◌, nat_eq, nat_lt, not, Bool, true, false, cond, List, [], ◌∷◌, ◌++◌, All, filter, map, refl}
+use Rattle.std.specs.List.{list_all}
 use Rattle.std.proofs.Common.{sym, ◌∙◌, ap, arith}
 use Rattle.std.proofs.lemmas.Bool.Decides.{nat_tests}
 use Rattle.std.proofs.lemmas.List.Elements.{All-nil, All-cons, All-head, All-tail}
-use Rattle.tw_rows.specs.Bag.{total}
+use Rattle.tw_rows.specs.Bag.{SameBag, total}
 use Rattle.tw_rows.specs.Cells.{datum_kind}
 use Rattle.tw_rows.specs.Instant.{inf}
 use Rattle.tw_rows.specs.declared.edge.Edge.{Edge}
@@ -12,11 +13,13 @@ use Rattle.tw_rows.specs.declared.kind.CellKind.{CellKind}
 use Rattle.tw_rows.proofs.Bags.{total-append, total-flat_map, total-filter}
 use Rattle.edge_history.specs.Order.{failing, is_end, is_below, is_from, IsReal}
 use Rattle.edge_history.specs.Opens.{singles, singles_of, is_start, started_rows}
+use Rattle.edge_history.proofs.Sums.{failing-same}
+use Rattle.carried_edges.proofs.Parts.{none_fails}
 use Rattle.end_queue.specs.Pending.{Pending}
 use Rattle.sweep_sides.specs.Waiting.{queued, AreTimed}
-use Rattle.sweep_sides.specs.Saving.{IsSide}
+use Rattle.sweep_sides.specs.Sides.{IsSide}
 use Rattle.sweep_sides.proofs.KeptSides.{side_stepped}
-use Rattle.sweep_sides.proofs.Queued.{one_single}
+use Rattle.sweep_laws.proofs.Stored.{one_single}
 use Rattle.sweep_sides.specs.Starts.{start_in, starts_in}
 
 one_start : (w : Edge → ℕ) (e : Edge) → IsReal e → total w (start_in e) ≡ total (λ x. cond (is_start x) (w x) 0) (singles_of e)
@@ -125,3 +128,30 @@ pub starts_stepped : (kinds : List CellKind) (c d : ℕ) (rows rows2 : List Held
 starts_stepped kinds c d rows rows2 waiting put rest new due low s real cells puts parts below from timed fewer =
     side_stepped kinds c d rows rows2 waiting put rest (starts_in new) due low s (starts_real new real) (starts_kinds kinds new cells)
     (λ w. (let a = puts w in let b = alone w new in omega (arith, a, b))) parts below from timed fewer
+
+-- what waits are starts, also when new starts came
+starts_alone : (es : List Edge) → All IsReal es → failing is_start (starts_in es) ≡ 0
+starts_alone [] r = refl
+starts_alone (e ∷ es) r = go (is_end e) (starts_alone es (All-tail IsReal e es r))
+  where
+    never : (m n : ℕ) → m < n → nat_lt n m ≡ false
+    never m n l = grind (arith, nat_tests)
+
+    here : cond {A = ℕ} (not (nat_lt inf e.sync)) 0 1 ≡ 0
+    here = ap (λ b. cond {A = ℕ} (not b) 0 1) (never e.sync inf (All-head IsReal e es r).instant)
+
+    go : (b : Bool) → failing is_start (starts_in es) ≡ 0 → failing is_start (cond b [] (record { sync = e.sync; other = inf; cells = e.cells } ∷ []) ++ starts_in es) ≡ 0
+    go true h = h
+    go false h = let z = here in omega (arith, z, h)
+
+pub starts_stay : (waiting put rest : List Pending) (new due : List Edge) → All IsReal new → failing is_start (queued waiting) ≡ 0 →
+    ((w : Edge → ℕ) → total w (queued put) ≡ total w (queued waiting) + total w (starts_in new)) → ((w : Edge → ℕ) → total w due + total w (queued rest) ≡ total w (queued put)) → failing is_start (queued rest) ≡ 0
+starts_stay waiting put rest new due real before puts parts =
+    let a = puts (λ e. cond (is_start e) 0 1) in
+    let b = parts (λ e. cond (is_start e) 0 1) in
+    let n = starts_alone new real in
+    omega (arith, a, b, n, before)
+
+-- and those that were loaded
+pub starts_loaded : (waiting : List Pending) (edges : List Edge) → SameBag (queued waiting) edges → list_all is_start edges ≡ true → failing is_start (queued waiting) ≡ 0
+starts_loaded waiting edges same all = failing-same is_start (queued waiting) edges same (none_fails is_start edges all)

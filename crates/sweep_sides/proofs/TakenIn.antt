@@ -18,7 +18,7 @@ use Rattle.edge_history.specs.Opens.{singles, singles_of, started_rows}
 use Rattle.end_queue.specs.Pending.{Pending}
 use Rattle.sweep_laws.specs.Sweeps.{SyncsRise}
 use Rattle.sweep_sides.specs.Waiting.{queued, AreTimed}
-use Rattle.sweep_sides.specs.Saving.{IsSide}
+use Rattle.sweep_sides.specs.Sides.{IsSide}
 use Rattle.sweep_sides.proofs.Queued.{zero_of, lt_true, first_timed, rest_waits}
 use Rattle.sweep_sides.proofs.KeptSides.{side_stepped}
 

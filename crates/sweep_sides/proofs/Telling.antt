@@ -1,9 +1,10 @@
 -- What every sweep tells, and what its answer is made of.
-use Rattle.std.specs.Prelude.{◌≡◌, ◌↔◌, IsTrue, ℕ, ◌+◌, ◌<◌, ◌≤◌, ◌&&◌, nat_lt, nat_le, Bool, true, false, cond, List, [], ◌∷◌, ◌++◌, map, length, get_or, take, All, refl}
+use Rattle.std.specs.Prelude.{◌≡◌, ◌↔◌, IsTrue, ℕ, ◌+◌, ◌<◌, ◌≤◌, ◌&&◌, nat_lt, nat_le, Bool, true, false, cond, List, [], ◌∷◌, ◌++◌, map, length, get_or, take, drop, All, refl}
 use Rattle.std.proofs.Common.{sym, ◌∙◌, ap, subst, arith, append_assoc}
+use Rattle.std.proofs.lemmas.Bool.{and_parts}
 use Rattle.std.proofs.lemmas.Bool.Decides.{nat_tests}
-use Rattle.std.proofs.lemmas.List.{map_more}
-use Rattle.std.proofs.lemmas.List.Elements.{All-nil, All-cons, All-head, All-tail}
+use Rattle.std.proofs.lemmas.List.{map_more, take-append-drop}
+use Rattle.std.proofs.lemmas.List.Elements.{All-weaker, All-nil, All-cons, All-head, All-tail}
 use Rattle.tw_rows.specs.Bag.{SameBag, total}
 use Rattle.tw_rows.specs.Cells.{datum_kind}
 use Rattle.tw_rows.specs.Instant.{inf}
@@ -17,12 +18,13 @@ use Rattle.tw_rows.proofs.Bags.{SameBag-refl, total-append, total-map, total-fla
 use Rattle.edge_history.specs.Balance.{news_of, news}
 use Rattle.edge_history.specs.History.{CellEvent}
 use Rattle.edge_history.specs.Opens.{started_of, started_rows}
-use Rattle.edge_history.specs.Order.{failing, is_end, is_from, KeepsOrder}
-use Rattle.edge_history.proofs.Sums.{weaker, sum_eq, failing-All}
+use Rattle.edge_history.specs.Order.{failing, is_below, is_end, is_from}
+use Rattle.edge_history.proofs.Sums.{weaker, sum_eq, failing-All, failing-both, failing-parts}
 use Rattle.sweep_laws.specs.Moves.{Adds, told_at}
 use Rattle.sweep_laws.proofs.Adding.{adds_none, adds_then, adds_bag, rows_more}
-use Rattle.sweep_sides.specs.Saving.{store_all}
-use Rattle.sweep_sides.proofs.KeptSides.{stored_kinds}
+use Rattle.sweep_laws.specs.Saving.{store_all}
+use Rattle.sweep_laws.proofs.Stored.{stored_kinds}
+use Rattle.sweep_sides.specs.Answers.{is_between, FitsList}
 
 -- the test of an end edge, as the code has it
 pub end_is : (b : Bool) (e : Edge) → IsTrue b ↔ (e.other < e.sync) → is_end e ≡ b
@@ -86,12 +88,6 @@ from_lesser c x l low = weaker (is_from x) (is_from c) l (λ e late. earlier e l
     earlier : (e : Edge) → is_from x e ≡ true → is_from c e ≡ true
     earlier e h = grind (arith, nat_tests)
 
--- one test from another, item by item
-module _ {X : Type 0} (P Q : X → Type 0) (h : (x : X) → P x → Q x) where
-  pub All-weaker : (xs : List X) → All P xs → All Q xs
-  All-weaker [] a = All-nil Q
-  All-weaker (x ∷ xs) a = All-cons Q x xs (h x (All-head P x xs a)) (All-weaker xs (All-tail P x xs a))
-
 -- what is told of events has the columns of the events
 news_one : (own : List CellKind) (c d : ℕ) (e : CellEvent) → store_all own e.row ≡ true → total (λ (x : Edge). cond {A = ℕ} (store_all own x.cells) 0 1) (news_of c d e) ≡ 0
 news_one own c d e h = go (nat_le c e.start && nat_lt e.start d) (nat_le c e.end && nat_lt e.end d)
@@ -115,10 +111,21 @@ told_stored own c d events answer stored same =
     ((failing-All (λ (e : Edge). store_all own e.cells) answer).0 each)
 
 -- the list of what was told, of equal kinds and edges
-pub list_is : (kinds kinds2 : List Kind) (told told2 answer : List Edge) → kinds2 ≡ kinds → told2 ≡ told →
-    (KeepsOrder told2 → All (λ e. map datum_kind e.cells ≡ map cell_kind_of kinds2) told2 → answer ≡ told2) →
-    KeepsOrder told → All (λ e. map datum_kind e.cells ≡ map cell_kind_of kinds) told → answer ≡ told
-list_is kinds kinds2 told told2 answer e f h order cells =
-    h (subst KeepsOrder (sym f) order)
-    (subst (λ (ks : List Kind). All (λ (x : Edge). map datum_kind x.cells ≡ map cell_kind_of ks) told2) (sym e)
-    (subst (λ (l : List Edge). All (λ (x : Edge). map datum_kind x.cells ≡ map cell_kind_of kinds) l) (sym f) cells)) ∙ f
+pub list_is : (kinds kinds2 : List Kind) (c d : ℕ) (told told2 answer : List Edge) → kinds2 ≡ kinds → told2 ≡ told →
+    (FitsList (map cell_kind_of kinds2) c d told2 → answer ≡ told2) → FitsList (map cell_kind_of kinds) c d told → answer ≡ told
+list_is kinds kinds2 c d told told2 answer e f h fits =
+    h (subst (λ (ks : List Kind). FitsList (map cell_kind_of ks) c d told2) (sym e) (subst (λ (l : List Edge). FitsList (map cell_kind_of kinds) c d l) (sym f) fits)) ∙ f
+
+-- edges that come from c on and below d
+pub between_both : (c d : ℕ) (h : List Edge) → failing (is_from c) h ≡ 0 → failing (is_below d) h ≡ 0 → failing (is_between c d) h ≡ 0
+between_both c d h from below = failing-both (is_from c) (is_below d) h from below
+
+pub between_parts : (c d : ℕ) (h : List Edge) → failing (is_between c d) h ≡ 0 → (failing (is_from c) h ≡ 0) × (failing (is_below d) h ≡ 0)
+between_parts c d h all = (
+  weaker (is_between c d) (is_from c) h (λ e k. (and_parts (is_from c e) (is_below d e) k).0) all,
+  weaker (is_between c d) (is_below d) h (λ e k. (and_parts (is_from c e) (is_below d e) k).1) all,
+)
+
+-- and the first of them
+pub between_part : (c d i : ℕ) (h : List Edge) → failing (is_between c d) h ≡ 0 → failing (is_between c d) (take i h) ≡ 0
+between_part c d i h all = (failing-parts (is_between c d) (take i h) (drop i h) (ap (failing (is_between c d)) (take-append-drop i h) ∙ all)).0

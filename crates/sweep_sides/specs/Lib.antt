@@ -1,5 +1,6 @@
 -- Callers read all of these.
 pub mod Waiting
 pub mod Starts
-pub mod Saving
+pub mod Sides
 pub mod Ends
+pub mod Answers

@@ -12,7 +12,10 @@ mod waiting;
 
 pub use answer::list_of;
 pub use instants::{first_instant, next_instant, rest};
-pub use saving::{kept_count, load_rows, load_waiting, save_block, save_rows, save_waiting};
+pub use saving::{
+    are_rows, are_starts, can_wait, kept_count, load_rows, load_waiting, save_block, save_rows,
+    save_waiting,
+};
 pub use starts::put_starts;
 pub use taking::take_in;
 pub use waiting::{put_all, take_due};

@@ -1,16 +1,18 @@
 // What is kept of a side, as saved entries and back.
-ghost use Rattle.std.specs.Prelude.{◌≡◌, ◌+◌, ◌-◌, ◌^◌, ◌++◌, nat_eq, nat_le, true, map, length, min, IfOk, IfErr, OnOk};
+ghost use Rattle.std.specs.Prelude.{◌≡◌, ◌+◌, ◌-◌, ◌^◌, ◌++◌, nat_eq, nat_lt, nat_le, map, length, min, IfOk, OnOk};
+ghost use Rattle.std.specs.List.{list_all};
 ghost use Rattle.tw_rows.specs.Bag.{SameBag};
 ghost use Rattle.tw_rows.specs.Instant.{inf};
 ghost use Rattle.tw_rows.specs.Kinds.{cell_kind_of};
-ghost use Rattle.edge_history.specs.Order.{failing, is_below, is_from, is_real};
-ghost use Rattle.carried_edges.specs.Entries.{entries_of, part_of};
+ghost use Rattle.edge_history.specs.Order.{is_end as ends, is_real};
+ghost use Rattle.edge_history.specs.Opens.{is_start};
+ghost use Rattle.carried_edges.specs.Entries.{entries_of, part_of, saved_edge};
+ghost use Rattle.sweep_laws.specs.Saving.{store_all, starts_of, rows_of, is_row_start, may_wait, are_row_starts, may_all_wait};
 ghost use Rattle.sweep_sides.specs.Waiting.{queued, AreTimed};
-ghost use Rattle.sweep_sides.specs.Saving.{store_all, starts_of, rows_of, is_row_start, may_wait, are_row_starts, may_all_wait};
 
-use crate::waiting::{is_single, put};
+use crate::waiting::put;
 use carried_edges::{edges_of_part, is_stored_as, save_edges};
-use edge_stream::{LoadFault, Saved, SavedEntry};
+use edge_stream::{Saved, SavedEntry};
 use end_queue::EndQueue;
 use std::alloc::Global;
 use synopsis::Synopsis;
@@ -62,50 +64,59 @@ pub fn save_waiting(
     Ok(())
 }
 
-// Whether columns of these kinds store the cells of the edge.
-fn stores(edge: &Edge, kinds: &[Kind]) -> bool
-    ensures { result ≡ store_all (map cell_kind_of kinds.now) edge.now.cells }
+// Whether columns of these kinds store the cells of the entry.
+fn stores(entry: &SavedEntry, kinds: &[Kind]) -> bool
+    ensures { result ≡ store_all (map cell_kind_of kinds.now) entry.now.cells }
 {
-    is_stored_as(edge.cells.items(), kinds)
+    is_stored_as(entry.cells.items(), kinds)
 }
 
-// Whether the edge has no end yet.
-fn is_open(edge: &Edge) -> bool
-    ensures { result ≡ nat_eq edge.now.other inf }
+// Whether the entry has no end yet.
+fn is_open(entry: &SavedEntry) -> bool
+    ensures { result ≡ nat_eq entry.now.other inf }
 {
-    edge.other == Time::bounds().1
+    entry.other == Time::bounds().1
 }
 
-pub(crate) fn comes_before(edge: &Edge, to: Time) -> bool
-    ensures { result ≡ is_below to edge.now }
+// Whether the entry names an end before its time.
+fn is_end(entry: &SavedEntry) -> bool
+    ensures { result ≡ ends (saved_edge entry.now) }
 {
-    edge.sync < to
+    entry.other < entry.sync
 }
 
-fn comes_from(edge: &Edge, from: Time) -> bool
-    ensures { result ≡ is_from from edge.now }
+fn comes_before(entry: &SavedEntry, to: Time) -> bool
+    ensures { result ≡ nat_lt entry.now.sync to }
 {
-    from <= edge.sync
+    entry.sync < to
 }
 
-// Whether the edge is the start of a row with such cells that began before the time.
-fn starts_row(edge: &Edge, kinds: &[Kind], to: Time) -> bool
-    ensures { result ≡ is_row_start (map cell_kind_of kinds.now) to edge.now }
+fn comes_from(entry: &SavedEntry, from: Time) -> bool
+    ensures { result ≡ nat_le from entry.now.sync }
 {
-    if !is_open(edge) {
+    from <= entry.sync
+}
+
+// Whether the entry is the start of a row with such cells that began before the time.
+fn starts_row(entry: &SavedEntry, kinds: &[Kind], to: Time) -> bool
+    ensures { result ≡ is_row_start (map cell_kind_of kinds.now) to (saved_edge entry.now) }
+{
+    if !is_open(entry) {
         return false;
     }
-    if !comes_before(edge, to) {
+    if !comes_before(entry, to) {
         return false;
     }
-    stores(edge, kinds)
+    stores(entry, kinds)
 }
 
-fn start_rows(edges: &[Edge], kinds: &[Kind], to: Time) -> bool
-    ensures { result ≡ are_row_starts (map cell_kind_of kinds.now) to edges.now }
+/// Whether the entries of that part are rows: starts before the time, of such cells.
+pub fn are_rows(saved: &Saved, part: u64, kinds: &[Kind], to: Time) -> bool
+    ensures { result ≡ are_row_starts (map cell_kind_of kinds.now) to (part_of part saved.now) }
 {
-    for edge in edges {
-        if !starts_row(edge, kinds, to) {
+    let entries = saved.entries();
+    for entry in entries {
+        if entry.part == part && !starts_row(entry, kinds, to) {
             return false;
         }
     }
@@ -118,40 +129,55 @@ fn is_at_most_infinity(time: Time) -> bool
     time <= Time::bounds().1
 }
 
-// Whether the times of an edge are real.
-fn has_real_times(edge: &Edge) -> bool
-    ensures { result ≡ is_real edge.now }
+// Whether the times of an entry are real.
+fn has_real_times(entry: &SavedEntry) -> bool
+    ensures { result ≡ is_real (saved_edge entry.now) }
 {
-    if !comes_before(edge, Time::bounds().1) {
+    if !comes_before(entry, Time::bounds().1) {
         return false;
     }
-    if !is_at_most_infinity(edge.other) {
+    if !is_at_most_infinity(entry.other) {
         return false;
     }
-    edge.other != edge.sync
+    entry.other != entry.sync
 }
 
-// Whether the edge may wait from the time on, with such cells.
-fn waits(edge: &Edge, kinds: &[Kind], from: Time) -> bool
-    ensures { result ≡ may_wait (map cell_kind_of kinds.now) from edge.now }
+// Whether the entry may wait from the time on, with such cells.
+fn waits(entry: &SavedEntry, kinds: &[Kind], from: Time) -> bool
+    ensures { result ≡ may_wait (map cell_kind_of kinds.now) from (saved_edge entry.now) }
 {
-    if !has_real_times(edge) {
+    if !has_real_times(entry) {
         return false;
     }
-    if !is_single(edge) {
+    if !is_end(entry) && !is_open(entry) {
         return false;
     }
-    if !comes_from(edge, from) {
+    if !comes_from(entry, from) {
         return false;
     }
-    stores(edge, kinds)
+    stores(entry, kinds)
 }
 
-fn all_wait(edges: &[Edge], kinds: &[Kind], from: Time) -> bool
-    ensures { result ≡ may_all_wait (map cell_kind_of kinds.now) from edges.now }
+/// Whether the entries of that part can wait: each is a start or an end of such cells, at the time or later.
+pub fn can_wait(saved: &Saved, part: u64, kinds: &[Kind], from: Time) -> bool
+    ensures { result ≡ may_all_wait (map cell_kind_of kinds.now) from (part_of part saved.now) }
 {
-    for edge in edges {
-        if !waits(edge, kinds, from) {
+    let entries = saved.entries();
+    for entry in entries {
+        if entry.part == part && !waits(entry, kinds, from) {
+            return false;
+        }
+    }
+    true
+}
+
+/// Whether the entries of that part are starts.
+pub fn are_starts(saved: &Saved, part: u64) -> bool
+    ensures { result ≡ list_all is_start (part_of part saved.now) }
+{
+    let entries = saved.entries();
+    for entry in entries {
+        if entry.part == part && is_end(entry) {
             return false;
         }
     }
@@ -170,27 +196,13 @@ fn rows_started(alloc: Global, key: &[usize], edges: &[Edge]) -> Result<Synopsis
     Ok(rows)
 }
 
-/// The rows of that part, with these key columns. Each is a start before the time, of such cells.
-pub fn load_rows(
-    alloc: Global,
-    saved: &Saved,
-    part: u64,
-    key: &[usize],
-    kinds: &[Kind],
-    to: Time,
-) -> Result<Synopsis, LoadFault>
+/// The rows of that part, with these key columns.
+pub fn load_rows(alloc: Global, saved: &Saved, part: u64, key: &[usize]) -> Result<Synopsis, Memory>
     ensures key { IfOk result (λ rows. rows.key ≡ key.now) }
     ensures rows { IfOk result (λ rows. SameBag rows.rows (rows_of (part_of part saved.now))) }
-    ensures started { IfOk result (λ rows. failing (is_row_start (map cell_kind_of kinds.now) to) (starts_of rows.rows) ≡ 0) }
-    ensures sound { OnOk result (are_row_starts (map cell_kind_of kinds.now) to (part_of part saved.now) ≡ true) }
-    ensures refused { IfErr result (λ fault. fault ≡ LoadFault.NotState → are_row_starts (map cell_kind_of kinds.now) to (part_of part saved.now) ≡ true → ⊥) }
 {
     let edges = edges_of_part(alloc, saved, part)?;
-    if !start_rows(&edges, kinds, to) {
-        return Err(LoadFault::NotState);
-    }
-    let rows = rows_started(alloc, key, &edges)?;
-    Ok(rows)
+    rows_started(alloc, key, &edges)
 }
 
 // A queue of the edges, each due at its sync.
@@ -205,24 +217,11 @@ fn queue_of(alloc: Global, edges: &[Edge]) -> Result<EndQueue, Memory>
     Ok(queue)
 }
 
-/// The edges of that part, as they wait. Each is a start or an end of such cells, at the time or later.
-pub fn load_waiting(
-    alloc: Global,
-    saved: &Saved,
-    part: u64,
-    kinds: &[Kind],
-    from: Time,
-) -> Result<EndQueue, LoadFault>
+/// The edges of that part, as they wait.
+pub fn load_waiting(alloc: Global, saved: &Saved, part: u64) -> Result<EndQueue, Memory>
     ensures edges { IfOk result (λ queue. SameBag (queued queue) (part_of part saved.now)) }
-    ensures later { IfOk result (λ queue. failing (may_wait (map cell_kind_of kinds.now) from) (queued queue) ≡ 0) }
     ensures timed { IfOk result AreTimed }
-    ensures sound { OnOk result (may_all_wait (map cell_kind_of kinds.now) from (part_of part saved.now) ≡ true) }
-    ensures refused { IfErr result (λ fault. fault ≡ LoadFault.NotState → may_all_wait (map cell_kind_of kinds.now) from (part_of part saved.now) ≡ true → ⊥) }
 {
     let edges = edges_of_part(alloc, saved, part)?;
-    if !all_wait(&edges, kinds, from) {
-        return Err(LoadFault::NotState);
-    }
-    let queue = queue_of(alloc, &edges)?;
-    Ok(queue)
+    queue_of(alloc, &edges)
 }

@@ -11,7 +11,6 @@ ghost use Rattle.sweep_sides.specs.Waiting.{queued, AreTimed};
 ghost use Rattle.sweep_sides.specs.Ends.{end_of, ends_of, weight, HaveStarts, KeepsStarts};
 
 use crate::endings::{Ending, Endings};
-use crate::saving::comes_before;
 use crate::waiting::{is_single, put, put_singles};
 use edge_stream::EdgeList;
 use end_queue::EndQueue;
@@ -195,6 +194,13 @@ fn push_due(
     Ok(())
 }
 
+// Whether the edge comes before the time.
+fn is_due(edge: &Edge, to: Time) -> bool
+    ensures { result ≡ is_below to edge.now }
+{
+    edge.sync < to
+}
+
 // Takes in an edge: one that is due before a time is put behind what comes before it, and each other waits.
 fn take_edge(
     queue: &mut EndQueue,
@@ -211,7 +217,7 @@ fn take_edge(
     ensures early { OnOk result (weight (λ e. cond (is_below to e) 0 1) due.old.items ends.old waited.old.items ≡ 0 → weight (λ e. cond (is_below to e) 0 1) due.new.items ends.new waited.new.items ≡ 0) }
     ensures timed { OnOk result (AreTimed queue.old → AreTimed queue.new) }
 {
-    if !comes_before(&edge, to) {
+    if !is_due(&edge, to) {
         put_singles(queue, edge)?;
         return Ok(());
     }

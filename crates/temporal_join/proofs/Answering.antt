@@ -3,6 +3,7 @@ use Rattle.std.specs.Prelude.{◌≡◌, ℕ, suc, max, min, nat_eq, nat_lt, Boo
 use Rattle.std.specs.List.{list_any}
 use Rattle.std.proofs.Common.{sym, ◌∙◌, ap, arith}
 use Rattle.std.proofs.lemmas.List.{map-append}
+use Rattle.std.proofs.lemmas.List.Elements.{All-weaker}
 use Rattle.tw_rows.specs.Bag.{SameBag, total}
 use Rattle.tw_rows.specs.Cells.{datum_kind}
 use Rattle.tw_rows.specs.declared.cells.Datum.{Datum}
@@ -21,9 +22,9 @@ use Rattle.plan_model.specs.declared.node.Node.TheVariants.{Join}
 use Rattle.node_laws.specs.Keeping.{Keeps, plain_cells}
 use Rattle.node_laws.proofs.Standing.{all_of}
 use Rattle.node_laws.proofs.Steps.{keeps_stand}
-use Rattle.sweep_sides.specs.Saving.{store_all}
-use Rattle.sweep_sides.proofs.KeptSides.{kinds_stored, stored_kinds}
-use Rattle.sweep_sides.proofs.Telling.{All-weaker, told_stored}
+use Rattle.sweep_laws.specs.Saving.{store_all}
+use Rattle.sweep_laws.proofs.Stored.{kinds_stored, stored_kinds}
+use Rattle.sweep_sides.proofs.Telling.{told_stored}
 use Rattle.temporal_join.specs.Joined.{join_meets, joins}
 use Rattle.temporal_join.specs.States.{KeepsJoin}
 

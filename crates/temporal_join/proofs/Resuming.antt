@@ -1,5 +1,5 @@
 -- What is kept of a join at first, in longer tables, and after it was saved and loaded.
-use Rattle.std.specs.Prelude.{◌≡◌, ℕ, ◌+◌, ◌*◌, ◌≤◌, min, true, false, List, [], ◌++◌, map, refl}
+use Rattle.std.specs.Prelude.{◌≡◌, ℕ, zero, suc, ◌+◌, ◌*◌, ◌<◌, ◌≤◌, All, min, true, false, List, [], ◌++◌, map, refl}
 use Rattle.std.proofs.Common.{sym, ◌∙◌, ap, subst, arith}
 use Rattle.std.proofs.lemmas.List.{append-nil}
 use Rattle.std.proofs.lemmas.List.Elements.{All-nil}
@@ -16,7 +16,7 @@ use Rattle.edge_history.specs.Side.{reaches}
 use Rattle.edge_stream.specs.declared.saved.SavedEntry.{SavedEntry}
 use Rattle.end_queue.specs.Pending.{Pending}
 use Rattle.carried_edges.specs.Entries.{entries_of, part_of, are_of_parts}
-use Rattle.carried_edges.proofs.Parts.{part_of_own, part_of_other, part_of_append, parts_own, parts_append, all_pass}
+use Rattle.carried_edges.proofs.Parts.{parts_pass, part_of_own, part_of_other, part_of_append, parts_own, parts_append, all_pass}
 use Rattle.plan_model.specs.declared.node.Node.TheVariants.{Join}
 use Rattle.plan_laws.specs.Held.{may_hold}
 use Rattle.node_laws.specs.Keeping.{plain_cells}
@@ -25,11 +25,14 @@ use Rattle.node_laws.specs.Places.{AreDistinct, read_of}
 use Rattle.node_laws.specs.Standing.{StandsRead}
 use Rattle.node_laws.proofs.Steps.{keeps_first, keeps_read}
 use Rattle.plan_model.specs.Meaning.{node_events}
+use Rattle.operator.specs.Standing.{Standing, IsStoredAs, AreStoredAs}
 use Rattle.sweep_sides.specs.Waiting.{queued}
-use Rattle.sweep_sides.specs.Saving.{starts_of, rows_of, is_row_start, may_wait, are_row_starts, may_all_wait}
-use Rattle.sweep_sides.proofs.KeptSides.{rows_of_starts}
+use Rattle.sweep_sides.proofs.KeptSides.{row_cells, waiting_cells}
+use Rattle.sweep_laws.specs.Saving.{starts_of, rows_of, is_row_start, may_wait, are_row_starts, may_all_wait}
+use Rattle.sweep_laws.proofs.Stored.{rows_of_starts}
+use Rattle.temporal_join.specs.Operating.{row_of_part}
 use Rattle.temporal_join.proofs.Answering.{node_keeps}
-use Rattle.temporal_join.specs.States.{KeepsJoin, AreSavedSides, JoinSound, JoinResumes}
+use Rattle.temporal_join.specs.States.{KeepsJoin, JoinSound, JoinResumes}
 
 module _ (lk rk : List ℕ) (lc rc : List CellKind) where
   join_first : (texts : List (List ℕ)) → KeepsJoin lk rk lc rc texts 0 0 [] [] (queued []) (queued []) [] [] []
@@ -104,9 +107,23 @@ module _ (lk rk : List ℕ) (lc rc : List CellKind) where
 pub join_bound : (lk rk : List ℕ) (x to n m : ℕ) (a b own : List CellEvent) → n ≤ 2 * many (reaches to) a → m ≤ 2 * many (reaches to) b → n + m ≤ may_hold (Join 0 1 lk rk) x to a b own
 join_bound lk rk x to n m a b own left right = omega (arith, left, right)
 
-pub same_saved : (lc rc lc2 rc2 : List CellKind) (to to2 : ℕ) (entries : List SavedEntry) → lc2 ≡ lc → rc2 ≡ rc → to2 ≡ to → AreSavedSides lc2 rc2 to2 entries → AreSavedSides lc rc to entries
-same_saved lc rc lc2 rc2 to to2 entries e f g s =
-    subst (λ (k : List CellKind). AreSavedSides k rc to entries) e (subst (λ (k : List CellKind). AreSavedSides lc2 k to entries) f (subst (λ (t : ℕ). AreSavedSides lc2 rc2 t entries) g s))
+-- each entry of a sound state has the cells of its row
+pub join_rows_stored : (s : Standing) (saved : List SavedEntry) (to : ℕ) (lc rc : List CellKind) → s.left_kinds ≡ lc → s.right_kinds ≡ rc → JoinSound lc rc to saved →
+    AreStoredAs row_of_part s saved
+join_rows_stored s saved to lc rc el er sound = parts_pass (λ part. IsStoredAs s (row_of_part part)) 4 saved sound.parts each
+  where
+    left : (p : ℕ) → All (λ e. map datum_kind e.cells ≡ lc) (part_of p saved) → All (λ e. map datum_kind e.cells ≡ s.left_kinds) (part_of p saved)
+    left p h = subst (λ (k : List CellKind). All (λ (e : Edge). map datum_kind e.cells ≡ k) (part_of p saved)) (sym el) h
+
+    right : (p : ℕ) → All (λ e. map datum_kind e.cells ≡ rc) (part_of p saved) → All (λ e. map datum_kind e.cells ≡ s.right_kinds) (part_of p saved)
+    right p h = subst (λ (k : List CellKind). All (λ (e : Edge). map datum_kind e.cells ≡ k) (part_of p saved)) (sym er) h
+
+    each : (p : ℕ) → p < 4 → All (λ e. IsStoredAs s (row_of_part p) e.cells) (part_of p saved)
+    each zero low = left 0 (row_cells lc to (part_of 0 saved) sound.left)
+    each (suc zero) low = right 1 (row_cells rc to (part_of 1 saved) sound.right)
+    each (suc (suc zero)) low = left 2 (waiting_cells lc to (part_of 2 saved) sound.left_waiting)
+    each (suc (suc (suc zero))) low = right 3 (waiting_cells rc to (part_of 3 saved) sound.right_waiting)
+    each (suc (suc (suc (suc n)))) low = absurd (omega (arith, low))
 
 -- SAVING
 module _ (left right : List HeldRow) (lw rw : List Edge) (s0 s1 s2 s3 s4 : List SavedEntry) (empty : s0 ≡ []) (e1 : s1 ≡ s0 ++ entries_of 0 (starts_of left))
@@ -158,12 +175,10 @@ module _ (left right : List HeldRow) (lw rw : List Edge) (s0 s1 s2 s3 s4 : List 
       failing (may_wait lc to) lw ≡ 0 → failing (may_wait rc to) rw ≡ 0 → JoinSound lc rc to s4
   join_saved lc rc to a b c d = record {
     parts = of_parts;
-    sides = record {
-      left = ap (are_row_starts lc to) left_part ∙ all_pass (is_row_start lc to) (starts_of left) a;
-      right = ap (are_row_starts rc to) right_part ∙ all_pass (is_row_start rc to) (starts_of right) b;
-      left_waiting = ap (may_all_wait lc to) left_rest ∙ all_pass (may_wait lc to) lw c;
-      right_waiting = ap (may_all_wait rc to) right_rest ∙ all_pass (may_wait rc to) rw d;
-    };
+    left = ap (are_row_starts lc to) left_part ∙ all_pass (is_row_start lc to) (starts_of left) a;
+    right = ap (are_row_starts rc to) right_part ∙ all_pass (is_row_start rc to) (starts_of right) b;
+    left_waiting = ap (may_all_wait lc to) left_rest ∙ all_pass (may_wait lc to) lw c;
+    right_waiting = ap (may_all_wait rc to) right_rest ∙ all_pass (may_wait rc to) rw d;
   }
 
   pub join_resumed : (lk rk : List ℕ) (lc rc : List CellKind) (texts : List (List ℕ)) (x y : ℕ) (hl hr out : List Edge) → JoinSound lc rc (min x y) s4 →

@@ -10,10 +10,11 @@ use Rattle.tw_rows.specs.declared.edge.HeldRow.{HeldRow}
 use Rattle.tw_rows.specs.declared.kind.CellKind.{CellKind}
 use Rattle.edge_history.specs.Balance.{news}
 use Rattle.edge_history.specs.History.{of}
-use Rattle.edge_history.specs.Order.{failing, is_below, KeepsOrder}
 use Rattle.edge_history.proofs.Keeping.{KeepsOrder-back}
 use Rattle.edge_history.proofs.Telling.{answer_from, answer_below}
-use Rattle.operator.specs.Steps.{MayCome, ComeBetween}
+use Rattle.operator.specs.Steps.{MayCome}
+use Rattle.sweep_sides.specs.Answers.{FitsList}
+use Rattle.sweep_sides.proofs.Telling.{between_both}
 use Rattle.plan_model.specs.Keys.{paired_row}
 use Rattle.sweep_laws.specs.Joining.{JoinKeeps}
 use Rattle.temporal_join.specs.Joined.{join_meets, joins}
@@ -27,8 +28,7 @@ pub join_stepped : (lk rk lk2 rk2 : List ℕ) (left_kinds right_kinds own : List
     All (λ e. map datum_kind e.cells ≡ left_kinds) l → All (λ e. map datum_kind e.cells ≡ right_kinds) r →
     JoinKeeps (join_meets lk2 rk2) (paired_row rk2) left2 right2 lw2 rw2 to (hl ++ l) (hr ++ r) (out ++ told) →
     SameBag told (news (min x y) to (joins lk rk (of (hl ++ l)) (of (hr ++ r)))) →
-    (KeepsOrder told → All (λ e. map datum_kind e.cells ≡ own) told → answer ≡ told) →
-    KeepsJoin lk2 rk2 left_kinds right_kinds texts u v left2 right2 lw2 rw2 (hl ++ l) (hr ++ r) (out ++ answer) × ComeBetween (min x y) (min u v) answer
+    (FitsList own (min x y) to told → answer ≡ told) → KeepsJoin lk2 rk2 left_kinds right_kinds texts u v left2 right2 lw2 rw2 (hl ++ l) (hr ++ r) (out ++ answer)
 join_stepped lk rk lk2 rk2 left_kinds right_kinds own texts x y u v to left right left2 right2 lw rw lw2 rw2 hl hr l r out told answer lu lv lesser follows k ml mr cl cr kept2 same listed =
     let cells_l : All (λ e. map datum_kind e.cells ≡ left_kinds) (hl ++ l) = All-append (λ (e : Edge). map datum_kind e.cells ≡ left_kinds) hl l k.left_cells cl in
     let cells_r : All (λ e. map datum_kind e.cells ≡ right_kinds) (hr ++ r) = All-append (λ (e : Edge). map datum_kind e.cells ≡ right_kinds) hr r k.right_cells cr in
@@ -42,11 +42,10 @@ join_stepped lk rk lk2 rk2 left_kinds right_kinds own texts x y u v to left righ
       kept = subst (λ (t : ℕ). JoinKeeps (join_meets lk2 rk2) (paired_row rk2) left2 right2 lw2 rw2 t (hl ++ l) (hr ++ r) (out ++ told)) lesser kept2;
     } in
     let order = KeepsOrder-back out told (out_order lk2 rk2 left_kinds right_kinds texts u v left2 right2 lw2 rw2 (hl ++ l) (hr ++ r) (out ++ told) keeps) in
-    let is = listed order (told_cells lk rk left_kinds right_kinds own follows (min x y) to (hl ++ l) (hr ++ r) told cells_l cells_r same) in
-    let events = joins lk rk (of (hl ++ l)) (of (hr ++ r)) in (
-      subst (λ (z : List Edge). KeepsJoin lk2 rk2 left_kinds right_kinds texts u v left2 right2 lw2 rw2 (hl ++ l) (hr ++ r) (out ++ z)) (sym is) keeps,
-      subst (λ (z : List Edge). ComeBetween (min x y) (min u v) z) (sym is) (record {
-        from = answer_from (min x y) to told events same;
-        below = subst (λ (t : ℕ). failing (is_below t) told ≡ 0) lesser (answer_below (min x y) to told events same);
-      }),
-    )
+    let events = joins lk rk (of (hl ++ l)) (of (hr ++ r)) in
+    let is = listed (record {
+      order = order;
+      cells = told_cells lk rk left_kinds right_kinds own follows (min x y) to (hl ++ l) (hr ++ r) told cells_l cells_r same;
+      between = between_both (min x y) to told (answer_from (min x y) to told events same) (answer_below (min x y) to told events same);
+    }) in
+    subst (λ (z : List Edge). KeepsJoin lk2 rk2 left_kinds right_kinds texts u v left2 right2 lw2 rw2 (hl ++ l) (hr ++ r) (out ++ z)) (sym is) keeps

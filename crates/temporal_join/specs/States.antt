@@ -14,7 +14,8 @@ use Rattle.plan_model.specs.Keys.{paired_row}
 use Rattle.node_laws.specs.Places.{EdgesArePlaced}
 use Rattle.sweep_laws.specs.Joining.{JoinKeeps}
 use Rattle.sweep_sides.specs.Waiting.{queued, AreTimed}
-use Rattle.sweep_sides.specs.Saving.{IsSide, rows_of, are_row_starts, may_all_wait}
+use Rattle.sweep_sides.specs.Sides.{IsSide}
+use Rattle.sweep_laws.specs.Saving.{rows_of, are_row_starts, may_all_wait}
 use Rattle.temporal_join.specs.declared.sides.Sides.{Sides}
 use Rattle.temporal_join.specs.Joined.{join_meets}
 use Rattle.temporal_join.specs.Kept.{AreByKey}
@@ -63,18 +64,14 @@ pub record IsOpening (left right : List HeldRow) (left_waiting right_waiting : L
   pub right_open : y ≡ 0
   pub works : failed ≡ false
 
--- the entries of the parts 0 and 1 are rows of the left and of the right side that began before a time, as their starts, and
--- those of 2 and 3 edges of these sides that wait from it on. Up to 7, a row may have begun at 6, and none at 7
-pub record AreSavedSides (left_kinds right_kinds : List CellKind) (to : ℕ) (entries : List SavedEntry) : Type 0 where
+-- the entries are of four parts: 0 and 1, rows of the left and of the right side that began before a time, as their starts, and
+-- 2 and 3, edges of these sides that wait from it on. Up to 7, a row may have begun at 6, and none at 7
+pub record JoinSound (left_kinds right_kinds : List CellKind) (to : ℕ) (entries : List SavedEntry) : Type 0 where
+  pub parts : are_of_parts 4 entries ≡ true
   pub left : are_row_starts left_kinds to (part_of 0 entries) ≡ true
   pub right : are_row_starts right_kinds to (part_of 1 entries) ≡ true
   pub left_waiting : may_all_wait left_kinds to (part_of 2 entries) ≡ true
   pub right_waiting : may_all_wait right_kinds to (part_of 3 entries) ≡ true
-
--- there are no entries of other parts
-pub record JoinSound (left_kinds right_kinds : List CellKind) (to : ℕ) (entries : List SavedEntry) : Type 0 where
-  pub parts : are_of_parts 4 entries ≡ true
-  pub sides : AreSavedSides left_kinds right_kinds to entries
 
 -- the entries are what is kept after the edges came in and were answered
 pub record JoinResumes (left_key right_key : List ℕ) (left_kinds right_kinds : List CellKind) (texts : List (List ℕ)) (x y : ℕ)

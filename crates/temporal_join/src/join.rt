@@ -1,8 +1,7 @@
 // The operator of a join.
-ghost use Rattle.std.specs.Prelude.{◌≡◌, ◌≤◌, ◌++◌, ◌∷◌, ℕ, nat_eq, min, map, length, cond, false, is_err, List, [], IfOk, OnOk};
+ghost use Rattle.std.specs.Prelude.{◌≡◌, ◌≤◌, ◌++◌, ◌∷◌, nat_eq, min, map, length, cond, false, is_err, [], IfOk, OnOk};
 ghost use Rattle.std.specs.List.{list_any};
 ghost use Rattle.tw_rows.specs.Kinds.{cell_kind_of};
-ghost use Rattle.tw_rows.specs.declared.edge.Edge.{Edge};
 ghost use Rattle.edge_stream.specs.Listing.{cells_of};
 ghost use Rattle.plan_model.specs.Keys.{paired_row};
 ghost use Rattle.temporal_join.specs.Kept.{SameKeys};
@@ -32,13 +31,6 @@ pub struct Join {
     pub(crate) right_to: Time,
     pub(crate) failed: bool,
     ghost working: { failed ≡ false → IsWorking sides left_kinds.items right_kinds.items own_kinds.items capacity (min left_to right_to) },
-}
-
-// The lesser of two times.
-pub(crate) fn lesser(a: Time, b: Time) -> Time
-    ensures { result ≡ min a b }
-{
-    if a < b { a } else { b }
 }
 
 // Puts the kind of a column last, where the column stands in no key.
@@ -90,9 +82,8 @@ fn no_sides(alloc: Global, left_key: &[usize], right_key: &[usize]) -> Result<Si
 }
 
 impl Join {
-    ghost use Rattle.operator.specs.Steps.{MayCome, ComeBetween};
-    ghost use Rattle.temporal_join.specs.States.{IsOpening};
-    ghost use Rattle.temporal_join.specs.Operating.{IsKept};
+    ghost use Rattle.operator.specs.Steps.{StaysKept, ComeBetween};
+    ghost use Rattle.temporal_join.specs.Operating.{standing, IsNew, IsKept};
 
     /// A join of nothing yet, by these key columns, of rows with columns of these kinds, in batches of that capacity.
     pub fn new(
@@ -111,7 +102,7 @@ impl Join {
         ensures right_kinds { IfOk result (λ j. j.right_kinds.items ≡ right_kinds.now) }
         ensures own_kinds { IfOk result (λ j. j.own_kinds.items ≡ paired_row right_key.now left_kinds.now right_kinds.now) }
         ensures capacity { IfOk result (λ j. j.capacity ≡ capacity) }
-        ensures opening { IfOk result (λ j. IsOpening j.sides.rows.left.rows j.sides.rows.right.rows j.sides.left_waiting j.sides.right_waiting j.left_to j.right_to j.failed) }
+        ensures opening { IfOk result IsNew }
     {
         Ok(Join {
             sides: no_sides(alloc, left_key, right_key)?,
@@ -143,10 +134,10 @@ impl Join {
         requires left_capacity { left.capacity ≡ self.old.capacity }
         requires right_capacity { right.capacity ≡ self.old.capacity }
         requires capacity { pools.old.capacity ≡ self.old.capacity }
-        ensures kept { IfOk result (λ answer. (texts : List (List ℕ)) (hl hr out : List Edge) → IsKept self.old texts hl hr out →
-            MayCome texts self.old.left_to hl left.edges → MayCome texts self.old.right_to hr right.edges →
-            IsKept self.new texts (hl ++ left.edges) (hr ++ right.edges) (out ++ answer.edges)
-            × ComeBetween (min self.old.left_to self.old.right_to) (min left_to right_to) answer.edges) }
+        ensures kept { IfOk result (λ answer. StaysKept (standing self.old)
+            (IsKept self.old) (IsKept self.new) left.edges right.edges answer.edges) }
+        ensures between { IfOk result (λ answer.
+            ComeBetween (min self.old.left_to self.old.right_to) (min left_to right_to) answer.edges) }
         ensures kinds { IfOk result (λ answer. cells_of answer ≡ map cell_kind_of self.old.own_kinds.items) }
         ensures capacity { IfOk result (λ answer. answer.capacity ≡ self.old.capacity) }
         ensures pools { pools.new.capacity ≡ pools.old.capacity }
@@ -163,7 +154,8 @@ impl Join {
         self.failed = true;
         // Their calls tell the proof that both are times.
         let _ = (left_to.word(), right_to.word());
-        let to = lesser(left_to, right_to);
+        let from = self.left_to.min(self.right_to);
+        let to = left_to.min(right_to);
         let told = self.sides.advance(&left, &right, to)?;
         left.give_back(pools);
         right.give_back(pools);
@@ -172,6 +164,8 @@ impl Join {
             pools,
             self.own_kinds.as_slice(),
             self.capacity,
+            from,
+            to,
             told.as_slice(),
         )?;
         self.left_to = left_to;

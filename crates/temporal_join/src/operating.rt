@@ -1,55 +1,31 @@
 // The operator of a Join, in its form for every node.
-ghost use Rattle.std.specs.Prelude.{◌≡◌};
+ghost use Rattle.std.specs.Prelude.{◌≡◌, false, IfErr, OnOk, OnErr};
 
-use crate::join::{Join, lesser};
+use crate::join::Join;
+use crate::sides::is_sound;
 use batch::Pools;
-use carried_edges::are_of_parts;
 use edge_stream::{EdgeList, LoadFault, PartRow, Saved, StepFault};
 use operator::Operator;
-use sweep_sides::{kept_count, load_rows, load_waiting, save_rows, save_waiting};
+use sweep_sides::{kept_count, save_rows, save_waiting};
 use tw_rows::{Memory, Time};
 
 impl Operator for Join {
-    ghost use Rattle.std.specs.Prelude.{◌+◌, nat_eq, length, min, map, cond, Some, None};
-    ghost use Rattle.tw_rows.specs.Kinds.{cell_kind_of};
-    ghost use Rattle.edge_stream.specs.declared.saved.PartRow.TheVariants.{Left, Right};
-    ghost use Rattle.edge_history.specs.History.{of};
-    ghost use Rattle.plan_model.specs.declared.node.Node.TheVariants.{Join as JoinNode};
-    ghost use Rattle.plan_model.specs.Nodes.{node_in};
-    ghost use Rattle.plan_laws.specs.Held.{may_hold};
-    ghost use Rattle.node_laws.specs.Keeping.{plain_cells};
-    ghost use Rattle.temporal_join.specs.States.{IsOpening, JoinSound, JoinResumes};
-    ghost use Rattle.temporal_join.specs.Operating.{IsKept};
+    ghost use Rattle.operator.specs.Standing.{Implies, IsLike};
+    ghost use Rattle.temporal_join.specs.Operating.{standing as join_standing, entries as join_entries, IsNew, IsKept, IsSound, Resumes, row_of_part as join_row};
 
-    ghost keeps = { λ s texts hl hr out. IsKept s texts hl hr out };
+    ghost keeps = { IsKept };
 
-    ghost is_opening = { λ s. IsOpening s.sides.rows.left.rows s.sides.rows.right.rows s.sides.left_waiting s.sides.right_waiting s.left_to s.right_to s.failed };
+    ghost is_opening = { IsNew };
 
-    ghost node = { λ s. JoinNode 0 1 s.sides.rows.left_key.items s.sides.rows.right_key.items };
+    ghost standing = { join_standing };
 
-    ghost left_closed = { λ s. s.left_to };
+    ghost sound = { IsSound };
 
-    ghost right_closed = { λ s. s.right_to };
+    ghost resumes = { Resumes };
 
-    ghost left_kinds = { λ s. map cell_kind_of s.left_kinds.items };
+    ghost entries = { join_entries };
 
-    ghost right_kinds = { λ s. map cell_kind_of s.right_kinds.items };
-
-    ghost own_kinds = { λ s. map cell_kind_of s.own_kinds.items };
-
-    ghost batch_rows = { λ s. s.capacity };
-
-    ghost has_failed = { λ s. s.failed };
-
-    ghost sound = { λ s saved x y. JoinSound (map cell_kind_of s.left_kinds.items) (map cell_kind_of s.right_kinds.items) (min x y) saved };
-
-    ghost resumes = { λ s saved x y texts hl hr out. JoinResumes s.sides.rows.left_key.items s.sides.rows.right_key.items (map cell_kind_of s.left_kinds.items) (map cell_kind_of s.right_kinds.items) texts x y saved hl hr out };
-
-    ghost entries = { λ s. (length s.sides.rows.left.rows + length s.sides.left_waiting) + (length s.sides.rows.right.rows + length s.sides.right_waiting) };
-
-    ghost most = { λ s hl hr out. may_hold (JoinNode 0 1 s.sides.rows.left_key.items s.sides.rows.right_key.items) s.left_to (min s.left_to s.right_to) (of hl) (of hr) (node_in plain_cells (JoinNode 0 1 s.sides.rows.left_key.items s.sides.rows.right_key.items) (of hl) (of hr)) };
-
-    ghost row_of_part = { λ part. cond (nat_eq part 0) (Some Left) (cond (nat_eq part 1) (Some Right) (cond (nat_eq part 2) (Some Left) (cond (nat_eq part 3) (Some Right) None))) };
+    ghost row_of_part = { join_row };
 
     fn step(
         &mut self,
@@ -83,17 +59,32 @@ impl Operator for Join {
         Ok(saved)
     }
 
-    fn load(&mut self, saved: &Saved, left_to: Time, right_to: Time) -> Result<(), LoadFault> {
-        if !are_of_parts(saved, 4) {
-            return Err(LoadFault::NotState);
-        }
-        let to = lesser(left_to, right_to);
-        self.sides.take_up(
+    /// Memory is asked for only where the entries are sound.
+    fn load(&mut self, saved: &Saved, left_to: Time, right_to: Time) -> Result<(), LoadFault>
+        requires { IsNew self.old }
+        ensures resumed { OnOk result (
+            Implies (Resumes self.old saved.now left_to right_to) (IsKept self.new)) }
+        ensures sound { OnOk result (IsSound self.old saved.now left_to right_to) }
+        ensures refused { IfErr result (λ fault. fault ≡ LoadFault.NotState →
+            IsSound self.old saved.now left_to right_to → ⊥) }
+        ensures memory { IfErr result (λ fault. fault ≡ LoadFault.Memory →
+            IsSound self.old saved.now left_to right_to) }
+        ensures left_to { OnOk result ((join_standing self.new).left_closed ≡ left_to) }
+        ensures right_to { OnOk result ((join_standing self.new).right_closed ≡ right_to) }
+        ensures works { OnOk result ((join_standing self.new).has_failed ≡ false) }
+        ensures opening { OnErr result (IsNew self.new) }
+        ensures like { IsLike (join_standing self.old) (join_standing self.new) }
+    {
+        let to = left_to.min(right_to);
+        if !is_sound(
             saved,
             self.left_kinds.as_slice(),
             self.right_kinds.as_slice(),
             to,
-        )?;
+        ) {
+            return Err(LoadFault::NotState);
+        }
+        self.sides.take_up(saved)?;
         self.left_to = left_to;
         self.right_to = right_to;
         Ok(())

@@ -102,7 +102,9 @@ impl<'a> Pairing<'a> {
 
     // The row of a pair.
     fn cells(&self, cells: &[Datum], other: &[Datum]) -> Result<Cells, Memory>
-        ensures { IfOk result (λ row. row ≡ cond self.now.right (paired_row self.now.right_key.now other.now cells.now) (paired_row self.now.right_key.now cells.now other.now)) }
+        ensures { IfOk result (λ row. row
+            ≡ cond self.now.right (paired_row self.now.right_key.now other.now cells.now)
+            (paired_row self.now.right_key.now cells.now other.now)) }
     {
         if self.right {
             pair_cells(self.alloc, self.right_key, other, cells)
@@ -120,7 +122,8 @@ impl<'a> Pairing<'a> {
         start: Time,
         others: &[HeldRow],
     ) -> Result<(), Memory>
-        ensures { OnOk result (answer.new.items ≡ answer.old.items ++ map (λ y. told_at starts self.now.at (pair_with self.now (record { cells = cells.now; start = start }) y)) others.now) }
+        ensures { OnOk result (answer.new.items ≡ answer.old.items ++ map (λ y. told_at starts self.now.at
+            (pair_with self.now (record { cells = cells.now; start = start }) y)) others.now) }
     {
         for other in others {
             answer.push(Edge {
@@ -151,7 +154,9 @@ impl<'a> Pairing<'a> {
         start: Time,
         others: &Synopsis,
     ) -> Result<(), Memory>
-        ensures { OnOk result (others.now.key ≡ other_key self.now → Adds answer.old.items answer.new.items (told_pairs self.now starts (record { cells = cells.now; start = start } ∷ []) others.now.rows)) }
+        ensures { OnOk result (others.now.key ≡ other_key self.now →
+            Adds answer.old.items answer.new.items (told_pairs self.now starts
+            (record { cells = cells.now; start = start } ∷ []) others.now.rows)) }
     {
         let key = key_of(self.alloc, self.key(), cells)?;
         self.tell(answer, starts, cells, start, others.rows_of(key.as_slice()))?;
@@ -168,7 +173,9 @@ impl<'a> Pairing<'a> {
         start: Time,
         others: &Synopsis,
     ) -> Result<(), Memory>
-        ensures { OnOk result (others.now.key ≡ other_key self.now → Adds answer.old.items answer.new.items (told_pairs self.now starts (record { cells = cells.now; start = start } ∷ []) others.now.rows)) }
+        ensures { OnOk result (others.now.key ≡ other_key self.now →
+            Adds answer.old.items answer.new.items (told_pairs self.now starts
+            (record { cells = cells.now; start = start } ∷ []) others.now.rows)) }
     {
         // A key of one column needs no copy.
         let Some(key) = lone_key(self.key(), cells) else {
@@ -193,9 +200,11 @@ impl<'a> Pairing<'a> {
         answer: &mut Vec<Edge>,
         edge: &Edge,
     ) -> Result<(), Memory>
-        ensures ended { OnOk result (HoldsEnded edge.now rows.old.rows → (w : HeldRow → ℕ) → total w rows.old.rows ≡ total w rows.new.rows + total w (ended_of edge.now)) }
+        ensures ended { OnOk result (HoldsEnded edge.now rows.old.rows → (w : HeldRow → ℕ) → total w rows.old.rows
+            ≡ total w rows.new.rows + total w (ended_of edge.now)) }
         ensures fewer { OnOk result ((w : HeldRow → ℕ) → total w rows.new.rows ≤ total w rows.old.rows) }
-        ensures told { OnOk result (others.now.key ≡ other_key self.now → HoldsEnded edge.now rows.old.rows → Adds answer.old.items answer.new.items (told_pairs self.now false (ended_of edge.now) others.now.rows)) }
+        ensures told { OnOk result (others.now.key ≡ other_key self.now → HoldsEnded edge.now rows.old.rows →
+            Adds answer.old.items answer.new.items (told_pairs self.now false (ended_of edge.now) others.now.rows)) }
         ensures key { rows.new.key ≡ rows.old.key }
     {
         if !edge.is_end() {
@@ -218,9 +227,12 @@ impl<'a> Pairing<'a> {
         answer: &mut Vec<Edge>,
         now: &[Edge],
     ) -> Result<(), Memory>
-        ensures ended { OnOk result (((w : HeldRow → ℕ) → total w (ended_rows now.now) ≤ total w rows.old.rows) → (w : HeldRow → ℕ) → total w rows.old.rows ≡ total w rows.new.rows + total w (ended_rows now.now)) }
+        ensures ended { OnOk result (((w : HeldRow → ℕ) → total w (ended_rows now.now) ≤ total w rows.old.rows) →
+            (w : HeldRow → ℕ) → total w rows.old.rows ≡ total w rows.new.rows + total w (ended_rows now.now)) }
         ensures fewer { OnOk result ((w : HeldRow → ℕ) → total w rows.new.rows ≤ total w rows.old.rows) }
-        ensures told { OnOk result (others.now.key ≡ other_key self.now → ((w : HeldRow → ℕ) → total w (ended_rows now.now) ≤ total w rows.old.rows) → Adds answer.old.items answer.new.items (told_pairs self.now false (ended_rows now.now) others.now.rows)) }
+        ensures told { OnOk result (others.now.key ≡ other_key self.now → ((w : HeldRow → ℕ) →
+            total w (ended_rows now.now) ≤ total w rows.old.rows) →
+            Adds answer.old.items answer.new.items (told_pairs self.now false (ended_rows now.now) others.now.rows)) }
         ensures key { rows.new.key ≡ rows.old.key }
     {
         for edge in now {
@@ -238,8 +250,10 @@ impl<'a> Pairing<'a> {
         answer: &mut Vec<Edge>,
         edge: &mut Edge,
     ) -> Result<(), Memory>
-        ensures started { OnOk result ((w : HeldRow → ℕ) → total w rows.new.rows ≡ total w rows.old.rows + total w (started_of edge.old)) }
-        ensures told { OnOk result (others.now.key ≡ other_key self.now → Adds answer.old.items answer.new.items (told_pairs self.now true (started_of edge.old) others.now.rows)) }
+        ensures started { OnOk result ((w : HeldRow → ℕ) → total w rows.new.rows ≡ total w rows.old.rows
+            + total w (started_of edge.old)) }
+        ensures told { OnOk result (others.now.key ≡ other_key self.now →
+            Adds answer.old.items answer.new.items (told_pairs self.now true (started_of edge.old) others.now.rows)) }
         ensures key { rows.new.key ≡ rows.old.key }
     {
         if edge.is_end() {
@@ -260,8 +274,10 @@ impl<'a> Pairing<'a> {
         answer: &mut Vec<Edge>,
         now: &mut [Edge],
     ) -> Result<(), Memory>
-        ensures started { OnOk result ((w : HeldRow → ℕ) → total w rows.new.rows ≡ total w rows.old.rows + total w (started_rows now.old)) }
-        ensures told { OnOk result (others.now.key ≡ other_key self.now → Adds answer.old.items answer.new.items (told_pairs self.now true (started_rows now.old) others.now.rows)) }
+        ensures started { OnOk result ((w : HeldRow → ℕ) → total w rows.new.rows ≡ total w rows.old.rows
+            + total w (started_rows now.old)) }
+        ensures told { OnOk result (others.now.key ≡ other_key self.now →
+            Adds answer.old.items answer.new.items (told_pairs self.now true (started_rows now.old) others.now.rows)) }
         ensures key { rows.new.key ≡ rows.old.key }
     {
         for edge in now.iter_mut() {

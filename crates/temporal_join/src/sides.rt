@@ -1,10 +1,11 @@
 // What a join keeps of its sides, and how it takes new edges in.
-ghost use Rattle.std.specs.Prelude.{◌≡◌, ◌≤◌, ◌++◌, ℕ, All, map, List, OnOk, OnErr, IfOk, IfErr};
+ghost use Rattle.std.specs.Prelude.{◌≡◌, ◌≤◌, ◌++◌, ◌↔◌, IsTrue, ℕ, All, map, List, OnOk, OnErr, IfOk};
 ghost use Rattle.tw_rows.specs.Bag.{SameBag};
 ghost use Rattle.tw_rows.specs.Cells.{datum_kind};
 ghost use Rattle.tw_rows.specs.Kinds.{cell_kind_of};
 ghost use Rattle.tw_rows.specs.Instant.{inf};
 ghost use Rattle.tw_rows.specs.declared.edge.Edge.{Edge};
+ghost use Rattle.tw_rows.specs.declared.kind.CellKind.{CellKind};
 ghost use Rattle.edge_history.specs.Order.{failing, is_from, IsHistory};
 ghost use Rattle.edge_history.specs.History.{of};
 ghost use Rattle.edge_history.specs.Balance.{news};
@@ -12,13 +13,15 @@ ghost use Rattle.edge_stream.specs.Listing.{cells_of};
 ghost use Rattle.temporal_join.specs.Joined.{joins};
 ghost use Rattle.carried_edges.specs.Entries.{part_of};
 ghost use Rattle.sweep_sides.specs.Waiting.{queued};
-ghost use Rattle.sweep_sides.specs.Saving.{rows_of};
+ghost use Rattle.sweep_laws.specs.Saving.{rows_of};
 ghost use Rattle.temporal_join.specs.Kept.{SameKeys, AreByKey};
+ghost use Rattle.temporal_join.specs.States.{JoinSound};
 
 use crate::sweep::Rows;
-use edge_stream::{EdgeList, LoadFault, Saved};
+use carried_edges::are_of_parts;
+use edge_stream::{EdgeList, Saved};
 use end_queue::EndQueue;
-use sweep_sides::{load_rows, load_waiting, take_in};
+use sweep_sides::{are_rows, can_wait, load_rows, load_waiting, take_in};
 use tw_rows::{Edge, Kind, Memory, Time};
 
 /// The rows of both sides that are alive, and the edges of both sides that wait.
@@ -30,7 +33,7 @@ pub(crate) struct Sides {
 }
 
 impl Sides {
-    ghost use Rattle.temporal_join.specs.States.{SidesKeep, AreSides, AreSavedSides};
+    ghost use Rattle.temporal_join.specs.States.{SidesKeep, AreSides};
 
     /// Takes the new edges of both sides in, and tells what happens to the pairs up to a time.
     pub(crate) fn advance(
@@ -40,11 +43,15 @@ impl Sides {
         to: Time,
     ) -> Result<Vec<Edge>, Memory>
         requires { to ≤ inf }
-        ensures kept { IfOk result (λ answer. (from : ℕ) (hl hr out : List Edge) → from ≤ to → SidesKeep self.old from hl hr out →
-            IsHistory (hl ++ left.now.edges) → IsHistory (hr ++ right.now.edges) → failing (is_from from) left.now.edges ≡ 0 → failing (is_from from) right.now.edges ≡ 0 →
+        ensures kept { IfOk result (λ answer. (from : ℕ) (hl hr out : List Edge) → from ≤ to →
+            SidesKeep self.old from hl hr out → IsHistory (hl ++ left.now.edges) → IsHistory (hr ++ right.now.edges) →
+            failing (is_from from) left.now.edges ≡ 0 → failing (is_from from) right.now.edges ≡ 0 →
             SidesKeep self.new to (hl ++ left.now.edges) (hr ++ right.now.edges) (out ++ answer.items)
-            × SameBag answer.items (news from to (joins self.old.rows.left_key.items self.old.rows.right_key.items (of (hl ++ left.now.edges)) (of (hr ++ right.now.edges))))) }
-        ensures sides { OnOk result ((from : ℕ) → from ≤ to → AreSides (cells_of left.now) (cells_of right.now) from self.old → AreSides (cells_of left.now) (cells_of right.now) to self.new) }
+            × SameBag answer.items (news from to (joins self.old.rows.left_key.items self.old.rows.right_key.items (of
+            (hl ++ left.now.edges)) (of (hr ++ right.now.edges))))) }
+        ensures sides { OnOk result ((from : ℕ) → from ≤ to →
+            AreSides (cells_of left.now) (cells_of right.now) from self.old →
+            AreSides (cells_of left.now) (cells_of right.now) to self.new) }
         ensures left_cells { OnOk result (All (λ e. map datum_kind e.cells ≡ cells_of left.now) left.now.edges) }
         ensures right_cells { OnOk result (All (λ e. map datum_kind e.cells ≡ cells_of right.now) right.now.edges) }
         ensures keys { SameKeys self.old.rows self.new.rows }
@@ -60,48 +67,47 @@ impl Sides {
         Ok(answer)
     }
 
-    /// Takes up the rows and the edges that were saved, with columns of these kinds and kept up to a time. A fault changes
-    /// nothing.
-    pub(crate) fn take_up(
-        &mut self,
-        saved: &Saved,
-        left_kinds: &[Kind],
-        right_kinds: &[Kind],
-        to: Time,
-    ) -> Result<(), LoadFault>
-        ensures rows { OnOk result (SameBag self.new.rows.left.rows (rows_of (part_of 0 saved.now)) × SameBag self.new.rows.right.rows (rows_of (part_of 1 saved.now))) }
-        ensures waiting { OnOk result (SameBag (queued self.new.left_waiting) (part_of 2 saved.now) × SameBag (queued self.new.right_waiting) (part_of 3 saved.now)) }
+    /// Takes up the rows and the edges that were saved. Where there is no memory nothing changes.
+    pub(crate) fn take_up(&mut self, saved: &Saved) -> Result<(), Memory>
+        ensures left { OnOk result (SameBag self.new.rows.left.rows (rows_of (part_of 0 saved.now))) }
+        ensures right { OnOk result (SameBag self.new.rows.right.rows (rows_of (part_of 1 saved.now))) }
+        ensures left_waiting { OnOk result (SameBag (queued self.new.left_waiting) (part_of 2 saved.now)) }
+        ensures right_waiting { OnOk result (SameBag (queued self.new.right_waiting) (part_of 3 saved.now)) }
         ensures by { OnOk result (AreByKey self.new.rows) }
-        ensures sides { OnOk result (AreSides (map cell_kind_of left_kinds.now) (map cell_kind_of right_kinds.now) to self.new) }
-        ensures sound { OnOk result (AreSavedSides (map cell_kind_of left_kinds.now) (map cell_kind_of right_kinds.now) to saved.now) }
-        ensures refused { IfErr result (λ fault. fault ≡ LoadFault.NotState → AreSavedSides (map cell_kind_of left_kinds.now) (map cell_kind_of right_kinds.now) to saved.now → ⊥) }
+        ensures sides { OnOk result ((left_kinds right_kinds : List CellKind) (to : ℕ) →
+            JoinSound left_kinds right_kinds to saved.now → AreSides left_kinds right_kinds to self.new) }
         ensures err { OnErr result (self.new ≡ self.old) }
         ensures left_key { self.new.rows.left_key ≡ self.old.rows.left_key }
         ensures right_key { self.new.rows.right_key ≡ self.old.rows.right_key }
     {
         let alloc = self.rows.alloc;
-        let left = load_rows(
-            alloc,
-            saved,
-            0,
-            self.rows.left_key.as_slice(),
-            left_kinds,
-            to,
-        )?;
-        let right = load_rows(
-            alloc,
-            saved,
-            1,
-            self.rows.right_key.as_slice(),
-            right_kinds,
-            to,
-        )?;
-        let left_waiting = load_waiting(alloc, saved, 2, left_kinds, to)?;
-        let right_waiting = load_waiting(alloc, saved, 3, right_kinds, to)?;
+        let left = load_rows(alloc, saved, 0, self.rows.left_key.as_slice())?;
+        let right = load_rows(alloc, saved, 1, self.rows.right_key.as_slice())?;
+        let left_waiting = load_waiting(alloc, saved, 2)?;
+        let right_waiting = load_waiting(alloc, saved, 3)?;
         self.rows.left = left;
         self.rows.right = right;
         self.left_waiting = left_waiting;
         self.right_waiting = right_waiting;
         Ok(())
     }
+}
+
+/// Whether saved entries can be the state of a join whose sides are closed up to a time, with columns of these kinds.
+pub(crate) fn is_sound(saved: &Saved, left_kinds: &[Kind], right_kinds: &[Kind], to: Time) -> bool
+    ensures { IsTrue result ↔ JoinSound (map cell_kind_of left_kinds.now) (map cell_kind_of right_kinds.now) to saved.now }
+{
+    if !are_of_parts(saved, 4) {
+        return false;
+    }
+    if !are_rows(saved, 0, left_kinds, to) {
+        return false;
+    }
+    if !are_rows(saved, 1, right_kinds, to) {
+        return false;
+    }
+    if !can_wait(saved, 2, left_kinds, to) {
+        return false;
+    }
+    can_wait(saved, 3, right_kinds, to)
 }

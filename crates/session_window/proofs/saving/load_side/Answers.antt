@@ -1,8 +1,10 @@
-use Rattle.std.proofs.Common.{◌∙◌, subst, map, List, ℕ}
-use Rattle.tw_rows.specs.Kinds.{cell_kind_of}
+use Rattle.std.proofs.Common.{◌∙◌, subst, List, ℕ}
+use Rattle.carried_edges.specs.Entries.{part_of}
+use Rattle.sweep_sides.proofs.KeptSides.{side_loaded}
+use Rattle.sweep_sides.proofs.Starting.{starts_loaded}
 use Rattle.tw_rows.proofs.Bags.{SameBag-trans}
 use Rattle.session_window.specs.Kept.{HasOne}
-use Rattle.session_window.proofs.Loading.{none_one, none_placed, rows_same, started_same}
+use Rattle.session_window.proofs.Loading.{none_one, none_placed, rows_same}
 use Rattle.session_window.proofs.saving.load_side.Goals as goal
 
 pub returns-clause-key : goal.returns-clause-key
@@ -28,12 +30,9 @@ pub returns-clause-at : goal.returns-clause-at
 returns-clause-at c = c.in_ok-put_rows.ensures.at (none_placed c.args.to c.in_ok-side.side.sessions.ends c.in_ok-side.ensures.ends)
 
 pub returns-clause-side : goal.returns-clause-side
-returns-clause-side c = record {
-  started = started_same (map cell_kind_of c.args.kinds.now) c.args.to c.put_rows.new.sessions.rows.rows c.in_ok-rows.rows.rows
-      (rows_same c.put_rows.new.sessions.rows.rows c.in_ok-side.side.sessions.rows.rows c.in_ok-rows.rows.rows c.in_ok-side.ensures.rows c.in_ok-put_rows.ensures.rows) c.in_ok-rows.ensures.started;
-  later = c.in_ok-waiting.ensures.later;
-  timed = c.in_ok-waiting.ensures.timed;
-}
+returns-clause-side c = λ kinds sound.
+    let entries = c.args.saved.now in
+    side_loaded kinds c.args.to c.put_rows.new.sessions.rows.rows c.in_ok-waiting.waiting (part_of 0 entries) (part_of 1 entries) (returns-clause-rows c) c.in_ok-waiting.ensures.edges c.in_ok-waiting.ensures.timed sound.rows sound.waiting
 
-pub returns-clause-sound : goal.returns-clause-sound
-returns-clause-sound c = (c.in_ok-rows.ensures.sound, c.in_ok-waiting.ensures.sound)
+pub returns-clause-starts : goal.returns-clause-starts
+returns-clause-starts c = λ kinds sound. starts_loaded c.in_ok-waiting.waiting (part_of 1 c.args.saved.now) c.in_ok-waiting.ensures.edges sound.starts

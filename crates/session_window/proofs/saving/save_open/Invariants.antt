@@ -2,7 +2,7 @@
 use Rattle.std.proofs.Common.{◌≡◌, ◌++◌, take}
 use Rattle.std.specs.Prelude.{flat_map}
 use Rattle.carried_edges.specs.Entries.{entries_of}
-use Rattle.sweep_sides.specs.Saving.{starts_of}
+use Rattle.sweep_laws.specs.Saving.{starts_of}
 use Rattle.session_window.proofs.saving.save_open.Given as goal
 
 abbrev pub invariant-loop-k : goal.invariant-loop-k

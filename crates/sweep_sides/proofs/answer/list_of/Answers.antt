@@ -1,9 +1,14 @@
-use Rattle.std.proofs.Common.{◌∙◌, ◌++◌, ◌∷◌, [], sym, ap, take}
+use Rattle.std.proofs.Common.{◌≡◌, ◌∙◌, ◌++◌, ◌∷◌, [], ℕ, List, true, sym, ap, take}
+use Rattle.std.specs.List.{list_all}
 use Rattle.std.proofs.lemmas.List.{take_more}
 use Rattle.tw_rows.specs.declared.edge.Edge.{Edge}
 use Rattle.edge_history.proofs.Keeping.{KeepsOrder-next}
 use Rattle.edge_stream.proofs.Filling.{appended-kinds, appended-capacity, room_taken-capacity}
 use Rattle.carried_edges.proofs.Pools.{part-capacity, part-limit, room_taken-limit}
+use Rattle.edge_history.specs.Order.{failing}
+use Rattle.carried_edges.proofs.Parts.{none_fails, all_pass}
+use Rattle.sweep_sides.specs.Answers.{is_between}
+use Rattle.sweep_sides.proofs.Telling.{between_part}
 use Rattle.sweep_sides.proofs.answer.list_of.Goals as goal
 
 pub append-requires-clause-order : goal.append-requires-clause-order
@@ -30,3 +35,21 @@ loop-edge-preserved c =
       pools = ap (λ s. s.capacity) c.in_ok-append.ensures.pools ∙ (room_taken-capacity list c.loop-edge.pools ∙ k.pools);
       limit = ap (λ s. s.limit) c.in_ok-append.ensures.pools ∙ (room_taken-limit list c.loop-edge.pools ∙ k.limit);
     }
+
+-- what was appended is between the times
+so_far : (c d i : ℕ) (edges list : List Edge) → true ≡ list_all (is_between c d) edges → list ≡ take i edges → failing (is_between c d) list ≡ 0
+so_far c d i edges list all is = ap (failing (is_between c d)) is ∙ between_part c d i edges (none_fails (is_between c d) edges (sym all))
+
+pub returns-then-not-is_stored_as-clause-between : goal.returns-then-not-is_stored_as-clause-between
+returns-then-not-is_stored_as-clause-between c =
+    so_far c.args.from c.args.to c.loop-edge.edge-index c.args.edges.now c.loop-edge.list.edges (sym c.if-not-come_between.false ∙ c.come_between.ensures) c.loop-edge.invariant.so_far
+
+pub returns-clause-between : goal.returns-clause-between
+returns-clause-between c =
+    so_far c.args.from c.args.to c.loop-edge.edge-index c.args.edges.now c.loop-edge.list.edges (sym c.if-not-come_between.false ∙ c.come_between.ensures) c.loop-edge.invariant.so_far
+
+pub returns-then-not-come_between-clause-edges : goal.returns-then-not-come_between-clause-edges
+returns-then-not-come_between-clause-edges c = λ fits.
+    let all = c.come_between.ensures ∙ all_pass (is_between c.args.from c.args.to) c.args.edges.now fits.between in
+    let none = c.if-not-come_between.true in
+    absurd (cc)

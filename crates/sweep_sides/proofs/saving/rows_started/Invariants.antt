@@ -2,7 +2,7 @@
 use Rattle.std.proofs.Common.{◌≡◌, ℕ, take}
 use Rattle.tw_rows.specs.Bag.{total}
 use Rattle.tw_rows.specs.declared.edge.HeldRow.{HeldRow}
-use Rattle.sweep_sides.specs.Saving.{rows_of}
+use Rattle.sweep_laws.specs.Saving.{rows_of}
 use Rattle.sweep_sides.proofs.saving.rows_started.Given as goal
 
 abbrev pub invariant-loop-edge : goal.invariant-loop-edge

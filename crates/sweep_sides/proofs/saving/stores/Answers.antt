@@ -1,7 +1,7 @@
 use Rattle.std.proofs.Common.{◌∙◌, ap, map}
 use Rattle.tw_rows.specs.Kinds.{cell_kind_of}
-use Rattle.sweep_sides.specs.Saving.{store_all}
-use Rattle.sweep_sides.proofs.KeptSides.{stored_test}
+use Rattle.sweep_laws.specs.Saving.{store_all}
+use Rattle.sweep_laws.proofs.Stored.{stored_test}
 use Rattle.sweep_sides.proofs.saving.stores.Goals as goal
 
 pub returns : goal.returns

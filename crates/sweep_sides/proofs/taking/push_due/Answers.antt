@@ -4,7 +4,7 @@ use Rattle.tw_rows.specs.declared.edge.Edge.{Edge}
 use Rattle.edge_history.specs.Order.{failing, is_below}
 use Rattle.sweep_sides.specs.Ends.{ends_of}
 use Rattle.sweep_sides.proofs.KeptStarts.{starts_kept, pushed_end}
-use Rattle.sweep_sides.proofs.Queued.{one_single, two_singles}
+use Rattle.sweep_laws.proofs.Stored.{one_single, two_singles}
 use Rattle.sweep_sides.proofs.TakenIn.{early_push, push_weighs}
 use Rattle.sweep_sides.proofs.taking.push_due.Goals as goal
 

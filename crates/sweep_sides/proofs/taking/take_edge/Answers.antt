@@ -13,6 +13,6 @@ returns-clause-parts c = λ w.
 pub returns-clause-early : goal.returns-clause-early
 returns-clause-early c = λ h.
     let a = c.in_ok-release.ensures.parts (λ e. cond (is_below c.args.to e) 0 1) in
-    let due = c.in_ok-push_due.ensures.early (below_then c.args.edge c.args.to c.comes_before.result c.comes_before.ensures c.if-not-comes_before.false) (omega (arith, a, h)) in
+    let due = c.in_ok-push_due.ensures.early (below_then c.args.edge c.args.to c.is_due.result c.is_due.ensures c.if-not-is_due.false) (omega (arith, a, h)) in
     let ends = c.in_ok-push_due.ensures.ends_early (omega (arith, a, h)) in
     omega (arith, a, h, due, ends)

@@ -1,7 +1,7 @@
 use Rattle.std.proofs.Common.{◌∙◌, sym, ap, arith}
 use Rattle.tw_rows.specs.Bag.{total}
 use Rattle.tw_rows.specs.declared.edge.Edge.{Edge}
-use Rattle.sweep_sides.proofs.Queued.{one_single, two_singles}
+use Rattle.sweep_laws.proofs.Stored.{one_single, two_singles}
 use Rattle.sweep_sides.proofs.waiting.put_singles.Goals as goal
 
 pub returns-then-is_single-clause-put : goal.returns-then-is_single-clause-put

@@ -1,4 +1,4 @@
-use Rattle.std.proofs.Common.{◌+◌, length, map, min, arith}
+use Rattle.std.proofs.Common.{◌+◌, length, map, min, arith, refl}
 use Rattle.tw_rows.specs.Kinds.{cell_kind_of}
 use Rattle.edge_history.specs.History.{of}
 use Rattle.plan_model.specs.declared.node.Node.TheVariants.{Anti as AntiNode}
@@ -7,19 +7,21 @@ use Rattle.node_laws.specs.Keeping.{plain_cells}
 use Rattle.sweep_sides.specs.Waiting.{queued}
 use Rattle.sweep_sides.proofs.KeptSides.{side_bounded, open_few}
 use Rattle.anti_join.proofs.Held.{times_few}
-use Rattle.anti_join.proofs.Resuming.{anti_opening, anti_longer, anti_stands, anti_bound}
+use Rattle.anti_join.specs.Operating.{standing}
+use Rattle.anti_join.proofs.Resuming.{anti_rows_stored, anti_opening, anti_longer, anti_stands, anti_bound}
 use Rattle.anti_join.proofs.operating.AntiOperator.laws.Goals as goal
 
 pub returns-clause-opens : goal.returns-clause-opens
-returns-clause-opens c = λ s o. (
-  (λ texts.
-      let r = s.sides.rows in
-      anti_opening r.left_key.columns r.right_key.columns (map cell_kind_of s.left_kinds.items) (map cell_kind_of s.right_kinds.items) texts s.left_to s.right_to r.left.rows r.right.rows r.times.rows
-      s.sides.left_waiting s.sides.right_waiting o.left_empty o.right_empty o.times_empty o.none_left o.none_right o.left_open o.right_open),
-  o.works,
-  o.left_open,
-  o.right_open,
-)
+returns-clause-opens c = λ s texts o.
+    let r = s.sides.rows in
+    anti_opening r.left_key.columns r.right_key.columns (map cell_kind_of s.left_kinds.items) (map cell_kind_of s.right_kinds.items) texts s.left_to s.right_to r.left.rows r.right.rows r.times.rows
+    s.sides.left_waiting s.sides.right_waiting o.left_empty o.right_empty o.times_empty o.none_left o.none_right o.left_open o.right_open
+
+pub returns-clause-fresh : goal.returns-clause-fresh
+returns-clause-fresh c = λ s o. record { left = o.left_open; right = o.right_open; works = o.works }
+
+pub returns-clause-rows : goal.returns-clause-rows
+returns-clause-rows c = λ s saved x y sound. anti_rows_stored (standing s) saved (min x y) (map cell_kind_of s.left_kinds.items) (map cell_kind_of s.right_kinds.items) refl refl sound.stored
 
 pub returns-clause-stands : goal.returns-clause-stands
 returns-clause-stands c = λ s texts hl hr out apart k.

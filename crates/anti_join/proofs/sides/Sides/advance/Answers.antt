@@ -1,4 +1,8 @@
-use Rattle.std.proofs.Common.{◌++◌, sym, ap, subst, arith}
+use Rattle.std.proofs.Common.{◌++◌, ◌∙◌, List, sym, ap, subst, arith}
+use Rattle.tw_rows.specs.declared.edge.Edge.{Edge}
+use Rattle.edge_history.specs.Order.{failing, is_below}
+use Rattle.sweep_laws.specs.Saving.{HaveBegun}
+use Rattle.sweep_laws.proofs.Stored.{begun_later, due_begun, due_wait}
 use Rattle.tw_rows.specs.Bag.{total}
 use Rattle.edge_history.specs.History.{of}
 use Rattle.edge_history.specs.Opens.{started_rows}
@@ -62,6 +66,8 @@ returns-clause-sides c = λ from low a.
     let dr = c.in_ok-right_due.ensures in
     let tl = a.left.timed in
     let tr = a.right.timed in
+    let kinds = cells_of c.args.left.now in
+    let nl = c.args.left.now.edges in
     record {
       left = side_taken (cells_of c.args.left.now) from c.args.to s.rows.left.rows later.left.rows s.left_waiting c.take_in.new.queue c.args.left.now.edges c.in_ok-left_due.left_due.items
           low a.left c.take_in.ensures.list.real dl.cells dl.parts (dl.below tl) (dl.rest tl) (dl.timed tl)
@@ -69,4 +75,10 @@ returns-clause-sides c = λ from low a.
       right = side_taken (cells_of c.args.right.now) from c.args.to s.rows.right.rows later.right.rows s.right_waiting c.take_in-2.new.queue c.args.right.now.edges c.in_ok-right_due.right_due.items
           low a.right c.take_in-2.ensures.list.real dr.cells dr.parts (dr.below tr) (dr.rest tr) (dr.timed tr)
           (λ w. let f = c.in_ok-sweep.ensures.right_rows w in let e = ap (λ l. total w (started_rows l)) c.as_slice-2.ensures.value in omega (arith, f, e));
+      times = c.in_ok-sweep.ensures.begun kinds c.args.to (ap (failing (is_below c.args.to)) c.as_slice.ensures.value ∙ dl.below tl) (ap (failing (is_below c.args.to)) c.as_slice-2.ensures.value ∙ dr.below tr)
+          (subst (λ (l : List Edge). HaveBegun kinds c.args.to (started_rows l)) (sym c.as_slice.ensures.value)
+          (due_begun kinds c.args.to c.in_ok-left_due.left_due.items
+          (due_wait kinds from c.args.to (queued s.left_waiting) (both s.left_waiting nl) (queued c.take_in.new.queue) nl c.in_ok-left_due.left_due.items a.left.later c.take_in.ensures.list.real dl.cells
+          (both_weighs s.left_waiting nl) (both_parted s.left_waiting c.take_in.new.queue nl c.in_ok-left_due.left_due.items dl.parts)) (dl.below tl)))
+          (begun_later kinds from c.args.to s.rows.left.rows low a.left.started) (begun_later kinds from c.args.to s.rows.times.rows low a.times);
     }

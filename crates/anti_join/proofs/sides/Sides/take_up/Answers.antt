@@ -1,36 +1,37 @@
-use Rattle.std.specs.Prelude.{Result, map}
-use Rattle.std.specs.Result.{IsErrAnd, IfErr}
-use Rattle.std.proofs.Common.{◌≡◌, ◌≤◌, ◌∙◌, sym, ap, subst, List, ℕ}
-use Rattle.std.proofs.lemmas.Result.{err_from_is_err_and}
-use Rattle.tw_rows.specs.Kinds.{cell_kind_of}
-use Rattle.edge_history.specs.Order.{many}
-use Rattle.edge_stream.specs.declared.saved.LoadFault.{LoadFault}
+use Rattle.std.proofs.Common.{◌≡◌, ◌∙◌, sym, subst, List, ℕ}
 use Rattle.edge_stream.specs.declared.saved.LoadFault.TheVariants.{NotState}
 use Rattle.carried_edges.specs.Entries.{part_of}
-use Rattle.synopsis.specs.Held.{is_of_key}
-use Rattle.sweep_sides.specs.Saving.{rows_of}
-use Rattle.anti_join.specs.States.{AreSavedSides}
+use Rattle.carried_edges.proofs.Parts.{none_fails}
+use Rattle.sweep_laws.specs.Saving.{is_row_start}
+use Rattle.sweep_laws.proofs.Stored.{rows_started}
+use Rattle.sweep_sides.proofs.KeptSides.{side_loaded}
+use Rattle.anti_join.specs.Times.{HaveOneTime}
+use Rattle.anti_join.proofs.Starting.{handed_on}
 use Rattle.anti_join.proofs.sides.Sides.take_up.Goals as goal
 
--- what holds of a fault holds of what `?` hands on of it
-handed_on : {T : Type 0} (e : LoadFault) (r : Result T LoadFault) (P : LoadFault → Type 0) → IsErrAnd r (λ y. y ≡ e) → P e → IfErr r P
-handed_on e r P is p = let x = err_from_is_err_and r is in subst (λ z. IfErr z P) (sym x.1) (subst P (sym x.2) p)
-
-pub returns-in_err-take_up_rows-clause-refused : goal.returns-in_err-take_up_rows-clause-refused
-returns-in_err-take_up_rows-clause-refused c =
-    handed_on c.in_err-take_up_rows.field-0.0 c.from_residual-in_err-take_up_rows.result
-    (λ fault. fault ≡ NotState → AreSavedSides (map cell_kind_of c.args.left_kinds.now) (map cell_kind_of c.args.right_kinds.now) c.args.to c.args.saved.now → ⊥)
-    c.from_residual-in_err-take_up_rows.ensures.1 c.in_err-take_up_rows.ensures.refused
-
-pub returns-clause-times : goal.returns-clause-times
-returns-clause-times c = λ one.
-    c.in_ok-times.ensures.rows (λ k. subst (λ (l : List ℕ). many (is_of_key l k) (rows_of (part_of 4 c.args.saved.now)) ≤ 1) (sym c.columns.ensures) (one k))
+pub returns-clause-sides : goal.returns-clause-sides
+returns-clause-sides c = λ lc rc to sound.
+    let entries = c.args.saved.now in
+    let left = c.in_ok-left_waiting.ensures in
+    let right = c.in_ok-right_waiting.ensures in
+    record {
+      left = side_loaded lc to c.in_ok-left.left.rows c.in_ok-left_waiting.left_waiting (part_of 0 entries) (part_of 2 entries) c.in_ok-left.ensures.rows left.edges left.timed sound.left sound.left_waiting;
+      right = side_loaded rc to c.in_ok-right.right.rows c.in_ok-right_waiting.right_waiting (part_of 1 entries) (part_of 3 entries) c.in_ok-right.ensures.rows right.edges right.timed sound.right sound.right_waiting;
+      times = rows_started lc to c.in_ok-times.times.rows (part_of 4 entries) c.in_ok-times.ensures.rows (none_fails (is_row_start lc to) (part_of 4 entries) sound.times);
+    }
 
 pub returns-clause-by : goal.returns-clause-by
-returns-clause-by c =
-    let rows = c.in_ok-take_up_rows.ensures in
-    record {
-      left = sym (rows.left_by ∙ sym (ap (λ v. v.columns) rows.left_key));
-      right = sym (rows.right_by ∙ sym (ap (λ v. v.columns) rows.right_key));
-      times = c.in_ok-times.ensures.key ∙ c.columns.ensures ∙ sym rows.left_by;
-    }
+returns-clause-by c = record {
+  left = sym (c.in_ok-left.ensures.key ∙ c.columns-left_key.ensures);
+  right = sym (c.in_ok-right.ensures.key ∙ c.columns-right_key.ensures);
+  times = c.in_ok-times.ensures.key ∙ sym c.in_ok-left.ensures.key;
+}
+
+pub returns-clause-single : goal.returns-clause-single
+returns-clause-single c = subst (λ (l : List ℕ). HaveOneTime l (part_of 4 c.args.saved.now)) c.columns-left_key.ensures c.in_ok-times.ensures.single
+
+pub returns-in_err-times-clause-refused : goal.returns-in_err-times-clause-refused
+returns-in_err-times-clause-refused c =
+    handed_on c.in_err-times.field-0.0 c.from_residual.result
+    (λ fault. fault ≡ NotState → HaveOneTime c.args.self.now.rows.left_key.columns (part_of 4 c.args.saved.now) → ⊥)
+    c.from_residual.ensures.1 (λ f one. c.in_err-times.ensures.refused f (subst (λ (l : List ℕ). HaveOneTime l (part_of 4 c.args.saved.now)) (sym c.columns-left_key.ensures) one))

@@ -1,5 +1,7 @@
-use Rattle.std.proofs.Common.{arith, ◌∙◌, refl}
+use Rattle.std.proofs.Common.{arith, ◌∙◌, refl, sym, subst}
 use Rattle.edge_history.specs.Opens.{ended_of}
+use Rattle.synopsis.specs.Held.{KeyedRows}
+use Rattle.sweep_laws.specs.Saving.{HaveBegun}
 use Rattle.sweep_laws.proofs.Adding.{ends_held, rows_more}
 use Rattle.anti_join.proofs.Changes.{none_goes, since_same}
 use Rattle.anti_join.proofs.Passes.{starts_more}
@@ -18,6 +20,7 @@ loop-edge-init c =
         early = λ k low. low;
         few = λ k _. (omega arith);
       };
+      begun = λ kinds to low left times. times;
       left = refl;
       keys = keys_stay s;
     }
@@ -45,6 +48,7 @@ loop-edge-preserved c =
           starts_more s.left.key s.right.key c.args.t s.right.rows now.right.rows later.right.rows s.times.rows now.times.rows s.left.rows c.args.answer.now.items c.loop-edge.answer.items c.end_right_one.new.answer.items
           k.fewer f.fewer (k.told by) (starts_by c.args.t s now later c.loop-edge.answer.items c.end_right_one.new.answer.items k.keys k.left (f.told (by_then s now k.keys by)));
       times = λ by. sets_times c.args.t s now later k.keys k.left k.fewer f.fewer (k.times by) (f.times (by_then s now k.keys by));
+      begun = λ kinds to low left times. f.begun kinds to low (subst (λ (x : KeyedRows). HaveBegun kinds to x.rows) (sym k.left) left) (k.begun kinds to low left times);
       left = f.left ∙ k.left;
       keys = keys_then s now later k.keys f.keys;
     }

@@ -3,7 +3,7 @@ use Rattle.tw_rows.specs.Bag.{total}
 use Rattle.tw_rows.specs.declared.edge.HeldRow.{HeldRow}
 use Rattle.edge_history.specs.Opens.{ended_rows}
 use Rattle.sweep_laws.specs.Moves.{Adds}
-use Rattle.anti_join.specs.Rows.{AreByKey, SameKeys, SetsTimes, starts_told}
+use Rattle.anti_join.specs.Rows.{AreByKey, SameKeys, SetsTimes, starts_told, TimesBegin}
 use Rattle.anti_join.proofs.sweep.Rows.end_right.Given as goal
 
 abbrev pub invariant-loop-edge : goal.invariant-loop-edge
@@ -13,6 +13,7 @@ invariant-loop-edge l = record {
   fewer : (w : HeldRow → ℕ) → total w l.self.right.rows ≤ total w l.fn.self.right.rows;
   told : AreByKey l.fn.self → Adds l.fn.answer.items l.answer.items (flat_map (starts_told l.t l.fn.self l.self) l.fn.self.left.rows);
   times : AreByKey l.fn.self → SetsTimes l.t l.fn.self l.self;
+  begun : TimesBegin l.t l.fn.self l.self;
   left : l.self.left ≡ l.fn.self.left;
   keys : SameKeys l.fn.self l.self;
 }

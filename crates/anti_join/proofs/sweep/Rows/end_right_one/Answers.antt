@@ -26,6 +26,7 @@ returns-then-not-is_end c =
         early = λ k low. low;
         few = λ k _. (omega arith);
       };
+      begun = λ kinds to low left times. times;
       left = refl;
       keys = keys_stay s;
     }
@@ -49,6 +50,7 @@ returns-then-not-take c =
         early = λ k low. low;
         few = λ k _. (omega arith);
       };
+      begun = λ kinds to low left times. times;
       left = refl;
       keys = record { left_key = refl; right_key = refl; left = refl; right = c.take.ensures.key; times = refl };
     }
@@ -81,6 +83,7 @@ returns-then-not-is_free c =
             early = λ k low. low;
             few = λ k _. (omega arith);
           };
+      begun = λ kinds to low left times. times;
       left = refl;
       keys = record { left_key = refl; right_key = c.write.ensures.columns; left = refl; right = c.take.ensures.key; times = refl };
     }
@@ -120,6 +123,7 @@ returns c =
             early = g.early;
             few = g.few;
           };
+      begun = f.begun;
       left = f.left;
       keys = record { left_key = f.keys.left_key; right_key = f.keys.right_key ∙ c.write.ensures.columns; left = f.keys.left; right = f.keys.right ∙ c.take.ensures.key; times = f.keys.times };
     }

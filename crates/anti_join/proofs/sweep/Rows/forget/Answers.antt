@@ -6,6 +6,7 @@ pub loop-edge-init : goal.loop-edge-init
 loop-edge-init c = record {
   times = λ by. record { same = λ k _. refl; less = λ k. (omega arith); fewer = λ k. (omega arith) };
   gone = λ by k none some. absurd (omega (arith, some));
+  fewer = λ w. (omega arith);
   left = refl;
   right = refl;
   keys = keys_stay c.args.self.now;
@@ -24,6 +25,7 @@ loop-edge-preserved c =
       times = λ by. forgets_times s now later k.keys k.left (k.times by) (f.times (by_then s now k.keys by));
       gone = λ by l none some.
           gone_more s now later l c.args.now.now i x c.loop-edge-test.true c.edge-item.is k.keys k.left none (k.gone by l none) (f.times (by_then s now k.keys by)) (f.gone (by_then s now k.keys by) l) some;
+      fewer = λ w. (let a = k.fewer w in let b = f.fewer w in omega (arith, a, b));
       left = f.left ∙ k.left;
       right = f.right ∙ k.right;
       keys = keys_then s now later k.keys f.keys;

@@ -1,10 +1,12 @@
-use Rattle.std.proofs.Common.{◌≡◌, ◌∙◌, sym, ap, arith, false, refl, nat_eq}
+use Rattle.std.proofs.Common.{◌≡◌, ◌∙◌, sym, ap, arith, false, refl, nat_eq, not}
 use Rattle.edge_history.specs.Order.{is_end, many}
 use Rattle.synopsis.specs.Held.{key_of, is_of_key}
 use Rattle.tw_rows.specs.SameCells.{cells_are_same, same_cells}
 use Rattle.anti_join.proofs.Changes.{ended_key, forget_same, forget_less, forget_fewer, forget_gone, is_zero, not_zero}
 use Rattle.sweep_sides.proofs.Telling.{end_is}
+use Rattle.tw_rows.specs.declared.edge.HeldRow.{HeldRow}
 use Rattle.anti_join.proofs.RowKeys.{keys_stay}
+use Rattle.anti_join.proofs.Begun.{kept_less}
 use Rattle.anti_join.proofs.sweep.Rows.forget_one.Goals as goal
 
 pub returns-then-not-is_end : goal.returns-then-not-is_end
@@ -15,6 +17,7 @@ returns-then-not-is_end c =
     record {
       times = λ by. record { same = λ k _. refl; less = λ k. (omega arith); fewer = λ k. (omega arith) };
       gone = λ by k none some. (let p = (ended_key s.left.key x k some).0 in absurd (cc (p, e)));
+      fewer = λ w. (omega arith);
       left = refl;
       right = refl;
       keys = keys_stay s;
@@ -32,6 +35,7 @@ returns-then-not-has_none c =
           let here = c.values.ensures ∙ (v ∙ same) in
           let held = ap (λ l. nat_eq (many (is_of_key s.left.key l) s.left.rows) 0) (sym here) ∙ (sym c.has_none.ensures ∙ c.if-not-has_none.true) in
           absurd (not_zero (many (is_of_key s.left.key k) s.left.rows) held none);
+      fewer = λ w. (omega arith);
       left = refl;
       right = refl;
       keys = record { left_key = c.write.ensures.columns; right_key = refl; left = refl; right = refl; times = refl };
@@ -59,6 +63,11 @@ returns c =
           (ap (λ l. nat_eq (many (is_of_key s.left.key l) s.left.rows) 0) (sym (c.values.ensures ∙ v)) ∙ (sym c.has_none.ensures ∙ c.if-not-has_none.false)) in
           forget_gone s.left.key s.times.key cells s.left.rows s.times.rows later.rows by.times here c.in_ok-forget.ensures.ok k
           (ap (λ l. same_cells (key_of s.left.key l) k) c.items-2.ensures ∙ (ended_key s.left.key x k some).1);
+      fewer = λ w.
+          let q = λ (r : HeldRow). not (is_of_key s.times.key (key_of s.times.key cells) r) in
+          let a = c.in_ok-forget.ensures.ok.weigh w in
+          let b = kept_less w q s.times.rows in
+          omega (arith, a, b);
       left = refl;
       right = refl;
       keys = record { left_key = c.write.ensures.columns; right_key = refl; left = refl; right = refl; times = c.in_ok-forget.ensures.key };

@@ -1,6 +1,9 @@
-use Rattle.std.proofs.Common.{◌∙◌, ap, arith}
+use Rattle.std.proofs.Common.{◌∙◌, ap, sym, subst, arith}
 use Rattle.tw_rows.specs.Bag.{total}
 use Rattle.synopsis.specs.Held.{KeyedRows}
+use Rattle.sweep_laws.specs.Saving.{HaveBegun}
+use Rattle.sweep_laws.proofs.Stored.{begun_fewer}
+use Rattle.anti_join.specs.Free.{KeyTimes}
 use Rattle.anti_join.proofs.RowKeys.{keys_then, by_then}
 use Rattle.anti_join.proofs.WholePass.{whole_pass}
 use Rattle.anti_join.proofs.sweep.Rows.pass.Goals as goal
@@ -41,5 +44,11 @@ returns c =
           let d = f3.fewer w in
           let e = ap (λ (x : KeyedRows). total w x.rows) (f5.right ∙ f4.right) in
           omega (arith, a, b, d, e);
+      begun = λ kinds to low left times.
+          let l1 = begun_fewer kinds to s0.left.rows s1.left.rows f1.fewer left in
+          let l2 = subst (λ (x : KeyedRows). HaveBegun kinds to x.rows) (sym f2.left) l1 in
+          let t2 = subst (λ (x : KeyTimes). HaveBegun kinds to x.rows) (sym (f2.times ∙ f1.times)) times in
+          let t4 = subst (λ (x : KeyTimes). HaveBegun kinds to x.rows) (sym f4.times) (f3.begun kinds to low l2 t2) in
+          begun_fewer kinds to s4.times.rows s5.times.rows f5.fewer t4;
       keys = k5;
     }

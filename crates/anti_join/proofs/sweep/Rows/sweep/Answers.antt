@@ -4,6 +4,7 @@ use Rattle.tw_rows.specs.declared.edge.Edge.{Edge}
 use Rattle.sweep_sides.proofs.Cutting.{drop_past, starts_before, starts_part}
 use Rattle.anti_join.specs.Holding.{AntiReached}
 use Rattle.anti_join.proofs.RowKeys.{keys_stay, keys_then, by_then, same_swept}
+use Rattle.anti_join.proofs.Begun.{next_below, below_rest, begun_so_far}
 use Rattle.anti_join.proofs.Steps.{reach_start, reach_step, reach_end}
 use Rattle.anti_join.proofs.sweep.Rows.sweep.Goals as goal
 
@@ -15,6 +16,7 @@ loop-i-init c =
       within_right = omega arith;
       left_rows = λ w. (omega arith);
       right_rows = λ w. (omega arith);
+      begun = λ kinds to bl br started left times. times;
       keys = keys_stay s;
       reached = λ a b from to by dl dr h.
           (from, reach_start s.left.key s.right.key a b from to c.args.left_due.now c.args.right_due.now s.left.rows s.right.rows s.times.rows c.args.answer.now.items dl dr h);
@@ -61,6 +63,9 @@ loop-i-preserved c =
           let b = c.in_ok-pass.ensures.right_rows w in
           let d = starts_before w rdue rrest j m er in
           omega (arith, a, b, d);
+      begun = λ kinds to bl br started left times.
+          c.in_ok-pass.ensures.begun kinds to (next_below t to lrest rrest c.next_instant-t.ensures (below_rest to i ldue lrest el bl) (below_rest to j rdue rrest er br))
+          (begun_so_far kinds to i s.left.rows now.left.rows ldue c.loop-i.invariant.left_rows started left) (c.loop-i.invariant.begun kinds to bl br started left times);
       keys = keys_then s now later keys c.in_ok-pass.ensures.keys;
       reached = λ a b from to by dl dr h.
           let r = c.loop-i.invariant.reached a b from to by dl dr h in
@@ -92,5 +97,6 @@ returns c =
           (drop_past c.args.left_due.now c.loop-i.i (omega (arith, p))) (drop_past c.args.right_due.now c.loop-i.j (omega (arith, q))) r.1;
       left_rows = λ w. (let a = c.loop-i.invariant.left_rows w in let b = starts_part w c.args.left_due.now c.loop-i.i in omega (arith, a, b));
       right_rows = λ w. (let a = c.loop-i.invariant.right_rows w in let b = starts_part w c.args.right_due.now c.loop-i.j in omega (arith, a, b));
+      begun = c.loop-i.invariant.begun;
       keys = c.loop-i.invariant.keys;
     }

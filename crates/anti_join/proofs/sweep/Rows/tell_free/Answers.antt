@@ -1,5 +1,5 @@
 use Rattle.std.specs.Prelude.{filter}
-use Rattle.std.proofs.Common.{◌≡◌, ◌∙◌, ◌++◌, ◌∷◌, ◌≤◌, sym, ap, arith, map, length, drop, refl, None}
+use Rattle.std.proofs.Common.{◌≡◌, ◌∙◌, ◌++◌, ◌∷◌, ◌≤◌, sym, ap, arith, map, length, drop, refl, not, None}
 use Rattle.tw_rows.specs.declared.edge.HeldRow.{HeldRow}
 use Rattle.edge_history.specs.Order.{many}
 use Rattle.synopsis.specs.Held.{key_of, is_of_key}
@@ -8,6 +8,7 @@ use Rattle.anti_join.specs.Free.{told_since}
 use Rattle.anti_join.proofs.Keys.{kept_length, first_passes, is_none, head_is}
 use Rattle.anti_join.proofs.Changes.{set_since, set_early, set_few, set_none}
 use Rattle.anti_join.proofs.RowKeys.{keys_stay}
+use Rattle.anti_join.proofs.Begun.{times_set}
 use Rattle.anti_join.proofs.sweep.Rows.tell_free.Goals as goal
 
 pub returns-then-is_empty : goal.returns-then-is_empty
@@ -26,6 +27,7 @@ returns-then-is_empty c =
         early = λ k low. low;
         few = λ k z. (omega arith);
       };
+      begun = λ kinds to low left times. times;
       left = refl;
       right = refl;
       keys = keys_stay s;
@@ -50,6 +52,9 @@ returns c =
         early = set_early s.left.key s.times.key v c.in_ok-clone.field-0 c.args.t s.times.rows c.set.new.self.rows by own c.in_ok-set.ensures.ok;
         few = λ k z. set_few s.left.key s.times.key v c.in_ok-clone.field-0 c.args.t s.times.rows c.set.new.self.rows by own c.in_ok-set.ensures.ok s.left.rows k some z;
       };
+      begun = λ kinds to low.
+          times_set kinds to c.args.t (is_of_key s.left.key v) (λ r. not (is_of_key s.times.key (key_of s.times.key c.in_ok-clone.field-0) r)) s.left.rows (drop 1 c.rows_of-rows.result.now) s.times.rows c.set.new.self.rows row c.in_ok-clone.field-0
+          low head (c.in_ok-clone.ensures.cases ∙ ap (λ (r : HeldRow). r.cells) (sym c.index-rows-0.is)) c.in_ok-set.ensures.ok;
       left = refl;
       right = refl;
       keys = record { left_key = refl; right_key = refl; left = refl; right = refl; times = c.in_ok-set.ensures.key };

@@ -1,4 +1,4 @@
-use Rattle.std.proofs.Common.{◌≡◌, ◌≤◌, ◌∙◌, map, min, sym, ap, subst, arith}
+use Rattle.std.proofs.Common.{rules, ◌≡◌, ◌≤◌, ◌∙◌, map, min, sym, ap, subst, arith}
 use Rattle.std.specs.Prelude.{All}
 use Rattle.tw_rows.specs.Cells.{datum_kind}
 use Rattle.tw_rows.specs.Kinds.{cell_kind_of}
@@ -7,8 +7,11 @@ use Rattle.edge_stream.specs.Listing.{cells_of}
 use Rattle.edge_stream.proofs.Filling.{batches_given-capacity}
 use Rattle.carried_edges.proofs.Pools.{batches_given-limit}
 use Rattle.sweep_sides.specs.Waiting.{queued}
-use Rattle.sweep_sides.proofs.Telling.{from_lesser, list_is}
+use Rattle.sweep_sides.proofs.Telling.{from_lesser, list_is, between_parts}
+use Rattle.sweep_sides.specs.Answers.{FitsList}
+use Rattle.edge_history.specs.Order.{failing, is_from, is_below}
 use Rattle.clip_op.proofs.Stepped.{clip_stepped}
+use Rattle.clip_op.specs.States.{AreSides}
 use Rattle.clip_op.proofs.clip.Clip.advance.Goals as goal
 
 pub returns-clause-kept : goal.returns-clause-kept
@@ -21,8 +24,10 @@ returns-clause-kept c = λ texts hl hr out k ml mr.
     let right_kinds = map cell_kind_of s.right_kinds.items in
     let l = c.args.left.edges in
     let r = c.args.right.edges in
-    let to = c.lesser-to.result in
-    let e : to ≡ min c.args.left_to c.args.right_to = c.lesser-to.ensures in
+    let from = c.min-from.result in
+    let to = c.min-to.result in
+    let f : from ≡ min s.left_to s.right_to = search rules in
+    let e : to ≡ min c.args.left_to c.args.right_to = search rules in
     let xu = c.requires.left_rises in
     let yv = c.requires.right_rises in
     let lu : c.args.left_to ≤ inf = c.word.ensures.within in
@@ -42,7 +47,40 @@ returns-clause-kept c = λ texts hl hr out k ml mr.
     (subst (λ ks. All (λ x. map datum_kind x.cells ≡ ks) l) c.requires.left_kinds t.left_cells)
     (subst (λ ks. All (λ x. map datum_kind x.cells ≡ ks) r) c.requires.right_kinds t.right_cells)
     p.0.kept p.1
-    (list_is s.left_kinds.items c.as_slice.result.now told c.as_slice-2.result.now c.in_ok-answer.answer.edges c.as_slice.ensures.value c.as_slice-2.ensures.value c.in_ok-answer.ensures.edges)
+    (list_is s.left_kinds.items c.as_slice.result.now (min s.left_to s.right_to) to told c.as_slice-2.result.now c.in_ok-answer.answer.edges c.as_slice.ensures.value c.as_slice-2.ensures.value
+    (subst (λ n. FitsList (map cell_kind_of c.as_slice.result.now) n to c.as_slice-2.result.now → c.in_ok-answer.answer.edges ≡ c.as_slice-2.result.now) f c.in_ok-answer.ensures.edges))
+
+pub invariant_of-self-2-clause-working : goal.invariant_of-self-2-clause-working
+invariant_of-self-2-clause-working c = λ _.
+    let s = c.args.self.now in
+    let w = s.working c.requires.works in
+    let lc = map cell_kind_of s.left_kinds.items in
+    let rc = map cell_kind_of s.right_kinds.items in
+    let from = min s.left_to s.right_to in
+    let to = c.min-to.result in
+    let e : to ≡ min c.args.left_to c.args.right_to = search rules in
+    let xu = c.requires.left_rises in
+    let yv = c.requires.right_rises in
+    let old : AreSides (cells_of c.args.left) (cells_of c.args.right) from s.sides =
+    subst (λ k. AreSides k (cells_of c.args.right) from s.sides) (sym c.requires.left_kinds) (subst (λ k. AreSides lc k from s.sides) (sym c.requires.right_kinds) w.sides) in
+    let new = c.in_ok-told.ensures.sides from (omega (arith, xu, yv, e)) old in
+    record {
+      sides = subst (λ n. AreSides lc rc n c.advance.new.self) e
+          (subst (λ k. AreSides k rc to c.advance.new.self) c.requires.left_kinds (subst (λ k. AreSides (cells_of c.args.left) k to c.advance.new.self) c.requires.right_kinds new));
+      width = w.width;
+      room = w.room;
+    }
+
+pub returns-clause-between : goal.returns-clause-between
+returns-clause-between c =
+    let s = c.args.self.now in
+    let f : c.min-from.result ≡ min s.left_to s.right_to = search rules in
+    let e : c.min-to.result ≡ min c.args.left_to c.args.right_to = search rules in
+    let p = between_parts c.min-from.result c.min-to.result c.in_ok-answer.answer.edges c.in_ok-answer.ensures.between in
+    record {
+      from = subst (λ n. failing (is_from n) c.in_ok-answer.answer.edges ≡ 0) f p.0;
+      below = subst (λ n. failing (is_below n) c.in_ok-answer.answer.edges ≡ 0) e p.1;
+    }
 
 pub give_back-requires-2 : goal.give_back-requires-2
 give_back-requires-2 c =

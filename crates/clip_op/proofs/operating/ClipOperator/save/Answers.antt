@@ -20,7 +20,7 @@ returns-clause-sound c =
     let w = (s.working c.requires).sides in
     clip_saved s.sides.rows.left.rows (queued s.sides.left_waiting) (queued s.sides.right_waiting) c.new-saved.result c.save_rows.new.saved c.save_waiting.new.saved c.save_waiting-2.new.saved
     c.new-saved.ensures c.in_ok-save_rows.ensures c.in_ok-save_waiting.ensures c.in_ok-save_waiting-2.ensures
-    (map cell_kind_of s.left_kinds.items) (map cell_kind_of s.right_kinds.items) (min s.left_to s.right_to) w.left.started w.left.later w.right.later
+    (map cell_kind_of s.left_kinds.items) (map cell_kind_of s.right_kinds.items) (min s.left_to s.right_to) w.left.started w.left.later w.right.later w.right_starts
 
 pub returns-clause-resumes : goal.returns-clause-resumes
 returns-clause-resumes c = λ texts hl hr out k.

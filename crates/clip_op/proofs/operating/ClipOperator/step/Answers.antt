@@ -5,13 +5,7 @@ use Rattle.plan_model.specs.declared.node.Node.TheVariants.{Clip as ClipNode}
 use Rattle.life_laws.proofs.Undefined.{never_undefined}
 use Rattle.clip_op.proofs.operating.ClipOperator.step.Goals as goal
 
-pub returns-clause-kept : goal.returns-clause-kept
-returns-clause-kept c = λ texts hl hr out k ml mr. c.in_ok-answer.ensures.kept texts hl hr out k ml mr
-
 pub returns-clause-defined : goal.returns-clause-defined
 returns-clause-defined c = λ texts hl hr out apart k ml.
     let rows = c.args.self.now.sides.rows in
     never_undefined (ClipNode 0 1 rows.left.key rows.right_key.columns) refl (λ t. alive (read_of texts (hl ++ c.args.left.edges)) t) (min c.args.left_to c.args.right_to)
-
-pub returns-clause-node : goal.returns-clause-node
-returns-clause-node c = let k = c.advance.ensures.keys in λ i. ClipNode 0 1 (k.left i) (k.right i)

@@ -10,7 +10,7 @@ use Rattle.sweep_laws.specs.Unending.{unending}
 use Rattle.sweep_sides.specs.Waiting.{queued}
 use Rattle.sweep_sides.proofs.KeptSides.{side_stepped}
 use Rattle.clip_op.proofs.KeyRules.{kept_by}
-use Rattle.sweep_sides.proofs.Starting.{starts_are, starts_stepped}
+use Rattle.sweep_sides.proofs.Starting.{starts_are, starts_stepped, starts_stay}
 use Rattle.clip_op.proofs.Steps.{clip_step, clip_news}
 use Rattle.clip_op.proofs.sides.Sides.advance.Goals as goal
 
@@ -68,4 +68,5 @@ returns-clause-sides c = λ from low a.
           (λ w. let f = c.in_ok-sweep.ensures.rows w in let e = ap (λ l. total w (started_rows l)) c.as_slice.ensures.value in omega (arith, f, e));
       right = starts_stepped (cells_of c.args.right.now) from c.args.to [] [] s.right_waiting c.put_starts.new.queue c.take_due-2.new.queue c.args.right.now.edges c.in_ok-right_due.right_due.items
           low a.right c.put_starts.ensures.order.real c.in_ok-put_starts.ensures.cells c.in_ok-put_starts.ensures.put dr.parts (dr.below tr) (dr.rest tr) (dr.timed tr) (λ w. (omega arith));
+      right_starts = starts_stay s.right_waiting c.put_starts.new.queue c.take_due-2.new.queue c.args.right.now.edges c.in_ok-right_due.right_due.items c.put_starts.ensures.order.real a.right_starts c.in_ok-put_starts.ensures.put dr.parts;
     }

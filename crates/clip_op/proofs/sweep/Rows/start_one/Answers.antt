@@ -1,9 +1,7 @@
-use Rattle.std.proofs.Common.{◌≡◌, ◌∙◌, ◌∷◌, ◌++◌, [], ap, arith, cond, true, false, refl}
+use Rattle.std.proofs.Common.{◌≡◌, ◌∙◌, ◌∷◌, [], ap, arith, cond, true, false, refl}
 use Rattle.tw_rows.specs.Bag.{total}
-use Rattle.tw_rows.specs.declared.edge.Edge.{Edge}
 use Rattle.tw_rows.specs.declared.edge.HeldRow.{HeldRow}
 use Rattle.edge_history.specs.Order.{is_end}
-use Rattle.sweep_laws.specs.Moves.{told_at}
 use Rattle.clip_op.proofs.KeyRules.{keys_stay}
 use Rattle.sweep_sides.proofs.Telling.{end_is, no_start, start_told}
 use Rattle.clip_op.proofs.sweep.Rows.start_one.Goals as goal

@@ -1,16 +1,19 @@
-use Rattle.std.proofs.Common.{map}
+use Rattle.std.proofs.Common.{map, refl}
 use Rattle.tw_rows.specs.Kinds.{cell_kind_of}
 use Rattle.sweep_sides.specs.Waiting.{queued}
-use Rattle.session_window.proofs.Resuming.{session_opening, session_longer, session_stands, session_bound}
+use Rattle.session_window.specs.Operating.{standing}
+use Rattle.session_window.proofs.Resuming.{session_rows_stored, session_opening, session_longer, session_stands, session_bound}
 use Rattle.session_window.proofs.operating.SessionOperator.laws.Goals as goal
 
 pub returns-clause-opens : goal.returns-clause-opens
-returns-clause-opens c = λ s o. (
-  (λ texts. session_opening s.side.sessions.rows.key s.side.sessions.timeout (map cell_kind_of s.kinds.items) s.positive texts s.side.sessions.rows.rows s.side.sessions.ends s.side.waiting s.left_to s.right_to s.failed o),
-  o.works,
-  o.left,
-  o.right,
-)
+returns-clause-opens c = λ s texts o.
+    session_opening s.side.sessions.rows.key s.side.sessions.timeout (map cell_kind_of s.kinds.items) s.positive texts s.side.sessions.rows.rows s.side.sessions.ends s.side.waiting s.left_to s.right_to s.failed o
+
+pub returns-clause-fresh : goal.returns-clause-fresh
+returns-clause-fresh c = λ s o. record { left = o.left; right = o.right; works = o.works }
+
+pub returns-clause-rows : goal.returns-clause-rows
+returns-clause-rows c = λ s saved x y sound. session_rows_stored (standing s) saved x (map cell_kind_of s.kinds.items) refl sound
 
 pub returns-clause-stands : goal.returns-clause-stands
 returns-clause-stands c = λ s texts hl hr out apart k.

@@ -16,9 +16,9 @@ returns-clause-few c =
 pub returns-clause-sound : goal.returns-clause-sound
 returns-clause-sound c =
     let s = c.args.self.now in
-    let w = (s.working c.requires).side in
+    let w = s.working c.requires in
     session_saved s.side.sessions.rows.rows (queued s.side.waiting) c.new-saved.result c.save_open.new.saved c.save_waiting.new.saved c.new-saved.ensures c.in_ok-save_open.ensures c.in_ok-save_waiting.ensures
-    (map cell_kind_of s.kinds.items) s.left_to w.started w.later
+    (map cell_kind_of s.kinds.items) s.left_to w.side.started w.side.later w.starts
 
 pub returns-clause-resumes : goal.returns-clause-resumes
 returns-clause-resumes c = λ texts hl hr out k.

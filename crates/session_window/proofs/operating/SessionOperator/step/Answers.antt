@@ -5,13 +5,7 @@ use Rattle.plan_model.specs.declared.node.Node.TheVariants.{Session as SessionNo
 use Rattle.life_laws.proofs.Undefined.{never_undefined}
 use Rattle.session_window.proofs.operating.SessionOperator.step.Goals as goal
 
-pub returns-clause-kept : goal.returns-clause-kept
-returns-clause-kept c = λ texts hl hr out k ml mr. c.in_ok-answer.ensures.kept texts hl hr out k ml mr
-
 pub returns-clause-defined : goal.returns-clause-defined
 returns-clause-defined c = λ texts hl hr out apart k ml.
     let s = c.args.self.now.side.sessions in
     never_undefined (SessionNode 0 s.timeout s.rows.key) refl (λ t. alive (read_of texts (hl ++ c.args.left.edges)) t) c.args.left_to
-
-pub returns-clause-node : goal.returns-clause-node
-returns-clause-node c = let k = c.advance.ensures.like in λ i. SessionNode 0 (k.timeout i) (k.key i)

@@ -6,7 +6,7 @@ use Rattle.edge_stream.specs.Listing.{cells_of}
 use Rattle.edge_stream.proofs.Filling.{batches_given-capacity}
 use Rattle.carried_edges.proofs.Pools.{batches_given-limit}
 use Rattle.sweep_sides.specs.Waiting.{queued}
-use Rattle.sweep_sides.proofs.Telling.{list_is}
+use Rattle.sweep_sides.proofs.Telling.{list_is, between_parts}
 use Rattle.session_window.proofs.Answering.{session_stepped}
 use Rattle.session_window.proofs.session.Session.advance.Goals as goal
 
@@ -27,7 +27,12 @@ returns-clause-kept c = λ texts hl hr out k ml mr.
     session_stepped old.rows.key new.sessions.rows.key old.timeout new.sessions.timeout kinds texts s.left_to s.right_to c.args.left_to old.rows.rows new.sessions.rows.rows old.ends new.sessions.ends
     (queued s.side.waiting) (queued new.waiting) hl hr l r out told c.in_ok-answer.answer.edges (omega (arith, q, pos)) c.word.ensures.within k ml mr
     (subst (λ ks. All (λ x. map datum_kind x.cells ≡ ks) l) c.requires.left_kinds t.cells) p.0.kept p.1
-    (list_is s.kinds.items c.as_slice.result.now told c.as_slice-2.result.now c.in_ok-answer.answer.edges c.as_slice.ensures.value c.as_slice-2.ensures.value c.in_ok-answer.ensures.edges)
+    (list_is s.kinds.items c.as_slice.result.now s.left_to c.args.left_to told c.as_slice-2.result.now c.in_ok-answer.answer.edges c.as_slice.ensures.value c.as_slice-2.ensures.value c.in_ok-answer.ensures.edges)
+
+pub returns-clause-between : goal.returns-clause-between
+returns-clause-between c =
+    let p = between_parts c.args.self.now.left_to c.args.left_to c.in_ok-answer.answer.edges c.in_ok-answer.ensures.between in
+    record { from = p.0; below = p.1 }
 
 pub give_back-requires-2 : goal.give_back-requires-2
 give_back-requires-2 c =

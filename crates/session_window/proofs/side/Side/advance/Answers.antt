@@ -8,7 +8,7 @@ use Rattle.sweep_laws.specs.Unending.{unending}
 use Rattle.sweep_sides.specs.Waiting.{queued}
 use Rattle.session_window.specs.Holding.{SessionKeeps}
 use Rattle.session_window.proofs.Steps.{session_step}
-use Rattle.sweep_sides.proofs.Starting.{starts_are, starts_stepped}
+use Rattle.sweep_sides.proofs.Starting.{starts_are, starts_stepped, starts_stay}
 use Rattle.session_window.proofs.Likes.{by_now}
 use Rattle.session_window.proofs.side.Side.advance.Goals as goal
 
@@ -42,3 +42,7 @@ returns-clause-side c = λ a.
     starts_stepped (cells_of c.args.left.now) c.args.from c.args.to s.rows.rows c.sweep.new.self.rows.rows c.args.self.now.waiting c.put_starts.new.queue c.take_due.new.queue c.args.left.now.edges c.in_ok-due.due.items
     c.requires.low a c.put_starts.ensures.order.real c.in_ok-put_starts.ensures.cells c.in_ok-put_starts.ensures.put d.parts (d.below timed) (d.rest timed) (d.timed timed)
     (λ w. (let f = c.in_ok-sweep.ensures.rows w in let e = ap (λ l. total w (started_rows l)) c.as_slice.ensures.value in omega (arith, f, e)))
+
+pub returns-clause-starts : goal.returns-clause-starts
+returns-clause-starts c = λ alone.
+    starts_stay c.args.self.now.waiting c.put_starts.new.queue c.take_due.new.queue c.args.left.now.edges c.in_ok-due.due.items c.put_starts.ensures.order.real alone c.in_ok-put_starts.ensures.put c.in_ok-due.ensures.parts

@@ -1,4 +1,4 @@
-use Rattle.std.proofs.Common.{◌+◌, length, map, min}
+use Rattle.std.proofs.Common.{◌+◌, length, map, min, refl}
 use Rattle.tw_rows.specs.Kinds.{cell_kind_of}
 use Rattle.edge_history.specs.History.{of}
 use Rattle.plan_model.specs.declared.node.Node.TheVariants.{Join as JoinNode}
@@ -6,19 +6,21 @@ use Rattle.plan_model.specs.Nodes.{node_in}
 use Rattle.node_laws.specs.Keeping.{plain_cells}
 use Rattle.sweep_sides.specs.Waiting.{queued}
 use Rattle.sweep_sides.proofs.KeptSides.{side_bounded}
-use Rattle.temporal_join.proofs.Resuming.{join_opening, join_longer, join_stands, join_bound}
+use Rattle.temporal_join.specs.Operating.{standing}
+use Rattle.temporal_join.proofs.Resuming.{join_rows_stored, join_opening, join_longer, join_stands, join_bound}
 use Rattle.temporal_join.proofs.operating.JoinOperator.laws.Goals as goal
 
 pub returns-clause-opens : goal.returns-clause-opens
-returns-clause-opens c = λ s o. (
-  (λ texts.
-      let r = s.sides.rows in
-      join_opening r.left_key.items r.right_key.items (map cell_kind_of s.left_kinds.items) (map cell_kind_of s.right_kinds.items) texts s.left_to s.right_to r.left.rows r.right.rows
-      s.sides.left_waiting s.sides.right_waiting o.left_empty o.right_empty o.none_left o.none_right o.left_open o.right_open),
-  o.works,
-  o.left_open,
-  o.right_open,
-)
+returns-clause-opens c = λ s texts o.
+    let r = s.sides.rows in
+    join_opening r.left_key.items r.right_key.items (map cell_kind_of s.left_kinds.items) (map cell_kind_of s.right_kinds.items) texts s.left_to s.right_to r.left.rows r.right.rows
+    s.sides.left_waiting s.sides.right_waiting o.left_empty o.right_empty o.none_left o.none_right o.left_open o.right_open
+
+pub returns-clause-fresh : goal.returns-clause-fresh
+returns-clause-fresh c = λ s o. record { left = o.left_open; right = o.right_open; works = o.works }
+
+pub returns-clause-rows : goal.returns-clause-rows
+returns-clause-rows c = λ s saved x y sound. join_rows_stored (standing s) saved (min x y) (map cell_kind_of s.left_kinds.items) (map cell_kind_of s.right_kinds.items) refl refl sound
 
 pub returns-clause-stands : goal.returns-clause-stands
 returns-clause-stands c = λ s texts hl hr out apart k.

@@ -5,13 +5,7 @@ use Rattle.plan_model.specs.declared.node.Node.TheVariants.{Join as JoinNode}
 use Rattle.life_laws.proofs.Undefined.{never_undefined}
 use Rattle.temporal_join.proofs.operating.JoinOperator.step.Goals as goal
 
-pub returns-clause-kept : goal.returns-clause-kept
-returns-clause-kept c = λ texts hl hr out k ml mr. c.in_ok-answer.ensures.kept texts hl hr out k ml mr
-
 pub returns-clause-defined : goal.returns-clause-defined
 returns-clause-defined c = λ texts hl hr out apart k ml.
     let rows = c.args.self.now.sides.rows in
     never_undefined (JoinNode 0 1 rows.left_key.items rows.right_key.items) refl (λ t. alive (read_of texts (hl ++ c.args.left.edges)) t) (min c.args.left_to c.args.right_to)
-
-pub returns-clause-node : goal.returns-clause-node
-returns-clause-node c = let k = c.advance.ensures.keys in λ i. JoinNode 0 1 (k.left_key i).items (k.right_key i).items

@@ -1,4 +1,4 @@
--- What is kept of a side between steps, and how it is saved.
+-- What is kept of a side between steps: rows, which are saved as their starts, and edges that wait.
 use Rattle.std.specs.Prelude.{◌≡◌, ℕ, ◌&&◌, nat_eq, nat_lt, Bool, true, false, List, [], ◌∷◌, map}
 use Rattle.std.specs.List.{list_all}
 use Rattle.tw_rows.specs.Instant.{inf}
@@ -10,8 +10,6 @@ use Rattle.tw_rows.specs.declared.kind.CellKind.{CellKind}
 use Rattle.tw_rows.specs.declared.kind.CellKind.TheVariants.{Whole, Bit, Place}
 use Rattle.edge_history.specs.Order.{failing, is_real, is_from}
 use Rattle.edge_history.specs.Balance.{is_single}
-use Rattle.end_queue.specs.Pending.{Pending}
-use Rattle.sweep_sides.specs.Waiting.{queued, AreTimed}
 
 -- a column of the kind stores the datum
 abbrev pub stores : CellKind → Datum → Bool
@@ -54,8 +52,6 @@ are_row_starts kinds to edges = list_all (is_row_start kinds to) edges
 abbrev pub may_all_wait : List CellKind → ℕ → List Edge → Bool
 may_all_wait kinds from edges = list_all (may_wait kinds from) edges
 
--- what is kept of a side: rows that began before a time, and edges that wait from it on, each due at its sync
-pub record IsSide (kinds : List CellKind) (to : ℕ) (rows : List HeldRow) (waiting : List Pending) : Type 0 where
-  pub started : failing (is_row_start kinds to) (starts_of rows) ≡ 0
-  pub later : failing (may_wait kinds to) (queued waiting) ≡ 0
-  pub timed : AreTimed waiting
+-- rows that began before a time, with such cells: before 5, a row from 3 on, and none from 5 on
+abbrev pub HaveBegun : List CellKind → ℕ → List HeldRow → Type 0
+HaveBegun kinds to rows = failing (is_row_start kinds to) (starts_of rows) ≡ 0
