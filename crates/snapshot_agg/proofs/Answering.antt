@@ -1,9 +1,8 @@
 -- A group's answer as it grows from instant to instant, whatever came in: its edges are real, in order, between two times, and
 -- stored as the columns of its rows are.
-use Rattle.std.specs.Prelude.{◌≡◌, ℕ, zero, suc, ◌+◌, ◌*◌, ◌<◌, ◌≤◌, ◌&&◌, ◌||◌, ◌↔◌, IsTrue, pos, nat_eq, nat_lt, nat_le, not, Bool, true, false, cond, Option, Some, None, List, [], ◌∷◌, ◌++◌, map, take, drop, length, get_or, slice_index_or, refl}
+use Rattle.std.specs.Prelude.{◌≡◌, ℕ, zero, suc, ◌+◌, ◌*◌, ◌<◌, ◌≤◌, ◌&&◌, ◌||◌, pos, nat_eq, nat_lt, nat_le, not, Bool, true, false, cond, Option, Some, None, List, [], ◌∷◌, ◌++◌, map, take, drop, length, get_or, slice_index_or, refl}
 use Rattle.std.specs.List.{list_any}
 use Rattle.std.proofs.Common.{sym, ◌∙◌, ap, subst, arith}
-use Rattle.std.proofs.lemmas.Bool.{and_parts}
 use Rattle.std.proofs.lemmas.Bool.Decides.{nat_tests}
 use Rattle.std.proofs.lemmas.List.{drop-drop}
 use Rattle.tw_rows.specs.Instant.{inf}
@@ -14,7 +13,7 @@ use Rattle.tw_rows.specs.declared.cells.Datum.{Datum}
 use Rattle.tw_rows.specs.declared.cells.Datum.TheVariants.{Int}
 use Rattle.tw_rows.specs.declared.edge.Edge.{Edge}
 use Rattle.tw_rows.specs.declared.kind.CellKind.{CellKind}
-use Rattle.tw_rows.specs.declared.kind.CellKind.TheVariants.{Whole, Bit, Place}
+use Rattle.tw_rows.specs.declared.kind.CellKind.TheVariants.{Whole}
 use Rattle.tw_rows.proofs.Bags.{total_same, total_zero}
 use Rattle.edge_history.specs.Order.{failing, is_real, is_from, is_below, Rises}
 use Rattle.edge_history.proofs.Sums.{sum_eq}
@@ -29,56 +28,14 @@ use Rattle.sweep_laws.specs.Grouping.{keys_of, EndsTold, StartsTold, IsEarly}
 use Rattle.sweep_laws.proofs.Instants.{syncs_rise}
 use Rattle.sweep_laws.proofs.Ordering.{order_later}
 use Rattle.snapshot_agg.specs.Words.{key_data, tell}
-use Rattle.snapshot_agg.specs.Answering.{group_kinds, same_kind, are_stored, is_stored, is_answered, IsRunOf, AreRunsOf, IsSoFar}
+use Rattle.sweep_laws.specs.Saving.{store_all}
+use Rattle.sweep_laws.proofs.Stored.{stored_kinds, kinds_stored}
+use Rattle.snapshot_agg.specs.Answering.{group_kinds, is_stored, is_answered, IsRunOf, AreRunsOf, IsSoFar}
 use Rattle.snapshot_agg.proofs.Lists.{starts_at}
 
 -- STORED CELLS
 both_true : (a b : Bool) → a ≡ true → b ≡ true → (a && b) ≡ true
 both_true a b h k = grind arith
-
-same_kind_is : (a b : CellKind) → same_kind a b ≡ true → b ≡ a
-same_kind_is Whole Whole h = refl
-same_kind_is Whole Bit h = absurd (cc)
-same_kind_is Whole Place h = absurd (cc)
-same_kind_is Bit Whole h = absurd (cc)
-same_kind_is Bit Bit h = refl
-same_kind_is Bit Place h = absurd (cc)
-same_kind_is Place Whole h = absurd (cc)
-same_kind_is Place Bit h = absurd (cc)
-same_kind_is Place Place h = refl
-
-same_kind_self : (a : CellKind) → same_kind a a ≡ true
-same_kind_self Whole = refl
-same_kind_self Bit = refl
-same_kind_self Place = refl
-
-pub stored_kinds : (kinds : List CellKind) (ds : List Datum) → are_stored kinds ds ≡ true → map datum_kind ds ≡ kinds
-unfolding are_stored
-stored_kinds [] [] h = refl
-stored_kinds [] (d ∷ ds) h = absurd (cc)
-stored_kinds (k ∷ ks) [] h = absurd (cc)
-stored_kinds (k ∷ ks) (d ∷ ds) h =
-    let p = and_parts (same_kind k (datum_kind d)) (are_stored ks ds) h in
-    let a = same_kind_is k (datum_kind d) p.0 in
-    let b = stored_kinds ks ds p.1 in
-    λ i. a i ∷ b i
-
-stored_self : (ds : List Datum) → are_stored (map datum_kind ds) ds ≡ true
-unfolding are_stored
-stored_self [] = refl
-stored_self (d ∷ ds) = both_true (same_kind (datum_kind d) (datum_kind d)) (are_stored (map datum_kind ds) ds) (same_kind_self (datum_kind d)) (stored_self ds)
-
-pub kinds_stored : (kinds : List CellKind) (ds : List Datum) → map datum_kind ds ≡ kinds → are_stored kinds ds ≡ true
-kinds_stored kinds ds h = subst (λ k. are_stored k ds ≡ true) h (stored_self ds)
-
--- a test that tells it
-pub stored_test : (b : Bool) (kinds : List CellKind) (ds : List Datum) → IsTrue b ↔ (map datum_kind ds ≡ kinds) → b ≡ are_stored kinds ds
-stored_test true kinds ds h = sym (kinds_stored kinds ds (h.0 refl))
-stored_test false kinds ds h = pick (are_stored kinds ds) refl
-  where
-    pick : (b : Bool) → are_stored kinds ds ≡ b → false ≡ b
-    pick true e = let z = h.1 (stored_kinds kinds ds e) in absurd (cc)
-    pick false e = refl
 
 datum_there : (ds : List Datum) (c : ℕ) → datum_kind (slice_index_or ds c (Int (pos 0))) ≡ slice_index_or (map datum_kind ds) c Whole
 datum_there [] zero = refl
@@ -91,7 +48,7 @@ key_self [] ds = refl
 key_self (c ∷ key) ds = let a = datum_there ds c in let b = key_self key ds in λ i. a i ∷ b i
 
 -- the data of a key are stored as the key columns
-pub key_stored : (key : List ℕ) (left : List CellKind) (ds : List Datum) → are_stored left ds ≡ true → are_stored (key_kinds left key) (key_data key ds) ≡ true
+pub key_stored : (key : List ℕ) (left : List CellKind) (ds : List Datum) → store_all left ds ≡ true → store_all (key_kinds left key) (key_data key ds) ≡ true
 key_stored key left ds h = kinds_stored (key_kinds left key) (key_data key ds) (key_self key ds ∙ ap (λ l. key_kinds l key) (stored_kinds left ds h))
 
 map_append : (xs ys : List Datum) → map datum_kind (xs ++ ys) ≡ map datum_kind xs ++ map datum_kind ys
@@ -105,8 +62,8 @@ ints_whole rows (a ∷ aggs) = ap (λ l. Whole ∷ l) (ints_whole rows aggs)
 pub some_is : {X : Type 0} (x y : X) → Some x ≡ Some y → x ≡ y
 some_is x y h = cc
 
-row_stored : (aggs : List Agg) (k row : List Datum) (rows : List (List Datum)) (ks : List CellKind) → are_stored ks k ≡ true → group_row_in plain_cells aggs k rows ≡ Some row →
-    are_stored (ks ++ map (λ a. Whole) aggs) row ≡ true
+row_stored : (aggs : List Agg) (k row : List Datum) (rows : List (List Datum)) (ks : List CellKind) → store_all ks k ≡ true → group_row_in plain_cells aggs k rows ≡ Some row →
+    store_all (ks ++ map (λ a. Whole) aggs) row ≡ true
 row_stored aggs k row [] ks h e = absurd (cc)
 row_stored aggs k row (x ∷ rows) ks h e =
     let z = some_is (k ++ map (λ a. Int (agg_in plain_cells a (x ∷ rows))) aggs) row e in
@@ -115,8 +72,8 @@ row_stored aggs k row (x ∷ rows) ks h e =
     ∙ ap (λ l. l ++ map datum_kind (map (λ a. Int (agg_in plain_cells a (x ∷ rows))) aggs)) (stored_kinds ks k h) ∙ ap (λ l. ks ++ l) (ints_whole (x ∷ rows) aggs))
 
 -- the row that is told of a key that is stored so is stored as the columns of the group
-pub told_stored : (key : List ℕ) (aggs : List Agg) (left : List CellKind) (k row : List Datum) (rows : List (List Datum)) → are_stored (key_kinds left key) k ≡ true →
-    tell key aggs k rows ≡ Some row → are_stored (group_kinds key aggs left) row ≡ true
+pub told_stored : (key : List ℕ) (aggs : List Agg) (left : List CellKind) (k row : List Datum) (rows : List (List Datum)) → store_all (key_kinds left key) k ≡ true →
+    tell key aggs k rows ≡ Some row → store_all (group_kinds key aggs left) row ≡ true
 told_stored key aggs left k row rows h e = row_stored aggs k row (rows_of_key_in plain_cells key k rows) (key_kinds left key) h e
 
 -- TESTS THAT NONE FAILS
@@ -153,10 +110,10 @@ key_passes p (x ∷ ks) k e h = pick (same_cells k x) refl (λ z. key_passes p k
     pick true z rest = ap p (cells_are_same k x z) ∙ first_passes (p x) (failing p ks) h
     pick false z rest = rest (sym (ap (λ b. b || list_any (same_cells k) ks) z) ∙ e)
 
-keys_stored : (key : List ℕ) (left : List CellKind) (now : List Edge) → failing (is_stored left) now ≡ 0 → failing (are_stored (key_kinds left key)) (keys_of (key_data key) now) ≡ 0
+keys_stored : (key : List ℕ) (left : List CellKind) (now : List Edge) → failing (is_stored left) now ≡ 0 → failing (store_all (key_kinds left key)) (keys_of (key_data key) now) ≡ 0
 keys_stored key left [] h = refl
 keys_stored key left (e ∷ now) h =
-    let z = passes (are_stored (key_kinds left key) (key_data key e.cells)) (key_stored key left e.cells (first_passes (are_stored left e.cells) _ h)) in
+    let z = passes (store_all (key_kinds left key) (key_data key e.cells)) (key_stored key left e.cells (first_passes (store_all left e.cells) _ h)) in
     let r = keys_stored key left now (omega (arith, h)) in
     omega (arith, z, r)
 
@@ -189,7 +146,7 @@ module _ (key : List ℕ) (aggs : List Agg) (left : List CellKind) (from t to : 
   early_inf : t < inf
   early_inf = omega (arith, mid, high)
 
-  edge_weighs : (e : Edge) → e.sync ≡ t → (nat_lt t inf && (nat_le e.other inf && not (nat_eq e.other t))) ≡ true → are_stored (group_kinds key aggs left) e.cells ≡ true →
+  edge_weighs : (e : Edge) → e.sync ≡ t → (nat_lt t inf && (nat_le e.other inf && not (nat_eq e.other t))) ≡ true → store_all (group_kinds key aggs left) e.cells ≡ true →
       cond {A = ℕ} (is_answered (group_kinds key aggs left) from to e) 0 1 ≡ 0
   edge_weighs e is real cells = passes (is_answered (group_kinds key aggs left) from to e)
       (all_true (is_real e) (is_from from e) (is_below to e) (is_stored (group_kinds key aggs left) e)
@@ -204,14 +161,14 @@ module _ (key : List ℕ) (aggs : List Agg) (left : List CellKind) (from t to : 
       pick true = refl
       pick false = let z = edge_weighs (run_end t x) refl (real_end x.start t inf (h x refl).early early_inf) (h x refl).stored in omega (arith, z)
 
-  start_weighs : (q : Option (List Datum)) (r : Option Run) → ((row : List Datum) → q ≡ Some row → are_stored (group_kinds key aggs left) row ≡ true) →
+  start_weighs : (q : Option (List Datum)) (r : Option Run) → ((row : List Datum) → q ≡ Some row → store_all (group_kinds key aggs left) row ≡ true) →
       total (λ e. cond (is_answered (group_kinds key aggs left) from to e) 0 1) (start_part t q r) ≡ 0
   start_weighs q (Some x) h = refl
   start_weighs None None h = refl
   start_weighs (Some row) None h = let z = edge_weighs (run_start t row) refl (real_start t inf early_inf) (h row refl) in omega (arith, z)
 
   begun_is : (q : Option (List Datum)) (r : Option Run) (x : Run) → ((y : Run) → r ≡ Some y → IsRunOf (group_kinds key aggs left) t y) →
-      ((row : List Datum) → q ≡ Some row → are_stored (group_kinds key aggs left) row ≡ true) → begun_at t q r ≡ Some x → IsRunOf (group_kinds key aggs left) (suc t) x
+      ((row : List Datum) → q ≡ Some row → store_all (group_kinds key aggs left) row ≡ true) → begun_at t q r ≡ Some x → IsRunOf (group_kinds key aggs left) (suc t) x
   begun_is q (Some y) x h k e = record { early = let z = (h x e).early in omega (arith, z); stored = (h x e).stored }
   begun_is None None x h k e = absurd (cc)
   begun_is (Some row) None x h k e =
@@ -228,7 +185,7 @@ module _ (key : List ℕ) (aggs : List Agg) (left : List CellKind) (from t to : 
       (up1 : ((k : List Datum) → IsEarly t (run0 k)) → InOrder (2 * t) answer0 → InOrder (2 * t) answer1)
       (up2 : t < inf → InOrder (suc (2 * t)) answer1 → InOrder (suc (2 * t)) answer2)
       (so_far : IsSoFar (group_kinds key aggs left) from t to run0 answer0) where
-    stored_key : (k : List Datum) → are_stored (key_kinds left key) k ≡ true → (row : List Datum) → tell key aggs k rows ≡ Some row → are_stored (group_kinds key aggs left) row ≡ true
+    stored_key : (k : List Datum) → store_all (key_kinds left key) k ≡ true → (row : List Datum) → tell key aggs k rows ≡ Some row → store_all (group_kinds key aggs left) row ≡ true
     stored_key k h row e = told_stored key aggs left k row rows h e
 
     ends_answered : failing (is_answered (group_kinds key aggs left) from to) answer1 ≡ 0
@@ -249,9 +206,9 @@ module _ (key : List ℕ) (aggs : List Agg) (left : List CellKind) (from t to : 
     starts_answered : failing (is_answered (group_kinds key aggs left) from to) answer2 ≡ 0
     starts_answered =
         let h = starts.weigh (λ e. cond (is_answered (group_kinds key aggs left) from to e) 0 1) (keys_of (key_data key) now) (λ k e. e) in
-        let z = sum_eq (are_stored (key_kinds left key)) (λ k. total (λ e. cond (is_answered (group_kinds key aggs left) from to e) 0 1) (start_part t (tell key aggs k rows) (run1 k))) (λ k. 0) (distinct same_cells (keys_of (key_data key) now))
+        let z = sum_eq (store_all (key_kinds left key)) (λ k. total (λ e. cond (is_answered (group_kinds key aggs left) from to e) 0 1) (start_part t (tell key aggs k rows) (run1 k))) (λ k. 0) (distinct same_cells (keys_of (key_data key) now))
         (λ k p. start_weighs (tell key aggs k rows) (run1 k) (stored_key k p))
-        (failing_distinct (are_stored (key_kinds left key)) (keys_of (key_data key) now) (keys_stored key left now stored)) ∙ total_zero (distinct same_cells (keys_of (key_data key) now)) in
+        (failing_distinct (store_all (key_kinds left key)) (keys_of (key_data key) now) (keys_stored key left now stored)) ∙ total_zero (distinct same_cells (keys_of (key_data key) now)) in
         let b = ends_answered in
         omega (arith, h, z, b)
 
@@ -261,7 +218,7 @@ module _ (key : List ℕ) (aggs : List Agg) (left : List CellKind) (from t to : 
         pick : (b : Bool) → list_any (same_cells k) (keys_of (key_data key) now) ≡ b → IsRunOf (group_kinds key aggs left) (suc t) x
         pick true m =
             begun_is (tell key aggs k rows) (run1 k) x (runs_ended k)
-            (stored_key k (key_passes (are_stored (key_kinds left key)) (keys_of (key_data key) now) k m (keys_stored key left now stored))) (sym (starts.touched k m) ∙ e)
+            (stored_key k (key_passes (store_all (key_kinds left key)) (keys_of (key_data key) now) k m (keys_stored key left now stored))) (sym (starts.touched k m) ∙ e)
         pick false m = let r = runs_ended k x (sym (starts.others k m) ∙ e) in record { early = let z = r.early in omega (arith, z); stored = r.stored }
 
     pub instant_so_far : IsSoFar (group_kinds key aggs left) from (suc t) to run2 answer2

@@ -1,5 +1,5 @@
 -- The edges of an instant, applied from the last one on.
-use Rattle.std.specs.Prelude.{◌≡◌, ℕ, zero, suc, ◌+◌, ◌<◌, ◌≤◌, ◌||◌, Bool, true, false, cond, List, [], ◌∷◌, length, get_or, drop, refl}
+use Rattle.std.specs.Prelude.{◌≡◌, ℕ, zero, suc, ◌+◌, ◌<◌, ◌≤◌, ◌||◌, Bool, true, false, cond, List, [], ◌∷◌, length, get_or, take, drop, flat_map, refl}
 use Rattle.std.specs.List.{list_any}
 use Rattle.std.proofs.Common.{sym, ◌∙◌, ap, arith}
 use Rattle.tw_rows.specs.Bag.{total}
@@ -12,6 +12,7 @@ use Rattle.edge_history.specs.Opens.{ended_of, started_of, ended_rows, started_r
 use Rattle.sweep_laws.specs.Moves.{HoldsEnded}
 use Rattle.sweep_laws.specs.Grouping.{keys_of}
 use Rattle.sweep_laws.proofs.Adding.{ended_itself}
+use Rattle.snapshot_agg.specs.Changing.{TakeAtMost}
 use Rattle.snapshot_agg.specs.Words.{key_data}
 
 -- an edge stands before those behind it
@@ -20,14 +21,25 @@ edge_first [] i x low is = absurd (omega (arith, low))
 edge_first (y ∷ es) zero x low is = ap (λ z. z ∷ es) (sym is)
 edge_first (y ∷ es) (suc i) x low is = edge_first es i x (omega (arith, low)) is
 
-fewer_end : (w : HeldRow → ℕ) (es : List Edge) (i : ℕ) → total w (ended_rows (drop i es)) ≤ total w (ended_rows es)
-fewer_end w [] zero = omega arith
-fewer_end w [] (suc i) = omega arith
-fewer_end w (x ∷ es) zero = omega arith
-fewer_end w (x ∷ es) (suc i) =
-    let h = fewer_end w es i in
-    let a = total-append w (ended_of x) (ended_rows es) in
+-- the rows of the last edges are among those of all
+pub fewer_rows : (rows_of : Edge → List HeldRow) (w : HeldRow → ℕ) (es : List Edge) (i : ℕ) → total w (flat_map rows_of (drop i es)) ≤ total w (flat_map rows_of es)
+fewer_rows rows_of w [] zero = omega arith
+fewer_rows rows_of w [] (suc i) = omega arith
+fewer_rows rows_of w (x ∷ es) zero = omega arith
+fewer_rows rows_of w (x ∷ es) (suc i) =
+    let h = fewer_rows rows_of w es i in
+    let a = total-append w (rows_of x) (flat_map rows_of es) in
     omega (arith, h, a)
+
+-- the rows that start are those of the first edges and those of the others
+pub started_parts : (w : HeldRow → ℕ) (n : ℕ) (es : List Edge) → total w (started_rows es) ≡ total w (started_rows (take n es)) + total w (started_rows (drop n es))
+started_parts w zero es = omega arith
+started_parts w (suc n) [] = omega arith
+started_parts w (suc n) (x ∷ es) =
+    let h = started_parts w n es in
+    let a = total-append w (started_of x) (started_rows es) in
+    let b = total-append w (started_of x) (started_rows (take n es)) in
+    omega (arith, h, a, b)
 
 or_swap : (a b : Bool) → (a || b) ≡ (b || a)
 or_swap true true = refl
@@ -62,11 +74,20 @@ module _ (now : List Edge) (i j : ℕ) (x : Edge) (next : j ≡ i + 1) (low : i 
           let d : HeldRow → ℕ = λ r. cond (is_held x.cells x.other r) 1 0 in
           let f = fit d in
           let b = before fit d in
-          let p = fewer_end d now i in
+          let p = fewer_rows ended_of d now i in
           let e = ends d in
           let u = ap (λ l. total d (ended_rows l)) behind in
           let z = ended_itself x end in
           omega (arith, f, b, p, e, u, z)
+
+  pub fewer_before : (rows0 rows1 rows2 : List HeldRow) → TakeAtMost rows1 rows2 (started_of x) → TakeAtMost rows0 rows1 (started_rows (drop j now)) →
+      TakeAtMost rows0 rows2 (started_rows (drop i now))
+  fewer_before rows0 rows1 rows2 one before w =
+      let s = ap (λ l. total w (started_rows l)) (edge_first now i x low is) ∙ total-append w (started_of x) (started_rows (drop (suc i) now)) in
+      let t = ap (λ l. total w (started_rows l)) behind in
+      let b = before w in
+      let o = one w in
+      omega (arith, s, t, b, o)
 
   pub touched_before : (key key2 : List ℕ) (ks ks2 : List (List Datum)) → key2 ≡ key →
       ((q : List Datum) → list_any (same_cells q) ks2 ≡ (list_any (same_cells q) ks || same_cells q (key_data key2 x.cells))) →

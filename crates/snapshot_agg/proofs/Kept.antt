@@ -11,7 +11,7 @@ use Rattle.node_laws.specs.Keeping.{plain_cells}
 use Rattle.plan_model.specs.declared.agg.Agg.{Agg}
 use Rattle.plan_model.specs.declared.agg.Agg.TheVariants.{Count, Sum, Least, Greatest}
 use Rattle.plan_model.specs.Amounts.{most_rows, exact_sum, least_int, greatest_int, is_outside_i64}
-use Rattle.plan_model.specs.RowOps.{int_in, agg_in, group_row_in, has_large_sum_in}
+use Rattle.plan_model.specs.RowOps.{int_in, agg_in, group_row_in, has_large_sum_in, is_undefined_group_in}
 use Rattle.plan_model.proofs.Aggregates.{length_same}
 use Rattle.agg_state.specs.Amounts.{told}
 use Rattle.agg_state.specs.Standing.{count_stands, sum_stands, least_stands, greatest_stands}
@@ -247,6 +247,14 @@ told_none a rows h = pick (has_large_sum_in plain_cells rows a) refl h
     pick true e z = e
     pick false e z = absurd (cc)
 
+-- the next aggregate is not too large either
+pub fine_more : (bs : List Agg) (i : ℕ) (rows : List (List Datum)) (ss : List State) (s : State) (x : ℤ) → At ss bs i s rows →
+    ((a : Agg) → IsStateOf s a rows → Some x ≡ told_of a rows) →
+    list_any (has_large_sum_in plain_cells rows) (take i bs) ≡ false → list_any (has_large_sum_in plain_cells rows) (take (i + 1) bs) ≡ false
+fine_more bs i rows ss s x at tells h =
+    let e : take (i + 1) bs ≡ take i bs ++ at.agg ∷ [] = ap (λ n. take n bs) (let o : i + 1 ≡ suc i = omega arith in o) ∙ at.more in
+    ap (list_any (has_large_sum_in plain_cells rows)) e ∙ any_more (has_large_sum_in plain_cells rows) (take i bs) at.agg (told_some at.agg rows x (tells at.agg at.is)).0 h
+
 pub row_more : (k : List Datum) (bs : List Agg) (i : ℕ) (data0 data1 : List Datum) (rows : List (List Datum)) (ss : List State) (s : State) (x z : ℤ) → At ss bs i s rows →
     ((a : Agg) → IsStateOf s a rows → Some x ≡ told_of a rows) → z ≡ x → data1 ≡ data0 ++ Int z ∷ [] → RowSoFar k bs i data0 rows → RowSoFar k bs (i + 1) data1 rows
 row_more k bs i data0 data1 rows ss s x z at tells same push h =
@@ -256,32 +264,43 @@ row_more k bs i data0 data1 rows ss s x z at tells same push h =
       data_is = push ∙ ap (λ l. l ++ Int z ∷ []) h.data_is ∙ append_assoc2 k (map (datum_of rows) (take i bs)) (Int z)
           ∙ ap (λ y. k ++ (map (datum_of rows) (take i bs) ++ Int y ∷ [])) (same ∙ t.1)
           ∙ ap (λ l. k ++ l) (sym (map_more (datum_of rows) (take i bs) at.agg)) ∙ ap (λ l. k ++ map (datum_of rows) l) (sym e);
-      fine = ap (list_any (has_large_sum_in plain_cells rows)) e ∙ any_more (has_large_sum_in plain_cells rows) (take i bs) at.agg t.0 h.fine;
+      fine = fine_more bs i rows ss s x at tells h.fine;
     }
+
+pub undefined_at : (bs : List Agg) (i : ℕ) (rows : List (List Datum)) (ss : List State) (s : State) → At ss bs i s rows →
+    ((a : Agg) → IsStateOf s a rows → None ≡ told_of a rows) → true ≡ is_undefined_group_in plain_cells bs rows
+undefined_at bs i rows ss s at tells =
+    sym (or_last (nat_lt most_rows (length rows)) (list_any (has_large_sum_in plain_cells rows) bs) (at.there (has_large_sum_in plain_cells rows) (told_none at.agg rows (tells at.agg at.is))))
 
 pub row_undefined : (k : List Datum) (bs : List Agg) (i : ℕ) (rows : List (List Datum)) (ss : List State) (s : State) → At ss bs i s rows →
     ((a : Agg) → IsStateOf s a rows → None ≡ told_of a rows) → None ≡ told_row bs k rows
-row_undefined k bs i rows ss s at tells =
-    ap (λ b. cond b None (group_row_in plain_cells bs k rows))
-    (sym (or_last (nat_lt most_rows (length rows)) (list_any (has_large_sum_in plain_cells rows) bs) (at.there (has_large_sum_in plain_cells rows) (told_none at.agg rows (tells at.agg at.is)))))
+row_undefined k bs i rows ss s at tells = ap (λ b. cond b None (group_row_in plain_cells bs k rows)) (undefined_at bs i rows ss s at tells)
 
 too_many : (n : ℕ) → 2 ^ 62 < n → nat_lt most_rows n ≡ true
 unfolding most_rows
 too_many n h = grind (arith, nat_tests)
 
+pub undefined_many : (n : ℕ) (ss : List State) (bs : List Agg) (rows : List (List Datum)) → 2 ^ 62 < n → IsTotals n ss bs rows → true ≡ is_undefined_group_in plain_cells bs rows
+undefined_many n ss bs rows low h =
+    ap (λ b. b || list_any (has_large_sum_in plain_cells rows) bs) (sym (too_many (length rows) (let e = h.is_count in omega (arith, e, low))))
+
 pub row_of_many : (n : ℕ) (ss : List State) (k : List Datum) (bs : List Agg) (rows : List (List Datum)) → 2 ^ 62 < n → IsTotals n ss bs rows → None ≡ told_row bs k rows
-row_of_many n ss k bs rows low h =
-    ap (λ b. cond (b || list_any (has_large_sum_in plain_cells rows) bs) None (group_row_in plain_cells bs k rows))
-    (sym (too_many (length rows) (let e = h.is_count in omega (arith, e, low))))
+row_of_many n ss k bs rows low h = ap (λ b. cond b None (group_row_in plain_cells bs k rows)) (undefined_many n ss bs rows low h)
+
+-- no aggregate is too large, and the rows are not too many
+pub all_defined : (n i : ℕ) (ss : List State) (bs : List Agg) (rows : List (List Datum)) → n ≤ 2 ^ 62 → length ss ≤ i → IsTotals n ss bs rows →
+    list_any (has_large_sum_in plain_cells rows) (take i bs) ≡ false → false ≡ is_undefined_group_in plain_cells bs rows
+all_defined n i ss bs rows few low h fine =
+    let all = states_all i ss bs rows low h.are_states in
+    let few2 = not_many (length rows) (let e = h.is_count in omega (arith, e, few)) in
+    sym (ap (λ b. b || list_any (has_large_sum_in plain_cells rows) bs) few2 ∙ (ap (list_any (has_large_sum_in plain_cells rows)) (sym all) ∙ fine))
 
 pub row_whole : (n i : ℕ) (ss : List State) (k : List Datum) (bs : List Agg) (data0 : List Datum) (rows : List (List Datum)) → n ≤ 2 ^ 62 → 0 < length rows → length ss ≤ i →
     IsTotals n ss bs rows → RowSoFar k bs i data0 rows → Some data0 ≡ told_row bs k rows
 row_whole n i ss k bs data0 rows few some low h r =
     let all = states_all i ss bs rows low h.are_states in
-    let fine = ap (list_any (has_large_sum_in plain_cells rows)) (sym all) ∙ r.fine in
-    let few2 = not_many (length rows) (let e = h.is_count in omega (arith, e, few)) in
     told rows some (r.data_is ∙ ap (λ l. k ++ map (datum_of rows) l) all)
-    ∙ sym (ap (λ b. cond (b || list_any (has_large_sum_in plain_cells rows) bs) None (group_row_in plain_cells bs k rows)) few2 ∙ ap (λ b. cond b None (group_row_in plain_cells bs k rows)) fine)
+    ∙ ap (λ b. cond b None (group_row_in plain_cells bs k rows)) (all_defined n i ss bs rows few low h r.fine)
   where
     told : (rows : List (List Datum)) → 0 < length rows → data0 ≡ k ++ map (datum_of rows) bs → Some data0 ≡ group_row_in plain_cells bs k rows
     told [] s e = absurd (omega (arith, s))

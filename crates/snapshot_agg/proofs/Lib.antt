@@ -14,4 +14,6 @@ pub mod Few
 pub mod Lined
 pub mod Queueing
 pub mod Reloading
+pub mod Faults
+pub mod Pooling
 pub mod Examples

@@ -15,12 +15,6 @@ starts_at [] i d low = absurd (omega (arith, low))
 starts_at (x ∷ due) zero d low = refl
 starts_at (x ∷ due) (suc i) d low = starts_at due i d (omega (arith, low))
 
-pub drop_past : {X : Type 0} (xs : List X) (i : ℕ) → length xs ≤ i → drop i xs ≡ []
-drop_past [] zero low = refl
-drop_past [] (suc i) low = refl
-drop_past (x ∷ xs) zero low = absurd (omega arith)
-drop_past (x ∷ xs) (suc i) low = drop_past xs i (omega arith)
-
 pub take_past : {X : Type 0} (xs : List X) (i : ℕ) → length xs ≤ i → take i xs ≡ xs
 take_past [] zero low = refl
 take_past [] (suc i) low = refl

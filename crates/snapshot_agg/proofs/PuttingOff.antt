@@ -1,5 +1,5 @@
 -- Edges that are put to those that wait, and taken out again.
-use Rattle.std.specs.Prelude.{◌≡◌, ℕ, ◌+◌, ◌<◌, ◌≤◌, ◌⊎◌, ◌↔◌, IsTrue, nat_eq, nat_lt, nat_le, Bool, true, false, cond, ◌||◌, List, [], ◌∷◌, ◌++◌, map, All, refl}
+use Rattle.std.specs.Prelude.{◌≡◌, ℕ, ◌+◌, ◌<◌, ◌≤◌, ◌⊎◌, ◌↔◌, IsTrue, nat_eq, nat_lt, nat_le, Bool, true, false, cond, List, [], ◌∷◌, ◌++◌, map, All, refl}
 use Rattle.std.proofs.Common.{inl, inr, sym, ◌∙◌, ap, subst, arith}
 use Rattle.std.proofs.lemmas.Bool.{cases_lt}
 use Rattle.std.proofs.lemmas.Bool.Decides.{nat_tests}
@@ -7,17 +7,10 @@ use Rattle.std.proofs.lemmas.List.Elements.{All-head, All-tail}
 use Rattle.tw_rows.specs.Bag.{total}
 use Rattle.tw_rows.specs.declared.edge.Edge.{Edge}
 use Rattle.tw_rows.proofs.Bags.{total-append}
-use Rattle.tw_rows.specs.Cells.{datum_kind}
-use Rattle.tw_rows.specs.Instant.{inf}
-use Rattle.tw_rows.specs.declared.kind.CellKind.{CellKind}
-use Rattle.edge_history.specs.Balance.{given, start_edge, end_edge}
-use Rattle.edge_history.specs.Order.{failing, is_end, is_from, is_below}
+use Rattle.edge_history.specs.Order.{failing, is_from, is_below}
 use Rattle.edge_history.proofs.Sums.{weaker}
-use Rattle.snapshot_agg.specs.Answering.{are_stored, is_stored}
-use Rattle.snapshot_agg.proofs.Answering.{kinds_stored}
-use Rattle.edge_history.specs.Opens.{singles, singles_of}
 use Rattle.end_queue.specs.Pending.{Pending, put_pending}
-use Rattle.snapshot_agg.specs.Waiting.{edges_in, WaitForThemselves}
+use Rattle.sweep_sides.specs.Waiting.{queued, AreTimed}
 
 -- one entry more
 pub total-put_pending : (v : Pending → ℕ) (p : Pending) (ps : List Pending) → total v (put_pending p ps) ≡ v p + total v ps
@@ -50,7 +43,7 @@ own_first : (at s n : ℕ) → cond {A = ℕ} (nat_eq at s) 0 1 + n ≡ 0 → at
 own_first at s n h = grind (arith, nat_tests)
 
 -- where no entry is due, no edge is
-none_due : (to : ℕ) (ps : List Pending) → WaitForThemselves ps → All (λ p. to ≤ p.at) ps → failing (is_from to) (edges_in ps) ≡ 0
+none_due : (to : ℕ) (ps : List Pending) → AreTimed ps → All (λ p. to ≤ p.at) ps → failing (is_from to) (queued ps) ≡ 0
 none_due to [] h a = refl
 none_due to (p ∷ ps) h a =
     let e = own_first p.at p.edge.sync _ h in
@@ -60,7 +53,7 @@ none_due to (p ∷ ps) h a =
     omega (arith, z, r)
 
 -- all entries that are due are taken out
-all_due : (to : ℕ) (ps : List Pending) → WaitForThemselves ps → All (λ p. p.at < to) ps → failing (is_below to) (edges_in ps) ≡ 0
+all_due : (to : ℕ) (ps : List Pending) → AreTimed ps → All (λ p. p.at < to) ps → failing (is_below to) (queued ps) ≡ 0
 all_due to [] h a = refl
 all_due to (p ∷ ps) h a =
     let e = own_first p.at p.edge.sync _ h in
@@ -69,11 +62,11 @@ all_due to (p ∷ ps) h a =
     let r = all_due to ps (omega (arith, h)) (All-tail (λ (q : Pending). q.at < to) p ps a) in
     omega (arith, z, r)
 
-edges_both : (w : Edge → ℕ) (ps qs : List Pending) → total w (edges_in (ps ++ qs)) ≡ total w (edges_in ps) + total w (edges_in qs)
+edges_both : (w : Edge → ℕ) (ps qs : List Pending) → total w (queued (ps ++ qs)) ≡ total w (queued ps) + total w (queued qs)
 edges_both w [] qs = omega arith
 edges_both w (p ∷ ps) qs = let h = edges_both w ps qs in omega (arith, h)
 
-own_both : (ps qs : List Pending) → WaitForThemselves (ps ++ qs) → WaitForThemselves ps × WaitForThemselves qs
+own_both : (ps qs : List Pending) → AreTimed (ps ++ qs) → AreTimed ps × AreTimed qs
 own_both ps qs h =
     let a = total-append (λ (p : Pending). cond {A = ℕ} (nat_eq p.at p.edge.sync) 0 1) ps qs in
     (omega (arith, a, h), omega (arith, a, h))
@@ -86,26 +79,26 @@ pub below_later : (t c : ℕ) (es : List Edge) → t ≤ c → failing (is_below
 below_later t c es low h = weaker (is_below t) (is_below c) es (λ e k. still_below e.sync t c low k) h
 
 pub record Popped (to : ℕ) (old new : List Pending) (due0 due1 : List Edge) : Type 0 where
-  pub parts : (w : Edge → ℕ) → total w due1 + total w (edges_in new) ≡ total w due0 + total w (edges_in old)
+  pub parts : (w : Edge → ℕ) → total w due1 + total w (queued new) ≡ total w due0 + total w (queued old)
   pub below : (c : ℕ) → to ≤ c → failing (is_below c) due0 ≡ 0 → failing (is_below c) due1 ≡ 0
-  pub later : failing (is_from to) (edges_in new) ≡ 0
-  pub own : WaitForThemselves new
+  pub later : failing (is_from to) (queued new) ≡ 0
+  pub own : AreTimed new
 
 pub all_popped : (to : ℕ) (old new taken : List Pending) (due0 due1 : List Edge) → old ≡ taken ++ new → due1 ≡ due0 ++ map (λ p. p.edge) taken →
-    All (λ p. p.at < to) taken → All (λ p. to ≤ p.at) new → WaitForThemselves old → Popped to old new due0 due1
+    All (λ p. p.at < to) taken → All (λ p. to ≤ p.at) new → AreTimed old → Popped to old new due0 due1
 all_popped to old new taken due0 due1 is pushed early late h =
-    let o = own_both taken new (subst WaitForThemselves is h) in
+    let o = own_both taken new (subst AreTimed is h) in
     record {
       parts = λ w.
           let a = ap (total w) pushed in
-          let b = total-append w due0 (edges_in taken) in
-          let d = ap (λ l. total w (edges_in l)) is in
+          let b = total-append w due0 (queued taken) in
+          let d = ap (λ l. total w (queued l)) is in
           let e = edges_both w taken new in
           omega (arith, a, b, d, e);
       below = λ c low k.
-          let z = below_later to c (edges_in taken) low (all_due to taken o.0 early) in
+          let z = below_later to c (queued taken) low (all_due to taken o.0 early) in
           let a = ap (failing (is_below c)) pushed in
-          let b = total-append (λ (e : Edge). cond {A = ℕ} (is_below c e) 0 1) due0 (edges_in taken) in
+          let b = total-append (λ (e : Edge). cond {A = ℕ} (is_below c e) 0 1) due0 (queued taken) in
           omega (arith, z, a, b, k);
       later = none_due to new o.1 late;
       own = o.1;
@@ -117,18 +110,3 @@ not_due b s t h e = pick (cases_lt s t)
     pick : (s < t) ⊎ (t ≤ s) → t ≤ s
     pick (inl low) = let z = sym (h.1 low) ∙ e in absurd (cc)
     pick (inr low) = low
-
--- the edge that is read next
-pub singles_next : (w : Edge → ℕ) (e : Edge) (old new : List Edge) → old ≡ e ∷ new → total w (singles old) ≡ total w (singles_of e) + total w (singles new)
-singles_next w e old new is = ap (λ l. total w (singles l)) is ∙ total-append w (singles_of e) (singles new)
-
--- the single edges of an edge have its cells
-pub stored_singles : (kinds : List CellKind) (e : Edge) → map datum_kind e.cells ≡ kinds → failing (is_stored kinds) (singles_of e) ≡ 0
-stored_singles kinds e h = pick (is_end e || nat_eq e.other inf)
-  where
-    z : cond {A = ℕ} (are_stored kinds e.cells) 0 1 ≡ 0
-    z = ap (λ b. cond {A = ℕ} b 0 1) (kinds_stored kinds e.cells h)
-
-    pick : (b : Bool) → failing (is_stored kinds) (cond b (e ∷ []) (start_edge (given e) ∷ end_edge (given e) ∷ [])) ≡ 0
-    pick true = omega (arith, z)
-    pick false = omega (arith, z)

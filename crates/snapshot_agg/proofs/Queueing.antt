@@ -9,27 +9,28 @@ use Rattle.tw_rows.proofs.Bags.{total-append, total-map}
 use Rattle.edge_history.specs.Order.{failing, is_from, is_below}
 use Rattle.end_queue.specs.Pending.{Pending, put_pending}
 use Rattle.sweep_laws.specs.Sweeps.{SyncsRise}
-use Rattle.snapshot_agg.specs.Waiting.{edges_in, own_pending, WaitForThemselves}
+use Rattle.sweep_sides.specs.Waiting.{queued, AreTimed}
+use Rattle.snapshot_agg.specs.Waiting.{own_pending}
 use Rattle.snapshot_agg.proofs.Answering.{rise_drop}
 use Rattle.snapshot_agg.proofs.Lists.{total_more}
 use Rattle.snapshot_agg.proofs.PuttingOff.{total-put_pending, pushed, own_test, from_test, below_later, Popped}
 
 -- ONE EDGE MORE
 module _ (old new : List Pending) (e : Edge) (more : (w : Pending → ℕ) → total w new ≡ total w old + w (own_pending e)) where
-  pub edges_more : (w : Edge → ℕ) → total w (edges_in new) ≡ total w (edges_in old) + w e
+  pub edges_more : (w : Edge → ℕ) → total w (queued new) ≡ total w (queued old) + w e
   edges_more w =
       let a = total-map w (λ (p : Pending). p.edge) new in
       let b = total-map w (λ (p : Pending). p.edge) old in
       let c = more (λ p. w p.edge) in
       omega (arith, a, b, c)
 
-  pub own_more : WaitForThemselves old → WaitForThemselves new
+  pub own_more : AreTimed old → AreTimed new
   own_more h =
       let c = more (λ p. cond (nat_eq p.at p.edge.sync) 0 1) in
       let z = own_test e.sync e.sync refl in
       omega (arith, c, z, h)
 
-  pub later_more : (to : ℕ) → to ≤ e.sync → failing (is_from to) (edges_in old) ≡ 0 → failing (is_from to) (edges_in new) ≡ 0
+  pub later_more : (to : ℕ) → to ≤ e.sync → failing (is_from to) (queued old) ≡ 0 → failing (is_from to) (queued new) ≡ 0
   later_more to low h =
       let a = edges_more (λ x. cond (is_from to x) 0 1) in
       let z = from_test to e.sync low in
@@ -127,12 +128,12 @@ one_copied old now next xs i x y low is same so_far push =
     push ∙ ap (λ l. l ++ y ∷ []) so_far ∙ append_later old (take i xs) (y ∷ [])
     ∙ ap (λ l. old ++ l) (ap (λ z. take i xs ++ z ∷ []) (same ∙ is) ∙ sym (take_more xs i x low))
 
-own_edges : (line : List Edge) → edges_in (map own_pending line) ≡ line
+own_edges : (line : List Edge) → queued (map own_pending line) ≡ line
 own_edges [] = refl
 own_edges (e ∷ line) = ap (λ l. e ∷ l) (own_edges line)
 
-pub edges_both : (others : List Pending) (line : List Edge) → edges_in (others ++ map own_pending line) ≡ edges_in others ++ line
-edges_both others line = map-append (λ (p : Pending). p.edge) others (map own_pending line) ∙ ap (λ l. edges_in others ++ l) (own_edges line)
+pub edges_both : (others : List Pending) (line : List Edge) → queued (others ++ map own_pending line) ≡ queued others ++ line
+edges_both others line = map-append (λ (p : Pending). p.edge) others (map own_pending line) ∙ ap (λ l. queued others ++ l) (own_edges line)
 
 pub length_both : (others : List Pending) (line : List Edge) → length (others ++ map own_pending line) ≡ length others + length line
 length_both [] [] = refl
@@ -140,17 +141,17 @@ length_both [] (e ∷ line) = let r = length_both [] line in omega (arith, r)
 length_both (p ∷ others) line = let r = length_both others line in omega (arith, r)
 
 -- WHAT IS DUE IS TAKEN OUT
-own_line : (line : List Edge) → WaitForThemselves (map own_pending line)
+own_line : (line : List Edge) → AreTimed (map own_pending line)
 own_line [] = refl
 own_line (e ∷ line) = let r = own_line line in let z = own_test e.sync e.sync refl in omega (arith, r, z)
 
-own_whole : (others : List Pending) (line : List Edge) → WaitForThemselves others → WaitForThemselves (others ++ map own_pending line)
+own_whole : (others : List Pending) (line : List Edge) → AreTimed others → AreTimed (others ++ map own_pending line)
 own_whole others line h =
     let a = total-append (λ (p : Pending). cond {A = ℕ} (nat_eq p.at p.edge.sync) 0 1) others (map own_pending line) in
     let b = own_line line in
     omega (arith, a, b, h)
 
-pub own_others : (others : List Pending) (line : List Edge) → WaitForThemselves (others ++ map own_pending line) → WaitForThemselves others
+pub own_others : (others : List Pending) (line : List Edge) → AreTimed (others ++ map own_pending line) → AreTimed others
 own_others others line h = let a = total-append (λ (p : Pending). cond {A = ℕ} (nat_eq p.at p.edge.sync) 0 1) others (map own_pending line) in omega (arith, a, h)
 
 split_total : (w : Edge → ℕ) (n : ℕ) (xs : List Edge) → total w xs ≡ total w (take n xs) + total w (drop n xs)
@@ -164,8 +165,8 @@ pub both_popped : (to n : ℕ) (others others2 : List Pending) (line line2 : Lis
 both_popped to n others others2 line line2 due0 due1 due2 p early late rest moved = record {
   parts = λ w.
       let a = ap (total w) moved ∙ total-append w due1 (take n line) in
-      let b = ap (total w) (edges_both others line) ∙ total-append w (edges_in others) line in
-      let c = ap (total w) (edges_both others2 line2) ∙ total-append w (edges_in others2) line2 in
+      let b = ap (total w) (edges_both others line) ∙ total-append w (queued others) line in
+      let c = ap (total w) (edges_both others2 line2) ∙ total-append w (queued others2) line2 in
       let d = ap (total w) rest in
       let e = split_total w n line in
       let f = p.parts w in
@@ -176,7 +177,7 @@ both_popped to n others others2 line line2 due0 due1 due2 p early late rest move
       let z = below_later to c (take n line) low early in
       omega (arith, a, b, z);
   later =
-      let a = ap (failing (is_from to)) (edges_both others2 line2) ∙ total-append (λ (x : Edge). cond {A = ℕ} (is_from to x) 0 1) (edges_in others2) line2 in
+      let a = ap (failing (is_from to)) (edges_both others2 line2) ∙ total-append (λ (x : Edge). cond {A = ℕ} (is_from to x) 0 1) (queued others2) line2 in
       let b = ap (failing (is_from to)) rest in
       let d = p.later in
       omega (arith, a, b, d, late);

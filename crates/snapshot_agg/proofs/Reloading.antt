@@ -1,5 +1,5 @@
 -- What a group saves, and what is loaded again.
-use Rattle.std.specs.Prelude.{◌≡◌, ℕ, zero, suc, ◌+◌, ◌<◌, ◌&&◌, nat_lt, Bool, true, false, cond, Option, Some, None, List, [], ◌∷◌, ◌++◌, length, map, filter, flat_map, take, get_or, slice_get, refl}
+use Rattle.std.specs.Prelude.{◌≡◌, ℕ, zero, suc, ◌+◌, ◌<◌, ◌&&◌, nat_eq, nat_lt, Bool, true, false, cond, Option, Some, None, List, [], ◌∷◌, ◌++◌, length, map, filter, flat_map, take, get_or, slice_get, All, refl}
 use Rattle.std.specs.List.{list_all, IsDistinct, AllByRecursion}
 use Rattle.std.specs.Map.{keys_of, lookup}
 use Rattle.std.proofs.Common.{sym, ◌∙◌, ap, subst, arith}
@@ -9,15 +9,15 @@ use Rattle.std.proofs.lemmas.List.{take_more}
 use Rattle.std.proofs.lemmas.Map.Entries.{hash_map_get_place}
 use Rattle.indexmap.specs.IndexMap.{IndexMap, IsUnique}
 use Rattle.tw_rows.specs.Bag.{SameBag, total}
+use Rattle.tw_rows.specs.Instant.{inf}
 use Rattle.tw_rows.specs.SameCells.{same_cells, cells_are_same, same_itself, same_cells_equiv}
 use Rattle.tw_rows.specs.declared.cells.Datum.{Datum}
 use Rattle.tw_rows.specs.declared.edge.Edge.{Edge}
 use Rattle.tw_rows.specs.declared.edge.HeldRow.{HeldRow}
 use Rattle.tw_rows.specs.declared.kind.CellKind.{CellKind}
-use Rattle.tw_rows.proofs.Bags.{total-map, SameBag-refl, SameBag-trans, SameBag-sym, SameBag-map, SameBag-filter}
-use Rattle.edge_history.specs.Order.{failing, is_from, is_below}
+use Rattle.tw_rows.proofs.Bags.{total-map, SameBag-refl, SameBag-trans, SameBag-map, SameBag-filter}
+use Rattle.edge_history.specs.Order.{failing, is_below}
 use Rattle.edge_history.specs.Opens.{bare}
-use Rattle.edge_history.proofs.Sums.{failing-both, failing-same, weaker}
 use Rattle.end_queue.specs.Pending.{Pending}
 use Rattle.edge_stream.specs.declared.saved.SavedEntry.{SavedEntry}
 use Rattle.key_nodes.specs.Groups.{has_key}
@@ -28,16 +28,22 @@ use Rattle.sweep_laws.specs.Running.{Run}
 use Rattle.sweep_laws.specs.Grouping.{GroupKeeps, row_of_run}
 use Rattle.sweep_laws.proofs.GroupSweeps.{told_by_bag}
 use Rattle.carried_edges.specs.Entries.{entries_of, part_of, are_of_parts}
-use Rattle.carried_edges.proofs.Parts.{part_of_own, part_of_other, part_of_append, parts_own, parts_append, none_fails}
+use Rattle.carried_edges.proofs.Parts.{part_of_own, part_of_other, part_of_append, parts_own, parts_append, parts_pass}
 use Rattle.snapshot_agg.specs.Words.{key_data, tell, bad}
 use Rattle.snapshot_agg.specs.Keeping.{KeepsGrouped}
-use Rattle.snapshot_agg.specs.Waiting.{edges_in, own_pending}
+use Rattle.sweep_sides.specs.Waiting.{queued}
 use Rattle.snapshot_agg.specs.Totaled.{run_from, run_of}
 use Rattle.snapshot_agg.specs.Answering.{is_stored, IsRunOf, AreRunsOf}
-use Rattle.snapshot_agg.specs.Saving.{start_of, row_of_start, later_run, run_among, is_waiting, is_told, GroupSound, GroupResumes}
+use Rattle.operator.specs.Standing.{Standing, IsStoredAs, AreStoredAs}
+use Rattle.sweep_laws.specs.Moves.{start_of}
+use Rattle.sweep_laws.specs.Saving.{starts_of, rows_of, is_row_start, may_wait, are_row_starts, may_all_wait}
+use Rattle.sweep_laws.proofs.Stored.{rows_of_starts}
+use Rattle.sweep_sides.proofs.KeptSides.{row_cells, waiting_cells}
+use Rattle.sweep_sides.specs.Sides.{IsSide}
+use Rattle.snapshot_agg.specs.Operating.{group_row}
+use Rattle.snapshot_agg.specs.Saving.{later_run, run_among, GroupSound, GroupResumes}
 use Rattle.snapshot_agg.proofs.Answering.{some_is}
 use Rattle.snapshot_agg.proofs.Lists.{total_more}
-use Rattle.snapshot_agg.proofs.Queueing.{edges_more}
 use Rattle.snapshot_agg.proofs.Totaling.{tell_is_group, bad_by_key, of_key}
 
 -- THE SAME IN ANOTHER ORDER
@@ -78,16 +84,16 @@ below_is : (s t : ℕ) → nat_lt s t ≡ true → s < t
 below_is s t h = grind (arith, nat_tests)
 
 -- a run among starts that may be told
-pub run_may_be_told : (n : ℕ) (kinds : List CellKind) (x : ℕ) (es : List Edge) (k : List Datum) (r : Run) → list_all (is_told kinds x) es ≡ true → run_among n es k ≡ Some r → IsRunOf kinds x r
+pub run_may_be_told : (n : ℕ) (kinds : List CellKind) (x : ℕ) (es : List Edge) (k : List Datum) (r : Run) → are_row_starts kinds x es ≡ true → run_among n es k ≡ Some r → IsRunOf kinds x r
 run_may_be_told n kinds x [] k r h e = absurd (cc)
 run_may_be_told n kinds x (f ∷ es) k r h e = pick (run_among n es k) refl e (λ z. run_may_be_told n kinds x es k r both.1 z)
   where
-    both : (is_told kinds x f ≡ true) × (list_all (is_told kinds x) es ≡ true)
-    both = and_parts (is_told kinds x f) (list_all (is_told kinds x) es) h
+    both : (is_row_start kinds x f ≡ true) × (are_row_starts kinds x es ≡ true)
+    both = and_parts (is_row_start kinds x f) (are_row_starts kinds x es) h
 
     here : (b : Bool) → cond b (Some (run_of_start f)) None ≡ Some r → IsRunOf kinds x r
     here true z =
-        let p = and_parts (is_below x f) (is_stored kinds f) both.0 in
+        let p = and_parts (is_below x f) (is_stored kinds f) (and_parts (nat_eq f.other inf) (is_below x f && is_stored kinds f) both.0).1 in
         let y = some_is (run_of_start f) r z in
         subst (IsRunOf kinds x) y (record { early = below_is f.sync x p.0; stored = p.1 })
     here false z = absurd (cc)
@@ -205,13 +211,14 @@ module _ (rows waiting told : List Edge) (first second entries : List SavedEntry
   pub told_part : part_of 2 entries ≡ told
   told_part = parts 2 ∙ (λ i. (part_of_other 2 0 rows refl i ++ part_of_other 2 1 waiting refl i) ++ part_of_own 2 told i)
 
-  pub group_saved : (left kinds : List CellKind) (x : ℕ) → list_all (is_waiting left x) waiting ≡ true → list_all (is_told kinds x) told ≡ true → GroupSound left kinds x entries
-  group_saved left kinds x w t = record {
+  pub group_saved : (left kinds : List CellKind) (x : ℕ) → are_row_starts left x rows ≡ true → may_all_wait left x waiting ≡ true → are_row_starts kinds x told ≡ true → GroupSound left kinds x entries
+  group_saved left kinds x r w t = record {
     parts = ap (are_of_parts 3) all
         ∙ parts_append 3 (entries_of 0 rows ++ entries_of 1 waiting) (entries_of 2 told)
         (parts_append 3 (entries_of 0 rows) (entries_of 1 waiting) (parts_own 3 0 rows refl) (parts_own 3 1 waiting refl)) (parts_own 3 2 told refl);
-    waiting = ap (list_all (is_waiting left x)) waiting_part ∙ w;
-    told = ap (list_all (is_told kinds x)) told_part ∙ t;
+    rows = ap (are_row_starts left x) rows_part ∙ r;
+    waiting = ap (may_all_wait left x) waiting_part ∙ w;
+    told = ap (are_row_starts kinds x) told_part ∙ t;
   }
 
 -- the runs of a map may be told
@@ -219,18 +226,17 @@ comes_early : (s t : ℕ) → s < t → nat_lt s t ≡ true
 comes_early s t h = grind (arith, nat_tests)
 
 pub told_passes : (kinds : List CellKind) (x : ℕ) (es : List (List Datum × HeldRow)) →
-    ((i : ℕ) (k : List Datum) (r : HeldRow) → slice_get es i ≡ Some (k, r) → IsRunOf kinds x (record { row = r.cells; start = r.start })) → list_all (is_told kinds x) (map (λ e. start_of e.1) es) ≡ true
+    ((i : ℕ) (k : List Datum) (r : HeldRow) → slice_get es i ≡ Some (k, r) → IsRunOf kinds x (record { row = r.cells; start = r.start })) → are_row_starts kinds x (map (λ e. start_of e.1) es) ≡ true
 told_passes kinds x [] h = refl
 told_passes kinds x (e ∷ es) h =
     let r = h 0 e.0 e.1 refl in
-    both _ _ (both _ _ (comes_early e.1.start x r.early) r.stored) (told_passes kinds x es (λ i k r z. h (suc i) k r z))
+    both _ _ (both _ _ same_inf (both _ _ (comes_early e.1.start x r.early) r.stored)) (told_passes kinds x es (λ i k r z. h (suc i) k r z))
   where
     both : (a b : Bool) → a ≡ true → b ≡ true → (a && b) ≡ true
     both a b p q = grind arith
 
-pub rows_again : (rows : List HeldRow) → map row_of_start (map start_of rows) ≡ rows
-rows_again [] = refl
-rows_again (r ∷ rows) = ap (λ l. r ∷ l) (rows_again rows)
+    same_inf : nat_eq inf inf ≡ true
+    same_inf = grind (arith, nat_tests)
 
 -- ITEM BY ITEM
 blocks_more : (blocks : List (List HeldRow)) (k : ℕ) (b : List HeldRow) → slice_get blocks k ≡ Some b →
@@ -258,29 +264,18 @@ pub blocks_next : (blocks : List (List HeldRow)) (k : ℕ) (b : List HeldRow) �
     map start_of (flat_map (λ b. b) (take (k + 1) blocks)) ≡ map start_of (flat_map (λ b. b) (take k blocks)) ++ map start_of b
 blocks_next blocks k b h = let e : k + 1 ≡ suc k = omega arith in ap (λ n. map start_of (flat_map (λ b. b) (take n blocks))) e ∙ blocks_more blocks k b h
 
-pub queue_next : (edges : List Edge) (i : ℕ) (e : Edge) (old new : List Pending) → i < length edges → e ≡ get_or edges i e →
-    ((w : Pending → ℕ) → total w new ≡ total w old + w (own_pending e)) →
-    SameBag (take i edges) (edges_in old) → SameBag (take (i + 1) edges) (edges_in new)
-queue_next edges i e old new lt is put same = record {
-  weigh = λ w.
-      let a = edges_more old new e put w in
-      let b = same.weigh w in
-      let d = total_more w edges i e lt in
-      let f = ap w is in
-      omega (arith, a, b, d, f);
-}
-
 pub groups_next : (starts : List Edge) (i : ℕ) (e : Edge) (old new : List HeldRow) → i < length starts → e ≡ get_or starts i e →
     ((w : HeldRow → ℕ) → total w new ≡ total w old + w (record { cells = e.cells; start = e.sync })) →
-    SameBag old (map row_of_start (take i starts)) → SameBag new (map row_of_start (take (i + 1) starts))
+    SameBag old (rows_of (take i starts)) → SameBag new (rows_of (take (i + 1) starts))
 groups_next starts i e old new lt is added same = record {
   weigh = λ w.
       let a = added w in
       let b = same.weigh w in
-      let d = total-map w row_of_start (take i starts) in
-      let f = total-map w row_of_start (take (i + 1) starts) in
-      let g = total_more (λ x. w (row_of_start x)) starts i e lt in
-      let h = ap (λ x. w (row_of_start x)) is in
+      let row_of : Edge → HeldRow = λ e. record { cells = e.cells; start = e.sync } in
+      let d = total-map w row_of (take i starts) in
+      let f = total-map w row_of (take (i + 1) starts) in
+      let g = total_more (λ x. w (row_of x)) starts i e lt in
+      let h = ap (λ x. w (row_of x)) is in
       omega (arith, a, b, d, f, g, h);
 }
 
@@ -296,57 +291,61 @@ runs_next n starts i e key row old new lt is is_key is_row reruns so_far k =
 
 -- WHAT IS SAVED
 module _ {S : Type 0} (key : List ℕ) (aggs : List Agg) (left kinds : List CellKind) (x : ℕ) (rows : List HeldRow) (running : IndexMap (List Datum) HeldRow S) (waiting : List Pending)
-    (starts queue told : List Edge) (is_starts : starts ≡ map start_of rows) (is_queue : queue ≡ edges_in waiting) (is_told : told ≡ map (λ e. start_of e.1) running.entries)
+    (starts queue told : List Edge) (is_starts : starts ≡ starts_of rows) (is_queue : queue ≡ queued waiting) (is_told : told ≡ map (λ e. start_of e.1) running.entries)
     (first second entries : List SavedEntry) (one : first ≡ [] ++ entries_of 0 starts) (two : second ≡ first ++ entries_of 1 queue) (three : entries ≡ second ++ entries_of 2 told)
     (once : IsUnique same_cells running) where
   run_there : (i : ℕ) (k : List Datum) (r : HeldRow) → slice_get running.entries i ≡ Some (k, r) → run_of running k ≡ Some (record { row = r.cells; start = r.start })
   run_there i k r is = ap run_from (hash_map_get_place same_cells_equiv running i k r once is)
 
-  pub saved_sound : failing (is_from x) (edges_in waiting) ≡ 0 → failing (is_stored left) (edges_in waiting) ≡ 0 → AreRunsOf kinds x (run_of running) → GroupSound left kinds x entries
-  saved_sound later stored runs =
+  pub saved_sound : IsSide left x rows waiting → AreRunsOf kinds x (run_of running) → GroupSound left kinds x entries
+  saved_sound side runs =
       group_saved starts queue told first second entries one two three left kinds x
-      (ap (list_all (is_waiting left x)) is_queue ∙ all_pass (is_waiting left x) (edges_in waiting) (failing-both (is_from x) (is_stored left) (edges_in waiting) later stored))
-      (ap (list_all (λ e. is_below x e && is_stored kinds e)) is_told
+      (ap (are_row_starts left x) is_starts ∙ all_pass (is_row_start left x) (starts_of rows) side.started)
+      (ap (may_all_wait left x) is_queue ∙ all_pass (may_wait left x) (queued waiting) side.later)
+      (ap (are_row_starts kinds x) is_told
       ∙ told_passes kinds x running.entries (λ i k r is. runs k (record { row = r.cells; start = r.start }) (run_there i k r is)))
 
-  pub saved_resumes : (texts : List (List ℕ)) (hl hr out : List Edge) → GroupSound left kinds x entries → KeepsGrouped key aggs texts rows running waiting x hl hr out →
+  pub saved_resumes : (texts : List (List ℕ)) (hl hr out : List Edge) → GroupSound left kinds x entries → KeepsGrouped key aggs left texts rows running waiting x hl hr out →
       GroupResumes left kinds key aggs texts x entries hl hr out
   saved_resumes texts hl hr out sound k = record {
     sound = sound;
-    group = kept_same key aggs rows (map row_of_start (part_of 0 entries)) (run_of running) (run_among (length key) (part_of 2 entries)) (edges_in waiting) (part_of 1 entries) x hl out
-        (subst (λ l. SameBag l rows) (sym (ap (map row_of_start) (rows_part starts queue told first second entries one two three ∙ is_starts) ∙ rows_again rows)) (SameBag-refl rows))
+    group = kept_same key aggs rows (rows_of (part_of 0 entries)) (run_of running) (run_among (length key) (part_of 2 entries)) (queued waiting) (part_of 1 entries) x hl out
+        (subst (λ l. SameBag l rows) (sym (ap rows_of (rows_part starts queue told first second entries one two three ∙ is_starts) ∙ rows_of_starts rows)) (SameBag-refl rows))
         (λ q. ap (λ l. run_among (length key) l q) (told_part starts queue told first second entries one two three ∙ is_told)
         ∙ runs_saved (length key) running.entries once (λ i a r is. told_begins key aggs a r.cells rows (ap row_of_run (sym (run_there i a r is)) ∙ k.group.now.steady a)) q)
-        (subst (λ l. SameBag l (edges_in waiting)) (sym (waiting_part starts queue told first second entries one two three ∙ is_queue)) (SameBag-refl (edges_in waiting))) k.group;
+        (subst (λ l. SameBag l (queued waiting)) (sym (waiting_part starts queue told first second entries one two three ∙ is_queue)) (SameBag-refl (queued waiting))) k.group;
     low = k.low;
     left_placed = k.left_placed;
+    left_cells = k.left_cells;
     right_history = k.right_history;
     right_placed = k.right_placed;
   }
 
 -- WHAT IS LOADED
 pub loaded_keeps : {S : Type 0} (key : List ℕ) (aggs : List Agg) (left kinds : List CellKind) (x : ℕ) (rows : List HeldRow) (running : IndexMap (List Datum) HeldRow S) (waiting : List Pending)
-    (entries : List SavedEntry) → SameBag rows (map row_of_start (part_of 0 entries)) → SameBag (part_of 1 entries) (edges_in waiting) →
+    (entries : List SavedEntry) → SameBag rows (rows_of (part_of 0 entries)) → SameBag (queued waiting) (part_of 1 entries) →
     ((k : List Datum) → run_of running k ≡ run_among (length key) (part_of 2 entries) k) →
-    (texts : List (List ℕ)) (hl hr out : List Edge) → GroupResumes left kinds key aggs texts x entries hl hr out → KeepsGrouped key aggs texts rows running waiting x hl hr out
+    (texts : List (List ℕ)) (hl hr out : List Edge) → GroupResumes left kinds key aggs texts x entries hl hr out → KeepsGrouped key aggs left texts rows running waiting x hl hr out
 loaded_keeps key aggs left kinds x rows running waiting entries is_rows is_waiting is_runs texts hl hr out r = record {
-  group = kept_same key aggs (map row_of_start (part_of 0 entries)) rows (run_among (length key) (part_of 2 entries)) (run_of running) (part_of 1 entries) (edges_in waiting) x hl out
-      is_rows is_runs (SameBag-sym _ _ is_waiting) r.group;
+  group = kept_same key aggs (rows_of (part_of 0 entries)) rows (run_among (length key) (part_of 2 entries)) (run_of running) (part_of 1 entries) (queued waiting) x hl out
+      is_rows is_runs is_waiting r.group;
   low = r.low;
   left_placed = r.left_placed;
+  left_cells = r.left_cells;
   right_history = r.right_history;
   right_placed = r.right_placed;
 }
 
--- edges that may wait, in a queue
-pub queue_waits : (left : List CellKind) (x : ℕ) (edges : List Edge) (waiting : List Pending) → SameBag edges (edges_in waiting) → list_all (is_waiting left x) edges ≡ true →
-    (failing (is_from x) (edges_in waiting) ≡ 0) × (failing (is_stored left) (edges_in waiting) ≡ 0)
-queue_waits left x edges waiting same h =
-    let z = none_fails (is_waiting left x) edges h in (
-      failing-same (is_from x) (edges_in waiting) edges (SameBag-sym _ _ same) (weaker (is_waiting left x) (is_from x) edges (λ e p. (and_parts (is_from x e) (is_stored left e) p).0) z),
-      failing-same (is_stored left) (edges_in waiting) edges (SameBag-sym _ _ same) (weaker (is_waiting left x) (is_stored left) edges (λ e p. (and_parts (is_from x e) (is_stored left e) p).1) z),
-    )
-
 pub loaded_runs : {S : Type 0} (n : ℕ) (kinds : List CellKind) (x : ℕ) (running : IndexMap (List Datum) HeldRow S) (told : List Edge) →
-    ((k : List Datum) → run_of running k ≡ run_among n told k) → list_all (is_told kinds x) told ≡ true → AreRunsOf kinds x (run_of running)
+    ((k : List Datum) → run_of running k ≡ run_among n told k) → are_row_starts kinds x told ≡ true → AreRunsOf kinds x (run_of running)
 loaded_runs n kinds x running told is h k r e = run_may_be_told n kinds x told k r h (sym (is k) ∙ e)
+
+-- WHOSE ROWS ARE SAVED
+pub sound_stored : (s : Standing) (x : ℕ) (entries : List SavedEntry) → GroupSound s.left_kinds s.own_kinds x entries → AreStoredAs group_row s entries
+sound_stored s x entries h = parts_pass (λ p cells. IsStoredAs s (group_row p) cells) 3 entries h.parts pick
+  where
+    pick : (p : ℕ) → p < 3 → All (λ e. IsStoredAs s (group_row p) e.cells) (part_of p entries)
+    pick zero low = row_cells s.left_kinds x (part_of 0 entries) h.rows
+    pick (suc zero) low = waiting_cells s.left_kinds x (part_of 1 entries) h.waiting
+    pick (suc (suc zero)) low = row_cells s.own_kinds x (part_of 2 entries) h.told
+    pick (suc (suc (suc n))) low = absurd (omega (arith, low))

@@ -6,12 +6,12 @@ use Rattle.tw_rows.specs.SameCells.{same_cells, cells_are_same}
 use Rattle.tw_rows.specs.declared.cells.Datum.{Datum}
 use Rattle.tw_rows.specs.declared.edge.HeldRow.{HeldRow}
 use Rattle.sweep_laws.specs.Running.{Run, has_row, kept, begun_at}
-use Rattle.snapshot_agg.specs.declared.groups.Told.{Told}
-use Rattle.snapshot_agg.specs.declared.groups.Told.TheVariants.{Undefined, Row}
-use Rattle.snapshot_agg.specs.Told.{IsTold, row_in}
+use Rattle.snapshot_agg.specs.declared.groups.KeyRow.{KeyRow}
+use Rattle.snapshot_agg.specs.declared.groups.KeyRow.TheVariants.{Undefined, Row}
+use Rattle.snapshot_agg.specs.KeyRow.{IsKeyRow, row_in}
 use Rattle.snapshot_agg.specs.Totaled.{run_from, run_of, Reruns}
 
-pub told_is : (told : Told) (b : Bool) (o : Option (List Datum)) → IsTold told b o → b ≡ false → row_in told ≡ o
+pub told_is : (told : KeyRow) (b : Bool) (o : Option (List Datum)) → IsKeyRow told b o → b ≡ false → row_in told ≡ o
 told_is Undefined b o h e = let z = sym h ∙ e in absurd (cc)
 told_is (Row r) b o h e = h.1
 

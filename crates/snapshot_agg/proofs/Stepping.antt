@@ -1,5 +1,5 @@
 -- A whole step of a group, in the form in which code has it.
-use Rattle.std.specs.Prelude.{◌≡◌, ℕ, ◌+◌, ◌≤◌, Option, Some, None, true, ◌&&◌, List, [], ◌∷◌, ◌++◌, map, All, refl}
+use Rattle.std.specs.Prelude.{◌≡◌, ℕ, ◌+◌, ◌≤◌, cond, Option, Some, None, true, ◌&&◌, List, [], ◌∷◌, ◌++◌, map, All, refl}
 use Rattle.std.proofs.Common.{sym, ◌∙◌, ap, subst, arith}
 use Rattle.std.proofs.lemmas.Bool.{and_parts}
 use Rattle.std.proofs.lemmas.List.Elements.{All-nil, All-cons}
@@ -18,7 +18,9 @@ use Rattle.edge_history.proofs.Agreeing.{same_order}
 use Rattle.edge_history.proofs.Sums.{weaker}
 use Rattle.operator.specs.Steps.{ComeBetween}
 use Rattle.snapshot_agg.specs.Answering.{group_kinds, is_stored, is_answered, AreRunsOf, IsSoFar}
-use Rattle.snapshot_agg.proofs.Answering.{stored_kinds, first_passes}
+use Rattle.sweep_laws.specs.Saving.{may_wait}
+use Rattle.sweep_laws.proofs.Stored.{stored_kinds, new_wait, wait_parts}
+use Rattle.snapshot_agg.proofs.Answering.{first_passes}
 use Rattle.edge_history.specs.History.{CellEvent, of}
 use Rattle.edge_history.specs.Opens.{singles}
 use Rattle.edge_history.proofs.Telling.{told_nothing}
@@ -124,9 +126,18 @@ so_far_whole kinds from to run answer s = (
         All-cons (λ (e : Edge). map datum_kind e.cells ≡ kinds) e es (stored_kinds kinds e.cells (parts e (first_passes (is_answered kinds from to e) _ h)).3) (all_kinds es (omega (arith, h)))
 
 -- the same, where the kinds are told by those of the operator
-pub so_far_in : (key : List ℕ) (aggs : List Agg) (left cells own : List CellKind) (from to : ℕ) (waiting : List Edge) (run run2 : List Datum → Option Run) (answer : List Edge) →
-    own ≡ group_kinds key aggs left → cells ≡ left → failing (is_stored left) waiting ≡ 0 → AreRunsOf own from run →
-    (failing (is_stored cells) waiting ≡ 0 → AreRunsOf (group_kinds key aggs cells) from run → IsSoFar (group_kinds key aggs cells) from to to run2 answer) → IsSoFar own from to to run2 answer
-so_far_in key aggs left cells own from to waiting run run2 answer like same stored runs told =
+pub so_far_in : (key : List ℕ) (aggs : List Agg) (left cells own : List CellKind) (from to : ℕ) (run run2 : List Datum → Option Run) (answer : List Edge) →
+    own ≡ group_kinds key aggs left → cells ≡ left → AreRunsOf own from run →
+    (AreRunsOf (group_kinds key aggs cells) from run → IsSoFar (group_kinds key aggs cells) from to to run2 answer) → IsSoFar own from to to run2 answer
+so_far_in key aggs left cells own from to run run2 answer like same runs emitted =
     let e = like ∙ ap (group_kinds key aggs) (sym same) in
-    subst (λ k. IsSoFar k from to to run2 answer) (sym e) (told (subst (λ k. failing (is_stored k) waiting ≡ 0) (sym same) stored) (subst (λ k. AreRunsOf k from run) e runs))
+    subst (λ k. IsSoFar k from to to run2 answer) (sym e) (emitted (subst (λ k. AreRunsOf k from run) e runs))
+
+-- the edges that are due are stored as those that wait and the new ones are
+pub due_stored : (kinds : List CellKind) (from : ℕ) (waiting rest new due : List Edge) → failing (may_wait kinds from) waiting ≡ 0 → KeepsOrder new →
+    All (λ e. map datum_kind e.cells ≡ kinds) new → ((w : Edge → ℕ) → total w due + total w rest ≡ total w waiting + total w (singles new)) → failing (is_stored kinds) due ≡ 0
+due_stored kinds from waiting rest new due later order cells parts =
+    let a = weaker (may_wait kinds from) (is_stored kinds) waiting (λ e h. (wait_parts kinds from e h).3) later in
+    let b = weaker (may_wait kinds 0) (is_stored kinds) (singles new) (λ e h. (wait_parts kinds 0 e h).3) (new_wait kinds new order.real cells) in
+    let c = parts (λ e. cond (is_stored kinds e) 0 1) in
+    omega (arith, a, b, c)

@@ -25,7 +25,8 @@ use Rattle.tw_rows.specs.declared.kind.CellKind.{CellKind}
 use Rattle.snapshot_agg.specs.Answering.{group_kinds, is_stored, IsSoFar}
 use Rattle.snapshot_agg.specs.Words.{key_data, tell, bad}
 use Rattle.snapshot_agg.proofs.Totaling.{keys_tell, tell_is_group, bad_by_key}
-use Rattle.snapshot_agg.proofs.Lists.{starts_at, drop_past}
+use Rattle.sweep_laws.proofs.Instants.{drop_past}
+use Rattle.snapshot_agg.proofs.Lists.{starts_at}
 
 abbrev pub Moved : List Edge → List HeldRow → List HeldRow → Type 0
 Moved now rows rows2 = ((w : HeldRow → ℕ) → total w (ended_rows now) ≤ total w rows) → (w : HeldRow → ℕ) →

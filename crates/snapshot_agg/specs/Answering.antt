@@ -1,43 +1,24 @@
 -- What a group may answer: edges in order that are stored as the columns of its rows are.
-use Rattle.std.specs.Prelude.{◌≡◌, ℕ, ◌*◌, ◌<◌, ◌&&◌, Bool, true, false, Option, Some, List, [], ◌∷◌, ◌++◌, map}
-use Rattle.tw_rows.specs.Cells.{datum_kind}
+use Rattle.std.specs.Prelude.{◌≡◌, ℕ, ◌*◌, ◌<◌, ◌&&◌, Bool, true, Option, Some, List, ◌++◌, map}
 use Rattle.tw_rows.specs.declared.cells.Datum.{Datum}
 use Rattle.tw_rows.specs.declared.edge.Edge.{Edge}
 use Rattle.tw_rows.specs.declared.kind.CellKind.{CellKind}
-use Rattle.tw_rows.specs.declared.kind.CellKind.TheVariants.{Whole, Bit, Place}
+use Rattle.tw_rows.specs.declared.kind.CellKind.TheVariants.{Whole}
 use Rattle.edge_history.specs.Order.{failing, is_real, is_from, is_below}
 use Rattle.plan_model.specs.declared.agg.Agg.{Agg}
 use Rattle.plan_model.specs.IsPlan.{key_kinds}
 use Rattle.sweep_laws.specs.Sweeps.{InOrder}
 use Rattle.sweep_laws.specs.Running.{Run}
+use Rattle.sweep_laws.specs.Saving.{store_all}
 
 -- how the columns of a group's rows are stored, by those of its child: the key columns, and a whole number for each
 -- aggregate. Of the columns text and int, the key column 0 and a count: a place and a whole number
 abbrev pub group_kinds : List ℕ → List Agg → List CellKind → List CellKind
 group_kinds key aggs left = key_kinds left key ++ map (λ a. Whole) aggs
 
--- cells are stored alike
-abbrev pub same_kind : CellKind → CellKind → Bool
-same_kind Whole Whole = true
-same_kind Whole Bit = false
-same_kind Whole Place = false
-same_kind Bit Whole = false
-same_kind Bit Bit = true
-same_kind Bit Place = false
-same_kind Place Whole = false
-same_kind Place Bit = false
-same_kind Place Place = true
-
--- the cells are stored as columns of these kinds are. The row 7, true is so as a whole number and a bit
-unfoldable pub are_stored : List CellKind → List Datum → Bool
-are_stored [] [] = true
-are_stored [] (d ∷ ds) = false
-are_stored (k ∷ ks) [] = false
-are_stored (k ∷ ks) (d ∷ ds) = same_kind k (datum_kind d) && are_stored ks ds
-
--- the cells of the edge are
+-- columns of these kinds store the cells of the edge: those of a whole number and a bit store 7, true
 abbrev pub is_stored : List CellKind → Edge → Bool
-is_stored kinds e = are_stored kinds e.cells
+is_stored kinds e = store_all kinds e.cells
 
 -- the edge is real, comes from one time on and before another, and is stored so
 abbrev pub is_answered : List CellKind → ℕ → ℕ → Edge → Bool
@@ -46,7 +27,7 @@ is_answered kinds from to e = is_real e && (is_from from e && (is_below to e && 
 -- the run began before t, and its row is stored so
 pub record IsRunOf (kinds : List CellKind) (t : ℕ) (x : Run) : Type 0 where
   pub early : x.start < t
-  pub stored : are_stored kinds x.row ≡ true
+  pub stored : store_all kinds x.row ≡ true
 
 abbrev pub AreRunsOf : List CellKind → ℕ → (List Datum → Option Run) → Type 0
 AreRunsOf kinds t run = (k : List Datum) (x : Run) → run k ≡ Some x → IsRunOf kinds t x

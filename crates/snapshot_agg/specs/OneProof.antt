@@ -15,6 +15,8 @@ use Rattle.snapshot_agg.specs.declared.state.State.TheVariants.{Counted, Summed,
 use Rattle.snapshot_agg.specs.declared.totals.Totals.{Totals}
 use Rattle.snapshot_agg.specs.States.{IsFor, StandsAs, IsStateOf, AreStatesOf, IsTotals}
 use Rattle.snapshot_agg.specs.Totaled.{IsTotalOf, Totaled}
+use Rattle.snapshot_agg.specs.declared.groups.Groups.{Groups}
+use Rattle.snapshot_agg.specs.Counting.{IsCounted}
 use Rattle.snapshot_agg.specs.Keeping.{HasFewKeys}
 
 abbrev parts : Datum → ℤ ⊎ (Bool ⊎ ℕ)
@@ -81,8 +83,11 @@ total_prop : (o : Option Totals) (aggs : List Agg) (rows : List (List Datum)) �
 total_prop None aggs rows = Coded-set (coded_list (coded_list datum_coded)) rows []
 total_prop (Some t) aggs rows = ×_prop (kept_prop t.count t.states.items aggs rows) le_prop
 
-pub totaled_prop : {S : Type 0} (key : List ℕ) (aggs : List Agg) (rows : List HeldRow) (totals : IndexMap (List Datum) Totals S) → IsProp (Totaled key aggs rows totals)
+totaled_prop : {S : Type 0} (key : List ℕ) (aggs : List Agg) (rows : List HeldRow) (totals : IndexMap (List Datum) Totals S) → IsProp (Totaled key aggs rows totals)
 totaled_prop key aggs rows totals = hlevel total_prop
+
+pub counted_prop : (g : Groups) → IsProp (IsCounted g)
+counted_prop g = totaled_prop g.key.items g.aggs.items g.rows.rows g.totals
 
 others_prop : (k : List Datum) (ks : List (List Datum)) → IsProp (AllByRecursion (λ x. same_cells k x ≡ false) ks)
 others_prop k [] = Unit-prop

@@ -12,10 +12,14 @@ use Rattle.sweep_laws.specs.Running.{Run}
 use Rattle.snapshot_agg.specs.declared.totals.Totals.{Totals}
 use Rattle.snapshot_agg.specs.States.{IsTotals}
 
+-- they are totals of the rows: how many there are, and a state of each aggregate
+abbrev pub AreTotalsOf : Totals → List Agg → List (List Datum) → Type 0
+AreTotalsOf t aggs rows = IsTotals t.count t.states.items aggs rows
+
 -- a key has totals of its rows, and none where it has no row
 abbrev pub IsTotalOf : Option Totals → List Agg → List (List Datum) → Type 0
 IsTotalOf None aggs rows = rows ≡ []
-IsTotalOf (Some t) aggs rows = IsTotals t.count t.states.items aggs rows × (1 ≤ t.count)
+IsTotalOf (Some t) aggs rows = AreTotalsOf t aggs rows × (1 ≤ t.count)
 
 pub record Totaled {S : Type 0} (key : List ℕ) (aggs : List Agg) (rows : List HeldRow) (totals : IndexMap (List Datum) Totals S) : Type 0 where
   pub of_key : (k : List Datum) → IsTotalOf (get same_cells totals k) aggs (rows_of_key_in plain_cells key k (bare rows))

@@ -1,26 +1,20 @@
 // The operator of a Group: its state, and one step of it.
-ghost use Rattle.std.specs.Prelude.{◌≡◌, ◌≤◌, ◌++◌, ℕ, false, None, Some, List, [], map, length, OnOk, IfOk, IfErr, is_err};
-ghost use Rattle.tw_rows.specs.Event.{alive};
+ghost use Rattle.std.specs.Prelude.{◌≡◌, ◌≤◌, ℕ, false, None, Some, map, length, OnOk, IfOk, IfErr, is_err};
 ghost use Rattle.tw_rows.specs.Kinds.{cell_kind_of};
-ghost use Rattle.tw_rows.specs.declared.edge.Edge.{Edge};
-ghost use Rattle.edge_history.specs.Order.{failing, is_from, IsHistory};
-ghost use Rattle.edge_history.specs.History.{of};
 ghost use Rattle.edge_stream.specs.Listing.{cells_of};
-ghost use Rattle.node_laws.specs.Keeping.{plain_cells};
-ghost use Rattle.plan_laws.specs.Undefined.{first_below};
-ghost use Rattle.plan_model.specs.RowOps.{is_undefined_in};
-ghost use Rattle.operator.specs.Steps.{MayCome, ComeBetween};
-ghost use Rattle.snapshot_agg.specs.Answering.{group_kinds, is_stored, AreRunsOf};
-ghost use Rattle.snapshot_agg.specs.Keeping.{KeepsGroup, KeepsGrouped, IsOpening, HasFewKeys};
-ghost use Rattle.snapshot_agg.specs.OneProof.{totaled_prop, few_prop, under};
-ghost use Rattle.snapshot_agg.specs.Totaled.{Totaled, run_of};
-ghost use Rattle.snapshot_agg.specs.Waiting.{edges_in, WaitForThemselves};
+ghost use Rattle.sweep_sides.specs.Sides.{IsSide};
+ghost use Rattle.operator.specs.Steps.{ComeBetween, StaysKept, IsFirstUndefined};
+ghost use Rattle.snapshot_agg.specs.Answering.{group_kinds, AreRunsOf};
+ghost use Rattle.snapshot_agg.specs.Counting.{IsCounted, kinds_over};
+ghost use Rattle.snapshot_agg.specs.Keeping.{IsOpening, HasFewKeys};
+ghost use Rattle.snapshot_agg.specs.OneProof.{counted_prop, few_prop, under};
+ghost use Rattle.snapshot_agg.specs.Totaled.{run_of};
 
+use crate::emitting::{emit_due, keys_are_few};
 use crate::groups::Groups;
+use crate::laws::groups_stand_for_their_node;
 use crate::passes::Running;
-use crate::pooled::{give_back, list_of};
 use crate::queue::Queue;
-use crate::telling::{keys_are_few, tell_due};
 use batch::Pools;
 use edge_stream::{EdgeList, StepFault};
 use indexmap::IndexMap;
@@ -29,13 +23,15 @@ use std::alloc::Global;
 use std::hash::BuildHasherDefault;
 use tw_rows::{Kind, Memory, Time};
 
-/// The operator of a Group: the rows of its child that are alive, what is kept of them for each key, the rows that are told,
-/// and the edges that are not due yet.
+/// The operator of a Group, which computes Trill's snapshot aggregates: at each instant one row for each key that has a row,
+/// of the key and of the aggregates over the rows alive then. That a sum outside the ints is an overflow is our profile.
 #[derive(Drop)]
 pub struct Grouped {
     pub(crate) alloc: Global,
     pub(crate) groups: Groups,
+    // The emitted rows that go on.
     pub(crate) running: Running,
+    // The pending edges of the child.
     pub(crate) waiting: Queue,
     // How the columns of its child and its own are stored.
     pub(crate) left_kinds: Vec<Kind>,
@@ -44,20 +40,23 @@ pub struct Grouped {
     pub(crate) left_to: Time,
     pub(crate) right_to: Time,
     pub(crate) failed: bool,
-    ghost counted: { failed ≡ false → Totaled groups.key.items groups.aggs.items groups.rows.rows groups.totals } by { under failed (totaled_prop groups.key.items groups.aggs.items groups.rows.rows groups.totals) },
-    ghost own: { failed ≡ false → WaitForThemselves waiting },
-    ghost later: { failed ≡ false → failing (is_from left_to) (edges_in waiting) ≡ 0 },
-    ghost stored: { failed ≡ false → failing (is_stored (map cell_kind_of left_kinds.items)) (edges_in waiting) ≡ 0 },
-    ghost runs: { failed ≡ false → AreRunsOf (map cell_kind_of kinds.items) left_to (run_of running) },
+    ghost counted: { failed ≡ false → IsCounted groups } by { under failed (counted_prop groups) },
+    ghost side: { failed ≡ false →
+        IsSide (map cell_kind_of left_kinds.items) left_to groups.rows.rows waiting },
+    ghost runs: { failed ≡ false →
+        AreRunsOf (map cell_kind_of kinds.items) left_to (run_of running) },
     ghost few: { HasFewKeys groups.rows.rows groups.totals running } by { few_prop groups.rows.rows groups.totals running },
-    ghost like: { map cell_kind_of kinds.items ≡ group_kinds groups.key.items groups.aggs.items (map cell_kind_of left_kinds.items) },
+    ghost like: { map cell_kind_of kinds.items
+        ≡ kinds_over groups (map cell_kind_of left_kinds.items) },
     ghost width: { length kinds.items ≤ 32 },
     ghost room: { 1 ≤ capacity },
 }
 
 impl Grouped {
-    /// The operator of a Group by these key columns, with these aggregates, of rows with columns of the kinds `left_kinds`,
-    /// which answers rows with columns of the kinds `kinds` in batches of that capacity.
+    ghost use Rattle.snapshot_agg.specs.Operating.{standing, IsKept, pools_after};
+
+    /// A Group by these key columns, with these aggregates, of rows with columns of the kinds `left_kinds`, which answers
+    /// rows with columns of the kinds `kinds` in batches of that capacity.
     pub fn new(
         alloc: Global,
         key: &[usize],
@@ -66,7 +65,8 @@ impl Grouped {
         kinds: &[Kind],
         capacity: usize,
     ) -> Result<Grouped, Memory>
-        requires like { map cell_kind_of kinds.now ≡ group_kinds key.now aggs.now (map cell_kind_of left_kinds.now) }
+        requires like { map cell_kind_of kinds.now
+            ≡ group_kinds key.now aggs.now (map cell_kind_of left_kinds.now) }
         requires width { length kinds.now ≤ 32 }
         requires room { 1 ≤ capacity }
         ensures key { IfOk result (λ g. g.groups.key.items ≡ key.now) }
@@ -74,7 +74,8 @@ impl Grouped {
         ensures left_kinds { IfOk result (λ g. g.left_kinds.items ≡ left_kinds.now) }
         ensures kinds { IfOk result (λ g. g.kinds.items ≡ kinds.now) }
         ensures capacity { IfOk result (λ g. g.capacity ≡ capacity) }
-        ensures opening { IfOk result (λ g. IsOpening g.groups.rows.rows g.running g.waiting g.left_to g.right_to g.failed) }
+        ensures opening { IfOk result (λ g.
+            IsOpening g.groups.rows.rows g.running g.waiting g.left_to g.right_to g.failed) }
     {
         let groups = Groups::new(alloc, key, aggs)?;
         let running = IndexMap::with_hasher(alloc, BuildHasherDefault::new());
@@ -93,7 +94,7 @@ impl Grouped {
         })
     }
 
-    /// Takes in the new edges, and answers what happens to the groups below the time up to which they are known.
+    // Takes in the new edges, and answers what happens to the groups below the time up to which they are known.
     pub(crate) fn advance(
         &mut self,
         pools: &mut Pools,
@@ -108,21 +109,21 @@ impl Grouped {
         requires left_capacity { left.capacity ≡ self.old.capacity }
         requires right_capacity { right.capacity ≡ self.old.capacity }
         requires capacity { pools.old.capacity ≡ self.old.capacity }
-        ensures kept { IfOk result (λ answer. (texts : List (List ℕ)) (hl hr out : List Edge) →
-            KeepsGrouped self.old.groups.key.items self.old.groups.aggs.items texts self.old.groups.rows.rows self.old.running self.old.waiting self.old.left_to hl hr out →
-            MayCome texts self.old.left_to hl left.edges → MayCome texts self.old.right_to hr right.edges →
-            KeepsGrouped self.old.groups.key.items self.old.groups.aggs.items texts self.new.groups.rows.rows self.new.running self.new.waiting left_to (hl ++ left.edges) (hr ++ right.edges) (out ++ answer.edges)) }
-        ensures between { IfOk result (λ answer. ComeBetween self.old.left_to left_to answer.edges) }
-        ensures defined { OnOk result ((came out : List Edge) →
-            KeepsGroup self.old.groups.key.items self.old.groups.aggs.items self.old.groups.rows.rows self.old.running self.old.waiting self.old.left_to came out →
-            IsHistory (came ++ left.edges) → failing (is_from self.old.left_to) left.edges ≡ 0 →
-            first_below (λ t. is_undefined_in plain_cells self.old.groups.key.items self.old.groups.aggs.items (alive (of (came ++ left.edges)) t)) left_to ≡ None) }
-        ensures overflow { IfErr result (λ fault. (time : ℕ) → fault ≡ StepFault.Overflow time → (came out : List Edge) →
-            KeepsGroup self.old.groups.key.items self.old.groups.aggs.items self.old.groups.rows.rows self.old.running self.old.waiting self.old.left_to came out →
-            IsHistory (came ++ left.edges) → failing (is_from self.old.left_to) left.edges ≡ 0 →
-            first_below (λ t. is_undefined_in plain_cells self.old.groups.key.items self.old.groups.aggs.items (alive (of (came ++ left.edges)) t)) left_to ≡ Some time) }
-        ensures cells { IfOk result (λ answer. cells_of answer ≡ map cell_kind_of self.old.kinds.items) }
+        ensures kept { IfOk result (λ answer. StaysKept (standing self.old)
+            (IsKept self.old) (IsKept self.new) left.edges right.edges answer.edges) }
+        ensures between { IfOk result (λ answer.
+            ComeBetween self.old.left_to left_to answer.edges) }
+        ensures defined { OnOk result (
+            IsFirstUndefined (standing self.old) (IsKept self.old) left.edges left_to right_to
+            None) }
+        ensures overflow { IfErr result (λ fault. (time : ℕ) → fault ≡ StepFault.Overflow time →
+            IsFirstUndefined (standing self.old) (IsKept self.old) left.edges left_to right_to
+            (Some time)) }
+        ensures cells { IfOk result (λ answer.
+            cells_of answer ≡ map cell_kind_of self.old.kinds.items) }
         ensures answer_capacity { IfOk result (λ answer. answer.capacity ≡ self.old.capacity) }
+        ensures given { IfOk result (λ answer.
+            pools.new ≡ pools_after pools.old left right answer) }
         ensures pools { pools.new.capacity ≡ pools.old.capacity }
         ensures limit { pools.new.limit ≡ pools.old.limit }
         ensures left_to { OnOk result (self.new.left_to ≡ left_to) }
@@ -134,11 +135,11 @@ impl Grouped {
         ensures kinds { self.new.kinds ≡ self.old.kinds }
         ensures capacity { self.new.capacity ≡ self.old.capacity }
     {
+        groups_stand_for_their_node();
         self.failed = true;
         // Its call tells the proof that it is a time.
         let _ = left_to.word();
-        give_back(right, pools);
-        let edges = match tell_due(
+        let emitted = emit_due(
             self.alloc,
             &mut self.groups,
             &mut self.running,
@@ -146,12 +147,11 @@ impl Grouped {
             &left,
             self.left_to,
             left_to,
-        ) {
-            Ok(edges) => edges,
-            Err(fault) => return Err(fault),
-        };
-        give_back(left, pools);
-        let answer = list_of(self.alloc, pools, &self.kinds, &edges)?;
+        );
+        right.give_back(pools);
+        left.give_back(pools);
+        let edges = emitted?;
+        let answer = EdgeList::from_edges(self.alloc, pools, &self.kinds, &edges)?;
         self.left_to = left_to;
         self.right_to = right_to;
         self.failed = false;

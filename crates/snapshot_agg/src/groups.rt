@@ -1,19 +1,19 @@
-// The rows that are alive, and what is kept of those of each key.
-ghost use Rattle.std.specs.Prelude.{◌≡◌, ℕ, ◌+◌, ◌<◌, ◌≤◌, ◌^◌, ◌||◌, false, Bool, Option, List, [], ◌∷◌, length, map, IfOk, OnOk};
-ghost use Rattle.std.specs.List.{list_any};
+// The rows that are alive, and the totals of those of each key.
+ghost use Rattle.std.specs.Prelude.{◌≡◌, ◌<◌, ◌≤◌, ◌^◌, false, Bool, Option, List, [], ◌∷◌, length, IfOk, OnOk};
 ghost use Rattle.indexmap.specs.IndexMap.{get};
-ghost use Rattle.tw_rows.specs.Bag.{SameBag, total};
+ghost use Rattle.tw_rows.specs.Bag.{SameBag};
 ghost use Rattle.tw_rows.specs.SameCells.{same_cells};
 ghost use Rattle.tw_rows.specs.declared.cells.Datum.{Datum};
-ghost use Rattle.tw_rows.specs.declared.edge.HeldRow.{HeldRow};
 ghost use Rattle.edge_history.specs.Order.{many};
-ghost use Rattle.edge_history.specs.Opens.{is_held, bare};
+ghost use Rattle.edge_history.specs.Opens.{is_held};
 ghost use Rattle.plan_model.specs.declared.agg.Agg.{Agg};
 ghost use Rattle.sweep_laws.specs.Running.{has_row};
-ghost use Rattle.snapshot_agg.specs.Words.{key_data, tell, bad};
+ghost use Rattle.snapshot_agg.specs.Words.{key_data};
+ghost use Rattle.snapshot_agg.specs.Changing.{Gains, NoMore, row_since};
+ghost use Rattle.snapshot_agg.specs.Touching.{Touches};
 ghost use Rattle.synopsis.specs.Held.{cell_or_zero};
-ghost use Rattle.snapshot_agg.specs.Totaled.{IsTotalOf, Totaled};
-ghost use Rattle.snapshot_agg.specs.Told.{IsTold, row_in};
+ghost use Rattle.snapshot_agg.specs.Totaled.{IsTotalOf};
+ghost use Rattle.snapshot_agg.specs.KeyRow.{IsKeyRow, row_in};
 
 use crate::row_queue::RowQueue;
 use crate::totals::{Totals, touch};
@@ -25,17 +25,17 @@ use std::hash::BuildHasherDefault;
 use synopsis::WordHasher;
 use tw_rows::{Cells, Datum, Memory, Time, same_cells};
 
-/// What is kept of the rows of each key.
+// The totals of each key that has rows.
 pub(crate) type KeyTotals = IndexMap<Cells, Totals, BuildHasherDefault<WordHasher>>;
 
-/// What is told of a group: that it is undefined, or its row, if it has one.
+// What a group is at an instant: undefined, or its row, if it has one.
 #[derive(Drop)]
-pub(crate) enum Told {
+pub(crate) enum KeyRow {
     Undefined,
     Row(Option<Cells>),
 }
 
-/// The rows that are alive, by their key, and what is kept of those of each key.
+// The rows that are alive, and the totals of those of each key.
 #[derive(Drop)]
 pub(crate) struct Groups {
     pub(crate) alloc: Global,
@@ -54,7 +54,7 @@ fn datum_at(cells: &[Datum], column: usize) -> Datum
     cells.get(column).copied().unwrap_or(Datum::Int(0))
 }
 
-/// The data of a row in the key columns.
+// The data of a row in the key columns.
 pub(crate) fn key_of(alloc: Global, key: &[usize], cells: &[Datum]) -> Result<Cells, Memory>
     ensures { IfOk result (λ k. k ≡ key_data key.now cells.now) }
 {
@@ -79,10 +79,14 @@ fn add_to(
     key: Cells,
     cells: &[Datum],
 ) -> Result<(), Memory>
-    requires { (rows : List (List Datum)) × IsTotalOf (get same_cells totals.old key) aggs.now rows × (length rows < 2 ^ 63) }
-    ensures others { OnOk result ((q : List Datum) → same_cells key q ≡ false → get same_cells totals.new q ≡ get same_cells totals.old q) }
-    ensures own { OnOk result ((rows : List (List Datum)) → IsTotalOf (get same_cells totals.old key) aggs.now rows → IsTotalOf (get same_cells totals.new key) aggs.now (cells.now ∷ rows)) }
-    ensures touched { OnOk result ((q : List Datum) → list_any (same_cells q) touched.new.items ≡ (list_any (same_cells q) touched.old.items || same_cells q key)) }
+    requires { (rows : List (List Datum))
+        × IsTotalOf (get same_cells totals.old key) aggs.now rows × (length rows < 2 ^ 63) }
+    ensures others { OnOk result ((q : List Datum) → same_cells key q ≡ false →
+        get same_cells totals.new q ≡ get same_cells totals.old q) }
+    ensures own { OnOk result ((rows : List (List Datum)) →
+        IsTotalOf (get same_cells totals.old key) aggs.now rows →
+        IsTotalOf (get same_cells totals.new key) aggs.now (cells.now ∷ rows)) }
+    ensures touched { OnOk result (Touches touched.old.items touched.new.items key) }
 {
     if let Some(there) = totals.get_mut(&key) {
         return there.add(touched, &key, cells);
@@ -100,10 +104,15 @@ fn take_from(
     key: &Cells,
     cells: &[Datum],
 ) -> Result<(), Memory>
-    requires { (aggs : List Agg) × (rows : List (List Datum)) × (rest : List (List Datum)) × IsTotalOf (get same_cells totals.old key.now) aggs rows × SameBag rows (cells.now ∷ rest) }
-    ensures others { OnOk result ((q : List Datum) → same_cells key.now q ≡ false → get same_cells totals.new q ≡ get same_cells totals.old q) }
-    ensures own { OnOk result ((aggs : List Agg) (rows rest : List (List Datum)) → IsTotalOf (get same_cells totals.old key.now) aggs rows → SameBag rows (cells.now ∷ rest) → IsTotalOf (get same_cells totals.new key.now) aggs rest) }
-    ensures touched { OnOk result ((q : List Datum) → list_any (same_cells q) touched.new.items ≡ (list_any (same_cells q) touched.old.items || same_cells q key.now)) }
+    requires { (aggs : List Agg) × (rows : List (List Datum)) × (rest : List (List Datum))
+        × IsTotalOf (get same_cells totals.old key.now) aggs rows
+        × SameBag rows (cells.now ∷ rest) }
+    ensures others { OnOk result ((q : List Datum) → same_cells key.now q ≡ false →
+        get same_cells totals.new q ≡ get same_cells totals.old q) }
+    ensures own { OnOk result ((aggs : List Agg) (rows rest : List (List Datum)) →
+        IsTotalOf (get same_cells totals.old key.now) aggs rows →
+        SameBag rows (cells.now ∷ rest) → IsTotalOf (get same_cells totals.new key.now) aggs rest) }
+    ensures touched { OnOk result (Touches touched.old.items touched.new.items key.now) }
 {
     if let Some(there) = totals.get_mut(key) {
         there.remove(touched, key, cells)?;
@@ -115,37 +124,30 @@ fn take_from(
     Ok(())
 }
 
-impl Told {
-    /// Whether the row is told.
+impl KeyRow {
+    // Whether the group has the row.
     pub(crate) fn has(&self, cells: &Cells) -> bool
         ensures { result ≡ has_row (row_in self.now) cells.now }
     {
         match self {
-            Told::Undefined => false,
-            Told::Row(told) => match told {
-                Some(row) => same_cells(cells, row),
+            KeyRow::Undefined => false,
+            KeyRow::Row(row) => match row {
+                Some(own) => same_cells(cells, own),
                 None => false,
             },
-        }
-    }
-
-    pub(crate) fn is_undefined(&self) -> bool
-        ensures { (b : Bool) (o : Option (List Datum)) → IsTold self.now b o → result ≡ b }
-    {
-        match self {
-            Told::Undefined => true,
-            Told::Row(_) => false,
         }
     }
 }
 
 impl Groups {
-    /// No rows.
+    ghost use Rattle.snapshot_agg.specs.Counting.{IsCounted, key_by, row_now, is_undefined_now};
+
+    // No rows.
     pub(crate) fn new(alloc: Global, key: &[usize], aggs: &[Agg]) -> Result<Groups, Memory>
         ensures key { IfOk result (λ g. g.key.items ≡ key.now) }
         ensures aggs { IfOk result (λ g. g.aggs.items ≡ aggs.now) }
         ensures rows { IfOk result (λ g. g.rows.rows ≡ []) }
-        ensures counted { IfOk result (λ g. Totaled g.key.items g.aggs.items g.rows.rows g.totals) }
+        ensures counted { IfOk result IsCounted }
     {
         Ok(Groups {
             alloc,
@@ -157,13 +159,14 @@ impl Groups {
         })
     }
 
-    /// Puts in a row. Its key is touched.
+    // Puts in a row. Its key is touched.
     pub(crate) fn add(&mut self, cells: &Cells, start: Time) -> Result<(), Memory>
-        requires counted { Totaled self.old.key.items self.old.aggs.items self.old.rows.rows self.old.totals }
-        ensures counted { OnOk result (Totaled self.new.key.items self.new.aggs.items self.new.rows.rows self.new.totals) }
-        ensures added { OnOk result ((w : HeldRow → ℕ) → total w self.new.rows.rows ≡ total w self.old.rows.rows + w (record { cells = cells.now; start = start })) }
-        ensures touched { OnOk result ((q : List Datum) → list_any (same_cells q) self.new.touched.items
-            ≡ (list_any (same_cells q) self.old.touched.items || same_cells q (key_data self.old.key.items cells.now))) }
+        requires counted { IsCounted self.old }
+        ensures counted { OnOk result (IsCounted self.new) }
+        ensures added { OnOk result (Gains self.old.rows.rows self.new.rows.rows
+            (row_since cells.now start)) }
+        ensures touched { OnOk result (Touches self.old.touched.items self.new.touched.items
+            (key_by self.old cells.now)) }
         ensures key { self.new.key ≡ self.old.key }
         ensures aggs { self.new.aggs ≡ self.old.aggs }
     {
@@ -185,14 +188,15 @@ impl Groups {
         Ok(())
     }
 
-    /// Takes out a row that began then, if there is one. Its key is touched.
+    // Takes out a row that began then, if there is one. Its key is touched.
     pub(crate) fn take(&mut self, cells: &Cells, start: Time) -> Result<(), Memory>
-        requires counted { Totaled self.old.key.items self.old.aggs.items self.old.rows.rows self.old.totals }
-        ensures counted { OnOk result (Totaled self.new.key.items self.new.aggs.items self.new.rows.rows self.new.totals) }
-        ensures taken { OnOk result (1 ≤ many (is_held cells.now start) self.old.rows.rows → (w : HeldRow → ℕ) →
-            total w self.old.rows.rows ≡ total w self.new.rows.rows + w (record { cells = cells.now; start = start })) }
-        ensures touched { OnOk result ((q : List Datum) → list_any (same_cells q) self.new.touched.items
-            ≡ (list_any (same_cells q) self.old.touched.items || same_cells q (key_data self.old.key.items cells.now))) }
+        requires counted { IsCounted self.old }
+        ensures counted { OnOk result (IsCounted self.new) }
+        ensures taken { OnOk result (1 ≤ many (is_held cells.now start) self.old.rows.rows →
+            Gains self.new.rows.rows self.old.rows.rows (row_since cells.now start)) }
+        ensures fewer { OnOk result (NoMore self.old.rows.rows self.new.rows.rows) }
+        ensures touched { OnOk result (Touches self.old.touched.items self.new.touched.items
+            (key_by self.old cells.now)) }
         ensures key { self.new.key ≡ self.old.key }
         ensures aggs { self.new.aggs ≡ self.old.aggs }
     {
@@ -206,17 +210,28 @@ impl Groups {
         Ok(())
     }
 
-    /// What is told of the group of a key.
-    pub(crate) fn told(&self, key: &Cells) -> Result<Told, Memory>
-        requires counted { Totaled self.now.key.items self.now.aggs.items self.now.rows.rows self.now.totals }
-        ensures { IfOk result (λ told. IsTold told (bad self.now.key.items self.now.aggs.items key.now (bare self.now.rows.rows))
-            (tell self.now.key.items self.now.aggs.items key.now (bare self.now.rows.rows))) }
+    // Whether the group of a key is undefined. A key with no row has no group.
+    pub(crate) fn is_undefined(&self, key: &Cells) -> bool
+        requires counted { IsCounted self.now }
+        ensures { result ≡ is_undefined_now self.now key.now }
     {
         match self.totals.get(key) {
-            None => Ok(Told::Row(None)),
+            Some(totals) => totals.is_undefined(),
+            None => false,
+        }
+    }
+
+    // What the group of a key is.
+    pub(crate) fn row_of(&self, key: &Cells) -> Result<KeyRow, Memory>
+        requires counted { IsCounted self.now }
+        ensures { IfOk result (λ row.
+            IsKeyRow row (is_undefined_now self.now key.now) (row_now self.now key.now)) }
+    {
+        match self.totals.get(key) {
+            None => Ok(KeyRow::Row(None)),
             Some(totals) => match totals.row(self.alloc, key.items())? {
-                None => Ok(Told::Undefined),
-                Some(row) => Ok(Told::Row(Some(row))),
+                None => Ok(KeyRow::Undefined),
+                Some(row) => Ok(KeyRow::Row(Some(row))),
             },
         }
     }

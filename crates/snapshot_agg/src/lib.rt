@@ -1,19 +1,18 @@
 //! The operator of a Group.
 #![tactic(auto)]
 
+mod emitting;
 mod grouped;
 mod groups;
 mod laws;
 mod loading;
 mod operating;
 mod passes;
-mod pooled;
 mod queue;
 mod row_queue;
 mod saving;
 mod state;
 mod sweep;
-mod telling;
 mod totals;
 mod waiting;
 

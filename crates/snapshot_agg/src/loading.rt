@@ -1,26 +1,29 @@
 // What a group kept, from saved entries.
-ghost use Rattle.std.specs.Prelude.{◌≡◌, ℕ, List, length, map, take, IfOk, IfErr, OnOk};
-ghost use Rattle.std.specs.List.{list_all};
+ghost use Rattle.std.specs.Prelude.{◌≡◌, ◌↔◌, IsTrue, List, length, map, take, Err, IfOk, IfErr, OnOk};
 ghost use Rattle.tw_rows.specs.Bag.{SameBag};
 ghost use Rattle.tw_rows.specs.Kinds.{cell_kind_of};
 ghost use Rattle.tw_rows.specs.declared.cells.Datum.{Datum};
 ghost use Rattle.carried_edges.specs.Entries.{part_of};
-ghost use Rattle.snapshot_agg.specs.Saving.{row_of_start, run_among, is_waiting, is_told, GroupSound};
-ghost use Rattle.snapshot_agg.specs.Totaled.{Totaled, run_of};
-ghost use Rattle.snapshot_agg.specs.Waiting.{edges_in, WaitForThemselves};
+ghost use Rattle.sweep_laws.specs.Saving.{rows_of};
+ghost use Rattle.sweep_sides.specs.Sides.{IsSide};
+ghost use Rattle.sweep_sides.specs.Waiting.{queued};
+ghost use Rattle.snapshot_agg.specs.Saving.{run_among, GroupSound};
+ghost use Rattle.snapshot_agg.specs.Totaled.{run_of};
+ghost use Rattle.snapshot_agg.specs.Counting.{IsCounted};
 
 use crate::groups::Groups;
 use crate::passes::{Running, put_run};
 use crate::queue::Queue;
-use carried_edges::{are_of_parts, edges_of_part, is_stored_as};
+use carried_edges::{are_of_parts, edges_of_part};
 use edge_stream::{LoadFault, Saved};
 use indexmap::IndexMap;
 use plan_model::Agg;
 use std::alloc::Global;
 use std::hash::BuildHasherDefault;
+use sweep_sides::{are_rows, can_wait, load_waiting};
 use tw_rows::{Cells, Datum, Edge, Kind, Memory, Time};
 
-/// What was loaded.
+// What was loaded.
 #[derive(Drop)]
 pub(crate) struct Loaded {
     pub(crate) groups: Groups,
@@ -28,68 +31,29 @@ pub(crate) struct Loaded {
     pub(crate) running: Running,
 }
 
-// Whether the edge may wait where its side is closed up to the time.
-fn waits(edge: &Edge, kinds: &[Kind], to: Time) -> bool
-    ensures { result ≡ is_waiting (map cell_kind_of kinds.now) to edge.now }
+// Whether the entries can be what a Group keeps whose child is closed up to the time. It takes no memory.
+fn is_state(saved: &Saved, left_kinds: &[Kind], kinds: &[Kind], to: Time) -> bool
+    ensures { IsTrue result ↔ GroupSound (map cell_kind_of left_kinds.now)
+        (map cell_kind_of kinds.now) to saved.now }
 {
-    to <= edge.sync && is_stored_as(edge.cells.items(), kinds)
-}
-
-// Whether the edge may be the start of a row that is told below the time.
-fn is_told_start(edge: &Edge, kinds: &[Kind], to: Time) -> bool
-    ensures { result ≡ is_told (map cell_kind_of kinds.now) to edge.now }
-{
-    edge.sync < to && is_stored_as(edge.cells.items(), kinds)
-}
-
-// Whether the edges may wait where their side is closed up to the time.
-fn may_wait(edges: &[Edge], kinds: &[Kind], to: Time) -> bool
-    ensures { result ≡ list_all (is_waiting (map cell_kind_of kinds.now) to) edges.now }
-{
-    for edge in edges {
-        if !waits(edge, kinds, to) {
-            return false;
-        }
-    }
-    true
-}
-
-// Whether the edges may be starts of rows that are told below the time.
-fn may_be_told(edges: &[Edge], kinds: &[Kind], to: Time) -> bool
-    ensures { result ≡ list_all (is_told (map cell_kind_of kinds.now) to) edges.now }
-{
-    for edge in edges {
-        if !is_told_start(edge, kinds, to) {
-            return false;
-        }
-    }
-    true
+    are_of_parts(saved, 3)
+        && are_rows(saved, 0, left_kinds, to)
+        && can_wait(saved, 1, left_kinds, to)
+        && are_rows(saved, 2, kinds, to)
 }
 
 // Groups of the rows that start.
 fn groups_of(alloc: Global, key: &[usize], aggs: &[Agg], starts: &[Edge]) -> Result<Groups, Memory>
     ensures key { IfOk result (λ g. g.key.items ≡ key.now) }
     ensures aggs { IfOk result (λ g. g.aggs.items ≡ aggs.now) }
-    ensures counted { IfOk result (λ g. Totaled g.key.items g.aggs.items g.rows.rows g.totals) }
-    ensures rows { IfOk result (λ g. SameBag g.rows.rows (map row_of_start starts.now)) }
+    ensures counted { IfOk result IsCounted }
+    ensures rows { IfOk result (λ g. SameBag g.rows.rows (rows_of starts.now)) }
 {
     let mut groups = Groups::new(alloc, key, aggs)?;
     for start in starts {
         groups.add(&start.cells, start.sync)?;
     }
     Ok(groups)
-}
-
-// A queue of the edges, each for its own time.
-fn queue_of(alloc: Global, edges: &[Edge]) -> Result<Queue, Memory>
-    ensures edges { IfOk result (λ queue. SameBag edges.now (edges_in queue)) }
-    ensures own { IfOk result WaitForThemselves }
-{
-    let mut queue = Queue::new(alloc);
-    for edge in edges {
-        queue.put(edge.clone()?)?;
-    }
-    Ok(queue)
 }
 
 // The first data of a row.
@@ -101,7 +65,8 @@ fn first_data(cells: &[Datum], n: usize) -> &[Datum]
 
 // The runs of the rows that start, whose first data are their keys. Of one key the last counts.
 fn runs_of(alloc: Global, width: usize, starts: &[Edge]) -> Result<Running, Memory>
-    ensures { IfOk result (λ running. (k : List Datum) → run_of running k ≡ run_among width starts.now k) }
+    ensures { IfOk result (λ running. (k : List Datum) →
+        run_of running k ≡ run_among width starts.now k) }
 {
     let mut running = IndexMap::with_hasher(alloc, BuildHasherDefault::new());
     for start in starts {
@@ -111,7 +76,7 @@ fn runs_of(alloc: Global, width: usize, starts: &[Edge]) -> Result<Running, Memo
     Ok(running)
 }
 
-/// What the entries hold, of a side that is closed up to the time.
+// What the entries hold, of a side that is closed up to the time. What is no state is refused before any memory is taken.
 pub(crate) fn load_parts(
     alloc: Global,
     saved: &Saved,
@@ -123,32 +88,32 @@ pub(crate) fn load_parts(
 ) -> Result<Loaded, LoadFault>
     ensures key { IfOk result (λ l. l.groups.key.items ≡ key.now) }
     ensures aggs { IfOk result (λ l. l.groups.aggs.items ≡ aggs.now) }
-    ensures counted { IfOk result (λ l. Totaled l.groups.key.items l.groups.aggs.items l.groups.rows.rows l.groups.totals) }
-    ensures rows { IfOk result (λ l. SameBag l.groups.rows.rows (map row_of_start (part_of 0 saved.now))) }
-    ensures waiting { IfOk result (λ l. SameBag (part_of 1 saved.now) (edges_in l.waiting)) }
-    ensures own { IfOk result (λ l. WaitForThemselves l.waiting) }
-    ensures runs { IfOk result (λ l. (k : List Datum) → run_of l.running k ≡ run_among (length key.now) (part_of 2 saved.now) k) }
-    ensures sound { OnOk result (GroupSound (map cell_kind_of left_kinds.now) (map cell_kind_of kinds.now) to saved.now) }
-    ensures refused { IfErr result (λ fault. fault ≡ LoadFault.NotState → GroupSound (map cell_kind_of left_kinds.now) (map cell_kind_of kinds.now) to saved.now → ⊥) }
+    ensures counted { IfOk result (λ l. IsCounted l.groups) }
+    ensures rows { IfOk result (λ l. SameBag l.groups.rows.rows (rows_of (part_of 0 saved.now))) }
+    ensures waiting { IfOk result (λ l. SameBag (queued l.waiting) (part_of 1 saved.now)) }
+    ensures side { IfOk result (λ l.
+        IsSide (map cell_kind_of left_kinds.now) to l.groups.rows.rows l.waiting) }
+    ensures runs { IfOk result (λ l. (k : List Datum) →
+        run_of l.running k ≡ run_among (length key.now) (part_of 2 saved.now) k) }
+    ensures sound { OnOk result (GroupSound (map cell_kind_of left_kinds.now)
+        (map cell_kind_of kinds.now) to saved.now) }
+    ensures refused { (GroupSound (map cell_kind_of left_kinds.now)
+        (map cell_kind_of kinds.now) to saved.now → ⊥) → result ≡ Err LoadFault.NotState }
+    ensures taken { GroupSound (map cell_kind_of left_kinds.now)
+        (map cell_kind_of kinds.now) to saved.now →
+        IfErr result (λ fault. fault ≡ LoadFault.Memory) }
 {
-    if !are_of_parts(saved, 3) {
-        return Err(LoadFault::NotState);
-    }
-    let queued = edges_of_part(alloc, saved, 1)?;
-    if !may_wait(&queued, left_kinds, to) {
-        return Err(LoadFault::NotState);
-    }
-    let told = edges_of_part(alloc, saved, 2)?;
-    if !may_be_told(&told, kinds, to) {
+    if !is_state(saved, left_kinds, kinds, to) {
         return Err(LoadFault::NotState);
     }
     let rows = edges_of_part(alloc, saved, 0)?;
+    let waiting = load_waiting(alloc, saved, 1)?;
+    let emitted = edges_of_part(alloc, saved, 2)?;
     let groups = groups_of(alloc, key, aggs, &rows)?;
-    let waiting = queue_of(alloc, &queued)?;
-    let running = runs_of(alloc, key.len(), &told)?;
+    let running = runs_of(alloc, key.len(), &emitted)?;
     Ok(Loaded {
         groups,
-        waiting,
+        waiting: Queue::of(alloc, waiting),
         running,
     })
 }

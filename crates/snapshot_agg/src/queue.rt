@@ -1,11 +1,11 @@
-// Edges that wait for their times.
-ghost use Rattle.std.specs.Prelude.{◌≡◌, ◌+◌, ◌^◌, ◌-◌, ◌≤◌, ◌++◌, ◌∷◌, ℕ, true, [], List, map, take, drop, length, min, IfOk, OnOk};
-ghost use Rattle.tw_rows.specs.Bag.{total};
+// Pending edges, which wait for their times.
+ghost use Rattle.std.specs.Prelude.{◌≡◌, ◌^◌, ◌-◌, ◌≤◌, ◌++◌, ◌∷◌, ℕ, true, [], map, take, drop, length, min, IfOk, OnOk};
 ghost use Rattle.tw_rows.specs.declared.edge.Edge.{Edge};
 ghost use Rattle.edge_history.specs.Order.{failing, is_below, is_from};
-ghost use Rattle.end_queue.specs.Pending.{Pending};
 ghost use Rattle.sweep_laws.specs.Sweeps.{SyncsRise};
-ghost use Rattle.snapshot_agg.specs.Waiting.{edges_in, own_pending, WaitForThemselves};
+ghost use Rattle.sweep_sides.specs.Waiting.{queued, AreTimed};
+ghost use Rattle.snapshot_agg.specs.Changing.{Gains, StayTogether};
+ghost use Rattle.snapshot_agg.specs.Waiting.{own_pending};
 
 use end_queue::EndQueue;
 use std::alloc::Global;
@@ -13,7 +13,7 @@ use std::collections::VecDeque;
 use std::marker::Model;
 use tw_rows::{Edge, Memory, Time};
 
-/// Edges that wait, each for its own sync.
+// Pending edges, each for its own sync.
 #[derive(Drop)]
 pub(crate) struct Queue {
     // Edges mostly come in the order of their syncs: those stand in a line.
@@ -37,7 +37,8 @@ impl Model for Queue {
 
 // Whether an edge of that sync may stand behind all others.
 fn comes_last(line: &VecDeque<Edge>, sync: Time) -> bool
-    ensures { result ≡ true → SyncsRise 0 line.now.items → (edge : Edge) → edge.sync ≡ sync → SyncsRise 0 (line.now.items ++ edge ∷ []) }
+    ensures { result ≡ true → SyncsRise 0 line.now.items → (edge : Edge) → edge.sync ≡ sync →
+        SyncsRise 0 (line.now.items ++ edge ∷ []) }
 {
     match line.back() {
         Some(last) => last.sync <= sync,
@@ -49,7 +50,8 @@ fn comes_last(line: &VecDeque<Edge>, sync: Time) -> bool
 fn count_below(line: &VecDeque<Edge>, to: Time) -> usize
     ensures within { result ≤ length line.now.items }
     ensures below { failing (is_below to) (take result line.now.items) ≡ 0 }
-    ensures from { SyncsRise 0 line.now.items → failing (is_from to) (drop result line.now.items) ≡ 0 }
+    ensures from { SyncsRise 0 line.now.items →
+        failing (is_from to) (drop result line.now.items) ≡ 0 }
 {
     for i in 0..line.len() {
         if to <= line[i].sync {
@@ -85,21 +87,28 @@ fn push_clones(copy: &mut Vec<Edge>, line: &VecDeque<Edge>) -> Result<(), Memory
 }
 
 impl Queue {
-    /// No edge waits.
+    // No edge is pending.
     pub(crate) fn new(alloc: Global) -> Queue
         ensures { result ≡ [] }
     {
+        Queue::of(alloc, EndQueue::new(alloc))
+    }
+
+    // The edges that wait in the other queue.
+    pub(crate) fn of(alloc: Global, others: EndQueue) -> Queue
+        ensures { result ≡ others }
+    {
         Queue {
             line: VecDeque::new(alloc),
-            others: EndQueue::new(alloc),
+            others,
         }
     }
 
-    /// Puts in an edge, which waits for its sync.
+    // Puts in an edge, which waits for its sync.
     pub(crate) fn put(&mut self, edge: Edge) -> Result<(), Memory>
-        ensures parts { OnOk result ((w : Pending → ℕ) → total w self.new ≡ total w self.old + w (own_pending edge)) }
-        ensures edges { OnOk result ((w : Edge → ℕ) → total w (edges_in self.new) ≡ total w (edges_in self.old) + w edge) }
-        ensures own { OnOk result (WaitForThemselves self.old → WaitForThemselves self.new) }
+        ensures parts { OnOk result (Gains self.old self.new (own_pending edge)) }
+        ensures edges { OnOk result (Gains (queued self.old) (queued self.new) edge) }
+        ensures own { OnOk result (AreTimed self.old → AreTimed self.new) }
     {
         if comes_last(&self.line, edge.sync) {
             self.line.push_back(edge)?;
@@ -109,13 +118,15 @@ impl Queue {
         Ok(())
     }
 
-    /// Takes out the edges that come below a time, and puts them last.
+    // Takes out the edges that come below a time, and puts them last.
     pub(crate) fn pop_all(&mut self, to: Time, due: &mut Vec<Edge>) -> Result<(), Memory>
-        requires own { WaitForThemselves self.old }
-        ensures parts { OnOk result ((w : Edge → ℕ) → total w due.new.items + total w (edges_in self.new) ≡ total w due.old.items + total w (edges_in self.old)) }
-        ensures below { OnOk result ((c : ℕ) → to ≤ c → failing (is_below c) due.old.items ≡ 0 → failing (is_below c) due.new.items ≡ 0) }
-        ensures later { OnOk result (failing (is_from to) (edges_in self.new) ≡ 0) }
-        ensures own { OnOk result (WaitForThemselves self.new) }
+        requires own { AreTimed self.old }
+        ensures parts { OnOk result (StayTogether due.old.items (queued self.old)
+            due.new.items (queued self.new)) }
+        ensures below { OnOk result ((c : ℕ) → to ≤ c → failing (is_below c) due.old.items ≡ 0 →
+            failing (is_below c) due.new.items ≡ 0) }
+        ensures later { OnOk result (failing (is_from to) (queued self.new) ≡ 0) }
+        ensures own { OnOk result (AreTimed self.new) }
     {
         self.others.pop_all(to, due)?;
         let count = count_below(&self.line, to);
@@ -123,7 +134,7 @@ impl Queue {
         Ok(())
     }
 
-    /// How many edges wait.
+    // How many edges are pending.
     pub(crate) fn len(&self) -> u64
         ensures { result ≡ min (length self.now) (2 ^ 64 - 1) }
     {
@@ -131,9 +142,9 @@ impl Queue {
         others.saturating_add(self.line.len() as u64)
     }
 
-    /// A copy of the edges.
+    // A copy of the edges.
     pub(crate) fn edges(&self, alloc: Global) -> Result<Vec<Edge>, Memory>
-        ensures { IfOk result (λ copy. copy.items ≡ edges_in self.now) }
+        ensures { IfOk result (λ copy. copy.items ≡ queued self.now) }
     {
         let mut copy = self.others.edges(alloc)?;
         push_clones(&mut copy, &self.line)?;

@@ -1,10 +1,11 @@
 // The rows that are alive.
-ghost use Rattle.std.specs.Prelude.{◌≡◌, ◌+◌, ◌≤◌, ◌∷◌, ℕ, true, false, [], List, map, length, IfOk, OnOk, OnErr};
-ghost use Rattle.tw_rows.specs.Bag.{SameBag, total};
+ghost use Rattle.std.specs.Prelude.{◌≡◌, ◌+◌, ◌≤◌, ◌∷◌, true, false, [], List, map, length, IfOk, OnOk, OnErr};
+ghost use Rattle.tw_rows.specs.Bag.{SameBag};
 ghost use Rattle.tw_rows.specs.declared.edge.HeldRow.{HeldRow};
 ghost use Rattle.edge_history.specs.Order.{many};
 ghost use Rattle.edge_history.specs.Opens.{is_held};
-ghost use Rattle.snapshot_agg.specs.Saving.{start_of};
+ghost use Rattle.sweep_laws.specs.Saving.{starts_of};
+ghost use Rattle.snapshot_agg.specs.Changing.{Gains, GainTogether, StayTogether, row_since};
 
 use crate::saving::{push_line, starts_of_rows};
 use std::alloc::Global;
@@ -13,7 +14,7 @@ use std::marker::Model;
 use synopsis::Synopsis;
 use tw_rows::{Cells, Datum, Edge, HeldRow, Memory, Time};
 
-/// Rows that are alive, each with its start.
+// Rows that are alive, each with its start.
 #[derive(Drop)]
 pub(crate) struct RowQueue {
     // Rows mostly end in the order in which they came, as those of windows do: they stand in a line here, and one that ends
@@ -44,7 +45,8 @@ fn is_row(row: &HeldRow, cells: &[Datum], start: Time) -> bool
 
 // Whether a row with these cells that began then stands first.
 fn is_first(line: &VecDeque<HeldRow>, cells: &[Datum], start: Time) -> bool
-    ensures { result ≡ true → (rest : List HeldRow) × (line.now.items ≡ record { cells = cells.now; start = start } ∷ rest) }
+    ensures { result ≡ true → (rest : List HeldRow)
+        × (line.now.items ≡ row_since cells.now start ∷ rest) }
 {
     match line.front() {
         Some(row) => is_row(row, cells, start),
@@ -52,16 +54,17 @@ fn is_first(line: &VecDeque<HeldRow>, cells: &[Datum], start: Time) -> bool
     }
 }
 
-// Puts a row to the others. Want of memory changes nothing.
+// Puts a row to the others. Running out of memory changes nothing.
 fn put(
     line: &mut VecDeque<HeldRow>,
     found: &mut Synopsis,
     cells: Cells,
     start: Time,
 ) -> Result<(), Memory>
-    ensures ok { OnOk result ((w : HeldRow → ℕ) → total w found.new.rows + total w line.new.items
-        ≡ (total w found.old.rows + total w line.old.items) + w (record { cells = cells; start = start })) }
-    ensures err { OnErr result ((w : HeldRow → ℕ) → total w found.new.rows + total w line.new.items ≡ total w found.old.rows + total w line.old.items) }
+    ensures ok { OnOk result (GainTogether found.old.rows line.old.items
+        found.new.rows line.new.items (row_since cells start)) }
+    ensures err { OnErr result (StayTogether found.old.rows line.old.items
+        found.new.rows line.new.items) }
 {
     if found.len() > 0 {
         found.add(cells, start)?;
@@ -71,9 +74,9 @@ fn put(
     Ok(())
 }
 
-// Brings the rows of the line to those that are found by their cells. Want of memory loses none.
+// Brings the rows of the line to those that are found by their cells. Running out of memory loses none.
 fn find_all(line: &mut VecDeque<HeldRow>, found: &mut Synopsis) -> Result<(), Memory>
-    ensures same { (w : HeldRow → ℕ) → total w found.new.rows + total w line.new.items ≡ total w found.old.rows + total w line.old.items }
+    ensures same { StayTogether found.old.rows line.old.items found.new.rows line.new.items }
     ensures all { OnOk result (line.new.items ≡ []) }
 {
     while let Some(row) = line.front() {
@@ -98,7 +101,7 @@ fn without(count: usize, taken: bool) -> usize
 }
 
 impl RowQueue {
-    /// No rows. Those that are found are found by these key columns.
+    // No rows. Those that are found are found by these key columns.
     pub(crate) fn new(alloc: Global, key: &[usize]) -> Result<RowQueue, Memory>
         ensures { IfOk result (λ l. l.rows ≡ []) }
     {
@@ -110,11 +113,11 @@ impl RowQueue {
         })
     }
 
-    /// Puts in a row. Want of memory changes nothing.
+    // Puts in a row.
     pub(crate) fn add(&mut self, cells: Cells, start: Time) -> Result<(), Memory>
-        ensures { OnOk result ((w : HeldRow → ℕ) → total w self.new.rows ≡ total w self.old.rows + w (record { cells = cells; start = start })) }
+        ensures { OnOk result (Gains self.old.rows self.new.rows (row_since cells start)) }
     {
-        // A count that no longer fits is told as want of memory.
+        // A count that no longer fits is answered as out of memory.
         let Some(count) = self.count.checked_add(1) else {
             return Err(Memory);
         };
@@ -123,10 +126,12 @@ impl RowQueue {
         Ok(())
     }
 
-    /// Takes out a row with these cells that began then, if there is one, and tells whether there was.
+    // Takes out a row with these cells that began then, if there is one, and answers whether there was.
     pub(crate) fn take(&mut self, cells: &[Datum], start: Time) -> Result<bool, Memory>
-        ensures taken { IfOk result (λ taken. taken ≡ true → (w : HeldRow → ℕ) → total w self.old.rows ≡ total w self.new.rows + w (record { cells = cells.now; start = start })) }
-        ensures none { IfOk result (λ taken. taken ≡ false → many (is_held cells.now start) self.old.rows ≡ 0) }
+        ensures taken { IfOk result (λ taken. taken ≡ true →
+            Gains self.new.rows self.old.rows (row_since cells.now start)) }
+        ensures none { IfOk result (λ taken. taken ≡ false →
+            many (is_held cells.now start) self.old.rows ≡ 0) }
         ensures same { IfOk result (λ taken. taken ≡ false → SameBag self.old.rows self.new.rows) }
     {
         if is_first(&self.line, cells, start) {
@@ -140,16 +145,16 @@ impl RowQueue {
         Ok(taken)
     }
 
-    /// How many rows there are.
+    // How many rows there are.
     pub(crate) fn len(&self) -> usize
         ensures { result ≡ length self.now.rows }
     {
         self.count
     }
 
-    /// The rows as starts.
+    // The rows as starts.
     pub(crate) fn starts(&self, alloc: Global) -> Result<Vec<Edge>, Memory>
-        ensures { IfOk result (λ starts. starts.items ≡ map start_of self.now.rows) }
+        ensures { IfOk result (λ starts. starts.items ≡ starts_of self.now.rows) }
     {
         let mut starts = starts_of_rows(alloc, &self.found)?;
         push_line(&mut starts, &self.line)?;

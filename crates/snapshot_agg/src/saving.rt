@@ -1,6 +1,7 @@
 // What a group keeps as lists of edges.
 ghost use Rattle.std.specs.Prelude.{◌≡◌, ◌++◌, map, IfOk, OnOk};
-ghost use Rattle.snapshot_agg.specs.Saving.{start_of};
+ghost use Rattle.sweep_laws.specs.Moves.{start_of};
+ghost use Rattle.sweep_laws.specs.Saving.{starts_of};
 
 use crate::passes::Running;
 use std::alloc::Global;
@@ -21,7 +22,7 @@ fn start_edge(row: &HeldRow) -> Result<Edge, Memory>
 
 // Adds the rows as starts.
 fn push_starts(starts: &mut Vec<Edge>, rows: &[HeldRow]) -> Result<(), Memory>
-    ensures { OnOk result (starts.new.items ≡ starts.old.items ++ map start_of rows.now) }
+    ensures { OnOk result (starts.new.items ≡ starts.old.items ++ starts_of rows.now) }
 {
     for row in rows {
         starts.push(start_edge(row)?)?;
@@ -29,9 +30,9 @@ fn push_starts(starts: &mut Vec<Edge>, rows: &[HeldRow]) -> Result<(), Memory>
     Ok(())
 }
 
-/// The rows as starts.
+// The rows as starts.
 pub(crate) fn starts_of_rows(alloc: Global, rows: &Synopsis) -> Result<Vec<Edge>, Memory>
-    ensures { IfOk result (λ starts. starts.items ≡ map start_of rows.now.rows) }
+    ensures { IfOk result (λ starts. starts.items ≡ starts_of rows.now.rows) }
 {
     let mut starts = Vec::new(alloc);
     for k in 0..rows.block_count() {
@@ -40,9 +41,9 @@ pub(crate) fn starts_of_rows(alloc: Global, rows: &Synopsis) -> Result<Vec<Edge>
     Ok(starts)
 }
 
-/// Adds the rows of a line as starts.
+// Adds the rows of a line as starts.
 pub(crate) fn push_line(starts: &mut Vec<Edge>, line: &VecDeque<HeldRow>) -> Result<(), Memory>
-    ensures { OnOk result (starts.new.items ≡ starts.old.items ++ map start_of line.now.items) }
+    ensures { OnOk result (starts.new.items ≡ starts.old.items ++ starts_of line.now.items) }
 {
     for i in 0..line.len() {
         starts.push(start_edge(&line[i])?)?;
@@ -50,7 +51,7 @@ pub(crate) fn push_line(starts: &mut Vec<Edge>, line: &VecDeque<HeldRow>) -> Res
     Ok(())
 }
 
-/// The rows that are told as starts.
+// The emitted rows as starts.
 pub(crate) fn starts_of_runs(alloc: Global, running: &Running) -> Result<Vec<Edge>, Memory>
     ensures { IfOk result (λ starts. starts.items ≡ map (λ e. start_of e.1) running.now.entries) }
 {

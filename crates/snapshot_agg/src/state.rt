@@ -1,4 +1,5 @@
-// What is kept for one aggregate of the rows of a key.
+// The state of one aggregate over the rows of a key. As in Trill, a snapshot aggregate takes a row in where its lifetime starts
+// and gives it up where it ends. An undefined sum is our profile.
 ghost use Rattle.std.specs.Prelude.{◌≡◌, ℕ, ◌<◌, ◌≤◌, ◌^◌, List, [], ◌∷◌, length, OnOk};
 ghost use Rattle.tw_rows.specs.Bag.{SameBag};
 ghost use Rattle.tw_rows.specs.declared.cells.Datum.{Datum};
@@ -12,7 +13,7 @@ use plan_model::Agg;
 use std::alloc::Global;
 use tw_rows::{Datum, Memory};
 
-/// What is kept for an aggregate, with the column of its ints.
+// The state of an aggregate, with the column of its ints.
 #[derive(Drop)]
 pub(crate) enum State {
     Counted(Count),
@@ -32,7 +33,7 @@ fn int_at(cells: &[Datum], column: usize) -> i64
 }
 
 impl State {
-    /// Of no rows.
+    // The state of no rows.
     pub(crate) fn new(alloc: Global, agg: Agg) -> State
         ensures { IsStateOf result agg [] }
     {
@@ -44,10 +45,12 @@ impl State {
         }
     }
 
-    /// Takes in a row.
+    // Takes in a row.
     pub(crate) fn add(&mut self, cells: &[Datum]) -> Result<(), Memory>
-        requires { (a : Agg) × (rows : List (List Datum)) × IsStateOf self.old a rows × (length rows < 2 ^ 63) }
-        ensures { OnOk result ((a : Agg) (rows : List (List Datum)) → IsStateOf self.old a rows → IsStateOf self.new a (cells.now ∷ rows)) }
+        requires { (a : Agg) × (rows : List (List Datum))
+            × IsStateOf self.old a rows × (length rows < 2 ^ 63) }
+        ensures { OnOk result ((a : Agg) (rows : List (List Datum)) → IsStateOf self.old a rows →
+            IsStateOf self.new a (cells.now ∷ rows)) }
     {
         match self {
             State::Counted(count) => count.add(0),
@@ -57,10 +60,12 @@ impl State {
         }
     }
 
-    /// Gives up a row that is there.
+    // Gives up a row that is there.
     pub(crate) fn remove(&mut self, cells: &[Datum])
-        requires { (a : Agg) × (rows : List (List Datum)) × (rest : List (List Datum)) × IsStateOf self.old a rows × SameBag rows (cells.now ∷ rest) }
-        ensures { (a : Agg) (rows rest : List (List Datum)) → IsStateOf self.old a rows → SameBag rows (cells.now ∷ rest) → IsStateOf self.new a rest }
+        requires { (a : Agg) × (rows : List (List Datum)) × (rest : List (List Datum))
+            × IsStateOf self.old a rows × SameBag rows (cells.now ∷ rest) }
+        ensures { (a : Agg) (rows rest : List (List Datum)) → IsStateOf self.old a rows →
+            SameBag rows (cells.now ∷ rest) → IsStateOf self.new a rest }
     {
         match self {
             State::Counted(count) => count.remove(0),
@@ -70,10 +75,12 @@ impl State {
         }
     }
 
-    /// What the aggregate tells of the rows.
+    // The aggregate of the rows: none where a sum lies outside the ints.
     pub(crate) fn value(&self) -> Option<i64>
-        requires { (a : Agg) × (rows : List (List Datum)) × IsStateOf self.now a rows × (0 < length rows) }
-        ensures { (a : Agg) (rows : List (List Datum)) → IsStateOf self.now a rows → length rows ≤ 2 ^ 62 → result ≡ told_of a rows }
+        requires { (a : Agg) × (rows : List (List Datum))
+            × IsStateOf self.now a rows × (0 < length rows) }
+        ensures { (a : Agg) (rows : List (List Datum)) → IsStateOf self.now a rows →
+            length rows ≤ 2 ^ 62 → result ≡ told_of a rows }
     {
         match self {
             State::Counted(count) => count.value(),

@@ -1,11 +1,14 @@
 // What is kept of the rows of one key.
-ghost use Rattle.std.specs.Prelude.{◌≡◌, ℕ, ◌<◌, ◌≤◌, ◌^◌, ◌||◌, true, List, [], ◌∷◌, length, IfOk, OnOk};
+ghost use Rattle.std.specs.Prelude.{◌≡◌, ℕ, ◌<◌, ◌≤◌, ◌^◌, true, List, [], ◌∷◌, length, IfOk, OnOk};
 ghost use Rattle.std.specs.List.{list_any};
 ghost use Rattle.tw_rows.specs.SameCells.{same_cells};
 ghost use Rattle.tw_rows.specs.Bag.{SameBag};
 ghost use Rattle.tw_rows.specs.declared.cells.Datum.{Datum};
+ghost use Rattle.node_laws.specs.Keeping.{plain_cells};
+ghost use Rattle.plan_model.specs.RowOps.{is_undefined_group_in};
 ghost use Rattle.plan_model.specs.declared.agg.Agg.{Agg};
 ghost use Rattle.snapshot_agg.specs.States.{AreStatesOf, IsTotals, told_row};
+ghost use Rattle.snapshot_agg.specs.Touching.{Touches};
 
 use crate::state::State;
 use plan_model::Agg;
@@ -13,10 +16,10 @@ use smallvec::SmallVec;
 use std::alloc::Global;
 use tw_rows::{Cells, Datum, Memory, same_cells};
 
-/// A group of more rows is undefined.
+// A group of more rows is undefined, by our profile.
 const MOST_ROWS: u64 = 4611686018427387904;
 
-/// The rows of a key: how many there are, and what is kept of them for each aggregate.
+// Of the rows of a key: how many there are, and the state of each aggregate.
 #[derive(Drop)]
 pub(crate) struct Totals {
     count: u64,
@@ -35,9 +38,9 @@ fn stands_at(touched: &[Cells], key: &Cells, place: usize) -> bool
     }
 }
 
-/// Has the key among those that are touched, and tells its place. If it stands at the place that is given, it is there.
+// Puts the key to the touched ones, unless it stands at the place that is given, and answers its place.
 pub(crate) fn touch(touched: &mut Vec<Cells>, key: &Cells, place: usize) -> Result<usize, Memory>
-    ensures { OnOk result ((q : List Datum) → list_any (same_cells q) touched.new.items ≡ (list_any (same_cells q) touched.old.items || same_cells q key.now)) }
+    ensures { OnOk result (Touches touched.old.items touched.new.items key.now) }
 {
     if stands_at(touched, key, place) {
         return Ok(place);
@@ -47,9 +50,12 @@ pub(crate) fn touch(touched: &mut Vec<Cells>, key: &Cells, place: usize) -> Resu
     Ok(next)
 }
 
+// Takes a row into each state.
 fn add_all(states: &mut [State], cells: &[Datum]) -> Result<(), Memory>
-    requires { (aggs : List Agg) × (rows : List (List Datum)) × AreStatesOf states.old aggs rows × (length rows < 2 ^ 63) }
-    ensures { OnOk result ((aggs : List Agg) (rows : List (List Datum)) → AreStatesOf states.old aggs rows → AreStatesOf states.new aggs (cells.now ∷ rows)) }
+    requires { (aggs : List Agg) × (rows : List (List Datum))
+        × AreStatesOf states.old aggs rows × (length rows < 2 ^ 63) }
+    ensures { OnOk result ((aggs : List Agg) (rows : List (List Datum)) →
+        AreStatesOf states.old aggs rows → AreStatesOf states.new aggs (cells.now ∷ rows)) }
 {
     for state in states.iter_mut() {
         state.add(cells)?;
@@ -57,9 +63,13 @@ fn add_all(states: &mut [State], cells: &[Datum]) -> Result<(), Memory>
     Ok(())
 }
 
+// Gives a row up in each state.
 fn remove_all(states: &mut [State], cells: &[Datum])
-    requires { (aggs : List Agg) × (rows : List (List Datum)) × (rest : List (List Datum)) × AreStatesOf states.old aggs rows × SameBag rows (cells.now ∷ rest) }
-    ensures { (aggs : List Agg) (rows rest : List (List Datum)) → AreStatesOf states.old aggs rows → SameBag rows (cells.now ∷ rest) → AreStatesOf states.new aggs rest }
+    requires { (aggs : List Agg) × (rows : List (List Datum)) × (rest : List (List Datum))
+        × AreStatesOf states.old aggs rows × SameBag rows (cells.now ∷ rest) }
+    ensures { (aggs : List Agg) (rows rest : List (List Datum)) →
+        AreStatesOf states.old aggs rows → SameBag rows (cells.now ∷ rest) →
+        AreStatesOf states.new aggs rest }
 {
     for state in states.iter_mut() {
         state.remove(cells);
@@ -67,9 +77,11 @@ fn remove_all(states: &mut [State], cells: &[Datum])
 }
 
 impl Totals {
-    /// Of no rows.
+    ghost use Rattle.snapshot_agg.specs.Totaled.{AreTotalsOf};
+
+    // Of no rows.
     pub(crate) fn new(alloc: Global, aggs: &[Agg]) -> Result<Totals, Memory>
-        ensures { IfOk result (λ t. IsTotals t.count t.states.items aggs.now []) }
+        ensures { IfOk result (λ t. AreTotalsOf t aggs.now []) }
     {
         let mut states = Vec::new(alloc);
         for agg in aggs {
@@ -82,24 +94,25 @@ impl Totals {
         })
     }
 
-    /// How many rows there are.
+    // How many rows there are.
     pub(crate) fn count(&self) -> u64
         ensures { result ≡ self.now.count }
     {
         self.count
     }
 
-    /// Takes in a row of the key, which is touched.
+    // Takes in a row of the key, which is touched.
     pub(crate) fn add(
         &mut self,
         touched: &mut Vec<Cells>,
         key: &Cells,
         cells: &[Datum],
     ) -> Result<(), Memory>
-        requires { (aggs : List Agg) × (rows : List (List Datum)) × IsTotals self.old.count self.old.states.items aggs rows × (length rows < 2 ^ 63) }
-        ensures own { OnOk result ((aggs : List Agg) (rows : List (List Datum)) → IsTotals self.old.count self.old.states.items aggs rows →
-            IsTotals self.new.count self.new.states.items aggs (cells.now ∷ rows)) }
-        ensures touched { OnOk result ((q : List Datum) → list_any (same_cells q) touched.new.items ≡ (list_any (same_cells q) touched.old.items || same_cells q key.now)) }
+        requires { (aggs : List Agg) × (rows : List (List Datum))
+            × AreTotalsOf self.old aggs rows × (length rows < 2 ^ 63) }
+        ensures own { OnOk result ((aggs : List Agg) (rows : List (List Datum)) →
+            AreTotalsOf self.old aggs rows → AreTotalsOf self.new aggs (cells.now ∷ rows)) }
+        ensures touched { OnOk result (Touches touched.old.items touched.new.items key.now) }
     {
         self.place = touch(touched, key, self.place)?;
         self.count += 1;
@@ -107,17 +120,19 @@ impl Totals {
         Ok(())
     }
 
-    /// Gives up a row that is there, of the key, which is touched.
+    // Gives up a row that is there, of the key, which is touched.
     pub(crate) fn remove(
         &mut self,
         touched: &mut Vec<Cells>,
         key: &Cells,
         cells: &[Datum],
     ) -> Result<(), Memory>
-        requires { (aggs : List Agg) × (rows : List (List Datum)) × (rest : List (List Datum)) × IsTotals self.old.count self.old.states.items aggs rows × SameBag rows (cells.now ∷ rest) }
-        ensures own { OnOk result ((aggs : List Agg) (rows rest : List (List Datum)) → IsTotals self.old.count self.old.states.items aggs rows → SameBag rows (cells.now ∷ rest) →
-            IsTotals self.new.count self.new.states.items aggs rest) }
-        ensures touched { OnOk result ((q : List Datum) → list_any (same_cells q) touched.new.items ≡ (list_any (same_cells q) touched.old.items || same_cells q key.now)) }
+        requires { (aggs : List Agg) × (rows : List (List Datum)) × (rest : List (List Datum))
+            × AreTotalsOf self.old aggs rows × SameBag rows (cells.now ∷ rest) }
+        ensures own { OnOk result ((aggs : List Agg) (rows rest : List (List Datum)) →
+            AreTotalsOf self.old aggs rows → SameBag rows (cells.now ∷ rest) →
+            AreTotalsOf self.new aggs rest) }
+        ensures touched { OnOk result (Touches touched.old.items touched.new.items key.now) }
     {
         self.place = touch(touched, key, self.place)?;
         self.count -= 1;
@@ -125,11 +140,31 @@ impl Totals {
         Ok(())
     }
 
-    /// The row of the group, unless it is undefined.
+    // Whether the group is undefined: it has too many rows, or a sum that is no int.
+    pub(crate) fn is_undefined(&self) -> bool
+        requires { (aggs : List Agg) × (rows : List (List Datum))
+            × AreTotalsOf self.now aggs rows × (0 < length rows) }
+        ensures { (aggs : List Agg) (rows : List (List Datum)) → AreTotalsOf self.now aggs rows →
+            result ≡ is_undefined_group_in plain_cells aggs rows }
+    {
+        if self.count > MOST_ROWS {
+            return true;
+        }
+        for state in &self.states {
+            match state.value() {
+                Some(_) => {}
+                None => return true,
+            }
+        }
+        false
+    }
+
+    // The row of the group, unless it is undefined.
     pub(crate) fn row(&self, alloc: Global, key: &[Datum]) -> Result<Option<Cells>, Memory>
-        requires { (aggs : List Agg) × (rows : List (List Datum)) × IsTotals self.now.count self.now.states.items aggs rows × (0 < length rows) }
-        ensures { IfOk result (λ row. (aggs : List Agg) (rows : List (List Datum)) → IsTotals self.now.count self.now.states.items aggs rows →
-            row ≡ told_row aggs key.now rows) }
+        requires { (aggs : List Agg) × (rows : List (List Datum))
+            × AreTotalsOf self.now aggs rows × (0 < length rows) }
+        ensures { IfOk result (λ row. (aggs : List Agg) (rows : List (List Datum)) →
+            AreTotalsOf self.now aggs rows → row ≡ told_row aggs key.now rows) }
     {
         if self.count > MOST_ROWS {
             return Ok(None);

@@ -1,12 +1,13 @@
 // Edges that are not due yet.
-ghost use Rattle.std.specs.Prelude.{◌≡◌, ◌+◌, ◌<◌, ◌≤◌, ◌↔◌, IsTrue, ℕ, List, ◌∷◌, ◌++◌, OnOk, IfOk};
+ghost use Rattle.std.specs.Prelude.{◌≡◌, ◌+◌, ◌<◌, ◌≤◌, ◌↔◌, IsTrue, ℕ, All, map, OnOk, IfOk};
 ghost use Rattle.tw_rows.specs.Bag.{SameBag, total};
+ghost use Rattle.tw_rows.specs.Cells.{datum_kind};
 ghost use Rattle.tw_rows.specs.declared.edge.Edge.{Edge};
-ghost use Rattle.edge_history.specs.Order.{failing, is_below, is_from, Rises};
+ghost use Rattle.edge_history.specs.Order.{failing, is_below, is_from, Rises, KeepsOrder};
 ghost use Rattle.edge_history.specs.Opens.{singles_of, singles};
 ghost use Rattle.edge_stream.specs.Listing.{cells_of};
-ghost use Rattle.snapshot_agg.specs.Answering.{is_stored};
-ghost use Rattle.snapshot_agg.specs.Waiting.{edges_in, WaitForThemselves};
+ghost use Rattle.sweep_sides.specs.Waiting.{queued, AreTimed};
+ghost use Rattle.snapshot_agg.specs.Changing.{GainTogether, StayTogether, TakeTogether};
 
 use crate::queue::Queue;
 use edge_history::{in_order, keeps_order};
@@ -21,11 +22,13 @@ fn is_due(sync: Time, to: Time) -> bool
     sync < to
 }
 
-// Puts an edge to those that are due, or to those that wait.
+// Puts an edge to the due ones, or to the pending ones.
 fn place(due: &mut Vec<Edge>, waiting: &mut Queue, to: Time, edge: Edge) -> Result<(), Memory>
-    ensures parts { OnOk result ((w : Edge → ℕ) → total w due.new.items + total w (edges_in waiting.new) ≡ (total w due.old.items + total w (edges_in waiting.old)) + w edge) }
-    ensures below { OnOk result (failing (is_below to) due.old.items ≡ 0 → failing (is_below to) due.new.items ≡ 0) }
-    ensures own { OnOk result (WaitForThemselves waiting.old → WaitForThemselves waiting.new) }
+    ensures parts { OnOk result (GainTogether due.old.items (queued waiting.old)
+        due.new.items (queued waiting.new) edge) }
+    ensures below { OnOk result (failing (is_below to) due.old.items ≡ 0 →
+        failing (is_below to) due.new.items ≡ 0) }
+    ensures own { OnOk result (AreTimed waiting.old → AreTimed waiting.new) }
 {
     if is_due(edge.sync, to) {
         due.push(edge)?;
@@ -35,17 +38,18 @@ fn place(due: &mut Vec<Edge>, waiting: &mut Queue, to: Time, edge: Edge) -> Resu
     Ok(())
 }
 
-// An interval is a start and an end, which waits even where it is due; each other edge is one of them.
+// An interval is a start and an end, which is pending even where it is due; each other edge is one of them.
 fn place_singles(
     due: &mut Vec<Edge>,
     waiting: &mut Queue,
     to: Time,
     edge: Edge,
 ) -> Result<(), Memory>
-    ensures parts { OnOk result ((w : Edge → ℕ) → total w due.new.items + total w (edges_in waiting.new)
-        ≡ (total w due.old.items + total w (edges_in waiting.old)) + total w (singles_of edge)) }
-    ensures below { OnOk result (failing (is_below to) due.old.items ≡ 0 → failing (is_below to) due.new.items ≡ 0) }
-    ensures own { OnOk result (WaitForThemselves waiting.old → WaitForThemselves waiting.new) }
+    ensures parts { OnOk result (TakeTogether due.old.items (queued waiting.old)
+        due.new.items (queued waiting.new) (singles_of edge)) }
+    ensures below { OnOk result (failing (is_below to) due.old.items ≡ 0 →
+        failing (is_below to) due.new.items ≡ 0) }
+    ensures own { OnOk result (AreTimed waiting.old → AreTimed waiting.new) }
 {
     let infinity = Time::bounds().1;
     if edge.is_end() || edge.other == infinity {
@@ -62,7 +66,8 @@ fn place_singles(
         cells: edge.cells,
     };
     place(due, waiting, to, start)?;
-    waiting.put(end)
+    waiting.put(end)?;
+    Ok(())
 }
 
 // The time behind a sync, or the other if that is less.
@@ -76,8 +81,8 @@ fn up_to(sync: Time, to: Time) -> Time
     to
 }
 
-// Takes out what waits and comes before a start of that sync, unless this was done for the last one, and tells for which it
-// is done now.
+// Takes out what is pending and comes before a start of that sync, unless this was done for the last one, and answers for
+// which it is done now.
 fn pop_before(
     due: &mut Vec<Edge>,
     waiting: &mut Queue,
@@ -85,10 +90,12 @@ fn pop_before(
     last: Time,
     sync: Time,
 ) -> Result<Time, Memory>
-    requires own { WaitForThemselves waiting.old }
-    ensures parts { OnOk result ((w : Edge → ℕ) → total w due.new.items + total w (edges_in waiting.new) ≡ total w due.old.items + total w (edges_in waiting.old)) }
-    ensures below { OnOk result (failing (is_below to) due.old.items ≡ 0 → failing (is_below to) due.new.items ≡ 0) }
-    ensures own { OnOk result (WaitForThemselves waiting.new) }
+    requires own { AreTimed waiting.old }
+    ensures parts { OnOk result (StayTogether due.old.items (queued waiting.old)
+        due.new.items (queued waiting.new)) }
+    ensures below { OnOk result (failing (is_below to) due.old.items ≡ 0 →
+        failing (is_below to) due.new.items ≡ 0) }
+    ensures own { OnOk result (AreTimed waiting.new) }
 {
     if sync <= last {
         return Ok(last);
@@ -110,20 +117,24 @@ fn put_in_order(due: &mut Vec<Edge>) -> Result<(), Memory>
     Ok(())
 }
 
-/// Takes in the starts and the ends of new edges, and takes out what comes below a time, in order.
+// Takes in the starts and the ends of new edges, and takes out what comes below a time, in order.
 pub(crate) fn take_due(
     alloc: Global,
     waiting: &mut Queue,
     new: &EdgeList,
     to: Time,
 ) -> Result<Vec<Edge>, Memory>
-    requires own { WaitForThemselves waiting.old }
-    ensures parts { IfOk result (λ due. (w : Edge → ℕ) → total w due.items + total w (edges_in waiting.new) ≡ total w (edges_in waiting.old) + total w (singles new.now.edges)) }
+    requires own { AreTimed waiting.old }
+    ensures parts { IfOk result (λ due. (w : Edge → ℕ) →
+        total w due.items + total w (queued waiting.new)
+        ≡ total w (queued waiting.old) + total w (singles new.now.edges)) }
     ensures below { IfOk result (λ due. failing (is_below to) due.items ≡ 0) }
-    ensures later { OnOk result (failing (is_from to) (edges_in waiting.new) ≡ 0) }
+    ensures later { OnOk result (failing (is_from to) (queued waiting.new) ≡ 0) }
     ensures order { IfOk result (λ due. Rises 0 due.items) }
-    ensures own { OnOk result (WaitForThemselves waiting.new) }
-    ensures stored { OnOk result (failing (is_stored (cells_of new.now)) (singles new.now.edges) ≡ 0) }
+    ensures own { OnOk result (AreTimed waiting.new) }
+    ensures list { OnOk result (KeepsOrder new.now.edges) }
+    ensures cells { OnOk result (
+        All (λ e. map datum_kind e.cells ≡ cells_of new.now) new.now.edges) }
 {
     let mut last = Time::bounds().0;
     // Most new edges are intervals, which are two edges each.

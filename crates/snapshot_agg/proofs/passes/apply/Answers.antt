@@ -1,6 +1,6 @@
 use Rattle.std.specs.Prelude.{◌≡◌, ◌+◌, ◌-◌, ◌<◌, ℕ, length}
 use Rattle.std.proofs.Common.{◌∙◌, ap, arith}
-use Rattle.snapshot_agg.proofs.Applying.{moved_before, touched_before}
+use Rattle.snapshot_agg.proofs.Applying.{moved_before, fewer_before, touched_before}
 use Rattle.snapshot_agg.proofs.passes.apply.Goals as goal
 
 pub loop-next-preserved : goal.loop-next-preserved
@@ -17,6 +17,8 @@ loop-next-preserved c =
       counted = c.in_ok-apply_one.ensures.counted;
       moved = moved_before c.args.now.now i j x next low c.index-now-next.is c.args.groups.now.rows.rows c.loop-next.groups.rows.rows c.apply_one.new.groups.rows.rows
           c.in_ok-apply_one.ensures.moved c.loop-next.invariant.moved;
+      fewer = fewer_before c.args.now.now i j x next low c.index-now-next.is c.args.groups.now.rows.rows c.loop-next.groups.rows.rows c.apply_one.new.groups.rows.rows
+          c.in_ok-apply_one.ensures.fewer c.loop-next.invariant.fewer;
       touched = touched_before c.args.now.now i j x next low c.index-now-next.is c.args.groups.now.key.items c.loop-next.groups.key.items c.loop-next.groups.touched.items c.apply_one.new.groups.touched.items
           (ap (λ v. v.items) c.loop-next.invariant.same_key) c.in_ok-apply_one.ensures.touched c.loop-next.invariant.touched;
       same_key = c.in_ok-apply_one.ensures.key ∙ c.loop-next.invariant.same_key;

@@ -7,7 +7,8 @@ use Rattle.tw_rows.specs.declared.cells.Datum.{Datum}
 use Rattle.edge_history.specs.Opens.{ended_rows, started_rows}
 use Rattle.sweep_laws.specs.Grouping.{keys_of}
 use Rattle.snapshot_agg.specs.Words.{key_data}
-use Rattle.snapshot_agg.specs.Totaled.{Totaled}
+use Rattle.snapshot_agg.specs.Changing.{TakeAtMost}
+use Rattle.snapshot_agg.specs.Counting.{IsCounted}
 use Rattle.snapshot_agg.proofs.passes.apply.Given as goal
 
 abbrev pub decreases-loop-next : goal.decreases-loop-next
@@ -16,9 +17,10 @@ decreases-loop-next l = l.next
 abbrev pub invariant-loop-next : goal.invariant-loop-next
 invariant-loop-next l = record {
   within : l.next ≤ length l.now;
-  counted : Totaled l.groups.key.items l.groups.aggs.items l.groups.rows.rows l.groups.totals;
+  counted : IsCounted l.groups;
   moved : ((w : HeldRow → ℕ) → total w (ended_rows l.now) ≤ total w l.fn.groups.rows.rows) → (w : HeldRow → ℕ) →
       total w l.groups.rows.rows + total w (ended_rows (drop l.next l.now)) ≡ total w l.fn.groups.rows.rows + total w (started_rows (drop l.next l.now));
+  fewer : TakeAtMost l.fn.groups.rows.rows l.groups.rows.rows (started_rows (drop l.next l.now));
   touched : (q : List Datum) → list_any (same_cells q) l.groups.touched.items ≡ list_any (same_cells q) (keys_of (key_data l.fn.groups.key.items) (drop l.next l.now));
   same_key : l.groups.key ≡ l.fn.groups.key;
   same_aggs : l.groups.aggs ≡ l.fn.groups.aggs;

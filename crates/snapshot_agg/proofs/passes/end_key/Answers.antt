@@ -8,4 +8,4 @@ returns-in-None-clause-run c = rerun c.args.running.now c.args.key.now _ (kept_n
 pub returns-then-has-clause-run : goal.returns-then-has-clause-run
 returns-then-has-clause-run c =
     rerun c.args.running.now c.args.key.now _ (kept_told _ _ c.in-Some.run'.now _ c.in-Some.ensures.value
-    (told_is c.in_ok-told.told _ _ c.in_ok-told.ensures c.requires.fine) (sym c.has.ensures ∙ c.if-has.true))
+    (told_is c.in_ok-row.row _ _ c.in_ok-row.ensures c.requires.fine) (sym c.has.ensures ∙ c.if-has.true))

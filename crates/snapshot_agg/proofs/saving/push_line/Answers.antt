@@ -1,6 +1,6 @@
 use Rattle.std.specs.Prelude.{◌++◌, ◌∷◌, [], map}
 use Rattle.std.proofs.Common.{◌∙◌, ap, arith}
-use Rattle.snapshot_agg.specs.Saving.{start_of}
+use Rattle.sweep_laws.specs.Moves.{start_of}
 use Rattle.snapshot_agg.proofs.Lined.{start_more}
 use Rattle.snapshot_agg.proofs.Lists.{take_past}
 use Rattle.snapshot_agg.proofs.saving.push_line.Goals as goal

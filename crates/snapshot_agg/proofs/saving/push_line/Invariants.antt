@@ -1,5 +1,5 @@
 use Rattle.std.proofs.Common.{◌≡◌, ◌++◌, map, take}
-use Rattle.snapshot_agg.specs.Saving.{start_of}
+use Rattle.sweep_laws.specs.Moves.{start_of}
 use Rattle.snapshot_agg.proofs.saving.push_line.Given as goal
 
 abbrev pub invariant-loop-i : goal.invariant-loop-i

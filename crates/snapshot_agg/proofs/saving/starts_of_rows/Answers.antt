@@ -1,5 +1,5 @@
 use Rattle.std.proofs.Common.{◌∙◌, ◌++◌, map, ap, sym}
-use Rattle.snapshot_agg.specs.Saving.{start_of}
+use Rattle.sweep_laws.specs.Moves.{start_of}
 use Rattle.snapshot_agg.proofs.Reloading.{blocks_next}
 use Rattle.snapshot_agg.proofs.saving.starts_of_rows.Goals as goal
 

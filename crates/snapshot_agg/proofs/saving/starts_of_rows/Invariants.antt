@@ -1,6 +1,6 @@
 use Rattle.std.specs.Prelude.{flat_map}
 use Rattle.std.proofs.Common.{◌≡◌, map, take}
-use Rattle.snapshot_agg.specs.Saving.{start_of}
+use Rattle.sweep_laws.specs.Moves.{start_of}
 use Rattle.snapshot_agg.proofs.saving.starts_of_rows.Given as goal
 
 abbrev pub invariant-loop-k : goal.invariant-loop-k

@@ -1,6 +1,6 @@
 -- The starts of the runs before, and those of the runs that are still to come, are all.
 use Rattle.std.proofs.Common.{◌≡◌, ◌++◌, map}
-use Rattle.snapshot_agg.specs.Saving.{start_of}
+use Rattle.sweep_laws.specs.Moves.{start_of}
 use Rattle.snapshot_agg.proofs.saving.starts_of_runs.Given as goal
 
 abbrev pub invariant-loop-row : goal.invariant-loop-row

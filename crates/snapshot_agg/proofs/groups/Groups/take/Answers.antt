@@ -43,6 +43,9 @@ pub returns-then-taken-clause-taken : goal.returns-then-taken-clause-taken
 returns-then-taken-clause-taken c = λ some w.
     c.in_ok-taken.ensures.taken c.if-taken.true w ∙ ap (λ l. total w c.take.new.self.rows + w (record { cells = l; start = c.args.start })) c.items-2.ensures
 
+pub returns-then-taken-clause-fewer : goal.returns-then-taken-clause-fewer
+returns-then-taken-clause-fewer c = λ w. let z = c.in_ok-taken.ensures.taken c.if-taken.true w in omega (arith, z)
+
 pub returns-then-taken-clause-touched : goal.returns-then-taken-clause-touched
 returns-then-taken-clause-touched c = λ q.
     let g = c.args.self.now in
@@ -60,6 +63,9 @@ returns-clause-taken c = λ some.
     let none = c.in_ok-taken.ensures.none c.if-taken.false in
     let same = ap (λ l. many (is_held l c.args.start) g.rows.rows) c.items-2.ensures in
     absurd (omega (arith, some, none, same))
+
+pub returns-clause-fewer : goal.returns-clause-fewer
+returns-clause-fewer c = λ w. let z = (c.in_ok-taken.ensures.same c.if-taken.false).weigh w in omega (arith, z)
 
 pub returns-clause-touched : goal.returns-clause-touched
 returns-clause-touched c = λ q.

@@ -1,7 +1,7 @@
 use Rattle.std.specs.Prelude.{◌++◌, map}
 use Rattle.std.proofs.Common.{sym, ◌∙◌, ap}
 use Rattle.std.proofs.lemmas.List.{map-append}
-use Rattle.snapshot_agg.specs.Saving.{start_of}
+use Rattle.sweep_laws.specs.Moves.{start_of}
 use Rattle.snapshot_agg.proofs.row_queue.RowQueue.starts.Goals as goal
 
 pub returns : goal.returns

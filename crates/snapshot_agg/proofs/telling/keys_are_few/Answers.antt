@@ -1,7 +1,0 @@
-use Rattle.snapshot_agg.proofs.Few.{few_totals}
-use Rattle.snapshot_agg.proofs.telling.keys_are_few.Goals as goal
-
-pub returns : goal.returns
-returns c =
-    let g = c.args.groups.now in
-    record { keys = few_totals g.key.items g.aggs.items g.rows.rows g.totals c.len.ensures.unique c.requires.counted; once = c.len-2.ensures.unique }
