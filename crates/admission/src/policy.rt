@@ -1,6 +1,7 @@
 // What becomes of late lines, when punctuations are due, and what is answered of a line.
 
-/// What becomes of a line that is late: it ends the run, it is left out, or it takes effect later.
+/// What becomes of a line that is late: it ends the run, it is left out, or it takes effect later. These are Trill's policies of
+/// disorder (throw, drop, adjust).
 #[derive(Clone, Copy, Debug, PartialEq, Eq)]
 pub enum Lateness {
     Refuse,
@@ -9,7 +10,8 @@ pub enum Lateness {
 }
 
 /// How lines are admitted: a line may be older than the newest of its stream by the lateness, and the bounds of the streams
-/// make a punctuation due at each multiple of the period, where it is not 0.
+/// make a punctuation due at each multiple of the period, where it is not 0. The lateness is Trill's reorder latency; that
+/// bounds make punctuations due at a period is our profile.
 #[derive(Clone, Copy, Debug, PartialEq, Eq)]
 pub struct Policy {
     pub lateness: u64,

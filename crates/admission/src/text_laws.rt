@@ -33,7 +33,7 @@ pub fn punctuations_rise()
         ≡ progress plan policy lines false }
 {}
 
-/// Finality: the text of lines is a front of the text of these and more lines, whatever bytes an item has.
+/// Finality: the text of lines is a prefix of the text of these and more lines, whatever bytes an item has.
 pub fn text_is_final()
     ensures { (print : Item → List ℕ) (plan : PlanParts) → IsPlan plan → (policy : Policy)
         (lines more : List Told) (ended : Bool) →

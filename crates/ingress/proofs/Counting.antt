@@ -24,10 +24,9 @@ use Rattle.ingress.specs.declared.opens.OpenStart.{OpenStart}
 use Rattle.ingress.specs.declared.ingress.Ingress.{Ingress}
 use Rattle.ingress.specs.OpenKeys.{same_key, same_key-Decides, starts_if}
 use Rattle.ingress.specs.Held.{IsHeld}
-use Rattle.ingress.specs.Keeping.{CellOpen, kept_of, is_named, first_of, without_first_of, cell_rows}
+use Rattle.ingress.specs.Keeping.{CellOpen, kept_of, is_named, first_of, without_first_of, cell_rows, cell_open, opens_in}
 use Rattle.ingress.specs.Counts.{together, may_hold}
 use Rattle.ingress.specs.Admits.{Follows}
-use Rattle.ingress.specs.Loaded.{cell_open, opens_in}
 use Rattle.ingress.proofs.Keep.{without_named}
 use Rattle.ingress.proofs.Reading.{rows_read}
 

@@ -17,9 +17,11 @@ use Rattle.edge_history.specs.History.{CellEvent}
 use Rattle.edge_history.specs.Balance.{given, taken}
 use Rattle.ingress.specs.declared.opens.OpenKey.{OpenKey}
 use Rattle.ingress.specs.declared.opens.OpenStart.{OpenStart}
-use Rattle.ingress.specs.OpenKeys.{same_key, same_key-Decides}
+use Rattle.ingress.specs.OpenKeys.{same_key, same_key-Decides, starts_in}
 use Rattle.ingress.specs.Held.{IsHeld, start_of, open_row}
-use Rattle.ingress.specs.Keeping.{CellOpen, kept_state, kept_of, is_named, first_of, without_first_of, cell_row, ended_row, row_of_open, cell_rows, more_rows, Keeps, Changed, StillKeeps, HasEnded}
+use Rattle.ingress.specs.Keeping.{CellOpen, kept_state, kept_of, is_named, first_of, without_first_of, cell_row, ended_row, row_of_open, cell_rows, more_rows, Keeps, Changed, HasEndedRow, HasEnded}
+use Rattle.ingress.specs.Changes.{KeepsIn, SameHeld}
+use Rattle.ingress.specs.declared.held_streams.HeldStreams.{HeldStreams}
 use Rattle.ingress.proofs.Holding.{put_held, out_held, start_held, same_held}
 
 -- an edge whose life is a row, and the end of an open row
@@ -424,13 +426,28 @@ head_named key (x ∷ xs) = go (is_named key x) (head_named key xs)
     go true rest = refl
     go false rest = rest
 
--- the edges of a stream that are the same bag, whatever the open starts
-pub still_kept : (w w2 : List (List Edge)) (starts starts2 : OpenKey → List OpenStart) (s : ℕ) → Changed s w w2 → SameBag (get_or w2 s []) (get_or w s []) →
-    ((k : OpenKey) → starts2 k ≡ starts k) → StillKeeps w starts w2 starts2
-still_kept w w2 starts starts2 s changed bag same = λ p made opens out keeps. record {
-  held = all_held p w w2 starts starts2 made made opens opens out keeps s changed (λ k apart. SameBag-refl (cell_rows made opens k))
-      (λ there. same_held p (out s) (get_or w s []) (cell_rows made opens s) (keeps.held s there) (get_or w2 s []) (cell_rows made opens s) bag (SameBag-refl (cell_rows made opens s)));
-  queued = λ k. same k ∙ keeps.queued k;
+-- what is held is the same where the edges of one stream are the same bag, and all others stay
+pub same_if_changed : (old new : HeldStreams) (s : ℕ) → Changed s old.waiting.items new.waiting.items → SameBag (get_or new.waiting.items s []) (get_or old.waiting.items s []) →
+    ((k : OpenKey) → starts_in new.opens.starts k ≡ starts_in old.opens.starts k) → SameHeld old new
+same_if_changed old new s changed bag same = record { edges = λ k. go k (nat_eq k s) refl; starts = same }
+  where
+    go : (k : ℕ) (b : Bool) → nat_eq k s ≡ b → SameBag (get_or new.waiting.items k []) (get_or old.waiting.items k [])
+    go k true e = subst (λ n. SameBag (get_or new.waiting.items n []) (get_or old.waiting.items n [])) (sym (eqb-true k s e)) bag
+    go k false e = same_bag _ _ (changed.others k (λ is. let t = (Decides-eqb k s).1 is in absurd (cc)))
+
+pub unchanged : (old new : HeldStreams) (s : ℕ) → Changed s old.waiting.items new.waiting.items → get_or new.waiting.items s [] ≡ get_or old.waiting.items s [] → new.opens ≡ old.opens → SameHeld old new
+unchanged old new s changed is opens = same_if_changed old new s changed (same_bag _ _ is) (λ k. ap (λ o. starts_in o.starts k) opens)
+
+pub held_itself : (h : HeldStreams) → SameHeld h h
+held_itself h = record { edges = λ s. SameBag-refl (get_or h.waiting.items s []); starts = λ k. refl }
+
+-- so whatever was kept is kept
+pub still_kept : (old new : HeldStreams) → length new.waiting.items ≡ length old.waiting.items → SameHeld old new →
+    (p : ℕ) (made : ℕ → List CellEvent) (opens : List CellOpen) (out : ℕ → List Edge) → KeepsIn p old made opens out → KeepsIn p new made opens out
+still_kept old new long h p made opens out keeps = record {
+  held = λ s there. same_held p (out s) (get_or old.waiting.items s []) (cell_rows made opens s) (keeps.held s (omega (arith, there, long)))
+      (get_or new.waiting.items s []) (cell_rows made opens s) (h.edges s) (SameBag-refl (cell_rows made opens s));
+  queued = λ k. h.starts k ∙ keeps.queued k;
 }
 
 pub changed_again : (s : ℕ) (w w2 w3 : List (List Edge)) → Changed s w w2 → Changed s w2 w3 → Changed s w w3
@@ -446,14 +463,6 @@ put_back cells start before now after false early put out none = absurd (
     let s = same_itself cells in
     let i : cond {A = ℕ} (starts_it cells start (start_of cells start)) 1 0 ≡ 1 = grind (arith, nat_tests) in
     omega (arith, a, z, i))
-
--- what became of the edges of a stream where an open start of these cells ended
-pub record EndedRow (key : OpenKey) (at : ℕ) (old new : List Edge) (st : OpenStart) : Type 0 where
-  pub ends : st.dropped ≡ false → st.start < at → at < inf → SameBag new (record { sync = at; other = st.start; cells = key.cells } ∷ old)
-  pub empty : st.dropped ≡ false → st.start < inf → at ≤ st.start → (many (starts_it key.cells st.start) old ≡ 0 → ⊥) → SameBag (start_of key.cells st.start ∷ new) old
-  pub dropped : st.dropped ≡ true → new ≡ old
-  pub endless : inf ≤ st.start → new ≡ old
-  pub stays : st.start < at → inf ≤ at → new ≡ old
 
 state_or : OpenStart → Option OpenStart → OpenStart
 state_or d None = d
@@ -473,15 +482,15 @@ module _ (key : OpenKey) (at p : ℕ) (w w2 : List (List Edge)) (starts starts2 
 
   module _ (there : key.stream < length w) (changed : Changed key.stream w w2) (high : at ≤ inf) (late : p ≤ at)
       (q : (k : OpenKey) → starts2 k ≡ cond (same_key key k) (drop 1 (starts k)) (starts k)) where
-    one_ended : (o : CellOpen) → first_of (is_named key) opens ≡ Some o → EndedRow key at (get_or w key.stream []) (get_or w2 key.stream []) (kept_of o) →
+    one_ended : (o : CellOpen) → first_of (is_named key) opens ≡ Some o → HasEndedRow key at (get_or w key.stream []) (get_or w2 key.stream []) (kept_of o) →
         Keeps p w2 starts2 (more_rows key.stream (ended_row at o) made) (without_first_of (is_named key) opens) out
     one_ended o found kept_row = go o.state.dropped refl (cases_lt o.state.start at) (cases_lt o.state.start inf) (cases_lt at inf)
       where
         same : o.key ≡ key
         same = first_key key o opens found
 
-        live_row : o.state.dropped ≡ false → EndedRow key at (get_or w key.stream []) (get_or w2 key.stream []) o.state
-        live_row d = subst (EndedRow key at (get_or w key.stream []) (get_or w2 key.stream [])) (kept_live o.key.given o.state d) kept_row
+        live_row : o.state.dropped ≡ false → HasEndedRow key at (get_or w key.stream []) (get_or w2 key.stream []) o.state
+        live_row d = subst (HasEndedRow key at (get_or w key.stream []) (get_or w2 key.stream [])) (kept_live o.key.given o.state d) kept_row
 
         quiet : ended_row at o ≡ ended_row inf o → get_or w2 key.stream [] ≡ get_or w key.stream [] → Keeps p w2 starts2 (more_rows key.stream (ended_row at o) made) (without_first_of (is_named key) opens) out
         quiet e is = quiet_end_comes p w w2 starts starts2 made (more_rows key.stream (ended_row at o) made) opens (without_first_of (is_named key) opens) out keeps key.stream changed
@@ -502,14 +511,14 @@ module _ (key : OpenKey) (at p : ℕ) (w w2 : List (List Edge)) (starts starts2 
             ((live_row d).empty d early more (open_start_waits p w starts made opens out keeps key o found there d early (omega (arith, late, more)))))
         go false d (inr more) (inr endless) c = quiet (no_row at o (inr more) ∙ sym (no_row inf o (inr endless))) ((live_row d).endless endless)
 
-    pub some_ended : (st : OpenStart) → Some st ≡ slice_get (starts key) 0 → EndedRow key at (get_or w key.stream []) (get_or w2 key.stream []) st →
+    pub some_ended : (st : OpenStart) → Some st ≡ slice_get (starts key) 0 → HasEndedRow key at (get_or w key.stream []) (get_or w2 key.stream []) st →
         HasEnded key at p w2 starts2 made opens out (Some st) (first_of (is_named key) opens)
     unfolding state_or
     some_ended st first row = go (first_of (is_named key) opens) refl (first ∙ head_is)
       where
         go : (x : Option CellOpen) → first_of (is_named key) opens ≡ x → Some st ≡ option_map kept_of x → HasEnded key at p w2 starts2 made opens out (Some st) x
         go None f e = absurd (cc)
-        go (Some o) f e = (e, one_ended o f (subst (EndedRow key at (get_or w key.stream []) (get_or w2 key.stream [])) (ap (state_or st) e) row))
+        go (Some o) f e = (e, one_ended o f (subst (HasEndedRow key at (get_or w key.stream []) (get_or w2 key.stream [])) (ap (state_or st) e) row))
 
 pub as_start : (x y : List Edge) (cells copy : List Datum) (start other : ℕ) → other ≡ inf → copy ≡ cells →
     SameBag x (record { sync = start; other = other; cells = copy } ∷ y) → SameBag x (start_of cells start ∷ y)

@@ -1,5 +1,5 @@
 -- What is kept after a line, and what admission says of it.
-use Rattle.std.specs.Prelude.{◌≡◌, ℕ, ◌-◌, ◌<◌, ◌≤◌, max, nat_eq, nat_lt, Bool, true, false, cond, ◌&&◌, Option, Some, None, option_map, All, List, [], ◌∷◌, ◌++◌, length, get_or, map, refl}
+use Rattle.std.specs.Prelude.{◌≡◌, ℕ, ◌-◌, ◌<◌, ◌≤◌, max, nat_eq, nat_lt, Bool, true, false, cond, ◌&&◌, Option, Some, None, option_map, All, List, [], ◌∷◌, ◌++◌, length, get_or, map, filter, refl}
 use Rattle.std.proofs.Common.{sym, ◌∙◌, ap, subst, arith}
 use Rattle.std.proofs.lemmas.Bool.{eqb-true}
 use Rattle.std.proofs.lemmas.List.{map-append}
@@ -26,10 +26,11 @@ use Rattle.admission.specs.Admission.{Admission, Open, raised, more_of, closes_o
 use Rattle.admission.specs.Answers.{became_closed, event_answer, answer}
 use Rattle.admission.specs.declared.policy.Admitted.{Admitted}
 use Rattle.admission.specs.declared.policy.Policy.{Policy}
-use Rattle.ingress.specs.Admits.{cells_of, read_open, IsStored, Follows, Admits}
+use Rattle.ingress.specs.Admits.{cells_of, read_open, IsStored, IsTaken, Follows, Admits}
 use Rattle.ingress.specs.Entering.{key_of, HasClosed, HasEntered}
 use Rattle.ingress.specs.Fits.{row_cells, AreFit, HasShape}
-use Rattle.ingress.specs.Keeping.{CellOpen, is_named, first_of, without_first_of, ended_row, more_rows, Keeps}
+use Rattle.ingress.specs.Changes.{NamesStart}
+use Rattle.ingress.specs.Keeping.{CellOpen, kept_of, is_named, first_of, without_first_of, ended_row, more_rows, Keeps}
 use Rattle.ingress.specs.OpenKeys.{starts_in}
 use Rattle.ingress.specs.declared.opens.OpenKey.{OpenKey}
 use Rattle.ingress.specs.declared.opens.OpenStart.{OpenStart}
@@ -434,3 +435,33 @@ event_unmatched policy texts distinct given a old k line cells placed own reads 
           ∙ line_unmatched policy a line.stream line.form line.sync line.other (read_cells texts cells) line.at line.dropped n.passes n.at_is n.dropped_is r.0,
       r.1,
     )
+
+-- an end line that names an open start, or another event line, is taken
+found_first : (key : OpenKey) (xs : List CellOpen) → 0 < length (map kept_of (filter (is_named key) xs)) → (o : CellOpen) × (first_of (is_named key) xs ≡ Some o)
+found_first key [] some = absurd (omega (arith, some))
+found_first key (x ∷ xs) some = go (is_named key x) (found_first key xs) some
+  where
+    go : (b : Bool) → (0 < length (map kept_of (filter (is_named key) xs)) → (o : CellOpen) × (first_of (is_named key) xs ≡ Some o)) →
+        0 < length (map kept_of (cond b (x ∷ filter (is_named key) xs) (filter (is_named key) xs))) → (o : CellOpen) × (cond b (Some x) (first_of (is_named key) xs) ≡ Some o)
+    go true rest h = (x, refl)
+    go false rest h = rest h
+
+module _ (texts : List (List ℕ)) (distinct : AreDistinct texts) (given : ℕ → List Edge) (a : Admission) (old : Ingress) (f : Follows texts a given old)
+    (line : EventLine) (cells : List Datum) (placed : ArePlaced texts cells) (low : line.stream < length old.kinds.items) (own_kinds : map datum_kind cells ≡ get_or (cells_of old) line.stream []) where
+  entered : (form : Form) → NamesStart form line cells old.held → (b : Admission) × (enter a line.stream form line.sync line.other (read_cells texts cells) line.at line.dropped ≡ Taken b)
+  entered Interval named = (_, refl)
+  entered Start named = (_, refl)
+  entered End named =
+      let key = key_of line.stream line.other cells in
+      let m = found_first key f.opens (subst (λ l. 0 < length l) (f.keeps.queued key) named) in (
+        _,
+        ap (closed line.stream line.at (closes_open line.stream (read_cells texts cells) line.other) a)
+            (first_same texts distinct given a old f old.held.waiting.items (starts_in old.held.opens.starts) line cells placed low own_kinds ∙ ap (option_map (read_open texts)) m.1),
+      )
+
+pub event_wanted : (policy : Policy) (texts : List (List ℕ)) → AreDistinct texts → (given : ℕ → List Edge) (a : Admission) (old : Ingress) (k : Admits texts a given old) (line : EventLine) (cells : List Datum) →
+    ArePlaced texts cells → line.stream < length old.kinds.items → row_cells (read_cells texts cells) ≡ get_or (cells_of old) line.stream [] → Known policy a line → NamesStart line.form line cells old.held →
+    IsTaken (admit policy a (Event line.stream line.form line.sync line.other (read_cells texts cells)))
+event_wanted policy texts distinct given a old k line cells placed low fits n named =
+    let e = entered texts distinct given a old k.follows line cells placed low (cells_kinds texts cells ∙ fits) line.form named in
+    subst IsTaken (sym (admit_entered policy a line.stream line.form line.sync line.other (read_cells texts cells) line.at line.dropped n.passes n.at_is n.dropped_is (Taken e.0) e.1)) tt

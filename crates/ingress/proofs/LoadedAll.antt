@@ -1,5 +1,5 @@
 -- What is taken up of entries, one by one, and all of it.
-use Rattle.std.specs.Prelude.{◌≡◌, ◌≢◌, ℕ, ◌*◌, ◌<◌, ◌≤◌, ◌⊎◌, nat_eq, Bool, true, false, ◌&&◌, cond, All, List, [], ◌∷◌, ◌++◌, length, get_or, map, filter, refl}
+use Rattle.std.specs.Prelude.{◌≡◌, ◌≢◌, ℕ, ◌*◌, ◌<◌, ◌≤◌, ◌⊎◌, nat_eq, Bool, true, false, ◌&&◌, cond, All, Vec, List, [], ◌∷◌, ◌++◌, length, get_or, map, filter, refl}
 use Rattle.std.proofs.Common.{sym, ◌∙◌, ap, subst, arith, inl, inr}
 use Rattle.std.proofs.lemmas.Bool.{eqb-true, cases_lt}
 use Rattle.std.specs.declared.result.Result.{Result}
@@ -20,6 +20,7 @@ use Rattle.edge_history.specs.Order.{failing}
 use Rattle.edge_stream.specs.declared.saved.SavedEntry.{SavedEntry}
 use Rattle.carried_edges.specs.Entries.{saved_edge}
 use Rattle.carried_edges.proofs.Parts.{part_of_append}
+use Rattle.row_reader.specs.Printed.{IsEnd}
 use Rattle.admission.specs.Admission.{Admission}
 use Rattle.ingress.specs.declared.opens.OpenKey.{OpenKey}
 use Rattle.ingress.specs.declared.opens.OpenStart.{OpenStart}
@@ -32,7 +33,7 @@ use Rattle.ingress.specs.Keeping.{CellOpen, is_named, cell_rows, Changed}
 use Rattle.ingress.specs.Streams.{unraised, bound_in, mark_in, AreAbove}
 use Rattle.ingress.specs.Admits.{cells_of, IsStored, Admits}
 use Rattle.ingress.specs.Saving.{stream_of, role_of, waiting_of, open_at, open_of, opens_of, IsSoundEntry, Resumes}
-use Rattle.ingress.specs.Loaded.{Loads}
+use Rattle.ingress.specs.Loaded.{Loads, AreSoundMarks, IsState, cells_of_kinds}
 use Rattle.ingress.proofs.Fitting.{kinds_stored, put_fits}
 use Rattle.ingress.proofs.Holding.{same_held}
 use Rattle.ingress.proofs.Keep.{named_more, other_number}
@@ -218,3 +219,27 @@ module _ (old : Ingress) (saved : List SavedEntry) (bounds marks : ℕ → ℕ) 
 
       out_cells : (s : ℕ) → length new.kinds.items ≤ s → length (cells_of old) ≤ s
       out_cells s past = (let e = ap (λ k. length k.items) kinds in let n = counted in omega (arith, e, n, past))
+
+-- a state, part by part
+pub state_of : (cells : List (List CellKind)) (saved : List SavedEntry) (bounds marks : List ℕ) (last : ℕ) → length bounds ≡ length cells → IsEnd last → AreSoundMarks last bounds marks →
+    All (IsSoundEntry cells last) saved → IsState cells saved bounds marks last
+state_of cells saved bounds marks last long time each all = record {
+  time = time;
+  bound_times = λ s less. (each s (omega (arith, less, long))).0;
+  mark_times = λ s less. (each s (omega (arith, less, long))).1;
+  low = λ s less. (each s (omega (arith, less, long))).2;
+  above = λ s less. (each s (omega (arith, less, long))).3;
+  each = all;
+}
+
+pub marks_of : (cells : List (List CellKind)) (saved : List SavedEntry) (bounds marks : List ℕ) (last : ℕ) → length bounds ≡ length cells → IsState cells saved bounds marks last →
+    IsEnd last × AreSoundMarks last bounds marks
+marks_of cells saved bounds marks last long h = (
+  h.time,
+  λ s less.
+      let l : s < length cells = omega (arith, less, long) in
+      (h.bound_times s l, h.mark_times s l, h.low s l, h.above s l),
+)
+
+pub kinds_long : {S : Type 0} (kinds : List (Vec Kind S)) → length (cells_of_kinds kinds) ≡ length kinds
+kinds_long kinds = length-map (map (λ k. k.items) kinds) (λ k. map cell_kind_of k) ∙ length-map kinds (λ k. k.items)

@@ -1,11 +1,13 @@
 -- The open starts in a map, where those of one key are set.
-use Rattle.std.specs.Prelude.{◌≡◌, Bool, true, false, cond, Option, Some, None, List, [], ◌∷◌, ◌++◌, length, drop, refl}
+use Rattle.std.specs.Prelude.{◌≡◌, ◌<◌, nat_eq, Bool, true, false, cond, Option, Some, None, List, [], ◌∷◌, ◌++◌, length, drop, refl}
 use Rattle.std.specs.declared.collections.VecDeque.{VecDeque}
-use Rattle.std.proofs.Common.{sym, ◌∙◌, ap, arith}
+use Rattle.std.proofs.Common.{sym, ◌∙◌, ap, subst, arith}
+use Rattle.std.proofs.lemmas.Bool.Decides.{nat_tests}
+use Rattle.std.proofs.lemmas.List.{length-append}
 use Rattle.indexmap.specs.IndexMap.{IndexMap, get}
 use Rattle.ingress.specs.declared.opens.OpenKey.{OpenKey}
 use Rattle.ingress.specs.declared.opens.OpenStart.{OpenStart}
-use Rattle.ingress.specs.OpenKeys.{same_key, same_key-Decides, starts_if, starts_in}
+use Rattle.ingress.specs.OpenKeys.{same_key, same_key-Decides, starts_if, starts_in, names_none, NoneIsEmpty}
 
 pub none_left : (xs : List OpenStart) → length xs ≡ 0 → xs ≡ []
 none_left [] e = refl
@@ -69,3 +71,34 @@ module _ {S T : Type 0} (m n : IndexMap OpenKey (VecDeque OpenStart S) T) (k : O
   new_starts x d d2 none empty e m2 same set = set_starts (λ l. l ++ x ∷ []) (Some d2)
       (λ q. set q ∙ ap (λ z. cond (same_key k q) (Some d2) (get same_key z q)) same)
       (e ∙ ap (λ l. l ++ x ∷ []) (empty ∙ sym (ap starts_if none)))
+
+  -- no key is empty still, where this one is not or is gone
+  pub some_set : NoneIsEmpty m → (o : Option (VecDeque OpenStart S)) → names_none o ≡ false → ((q : OpenKey) → get same_key n q ≡ cond (same_key k q) o (get same_key m q)) → NoneIsEmpty n
+  some_set h o some set q = ap names_none (set q) ∙ pick (same_key k q)
+    where
+      pick : (b : Bool) → names_none (cond b o (get same_key m q)) ≡ false
+      pick true = some
+      pick false = h q
+
+  -- the starts of a key that the map has
+  pub some_there : NoneIsEmpty m → (d : VecDeque OpenStart S) → Some d ≡ get same_key m k → 0 < length d.items
+  some_there h d found = let e : nat_eq (length d.items) 0 ≡ false = ap names_none found ∙ h k in grind (arith, nat_tests)
+
+pub some_long : {S : Type 0} (d : VecDeque OpenStart S) → 0 < length d.items → names_none (Some d) ≡ false
+some_long d some = grind (arith, nat_tests)
+
+-- a map that is the same
+pub some_same : {S T : Type 0} (m n : IndexMap OpenKey (VecDeque OpenStart S) T) → NoneIsEmpty m → n ≡ m → NoneIsEmpty n
+some_same m n h e = subst NoneIsEmpty (sym e) h
+
+pub some_pushed : (xs ys : List OpenStart) (x : OpenStart) → ys ≡ xs ++ x ∷ [] → 0 < length ys
+some_pushed xs ys x e = omega (arith, ap length e, length-append xs (x ∷ []))
+
+-- a map that lets a key go from one where it was set
+pub some_gone : {S T : Type 0} (m n n2 : IndexMap OpenKey (VecDeque OpenStart S) T) (k : OpenKey) (o : Option (VecDeque OpenStart S)) → NoneIsEmpty m →
+    ((q : OpenKey) → get same_key n q ≡ cond (same_key k q) o (get same_key m q)) → ((q : OpenKey) → get same_key n2 q ≡ cond (same_key k q) None (get same_key n q)) → NoneIsEmpty n2
+some_gone m n n2 k o h set gone = some_set m n2 k h None refl (λ q. gone q ∙ pick q (same_key k q) refl)
+  where
+    pick : (q : OpenKey) (b : Bool) → same_key k q ≡ b → cond b None (get same_key n q) ≡ cond b None (get same_key m q)
+    pick q true e = refl
+    pick q false e = set q ∙ ap (λ b. cond b o (get same_key m q)) e

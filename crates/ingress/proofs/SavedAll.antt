@@ -25,12 +25,12 @@ use Rattle.ingress.specs.declared.ingress.Ingress.{Ingress}
 use Rattle.ingress.specs.OpenKeys.{same_key, same_key-Decides, starts_if, starts_in}
 use Rattle.ingress.specs.Fits.{are_stored, is_fit}
 use Rattle.ingress.specs.Held.{IsHeld}
-use Rattle.ingress.specs.Keeping.{CellOpen, kept_of, is_named, cell_rows}
+use Rattle.ingress.specs.Keeping.{CellOpen, kept_of, is_named, cell_rows, cell_open, opens_in}
 use Rattle.ingress.specs.Counts.{may_hold}
 use Rattle.ingress.specs.Admits.{cells_of, IsStored, Follows, Admits}
 use Rattle.ingress.specs.Times.{IsTimed}
 use Rattle.ingress.specs.Saving.{stream_of, waiting_of, open_at, open_of, opens_of, IsSoundEntry, IsSound, Resumes}
-use Rattle.ingress.specs.Loaded.{cell_open, opens_in, entry_of_open, waits_from}
+use Rattle.ingress.specs.Loaded.{entry_of_open, waits_from}
 use Rattle.ingress.proofs.Fitting.{stored_kinds, none_fails_at}
 use Rattle.ingress.proofs.Keep.{other_number}
 use Rattle.ingress.proofs.Timed.{end_if}
@@ -177,9 +177,10 @@ module _ (texts : List (List ℕ)) (a : Admission) (given : ℕ → List Edge) (
   counted = length-map (map (λ k. k.items) i.kinds.items) (λ k. map cell_kind_of k) ∙ length-map i.kinds.items (λ k. k.items)
 
   module _ (f : Follows texts a given i) where
-    pub saved_resumes : (bounds marks : ℕ → ℕ) → ((s : ℕ) → s < length i.kinds.items → a.bound s ≡ bounds s) → ((s : ℕ) → s < length i.kinds.items → a.mark s ≡ marks s) →
+    pub saved_resumes : (bounds marks : ℕ → ℕ) → IsSound (cells_of i) saved bounds marks i.released → ((s : ℕ) → s < length i.kinds.items → a.bound s ≡ bounds s) → ((s : ℕ) → s < length i.kinds.items → a.mark s ≡ marks s) →
         Resumes (cells_of i) saved bounds marks i.released texts a given
-    saved_resumes bounds marks same_bounds same_marks = record {
+    saved_resumes bounds marks sound same_bounds same_marks = record {
+      sound = sound;
       same_bounds = λ s less. same_bounds s (let n = counted in omega (arith, n, less));
       same_marks = λ s less. same_marks s (let n = counted in omega (arith, n, less));
       made = f.made;

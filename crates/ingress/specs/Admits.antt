@@ -1,8 +1,8 @@
 -- What the code keeps of the lines that were admitted.
-use Rattle.std.specs.Prelude.{◌≡◌, ℕ, zero, suc, ◌<◌, ◌≤◌, All, List, [], ◌∷◌, ◌++◌, length, get_or, map, filter}
+use Rattle.std.specs.Prelude.{◌≡◌, ℕ, zero, suc, ◌<◌, ◌≤◌, All, List, [], ◌∷◌, ◌++◌, length, get_or, map, take, filter, Result, Ok, Err}
 use Rattle.tw_rows.specs.Instant.{inf}
 use Rattle.tw_rows.specs.Bag.{SameBag}
-use Rattle.tw_rows.specs.Cells.{ArePlaced, read_cells, datum_kind}
+use Rattle.tw_rows.specs.Cells.{ArePlaced, read_cells, datum_kind, with_row}
 use Rattle.tw_rows.specs.Kinds.{cell_kind_of}
 use Rattle.tw_rows.specs.declared.edge.Edge.{Edge}
 use Rattle.tw_rows.specs.declared.kind.Kind.{Kind}
@@ -13,9 +13,15 @@ use Rattle.edge_history.specs.History.{CellEvent}
 use Rattle.edge_stream.specs.Listing.{EdgeListView}
 use Rattle.node_laws.specs.Places.{read_events, EventsArePlaced}
 use Rattle.admission.specs.declared.policy.Policy.{Policy}
-use Rattle.admission.specs.Admission.{Admission, Open, Outcome, WasLate, Unmatched}
+use Rattle.row_reader.specs.Interned.{row_read}
+use Rattle.row_reader.specs.declared.entry.Entry.{Entry}
+use Rattle.row_reader.specs.declared.entry.Entry.TheVariants.{Skip, Punct, Event}
+use Rattle.admission.specs.Admission.{Admission, Open, Outcome, Taken, WasLate, Unmatched, admit}
+use Rattle.admission.specs.Answers.{answer}
+use Rattle.admission.specs.declared.policy.Admitted.{Admitted}
 use Rattle.ingress.specs.OpenKeys.{starts_in}
 use Rattle.ingress.specs.Keeping.{CellOpen, Keeps}
+use Rattle.ingress.specs.Changes.{SameHeld}
 use Rattle.ingress.specs.Streams.{bound_in, mark_in}
 use Rattle.ingress.specs.Fits.{stream_kinds, stream_cells}
 use Rattle.ingress.specs.declared.ingress.Ingress.{Ingress}
@@ -101,8 +107,57 @@ pub record Admits (texts : List (List ℕ)) (a : Admission) (given : ℕ → Lis
   pub follows : Follows texts a given i
   pub low : (s : ℕ) → s < length i.kinds.items → i.released ≤ a.bound s
 
--- why an entry was refused, by what became of it. For want of memory nothing is said
+-- why an entry was refused, by what became of it. Where there was no memory nothing is said
 abbrev pub Refuses : Outcome → Refusal → Type 0
 Refuses o (Late time bound) = o ≡ WasLate time bound
 Refuses o NoStart = o ≡ Unmatched
 Refuses o Memory = Unit {0}
+
+-- whatever lines are followed: with the table, with what they gave and with the edges given so far
+abbrev pub WhateverFollowed : Ingress → (List (List ℕ) → Admission → (ℕ → List Edge) → Type 0) → Type 0
+WhateverFollowed i P = (texts : List (List ℕ)) (a : Admission) (given : ℕ → List Edge) → Follows texts a given i → P texts a given
+
+-- the same lines can be followed as before, in a table that may have grown
+abbrev pub StillAdmits : List (List ℕ) → List (List ℕ) → Ingress → Ingress → Type 0
+StillAdmits before after old new = (a : Admission) (given : ℕ → List Edge) → Admits before a given old → Admits after a given new
+
+-- the entry was taken, and this was answered
+abbrev pub Takes : List (List ℕ) → List (List ℕ) → Entry → Ingress → Ingress → Admitted → Type 0
+Takes before after e old new x = (a : Admission) (given : ℕ → List Edge) → Admits before a given old →
+    (b : Admission) × ((admit old.policy a e ≡ Taken b) × Admits after b given new × (x ≡ answer old.policy a e))
+
+-- the entry was refused, for this cause
+abbrev pub IsRefused : List (List ℕ) → Entry → Ingress → Refusal → Type 0
+IsRefused texts e old refusal = (a : Admission) (given : ℕ → List Edge) → Admits texts a given old → Refuses (admit old.policy a e) refusal
+
+-- an event line that is neither late and refused nor an end without a start
+abbrev pub IsTaken : Outcome → Type 0
+IsTaken (Taken after) = Unit {0}
+IsTaken (WasLate time bound) = ⊥
+IsTaken Unmatched = ⊥
+
+abbrev pub IsTakenEvent : Policy → Admission → Entry → Type 0
+IsTakenEvent policy a Skip = ⊥
+IsTakenEvent policy a (Punct stream time) = ⊥
+IsTakenEvent policy a (Event s form sync other row) = IsTaken (admit policy a (Event s form sync other row))
+
+-- memory is taken for such a line alone: a late line is never told as one for which there was no memory
+abbrev pub WantsMemory : List (List ℕ) → Entry → Ingress → Type 0
+WantsMemory texts e old = (a : Admission) (given : ℕ → List Edge) → Admits texts a given old → IsTakenEvent old.policy a e
+
+-- what a refusal leaves: all as it was; where there was no memory, the edges that wait may stand in another order
+abbrev pub IsLeft : Refusal → Ingress → Ingress → Type 0
+IsLeft (Late time bound) old new = (new.held ≡ old.held) × (new.watermarks ≡ old.watermarks)
+IsLeft NoStart old new = (new.held ≡ old.held) × (new.watermarks ≡ old.watermarks)
+IsLeft Memory old new = SameHeld old.held new.held × (new.watermarks ≡ old.watermarks)
+
+-- the texts of the entry's row are in the table, whatever became of the entry; where there was no memory, those of its first values
+abbrev pub LeavesTexts : List (List ℕ) → List (List ℕ) → Result Admitted Refusal → Entry → Type 0
+LeavesTexts old new (Err Memory) e = (n : ℕ) × (new ≡ with_row old (take n (row_read (Ok e))))
+LeavesTexts old new (Ok x) e = new ≡ with_row old (row_read (Ok e))
+LeavesTexts old new (Err (Late time bound)) e = new ≡ with_row old (row_read (Ok e))
+LeavesTexts old new (Err NoStart) e = new ≡ with_row old (row_read (Ok e))
+
+-- the bounds and the marks of the declared streams are these
+abbrev pub AreMarksOf : Ingress → Admission → (ℕ → ℕ) → (ℕ → ℕ) → Type 0
+AreMarksOf i a bounds marks = (s : ℕ) → s < length i.kinds.items → (a.bound s ≡ bounds s) × (a.mark s ≡ marks s)

@@ -1,19 +1,29 @@
 -- What is kept of all streams between two lines: open starts by their cells, and the edges held.
-use Rattle.std.specs.Prelude.{◌≡◌, ◌≢◌, ℕ, ◌<◌, nat_eq, Bool, cond, Option, Some, None, List, [], ◌∷◌, ◌++◌, length, get_or, map, filter, flat_map}
+use Rattle.std.specs.Prelude.{◌≡◌, ◌≢◌, ℕ, ◌<◌, ◌≤◌, nat_eq, Bool, true, false, cond, Option, Some, None, List, [], ◌∷◌, ◌++◌, length, get_or, map, filter, flat_map}
+use Rattle.std.specs.declared.collections.VecDeque.{VecDeque}
 use Rattle.tw_rows.specs.Instant.{inf}
+use Rattle.tw_rows.specs.Bag.{SameBag}
 use Rattle.tw_rows.specs.declared.cells.Datum.{Datum}
 use Rattle.tw_rows.specs.declared.edge.Edge.{Edge}
 use Rattle.key_nodes.specs.Joins.{with_life}
 use Rattle.edge_history.specs.History.{CellEvent}
+use Rattle.edge_history.specs.Order.{many, starts_it}
 use Rattle.ingress.specs.declared.opens.OpenKey.{OpenKey}
 use Rattle.ingress.specs.declared.opens.OpenStart.{OpenStart}
 use Rattle.ingress.specs.OpenKeys.{same_key}
-use Rattle.ingress.specs.Held.{IsHeld}
+use Rattle.ingress.specs.Held.{IsHeld, start_of}
 
 -- an open start, by what its end line names, and what is in use of it
 pub record CellOpen : Type 0 where
   pub key : OpenKey
   pub state : OpenStart
+
+abbrev pub cell_open : OpenKey → OpenStart → CellOpen
+cell_open k st = record { key = k; state = st }
+
+-- the open starts of a map, key by key
+abbrev pub opens_in : {S : Type 0} → List (OpenKey × VecDeque OpenStart S) → List CellOpen
+opens_in es = flat_map (λ e. map (cell_open e.0) e.1.items) es
 
 -- what is in use of an open start that was given at that time, as it is kept: of one that was dropped the start is of no
 -- use, and the given one stands for it. A start at 4 that was late by a bound of 10 is kept at 10, or at 4 where it was dropped
@@ -67,13 +77,19 @@ pub record Changed (s : ℕ) (before after : List (List Edge)) : Type 0 where
   pub long : length after ≡ length before
   pub others : (k : ℕ) → k ≢ s → get_or after k [] ≡ get_or before k []
 
--- whatever was kept is kept
-abbrev pub StillKeeps : List (List Edge) → (OpenKey → List OpenStart) → List (List Edge) → (OpenKey → List OpenStart) → Type 0
-StillKeeps waiting starts waiting' starts' = (p : ℕ) (made : ℕ → List CellEvent) (opens : List CellOpen) (given : ℕ → List Edge) →
-    Keeps p waiting starts made opens given → Keeps p waiting' starts' made opens given
+-- what became of the edges of its stream where an open start ended: an end edge came, or the start edge went where no instant is
+-- left; and the edges stay where the start was dropped, where it never starts, and where the end is at infinity
+pub record HasEndedRow (key : OpenKey) (at : ℕ) (old new : List Edge) (st : OpenStart) : Type 0 where
+  pub ends : st.dropped ≡ false → st.start < at → at < inf → SameBag new (record { sync = at; other = st.start; cells = key.cells } ∷ old)
+  pub empty : st.dropped ≡ false → st.start < inf → at ≤ st.start → (many (starts_it key.cells st.start) old ≡ 0 → ⊥) →
+      SameBag (start_of key.cells st.start ∷ new) old
+  pub dropped : st.dropped ≡ true → new ≡ old
+  pub endless : inf ≤ st.start → new ≡ old
+  pub stays : st.start < at → inf ≤ at → new ≡ old
 
 -- where the key names no open start, nothing is answered and all stays; and else the first one is answered, and has ended
-abbrev pub HasEnded : OpenKey → ℕ → ℕ → List (List Edge) → (OpenKey → List OpenStart) → (ℕ → List CellEvent) → List CellOpen → (ℕ → List Edge) →
+abbrev pub HasEnded : OpenKey → ℕ → ℕ → List (List Edge) → (OpenKey → List OpenStart) → (ℕ → List CellEvent) → List CellOpen →
+    (ℕ → List Edge) →
     Option OpenStart → Option CellOpen → Type 0
 HasEnded key at p waiting starts made opens given answer None = (answer ≡ None) × Keeps p waiting starts made opens given
 HasEnded key at p waiting starts made opens given answer (Some o) =

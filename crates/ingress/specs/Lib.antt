@@ -1,4 +1,5 @@
--- Callers read Fits, Times, Saving, Admits and what it stands on (Streams, Held, Keeping, OpenKeys); Ranks and Entering are cited by private contracts alone.
+-- Callers read Fits, Times, Saving, Admits and what it stands on (Streams, Held, Keeping, OpenKeys); Ranks, Entering, Changes and Loaded are cited by
+-- contracts of this crate alone.
 pub mod Streams
 pub mod Held
 pub mod Keeping
@@ -6,6 +7,7 @@ pub mod OpenKeys
 pub mod Ranks
 pub mod Fits
 pub mod Entering
+pub mod Changes
 pub mod Admits
 pub mod Counts
 pub mod Times

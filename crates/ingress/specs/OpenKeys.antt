@@ -1,5 +1,5 @@
 -- Open starts in a map by what end lines name.
-use Rattle.std.specs.Prelude.{◌≡◌, nat_eq, Bool, true, ◌&&◌, Option, Some, None, List, []}
+use Rattle.std.specs.Prelude.{◌≡◌, nat_eq, Bool, true, false, ◌&&◌, Option, Some, None, List, [], length}
 use Rattle.std.specs.Bool.{Decides}
 use Rattle.std.specs.declared.collections.VecDeque.{VecDeque}
 use Rattle.std.proofs.Common.{ap, ◌∙◌}
@@ -39,3 +39,12 @@ starts_if (Some d) = d.items
 -- the open starts that a key names, in the order of their lines; none where the map does not have the key
 abbrev pub starts_in : {S T : Type 0} → IndexMap OpenKey (VecDeque OpenStart S) T → OpenKey → List OpenStart
 starts_in opens k = starts_if (get same_key opens k)
+
+-- a key stands in the map, and names no open start
+abbrev pub names_none : {S : Type 0} → Option (VecDeque OpenStart S) → Bool
+names_none None = false
+names_none (Some d) = nat_eq (length d.items) 0
+
+-- no key does: that of an ended start does not stay
+abbrev pub NoneIsEmpty : {S T : Type 0} → IndexMap OpenKey (VecDeque OpenStart S) T → Type 0
+NoneIsEmpty opens = (k : OpenKey) → names_none (get same_key opens k) ≡ false

@@ -61,9 +61,11 @@ pub record IsSound (cells : List (List CellKind)) (saved : List SavedEntry) (bou
   pub above : (s : ℕ) → s < length cells → marks s ≤ bounds s
   pub each : All (IsSoundEntry cells last) saved
 
--- such entries, bounds and marks are what is kept of the lines that were admitted, which gave `a`, and of the edges given so far,
+-- such a state is what is kept of the lines that were admitted, which gave `a`, and of the edges given so far,
 -- with places in the table: the edges of each stream follow its rows, and each key finds the open starts that it names
-pub record Resumes (cells : List (List CellKind)) (saved : List SavedEntry) (bounds marks : ℕ → ℕ) (last : ℕ) (texts : List (List ℕ)) (a : Admission) (given : ℕ → List Edge) : Type 0 where
+pub record Resumes (cells : List (List CellKind)) (saved : List SavedEntry) (bounds marks : ℕ → ℕ) (last : ℕ)
+    (texts : List (List ℕ)) (a : Admission) (given : ℕ → List Edge) : Type 0 where
+  pub sound : IsSound cells saved bounds marks last
   pub same_bounds : (s : ℕ) → s < length cells → a.bound s ≡ bounds s
   pub same_marks : (s : ℕ) → s < length cells → a.mark s ≡ marks s
   pub made : ℕ → List CellEvent

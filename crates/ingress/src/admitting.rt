@@ -1,18 +1,19 @@
 // Lines that are admitted, one by one.
-ghost use Rattle.std.specs.Prelude.{◌≡◌, ℕ, ◌+◌, ◌-◌, ◌^◌, min, ◌<◌, ◌≤◌, ◌&&◌, nat_lt, List, [], length, get_or, map, IfSome, IfOk, IfErr, OnErr, MatchOption};
+ghost use Rattle.std.specs.Prelude.{◌≡◌, ℕ, ◌+◌, ◌-◌, ◌^◌, min, ◌<◌, ◌≤◌, ◌&&◌, nat_lt, List, [], length, get_or, map, take, Ok, Err, IfSome, IfOk, IfErr, OnOk, OnErr, MatchOption};
 ghost use Rattle.tw_rows.specs.Bag.{total};
-ghost use Rattle.tw_rows.specs.Cells.{ArePlaced, read_cells};
+ghost use Rattle.tw_rows.specs.Instant.{inf};
+ghost use Rattle.tw_rows.specs.Cells.{ArePlaced, read_cells, with_row};
 ghost use Rattle.tw_rows.specs.Texts.{BeginsWith};
 ghost use Rattle.tw_rows.specs.declared.edge.Edge.{Edge};
 ghost use Rattle.tw_rows.specs.declared.schema.StreamDef.{StreamDef};
 ghost use Rattle.plan_model.specs.IsPlan.{AreNarrow};
 ghost use Rattle.admission.specs.Admission.{Admission, nothing, Taken, admit as admitted, allowed, refuses, drops};
-ghost use Rattle.admission.specs.Answers.{answer as answer_of};
 ghost use Rattle.row_reader.specs.Celled.{entry_in, IsPlacedIn};
+ghost use Rattle.row_reader.specs.Interned.{row_read};
 ghost use Rattle.row_reader.specs.declared.entry.Entry.TheVariants as entries;
 ghost use Rattle.ingress.specs.Fits.{Fits, plain, row_cells};
 ghost use Rattle.ingress.specs.Counts.{may_hold};
-ghost use Rattle.ingress.specs.Admits.{cells_of, IsFor, SameFixed, Follows, Admits, Refuses};
+ghost use Rattle.ingress.specs.Admits.{cells_of, IsFor, SameFixed, Admits, WhateverFollowed, StillAdmits, Takes, IsRefused, WantsMemory, IsLeft, LeavesTexts};
 
 use crate::entering::EventLine;
 use crate::held_streams::{HeldStreams, is_before};
@@ -76,6 +77,8 @@ fn reduced(t: Time, by: u64) -> Time
 fn cells_of_entry(alloc: Global, entry: Entry, texts: &mut TextTable) -> Result<CellEntry, Memory>
     ensures same { IfOk result (λ cells. entry_in texts.new cells ≡ entry) }
     ensures placed { IfOk result (λ cells. IsPlacedIn texts.new cells) }
+    ensures table { OnOk result (texts.new ≡ with_row texts.old (row_read (Ok entry))) }
+    ensures err { OnErr result ((n : ℕ) × (texts.new ≡ with_row texts.old (take n (row_read (Ok entry))))) }
     ensures begins { BeginsWith texts.new texts.old }
 {
     match entry {
@@ -129,14 +132,15 @@ impl Ingress {
         })
     }
 
-    /// One line more. What it gives is held; want of memory changes nothing but the table of texts.
+    /// One line more. What it gives is held. The texts of its row are in the table then, also where it is dropped or refused; but
+    /// for them a refusal changes nothing.
     pub fn admit(&mut self, entry: Entry, texts: &mut TextTable) -> Result<Admitted, Refusal>
         requires { Fits (cells_of self.old) entry }
-        ensures ok { IfOk result (λ answer. (a : Admission) (given : ℕ → List Edge) → Admits texts.old a given self.old →
-            (b : Admission) × ((admitted self.old.policy a entry ≡ Taken b) × Admits texts.new b given self.new × (answer ≡ answer_of self.old.policy a entry))) }
-        ensures refused { IfErr result (λ refusal. (a : Admission) (given : ℕ → List Edge) → Admits texts.old a given self.old →
-            Refuses (admitted self.old.policy a entry) refusal) }
-        ensures err { OnErr result ((a : Admission) (given : ℕ → List Edge) → Admits texts.old a given self.old → Admits texts.new a given self.new) }
+        ensures ok { IfOk result (Takes texts.old texts.new entry self.old self.new) }
+        ensures refused { IfErr result (IsRefused texts.old entry self.old) }
+        ensures left { IfErr result (λ refusal. IsLeft refusal self.old self.new) }
+        ensures err { OnErr result (StillAdmits texts.old texts.new self.old self.new) }
+        ensures texts { LeavesTexts texts.old texts.new result entry }
         ensures begins { BeginsWith texts.new texts.old }
         ensures fixed { SameFixed self.old self.new }
         ensures released { self.new.released ≡ self.old.released }
@@ -148,16 +152,15 @@ impl Ingress {
         self.admit_cells(cells, texts)
     }
 
-    /// One line more, whose values are cells: what is admitted is the entry that they stand for. Want of memory changes nothing.
+    /// One line more, whose values are cells: what is admitted is the entry that they stand for. A refusal changes nothing.
     pub fn admit_cells(&mut self, entry: CellEntry, texts: &TextTable) -> Result<Admitted, Refusal>
         requires placed { IsPlacedIn texts.now entry }
         requires fits { Fits (cells_of self.old) (entry_in texts.now entry) }
-        ensures ok { IfOk result (λ answer. (a : Admission) (given : ℕ → List Edge) → Admits texts.now a given self.old →
-            (b : Admission) × ((admitted self.old.policy a (entry_in texts.now entry) ≡ Taken b) × Admits texts.now b given self.new
-            × (answer ≡ answer_of self.old.policy a (entry_in texts.now entry)))) }
-        ensures refused { IfErr result (λ refusal. (a : Admission) (given : ℕ → List Edge) → Admits texts.now a given self.old →
-            Refuses (admitted self.old.policy a (entry_in texts.now entry)) refusal) }
-        ensures err { OnErr result ((a : Admission) (given : ℕ → List Edge) → Admits texts.now a given self.old → Admits texts.now a given self.new) }
+        ensures ok { IfOk result (Takes texts.now texts.now (entry_in texts.now entry) self.old self.new) }
+        ensures refused { IfErr result (IsRefused texts.now (entry_in texts.now entry) self.old) }
+        ensures memory { result ≡ Err Refusal.Memory → WantsMemory texts.now (entry_in texts.now entry) self.old }
+        ensures left { IfErr result (λ refusal. IsLeft refusal self.old self.new) }
+        ensures err { OnErr result (StillAdmits texts.now texts.now self.old self.new) }
         ensures fixed { SameFixed self.old self.new }
         ensures released { self.new.released ≡ self.old.released }
     {
@@ -204,12 +207,14 @@ impl Ingress {
         requires placed { ArePlaced texts.now cells }
         requires stream { stream < length self.old.kinds.items }
         requires cells { row_cells (read_cells texts.now cells) ≡ get_or (cells_of self.old) stream [] }
-        ensures ok { IfOk result (λ answer. (a : Admission) (given : ℕ → List Edge) → Admits texts.now a given self.old →
-            (b : Admission) × ((admitted self.old.policy a (entries.Event stream form sync other (read_cells texts.now cells)) ≡ Taken b) × Admits texts.now b given self.new
-            × (answer ≡ answer_of self.old.policy a (entries.Event stream form sync other (read_cells texts.now cells))))) }
-        ensures refused { IfErr result (λ refusal. (a : Admission) (given : ℕ → List Edge) → Admits texts.now a given self.old →
-            Refuses (admitted self.old.policy a (entries.Event stream form sync other (read_cells texts.now cells))) refusal) }
-        ensures err { OnErr result ((a : Admission) (given : ℕ → List Edge) → Admits texts.now a given self.old → Admits texts.now a given self.new) }
+        ensures ok { IfOk result (Takes texts.now texts.now
+            (entries.Event stream form sync other (read_cells texts.now cells)) self.old self.new) }
+        ensures refused { IfErr result (IsRefused texts.now
+            (entries.Event stream form sync other (read_cells texts.now cells)) self.old) }
+        ensures memory { result ≡ Err Refusal.Memory → WantsMemory texts.now
+            (entries.Event stream form sync other (read_cells texts.now cells)) self.old }
+        ensures left { IfErr result (λ refusal. IsLeft refusal self.old self.new) }
+        ensures err { OnErr result (StillAdmits texts.now texts.now self.old self.new) }
         ensures fixed { SameFixed self.old self.new }
         ensures released { self.new.released ≡ self.old.released }
     {
@@ -240,11 +245,11 @@ impl Ingress {
 
     /// The punctuation that is due: the greatest that the bounds and marks allow, where it is above the last one.
     pub fn due(&self) -> Option<Time>
-        ensures { MatchOption result
-            ((texts : List (List ℕ)) (a : Admission) (given : ℕ → List Edge) → Follows texts a given self.now →
-            allowed self.now.policy (length self.now.kinds.items) a ≤ self.now.released)
-            (λ p. (texts : List (List ℕ)) (a : Admission) (given : ℕ → List Edge) → Follows texts a given self.now →
-            (allowed self.now.policy (length self.now.kinds.items) a ≡ p) × (self.now.released < p)) }
+        ensures allowed { MatchOption result
+            (WhateverFollowed self.now (λ texts a given. allowed self.now.policy (length self.now.kinds.items) a ≤ self.now.released))
+            (λ p. WhateverFollowed self.now (λ texts a given.
+            (allowed self.now.policy (length self.now.kinds.items) a ≡ p) × (self.now.released < p))) }
+        ensures later { IfSome result (λ p. (self.now.released < p) × (p ≤ inf)) }
     {
         let allowed = self.watermarks.allowed(self.policy);
         if is_before(self.released, allowed) {
@@ -257,7 +262,7 @@ impl Ingress {
     /// Below the bound a line of the stream is late.
     pub fn bound(&self, stream: usize) -> Time
         requires { stream < length self.now.kinds.items }
-        ensures { (texts : List (List ℕ)) (a : Admission) (given : ℕ → List Edge) → Follows texts a given self.now → result ≡ a.bound stream }
+        ensures { WhateverFollowed self.now (λ texts a given. result ≡ a.bound stream) }
     {
         self.watermarks.bound(stream)
     }
@@ -265,7 +270,7 @@ impl Ingress {
     /// Up to the mark punctuations close the stream.
     pub fn mark(&self, stream: usize) -> Time
         requires { stream < length self.now.kinds.items }
-        ensures { (texts : List (List ℕ)) (a : Admission) (given : ℕ → List Edge) → Follows texts a given self.now → result ≡ a.mark stream }
+        ensures { WhateverFollowed self.now (λ texts a given. result ≡ a.mark stream) }
     {
         self.watermarks.mark(stream)
     }
@@ -273,10 +278,10 @@ impl Ingress {
     /// How many edges wait and how many starts are open, dropped ones too, or the greatest number where there are more. It
     /// goes through them.
     pub fn held(&self) -> u64
-        ensures count { (texts : List (List ℕ)) (a : Admission) (given : ℕ → List Edge) → Follows texts a given self.now →
-            result ≡ min (length a.opens + total (λ l. length l) self.now.held.waiting.items) (2 ^ 64 - 1) }
-        ensures bound { (texts : List (List ℕ)) (a : Admission) (given : ℕ → List Edge) → Follows texts a given self.now →
-            result ≤ may_hold (length self.now.kinds.items) self.now.released a }
+        ensures count { WhateverFollowed self.now (λ texts a given.
+            result ≡ min (length a.opens + total (λ l. length l) self.now.held.waiting.items) (2 ^ 64 - 1)) }
+        ensures bound { WhateverFollowed self.now (λ texts a given.
+            result ≤ may_hold (length self.now.kinds.items) self.now.released a) }
     {
         self.held.held()
     }

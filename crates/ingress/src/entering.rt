@@ -1,18 +1,11 @@
 // Event lines in cells.
-ghost use Rattle.std.specs.Prelude.{◌≡◌, ℕ, ◌<◌, ◌≤◌, List, [], length, get_or, map, IfOk, OnErr};
-ghost use Rattle.tw_rows.specs.Instant.{inf};
+ghost use Rattle.std.specs.Prelude.{◌≡◌, ◌<◌, None, length, IfOk, OnErr};
 ghost use Rattle.tw_rows.specs.Rows.{Row};
-ghost use Rattle.tw_rows.specs.Cells.{datum_kind};
-ghost use Rattle.tw_rows.specs.declared.edge.Edge.{Edge};
-ghost use Rattle.tw_rows.specs.declared.kind.CellKind.{CellKind};
 ghost use Rattle.key_nodes.specs.Joins.{with_life};
-ghost use Rattle.edge_history.specs.History.{CellEvent};
 ghost use Rattle.line_text.specs.declared.form.Form.TheVariants as forms;
 ghost use Rattle.admission.specs.Answers.{became as became_of};
-ghost use Rattle.ingress.specs.Entering.{HasEntered};
-ghost use Rattle.ingress.specs.Fits.{AreFit};
-ghost use Rattle.ingress.specs.Keeping.{CellOpen, kept_state, Keeps, StillKeeps};
-ghost use Rattle.ingress.specs.OpenKeys.{starts_in};
+ghost use Rattle.ingress.specs.Keeping.{kept_state};
+ghost use Rattle.ingress.specs.Changes.{SameHeld, Enters, StaysFit, NamesStart};
 
 use crate::held_streams::{HeldStreams, infinity, is_before};
 use crate::opens::{OpenKey, OpenStart};
@@ -56,15 +49,15 @@ fn open_state(line: &EventLine) -> OpenStart
 
 impl HeldStreams {
     /// What a line that takes effect at the bound of its stream or later gives is held. None where it ends an event that did
-    /// not start.
+    /// not start: nothing changes then.
     pub fn enter(&mut self, line: &EventLine, cells: Cells) -> Result<Option<Admitted>, Memory>
         requires { line.now.stream < length self.old.waiting.items }
-        ensures ok { IfOk result (λ answer. (p : ℕ) (made : ℕ → List CellEvent) (opens : List CellOpen) (given : ℕ → List Edge) → p ≤ line.now.at →
-            Keeps p self.old.waiting.items (starts_in self.old.opens.starts) made opens given →
-            HasEntered line.now.form line.now cells p self.new.waiting.items (starts_in self.new.opens.starts) made opens given answer) }
-        ensures err { OnErr result (StillKeeps self.old.waiting.items (starts_in self.old.opens.starts) self.new.waiting.items (starts_in self.new.opens.starts)) }
+        ensures ok { IfOk result (Enters line.now.form line.now cells self.old self.new) }
+        ensures none { IfOk result (λ answer. answer ≡ None → self.new ≡ self.old) }
+        ensures err { OnErr result (SameHeld self.old self.new) }
+        ensures named { OnErr result (NamesStart line.now.form line.now cells self.old) }
         ensures len { length self.new.waiting.items ≡ length self.old.waiting.items }
-        ensures fit { (kinds : List (List CellKind)) → AreFit kinds self.old.waiting.items → map datum_kind cells ≡ get_or kinds line.now.stream [] → AreFit kinds self.new.waiting.items }
+        ensures fit { StaysFit line.now.stream cells self.old self.new }
     {
         match line.form {
             Form::Interval => self.enter_interval(line, cells),
@@ -75,12 +68,12 @@ impl HeldStreams {
 
     fn enter_interval(&mut self, line: &EventLine, cells: Cells) -> Result<Option<Admitted>, Memory>
         requires { line.now.stream < length self.old.waiting.items }
-        ensures ok { IfOk result (λ answer. (p : ℕ) (made : ℕ → List CellEvent) (opens : List CellOpen) (given : ℕ → List Edge) → p ≤ line.now.at →
-            Keeps p self.old.waiting.items (starts_in self.old.opens.starts) made opens given →
-            HasEntered forms.Interval line.now cells p self.new.waiting.items (starts_in self.new.opens.starts) made opens given answer) }
-        ensures err { OnErr result (StillKeeps self.old.waiting.items (starts_in self.old.opens.starts) self.new.waiting.items (starts_in self.new.opens.starts)) }
+        ensures ok { IfOk result (Enters forms.Interval line.now cells self.old self.new) }
+        ensures none { IfOk result (λ answer. answer ≡ None → self.new ≡ self.old) }
+        ensures err { OnErr result (SameHeld self.old self.new) }
+        ensures named { OnErr result (NamesStart forms.Interval line.now cells self.old) }
         ensures len { length self.new.waiting.items ≡ length self.old.waiting.items }
-        ensures fit { (kinds : List (List CellKind)) → AreFit kinds self.old.waiting.items → map datum_kind cells ≡ get_or kinds line.now.stream [] → AreFit kinds self.new.waiting.items }
+        ensures fit { StaysFit line.now.stream cells self.old self.new }
     {
         if line.dropped {
             return Ok(Some(Admitted::Dropped));
@@ -91,12 +84,12 @@ impl HeldStreams {
 
     fn enter_start(&mut self, line: &EventLine, cells: Cells) -> Result<Option<Admitted>, Memory>
         requires { line.now.stream < length self.old.waiting.items }
-        ensures ok { IfOk result (λ answer. (p : ℕ) (made : ℕ → List CellEvent) (opens : List CellOpen) (given : ℕ → List Edge) → p ≤ line.now.at →
-            Keeps p self.old.waiting.items (starts_in self.old.opens.starts) made opens given →
-            HasEntered forms.Start line.now cells p self.new.waiting.items (starts_in self.new.opens.starts) made opens given answer) }
-        ensures err { OnErr result (StillKeeps self.old.waiting.items (starts_in self.old.opens.starts) self.new.waiting.items (starts_in self.new.opens.starts)) }
+        ensures ok { IfOk result (Enters forms.Start line.now cells self.old self.new) }
+        ensures none { IfOk result (λ answer. answer ≡ None → self.new ≡ self.old) }
+        ensures err { OnErr result (SameHeld self.old self.new) }
+        ensures named { OnErr result (NamesStart forms.Start line.now cells self.old) }
         ensures len { length self.new.waiting.items ≡ length self.old.waiting.items }
-        ensures fit { (kinds : List (List CellKind)) → AreFit kinds self.old.waiting.items → map datum_kind cells ≡ get_or kinds line.now.stream [] → AreFit kinds self.new.waiting.items }
+        ensures fit { StaysFit line.now.stream cells self.old self.new }
     {
         let key = OpenKey {
             stream: line.stream,
@@ -109,12 +102,12 @@ impl HeldStreams {
 
     fn enter_end(&mut self, line: &EventLine, cells: Cells) -> Result<Option<Admitted>, Memory>
         requires { line.now.stream < length self.old.waiting.items }
-        ensures ok { IfOk result (λ answer. (p : ℕ) (made : ℕ → List CellEvent) (opens : List CellOpen) (given : ℕ → List Edge) → p ≤ line.now.at →
-            Keeps p self.old.waiting.items (starts_in self.old.opens.starts) made opens given →
-            HasEntered forms.End line.now cells p self.new.waiting.items (starts_in self.new.opens.starts) made opens given answer) }
-        ensures err { OnErr result (StillKeeps self.old.waiting.items (starts_in self.old.opens.starts) self.new.waiting.items (starts_in self.new.opens.starts)) }
+        ensures ok { IfOk result (Enters forms.End line.now cells self.old self.new) }
+        ensures none { IfOk result (λ answer. answer ≡ None → self.new ≡ self.old) }
+        ensures err { OnErr result (SameHeld self.old self.new) }
+        ensures named { OnErr result (NamesStart forms.End line.now cells self.old) }
         ensures len { length self.new.waiting.items ≡ length self.old.waiting.items }
-        ensures fit { (kinds : List (List CellKind)) → AreFit kinds self.old.waiting.items → map datum_kind cells ≡ get_or kinds line.now.stream [] → AreFit kinds self.new.waiting.items }
+        ensures fit { StaysFit line.now.stream cells self.old self.new }
     {
         let key = OpenKey {
             stream: line.stream,

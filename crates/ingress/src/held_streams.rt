@@ -1,20 +1,14 @@
 // What is held of all streams: the edges that wait for a punctuation, and the open starts.
-ghost use Rattle.std.specs.Prelude.{◌≡◌, ℕ, ◌+◌, ◌-◌, ◌^◌, ◌<◌, ◌≤◌, ◌↔◌, min, IsTrue, true, false, List, [], ◌∷◌, ◌++◌, length, get_or, map, filter, Some, IfOk, OnOk, OnErr};
+ghost use Rattle.std.specs.Prelude.{◌≡◌, ℕ, ◌+◌, ◌-◌, ◌^◌, ◌<◌, ◌≤◌, ◌↔◌, min, IsTrue, false, [], ◌∷◌, length, get_or, filter, None, IfOk, OnOk, OnErr};
 ghost use Rattle.tw_rows.specs.Instant.{inf};
 ghost use Rattle.tw_rows.specs.Bag.{total, SameBag};
 ghost use Rattle.indexmap.specs.IndexMap.{IsUnique};
 ghost use Rattle.tw_rows.specs.declared.edge.Edge.{Edge};
-ghost use Rattle.tw_rows.specs.Cells.{datum_kind};
-ghost use Rattle.tw_rows.specs.declared.kind.CellKind.{CellKind};
 ghost use Rattle.edge_history.specs.Order.{many, starts_it, is_from};
-ghost use Rattle.edge_history.specs.History.{CellEvent};
 ghost use Rattle.ingress.specs.Held.{start_of};
-ghost use Rattle.key_nodes.specs.Joins.{with_life};
 ghost use Rattle.ingress.specs.OpenKeys.{same_key, starts_in};
-ghost use Rattle.ingress.specs.Loaded.{opens_in};
-ghost use Rattle.ingress.specs.declared.opens.OpenStart.{OpenStart as Opened};
-ghost use Rattle.ingress.specs.Fits.{AreFit};
-ghost use Rattle.ingress.specs.Keeping.{CellOpen, kept_state, Keeps, StillKeeps, Changed, HasEnded, more_rows, first_of, is_named};
+ghost use Rattle.ingress.specs.Keeping.{Changed, HasEndedRow, opens_in};
+ghost use Rattle.ingress.specs.Changes.{KeepsIn, SameHeld, AddsRow, AddsStart, EndsStart, StaysFit};
 
 use crate::opens::{OpenKey, OpenStart, OpenStarts};
 use crate::waiting::Waiting;
@@ -52,7 +46,7 @@ fn is_live(state: &OpenStart) -> bool
 impl HeldStreams {
     /// Nothing, for so many streams.
     pub fn new(alloc: Global, streams: usize) -> Result<HeldStreams, Memory>
-        ensures keeps { IfOk result (λ h. Keeps 0 h.waiting.items (starts_in h.opens.starts) (λ s. []) [] (λ s. [])) }
+        ensures keeps { IfOk result (λ h. KeepsIn 0 h (λ s. []) [] (λ s. [])) }
         ensures len { IfOk result (λ h. length h.waiting.items ≡ streams) }
         ensures empty { IfOk result (λ h. (s : ℕ) → get_or h.waiting.items s [] ≡ []) }
     {
@@ -119,7 +113,8 @@ impl HeldStreams {
     fn take_out(&mut self, stream: usize, cells: &Cells, start: Time) -> bool
         requires { stream < length self.old.waiting.items }
         ensures changed { Changed stream self.old.waiting.items self.new.waiting.items }
-        ensures taken { IsTrue result → SameBag (start_of cells.now start ∷ get_or self.new.waiting.items stream []) (get_or self.old.waiting.items stream []) }
+        ensures taken { IsTrue result →
+            SameBag (start_of cells.now start ∷ get_or self.new.waiting.items stream []) (get_or self.old.waiting.items stream []) }
         ensures none { result ≡ false → many (starts_it cells.now start) (get_or self.old.waiting.items stream []) ≡ 0 }
         ensures opens { self.new.opens ≡ self.old.opens }
         ensures kept { result ≡ false → get_or self.new.waiting.items stream [] ≡ get_or self.old.waiting.items stream [] }
@@ -136,12 +131,10 @@ impl HeldStreams {
         end: Time,
     ) -> Result<(), Memory>
         requires { stream < length self.old.waiting.items }
-        ensures ok { OnOk result ((p : ℕ) (made : ℕ → List CellEvent) (opens : List CellOpen) (given : ℕ → List Edge) → p ≤ start →
-            Keeps p self.old.waiting.items (starts_in self.old.opens.starts) made opens given →
-            Keeps p self.new.waiting.items (starts_in self.new.opens.starts) (more_rows stream (with_life cells start end) made) opens given) }
-        ensures err { OnErr result (StillKeeps self.old.waiting.items (starts_in self.old.opens.starts) self.new.waiting.items (starts_in self.new.opens.starts)) }
+        ensures ok { OnOk result (AddsRow stream cells start end self.old self.new) }
+        ensures err { OnErr result (SameHeld self.old self.new) }
         ensures len { length self.new.waiting.items ≡ length self.old.waiting.items }
-        ensures fit { (kinds : List (List CellKind)) → AreFit kinds self.old.waiting.items → map datum_kind cells ≡ get_or kinds stream [] → AreFit kinds self.new.waiting.items }
+        ensures fit { StaysFit stream cells self.old self.new }
     {
         if is_before(start, end) {
             let edge = Edge {
@@ -158,12 +151,10 @@ impl HeldStreams {
     /// One more open start. It starts at the bound of its stream or later.
     pub fn open_start(&mut self, key: OpenKey, state: OpenStart) -> Result<(), Memory>
         requires { key.stream < length self.old.waiting.items }
-        ensures ok { OnOk result ((st : Opened) (p : ℕ) (made : ℕ → List CellEvent) (opens : List CellOpen) (given : ℕ → List Edge) → kept_state key.given st ≡ state → p ≤ st.start →
-            Keeps p self.old.waiting.items (starts_in self.old.opens.starts) made opens given →
-            Keeps p self.new.waiting.items (starts_in self.new.opens.starts) made (opens ++ record { key = key; state = st } ∷ []) given) }
-        ensures err { OnErr result (StillKeeps self.old.waiting.items (starts_in self.old.opens.starts) self.new.waiting.items (starts_in self.new.opens.starts)) }
+        ensures ok { OnOk result (AddsStart key state self.old self.new) }
+        ensures err { OnErr result (SameHeld self.old self.new) }
         ensures len { length self.new.waiting.items ≡ length self.old.waiting.items }
-        ensures fit { (kinds : List (List CellKind)) → AreFit kinds self.old.waiting.items → map datum_kind key.cells ≡ get_or kinds key.stream [] → AreFit kinds self.new.waiting.items }
+        ensures fit { StaysFit key.stream key.cells self.old self.new }
     {
         if !is_live(&state) {
             self.opens.open(key, state)?;
@@ -189,15 +180,12 @@ impl HeldStreams {
     fn end_row(&mut self, key: &OpenKey, state: &OpenStart, at: Time) -> Result<(), Memory>
         requires { key.now.stream < length self.old.waiting.items }
         ensures changed { Changed key.now.stream self.old.waiting.items self.new.waiting.items }
-        ensures ends { OnOk result (state.now.dropped ≡ false → state.now.start < at → at < inf → SameBag (get_or self.new.waiting.items key.now.stream []) (record { sync = at; other = state.now.start; cells = key.now.cells } ∷ get_or self.old.waiting.items key.now.stream [])) }
-        ensures empty { OnOk result (state.now.dropped ≡ false → state.now.start < inf → at ≤ state.now.start → (many (starts_it key.now.cells state.now.start) (get_or self.old.waiting.items key.now.stream []) ≡ 0 → ⊥) → SameBag (start_of key.now.cells state.now.start ∷ get_or self.new.waiting.items key.now.stream []) (get_or self.old.waiting.items key.now.stream [])) }
-        ensures dropped { OnOk result (state.now.dropped ≡ true → get_or self.new.waiting.items key.now.stream [] ≡ get_or self.old.waiting.items key.now.stream []) }
-        ensures endless { OnOk result (inf ≤ state.now.start → get_or self.new.waiting.items key.now.stream [] ≡ get_or self.old.waiting.items key.now.stream []) }
-        ensures stays { OnOk result (state.now.start < at → inf ≤ at → get_or self.new.waiting.items key.now.stream [] ≡ get_or self.old.waiting.items key.now.stream []) }
+        ensures ended { OnOk result (HasEndedRow key.now at
+            (get_or self.old.waiting.items key.now.stream []) (get_or self.new.waiting.items key.now.stream []) state.now) }
         ensures err { OnErr result (get_or self.new.waiting.items key.now.stream [] ≡ get_or self.old.waiting.items key.now.stream []) }
         ensures opens { self.new.opens ≡ self.old.opens }
         ensures within { at ≤ inf }
-        ensures fit { (kinds : List (List CellKind)) → AreFit kinds self.old.waiting.items → map datum_kind key.now.cells ≡ get_or kinds key.now.stream [] → AreFit kinds self.new.waiting.items }
+        ensures fit { StaysFit key.now.stream key.now.cells self.old self.new }
     {
         if state.dropped {
             return Ok(());
@@ -223,12 +211,12 @@ impl HeldStreams {
     /// Ends the first open start that the key names, if there is one, at a time that is not before the bound of its stream.
     pub fn end_start(&mut self, key: &OpenKey, at: Time) -> Result<Option<OpenStart>, Memory>
         requires { key.now.stream < length self.old.waiting.items }
-        ensures ok { IfOk result (λ answer. (p : ℕ) (made : ℕ → List CellEvent) (opens : List CellOpen) (given : ℕ → List Edge) → p ≤ at →
-            Keeps p self.old.waiting.items (starts_in self.old.opens.starts) made opens given →
-            HasEnded key.now at p self.new.waiting.items (starts_in self.new.opens.starts) made opens given answer (first_of (is_named key.now) opens)) }
-        ensures err { OnErr result (StillKeeps self.old.waiting.items (starts_in self.old.opens.starts) self.new.waiting.items (starts_in self.new.opens.starts)) }
+        ensures ok { IfOk result (EndsStart key.now at self.old self.new) }
+        ensures none { IfOk result (λ answer. answer ≡ None → self.new ≡ self.old) }
+        ensures err { OnErr result (SameHeld self.old self.new) }
+        ensures named { OnErr result (0 < length (starts_in self.old.opens.starts key.now)) }
         ensures len { length self.new.waiting.items ≡ length self.old.waiting.items }
-        ensures fit { (kinds : List (List CellKind)) → AreFit kinds self.old.waiting.items → map datum_kind key.now.cells ≡ get_or kinds key.now.stream [] → AreFit kinds self.new.waiting.items }
+        ensures fit { StaysFit key.now.stream key.now.cells self.old self.new }
     {
         let Some(state) = self.opens.first(key) else {
             return Ok(None);

@@ -31,7 +31,7 @@ pub enum Refusal {
     Late { time: Time, bound: Time },
     /// It ends an event that did not start.
     NoStart,
-    /// Memory was wanting.
+    /// Out of memory.
     Memory,
 }
 

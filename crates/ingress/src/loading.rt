@@ -1,18 +1,13 @@
 // Saved entries, taken up again.
-ghost use Rattle.std.specs.Prelude.{◌≡◌, ◌↔◌, ◌+◌, ◌*◌, ◌/◌, ◌%◌, ◌<◌, ◌≤◌, ℕ, List, ◌∷◌, ◌++◌, [], ◌&&◌, true, false, nat_le, get_or, map, length, All, IsTrue, IfOk, IfErr, OnOk, OnErr};
-ghost use Rattle.tw_rows.specs.Cells.{datum_kind};
-ghost use Rattle.tw_rows.specs.Kinds.{cell_kind_of};
+ghost use Rattle.std.specs.Prelude.{◌≡◌, ◌↔◌, ◌%◌, ◌<◌, ◌≤◌, ℕ, List, ◌&&◌, true, false, nat_le, get_or, length, All, Err, IsTrue, IfOk, OnOk, OnErr};
 ghost use Rattle.tw_rows.specs.declared.edge.Edge.{Edge as EdgeOf};
-ghost use Rattle.tw_rows.specs.declared.kind.CellKind.{CellKind};
 ghost use Rattle.edge_history.specs.Order.{is_real};
-ghost use Rattle.edge_stream.specs.declared.saved.SavedEntry.{SavedEntry as EntryOf};
 ghost use Rattle.carried_edges.specs.Entries.{saved_edge};
 ghost use Rattle.row_reader.specs.Printed.{IsEnd};
 ghost use Rattle.admission.specs.Admission.{Admission};
-ghost use Rattle.ingress.specs.Admits.{cells_of, SameFixed, Follows, Admits};
-ghost use Rattle.ingress.specs.OpenKeys.{starts_in};
-ghost use Rattle.ingress.specs.Saving.{stream_of, IsSoundEntry, IsSound, Resumes};
-ghost use Rattle.ingress.specs.Loaded.{Loads};
+ghost use Rattle.ingress.specs.Admits.{cells_of, SameFixed, Admits};
+ghost use Rattle.ingress.specs.Saving.{stream_of, IsSoundEntry, Resumes};
+ghost use Rattle.ingress.specs.Loaded.{LoadsAll, TakesUp, IsSoundMark, AreSoundMarks, IsState, IsSoundEdge, IsGivenStart, IsSoundAs, cells_of_kinds};
 ghost use Rattle.ingress.specs.Streams.{bound_in, mark_in};
 
 use crate::held_streams::HeldStreams;
@@ -53,8 +48,8 @@ fn is_sound_edge(entry: &SavedEntry, last: Time) -> bool
 
 // Whether the times of an entry of that role may be there after the time.
 fn are_sound_times(entry: &SavedEntry, role: u64, last: Time) -> bool
-    ensures yes { IsTrue result → ((role ≡ 0 → (is_real (saved_edge entry.now) ≡ true) × (last ≤ entry.now.sync)) × (role ≡ 2 → entry.now.sync ≡ entry.now.other)) }
-    ensures no { result ≡ false → (role ≡ 0 → (is_real (saved_edge entry.now) ≡ true) × (last ≤ entry.now.sync)) → (role ≡ 2 → entry.now.sync ≡ entry.now.other) → ⊥ }
+    ensures yes { IsTrue result → IsSoundAs role last entry.now }
+    ensures no { result ≡ false → (role ≡ 0 → IsSoundEdge last entry.now) → (role ≡ 2 → IsGivenStart entry.now) → ⊥ }
 {
     if role == 0 {
         return is_sound_edge(entry, last);
@@ -67,8 +62,8 @@ fn are_sound_times(entry: &SavedEntry, role: u64, last: Time) -> bool
 
 // Whether admission with columns of these kinds can have the entry at the punctuation.
 fn is_sound_entry(kinds: &[Vec<Kind>], entry: &SavedEntry, last: Time) -> bool
-    ensures yes { IsTrue result → IsSoundEntry (map (λ k. map cell_kind_of k) (map (λ k. k.items) kinds.now)) last entry.now }
-    ensures no { result ≡ false → IsSoundEntry (map (λ k. map cell_kind_of k) (map (λ k. k.items) kinds.now)) last entry.now → ⊥ }
+    ensures yes { IsTrue result → IsSoundEntry (cells_of_kinds kinds.now) last entry.now }
+    ensures no { result ≡ false → IsSoundEntry (cells_of_kinds kinds.now) last entry.now → ⊥ }
 {
     let stream = entry.part / 3;
     if stream >= kinds.len() as u64 {
@@ -89,8 +84,7 @@ impl HeldStreams {
         requires stream { stream ≡ stream_of entry.now }
         requires low { stream < length self.old.waiting.items }
         requires role { entry.now.part % 3 ≡ 0 }
-        ensures ok { OnOk result ((cells : List (List CellKind)) (last : ℕ) (saved : List EntryOf) → Loads cells last saved self.old.waiting.items (starts_in self.old.opens.starts) → IsSoundEntry cells last entry.now →
-            Loads cells last (saved ++ entry.now ∷ []) self.new.waiting.items (starts_in self.new.opens.starts)) }
+        ensures ok { OnOk result (TakesUp entry.now self.old self.new) }
         ensures len { length self.new.waiting.items ≡ length self.old.waiting.items }
     {
         let edge = Edge {
@@ -106,8 +100,7 @@ impl HeldStreams {
     fn take_up_start(&mut self, entry: &SavedEntry, stream: usize) -> Result<(), Memory>
         requires stream { stream ≡ stream_of entry.now }
         requires role { 1 ≤ entry.now.part % 3 }
-        ensures ok { OnOk result ((cells : List (List CellKind)) (last : ℕ) (saved : List EntryOf) → Loads cells last saved self.old.waiting.items (starts_in self.old.opens.starts) → IsSoundEntry cells last entry.now →
-            Loads cells last (saved ++ entry.now ∷ []) self.new.waiting.items (starts_in self.new.opens.starts)) }
+        ensures ok { OnOk result (TakesUp entry.now self.old self.new) }
         ensures len { length self.new.waiting.items ≡ length self.old.waiting.items }
     {
         let key = OpenKey {
@@ -126,8 +119,7 @@ impl HeldStreams {
     // Takes up an entry of one of the streams.
     fn take_up(&mut self, entry: &SavedEntry) -> Result<(), Memory>
         requires { stream_of entry.now < length self.old.waiting.items }
-        ensures ok { OnOk result ((cells : List (List CellKind)) (last : ℕ) (saved : List EntryOf) → Loads cells last saved self.old.waiting.items (starts_in self.old.opens.starts) → IsSoundEntry cells last entry.now →
-            Loads cells last (saved ++ entry.now ∷ []) self.new.waiting.items (starts_in self.new.opens.starts)) }
+        ensures ok { OnOk result (TakesUp entry.now self.old self.new) }
         ensures len { length self.new.waiting.items ≡ length self.old.waiting.items }
     {
         let stream = (entry.part / 3) as usize;
@@ -139,21 +131,29 @@ impl HeldStreams {
     }
 }
 
-// What is held of the entries, if admission with columns of these kinds can have them at the punctuation.
+// Whether admission with columns of these kinds can have the entries at the punctuation.
+fn are_sound_entries(kinds: &[Vec<Kind>], entries: &[SavedEntry], last: Time) -> bool
+    ensures { IsTrue result ↔ All (IsSoundEntry (cells_of_kinds kinds.now) last) entries.now }
+{
+    for entry in entries {
+        if !is_sound_entry(kinds, entry, last) {
+            return false;
+        }
+    }
+    true
+}
+
+// What is held of the entries of so many streams.
 fn load_entries(
     alloc: Global,
     entries: &[SavedEntry],
-    kinds: &[Vec<Kind>],
-    last: Time,
-) -> Result<HeldStreams, LoadFault>
-    ensures loads { IfOk result (λ held. Loads (map (λ k. map cell_kind_of k) (map (λ k. k.items) kinds.now)) last entries.now held.waiting.items (starts_in held.opens.starts)) }
-    ensures refused { IfErr result (λ fault. fault ≡ LoadFault.NotState → All (IsSoundEntry (map (λ k. map cell_kind_of k) (map (λ k. k.items) kinds.now)) last) entries.now → ⊥) }
+    streams: usize,
+) -> Result<HeldStreams, Memory>
+    requires { All (λ e. stream_of e < streams) entries.now }
+    ensures { IfOk result (LoadsAll streams entries.now entries.now) }
 {
-    let mut held = HeldStreams::new(alloc, kinds.len())?;
+    let mut held = HeldStreams::new(alloc, streams)?;
     for entry in entries {
-        if !is_sound_entry(kinds, entry, last) {
-            return Err(LoadFault::NotState);
-        }
         held.take_up(entry)?;
     }
     Ok(held)
@@ -161,7 +161,7 @@ fn load_entries(
 
 // Whether a stream can have the bound and the mark at the punctuation.
 fn is_sound_mark(bound: Time, mark: Time, last: Time) -> bool
-    ensures { IsTrue result ↔ (IsEnd bound × IsEnd mark × (last ≤ bound) × (mark ≤ bound)) }
+    ensures { IsTrue result ↔ IsSoundMark last bound mark }
 {
     is_event_time(bound) && is_event_time(mark) && last <= bound && mark <= bound
 }
@@ -169,8 +169,7 @@ fn is_sound_mark(bound: Time, mark: Time, last: Time) -> bool
 // Whether each stream can have its bound and its mark.
 fn are_each_sound(bounds: &[Time], marks: &[Time], last: Time) -> bool
     requires { length marks.now ≡ length bounds.now }
-    ensures { IsTrue result ↔ ((s : ℕ) → s < length bounds.now →
-        IsEnd (get_or bounds.now s 0) × IsEnd (get_or marks.now s 0) × (last ≤ get_or bounds.now s 0) × (get_or marks.now s 0 ≤ get_or bounds.now s 0)) }
+    ensures { IsTrue result ↔ AreSoundMarks last bounds.now marks.now }
 {
     for i in 0..bounds.len() {
         if !is_sound_mark(bounds[i], marks[i], last) {
@@ -183,8 +182,7 @@ fn are_each_sound(bounds: &[Time], marks: &[Time], last: Time) -> bool
 // Whether there can be such a punctuation, and each stream can have its bound and its mark at it.
 fn are_sound_marks(bounds: &[Time], marks: &[Time], last: Time) -> bool
     requires { length marks.now ≡ length bounds.now }
-    ensures { IsTrue result ↔ (IsEnd last × ((s : ℕ) → s < length bounds.now →
-        IsEnd (get_or bounds.now s 0) × IsEnd (get_or marks.now s 0) × (last ≤ get_or bounds.now s 0) × (get_or marks.now s 0 ≤ get_or bounds.now s 0))) }
+    ensures { IsTrue result ↔ (IsEnd last × AreSoundMarks last bounds.now marks.now) }
 {
     is_event_time(last) && are_each_sound(bounds, marks, last)
 }
@@ -209,8 +207,8 @@ impl Watermarks {
 }
 
 impl Ingress {
-    /// Takes up entries that were saved, with the bounds and the marks of all streams and the last punctuation. After a fault
-    /// all stays as it was.
+    /// Takes up entries that were saved, with the bounds and the marks of all streams and the last punctuation. They are no state
+    /// exactly where it says so: that is tested before memory is taken. After a fault all stays as it was.
     pub fn load(
         &mut self,
         saved: &Saved,
@@ -221,9 +219,10 @@ impl Ingress {
         requires bounds { length bounds.now ≡ length self.old.kinds.items }
         requires marks { length marks.now ≡ length self.old.kinds.items }
         ensures admits { OnOk result ((texts : List (List ℕ)) (a : Admission) (given : ℕ → List EdgeOf) →
-            Resumes (cells_of self.old) saved.now (λ s. get_or bounds.now s 0) (λ s. get_or marks.now s 0) last texts a given → Admits texts a given self.new) }
-        ensures sound { OnOk result (IsSound (cells_of self.old) saved.now (λ s. get_or bounds.now s 0) (λ s. get_or marks.now s 0) last) }
-        ensures refused { IfErr result (λ fault. fault ≡ LoadFault.NotState → IsSound (cells_of self.old) saved.now (λ s. get_or bounds.now s 0) (λ s. get_or marks.now s 0) last → ⊥) }
+            Resumes (cells_of self.old) saved.now (λ s. get_or bounds.now s 0) (λ s. get_or marks.now s 0) last texts a given →
+            Admits texts a given self.new) }
+        ensures sound { OnOk result (IsState (cells_of self.old) saved.now bounds.now marks.now last) }
+        ensures state { (result ≡ Err LoadFault.NotState) ↔ (¬ (IsState (cells_of self.old) saved.now bounds.now marks.now last)) }
         ensures released { OnOk result (self.new.released ≡ last) }
         ensures err { OnErr result (self.new ≡ self.old) }
         ensures fixed { SameFixed self.old self.new }
@@ -231,8 +230,12 @@ impl Ingress {
         if !are_sound_marks(bounds, marks, last) {
             return Err(LoadFault::NotState);
         }
+        let entries = saved.entries();
+        if !are_sound_entries(&self.kinds, entries, last) {
+            return Err(LoadFault::NotState);
+        }
         let watermarks = Watermarks::of(self.alloc, bounds, marks)?;
-        let held = load_entries(self.alloc, saved.entries(), &self.kinds, last)?;
+        let held = load_entries(self.alloc, entries, self.kinds.len())?;
         self.watermarks = watermarks;
         self.held = held;
         self.released = last;

@@ -5,8 +5,8 @@ ghost use Rattle.std.specs.Hash as fed;
 ghost use Rattle.std.specs.Hash.{same_Alike};
 ghost use Rattle.tw_rows.specs.contracts.cells.CellsHash.TheImpl as cells_hash;
 ghost use Rattle.ingress.specs.declared.opens.OpenKey.{OpenKey as Key};
-ghost use Rattle.ingress.specs.OpenKeys.{same_key, same_key-Decides, starts_in};
-ghost use Rattle.ingress.specs.Loaded.{opens_in};
+ghost use Rattle.ingress.specs.OpenKeys.{same_key, same_key-Decides, starts_in, NoneIsEmpty};
+ghost use Rattle.ingress.specs.Keeping.{opens_in};
 ghost use Rattle.indexmap.specs.IndexMap.{IsUnique};
 
 use indexmap::IndexMap;
@@ -56,11 +56,13 @@ pub struct OpenStart {
     pub dropped: bool,
 }
 
-/// The open starts, found by what end lines name. Of alike ones the earliest line comes first.
+/// The open starts, found by what end lines name. Of alike ones the earliest line comes first, and once all that a key names
+/// have ended the key goes too.
 #[derive(Drop)]
 pub struct OpenStarts {
     pub(crate) starts: IndexMap<OpenKey, VecDeque<OpenStart>>,
     alloc: Global,
+    ghost some: { NoneIsEmpty starts },
 }
 
 fn count(starts: &VecDeque<OpenStart>) -> u64
@@ -82,7 +84,8 @@ impl OpenStarts {
 
     /// Adds an open start, after those that are alike.
     pub fn open(&mut self, key: OpenKey, start: OpenStart) -> Result<(), Memory>
-        ensures ok { OnOk result ((k : Key) → starts_in self.new.starts k ≡ cond (same_key key k) (starts_in self.old.starts k ++ start ∷ []) (starts_in self.old.starts k)) }
+        ensures ok { OnOk result ((k : Key) → starts_in self.new.starts k
+            ≡ cond (same_key key k) (starts_in self.old.starts k ++ start ∷ []) (starts_in self.old.starts k)) }
         ensures err { OnErr result ((k : Key) → starts_in self.new.starts k ≡ starts_in self.old.starts k) }
     {
         if let Some(starts) = self.starts.get_mut(&key) {
@@ -117,7 +120,8 @@ impl OpenStarts {
 
     /// Takes the first of the open starts that the key names out.
     pub fn close(&mut self, key: &OpenKey)
-        ensures { (k : Key) → starts_in self.new.starts k ≡ cond (same_key key.now k) (drop 1 (starts_in self.old.starts k)) (starts_in self.old.starts k) }
+        ensures { (k : Key) → starts_in self.new.starts k
+            ≡ cond (same_key key.now k) (drop 1 (starts_in self.old.starts k)) (starts_in self.old.starts k) }
     {
         let Some(starts) = self.starts.get_mut(key) else {
             return;

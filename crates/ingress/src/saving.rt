@@ -5,12 +5,13 @@ ghost use Rattle.tw_rows.specs.declared.edge.Edge.{Edge};
 ghost use Rattle.carried_edges.specs.Entries.{entries_of};
 ghost use Rattle.row_reader.specs.Printed.{IsEnd};
 ghost use Rattle.admission.specs.Admission.{Admission};
-ghost use Rattle.ingress.specs.Admits.{cells_of, Follows, Admits};
+ghost use Rattle.ingress.specs.Admits.{cells_of, Admits, WhateverFollowed, AreMarksOf};
 ghost use Rattle.ingress.specs.Counts.{may_hold};
 ghost use Rattle.ingress.specs.OpenKeys.{same_key};
 ghost use Rattle.ingress.specs.Times.{IsTimed};
-ghost use Rattle.ingress.specs.Saving.{IsSound, Resumes};
-ghost use Rattle.ingress.specs.Loaded.{cell_open, opens_in, entry_of_open, waits_from};
+ghost use Rattle.ingress.specs.Saving.{Resumes};
+ghost use Rattle.ingress.specs.Keeping.{cell_open, opens_in};
+ghost use Rattle.ingress.specs.Loaded.{entry_of_open, waits_from};
 
 use crate::by_rank::ByRank;
 use crate::held_streams::HeldStreams;
@@ -126,7 +127,8 @@ impl HeldStreams {
 
     /// Adds the edges that wait, stream by stream, and the open starts.
     pub(crate) fn save(&self, saved: &mut Saved) -> Result<(), Memory>
-        ensures entries { OnOk result (saved.new ≡ saved.old ++ (waits_from 0 self.now.waiting.items ++ map entry_of_open (opens_in self.now.opens.starts.entries))) }
+        ensures entries { OnOk result (saved.new ≡ saved.old
+            ++ (waits_from 0 self.now.waiting.items ++ map entry_of_open (opens_in self.now.opens.starts.entries))) }
         ensures unique { OnOk result (IsUnique same_key self.now.opens.starts) }
     {
         self.save_waiting(saved)?;
@@ -137,16 +139,13 @@ impl HeldStreams {
 
 impl Ingress {
     /// What is kept, as entries: the edges that wait and the open starts. Bounds, marks and the last punctuation are told by
-    /// calls of their own.
+    /// calls of their own. What is saved between two lines can be taken up again.
     pub fn save(&self) -> Result<Saved, Memory>
-        ensures resumes { IfOk result (λ saved. (texts : List (List ℕ)) (a : Admission) (given : ℕ → List Edge) (bounds marks : ℕ → ℕ) → Follows texts a given self.now →
-            ((s : ℕ) → s < length self.now.kinds.items → a.bound s ≡ bounds s) → ((s : ℕ) → s < length self.now.kinds.items → a.mark s ≡ marks s) →
+        ensures resumes { IfOk result (λ saved. (texts : List (List ℕ)) (a : Admission) (given : ℕ → List Edge) (bounds marks : ℕ → ℕ) →
+            Admits texts a given self.now → IsTimed a → IsEnd self.now.released → AreMarksOf self.now a bounds marks →
             Resumes (cells_of self.now) saved bounds marks self.now.released texts a given) }
-        ensures sound { IfOk result (λ saved. (texts : List (List ℕ)) (a : Admission) (given : ℕ → List Edge) (bounds marks : ℕ → ℕ) → Admits texts a given self.now → IsTimed a → IsEnd self.now.released →
-            ((s : ℕ) → s < length self.now.kinds.items → a.bound s ≡ bounds s) → ((s : ℕ) → s < length self.now.kinds.items → a.mark s ≡ marks s) →
-            IsSound (cells_of self.now) saved bounds marks self.now.released) }
-        ensures few { IfOk result (λ saved. (texts : List (List ℕ)) (a : Admission) (given : ℕ → List Edge) → Follows texts a given self.now →
-            length saved ≤ may_hold (length self.now.kinds.items) self.now.released a) }
+        ensures few { IfOk result (λ saved. WhateverFollowed self.now (λ texts a given.
+            length saved ≤ may_hold (length self.now.kinds.items) self.now.released a)) }
     {
         let mut saved = Saved::new(self.alloc);
         self.held.save(&mut saved)?;

@@ -6,7 +6,7 @@ ghost use Rattle.tw_rows.specs.declared.edge.Edge.{Edge};
 ghost use Rattle.edge_history.specs.Order.{rank as edge_rank, many, failing, starts_it, is_below, is_from, Rises};
 ghost use Rattle.edge_stream.specs.Listing.{cells_of, SameShape};
 ghost use Rattle.ingress.specs.Fits.{is_fit};
-ghost use Rattle.ingress.specs.Ranks.{SamePools};
+ghost use Rattle.ingress.specs.Ranks.{Takes, SamePools};
 
 use crate::by_rank::{ByRank, end_rank, is_start_of, rank_of};
 use batch::Pools;
@@ -151,7 +151,7 @@ impl Waiting {
         remove_queued(&mut self.queue, cells, start)
     }
 
-    /// Adds copies of the edges before `t` to an empty list, in order. Want of memory changes the list and the pools alone.
+    /// Adds copies of the edges before `t` to an empty list, in order. Out of memory changes the list and the pools alone.
     pub fn copy_below(&self, pools: &mut Pools, t: Time, list: &mut EdgeList) -> Result<(), Memory>
         requires capacity { pools.old.capacity ≡ list.old.capacity }
         requires empty { list.old.edges ≡ [] }
@@ -159,6 +159,7 @@ impl Waiting {
         ensures ok { OnOk result (SameBag list.new.edges (filter (is_below t) self.now)) }
         ensures order { OnOk result (Rises 0 list.new.edges) }
         ensures shape { SameShape list.old list.new }
+        ensures taken { OnOk result (Takes list.old pools.old list.new pools.new) }
         ensures pools { SamePools pools.old pools.new }
     {
         let count = count_below(&self.queue, t);

@@ -108,8 +108,10 @@ impl Watermarks {
 
     /// Raises the bound and the mark of each stream to at least `t`.
     pub fn raise_all(&mut self, t: Time)
-        ensures bounds { (s : ℕ) → s < length self.old.streams.items → bound_in self.new.streams.items s ≡ max (bound_in self.old.streams.items s) t }
-        ensures marks { (s : ℕ) → s < length self.old.streams.items → mark_in self.new.streams.items s ≡ max (mark_in self.old.streams.items s) t }
+        ensures bounds { (s : ℕ) → s < length self.old.streams.items →
+            bound_in self.new.streams.items s ≡ max (bound_in self.old.streams.items s) t }
+        ensures marks { (s : ℕ) → s < length self.old.streams.items →
+            mark_in self.new.streams.items s ≡ max (mark_in self.old.streams.items s) t }
         ensures len { length self.new.streams.items ≡ length self.old.streams.items }
     {
         for stream in 0..self.streams.len() {

@@ -9,7 +9,7 @@ use crate::number::push_number;
 use itoa::Buffer;
 use tw_rows::{Datum, Kind, Memory, TextTable, Time};
 
-/// Whether a field with that byte stands between double quotes.
+// Whether a field with that byte stands between double quotes.
 fn needs_quotes(byte: u8) -> bool
     ensures { result ≡ needs_byte default_writer byte }
 {
@@ -29,7 +29,7 @@ fn push_doubled_byte(out: &mut Vec<u8>, byte: u8) -> Result<(), Memory>
     Ok(())
 }
 
-/// Appends the text, each double quote doubled.
+// Appends the text, each double quote doubled.
 #[tactic(auto, using(crate::proofs::Begin::begin_steps))]
 fn push_doubled(out: &mut Vec<u8>, text: &[u8]) -> Result<(), Memory>
     ensures ok { OnOk result (out.new.items ≡ out.old.items ++ escaped default_writer text.now) }
@@ -58,7 +58,7 @@ pub fn push_text(out: &mut Vec<u8>, text: &str) -> Result<(), Memory>
     Ok(())
 }
 
-/// How many places the numbers of the kind have.
+// How many places the numbers of the kind have.
 fn places_of(kind: Kind) -> u8
     ensures { result ≡ places_of kind }
 {

@@ -19,10 +19,11 @@ fn word_of(form: Form) -> &'static str
     }
 }
 
-/// Appends the form and both times, a comma before each.
+// Appends the form and both times, a comma before each.
 #[tactic(auto, using(crate::proofs::Begin::begin_steps))]
 fn push_life(out: &mut Vec<u8>, form: Form, sync: Time, other: Time) -> Result<(), Memory>
-    ensures ok { OnOk result (out.new.items ≡ out.old.items ++ fields_text default_writer (form_text form ∷ time_text sync ∷ time_text other ∷ [])) }
+    ensures ok { OnOk result (out.new.items ≡ out.old.items
+        ++ fields_text default_writer (form_text form ∷ time_text sync ∷ time_text other ∷ [])) }
     ensures err { OnErr result (Begins out.old.items out.new.items) }
 {
     out.push(b',')?;
@@ -34,7 +35,7 @@ fn push_life(out: &mut Vec<u8>, form: Form, sync: Time, other: Time) -> Result<(
     Ok(())
 }
 
-/// Appends the values of the cells, a comma before each.
+// Appends the values of the cells, a comma before each.
 #[tactic(auto, using(crate::proofs::Begin::begin_steps))]
 fn push_cells(
     out: &mut Vec<u8>,
@@ -77,7 +78,7 @@ fn push_event_fields(
     Ok(())
 }
 
-/// Appends the line that says this of an event of the row of these cells, with columns of these kinds. Where memory is wanting, nothing is
+/// Appends the line that says this of an event of the row of these cells, with columns of these kinds. Where there is no memory, nothing is
 /// appended.
 #[tactic(auto, using(crate::proofs::Begin::Begins_take))]
 pub fn push_event(
@@ -117,7 +118,7 @@ fn push_punctuation_fields(out: &mut Vec<u8>, name: &str, time: Time) -> Result<
 }
 
 /// Appends the line that says that no event before the time comes any more, of the stream of that name, or of any stream
-/// for `*`. Where memory is wanting, nothing is appended.
+/// for `*`. Where there is no memory, nothing is appended.
 #[tactic(auto, using(crate::proofs::Begin::Begins_take))]
 pub fn push_punctuation(out: &mut Vec<u8>, name: &str, time: Time) -> Result<(), Memory>
     ensures ok { OnOk result (out.new.items ≡ out.old.items ++ record_text (punctuation_fields name.now time)) }

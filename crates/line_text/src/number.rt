@@ -7,7 +7,7 @@ ghost use Rattle.line_text.specs.Record.{Begins};
 use itoa::Buffer;
 use tw_rows::Memory;
 
-/// Appends the digits with a point before the last so many of them, and with zeros before them where they are too few.
+// Appends the digits with a point before the last so many of them, and with zeros before them where they are too few.
 #[tactic(auto, using(crate::proofs::Begin::begin_steps))]
 fn push_pointed(out: &mut Vec<u8>, digits: &[u8], places: usize) -> Result<(), Memory>
     ensures ok { OnOk result (out.new.items ≡ out.old.items ++ pointed places digits.now) }

@@ -4,7 +4,7 @@ use Rattle.std.proofs.lemmas.Bool.Decides.{nat_tests, Decides-ltb}
 use Rattle.std.proofs.lemmas.Slice.Eq.{slice_eq-Decides}
 use Rattle.std.proofs.lemmas.Fmt.{decimal_is_IsNumeral}
 use Rattle.std.specs.Bool.{Decides}
-use Rattle.std.specs.Prelude.{decimal, nat_lt, nat_eq, ◌&&◌}
+use Rattle.std.specs.Prelude.{Option, IfSome, IfNone, decimal, nat_lt, nat_eq, ◌&&◌}
 use Rattle.std.specs.Str.Parse.{digits_value}
 use Rattle.row_reader.specs.Number.{number_of, same_text}
 
@@ -44,3 +44,8 @@ number_of-is limit bs n e =
     let p = passed (nat_lt (digits_value 10 bs) limit) (same_text (decimal (digits_value 10 bs)) bs) (digits_value 10 bs) n e in
     let below : digits_value 10 bs < limit = (Decides-ltb _ _).0 p.0 in
     (omega (arith, p.2, below), sym ((same_text-Decides _ bs).0 p.1) ∙ ap decimal p.2)
+
+-- a number of 64 bits
+pub number_of-whole : (r : Option ℕ) (bs : List ℕ) → IfSome r (λ n. bs ≡ decimal n) → IfSome r (λ n. n < 2 ^ 64) → IfNone r ((n : ℕ) → n < 2 ^ 64 → bs ≡ decimal n → ⊥) → r ≡ number_of (2 ^ 64) bs
+number_of-whole None bs is small none = sym (number_of-none (2 ^ 64) bs none)
+number_of-whole (Some n) bs is small none = sym (number_of-spelled (2 ^ 64) n bs small (omega arith) is)

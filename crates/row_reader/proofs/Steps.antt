@@ -1,5 +1,5 @@
 -- What the fields say, field by field.
-use Rattle.std.proofs.Common.{◌≡◌, ◌<◌, ◌+◌, ℕ, zero, suc, List, [], ◌∷◌, length, drop, Bool, true, false, cond, Option, Some, None, Result, Ok, Err, refl, sym, ◌∙◌, ap, arith, inl, inr}
+use Rattle.std.proofs.Common.{◌≡◌, ◌<◌, ◌+◌, ℕ, zero, suc, List, [], ◌∷◌, length, take, drop, Bool, true, false, cond, Option, Some, None, Result, Ok, Err, refl, sym, ◌∙◌, ap, arith, inl, inr}
 use Rattle.std.specs.Prelude.{◌≢◌, ◌==◌, not}
 use Rattle.std.specs.List.{All, list_any}
 use Rattle.std.specs.Str.{IsUtf8, is_utf8}
@@ -8,6 +8,7 @@ use Rattle.std.proofs.lemmas.Str.{is_utf8-from_IsUtf8}
 use Rattle.std.proofs.lemmas.List.{length-drop}
 use Rattle.csv.specs.Records.{field_at}
 use Rattle.tw_rows.specs.Rows.{Row}
+use Rattle.tw_rows.specs.Cells.{ArePlaced, read_cells, with_row as table_with}
 use Rattle.tw_rows.specs.declared.cells.Datum.{Datum}
 use Rattle.tw_rows.specs.declared.schema.ColumnDef.{ColumnDef}
 use Rattle.tw_rows.specs.declared.schema.StreamDef.{StreamDef}
@@ -20,11 +21,16 @@ use Rattle.row_reader.specs.Quotes.{odd_quotes}
 use Rattle.row_reader.specs.Record.{record_of, field_of}
 use Rattle.row_reader.specs.Values.{end_of, form_of, times_of, is_alive}
 use Rattle.row_reader.specs.Entry.{Read, text_fault, unless_bad, event, row_of, with_row, punctuation, record_entry, text_entry}
-use Rattle.row_reader.specs.Answers.{AnswersIn, AnswersCells, unless_wrong, bad_value, values_of}
+use Rattle.row_reader.specs.Answers.{IsCause, unless_wrong, bad_value, values_of}
+use Rattle.row_reader.specs.Interned.{row_read, IsReadIn}
 use Rattle.row_reader.specs.declared.entry.BadLine.{BadLine}
 use Rattle.row_reader.specs.declared.entry.RowFault.{RowFault}
 use Rattle.row_reader.specs.declared.entry.RowFault.TheVariants.{Bad, Memory}
 use Rattle.row_reader.proofs.Spells.{no_return_found, not_empty}
+
+-- a bad line leaves the table as it was
+pub bad_read : (texts : List (List ℕ)) (cause : BadLine) (read : Read) → read ≡ Err cause → IsReadIn texts texts (Err (Bad cause)) read
+bad_read texts cause read h = record { entry = h; texts = refl }
 
 -- fields that are taken off
 pub drop_again : {A : Type 0} (n : ℕ) (fs : List A) → drop 1 (drop n fs) ≡ drop (n + 1) fs
@@ -187,22 +193,29 @@ by_tests true q read = refl
 by_tests false true read = refl
 by_tests false false read = refl
 
-err_row : (texts : List (List ℕ)) (fault : RowFault) (r : Result Row BadLine) (more : Row → Read) (read : Read) → AnswersCells texts (Err fault) r → read ≡ with_values r more → AnswersIn texts (Err fault) read
-err_row texts (Bad cause) r more read h e = e ∙ ap (λ (x : Result Row BadLine). with_values x more) h
-err_row texts Memory r more read h e = tt
+-- the values are read, or there are none
+pub event_ok : (old new : List (List ℕ)) (stream : ℕ) (columns : List ColumnDef) (fs rest : List (List ℕ)) (form : Form) (a b : List ℕ) (sync other : ℕ) (row : Row) (cells : List Datum) → AreHeads fs form a b rest →
+    times_of form a b ≡ Some (sync, other) → is_alive form sync other ≡ true → values_of columns rest ≡ Ok row → read_cells new cells ≡ row → ArePlaced new cells → new ≡ table_with old row →
+    IsReadIn old new (Ok (CellEvent stream form sync other cells)) (event stream columns fs)
+event_ok old new stream columns fs rest form a b sync other row cells h t l r is placed table =
+    let says = event_row stream columns fs rest form a b sync other h t l ∙ ap (λ (x : Result Row BadLine). with_values x (λ v. Ok (Event stream form sync other v))) r in
+    record {
+      entry = (says ∙ ap (λ (v : Row). Ok (Event stream form sync other v)) (sym is), placed);
+      texts = table ∙ ap (λ (x : Read). table_with old (row_read x)) (sym says);
+    }
 
-pub event_ok : (texts : List (List ℕ)) (stream : ℕ) (columns : List ColumnDef) (fs rest : List (List ℕ)) (form : Form) (a b : List ℕ) (sync other : ℕ) (cells : List Datum) → AreHeads fs form a b rest →
-    times_of form a b ≡ Some (sync, other) → is_alive form sync other ≡ true → AnswersCells texts (Ok cells) (values_of columns rest) →
-    AnswersIn texts (Ok (CellEvent stream form sync other cells)) (event stream columns fs)
-event_ok texts stream columns fs rest form a b sync other cells h t l r = (
-  event_row stream columns fs rest form a b sync other h t l ∙ ap (λ (x : Result Row BadLine). with_values x (λ row. Ok (Event stream form sync other row))) r.0,
-  r.1,
-)
+pub event_memory : (old new : List (List ℕ)) (stream : ℕ) (columns : List ColumnDef) (fs rest : List (List ℕ)) (form : Form) (a b : List ℕ) (sync other : ℕ) (row : Row) → AreHeads fs form a b rest →
+    times_of form a b ≡ Some (sync, other) → is_alive form sync other ≡ true → values_of columns rest ≡ Ok row → (n : ℕ) × (new ≡ table_with old (take n row)) →
+    IsReadIn old new (Err Memory) (event stream columns fs)
+event_memory old new stream columns fs rest form a b sync other row h t l r table =
+    let says = event_row stream columns fs rest form a b sync other h t l ∙ ap (λ (x : Result Row BadLine). with_values x (λ v. Ok (Event stream form sync other v))) r in
+    record { entry = tt; texts = (table.0, table.1 ∙ ap (λ (x : Read). table_with old (take table.0 (row_read x))) (sym says)) }
 
 pub event_err : (texts : List (List ℕ)) (stream : ℕ) (columns : List ColumnDef) (fs rest : List (List ℕ)) (form : Form) (a b : List ℕ) (sync other : ℕ) (fault : RowFault) → AreHeads fs form a b rest →
-    times_of form a b ≡ Some (sync, other) → is_alive form sync other ≡ true → AnswersCells texts (Err fault) (values_of columns rest) → AnswersIn texts (Err fault) (event stream columns fs)
-event_err texts stream columns fs rest form a b sync other fault h t l r =
-    err_row texts fault (values_of columns rest) (λ row. Ok (Event stream form sync other row)) (event stream columns fs) r (event_row stream columns fs rest form a b sync other h t l)
+    times_of form a b ≡ Some (sync, other) → is_alive form sync other ≡ true → IsCause fault (values_of columns rest) → IsReadIn texts texts (Err fault) (event stream columns fs)
+event_err texts stream columns fs rest form a b sync other (Bad cause) h t l r =
+    bad_read texts cause (event stream columns fs) (event_row stream columns fs rest form a b sync other h t l ∙ ap (λ (x : Result Row BadLine). with_values x (λ v. Ok (Event stream form sync other v))) r)
+event_err texts stream columns fs rest form a b sync other Memory h t l r = record { entry = tt; texts = (0, refl) }
 
 -- the values of an event
 pub values_short : (columns : List ColumnDef) (fs : List (List ℕ)) → length fs ≢ length columns → values_of columns fs ≡ Err WrongFields
@@ -224,6 +237,11 @@ as_many a b c d f g = elim (eqb_tells c d) [
   | inl t ↦ same a b (g t.1) ∙ sym t.0
   | inr t ↦ differs a b (λ q. t.1 (f q)) ∙ sym t.0
 ]
+
+-- a text without a fault
+pub no_fault : (text : List ℕ) → is_utf8 text ≡ true → list_any (λ b. b == 13) text ≡ false → (odd_quotes text ≡ false) × (has_mark text ≡ false) → text_fault text ≡ None
+unfolding text_fault
+no_fault text u r h = rw (u, r, h.0, h.1) refl
 
 -- a text
 pub empty_text : (streams : List StreamDef) (text : List ℕ) → length text ≡ 0 → text_entry streams text ≡ Ok Skip

@@ -2,8 +2,6 @@
 use Rattle.std.specs.Prelude.{◌≡◌, ℕ, List, Option, Some, None, Result, Ok, Err, if◌then◌else◌, ◌==◌, length}
 use Rattle.std.specs.Borrow.{Bor}
 use Rattle.tw_rows.specs.Rows.{Row}
-use Rattle.tw_rows.specs.Cells.{ArePlaced, read_cells}
-use Rattle.tw_rows.specs.declared.cells.Datum.{Datum}
 use Rattle.tw_rows.specs.declared.schema.StreamDef.{StreamDef}
 use Rattle.tw_rows.specs.declared.schema.ColumnDef.{ColumnDef}
 use Rattle.row_reader.specs.Entry.{Read, row_of}
@@ -15,7 +13,7 @@ use Rattle.row_reader.specs.declared.entry.BadLine.TheVariants.{WrongFields, Bad
 use Rattle.row_reader.specs.declared.entry.RowFault.{RowFault}
 use Rattle.row_reader.specs.declared.entry.RowFault.TheVariants.{Bad, Memory}
 
--- the entry, or the cause, unless memory was wanting
+-- the entry, or the cause, unless there was no memory
 abbrev pub Answers : Result Entry RowFault → Read → Type 0
 Answers (Ok entry) read = read ≡ Ok entry
 Answers (Err (Bad cause)) read = read ≡ Err cause
@@ -27,11 +25,10 @@ AnswersIn texts (Ok entry) read = (read ≡ Ok (entry_in texts entry)) × IsPlac
 AnswersIn texts (Err (Bad cause)) read = read ≡ Err cause
 AnswersIn texts (Err Memory) read = Unit {0}
 
--- the values of an event in cells
-abbrev pub AnswersCells : List (List ℕ) → Result (List Datum) RowFault → Result Row BadLine → Type 0
-AnswersCells texts (Ok cells) read = (read ≡ Ok (read_cells texts cells)) × ArePlaced texts cells
-AnswersCells texts (Err (Bad cause)) read = read ≡ Err cause
-AnswersCells texts (Err Memory) read = Unit {0}
+-- the fault is the cause for which there are no values, unless there was no memory
+abbrev pub IsCause : RowFault → Result Row BadLine → Type 0
+IsCause (Bad cause) read = read ≡ Err cause
+IsCause Memory read = Unit {0}
 
 -- the cause, where so many fields are left as are wanted
 abbrev pub unless_wrong : ℕ → List (List ℕ) → BadLine → BadLine
@@ -41,7 +38,8 @@ abbrev pub bad_value : Result Row ℕ → Result Row BadLine
 bad_value (Ok row) = Ok row
 bad_value (Err n) = Err (BadValue n)
 
--- the values that the fields behind the times of an event spell: where the only column is an int, `7` gives the row of 7, `7,8` is WrongFields and `a` is BadValue 1
+-- the values that the fields behind the times of an event spell: where the only column is an int, `7` gives the row of 7, `7,8` is
+-- WrongFields and `a` is BadValue 1
 abbrev pub values_of : List ColumnDef → List (List ℕ) → Result Row BadLine
 values_of columns fields = if length fields == length columns then bad_value (row_of 1 columns fields) else Err WrongFields
 

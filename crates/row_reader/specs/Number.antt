@@ -9,7 +9,8 @@ same_text a b = pointwise nat_eq a b
 
 -- the number below the limit whose text this is: "17" spells 17, "017" and "+17" spell none
 unfoldable pub number_of : ℕ → List ℕ → Option ℕ
-number_of limit text = if nat_lt (digits_value 10 text) limit && same_text (decimal (digits_value 10 text)) text then Some (digits_value 10 text) else None
+number_of limit text =
+    if nat_lt (digits_value 10 text) limit && same_text (decimal (digits_value 10 text)) text then Some (digits_value 10 text) else None
 
 abbrev pub fits_i64 : ℤ → Bool
 fits_i64 (pos n) = nat_lt n (2 ^ 63)

@@ -50,5 +50,6 @@ is_alive forms.End end start = nat_lt start end
 unfoldable pub value_of : Kind → List ℕ → Option Value
 value_of kinds.Int text = option_map Int (units_of 0 text)
 value_of (kinds.Dec k) text = option_map Int (units_of k text)
-value_of kinds.Bool text = if same_text text (codes "true") then Some (Flag true) else if same_text text (codes "false") then Some (Flag false) else None
+value_of kinds.Bool text =
+    if same_text text (codes "true") then Some (Flag true) else if same_text text (codes "false") then Some (Flag false) else None
 value_of kinds.Text text = Some (Text text)

@@ -44,10 +44,10 @@ pub enum CellEntry {
     },
 }
 
-/// Why a line is bad. Where several causes apply, the first in this order is told.
+/// Why a line is bad. Where several causes apply, the first in this order is answered.
 #[derive(Clone, Copy, Debug, PartialEq, Eq)]
 pub enum BadLine {
-    /// It has more bytes than a line may have. Whoever cuts the lines tells this.
+    /// It has more bytes than a line may have. Whoever cuts the lines answers this.
     TooLong,
     /// Its bytes are no UTF-8.
     NotUtf8,
@@ -67,7 +67,7 @@ pub enum BadLine {
     BadLife,
     /// This value, counted from 1, is not of its column's kind; those before it are.
     BadValue { column: usize },
-    /// It ends an event that did not start. Whoever matches starts and ends tells this.
+    /// It ends an event that did not start. Whoever matches starts and ends answers this.
     NoStart,
 }
 
@@ -76,7 +76,7 @@ pub enum BadLine {
 pub enum RowFault {
     /// The line is bad.
     Bad(BadLine),
-    /// Memory was wanting.
+    /// Out of memory.
     Memory,
 }
 

@@ -14,7 +14,7 @@ pub enum Fields<'a> {
     Record(&'a StringRecord, usize),
 }
 
-/// The bytes before the first comma, and what stands behind that comma.
+// The bytes before the first comma, and what stands behind that comma.
 fn split_field(text: &[u8]) -> (&[u8], Option<&[u8]>)
     ensures none { IfNone result.1 (commas text.now ≡ result.0.now ∷ []) }
     ensures some { IfSome result.1 (λ rest. commas text.now ≡ result.0.now ∷ commas rest.now) }

@@ -13,11 +13,12 @@ mod rows;
 mod value;
 
 pub use entry::{BadLine, CellEntry, Entry, RowFault};
+pub use fields::Fields;
 pub use laws::{
     entries_are_within, events_are_printed, lines_are_fields, lines_say_what_they_spell,
     printed_records_spell_their_fields,
 };
 pub use line_text::Form;
-pub use number::read_number;
+pub use number::{read_number, read_places, read_whole};
 pub use read::read_cells;
 pub use rows::read_row;

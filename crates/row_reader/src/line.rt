@@ -2,7 +2,7 @@
 ghost use Rattle.std.specs.Prelude.{◌≡◌, ◌≢◌, ◌≤◌, ◌<◌, IsTrue, false, length};
 ghost use Rattle.row_reader.specs.Line.{stripped, has_mark, text_of, AreSimple};
 
-/// U+FEFF in UTF-8, which may stand before the first line.
+// U+FEFF in UTF-8, which may stand before the first line.
 const MARK: [u8; 3] = [0xEF, 0xBB, 0xBF];
 
 #[tactic(auto, unfolding(crate::specs::Line::stripped))]
@@ -38,14 +38,14 @@ pub fn text_of_line(line: &[u8], first: bool) -> &[u8]
     }
 }
 
-/// Whether the byte is beyond ASCII, a CR or a double quote.
+// Whether the byte is beyond ASCII, a CR or a double quote.
 fn is_special(byte: u8) -> bool
     ensures { result ≡ false → (byte < 128) × (byte ≢ 13) × (byte ≢ 34) }
 {
     byte >= 128 || byte == b'\r' || byte == b'"'
 }
 
-/// Whether such a byte is among these. Few lines have one, so all are looked at, without a branch at each.
+// Whether such a byte is among these. Few lines have one, so all are looked at, without a branch at each.
 #[inline]
 fn any_special(bytes: &[u8]) -> bool
     ensures { result ≡ false → AreSimple bytes.now }
@@ -57,7 +57,7 @@ fn any_special(bytes: &[u8]) -> bool
     found
 }
 
-/// So many bytes are looked at together.
+// So many bytes are looked at together.
 const BLOCK: usize = 16;
 
 /// Whether such a byte is in the line. The last block laps over the one before it.

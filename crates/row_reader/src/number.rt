@@ -12,7 +12,7 @@ fn is_digit(byte: u8) -> bool
     matches!(byte, b'0'..=b'9')
 }
 
-/// The number that the digit is.
+// The number that the digit is.
 fn digit_of(byte: u8) -> u64
     requires { (48 ≤ byte) × (byte ≤ 57) }
     ensures { (digit_value byte ≡ result) × (result < 10) }
@@ -20,10 +20,10 @@ fn digit_of(byte: u8) -> u64
     u64::from(byte - b'0')
 }
 
-/// The number of so many digits has 64 bits, whatever they are.
+// The number of so many digits has 64 bits, whatever they are.
 const SHORT: usize = 19;
 
-/// The number of so few digits, which are added up without a test. `None` where another byte is among them.
+// The number of so few digits, which are added up without a test. `None` where another byte is among them.
 #[tactic(auto, using(crate::proofs::Whole::digit_fits, crate::proofs::Whole::one_digit_more, crate::proofs::Whole::below_short))]
 fn read_short(bytes: &[u8]) -> Option<u64>
     requires { length bytes.now ≤ 19 }
@@ -42,8 +42,8 @@ fn read_short(bytes: &[u8]) -> Option<u64>
     Some(number)
 }
 
-/// The number that the digits add to one: to 12 the digits `05` add 1205. `None` where another byte is among them, or the
-/// number has more than 64 bits.
+// The number that the digits add to one: to 12 the digits `05` add 1205. `None` where another byte is among them, or the
+// number has more than 64 bits.
 fn read_digits(start: u64, bytes: &[u8]) -> Option<u64>
     ensures digits { IfSome result (λ n. AllDigits 10 bytes.now) }
     ensures value { IfSome result (λ n. n ≡ digits_value_after 10 start bytes.now) }
@@ -61,7 +61,7 @@ fn read_digits(start: u64, bytes: &[u8]) -> Option<u64>
     Some(number)
 }
 
-/// The number of the digits. `None` where another byte is among them, or it has more than 64 bits.
+// The number of the digits. `None` where another byte is among them, or it has more than 64 bits.
 fn number_of_digits(bytes: &[u8]) -> Option<u64>
     ensures digits { IfSome result (λ n. AllDigits 10 bytes.now) }
     ensures value { IfSome result (λ n. n ≡ digits_value_after 10 0 bytes.now) }
@@ -75,8 +75,8 @@ fn number_of_digits(bytes: &[u8]) -> Option<u64>
     }
 }
 
-/// The number of which these are the digits, without a leading zero.
-fn read_whole(bytes: &[u8]) -> Option<u64>
+// The number of which these are the digits, without a leading zero.
+fn read_decimal(bytes: &[u8]) -> Option<u64>
     ensures some { IfSome result (λ n. bytes.now ≡ decimal n) }
     ensures small { IfSome result (λ n. n < 2 ^ 64) }
     ensures none { IfNone result ((n : ℕ) → n < 2 ^ 64 → bytes.now ≡ decimal n → ⊥) }
@@ -90,17 +90,24 @@ fn read_whole(bytes: &[u8]) -> Option<u64>
     number_of_digits(bytes)
 }
 
+/// The number of 64 bits that the text spells, as `read_number` does below a limit. It takes no memory.
+pub fn read_whole(bytes: &[u8]) -> Option<u64>
+    ensures { result ≡ number_of (2 ^ 64) bytes.now }
+{
+    read_decimal(bytes)
+}
+
 /// The number below the limit that the text spells: its decimal digits alone, without a sign or a leading zero, as in
 /// `0` and `17`. `None` where the text spells no such number, and so for `+17`, `017` and the limit itself. It takes no
 /// memory.
 pub fn read_number(bytes: &[u8], limit: u64) -> Option<u64>
     ensures { result ≡ number_of limit bytes.now }
 {
-    let number = read_whole(bytes)?;
+    let number = read_decimal(bytes)?;
     if number < limit { Some(number) } else { None }
 }
 
-/// What stands before and behind a point that has so many bytes behind it.
+// What stands before and behind a point that has so many bytes behind it.
 fn split_at_point(bytes: &[u8], places: usize) -> Option<(&[u8], &[u8])>
     ensures some { IfSome result (λ p. (bytes.now ≡ p.0.now ++ 46 ∷ p.1.now) × (length p.1.now ≡ places)) }
     ensures none { IfNone result ((a b : List ℕ) → bytes.now ≡ a ++ 46 ∷ b → length b ≡ places → ⊥) }
@@ -115,21 +122,21 @@ fn split_at_point(bytes: &[u8], places: usize) -> Option<(&[u8], &[u8])>
     Some((&bytes[..point], &bytes[point + 1..]))
 }
 
-/// The number of units that the text spells, without a sign.
+// The number of units that the text spells, without a sign.
 fn read_units(bytes: &[u8], places: usize) -> Option<u64>
     ensures some { IfSome result (λ n. bytes.now ≡ units_text places n) }
     ensures small { IfSome result (λ n. n < 2 ^ 64) }
     ensures none { IfNone result ((n : ℕ) → n < 2 ^ 64 → bytes.now ≡ units_text places n → ⊥) }
 {
     if places == 0 {
-        return read_whole(bytes);
+        return read_decimal(bytes);
     }
     let (whole, fraction) = split_at_point(bytes, places)?;
-    let number = read_whole(whole)?;
+    let number = read_decimal(whole)?;
     read_digits(number, fraction)
 }
 
-/// The number of that many units below zero. There is no zero below zero.
+// The number of that many units below zero. There is no zero below zero.
 fn negative(units: u64) -> Option<i64>
     ensures { result ≡ below_zero units }
 {
@@ -139,7 +146,7 @@ fn negative(units: u64) -> Option<i64>
     Some(-1 - (units - 1) as i64)
 }
 
-/// The number of that many units.
+// The number of that many units.
 fn positive(units: u64) -> Option<i64>
     ensures { result ≡ above_zero units }
 {
@@ -159,7 +166,7 @@ fn has_minus(bytes: &[u8]) -> bool
 }
 
 /// The number of units that the text spells, of which ten to the power of the places make one: `-0.05` spells -5 with 2
-/// places.
+/// places. `None` where the text spells no such number of 64 bits with a sign. It takes no memory.
 pub fn read_places(bytes: &[u8], places: u8) -> Option<i64>
     ensures { result ≡ units_of places bytes.now }
 {

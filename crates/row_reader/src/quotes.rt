@@ -15,7 +15,7 @@ pub enum Place {
     Closed,
 }
 
-/// Where the byte after this one stands, unless this one may not stand here.
+// Where the byte after this one stands, unless this one may not stand here.
 fn next(place: Place, byte: u8) -> Option<Place>
     ensures { result ≡ next_place place byte }
 {

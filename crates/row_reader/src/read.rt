@@ -1,26 +1,30 @@
 // A line to its entry.
-ghost use Rattle.std.specs.Prelude.{◌≡◌, ◌≢◌, ◌≤◌, ◌<◌, ℕ, List, length, drop, codes};
+ghost use Rattle.std.specs.Prelude.{◌≡◌, ◌≢◌, ◌≤◌, ◌<◌, ℕ, List, Ok, Err, None, IfOk, IfErr, false, length, drop, map, codes};
 ghost use Rattle.std.specs.List.{All};
 ghost use Rattle.std.specs.Str.{IsUtf8, is_utf8};
 ghost use Rattle.csv.specs.Records.{AllText};
 ghost use Rattle.tw_rows.specs.Texts.{BeginsWith};
 ghost use Rattle.row_reader.specs.Fields.{left};
-ghost use Rattle.row_reader.specs.Entry.{entry, punctuation, of_all, of_stream, event, named, record_entry, text_entry};
+ghost use Rattle.row_reader.specs.FieldValue.{field_value};
+ghost use Rattle.row_reader.specs.Line.{has_mark, text_of};
+ghost use Rattle.row_reader.specs.Quotes.{odd_quotes};
+ghost use Rattle.row_reader.specs.Interned.{Interns, IsReadIn};
+ghost use Rattle.row_reader.specs.Entry.{entry, punctuation, of_all, of_stream, event, named, record_entry, text_entry, text_fault};
 ghost use Rattle.row_reader.specs.Record.{field_of};
 ghost use Rattle.row_reader.specs.Number.{same_text};
-ghost use Rattle.row_reader.specs.Answers.{AnswersIn, AnswersCells, IsNamed, unless_wrong, values_of};
+ghost use Rattle.row_reader.specs.Answers.{AnswersIn, IsCause, IsNamed, unless_wrong, values_of};
 
 use crate::entry::{BadLine, CellEntry, RowFault};
 use crate::fields::Fields;
 use crate::line::{has_byte_order_mark, has_special, text_of_line};
 use crate::quotes::has_odd_quotes;
 use crate::record::read_record;
-use crate::value::{has_life, read_datum, read_end, read_form, read_times};
+use crate::value::{FieldValue, has_life, read_end, read_form, read_times, read_value, to_cells};
 use smallvec::SmallVec;
 use std::alloc::Global;
-use tw_rows::{Cells, Datum, SHORT_ROW, Schema, StreamDef, TextTable};
+use tw_rows::{Memory, SHORT_ROW, Schema, StreamDef, TextTable};
 
-/// This cause, where so many fields are left as are still wanted.
+// This cause, where so many fields are left as are still wanted.
 fn unless_wrong_fields(fields: &Fields, wanted: usize, cause: BadLine) -> BadLine
     ensures { result ≡ unless_wrong wanted (left fields.now) cause }
 {
@@ -31,25 +35,24 @@ fn unless_wrong_fields(fields: &Fields, wanted: usize, cause: BadLine) -> BadLin
     }
 }
 
-/// The cells of an event line, of which these fields are left, or why there is none.
-fn read_values(
+// The values of an event line, of which these fields are left, or why there are none.
+fn read_values<'a>(
     alloc: Global,
     schema: &Schema,
-    fields: &mut Fields,
-    texts: &mut TextTable,
-) -> Result<Cells, RowFault>
+    fields: &mut Fields<'a>,
+) -> Result<SmallVec<FieldValue<'a>, SHORT_ROW>, RowFault>
     requires { AllText (left fields.old) }
-    ensures values { AnswersCells texts.new result (values_of schema.now (left fields.old)) }
-    ensures begins { BeginsWith texts.new texts.old }
+    ensures values { IfOk result (λ values. values_of schema.now (left fields.old) ≡ Ok (map field_value values.items)) }
+    ensures cause { IfErr result (λ fault. IsCause fault (values_of schema.now (left fields.old))) }
 {
     let columns = schema.items();
-    let mut values: SmallVec<Datum, SHORT_ROW> = SmallVec::new(alloc);
+    let mut values: SmallVec<FieldValue, SHORT_ROW> = SmallVec::new(alloc);
     for (i, column) in columns.iter().enumerate() {
         let Some(field) = fields.next_field() else {
             return Err(RowFault::Bad(BadLine::WrongFields));
         };
-        match read_datum(column.kind, field, texts)? {
-            Some(datum) => values.push(datum)?,
+        match read_value(column.kind, field) {
+            Some(value) => values.push(value)?,
             None => {
                 let cause = BadLine::BadValue { column: i + 1 };
                 let wanted = columns.len() - i - 1;
@@ -59,14 +62,14 @@ fn read_values(
     }
     match fields.next_field() {
         Some(_) => Err(RowFault::Bad(BadLine::WrongFields)),
-        None => Ok(Cells::new(values)),
+        None => Ok(values),
     }
 }
 
-/// The punctuation of a stream, or of all, whose fields behind `punct` these are.
+// The punctuation of a stream, or of all, whose fields behind `punct` these are.
 #[tactic(auto, unfolding(crate::specs::Entry::punctuation))]
 fn read_punctuation(stream: Option<usize>, mut fields: Fields) -> Result<CellEntry, RowFault>
-    ensures { (table all : List (List ℕ)) → left fields.entry ≡ drop 1 all → AnswersIn table result (punctuation stream all) }
+    ensures { (table all : List (List ℕ)) → left fields.entry ≡ drop 1 all → IsReadIn table table result (punctuation stream all) }
 {
     if fields.count() != 1 {
         return Err(RowFault::Bad(BadLine::WrongFields));
@@ -77,7 +80,7 @@ fn read_punctuation(stream: Option<usize>, mut fields: Fields) -> Result<CellEnt
     }
 }
 
-/// The event that has this word as its form, and these fields behind it.
+// The event that has this word as its form, and these fields behind it.
 #[tactic(auto, unfolding(crate::specs::Entry::event), using(crate::proofs::Celled::same_table))]
 fn read_event(
     alloc: Global,
@@ -88,7 +91,8 @@ fn read_event(
     texts: &mut TextTable,
 ) -> Result<CellEntry, RowFault>
     requires { AllText (left fields) }
-    ensures entry { (all : List (List ℕ)) → word.now ≡ field_of all 0 → left fields.entry ≡ drop 1 all → AnswersIn texts.new result (event stream schema.now all) }
+    ensures entry { (all : List (List ℕ)) → word.now ≡ field_of all 0 → left fields.entry ≡ drop 1 all →
+        IsReadIn texts.old texts.new result (event stream schema.now all) }
     ensures begins { BeginsWith texts.new texts.old }
 {
     let Some(form) = read_form(word) else {
@@ -109,7 +113,12 @@ fn read_event(
         let cause = unless_wrong_fields(&fields, columns, BadLine::BadLife);
         return Err(RowFault::Bad(cause));
     }
-    match read_values(alloc, schema, &mut fields, texts) {
+    let values = match read_values(alloc, schema, &mut fields) {
+        Ok(values) => values,
+        Err(fault) => return Err(fault),
+    };
+    // only now that nothing is bad: a bad line leaves no text
+    match to_cells(alloc, values.as_slice(), texts) {
         Ok(cells) => Ok(CellEntry::Event {
             stream,
             form,
@@ -117,11 +126,11 @@ fn read_event(
             other: times.1,
             cells,
         }),
-        Err(fault) => Err(fault),
+        Err(Memory) => Err(RowFault::Memory),
     }
 }
 
-/// The stream of that name, with its number.
+// The stream of that name, with its number.
 fn find_stream<'a>(streams: &'a [StreamDef], name: &[u8]) -> Option<(usize, &'a StreamDef)>
     ensures { IsNamed result (named 0 streams.now name.now) }
 {
@@ -140,7 +149,7 @@ fn is_punct(word: &[u8]) -> bool
 }
 
 fn read_of_all(mut fields: Fields) -> Result<CellEntry, RowFault>
-    ensures { (table : List (List ℕ)) → AnswersIn table result (of_all (left fields.entry)) }
+    ensures { (table : List (List ℕ)) → IsReadIn table table result (of_all (left fields.entry)) }
 {
     if is_punct(fields.take_field()) {
         read_punctuation(None, fields)
@@ -158,7 +167,7 @@ fn read_of_stream(
     texts: &mut TextTable,
 ) -> Result<CellEntry, RowFault>
     requires { AllText (left fields) }
-    ensures entry { AnswersIn texts.new result (of_stream number stream.now.schema (left fields.entry)) }
+    ensures entry { IsReadIn texts.old texts.new result (of_stream number stream.now.schema (left fields.entry)) }
     ensures begins { BeginsWith texts.new texts.old }
 {
     let word = fields.take_field();
@@ -177,7 +186,7 @@ fn read_entry(
     texts: &mut TextTable,
 ) -> Result<CellEntry, RowFault>
     requires { AllText (left fields) }
-    ensures entry { AnswersIn texts.new result (record_entry streams.now (left fields.entry)) }
+    ensures entry { IsReadIn texts.old texts.new result (record_entry streams.now (left fields.entry)) }
     ensures begins { BeginsWith texts.new texts.old }
 {
     let name = fields.take_field();
@@ -190,7 +199,7 @@ fn read_entry(
     }
 }
 
-/// The entry of a text without quotes.
+// The entry of a text without quotes.
 #[tactic(auto, using(crate::proofs::Celled::same_table))]
 fn read_plain(
     alloc: Global,
@@ -203,8 +212,9 @@ fn read_plain(
     requires no_quote { All (λ b. b ≢ 34) text.now }
     requires no_return { All (λ b. b ≢ 13) text.now }
     requires no_feed { All (λ b. b ≢ 10) text.now }
-    ensures entry { AnswersIn texts.new result (text_entry streams.now text.now) }
+    ensures entry { IsReadIn texts.old texts.new result (text_entry streams.now text.now) }
     ensures begins { BeginsWith texts.new texts.old }
+    ensures memory { result ≡ Err RowFault.Memory → (odd_quotes text.now ≡ false) × (has_mark text.now ≡ false) }
 {
     if has_byte_order_mark(text) {
         return Err(RowFault::Bad(BadLine::UnknownStream));
@@ -212,7 +222,7 @@ fn read_plain(
     read_entry(alloc, Fields::Plain(Some(text)), streams, texts)
 }
 
-/// The entry of a text that may have quotes.
+// The entry of a text that may have quotes.
 #[tactic(auto, using(crate::proofs::Celled::same_table))]
 fn read_quoted(
     alloc: Global,
@@ -224,8 +234,9 @@ fn read_quoted(
     requires some { 0 < length text.now }
     requires no_return { All (λ b. b ≢ 13) text.now }
     requires no_feed { All (λ b. b ≢ 10) text.now }
-    ensures entry { AnswersIn texts.new result (text_entry streams.now text.now) }
+    ensures entry { IsReadIn texts.old texts.new result (text_entry streams.now text.now) }
     ensures begins { BeginsWith texts.new texts.old }
+    ensures memory { result ≡ Err RowFault.Memory → (odd_quotes text.now ≡ false) × (has_mark text.now ≡ false) }
 {
     if has_odd_quotes(text) {
         return Err(RowFault::Bad(BadLine::OddQuotes));
@@ -243,7 +254,7 @@ fn is_text(bytes: &[u8]) -> bool
     str::from_utf8(bytes).is_ok()
 }
 
-/// The entry of bytes that may be no text, or have a CR or quotes.
+// The entry of bytes that may be no text, or have a CR or quotes.
 #[tactic(auto, using(crate::proofs::Celled::same_table))]
 fn read_special(
     alloc: Global,
@@ -253,8 +264,9 @@ fn read_special(
 ) -> Result<CellEntry, RowFault>
     requires some { 0 < length bytes.now }
     requires no_feed { All (λ b. b ≢ 10) bytes.now }
-    ensures entry { AnswersIn texts.new result (text_entry streams.now bytes.now) }
+    ensures entry { IsReadIn texts.old texts.new result (text_entry streams.now bytes.now) }
     ensures begins { BeginsWith texts.new texts.old }
+    ensures memory { result ≡ Err RowFault.Memory → text_fault bytes.now ≡ None }
 {
     if !is_text(bytes) {
         return Err(RowFault::Bad(BadLine::NotUtf8));
@@ -269,8 +281,8 @@ fn read_special(
     }
 }
 
-/// The entry of a line in cells, as `read_row` tells it. The texts that it has, if it is an event, are in the table then; those
-/// of a bad line may be.
+/// The entry of a line in cells, as `read_row` tells it. The texts of an event's row are in the table then, and a bad line
+/// leaves the table as it was. Memory is taken for fields between quotes, for long rows and for new texts.
 #[tactic(auto, using(crate::proofs::Celled::same_table))]
 pub fn read_cells(
     alloc: Global,
@@ -282,7 +294,9 @@ pub fn read_cells(
     requires short { length line.now ≤ 65536 }
     requires no_feed { All (λ b. b ≢ 10) line.now }
     ensures entry { AnswersIn texts.new result (entry streams.now first line.now) }
+    ensures texts { Interns texts.old texts.new result (entry streams.now first line.now) }
     ensures begins { BeginsWith texts.new texts.old }
+    ensures memory { result ≡ Err RowFault.Memory → text_fault (text_of first line.now) ≡ None }
 {
     let bytes = text_of_line(line, first);
     if bytes.is_empty() {

@@ -9,14 +9,15 @@ use crate::quotes::Place;
 use csv::{ByteRecord, StringRecord};
 use std::alloc::{AllocError, Global};
 
-/// Takes a byte that stands in a field without quotes, and answers where the next byte stands.
+// Takes a byte that stands in a field without quotes, and answers where the next byte stands.
 #[tactic(auto, using(crate::proofs::Records::plain_steps))]
 fn take_plain(byte: u8, field: &mut Vec<u8>, fields: &mut ByteRecord) -> Result<Place, AllocError>
     requires no_return { byte ≢ 13 }
     requires no_feed { byte ≢ 10 }
     requires partial { partial_of fields.old ≡ [] }
     ensures partial { OnOk result (partial_of fields.new ≡ []) }
-    ensures step { IfOk result (λ after. ReadsOn Place.Plain byte (fields_of fields.old) field.old.items after (fields_of fields.new) field.new.items) }
+    ensures step { IfOk result (λ after.
+        ReadsOn Place.Plain byte (fields_of fields.old) field.old.items after (fields_of fields.new) field.new.items) }
 {
     if byte == b',' {
         fields.push_field(field.as_slice())?;
@@ -28,7 +29,7 @@ fn take_plain(byte: u8, field: &mut Vec<u8>, fields: &mut ByteRecord) -> Result<
     }
 }
 
-/// Takes one byte more of a line into the fields and the field at hand, and answers where the next byte stands.
+// Takes one byte more of a line into the fields and the field at hand, and answers where the next byte stands.
 #[tactic(auto, using(crate::proofs::Records::record_steps))]
 fn take_byte(
     place: Place,
@@ -70,7 +71,7 @@ fn take_byte(
     }
 }
 
-/// The record of a line, as `csv` reads it.
+// The record of a line, as `csv` reads it.
 #[tactic(auto, using(crate::proofs::Records::split_steps))]
 fn split(alloc: Global, line: &[u8]) -> Result<ByteRecord, AllocError>
     requires some { 0 < length line.now }

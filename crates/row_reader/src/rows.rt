@@ -11,7 +11,7 @@ use crate::read::read_cells;
 use std::alloc::Global;
 use tw_rows::{Cells, Datum, Label, Memory, Row, StreamDef, TextTable, Value};
 
-/// The value that a datum stands for.
+// The value that a datum stands for.
 fn value_of_datum(alloc: Global, datum: Datum, texts: &TextTable) -> Result<Value, Memory>
     requires { IsPlaced texts.now datum }
     ensures { IfOk result (λ value. value ≡ read_datum texts.now datum) }
@@ -23,7 +23,7 @@ fn value_of_datum(alloc: Global, datum: Datum, texts: &TextTable) -> Result<Valu
     })
 }
 
-/// The row that cells stand for.
+// The row that cells stand for.
 fn row_of_cells(alloc: Global, cells: &Cells, texts: &TextTable) -> Result<Row, Memory>
     requires { ArePlaced texts.now cells.now }
     ensures { IfOk result (λ row. row ≡ row_at texts.now cells.now) }
@@ -35,7 +35,7 @@ fn row_of_cells(alloc: Global, cells: &Cells, texts: &TextTable) -> Result<Row, 
     Ok(Row::from_vec(values))
 }
 
-/// The entry that an entry in cells stands for.
+// The entry that an entry in cells stands for.
 fn entry_of_cells(alloc: Global, entry: CellEntry, texts: &TextTable) -> Result<Entry, Memory>
     requires { IsPlacedIn texts.now entry }
     ensures { IfOk result (λ e. e ≡ entry_in texts.now entry) }

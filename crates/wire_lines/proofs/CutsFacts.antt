@@ -27,7 +27,7 @@ Cuts-opening longest total = record {
 }
 
 -- after a piece was fed
-pub Cuts-fed : (bytes piece : List ℕ) (s : CutterState) (given : List (List ℕ)) → Cuts bytes s given → Cuts (bytes ++ piece) (record s { rest = s.rest ++ piece; hungry = false }) given
+pub Cuts-fed : (bytes piece : List ℕ) (s : CutterState) (given : List (List ℕ)) → Cuts bytes s given → Cuts (bytes ++ piece) (record s { rest = s.rest ++ piece; wants_bytes = false }) given
 Cuts-fed bytes piece s given c = record {
   all = ap (λ x. x ++ piece) c.all ∙ append_assoc (joined given) s.rest piece;
   each = c.each;
@@ -38,7 +38,7 @@ Cuts-fed bytes piece s given c = record {
 }
 
 -- after a refusal
-pub Cuts-stopped : (bytes : List ℕ) (s : CutterState) (given : List (List ℕ)) → Cuts bytes s given → Cuts bytes (record s { hungry = false }) given
+pub Cuts-stopped : (bytes : List ℕ) (s : CutterState) (given : List (List ℕ)) → Cuts bytes s given → Cuts bytes (record s { wants_bytes = false }) given
 Cuts-stopped bytes s given c = record {
   all = c.all;
   each = c.each;
@@ -49,7 +49,7 @@ Cuts-stopped bytes s given c = record {
 }
 
 -- after more bytes were asked for
-pub Cuts-settled : (bytes : List ℕ) (s : CutterState) (given : List (List ℕ)) → Cuts bytes s given → IsSettled bytes s → Cuts bytes (record s { hungry = true }) given
+pub Cuts-settled : (bytes : List ℕ) (s : CutterState) (given : List (List ℕ)) → Cuts bytes s given → IsSettled bytes s → Cuts bytes (record s { wants_bytes = true }) given
 Cuts-settled bytes s given c settled = record {
   all = c.all;
   each = c.each;
@@ -61,7 +61,7 @@ Cuts-settled bytes s given c settled = record {
 
 -- after a line was given
 pub Cuts-line : (bytes : List ℕ) (s : CutterState) (given : List (List ℕ)) → Cuts bytes s given → line_len s.rest < length s.rest → line_len s.rest < s.total - s.passed →
-    Cuts bytes (record s { passed = s.passed + (line_len s.rest + 1); number = s.number + 1; rest = drop (line_len s.rest + 1) s.rest; hungry = false }) (given ++ take (line_len s.rest) s.rest ∷ [])
+    Cuts bytes (record s { passed = s.passed + (line_len s.rest + 1); number = s.number + 1; rest = drop (line_len s.rest + 1) s.rest; wants_bytes = false }) (given ++ take (line_len s.rest) s.rest ∷ [])
 Cuts-line bytes s given c within room = record {
   all = c.all ∙ ap (λ x. joined given ++ x) (at_end_of_line s.rest within)
       ∙ rw (joined-push given (take (line_len s.rest) s.rest), add-one (line_len s.rest)) (simp append_assoc);
@@ -144,7 +144,7 @@ has_given_all : (bytes : List ℕ) (s : CutterState) (given : List (List ℕ)) �
 has_given_all bytes s given c w =
     let settled = settles bytes s given c w in
     let all = whole_are_given bytes s given c settled.one_line in
-    record { whole_are = all.0; rest_is = all.1; settled = settled; asks = ap (λ (x : CutterState). x.hungry) w.after; after = rw w.after (Cuts-settled bytes s given c settled) }
+    record { whole_are = all.0; rest_is = all.1; settled = settled; asks = ap (λ (x : CutterState). x.wants_bytes) w.after; after = rw w.after (Cuts-settled bytes s given c settled) }
 
 -- what each answer says
 pub tells_line : (bytes : List ℕ) (s : CutterState) (lines : List (List ℕ)) (number : ℕ) (line : List ℕ) → Given number line ≡ next s → Cuts bytes s lines → GivesLine bytes s lines number line
@@ -186,7 +186,7 @@ lines_without_last bytes s given c none =
     lines_settled bytes s given true c free ∙ ap (λ (x : List (List ℕ)). given ++ x) no_last ∙ append-nil given
 
 -- where both cutters ask for more bytes
-pub Cuts-same : (bytes : List ℕ) (s t : CutterState) (given given' : List (List ℕ)) → Cuts bytes s given → Cuts bytes t given' → IsTrue s.hungry → IsTrue t.hungry → (given ≡ given') × (s.rest ≡ t.rest)
+pub Cuts-same : (bytes : List ℕ) (s t : CutterState) (given given' : List (List ℕ)) → Cuts bytes s given → Cuts bytes t given' → IsTrue s.wants_bytes → IsTrue t.wants_bytes → (given ≡ given') × (s.rest ≡ t.rest)
 Cuts-same bytes s t given given' c c' h h' =
     let a = whole_are_given bytes s given c (c.settled h).one_line in
     let b = whole_are_given bytes t given' c' (c'.settled h').one_line in

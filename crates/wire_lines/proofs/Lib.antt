@@ -5,3 +5,4 @@ pub mod Cutting
 pub mod NextFacts
 pub mod CutsFacts
 pub mod Limits
+pub mod Window

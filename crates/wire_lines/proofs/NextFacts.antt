@@ -20,7 +20,7 @@ pub record IsGiven (s : CutterState) (number : ℕ) (bytes : List ℕ) : Type 0 
   pub not_long : min (s.total - s.passed) (line_len s.rest) ≤ s.longest
   pub within : line_len s.rest < length s.rest
   pub room : line_len s.rest < s.total - s.passed
-  pub after : after_next s ≡ record s { passed = s.passed + (line_len s.rest + 1); number = s.number + 1; rest = drop (line_len s.rest + 1) s.rest; hungry = false }
+  pub after : after_next s ≡ record s { passed = s.passed + (line_len s.rest + 1); number = s.number + 1; rest = drop (line_len s.rest + 1) s.rest; wants_bytes = false }
 
 given_by : (t1 t2 t3 : Bool) (s : CutterState) (n number : ℕ) (bytes : List ℕ) → Given number bytes ≡ next_of s (by_tests t1 t2 t3 n) → (t1 ≡ false) × (t2 ≡ true) × (number ≡ s.number + 1) × (bytes ≡ take n s.rest) × (after_found s (by_tests t1 t2 t3 n) ≡ after_found s (Line n))
 given_by true t2 t3 s n number bytes h = absurd (cc)
@@ -39,7 +39,7 @@ given s number bytes h =
 pub record IsOverlong (s : CutterState) (number : ℕ) : Type 0 where
   pub number_is : number ≡ s.number + 1
   pub long : s.longest < min (s.total - s.passed) (line_len s.rest)
-  pub after : after_next s ≡ record s { hungry = false }
+  pub after : after_next s ≡ record s { wants_bytes = false }
 
 overlong_by : (t1 t2 t3 : Bool) (s : CutterState) (n number : ℕ) → Overlong number ≡ next_of s (by_tests t1 t2 t3 n) → (t1 ≡ true) × (number ≡ s.number + 1) × (after_found s (by_tests t1 t2 t3 n) ≡ after_found s TooLong)
 overlong_by true t2 t3 s n number h = (refl, cc, refl)
@@ -58,7 +58,7 @@ pub record IsOverfull (s : CutterState) : Type 0 where
   pub not_long : s.total - s.passed ≤ s.longest
   pub no_line : s.total - s.passed ≤ line_len s.rest
   pub full : s.total - s.passed < length s.rest
-  pub after : after_next s ≡ record s { hungry = false }
+  pub after : after_next s ≡ record s { wants_bytes = false }
 
 overfull_by : (t1 t2 t3 : Bool) (s : CutterState) (n : ℕ) → Overfull ≡ next_of s (by_tests t1 t2 t3 n) → (t1 ≡ false) × (t2 ≡ false) × (t3 ≡ true) × (after_found s (by_tests t1 t2 t3 n) ≡ after_found s TooMany)
 overfull_by true t2 t3 s n h = absurd (cc)
@@ -80,7 +80,7 @@ pub record IsWanting (s : CutterState) : Type 0 where
   pub no_line : length s.rest ≤ line_len s.rest
   pub short : min (s.total - s.passed) (line_len s.rest) ≤ s.longest
   pub room : length s.rest ≤ s.total - s.passed
-  pub after : after_next s ≡ record s { hungry = true }
+  pub after : after_next s ≡ record s { wants_bytes = true }
 
 wanting_by : (t1 t2 t3 : Bool) (s : CutterState) (n : ℕ) → Wanting ≡ next_of s (by_tests t1 t2 t3 n) → (t1 ≡ false) × (t2 ≡ false) × (t3 ≡ false) × (after_found s (by_tests t1 t2 t3 n) ≡ after_found s More)
 wanting_by true t2 t3 s n h = absurd (cc)

@@ -18,7 +18,7 @@ pub record Cuts (bytes : List ℕ) (s : CutterState) (given : List (List ℕ)) :
   pub number_is : s.number ≡ length given
   pub passed_is : s.passed ≡ length (joined given)
   pub fits : s.passed ≤ s.total
-  pub settled : IsTrue s.hungry → IsSettled bytes s
+  pub settled : IsTrue s.wants_bytes → IsSettled bytes s
 
 -- the line is the next one of the bytes, whatever follows and whether or not the input has ended
 pub record GivesLine (bytes : List ℕ) (s : CutterState) (given : List (List ℕ)) (number : ℕ) (line : List ℕ) : Type 0 where
@@ -52,7 +52,7 @@ pub record HasGivenAll (bytes : List ℕ) (s : CutterState) (given : List (List 
   pub whole_are : whole bytes ≡ given
   pub rest_is : rest bytes ≡ s.rest
   pub settled : IsSettled bytes s
-  pub asks : IsTrue (after_next s).hungry
+  pub asks : IsTrue (after_next s).wants_bytes
   pub after : Cuts bytes (after_next s) given
 
 -- what an answer of `next_line` says of the bytes

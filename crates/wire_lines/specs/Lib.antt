@@ -7,3 +7,4 @@ pub mod Cut
 pub mod Found
 pub mod Next
 pub mod Cuts
+pub mod Reading

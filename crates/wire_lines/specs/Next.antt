@@ -16,12 +16,12 @@ next_of s More = Wanting
 abbrev pub next : CutterState → Next
 next s = next_of s (found s.longest (s.total - s.passed) s.rest)
 
--- a line that is given leaves the rest, with its LF; a refusal leaves all; a wish for more bytes makes the cutter hungry
+-- a line that is given leaves the rest, with its LF; a refusal leaves all; after a wish for more bytes it wants them
 abbrev pub after_found : CutterState → Found → CutterState
-after_found s TooLong = record s { hungry = false }
-after_found s (Line n) = record s { passed = s.passed + (n + 1); number = s.number + 1; rest = drop (n + 1) s.rest; hungry = false }
-after_found s TooMany = record s { hungry = false }
-after_found s More = record s { hungry = true }
+after_found s TooLong = record s { wants_bytes = false }
+after_found s (Line n) = record s { passed = s.passed + (n + 1); number = s.number + 1; rest = drop (n + 1) s.rest; wants_bytes = false }
+after_found s TooMany = record s { wants_bytes = false }
+after_found s More = record s { wants_bytes = true }
 
 -- the cutter after its next answer
 abbrev pub after_next : CutterState → CutterState

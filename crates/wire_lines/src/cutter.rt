@@ -1,8 +1,11 @@
 // Bytes in pieces of any size, cut into lines.
-ghost use Rattle.std.specs.Prelude.{◌≡◌, ◌≤◌, ◌<◌, ◌+◌, ◌-◌, ℕ, List, length, drop};
+ghost use Rattle.std.specs.Prelude.{◌≡◌, ◌≤◌, ◌<◌, ◌+◌, ◌-◌, ◌++◌, ◌∷◌, [], ℕ, List, length, take, drop, slice_range, IfOk, MatchResult};
 ghost use Rattle.wire_lines.specs.Lines.{line_len};
 ghost use Rattle.wire_lines.specs.Found.{found, FoundFits};
+ghost use Rattle.wire_lines.specs.Journal.{In, Adds};
+ghost use Rattle.wire_lines.specs.Faults.{HasCause, IsOther};
 
+use crate::{ReadFailed, Wire};
 use memchr::memchr;
 use std::alloc::Global;
 use std::marker::Model;
@@ -25,13 +28,14 @@ pub enum Cut<'a> {
     More,
 }
 
-/// The most bytes that are fed at once.
+// The most bytes that come in at once.
 const PIECE: usize = 65536;
 
 /// Cuts bytes into lines, however the bytes come. `longest` is the most bytes of a line, its LF
 /// not counted, and `total` the most bytes of the whole input.
 ///
-/// It keeps the bytes from the next line on in one buffer: no line is copied out of it.
+/// It keeps the bytes from the next line on in one buffer, which a wire reads into: no byte is
+/// copied into it, and no line out of it.
 #[derive(Drop)]
 pub struct LineCutter {
     longest: usize,
@@ -40,11 +44,12 @@ pub struct LineCutter {
     number: u64,
     buffer: Vec<u8>,
     from: usize,
-    hungry: bool,
+    to: usize,
+    wants_bytes: bool,
 }
 
 impl Model for LineCutter {
-    ghost use Rattle.std.specs.Prelude.{◌≤◌, ◌≡◌, ◌+◌, ◌-◌, length, drop, vec_capacity, IsTrue, ⊤};
+    ghost use Rattle.std.specs.Prelude.{◌≤◌, ◌≡◌, ◌+◌, ◌-◌, length, slice_range, IsTrue, ⊤};
     ghost use Rattle.wire_lines.specs.Cutter.{CutterState};
 
     ghost Value = { CutterState };
@@ -54,16 +59,17 @@ impl Model for LineCutter {
       total = c.total;
       passed = c.passed;
       number = c.number;
-      rest = drop c.from c.buffer.items;
-      hungry = c.hungry;
+      rest = slice_range c.buffer.items c.from c.to;
+      wants_bytes = c.wants_bytes;
     } };
 
-    ghost invariant = { λ c. (c.from ≤ length c.buffer.items)
-        × (c.longest + 65536 ≤ vec_capacity c.buffer)
+    ghost invariant = { λ c. (c.from ≤ c.to)
+        × (c.to ≤ length c.buffer.items)
+        × (c.longest + 65536 ≤ length c.buffer.items)
         × (c.passed ≤ c.total)
         × (c.number ≤ c.passed)
-        × (IsTrue c.hungry → length c.buffer.items ≤ c.from + c.longest)
-        × (IsTrue c.hungry → c.passed + (length c.buffer.items - c.from) ≤ c.total) };
+        × (IsTrue c.wants_bytes → c.to ≤ c.from + c.longest)
+        × (IsTrue c.wants_bytes → c.passed + (c.to - c.from) ≤ c.total) };
 }
 
 // How many bytes stand before the first LF, or all of them.
@@ -102,18 +108,61 @@ fn look(rest: &[u8], longest: usize, room: u64) -> Found
     Found::More
 }
 
+// Moves the bytes from one place up to another to the front, and answers how many they are.
+fn move_to_front(buffer: &mut Vec<u8>, from: usize, to: usize) -> usize
+    requires order { from ≤ to }
+    requires within { to ≤ length buffer.old.items }
+    ensures count { result ≡ to - from }
+    ensures moved { take result buffer.new.items ≡ slice_range buffer.old.items from to }
+    ensures len { length buffer.new.items ≡ length buffer.old.items }
+{
+    buffer.copy_within(from..to, 0);
+    to - from
+}
+
+// Puts a piece into the buffer, from that place on.
+fn put_at(buffer: &mut Vec<u8>, at: usize, piece: &[u8])
+    requires { at + length piece.now ≤ length buffer.old.items }
+    ensures put { take (at + length piece.now) buffer.new.items ≡ take at buffer.old.items ++ piece.now }
+    ensures len { length buffer.new.items ≡ length buffer.old.items }
+{
+    buffer[at..at + piece.len()].copy_from_slice(piece);
+}
+
+// Reads the next bytes of a wire into the buffer, from that place on, so many at most.
+fn read_at<W: Wire>(
+    wire: &mut W,
+    buffer: &mut Vec<u8>,
+    at: usize,
+    most: usize,
+) -> Result<usize, ReadFailed>
+    requires some { 0 < most }
+    requires room { at + most ≤ length buffer.old.items }
+    ensures bound { IfOk result (λ n. n ≤ most) }
+    ensures told { MatchResult result
+        (λ n. Adds (W.journal wire.old) (W.journal wire.new) (In (slice_range buffer.new.items at (at + n)) ∷ []))
+        (λ _. Adds (W.journal wire.old) (W.journal wire.new) []) }
+    ensures kept { take at buffer.new.items ≡ take at buffer.old.items }
+    ensures len { length buffer.new.items ≡ length buffer.old.items }
+    ensures cause { HasCause (W.read_faults wire.old) (W.read_faults wire.new) result }
+    ensures other { IsOther (W.write_faults wire.old) (W.write_faults wire.new) result }
+{
+    wire.read(&mut buffer[at..at + most])
+}
+
 impl LineCutter {
-    ghost use Rattle.std.specs.Prelude.{IsNone, IfSome, ◌↔◌, ◌≡◌, ◌++◌, ◌+◌, ◌≤◌, ℕ, List, length, IsTrue, IfOk, [], true, false, ⊤};
+    ghost use Rattle.std.specs.Prelude.{IsNone, IfSome, ◌↔◌, ◌≡◌, ◌++◌, ◌+◌, ◌≤◌, ◌<◌, ℕ, List, length, IsTrue, IfOk, [], true, false, ⊤};
     ghost use Rattle.std.specs.Borrow.{sem, follows_so};
     ghost use mathlib.Core.Option.{none};
     ghost use Rattle.wire_lines.specs.Cutter.{opening};
     ghost use Rattle.wire_lines.specs.Next.{next, after_next};
     ghost use Rattle.wire_lines.specs.Cut.{cut_view};
     ghost use Rattle.wire_lines.specs.Cuts.{Cuts};
+    ghost use Rattle.wire_lines.specs.Reading.{HasRead};
     ghost use Rattle.wire_lines.specs.contracts.cutter.LineCutter.{the_row};
 
     /// Takes all the memory that it will use: `longest` and 65,536 bytes. Where the two together
-    /// are no `usize`, that is want of memory too.
+    /// are no `usize`, that is out of memory too.
     pub fn new(alloc: Global, longest: usize, total: u64) -> Result<LineCutter, Memory>
         ensures state { IfOk result (λ c. c ≡ opening longest total) }
         ensures lines { IfOk result (λ c. Cuts [] c []) }
@@ -121,7 +170,7 @@ impl LineCutter {
         let Some(capacity) = longest.checked_add(PIECE) else {
             return Err(Memory);
         };
-        let buffer = Vec::with_capacity(alloc, capacity)?;
+        let buffer = Vec::from_elem(alloc, 0u8, capacity)?;
         Ok(LineCutter {
             longest,
             total,
@@ -129,7 +178,8 @@ impl LineCutter {
             number: 0,
             buffer,
             from: 0,
-            hungry: true,
+            to: 0,
+            wants_bytes: true,
         })
     }
 
@@ -137,22 +187,40 @@ impl LineCutter {
     /// nothing was fed since; or that nothing was fed at all. It takes no memory.
     pub fn feed(&mut self, piece: &[u8])
         requires fits { length piece.now ≤ 65536 }
-        requires hungry { IsTrue self.old.hungry }
+        requires wants_bytes { IsTrue self.old.wants_bytes }
         ensures state { self.new ≡
-            record self.old { rest = self.old.rest ++ piece.now; hungry = false } }
+            record self.old { rest = self.old.rest ++ piece.now; wants_bytes = false } }
         ensures lines { (bytes : List ℕ) (given : List (List ℕ)) →
             Cuts bytes self.old given → Cuts (bytes ++ piece.now) self.new given }
     {
-        let from = self.from;
-        let kept = self.buffer.len() - from;
-        self.buffer.copy_within(from.., 0);
-        self.buffer.truncate(kept);
+        let kept = move_to_front(&mut self.buffer, self.from, self.to);
+        put_at(&mut self.buffer, kept, piece);
         self.from = 0;
-        self.hungry = false;
-        match self.buffer.extend_from_slice(piece) {
-            Ok(()) => {}
-            Err(_) => unreachable!(),
+        self.to = kept + piece.len();
+        self.wants_bytes = false;
+    }
+
+    /// Reads the next bytes of a wire into the buffer, so many at most, and answers how many they
+    /// are: 0 is the end of the input. It needs that the last `next_line` gave `More` and no byte
+    /// came in since; or that none came in at all. It takes no memory.
+    pub fn read_from<W: Wire>(&mut self, wire: &mut W, most: usize) -> Result<usize, ReadFailed>
+        requires some { 0 < most }
+        requires fits { most ≤ 65536 }
+        requires wants_bytes { IsTrue self.old.wants_bytes }
+        ensures bound { IfOk result (λ n. n ≤ most) }
+        ensures read { HasRead (W.journal wire.old) (W.journal wire.new) self.old self.new result }
+        ensures cause { HasCause (W.read_faults wire.old) (W.read_faults wire.new) result }
+        ensures other { IsOther (W.write_faults wire.old) (W.write_faults wire.new) result }
+    {
+        let kept = move_to_front(&mut self.buffer, self.from, self.to);
+        self.from = 0;
+        self.to = kept;
+        let count = read_at(wire, &mut self.buffer, kept, most)?;
+        if count > 0 {
+            self.to = kept + count;
+            self.wants_bytes = false;
         }
+        Ok(count)
     }
 
     /// The next line, or why there is none. After `TooLong` and `TooMany` it gives the same again.
@@ -165,9 +233,9 @@ impl LineCutter {
     {
         let from = self.from;
         let room = self.total - self.passed;
-        match look(&self.buffer[from..], self.longest, room) {
+        match look(&self.buffer[from..self.to], self.longest, room) {
             Found::TooLong => {
-                self.hungry = false;
+                self.wants_bytes = false;
                 Cut::TooLong {
                     number: self.number + 1,
                 }
@@ -176,7 +244,7 @@ impl LineCutter {
                 self.from = from + length + 1;
                 self.passed += length as u64 + 1;
                 self.number += 1;
-                self.hungry = false;
+                self.wants_bytes = false;
                 let line = Line {
                     number: self.number,
                     bytes: &self.buffer[from..from + length],
@@ -184,11 +252,11 @@ impl LineCutter {
                 Cut::Line(line)
             }
             Found::TooMany => {
-                self.hungry = false;
+                self.wants_bytes = false;
                 Cut::TooMany
             }
             Found::More => {
-                self.hungry = true;
+                self.wants_bytes = true;
                 Cut::More
             }
         }
@@ -197,7 +265,7 @@ impl LineCutter {
     /// The bytes after the last LF, once all bytes were fed: the last `next_line` gave `More` and
     /// nothing was fed since. They are a last line, where there are any.
     pub fn last_line(&mut self) -> Option<Line<'_>>
-        requires { IsTrue self.old.hungry }
+        requires { IsTrue self.old.wants_bytes }
         // Once the answer is let go, the cutter is as it was.
         ensures* after { sem 𝓛 (follows_so the_row the_row self.entry.ghost_name none
             (λ _ _. ⊤) (λ c. c ≡ self.old)) }
@@ -205,7 +273,7 @@ impl LineCutter {
         ensures some { IfSome result (λ l.
             (l.number ≡ self.old.number + 1) × (l.bytes.now ≡ self.old.rest)) }
     {
-        let rest = &self.buffer[self.from..];
+        let rest = &self.buffer[self.from..self.to];
         if rest.is_empty() {
             return None;
         }

@@ -25,7 +25,7 @@ pub fn answers_tell_lines()
 /// Once the bytes have ended, the lines given and what `last_line` gives are the lines of the bytes.
 pub fn rest_is_last_line()
     ensures { (bytes : List ℕ) (cutter : CutterState) (given : List (List ℕ)) →
-        Cuts bytes cutter given → IsTrue cutter.hungry →
+        Cuts bytes cutter given → IsTrue cutter.wants_bytes →
         lines bytes true ≡ given ++ last_of cutter.rest true }
 {}
 
@@ -34,10 +34,10 @@ pub fn rest_is_last_line()
 pub fn pieces_make_no_difference()
     ensures lines { (bytes : List ℕ) (one other : CutterState) (given given' : List (List ℕ)) →
         Cuts bytes one given → Cuts bytes other given' →
-        IsTrue one.hungry → IsTrue other.hungry → given ≡ given' }
+        IsTrue one.wants_bytes → IsTrue other.wants_bytes → given ≡ given' }
     ensures rest { (bytes : List ℕ) (one other : CutterState) (given given' : List (List ℕ)) →
         Cuts bytes one given → Cuts bytes other given' →
-        IsTrue one.hungry → IsTrue other.hungry → one.rest ≡ other.rest }
+        IsTrue one.wants_bytes → IsTrue other.wants_bytes → one.rest ≡ other.rest }
 {}
 
 /// After `TooLong` and after `TooMany` the answer is the same again.

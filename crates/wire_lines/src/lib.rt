@@ -4,6 +4,7 @@
 mod cutter;
 mod laws;
 mod memory;
+mod sending;
 mod standard;
 mod wire;
 
@@ -13,5 +14,6 @@ pub use laws::{
     rest_is_last_line,
 };
 pub use memory::{MemoryWire, WireStep};
+pub use sending::send;
 pub use standard::{ErrWire, StdWire};
 pub use wire::{ReadFailed, Wire, WriteFailed};

@@ -103,7 +103,7 @@ impl MemoryWire {
         self.steps.as_slice()
     }
 
-    /// Whether the next call fails, whatever it is.
+    // Whether the next call fails, whatever it is.
     fn fails_now(&self) -> bool
         ensures { result ≡ call_fails self.now }
     {

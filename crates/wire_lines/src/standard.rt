@@ -6,8 +6,8 @@ ghost use Rattle.wire_lines.specs.Faults.{HasCause};
 use crate::{ReadFailed, Wire, WriteFailed};
 use std::io::{Read, Write};
 
-/// Writes a front of the piece and flushes. Every error counts, and a write that takes nothing.
-/// After a failure a front of the piece may have gone out all the same.
+// Writes a prefix of the piece and flushes. Every error counts, and a write that takes nothing.
+// After a failure a prefix of the piece may have gone out all the same.
 fn write_through<W: Write>(
     output: &mut W,
     piece: &[u8],

@@ -34,7 +34,7 @@ pub trait Wire {
         ensures cause { HasCause (read_faults self.old) (read_faults self.new) result }
         ensures other { IsOther (write_faults self.old) (write_faults self.new) result };
 
-    /// Gives out a front of the piece, of one byte at least.
+    /// Gives out a prefix of the piece, of one byte at least.
     fn write(&mut self, piece: &[u8]) -> Result<usize, WriteFailed>
         requires { 0 < length piece.now }
         ensures some { IfOk result (λ n. 0 < n) }

@@ -1,5 +1,6 @@
 use Rattle.std.proofs.Common.{◌≡◌, ◌++◌, map, take}
-use Rattle.ingress.specs.Loaded.{cell_open, entry_of_open}
+use Rattle.ingress.specs.Keeping.{cell_open}
+use Rattle.ingress.specs.Loaded.{entry_of_open}
 use Rattle.ingress.proofs.saving.save_starts.Given as goal
 
 abbrev pub invariant-loop-i : goal.invariant-loop-i

@@ -2,10 +2,13 @@ use Rattle.std.proofs.Common.{◌≡◌, ℕ, true, false, subst, sym, ◌∙◌
 use Rattle.std.specs.Prelude.{◌≢◌, ◌==◌}
 use Rattle.std.specs.List.{All}
 use Rattle.std.proofs.lemmas.Bool.Decides.{eqb_tells}
-use Rattle.std.proofs.lemmas.Str.{IsUtf8-from_ascii}
-use Rattle.row_reader.specs.Entry.{text_entry}
+use Rattle.std.proofs.lemmas.Str.{IsUtf8-from_ascii, is_utf8-from_IsUtf8}
+use Rattle.tw_rows.specs.Cells.{with_row}
+use Rattle.row_reader.specs.Entry.{Read, text_entry, text_fault}
+use Rattle.row_reader.specs.Interned.{row_read}
 use Rattle.row_reader.proofs.Lines.{without_text_of, simple_ascii, simple_no_return, simple_no_quote}
-use Rattle.row_reader.proofs.Steps.{empty_text}
+use Rattle.row_reader.proofs.Spells.{no_return_found}
+use Rattle.row_reader.proofs.Steps.{empty_text, no_fault}
 use Rattle.row_reader.proofs.read.read_cells.Goals as goal
 
 is_zero : (n : ℕ) → true ≡ (n == 0) → n ≡ 0
@@ -31,3 +34,15 @@ read_plain-requires-clause-no_return c = simple_no_return _ (c.has_special.ensur
 
 pub read_plain-requires-clause-no_feed : goal.read_plain-requires-clause-no_feed
 read_plain-requires-clause-no_feed c = subst (λ l. All (λ b. b ≢ 10) l) (sym c.text_of_line-bytes.ensures) (without_text_of 10 c.args.first c.args.line.now c.requires.no_feed)
+
+pub returns-then-is_empty-clause-texts : goal.returns-then-is_empty-clause-texts
+returns-then-is_empty-clause-texts c =
+    let is = ap (text_entry c.args.streams.now) (sym c.text_of_line-bytes.ensures) ∙ empty_text c.args.streams.now c.text_of_line-bytes.result.now (is_zero _ c.if-is_empty.ensures) in
+    ap (λ (r : Read). with_row c.args.texts.now (row_read r)) (sym is)
+
+pub returns-else-has_special-clause-memory : goal.returns-else-has_special-clause-memory
+returns-else-has_special-clause-memory c = λ is.
+    let text = c.text_of_line-bytes.result.now in
+    let simple = c.has_special.ensures c.if-has_special.false in
+    ap text_fault (sym c.text_of_line-bytes.ensures)
+    ∙ no_fault text (is_utf8-from_IsUtf8 text (IsUtf8-from_ascii _ (simple_ascii _ simple))) (no_return_found text (simple_no_return _ simple)) (c.read_plain.ensures.memory is)

@@ -20,6 +20,7 @@ loop-edges-init c = record {
       (edges_at c.into_iter-edges-iterator.result) (ap edges_at (c.into_iter-edges-iterator.ensures.into_iter_gives ∙ c.range-edges-items.ensures.between tt))))
       (failing-filter (is_between c.args.from c.args.to) (is_fit (cells_of c.args.list.now)) c.args.self.now c.requires.fit);
   shape = shape_same c.args.list.now c.args.list.now refl;
+  taken = λ first kinds same h. h;
   pools = pools_same c.args.pools.now;
 }
 
@@ -35,6 +36,8 @@ loop-edges-preserved c =
           ∙ ap (λ x. now ++ (x ++ rest)) c.deref.ensures.value ∙ sym (ap (λ it. now ++ edges_at it) c.in-Some.ensures.steps) ∙ c.loop-edges.invariant.edges;
       fit = back_fits (cells_of c.args.list.now) _ rest (edges_at c.loop-edges.edges-iterator) (ap edges_at c.in-Some.ensures.steps) c.loop-edges.invariant.fit;
       shape = shape_again c.args.list.now c.loop-edges.list c.append_all.new.list c.loop-edges.invariant.shape c.append_all.ensures.shape;
+      taken = λ first kinds same h.
+          c.in_ok-append_all.ensures.taken first kinds (ap (map cell_kind_of) c.loop-edges.invariant.shape.kinds ∙ same) (c.loop-edges.invariant.taken first kinds same h);
       pools = pools_again c.args.pools.now c.loop-edges.pools c.append_all.new.pools c.loop-edges.invariant.pools c.append_all.ensures.pools;
     }
 

@@ -4,7 +4,8 @@ use Rattle.key_nodes.specs.Joins.{with_life}
 use Rattle.ingress.specs.OpenKeys.{starts_in}
 use Rattle.ingress.specs.Keeping.{more_rows}
 use Rattle.ingress.proofs.Fitting.{put_fits, same_fits, edge_fits}
-use Rattle.ingress.proofs.Keep.{row_comes, alive_life}
+use Rattle.ingress.proofs.Keep.{row_comes, alive_life, unchanged}
+use Rattle.ingress.proofs.Ranked.{always}
 use Rattle.ingress.proofs.held_streams.HeldStreams.add_row.Goals as goal
 
 pub returns-then-is_before-clause-ok : goal.returns-then-is_before-clause-ok
@@ -26,3 +27,6 @@ returns-then-is_before-clause-fit c = λ kinds fit is.
 pub returns-in_err-put-clause-fit : goal.returns-in_err-put-clause-fit
 returns-in_err-put-clause-fit c = λ kinds fit is.
     same_fits kinds c.args.stream c.args.self.now.waiting.items c.put.new.self.waiting.items c.put.ensures.changed fit c.in_err-put.ensures.err
+
+pub returns-in_err-put-clause-err : goal.returns-in_err-put-clause-err
+returns-in_err-put-clause-err c = always c.from_residual.result _ (unchanged c.args.self.now c.put.new.self c.args.stream c.put.ensures.changed c.in_err-put.ensures.err c.put.ensures.opens)

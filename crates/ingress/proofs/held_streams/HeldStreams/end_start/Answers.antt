@@ -15,4 +15,4 @@ returns-clause-ok c = λ p made opens given late keeps.
     c.requires c.end_row.ensures.changed c.end_row.ensures.within late
     (λ k. c.close.ensures k ∙ ap (λ l. cond (same_key c.args.key.now k) (drop 1 l) l) (ap (λ o. starts_in o.starts k) c.end_row.ensures.opens))
     c.in-Some.state c.in-Some.ensures
-    (record { ends = c.in_ok-end_row.ensures.ends; empty = c.in_ok-end_row.ensures.empty; dropped = c.in_ok-end_row.ensures.dropped; endless = c.in_ok-end_row.ensures.endless; stays = c.in_ok-end_row.ensures.stays })
+    c.in_ok-end_row.ensures.ended

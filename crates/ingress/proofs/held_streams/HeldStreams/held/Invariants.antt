@@ -1,6 +1,6 @@
 use Rattle.std.proofs.Common.{◌≡◌, ◌+◌, ◌-◌, ◌^◌, min, length, take}
 use Rattle.tw_rows.specs.Bag.{total}
-use Rattle.ingress.specs.Loaded.{opens_in}
+use Rattle.ingress.specs.Keeping.{opens_in}
 use Rattle.ingress.proofs.held_streams.HeldStreams.held.Given as goal
 
 abbrev pub invariant-loop-waiting : goal.invariant-loop-waiting

@@ -5,14 +5,14 @@ use Rattle.ingress.specs.OpenKeys.{same_key, starts_in}
 use Rattle.ingress.specs.Keeping.{CellOpen, Keeps}
 use Rattle.ingress.specs.declared.opens.OpenStart.{OpenStart}
 use Rattle.ingress.proofs.Fitting.{put_fits, out_fits, same_fits, edge_fits}
-use Rattle.ingress.proofs.Keep.{kept_live, live_same, start_comes, still_kept, changed_again, put_back, as_start}
+use Rattle.ingress.proofs.Keep.{kept_live, live_same, start_comes, same_if_changed, changed_again, put_back, as_start}
 use Rattle.ingress.proofs.held_streams.HeldStreams.open_start.Goals as goal
 
 pub returns-in-Err-clause-err : goal.returns-in-Err-clause-err
 returns-in-Err-clause-err c =
     let s = c.args.key.stream in
     let live = c.is_live.ensures.0 c.if-not-is_live.false in
-    still_kept c.args.self.now.waiting.items c.take_out.new.self.waiting.items (starts_in c.args.self.now.opens.starts) (starts_in c.take_out.new.self.opens.starts) s
+    same_if_changed c.args.self.now c.take_out.new.self s
     (changed_again s c.args.self.now.waiting.items c.put_start.new.self.waiting.items c.take_out.new.self.waiting.items c.put_start.ensures.changed c.take_out.ensures.changed)
     (put_back c.in_ok-cells.cells c.args.state.start (get_or c.args.self.now.waiting.items s []) (get_or c.put_start.new.self.waiting.items s []) (get_or c.take_out.new.self.waiting.items s []) c.take_out.result
     live.1

@@ -1,10 +1,16 @@
 use Rattle.std.specs.Prelude.{◌≡◌, ℕ, Result, Ok, Err, IfOk, IfErr, OnErr, List}
-use Rattle.std.proofs.Common.{sym, subst}
+use Rattle.std.proofs.Common.{sym, subst, ap, ◌∙◌, length, arith}
+use Rattle.std.proofs.lemmas.List.{take_all}
+use Rattle.tw_rows.specs.Cells.{with_row}
 use Rattle.tw_rows.specs.declared.edge.Edge.{Edge}
 use Rattle.admission.specs.Admission.{Admission, admit, Taken}
 use Rattle.admission.specs.Answers.{answer}
 use Rattle.row_reader.specs.declared.entry.Entry.{Entry}
-use Rattle.ingress.specs.Admits.{cells_of, Admits, Refuses}
+use Rattle.ingress.specs.Admits.{cells_of, Admits, Refuses, LeavesTexts}
+use Rattle.row_reader.specs.Interned.{row_read}
+use Rattle.admission.specs.declared.policy.Admitted.{Admitted}
+use Rattle.ingress.specs.declared.ingress.Refusal.{Refusal}
+use Rattle.ingress.specs.declared.ingress.Refusal.TheVariants.{Late, NoStart, Memory}
 use Rattle.ingress.specs.Fits.{Fits}
 use Rattle.ingress.proofs.Reading.{admits_longer}
 use Rattle.ingress.proofs.ingress.Ingress.admit.Goals as goal
@@ -45,3 +51,13 @@ returns-clause-refused c =
 pub returns-clause-err : goal.returns-clause-err
 returns-clause-err c =
     after_err c.admit_cells.result _ _ (λ h a given k. h a given (admits_longer c.cells_of_entry.new.texts c.args.texts.now a given c.args.self.now c.in-Ok.ensures.begins k)) c.admit_cells.ensures.err
+
+-- all texts of the row are in the table, whatever became of the entry
+interned_all : (r : Result Admitted Refusal) (old new : List (List ℕ)) (e : Entry) → new ≡ with_row old (row_read (Ok e)) → LeavesTexts old new r e
+interned_all (Ok x) old new e is = is
+interned_all (Err (Late time bound)) old new e is = is
+interned_all (Err NoStart) old new e is = is
+interned_all (Err Memory) old new e is = (length (row_read (Ok e)), is ∙ ap (with_row old) (sym (take_all (length (row_read (Ok e))) (row_read (Ok e)) (omega arith))))
+
+pub returns-clause-texts : goal.returns-clause-texts
+returns-clause-texts c = interned_all c.admit_cells.result c.args.texts.now c.cells_of_entry.new.texts c.args.entry c.in-Ok.ensures.table

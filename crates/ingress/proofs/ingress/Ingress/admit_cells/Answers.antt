@@ -1,11 +1,12 @@
-use Rattle.std.specs.Prelude.{◌≡◌, ℕ, IfOk, IfErr, List}
+use Rattle.std.specs.Prelude.{◌≡◌, ℕ, Err, IfOk, IfErr, List}
 use Rattle.std.proofs.Common.{◌∙◌, ap, sym, subst}
 use Rattle.tw_rows.specs.declared.edge.Edge.{Edge}
 use Rattle.admission.specs.Admission.{Admission, admit, Taken}
 use Rattle.admission.specs.Answers.{answer}
 use Rattle.row_reader.specs.Celled.{entry_in}
 use Rattle.row_reader.specs.declared.entry.CellEntry.{CellEntry}
-use Rattle.ingress.specs.Admits.{Admits, Refuses}
+use Rattle.ingress.specs.Admits.{Admits, Refuses, WantsMemory}
+use Rattle.ingress.specs.declared.ingress.Refusal.TheVariants.{Memory}
 use Rattle.ingress.proofs.ingress.Ingress.admit_cells.Goals as goal
 
 pub returns-in-Punct-clause-ok : goal.returns-in-Punct-clause-ok
@@ -26,3 +27,8 @@ returns-in-Event-clause-refused c =
     let i = c.args.self.now in
     let P : CellEntry → Type 0 = λ e. IfErr c.admit_event.result (λ x. (a : Admission) (given : ℕ → List Edge) → Admits c.args.texts.now a given i → Refuses (admit i.policy a (entry_in c.args.texts.now e)) x) in
     subst P (sym c.in-Event.is) c.admit_event.ensures.refused
+
+pub returns-in-Event-clause-memory : goal.returns-in-Event-clause-memory
+returns-in-Event-clause-memory c =
+    let P : CellEntry → Type 0 = λ e. c.admit_event.result ≡ Err Memory → WantsMemory c.args.texts.now (entry_in c.args.texts.now e) c.args.self.now in
+    subst P (sym c.in-Event.is) c.admit_event.ensures.memory

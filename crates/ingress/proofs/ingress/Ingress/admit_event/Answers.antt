@@ -5,7 +5,8 @@ use Rattle.tw_rows.specs.Cells.{read_cells}
 use Rattle.ingress.specs.OpenKeys.{starts_in}
 use Rattle.ingress.specs.Streams.{bound_in}
 use Rattle.ingress.specs.declared.entering.EventLine.{EventLine}
-use Rattle.ingress.proofs.Lines.{Known, raised_above, known_line, line_late, event_taken, event_unmatched, follows_kept, cells_kinds, shape_entered}
+use Rattle.ingress.proofs.Keep.{still_kept}
+use Rattle.ingress.proofs.Lines.{Known, event_wanted, raised_above, known_line, line_late, event_taken, event_unmatched, follows_kept, cells_kinds, shape_entered}
 use Rattle.ingress.proofs.ingress.Ingress.admit_event.Goals as goal
 
 pub invariant_of-self : goal.invariant_of-self
@@ -26,7 +27,7 @@ pub returns-in_default-clause-err : goal.returns-in_default-clause-err
 returns-in_default-clause-err c = λ a given k.
     let i = c.args.self.now in
     record {
-      follows = follows_kept c.args.texts.now given a i k.follows _ refl refl refl (c.in_default.ensures.err i.released k.follows.made k.follows.opens given k.follows.keeps);
+      follows = follows_kept c.args.texts.now given a i k.follows _ refl refl refl (still_kept i.held c.enter.new.self c.enter.ensures.len c.in_default.ensures.err i.released k.follows.made k.follows.opens given k.follows.keeps);
       low = k.low;
     }
 
@@ -80,3 +81,12 @@ returns-clause-ok c = λ a given k.
     c.in-Ok.entered c.in-Some.answer c.in-Some.is h refl refl
     (λ j. c.raise_bound.ensures.bounds j ∙ ap (λ t. raised c.args.stream t (bound_in i.watermarks.streams.items) j) c.reduced.ensures)
     c.raise_bound.ensures.marks
+
+pub returns-in_default-clause-memory : goal.returns-in_default-clause-memory
+returns-in_default-clause-memory c = λ is a given k.
+    let i = c.args.self.now in
+    let texts = c.args.texts.now in
+    let line : EventLine = record { stream = c.args.stream; form = c.args.form; sync = c.args.sync; other = c.args.other; at = c.later.result; dropped = c.is_dropped.result } in
+    let n : Known i.policy a line = known_line i.policy a line c.bound-bound.result (k.follows.bounds c.args.stream c.requires.stream ∙ sym c.bound-bound.ensures)
+    c.is_refused.result c.is_refused.ensures c.if-is_refused.false c.later.ensures c.is_dropped.ensures in
+    event_wanted i.policy texts c.len-count.ensures.distinct given a i k line c.args.cells c.requires.placed c.requires.stream c.requires.cells n c.in_default.ensures.named

@@ -1,10 +1,19 @@
-use Rattle.std.specs.Prelude.{◌<◌, length}
-use Rattle.std.proofs.Common.{◌∙◌, sym, subst, arith}
+use Rattle.std.specs.Prelude.{◌≡◌, ◌<◌, List, [], ◌∷◌, ◌++◌, length}
+use Rattle.std.proofs.Common.{◌∙◌, ap, refl, sym, subst, arith}
 use Rattle.std.proofs.lemmas.List.{length-map, take_all}
+use Rattle.batch.specs.Shelves.{Shelves}
+use Rattle.edge_stream.specs.Listing.{EdgeListView, cells_of}
+use Rattle.edge_stream.specs.Taking.{batches_taken}
+use Rattle.ingress.specs.Ranks.{lists_taken}
 use Rattle.ingress.specs.Admits.{kinds_of}
 use Rattle.ingress.proofs.Fitting.{pools_again, pools_same}
 use Rattle.ingress.proofs.Leaving.{ReleasedTo, released_first, released_next, released_each}
 use Rattle.ingress.proofs.ingress.Ingress.copy_below.Goals as goal
+
+-- one list more
+lists_next : (s : Shelves) (ls : List EdgeListView) (l : EdgeListView) → lists_taken s (ls ++ l ∷ []) ≡ batches_taken l.batches (lists_taken s ls) (cells_of l)
+lists_next s [] l = refl
+lists_next s (x ∷ ls) l = lists_next (batches_taken x.batches s (cells_of x)) ls l
 
 pub copy_stream-requires-clause-capacity : goal.copy_stream-requires-clause-capacity
 copy_stream-requires-clause-capacity c = c.loop-stream.invariant.pools.capacity ∙ c.requires
@@ -12,6 +21,7 @@ copy_stream-requires-clause-capacity c = c.loop-stream.invariant.pools.capacity 
 pub loop-stream-init : goal.loop-stream-init
 loop-stream-init c = let i = c.args.self.now in record {
   released = subst (ReleasedTo c.args.p 0 i.capacity (kinds_of i) i.held.waiting.items) (sym c.new-lists.ensures.items) (released_first c.args.p i.capacity (kinds_of i) i.held.waiting.items);
+  taken = sym (ap (lists_taken c.args.pools.now) c.new-lists.ensures.items);
   pools = pools_same c.args.pools.now;
 }
 
@@ -26,6 +36,10 @@ loop-stream-preserved c =
     record {
       released = released_next c.args.p i.capacity (kinds_of i) i.held.waiting.items c.loop-stream.stream c.loop-stream.lists.items c.push.new.self.items c.in_ok-copy_stream.field-0
           c.in_ok-push.ensures.items low c.in_ok-copy_stream.ensures.kinds c.in_ok-copy_stream.ensures.capacity c.in_ok-copy_stream.ensures.edges c.in_ok-copy_stream.ensures.order c.loop-stream.invariant.released;
+      taken = c.in_ok-copy_stream.ensures.taken
+          ∙ ap (λ s. batches_taken c.in_ok-copy_stream.field-0.batches s (cells_of c.in_ok-copy_stream.field-0)) c.loop-stream.invariant.taken
+          ∙ sym (lists_next c.args.pools.now c.loop-stream.lists.items c.in_ok-copy_stream.field-0)
+          ∙ ap (lists_taken c.args.pools.now) (sym c.in_ok-push.ensures.items);
       pools = pools_again c.args.pools.now c.loop-stream.pools c.copy_stream.new.pools c.loop-stream.invariant.pools c.in_ok-copy_stream.ensures.pools;
     }
 

@@ -6,16 +6,16 @@ use Rattle.admission.specs.Admission.{allowed}
 use Rattle.ingress.proofs.Allowing.{allowed_kept}
 use Rattle.ingress.proofs.ingress.Ingress.due.Goals as goal
 
-pub returns-then-is_before : goal.returns-then-is_before
-returns-then-is_before c = λ texts a given follows.
+pub returns-then-is_before-clause-allowed : goal.returns-then-is_before-clause-allowed
+returns-then-is_before-clause-allowed c = λ texts a given follows.
     let i = c.args.self.now in (
       allowed_kept i.policy i.watermarks.streams.items (length i.kinds.items) a (i.shape.marks ∙ length-map i.kinds.items _) follows.bounds follows.marks
           ∙ sym c.allowed-allowed.ensures,
       c.is_before.ensures.test.0 c.if-is_before.true,
     )
 
-pub returns-else-is_before : goal.returns-else-is_before
-returns-else-is_before c = λ texts a given follows.
+pub returns-else-is_before-clause-allowed : goal.returns-else-is_before-clause-allowed
+returns-else-is_before-clause-allowed c = λ texts a given follows.
     let i = c.args.self.now in
     let e : allowed i.policy (length i.kinds.items) a ≡ c.allowed-allowed.result =
     allowed_kept i.policy i.watermarks.streams.items (length i.kinds.items) a (i.shape.marks ∙ length-map i.kinds.items _) follows.bounds follows.marks

@@ -1,7 +1,7 @@
 use Rattle.std.specs.Prelude.{map}
 use Rattle.std.proofs.Common.{◌∙◌, ap, length, arith}
 use Rattle.std.proofs.lemmas.List.{length-append, length-map}
-use Rattle.ingress.specs.Loaded.{cell_open, opens_in}
+use Rattle.ingress.specs.Keeping.{cell_open, opens_in}
 use Rattle.ingress.proofs.opens.OpenStarts.len.Goals as goal
 
 pub loop-starts-init : goal.loop-starts-init

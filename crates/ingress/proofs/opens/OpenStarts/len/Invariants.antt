@@ -1,5 +1,5 @@
 use Rattle.std.proofs.Common.{◌≡◌, ◌≤◌, ◌+◌, ◌-◌, ◌^◌, min, length}
-use Rattle.ingress.specs.Loaded.{opens_in}
+use Rattle.ingress.specs.Keeping.{opens_in}
 use Rattle.ingress.proofs.opens.OpenStarts.len.Given as goal
 
 abbrev pub invariant-loop-starts : goal.invariant-loop-starts

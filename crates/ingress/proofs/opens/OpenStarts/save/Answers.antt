@@ -1,7 +1,8 @@
 use Rattle.std.specs.Prelude.{◌++◌, map}
 use Rattle.std.proofs.Common.{◌∙◌, ap, sym}
 use Rattle.std.proofs.lemmas.List.{append_assoc, map-append}
-use Rattle.ingress.specs.Loaded.{cell_open, opens_in, entry_of_open}
+use Rattle.ingress.specs.Keeping.{cell_open, opens_in}
+use Rattle.ingress.specs.Loaded.{entry_of_open}
 use Rattle.ingress.proofs.opens.OpenStarts.save.Goals as goal
 
 pub loop-key-init : goal.loop-key-init

@@ -1,5 +1,6 @@
 use Rattle.std.proofs.Common.{◌≡◌, ◌++◌, map}
-use Rattle.ingress.specs.Loaded.{opens_in, entry_of_open}
+use Rattle.ingress.specs.Keeping.{opens_in}
+use Rattle.ingress.specs.Loaded.{entry_of_open}
 use Rattle.ingress.proofs.opens.OpenStarts.save.Given as goal
 
 abbrev pub invariant-loop-key : goal.invariant-loop-key

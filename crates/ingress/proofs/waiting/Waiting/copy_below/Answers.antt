@@ -4,6 +4,7 @@ use Rattle.tw_rows.specs.Kinds.{cell_kind_of}
 use Rattle.tw_rows.specs.Bag.{SameBag}
 use Rattle.edge_history.specs.Order.{failing, is_below, is_real}
 use Rattle.edge_stream.specs.Listing.{cells_of}
+use Rattle.edge_stream.proofs.Filling.{taken_next}
 use Rattle.ingress.specs.Fits.{is_fit}
 use Rattle.ingress.proofs.Fitting.{fit_kinds, fit_real, front_fits, back_fits, none_fails_at, pools_again, pools_same, pools_next, pools_part, shape_again, shape_same, shape_next}
 use Rattle.ingress.proofs.Merged.{Merged, merged_first, next_order, merged_next, merged_all, rank_below, ok_maps}
@@ -14,6 +15,7 @@ loop-i-init c = record {
   merged = merged_first c.self.inside.queue.items c.self.inside.others c.args.list.now.edges c.requires.empty c.self.invariant;
   within = omega arith;
   shape = shape_same c.args.list.now c.args.list.now refl;
+  taken = λ first kinds same h. h;
   pools = pools_same c.args.pools.now;
 }
 
@@ -70,6 +72,11 @@ loop-i-preserved c =
           omega (arith, r, b);
       shape = shape_next c.args.list.now c.append_between.new.list c.append.new.self e
           (shape_again c.args.list.now c.loop-i.list c.append_between.new.list c.loop-i.invariant.shape c.append_between.ensures.shape) c.in_ok-append.ensures.ok;
+      taken = λ first kinds same h.
+          let shape = shape_again c.args.list.now c.loop-i.list c.append_between.new.list c.loop-i.invariant.shape c.append_between.ensures.shape in
+          taken_next c.append_between.new.list c.append.new.self e first c.append_between.new.pools c.append.new.pools kinds
+          (ap (map cell_kind_of) shape.kinds ∙ same) c.in_ok-append.ensures.ok
+          (c.in_ok-append_between.ensures.taken first kinds (ap (map cell_kind_of) c.loop-i.invariant.shape.kinds ∙ same) (c.loop-i.invariant.taken first kinds same h)) c.in_ok-append.ensures.pools;
       pools = pools_next c.args.pools.now c.append_between.new.pools c.append.new.pools c.append_between.new.list
           (pools_again c.args.pools.now c.loop-i.pools c.append_between.new.pools c.loop-i.invariant.pools c.append_between.ensures.pools) c.in_ok-append.ensures.pools;
     }
@@ -91,3 +98,9 @@ returns-clause-ok c =
     (subst (λ k. Merged q.items o k c.loop-i.low c.loop-i.list.edges) all c.loop-i.invariant.merged) c.end_rank.ensures.rank
     (let w = c.loop-i.invariant.within in let r = c.end_rank.ensures.rank in omega (arith, w, r)) added))
     c.append_between-2.ensures.ok
+
+pub returns-clause-taken : goal.returns-clause-taken
+returns-clause-taken c =
+    ok_maps c.append_between-2.result _ _
+    (λ t first kinds same h. t first kinds (ap (map cell_kind_of) c.loop-i.invariant.shape.kinds ∙ same) (c.loop-i.invariant.taken first kinds same h))
+    c.append_between-2.ensures.taken

@@ -1,0 +1,21 @@
+use Rattle.std.specs.Prelude.{◌++◌, ◌∷◌, [], All}
+use Rattle.std.proofs.Common.{◌∙◌, ap, refl, sym, subst, take}
+use Rattle.std.proofs.lemmas.List.{take_more, take_all}
+use Rattle.std.proofs.lemmas.List.Elements.{All-push}
+use Rattle.ingress.specs.Saving.{IsSoundEntry}
+use Rattle.ingress.specs.Loaded.{cells_of_kinds}
+use Rattle.ingress.proofs.loading.are_sound_entries.Goals as goal
+
+pub loop-entry-preserved : goal.loop-entry-preserved
+loop-entry-preserved c =
+    let es = c.args.entries.now in
+    let i = c.loop-entry.entry-index in
+    let P = IsSoundEntry (cells_of_kinds c.args.kinds.now) c.args.last in
+    subst (All P) (ap (λ x. take i es ++ x ∷ []) c.entry-item.is ∙ sym (take_more es i c.entry-item.result c.loop-entry-test.true))
+    (All-push P (take i es) c.entry-item.result c.loop-entry.invariant (c.is_sound_entry.ensures.yes c.if-not-is_sound_entry.false))
+
+pub returns : goal.returns
+returns c = (
+  λ yes. subst (All (IsSoundEntry (cells_of_kinds c.args.kinds.now) c.args.last)) (take_all c.loop-entry.entry-index c.args.entries.now c.loop-entry-test.false) c.loop-entry.invariant,
+  λ all. refl,
+)
