@@ -3,3 +3,4 @@ pub mod Tables
 pub mod Views
 pub mod Stocks
 pub mod Keeping
+pub mod Placing

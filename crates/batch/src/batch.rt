@@ -1,5 +1,7 @@
 // A batch of edges, in columns.
-ghost use Rattle.std.specs.Prelude.{◌≡◌, ◌+◌, ◌<◌, ◌≤◌, ◌↔◌, ◌&&◌, true, false, [], ◌∷◌, ◌++◌, length, map, Some, slice_get, slice_set, slice_index_or, All, IsOk, IsErr, IfOk, OnOk, OnErr};
+ghost use Rattle.std.specs.Prelude.{◌≡◌, ◌+◌, ◌<◌, ◌≤◌, ◌↔◌, ◌&&◌, true, false, [], ◌∷◌, ◌++◌};
+ghost use Rattle.std.specs.Prelude.{length, map, Some, slice_get, slice_set, slice_index_or, All};
+ghost use Rattle.std.specs.Prelude.{IsOk, IsErr, IfOk, OnOk, OnErr};
 ghost use Rattle.tw_rows.specs.Cells.{datum_kind};
 ghost use Rattle.batch.specs.Rows.{Row, Table, edge_of, edges_of, occupied_rows, row_of, kept, cell_column};
 ghost use Rattle.batch.specs.Payloads.{payload_kind, payload_data, payload_capacity};

@@ -5,6 +5,7 @@ mod batch;
 mod columns;
 mod making;
 mod payload;
+mod places;
 mod pools;
 
 pub use batch::{Batch, Full};

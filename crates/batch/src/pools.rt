@@ -87,7 +87,13 @@ impl Pools {
     /// stay.
     pub fn refill(&mut self, n: usize) -> Result<(), Memory>
         requires { n ≤ self.old.limit }
-        ensures ok { OnOk result (self.new ≡ record self.old { words = max self.old.words n; ints = max self.old.ints n; bits = max self.old.bits n; occupancies = max self.old.occupancies n }) }
+        ensures ok { OnOk result (self.new
+            ≡ record self.old {
+              words = max self.old.words n;
+              ints = max self.old.ints n;
+              bits = max self.old.bits n;
+              occupancies = max self.old.occupancies n;
+            }) }
         ensures err { OnErr result (NoMore self.new self.old) }
     {
         self.words.refill(n)?;

@@ -30,7 +30,8 @@ pub trait Cell: Copy {
     ghost round_trip: { (x : Self) → Fits x → value_of (word_of x) ≡ x };
 
     // Two values with one word are the same value.
-    ghost one_word: { (x y : Self) → Fits x → Fits y → word_of x ≡ word_of y → x ≡ y } = { λ x y fits_x fits_y same. sym (round_trip x fits_x) ∙ ap value_of same ∙ round_trip y fits_y };
+    ghost one_word: { (x y : Self) → Fits x → Fits y → word_of x ≡ word_of y → x ≡ y } = { λ x y fits_x fits_y same.
+        sym (round_trip x fits_x) ∙ ap value_of same ∙ round_trip y fits_y };
 }
 
 /// A number is kept as its 64 bits in two's complement.

@@ -1,6 +1,7 @@
 //! Lists of edges in order, kept in batches.
 #![tactic(auto)]
 
+mod cells;
 mod cursor;
 mod cut;
 mod last;

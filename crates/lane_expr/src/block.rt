@@ -64,15 +64,23 @@ fn run_at(
     requires block { 64 * block < length batch.now.rows }
     requires cells { HoldsPlaces texts.now batch.now.rows }
     requires placed { (j : ℕ) → j < 64 → IsOccupied batch.now.rows (64 * block + j) → ArePlaced texts.now (take to (map (datum_at j) registers.old)) }
-    requires constant { (d : Datum) → step.now ≡ Step.Constant d → (j : ℕ) → j < 64 → slice_index_or (map (datum_at j) registers.old) to (Datum.Int (pos 0)) ≡ d }
+    requires constant { (d : Datum) → step.now ≡ Step.Constant d → (j : ℕ) → j < 64 →
+        slice_index_or (map (datum_at j) registers.old) to (Datum.Int (pos 0)) ≡ d }
     ensures kinds { map (λ r. r.kind) registers.new ≡ map (λ r. r.kind) registers.old }
-    ensures others { (i j : ℕ) → i ≢ to → slice_index_or (map (datum_at j) registers.new) i (Datum.Int (pos 0)) ≡ slice_index_or (map (datum_at j) registers.old) i (Datum.Int (pos 0)) }
-    ensures constant { (j : ℕ) → is_constant step.now ≡ true → slice_index_or (map (datum_at j) registers.new) to (Datum.Int (pos 0)) ≡ slice_index_or (map (datum_at j) registers.old) to (Datum.Int (pos 0)) }
+    ensures others { (i j : ℕ) → i ≢ to →
+        slice_index_or (map (datum_at j) registers.new) i (Datum.Int (pos 0))
+        ≡ slice_index_or (map (datum_at j) registers.old) i (Datum.Int (pos 0)) }
+    ensures constant { (j : ℕ) → is_constant step.now ≡ true →
+        slice_index_or (map (datum_at j) registers.new) to (Datum.Int (pos 0))
+        ≡ slice_index_or (map (datum_at j) registers.old) to (Datum.Int (pos 0)) }
     ensures before { (j : ℕ) → take to (map (datum_at j) registers.new) ≡ take to (map (datum_at j) registers.old) }
     ensures value { (j : ℕ) → j < 64 → IsOccupied batch.now.rows (64 * block + j) →
         read_datum texts.now (slice_index_or (map (datum_at j) registers.new) to (Datum.Int (pos 0)))
-        ≡ node_value (read_cells texts.now (cells_of batch.now.rows (64 * block + j))) (node_of texts.now step.now) (operand texts.now (take to (map (datum_at j) registers.old))) }
-    ensures placed { (j : ℕ) → j < 64 → IsOccupied batch.now.rows (64 * block + j) → IsPlaced texts.now (slice_index_or (map (datum_at j) registers.new) to (Datum.Int (pos 0))) }
+        ≡ node_value (read_cells texts.now (cells_of batch.now.rows (64 * block + j)))
+        (node_of texts.now step.now) (operand texts.now (take to (map (datum_at j) registers.old))) }
+    ensures placed { (j : ℕ) → j < 64 → IsOccupied batch.now.rows (64 * block + j) →
+        IsPlaced texts.now (slice_index_or (map (datum_at j) registers.new) to
+        (Datum.Int (pos 0))) }
 {
     let (before, rest) = registers.split_at_mut(to);
     run_step(&mut rest[0], step, before, batch, texts, block);
@@ -100,8 +108,10 @@ fn run_step(
     ensures constant { is_constant step.now ≡ true → into.new ≡ into.old }
     ensures value { (j : ℕ) → j < 64 → IsOccupied batch.now.rows (64 * block + j) →
         read_datum texts.now (datum_of (step_kind batch.now.kinds step.now) into.new j)
-        ≡ node_value (read_cells texts.now (cells_of batch.now.rows (64 * block + j))) (node_of texts.now step.now) (operand texts.now (map (datum_at j) before.now)) }
-    ensures placed { (j : ℕ) → j < 64 → IsOccupied batch.now.rows (64 * block + j) → IsPlaced texts.now (datum_of (step_kind batch.now.kinds step.now) into.new j) }
+        ≡ node_value (read_cells texts.now (cells_of batch.now.rows (64 * block + j)))
+        (node_of texts.now step.now) (operand texts.now (map (datum_at j) before.now)) }
+    ensures placed { (j : ℕ) → j < 64 → IsOccupied batch.now.rows (64 * block + j) →
+        IsPlaced texts.now (datum_of (step_kind batch.now.kinds step.now) into.new j) }
 {
     match step {
         Step::Column(column) => {

@@ -76,7 +76,9 @@ fn compare_texts(
     requires left { (j : ℕ) → j < 64 → test occupied j ≡ true → place left.now.lanes j < length texts.now }
     requires right { (j : ℕ) → j < 64 → test occupied j ≡ true → place right.now.lanes j < length texts.now }
     ensures { (j : ℕ) → j < 64 → test occupied j ≡ true →
-        test result j ≡ is_met op (slice_cmp nat_cmp (slice_index_or texts.now (place left.now.lanes j) []) (slice_index_or texts.now (place right.now.lanes j) [])) }
+        test result j ≡ is_met op (slice_cmp nat_cmp
+        (slice_index_or texts.now (place left.now.lanes j) [])
+        (slice_index_or texts.now (place right.now.lanes j) [])) }
 {
     match op {
         CompareOp::Eq => same_texts(left, right, texts, occupied),
@@ -90,7 +92,9 @@ fn same_texts(left: &Places, right: &Places, texts: &TextTable, occupied: u64) -
     requires left { (j : ℕ) → j < 64 → test occupied j ≡ true → place left.now.lanes j < length texts.now }
     requires right { (j : ℕ) → j < 64 → test occupied j ≡ true → place right.now.lanes j < length texts.now }
     ensures { (j : ℕ) → j < 64 → test occupied j ≡ true →
-        test result j ≡ is_met CompareOp.Eq (slice_cmp nat_cmp (slice_index_or texts.now (place left.now.lanes j) []) (slice_index_or texts.now (place right.now.lanes j) [])) }
+        test result j ≡ is_met CompareOp.Eq (slice_cmp nat_cmp
+        (slice_index_or texts.now (place left.now.lanes j) [])
+        (slice_index_or texts.now (place right.now.lanes j) [])) }
 {
     let _distinct = texts.len();
     marks_same_places(left, right)
@@ -107,7 +111,9 @@ fn order_texts(
     requires left { (j : ℕ) → j < 64 → test occupied j ≡ true → place left.now.lanes j < length texts.now }
     requires right { (j : ℕ) → j < 64 → test occupied j ≡ true → place right.now.lanes j < length texts.now }
     ensures { (j : ℕ) → j < 64 → test occupied j ≡ true →
-        test result j ≡ is_met op (slice_cmp nat_cmp (slice_index_or texts.now (place left.now.lanes j) []) (slice_index_or texts.now (place right.now.lanes j) [])) }
+        test result j ≡ is_met op (slice_cmp nat_cmp
+        (slice_index_or texts.now (place left.now.lanes j) [])
+        (slice_index_or texts.now (place right.now.lanes j) [])) }
 {
     let mut word = 0;
     for j in 0..BLOCK {

@@ -38,7 +38,8 @@ impl Model for Kernel {
 
     ghost view = { λ k. record { steps = k.steps.items; kinds = k.kinds.items; capacity = k.capacity } };
 
-    ghost invariant = { λ k. AreSteps k.kinds.items k.steps.items × (map (λ r. r.kind) k.registers.items ≡ map (step_kind k.kinds.items) k.steps.items)
+    ghost invariant = { λ k. AreSteps k.kinds.items k.steps.items
+        × (map (λ r. r.kind) k.registers.items ≡ map (step_kind k.kinds.items) k.steps.items)
         × AreFilled k.steps.items k.registers.items };
 }
 

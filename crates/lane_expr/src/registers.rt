@@ -49,7 +49,8 @@ impl Register {
         requires within { first + count ≤ length (payload_data column.now) }
         requires few { count ≤ 64 }
         ensures kind { self.new.kind ≡ self.old.kind }
-        ensures data { (j : ℕ) → j < count → datum_of (payload_kind column.now) self.new j ≡ slice_index_or (payload_data column.now) (first + j) (Datum.Int (pos 0)) }
+        ensures data { (j : ℕ) → j < count → datum_of (payload_kind column.now) self.new j
+            ≡ slice_index_or (payload_data column.now) (first + j) (Datum.Int (pos 0)) }
     {
         match column {
             Payload::Ints(cells) => load(&mut self.numbers, cells.as_slice(), first, count),

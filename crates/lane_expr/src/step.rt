@@ -6,8 +6,8 @@ use lanes::Divisor;
 use plan_model::{ArithOp, CompareOp};
 use tw_rows::{CellKind, Datum};
 
-/// A step of a kernel: a node of its expression, in which a text is its place in the table of texts and a divisor has its reciprocal. A step names its
-/// operands by their numbers in the list of steps.
+/// A step of a kernel: a node of its expression, in which a text is its place in the table of texts and a divisor
+/// has its reciprocal. A step names its operands by their numbers in the list of steps.
 #[derive(Clone, Copy)]
 pub enum Step {
     Column(usize),

@@ -13,7 +13,8 @@ pub fn lines_count_rows()
         ≡ length (named_times r (changes rows 0 (suc t))) + how_often r (rows t) }
 {}
 
-/// At an instant a row has a start line for each time that it stands there more often than just before, and an end line for each time that it stands there less often.
+/// At an instant a row has a start line for each time that it stands there more often than just before, and an end line
+/// for each time that it stands there less often.
 pub fn lines_follow_rows()
     ensures starts { (rows : ℕ → List Row) (r : Row) (t : ℕ) →
         length (start_times r (changes_at rows t))

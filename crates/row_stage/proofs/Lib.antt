@@ -1,3 +1,4 @@
 pub mod MadeEdges
 pub mod Batches
 pub mod Nodes
+pub mod Tables

@@ -1,8 +1,11 @@
 -- The nodes of a plan and their stages.
-use Rattle.std.proofs.Common.{◌≡◌, ◌≤◌, ◌<◌, ℕ, true, List, [], ◌∷◌, length, refl, ap, sym, subst, ◌∙◌, arith, Result, Ok, Err}
+use Rattle.std.proofs.Common.{◌≡◌, ◌≤◌, ◌<◌, ℕ, true, List, [], ◌∷◌, length, map, refl, ap, sym, subst, ◌∙◌, arith, Result, Ok, Err}
 use Rattle.std.specs.Prelude.{Some, None, All, IfOk, slice_get, slice_index_or}
 use Rattle.std.proofs.lemmas.List.{length-map}
 use Rattle.std.proofs.lemmas.List.Elements.{All-head, All-tail, All-weaker}
+use Rattle.tw_rows.specs.Kinds.{cell_kind_of}
+use Rattle.tw_rows.specs.declared.schema.ColumnDef.{ColumnDef}
+use Rattle.tw_rows.specs.declared.kind.Kind.{Kind}
 use Rattle.tw_rows.specs.declared.kind.CellKind.{CellKind}
 use Rattle.tw_rows.specs.declared.kind.CellKind.TheVariants.{Bit}
 use Rattle.tw_rows.specs.Texts.{BeginsWith}
@@ -158,3 +161,13 @@ module _ (plan : PlanParts) (i : ℕ) (n : Node) (at : IsNodeAt plan i n) where
 pub IfOk-weaker : {A E : Type 0} (P Q : A → Type 0) → ((x : A) → P x → Q x) → (r : Result A E) → IfOk r P → IfOk r Q
 IfOk-weaker P Q f (Ok x) h = f x h
 IfOk-weaker P Q f (Err e) h = tt
+
+-- how the columns of these kinds are stored
+pub stored_kinds : (columns : List ColumnDef) → map cell_kind_of (map (λ c. c.kind) columns) ≡ kinds_of_schema columns
+stored_kinds [] = refl
+stored_kinds (c ∷ cs) = ap (λ ks. cell_kind_of c.kind ∷ ks) (stored_kinds cs)
+
+pub kinds_are_stored : {V E : Type 0} (r : Result V E) (items : V → List Kind) (columns : List ColumnDef) (kinds : List CellKind) → kinds_of_schema columns ≡ kinds → IfOk r (λ v. items v ≡ map (λ c. c.kind) columns) →
+    IfOk r (λ v. map cell_kind_of (items v) ≡ kinds)
+kinds_are_stored (Ok v) items columns kinds same e = ap (map cell_kind_of) e ∙ stored_kinds columns ∙ same
+kinds_are_stored (Err e) items columns kinds same h = tt

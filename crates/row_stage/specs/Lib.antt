@@ -1,3 +1,4 @@
--- Contracts of other crates read both
+-- Contracts of other crates read all of these
 pub mod Made
 pub mod Stages
+pub mod Texts

@@ -6,5 +6,5 @@ mod making;
 mod row_stage;
 
 pub use laws::{made_edges_stand_read, stages_keep_their_node};
-pub use making::read_kinds;
+pub use making::{column_kinds, read_kinds};
 pub use row_stage::RowStage;

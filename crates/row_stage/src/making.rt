@@ -1,23 +1,25 @@
 // The making of stages from the nodes of a plan.
-ghost use Rattle.std.specs.Prelude.{◌≡◌, ◌<◌, ◌≤◌, true, Some, length, map, slice_get, All, IfOk};
+ghost use Rattle.std.specs.Prelude.{◌≡◌, ◌<◌, ◌≤◌, true, Some, length, map, slice_get, All, IfOk, OnOk, OnErr};
 ghost use Rattle.tw_rows.specs.Kinds.{cell_kind_of};
 ghost use Rattle.tw_rows.specs.Texts.{BeginsWith};
-ghost use Rattle.plan_model.specs.IsPlan.{kinds_of_schema, kinds_of_stream, kinds_at};
+ghost use Rattle.plan_model.specs.declared.node.Node.{Node as PlanNode};
+ghost use Rattle.plan_model.specs.IsPlan.{kinds_of_stream, kinds_at};
 ghost use Rattle.plan_model.specs.Typed.{IsTyped, kind_of};
-ghost use Rattle.lane_expr.specs.Steps.{AreStepsPlaced};
+ghost use Rattle.lane_expr.specs.Steps.{AreStepsPlaced, with_texts};
 ghost use Rattle.where_select.specs.Projects.{exprs_of};
 ghost use Rattle.row_stage.specs.Stages.{is_of_rows, kinds_read, IsFor, IsFilterOf, IsProjectOf, IsStageOf};
+ghost use Rattle.row_stage.specs.Texts.{nodes_of_items, nodes_in, HasFirstTexts};
 
 use crate::row_stage::RowStage;
 use lane_expr::Kernel;
 use plan_model::{Expr, Node, Plan};
 use std::alloc::Global;
-use tw_rows::{CellKind, Kind, Memory, Schema, StreamDef, TextTable};
+use tw_rows::{CellKind, ColumnDef, Kind, Memory, Schema, StreamDef, TextTable};
 use where_select::{Filter, Project};
 
 impl RowStage {
-    /// The stage of a Source, a Where or a Select of the plan, for batches of `capacity` rows. The texts of the node come
-    /// into the table, and stay there where memory is wanting.
+    /// The stage of a Source, a Where or a Select of the plan, for batches of `capacity` rows. The texts of the node's
+    /// expressions come into the table, and stay there out of memory.
     pub fn new(
         alloc: Global,
         plan: &Plan,
@@ -27,7 +29,12 @@ impl RowStage {
     ) -> Result<RowStage, Memory>
         requires node { node < length plan.now.nodes }
         requires rows { (n : Node) → slice_get plan.now.nodes node ≡ Some n → is_of_rows n ≡ true }
-        ensures stage { IfOk result (λ s. (n : Node) → slice_get plan.now.nodes node ≡ Some n → IsStageOf texts.new capacity (kinds_read plan.now n) n s) }
+        ensures stage { IfOk result (λ s. (n : PlanNode) → slice_get plan.now.nodes node ≡ Some n →
+            IsStageOf texts.new capacity (kinds_read plan.now n) n s) }
+        ensures table { OnOk result ((n : PlanNode) → slice_get plan.now.nodes node ≡ Some n →
+            texts.new ≡ with_texts texts.old (nodes_in n)) }
+        ensures err { OnErr result ((n : PlanNode) → slice_get plan.now.nodes node ≡ Some n →
+            HasFirstTexts texts.new texts.old (nodes_in n)) }
         ensures begins { BeginsWith texts.new texts.old }
     {
         let kinds = read_kinds(alloc, plan, node)?;
@@ -69,7 +76,7 @@ fn stream_kinds(alloc: Global, streams: &[StreamDef], stream: usize) -> Result<V
     requires { stream < length streams.now }
     ensures { IfOk result (λ v. map cell_kind_of v.items ≡ kinds_of_stream streams.now stream) }
 {
-    column_kinds(alloc, &streams[stream].schema)
+    column_kinds(alloc, streams[stream].schema.items())
 }
 
 // The kinds of the columns of the node of that number.
@@ -77,18 +84,14 @@ fn child_kinds(alloc: Global, schemas: &[Schema], child: usize) -> Result<Vec<Ki
     requires { child < length schemas.now }
     ensures { IfOk result (λ v. map cell_kind_of v.items ≡ kinds_at schemas.now child) }
 {
-    column_kinds(alloc, &schemas[child])
+    column_kinds(alloc, schemas[child].items())
 }
 
-// The kinds of the columns of a schema.
-fn column_kinds(alloc: Global, schema: &Schema) -> Result<Vec<Kind>, Memory>
-    ensures { IfOk result (λ v. map cell_kind_of v.items ≡ kinds_of_schema schema.now) }
+/// The kinds of the columns.
+pub fn column_kinds(alloc: Global, columns: &[ColumnDef]) -> Result<Vec<Kind>, Memory>
+    ensures { IfOk result (λ v. v.items ≡ map (λ c. c.kind) columns.now) }
 {
-    let mut kinds = Vec::new(alloc);
-    for column in schema.items() {
-        kinds.push(column.kind)?;
-    }
-    Ok(kinds)
+    Ok(columns.iter().map(|column| column.kind).collect(alloc)?)
 }
 
 // The filter of a test over columns of these kinds.
@@ -102,6 +105,8 @@ fn filter_of(
     requires typed { IsTyped (map cell_kind_of kinds.now) test.now }
     requires bit { kind_of test.now (map cell_kind_of kinds.now) ≡ CellKind.Bit }
     ensures filter { IfOk result (λ f. IsFilterOf texts.new capacity (map cell_kind_of kinds.now) test.now f) }
+    ensures table { OnOk result (texts.new ≡ with_texts texts.old test.now) }
+    ensures err { OnErr result (HasFirstTexts texts.new texts.old test.now) }
     ensures begins { BeginsWith texts.new texts.old }
 {
     let kernel = Kernel::compile(alloc, test, kinds, texts, capacity)?;
@@ -119,6 +124,8 @@ fn project_of(
     requires typed { All (IsTyped (map cell_kind_of kinds.now)) items.now }
     requires few { length items.now ≤ 32 }
     ensures project { IfOk result (λ ks. IsProjectOf texts.new capacity (map cell_kind_of kinds.now) items.now ks) }
+    ensures table { OnOk result (texts.new ≡ with_texts texts.old (nodes_of_items items.now)) }
+    ensures err { OnErr result (HasFirstTexts texts.new texts.old (nodes_of_items items.now)) }
     ensures begins { BeginsWith texts.new texts.old }
 {
     let kernels = kernels_of(alloc, items, kinds, capacity, texts)?;
@@ -137,6 +144,8 @@ fn kernels_of(
     ensures same { IfOk result (λ ks. exprs_of texts.new ks.items ≡ items.now) }
     ensures placed { IfOk result (λ ks. All (λ k. AreStepsPlaced texts.new k.steps) ks.items) }
     ensures suited { IfOk result (λ ks. All (IsFor capacity (map cell_kind_of kinds.now)) ks.items) }
+    ensures table { OnOk result (texts.new ≡ with_texts texts.old (nodes_of_items items.now)) }
+    ensures err { OnErr result (HasFirstTexts texts.new texts.old (nodes_of_items items.now)) }
     ensures begins { BeginsWith texts.new texts.old }
 {
     let mut kernels = Vec::new(alloc);

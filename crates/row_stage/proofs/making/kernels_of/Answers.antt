@@ -1,14 +1,16 @@
-use Rattle.std.proofs.Common.{List, ◌≡◌, ◌∙◌, ◌+◌, ◌++◌, [], ◌∷◌, map, take, ap, sym, subst}
+use Rattle.std.proofs.Common.{List, ◌≡◌, ◌∙◌, ◌+◌, ◌++◌, [], ◌∷◌, map, take, drop, ap, sym, subst}
 use Rattle.std.specs.Prelude.{All}
 use Rattle.std.proofs.lemmas.List.{take_more, map-append}
 use Rattle.std.proofs.lemmas.List.Elements.{All-push}
 use Rattle.tw_rows.specs.Kinds.{cell_kind_of}
 use Rattle.plan_model.specs.declared.expr.ExprNode.{ExprNode}
 use Rattle.lane_expr.specs.Kernels.{Program}
-use Rattle.lane_expr.specs.Steps.{expr_of, AreStepsPlaced}
+use Rattle.lane_expr.specs.Steps.{expr_of, AreStepsPlaced, with_texts}
 use Rattle.lane_expr.proofs.Typing.{BeginsWith-trans}
 use Rattle.where_select.specs.Projects.{exprs_of}
 use Rattle.row_stage.specs.Stages.{IsFor}
+use Rattle.row_stage.specs.Texts.{nodes_of_items, HasFirstTexts}
+use Rattle.row_stage.proofs.Tables.{texts_next, first_next, all_first, items_push, items_parts, on_err}
 use Rattle.row_stage.proofs.Nodes.{placed-more, exprs-more}
 use Rattle.row_stage.proofs.making.kernels_of.Goals as goal
 
@@ -36,5 +38,27 @@ loop-item-preserved c =
       same = ap (exprs_of more) pushed ∙ map-append (λ x. expr_of more x.steps) ks (k ∷ []) ∙ (λ j. front j ++ last j ∷ []) ∙ sym {A = List (List ExprNode)} next;
       placed = subst (All steps) (sym {A = List Program} pushed) (All-push steps ks k (placed-more texts more begins ks before.placed) kernel.placed);
       suited = subst (All suits) (sym {A = List Program} pushed) (All-push suits ks k before.suited (record { alike = c.in_ok-compile.ensures.kinds; rows = c.in_ok-compile.ensures.capacity }));
+      table = c.in_ok-compile.ensures.table ∙ texts_next c.args.texts.now texts (nodes_of_items (take i c.args.items.now)) item before.table ∙ ap (with_texts c.args.texts.now) (sym (items_push (take i c.args.items.now) item) ∙ ap nodes_of_items (sym {A = List (List ExprNode)} next));
       begins = BeginsWith-trans more texts c.args.texts.now begins before.begins;
     }
+
+pub returns-in_err-compile-clause-err : goal.returns-in_err-compile-clause-err
+returns-in_err-compile-clause-err c =
+    let i = c.loop-item.item-index in
+    let items = c.args.items.now in
+    let item = c.item-item.result in
+    let next : take (i + 1) items ≡ take i items ++ item ∷ [] = take_more items i item c.loop-item-test.true ∙ ap (λ m. take i items ++ m ∷ []) (sym c.item-item.is) in
+    on_err c.from_residual.result _
+    (subst (HasFirstTexts c.compile.new.texts c.args.texts.now) (sym (items_parts items i item next))
+    (first_next c.compile.new.texts c.args.texts.now c.loop-item.texts (nodes_of_items (take i items)) item (nodes_of_items (drop (i + 1) items)) c.loop-item.invariant.table c.in_err-compile.ensures.err))
+
+pub returns-in_err-push-clause-err : goal.returns-in_err-push-clause-err
+returns-in_err-push-clause-err c =
+    let i = c.loop-item.item-index in
+    let items = c.args.items.now in
+    let item = c.item-item.result in
+    let next : take (i + 1) items ≡ take i items ++ item ∷ [] = take_more items i item c.loop-item-test.true ∙ ap (λ m. take i items ++ m ∷ []) (sym c.item-item.is) in
+    on_err c.from_residual-in_err-push.result _
+    (subst (HasFirstTexts c.compile.new.texts c.args.texts.now) (sym (items_parts items i item next))
+    (first_next c.compile.new.texts c.args.texts.now c.loop-item.texts (nodes_of_items (take i items)) item (nodes_of_items (drop (i + 1) items)) c.loop-item.invariant.table
+    (all_first c.compile.new.texts c.loop-item.texts item c.in_ok-compile.ensures.table)))
