@@ -1,5 +1,5 @@
 -- The stages of a plan keep no more entries than its nodes may, over the events of its sources.
-use Rattle.std.specs.Prelude.{◌≡◌, ℕ, ◌<◌, ◌≤◌, Some, List, [], get_or, slice_get}
+use Rattle.std.specs.Prelude.{◌≡◌, ℕ, ◌<◌, ◌≤◌, Some, List, [], length, get_or, slice_get}
 use Rattle.std.proofs.Common.{subst, le_trans, arith, inl, inr}
 use Rattle.std.proofs.lemmas.Bool.{cases_lt}
 use Rattle.std.proofs.lemmas.Option.{slice_get-get_or, slice_get_within}
@@ -10,15 +10,41 @@ use Rattle.plan_model.specs.Meaning.{Sources, node_events, node_closes, left_of,
 use Rattle.plan_model.proofs.Kept.{IsPlan-ordered}
 use Rattle.plan_laws.specs.Held.{node_may_hold}
 use Rattle.node_laws.specs.Places.{AreDistinct, read_of}
-use Rattle.node_laws.specs.Standing.{StandsRead, SourcesStandRead}
+use Rattle.node_laws.specs.Standing.{StandsRead, SourcesStandRead, AllStandRead}
 use Rattle.row_stage.specs.declared.row_stage.RowStage.TheVariants.{Source as SourceStage}
 use Rattle.dataflow.specs.declared.stage.Stage.{Stage}
 use Rattle.dataflow.specs.declared.stage.Stage.TheVariants.{Rows}
 use Rattle.dataflow.specs.Flows.{DataflowView, Flows}
 use Rattle.dataflow.specs.Stages.{reached, left_closing, right_closing, left_kinds, right_kinds, entries_in, may_keep, KeepsAtMost}
-use Rattle.dataflow.proofs.PlanHold.{none_held_of, held_of_events}
+use Rattle.dataflow.proofs.PlanHold.{none_held_of, through, held_of_events}
 use Rattle.dataflow.proofs.Rules.{stage_stands}
 use Rattle.dataflow.proofs.Stepping.{reached_after, node_there}
+
+-- after a punctuation each node's answers stand for what it read
+module _ (texts : List (List ℕ)) (distinct : AreDistinct texts) (d : DataflowView) (last : ℕ) (given lists : ℕ → List Edge) (flows : Flows texts last given lists d) (later : 0 < last) where
+  abbrev left_at : Node → ℕ
+  left_at n = left_closing d.plan.nodes last n
+
+  abbrev right_at : Node → ℕ
+  right_at n = right_closing d.plan.nodes last n
+
+  answered : (i : ℕ) (n : Node) → slice_get d.plan.nodes i ≡ Some n →
+      StandsRead texts (node_closes n (left_at n) (right_at n)) (lists i) (node_events n (read_of texts (left_of [] given lists n)) (read_of texts (right_of [] lists n)))
+  answered i n there =
+      let s = get_or d.stages i (Rows SourceStage) in
+      let each = flows.can.count in
+      let low = slice_get_within d.plan.nodes i n there in
+      let here = slice_get-get_or d.stages i (Rows SourceStage) (omega (arith, low, each)) in
+      subst (λ x. StandsRead texts (node_closes n x (right_at n)) (lists i) (node_events n (read_of texts (left_of [] given lists n)) (read_of texts (right_of [] lists n)))) (reached_after 0 last (left_at n) later)
+      (subst (λ y. StandsRead texts (node_closes n (reached last (left_at n)) y) (lists i) (node_events n (read_of texts (left_of [] given lists n)) (read_of texts (right_of [] lists n)))) (reached_after 0 last (right_at n) later)
+      (stage_stands texts distinct d.capacity (left_kinds d.plan n) (right_kinds d.plan n) n s (reached last (left_at n)) (reached last (right_at n)) (flows.can.ready i n s there here)
+      (left_of [] given lists n) (right_of [] lists n) (lists i) (flows.kept i n s there here)))
+
+-- and so for its events
+pub all_stand : (texts : List (List ℕ)) → AreDistinct texts → (d : DataflowView) → IsPlan d.plan → (last : ℕ) (source : Sources) (given lists : ℕ → List Edge) → Flows texts last given lists d → 0 < last → SourcesStandRead texts last source given →
+    AllStandRead texts d.plan.nodes last source lists (length d.plan.nodes)
+all_stand texts distinct d whole last source given lists flows later from =
+    through texts distinct d.plan.nodes (IsPlan-ordered d.plan whole) last source given lists from (answered texts distinct d last given lists flows later) (length d.plan.nodes) (omega arith)
 
 module _ (texts : List (List ℕ)) (distinct : AreDistinct texts) (d : DataflowView) (whole : IsPlan d.plan) (last : ℕ) (source : Sources) (given lists : ℕ → List Edge) (flows : Flows texts last given lists d)
     (from : SourcesStandRead texts last source given) (most : (s : Stage) → KeepsAtMost (entries_in s) s) where
@@ -37,23 +63,11 @@ module _ (texts : List (List ℕ)) (distinct : AreDistinct texts) (d : DataflowV
 
   -- after a punctuation
   module _ (later : 0 < last) where
-    answered : (i : ℕ) (n : Node) → slice_get d.plan.nodes i ≡ Some n →
-        StandsRead texts (node_closes n (left_to n) (right_to n)) (lists i) (node_events n (read_of texts (left_of [] given lists n)) (read_of texts (right_of [] lists n)))
-    answered i n there =
-        let s = get_or d.stages i (Rows SourceStage) in
-        let each = flows.can.count in
-        let low = slice_get_within d.plan.nodes i n there in
-        let here = slice_get-get_or d.stages i (Rows SourceStage) (omega (arith, low, each)) in
-        subst (λ x. StandsRead texts (node_closes n x (right_to n)) (lists i) (node_events n (read_of texts (left_of [] given lists n)) (read_of texts (right_of [] lists n)))) (reached_after 0 last (left_to n) later)
-        (subst (λ y. StandsRead texts (node_closes n (reached last (left_to n)) y) (lists i) (node_events n (read_of texts (left_of [] given lists n)) (read_of texts (right_of [] lists n)))) (reached_after 0 last (right_to n) later)
-        (stage_stands texts distinct d.capacity (left_kinds d.plan n) (right_kinds d.plan n) n s (reached last (left_to n)) (reached last (right_to n)) (flows.can.ready i n s there here)
-        (left_of [] given lists n) (right_of [] lists n) (lists i) (flows.kept i n s there here)))
-
     over_events : (i : ℕ) (n : Node) (s : Stage) → slice_get d.plan.nodes i ≡ Some n → slice_get d.stages i ≡ Some s → entries_in s ≤ node_may_hold source d.plan.nodes last i
     over_events i n s there here =
         let a = subst (λ x. entries_in s ≤ may_keep n x (right_to n) (left_of [] given lists n) (right_of [] lists n)) (reached_after 0 last (left_to n) later)
         (subst (λ y. entries_in s ≤ may_keep n (reached last (left_to n)) y (left_of [] given lists n) (right_of [] lists n)) (reached_after 0 last (right_to n) later) (over_edges i n s there here)) in
-        let b = held_of_events texts distinct d.plan.nodes (IsPlan-ordered d.plan whole) last source given lists from answered i n there (flows.can.built i n there) (slice_get_within d.plan.nodes i n there) in
+        let b = held_of_events texts distinct d.plan.nodes (IsPlan-ordered d.plan whole) last source given lists from (answered texts distinct d last given lists flows later) i n there (flows.can.built i n there) (slice_get_within d.plan.nodes i n there) in
         le_trans a b
 
   pub bounded : (i : ℕ) (s : Stage) → slice_get d.stages i ≡ Some s → entries_in s ≤ node_may_hold source d.plan.nodes last i

@@ -17,7 +17,6 @@ module _ (texts more : List (List ℕ)) (last : ℕ) (d : DataflowView) (begins 
   can_longer can = record {
     count = can.count;
     room = can.room;
-    limit = can.limit;
     built = can.built;
     ready = λ i n s at here. ready_longer texts more begins d.capacity (left_kinds d.plan n) (right_kinds d.plan n) n s (reached last (left_closing d.plan.nodes last n)) (reached last (right_closing d.plan.nodes last n)) (can.ready i n s at here);
   }

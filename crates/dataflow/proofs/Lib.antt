@@ -1,5 +1,4 @@
 mod Examples
-pub mod Grouping
 pub mod Operators
 pub mod Starting
 pub mod Variants
@@ -14,3 +13,5 @@ pub mod Counting
 pub mod MayHold
 pub mod PlanHold
 pub mod Bounding
+pub mod Sure
+pub mod RowNodes

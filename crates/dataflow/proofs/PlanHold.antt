@@ -39,7 +39,7 @@ none_held_of given lists g l n built x c =
 -- WHAT STANDS
 module _ (texts : List (List ℕ)) (distinct : AreDistinct texts) (nodes : List Node) (ordered : IsOrdered nodes) (p : ℕ) (source : Sources) (given lists : ℕ → List Edge) (from : SourcesStandRead texts p source given)
     (answers : (i : ℕ) (n : Node) → slice_get nodes i ≡ Some n → StandsRead texts (node_closes n (left_closing nodes p n) (right_closing nodes p n)) (lists i) (node_events n (read_of texts (left_of [] given lists n)) (read_of texts (right_of [] lists n)))) where
-  through : (i : ℕ) → i ≤ length nodes → AllStandRead texts nodes p source lists i
+  pub through : (i : ℕ) → i ≤ length nodes → AllStandRead texts nodes p source lists i
   through zero low = λ k lower. absurd (omega (arith, lower))
   through (suc i) low =
       let n = get_or nodes i (Source 0) in

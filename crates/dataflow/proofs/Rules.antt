@@ -24,7 +24,7 @@ use Rattle.std.specs.Prelude.{map}
 use Rattle.tw_rows.specs.Kinds.{cell_kind_of}
 use Rattle.sweep_sides.specs.Waiting.{queued}
 use Rattle.temporal_join.proofs.Resuming.{join_longer, join_stands}
-use Rattle.dataflow.proofs.Grouping.{grouped_longer, grouped_stands}
+use Rattle.snapshot_agg.proofs.Standing.{group_longer, group_stands}
 use Rattle.anti_join.proofs.Resuming.{anti_longer, anti_stands}
 use Rattle.clip_op.proofs.Resuming.{clip_longer, clip_stands}
 use Rattle.session_window.proofs.Resuming.{session_longer, session_stands}
@@ -33,7 +33,15 @@ use Rattle.lifetime_ops.specs.Waiting.{edges_of_pending}
 use Rattle.row_stage.specs.Made.{IsMade}
 use Rattle.row_stage.specs.Stages.{IsStageOf}
 use Rattle.row_stage.specs.declared.row_stage.RowStage.{RowStage}
-use Rattle.dataflow.specs.Stages.{HasCome, MayComeUpTo, HasMade, IsReady, StageKeeps, life_standing, union_standing, extend_standing, first_undefined_read, join_standing, group_standing, anti_standing, session_standing, clip_standing}
+use Rattle.lifetime_ops.specs.Operating.{standing as life_standing}
+use Rattle.lifetime_ops.specs.ExtendOperating.{standing as extend_standing}
+use Rattle.union_op.specs.Operating.{standing as union_standing}
+use Rattle.temporal_join.specs.Operating.{standing as join_standing}
+use Rattle.snapshot_agg.specs.Operating.{standing as group_standing}
+use Rattle.anti_join.specs.Operating.{standing as anti_standing}
+use Rattle.session_window.specs.Operating.{standing as session_standing}
+use Rattle.clip_op.specs.Operating.{standing as clip_standing}
+use Rattle.dataflow.specs.Stages.{HasCome, MayComeUpTo, HasMade, IsReady, StageKeeps, first_undefined_read}
 use Rattle.dataflow.proofs.Operators.{operator_stands}
 
 pub came_longer : (texts more : List (List ℕ)) → BeginsWith more texts → (x : ℕ) (h : List Edge) → HasCome texts x h → HasCome more x h
@@ -67,7 +75,7 @@ keeps_longer texts more begins capacity left right n (Life o) x y ready hl hr ou
 keeps_longer texts more begins capacity left right n (Union o) x y ready hl hr out kept = union_longer more texts o.left_to o.right_to o.left.edges o.right.edges hl hr out begins kept
 keeps_longer texts more begins capacity left right n (Extend o) x y ready hl hr out kept = extended_longer o.by more texts o.left_to o.right_to o.carried.edges (edges_of_pending o.ends) hl hr out begins kept
 keeps_longer texts more begins capacity left right n (Join o) x y ready hl hr out kept = join_longer o.sides.rows.left_key.items o.sides.rows.right_key.items (map cell_kind_of o.left_kinds.items) (map cell_kind_of o.right_kinds.items) more texts o.left_to o.right_to o.sides.rows.left.rows o.sides.rows.right.rows (queued o.sides.left_waiting) (queued o.sides.right_waiting) hl hr out begins kept
-keeps_longer texts more begins capacity left right n (Group o) x y ready hl hr out kept = grouped_longer o.groups.key.items o.groups.aggs.items more texts o.groups.rows.rows o.running o.waiting o.left_to hl hr out begins kept
+keeps_longer texts more begins capacity left right n (Group o) x y ready hl hr out kept = group_longer o.groups.key.items o.groups.aggs.items (map cell_kind_of o.left_kinds.items) more texts o.groups.rows.rows o.running o.waiting o.left_to hl hr out begins kept
 keeps_longer texts more begins capacity left right n (Session o) x y ready hl hr out kept = session_longer o.side.sessions.rows.key o.side.sessions.timeout (map cell_kind_of o.kinds.items) o.positive more texts o.left_to o.side.sessions.rows.rows o.side.sessions.ends (queued o.side.waiting) hl hr out begins kept
 keeps_longer texts more begins capacity left right n (Anti o) x y ready hl hr out kept = anti_longer o.sides.rows.left_key.columns o.sides.rows.right_key.columns (map cell_kind_of o.left_kinds.items) (map cell_kind_of o.right_kinds.items) more texts o.left_to o.right_to o.sides.rows.left.rows o.sides.rows.right.rows o.sides.rows.times.rows (queued o.sides.left_waiting) (queued o.sides.right_waiting) hl hr out begins kept
 keeps_longer texts more begins capacity left right n (Clip o) x y ready hl hr out kept = clip_longer o.sides.rows.left.key o.sides.rows.right_key.columns (map cell_kind_of o.left_kinds.items) (map cell_kind_of o.right_kinds.items) more texts o.left_to o.right_to o.sides.rows.left.rows (queued o.sides.left_waiting) (queued o.sides.right_waiting) hl hr out begins kept
@@ -90,7 +98,7 @@ stage_stands texts distinct capacity left right n (Join o) x y ready hl hr out k
     (join_stands o.sides.rows.left_key.items o.sides.rows.right_key.items (map cell_kind_of o.left_kinds.items) (map cell_kind_of o.right_kinds.items) texts o.left_to o.right_to o.sides.rows.left.rows o.sides.rows.right.rows
     (queued o.sides.left_waiting) (queued o.sides.right_waiting) hl hr out distinct kept)
 stage_stands texts distinct capacity left right n (Group o) x y ready hl hr out kept =
-    operator_stands capacity left right n (group_standing o) x y ready texts hl hr out (grouped_stands o.groups.key.items o.groups.aggs.items texts o.groups.rows.rows o.running o.waiting o.left_to hl hr out distinct kept)
+    operator_stands capacity left right n (group_standing o) x y ready texts hl hr out (group_stands 0 o.groups.key.items o.groups.aggs.items (map cell_kind_of o.left_kinds.items) texts o.groups.rows.rows o.running o.waiting o.left_to hl hr out distinct kept)
 stage_stands texts distinct capacity left right n (Session o) x y ready hl hr out kept =
     operator_stands capacity left right n (session_standing o) x y ready texts hl hr out (session_stands o.side.sessions.rows.key o.side.sessions.timeout (map cell_kind_of o.kinds.items) o.positive texts o.left_to o.side.sessions.rows.rows o.side.sessions.ends (queued o.side.waiting) hl hr out distinct kept)
 stage_stands texts distinct capacity left right n (Anti o) x y ready hl hr out kept =

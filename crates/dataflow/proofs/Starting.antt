@@ -1,5 +1,5 @@
 -- Stages as they are made.
-use Rattle.std.specs.Prelude.{◌≡◌, ℕ, zero, suc, ◌<◌, ◌≤◌, true, false, Some, List, [], ◌∷◌, map, length, get_or, slice_get, slice_index_or, All}
+use Rattle.std.specs.Prelude.{◌≡◌, ℕ, zero, suc, ◌<◌, ◌≤◌, false, Some, List, [], ◌∷◌, map, length, get_or, slice_get, slice_index_or, All}
 use Rattle.std.proofs.Common.{refl, sym, ap, subst, ◌∙◌, arith}
 use Rattle.std.proofs.lemmas.List.{length-map}
 use Rattle.std.proofs.lemmas.List.Elements.{All-head, All-tail}
@@ -9,11 +9,9 @@ use Rattle.tw_rows.specs.declared.kind.Kind.{Kind}
 use Rattle.tw_rows.specs.declared.schema.StreamDef.{StreamDef}
 use Rattle.edge_stream.specs.Listing.{EdgeListView, cells_of}
 use Rattle.plan_model.specs.declared.node.Node.{Node}
-use Rattle.plan_model.specs.declared.node.Node.TheVariants.{Source, Where, Select, Union as UnionNode, Delay as DelayNode, Hop as HopNode, Duration as DurationNode, Extend as ExtendNode, Session as SessionNode, Clip as ClipNode, Group as GroupNode, Join as JoinNode, Anti as AntiNode, Coalesce, Mean, Top, Follow}
+use Rattle.plan_model.specs.declared.node.Node.TheVariants.{Source, Union as UnionNode, Extend as ExtendNode, Session as SessionNode, Clip as ClipNode, Group as GroupNode, Join as JoinNode, Anti as AntiNode}
 use Rattle.plan_model.specs.IsPlan.{PlanParts, IsPlan, kinds_at, kinds_of_schema, kinds_of_stream, node_kinds}
 use Rattle.plan_model.specs.Shape.{Shape, Stream, One, Two, shape, left_in, read_left, HasLower}
-use Rattle.built_nodes.specs.Built.{is_built}
-use Rattle.row_stage.specs.Stages.{is_of_rows}
 use Rattle.life_laws.proofs.Lives.{lives_opening}
 use Rattle.life_laws.proofs.Unions.{union_opening}
 use Rattle.life_laws.proofs.Extending.{extended_opening}
@@ -33,7 +31,7 @@ use Rattle.plan_model.specs.declared.agg.Agg.{Agg}
 use Rattle.snapshot_agg.specs.Answering.{group_kinds}
 use Rattle.snapshot_agg.specs.Keeping.{IsOpening}
 use Rattle.snapshot_agg.specs.declared.grouped.Grouped.{Grouped}
-use Rattle.dataflow.proofs.Grouping.{grouped_opens}
+use Rattle.snapshot_agg.proofs.Standing.{group_opening}
 use Rattle.anti_join.specs.States.{IsOpening as IsAntiOpening}
 use Rattle.clip_op.specs.States.{IsOpening as IsClipOpening}
 use Rattle.anti_join.specs.declared.anti.Anti.{Anti as AntiOperator}
@@ -44,7 +42,7 @@ use Rattle.session_window.specs.States.{IsOpening as IsSessionOpening}
 use Rattle.session_window.specs.declared.session.Session.{Session as SessionOperator}
 use Rattle.session_window.proofs.Resuming.{session_opening}
 use Rattle.dataflow.specs.declared.stage.Stage.TheVariants.{Life, Union, Extend, Join, Group, Anti, Session, Clip}
-use Rattle.dataflow.specs.Operating.{MeanAlike}
+use Rattle.dataflow.specs.Operating.{MeanAlike, over_two}
 use Rattle.dataflow.specs.Stages.{left_kinds, right_kinds, changing, StartsFor}
 
 -- no stream has more columns than a plan may have
@@ -82,27 +80,6 @@ module _ (plan : PlanParts) (whole : IsPlan plan) where
       let narrow = left_narrow i n there in
       omega (arith, count, same, narrow)
 
--- of the nodes that are built those that no other stage computes are of rows
-pub rows_left : (n : Node) → is_built n ≡ true → ((left right : ℕ) → n ≡ UnionNode left right → ⊥) → ((of by : ℕ) → n ≡ DelayNode of by → ⊥) → ((of size period : ℕ) → n ≡ HopNode of size period → ⊥) →
-    ((of by : ℕ) → n ≡ DurationNode of by → ⊥) → ((of by : ℕ) → n ≡ ExtendNode of by → ⊥) → ((left right : ℕ) (left_key right_key : List ℕ) → n ≡ JoinNode left right left_key right_key → ⊥) → ((of : ℕ) (key : List ℕ) (aggs : List Agg) → n ≡ GroupNode of key aggs → ⊥) → ((left right : ℕ) (left_key right_key : List ℕ) → n ≡ AntiNode left right left_key right_key → ⊥) → ((of timeout : ℕ) (key : List ℕ) → n ≡ SessionNode of timeout key → ⊥) → ((left right : ℕ) (left_key right_key : List ℕ) → n ≡ ClipNode left right left_key right_key → ⊥) → is_of_rows n ≡ true
-rows_left (Source stream) built u d h l e j g a s c = refl
-rows_left (Where of test) built u d h l e j g a s c = refl
-rows_left (Select of items) built u d h l e j g a s c = refl
-rows_left (UnionNode left right) built u d h l e j g a s c = absurd (u left right refl)
-rows_left (DelayNode of by) built u d h l e j g a s c = absurd (d of by refl)
-rows_left (HopNode of size period) built u d h l e j g a s c = absurd (h of size period refl)
-rows_left (DurationNode of by) built u d h l e j g a s c = absurd (l of by refl)
-rows_left (ExtendNode of by) built u d h l e j g a s c = absurd (e of by refl)
-rows_left (SessionNode of timeout key) built u d h l e j g a s c = absurd (s of timeout key refl)
-rows_left (ClipNode left right left_key right_key) built u d h l e j g a s c = absurd (c left right left_key right_key refl)
-rows_left (GroupNode of key aggs) built u d h l e j g a s c = absurd (g of key aggs refl)
-rows_left (JoinNode left right left_key right_key) built u d h l e j g a s c = absurd (j left right left_key right_key refl)
-rows_left (AntiNode left right left_key right_key) built u d h l e j g a s c = absurd (a left right left_key right_key refl)
-rows_left (Coalesce of) built u d h l e j g a s c = absurd (cc)
-rows_left (Mean of at) built u d h l e j g a s c = absurd (cc)
-rows_left (Top of key by count) built u d h l e j g a s c = absurd (cc)
-rows_left (Follow left right left_key right_key within) built u d h l e j g a s c = absurd (cc)
-
 -- a list that was just made
 abbrev pub fresh_list : List Kind → ℕ → EdgeListView
 fresh_list kinds capacity = record { edges = []; kinds = kinds; capacity = capacity; batches = 0; room = 0 }
@@ -111,6 +88,11 @@ changes_alike : (of : ℕ) (change : Change) → MeanAlike (changing of change) 
 changes_alike of (Delay by) = record { events = λ l r. refl; closes = λ x y. refl; undefined = λ rows. refl; held = λ x y hl hr. refl }
 changes_alike of (Hop size period) = record { events = λ l r. refl; closes = λ x y. refl; undefined = λ rows. refl; held = λ x y hl hr. refl }
 changes_alike of (Duration by) = record { events = λ l r. refl; closes = λ x y. refl; undefined = λ rows. refl; held = λ x y hl hr. refl }
+
+changes_named : (of : ℕ) (change : Change) → node_of change ≡ over_two (changing of change)
+changes_named of (Delay by) = refl
+changes_named of (Hop size period) = refl
+changes_named of (Duration by) = refl
 
 changes_right : (plan : PlanParts) (of : ℕ) (change : Change) → [] ≡ right_kinds plan (changing of change)
 changes_right plan of (Delay by) = refl
@@ -123,6 +105,7 @@ module _ (plan : PlanParts) (capacity : ℕ) (kinds : List Kind) (texts : List (
   life_starts of change o same carried left_to right_to works read = record {
     ready = record {
       node = subst (λ k. MeanAlike (changing of change) (node_of k)) (sym same) (changes_alike of change);
+      named = ap node_of same ∙ changes_named of change;
       works = works;
       left_closed = left_to;
       right_closed = right_to;
@@ -132,6 +115,7 @@ module _ (plan : PlanParts) (capacity : ℕ) (kinds : List Kind) (texts : List (
       batch_rows = ap (λ l. l.capacity) carried;
     };
     opens = lives_opening (node_of o.change) texts o.left_to o.right_to o.carried.edges (ap (λ l. l.edges) carried) left_to right_to;
+    made = record { empty = ap (λ l. l.edges) carried; left = left_to; right = right_to; works = works };
   }
     where
       own : (of : ℕ) (change : Change) → left_kinds plan (changing of change) ≡ node_kinds (changing of change) (left_kinds plan (changing of change)) (right_kinds plan (changing of change))
@@ -144,6 +128,7 @@ module _ (plan : PlanParts) (capacity : ℕ) (kinds : List Kind) (texts : List (
   extend_starts of by o same carried none left_to right_to works read = record {
     ready = record {
       node = subst (λ k. MeanAlike (ExtendNode of by) (ExtendNode 0 k)) (sym same) (record { events = λ l r. refl; closes = λ x y. refl; undefined = λ rows. refl; held = λ x y hl hr. refl });
+      named = ap (λ k. ExtendNode 0 k) same;
       works = works;
       left_closed = left_to;
       right_closed = right_to;
@@ -153,6 +138,7 @@ module _ (plan : PlanParts) (capacity : ℕ) (kinds : List Kind) (texts : List (
       batch_rows = ap (λ l. l.capacity) carried;
     };
     opens = extended_opening o.by texts o.left_to o.right_to o.carried.edges (edges_of_pending o.ends) (ap (λ l. l.edges) carried) (ap edges_of_pending none) left_to right_to;
+    made = record { empty = ap (λ l. l.edges) carried; none = none; left = left_to; right = right_to; works = works };
   }
 
   pub union_starts : (left right : ℕ) (o : UnionOperator) → o.left ≡ fresh_list kinds capacity → o.right ≡ o.left → o.left_to ≡ 0 → o.right_to ≡ 0 → o.failed ≡ false →
@@ -160,6 +146,7 @@ module _ (plan : PlanParts) (capacity : ℕ) (kinds : List Kind) (texts : List (
   union_starts left right o made like left_to right_to works read alike = record {
     ready = record {
       node = record { events = λ l r. refl; closes = λ x y. refl; undefined = λ rows. refl; held = λ x y hl hr. refl };
+      named = refl;
       works = works;
       left_closed = left_to;
       right_closed = right_to;
@@ -169,6 +156,7 @@ module _ (plan : PlanParts) (capacity : ℕ) (kinds : List Kind) (texts : List (
       batch_rows = ap (λ l. l.capacity) made;
     };
     opens = union_opening texts o.left_to o.right_to o.left.edges o.right.edges (ap (λ l. l.edges) made) (ap (λ l. l.edges) (like ∙ made)) left_to right_to;
+    made = record { left_empty = ap (λ l. l.edges) made; right_empty = ap (λ l. l.edges) (like ∙ made); left = left_to; right = right_to; works = works };
   }
 
 -- both sides of a union have the same columns
@@ -216,6 +204,7 @@ join_starts plan capacity l r texts left right left_key right_key o same_left sa
   ready = record {
     node = subst (λ k. MeanAlike (JoinNode left right left_key right_key) (JoinNode 0 1 k o.sides.rows.right_key.items)) (sym same_left)
         (subst (λ k. MeanAlike (JoinNode left right left_key right_key) (JoinNode 0 1 left_key k)) (sym same_right) (join_alike left right left_key right_key));
+    named = λ i. JoinNode 0 1 (same_left i) (same_right i);
     works = opening.works;
     left_closed = opening.left_open;
     right_closed = opening.right_open;
@@ -226,6 +215,7 @@ join_starts plan capacity l r texts left right left_key right_key o same_left sa
   };
   opens = join_opening o.sides.rows.left_key.items o.sides.rows.right_key.items (map cell_kind_of o.left_kinds.items) (map cell_kind_of o.right_kinds.items) texts o.left_to o.right_to o.sides.rows.left.rows o.sides.rows.right.rows
       o.sides.left_waiting o.sides.right_waiting opening.left_empty opening.right_empty opening.none_left opening.none_right opening.left_open opening.right_open;
+  made = opening;
 }
 
 -- the columns of a group follow from those of its child
@@ -243,6 +233,7 @@ pub group_starts : (plan : PlanParts) → IsPlan plan → (i capacity : ℕ) (le
 group_starts plan whole i capacity left own texts of key aggs there o same_key same_aggs left_like own_like rows opening read told = record {
   ready = record {
     node = subst (λ k. MeanAlike (GroupNode of key aggs) (GroupNode 0 k o.groups.aggs.items)) (sym same_key) (subst (λ a. MeanAlike (GroupNode of key aggs) (GroupNode 0 key a)) (sym same_aggs) (group_alike of key aggs));
+    named = λ i. GroupNode 0 (same_key i) (same_aggs i);
     works = opening.works;
     left_closed = opening.left;
     right_closed = opening.right;
@@ -251,7 +242,8 @@ group_starts plan whole i capacity left own texts of key aggs there o same_key s
     own_kinds = ap (map cell_kind_of) own_like ∙ told ∙ own_kinds_are plan whole i (GroupNode of key aggs) there;
     batch_rows = rows;
   };
-  opens = grouped_opens o.groups.key.items o.groups.aggs.items texts o.groups.rows.rows o.running o.waiting o.left_to o.right_to o.failed opening;
+  opens = group_opening o.groups.key.items o.groups.aggs.items (map cell_kind_of o.left_kinds.items) texts o.groups.rows.rows o.running o.waiting o.left_to o.right_to o.failed opening;
+  made = opening;
 }
 
 -- the right child of an anti-join is a node of the plan
@@ -272,6 +264,7 @@ anti_starts plan capacity l r texts left right left_key right_key o same_left sa
   ready = record {
     node = subst (λ k. MeanAlike (AntiNode left right left_key right_key) (AntiNode 0 1 k o.sides.rows.right_key.columns)) (sym same_left)
         (subst (λ k. MeanAlike (AntiNode left right left_key right_key) (AntiNode 0 1 left_key k)) (sym same_right) (anti_alike left right left_key right_key));
+    named = λ i. AntiNode 0 1 (same_left i) (same_right i);
     works = opening.works;
     left_closed = opening.left_open;
     right_closed = opening.right_open;
@@ -282,6 +275,7 @@ anti_starts plan capacity l r texts left right left_key right_key o same_left sa
   };
   opens = anti_opening o.sides.rows.left_key.columns o.sides.rows.right_key.columns (map cell_kind_of o.left_kinds.items) (map cell_kind_of o.right_kinds.items) texts o.left_to o.right_to o.sides.rows.left.rows o.sides.rows.right.rows o.sides.rows.times.rows
       o.sides.left_waiting o.sides.right_waiting opening.left_empty opening.right_empty opening.times_empty opening.none_left opening.none_right opening.left_open opening.right_open;
+  made = opening;
 }
 
 -- the timeout of a session of a plan is at least 1
@@ -299,6 +293,7 @@ session_starts plan capacity l texts of timeout key o same_key same_timeout like
   ready = record {
     node = subst (λ k. MeanAlike (SessionNode of timeout key) (SessionNode 0 o.side.sessions.timeout k)) (sym same_key)
         (subst (λ n. MeanAlike (SessionNode of timeout key) (SessionNode 0 n key)) (sym same_timeout) (session_alike of timeout key));
+    named = λ i. SessionNode 0 (same_timeout i) (same_key i);
     works = opening.works;
     left_closed = opening.left;
     right_closed = opening.right;
@@ -308,6 +303,7 @@ session_starts plan capacity l texts of timeout key o same_key same_timeout like
     batch_rows = rows;
   };
   opens = session_opening o.side.sessions.rows.key o.side.sessions.timeout (map cell_kind_of o.kinds.items) o.positive texts o.side.sessions.rows.rows o.side.sessions.ends o.side.waiting o.left_to o.right_to o.failed opening;
+  made = opening;
 }
 
 -- the right child of a clip is a node of the plan
@@ -328,6 +324,7 @@ clip_starts plan capacity l r texts left right left_key right_key o same_left sa
   ready = record {
     node = subst (λ k. MeanAlike (ClipNode left right left_key right_key) (ClipNode 0 1 k o.sides.rows.right_key.columns)) (sym same_left)
         (subst (λ k. MeanAlike (ClipNode left right left_key right_key) (ClipNode 0 1 left_key k)) (sym same_right) (clip_alike left right left_key right_key));
+    named = λ i. ClipNode 0 1 (same_left i) (same_right i);
     works = opening.works;
     left_closed = opening.left_open;
     right_closed = opening.right_open;
@@ -338,4 +335,5 @@ clip_starts plan capacity l r texts left right left_key right_key o same_left sa
   };
   opens = clip_opening o.sides.rows.left.key o.sides.rows.right_key.columns (map cell_kind_of o.left_kinds.items) (map cell_kind_of o.right_kinds.items) texts o.left_to o.right_to o.sides.rows.left.rows
       o.sides.left_waiting o.sides.right_waiting opening.left_empty opening.none_left opening.none_right opening.left_open opening.right_open;
+  made = opening;
 }

@@ -1,5 +1,5 @@
 -- The step of one node of a plan, over the lists that it reads.
-use Rattle.std.specs.Prelude.{◌≡◌, ℕ, zero, suc, ◌+◌, ◌<◌, ◌≤◌, Some, None, List, [], ◌++◌, length, get_or, slice_get, slice_set}
+use Rattle.std.specs.Prelude.{◌≡◌, ℕ, zero, suc, ◌+◌, ◌<◌, ◌≤◌, Bool, Some, None, List, [], ◌++◌, length, get_or, slice_get, slice_set}
 use Rattle.std.proofs.Common.{refl, sym, ap, subst, ◌∙◌, arith, inl, inr}
 use Rattle.std.proofs.lemmas.Bool.{cases_lt}
 use Rattle.std.proofs.lemmas.List.{get_or-set_same, get_or-set_other}
@@ -8,13 +8,12 @@ use Rattle.tw_rows.specs.Cells.{ArePlaced}
 use Rattle.tw_rows.specs.Instant.{inf}
 use Rattle.tw_rows.specs.declared.edge.Edge.{Edge}
 use Rattle.tw_rows.specs.declared.kind.CellKind.{CellKind}
-use Rattle.batch.specs.Shelves.{Shelves}
 use Rattle.edge_history.specs.Order.{is_from, failing}
 use Rattle.edge_stream.specs.Listing.{EdgeListView, cells_of}
 use Rattle.edge_stream.proofs.Placed.{All-right}
 use Rattle.plan_model.specs.declared.node.Node.{Node}
 use Rattle.plan_model.specs.declared.node.Node.TheVariants.{Source}
-use Rattle.plan_model.specs.IsPlan.{PlanParts, IsPlan, kinds_at, node_kinds, most_columns}
+use Rattle.plan_model.specs.IsPlan.{PlanParts, IsPlan, kinds_at, node_kinds}
 use Rattle.plan_model.specs.Meaning.{Sources, left_of, right_of, right_child, closes}
 use Rattle.plan_model.proofs.Closings.{left_rises, right_rises}
 use Rattle.plan_model.proofs.Kept.{IsPlan-ordered}
@@ -138,28 +137,26 @@ ready_next texts plan capacity p now i n there new low before here j m d lower a
     one_of nodes k x y a b = cc
 
 -- all nodes have taken their steps
-module _ (texts : List (List ℕ)) (plan : PlanParts) (last p : ℕ) (later : last < p) (before after : List Stage) (shelves left : Shelves) (can : CanStep texts last (parts_of plan before shelves))
-    (long : length after ≡ length before) (capacity : left.capacity ≡ shelves.capacity) (limit : left.limit ≡ shelves.limit)
-    (ready : (j : ℕ) (m : Node) (d : Stage) → j < length plan.nodes → slice_get plan.nodes j ≡ Some m → IsReady texts shelves.capacity (left_kinds plan m) (right_kinds plan m) m (get_or after j d) (left_closing plan.nodes p m) (right_closing plan.nodes p m)) where
+module _ (texts : List (List ℕ)) (plan : PlanParts) (last p : ℕ) (later : last < p) (before after : List Stage) (capacity : ℕ) (thawed : Bool) (can : CanStep texts last (parts_of plan before capacity thawed))
+    (long : length after ≡ length before)
+    (ready : (j : ℕ) (m : Node) (d : Stage) → j < length plan.nodes → slice_get plan.nodes j ≡ Some m → IsReady texts capacity (left_kinds plan m) (right_kinds plan m) m (get_or after j d) (left_closing plan.nodes p m) (right_closing plan.nodes p m)) where
   low_of : (j : ℕ) (m : Node) → slice_get plan.nodes j ≡ Some m → j < length plan.nodes
   low_of j m at = slice_get_within plan.nodes j m at
 
-  pub can_again : CanStep texts p (parts_of plan after left)
+  pub can_again : CanStep texts p (parts_of plan after capacity thawed)
   can_again = record {
     count = long ∙ can.count;
-    room = subst (λ c. 1 ≤ c) (sym capacity) can.room;
-    limit = subst (λ c. most_columns ≤ c) (sym limit) can.limit;
+    room = can.room;
     built = can.built;
     ready = λ j m s at here.
-        subst (λ c. IsReady texts c (left_kinds plan m) (right_kinds plan m) m s (reached p (left_closing plan.nodes p m)) (reached p (right_closing plan.nodes p m))) (sym capacity)
-        (subst (λ x. IsReady texts shelves.capacity (left_kinds plan m) (right_kinds plan m) m s x (reached p (right_closing plan.nodes p m))) (sym (reached_after last p (left_closing plan.nodes p m) later))
-        (subst (λ y. IsReady texts shelves.capacity (left_kinds plan m) (right_kinds plan m) m s (left_closing plan.nodes p m) y) (sym (reached_after last p (right_closing plan.nodes p m) later))
-        (subst (λ x. IsReady texts shelves.capacity (left_kinds plan m) (right_kinds plan m) m x (left_closing plan.nodes p m) (right_closing plan.nodes p m)) (get_or_from_slice_get after j s s here)
-        (ready j m s (low_of j m at) at))));
+        subst (λ x. IsReady texts capacity (left_kinds plan m) (right_kinds plan m) m s x (reached p (right_closing plan.nodes p m))) (sym (reached_after last p (left_closing plan.nodes p m) later))
+        (subst (λ y. IsReady texts capacity (left_kinds plan m) (right_kinds plan m) m s (left_closing plan.nodes p m) y) (sym (reached_after last p (right_closing plan.nodes p m) later))
+        (subst (λ x. IsReady texts capacity (left_kinds plan m) (right_kinds plan m) m x (left_closing plan.nodes p m) (right_closing plan.nodes p m)) (get_or_from_slice_get after j s s here)
+        (ready j m s (low_of j m at) at)));
   }
 
   module _ (whole : IsPlan plan) (source : Sources) (old given lists more : ℕ → List Edge) (so_far : Progress texts plan last p source old given lists more after (length plan.nodes)) where
-    pub flows_again : Flows texts p (longer old given) (longer lists more) (parts_of plan after left)
+    pub flows_again : Flows texts p (longer old given) (longer lists more) (parts_of plan after capacity thawed)
     flows_again = record {
       can = can_again;
       first = λ none k. absurd (omega (arith, none, later));
@@ -170,7 +167,7 @@ module _ (texts : List (List ℕ)) (plan : PlanParts) (last p : ℕ) (later : la
           (so_far.kept j m s (low_of j m at) at)));
     }
 
-    pub has_flowed : (out : List Edge) → out ≡ more plan.root → HasFlowed texts last p source old given lists (parts_of plan after left) out
+    pub has_flowed : (out : List Edge) → out ≡ more plan.root → HasFlowed texts last p source old given lists (parts_of plan after capacity thawed) out
     has_flowed out root = record {
       more = more;
       flows = flows_again;

@@ -8,21 +8,20 @@ use Rattle.edge_stream.specs.Listing.{EdgeListView, cells_of}
 use Rattle.edge_stream.specs.declared.saved.StepFault.{StepFault}
 use Rattle.edge_stream.specs.declared.saved.StepFault.TheVariants.{Overflow}
 use Rattle.plan_model.specs.declared.node.Node.{Node}
-use Rattle.life_laws.specs.Keeping.{KeepsLives}
-use Rattle.life_laws.specs.Uniting.{KeepsUnion}
-use Rattle.life_laws.specs.Extending.{KeepsExtended}
-use Rattle.lifetime_ops.specs.Nodes.{node_of}
-use Rattle.lifetime_ops.specs.Waiting.{edges_of_pending}
-use Rattle.temporal_join.specs.Operating.{IsKept}
-use Rattle.snapshot_agg.specs.Keeping.{KeepsGrouped}
-use Rattle.anti_join.specs.Operating.{IsKept as IsAntiKept}
-use Rattle.clip_op.specs.Operating.{IsKept as IsClipKept}
-use Rattle.session_window.specs.Operating.{IsKept as IsSessionKept}
+use Rattle.operator.specs.Standing.{Standing, Keeping, may_keep}
+use Rattle.lifetime_ops.specs.Operating.{standing as life_standing, IsKept as IsLifeKept}
+use Rattle.lifetime_ops.specs.ExtendOperating.{standing as extend_standing, IsKept as IsExtendKept}
+use Rattle.union_op.specs.Operating.{standing as union_standing, IsKept as IsUnionKept}
+use Rattle.temporal_join.specs.Operating.{standing as join_standing, IsKept as IsJoinKept}
+use Rattle.snapshot_agg.specs.Operating.{standing as group_standing, IsKept as IsGroupKept}
+use Rattle.anti_join.specs.Operating.{standing as anti_standing, IsKept as IsAntiKept}
+use Rattle.clip_op.specs.Operating.{standing as clip_standing, IsKept as IsClipKept}
+use Rattle.session_window.specs.Operating.{standing as session_standing, IsKept as IsSessionKept}
 use Rattle.dataflow.specs.declared.stage.Stage.{Stage}
 use Rattle.dataflow.specs.declared.stage.Stage.TheVariants.{Life, Union, Extend, Join, Group, Anti, Session, Clip}
 use Rattle.dataflow.proofs.Operators.{operator_held}
-use Rattle.dataflow.specs.Operating.{may_keep, Standing, Keeping, CanOperate, StaysOperating, KeepsOperating, OperatesUndefinedAt}
-use Rattle.dataflow.specs.Stages.{life_standing, union_standing, extend_standing, IsReady, StageKeeps, StaysReady, KeepsOn, IsUndefinedAt, KeepsAtMost, entries_in, join_standing, group_standing, anti_standing, session_standing, clip_standing}
+use Rattle.dataflow.specs.Operating.{CanOperate, StaysOperating, KeepsOperating, OperatesUndefinedAt}
+use Rattle.dataflow.specs.Stages.{IsReady, StageKeeps, StaysReady, KeepsOn, IsUndefinedAt, KeepsAtMost, entries_in}
 
 -- stages of this kind are ready and keep as their operators are and do
 pub record IsVariant {O : Type 0} (stage : O → Stage) (standing : O → Standing) (keeping : O → Keeping) : Type 0 where
@@ -70,26 +69,26 @@ pub held_few : (s : Stage) (count : ℕ) → count ≡ min (entries_in s) (2 ^ 6
 held_few s count is most texts capacity left right n x y hl hr out ready kept = (let m = most texts capacity left right n x y hl hr out ready kept in omega (arith, is, m))
 
 -- the operators that are stages
-pub life_variant : IsVariant Life life_standing (λ o texts hl hr out. KeepsLives (node_of o.change) texts o.left_to o.right_to o.carried.edges hl hr out)
+pub life_variant : IsVariant Life life_standing IsLifeKept
 life_variant = record { can = λ texts capacity left right n o x y h. h; ready = λ texts capacity left right n o x y h. h; kept = λ texts n o x y hl hr out h. h; keeps = λ texts n o x y hl hr out h. h }
 
-pub union_variant : IsVariant Union union_standing (λ o texts hl hr out. KeepsUnion texts o.left_to o.right_to o.left.edges o.right.edges hl hr out)
+pub union_variant : IsVariant Union union_standing IsUnionKept
 union_variant = record { can = λ texts capacity left right n o x y h. h; ready = λ texts capacity left right n o x y h. h; kept = λ texts n o x y hl hr out h. h; keeps = λ texts n o x y hl hr out h. h }
 
-pub extend_variant : IsVariant Extend extend_standing (λ o texts hl hr out. KeepsExtended o.by texts o.left_to o.right_to o.carried.edges (edges_of_pending o.ends) hl hr out)
+pub extend_variant : IsVariant Extend extend_standing IsExtendKept
 extend_variant = record { can = λ texts capacity left right n o x y h. h; ready = λ texts capacity left right n o x y h. h; kept = λ texts n o x y hl hr out h. h; keeps = λ texts n o x y hl hr out h. h }
 
-pub join_variant : IsVariant Join join_standing (λ o texts hl hr out. IsKept o texts hl hr out)
+pub join_variant : IsVariant Join join_standing IsJoinKept
 join_variant = record { can = λ texts capacity left right n o x y h. h; ready = λ texts capacity left right n o x y h. h; kept = λ texts n o x y hl hr out h. h; keeps = λ texts n o x y hl hr out h. h }
 
-pub group_variant : IsVariant Group group_standing (λ o texts hl hr out. KeepsGrouped o.groups.key.items o.groups.aggs.items texts o.groups.rows.rows o.running o.waiting o.left_to hl hr out)
+pub group_variant : IsVariant Group group_standing IsGroupKept
 group_variant = record { can = λ texts capacity left right n o x y h. h; ready = λ texts capacity left right n o x y h. h; kept = λ texts n o x y hl hr out h. h; keeps = λ texts n o x y hl hr out h. h }
 
-pub anti_variant : IsVariant Anti anti_standing (λ o texts hl hr out. IsAntiKept o texts hl hr out)
+pub anti_variant : IsVariant Anti anti_standing IsAntiKept
 anti_variant = record { can = λ texts capacity left right n o x y h. h; ready = λ texts capacity left right n o x y h. h; kept = λ texts n o x y hl hr out h. h; keeps = λ texts n o x y hl hr out h. h }
 
-pub session_variant : IsVariant Session session_standing (λ o texts hl hr out. IsSessionKept o texts hl hr out)
+pub session_variant : IsVariant Session session_standing IsSessionKept
 session_variant = record { can = λ texts capacity left right n o x y h. h; ready = λ texts capacity left right n o x y h. h; kept = λ texts n o x y hl hr out h. h; keeps = λ texts n o x y hl hr out h. h }
 
-pub clip_variant : IsVariant Clip clip_standing (λ o texts hl hr out. IsClipKept o texts hl hr out)
+pub clip_variant : IsVariant Clip clip_standing IsClipKept
 clip_variant = record { can = λ texts capacity left right n o x y h. h; ready = λ texts capacity left right n o x y h. h; kept = λ texts n o x y hl hr out h. h; keeps = λ texts n o x y hl hr out h. h }

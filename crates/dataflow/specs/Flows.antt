@@ -1,10 +1,9 @@
 -- A plan at work: what each of its stages keeps of the edges of streams, and what a step gives.
-use Rattle.std.specs.Prelude.{◌≡◌, ℕ, suc, ◌-◌, ◌^◌, ◌<◌, ◌≤◌, min, true, Some, None, List, [], ◌∷◌, length, slice_get}
+use Rattle.std.specs.Prelude.{◌≡◌, ℕ, suc, ◌-◌, ◌^◌, ◌<◌, ◌≤◌, min, Bool, true, false, Some, None, List, [], ◌∷◌, length, slice_get}
 use Rattle.tw_rows.specs.declared.edge.Edge.{Edge}
-use Rattle.batch.specs.Shelves.{Shelves}
 use Rattle.edge_history.specs.Order.{is_from, failing}
 use Rattle.plan_model.specs.declared.node.Node.{Node}
-use Rattle.plan_model.specs.IsPlan.{PlanParts, most_columns}
+use Rattle.plan_model.specs.IsPlan.{PlanParts}
 use Rattle.plan_model.specs.Meaning.{Sources, closes, left_of, right_of}
 use Rattle.plan_laws.specs.Undefined.{overflow}
 use Rattle.built_nodes.specs.Built.{is_built}
@@ -14,17 +13,17 @@ use Rattle.dataflow.specs.declared.stage.Stage.{Stage}
 use Rattle.dataflow.specs.Lists.{longer, AreFrom}
 use Rattle.dataflow.specs.Stages.{reached, left_closing, right_closing, left_kinds, right_kinds, IsReady, StageKeeps, entries_in}
 
--- what contracts see of a plan at work: the plan, its stages, how many rows each batch has room for, and how many columns the
--- pools hold
+-- what contracts see of a plan at work: the plan, its stages, how many rows each batch has room for, and whether the stages took
+-- up what was saved
 pub record DataflowView : Type 0 where
   pub plan : PlanParts
   pub stages : List Stage
   pub capacity : ℕ
-  pub limit : ℕ
+  pub thawed : Bool
 
--- so much of a plan with these stages and pools
-abbrev pub parts_of : PlanParts → List Stage → Shelves → DataflowView
-parts_of plan stages pools = record { plan = plan; stages = stages; capacity = pools.capacity; limit = pools.limit }
+-- so much of a plan with these stages
+abbrev pub parts_of : PlanParts → List Stage → ℕ → Bool → DataflowView
+parts_of plan stages capacity thawed = record { plan = plan; stages = stages; capacity = capacity; thawed = thawed }
 
 -- each stage can take a step, once the punctuation `last` was worked through
 abbrev pub AreReady : List (List ℕ) → ℕ → PlanParts → ℕ → List Stage → Type 0
@@ -35,7 +34,6 @@ AreReady texts capacity plan last stages = (i : ℕ) (n : Node) (s : Stage) → 
 pub record CanStep (texts : List (List ℕ)) (last : ℕ) (d : DataflowView) : Type 0 where
   pub count : length d.stages ≡ length d.plan.nodes
   pub room : 1 ≤ d.capacity
-  pub limit : most_columns ≤ d.limit
   pub built : (i : ℕ) (n : Node) → slice_get d.plan.nodes i ≡ Some n → is_built n ≡ true
   pub ready : AreReady texts d.capacity d.plan last d.stages
 
@@ -49,10 +47,9 @@ pub record Flows (texts : List (List ℕ)) (last : ℕ) (given lists : ℕ → L
       StageKeeps texts n s (reached last (left_closing d.plan.nodes last n)) (reached last (right_closing d.plan.nodes last n))
       (left_of [] given lists n) (right_of [] lists n) (lists i)
 
--- the step at the punctuation p may be taken with these edges, given for each stream: there is something of which the stages
--- took their steps before, a last punctuation before p, and sources for which the edges before and these stand below p, where
--- these come at the last punctuation or later
-pub record MayStep (texts : List (List ℕ)) (p : ℕ) (given : ℕ → List Edge) (d : DataflowView) : Type 0 where
+-- the stages took steps of something before: there are a last punctuation before p, and sources for which the edges before and
+-- those that are given stand below p, where these come at the last punctuation or later
+pub record HasPast (texts : List (List ℕ)) (p : ℕ) (given : ℕ → List Edge) (d : DataflowView) : Type 0 where
   pub last : ℕ
   pub old : ℕ → List Edge
   pub lists : ℕ → List Edge
@@ -62,6 +59,18 @@ pub record MayStep (texts : List (List ℕ)) (p : ℕ) (given : ℕ → List Edg
   pub later : last < p
   pub stand : SourcesStandRead texts p source (longer old given)
   pub from : AreFrom last given
+
+-- the step at the punctuation p may be taken with these edges, given for each stream: the stages are as they can be once an
+-- earlier punctuation was worked through. Where they took up what was saved, nothing is asked of what came before it
+pub record MayStep (texts : List (List ℕ)) (p : ℕ) (given : ℕ → List Edge) (d : DataflowView) : Type 0 where
+  pub last : ℕ
+  pub can : CanStep texts last d
+  pub later : last < p
+  pub past : d.thawed ≡ false → HasPast texts p given d
+
+-- and a further step may be taken behind it
+abbrev pub StepsOn : List (List ℕ) → ℕ → DataflowView → DataflowView → Type 0
+StepsOn texts p d after = (last : ℕ) → CanStep texts last d → last < p → CanStep texts p after
 
 -- what a step gives at the punctuation p, after `last`, for more edges of the streams: more edges of each node, `out` of them
 -- those of the root. Each node's list then stands for its events below its closing, and no node is undefined there

@@ -1,15 +1,17 @@
 -- The lists that are there while the nodes of a plan take a step, in order of number: those that are still to be read.
-use Rattle.std.specs.Prelude.{◌≡◌, ℕ, ◌+◌, ◌<◌, ◌≤◌, ◌⊎◌, Some, List, [], length, get_or, slice_get}
+use Rattle.std.specs.Prelude.{◌≡◌, ℕ, ◌+◌, ◌<◌, ◌≤◌, ◌⊎◌, Bool, true, false, Some, List, [], map, length, get_or, slice_get}
 use Rattle.tw_rows.specs.declared.edge.Edge.{Edge}
 use Rattle.tw_rows.specs.declared.kind.CellKind.{CellKind}
 use Rattle.edge_stream.specs.Listing.{EdgeListView}
 use Rattle.plan_model.specs.declared.node.Node.{Node}
-use Rattle.plan_model.specs.declared.node.Node.TheVariants.{Source}
+use Rattle.plan_model.specs.declared.expr.ExprNode.{ExprNode}
+use Rattle.plan_model.specs.declared.node.Node.TheVariants.{Source, Union, Join, Anti, Clip}
 use Rattle.plan_model.specs.IsPlan.{PlanParts, kinds_of_stream, kinds_at}
 use Rattle.plan_model.specs.Meaning.{left_child, right_child}
+use Rattle.row_stage.specs.Texts.{nodes_of_items, nodes_in}
 use Rattle.dataflow.specs.declared.stage.Stage.{Stage}
 use Rattle.dataflow.specs.Lists.{IsListOf}
-use Rattle.dataflow.specs.Stages.{left_kinds, right_kinds, IsReady, StageKeeps}
+use Rattle.dataflow.specs.Stages.{left_kinds, right_kinds, IsReady, StageKeeps, StandsAsMade}
 
 -- the list of these edges
 pub record IsListWith (texts : List (List ℕ)) (capacity : ℕ) (kinds : List CellKind) (edges : List Edge) (l : EdgeListView) : Type 0 where
@@ -54,3 +56,16 @@ pub record AreFresh (texts : List (List ℕ)) (capacity : ℕ) (plan : PlanParts
       IsReady texts capacity (left_kinds plan n) (right_kinds plan n) n s 0 0
   pub opens : (i : ℕ) (n : Node) (s : Stage) → slice_get plan.nodes i ≡ Some n → slice_get stages i ≡ Some s →
       StageKeeps texts n s 0 0 [] [] []
+  pub made : (i : ℕ) (s : Stage) → slice_get stages i ≡ Some s → StandsAsMade s
+
+-- the nodes of the expressions of a plan's nodes, one node after another
+abbrev pub nodes_in_all : List Node → List ExprNode
+nodes_in_all nodes = nodes_of_items (map nodes_in nodes)
+
+-- a built node with two children
+abbrev pub has_two : Node → Bool
+has_two (Union left right) = true
+has_two (Join left right left_key right_key) = true
+has_two (Anti left right left_key right_key) = true
+has_two (Clip left right left_key right_key) = true
+has_two n = false

@@ -28,7 +28,13 @@ pub record IsListOf (texts : List (List ℕ)) (capacity : ℕ) (kinds : List Cel
   pub rows : l.capacity ≡ capacity
   pub placed : EdgesArePlaced texts l.edges
 
--- there is a list for each stream, of the stream's columns
+-- there is a list for each stream, of the stream's columns, in batches of this capacity
+pub record AreOfStreams (capacity : ℕ) (plan : PlanParts) (given : List EdgeListView) : Type 0 where
+  pub count : length given ≡ length plan.streams
+  pub cells : (s : ℕ) (l : EdgeListView) → slice_get given s ≡ Some l → cells_of l ≡ kinds_of_stream plan.streams s
+  pub rows : (s : ℕ) (l : EdgeListView) → slice_get given s ≡ Some l → l.capacity ≡ capacity
+
+-- and all their places are in the table
 pub record AreGiven (texts : List (List ℕ)) (capacity : ℕ) (plan : PlanParts) (given : List EdgeListView) : Type 0 where
   pub count : length given ≡ length plan.streams
   pub each : (s : ℕ) (l : EdgeListView) → slice_get given s ≡ Some l →

@@ -1,7 +1,6 @@
 -- Stages by the case of their node: when one can take a step, and what it keeps of the edges that came in and were answered.
-use Rattle.std.specs.Prelude.{◌≡◌, ℕ, ◌+◌, ◌*◌, ◌≤◌, zero, suc, Option, List, [], ◌++◌, map, length}
+use Rattle.std.specs.Prelude.{◌≡◌, ℕ, ◌≤◌, true, zero, suc, Option, List, [], ◌++◌}
 use Rattle.tw_rows.specs.Instant.{inf}
-use Rattle.tw_rows.specs.Kinds.{cell_kind_of}
 use Rattle.tw_rows.specs.declared.edge.Edge.{Edge}
 use Rattle.tw_rows.specs.declared.kind.CellKind.{CellKind}
 use Rattle.edge_history.specs.Order.{is_below, is_from, failing, IsHistory}
@@ -12,32 +11,31 @@ use Rattle.plan_model.specs.Meaning.{closes, node_closes, left_of, right_of}
 use Rattle.node_laws.specs.Places.{AreDistinct, EdgesArePlaced}
 use Rattle.row_stage.specs.Made.{IsMade}
 use Rattle.row_stage.specs.Stages.{IsStageOf}
+pub use Rattle.operator.specs.Standing.{may_keep}
 use Rattle.operator.specs.Steps.{MayCome}
-use Rattle.life_laws.specs.Keeping.{KeepsLives}
-use Rattle.life_laws.specs.Uniting.{KeepsUnion}
-use Rattle.life_laws.specs.Extending.{KeepsExtended}
-use Rattle.lifetime_ops.specs.Nodes.{node_of}
+use Rattle.lifetime_ops.specs.Operating.{standing as life_standing, entries as life_entries, IsKept as IsLifeKept}
+use Rattle.lifetime_ops.specs.ExtendOperating.{standing as extend_standing, entries as extend_entries, IsKept as IsExtendKept}
+use Rattle.union_op.specs.Operating.{standing as union_standing, entries as union_entries, IsKept as IsUnionKept}
+use Rattle.lifetime_ops.specs.Saving.{IsOpening as IsLifeOpening}
+use Rattle.union_op.specs.Saving.{IsOpening as IsUnionOpening}
+use Rattle.lifetime_ops.specs.ExtendSaving.{IsOpening as IsExtendOpening}
+use Rattle.temporal_join.specs.States.{IsOpening as IsJoinOpening}
+use Rattle.snapshot_agg.specs.Keeping.{IsOpening as IsGroupOpening}
+use Rattle.anti_join.specs.States.{IsOpening as IsAntiOpening}
+use Rattle.clip_op.specs.States.{IsOpening as IsClipOpening}
+use Rattle.session_window.specs.States.{IsOpening as IsSessionOpening}
 use Rattle.lifetime_ops.specs.declared.change.Change.{Change}
 use Rattle.lifetime_ops.specs.declared.change.Change.TheVariants.{Delay, Hop, Duration}
-use Rattle.lifetime_ops.specs.declared.alter_lifetime.AlterLifetime.{AlterLifetime}
-use Rattle.union_op.specs.declared.union.Union.{Union as UnionOperator}
-use Rattle.lifetime_ops.specs.Waiting.{edges_of_pending}
-use Rattle.lifetime_ops.specs.declared.extend.ExtendLifetime.{ExtendLifetime}
-use Rattle.temporal_join.specs.Operating.{IsKept}
-use Rattle.temporal_join.specs.declared.join.Join.{Join as JoinOperator}
-use Rattle.snapshot_agg.specs.Keeping.{KeepsGrouped}
-use Rattle.snapshot_agg.specs.declared.grouped.Grouped.{Grouped}
-use Rattle.anti_join.specs.Operating.{IsKept as IsAntiKept}
-use Rattle.clip_op.specs.Operating.{IsKept as IsClipKept}
-use Rattle.session_window.specs.Operating.{IsKept as IsSessionKept}
-use Rattle.session_window.specs.declared.session.Session.{Session as SessionOperator}
-use Rattle.anti_join.specs.declared.anti.Anti.{Anti as AntiOperator}
-use Rattle.clip_op.specs.declared.clip.Clip.{Clip as ClipOperator}
+use Rattle.temporal_join.specs.Operating.{standing as join_standing, entries as join_entries, IsKept as IsJoinKept}
+use Rattle.snapshot_agg.specs.Operating.{standing as group_standing, entries as group_entries, IsKept as IsGroupKept}
+use Rattle.anti_join.specs.Operating.{standing as anti_standing, entries as anti_entries, IsKept as IsAntiKept}
+use Rattle.clip_op.specs.Operating.{standing as clip_standing, entries as clip_entries, IsKept as IsClipKept}
+use Rattle.session_window.specs.Operating.{standing as session_standing, entries as session_entries, IsKept as IsSessionKept}
 use Rattle.dataflow.specs.declared.stage.Stage.{Stage}
 use Rattle.dataflow.specs.declared.stage.Stage.TheVariants.{Rows, Life, Union, Extend, Join, Group, Anti, Session, Clip}
-use Rattle.plan_model.specs.declared.node.Node.TheVariants.{Union as UnionNode, Extend as ExtendNode, Delay as DelayNode, Hop as HopNode, Duration as DurationNode, Join as JoinNode, Group as GroupNode, Anti as AntiNode, Session as SessionNode, Clip as ClipNode}
-use Rattle.dataflow.specs.Operating.{Standing, CanOperate}
-pub use Rattle.dataflow.specs.Operating.{may_keep, first_undefined_read}
+use Rattle.plan_model.specs.declared.node.Node.TheVariants.{Delay as DelayNode, Hop as HopNode, Duration as DurationNode}
+use Rattle.dataflow.specs.Operating.{CanOperate}
+pub use Rattle.dataflow.specs.Operating.{first_undefined_read}
 
 -- up to where a side is closed once the punctuation `last` was worked through, which closes it up to c: 0 as long as there
 -- was none, though a Delay by 5 is closed up to 5 at the punctuation 0
@@ -74,103 +72,6 @@ pub record MayComeUpTo (texts : List (List ℕ)) (x u : ℕ) (came l : List Edge
   pub may : MayCome texts x came l
   pub below : failing (is_below u) (came ++ l) ≡ 0
 
--- how an operator stands: that of a Delay, a Hop or a Duration, that of a Union, and that of an Extend
-abbrev pub life_standing : AlterLifetime → Standing
-life_standing o = record {
-  node = node_of o.change;
-  left_closed = o.left_to;
-  right_closed = o.right_to;
-  left_kinds = cells_of o.carried;
-  right_kinds = [];
-  own_kinds = cells_of o.carried;
-  batch_rows = o.carried.capacity;
-  has_failed = o.failed;
-}
-
-abbrev pub union_standing : UnionOperator → Standing
-union_standing o = record {
-  node = UnionNode 0 1;
-  left_closed = o.left_to;
-  right_closed = o.right_to;
-  left_kinds = cells_of o.left;
-  right_kinds = cells_of o.left;
-  own_kinds = cells_of o.left;
-  batch_rows = o.left.capacity;
-  has_failed = o.failed;
-}
-
-abbrev pub extend_standing : ExtendLifetime → Standing
-extend_standing o = record {
-  node = ExtendNode 0 o.by;
-  left_closed = o.left_to;
-  right_closed = o.right_to;
-  left_kinds = cells_of o.carried;
-  right_kinds = [];
-  own_kinds = cells_of o.carried;
-  batch_rows = o.carried.capacity;
-  has_failed = o.failed;
-}
-
-abbrev pub join_standing : JoinOperator → Standing
-join_standing o = record {
-  node = JoinNode 0 1 o.sides.rows.left_key.items o.sides.rows.right_key.items;
-  left_closed = o.left_to;
-  right_closed = o.right_to;
-  left_kinds = map cell_kind_of o.left_kinds.items;
-  right_kinds = map cell_kind_of o.right_kinds.items;
-  own_kinds = map cell_kind_of o.own_kinds.items;
-  batch_rows = o.capacity;
-  has_failed = o.failed;
-}
-
-abbrev pub group_standing : Grouped → Standing
-group_standing o = record {
-  node = GroupNode 0 o.groups.key.items o.groups.aggs.items;
-  left_closed = o.left_to;
-  right_closed = o.right_to;
-  left_kinds = map cell_kind_of o.left_kinds.items;
-  right_kinds = [];
-  own_kinds = map cell_kind_of o.kinds.items;
-  batch_rows = o.capacity;
-  has_failed = o.failed;
-}
-
-abbrev pub session_standing : SessionOperator → Standing
-session_standing o = record {
-  node = SessionNode 0 o.side.sessions.timeout o.side.sessions.rows.key;
-  left_closed = o.left_to;
-  right_closed = o.right_to;
-  left_kinds = map cell_kind_of o.kinds.items;
-  right_kinds = [];
-  own_kinds = map cell_kind_of o.kinds.items;
-  batch_rows = o.capacity;
-  has_failed = o.failed;
-}
-
-abbrev pub anti_standing : AntiOperator → Standing
-anti_standing o = record {
-  node = AntiNode 0 1 o.sides.rows.left_key.columns o.sides.rows.right_key.columns;
-  left_closed = o.left_to;
-  right_closed = o.right_to;
-  left_kinds = map cell_kind_of o.left_kinds.items;
-  right_kinds = map cell_kind_of o.right_kinds.items;
-  own_kinds = map cell_kind_of o.left_kinds.items;
-  batch_rows = o.capacity;
-  has_failed = o.failed;
-}
-
-abbrev pub clip_standing : ClipOperator → Standing
-clip_standing o = record {
-  node = ClipNode 0 1 o.sides.rows.left.key o.sides.rows.right_key.columns;
-  left_closed = o.left_to;
-  right_closed = o.right_to;
-  left_kinds = map cell_kind_of o.left_kinds.items;
-  right_kinds = map cell_kind_of o.right_kinds.items;
-  own_kinds = map cell_kind_of o.left_kinds.items;
-  batch_rows = o.capacity;
-  has_failed = o.failed;
-}
-
 -- the stage can take a step of the node, over lists of columns that are stored as `left` and `right`, in batches of the
 -- capacity, whose texts are read from the table; its sides are closed up to x and y
 abbrev pub IsReady : List (List ℕ) → ℕ → List CellKind → List CellKind → Node → Stage → ℕ → ℕ → Type 0
@@ -202,11 +103,11 @@ pub record HasMade (texts : List (List ℕ)) (n : Node) (x : ℕ) (hl out : List
 -- stage that keeps nothing of one step for the next only has to have made out of hl; an operator keeps what its trait says
 abbrev pub StageKeeps : List (List ℕ) → Node → Stage → ℕ → ℕ → List Edge → List Edge → List Edge → Type 0
 StageKeeps texts n (Rows s) x y hl hr out = HasMade texts n x hl out
-StageKeeps texts n (Life o) x y hl hr out = KeepsLives (node_of o.change) texts o.left_to o.right_to o.carried.edges hl hr out
-StageKeeps texts n (Union o) x y hl hr out = KeepsUnion texts o.left_to o.right_to o.left.edges o.right.edges hl hr out
-StageKeeps texts n (Extend o) x y hl hr out = KeepsExtended o.by texts o.left_to o.right_to o.carried.edges (edges_of_pending o.ends) hl hr out
-StageKeeps texts n (Join o) x y hl hr out = IsKept o texts hl hr out
-StageKeeps texts n (Group o) x y hl hr out = KeepsGrouped o.groups.key.items o.groups.aggs.items texts o.groups.rows.rows o.running o.waiting o.left_to hl hr out
+StageKeeps texts n (Life o) x y hl hr out = IsLifeKept o texts hl hr out
+StageKeeps texts n (Union o) x y hl hr out = IsUnionKept o texts hl hr out
+StageKeeps texts n (Extend o) x y hl hr out = IsExtendKept o texts hl hr out
+StageKeeps texts n (Join o) x y hl hr out = IsJoinKept o texts hl hr out
+StageKeeps texts n (Group o) x y hl hr out = IsGroupKept o texts hl hr out
 StageKeeps texts n (Session o) x y hl hr out = IsSessionKept o texts hl hr out
 StageKeeps texts n (Anti o) x y hl hr out = IsAntiKept o texts hl hr out
 StageKeeps texts n (Clip o) x y hl hr out = IsClipKept o texts hl hr out
@@ -242,24 +143,49 @@ IsAnswerOf texts left right old answer = (n : Node) (x y : ℕ) → IsReady text
 -- Extend that carries 2 edges while 3 ends wait keeps 5
 abbrev pub entries_in : Stage → ℕ
 entries_in (Rows s) = 0
-entries_in (Life o) = length o.carried.edges
-entries_in (Union o) = length o.left.edges + length o.right.edges
-entries_in (Extend o) = length o.carried.edges + length o.ends
-entries_in (Join o) = (length o.sides.rows.left.rows + length o.sides.left_waiting) + (length o.sides.rows.right.rows + length o.sides.right_waiting)
-entries_in (Group o) = length o.groups.rows.rows + length o.groups.rows.rows * length o.groups.aggs.items + length o.groups.totals.entries + length o.running.entries + length o.waiting
-entries_in (Session o) = length o.side.sessions.rows.rows + length o.side.sessions.ends + length o.side.waiting
-entries_in (Anti o) = (length o.sides.rows.left.rows + length o.sides.left_waiting) + (length o.sides.rows.right.rows + length o.sides.right_waiting) + length o.sides.rows.times.rows
-entries_in (Clip o) = length o.sides.rows.left.rows + length o.sides.left_waiting + length o.sides.right_waiting
+entries_in (Life o) = life_entries o
+entries_in (Union o) = union_entries o
+entries_in (Extend o) = extend_entries o
+entries_in (Join o) = join_entries o
+entries_in (Group o) = group_entries o
+entries_in (Session o) = session_entries o
+entries_in (Anti o) = anti_entries o
+entries_in (Clip o) = clip_entries o
+
+-- a step of the stage failed, which stood as `old` before: a Source, a Where or a Select is as it was, and an operator says so
+abbrev pub HasStopped : Stage → Stage → Type 0
+HasStopped old (Rows s) = old ≡ Rows s
+HasStopped old (Life o) = (life_standing o).has_failed ≡ true
+HasStopped old (Union o) = (union_standing o).has_failed ≡ true
+HasStopped old (Extend o) = (extend_standing o).has_failed ≡ true
+HasStopped old (Join o) = (join_standing o).has_failed ≡ true
+HasStopped old (Group o) = (group_standing o).has_failed ≡ true
+HasStopped old (Session o) = (session_standing o).has_failed ≡ true
+HasStopped old (Anti o) = (anti_standing o).has_failed ≡ true
+HasStopped old (Clip o) = (clip_standing o).has_failed ≡ true
 
 -- the stage keeps no more entries than its node may, whatever came in and was answered
 abbrev pub KeepsAtMost : ℕ → Stage → Type 0
 KeepsAtMost count s = (texts : List (List ℕ)) (capacity : ℕ) (left right : List CellKind) (n : Node) (x y : ℕ) (hl hr out : List Edge) →
     IsReady texts capacity left right n s x y → StageKeeps texts n s x y hl hr out → count ≤ may_keep n x y hl hr
 
+-- the stage stands as it was made: nothing is kept, no side is closed, and no step failed
+abbrev pub StandsAsMade : Stage → Type 0
+StandsAsMade (Rows s) = Unit {0}
+StandsAsMade (Life o) = IsLifeOpening o.carried.edges o.left_to o.right_to o.failed
+StandsAsMade (Union o) = IsUnionOpening o.left.edges o.right.edges o.left_to o.right_to o.failed
+StandsAsMade (Extend o) = IsExtendOpening o.carried.edges o.ends o.left_to o.right_to o.failed
+StandsAsMade (Join o) = IsJoinOpening o.sides.rows.left.rows o.sides.rows.right.rows o.sides.left_waiting o.sides.right_waiting o.left_to o.right_to o.failed
+StandsAsMade (Group o) = IsGroupOpening o.groups.rows.rows o.running o.waiting o.left_to o.right_to o.failed
+StandsAsMade (Session o) = IsSessionOpening o.side.sessions.rows.rows o.side.sessions.ends o.side.waiting o.left_to o.right_to o.failed
+StandsAsMade (Anti o) = IsAntiOpening o.sides.rows.left.rows o.sides.rows.right.rows o.sides.rows.times.rows o.sides.left_waiting o.sides.right_waiting o.left_to o.right_to o.failed
+StandsAsMade (Clip o) = IsClipOpening o.sides.rows.left.rows o.sides.left_waiting o.sides.right_waiting o.left_to o.right_to o.failed
+
 -- the stage stands as it was made for the node of the plan: it can take a first step, and nothing came in yet
 pub record StartsFor (texts : List (List ℕ)) (capacity : ℕ) (plan : PlanParts) (n : Node) (s : Stage) : Type 0 where
   pub ready : IsReady texts capacity (left_kinds plan n) (right_kinds plan n) n s 0 0
   pub opens : StageKeeps texts n s 0 0 [] [] []
+  pub made : StandsAsMade s
 
 -- the node that makes this change of lives, over the child of that number
 abbrev pub changing : ℕ → Change → Node

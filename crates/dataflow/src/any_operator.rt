@@ -1,6 +1,6 @@
 // A step of any operator in a plan.
-ghost use Rattle.std.specs.Prelude.{◌≡◌, ℕ, Some, None, IfOk, IfErr, OnOk};
-ghost use Rattle.dataflow.specs.Operating.{standing, CanOperateOn, StaysOperating, KeepsOperating, OperatesUndefinedAt, OperatesOver};
+ghost use Rattle.std.specs.Prelude.{◌≡◌, ℕ, true, Some, None, IfOk, IfErr, OnOk, OnErr};
+ghost use Rattle.dataflow.specs.Operating.{CanOperateOn, StaysOperating, KeepsOperating, OperatesUndefinedAt, OperatesOver};
 
 use batch::Pools;
 use edge_stream::{EdgeList, StepFault};
@@ -17,17 +17,18 @@ pub(crate) fn step_operator<O: Operator>(
     left_to: Time,
     right_to: Time,
 ) -> Result<EdgeList, StepFault>
-    requires can { CanOperateOn left right (standing O.node O.left_closed O.right_closed O.left_kinds O.right_kinds O.own_kinds O.batch_rows O.has_failed operator.old) left_to right_to }
+    requires can { CanOperateOn left right (O.standing operator.old) left_to right_to }
     requires capacity { (pools.old.capacity ≡ left.capacity) × (right.capacity ≡ left.capacity) }
-    ensures ready { OnOk result (StaysOperating left right (standing O.node O.left_closed O.right_closed O.left_kinds O.right_kinds O.own_kinds O.batch_rows O.has_failed operator.old)
-        (standing O.node O.left_closed O.right_closed O.left_kinds O.right_kinds O.own_kinds O.batch_rows O.has_failed operator.new) left_to right_to) }
-    ensures kept { IfOk result (KeepsOperating left right (standing O.node O.left_closed O.right_closed O.left_kinds O.right_kinds O.own_kinds O.batch_rows O.has_failed operator.old)
+    ensures ready { OnOk result (
+        StaysOperating left right (O.standing operator.old) (O.standing operator.new) left_to right_to) }
+    ensures kept { IfOk result (KeepsOperating left right (O.standing operator.old)
         (O.keeps operator.old) (O.keeps operator.new) left_to right_to) }
-    ensures defined { OnOk result (OperatesUndefinedAt left right (standing O.node O.left_closed O.right_closed O.left_kinds O.right_kinds O.own_kinds O.batch_rows O.has_failed operator.old)
+    ensures defined { OnOk result (OperatesUndefinedAt left right (O.standing operator.old)
         (O.keeps operator.old) left_to right_to None) }
     ensures overflow { IfErr result (λ fault. (time : ℕ) → fault ≡ StepFault.Overflow time →
-        OperatesUndefinedAt left right (standing O.node O.left_closed O.right_closed O.left_kinds O.right_kinds O.own_kinds O.batch_rows O.has_failed operator.old) (O.keeps operator.old) left_to right_to (Some time)) }
-    ensures kinds { IfOk result (OperatesOver left right (standing O.node O.left_closed O.right_closed O.left_kinds O.right_kinds O.own_kinds O.batch_rows O.has_failed operator.old)) }
+        OperatesUndefinedAt left right (O.standing operator.old) (O.keeps operator.old) left_to right_to (Some time)) }
+    ensures stopped { OnErr result ((O.standing operator.new).has_failed ≡ true) }
+    ensures kinds { IfOk result (OperatesOver left right (O.standing operator.old)) }
     ensures capacity { IfOk result (λ answer. answer.capacity ≡ left.capacity) }
     ensures pools { pools.new.capacity ≡ pools.old.capacity }
     ensures limit { pools.new.limit ≡ pools.old.limit }

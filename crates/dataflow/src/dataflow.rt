@@ -1,31 +1,37 @@
 // A plan at work.
-ghost use Rattle.std.specs.Prelude.{◌≡◌, ◌<◌, ◌≤◌, ℕ, true, Some, List, [], slice_get, IfOk, IfErr, OnOk};
+ghost use Rattle.std.specs.Prelude.{◌≡◌, ◌<◌, ◌≤◌, ℕ, true, false, Some, List, [], slice_get, IfOk, IfErr, OnOk, OnErr};
 ghost use Rattle.tw_rows.specs.Texts.{BeginsWith};
 ghost use Rattle.plan_model.specs.declared.node.Node.{Node};
-ghost use Rattle.plan_model.specs.IsPlan.{kinds_at};
+ghost use Rattle.plan_model.specs.IsPlan.{kinds_at, most_columns};
+ghost use Rattle.node_laws.specs.Places.{EdgesArePlaced};
+ghost use Rattle.lane_expr.specs.Steps.{with_texts};
+ghost use Rattle.row_stage.specs.Texts.{HasFirstTexts};
 ghost use Rattle.built_nodes.specs.Built.{is_built};
-ghost use Rattle.dataflow.specs.Lists.{edges_at, AreGiven, IsListOf};
-ghost use Rattle.dataflow.specs.Flows.{MayStep, Flows, GivesOn, OverflowsAt, held_from};
-ghost use Rattle.dataflow.specs.Held.{AreFresh};
+ghost use Rattle.dataflow.specs.Lists.{edges_at, AreOfStreams, IsListOf};
+ghost use Rattle.dataflow.specs.declared.stage.Stage.{Stage as Kept};
+ghost use Rattle.dataflow.specs.Stages.{StandsAsMade};
+ghost use Rattle.dataflow.specs.Flows.{MayStep, StepsOn, Flows, GivesOn, OverflowsAt, held_from};
+ghost use Rattle.dataflow.specs.Held.{AreFresh, nodes_in_all};
 
 use crate::fault::PlanFault;
 use crate::stage::Stage;
-use crate::steps::step_all;
+use crate::steps::{are_all_sure, step_all};
 use batch::Pools;
 use edge_stream::EdgeList;
-use plan_model::{MOST_COLUMNS, Plan};
+use plan_model::Plan;
 use std::alloc::Global;
 use std::marker::Model;
 use tw_rows::{Memory, TextTable, Time};
 
-/// A plan at work. Contracts see the plan, its stages, how many rows each batch has room for, and how many columns its pools
-/// hold; `Flows` says of which edges the stages have taken steps. After a fault no further step may be taken.
+/// A plan at work. Contracts see the plan, its stages, how many rows each batch has room for, and whether the stages took up
+/// what was saved; `Flows` says of which edges the stages have taken steps. After a fault no further step may be taken.
 #[derive(Drop)]
 pub struct Dataflow {
     alloc: Global,
     plan: Plan,
     stages: Vec<Stage>,
-    pools: Pools,
+    capacity: usize,
+    thawed: bool,
 }
 
 impl Model for Dataflow {
@@ -37,7 +43,7 @@ impl Model for Dataflow {
 
     ghost coded = { Prim.hlevel (codes, stage.the_row.coded) };
 
-    ghost view = { λ d. record { plan = d.plan; stages = d.stages.items; capacity = d.pools.capacity; limit = d.pools.limit } };
+    ghost view = { λ d. record { plan = d.plan; stages = d.stages.items; capacity = d.capacity; thawed = d.thawed } };
 }
 
 // A stage for each node of the plan.
@@ -50,6 +56,8 @@ fn stages_of(
     requires room { 1 ≤ capacity }
     requires built { (i : ℕ) (n : Node) → slice_get plan.now.nodes i ≡ Some n → is_built n ≡ true }
     ensures fresh { IfOk result (λ stages. AreFresh texts.new capacity plan.now stages.items) }
+    ensures table { OnOk result (texts.new ≡ with_texts texts.old (nodes_in_all plan.now.nodes)) }
+    ensures err { OnErr result (HasFirstTexts texts.new texts.old (nodes_in_all plan.now.nodes)) }
     ensures begins { BeginsWith texts.new texts.old }
 {
     let mut stages = Vec::new(alloc);
@@ -71,8 +79,8 @@ fn held_by(alloc: Global, stages: &[Stage]) -> Result<Vec<(usize, u64)>, Memory>
 }
 
 impl Dataflow {
-    /// The plan with a stage for each of its nodes, for batches of `capacity` rows. The texts of its nodes come into the
-    /// table, and stay there where memory is wanting.
+    /// The plan with a stage for each of its nodes, for batches of `capacity` rows. The texts of its expressions come into
+    /// the table, and stay there out of memory.
     pub fn new(
         alloc: Global,
         plan: Plan,
@@ -82,17 +90,21 @@ impl Dataflow {
         requires room { 1 ≤ capacity }
         requires built { (i : ℕ) (n : Node) → slice_get plan.nodes i ≡ Some n → is_built n ≡ true }
         ensures flows { IfOk result (λ d. Flows texts.new 0 (λ s. []) (λ k. []) d) }
+        ensures made { IfOk result (λ d. (i : ℕ) (s : Kept) → slice_get d.stages i ≡ Some s → StandsAsMade s) }
         ensures plan { IfOk result (λ d. d.plan ≡ plan) }
         ensures capacity { IfOk result (λ d. d.capacity ≡ capacity) }
+        ensures thawed { IfOk result (λ d. d.thawed ≡ false) }
+        ensures table { OnOk result (texts.new ≡ with_texts texts.old (nodes_in_all plan.nodes)) }
+        ensures err { OnErr result (HasFirstTexts texts.new texts.old (nodes_in_all plan.nodes)) }
         ensures begins { BeginsWith texts.new texts.old }
     {
         let stages = stages_of(alloc, &plan, capacity, texts)?;
-        let pools = Pools::new(alloc, MOST_COLUMNS, capacity)?;
         Ok(Dataflow {
             alloc,
             plan,
             stages,
-            pools,
+            capacity,
+            thawed: false,
         })
     }
 
@@ -118,27 +130,42 @@ impl Dataflow {
     }
 
     /// One step of each node, in order of number, at the punctuation `p`, which is later than the last one: of the new edges
-    /// of each stream the new edges of the root. After a fault no further step may be taken.
+    /// of each stream the new edges of the root. Columns are taken from the pools, and go back there. After a fault no further
+    /// step may be taken. Where the stages took up what was saved, Memory also tells that a place is not in the table.
     pub fn step(
         &mut self,
+        pools: &mut Pools,
         texts: &TextTable,
         given: Vec<EdgeList>,
         p: Time,
     ) -> Result<EdgeList, PlanFault>
         requires may { MayStep texts.now p (edges_at given.items) self.old }
-        requires given { AreGiven texts.now self.old.capacity self.old.plan given.items }
+        requires given { AreOfStreams self.old.capacity self.old.plan given.items }
+        requires placed { self.old.thawed ≡ false → (s : ℕ) → EdgesArePlaced texts.now (edges_at given.items s) }
+        requires capacity { pools.old.capacity ≡ self.old.capacity }
+        requires limit { most_columns ≤ pools.old.limit }
         ensures flowed { IfOk result (λ out. GivesOn texts.now p (edges_at given.items) self.old self.new out.edges) }
-        ensures overflow { IfErr result (λ fault. (node time : ℕ) → fault ≡ PlanFault.Overflow node time → OverflowsAt texts.now p (edges_at given.items) self.old node time) }
-        ensures list { IfOk result (λ out. IsListOf texts.now self.old.capacity (kinds_at self.old.plan.schemas self.old.plan.root) out) }
+        ensures can { OnOk result (StepsOn texts.now p self.old self.new) }
+        ensures overflow { IfErr result (λ fault. (node time : ℕ) → fault ≡ PlanFault.Overflow node time →
+            OverflowsAt texts.now p (edges_at given.items) self.old node time) }
+        ensures list { IfOk result (λ out.
+            IsListOf texts.now self.old.capacity (kinds_at self.old.plan.schemas self.old.plan.root) out) }
         ensures plan { self.new.plan ≡ self.old.plan }
         ensures capacity { self.new.capacity ≡ self.old.capacity }
+        ensures thawed { self.new.thawed ≡ self.old.thawed }
+        ensures pools { pools.new.capacity ≡ pools.old.capacity }
+        ensures limit { pools.new.limit ≡ pools.old.limit }
     {
+        if !are_all_sure(self.thawed, &given, texts) {
+            return Err(PlanFault::Memory);
+        }
         step_all(
             self.alloc,
-            &mut self.pools,
+            pools,
             texts,
             &self.plan,
             &mut self.stages,
+            self.thawed,
             given,
             p,
         )

@@ -1,14 +1,17 @@
 // The laws of plans at work. Each is a function that does nothing; its clauses are the law.
-ghost use Rattle.std.specs.Prelude.{◌≡◌, ℕ, ◌<◌, ◌≤◌, Some, List, length, slice_get};
+ghost use Rattle.std.specs.Prelude.{◌≡◌, ℕ, ◌<◌, ◌≤◌, true, Some, List, length, slice_get};
 ghost use Rattle.tw_rows.specs.Texts.{BeginsWith};
 ghost use Rattle.tw_rows.specs.declared.edge.Edge.{Edge};
+ghost use Rattle.tw_rows.specs.declared.kind.CellKind.{CellKind};
+ghost use Rattle.plan_model.specs.declared.node.Node.{Node};
 ghost use Rattle.plan_model.specs.IsPlan.{IsPlan};
 ghost use Rattle.plan_model.specs.Meaning.{Sources};
 ghost use Rattle.plan_laws.specs.Held.{node_may_hold};
 ghost use Rattle.node_laws.specs.Places.{AreDistinct, EdgesArePlaced};
-ghost use Rattle.node_laws.specs.Standing.{SourcesStandRead};
+ghost use Rattle.node_laws.specs.Standing.{SourcesStandRead, AllStandRead};
+ghost use Rattle.row_stage.specs.Stages.{is_of_rows};
 ghost use Rattle.dataflow.specs.declared.stage.Stage.{Stage as Kept};
-ghost use Rattle.dataflow.specs.Stages.{entries_in, KeepsAtMost};
+ghost use Rattle.dataflow.specs.Stages.{IsReady, entries_in, KeepsAtMost};
 ghost use Rattle.dataflow.specs.Flows.{DataflowView, CanStep, Flows};
 
 use anti_join::Anti;
@@ -32,6 +35,20 @@ pub fn answers_have_their_places()
     ensures { (texts : List (List ℕ)) (last : ℕ) (given lists : ℕ → List Edge) (d : DataflowView) →
         AreDistinct texts → Flows texts last given lists d → (k : ℕ) → k < length d.plan.nodes →
         EdgesArePlaced texts (lists k) }
+{}
+
+/// What each node answered so far stands for its events, read: it is what is known of them below the node's closing at the last
+/// punctuation, over the events of the sources for which the edges of the streams stand.
+pub fn answers_stand()
+    ensures { (texts : List (List ℕ)) (last : ℕ) (source : Sources) (given lists : ℕ → List Edge) (d : DataflowView) →
+        IsPlan d.plan → AreDistinct texts → Flows texts last given lists d → 0 < last → SourcesStandRead texts last source given →
+        AllStandRead texts d.plan.nodes last source lists (length d.plan.nodes) }
+{}
+
+/// The stage of a Source, a Where or a Select keeps nothing of one step for the next.
+pub fn row_stages_keep_nothing()
+    ensures { (texts : List (List ℕ)) (capacity : ℕ) (left right : List CellKind) (n : Node) (s : Kept) (x y : ℕ) →
+        IsReady texts capacity left right n s x y → is_of_rows n ≡ true → entries_in s ≡ 0 }
 {}
 
 /// No stage keeps more entries than its node may, of the edges that came in and were answered.

@@ -1,23 +1,27 @@
 // The making of stages from the nodes of a plan.
-ghost use Rattle.std.specs.Prelude.{◌≡◌, ◌<◌, ◌≤◌, ℕ, true, Some, List, length, map, slice_get, IfOk};
+ghost use Rattle.std.specs.Prelude.{◌≡◌, ◌<◌, ◌≤◌, ℕ, true, false, Some, List, length, map, slice_get, IfOk, OnOk, OnErr};
 ghost use Rattle.tw_rows.specs.Kinds.{cell_kind_of};
 ghost use Rattle.tw_rows.specs.Texts.{BeginsWith};
 ghost use Rattle.plan_model.specs.declared.node.Node.{Node};
-ghost use Rattle.plan_model.specs.IsPlan.{kinds_at, kinds_of_schema};
+ghost use Rattle.plan_model.specs.IsPlan.{kinds_at};
+ghost use Rattle.built_nodes.specs.Built.{is_built};
+ghost use Rattle.lane_expr.specs.Steps.{with_texts};
 ghost use Rattle.row_stage.specs.Stages.{is_of_rows};
+ghost use Rattle.row_stage.specs.Texts.{nodes_in, HasFirstTexts};
+ghost use Rattle.dataflow.specs.Held.{has_two};
 ghost use Rattle.dataflow.specs.Stages.{left_kinds, changing, StartsFor};
 
 use crate::stage::Stage;
 use anti_join::Anti;
 use clip_op::Clip;
 use lifetime_ops::{AlterLifetime, Change, ExtendLifetime};
-use plan_model::{Agg, Plan};
-use row_stage::read_kinds;
+use plan_model::{Agg, Node, Plan};
+use row_stage::{column_kinds, read_kinds};
 use session_window::Session;
 use snapshot_agg::Grouped;
 use std::alloc::Global;
 use temporal_join::Join;
-use tw_rows::{Kind, Memory, Schema, TextTable};
+use tw_rows::{Kind, Memory, TextTable};
 
 // The kinds of the columns that a node of the plan reads on the left.
 fn kinds_read(alloc: Global, plan: &Plan, node: usize) -> Result<Vec<Kind>, Memory>
@@ -38,23 +42,22 @@ fn kinds_told(alloc: Global, plan: &Plan, node: usize) -> Result<Vec<Kind>, Memo
     ensures width { IfOk result (λ v. length v.items ≤ 32) }
 {
     let schemas = plan.schemas();
-    let kinds = column_kinds(alloc, &schemas[node])?;
+    let kinds = column_kinds(alloc, schemas[node].items())?;
     Ok(kinds)
 }
 
-// The kinds of the columns of a schema.
-fn column_kinds(alloc: Global, schema: &Schema) -> Result<Vec<Kind>, Memory>
-    ensures { IfOk result (λ v. map cell_kind_of v.items ≡ kinds_of_schema schema.now) }
+/// Whether the node is a Source, a Where or a Select.
+pub(crate) fn reads_rows_alone(node: &Node) -> bool
+    ensures { result ≡ is_of_rows node.now }
 {
-    let mut kinds = Vec::new(alloc);
-    for column in schema.items() {
-        kinds.push(column.kind)?;
-    }
-    Ok(kinds)
+    matches!(
+        node,
+        Node::Source { .. } | Node::Where { .. } | Node::Select { .. }
+    )
 }
 
-/// The stage of a Source, a Where or a Select of the plan. Its texts come into the table, and stay there where memory is
-/// wanting.
+/// The stage of a Source, a Where or a Select of the plan. The texts of its expressions come into the table, and stay there
+/// out of memory.
 pub(crate) fn rows_stage(
     alloc: Global,
     plan: &Plan,
@@ -64,15 +67,98 @@ pub(crate) fn rows_stage(
 ) -> Result<Stage, Memory>
     requires node { node < length plan.now.nodes }
     requires rows { (n : Node) → slice_get plan.now.nodes node ≡ Some n → is_of_rows n ≡ true }
-    ensures starts { IfOk result (λ s. (n : Node) → slice_get plan.now.nodes node ≡ Some n → StartsFor texts.new capacity plan.now n s) }
+    ensures starts { IfOk result (λ s. (n : Node) → slice_get plan.now.nodes node ≡ Some n →
+        StartsFor texts.new capacity plan.now n s) }
+    ensures table { OnOk result ((n : Node) → slice_get plan.now.nodes node ≡ Some n →
+        texts.new ≡ with_texts texts.old (nodes_in n)) }
+    ensures err { OnErr result ((n : Node) → slice_get plan.now.nodes node ≡ Some n →
+        HasFirstTexts texts.new texts.old (nodes_in n)) }
     ensures begins { BeginsWith texts.new texts.old }
 {
     let stage = row_stage::RowStage::new(alloc, plan, node, capacity, texts)?;
     Ok(Stage::Rows(stage))
 }
 
-/// The stage of a Delay, a Hop or a Duration of the plan, which makes this change.
-pub(crate) fn life_stage(
+/// The stage of another node of the plan that is built. Its operator needs no texts.
+pub(crate) fn operator_stage(
+    alloc: Global,
+    plan: &Plan,
+    node: usize,
+    capacity: usize,
+) -> Result<Stage, Memory>
+    requires node { node < length plan.now.nodes }
+    requires room { 1 ≤ capacity }
+    requires built { (n : Node) → slice_get plan.now.nodes node ≡ Some n → is_built n ≡ true }
+    requires other { (n : Node) → slice_get plan.now.nodes node ≡ Some n → is_of_rows n ≡ false }
+    ensures { IfOk result (λ s. (texts : List (List ℕ)) (n : Node) → slice_get plan.now.nodes node ≡ Some n →
+        StartsFor texts capacity plan.now n s) }
+{
+    let nodes = plan.nodes();
+    match &nodes[node] {
+        Node::Delay { by, .. } => {
+            life_stage(alloc, plan, node, Change::Delay { by: *by }, capacity)
+        }
+        Node::Hop { size, period, .. } => {
+            let hop = Change::Hop {
+                size: *size,
+                period: *period,
+            };
+            life_stage(alloc, plan, node, hop, capacity)
+        }
+        Node::Duration { by, .. } => {
+            life_stage(alloc, plan, node, Change::Duration { by: *by }, capacity)
+        }
+        Node::Extend { by, .. } => extend_stage(alloc, plan, node, *by, capacity),
+        Node::Group { key, aggs, .. } => {
+            group_stage(alloc, plan, node, key.items(), aggs.items(), capacity)
+        }
+        Node::Session { timeout, key, .. } => {
+            session_stage(alloc, plan, node, *timeout, key.items(), capacity)
+        }
+        _ => two_sided_stage(alloc, plan, node, capacity),
+    }
+}
+
+// The stage of a node of the plan that is built and has two children.
+fn two_sided_stage(
+    alloc: Global,
+    plan: &Plan,
+    node: usize,
+    capacity: usize,
+) -> Result<Stage, Memory>
+    requires node { node < length plan.now.nodes }
+    requires room { 1 ≤ capacity }
+    requires two { (n : Node) → slice_get plan.now.nodes node ≡ Some n → has_two n ≡ true }
+    ensures { IfOk result (λ s. (texts : List (List ℕ)) (n : Node) → slice_get plan.now.nodes node ≡ Some n →
+        StartsFor texts capacity plan.now n s) }
+{
+    let nodes = plan.nodes();
+    match &nodes[node] {
+        Node::Union { .. } => union_stage(alloc, plan, node, capacity),
+        Node::Join {
+            right,
+            left_key: l,
+            right_key: r,
+            ..
+        } => join_stage(alloc, plan, node, *right, l.items(), r.items(), capacity),
+        Node::Anti {
+            right,
+            left_key: l,
+            right_key: r,
+            ..
+        } => anti_stage(alloc, plan, node, *right, l.items(), r.items(), capacity),
+        Node::Clip {
+            right,
+            left_key: l,
+            right_key: r,
+            ..
+        } => clip_stage(alloc, plan, node, *right, l.items(), r.items(), capacity),
+        _ => unreachable!(),
+    }
+}
+
+// The stage of a Delay, a Hop or a Duration of the plan, which makes this change.
+fn life_stage(
     alloc: Global,
     plan: &Plan,
     node: usize,
@@ -82,24 +168,21 @@ pub(crate) fn life_stage(
     requires node { node < length plan.now.nodes }
     requires room { 1 ≤ capacity }
     requires is { (n : Node) → slice_get plan.now.nodes node ≡ Some n → (of : ℕ) × (n ≡ changing of change) }
-    ensures { IfOk result (λ s. (texts : List (List ℕ)) (n : Node) → slice_get plan.now.nodes node ≡ Some n → StartsFor texts capacity plan.now n s) }
+    ensures { IfOk result (λ s. (texts : List (List ℕ)) (n : Node) → slice_get plan.now.nodes node ≡ Some n →
+        StartsFor texts capacity plan.now n s) }
 {
     let kinds = kinds_read(alloc, plan, node)?;
     let operator = AlterLifetime::new(alloc, change, &kinds, capacity)?;
     Ok(Stage::Life(operator))
 }
 
-/// The stage of a Union of the plan.
-pub(crate) fn union_stage(
-    alloc: Global,
-    plan: &Plan,
-    node: usize,
-    capacity: usize,
-) -> Result<Stage, Memory>
+// The stage of a Union of the plan.
+fn union_stage(alloc: Global, plan: &Plan, node: usize, capacity: usize) -> Result<Stage, Memory>
     requires node { node < length plan.now.nodes }
     requires room { 1 ≤ capacity }
     requires is { (n : Node) → slice_get plan.now.nodes node ≡ Some n → (left : ℕ) × ((right : ℕ) × (n ≡ Node.Union left right)) }
-    ensures { IfOk result (λ s. (texts : List (List ℕ)) (n : Node) → slice_get plan.now.nodes node ≡ Some n → StartsFor texts capacity plan.now n s) }
+    ensures { IfOk result (λ s. (texts : List (List ℕ)) (n : Node) → slice_get plan.now.nodes node ≡ Some n →
+        StartsFor texts capacity plan.now n s) }
 {
     // Its call tells the proof what a plan keeps.
     let _ = plan.nodes();
@@ -108,8 +191,8 @@ pub(crate) fn union_stage(
     Ok(Stage::Union(operator))
 }
 
-/// The stage of an Extend of the plan, which moves ends by so much.
-pub(crate) fn extend_stage(
+// The stage of an Extend of the plan, which moves ends by so much.
+fn extend_stage(
     alloc: Global,
     plan: &Plan,
     node: usize,
@@ -119,15 +202,16 @@ pub(crate) fn extend_stage(
     requires node { node < length plan.now.nodes }
     requires room { 1 ≤ capacity }
     requires is { (n : Node) → slice_get plan.now.nodes node ≡ Some n → (of : ℕ) × (n ≡ Node.Extend of by) }
-    ensures { IfOk result (λ s. (texts : List (List ℕ)) (n : Node) → slice_get plan.now.nodes node ≡ Some n → StartsFor texts capacity plan.now n s) }
+    ensures { IfOk result (λ s. (texts : List (List ℕ)) (n : Node) → slice_get plan.now.nodes node ≡ Some n →
+        StartsFor texts capacity plan.now n s) }
 {
     let kinds = kinds_read(alloc, plan, node)?;
     let operator = ExtendLifetime::new(alloc, by, &kinds, capacity)?;
     Ok(Stage::Extend(operator))
 }
 
-/// The stage of a Session of the plan, with this timeout and this key.
-pub(crate) fn session_stage(
+// The stage of a Session of the plan, with this timeout and this key.
+fn session_stage(
     alloc: Global,
     plan: &Plan,
     node: usize,
@@ -138,7 +222,8 @@ pub(crate) fn session_stage(
     requires node { node < length plan.now.nodes }
     requires room { 1 ≤ capacity }
     requires is { (n : Node) → slice_get plan.now.nodes node ≡ Some n → (of : ℕ) × (n ≡ Node.Session of timeout key.now) }
-    ensures { IfOk result (λ s. (texts : List (List ℕ)) (n : Node) → slice_get plan.now.nodes node ≡ Some n → StartsFor texts capacity plan.now n s) }
+    ensures { IfOk result (λ s. (texts : List (List ℕ)) (n : Node) → slice_get plan.now.nodes node ≡ Some n →
+        StartsFor texts capacity plan.now n s) }
 {
     // Its call tells the proof what a plan keeps.
     let _ = plan.nodes();
@@ -147,8 +232,8 @@ pub(crate) fn session_stage(
     Ok(Stage::Session(operator))
 }
 
-/// The stage of a Join of the plan, by these keys of the left and of the right child.
-pub(crate) fn join_stage(
+// The stage of a Join of the plan, by these keys of the left and of the right child.
+fn join_stage(
     alloc: Global,
     plan: &Plan,
     node: usize,
@@ -160,7 +245,8 @@ pub(crate) fn join_stage(
     requires node { node < length plan.now.nodes }
     requires room { 1 ≤ capacity }
     requires is { (n : Node) → slice_get plan.now.nodes node ≡ Some n → (left : ℕ) × (n ≡ Node.Join left right left_key.now right_key.now) }
-    ensures { IfOk result (λ s. (texts : List (List ℕ)) (n : Node) → slice_get plan.now.nodes node ≡ Some n → StartsFor texts capacity plan.now n s) }
+    ensures { IfOk result (λ s. (texts : List (List ℕ)) (n : Node) → slice_get plan.now.nodes node ≡ Some n →
+        StartsFor texts capacity plan.now n s) }
 {
     // Its call tells the proof what a plan keeps.
     let _ = plan.nodes();
@@ -177,8 +263,8 @@ pub(crate) fn join_stage(
     Ok(Stage::Join(operator))
 }
 
-/// The stage of a Group of the plan, by this key and with these aggregates.
-pub(crate) fn group_stage(
+// The stage of a Group of the plan, by this key and with these aggregates.
+fn group_stage(
     alloc: Global,
     plan: &Plan,
     node: usize,
@@ -189,7 +275,8 @@ pub(crate) fn group_stage(
     requires node { node < length plan.now.nodes }
     requires room { 1 ≤ capacity }
     requires is { (n : Node) → slice_get plan.now.nodes node ≡ Some n → (of : ℕ) × (n ≡ Node.Group of key.now aggs.now) }
-    ensures { IfOk result (λ s. (texts : List (List ℕ)) (n : Node) → slice_get plan.now.nodes node ≡ Some n → StartsFor texts capacity plan.now n s) }
+    ensures { IfOk result (λ s. (texts : List (List ℕ)) (n : Node) → slice_get plan.now.nodes node ≡ Some n →
+        StartsFor texts capacity plan.now n s) }
 {
     // Its call tells the proof what a plan keeps.
     let _ = plan.nodes();
@@ -199,8 +286,8 @@ pub(crate) fn group_stage(
     Ok(Stage::Group(operator))
 }
 
-/// The stage of an Anti of the plan, by these keys of the left and of the right child.
-pub(crate) fn anti_stage(
+// The stage of an Anti of the plan, by these keys of the left and of the right child.
+fn anti_stage(
     alloc: Global,
     plan: &Plan,
     node: usize,
@@ -212,7 +299,8 @@ pub(crate) fn anti_stage(
     requires node { node < length plan.now.nodes }
     requires room { 1 ≤ capacity }
     requires is { (n : Node) → slice_get plan.now.nodes node ≡ Some n → (left : ℕ) × (n ≡ Node.Anti left right left_key.now right_key.now) }
-    ensures { IfOk result (λ s. (texts : List (List ℕ)) (n : Node) → slice_get plan.now.nodes node ≡ Some n → StartsFor texts capacity plan.now n s) }
+    ensures { IfOk result (λ s. (texts : List (List ℕ)) (n : Node) → slice_get plan.now.nodes node ≡ Some n →
+        StartsFor texts capacity plan.now n s) }
 {
     // Its call tells the proof what a plan keeps.
     let _ = plan.nodes();
@@ -229,8 +317,8 @@ pub(crate) fn anti_stage(
     Ok(Stage::Anti(operator))
 }
 
-/// The stage of a Clip of the plan, by these keys of the left and of the right child.
-pub(crate) fn clip_stage(
+// The stage of a Clip of the plan, by these keys of the left and of the right child.
+fn clip_stage(
     alloc: Global,
     plan: &Plan,
     node: usize,
@@ -242,7 +330,8 @@ pub(crate) fn clip_stage(
     requires node { node < length plan.now.nodes }
     requires room { 1 ≤ capacity }
     requires is { (n : Node) → slice_get plan.now.nodes node ≡ Some n → (left : ℕ) × (n ≡ Node.Clip left right left_key.now right_key.now) }
-    ensures { IfOk result (λ s. (texts : List (List ℕ)) (n : Node) → slice_get plan.now.nodes node ≡ Some n → StartsFor texts capacity plan.now n s) }
+    ensures { IfOk result (λ s. (texts : List (List ℕ)) (n : Node) → slice_get plan.now.nodes node ≡ Some n →
+        StartsFor texts capacity plan.now n s) }
 {
     // Its call tells the proof what a plan keeps.
     let _ = plan.nodes();

@@ -1,25 +1,24 @@
 // One node of a plan at work.
-ghost use Rattle.std.specs.Prelude.{◌≡◌, ◌-◌, ◌^◌, ◌<◌, ◌≤◌, ℕ, min, true, Some, None, [], length, slice_get, IfOk, IfErr, OnOk};
+ghost use Rattle.std.specs.Prelude.{◌≡◌, ◌-◌, ◌^◌, ◌<◌, ◌≤◌, ℕ, min, true, Some, None, length, slice_get, IfOk, IfErr, OnOk, OnErr};
 ghost use Rattle.tw_rows.specs.Texts.{BeginsWith};
 ghost use Rattle.plan_model.specs.declared.node.Node.{Node};
 ghost use Rattle.plan_model.specs.IsPlan.{most_columns};
 ghost use Rattle.built_nodes.specs.Built.{is_built};
 ghost use Rattle.node_laws.specs.Places.{EdgesArePlaced};
-ghost use Rattle.dataflow.specs.Stages.{left_kinds, right_kinds, IsReady, CanTake, StageKeeps, StaysReady, KeepsOn, IsUndefinedAt, IsAnswerOf, entries_in, KeepsAtMost};
+ghost use Rattle.lane_expr.specs.Steps.{with_texts};
+ghost use Rattle.row_stage.specs.Texts.{nodes_in, HasFirstTexts};
+ghost use Rattle.dataflow.specs.Stages.{CanTake, StaysReady, KeepsOn, IsUndefinedAt, IsAnswerOf, HasStopped, entries_in, KeepsAtMost, StartsFor};
 
 use crate::any_operator::step_operator;
 use crate::laws::stages_keep_at_most;
-use crate::making::{
-    anti_stage, clip_stage, extend_stage, group_stage, join_stage, life_stage, rows_stage,
-    session_stage, union_stage,
-};
+use crate::making::{operator_stage, reads_rows_alone, rows_stage};
 use anti_join::Anti;
 use batch::Pools;
 use clip_op::Clip;
 use edge_stream::{EdgeList, StepFault};
-use lifetime_ops::{AlterLifetime, Change, ExtendLifetime};
+use lifetime_ops::{AlterLifetime, ExtendLifetime};
 use operator::Operator;
-use plan_model::{Node, Plan};
+use plan_model::Plan;
 use session_window::Session;
 use snapshot_agg::Grouped;
 use std::alloc::Global;
@@ -51,8 +50,8 @@ pub enum Stage {
 }
 
 impl Stage {
-    /// The stage of a node of the plan that is built, for batches of `capacity` rows. The texts of the node come into the
-    /// table, and stay there where memory is wanting.
+    /// The stage of a node of the plan that is built, for batches of `capacity` rows. The texts of the node's expressions come
+    /// into the table, and stay there out of memory.
     pub fn new(
         alloc: Global,
         plan: &Plan,
@@ -63,76 +62,19 @@ impl Stage {
         requires node { node < length plan.now.nodes }
         requires room { 1 ≤ capacity }
         requires built { (n : Node) → slice_get plan.now.nodes node ≡ Some n → is_built n ≡ true }
-        ensures ready { IfOk result (λ s. (n : Node) → slice_get plan.now.nodes node ≡ Some n → IsReady texts.new capacity (left_kinds plan.now n) (right_kinds plan.now n) n s 0 0) }
-        ensures opens { IfOk result (λ s. (n : Node) → slice_get plan.now.nodes node ≡ Some n → StageKeeps texts.new n s 0 0 [] [] []) }
+        ensures starts { IfOk result (λ s. (n : Node) → slice_get plan.now.nodes node ≡ Some n →
+            StartsFor texts.new capacity plan.now n s) }
+        ensures table { OnOk result ((n : Node) → slice_get plan.now.nodes node ≡ Some n →
+            texts.new ≡ with_texts texts.old (nodes_in n)) }
+        ensures err { OnErr result ((n : Node) → slice_get plan.now.nodes node ≡ Some n →
+            HasFirstTexts texts.new texts.old (nodes_in n)) }
         ensures begins { BeginsWith texts.new texts.old }
     {
         let nodes = plan.nodes();
-        match &nodes[node] {
-            Node::Delay { by, .. } => {
-                life_stage(alloc, plan, node, Change::Delay { by: *by }, capacity)
-            }
-            Node::Hop { size, period, .. } => {
-                let hop = Change::Hop {
-                    size: *size,
-                    period: *period,
-                };
-                life_stage(alloc, plan, node, hop, capacity)
-            }
-            Node::Duration { by, .. } => {
-                life_stage(alloc, plan, node, Change::Duration { by: *by }, capacity)
-            }
-            Node::Union { .. } => union_stage(alloc, plan, node, capacity),
-            Node::Extend { by, .. } => extend_stage(alloc, plan, node, *by, capacity),
-            Node::Join {
-                right,
-                left_key,
-                right_key,
-                ..
-            } => join_stage(
-                alloc,
-                plan,
-                node,
-                *right,
-                left_key.items(),
-                right_key.items(),
-                capacity,
-            ),
-            Node::Group { key, aggs, .. } => {
-                group_stage(alloc, plan, node, key.items(), aggs.items(), capacity)
-            }
-            Node::Session { timeout, key, .. } => {
-                session_stage(alloc, plan, node, *timeout, key.items(), capacity)
-            }
-            Node::Anti {
-                right,
-                left_key,
-                right_key,
-                ..
-            } => anti_stage(
-                alloc,
-                plan,
-                node,
-                *right,
-                left_key.items(),
-                right_key.items(),
-                capacity,
-            ),
-            Node::Clip {
-                right,
-                left_key,
-                right_key,
-                ..
-            } => clip_stage(
-                alloc,
-                plan,
-                node,
-                *right,
-                left_key.items(),
-                right_key.items(),
-                capacity,
-            ),
-            _ => rows_stage(alloc, plan, node, capacity, texts),
+        if reads_rows_alone(&nodes[node]) {
+            rows_stage(alloc, plan, node, capacity, texts)
+        } else {
+            operator_stage(alloc, plan, node, capacity)
         }
     }
 
@@ -155,7 +97,9 @@ impl Stage {
         ensures ready { IfOk result (λ answer. StaysReady texts.now left right self.old self.new left_to right_to) }
         ensures kept { IfOk result (λ answer. KeepsOn texts.now left right self.old self.new left_to right_to answer) }
         ensures defined { OnOk result (IsUndefinedAt texts.now left right self.old left_to right_to None) }
-        ensures overflow { IfErr result (λ fault. (time : ℕ) → fault ≡ StepFault.Overflow time → IsUndefinedAt texts.now left right self.old left_to right_to (Some time)) }
+        ensures overflow { IfErr result (λ fault. (time : ℕ) → fault ≡ StepFault.Overflow time →
+            IsUndefinedAt texts.now left right self.old left_to right_to (Some time)) }
+        ensures stopped { OnErr result (HasStopped self.old self.new) }
         ensures kinds { IfOk result (IsAnswerOf texts.now left right self.old) }
         ensures capacity { IfOk result (λ answer. answer.capacity ≡ left.capacity) }
         ensures pools { pools.new.capacity ≡ pools.old.capacity }
@@ -236,7 +180,9 @@ fn step_rows(
     ensures ready { IfOk result (λ answer. StaysReady texts.now left right (Stage.Rows stage.old) (Stage.Rows stage.new) left_to right_to) }
     ensures kept { IfOk result (λ answer. KeepsOn texts.now left right (Stage.Rows stage.old) (Stage.Rows stage.new) left_to right_to answer) }
     ensures defined { OnOk result (IsUndefinedAt texts.now left right (Stage.Rows stage.old) left_to right_to None) }
-    ensures overflow { IfErr result (λ fault. (time : ℕ) → fault ≡ StepFault.Overflow time → IsUndefinedAt texts.now left right (Stage.Rows stage.old) left_to right_to (Some time)) }
+    ensures overflow { IfErr result (λ fault. (time : ℕ) → fault ≡ StepFault.Overflow time →
+        IsUndefinedAt texts.now left right (Stage.Rows stage.old) left_to right_to (Some time)) }
+    ensures same { stage.new ≡ stage.old }
     ensures kinds { IfOk result (IsAnswerOf texts.now left right (Stage.Rows stage.old)) }
     ensures capacity { IfOk result (λ answer. answer.capacity ≡ left.capacity) }
     ensures pools { pools.new.capacity ≡ pools.old.capacity }

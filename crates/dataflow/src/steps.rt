@@ -1,10 +1,12 @@
 // One step of each node of a plan.
-ghost use Rattle.std.specs.Prelude.{◌≡◌, ◌<◌, ◌≤◌, ℕ, Some, List, length, slice_get, IfOk, IfErr, OnOk};
+ghost use Rattle.std.specs.Prelude.{◌≡◌, ◌<◌, ◌≤◌, ℕ, true, false, Some, List, length, slice_get, IsTrue, IfOk, IfErr, OnOk};
 ghost use Rattle.plan_model.specs.declared.node.Node.{Node};
-ghost use Rattle.plan_model.specs.IsPlan.{kinds_at};
+ghost use Rattle.plan_model.specs.IsPlan.{kinds_at, most_columns};
+ghost use Rattle.node_laws.specs.Places.{EdgesArePlaced};
+ghost use Rattle.dataflow.specs.Faults.{fault_at};
 ghost use Rattle.dataflow.specs.Lists.{edges_at, AreGiven, IsListOf};
 ghost use Rattle.dataflow.specs.Stages.{left_closing as left_closing_of, right_closing as right_closing_of};
-ghost use Rattle.dataflow.specs.Flows.{parts_of, MayStep, GivesOn, OverflowsAt};
+ghost use Rattle.dataflow.specs.Flows.{parts_of, MayStep, StepsOn, GivesOn, OverflowsAt};
 
 use crate::fault::PlanFault;
 use crate::reading::{left_list, right_list};
@@ -42,12 +44,35 @@ fn right_closing(plan: &Plan, i: usize, p: Time) -> Time
 
 // The fault of the node of that number.
 fn fault_of(node: usize, fault: &StepFault) -> PlanFault
-    ensures { (k time : ℕ) → result ≡ PlanFault.Overflow k time → (k ≡ node) × (fault.now ≡ StepFault.Overflow time) }
+    ensures { result ≡ fault_at node fault.now }
 {
     match fault {
         StepFault::Overflow { time } => PlanFault::Overflow { node, time: *time },
         StepFault::Memory => PlanFault::Memory,
     }
+}
+
+// Whether all places in the edges are in the table. It is tested where stages took up what was saved,
+// which can be what no engine wrote; else the edges are answers of steps, whose places are there.
+fn are_sure(thawed: bool, list: &EdgeList, texts: &TextTable) -> bool
+    ensures tested { thawed ≡ true → IsTrue result → EdgesArePlaced texts.now list.now.edges }
+    ensures sure { thawed ≡ false → IsTrue result }
+{
+    !thawed || list.are_placed(texts)
+}
+
+/// The same of some lists.
+pub(crate) fn are_all_sure(thawed: bool, lists: &[EdgeList], texts: &TextTable) -> bool
+    ensures tested { thawed ≡ true → IsTrue result →
+        (s : ℕ) → EdgesArePlaced texts.now (edges_at lists.now s) }
+    ensures sure { thawed ≡ false → IsTrue result }
+{
+    for i in 0..lists.len() {
+        if !are_sure(thawed, &lists[i], texts) {
+            return false;
+        }
+    }
+    true
 }
 
 // One step of each node of a plan, in order of number.
@@ -57,15 +82,23 @@ pub(crate) fn step_all(
     texts: &TextTable,
     plan: &Plan,
     stages: &mut Vec<Stage>,
+    thawed: bool,
     mut given: Vec<EdgeList>,
     p: Time,
 ) -> Result<EdgeList, PlanFault>
-    requires may { MayStep texts.now p (edges_at given.items) (parts_of plan.now stages.old.items pools.old) }
+    requires may { MayStep texts.now p (edges_at given.items) (parts_of plan.now stages.old.items pools.old.capacity thawed) }
     requires given { AreGiven texts.now pools.old.capacity plan.now given.items }
-    ensures flowed { IfOk result (λ out. GivesOn texts.now p (edges_at given.items) (parts_of plan.now stages.old.items pools.old) (parts_of plan.now stages.new.items pools.new) out.edges) }
-    ensures overflow { IfErr result (λ fault. (node time : ℕ) → fault ≡ PlanFault.Overflow node time → OverflowsAt texts.now p (edges_at given.items) (parts_of plan.now stages.old.items pools.old) node time) }
+    requires limit { most_columns ≤ pools.old.limit }
+    ensures flowed { IfOk result (λ out. GivesOn texts.now p (edges_at given.items)
+        (parts_of plan.now stages.old.items pools.old.capacity thawed)
+        (parts_of plan.now stages.new.items pools.old.capacity thawed) out.edges) }
+    ensures can { OnOk result (StepsOn texts.now p (parts_of plan.now stages.old.items pools.old.capacity thawed)
+        (parts_of plan.now stages.new.items pools.old.capacity thawed)) }
+    ensures overflow { IfErr result (λ fault. (node time : ℕ) → fault ≡ PlanFault.Overflow node time →
+        OverflowsAt texts.now p (edges_at given.items) (parts_of plan.now stages.old.items pools.old.capacity thawed) node time) }
     ensures list { IfOk result (λ out. IsListOf texts.now pools.old.capacity (kinds_at plan.now.schemas plan.now.root) out) }
     ensures capacity { pools.new.capacity ≡ pools.old.capacity }
+    ensures limit { pools.new.limit ≡ pools.old.limit }
 {
     // Its call tells the proof that it is a time.
     let _ = p.word();
@@ -77,7 +110,12 @@ pub(crate) fn step_all(
         let left_to = left_closing(plan, i, p);
         let right_to = right_closing(plan, i, p);
         match stages[i].step(alloc, pools, texts, left, right, left_to, right_to) {
-            Ok(list) => made.push(list)?,
+            Ok(list) => {
+                if !are_sure(thawed, &list, texts) {
+                    return Err(PlanFault::Memory);
+                }
+                made.push(list)?
+            }
             Err(fault) => return Err(fault_of(i, &fault)),
         }
     }

@@ -1,5 +1,5 @@
 -- One line more, and the end of the lines: what they make of the progress, the fault and the text.
-use Rattle.std.specs.Prelude.{◌≡◌, ℕ, ◌<◌, ◌≤◌, Bool, true, false, cond, List, [], ◌∷◌, ◌++◌, length, flat_map, Option, Some, None, Ok, Err, refl}
+use Rattle.std.specs.Prelude.{◌≡◌, ℕ, ◌<◌, ◌≤◌, true, false, cond, List, [], ◌∷◌, ◌++◌, length, flat_map, Option, Some, None, Ok, Err}
 use Rattle.std.proofs.Common.{sym, ◌∙◌, ap, le_trans}
 use Rattle.std.proofs.lemmas.Bool.{lt-ltb, le-ltb}
 use Rattle.std.proofs.lemmas.List.Concat.{flat_map-append}
@@ -16,7 +16,7 @@ use Rattle.admission.specs.declared.policy.Policy.{Policy}
 use Rattle.admission.specs.Admission.{Admission, Taken, WasLate, Unmatched, admit, rows, allowed}
 use Rattle.admission.specs.Entries.{Told, IsEntry, IsRead, AreRead}
 use Rattle.admission.specs.Keeping.{Goes, IsGoing}
-use Rattle.admission.specs.Progress.{Fault, Malformed, TooLate, Overflowed, Progress, start, judged, punctuated, went_on, reading, unless_fault, step, at_end, steps, progress, fault}
+use Rattle.admission.specs.Progress.{Malformed, TooLate, Overflowed, Progress, start, judged, punctuated, went_on, reading, unless_fault, progress, fault}
 use Rattle.admission.specs.Text.{Item, between, written, closed_up, text}
 use Rattle.admission.proofs.Finality.{steps-append, written_after}
 use Rattle.admission.proofs.Growing.{due_writes}

@@ -1,7 +1,7 @@
 -- The lists that the ingress releases, as the plan takes them.
-use Rattle.std.specs.Prelude.{◌≡◌, ℕ, zero, suc, Option, Some, None, List, [], ◌∷◌, map, length, slice_get, slice_index_or, refl}
+use Rattle.std.specs.Prelude.{◌≡◌, ℕ, zero, suc, Some, List, [], ◌∷◌, map, length, slice_get, refl}
 use Rattle.std.specs.List.{All}
-use Rattle.std.proofs.Common.{sym, ◌∙◌, ap, subst, arith}
+use Rattle.std.proofs.Common.{sym, ◌∙◌, ap, arith}
 use Rattle.std.proofs.lemmas.List.{length-map}
 use Rattle.tw_rows.specs.Kinds.{cell_kind_of}
 use Rattle.tw_rows.specs.declared.kind.Kind.{Kind}
@@ -10,12 +10,11 @@ use Rattle.tw_rows.specs.declared.schema.ColumnDef.{ColumnDef}
 use Rattle.tw_rows.specs.declared.schema.StreamDef.{StreamDef}
 use Rattle.edge_stream.specs.Listing.{EdgeListView, cells_of}
 use Rattle.plan_model.specs.IsPlan.{PlanParts, kinds_of_schema, kinds_of_stream}
-use Rattle.node_laws.specs.Places.{EdgesArePlaced}
 use Rattle.admission.specs.declared.policy.Policy.{Policy}
-use Rattle.ingress.specs.Admits.{IsFor, SameFixed, AreListsOf, kinds_of}
+use Rattle.ingress.specs.Admits.{IsFor, SameFixed, AreListsOf}
 use Rattle.ingress.specs.Fits.{plain, stream_kinds}
 use Rattle.ingress.specs.declared.ingress.Ingress.{Ingress}
-use Rattle.dataflow.specs.Lists.{edges_at, IsListOf, AreGiven}
+use Rattle.dataflow.specs.Lists.{AreOfStreams}
 
 cell_of_plain : (kind : Kind) → cell_kind_of (plain kind) ≡ cell_kind_of kind
 cell_of_plain Int = refl
@@ -44,20 +43,11 @@ capacity_there rows [] all s l there = absurd (let t = there in cc)
 capacity_there rows (x ∷ lists) all zero l there = (let m : x ≡ l = (let t = there in cc) in ap (λ y. y.capacity) (sym m) ∙ all 0 x (omega arith))
 capacity_there rows (x ∷ lists) all (suc s) l there = capacity_there rows lists (λ k d h. all (suc k) d (omega (arith, h))) s l there
 
-edges_there : (lists : List EdgeListView) (s : ℕ) (l : EdgeListView) → slice_get lists s ≡ Some l → edges_at lists s ≡ l.edges
-edges_there [] s l there = absurd (let t = there in cc)
-edges_there (x ∷ lists) zero l there = (let m : x ≡ l = (let t = there in cc) in ap (λ y. y.edges) m)
-edges_there (x ∷ lists) (suc s) l there = edges_there lists s l there
-
-pub given_are : (texts : List (List ℕ)) (plan : PlanParts) (policy : Policy) (rows : ℕ) (i : Ingress) (lists : List EdgeListView) → IsFor plan.streams policy rows i → AreListsOf i lists →
-    ((s : ℕ) → EdgesArePlaced texts (edges_at lists s)) → AreGiven texts rows plan lists
-given_are texts plan policy rows i lists fixed are placed = record {
+pub given_are : (plan : PlanParts) (policy : Policy) (rows : ℕ) (i : Ingress) (lists : List EdgeListView) → IsFor plan.streams policy rows i → AreListsOf i lists → AreOfStreams rows plan lists
+given_are plan policy rows i lists fixed are = record {
   count = sym (length-map lists (λ l. l.kinds)) ∙ ap length (are.kinds ∙ fixed.kinds) ∙ length-map plan.streams _;
-  each = λ s l there. record {
-    cells = cells_there lists plan.streams (are.kinds ∙ fixed.kinds) s l there;
-    rows = capacity_there i.capacity lists are.capacity s l there ∙ fixed.capacity;
-    placed = subst (EdgesArePlaced texts) (edges_there lists s l there) (placed s);
-  };
+  cells = λ s l there. cells_there lists plan.streams (are.kinds ∙ fixed.kinds) s l there;
+  rows = λ s l there. capacity_there i.capacity lists are.capacity s l there ∙ fixed.capacity;
 }
 
 -- what is fixed of an ingress stays

@@ -24,17 +24,18 @@ use Rattle.dataflow.specs.declared.stage.Stage.{Stage}
 use Rattle.dataflow.specs.Flows.{DataflowView, Flows, held_from}
 use Rattle.dataflow.specs.Stages.{entries_in}
 use Rattle.tempo_engine.specs.Output.{told}
-use Rattle.tempo_engine.specs.Went.{Went, HasFed, EngineView}
-use Rattle.tempo_engine.specs.Fed.{Fed}
+use Rattle.tempo_engine.specs.Went.{Went, HasFed, WhateverFed, EngineView}
+use Rattle.tempo_engine.specs.Fed.{WhateverTook}
+use Rattle.tempo_engine.proofs.Keeping.{TakesLine}
 use Rattle.tempo_engine.specs.Held.{HasWorked, MadeDue, Holds, AreHeld, with_first}
 use Rattle.tempo_engine.specs.declared.fault.EngineFault.{EngineFault}
-use Rattle.tempo_engine.specs.declared.work.Work.{Work}
+use Rattle.tempo_engine.specs.declared.parts.Parts.{Parts}
 use Rattle.tempo_engine.proofs.Sources.{first_is_a_source}
 
-pub worked_of : (plan : PlanParts) (policy : Policy) (w : Progress) (e : Work) → Went plan policy w e → HasWorked plan w e
-worked_of plan policy w e went = record {
-  given = went.given;
-  lists = went.lists;
+pub worked_of : (plan : PlanParts) (policy : Policy) (w : Progress) (given lists : ℕ → List Edge) (e : Parts) → Went plan policy w given lists e → HasWorked plan w e
+worked_of plan policy w given lists e went = record {
+  given = given;
+  lists = lists;
   took = went.took.follows;
   streams = went.fixed.count;
   released = went.released;
@@ -52,7 +53,7 @@ PlansKeep = (texts : List (List ℕ)) (last : ℕ) (source : Sources) (given lis
     SourcesStandRead texts last source given → (i : ℕ) (s : Stage) → slice_get d.stages i ≡ Some s → entries_in s ≤ node_may_hold source d.plan.nodes last i
 
 module _ (keep : PlansKeep) (plan : PlanParts) (policy : Policy) (lines : List Told) (ended : Bool) (sound : IsPlan plan) (read : AreRead (length plan.streams) lines)
-    (e : Work) (distinct : AreDistinct e.texts) (worked : HasWorked plan (progress plan policy lines ended) e) where
+    (e : Parts) (distinct : AreDistinct e.texts) (worked : HasWorked plan (progress plan policy lines ended) e) where
   abbrev w : Progress
   w = progress plan policy lines ended
 
@@ -85,7 +86,7 @@ module _ (keep : PlansKeep) (plan : PlanParts) (policy : Policy) (lines : List T
       subst (λ q. entries_in s ≤ node_may_hold (rows (progress plan policy made false).after) q.nodes w.last i) worked.planned
       (keep e.texts w.last (rows (progress plan policy made false).after) worked.given worked.lists e.dataflow (subst IsPlan (sym worked.planned) sound) distinct worked.flows (stand_by made due) i s here)
 
-  pub holds : fault plan policy lines ended ≡ None → (v : EngineView) → v.work ≡ e → v.fault ≡ None → Holds plan policy lines ended v
+  pub holds : fault plan policy lines ended ≡ None → (v : EngineView) → v.parts ≡ e → v.fault ≡ None → Holds plan policy lines ended v
   holds fine v same none = record {
     sound = sound;
     read = read;
@@ -97,47 +98,52 @@ module _ (keep : PlansKeep) (plan : PlanParts) (policy : Policy) (lines : List T
 
 -- the pairs tell of it
 pub is_held : (plan : PlanParts) (policy : Policy) (lines : List Told) (ended : Bool) (v : EngineView) → Holds plan policy lines ended v → (n : ℕ) (pairs first : List (ℕ × ℕ)) →
-    ((texts : List (List ℕ)) (a : Admission) (given : ℕ → List Edge) → Follows texts a given v.work.ingress → n ≡ min (length a.opens + total (λ l. length l) v.work.ingress.held.waiting.items) (2 ^ 64 - 1)) →
-    ((texts : List (List ℕ)) (a : Admission) (given : ℕ → List Edge) → Follows texts a given v.work.ingress → n ≤ may_hold (length v.work.ingress.kinds.items) v.work.ingress.released a) →
-    first ≡ held_from 0 v.work.dataflow.stages → pairs ≡ with_first n first → AreHeld plan (progress plan policy lines ended) v.work pairs
+    ((texts : List (List ℕ)) (a : Admission) (given : ℕ → List Edge) → Follows texts a given v.parts.ingress → n ≡ min (length a.opens + total (λ l. length l) v.parts.ingress.held.waiting.items) (2 ^ 64 - 1)) →
+    ((texts : List (List ℕ)) (a : Admission) (given : ℕ → List Edge) → Follows texts a given v.parts.ingress → n ≤ may_hold (length v.parts.ingress.kinds.items) v.parts.ingress.released a) →
+    first ≡ held_from 0 v.parts.dataflow.stages → pairs ≡ with_first n first → AreHeld plan (progress plan policy lines ended) v.parts pairs
 is_held plan policy lines ended v h n pairs first count bound is told = record {
   first = first_is_a_source plan h.sound;
   sources = n;
-  waiting = count v.work.texts (progress plan policy lines ended).after h.worked.given h.worked.took;
-  few = (let b = bound v.work.texts (progress plan policy lines ended).after h.worked.given h.worked.took in rw (h.worked.streams, h.worked.released) at b);
+  waiting = count v.parts.texts (progress plan policy lines ended).after h.worked.given h.worked.took;
+  few = (let b = bound v.parts.texts (progress plan policy lines ended).after h.worked.given h.worked.took in rw (h.worked.streams, h.worked.released) at b);
   told = told ∙ ap (with_first n) is;
 }
 
 -- the parts took a line, or told a fault
-module _ {X : Type 0} (keep : PlansKeep) (answer : Result X EngineFault) (old new : Work) (distinct : AreDistinct new.texts) (fault_now : Option EngineFault) (ok : OnOk answer (fault_now ≡ None)) (first : Option EngineFault) (was ended : Bool) where
-  pub line_holds : (number : ℕ) (line : List ℕ) →
-      OnOk answer ((plan : PlanParts) (policy : Policy) (lines : List Told) → HasFed plan policy lines old → HasFed plan policy (lines ++ told plan number line ∷ []) new) →
-      OnOk answer ((plan : PlanParts) (policy : Policy) (lines : List Told) → Fed plan policy lines (record { work = old; fault = first; ended = was }) →
-      Holds plan policy (lines ++ told plan number line ∷ []) false (record { work = new; fault = fault_now; ended = ended }))
+module _ {X : Type 0} (keep : PlansKeep) (answer : Result X EngineFault) (old new : Parts) (distinct : AreDistinct new.texts) (fault_now : Option EngineFault) (ok : OnOk answer (fault_now ≡ None)) (before now : ℕ) (first : Option EngineFault) (was ended : Bool) where
+  abbrev view_then : EngineView
+  view_then = record { parts = old; lines = before; fault = first; ended = was }
+
+  abbrev view_now : EngineView
+  view_now = record { parts = new; lines = now; fault = fault_now; ended = ended }
+
+  pub line_holds : (number : ℕ) (line : List ℕ) → OnOk answer (TakesLine number line old new) →
+      OnOk answer (WhateverTook view_then (λ plan policy lines. Holds plan policy (lines ++ told plan number line ∷ []) false view_now))
   line_holds number line fed = go answer fed ok
     where
-      go : (a : Result X EngineFault) →
-          OnOk a ((plan : PlanParts) (policy : Policy) (lines : List Told) → HasFed plan policy lines old → HasFed plan policy (lines ++ told plan number line ∷ []) new) →
-          OnOk a (fault_now ≡ None) → OnOk a ((plan : PlanParts) (policy : Policy) (lines : List Told) → Fed plan policy lines (record { work = old; fault = first; ended = was }) →
-          Holds plan policy (lines ++ told plan number line ∷ []) false (record { work = new; fault = fault_now; ended = ended }))
+      go : (a : Result X EngineFault) → OnOk a (TakesLine number line old new) → OnOk a (fault_now ≡ None) →
+          OnOk a (WhateverTook view_then (λ plan policy lines. Holds plan policy (lines ++ told plan number line ∷ []) false view_now))
       go (Ok x) takes none = λ plan policy lines is.
           let all = lines ++ told plan number line ∷ [] in
-          let next = takes plan policy lines (record { sound = is.sound; read = is.read; fine = is.fine; went = is.went }) in
-          holds keep plan policy all false next.sound next.read new distinct (worked_of plan policy (progress plan policy all false) new next.went) next.fine (record { work = new; fault = fault_now; ended = ended }) refl none
+          let next = takes plan policy lines is.given is.lists (record { sound = is.by.sound; read = is.by.read; fine = is.by.fine; went = is.by.went }) in
+          holds keep plan policy all false next.there.sound next.there.read new distinct (worked_of plan policy (progress plan policy all false) next.more_given next.more_lists new next.there.went) next.there.fine view_now refl none
       go (Err f) takes none = tt
 
   -- or the end of the input
-  pub end_holds : OnOk answer ((plan : PlanParts) (policy : Policy) (lines : List Told) → HasFed plan policy lines old → fault plan policy lines true ≡ None) →
-      OnOk answer ((plan : PlanParts) (policy : Policy) (lines : List Told) → HasFed plan policy lines old → HasWorked plan (progress plan policy lines true) new) →
-      OnOk answer ((plan : PlanParts) (policy : Policy) (lines : List Told) → Fed plan policy lines (record { work = old; fault = first; ended = was }) →
-      Holds plan policy lines true (record { work = new; fault = fault_now; ended = ended }))
+  pub end_holds : OnOk answer (WhateverFed old (λ plan policy lines given lists. fault plan policy lines true ≡ None)) →
+      OnOk answer (WhateverFed old (λ plan policy lines given lists. HasWorked plan (progress plan policy lines true) new)) →
+      OnOk answer (WhateverTook view_then (λ plan policy lines. Holds plan policy lines true view_now))
   end_holds fine worked = go answer fine worked ok
     where
-      go : (a : Result X EngineFault) → OnOk a ((plan : PlanParts) (policy : Policy) (lines : List Told) → HasFed plan policy lines old → fault plan policy lines true ≡ None) →
-          OnOk a ((plan : PlanParts) (policy : Policy) (lines : List Told) → HasFed plan policy lines old → HasWorked plan (progress plan policy lines true) new) →
-          OnOk a (fault_now ≡ None) → OnOk a ((plan : PlanParts) (policy : Policy) (lines : List Told) → Fed plan policy lines (record { work = old; fault = first; ended = was }) →
-          Holds plan policy lines true (record { work = new; fault = fault_now; ended = ended }))
+      go : (a : Result X EngineFault) → OnOk a (WhateverFed old (λ plan policy lines given lists. fault plan policy lines true ≡ None)) →
+          OnOk a (WhateverFed old (λ plan policy lines given lists. HasWorked plan (progress plan policy lines true) new)) →
+          OnOk a (fault_now ≡ None) → OnOk a (WhateverTook view_then (λ plan policy lines. Holds plan policy lines true view_now))
       go (Ok x) tells works none = λ plan policy lines is.
-          let fed : HasFed plan policy lines old = record { sound = is.sound; read = is.read; fine = is.fine; went = is.went } in
-          holds keep plan policy lines true is.sound is.read new distinct (works plan policy lines fed) (tells plan policy lines fed) (record { work = new; fault = fault_now; ended = ended }) refl none
+          let fed : HasFed plan policy lines is.given is.lists old = record { sound = is.by.sound; read = is.by.read; fine = is.by.fine; went = is.by.went } in
+          holds keep plan policy lines true is.by.sound is.by.read new distinct (works plan policy lines is.given is.lists fed) (tells plan policy lines is.given is.lists fed) view_now refl none
       go (Err f) tells works none = tt
+
+-- what an engine tells of its lines, by what its parts tell
+pub tells_of_lines : (old : Parts) (before : ℕ) (first : Option EngineFault) (was : Bool) (P : PlanParts → Policy → List Told → Type 0) → WhateverFed old (λ plan policy lines given lists. P plan policy lines) →
+    WhateverTook (record { parts = old; lines = before; fault = first; ended = was }) P
+tells_of_lines old before first was P told plan policy lines is = told plan policy lines is.given is.lists (record { sound = is.by.sound; read = is.by.read; fine = is.by.fine; went = is.by.went })

@@ -1,8 +1,10 @@
 -- One line, and the end of the lines, over the parts of an engine.
 use Rattle.std.specs.Prelude.{◌≡◌, ℕ, ◌<◌, ◌≤◌, true, false, List, [], ◌∷◌, ◌++◌, flat_map, length, Some, None}
-use Rattle.std.proofs.Common.{sym, ◌∙◌, ap, subst, arith}
+use Rattle.std.proofs.Common.{refl, sym, ◌∙◌, ap, subst, inr, arith}
 use Rattle.std.proofs.lemmas.List.{append-nil}
 use Rattle.tw_rows.specs.Instant.{inf}
+use Rattle.tw_rows.specs.declared.edge.Edge.{Edge}
+use Rattle.row_reader.specs.Printed.{IsEnd}
 use Rattle.plan_model.specs.IsPlan.{PlanParts}
 use Rattle.plan_laws.specs.Undefined.{overflow}
 use Rattle.admission.specs.declared.policy.Policy.{Policy}
@@ -17,15 +19,15 @@ use Rattle.dataflow.specs.declared.fault.PlanFault.TheVariants.{Overflow}
 use Rattle.tempo_engine.specs.Faults.{IsFaultOf, undefined_at}
 use Rattle.tempo_engine.specs.Output.{item_text, result_kinds, plan_text}
 use Rattle.tempo_engine.specs.Held.{HasWorked}
-use Rattle.tempo_engine.specs.Went.{Went, HasFed}
+use Rattle.tempo_engine.specs.Went.{Went, Further, HasFed}
 use Rattle.tempo_engine.specs.Working.{HasTaken, IsDue, IsShown}
-use Rattle.tempo_engine.specs.declared.work.Work.{Work}
+use Rattle.tempo_engine.specs.declared.parts.Parts.{Parts}
 use Rattle.tempo_engine.proofs.Feeding.{read_more, after_going, due_below, quiet_next, loud_next, quiet_text, loud_text, quiet_end, loud_end, end_text}
 use Rattle.tempo_engine.proofs.Holding.{worked_of}
 use Rattle.tempo_engine.proofs.Telling.{undefined_told, end_told}
 
-module _ (plan : PlanParts) (policy : Policy) (lines : List Told) (line : Told) (valid : IsRead (length plan.streams) line.read) (old : Work) (fed : HasFed plan policy lines old)
-    (e : Work) (taken : HasTaken plan policy lines line e) where
+module _ (plan : PlanParts) (policy : Policy) (lines : List Told) (line : Told) (valid : IsRead (length plan.streams) line.read) (given lists : ℕ → List Edge) (old : Parts) (fed : HasFed plan policy lines given lists old)
+    (e : Parts) (taken : HasTaken plan policy lines line given lists e) where
   abbrev before : Progress
   before = progress plan policy lines false
 
@@ -44,14 +46,20 @@ module _ (plan : PlanParts) (policy : Policy) (lines : List Told) (line : Told) 
   none_due : there_due ≤ e.ingress.released → due ≤ before.last
   none_due low = (let s = same_due in let r = taken.went.released in omega (arith, low, s, r))
 
-  pub quiet_fed : there_due ≤ e.ingress.released → HasFed plan policy (lines ++ line ∷ []) e
+  pub quiet_fed : there_due ≤ e.ingress.released → Further given lists (λ more_given more_lists. HasFed plan policy (lines ++ line ∷ []) more_given more_lists e)
   quiet_fed low =
       let q = quiet_next plan fed.sound policy lines fed.read fed.fine line valid taken.entry taken.says taken.after taken.takes (none_due low) in
       record {
-        sound = fed.sound;
-        read = read_more (length plan.streams) lines line fed.read valid;
-        fine = ap (λ w. w.fault) q ∙ fed.fine;
-        went = subst (λ w. Went plan policy w e) (sym q) taken.went;
+        more_given = given;
+        more_lists = lists;
+        on_given = λ k. ([], sym (append-nil (given k)));
+        on_lists = λ k. ([], sym (append-nil (lists k)));
+        there = record {
+          sound = fed.sound;
+          read = read_more (length plan.streams) lines line fed.read valid;
+          fine = ap (λ w. w.fault) q ∙ fed.fine;
+          went = subst (λ w. Went plan policy w given lists e) (sym q) taken.went;
+        };
       }
 
   pub quiet_grows : there_due ≤ e.ingress.released → (bytes : List ℕ) → bytes ≡ [] → plan_text plan policy (lines ++ line ∷ []) false ≡ plan_text plan policy lines false ++ bytes
@@ -66,26 +74,34 @@ module _ (plan : PlanParts) (policy : Policy) (lines : List Told) (line : Told) 
     p_above : before.last < p
     p_above = (let r = taken.went.released in omega (arith, above, r))
 
-    pub is_due : IsDue p plan policy after e
+    pub is_due : IsDue p plan policy after given lists e
     is_due = record {
       sound = fed.sound;
       going = after_going plan fed.sound policy lines fed.read fed.fine line valid taken.entry taken.says taken.after taken.takes;
       went = taken.went;
       above = p_above;
       low = subst (λ q. q ≤ inf) p_due (allowed_low policy (length plan.streams) taken.after);
+      instant = subst IsEnd p_due taken.instant;
     }
 
     pub below : (s : ℕ) → s < length plan.streams → p ≤ taken.after.bound s
     below s there = subst (λ q. q ≤ taken.after.bound s) p_due (due_below plan fed.sound policy lines fed.read fed.fine line valid taken.entry taken.says taken.after taken.takes s there)
 
-    pub loud_fed : (bytes : List ℕ) → IsShown p plan after bytes → (new : Work) → Went plan policy (judged p after None) new → HasFed plan policy (lines ++ line ∷ []) new
-    loud_fed bytes shown new went =
+    pub loud_fed : (bytes : List ℕ) → IsShown p plan after bytes → (new : Parts) → Further given lists (λ more_given more_lists. Went plan policy (judged p after None) more_given more_lists new) →
+        Further given lists (λ more_given more_lists. HasFed plan policy (lines ++ line ∷ []) more_given more_lists new)
+    loud_fed bytes shown new further =
         let q = loud_next plan fed.sound policy lines fed.read fed.fine line valid taken.entry taken.says taken.after taken.takes p None p_due p_above shown.defined in
         record {
-          sound = fed.sound;
-          read = read_more (length plan.streams) lines line fed.read valid;
-          fine = ap (λ w. w.fault) q ∙ fed.fine;
-          went = subst (λ w. Went plan policy w new) (sym q) went;
+          more_given = further.more_given;
+          more_lists = further.more_lists;
+          on_given = further.on_given;
+          on_lists = further.on_lists;
+          there = record {
+            sound = fed.sound;
+            read = read_more (length plan.streams) lines line fed.read valid;
+            fine = ap (λ w. w.fault) q ∙ fed.fine;
+            went = subst (λ w. Went plan policy w further.more_given further.more_lists new) (sym q) further.there;
+          };
         }
 
     pub loud_grows : (bytes : List ℕ) → IsShown p plan after bytes → plan_text plan policy (lines ++ line ∷ []) false ≡ plan_text plan policy lines false ++ bytes
@@ -96,7 +112,7 @@ module _ (plan : PlanParts) (policy : Policy) (lines : List Told) (line : Told) 
         IsFaultOf (undefined_at p f) (fault plan policy (lines ++ line ∷ []) false)
     fault_told f tells = undefined_told plan fed.sound policy lines fed.read fed.fine line valid taken.entry taken.says taken.after taken.takes p p_due p_above f tells
 
-module _ (plan : PlanParts) (policy : Policy) (lines : List Told) (e : Work) (fed : HasFed plan policy lines e) where
+module _ (plan : PlanParts) (policy : Policy) (lines : List Told) (given lists : ℕ → List Edge) (e : Parts) (fed : HasFed plan policy lines given lists e) where
   abbrev last : Progress
   last = progress plan policy lines false
 
@@ -104,7 +120,7 @@ module _ (plan : PlanParts) (policy : Policy) (lines : List Told) (e : Work) (fe
   closed_fine low = ap (λ w. w.fault) (quiet_end plan fed.sound policy lines fed.fine (let r = fed.went.released in omega (arith, low, r))) ∙ fed.fine
 
   pub closed_worked : inf ≤ e.ingress.released → HasWorked plan (progress plan policy lines true) e
-  closed_worked low = subst (λ w. HasWorked plan w e) (sym (quiet_end plan fed.sound policy lines fed.fine (let r = fed.went.released in omega (arith, low, r)))) (worked_of plan policy last e fed.went)
+  closed_worked low = subst (λ w. HasWorked plan w e) (sym (quiet_end plan fed.sound policy lines fed.fine (let r = fed.went.released in omega (arith, low, r)))) (worked_of plan policy last given lists e fed.went)
 
   pub closed_grows : inf ≤ e.ingress.released → (bytes : List ℕ) → bytes ≡ [] → plan_text plan policy lines true ≡ plan_text plan policy lines false ++ bytes
   closed_grows low bytes is =
@@ -118,19 +134,20 @@ module _ (plan : PlanParts) (policy : Policy) (lines : List Told) (e : Work) (fe
     end_above : last.last < inf
     end_above = (let r = fed.went.released in omega (arith, above, r))
 
-    pub end_due : IsDue inf plan policy last e
+    pub end_due : IsDue inf plan policy last given lists e
     end_due = record {
       sound = fed.sound;
       going = lines_going plan fed.sound policy lines fed.read;
       went = fed.went;
       above = end_above;
       low = omega arith;
+      instant = inr refl;
     }
 
     pub end_fine : (bytes : List ℕ) → IsShown inf plan last bytes → fault plan policy lines true ≡ None
     end_fine bytes shown = ap (λ w. w.fault) (loud_end plan fed.sound policy lines fed.fine None end_above shown.defined) ∙ fed.fine
 
-    pub end_worked : (bytes : List ℕ) → IsShown inf plan last bytes → (new : Work) → HasWorked plan (judged inf last None) new → HasWorked plan (progress plan policy lines true) new
+    pub end_worked : (bytes : List ℕ) → IsShown inf plan last bytes → (new : Parts) → HasWorked plan (judged inf last None) new → HasWorked plan (progress plan policy lines true) new
     end_worked bytes shown new worked = subst (λ w. HasWorked plan w new) (sym (loud_end plan fed.sound policy lines fed.fine None end_above shown.defined)) worked
 
     pub end_grows : (bytes : List ℕ) → IsShown inf plan last bytes → plan_text plan policy lines true ≡ plan_text plan policy lines false ++ bytes

@@ -1,9 +1,8 @@
 -- The fault that is told is the first fault of the lines.
 use Rattle.std.specs.Prelude.{◌≡◌, ℕ, ◌<◌, true, false, List, [], ◌∷◌, ◌++◌, length, Some, None, Ok, Err, refl}
-use Rattle.std.proofs.Common.{sym, ◌∙◌}
 use Rattle.tw_rows.specs.Instant.{inf}
 use Rattle.plan_model.specs.IsPlan.{PlanParts, IsPlan}
-use Rattle.plan_laws.specs.Undefined.{Overflow, overflow}
+use Rattle.plan_laws.specs.Undefined.{overflow}
 use Rattle.row_reader.specs.Answers.{Answers}
 use Rattle.row_reader.specs.declared.entry.Entry.{Entry}
 use Rattle.row_reader.specs.declared.entry.RowFault.{RowFault}

@@ -15,11 +15,11 @@ use Rattle.dataflow.specs.declared.stage.Stage.{Stage}
 use Rattle.dataflow.specs.Flows.{Flows, held_from}
 use Rattle.dataflow.specs.Stages.{entries_in}
 use Rattle.tempo_engine.specs.Went.{EngineView}
-use Rattle.tempo_engine.specs.declared.work.Work.{Work}
+use Rattle.tempo_engine.specs.declared.parts.Parts.{Parts}
 
 -- the parts of an engine are as they can be once lines gave w, whether or not more lines can follow: the ingress admitted
 -- these lines and released all edges before the last punctuation, `given`, and the nodes answered them with `lists`
-pub record HasWorked (plan : PlanParts) (w : Progress) (e : Work) : Type 0 where
+pub record HasWorked (plan : PlanParts) (w : Progress) (e : Parts) : Type 0 where
   pub given : ℕ → List Edge
   pub lists : ℕ → List Edge
   pub took : Follows e.texts w.after given e.ingress
@@ -45,8 +45,8 @@ pub record Holds (plan : PlanParts) (policy : Policy) (lines : List Told) (ended
   pub read : AreRead (length plan.streams) lines
   pub fine : fault plan policy lines ended ≡ None
   pub none : e.fault ≡ None
-  pub worked : HasWorked plan (progress plan policy lines ended) e.work
-  pub few : (made : List Told) → MadeDue plan policy lines ended made → (i : ℕ) (s : Stage) → slice_get e.work.dataflow.stages i ≡ Some s →
+  pub worked : HasWorked plan (progress plan policy lines ended) e.parts
+  pub few : (made : List Told) → MadeDue plan policy lines ended made → (i : ℕ) (s : Stage) → slice_get e.parts.dataflow.stages i ≡ Some s →
       entries_in s ≤ node_may_hold (rows (progress plan policy made false).after) plan.nodes (progress plan policy lines ended).last i
 
 -- the pairs, where the first one tells so much. With 4, of (0, 0) and (1, 3): (0, 4) and (1, 3)
@@ -57,7 +57,7 @@ with_first n (p ∷ ps) = (p.0, n) ∷ ps
 -- the pairs tell what the parts of an engine hold once lines gave w: a pair for each node, in order, its number and how many
 -- entries it keeps. The first node, which is a Source, has what the ingress holds for all Sources: the edges that wait for
 -- their punctuation, and the starts without their ends; the other Sources have 0
-pub record AreHeld (plan : PlanParts) (w : Progress) (e : Work) (pairs : List (ℕ × ℕ)) : Type 0 where
+pub record AreHeld (plan : PlanParts) (w : Progress) (e : Parts) (pairs : List (ℕ × ℕ)) : Type 0 where
   pub first : (stream : ℕ) × (slice_get plan.nodes 0 ≡ Some (Source stream))
   pub sources : ℕ
   pub waiting : sources ≡ min (length w.after.opens + total (λ l. length l) e.ingress.held.waiting.items) (2 ^ 64 - 1)

@@ -11,7 +11,7 @@ ghost use Rattle.tempo_engine.specs.Held.{with_first};
 ghost use Rattle.tempo_engine.specs.Output.{plan_text, told};
 
 use crate::fault::EngineFault;
-use crate::work::{Work, each_text_once};
+use crate::parts::{Parts, each_text_once};
 use admission::Policy;
 use dataflow::{Stage, plans_keep_at_most};
 use plan_model::Plan;
@@ -30,7 +30,9 @@ pub struct Options {
 /// end of the input nothing more is taken, and nothing answered.
 #[derive(Drop)]
 pub struct Engine {
-    work: Work,
+    parts: Parts,
+    // the number of the last line, 0 before the first one
+    lines: u64,
     fault: Option<EngineFault>,
     ended: bool,
 }
@@ -38,15 +40,15 @@ pub struct Engine {
 impl Model for Engine {
     ghost use Rattle.tempo_engine.specs.Went.{EngineView, GoesOn};
     ghost use Rattle.std.specs.Coded.{codes};
-    ghost use Rattle.tempo_engine.specs.contracts.work.Work as parts;
+    ghost use Rattle.tempo_engine.specs.contracts.parts.Parts as pieces;
 
     ghost Value = { EngineView };
 
-    ghost coded = { Prim.hlevel (codes, parts.the_row.coded) };
+    ghost coded = { Prim.hlevel (codes, pieces.the_row.coded) };
 
-    ghost view = { λ e. record { work = e.work; fault = e.fault; ended = e.ended } };
+    ghost view = { λ e. record { parts = e.parts; lines = e.lines; fault = e.fault; ended = e.ended } };
 
-    ghost invariant = { λ e. GoesOn e.fault e.ended e.work };
+    ghost invariant = { λ e. GoesOn e.fault e.ended e.parts };
 }
 
 // The fault of an answer, where it is one.
@@ -70,19 +72,20 @@ fn tell_first(pairs: &mut Vec<(usize, u64)>, number: u64)
 }
 
 impl Engine {
-    ghost use Rattle.tempo_engine.specs.Fed.{Fed};
+    ghost use Rattle.tempo_engine.specs.Fed.{Fed, WhateverTook, FeedsOn};
     ghost use Rattle.tempo_engine.specs.Held.{Holds, AreHeld};
 
     /// An engine that took no line.
     pub fn new(alloc: Global, plan: Plan, options: Options) -> Result<Engine, Memory>
         requires batch { 1 ≤ options.batch }
         requires built { IsTrue (list_all is_built plan.nodes) }
-        ensures fed { IfOk result (λ e. Fed plan options.policy [] e) }
-        ensures batch { IfOk result (λ e. e.work.dataflow.capacity ≡ options.batch) }
+        ensures fed { IfOk result (Fed plan options.policy []) }
+        ensures batch { IfOk result (λ e. e.parts.dataflow.capacity ≡ options.batch) }
     {
-        let work = Work::new(alloc, plan, options.policy, options.batch)?;
+        let parts = Parts::new(alloc, plan, options.policy, options.batch)?;
         Ok(Engine {
-            work,
+            parts,
+            lines: 0,
             fault: None,
             ended: false,
         })
@@ -90,18 +93,19 @@ impl Engine {
 
     /// What computes each node of the plan, in order of number.
     pub fn stages(&self) -> &[Stage]
-        ensures { result.now ≡ self.now.work.dataflow.stages }
+        ensures { result.now ≡ self.now.parts.dataflow.stages }
     {
-        self.work.dataflow.stages()
+        self.parts.dataflow.stages()
     }
 
     /// For each node, in order, its number and how many entries it keeps for later lines. What waits for the Sources is told of
     /// the first of them. The numbers are as exact as there is room for.
     pub fn held(&self) -> Result<Vec<(usize, u64)>, Memory>
-        ensures { IfOk result (λ held. (plan : PlanParts) (policy : Admitting) (lines : List Told) (ended : Bool) → Holds plan policy lines ended self.now → AreHeld plan (progress plan policy lines ended) self.now.work held.items) }
+        ensures { IfOk result (λ held. (plan : PlanParts) (policy : Admitting) (lines : List Told) (ended : Bool) →
+            Holds plan policy lines ended self.now → AreHeld plan (progress plan policy lines ended) self.now.parts held.items) }
     {
-        let mut held = self.work.dataflow.held()?;
-        tell_first(&mut held, self.work.ingress.held());
+        let mut held = self.parts.dataflow.held()?;
+        tell_first(&mut held, self.parts.ingress.held());
         Ok(held)
     }
 
@@ -109,10 +113,15 @@ impl Engine {
     pub fn feed_line(&mut self, number: u64, line: &[u8]) -> Result<Vec<u8>, EngineFault>
         requires short { length line.now ≤ 65536 }
         requires no_feed { All (λ b. b ≢ 10) line.now }
-        ensures fed { OnOk result ((plan : PlanParts) (policy : Admitting) (lines : List Told) → Fed plan policy lines self.old → Fed plan policy (lines ++ told plan number line.now ∷ []) self.new) }
-        ensures holds { OnOk result ((plan : PlanParts) (policy : Admitting) (lines : List Told) → Fed plan policy lines self.old → Holds plan policy (lines ++ told plan number line.now ∷ []) false self.new) }
-        ensures text { IfOk result (λ bytes. (plan : PlanParts) (policy : Admitting) (lines : List Told) → Fed plan policy lines self.old → plan_text plan policy (lines ++ told plan number line.now ∷ []) false ≡ plan_text plan policy lines false ++ bytes.items) }
-        ensures fault { IfErr result (λ f. (plan : PlanParts) (policy : Admitting) (lines : List Told) → Fed plan policy lines self.old → IsFaultOf f (fault_of plan policy (lines ++ told plan number line.now ∷ []) false)) }
+        ensures fed { OnOk result (WhateverTook self.old (λ plan policy lines.
+            Fed plan policy (lines ++ told plan number line.now ∷ []) self.new)) }
+        ensures lists { OnOk result (FeedsOn self.old (λ plan. told plan number line.now) self.new) }
+        ensures holds { OnOk result (WhateverTook self.old (λ plan policy lines.
+            Holds plan policy (lines ++ told plan number line.now ∷ []) false self.new)) }
+        ensures text { IfOk result (λ bytes. WhateverTook self.old (λ plan policy lines.
+            plan_text plan policy (lines ++ told plan number line.now ∷ []) false ≡ plan_text plan policy lines false ++ bytes.items)) }
+        ensures fault { IfErr result (λ f. WhateverTook self.old (λ plan policy lines.
+            IsFaultOf f (fault_of plan policy (lines ++ told plan number line.now ∷ []) false))) }
         ensures kept { IfErr result (λ f. self.new.fault ≡ Some f) }
         ensures again { (f : EngineFault) → self.old.fault ≡ Some f → result ≡ Err f }
         ensures over { self.old.ended ≡ true → IfOk result (λ bytes. bytes.items ≡ []) }
@@ -122,22 +131,25 @@ impl Engine {
             return Err(fault);
         }
         if self.ended {
-            return Ok(Vec::new(self.work.alloc));
+            return Ok(Vec::new(self.parts.alloc));
         }
-        let fed = self.work.feed_line(number, line);
+        let fed = self.parts.feed_line(number, line);
+        self.lines = number;
         self.fault = fault_in(&fed);
         // These calls tell the proof how much the nodes may keep.
-        each_text_once(&self.work.texts);
+        each_text_once(&self.parts.texts);
         plans_keep_at_most();
         fed
     }
 
     /// The input ends here: the bytes by which the text grows.
     pub fn finish(&mut self) -> Result<Vec<u8>, EngineFault>
-        ensures fine { OnOk result ((plan : PlanParts) (policy : Admitting) (lines : List Told) → Fed plan policy lines self.old → fault_of plan policy lines true ≡ None) }
-        ensures holds { OnOk result ((plan : PlanParts) (policy : Admitting) (lines : List Told) → Fed plan policy lines self.old → Holds plan policy lines true self.new) }
-        ensures text { IfOk result (λ bytes. (plan : PlanParts) (policy : Admitting) (lines : List Told) → Fed plan policy lines self.old → plan_text plan policy lines true ≡ plan_text plan policy lines false ++ bytes.items) }
-        ensures fault { IfErr result (λ f. (plan : PlanParts) (policy : Admitting) (lines : List Told) → Fed plan policy lines self.old → IsFaultOf f (fault_of plan policy lines true)) }
+        ensures fine { OnOk result (WhateverTook self.old (λ plan policy lines. fault_of plan policy lines true ≡ None)) }
+        ensures holds { OnOk result (WhateverTook self.old (λ plan policy lines. Holds plan policy lines true self.new)) }
+        ensures text { IfOk result (λ bytes. WhateverTook self.old (λ plan policy lines.
+            plan_text plan policy lines true ≡ plan_text plan policy lines false ++ bytes.items)) }
+        ensures fault { IfErr result (λ f. WhateverTook self.old (λ plan policy lines.
+            IsFaultOf f (fault_of plan policy lines true))) }
         ensures kept { IfErr result (λ f. self.new.fault ≡ Some f) }
         ensures again { (f : EngineFault) → self.old.fault ≡ Some f → result ≡ Err f }
         ensures over { self.old.ended ≡ true → IfOk result (λ bytes. bytes.items ≡ []) }
@@ -147,13 +159,13 @@ impl Engine {
             return Err(fault);
         }
         if self.ended {
-            return Ok(Vec::new(self.work.alloc));
+            return Ok(Vec::new(self.parts.alloc));
         }
         self.ended = true;
-        let finished = self.work.finish();
+        let finished = self.parts.finish();
         self.fault = fault_in(&finished);
         // These calls tell the proof how much the nodes may keep.
-        each_text_once(&self.work.texts);
+        each_text_once(&self.parts.texts);
         plans_keep_at_most();
         finished
     }

@@ -3,8 +3,10 @@
 
 mod engine;
 mod fault;
-mod work;
+mod laws;
+mod parts;
 
 pub use engine::{Engine, Options};
 pub use fault::EngineFault;
-pub use work::Work;
+pub use laws::answers_of_lines_stand;
+pub use parts::Parts;

@@ -1,6 +1,8 @@
-use Rattle.std.proofs.Common.{◌<◌, ◌∙◌, [], length, ap, arith}
+use Rattle.std.proofs.Common.{◌<◌, ◌∙◌, [], length, map, ap, arith}
 use Rattle.std.proofs.lemmas.List.{get_or_default}
 use Rattle.plan_model.specs.IsPlan.{kinds_of_schema, kinds_at}
+use Rattle.tw_rows.specs.Kinds.{cell_kind_of}
+use Rattle.row_stage.proofs.Nodes.{stored_kinds}
 use Rattle.dataflow.proofs.Starting.{told_narrow}
 use Rattle.dataflow.proofs.making.kinds_told.Goals as goal
 
@@ -19,7 +21,7 @@ returns c =
     let each = c.schemas-schemas.ensures.kept.nodes_are.one_each in
     let same = ap length c.schemas-schemas.ensures.schemas in
     let there : c.args.node < length schemas = omega (arith, low, each, same) in
-    let told = c.in_ok-kinds.ensures ∙ ap kinds_of_schema (c.index-schemas-node.is ∙ get_or_default schemas c.args.node found [] there) ∙ ap (λ l. kinds_at l c.args.node) c.schemas-schemas.ensures.schemas in
+    let told = ap (map cell_kind_of) c.in_ok-kinds.ensures ∙ stored_kinds c.items.result.now ∙ ap kinds_of_schema (c.items.ensures ∙ c.index-schemas-node.is ∙ get_or_default schemas c.args.node found [] there) ∙ ap (λ l. kinds_at l c.args.node) c.schemas-schemas.ensures.schemas in
     record {
       kinds = told;
       width = told_narrow c.args.plan.now c.schemas-schemas.ensures.kept c.args.node c.requires c.in_ok-kinds.kinds.items told;

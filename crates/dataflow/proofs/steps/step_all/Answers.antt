@@ -1,11 +1,13 @@
 use Rattle.std.proofs.Common.{◌≡◌, ◌<◌, ◌∙◌, [], length, refl, ap, sym, subst, arith, inl}
 use Rattle.std.specs.Prelude.{◌+◌, Some, get_or, slice_set}
 use Rattle.std.proofs.lemmas.List.{length_push, get_or-set_other, length-set}
+use Rattle.node_laws.specs.Places.{EdgesArePlaced}
 use Rattle.dataflow.specs.Lists.{edges_at}
 use Rattle.dataflow.specs.Held.{HeldBefore}
 use Rattle.dataflow.proofs.HeldLists.{with_list, held_first, held_next}
 use Rattle.dataflow.proofs.Flowing.{Progress, no_progress}
-use Rattle.dataflow.proofs.Stepping.{reads, stage_there, node_there, can_take, answer_is, ready_out, ready_next, undefined_found, progress_made, answer_placed, next_progress, has_flowed}
+use Rattle.dataflow.proofs.Stepping.{reads, stage_there, node_there, can_take, answer_is, ready_out, ready_next, undefined_found, progress_made, answer_placed, next_progress, has_flowed, can_again}
+use Rattle.dataflow.proofs.Sure.{sure_or_tested, fault_of_overflow, of_memory}
 use Rattle.dataflow.proofs.steps.step_all.Goals as goal
 
 pub loop-i-init : goal.loop-i-init
@@ -42,7 +44,7 @@ step-requires-clause-ready c =
     let stages = c.args.stages.now.items in
     let s = c.index_mut.result.now in
     let may = c.requires.may in
-    let can = may.flows.can in
+    let can = may.can in
     let each = can.count in
     let at = stage_there c.loop-i.stages.items stages i s (omega (arith, low, each)) c.index_mut.ensures.value (before.behind i s (omega arith)) in
     let u = c.left_closing-left_to.result in
@@ -108,7 +110,7 @@ returns-in-Err-clause-overflow c = λ node time e last old lists source distinct
     let stages = c.args.stages.now.items in
     let s = c.index_mut.result.now in
     let may = c.requires.may in
-    let can = may.flows.can in
+    let can = may.can in
     let each = can.count in
     let at = stage_there c.loop-i.stages.items stages i s (omega (arith, low, each)) c.index_mut.ensures.value (before.behind i s (omega arith)) in
     let u = c.left_closing-left_to.result in
@@ -116,7 +118,7 @@ returns-in-Err-clause-overflow c = λ node time e last old lists source distinct
     let eu = c.left_closing-left_to.ensures n here.1 in
     let ev = c.right_closing-right_to.ensures n here.1 in
     let within = c.word.ensures.within in
-    let f = c.fault_of.ensures node time e in
+    let f = fault_of_overflow i c.in-Err.fault node time (sym c.fault_of.ensures ∙ e) in
     let so_far = before.progress last old lists source distinct flows later from begun in
     undefined_found texts plan whole capacity c.args.p within i n here.1 given before.more left right read.is_left read.is_right stages s at u v eu ev last source old lists distinct later from begun flows.can.ready (flows.kept i n s here.1 at) c.loop-i.stages.items so_far time (c.in-Err.ensures.overflow time f.1) low
     ∙ ap (λ k. Some (record { node = k; time = time })) (sym f.0)
@@ -141,7 +143,7 @@ loop-i-preserved c =
     let stages = c.args.stages.now.items in
     let s = c.index_mut.result.now in
     let may = c.requires.may in
-    let can = may.flows.can in
+    let can = may.can in
     let each = can.count in
     let at = stage_there c.loop-i.stages.items stages i s (omega (arith, low, each)) c.index_mut.ensures.value (before.behind i s (omega arith)) in
     let u = c.left_closing-left_to.result in
@@ -157,9 +159,12 @@ loop-i-preserved c =
     let made = c.right_list.ensures.made ∙ c.left_list.ensures.made ∙ before.count in
     let long = before.long in
     let within_now : i < length now = omega (arith, low, each, long) in
-    let placed =
-    answer_placed texts plan whole capacity c.args.p within i n here.1 given before.more left right read.is_left read.is_right stages s at u v eu ev may.last may.source may.old may.lists may.distinct may.later may.stand may.from can.ready (may.flows.kept i n s here.1 at) now
-    (before.progress may.last may.old may.lists may.source may.distinct may.flows may.later may.stand may.from) new out told.kept told.ready told.defined within_now in
+    let placed = sure_or_tested c.args.thawed (EdgesArePlaced texts out.edges)
+    (λ fresh.
+    let past = may.past fresh in
+    answer_placed texts plan whole capacity c.args.p within i n here.1 given before.more left right read.is_left read.is_right stages s at u v eu ev past.last past.source past.old past.lists past.distinct past.later past.stand past.from past.flows.can.ready (past.flows.kept i n s here.1 at) now
+    (before.progress past.last past.old past.lists past.source past.distinct past.flows past.later past.stand past.from) new out told.kept told.ready told.defined within_now)
+    (λ thawed. c.are_sure.ensures.tested thawed c.if-not-are_sure.false) in
     let list = answer_is texts plan whole capacity c.args.p within i n here.1 given before.more left right read.is_left read.is_right stages s at u v eu ev may.last can.ready out told.kinds placed told.capacity in
     record {
       more = with_list before.more i out.edges;
@@ -193,8 +198,21 @@ returns-clause-flowed c = λ last old lists source distinct flows later from beg
     let rooted : plan.root < c.loop-i.i = (let low = whole.rooted in omega (arith, low, end)) in
     let long = before.count in
     let at = before.held.of_nodes plan.root c.swap_remove.result (omega (arith, rooted, long)) (inl refl) in
-    has_flowed texts plan last c.args.p later c.args.stages.now.items now c.args.pools.now c.loop-i.pools flows.can before.long before.pools before.limit
+    has_flowed texts plan last c.args.p later c.args.stages.now.items now c.args.pools.now.capacity c.args.thawed flows.can before.long
     (λ j m d low there. before.ready j m d (omega (arith, low, end)) there) whole source old given lists before.more
     (subst (Progress texts plan last c.args.p source old given lists before.more now) end (before.progress last old lists source distinct flows later from begun))
     c.swap_remove.result.edges
     (ap (λ l. l.edges) (c.swap_remove.ensures.value ∙ ap (λ r. get_or c.loop-i.made.items r c.swap_remove.result) c.root.ensures.root) ∙ at.same)
+
+pub returns-clause-can : goal.returns-clause-can
+returns-clause-can c = λ last can later.
+    let before = c.loop-i.invariant in
+    let count = ap length c.nodes-nodes.ensures.nodes in
+    let test = c.loop-i-test.false in
+    let bound = c.loop-i.auto.i-end in
+    let end : c.loop-i.i ≡ length c.args.plan.now.nodes = omega (arith, test, bound, count) in
+    can_again c.args.texts.now c.args.plan.now last c.args.p later c.args.stages.now.items c.loop-i.stages.items c.args.pools.now.capacity c.args.thawed can before.long
+    (λ j m d low there. before.ready j m d (omega (arith, low, end)) there)
+
+pub returns-in_err-push-in-Ok-clause-overflow : goal.returns-in_err-push-in-Ok-clause-overflow
+returns-in_err-push-in-Ok-clause-overflow c = of_memory c.from_residual-in_err-push-in-Ok.result _ c.from_residual-in_err-push-in-Ok.ensures.1 (λ f is node time e. absurd (cc))

@@ -24,7 +24,7 @@ invariant-loop-i l = record {
   behind : (j : ℕ) (d : Stage) → l.i ≤ j → get_or l.stages.items j d ≡ get_or l.fn.stages.items j d;
   ready : (j : ℕ) (n : Node) (d : Stage) → j < l.i → slice_get l.plan.nodes j ≡ Some n →
       IsReady l.texts l.fn.pools.capacity (left_kinds l.plan n) (right_kinds l.plan n) n (get_or l.stages.items j d) (left_closing l.plan.nodes l.p n) (right_closing l.plan.nodes l.p n);
-  progress : (last : ℕ) (old lists : ℕ → List Edge) (source : Sources) → AreDistinct l.texts → Flows l.texts last old lists (parts_of l.plan l.fn.stages.items l.fn.pools) → last < l.p →
+  progress : (last : ℕ) (old lists : ℕ → List Edge) (source : Sources) → AreDistinct l.texts → Flows l.texts last old lists (parts_of l.plan l.fn.stages.items l.fn.pools.capacity l.thawed) → last < l.p →
       SourcesStandRead l.texts l.p source (longer old (edges_at l.fn.given.items)) → AreFrom last (edges_at l.fn.given.items) →
       Progress l.texts l.plan last l.p source old (edges_at l.fn.given.items) lists more l.stages.items l.i;
   pools : l.pools.capacity ≡ l.fn.pools.capacity;

@@ -1,5 +1,4 @@
 use Rattle.std.proofs.Common.{◌≡◌, false, nat_eq, length, ◌∙◌, ap, sym, subst}
-use Rattle.plan_model.specs.IsPlan.{PlanParts}
 use Rattle.row_reader.specs.Celled.{entry_in}
 use Rattle.row_reader.proofs.Celled.{fault_told}
 use Rattle.admission.specs.Admission.{admit}
@@ -9,12 +8,12 @@ use Rattle.ingress.specs.Fits.{Fits}
 use Rattle.tempo_engine.specs.Output.{told}
 use Rattle.ingress.proofs.LinesFit.{line_fits}
 use Rattle.ingress.proofs.Reading.{admits_longer}
-use Rattle.tempo_engine.proofs.Punctuating.{taken_went}
+use Rattle.tempo_engine.proofs.Punctuating.{taken_went, taken_run}
 use Rattle.tempo_engine.proofs.Telling.{unread_told, refused_told}
-use Rattle.tempo_engine.proofs.work.Work.take_line.Goals as goal
+use Rattle.tempo_engine.proofs.parts.Parts.take_line.Goals as goal
 
 pub returns-in-Err-clause-fault : goal.returns-in-Err-clause-fault
-returns-in-Err-clause-fault c = λ plan policy lines fed.
+returns-in-Err-clause-fault c = λ plan policy lines given lists fed.
     let same : c.streams-streams.result.now ≡ plan.streams = c.streams-streams.ensures.streams ∙ ap (λ p. p.streams) (c.plan.ensures ∙ fed.went.planned) in
     let valid = line_read plan.streams (nat_eq c.args.number 1) c.args.line.now c.requires.no_feed in
     let answers = fault_told c.read_cells.new.texts c.in-Err.fault _ c.in-Err.ensures.entry in
@@ -22,36 +21,43 @@ returns-in-Err-clause-fault c = λ plan policy lines fed.
 
 pub admit_cells-requires-clause-fits : goal.admit_cells-requires-clause-fits
 admit_cells-requires-clause-fits c =
-    let plan = c.requires.fed.0 in
-    let fed = c.requires.fed.1.1.1 in
-    let same : c.streams-streams.result.now ≡ plan.streams = c.streams-streams.ensures.streams ∙ ap (λ p. p.streams) (c.plan.ensures ∙ fed.went.planned) in
+    let plan = c.args.self.now.dataflow.plan in
+    let same : c.streams-streams.result.now ≡ plan.streams = c.streams-streams.ensures.streams ∙ ap (λ p. p.streams) c.plan.ensures in
     let e = entry_in c.read_cells.new.texts c.in-Ok.entry in
     let says = c.in-Ok.ensures.entry.0 in
-    subst (λ cells. Fits cells e) (sym fed.went.fixed.cells) (line_fits plan.streams (nat_eq c.args.number 1) c.args.line.now e c.requires.no_feed (rw same at says))
+    subst (λ cells. Fits cells e) (sym c.requires.run.fixed.cells) (line_fits plan.streams (nat_eq c.args.number 1) c.args.line.now e c.requires.no_feed (rw same at says))
+
+pub returns-in-Ok-admit_cells-clause-run : goal.returns-in-Ok-admit_cells-clause-run
+returns-in-Ok-admit_cells-clause-run c =
+    taken_run c.args.self.now c.requires.run c.read_cells.new.texts c.admit_cells.new.self c.in-Ok.ensures.begins c.admit_cells.ensures.fixed c.admit_cells.ensures.released
 
 pub returns-in-Ok-admit_cells-clause-taken : goal.returns-in-Ok-admit_cells-clause-taken
-returns-in-Ok-admit_cells-clause-taken c = λ plan policy lines fed.
+returns-in-Ok-admit_cells-clause-taken c = λ plan policy lines given lists fed.
     let w = progress plan policy lines false in
     let same : c.streams-streams.result.now ≡ plan.streams = c.streams-streams.ensures.streams ∙ ap (λ p. p.streams) (c.plan.ensures ∙ fed.went.planned) in
     let texts = c.read_cells.new.texts in
     let says = c.in-Ok.ensures.entry.0 in
-    let taken = c.in-Ok-admit_cells.ensures.ok w.after fed.went.given (admits_longer texts c.args.self.now.texts w.after fed.went.given c.args.self.now.ingress c.in-Ok.ensures.begins fed.went.took) in
+    let taken = c.in-Ok-admit_cells.ensures.ok w.after given (admits_longer texts c.args.self.now.texts w.after given c.args.self.now.ingress c.in-Ok.ensures.begins fed.went.took) in
+    let line_times = c.event_times_stay.ensures.lines plan.streams (nat_eq c.args.number 1) c.args.line.now (entry_in texts c.in-Ok.entry) c.requires.no_feed (rw same at says) in
+    let takes = ap (λ p. admit p w.after (entry_in texts c.in-Ok.entry)) (sym fed.went.fixed.policy) ∙ taken.1.0 in
+    let timed = c.event_times_stay.ensures.next policy w.after taken.0 (entry_in texts c.in-Ok.entry) fed.went.timed line_times takes in
     record {
       entry = entry_in texts c.in-Ok.entry;
       after = taken.0;
       says = rw same at says;
-      takes = ap (λ p. admit p w.after (entry_in texts c.in-Ok.entry)) (sym fed.went.fixed.policy) ∙ taken.1.0;
-      went = taken_went plan policy w c.args.self.now fed.went taken.0 texts c.admit_cells.new.self c.in-Ok.ensures.begins taken.1.1 c.admit_cells.ensures.fixed c.admit_cells.ensures.released;
+      takes = takes;
+      went = taken_went plan policy w given lists c.args.self.now fed.went taken.0 texts c.admit_cells.new.self c.in-Ok.ensures.begins taken.1.1 c.admit_cells.ensures.fixed c.admit_cells.ensures.released timed;
+      instant = c.event_times_stay.ensures.due policy (length plan.streams) taken.0 timed;
     }
 
 pub returns-in-Err-admit_cells-clause-fault : goal.returns-in-Err-admit_cells-clause-fault
-returns-in-Err-admit_cells-clause-fault c = λ plan policy lines fed.
+returns-in-Err-admit_cells-clause-fault c = λ plan policy lines given lists fed.
     let w = progress plan policy lines false in
     let same : c.streams-streams.result.now ≡ plan.streams = c.streams-streams.ensures.streams ∙ ap (λ p. p.streams) (c.plan.ensures ∙ fed.went.planned) in
     let valid = line_read plan.streams (nat_eq c.args.number 1) c.args.line.now c.requires.no_feed in
     let texts = c.read_cells.new.texts in
     let says = c.in-Ok.ensures.entry.0 in
-    let refuses = c.in-Err-admit_cells.ensures.refused w.after fed.went.given (admits_longer texts c.args.self.now.texts w.after fed.went.given c.args.self.now.ingress c.in-Ok.ensures.begins fed.went.took) in
+    let refuses = c.in-Err-admit_cells.ensures.refused w.after given (admits_longer texts c.args.self.now.texts w.after given c.args.self.now.ingress c.in-Ok.ensures.begins fed.went.took) in
     rw c.of_refusal.ensures
     (refused_told plan fed.sound policy lines fed.read fed.fine (told plan c.args.number c.args.line.now) valid (entry_in texts c.in-Ok.entry) (rw same at says) c.in-Err-admit_cells.refusal
     (rw fed.went.fixed.policy at refuses))

@@ -18,16 +18,17 @@ use admission::Policy;
 use batch::Pools;
 use dataflow::{Dataflow, PlanFault};
 use egress::Egress;
-use ingress::Ingress;
+use ingress::{Ingress, event_times_stay};
 use plan_model::{MOST_COLUMNS, Plan, closes};
 use row_reader::read_cells;
-use std::alloc::{AllocError, Global};
-use tw_rows::{ColumnDef, Kind, Memory, TextTable, Time};
+use row_stage::column_kinds;
+use std::alloc::Global;
+use tw_rows::{Kind, Memory, TextTable, Time};
 
 /// The parts of an engine: lines come in at the ingress, their edges go through the dataflow of the plan, and the egress shows
 /// what the root changes. `closed` is how far the text goes.
 #[derive(Drop)]
-pub struct Work {
+pub struct Parts {
     pub(crate) alloc: Global,
     pub(crate) texts: TextTable,
     pub(crate) ingress: Ingress,
@@ -65,25 +66,18 @@ fn is_before(a: Time, b: Time) -> bool
     a < b
 }
 
-// The kinds of the columns.
-fn kinds_of(alloc: Global, columns: &[ColumnDef]) -> Result<Vec<Kind>, AllocError>
-    ensures { IfOk result (λ kinds. kinds.items ≡ map (λ c. c.kind) columns.now) }
-{
-    columns.iter().map(|column| column.kind).collect(alloc)
-}
-
 // The kinds of the columns of the result.
-fn kinds_of_result(alloc: Global, plan: &Plan) -> Result<Vec<Kind>, AllocError>
+fn kinds_of_result(alloc: Global, plan: &Plan) -> Result<Vec<Kind>, Memory>
     ensures { IfOk result (λ kinds. kinds.items ≡ result_kinds plan.now) }
 {
     let schemas = plan.schemas();
-    kinds_of(alloc, schemas[plan.root()].items())
+    column_kinds(alloc, schemas[plan.root()].items())
 }
 
-impl Work {
-    ghost use Rattle.tempo_engine.specs.Went.{Went, HasFed};
+impl Parts {
+    ghost use Rattle.tempo_engine.specs.Went.{Went, HasFed, Further, WhateverFed, CanRun, TookLines};
     ghost use Rattle.tempo_engine.specs.Held.{HasWorked};
-    ghost use Rattle.tempo_engine.specs.Working.{HasTaken, IsDue, IsShown};
+    ghost use Rattle.tempo_engine.specs.Working.{HasTaken, IsDue, IsDueOfLines, WhenDue, IsShown};
 
     // Before the first line.
     pub(crate) fn new(
@@ -91,19 +85,23 @@ impl Work {
         plan: Plan,
         policy: Policy,
         batch: usize,
-    ) -> Result<Work, Memory>
+    ) -> Result<Parts, Memory>
         requires batch { 1 ≤ batch }
         requires built { (i : ℕ) (n : Node) → slice_get plan.nodes i ≡ Some n → is_built n ≡ true }
-        ensures fed { IfOk result (λ e. HasFed plan policy [] e) }
+        ensures fed { IfOk result (HasFed plan policy [] (λ s. []) (λ k. [])) }
+        ensures run { IfOk result CanRun }
+        ensures thawed { IfOk result (λ e. e.dataflow.thawed ≡ false) }
         ensures batch { IfOk result (λ e. e.dataflow.capacity ≡ batch) }
     {
+        // its call tells the proof that no line has other times than event times
+        event_times_stay();
         let ingress = Ingress::new(alloc, policy, plan.streams(), batch)?;
         let kinds = kinds_of_result(alloc, &plan)?;
         let egress = Egress::new(alloc, &kinds)?;
         let pools = Pools::new(alloc, MOST_COLUMNS, batch)?;
         let mut texts = TextTable::new(alloc);
         let dataflow = Dataflow::new(alloc, plan, batch, &mut texts)?;
-        Ok(Work {
+        Ok(Parts {
             alloc,
             texts,
             ingress,
@@ -117,21 +115,33 @@ impl Work {
     // Works through a punctuation: the edges before it go through the plan, and what the root changes up to its closing is
     // shown. After a fault nothing more is asked.
     fn punctuate(&mut self, p: Time) -> Result<Vec<u8>, PlanFault>
-        requires { (plan : PlanParts) × ((policy : Admitting) × ((w : Progress) × IsDue p plan policy w self.old)) }
-        ensures went { OnOk result ((plan : PlanParts) (policy : Admitting) (w : Progress) → IsDue p plan policy w self.old → ((s : ℕ) → s < length plan.streams → p ≤ w.after.bound s) → Went plan policy (judged p w None) self.new) }
-        ensures worked { OnOk result ((plan : PlanParts) (policy : Admitting) (w : Progress) → IsDue p plan policy w self.old → HasWorked plan (judged p w None) self.new) }
-        ensures shown { IfOk result (λ bytes. (plan : PlanParts) (policy : Admitting) (w : Progress) → IsDue p plan policy w self.old → IsShown p plan w bytes.items) }
-        ensures overflow { IfErr result (λ fault. (node time : ℕ) → fault ≡ PlanFault.Overflow node time → (plan : PlanParts) (policy : Admitting) (w : Progress) → IsDue p plan policy w self.old → overflow (rows w.after) plan.nodes p ≡ Some (record { node = node; time = time })) }
+        requires run { CanRun self.old }
+        requires later { (self.old.ingress.released < p) × (p ≤ inf) }
+        requires due { IsDueOfLines p self.old }
+        ensures run { OnOk result (CanRun self.new) }
+        ensures thawed { self.new.dataflow.thawed ≡ self.old.dataflow.thawed }
+        ensures went { OnOk result (WhenDue p self.old (λ plan policy w given lists.
+            ((s : ℕ) → s < length plan.streams → p ≤ w.after.bound s) →
+            Further given lists (λ more_given more_lists. Went plan policy (judged p w None) more_given more_lists self.new))) }
+        ensures worked { OnOk result (WhenDue p self.old (λ plan policy w given lists.
+            HasWorked plan (judged p w None) self.new)) }
+        ensures shown { IfOk result (λ bytes. WhenDue p self.old (λ plan policy w given lists.
+            IsShown p plan w bytes.items)) }
+        ensures overflow { IfErr result (λ fault. (node time : ℕ) → fault ≡ PlanFault.Overflow node time →
+            WhenDue p self.old (λ plan policy w given lists.
+            overflow (rows w.after) plan.nodes p ≡ Some (record { node = node; time = time }))) }
     {
         each_text_once(&self.texts);
         let given = match self.ingress.release(&mut self.pools, p) {
             Ok(given) => given,
             Err(Memory) => return Err(PlanFault::Memory),
         };
-        let edges = match self.dataflow.step(&self.texts, given, p) {
+        let edges = match self.dataflow.step(&mut self.pools, &self.texts, given, p) {
             Ok(edges) => edges,
             Err(fault) => return Err(fault),
         };
+        // its call tells the proof how the cells are stored
+        edges.cells_are_of_kinds();
         let plan = self.dataflow.plan();
         let to = closes(plan, plan.root(), p);
         match self.egress.take(edges, to, &self.texts) {
@@ -151,10 +161,16 @@ impl Work {
     fn take_line(&mut self, number: u64, line: &[u8]) -> Result<(), EngineFault>
         requires short { length line.now ≤ 65536 }
         requires no_feed { All (λ b. b ≢ 10) line.now }
-        requires fed { (plan : PlanParts) × ((policy : Admitting) × ((lines : List Told) × HasFed plan policy lines self.old)) }
-        ensures taken { OnOk result ((plan : PlanParts) (policy : Admitting) (lines : List Told) → HasFed plan policy lines self.old → HasTaken plan policy lines (told plan number line.now) self.new) }
-        ensures fault { IfErr result (λ f. (plan : PlanParts) (policy : Admitting) (lines : List Told) → HasFed plan policy lines self.old → IsFaultOf f (fault_of plan policy (lines ++ told plan number line.now ∷ []) false)) }
+        requires run { CanRun self.old }
+        ensures run { OnOk result (CanRun self.new) }
+        ensures thawed { self.new.dataflow.thawed ≡ self.old.dataflow.thawed }
+        ensures taken { OnOk result (WhateverFed self.old (λ plan policy lines given lists.
+            HasTaken plan policy lines (told plan number line.now) given lists self.new)) }
+        ensures fault { IfErr result (λ f. WhateverFed self.old (λ plan policy lines given lists.
+            IsFaultOf f (fault_of plan policy (lines ++ told plan number line.now ∷ []) false))) }
     {
+        // its call tells the proof that the line has no other times than event times
+        event_times_stay();
         let streams = self.dataflow.plan().streams();
         let entry = match read_cells(self.alloc, line, number == 1, streams, &mut self.texts) {
             Ok(entry) => entry,
@@ -170,10 +186,16 @@ impl Work {
     pub(crate) fn feed_line(&mut self, number: u64, line: &[u8]) -> Result<Vec<u8>, EngineFault>
         requires short { length line.now ≤ 65536 }
         requires no_feed { All (λ b. b ≢ 10) line.now }
-        requires fed { (plan : PlanParts) × ((policy : Admitting) × ((lines : List Told) × HasFed plan policy lines self.old)) }
-        ensures fed { OnOk result ((plan : PlanParts) (policy : Admitting) (lines : List Told) → HasFed plan policy lines self.old → HasFed plan policy (lines ++ told plan number line.now ∷ []) self.new) }
-        ensures text { IfOk result (λ bytes. (plan : PlanParts) (policy : Admitting) (lines : List Told) → HasFed plan policy lines self.old → plan_text plan policy (lines ++ told plan number line.now ∷ []) false ≡ plan_text plan policy lines false ++ bytes.items) }
-        ensures fault { IfErr result (λ f. (plan : PlanParts) (policy : Admitting) (lines : List Told) → HasFed plan policy lines self.old → IsFaultOf f (fault_of plan policy (lines ++ told plan number line.now ∷ []) false)) }
+        requires run { CanRun self.old }
+        requires took { TookLines self.old }
+        ensures run { OnOk result (CanRun self.new) }
+        ensures thawed { self.new.dataflow.thawed ≡ self.old.dataflow.thawed }
+        ensures fed { OnOk result (WhateverFed self.old (λ plan policy lines given lists. Further given lists (λ more_given more_lists.
+            HasFed plan policy (lines ++ told plan number line.now ∷ []) more_given more_lists self.new))) }
+        ensures text { IfOk result (λ bytes. WhateverFed self.old (λ plan policy lines given lists.
+            plan_text plan policy (lines ++ told plan number line.now ∷ []) false ≡ plan_text plan policy lines false ++ bytes.items)) }
+        ensures fault { IfErr result (λ f. WhateverFed self.old (λ plan policy lines given lists.
+            IsFaultOf f (fault_of plan policy (lines ++ told plan number line.now ∷ []) false))) }
     {
         match self.take_line(number, line) {
             Ok(()) => {}
@@ -190,11 +212,16 @@ impl Work {
 
     // Works through infinity.
     pub(crate) fn finish(&mut self) -> Result<Vec<u8>, EngineFault>
-        requires { (plan : PlanParts) × ((policy : Admitting) × ((lines : List Told) × HasFed plan policy lines self.old)) }
-        ensures fine { OnOk result ((plan : PlanParts) (policy : Admitting) (lines : List Told) → HasFed plan policy lines self.old → fault_of plan policy lines true ≡ None) }
-        ensures worked { OnOk result ((plan : PlanParts) (policy : Admitting) (lines : List Told) → HasFed plan policy lines self.old → HasWorked plan (progress plan policy lines true) self.new) }
-        ensures text { IfOk result (λ bytes. (plan : PlanParts) (policy : Admitting) (lines : List Told) → HasFed plan policy lines self.old → plan_text plan policy lines true ≡ plan_text plan policy lines false ++ bytes.items) }
-        ensures fault { IfErr result (λ f. (plan : PlanParts) (policy : Admitting) (lines : List Told) → HasFed plan policy lines self.old → IsFaultOf f (fault_of plan policy lines true)) }
+        requires run { CanRun self.old }
+        requires took { TookLines self.old }
+        ensures fine { OnOk result (WhateverFed self.old (λ plan policy lines given lists.
+            fault_of plan policy lines true ≡ None)) }
+        ensures worked { OnOk result (WhateverFed self.old (λ plan policy lines given lists.
+            HasWorked plan (progress plan policy lines true) self.new)) }
+        ensures text { IfOk result (λ bytes. WhateverFed self.old (λ plan policy lines given lists.
+            plan_text plan policy lines true ≡ plan_text plan policy lines false ++ bytes.items)) }
+        ensures fault { IfErr result (λ f. WhateverFed self.old (λ plan policy lines given lists.
+            IsFaultOf f (fault_of plan policy lines true))) }
     {
         let end = infinity();
         if is_before(self.ingress.released(), end) {

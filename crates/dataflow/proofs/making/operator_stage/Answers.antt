@@ -1,0 +1,19 @@
+use Rattle.std.proofs.Common.{◌≡◌, true, subst}
+use Rattle.plan_model.proofs.Kept.{node_at}
+use Rattle.row_stage.proofs.Nodes.{one_node}
+use Rattle.dataflow.specs.Held.{has_two}
+use Rattle.dataflow.proofs.RowNodes.{two_left}
+use Rattle.dataflow.proofs.making.operator_stage.Goals as goal
+
+pub two_sided_stage-requires : goal.two_sided_stage-requires
+two_sided_stage-requires c =
+    let plan = c.args.plan.now in
+    let n = c.index-nodes-node.result in
+    let at = node_at plan _ c.args.node n c.nodes-nodes.ensures.kept c.nodes-nodes.ensures.nodes c.requires.node c.index-nodes-node.is in
+    let other = c.in_default in
+    record {
+      node = c.requires.node;
+      room = c.requires.room;
+      two = λ m there. subst (λ k. has_two k ≡ true) (one_node plan c.args.node n at m there)
+          (two_left n (c.requires.built n at.here) (c.requires.other n at.here) other.not-Delay other.not-Hop other.not-Duration other.not-Extend other.not-Group other.not-Session);
+    }
