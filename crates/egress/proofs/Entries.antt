@@ -1,5 +1,5 @@
 -- Entries that are taken up one by one, and what an output keeps of them.
-use Rattle.std.specs.Prelude.{◌≡◌, ℕ, suc, ◌+◌, ◌-◌, ◌<◌, ◌≤◌, nat_eq, nat_lt, Bool, true, false, cond, None, List, [], ◌∷◌, ◌++◌, map, replicate, length, All, refl}
+use Rattle.std.specs.Prelude.{◌≡◌, ℕ, suc, ◌+◌, ◌-◌, ◌<◌, ◌≤◌, nat_eq, nat_lt, Bool, true, false, cond, None, List, [], ◌∷◌, ◌++◌, map, length, All, refl}
 use Rattle.std.specs.List.Sorted.{IsNonDecreasing}
 use Rattle.std.proofs.Common.{sym, ◌∙◌, ap, subst, arith, get_or, take, drop}
 use Rattle.std.proofs.lemmas.Bool.Decides.{nat_tests}
@@ -21,11 +21,11 @@ use Rattle.edge_history.specs.History.{of}
 use Rattle.edge_history.specs.Balance.{news}
 use Rattle.edge_history.proofs.Sums.{failing-append, failing-filter}
 use Rattle.node_laws.specs.Places.{read_events, EdgesArePlaced}
-use Rattle.egress.specs.Kept.{cells_of, since_at, since_in}
+use Rattle.egress.specs.Kept.{cells_of, since_at, since_in, HasAdded, EachIsOpen}
 use Rattle.egress.specs.Waiting.{Waiting, edges_if, edges_at, waiting_in, ArePut, SameMoves, WaitingArePlaced}
 use Rattle.egress.specs.Output.{Holds}
 use Rattle.egress.specs.Reached.{Reached}
-use Rattle.egress.specs.Saving.{entries_of, starts_of, others_of, end_of, ends_of, IsKept, IsSound, Resumes, EntriesArePlaced}
+use Rattle.egress.specs.Saving.{entries_of, starts_of, others_of, end_of, ends_of, IsKept, IsSound, MayFollow, Resumes, EntriesArePlaced}
 use Rattle.egress.specs.declared.egress.Egress.{Egress}
 use Rattle.egress.specs.declared.loading.Loaded.{Loaded}
 use Rattle.egress.proofs.Putting.{then_put}
@@ -99,16 +99,18 @@ grown xs t k c false e h g = h
 -- THE LOOP
 -- so many entries were taken up
 pub record Loads (kinds : List Kind) (closed : ℕ) (xs : List SavedEntry) (l : Loaded) : Type 0 where
-  pub opens : (c : List Datum) → since_at l.opens c ≡ starts_of xs c
+  pub opens : (c : List Datum) → since_at l.starts c ≡ starts_of xs c
   pub ends : (c : List Datum) → since_at l.ends c ≡ others_of xs c
   pub put : ArePut (λ t. None) (waiting_in l.waiting) (ends_of xs)
   pub each : All (IsKept kinds closed) xs
   pub starts : (c : List Datum) → IsNonDecreasing (starts_of xs c)
   pub others : (c : List Datum) → IsNonDecreasing (others_of xs c)
+  pub kept : EachIsOpen l.starts
 
 module _ (kinds : List Kind) (closed : ℕ) where
-  pub loads_first : (l : Loaded) → ((c : List Datum) → since_at l.opens c ≡ []) → ((c : List Datum) → since_at l.ends c ≡ []) → ((t : ℕ) → waiting_in l.waiting t ≡ None) → Loads kinds closed [] l
-  loads_first l opens ends none = record {
+  pub loads_first : (l : Loaded) → ((c : List Datum) → since_at l.starts c ≡ []) → ((c : List Datum) → since_at l.ends c ≡ []) → ((t : ℕ) → waiting_in l.waiting t ≡ None) → EachIsOpen l.starts → Loads kinds closed [] l
+  loads_first l opens ends none kept = record {
+    kept = kept;
     opens = opens;
     ends = ends;
     put = record { edges = λ t. ap edges_if (none t); none = λ t _ _. none t };
@@ -118,33 +120,32 @@ module _ (kinds : List Kind) (closed : ℕ) where
   }
 
   module _ (xs : List SavedEntry) (l l2 : Loaded) (e : SavedEntry) (was : Loads kinds closed xs l) where
-    pub starts_rise : (c : List Datum) → IsNonDecreasing (since_at l.opens c)
+    pub starts_rise : (c : List Datum) → IsNonDecreasing (since_at l.starts c)
     starts_rise c = subst IsNonDecreasing (sym (was.opens c)) (was.starts c)
 
     pub ends_rise : (c : List Datum) → IsNonDecreasing (since_at l.ends c)
     ends_rise c = subst IsNonDecreasing (sym (was.ends c)) (was.others c)
 
-    pub loads_next : ((c : List Datum) → since_at l2.opens c ≡ cond (same_cells e.cells c) (since_at l.opens c ++ replicate 1 e.sync) (since_at l.opens c)) →
-        ((c : List Datum) → since_at l2.ends c ≡ cond (same_cells e.cells c) (since_at l.ends c ++ replicate 1 e.other) (since_at l.ends c)) →
-        ArePut (waiting_in l.waiting) (waiting_in l2.waiting) (end_of e) → IsKept kinds closed e →
-        IsNonDecreasing (since_at l.opens e.cells ++ e.sync ∷ []) → IsNonDecreasing (since_at l.ends e.cells ++ e.other ∷ []) → Loads kinds closed (xs ++ e ∷ []) l2
-    loads_next opens ends put kept up over = record {
+    pub loads_next : HasAdded e.cells e.sync 1 l.starts l2.starts → HasAdded e.cells e.other 1 l.ends l2.ends → ArePut (waiting_in l.waiting) (waiting_in l2.waiting) (end_of e) →
+        MayFollow kinds closed l.starts l.ends e → (EachIsOpen l.starts → EachIsOpen l2.starts) → Loads kinds closed (xs ++ e ∷ []) l2
+    loads_next opens ends put follows kept = record {
+      kept = kept was.kept;
       opens = λ c. opens c ∙ ap (λ s. cond (same_cells e.cells c) (s ++ e.sync ∷ []) s) (was.opens c) ∙ sym (starts_then xs e c);
       ends = λ c. ends c ∙ ap (λ s. cond (same_cells e.cells c) (s ++ e.other ∷ []) s) (was.ends c) ∙ sym (others_then xs e c);
       put = subst (ArePut (λ t. None) (waiting_in l2.waiting)) (ap (λ es. ends_of xs ++ es) (sym (append-nil (end_of e))) ∙ sym (flat_map-append end_of xs (e ∷ [])))
           (then_put (λ t. None) (waiting_in l.waiting) (waiting_in l2.waiting) (ends_of xs) (end_of e) was.put put);
-      each = All-append (IsKept kinds closed) xs (e ∷ []) was.each (All-cons (IsKept kinds closed) e [] kept (All-nil (IsKept kinds closed)));
+      each = All-append (IsKept kinds closed) xs (e ∷ []) was.each (All-cons (IsKept kinds closed) e [] follows.kept (All-nil (IsKept kinds closed)));
       starts = λ c. subst IsNonDecreasing (sym (starts_then xs e c))
           (grown (starts_of xs c) e.sync e.cells c (same_cells e.cells c) refl (was.starts c)
-          (λ same. subst (λ s. IsNonDecreasing (s ++ e.sync ∷ [])) (was.opens c) (subst (λ k. IsNonDecreasing (since_at l.opens k ++ e.sync ∷ [])) (cells_are_same e.cells c same) up)));
+          (λ same. subst (λ s. IsNonDecreasing (s ++ e.sync ∷ [])) (was.opens c) (subst (λ k. IsNonDecreasing (since_at l.starts k ++ e.sync ∷ [])) (cells_are_same e.cells c same) follows.starts_rise)));
       others = λ c. subst IsNonDecreasing (sym (others_then xs e c))
           (grown (others_of xs c) e.other e.cells c (same_cells e.cells c) refl (was.others c)
-          (λ same. subst (λ s. IsNonDecreasing (s ++ e.other ∷ [])) (was.ends c) (subst (λ k. IsNonDecreasing (since_at l.ends k ++ e.other ∷ [])) (cells_are_same e.cells c same) over)));
+          (λ same. subst (λ s. IsNonDecreasing (s ++ e.other ∷ [])) (was.ends c) (subst (λ k. IsNonDecreasing (since_at l.ends k ++ e.other ∷ [])) (cells_are_same e.cells c same) follows.ends_rise)));
     }
 
     -- where all entries are sound, none of the tests fails
     module _ (rest : List SavedEntry) (sound : IsSound kinds ((xs ++ e ∷ []) ++ rest) closed) where
-      pub sound_start : IsNonDecreasing (since_at l.opens e.cells ++ e.sync ∷ [])
+      pub sound_start : IsNonDecreasing (since_at l.starts e.cells ++ e.sync ∷ [])
       sound_start =
           let a = front_rises (starts_of (xs ++ e ∷ []) e.cells) (starts_of rest e.cells) (subst IsNonDecreasing (starts_append (xs ++ e ∷ []) rest e.cells) (sound.starts e.cells)) in
           subst (λ s. IsNonDecreasing (s ++ e.sync ∷ [])) (sym (was.opens e.cells))
@@ -220,17 +221,18 @@ ends_pass p (e ∷ es) none =
     one true own = ap (λ a. cond {A = ℕ} a 0 1 + 0) own
     one false own = refl
 
-module _ (o : Egress) (saved : List SavedEntry) (closed : ℕ) (opens : (c : List Datum) → since_at o.opens c ≡ starts_of saved c)
+module _ (o : Egress) (saved : List SavedEntry) (closed : ℕ) (opens : (c : List Datum) → since_at o.rows.starts c ≡ starts_of saved c) (kept : EachIsOpen o.rows.starts)
     (put : ArePut (λ t. None) (waiting_in o.waiting) (ends_of saved)) where
-  pub resumed : (texts : List (List ℕ)) (h : List Edge) → o.text.items ≡ [] → Resumes o.kinds.items saved closed texts h → Holds texts h closed closed o
+  pub resumed : (texts : List (List ℕ)) (h : List Edge) → o.rows.lines.items ≡ [] → Resumes o.rows.kinds.items saved closed texts h → Holds texts h closed closed o
   resumed texts h empty r = record {
     high = r.sound.high;
     history = r.history;
+    kept = kept;
     swept = record {
       waits = λ v low below. subst (λ es. SameMoves es (news v (suc v) (of h))) (sym (put.edges v)) (r.ends v low below);
-      none = λ v low. put.none v refl (none_before o.kinds.items closed v saved r.sound.each low);
-      reached = subst (λ l. Reached (alive (read_events texts (of h))) o.kinds.items closed closed (since_in texts o.opens) l) (sym empty)
-          (reached_first (alive (read_events texts (of h))) o.kinds.items closed (since_in texts o.opens) (λ q. opens (cells_of texts q) ∙ r.opened q));
+      none = λ v low. put.none v refl (none_before o.rows.kinds.items closed v saved r.sound.each low);
+      reached = subst (λ l. Reached (alive (read_events texts (of h))) o.rows.kinds.items closed closed (since_in texts o.rows.starts) l) (sym empty)
+          (reached_first (alive (read_events texts (of h))) o.rows.kinds.items closed (since_in texts o.rows.starts) (λ q. opens (cells_of texts q) ∙ r.opened q));
     };
     cells = λ p none. let pass = r.cells p none in record {
       opens = λ c t rest is. open_passes p saved c t rest pass (sym (opens c) ∙ is);

@@ -23,5 +23,6 @@ mod Copies
 mod SavedEnds
 mod SavedInstants
 mod SavedAll
+mod SavedFew
 mod Placing
 mod Examples

@@ -1,11 +1,15 @@
 -- The open starts of rows in a map, where those of one row are set.
-use Rattle.std.specs.Prelude.{◌≡◌, ℕ, zero, suc, Bool, true, false, cond, Option, Some, None, List, [], ◌∷◌, ◌++◌, length, drop, replicate, refl}
+use Rattle.std.specs.Prelude.{◌≡◌, ◌≤◌, ℕ, zero, suc, Bool, true, false, cond, Option, Some, None, List, [], ◌∷◌, ◌++◌, length, map, take, drop, replicate, refl}
 use Rattle.std.specs.declared.collections.VecDeque.{VecDeque}
 use Rattle.std.proofs.Common.{sym, ◌∙◌, ap, arith}
 use Rattle.indexmap.specs.IndexMap.{IndexMap, get}
 use Rattle.tw_rows.specs.declared.cells.Datum.{Datum}
 use Rattle.tw_rows.specs.SameCells.{same_cells, cells_are_same}
-use Rattle.egress.specs.Kept.{times_if, since_at}
+use Rattle.tw_rows.specs.declared.kind.Kind.{Kind}
+use Rattle.plan_model.specs.Changes.{Line}
+use Rattle.egress.specs.Print.{print}
+use Rattle.egress.proofs.Ending.{none_dropped, all_taken}
+use Rattle.egress.specs.Kept.{times_if, since_at, EachIsOpen}
 
 pub none_left : (xs : List ℕ) → length xs ≡ 0 → xs ≡ []
 none_left [] e = refl
@@ -58,12 +62,6 @@ module _ {S H : Type 0} (m n : IndexMap (List Datum) (VecDeque ℕ S) H) (k : Li
         (r : List Datum) → since_at n r ≡ cond (same_cells k r) (since_at m r ++ replicate count at) (since_at m r)
     started_since count at d2 e set = set_since (λ l. l ++ replicate count at) (Some d2) set (e ∙ ap (λ l. l ++ replicate count at) times_are)
 
-    -- a row that was taken out, all of whose open starts are ended
-    pub all_ended : (count : ℕ) (d2 : VecDeque ℕ S) → d2.items ≡ drop count d.items → d2.items ≡ [] →
-        ((q : List Datum) → get same_cells n q ≡ cond (same_cells k q) None (get same_cells m q)) →
-        (r : List Datum) → since_at n r ≡ cond (same_cells k r) (drop count (since_at m r)) (since_at m r)
-    all_ended count d2 e empty set = set_since (drop count) None set (sym empty ∙ e ∙ ap (drop count) times_are)
-
   pub new_since : (count at : ℕ) (d d2 : VecDeque ℕ S) → get same_cells m k ≡ None → d.items ≡ [] → d2.items ≡ d.items ++ replicate count at →
       (m2 : IndexMap (List Datum) (VecDeque ℕ S) H) → m2 ≡ m →
       ((q : List Datum) → get same_cells n q ≡ cond (same_cells k q) (Some d2) (get same_cells m2 q)) →
@@ -71,6 +69,22 @@ module _ {S H : Type 0} (m n : IndexMap (List Datum) (VecDeque ℕ S) H) (k : Li
   new_since count at d d2 none empty e m2 same set = set_since (λ l. l ++ replicate count at) (Some d2)
       (λ q. set q ∙ ap (λ x. cond (same_cells k q) (Some d2) (get same_cells x q)) same)
       (e ∙ ap (λ l. l ++ replicate count at) (empty ∙ sym (ap times_if none)))
+
+-- a row that was taken out, of whose starts so many were ended
+module _ {S H : Type 0} (m n : IndexMap (List Datum) (VecDeque ℕ S) H) (k : List Datum) (d : VecDeque ℕ S) (found : Some d ≡ get same_cells m k) (i count : ℕ) where
+  -- all of them
+  module _ (low : i ≤ count) (nil : drop i d.items ≡ []) where
+    pub all_gone : ((q : List Datum) → get same_cells n q ≡ cond (same_cells k q) None (get same_cells m q)) →
+        (r : List Datum) → since_at n r ≡ cond (same_cells k r) (drop count (since_at m r)) (since_at m r)
+    all_gone gone = set_since m n k (drop count) None gone (sym (none_dropped i count d.items low nil) ∙ ap (drop count) (times_are m n k d found))
+
+    pub gone_lines : (kinds : List Kind) (f : ℕ → Line) (before now : List ℕ) → now ≡ before ++ print kinds (map f (take i d.items)) → now ≡ before ++ print kinds (map f (take count (since_at m k)))
+    gone_lines kinds f before now is =
+        is ∙ ap (λ l. before ++ print kinds (map f l)) (sym (all_taken i count d.items low nil) ∙ ap (take count) (times_are m n k d found))
+
+  -- the first of them
+  pub left_lines : i ≡ count → (kinds : List Kind) (f : ℕ → Line) (before now : List ℕ) → now ≡ before ++ print kinds (map f (take i d.items)) → now ≡ before ++ print kinds (map f (take count (since_at m k)))
+  left_lines all kinds f before now is = is ∙ ap (λ l. before ++ print kinds (map f l)) (ap (λ j. take j d.items) all ∙ ap (take count) (times_are m n k d found))
 
 -- a row that was taken out and is put back with what is left
 pub some_ended : {S H : Type 0} (m n n2 : IndexMap (List Datum) (VecDeque ℕ S) H) (k kept : List Datum) (d d2 : VecDeque ℕ S) → Some d ≡ get same_cells m k → kept ≡ k →
@@ -90,3 +104,49 @@ some_ended m n n2 k kept d d2 found is count e gone set =
 pub none_ended : (b : Bool) (l : List ℕ) (count : ℕ) → count ≡ 0 → l ≡ cond b (drop count l) l
 none_ended true l count e = ap (λ n. drop n l) (sym e)
 none_ended false l count e = refl
+
+-- no row is kept that has no open start
+first_nil : (xs ys : List ℕ) → xs ++ ys ≡ [] → xs ≡ []
+first_nil [] ys e = refl
+first_nil (x ∷ xs) ys e = absurd (cc)
+
+pub some_times : (count t : ℕ) → 1 ≤ count → replicate count t ≡ [] → ⊥
+some_times zero t low e = omega (arith, low)
+some_times (suc n) t low e = cc
+
+module _ {S H : Type 0} (m n : IndexMap (List Datum) (VecDeque ℕ S) H) (k : List Datum) where
+  pub removed_open : ((q : List Datum) → get same_cells n q ≡ cond (same_cells k q) None (get same_cells m q)) → EachIsOpen m → EachIsOpen n
+  removed_open set h q none = pick (same_cells k q) refl
+    where
+      pick : (b : Bool) → same_cells k q ≡ b → get same_cells n q ≡ None
+      pick true e = set q ∙ ap (λ b. cond b None (get same_cells m q)) e
+      pick false e =
+          let is : get same_cells n q ≡ get same_cells m q = set q ∙ ap (λ b. cond b None (get same_cells m q)) e in
+          is ∙ h q (sym (ap times_if is) ∙ none)
+
+  pub set_open : (d : VecDeque ℕ S) → (d.items ≡ [] → ⊥) → ((q : List Datum) → get same_cells n q ≡ cond (same_cells k q) (Some d) (get same_cells m q)) → EachIsOpen m → EachIsOpen n
+  set_open d some set h q none = pick (same_cells k q) refl
+    where
+      pick : (b : Bool) → same_cells k q ≡ b → get same_cells n q ≡ None
+      pick true e =
+          let is : get same_cells n q ≡ Some d = set q ∙ ap (λ b. cond b (Some d) (get same_cells m q)) e in
+          absurd (some (sym (ap times_if is) ∙ none))
+      pick false e =
+          let is : get same_cells n q ≡ get same_cells m q = set q ∙ ap (λ b. cond b (Some d) (get same_cells m q)) e in
+          is ∙ h q (sym (ap times_if is) ∙ none)
+
+  pub grown_open : (d d2 : VecDeque ℕ S) (more : List ℕ) → Some d ≡ get same_cells m k → d2.items ≡ d.items ++ more →
+      ((q : List Datum) → get same_cells n q ≡ cond (same_cells k q) (Some d2) (get same_cells m q)) → EachIsOpen m → EachIsOpen n
+  grown_open d d2 more found e set h = set_open d2 some set h
+    where
+      some : d2.items ≡ [] → ⊥
+      some empty =
+          let none : get same_cells m k ≡ None = h k (sym (ap times_if found) ∙ first_nil d.items more (sym e ∙ empty)) in
+          let z : Some d ≡ None = found ∙ none in
+          cc
+
+-- a row that was taken out and is put back
+pub returned_open : {S H : Type 0} (m n n2 : IndexMap (List Datum) (VecDeque ℕ S) H) (k kept : List Datum) (d : VecDeque ℕ S) → (d.items ≡ [] → ⊥) →
+    ((q : List Datum) → get same_cells n q ≡ cond (same_cells k q) None (get same_cells m q)) →
+    ((q : List Datum) → get same_cells n2 q ≡ cond (same_cells kept q) (Some d) (get same_cells n q)) → EachIsOpen m → EachIsOpen n2
+returned_open m n n2 k kept d some gone set h = set_open n n2 kept d some set (removed_open m n k gone h)

@@ -164,23 +164,23 @@ pub waits_placed : (texts : List (List ℕ)) (h : List Edge) (a c : ℕ) (o : Eg
 waits_placed texts h a c o placed holds t = edges_placed_if texts (edges_if (waiting_in o.waiting t)) ((holds.cells (are_placed texts) (placed_all texts h placed)).waits t)
 
 module _ (texts : List (List ℕ)) (apart : AreDistinct texts) (h : List Edge) (c : ℕ) (o : Egress) (holds : Holds texts h c c o) (placed : EdgesArePlaced texts h)
-    (kinds : All (λ e. map datum_kind e.cells ≡ map cell_kind_of o.kinds.items) h) (mid saved : List SavedEntry) (s1 : List Datum → List ℕ)
-    (te : TakenEnds (of h) c (waiting_in o.waiting) [] mid (since_at o.opens) s1) (tr : TakenRest mid saved s1) where
+    (kinds : All (λ e. map datum_kind e.cells ≡ map cell_kind_of o.rows.kinds.items) h) (mid saved : List SavedEntry) (s1 : List Datum → List ℕ)
+    (te : TakenEnds (of h) c (waiting_in o.waiting) [] mid (since_at o.rows.starts) s1) (tr : TakenRest mid saved s1) where
   is_all : saved ≡ te.added ++ tr.added
   is_all = tr.is ∙ ap (λ l. l ++ tr.added) te.is
 
-  starts_are : (k : List Datum) → starts_of (te.added ++ tr.added) k ≡ since_at o.opens k
+  starts_are : (k : List Datum) → starts_of (te.added ++ tr.added) k ≡ since_at o.rows.starts k
   starts_are k = starts_append te.added tr.added k ∙ ap (λ l. starts_of te.added k ++ l) (tr.starts k) ∙ te.starts k
 
-  opens_rise : (k : List Datum) → IsNonDecreasing (since_at o.opens k) × All (λ s. s < c) (since_at o.opens k)
+  opens_rise : (k : List Datum) → IsNonDecreasing (since_at o.rows.starts k) × All (λ s. s < c) (since_at o.rows.starts k)
   opens_rise k = pick (are_placed texts k) refl
     where
-      pick : (b : Bool) → are_placed texts k ≡ b → IsNonDecreasing (since_at o.opens k) × All (λ s. s < c) (since_at o.opens k)
+      pick : (b : Bool) → are_placed texts k ≡ b → IsNonDecreasing (since_at o.rows.starts k) × All (λ s. s < c) (since_at o.rows.starts k)
       pick true e = subst (λ l. IsNonDecreasing l × All (λ s. s < c) l)
-          (sym (ap (since_at o.opens) (sym (cells_again texts apart k (placed_if texts k e))) ∙ holds.swept.reached.opened (read_cells texts k)))
+          (sym (ap (since_at o.rows.starts) (sym (cells_again texts apart k (placed_if texts k e))) ∙ holds.swept.reached.opened (read_cells texts k)))
           (open_rises (alive (read_events texts (of h))) (read_cells texts k) c)
       pick false e = subst (λ l. IsNonDecreasing l × All (λ s. s < c) l)
-          (sym (none_unplaced (are_placed texts) (since_at o.opens) (holds.cells (are_placed texts) (placed_all texts h placed)).opens k e))
+          (sym (none_unplaced (are_placed texts) (since_at o.rows.starts) (holds.cells (are_placed texts) (placed_all texts h placed)).opens k e))
           (IsNonDecreasingBy-short (λ (x : ℕ). x) [] (omega arith), All-nil (λ s. s < c))
 
   passes : (p : List Datum → Bool) → failing (λ e. p e.cells) h ≡ 0 → failing (λ e. p e.cells) (te.added ++ tr.added) ≡ 0
@@ -189,7 +189,7 @@ module _ (texts : List (List ℕ)) (apart : AreDistinct texts) (h : List Edge) (
       failing-append (λ (e : SavedEntry). p e.cells) te.added tr.added (te.cells p kept.waits)
       (tr.cells p (λ k t rest is. pick p kept.opens k t rest is (starts_of te.added k) refl))
     where
-      pick : (p : List Datum → Bool) → ((k : List Datum) (t : ℕ) (rest : List ℕ) → since_at o.opens k ≡ t ∷ rest → p k ≡ true) → (k : List Datum) (t : ℕ) (rest : List ℕ) → s1 k ≡ t ∷ rest →
+      pick : (p : List Datum → Bool) → ((k : List Datum) (t : ℕ) (rest : List ℕ) → since_at o.rows.starts k ≡ t ∷ rest → p k ≡ true) → (k : List Datum) (t : ℕ) (rest : List ℕ) → s1 k ≡ t ∷ rest →
           (front : List ℕ) → starts_of te.added k ≡ front → p k ≡ true
       pick p h k t rest is [] g = h k t rest (sym (te.starts k) ∙ ap (λ s. s ++ s1 k) g ∙ is)
       pick p h k t rest is (y ∷ ys) g = h k y (ys ++ s1 k) (sym (te.starts k) ∙ ap (λ s. s ++ s1 k) g)
@@ -204,12 +204,12 @@ module _ (texts : List (List ℕ)) (apart : AreDistinct texts) (h : List Edge) (
       (All-weaker (λ (e : SavedEntry). (e.part ≡ 0) × (c ≤ e.other) × (e.other < inf)) (λ (e : SavedEntry). (e.part ≡ 0) × (c ≤ e.other) × (e.other ≤ inf)) (λ e h. (h.0, h.1, let z = h.2 in omega (arith, z))) te.added te.each)
       (All-weaker (EndAt inf) (λ (e : SavedEntry). (e.part ≡ 0) × (c ≤ e.other) × (e.other ≤ inf)) (λ e h. (h.0, let z = h.1 in let y = holds.high in omega (arith, z, y), let z = h.1 in omega (arith, z))) tr.added tr.each)
 
-  pub save_resumes : Resumes o.kinds.items saved c texts h
-  save_resumes = subst (λ l. Resumes o.kinds.items l c texts h) (sym is_all) (record {
+  pub save_resumes : Resumes o.rows.kinds.items saved c texts h
+  save_resumes = subst (λ l. Resumes o.rows.kinds.items l c texts h) (sym is_all) (record {
     sound = record {
       high = holds.high;
-      each = kept_all o.kinds.items c (te.added ++ tr.added) (λ k. subst (All (λ s. s < c)) (sym (starts_are k)) (opens_rise k).1)
-          (passes (of_kinds o.kinds.items) (all_of_kinds o.kinds.items h kinds)) bounds;
+      each = kept_all o.rows.kinds.items c (te.added ++ tr.added) (λ k. subst (All (λ s. s < c)) (sym (starts_are k)) (opens_rise k).1)
+          (passes (of_kinds o.rows.kinds.items) (all_of_kinds o.rows.kinds.items h kinds)) bounds;
       starts = λ k. subst IsNonDecreasing (sym (starts_are k)) (opens_rise k).0;
       others = λ k. keys_rise (λ e. e.other) (entries_of (te.added ++ tr.added) k)
           (IsNonDecreasingBy-filter (λ (e : SavedEntry). e.other) (λ e. same_cells e.cells k) (te.added ++ tr.added) others_rise);

@@ -138,10 +138,10 @@ module _ (texts : List (List ℕ)) (kinds : List Kind) (h new : List Edge) (a c 
 
 -- the text of what stands for events
 pub rendered : (texts : List (List ℕ)) (h : List Edge) (a c : ℕ) (o : Egress) (events : List (Event Row)) → Holds texts h a c o → StandsRead texts c h events →
-    o.text.items ≡ print o.kinds.items (changes (alive events) a (c - a))
+    o.rows.lines.items ≡ print o.rows.kinds.items (changes (alive events) a (c - a))
 rendered texts h a c o events s stands =
     s.swept.reached.shown
-    ∙ ap (print o.kinds.items) (changes_same (alive (read_events texts (of h))) (alive events) c (λ u low. rows_standing texts c u h events low stands) a (c - a)
+    ∙ ap (print o.rows.kinds.items) (changes_same (alive (read_events texts (of h))) (alive events) c (λ u low. rows_standing texts c u h events low stands) a (c - a)
     (let z = s.swept.reached.low in omega (arith, z)))
 
 -- once the text is gone
@@ -174,15 +174,16 @@ holds_longer new old begins h a c o placed s = record {
     waits = s.swept.waits;
     none = s.swept.none;
     reached =
-        let was : Reached (alive (read_events new (of h))) o.kinds.items a c (since_in old o.opens) o.text.items =
-        subst (λ es. Reached (alive es) o.kinds.items a c (since_in old o.opens) o.text.items) (sym (read_longer new old begins (of h) (placed_of old h placed))) s.swept.reached in
+        let was : Reached (alive (read_events new (of h))) o.rows.kinds.items a c (since_in old o.rows.starts) o.rows.lines.items =
+        subst (λ es. Reached (alive es) o.rows.kinds.items a c (since_in old o.rows.starts) o.rows.lines.items) (sym (read_longer new old begins (of h) (placed_of old h placed))) s.swept.reached in
         record {
           low = was.low;
           shown = was.shown;
-          opened = λ r. since_longer new old begins (since_at o.opens) (s.cells (are_placed old) (placed_all old h placed)).opens r ∙ was.opened r;
+          opened = λ r. since_longer new old begins (since_at o.rows.starts) (s.cells (are_placed old) (placed_all old h placed)).opens r ∙ was.opened r;
         };
   };
   cells = s.cells;
+  kept = s.kept;
 }
 
 -- tests that the cells of edges pass are passed by those of what waits

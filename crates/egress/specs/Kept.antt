@@ -1,5 +1,5 @@
 -- What is kept of rows: how often each ends and starts at an instant, and its open starts.
-use Rattle.std.specs.Prelude.{◌≡◌, ℕ, nat_lt, ◌&&◌, Bool, true, cond, Option, Some, None, List, [], ◌∷◌, map, length, All}
+use Rattle.std.specs.Prelude.{◌≡◌, ℕ, nat_lt, ◌&&◌, Bool, true, cond, Option, Some, None, List, [], ◌∷◌, ◌++◌, map, length, replicate, All}
 use Rattle.std.specs.Ordering.{eq_by_cmp}
 use Rattle.std.specs.Str.{bytes_eq}
 use Rattle.std.specs.List.{position_or_len}
@@ -77,3 +77,11 @@ since_in texts opens r = since_at opens (cells_of texts r)
 -- the cells of each row that is open pass the test: where place 0 alone is open, a test that place 1 fails may be passed
 abbrev pub OpensPass : (List Datum → Bool) → (List Datum → List ℕ) → Type 0
 OpensPass p since = (cells : List Datum) (t : ℕ) (rest : List ℕ) → since cells ≡ t ∷ rest → p cells ≡ true
+
+-- a time was added so often to those of the row of these cells, and the other rows have theirs
+abbrev pub HasAdded : {S H : Type 0} → List Datum → ℕ → ℕ → IndexMap (List Datum) (VecDeque ℕ S) H → IndexMap (List Datum) (VecDeque ℕ S) H → Type 0
+HasAdded cells time count old new = (c : List Datum) → since_at new c ≡ cond (same_cells cells c) (since_at old c ++ replicate count time) (since_at old c)
+
+-- a row that is kept has an open start: one whose starts have all ended is not kept
+abbrev pub EachIsOpen : {S H : Type 0} → IndexMap (List Datum) (VecDeque ℕ S) H → Type 0
+EachIsOpen opens = (cells : List Datum) → since_at opens cells ≡ [] → value_at same_cells opens cells ≡ None

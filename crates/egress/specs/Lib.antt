@@ -1,10 +1,12 @@
--- Callers read Instants, Print, Reached, Kept, Waiting and Output. Of Kept `show_edges` tells by `since_at`, `since_in` and
--- `OpensPass`; its other words, and `ArePut` and `ArePopped` of Waiting, are used inside the crate only.
+-- Callers read Instants, Print, Reached, Waiting, Output and Saving. The words of Kept, Gathering, Saved and Showing, and `ArePut` and
+-- `ArePopped` of Waiting, are used inside the crate, and `EachIsOpen` of Kept by Output.
 pub mod Instants
 pub mod Print
 pub mod Reached
 pub mod Kept
 pub mod Waiting
+pub mod Gathering
+pub mod Showing
 pub mod Output
 pub mod Saving
 pub mod Saved

@@ -14,8 +14,11 @@ use Rattle.edge_history.specs.History.{CellEvent}
 use Rattle.edge_history.specs.Balance.{news}
 use Rattle.edge_history.specs.Opens.{started_rows}
 use Rattle.node_laws.specs.Places.{AreDistinct}
-use Rattle.egress.specs.Kept.{OpensPass}
-use Rattle.egress.specs.Waiting.{Waiting, edges_if, edges_at, SameMoves}
+use Rattle.indexmap.specs.IndexMap.{IndexMap}
+use Rattle.std.specs.declared.collections.VecDeque.{VecDeque}
+use Rattle.tw_rows.specs.declared.kind.Kind.{Kind}
+use Rattle.egress.specs.Kept.{since_at, since_in, OpensPass}
+use Rattle.egress.specs.Waiting.{Waiting, edges_if, edges_at, SameMoves, Swept, WaitingArePlaced}
 use Rattle.egress.specs.Saving.{starts_of, ends_of}
 
 -- an entry of a row with an end and a start
@@ -33,6 +36,10 @@ count_of cells edges = total (λ e. cond (same_cells e.cells cells) 1 0) edges
 -- the entries are of part 0 and end at the time
 abbrev pub EndAt : ℕ → SavedEntry → Type 0
 EndAt at e = (e.part ≡ 0) × (e.other ≡ at)
+
+-- the first open start of the row of these cells is gone
+abbrev pub HasDropped : {S H : Type 0} → List Datum → IndexMap (List Datum) (VecDeque ℕ S) H → IndexMap (List Datum) (VecDeque ℕ S) H → Type 0
+HasDropped cells old new = (c : List Datum) → since_at new c ≡ cond (same_cells cells c) (drop 1 (since_at old c)) (since_at old c)
 
 -- an entry was added for each of the edges of an instant, with the first open start of its row, as long as there is one
 pub record Taken (at : ℕ) (edges : List Edge) (old new : List SavedEntry) (since since2 : List Datum → List ℕ) : Type 0 where
@@ -67,3 +74,9 @@ pub record TakenEnds (events : List CellEvent) (closed : ℕ) (waiting : Waiting
   pub each : All (λ e. (e.part ≡ 0) × (closed ≤ e.other) × (e.other < inf)) added
   pub order : IsNonDecreasingBy (λ e. e.other) added
   pub cells : (p : List Datum → Bool) → ((t : ℕ) → failing (λ e. p e.cells) (edges_if (waiting t)) ≡ 0) → failing (λ e. p e.cells) added ≡ 0
+
+-- so it is where the edges wait that a sweep left
+abbrev pub TakesWaiting : {S H : Type 0} → IndexMap (List Datum) (VecDeque ℕ S) H → Waiting → List SavedEntry → List SavedEntry → (List Datum → List ℕ) → Type 0
+TakesWaiting starts waiting old new since2 = (texts : List (List ℕ)) (kinds : List Kind) (events : List CellEvent) (a c : ℕ) (text : List ℕ) →
+    IsSettled texts events c → c ≤ inf → Swept texts kinds events a c (since_in texts starts) waiting text → WaitingArePlaced texts waiting →
+    TakenEnds events c waiting old new (since_at starts) since2

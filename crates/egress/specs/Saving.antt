@@ -1,5 +1,5 @@
 -- What an output saves, as entries: one for each row that is alive just before a time, with its end where that is known.
-use Rattle.std.specs.Prelude.{◌≡◌, ℕ, suc, ◌<◌, ◌≤◌, nat_lt, Bool, false, cond, None, List, [], ◌∷◌, map, filter, flat_map, All}
+use Rattle.std.specs.Prelude.{◌≡◌, ℕ, suc, ◌<◌, ◌≤◌, nat_lt, Bool, false, cond, None, List, [], ◌∷◌, ◌++◌, length, map, filter, flat_map, All}
 use Rattle.std.specs.List.Sorted.{IsNonDecreasing}
 use Rattle.tw_rows.specs.Instant.{inf}
 use Rattle.tw_rows.specs.Event.{alive}
@@ -10,12 +10,17 @@ use Rattle.tw_rows.specs.declared.cells.Datum.{Datum}
 use Rattle.tw_rows.specs.declared.kind.Kind.{Kind}
 use Rattle.tw_rows.specs.declared.edge.Edge.{Edge}
 use Rattle.edge_stream.specs.declared.saved.SavedEntry.{SavedEntry}
-use Rattle.edge_history.specs.Order.{failing, IsHistory}
+use Rattle.edge_history.specs.Order.{failing, is_below, IsHistory}
 use Rattle.edge_history.specs.History.{of}
 use Rattle.edge_history.specs.Balance.{news}
-use Rattle.node_laws.specs.Places.{read_events}
+use Rattle.node_laws.specs.Places.{read_events, AreDistinct, EdgesArePlaced}
+use Rattle.plan_model.specs.Opens.{before}
 use Rattle.egress.specs.Instants.{AreOpen}
+use Rattle.indexmap.specs.IndexMap.{IndexMap}
+use Rattle.std.specs.declared.collections.VecDeque.{VecDeque}
 use Rattle.egress.specs.Kept.{cells_of, since_at}
+use Rattle.egress.specs.Output.{Holds}
+use Rattle.egress.specs.Showing.{AreNone}
 use Rattle.egress.specs.Waiting.{edges_at, waiting_in, SameMoves}
 use Rattle.egress.specs.declared.egress.Egress.{Egress}
 
@@ -46,6 +51,12 @@ pub record IsKept (kinds : List Kind) (closed : ℕ) (e : SavedEntry) : Type 0 w
   pub going : closed ≤ e.other
   pub bounded : e.other ≤ inf
 
+-- an output can have the entry after those of these starts and ends
+pub record MayFollow {S H : Type 0} (kinds : List Kind) (closed : ℕ) (starts ends : IndexMap (List Datum) (VecDeque ℕ S) H) (e : SavedEntry) : Type 0 where
+  pub kept : IsKept kinds closed e
+  pub starts_rise : IsNonDecreasing (since_at starts e.cells ++ e.sync ∷ [])
+  pub ends_rise : IsNonDecreasing (since_at ends e.cells ++ e.other ∷ [])
+
 -- entries that an output can have at a time: among equal rows neither the starts nor the ends fall from entry to entry.
 -- Of a row with the open starts 1 and 3 and a known end at 9: [1, 9), and then [3, inf)
 pub record IsSound (kinds : List Kind) (saved : List SavedEntry) (closed : ℕ) : Type 0 where
@@ -67,9 +78,29 @@ pub record Resumes (kinds : List Kind) (saved : List SavedEntry) (closed : ℕ) 
 abbrev pub EntriesArePlaced : List (List ℕ) → List SavedEntry → Type 0
 EntriesArePlaced texts saved = All (λ e. ArePlaced texts e.cells) saved
 
--- nothing is open, nothing waits, nothing is to be rendered, and memory was not wanting: as `new` makes it
+-- the edges h were taken up to c, and all of it is rendered
+pub record StandsAt (texts : List (List ℕ)) (h : List Edge) (c : ℕ) (o : Egress) : Type 0 where
+  pub distinct : AreDistinct texts
+  pub placed : EdgesArePlaced texts h
+  pub typed : All (λ e. map datum_kind e.cells ≡ map cell_kind_of o.rows.kinds.items) h
+  pub below : failing (is_below c) h ≡ 0
+  pub holds : Holds texts h c c o
+
+-- the entries resume it, whatever edges were taken
+abbrev pub SavesAs : Egress → List SavedEntry → Type 0
+SavesAs o saved = (texts : List (List ℕ)) (h : List Edge) (c : ℕ) → StandsAt texts h c o → Resumes o.rows.kinds.items saved c texts h
+
+-- there are as many entries as rows are alive just before the time up to which edges were taken
+abbrev pub AreOpenRows : Egress → List SavedEntry → Type 0
+AreOpenRows o saved = (texts : List (List ℕ)) (h : List Edge) (c : ℕ) → StandsAt texts h c o → length saved ≡ length (before (alive (read_events texts (of h))) c)
+
+-- it has taken the edges that the entries resume
+abbrev pub LoadsAs : Egress → List SavedEntry → ℕ → Egress → Type 0
+LoadsAs old saved closed new = (texts : List (List ℕ)) (h : List Edge) → Resumes old.rows.kinds.items saved closed texts h → Holds texts h closed closed new
+
+-- nothing is open, nothing waits, nothing is to be rendered, and it was not out of memory: as `new` makes it
 pub record IsOpening (o : Egress) : Type 0 where
-  pub closed : (cells : List Datum) → since_at o.opens cells ≡ []
+  pub closed : AreNone o.rows.starts
   pub none : (t : ℕ) → waiting_in o.waiting t ≡ None
-  pub empty : o.text.items ≡ []
+  pub empty : o.rows.lines.items ≡ []
   pub works : o.failed ≡ false

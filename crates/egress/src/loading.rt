@@ -1,14 +1,13 @@
 // Saved entries, taken up again.
-ghost use Rattle.std.specs.Prelude.{◌≡◌, ◌↔◌, ℕ, List, [], ◌∷◌, ◌++◌, None, cond, nat_lt, replicate, IsTrue, IfOk, IfErr, OnOk};
+ghost use Rattle.std.specs.Prelude.{◌≡◌, ◌↔◌, ℕ, List, [], ◌∷◌, ◌++◌, None, nat_lt, IsTrue, IfOk, IfErr, OnOk};
 ghost use Rattle.std.specs.List.Sorted.{IsNonDecreasing};
 ghost use Rattle.tw_rows.specs.Instant.{inf};
-ghost use Rattle.tw_rows.specs.SameCells.{same_cells as same};
 ghost use Rattle.tw_rows.specs.declared.cells.Datum.{Datum as DatumOf};
-ghost use Rattle.egress.specs.Kept.{since_at};
+ghost use Rattle.egress.specs.Kept.{since_at, HasAdded, EachIsOpen};
 ghost use Rattle.egress.specs.Waiting.{waiting_in, ArePut};
-ghost use Rattle.egress.specs.Saving.{starts_of, end_of, ends_of, IsKept, IsSound};
+ghost use Rattle.egress.specs.Saving.{starts_of, end_of, ends_of, IsKept, IsSound, MayFollow};
 
-use crate::opens::open_row;
+use crate::open_rows::open_row;
 use crate::waiting::put;
 use carried_edges::is_stored_as;
 use edge_stream::{LoadFault, SavedEntry};
@@ -17,10 +16,10 @@ use std::alloc::Global;
 use std::collections::{BTreeMap, VecDeque};
 use tw_rows::{Cells, Edge, Kind, Memory, Time};
 
-/// What is kept of entries: the open starts of each row, its ends, and the edges of those that are known.
+// What is kept of entries: the open starts of each row, its ends, and the edges of those that are known.
 #[derive(Drop)]
 pub(crate) struct Loaded {
-    pub(crate) opens: IndexMap<Cells, VecDeque<Time>>,
+    pub(crate) starts: IndexMap<Cells, VecDeque<Time>>,
     pub(crate) ends: IndexMap<Cells, VecDeque<Time>>,
     pub(crate) waiting: BTreeMap<u64, Vec<Edge>>,
 }
@@ -72,11 +71,12 @@ fn comes_after(times: &IndexMap<Cells, VecDeque<Time>>, cells: &Cells, time: Tim
     is_last(since, time)
 }
 
+#[tactic(auto, unfolding(tw_rows::specs::Instant::inf))]
 // Whether the time is no infinity.
 fn is_instant(time: Time) -> bool
     ensures { result ≡ nat_lt time inf }
 {
-    time < Time::bounds().1
+    time < Time::INF
 }
 
 // Puts the end of the entry, if it is known.
@@ -103,11 +103,12 @@ fn put_end(
 
 // Keeps what one more entry tells.
 fn keep_entry(loaded: &mut Loaded, alloc: Global, entry: &SavedEntry) -> Result<(), Memory>
-    ensures opens { OnOk result ((c : List DatumOf) → since_at loaded.new.opens c ≡ cond (same entry.now.cells c) (since_at loaded.old.opens c ++ replicate 1 entry.now.sync) (since_at loaded.old.opens c)) }
-    ensures ends { OnOk result ((c : List DatumOf) → since_at loaded.new.ends c ≡ cond (same entry.now.cells c) (since_at loaded.old.ends c ++ replicate 1 entry.now.other) (since_at loaded.old.ends c)) }
+    ensures starts { OnOk result (HasAdded entry.now.cells entry.now.sync 1 loaded.old.starts loaded.new.starts) }
+    ensures ends { OnOk result (HasAdded entry.now.cells entry.now.other 1 loaded.old.ends loaded.new.ends) }
+    ensures open { OnOk result (EachIsOpen loaded.old.starts → EachIsOpen loaded.new.starts) }
     ensures waiting { OnOk result (ArePut (waiting_in loaded.old.waiting) (waiting_in loaded.new.waiting) (end_of entry.now)) }
 {
-    open_row(&mut loaded.opens, alloc, &entry.cells, entry.sync, 1)?;
+    open_row(&mut loaded.starts, alloc, &entry.cells, entry.sync, 1)?;
     open_row(&mut loaded.ends, alloc, &entry.cells, entry.other, 1)?;
     put_end(&mut loaded.waiting, alloc, entry)?;
     Ok(())
@@ -121,20 +122,19 @@ fn load_entry(
     closed: Time,
     entry: &SavedEntry,
 ) -> Result<(), LoadFault>
-    requires starts { (c : List DatumOf) → IsNonDecreasing (since_at loaded.old.opens c) }
-    requires others { (c : List DatumOf) → IsNonDecreasing (since_at loaded.old.ends c) }
-    ensures opens { OnOk result ((c : List DatumOf) → since_at loaded.new.opens c ≡ cond (same entry.now.cells c) (since_at loaded.old.opens c ++ replicate 1 entry.now.sync) (since_at loaded.old.opens c)) }
-    ensures ends { OnOk result ((c : List DatumOf) → since_at loaded.new.ends c ≡ cond (same entry.now.cells c) (since_at loaded.old.ends c ++ replicate 1 entry.now.other) (since_at loaded.old.ends c)) }
+    requires starts_rise { (c : List DatumOf) → IsNonDecreasing (since_at loaded.old.starts c) }
+    requires ends_rise { (c : List DatumOf) → IsNonDecreasing (since_at loaded.old.ends c) }
+    ensures starts { OnOk result (HasAdded entry.now.cells entry.now.sync 1 loaded.old.starts loaded.new.starts) }
+    ensures ends { OnOk result (HasAdded entry.now.cells entry.now.other 1 loaded.old.ends loaded.new.ends) }
+    ensures open { OnOk result (EachIsOpen loaded.old.starts → EachIsOpen loaded.new.starts) }
     ensures waiting { OnOk result (ArePut (waiting_in loaded.old.waiting) (waiting_in loaded.new.waiting) (end_of entry.now)) }
-    ensures kept { OnOk result (IsKept kinds.now closed entry.now) }
-    ensures starts { OnOk result (IsNonDecreasing (since_at loaded.old.opens entry.now.cells ++ entry.now.sync ∷ [])) }
-    ensures others { OnOk result (IsNonDecreasing (since_at loaded.old.ends entry.now.cells ++ entry.now.other ∷ [])) }
-    ensures refused { IfErr result (λ fault. fault ≡ LoadFault.NotState → IsKept kinds.now closed entry.now → IsNonDecreasing (since_at loaded.old.opens entry.now.cells ++ entry.now.sync ∷ []) → IsNonDecreasing (since_at loaded.old.ends entry.now.cells ++ entry.now.other ∷ []) → ⊥) }
+    ensures follows { OnOk result (MayFollow kinds.now closed loaded.old.starts loaded.old.ends entry.now) }
+    ensures refused { IfErr result (λ fault. fault ≡ LoadFault.NotState → MayFollow kinds.now closed loaded.old.starts loaded.old.ends entry.now → ⊥) }
 {
     if !is_kept(entry, kinds, closed) {
         return Err(LoadFault::NotState);
     }
-    if !comes_after(&loaded.opens, &entry.cells, entry.sync) {
+    if !comes_after(&loaded.starts, &entry.cells, entry.sync) {
         return Err(LoadFault::NotState);
     }
     if !comes_after(&loaded.ends, &entry.cells, entry.other) {
@@ -144,25 +144,26 @@ fn load_entry(
     Ok(())
 }
 
-/// Takes up the entries, if an output of these kinds can have them at the time.
+// Takes up the entries, if an output of these kinds can have them at the time.
 pub(crate) fn load_entries(
     alloc: Global,
     entries: &[SavedEntry],
     kinds: &[Kind],
     closed: Time,
 ) -> Result<Loaded, LoadFault>
-    ensures opens { IfOk result (λ loaded. (c : List DatumOf) → since_at loaded.opens c ≡ starts_of entries.now c) }
+    ensures starts { IfOk result (λ loaded. (c : List DatumOf) → since_at loaded.starts c ≡ starts_of entries.now c) }
+    ensures open { IfOk result (λ loaded. EachIsOpen loaded.starts) }
     ensures waiting { IfOk result (λ loaded. ArePut (λ t. None) (waiting_in loaded.waiting) (ends_of entries.now)) }
     ensures sound { OnOk result (IsSound kinds.now entries.now closed) }
     ensures refused { IfErr result (λ fault. fault ≡ LoadFault.NotState → IsSound kinds.now entries.now closed → ⊥) }
 {
     // Its call tells the proof that it is a time.
     let _ = closed.word();
-    let opens = IndexMap::new(alloc);
+    let starts = IndexMap::new(alloc);
     let ends = IndexMap::new(alloc);
     let waiting = BTreeMap::new(alloc);
     let mut loaded = Loaded {
-        opens,
+        starts,
         ends,
         waiting,
     };

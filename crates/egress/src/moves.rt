@@ -1,20 +1,16 @@
 // The rows that an instant touches, with how often each ends and starts there.
-ghost use Rattle.std.specs.Prelude.{◌≡◌, ◌↔◌, ℕ, ◌+◌, Bool, true, List, [], ◌∷◌, ◌++◌, map, length, All, IsTrue, IfOk, OnOk};
-ghost use Rattle.std.specs.List.{dedup};
-ghost use Rattle.std.specs.Ordering.{eq_by_cmp};
-ghost use Rattle.tw_rows.specs.Cells.{ArePlaced, read_cells};
-ghost use Rattle.tw_rows.specs.Rows.{Row, row_cmp};
+ghost use Rattle.std.specs.Prelude.{◌≡◌, ◌↔◌, ℕ, ◌+◌, Bool, List, [], ◌∷◌, ◌++◌, length, IsTrue, IfOk, OnOk};
 ghost use Rattle.tw_rows.specs.declared.cells.Datum.{Datum};
-ghost use Rattle.edge_history.specs.Opens.{bare, ended_of, started_of, ended_rows, started_rows};
+ghost use Rattle.edge_history.specs.Opens.{ended_of, started_of};
 ghost use Rattle.edge_history.specs.Order.{failing};
-ghost use Rattle.node_laws.specs.Places.{AreDistinct, EdgesArePlaced};
-ghost use Rattle.plan_model.specs.Opens.{how_often};
-ghost use Rattle.egress.specs.Kept.{ends_in, starts_in, rows_of, KeepCells};
+ghost use Rattle.node_laws.specs.Places.{AreDistinct};
+ghost use Rattle.egress.specs.Kept.{KeepCells};
+ghost use Rattle.egress.specs.Gathering.{with_counts, CountsEnds, CountsStarts, TouchesRow, AddsCells, AreEndsOf, AreStartsOf, AreRowsOf};
 
 use std::alloc::Global;
 use tw_rows::{Cells, Edge, Memory, same_cells};
 
-/// How often a row ends and starts at one instant, and its cells.
+// How often a row ends and starts at one instant, and its cells.
 #[derive(Drop)]
 pub struct Moves {
     pub cells: Cells,
@@ -22,7 +18,7 @@ pub struct Moves {
     pub starts: usize,
 }
 
-/// The counts alone.
+// The counts alone.
 #[derive(Clone, Copy, Debug, PartialEq, Eq)]
 pub(crate) struct Counts {
     pub(crate) ends: usize,
@@ -40,7 +36,7 @@ pub(crate) fn counts_of(edge: &Edge) -> Counts
     }
 }
 
-/// The moves, and so many more of the same row. A count that has no room is want of memory.
+// The moves, and so many more of the same row. A count that has no room is out of memory.
 fn more_moves(moves: Moves, counts: Counts) -> Result<Moves, Memory>
     ensures cells { IfOk result (λ m. m.cells ≡ moves.cells) }
     ensures ends { IfOk result (λ m. m.ends ≡ moves.ends + counts.ends) }
@@ -55,9 +51,9 @@ fn more_moves(moves: Moves, counts: Counts) -> Result<Moves, Memory>
     })
 }
 
-/// Adds the moves of a row.
+// Adds the moves of a row.
 fn push_moves(touched: &mut Vec<Moves>, edge: &Edge, counts: Counts) -> Result<(), Memory>
-    ensures { OnOk result (touched.new.items ≡ touched.old.items ++ record { cells = edge.now.cells; ends = counts.ends; starts = counts.starts } ∷ []) }
+    ensures { OnOk result (touched.new.items ≡ touched.old.items ++ with_counts edge.now counts.ends counts.starts ∷ []) }
 {
     let cells = edge.cells.clone()?;
     touched.push(Moves {
@@ -79,12 +75,12 @@ fn is_last(touched: &[Moves], cells: &Cells) -> bool
     same_cells(&last.cells, cells)
 }
 
-/// Counts an end of the row of an end edge, and a start of that of any other, with the last row where it is the same.
+// Counts an end of the row of an end edge, and a start of that of any other, with the last row where it is the same.
 fn count_edge(touched: &mut Vec<Moves>, edge: &Edge) -> Result<(), Memory>
-    ensures ends { OnOk result ((texts : List (List ℕ)) (r : Row) → ends_in texts touched.new.items r ≡ ends_in texts touched.old.items r + how_often r (map (read_cells texts) (bare (ended_of edge.now)))) }
-    ensures starts { OnOk result ((texts : List (List ℕ)) (r : Row) → starts_in texts touched.new.items r ≡ starts_in texts touched.old.items r + how_often r (map (read_cells texts) (bare (started_of edge.now)))) }
-    ensures rows { OnOk result ((texts : List (List ℕ)) (before : List Row) → AreDistinct texts → All (λ m. ArePlaced texts m.cells) touched.old.items → ArePlaced texts edge.now.cells → rows_of texts touched.old.items ≡ dedup (eq_by_cmp row_cmp) before → rows_of texts touched.new.items ≡ dedup (eq_by_cmp row_cmp) (before ++ read_cells texts edge.now.cells ∷ [])) }
-    ensures cells { OnOk result ((p : List Datum → Bool) → p edge.now.cells ≡ true → KeepCells p touched.old.items → KeepCells p touched.new.items) }
+    ensures ends { OnOk result ((texts : List (List ℕ)) → CountsEnds texts edge.now touched.old.items touched.new.items) }
+    ensures starts { OnOk result ((texts : List (List ℕ)) → CountsStarts texts edge.now touched.old.items touched.new.items) }
+    ensures rows { OnOk result ((texts : List (List ℕ)) → AreDistinct texts → TouchesRow texts edge.now touched.old.items touched.new.items) }
+    ensures cells { OnOk result (AddsCells edge.now touched.old.items touched.new.items) }
 {
     let counts = counts_of(edge);
     if !is_last(touched, &edge.cells) {
@@ -99,11 +95,11 @@ fn count_edge(touched: &mut Vec<Moves>, edge: &Edge) -> Result<(), Memory>
     Ok(())
 }
 
-/// What edges of one instant end and start, row by row. Edges of one row stand beside each other.
+// What edges of one instant end and start, row by row. Edges of one row stand beside each other.
 pub(crate) fn gather(alloc: Global, edges: &[Edge]) -> Result<Vec<Moves>, Memory>
-    ensures ends { IfOk result (λ touched. (texts : List (List ℕ)) (r : Row) → ends_in texts touched.items r ≡ how_often r (map (read_cells texts) (bare (ended_rows edges.now)))) }
-    ensures starts { IfOk result (λ touched. (texts : List (List ℕ)) (r : Row) → starts_in texts touched.items r ≡ how_often r (map (read_cells texts) (bare (started_rows edges.now)))) }
-    ensures rows { IfOk result (λ touched. (texts : List (List ℕ)) → AreDistinct texts → EdgesArePlaced texts edges.now → rows_of texts touched.items ≡ dedup (eq_by_cmp row_cmp) (map (λ e. read_cells texts e.cells) edges.now)) }
+    ensures ends { IfOk result (λ touched. (texts : List (List ℕ)) → AreEndsOf texts edges.now touched.items) }
+    ensures starts { IfOk result (λ touched. (texts : List (List ℕ)) → AreStartsOf texts edges.now touched.items) }
+    ensures rows { IfOk result (λ touched. (texts : List (List ℕ)) → AreDistinct texts → AreRowsOf texts edges.now touched.items) }
     ensures cells { IfOk result (λ touched. (p : List Datum → Bool) → failing (λ e. p e.cells) edges.now ≡ 0 → KeepCells p touched.items) }
 {
     let mut touched = Vec::with_capacity(alloc, edges.len())?;

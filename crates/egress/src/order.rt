@@ -7,7 +7,7 @@ ghost use Rattle.tw_rows.specs.Rows.{value_cmp, row_cmp};
 use std::cmp::Ordering;
 use tw_rows::{Datum, Edge, TextTable};
 
-/// The text at the place, and no text where the table does not have it.
+// The text at the place, and no text where the table does not have it.
 fn text_at(texts: &TextTable, place: u64) -> &str
     ensures { result.now ≡ slice_index_or texts.now place [] }
 {
@@ -32,7 +32,7 @@ fn cmp_data(a: Datum, b: Datum, texts: &TextTable) -> Ordering
     }
 }
 
-/// How the rows compare for which the cells stand. No row is made.
+// How the rows compare for which the cells stand. No row is made.
 fn cmp_cells(a: &[Datum], b: &[Datum], texts: &TextTable) -> Ordering
     ensures { result ≡ row_cmp (read_cells texts.now a.now) (read_cells texts.now b.now) }
 {
@@ -46,7 +46,7 @@ fn cmp_cells(a: &[Datum], b: &[Datum], texts: &TextTable) -> Ordering
     a.len().cmp(&b.len())
 }
 
-/// Puts the edges in the order of their rows, in place.
+// Puts the edges in the order of their rows, in place.
 pub(crate) fn sort_by_row(edges: &mut Vec<Edge>, texts: &TextTable)
     ensures same { IsPermutation edges.old.items edges.new.items }
     ensures sorted { IsSorted row_cmp (map (λ e. read_cells texts.now e.cells) edges.new.items) }

@@ -10,17 +10,17 @@ use std::alloc::Global;
 use std::collections::BTreeMap;
 use tw_rows::{Edge, Memory, Time};
 
-/// The edges of an instant.
+// The edges of an instant.
 #[derive(Drop)]
 pub(crate) struct Due {
     pub(crate) at: Time,
     pub(crate) edges: Vec<Edge>,
 }
 
-/// The most edges for which room is made before they come.
+// The most edges for which room is made before they come.
 const MOST: usize = 16;
 
-/// For how many edges of an instant room is made when the first comes: as many as came for the instant before.
+// For how many edges of an instant room is made when the first comes: as many as came for the instant before.
 #[derive(Clone, Copy)]
 pub(crate) struct Expected {
     last: Time,
@@ -29,7 +29,7 @@ pub(crate) struct Expected {
 }
 
 impl Expected {
-    /// Before the first of so many edges: they may all come for one instant.
+    // Before the first of so many edges: they may all come for one instant.
     pub(crate) fn new(edges: u64) -> Expected {
         let (_, last) = Time::bounds();
         Expected {
@@ -39,7 +39,7 @@ impl Expected {
         }
     }
 
-    /// The room for the instant of the next edge.
+    // The room for the instant of the next edge.
     pub(crate) fn room(&mut self, at: Time) -> usize {
         if at == self.last {
             self.count = self.count.saturating_add(1);
@@ -52,7 +52,7 @@ impl Expected {
     }
 }
 
-/// Adds an edge. The first makes room for as many as are expected.
+// Adds an edge. The first makes room for as many as are expected.
 fn push_edge(edges: &mut Vec<Edge>, edge: Edge, room: usize) -> Result<(), Memory>
     ensures { OnOk result (edges.new.items ≡ edges.old.items ++ edge ∷ []) }
 {
@@ -65,7 +65,7 @@ fn push_edge(edges: &mut Vec<Edge>, edge: Edge, room: usize) -> Result<(), Memor
     Ok(())
 }
 
-/// Puts an edge to those that wait for its instant, of which so many are expected.
+// Puts an edge to those that wait for its instant, of which so many are expected.
 pub(crate) fn put(
     waiting: &mut BTreeMap<u64, Vec<Edge>>,
     alloc: Global,
@@ -80,7 +80,7 @@ pub(crate) fn put(
     Ok(())
 }
 
-/// Puts an edge, for whose instant so many are expected: of an interval its start and its end.
+// Puts an edge, for whose instant so many are expected: of an interval its start and its end.
 #[tactic(auto, unfolding(tw_rows::specs::Instant::inf))]
 pub(crate) fn put_singles(
     waiting: &mut BTreeMap<u64, Vec<Edge>>,
@@ -118,7 +118,7 @@ fn first_instant(waiting: &BTreeMap<u64, Vec<Edge>>) -> Option<u64>
     }
 }
 
-/// Takes out the edges of the first instant for which some wait, if it is below `to`.
+// Takes out the edges of the first instant for which some wait, if it is below `to`.
 pub(crate) fn pop_due(waiting: &mut BTreeMap<u64, Vec<Edge>>, to: Time) -> Option<Due>
     ensures within { to ≤ inf }
     ensures some { IfSome result (λ due. ArePopped (waiting_in waiting.old) (waiting_in waiting.new) due.at due.edges.items) }

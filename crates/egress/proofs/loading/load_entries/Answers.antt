@@ -13,16 +13,17 @@ use Rattle.egress.proofs.loading.load_entries.Goals as goal
 pub loop-entry-init : goal.loop-entry-init
 loop-entry-init c =
     loads_first c.args.kinds.now c.args.closed _
-    (λ q. ap (λ es. times_if (lookup (same_cells q) es)) c.new-opens.ensures.empty)
+    (λ q. ap (λ es. times_if (lookup (same_cells q) es)) c.new-starts.ensures.empty)
     (λ q. ap (λ es. times_if (lookup (same_cells q) es)) c.new-ends.ensures.empty)
     (λ t. ap (λ es. items_if (lookup (eq_by_cmp nat_cmp t) es)) c.new-waiting.ensures.empty)
+    (λ q closed. ap (lookup (same_cells q)) c.new-starts.ensures.empty)
 
-pub load_entry-requires-clause-starts : goal.load_entry-requires-clause-starts
-load_entry-requires-clause-starts c =
+pub load_entry-requires-clause-starts_rise : goal.load_entry-requires-clause-starts_rise
+load_entry-requires-clause-starts_rise c =
     starts_rise c.args.kinds.now c.args.closed (take c.loop-entry.entry-index c.args.entries.now) c.loop-entry.loaded c.loop-entry.loaded c.entry-item.result c.loop-entry.invariant
 
-pub load_entry-requires-clause-others : goal.load_entry-requires-clause-others
-load_entry-requires-clause-others c =
+pub load_entry-requires-clause-ends_rise : goal.load_entry-requires-clause-ends_rise
+load_entry-requires-clause-ends_rise c =
     ends_rise c.args.kinds.now c.args.closed (take c.loop-entry.entry-index c.args.entries.now) c.loop-entry.loaded c.loop-entry.loaded c.entry-item.result c.loop-entry.invariant
 
 pub loop-entry-preserved : goal.loop-entry-preserved
@@ -31,7 +32,7 @@ loop-entry-preserved c =
     subst (λ xs. Loads c.args.kinds.now c.args.closed xs c.load_entry.new.loaded)
     (front_is c.args.entries.now c.loop-entry.entry-index c.entry-item.result c.loop-entry-test.true c.entry-item.is)
     (loads_next c.args.kinds.now c.args.closed (take c.loop-entry.entry-index c.args.entries.now) c.loop-entry.loaded c.load_entry.new.loaded c.entry-item.result c.loop-entry.invariant
-    c.in_ok-load_entry.ensures.opens c.in_ok-load_entry.ensures.ends c.in_ok-load_entry.ensures.waiting c.in_ok-load_entry.ensures.kept c.in_ok-load_entry.ensures.starts c.in_ok-load_entry.ensures.others)
+    is.starts is.ends is.waiting is.follows is.open)
 
 pub returns-in_err-load_entry-clause-refused : goal.returns-in_err-load_entry-clause-refused
 returns-in_err-load_entry-clause-refused c = let p = err_from_is_err_and c.from_residual.result c.from_residual.ensures.1 in rw (p.1, p.2) (λ is sound.
@@ -39,14 +40,19 @@ returns-in_err-load_entry-clause-refused c = let p = err_from_is_err_and c.from_
     let i = c.loop-entry.entry-index in
     let e = c.entry-item.result in
     let whole = subst (λ l. IsSound c.args.kinds.now l c.args.closed) (parted es i e c.loop-entry-test.true c.entry-item.is) sound in
-    c.in_err-load_entry.ensures.refused is
-    (all_there c.args.kinds.now c.args.closed es i e c.loop-entry-test.true c.entry-item.is sound.each)
-    (sound_start c.args.kinds.now c.args.closed (take i es) c.loop-entry.loaded c.loop-entry.loaded e c.loop-entry.invariant (drop (i + 1) es) whole)
-    (sound_other c.args.kinds.now c.args.closed (take i es) c.loop-entry.loaded c.loop-entry.loaded e c.loop-entry.invariant (drop (i + 1) es) whole))
+    c.in_err-load_entry.ensures.refused is (record {
+      kept = all_there c.args.kinds.now c.args.closed es i e c.loop-entry-test.true c.entry-item.is sound.each;
+      starts_rise = sound_start c.args.kinds.now c.args.closed (take i es) c.loop-entry.loaded c.loop-entry.loaded e c.loop-entry.invariant (drop (i + 1) es) whole;
+      ends_rise = sound_other c.args.kinds.now c.args.closed (take i es) c.loop-entry.loaded c.loop-entry.loaded e c.loop-entry.invariant (drop (i + 1) es) whole;
+    }))
 
-pub returns-clause-opens : goal.returns-clause-opens
-returns-clause-opens c =
+pub returns-clause-starts : goal.returns-clause-starts
+returns-clause-starts c =
     let l = loads_all c.args.kinds.now c.args.closed c.args.entries.now c.loop-entry.entry-index c.loop-entry.loaded (omega arith) c.loop-entry.invariant in l.opens
+
+pub returns-clause-open : goal.returns-clause-open
+returns-clause-open c =
+    let l = loads_all c.args.kinds.now c.args.closed c.args.entries.now c.loop-entry.entry-index c.loop-entry.loaded (omega arith) c.loop-entry.invariant in l.kept
 
 pub returns-clause-waiting : goal.returns-clause-waiting
 returns-clause-waiting c =

@@ -21,7 +21,7 @@ returns-then-not-is_last-clause-starts c = λ texts r.
     refl c.in_ok-push_moves.ensures refl c.counts_of-counts.ensures.starts r _ (started_by texts r c.args.edge.now)
 
 pub returns-then-not-is_last-clause-rows : goal.returns-then-not-is_last-clause-rows
-returns-then-not-is_last-clause-rows c = λ texts before distinct placed own is.
+returns-then-not-is_last-clause-rows c = λ texts distinct before placed own is.
     let made : Moves = record { cells = c.args.edge.now.cells; ends = c.counts_of-counts.result.ends; starts = c.counts_of-counts.result.starts } in
     ap (rows_of texts) c.in_ok-push_moves.ensures
     ∙ rows_more texts distinct before c.args.touched.now.items made placed own is
@@ -59,7 +59,7 @@ returns-clause-starts c = λ texts r.
     (c.in_ok-more.ensures.starts ∙ ap (λ n. c.in-Some.last.starts + n) c.counts_of-counts.ensures.starts) r _ (started_by texts r c.args.edge.now)
 
 pub returns-clause-rows : goal.returns-clause-rows
-returns-clause-rows c = λ texts before distinct placed own is.
+returns-clause-rows c = λ texts distinct before placed own is.
     let mid = c.pop.new.self.items in
     let last : Moves = c.in-Some.last in
     let same = (c.if-not-is_last.ensures.same mid last (c.deref.ensures.value ∙ c.in-Some.ensures.items)).0 refl in

@@ -21,7 +21,7 @@ loop-edge-preserved c = record {
       ∙ sym (started_more texts r c.args.edges.now c.loop-edge.edge-index c.edge-item.result c.loop-edge-test.true);
   rows = λ texts distinct placed.
       let own = subst (λ (e : Edge). ArePlaced texts e.cells) (sym c.edge-item.is) (All-get_or (λ (e : Edge). ArePlaced texts e.cells) c.args.edges.now c.loop-edge.edge-index c.edge-item.result c.loop-edge-test.true placed) in
-      c.in_ok-count_edge.ensures.rows texts (map (λ (e : Edge). read_cells texts e.cells) (take c.loop-edge.edge-index c.args.edges.now)) distinct (keeps_placed texts c.loop-edge.touched.items (c.loop-edge.invariant.cells (are_placed texts) (placed_all texts c.args.edges.now placed))) own (c.loop-edge.invariant.rows texts distinct placed)
+      c.in_ok-count_edge.ensures.rows texts distinct (map (λ (e : Edge). read_cells texts e.cells) (take c.loop-edge.edge-index c.args.edges.now)) (keeps_placed texts c.loop-edge.touched.items (c.loop-edge.invariant.cells (are_placed texts) (placed_all texts c.args.edges.now placed))) own (c.loop-edge.invariant.rows texts distinct placed)
       ∙ ap (λ l. dedup same l) (
       (λ i. map (λ (e : Edge). read_cells texts e.cells) (take c.loop-edge.edge-index c.args.edges.now) ++ read_cells texts (c.edge-item.is i).cells ∷ [])
       ∙ sym (map_more (λ (e : Edge). read_cells texts e.cells) c.args.edges.now c.loop-edge.edge-index c.edge-item.result c.loop-edge-test.true));

@@ -5,4 +5,4 @@ use Rattle.egress.specs.Saved.{Taken}
 use Rattle.egress.proofs.saving.save_ends.Given as goal
 
 abbrev pub invariant-loop-edge : goal.invariant-loop-edge
-invariant-loop-edge l = Taken l.at (take l.edge-index l.edges) l.fn.saved l.saved (since_at l.fn.opens) (since_at l.opens)
+invariant-loop-edge l = Taken l.at (take l.edge-index l.edges) l.fn.saved l.saved (since_at l.fn.starts) (since_at l.starts)

@@ -12,8 +12,8 @@ use Rattle.egress.proofs.saving.save_waiting.Given as goal
 
 abbrev pub invariant-instants : goal.invariant-instants
 invariant-instants l = (texts : List (List ℕ)) (kinds : List Kind) (events : List CellEvent) (a c : ℕ) (text : List ℕ) → IsSettled texts events c → c ≤ inf →
-    Swept texts kinds events a c (since_in texts l.fn.opens) (waiting_in l.fn.waiting) text → WaitingArePlaced texts (waiting_in l.fn.waiting) →
-    EndsSo texts kinds events a c (waiting_in l.fn.waiting) l.fn.saved l.saved (since_at l.fn.opens) (since_at l.opens) (waiting_in l.waiting)
+    Swept texts kinds events a c (since_in texts l.fn.starts) (waiting_in l.fn.waiting) text → WaitingArePlaced texts (waiting_in l.fn.waiting) →
+    EndsSo texts kinds events a c (waiting_in l.fn.waiting) l.fn.saved l.saved (since_at l.fn.starts) (since_at l.starts) (waiting_in l.waiting)
 
 abbrev pub decreases-instants : goal.decreases-instants
 decreases-instants l = btree_map_len l.waiting

@@ -1,31 +1,34 @@
 use Rattle.std.proofs.Common.{refl, sym, ◌∙◌, ap, arith}
-use Rattle.edge_history.specs.Order.{failing}
-use Rattle.tw_rows.specs.SameCells.{same_cells}
 use Rattle.std.specs.Map.{lookup}
 use Rattle.std.specs.Ordering.{eq_by_cmp, nat_cmp}
+use Rattle.edge_history.specs.Order.{failing}
 use Rattle.egress.specs.Kept.{times_if, cells_of, since_in}
 use Rattle.egress.specs.Waiting.{edges_if, items_if, waiting_in}
 use Rattle.egress.proofs.Taking.{swept_none, no_history}
 use Rattle.egress.proofs.egress.Egress.new.Goals as goal
 
 pub returns-clause-holds : goal.returns-clause-holds
-returns-clause-holds c = λ texts. record {
-  high = omega arith;
-  history = no_history;
-  swept = swept_none texts c.in_ok-from_slice.field-0.items (since_in texts c.new.result) (waiting_in c.new-2.result) c.new-3.result.items
-      (λ r. ap (λ es. times_if (lookup (same_cells (cells_of texts r)) es)) c.new.ensures.empty)
-      (λ t. ap (λ es. items_if (lookup (eq_by_cmp nat_cmp t) es)) c.new-2.ensures.empty)
-      c.new-3.ensures.items;
-  cells = λ p none. record {
-    opens = λ cells t rest is. absurd (let z = sym (ap (λ es. times_if (lookup (same_cells cells) es)) c.new.ensures.empty) ∙ is in cc);
-    waits = λ t. ap (λ es. failing (λ e. p e.cells) (edges_if (items_if (lookup (eq_by_cmp nat_cmp t) es)))) c.new-2.ensures.empty;
-  };
-}
+returns-clause-holds c = λ texts.
+    let rows = c.in_ok-new.field-0 in
+    let is = c.in_ok-new.ensures in
+    record {
+      high = omega arith;
+      history = no_history;
+      swept = swept_none texts rows.kinds.items (since_in texts rows.starts) (waiting_in c.new-2.result) rows.lines.items
+          (λ r. ap times_if (is.none (cells_of texts r)))
+          (λ t. ap (λ es. items_if (lookup (eq_by_cmp nat_cmp t) es)) c.new-2.ensures.empty)
+          is.lines;
+      cells = λ p none. record {
+        opens = λ cells t rest some. absurd (let z = sym (ap times_if (is.none cells)) ∙ some in cc);
+        waits = λ t. ap (λ es. failing (λ e. p e.cells) (edges_if (items_if (lookup (eq_by_cmp nat_cmp t) es)))) c.new-2.ensures.empty;
+      };
+      kept = λ cells closed. is.none cells;
+    }
 
 pub returns-clause-opening : goal.returns-clause-opening
 returns-clause-opening c = record {
-  closed = λ cells. ap (λ es. times_if (lookup (same_cells cells) es)) c.new.ensures.empty;
+  closed = c.in_ok-new.ensures.none;
   none = λ t. ap (λ es. items_if (lookup (eq_by_cmp nat_cmp t) es)) c.new-2.ensures.empty;
-  empty = c.new-3.ensures.items;
+  empty = c.in_ok-new.ensures.lines;
   works = refl;
 }

@@ -8,7 +8,7 @@ use Rattle.egress.proofs.egress.Egress.take_edges.Given as goal
 
 abbrev pub invariant-loop-edge : goal.invariant-loop-edge
 invariant-loop-edge l = record {
-  kinds : l.self.kinds.items ≡ l.fn.self.kinds.items;
+  kinds : l.self.rows.kinds ≡ l.fn.self.rows.kinds;
   failed : l.self.failed ≡ l.fn.self.failed;
   placed : IsPlacedIn l.texts l.self;
   edges : EdgesArePlaced l.texts l.cursor.edges;

@@ -1,5 +1,4 @@
 use Rattle.std.specs.Prelude.{[], ◌∷◌}
-use Rattle.std.proofs.Common.{sym, subst}
 use Rattle.std.proofs.lemmas.List.Elements.{All-nil, All-cons}
 use Rattle.tw_rows.specs.Cells.{ArePlaced}
 use Rattle.tw_rows.specs.declared.edge.Edge.{Edge}
@@ -7,7 +6,7 @@ use Rattle.edge_history.specs.History.{of}
 use Rattle.edge_history.proofs.Sums.{failing-parts}
 use Rattle.node_laws.proofs.Standing.{of_valid}
 use Rattle.egress.specs.Kept.{since_in}
-use Rattle.egress.specs.Waiting.{waiting_in, Swept}
+use Rattle.egress.specs.Waiting.{waiting_in}
 use Rattle.egress.proofs.Placing.{put_placed}
 use Rattle.egress.proofs.Putting.{single_put}
 use Rattle.egress.proofs.Taking.{swept_more, put_passes, one_from}
@@ -17,26 +16,27 @@ pub returns-clause-holds : goal.returns-clause-holds
 returns-clause-holds c = λ h a start holds whole low below.
     let texts = c.args.texts.now in
     let new = c.args.edge ∷ [] in
-    let put = single_put (waiting_in c.show_due.new.waiting) (waiting_in c.put_singles.new.waiting) c.args.edge c.in_ok-put_singles.ensures in
+    let due = c.show_due.new.self in
+    let is = c.in_ok-show_due.ensures.shown in
+    let put = single_put (waiting_in due.waiting) (waiting_in c.put_singles.new.waiting) c.args.edge c.in_ok-put_singles.ensures in
     record {
-      high = c.in_ok-show_due.ensures.within;
+      high = is.within;
       history = whole;
-      swept = swept_more texts c.args.self.now.kinds.items h new a c.args.due c.in_ok-show_due.ensures.within holds.history whole (one_from c.args.due c.args.edge below)
-          (since_in texts c.show_due.new.opens) (waiting_in c.show_due.new.waiting) (waiting_in c.put_singles.new.waiting) c.show_due.new.out.items put
-          (subst (λ ks. Swept texts ks (of h) a c.args.due (since_in texts c.show_due.new.opens) (waiting_in c.show_due.new.waiting) c.show_due.new.out.items) c.deref.ensures.value
-          (c.in_ok-show_due.ensures.swept (of h) a start (of_valid h holds.history) low
-          (subst (λ ks. Swept texts ks (of h) a start (since_in texts c.args.self.now.opens) (waiting_in c.args.self.now.waiting) c.args.self.now.text.items) (sym c.deref.ensures.value) holds.swept)));
+      swept = swept_more texts due.rows.kinds.items h new a c.args.due is.within holds.history whole (one_from c.args.due c.args.edge below)
+          (since_in texts due.rows.starts) (waiting_in due.waiting) (waiting_in c.put_singles.new.waiting) due.rows.lines.items put
+          (is.swept (of h) a start (of_valid h holds.history) low holds.swept);
       cells = λ p none.
           let parts = failing-parts (λ (e : Edge). p e.cells) h new none in
-          let was = c.in_ok-show_due.ensures.passed p (holds.cells p parts.0) in
+          let was = is.passed p (holds.cells p parts.0) in
           record {
             opens = was.opens;
-            waits = put_passes p (waiting_in c.show_due.new.waiting) (waiting_in c.put_singles.new.waiting) new put was.waits parts.1;
+            waits = put_passes p (waiting_in due.waiting) (waiting_in c.put_singles.new.waiting) new put was.waits parts.1;
           };
+      kept = is.kept holds.kept;
     }
 
 pub returns-clause-placed : goal.returns-clause-placed
 returns-clause-placed c =
-    put_placed c.args.texts.now (waiting_in c.show_due.new.waiting) (waiting_in c.put_singles.new.waiting) (c.args.edge ∷ [])
-    (single_put (waiting_in c.show_due.new.waiting) (waiting_in c.put_singles.new.waiting) c.args.edge c.in_ok-put_singles.ensures)
-    c.in_ok-show_due.ensures.placed (All-cons (λ (e : Edge). ArePlaced c.args.texts.now e.cells) c.args.edge [] c.requires.placed (All-nil (λ (e : Edge). ArePlaced c.args.texts.now e.cells)))
+    put_placed c.args.texts.now (waiting_in c.show_due.new.self.waiting) (waiting_in c.put_singles.new.waiting) (c.args.edge ∷ [])
+    (single_put (waiting_in c.show_due.new.self.waiting) (waiting_in c.put_singles.new.waiting) c.args.edge c.in_ok-put_singles.ensures)
+    c.in_ok-show_due.ensures.shown.placed (All-cons (λ (e : Edge). ArePlaced c.args.texts.now e.cells) c.args.edge [] c.requires.placed (All-nil (λ (e : Edge). ArePlaced c.args.texts.now e.cells)))
