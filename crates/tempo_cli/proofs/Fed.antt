@@ -1,7 +1,6 @@
 -- What an engine says of the lines that it was fed, with a header or without.
-use Rattle.std.proofs.Common.{◌≡◌, ◌≢◌, ◌≤◌, ◌<◌, ◌+◌, ℕ, zero, suc, List, [], ◌∷◌, ◌++◌, length, Bool, true, false, Option, Some, None, Ok, Err, refl, sym, ◌∙◌, ap, arith, subst}
-use Rattle.std.specs.Prelude.{nat_lt, nat_eq, ◌&&◌, flat_map, slice_get}
-use Rattle.std.specs.List.{All}
+use Rattle.std.proofs.Common.{◌≡◌, ◌≤◌, ◌<◌, ◌+◌, ℕ, suc, List, [], ◌∷◌, ◌++◌, length, Bool, true, false, Some, None, Ok, Err, refl, sym, ◌∙◌, ap, arith, subst}
+use Rattle.std.specs.Prelude.{nat_lt, nat_eq, ◌&&◌, flat_map}
 use Rattle.std.proofs.lemmas.List.{append-nil}
 use Rattle.std.proofs.lemmas.Bool.Decides.{nat_tests}
 use Rattle.tw_rows.specs.declared.schema.StreamDef.{StreamDef}
@@ -13,7 +12,7 @@ use Rattle.row_reader.specs.Entry.{entry}
 use Rattle.row_reader.specs.declared.entry.BadLine.TheVariants.{TooLong}
 use Rattle.row_reader.specs.declared.entry.Entry.TheVariants.{Skip}
 use Rattle.admission.specs.Entries.{Told}
-use Rattle.admission.specs.Progress.{Fault, Malformed, Progress, start, step, steps, at_end, fault, unless_fault, reading}
+use Rattle.admission.specs.Progress.{Malformed, start, step, steps, at_end, fault, unless_fault, reading}
 use Rattle.admission.specs.Text.{written}
 use Rattle.admission.specs.declared.policy.Policy.{Policy}
 use Rattle.admission.proofs.Finality.{steps-append}
@@ -79,13 +78,13 @@ header_steps q line is header short =
 
 -- line 1 is a header, and is not fed
 pub took_header : (q : Asked) (given : List (List ℕ)) (line : List ℕ) (e : EngineView) → q.header ≡ true → 1 ≡ length given + 1 → length line ≤ 65536 → Took q given e → Took q (given ++ line ∷ []) e
-took_header q [] line e header is short t = record { fed = t.fed; took = t.took; same = t.same ∙ sym (header_steps q line t.took.sound header short) }
+took_header q [] line e header is short t = record { fed = t.fed; took = t.took; same = t.same ∙ sym (header_steps q line t.took.by.sound header short) }
 took_header q (x ∷ given) line e header is short t = absurd (omega arith)
 
 pub text_header : (q : Asked) (given : List (List ℕ)) (line : List ℕ) (e : EngineView) (out : List ℕ) → out ≡ [] → q.header ≡ true → 1 ≡ length given + 1 → length line ≤ 65536 → Took q given e →
     (answers_to q).text (given ++ line ∷ []) false ≡ (answers_to q).text given false ++ out
 text_header q [] line e out none header is short t =
-    same_text q.plan q.policy (told q.plan.streams q.header (line ∷ [])) [] false (header_steps q line t.took.sound header short) ∙ (sym (append-nil _) ∙ ap (λ x. (answers_to q).text [] false ++ x) (sym none))
+    same_text q.plan q.policy (told q.plan.streams q.header (line ∷ [])) [] false (header_steps q line t.took.by.sound header short) ∙ (sym (append-nil _) ∙ ap (λ x. (answers_to q).text [] false ++ x) (sym none))
 text_header q (x ∷ given) line e out none header is short t = absurd (omega arith)
 
 module _ (q : Asked) (given : List (List ℕ)) (line : List ℕ) (number : ℕ) (e : EngineView) (t : Took q given e) (is : number ≡ length given + 1)
@@ -112,7 +111,7 @@ module _ (q : Asked) (given : List (List ℕ)) (line : List ℕ) (number : ℕ) 
 
 -- the lines that the engine took have no fault
 pub took_fine : (q : Asked) (given : List (List ℕ)) (e : EngineView) → Took q given e → (answers_to q).fault given false ≡ None
-took_fine q given e t = sym (same_fault q.plan q.policy t.fed (told q.plan.streams q.header given) false t.same) ∙ t.took.fine
+took_fine q given e t = sym (same_fault q.plan q.policy t.fed (told q.plan.streams q.header given) false t.same) ∙ t.took.by.fine
 
 -- a line that is too long is the first fault
 pub long_fault : (q : Asked) (given : List (List ℕ)) (line : List ℕ) (number : ℕ) (e : EngineView) → Took q given e → number ≡ length given + 1 → 65536 < length line →

@@ -13,8 +13,8 @@ use Rattle.row_reader.specs.declared.entry.BadLine.TheVariants.{TooLong}
 use Rattle.row_reader.specs.declared.entry.Entry.TheVariants.{Skip}
 use Rattle.wire_lines.specs.Lines.{HasNoLf}
 use Rattle.admission.specs.Admission.{rows}
-use Rattle.admission.specs.Entries.{Told, IsRead, AreRead}
-use Rattle.admission.specs.Progress.{Fault, Progress, start, judged, unless_fault, steps, at_end, progress, fault}
+use Rattle.admission.specs.Entries.{IsRead, AreRead}
+use Rattle.admission.specs.Progress.{Fault, Progress, start, judged, unless_fault, steps, fault}
 use Rattle.admission.specs.Text.{written}
 use Rattle.admission.proofs.Finality.{text_final}
 use Rattle.admission.proofs.Growing.{line_read}

@@ -1,7 +1,6 @@
 -- Words ask for one job.
 use Rattle.std.proofs.Common.{◌≡◌, ◌⊎◌, ◌≤◌, ℕ, Bool, true, false, List, [], length, Option, Some, None, Result, Ok, Err, inl, inr, refl, sym, ◌∙◌, ap, ap₂, arith, subst, true≢false}
 use Rattle.std.specs.Prelude.{codes}
-use Rattle.std.specs.List.{All}
 use Rattle.std.proofs.lemmas.List.Elements.{All-nil}
 use Rattle.clap.specs.Values.{bool_text}
 use Rattle.wire_lines.specs.Journal.{Entry, IsOut, ins, ended, Grows}
@@ -26,7 +25,7 @@ use Rattle.command_line.specs.declared.words.Mode.TheVariants.{Run, Explain, Sam
 use Rattle.command_line.proofs.Same.{asked_is, policy_is}
 use Rattle.command_line.proofs.Spelled.{spelled}
 use Rattle.tempo_cli.specs.Answers.{Answers}
-use Rattle.tempo_cli.specs.Jobs.{HasPlan, HasPlanFault, HasFault, Tells, Job, NoWords, NoPlan, Planned, IsJob, Does, DoesMode, HasQueryReason, IsPlanned, query_status}
+use Rattle.tempo_cli.specs.Jobs.{HasPlan, HasFault, Tells, Job, NoWords, NoPlan, Planned, IsJob, Does, DoesMode, HasQueryReason, IsPlanned, query_status}
 use Rattle.tempo_cli.specs.Feeding.{IsOwn, IsAsked}
 use Rattle.tempo_cli.specs.Status.{Counts}
 use Rattle.tempo_cli.specs.Table.{limit, Ends}
@@ -195,7 +194,7 @@ one_job words (NoPlan a f) (Planned b p) h k =
 one_job words (Planned a p) (NoPlan b f) h k =
     absurd (never_both b.query p f (subst (λ (x : Asked). HasPlan x.query p) (one_command words a b h.0 k.0) h.1) k.1)
 
--- statuses of the session
+-- statuses of the answering
 pub own_asked : (status : Status) → IsOwn status → IsAsked status
 own_asked BadWords own = own
 own_asked (BadQuery f) own = own

@@ -1,14 +1,12 @@
 -- The lines of bytes, and of the first of them.
-use Rattle.std.proofs.Common.{◌≡◌, ◌≤◌, ◌<◌, ◌-◌, ◌+◌, ℕ, zero, suc, List, [], ◌∷◌, ◌++◌, length, take, drop, min, Bool, true, false, cond, refl, sym, ◌∙◌, ap, arith, inl, inr}
-use Rattle.std.specs.Prelude.{◌||◌, ◌&&◌, nat_lt, ◌==◌}
+use Rattle.std.proofs.Common.{◌≡◌, ◌≤◌, ◌<◌, ◌-◌, ◌+◌, ℕ, zero, suc, List, [], ◌∷◌, ◌++◌, length, take, min, Bool, true, false, cond, ◌∙◌, ap, arith, inl, inr}
+use Rattle.std.specs.Prelude.{◌||◌, ◌&&◌, nat_lt}
 use Rattle.std.specs.List.{All}
-use Rattle.std.proofs.lemmas.List.{append-nil, length-append, length-take}
+use Rattle.std.proofs.lemmas.List.{length-take}
 use Rattle.std.proofs.lemmas.List.Elements.{All-append, All-nil}
 use Rattle.std.proofs.lemmas.Bool.Decides.{eqb_tells}
 use Rattle.std.proofs.Math.Seq.{take-append-add}
-use Rattle.wire_lines.specs.Lines.{line_len, IsOneLine, HasNoLf, cut, whole, rest, lines, last_of, joined}
-use Rattle.wire_lines.specs.Cutter.{CutterState}
-use Rattle.wire_lines.specs.Cuts.{Cuts}
+use Rattle.wire_lines.specs.Lines.{line_len, IsOneLine, HasNoLf, whole, rest, lines, last_of, joined}
 use Rattle.wire_lines.proofs.Cutting.{cut_is_free, lines_go_on, lines_long}
 use Rattle.wire_lines.proofs.LineLength.{line_len-le}
 use Rattle.tempo_cli.specs.Table.{limit}

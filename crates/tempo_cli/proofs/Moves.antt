@@ -1,22 +1,22 @@
 -- What the answers of a cutter say of the table, for any faults and any text.
-use Rattle.std.proofs.Common.{◌≡◌, ◌≤◌, ◌<◌, ◌-◌, ◌+◌, ℕ, List, [], ◌∷◌, ◌++◌, length, take, Bool, true, false, Option, Some, None, refl, sym, ◌∙◌, ap, arith, append_assoc, subst}
+use Rattle.std.proofs.Common.{◌≡◌, ◌≤◌, ◌<◌, ◌-◌, ◌+◌, ℕ, List, [], ◌∷◌, ◌++◌, length, take, Bool, false, Some, None, refl, sym, ◌∙◌, ap, arith, append_assoc, subst}
 use Rattle.std.specs.Prelude.{IsTrue}
 use Rattle.std.specs.List.{All}
-use Rattle.std.proofs.lemmas.List.{append-nil, length-append}
+use Rattle.std.proofs.lemmas.List.{length-append}
 use Rattle.std.proofs.lemmas.List.Elements.{All-take}
 use Rattle.std.proofs.Math.Seq.{take-append_seam}
-use Rattle.wire_lines.specs.Lines.{HasNoLf, IsOneLine, line_len, whole, rest, lines, joined}
+use Rattle.wire_lines.specs.Lines.{HasNoLf, line_len, whole, lines, joined}
 use Rattle.wire_lines.specs.Cutter.{CutterState, Overlong}
 use Rattle.wire_lines.specs.Next.{next, after_next}
-use Rattle.wire_lines.specs.Cuts.{Cuts, GivesLine, FindsTooLong, FindsTooMany, HasGivenAll}
-use Rattle.wire_lines.proofs.Cutting.{lines_go_on, lines_long}
+use Rattle.wire_lines.specs.Cuts.{Cuts, GivesLine, FindsTooMany, HasGivenAll}
+use Rattle.wire_lines.proofs.Cutting.{lines_go_on}
 use Rattle.wire_lines.proofs.CutsFacts.{lines_so_far, tells_too_long}
 use Rattle.wire_lines.proofs.NextFacts.{overlong}
 use Rattle.wire_lines.proofs.Limits.{after_next-longest, after_next-total}
 use Rattle.admission.specs.Progress.{Fault}
 use Rattle.tempo_cli.specs.Answers.{Answers, IsFinal, IsFront}
 use Rattle.tempo_cli.specs.Feeding.{Within}
-use Rattle.tempo_cli.specs.Table.{limit, IsDone, IsRefused, IsTooLong, IsCutOff, IsShort}
+use Rattle.tempo_cli.specs.Table.{limit, IsRefused, IsTooLong, IsCutOff, IsShort}
 use Rattle.tempo_cli.proofs.Lines.{lines_are_free, lines_within, lines_long_within}
 
 -- before the first byte
@@ -25,7 +25,7 @@ within_none a c longest total cuts fine = record { longest = longest; total = to
 
 module _ {a : Answers} {bytes : List ℕ} {given : List (List ℕ)} {c : CutterState} (w : Within a bytes given c) where
   -- a piece was fed
-  pub within_fed : (piece : List ℕ) → Cuts (bytes ++ piece) (record c { rest = c.rest ++ piece; hungry = false }) given → Within a (bytes ++ piece) given (record c { rest = c.rest ++ piece; hungry = false })
+  pub within_fed : (piece : List ℕ) → Cuts (bytes ++ piece) (record c { rest = c.rest ++ piece; wants_bytes = false }) given → Within a (bytes ++ piece) given (record c { rest = c.rest ++ piece; wants_bytes = false })
   within_fed piece cuts = record { longest = w.longest; total = w.total; cuts = cuts; fine = w.fine }
 
   -- a line was taken
@@ -43,13 +43,13 @@ module _ {a : Answers} {bytes : List ℕ} {given : List (List ℕ)} {c : CutterS
   given_low = omega (arith, w.cuts.passed_is, w.cuts.fits, w.total)
 
   -- while the input goes on, the lines are those that were given
-  pub lines_are : IsTrue c.hungry → lines bytes false ≡ given
-  lines_are hungry =
-      let settled = w.cuts.settled hungry in
+  pub lines_are : IsTrue c.wants_bytes → lines bytes false ≡ given
+  lines_are wants_bytes =
+      let settled = w.cuts.settled wants_bytes in
       lines_so_far bytes c given w.cuts settled.one_line (omega (arith, settled.short, w.longest))
 
-  pub few_bytes : IsTrue c.hungry → length bytes ≤ limit
-  few_bytes hungry = let settled = w.cuts.settled hungry in omega (arith, settled.few, w.total)
+  pub few_bytes : IsTrue c.wants_bytes → length bytes ≤ limit
+  few_bytes wants_bytes = let settled = w.cuts.settled wants_bytes in omega (arith, settled.few, w.total)
 
   -- memory was wanting
   pub short : (ended : Bool) → IsShort a bytes (a.text given false) ended
@@ -72,8 +72,8 @@ module _ {a : Answers} {bytes : List ℕ} {given : List (List ℕ)} {c : CutterS
       }
 
   -- no call of the wire failed, and the input has ended
-  pub cut_off : IsTrue c.hungry → IsCutOff a bytes (a.text given false) false
-  cut_off hungry = record { goes_on = refl; no_fault = ap (λ ls. a.fault ls false) (lines_are hungry) ∙ w.fine; written = ap (λ ls. a.text ls false) (sym (lines_are hungry)) }
+  pub cut_off : IsTrue c.wants_bytes → IsCutOff a bytes (a.text given false) false
+  cut_off wants_bytes = record { goes_on = refl; no_fault = ap (λ ls. a.fault ls false) (lines_are wants_bytes) ∙ w.fine; written = ap (λ ls. a.text ls false) (sym (lines_are wants_bytes)) }
 
   module _ (final : IsFinal a) where
     line_is_free : (line : List ℕ) (others : List (List ℕ)) (ended : Bool) → lines bytes ended ≡ given ++ line ∷ others → All HasNoLf ((given ++ line ∷ []) ++ others)

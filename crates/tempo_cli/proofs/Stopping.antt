@@ -1,5 +1,5 @@
 -- The status that the engine's fault gives, by the table.
-use Rattle.std.proofs.Common.{◌≡◌, ◌≤◌, ◌+◌, ℕ, List, [], ◌∷◌, ◌++◌, length, take, Bool, true, false, Option, Some, None, refl, sym, ◌∙◌, ap, arith, append_assoc, subst}
+use Rattle.std.proofs.Common.{◌≡◌, ◌≤◌, ℕ, List, [], ◌∷◌, ◌++◌, length, Bool, true, false, Some, None, refl, sym, ◌∙◌, ap, arith, append_assoc, subst}
 use Rattle.std.specs.List.{All}
 use Rattle.std.proofs.lemmas.List.{append-nil, take_all}
 use Rattle.wire_lines.specs.Lines.{HasNoLf, lines}
@@ -13,12 +13,19 @@ use Rattle.tempo_engine.specs.declared.fault.EngineFault.TheVariants.{Bad, Late,
 use Rattle.tempo_cli.specs.Answers.{Answers, IsFinal, IsFront}
 use Rattle.tempo_cli.specs.Told.{told}
 use Rattle.tempo_cli.specs.Table.{limit, IsDone, IsEnd, IsRefused, IsShort}
-use Rattle.tempo_cli.specs.Feeding.{Asked, answers_to, status_at, Took, Within, Ended}
-use Rattle.tempo_cli.specs.declared.session.Session.{Session}
+use Rattle.tempo_cli.specs.Feeding.{Asked, answers_to, status_at, Within, Ended, IsOwn}
+use Rattle.tempo_cli.specs.declared.answering.Answering.{Answering}
 use Rattle.tempo_cli.proofs.Lines.{lines_are_free}
 use Rattle.tempo_cli.proofs.Moves.{refused, short}
 use Rattle.tempo_cli.proofs.Fed.{same_fault, same_text}
 use Rattle.tempo_cli.proofs.Final.{answers_final}
+
+-- it tells no fault of the words, of the query or of a wire
+pub own_at : (f : EngineFault) → IsOwn (status_at f)
+own_at (Bad line cause) = tt
+own_at (Late line time bound) = tt
+own_at (Overflow punctuation node time) = tt
+own_at Memory = tt
 
 -- at a line
 pub line_stops : {a : Answers} {bytes : List ℕ} {given : List (List ℕ)} {c : CutterState} (w : Within a bytes given c) (final : IsFinal a) (number : ℕ) (line : List ℕ) (f : EngineFault) →
@@ -63,11 +70,11 @@ short_end a bytes written so_far = record {
 }
 
 -- at the end
-pub end_stops : (q : Asked) (bytes written : List ℕ) (s : Session) (e : Ended q bytes written s) (f : EngineFault) → IsFaultOf f (fault q.plan q.policy e.engine.fed true) → IsEnd (answers_to q) (status_at f) bytes written true
+pub end_stops : (q : Asked) (bytes written : List ℕ) (s : Answering) (e : Ended q bytes written s) (f : EngineFault) → IsFaultOf f (fault q.plan q.policy e.engine.fed true) → IsEnd (answers_to q) (status_at f) bytes written true
 end_stops q bytes written s e f is = go f (subst (IsFaultOf f) (same_fault q.plan q.policy e.engine.fed (told q.plan.streams q.header (lines bytes true)) true e.engine.same) is)
   where
     final : IsFinal (answers_to q)
-    final = answers_final q e.engine.took.sound
+    final = answers_final q e.engine.took.by.sound
 
     go : (f : EngineFault) → IsFaultOf f ((answers_to q).fault (lines bytes true) true) → IsEnd (answers_to q) (status_at f) bytes written true
     go (Bad n cause) h = refused_end (answers_to q) final bytes written _ e.few e.fine e.so_far h
@@ -76,7 +83,7 @@ end_stops q bytes written s e f is = go f (subst (IsFaultOf f) (same_fault q.pla
     go Memory h = short_end (answers_to q) bytes written e.so_far
 
 -- all that is due was written
-pub end_done : (q : Asked) (bytes written out : List ℕ) (s : Session) (e : Ended q bytes written s) → fault q.plan q.policy e.engine.fed true ≡ None →
+pub end_done : (q : Asked) (bytes written out : List ℕ) (s : Answering) (e : Ended q bytes written s) → fault q.plan q.policy e.engine.fed true ≡ None →
     plan_text q.plan q.policy e.engine.fed true ≡ plan_text q.plan q.policy e.engine.fed false ++ out → IsDone (answers_to q) bytes (written ++ out) true
 end_done q bytes written out s e fine grows =
     let all = told q.plan.streams q.header (lines bytes true) in
@@ -87,10 +94,10 @@ end_done q bytes written out s e fine grows =
     }
 
 -- a front of what is due for the last line went out
-pub end_front : (q : Asked) (bytes before out front : List ℕ) (s : Session) → Ended q bytes (before ++ out) s → IsFront front out → IsFront (before ++ front) ((answers_to q).text (lines bytes true) true)
+pub end_front : (q : Asked) (bytes before out front : List ℕ) (s : Answering) → Ended q bytes (before ++ out) s → IsFront front out → IsFront (before ++ front) ((answers_to q).text (lines bytes true) true)
 end_front q bytes before out front s e some =
     let ls = lines bytes true in
-    let final = answers_final q e.engine.took.sound in
+    let final = answers_final q e.engine.took.by.sound in
     let none = append-nil ls in
     let fin = final.front ls [] true (subst (All HasNoLf) (sym none) (lines_are_free bytes true)) in (
       some.0 ++ fin.0,

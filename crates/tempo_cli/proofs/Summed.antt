@@ -1,5 +1,5 @@
 -- A query over generated lines, from line to line, and to the end.
-use Rattle.std.proofs.Common.{◌≡◌, ◌+◌, ℕ, List, [], ◌∷◌, ◌++◌, length, map, true, false, None, refl, sym, ◌∙◌, ap, arith, append_assoc, append-nil, subst}
+use Rattle.std.proofs.Common.{◌≡◌, ◌+◌, ℕ, List, [], ◌∷◌, ◌++◌, map, true, false, None, refl, sym, ◌∙◌, ap, arith, append_assoc, append-nil, subst}
 use Rattle.std.proofs.lemmas.List.{length-append}
 use Rattle.sample_trades.specs.Lines.{line_of}
 use Rattle.sample_trades.specs.ToCome.{to_come}
@@ -10,7 +10,6 @@ use Rattle.admission.specs.Progress.{fault}
 use Rattle.tempo_engine.specs.Faults.{IsFaultOf}
 use Rattle.tempo_engine.specs.Fed.{Fed}
 use Rattle.tempo_engine.specs.Output.{plan_text}
-use Rattle.tempo_engine.specs.Went.{EngineView}
 use Rattle.tempo_engine.specs.declared.fault.EngineFault.{EngineFault}
 use Rattle.tempo_engine.specs.declared.fault.EngineFault.TheVariants.{Bad, Late, Overflow, Memory}
 use Rattle.tempo_cli.specs.Answers.{Answers, IsFinal}
@@ -60,7 +59,7 @@ module _ {q : Asked} {all : List (List ℕ)} {s : Sampling} (h : Sampled q all s
   pub line_fails : (f : EngineFault) → IsFaultOf f ((answers_to q).fault (h.given ++ line ∷ []) false) → IsFailed (answers_to q) all (status_at f)
   line_fails f fault =
       fails (answers_to q) all f (subst (λ (x : List (List ℕ)). IsFaultOf f ((answers_to q).fault x true)) (sym all_go_on)
-      (stays (answers_to q) (answers_final q h.engine.took.sound) (h.given ++ line ∷ []) (map line_of others) f fault))
+      (stays (answers_to q) (answers_final q h.engine.took.by.sound) (h.given ++ line ∷ []) (map line_of others) f fault))
 
 -- after the last line
 module _ {q : Asked} {all : List (List ℕ)} {s : Sampling} (h : Sampled q all s) (is : to_come s.sample ≡ []) where

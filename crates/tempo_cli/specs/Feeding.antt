@@ -1,7 +1,9 @@
--- What private contracts say of an engine and of a session that lines were fed to.
-use Rattle.std.specs.Prelude.{◌≡◌, ◌+◌, ◌≤◌, ◌<◌, ℕ, Bool, true, false, IsTrue, List, [], ◌∷◌, ◌++◌, Option, None, length}
+-- What private contracts say of an engine and of a query that lines were fed to.
+use Rattle.std.specs.Prelude.{◌≡◌, ◌+◌, ◌≤◌, ◌<◌, ℕ, Bool, true, false, IsTrue, List, [], ◌∷◌, ◌++◌, Option, None, Result, MatchResult, length}
 use Rattle.wire_lines.specs.Cutter.{CutterState}
 use Rattle.wire_lines.specs.Cuts.{Cuts}
+use Rattle.wire_lines.specs.Journal.{Entry, In, Adds}
+use Rattle.wire_lines.specs.Reading.{count_of}
 use Rattle.wire_lines.specs.Lines.{IsOneLine, lines}
 use Rattle.plan_model.specs.IsPlan.{PlanParts}
 use Rattle.admission.specs.Entries.{Told}
@@ -16,9 +18,9 @@ use Rattle.tempo_engine.specs.declared.fault.EngineFault.{EngineFault}
 use Rattle.tempo_engine.specs.declared.fault.EngineFault.TheVariants as faults
 use Rattle.tempo_cli.specs.declared.status.Status.{Status}
 use Rattle.tempo_cli.specs.declared.status.Status.TheVariants as statuses
-use Rattle.tempo_cli.specs.declared.session.Session.{Session}
-use Rattle.tempo_cli.specs.declared.session.Step.{Step}
-use Rattle.tempo_cli.specs.declared.session.Step.TheVariants.{More, Out, Stop}
+use Rattle.tempo_cli.specs.declared.answering.Answering.{Answering}
+use Rattle.tempo_cli.specs.declared.answering.Step.{Step}
+use Rattle.tempo_cli.specs.declared.answering.Step.TheVariants.{More, Out, Stop}
 
 -- what is asked for: a plan, a policy, and whether line 1 is a header
 pub record Asked : Type 0 where
@@ -42,22 +44,43 @@ pub record Within (a : Answers) (bytes : List ℕ) (given : List (List ℕ)) (c 
   pub cuts : Cuts bytes c given
   pub fine : a.fault given false ≡ None
 
--- the session has taken these lines of the bytes
-pub record Holds (q : Asked) (bytes : List ℕ) (given : List (List ℕ)) (s : Session) : Type 0 where
+-- it has taken these lines of the bytes
+pub record Holds (q : Asked) (bytes : List ℕ) (given : List (List ℕ)) (s : Answering) : Type 0 where
   pub header : s.header ≡ q.header
   pub within : Within (answers_to q) bytes given s.cutter
   pub engine : Took q given s.engine
 
+-- whatever is asked for, and whichever lines the engine took, of which the next has this number
+abbrev pub WhateverGiven : Bool → ℕ → EngineView → (Asked → List (List ℕ) → Type 0) → Type 0
+WhateverGiven header number e P = (q : Asked) (given : List (List ℕ)) → q.header ≡ header → number ≡ length given + 1 → Took q given e → P q given
+
+-- whatever is asked for, and whichever lines of whichever bytes were taken
+abbrev pub WhateverHeld : Answering → (Asked → List ℕ → List (List ℕ) → Type 0) → Type 0
+WhateverHeld s P = (q : Asked) (bytes : List ℕ) (given : List (List ℕ)) → Holds q bytes given s → P q bytes given
+
+-- a line more makes the text grow by these bytes
+abbrev pub GrowsBy : Asked → List (List ℕ) → List ℕ → List ℕ → Type 0
+GrowsBy q given line out = (answers_to q).text (given ++ line ∷ []) false ≡ (answers_to q).text given false ++ out
+
 -- the cutter has given all lines that it was fed, and wants more bytes
 pub record WantsBytes (c : CutterState) : Type 0 where
   pub longest : c.longest ≡ 65536
-  pub hungry : IsTrue c.hungry
+  pub wants_bytes : IsTrue c.wants_bytes
   pub one_line : IsOneLine c.rest
   pub short : length c.rest ≤ 65536
 
--- what the next line of a session comes to: all whole lines were taken; or a line was, by which the text grows; or the run
+-- the bytes of a read came in, which the journal tells, and their lines are still to be taken. A read that failed leaves all
+-- as it was
+pub record HasTaken {E : Type 0} (before now : Option (List Entry)) (old new : Answering) (result : Result ℕ E) : Type 0 where
+  pub piece : List ℕ
+  pub count : length piece ≡ count_of result
+  pub told : MatchResult result (λ _. Adds before now (In piece ∷ [])) (λ _. Adds before now [])
+  pub holds : (q : Asked) (bytes : List ℕ) (given : List (List ℕ)) → Holds q bytes given old → Holds q (bytes ++ piece) given new
+  pub wants : piece ≡ [] → WantsBytes new.cutter
+
+-- what the next line comes to: all whole lines were taken; or a line was, by which the text grows; or the run
 -- ends, with what is written so far, whether or not the input ends here
-abbrev pub Comes : Asked → List ℕ → List (List ℕ) → Session → Step → Type 0
+abbrev pub Comes : Asked → List ℕ → List (List ℕ) → Answering → Step → Type 0
 Comes q bytes given s More = Holds q bytes given s
 Comes q bytes given s (Out out) = (line : List ℕ) × Holds q bytes (given ++ line ∷ []) s
     × ((answers_to q).text (given ++ line ∷ []) false ≡ (answers_to q).text given false ++ out.items)
@@ -76,11 +99,15 @@ HasLess before now (Out out) = length now.rest < length before.rest
 HasLess before now step = Unit {0}
 
 -- the input has ended, its last line was taken, and what is due for all lines is written
-pub record Ended (q : Asked) (bytes written : List ℕ) (s : Session) : Type 0 where
+pub record Ended (q : Asked) (bytes written : List ℕ) (s : Answering) : Type 0 where
   pub few : length bytes ≤ limit
   pub fine : (answers_to q).fault (lines bytes true) false ≡ None
   pub engine : Took q (lines bytes true) s.engine
   pub so_far : written ≡ (answers_to q).text (lines bytes true) false
+
+-- whatever is asked for, and whatever is written for whichever bytes
+abbrev pub WhateverEnded : Answering → (Asked → List ℕ → List ℕ → Type 0) → Type 0
+WhateverEnded s P = (q : Asked) (bytes written : List ℕ) → Ended q bytes written s → P q bytes written
 
 -- the status tells no fault of the words or of the query
 abbrev pub IsAsked : Status → Type 0

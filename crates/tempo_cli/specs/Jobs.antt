@@ -51,8 +51,8 @@ IsJob words NoWords = are_taken words ≡ false
 IsJob words (NoPlan asked fault) = SpellsCommand words asked × HasFault asked.query fault
 IsJob words (Planned asked plan) = SpellsCommand words asked × HasPlan asked.query plan
 
--- a plan was told: its text went out, or its first bytes where a write failed, and nothing came in. Where memory was wanting
--- nothing was written at all
+-- a plan was told: its text went out, or its first bytes where a write failed, and nothing came in. Out of memory nothing
+-- was written at all
 abbrev pub IsTold : Status → List ℕ → List Entry → Type 0
 IsTold Done text J = outs J ≡ text
 IsTold WriteFault text J = IsFront (outs J) text
@@ -83,7 +83,7 @@ HasReason words BadWords = IsJob words NoWords
 HasReason words (BadQuery fault) = (asked : Asked) × IsJob words (NoPlan asked fault)
 HasReason words status = Unit {0}
 
--- the answer for the text of a query: its plan, or its fault; or memory was wanting
+-- the answer for the text of a query: its plan, or its fault; or it was out of memory
 abbrev pub IsPlanned : List ℕ → Result PlanParts QueryError → Type 0
 IsPlanned text (Ok plan) = HasPlan text plan
 IsPlanned text (Err (errors.Fault fault)) = HasFault text fault

@@ -2,7 +2,7 @@
 use Rattle.std.specs.Prelude.{◌≡◌, ◌⊎◌, ℕ, List, [], ◌∷◌, ◌++◌, Option, Some, None, codes, decimal}
 use Rattle.std.specs.List.{All}
 use Rattle.wire_lines.specs.Faults.{Rose}
-use Rattle.wire_lines.specs.Journal.{Entry, outs, IsOut}
+use Rattle.wire_lines.specs.Journal.{Entry, outs, IsOut, SentAll, SentFront}
 use Rattle.line_text.specs.Fields.{time_text}
 use Rattle.plan_model.specs.declared.fault.QueryFault.{QueryFault}
 use Rattle.plan_model.specs.declared.fault.QueryFault.TheVariants.{Syntax, LongExpr, TooLarge, UnknownName, TypeClash, NotEventLevel, BadWindow, ReachTooLong, TooManyNodes, TooManyColumns, NameTaken, NotBuilt}
@@ -115,3 +115,8 @@ IsNote status writes writes' bytes = (bytes ≡ note_of status) ⊎ (Rose writes
 pub record IsNoted (status : Status) (writes writes' : ℕ) (K : List Entry) : Type 0 where
   pub outs_alone : All IsOut K
   pub note : IsNote status writes writes' (outs K)
+
+-- the text of a refusal of the words went out, or its first bytes where a write failed; where there is none nothing did
+abbrev pub IsRefusalTold : Option (List ℕ) → ℕ → ℕ → List Entry → Type 0
+IsRefusalTold None writes writes' K = K ≡ []
+IsRefusalTold (Some text) writes writes' K = SentAll text K ⊎ (Rose writes writes' × SentFront text K)

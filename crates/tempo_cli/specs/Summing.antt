@@ -11,7 +11,7 @@ use Rattle.tempo_cli.specs.declared.status.Status.TheVariants.{Done, BadWords, B
 abbrev pub summary_for : Answers → List (List ℕ) → List ℕ
 summary_for a lines = summary_text (summary_of (a.text lines true))
 
--- why there is no summary: the first fault of the lines, or want of memory
+-- why there is no summary: the first fault of the lines, or out of memory
 abbrev pub IsFailed : Answers → List (List ℕ) → Status → Type 0
 IsFailed a lines (Malformed line cause) = a.fault lines true ≡ Some (WasBad line cause)
 IsFailed a lines (Late line time bound) = a.fault lines true ≡ Some (TooLate line time bound)

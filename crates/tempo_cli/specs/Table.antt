@@ -59,7 +59,7 @@ pub record IsCutOff (a : Answers) (bytes out : List ℕ) (ended : Bool) : Type 0
   pub no_fault : a.fault (lines bytes ended) false ≡ None
   pub written : out ≡ a.text (lines bytes ended) false
 
--- memory was wanting: what is written is the text of the first k lines
+-- out of memory: what is written is the text of the first k lines
 pub record IsShort (a : Answers) (bytes out : List ℕ) (ended : Bool) : Type 0 where
   pub k : ℕ
   pub few : k ≤ length (lines bytes ended)

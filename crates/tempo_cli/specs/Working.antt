@@ -1,14 +1,20 @@
 -- What private contracts say of a run in the midst of its lines.
-use Rattle.std.specs.Prelude.{◌≡◌, ◌+◌, ℕ, Bool, false, true, List, [], ◌∷◌, ◌++◌, length}
+use Rattle.std.specs.Prelude.{◌≡◌, ◌+◌, ◌≤◌, ℕ, Bool, false, true, Option, List, [], ◌∷◌, ◌++◌, length, Result, Ok, Err}
 use Rattle.std.specs.List.{All}
-use Rattle.wire_lines.specs.Journal.{Entry, ins, outs, ended, IsOut}
+use Rattle.wire_lines.specs.Journal.{Entry, Grows, ins, outs, ended, IsOut}
 use Rattle.tempo_cli.specs.Feeding.{Asked, answers_to, Holds}
-use Rattle.tempo_cli.specs.Table.{limit, IsEnd, IsPrompt}
-use Rattle.tempo_cli.specs.declared.session.Session.{Session}
+use Rattle.tempo_cli.specs.Table.{limit, Ends, IsEnd, IsPrompt}
+use Rattle.tempo_cli.specs.declared.answering.Answering.{Answering}
 use Rattle.tempo_cli.specs.declared.status.Status.{Status}
+use Rattle.tempo_cli.specs.declared.status.Status.TheVariants.{Done}
+
+-- the status of a run that ended so: Done, or what ended it
+abbrev pub status_of : {T : Type 0} → Result T Status → Status
+status_of (Ok done) = Done
+status_of (Err status) = status
 
 -- after the lines given, more lines of the bytes were taken, and what the text grew by was written
-pub record Worked (q : Asked) (bytes : List ℕ) (given : List (List ℕ)) (s : Session) (O : List Entry) : Type 0 where
+pub record Worked (q : Asked) (bytes : List ℕ) (given : List (List ℕ)) (s : Answering) (O : List Entry) : Type 0 where
   pub outs_alone : All IsOut O
   pub more : List (List ℕ)
   pub holds : Holds q bytes more s
@@ -19,8 +25,18 @@ pub record Stopped (q : Asked) (bytes : List ℕ) (given : List (List ℕ)) (sta
   pub outs_alone : All IsOut O
   pub end : (ended : Bool) → IsEnd (answers_to q) status bytes ((answers_to q).text given false ++ outs O) ended
 
+-- all whole lines that came in are worked through, and the journal tells what was written for them
+abbrev pub WorksThrough : Option (List Entry) → Option (List Entry) → Answering → Answering → Type 0
+WorksThrough before now old new = (q : Asked) (bytes : List ℕ) (given : List (List ℕ)) → Holds q bytes given old → length bytes ≤ limit + 1 →
+    Grows before now (Worked q bytes given new)
+
+-- a line, or what it made due, ended the run
+abbrev pub StopsWith : Option (List Entry) → Option (List Entry) → Answering → Status → Type 0
+StopsWith before now old status = (q : Asked) (bytes : List ℕ) (given : List (List ℕ)) → Holds q bytes given old → length bytes ≤ limit + 1 →
+    Grows before now (Stopped q bytes given status)
+
 -- before a read: all lines that came in were taken, what they call for is written, and so many bytes may still come
-pub record Reading (q : Asked) (s : Session) (left : ℕ) (J : List Entry) : Type 0 where
+pub record Reading (q : Asked) (s : Answering) (left : ℕ) (J : List Entry) : Type 0 where
   pub prompt : IsPrompt (answers_to q) J
   pub goes_on : ended J ≡ false
   pub given : List (List ℕ)
@@ -32,3 +48,11 @@ pub record Reading (q : Asked) (s : Session) (left : ℕ) (J : List Entry) : Typ
 pub record EndsWith (q : Asked) (bytes : List ℕ) (given : List (List ℕ)) (status : Status) (O : List Entry) : Type 0 where
   pub outs_alone : All IsOut O
   pub end : IsEnd (answers_to q) status bytes ((answers_to q).text given false ++ outs O) true
+
+-- so the run ends
+abbrev pub EndsAll : Option (List Entry) → Option (List Entry) → Answering → Status → Type 0
+EndsAll before now old status = (q : Asked) (bytes : List ℕ) (given : List (List ℕ)) → Holds q bytes given old → Grows before now (EndsWith q bytes given status)
+
+-- a run from its first byte on
+abbrev pub RunsFrom : Option (List Entry) → Option (List Entry) → Answering → Status → Type 0
+RunsFrom before now old status = (q : Asked) → Holds q [] [] old → Grows before now (Ends (answers_to q) status)

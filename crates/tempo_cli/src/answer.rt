@@ -1,108 +1,82 @@
 // A query answered over a wire: from the bytes that come in to the bytes that go out and the status.
-ghost use Rattle.std.specs.Prelude.{◌≡◌, ◌≤◌, ◌<◌, ◌+◌, ℕ, List, [], OnOk, IfErr, min, length, IsTrue};
+ghost use Rattle.std.specs.Prelude.{◌≡◌, ◌≤◌, OnOk, IfErr, min, IsTrue};
 ghost use Rattle.std.specs.List.{list_all};
 ghost use Rattle.wire_lines.specs.Journal.{Grows};
 ghost use Rattle.built_nodes.specs.Built.{is_built};
 ghost use Rattle.tempo_cli.specs.Status.{Counts};
-ghost use Rattle.tempo_cli.specs.Table.{limit, Ends};
+ghost use Rattle.tempo_cli.specs.Table.{Ends};
 ghost use Rattle.tempo_cli.specs.Told.{answers};
-ghost use Rattle.tempo_cli.specs.Feeding.{Asked, answers_to, Holds, WantsBytes, IsAsked};
-ghost use Rattle.tempo_cli.specs.Working.{Worked, Stopped, EndsWith};
+ghost use Rattle.tempo_cli.specs.Feeding.{WantsBytes, IsAsked};
+ghost use Rattle.tempo_cli.specs.Working.{WorksThrough, StopsWith, EndsAll, RunsFrom, status_of};
 
-use crate::session::{LIMIT, Session, Step};
+use crate::answering::{Answering, LIMIT, Step};
 use crate::status::Status;
-use egress::send;
 use plan_model::Plan;
 use std::alloc::Global;
 use tempo_engine::Options;
-use wire_lines::{ReadFailed, Wire, WriteFailed};
+use wire_lines::{Wire, send};
 
-/// The most bytes that one read asks for.
+// The most bytes that one read asks for.
 const PIECE: usize = 65536;
 
-/// How many bytes the next read asks for, where so many more may come.
+// How many bytes the next read asks for, where so many more may come.
 fn asked(left: u64) -> usize
     ensures { result ≡ min left 65536 }
 {
     left.min(PIECE as u64) as usize
 }
 
-/// Works through all whole lines that came in, and writes what is due for each before the next.
-fn work<W: Wire>(session: &mut Session, wire: &mut W) -> Result<(), Status>
-    requires longest { session.old.cutter.longest ≡ 65536 }
-    ensures ok { OnOk result ((q : Asked) (bytes : List ℕ) (given : List (List ℕ)) → Holds q bytes given session.old → length bytes ≤ limit + 1 → Grows (W.journal wire.old) (W.journal wire.new) (Worked q bytes given session.new)) }
-    ensures wants { OnOk result (WantsBytes session.new.cutter) }
+// Works through all whole lines that came in, and writes what is due for each before the next.
+fn work<W: Wire>(answering: &mut Answering, wire: &mut W) -> Result<(), Status>
+    requires longest { answering.old.cutter.longest ≡ 65536 }
+    ensures ok { OnOk result (WorksThrough (W.journal wire.old) (W.journal wire.new) answering.old answering.new) }
+    ensures wants { OnOk result (WantsBytes answering.new.cutter) }
     ensures same { OnOk result ((W.read_faults wire.new ≡ W.read_faults wire.old) × (W.write_faults wire.new ≡ W.write_faults wire.old)) }
-    ensures err { IfErr result (λ status. (q : Asked) (bytes : List ℕ) (given : List (List ℕ)) → Holds q bytes given session.old → length bytes ≤ limit + 1 → Grows (W.journal wire.old) (W.journal wire.new) (Stopped q bytes given status)) }
+    ensures err { IfErr result (StopsWith (W.journal wire.old) (W.journal wire.new) answering.old) }
     ensures asked { IfErr result IsAsked }
-    ensures counts { IfErr result (λ status. Counts (W.read_faults wire.old) (W.read_faults wire.new) (W.write_faults wire.old) (W.write_faults wire.new) status) }
+    ensures counts { IfErr result (Counts (W.read_faults wire.old) (W.read_faults wire.new) (W.write_faults wire.old) (W.write_faults wire.new)) }
 {
     loop {
-        match session.next_step() {
+        match answering.next_step() {
             Step::More => return Ok(()),
             Step::Stop(status) => return Err(status),
-            Step::Out(out) => match send(wire, &out) {
-                Ok(()) => {}
-                Err(WriteFailed) => return Err(Status::WriteFault),
-            },
+            Step::Out(out) => send(wire, &out)?,
         }
     }
 }
 
-/// Writes what is due for the last line and at the end of the input.
-fn end<W: Wire>(session: &mut Session, wire: &mut W) -> Status
-    requires wants { WantsBytes session.old.cutter }
-    ensures ends { (q : Asked) (bytes : List ℕ) (given : List (List ℕ)) → Holds q bytes given session.old → Grows (W.journal wire.old) (W.journal wire.new) (EndsWith q bytes given result) }
-    ensures asked { IsAsked result }
-    ensures counts { Counts (W.read_faults wire.old) (W.read_faults wire.new) (W.write_faults wire.old) (W.write_faults wire.new) result }
+// Writes what is due for the last line and at the end of the input.
+fn end<W: Wire>(answering: &mut Answering, wire: &mut W) -> Result<(), Status>
+    requires wants { WantsBytes answering.old.cutter }
+    ensures ends { EndsAll (W.journal wire.old) (W.journal wire.new) answering.old (status_of result) }
+    ensures asked { IsAsked (status_of result) }
+    ensures counts { Counts (W.read_faults wire.old) (W.read_faults wire.new) (W.write_faults wire.old) (W.write_faults wire.new) (status_of result) }
 {
-    let last = match session.last_line() {
-        Ok(out) => out,
-        Err(status) => return status,
-    };
-    match send(wire, &last) {
-        Ok(()) => {}
-        Err(WriteFailed) => return Status::WriteFault,
-    }
-    let rest = match session.finish() {
-        Ok(out) => out,
-        Err(status) => return status,
-    };
-    match send(wire, &rest) {
-        Ok(()) => Status::Done,
-        Err(WriteFailed) => Status::WriteFault,
-    }
+    let last = answering.last_line()?;
+    send(wire, &last)?;
+    let rest = answering.finish()?;
+    send(wire, &rest)?;
+    Ok(())
 }
 
-/// Reads the input to its end, and writes what is answered as it becomes due. Only `answer`, which made the session, lets it go:
-/// a proof of letting it go is dear.
-fn read_on<W: Wire>(alloc: Global, session: &mut Session, wire: &mut W) -> Status
-    requires wants { WantsBytes session.old.cutter }
-    ensures ends { (q : Asked) → Holds q [] [] session.old → Grows (W.journal wire.old) (W.journal wire.new) (Ends (answers_to q) result) }
-    ensures asked { IsAsked result }
-    ensures counts { Counts (W.read_faults wire.old) (W.read_faults wire.new) (W.write_faults wire.old) (W.write_faults wire.new) result }
+// Reads the input to its end, and writes what is answered as it becomes due. Only `answer`, which made it, drops what answers:
+// dropping it costs the prover half a minute at each place.
+fn read_on<W: Wire>(answering: &mut Answering, wire: &mut W) -> Result<(), Status>
+    requires wants { WantsBytes answering.old.cutter }
+    ensures ends { RunsFrom (W.journal wire.old) (W.journal wire.new) answering.old (status_of result) }
+    ensures asked { IsAsked (status_of result) }
+    ensures counts { Counts (W.read_faults wire.old) (W.read_faults wire.new) (W.write_faults wire.old) (W.write_faults wire.new) (status_of result) }
 {
-    let Ok(mut buffer) = Vec::from_elem(alloc, 0u8, PIECE) else {
-        return Status::Memory;
-    };
     let mut left = LIMIT + 1;
     while left > 0 {
-        let into = &mut buffer[..asked(left)];
-        let count = match wire.read(into) {
-            Ok(count) => count,
-            Err(ReadFailed) => return Status::ReadFault,
-        };
+        let count = answering.read(wire, asked(left))?;
         if count == 0 {
-            return end(session, wire);
+            return end(answering, wire);
         }
         left -= count as u64;
-        session.take(&into[..count]);
-        match work(session, wire) {
-            Ok(()) => {}
-            Err(status) => return status,
-        }
+        work(answering, wire)?;
     }
-    Status::InputTooLong
+    Err(Status::InputTooLong)
 }
 
 /// Answers the input by the plan.
@@ -119,8 +93,11 @@ pub fn answer<W: Wire>(
     ensures asked { IsAsked result }
     ensures counts { Counts (W.read_faults wire.old) (W.read_faults wire.new) (W.write_faults wire.old) (W.write_faults wire.new) result }
 {
-    let Ok(mut session) = Session::new(alloc, plan, options, header) else {
+    let Ok(mut answering) = Answering::new(alloc, plan, options, header) else {
         return Status::Memory;
     };
-    read_on(alloc, &mut session, wire)
+    match read_on(&mut answering, wire) {
+        Ok(()) => Status::Done,
+        Err(status) => status,
+    }
 }

@@ -19,15 +19,18 @@ pub fn words_ask_for_one_job()
     ensures one { (words : List (List ℕ)) (j k : Job) → IsJob words j → IsJob words k → j ≡ k }
 {}
 
-/// Where no line has a fault, the input has at most 2^40 bytes and no call of the wire failed, a run ends Done, or for want of
+/// Where no line has a fault, the input has at most 2^40 bytes and no call of the wire failed, a run ends Done, or out of
 /// memory: where a query is answered, where its plan is told, and where its answer to generated lines is summed up.
 #[tactic(auto, using(crate::proofs::Jobs::complete, crate::proofs::Jobs::complete_told, crate::proofs::Jobs::complete_summed))]
 pub fn runs_are_complete()
-    ensures answered { (a : Answers) (status : Status) (J : List Entry) (reads reads' writes writes' : ℕ) → Ends a status J → Counts reads reads' writes writes' status →
+    ensures answered { (a : Answers) (status : Status) (J : List Entry) (reads reads' writes writes' : ℕ) →
+        Ends a status J → Counts reads reads' writes writes' status →
         a.fault (lines (ins J) (ended J)) (ended J) ≡ None → length (ins J) ≤ limit → (Rose reads reads' → ⊥) → (Rose writes writes' → ⊥) →
         (status ≡ Done) ⊎ (status ≡ Memory) }
-    ensures told { (plan : PlanParts) (status : Status) (J : List Entry) (reads reads' writes writes' : ℕ) → Tells plan status J → Counts reads reads' writes writes' status →
+    ensures told { (plan : PlanParts) (status : Status) (J : List Entry) (reads reads' writes writes' : ℕ) →
+        Tells plan status J → Counts reads reads' writes writes' status →
         (Rose writes writes' → ⊥) → (status ≡ Done) ⊎ (status ≡ Memory) }
-    ensures summed { (a : Answers) (lines : List (List ℕ)) (status : Status) (J : List Entry) (reads reads' writes writes' : ℕ) → Sums a lines status J → Counts reads reads' writes writes' status →
+    ensures summed { (a : Answers) (lines : List (List ℕ)) (status : Status) (J : List Entry) (reads reads' writes writes' : ℕ) →
+        Sums a lines status J → Counts reads reads' writes writes' status →
         a.fault lines true ≡ None → (Rose writes writes' → ⊥) → (status ≡ Done) ⊎ (status ≡ Memory) }
 {}

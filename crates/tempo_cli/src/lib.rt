@@ -3,16 +3,16 @@
 #![tactic(auto)]
 
 mod answer;
+mod answering;
 mod laws;
 mod notes;
 mod running;
 mod sampling;
-mod session;
 mod status;
 
+pub use answering::{Answering, Step};
 pub use laws::{runs_are_complete, words_ask_for_one_job};
 pub use notes::note;
 pub use running::run;
 pub use sampling::Sampling;
-pub use session::{Session, Step};
 pub use status::Status;

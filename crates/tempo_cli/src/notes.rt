@@ -6,24 +6,20 @@ ghost use Rattle.line_text.specs.Fields.{time_text as text_of_time};
 ghost use Rattle.tempo_cli.specs.Status.{cause_words, cause_place, fault_words, fault_place, place_text as text_of_place, note_of, joined_pieces, IsNoted};
 
 use crate::status::Status;
-use egress::send;
 use itoa::Buffer;
 use plan_model::QueryFault;
 use row_reader::BadLine;
 use tw_rows::Time;
-use wire_lines::{Wire, WriteFailed};
+use wire_lines::{Wire, WriteFailed, send};
 
-/// Writes the pieces in order.
+// Writes the pieces in order.
 fn send_pieces<N: Wire>(notes: &mut N, pieces: &[&[u8]]) -> Result<(), WriteFailed>
     ensures ok { OnOk result (Grows (N.journal notes.old) (N.journal notes.new) (SentAll (joined_pieces (map (λ p. p.now) pieces.now)))) }
     ensures err { OnErr result (Grows (N.journal notes.old) (N.journal notes.new) (SentFront (joined_pieces (map (λ p. p.now) pieces.now)))) }
     ensures cause { HasCause (N.write_faults notes.old) (N.write_faults notes.new) result }
 {
     for piece in pieces {
-        match send(notes, piece) {
-            Ok(()) => {}
-            Err(WriteFailed) => return Err(WriteFailed),
-        }
+        send(notes, piece)?;
     }
     Ok(())
 }

@@ -1,10 +1,10 @@
 // The whole run: from the words and the bytes that come in to the bytes that go out, the notes and the status.
-ghost use Rattle.std.specs.Prelude.{◌≡◌, ◌≤◌, ◌⊎◌, ℕ, List, [], map, IsTrue};
+ghost use Rattle.std.specs.Prelude.{◌≡◌, ◌≤◌, ◌⊎◌, ℕ, List, [], map, option_map, IsTrue};
 ghost use Rattle.wire_lines.specs.Journal.{Grows};
 ghost use Rattle.plan_model.specs.IsPlan.{PlanParts};
 ghost use Rattle.tempo_cli.specs.Jobs.{Job, IsJob, IsPlanned, HasPlan, HasFault, Does, DoesMode, Tells, HasReason, HasQueryReason, query_status};
 ghost use Rattle.tempo_cli.specs.Feeding.{IsAsked};
-ghost use Rattle.tempo_cli.specs.Status.{Counts, IsNoted};
+ghost use Rattle.tempo_cli.specs.Status.{Counts, IsNoted, IsRefusalTold};
 ghost use Rattle.command_line.specs.Words.{AreWithin, asked_by};
 ghost use Rattle.std.specs.List.{list_all};
 ghost use Rattle.built_nodes.specs.Built.{is_built};
@@ -15,16 +15,15 @@ use crate::notes::note;
 use crate::sampling::sum_up;
 use crate::status::Status;
 use command_line::{CommandLine, Mode, WordsFault, read_words};
-use egress::send;
 use plan_model::{Plan, QueryError};
 use query_plan::{explain, plan};
 use query_text::parse;
 use sample_trades::Sample;
 use std::alloc::Global;
 use tempo_engine::Options;
-use wire_lines::{Wire, WriteFailed};
+use wire_lines::{Wire, WriteFailed, send};
 
-/// The plan of the query that the text spells.
+// The plan of the query that the text spells.
 pub(crate) fn plan_of(alloc: Global, text: &str) -> Result<Plan, QueryError>
     ensures { IsPlanned text.now result }
 {
@@ -32,7 +31,7 @@ pub(crate) fn plan_of(alloc: Global, text: &str) -> Result<Plan, QueryError>
     plan(alloc, &query)
 }
 
-/// Writes the text of the plan.
+// Writes the text of the plan.
 fn tell<W: Wire>(alloc: Global, plan: &Plan, wire: &mut W) -> Status
     ensures asked { IsAsked result }
     ensures tells { Grows (W.journal wire.old) (W.journal wire.new) (Tells plan.now result) }
@@ -47,7 +46,17 @@ fn tell<W: Wire>(alloc: Global, plan: &Plan, wire: &mut W) -> Status
     }
 }
 
-/// Does what the mode says with the plan.
+// How an engine works for what the words ask for.
+fn options_of(asked: &CommandLine<'_>) -> Options
+    ensures { result ≡ record { batch = asked.now.batch; policy = asked.now.policy } }
+{
+    Options {
+        batch: asked.batch,
+        policy: asked.policy,
+    }
+}
+
+// Does what the mode says with the plan.
 fn do_mode<W: Wire>(alloc: Global, asked: &CommandLine<'_>, plan: Plan, wire: &mut W) -> Status
     requires batch { 1 ≤ asked.now.batch }
     requires events { asked.now.events ≤ 1000000 }
@@ -56,10 +65,7 @@ fn do_mode<W: Wire>(alloc: Global, asked: &CommandLine<'_>, plan: Plan, wire: &m
     ensures does { Grows (W.journal wire.old) (W.journal wire.new) (DoesMode asked.now.mode (asked_by asked.now) plan result) }
     ensures counts { Counts (W.read_faults wire.old) (W.read_faults wire.new) (W.write_faults wire.old) (W.write_faults wire.new) result }
 {
-    let options = Options {
-        batch: asked.batch,
-        policy: asked.policy,
-    };
+    let options = options_of(asked);
     match asked.mode {
         Mode::Run => answer(alloc, plan, options, asked.header, wire),
         Mode::Explain => tell(alloc, &plan, wire),
@@ -70,12 +76,14 @@ fn do_mode<W: Wire>(alloc: Global, asked: &CommandLine<'_>, plan: Plan, wire: &m
     }
 }
 
-/// Does what is asked for. The words were taken.
+// Does what is asked for. The words were taken.
 fn perform<W: Wire>(alloc: Global, asked: &CommandLine<'_>, wire: &mut W) -> Status
     requires within { AreWithin (asked_by asked.now) }
     ensures reason { HasQueryReason asked.now.query.now result }
-    ensures planned { (plan : PlanParts) → HasPlan asked.now.query.now plan → Grows (W.journal wire.old) (W.journal wire.new) (DoesMode asked.now.mode (asked_by asked.now) plan result) }
-    ensures unplanned { (fault : SomeFault) → HasFault asked.now.query.now fault → Grows (W.journal wire.old) (W.journal wire.new) (λ J. (J ≡ []) × ((result ≡ Status.BadQuery fault) ⊎ (result ≡ Status.Memory))) }
+    ensures planned { (plan : PlanParts) → HasPlan asked.now.query.now plan →
+        Grows (W.journal wire.old) (W.journal wire.new) (DoesMode asked.now.mode (asked_by asked.now) plan result) }
+    ensures unplanned { (fault : SomeFault) → HasFault asked.now.query.now fault →
+        Grows (W.journal wire.old) (W.journal wire.new) (λ J. (J ≡ []) × ((result ≡ Status.BadQuery fault) ⊎ (result ≡ Status.Memory))) }
     ensures counts { Counts (W.read_faults wire.old) (W.read_faults wire.new) (W.write_faults wire.old) (W.write_faults wire.new) result }
 {
     match plan_of(alloc, asked.query) {
@@ -84,7 +92,7 @@ fn perform<W: Wire>(alloc: Global, asked: &CommandLine<'_>, wire: &mut W) -> Sta
     }
 }
 
-/// The status of a run whose query has no plan, or for which memory was wanting.
+// The status of a run whose query has no plan, or that is out of memory.
 fn status_of(error: QueryError) -> Status
     ensures { result ≡ query_status error }
 {
@@ -94,9 +102,12 @@ fn status_of(error: QueryError) -> Status
     }
 }
 
-/// Writes the text of a refusal of the words, where there is one.
+// Writes the text of a refusal of the words, where there is one.
 fn tell_refusal<N: Wire>(notes: &mut N, text: &Option<String>)
-    ensures { Grows (N.journal notes.old) (N.journal notes.new) (IsNoted Status.BadWords (N.write_faults notes.old) (N.write_faults notes.new)) }
+    ensures text { Grows (N.journal notes.old) (N.journal notes.new)
+        (IsRefusalTold (option_map (λ t. t.bytes.items) text.now) (N.write_faults notes.old) (N.write_faults notes.new)) }
+    ensures noted { Grows (N.journal notes.old) (N.journal notes.new)
+        (IsNoted Status.BadWords (N.write_faults notes.old) (N.write_faults notes.new)) }
 {
     if let Some(text) = text {
         match send(notes, text.as_bytes()) {

@@ -11,15 +11,14 @@ ghost use Rattle.tempo_cli.specs.Feeding.{Asked, answers_to, IsAsked, IsOwn};
 ghost use Rattle.tempo_cli.specs.Sampled.{Sampled};
 ghost use Rattle.tempo_cli.specs.Status.{Counts};
 
-use crate::session::{feed, status_of};
+use crate::answering::feed;
 use crate::status::Status;
-use egress::send;
 use plan_model::Plan;
 use sample_trades::{LineCounts, Sample};
 use std::alloc::Global;
 use tempo_engine::{Engine, Options};
 use tw_rows::Memory;
-use wire_lines::{Wire, WriteFailed};
+use wire_lines::{Wire, WriteFailed, send};
 
 /// A query at work on generated lines: the lines still to come, the one that was fed last and its number, and the counts of the
 /// answer so far.
@@ -45,7 +44,8 @@ impl Sampling {
     ) -> Result<Sampling, Memory>
         requires batch { 1 ≤ options.batch }
         requires built { IsTrue (list_all is_built plan.nodes) }
-        ensures sampled { IfOk result (λ s. Sampled (record { plan = plan; policy = options.policy; header = header }) (map line_of (to_come sample)) s) }
+        ensures sampled { IfOk result (λ s.
+            Sampled (record { plan = plan; policy = options.policy; header = header }) (map line_of (to_come sample)) s) }
         ensures number { IfOk result (λ s. s.number ≡ 0) }
         ensures to_come { IfOk result (λ s. to_come s.sample ≡ to_come sample) }
     {
@@ -62,7 +62,7 @@ impl Sampling {
         })
     }
 
-    /// What the next line comes to: it is counted, and there may be another; or there was none.
+    // What the next line comes to: it is counted, and there may be another; or there was none.
     fn feed_next(&mut self) -> Result<bool, Status>
         requires few { self.old.number + length (to_come self.old.sample) ≤ 2000000 }
         ensures few { IfOk result (λ _. self.new.number + length (to_come self.new.sample) ≤ 2000000) }
@@ -75,25 +75,17 @@ impl Sampling {
         let Some(next) = self.sample.next_line() else {
             return Ok(false);
         };
-        match next.write(&mut self.line) {
-            Ok(()) => {}
-            Err(Memory) => return Err(Status::Memory),
-        }
+        next.write(&mut self.line)?;
         self.number += 1;
-        let out = match feed(
+        let out = feed(
             self.alloc,
             &mut self.engine,
             self.header,
             self.number,
             &self.line,
-        ) {
-            Ok(out) => out,
-            Err(fault) => return Err(status_of(fault)),
-        };
-        match self.counts.add(&out) {
-            Ok(()) => Ok(true),
-            Err(Memory) => Err(Status::Memory),
-        }
+        )?;
+        self.counts.add(&out)?;
+        Ok(true)
     }
 
     fn feed_all(&mut self) -> Result<(), Status>
@@ -104,55 +96,43 @@ impl Sampling {
         ensures own { IfErr result IsOwn }
     {
         'lines: loop {
-            match self.feed_next() {
-                Ok(more) => {
-                    if !more {
-                        return Ok(());
-                    }
-                }
-                Err(status) => return Err(status),
+            let more = self.feed_next()?;
+            if !more {
+                return Ok(());
             }
         }
     }
 
-    /// The summary, after all lines.
+    // The summary, after all lines.
     fn finish(&mut self) -> Result<Vec<u8>, Status>
         requires end { to_come self.old.sample ≡ [] }
         ensures fine { IfOk result (λ _. (q : Asked) (all : List (List ℕ)) → Sampled q all self.old → (answers_to q).fault all true ≡ None) }
-        ensures text { IfOk result (λ text. (q : Asked) (all : List (List ℕ)) → Sampled q all self.old → text.items ≡ summary_for (answers_to q) all) }
+        ensures text { IfOk result (λ text. (q : Asked) (all : List (List ℕ)) → Sampled q all self.old →
+            text.items ≡ summary_for (answers_to q) all) }
         ensures failed { IfErr result (λ status. (q : Asked) (all : List (List ℕ)) → Sampled q all self.old → IsFailed (answers_to q) all status) }
         ensures own { IfErr result IsOwn }
     {
-        let last = match self.engine.finish() {
-            Ok(last) => last,
-            Err(fault) => return Err(status_of(fault)),
-        };
-        match self.counts.add(&last) {
-            Ok(()) => {}
-            Err(Memory) => return Err(Status::Memory),
-        }
-        match self.counts.summary(self.alloc) {
-            Ok(text) => Ok(text),
-            Err(Memory) => Err(Status::Memory),
-        }
+        let last = self.engine.finish()?;
+        self.counts.add(&last)?;
+        let text = self.counts.summary(self.alloc)?;
+        Ok(text)
     }
 
-    /// The summary of all lines that are to come.
+    // The summary of all lines that are to come.
     fn sum(&mut self) -> Result<Vec<u8>, Status>
         requires few { self.old.number + length (to_come self.old.sample) ≤ 2000000 }
         ensures fine { IfOk result (λ _. (q : Asked) (all : List (List ℕ)) → Sampled q all self.old → (answers_to q).fault all true ≡ None) }
-        ensures text { IfOk result (λ text. (q : Asked) (all : List (List ℕ)) → Sampled q all self.old → text.items ≡ summary_for (answers_to q) all) }
+        ensures text { IfOk result (λ text. (q : Asked) (all : List (List ℕ)) → Sampled q all self.old →
+            text.items ≡ summary_for (answers_to q) all) }
         ensures failed { IfErr result (λ status. (q : Asked) (all : List (List ℕ)) → Sampled q all self.old → IsFailed (answers_to q) all status) }
         ensures own { IfErr result IsOwn }
     {
-        match self.feed_all() {
-            Ok(()) => self.finish(),
-            Err(status) => Err(status),
-        }
+        self.feed_all()?;
+        self.finish()
     }
 }
 
-/// The summary of what the plan answers to the lines.
+// The summary of what the plan answers to the lines.
 fn summed_up(
     alloc: Global,
     plan: Plan,
@@ -168,9 +148,7 @@ fn summed_up(
     ensures failed { IfErr result (IsFailed (answers plan options.policy header) (map line_of (to_come sample))) }
     ensures own { IfErr result IsOwn }
 {
-    let Ok(mut sampling) = Sampling::new(alloc, plan, options, header, sample) else {
-        return Err(Status::Memory);
-    };
+    let mut sampling = Sampling::new(alloc, plan, options, header, sample)?;
     sampling.sum()
 }
 

@@ -1,9 +1,13 @@
 // How a run ends.
 ghost use Rattle.std.specs.Prelude.{◌≡◌};
+ghost use Rattle.tempo_cli.specs.Feeding.{status_at};
+ghost use Rattle.tempo_cli.specs.declared.status.Status.TheVariants as statuses;
 
 use plan_model::QueryFault;
 use row_reader::BadLine;
-use tw_rows::Time;
+use tempo_engine::EngineFault;
+use tw_rows::{Memory, Time};
+use wire_lines::{ReadFailed, WriteFailed};
 
 /// How a run ends. The number of a line counts from 1, empty lines and a header too.
 #[derive(Clone, Copy, Debug, PartialEq, Eq)]
@@ -12,7 +16,7 @@ pub enum Status {
     Done,
     /// The words are not those of the command.
     BadWords,
-    /// The query is none, or has no plan.
+    /// The query does not parse, or cannot be planned.
     BadQuery(QueryFault),
     /// This line is bad.
     Malformed {
@@ -35,7 +39,7 @@ pub enum Status {
     InputTooLong,
     ReadFault,
     WriteFault,
-    /// Memory was wanting.
+    /// Out of memory.
     Memory,
 }
 
@@ -57,6 +61,51 @@ impl Status {
             Status::ReadFault => 8,
             Status::WriteFault => 9,
             Status::Memory => 10,
+        }
+    }
+}
+
+impl From<Memory> for Status {
+    ghost from_gives = { λ _ status. status ≡ statuses.Memory };
+
+    fn from(_memory: Memory) -> Status {
+        Status::Memory
+    }
+}
+
+impl From<ReadFailed> for Status {
+    ghost from_gives = { λ _ status. status ≡ statuses.ReadFault };
+
+    fn from(_failed: ReadFailed) -> Status {
+        Status::ReadFault
+    }
+}
+
+impl From<WriteFailed> for Status {
+    ghost from_gives = { λ _ status. status ≡ statuses.WriteFault };
+
+    fn from(_failed: WriteFailed) -> Status {
+        Status::WriteFault
+    }
+}
+
+impl From<EngineFault> for Status {
+    ghost from_gives = { λ fault status. status ≡ status_at fault };
+
+    fn from(fault: EngineFault) -> Status {
+        match fault {
+            EngineFault::Bad { line, cause } => Status::Malformed { line, cause },
+            EngineFault::Late { line, time, bound } => Status::Late { line, time, bound },
+            EngineFault::Overflow {
+                punctuation,
+                node,
+                time,
+            } => Status::Overflow {
+                punct: punctuation,
+                node,
+                time,
+            },
+            EngineFault::Memory => Status::Memory,
         }
     }
 }

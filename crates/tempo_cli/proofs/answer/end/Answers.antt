@@ -1,34 +1,53 @@
-use Rattle.std.proofs.Common.{◌≡◌, ◌++◌, ◌∷◌, [], List, ℕ, true, false, refl, sym, ◌∙◌, ap, append_assoc, subst}
-use Rattle.std.proofs.lemmas.List.Elements.{All-append}
+use Rattle.std.proofs.Common.{◌≡◌, ◌++◌, List, ℕ, true, false, refl, sym, ◌∙◌, ap, append_assoc, subst}
+use Rattle.std.proofs.lemmas.List.Elements.{All-append, All-nil}
+use Rattle.std.proofs.lemmas.List.{append-nil}
+use Rattle.std.proofs.lemmas.Result.{err_from_is_err_and}
 use Rattle.wire_lines.specs.Journal.{Entry, IsOut, outs}
-use Rattle.wire_lines.proofs.Growth.{Grows-weaker, Grows-grows, outs-append}
+use Rattle.wire_lines.proofs.Growth.{Grows-none, Grows-weaker, Grows-grows}
 use Rattle.tempo_cli.specs.Answers.{IsFront}
 use Rattle.tempo_cli.specs.Feeding.{answers_to}
-use Rattle.tempo_cli.specs.Table.{IsDone}
+use Rattle.tempo_cli.specs.Table.{IsDone, IsEnd}
 use Rattle.tempo_cli.proofs.Stopping.{end_front}
-use Rattle.tempo_cli.proofs.Journals.{own_counts, written_both}
+use Rattle.tempo_cli.proofs.Journals.{own_counts, risen, written_both}
 use Rattle.tempo_cli.proofs.Jobs.{own_asked}
 use Rattle.tempo_cli.proofs.answer.end.Goals as goal
 
-pub returns-in-Err-clause-counts : goal.returns-in-Err-clause-counts
-returns-in-Err-clause-counts g c = own_counts _ _ _ _ c.in-Err.status c.in-Err.ensures.own refl refl
+pub returns-in_err-last-clause-ends : goal.returns-in_err-last-clause-ends
+returns-in_err-last-clause-ends g c = let p = err_from_is_err_and c.from_residual.result c.from_residual.ensures.1 in rw (p.1, p.2) (λ q bytes given h. Grows-none _ (record {
+  outs_alone = All-nil IsOut;
+  end = subst (λ x. IsEnd (answers_to q) c.in_err-last.field-0.0 bytes x true) (sym (append-nil ((answers_to q).text given false))) (c.in_err-last.ensures.err q bytes given h);
+}))
 
-pub returns-in-Err-send-clause-ends : goal.returns-in-Err-send-clause-ends
-returns-in-Err-send-clause-ends g c = λ q bytes given h. Grows-weaker c.in-Err-send.ensures.err (λ O s. record {
+pub returns-in_err-last-clause-asked : goal.returns-in_err-last-clause-asked
+returns-in_err-last-clause-asked g c = let p = err_from_is_err_and c.from_residual.result c.from_residual.ensures.1 in rw (p.1, p.2) (own_asked _ c.in_err-last.ensures.own)
+
+pub returns-in_err-last-clause-counts : goal.returns-in_err-last-clause-counts
+returns-in_err-last-clause-counts g c = let p = err_from_is_err_and c.from_residual.result c.from_residual.ensures.1 in rw (p.1, p.2) (own_counts _ _ _ _ _ c.in_err-last.ensures.own refl refl)
+
+pub returns-in_err-send-clause-ends : goal.returns-in_err-send-clause-ends
+returns-in_err-send-clause-ends g c = let p = err_from_is_err_and c.from_residual-in_err-send.result c.from_residual-in_err-send.ensures.1 in rw (p.1, p.2) (λ q bytes given h. Grows-weaker c.in_err-send.ensures.err (λ O s. record {
   outs_alone = s.outs_alone;
-  end = end_front q bytes ((answers_to q).text given false) c.in-Ok.out.items (outs O) _ (c.in-Ok.ensures.ok q bytes given h) (s.after, sym c.deref.ensures.value ∙ s.front);
-})
+  end = end_front q bytes ((answers_to q).text given false) c.in_ok-last.last.items (outs O) _ (c.in_ok-last.ensures.ok q bytes given h) (s.after, sym c.deref.ensures.value ∙ s.front);
+}))
 
-pub returns-in-Err-finish-clause-counts : goal.returns-in-Err-finish-clause-counts
-returns-in-Err-finish-clause-counts g c = own_counts _ _ _ _ c.in-Err-finish.status c.in-Err-finish.ensures.own c.in-Ok-send.ensures.other.same c.in-Ok-send.ensures.cause.same
+pub returns-in_err-send-clause-asked : goal.returns-in_err-send-clause-asked
+returns-in_err-send-clause-asked g c = let p = err_from_is_err_and c.from_residual-in_err-send.result c.from_residual-in_err-send.ensures.1 in rw (p.1, p.2) tt
 
-pub returns-in-Ok-send-2-clause-ends : goal.returns-in-Ok-send-2-clause-ends
-returns-in-Ok-send-2-clause-ends g c = λ q bytes given h. Grows-grows c.in-Ok-send.ensures.ok c.in-Ok-send-2.ensures.ok (λ O K s t. record {
-  outs_alone = All-append IsOut O K s.outs_alone t.outs_alone;
-  end = subst (λ x. IsDone (answers_to q) bytes x true)
-      (written_both ((answers_to q).text given false) c.in-Ok.out.items c.in-Ok-finish.out.items O K (sym (s.all ∙ c.deref.ensures.value)) (sym (t.all ∙ c.deref-2.ensures.value)))
-      (c.in-Ok-finish.ensures.ok q bytes ((answers_to q).text given false ++ c.in-Ok.out.items) (c.in-Ok.ensures.ok q bytes given h));
-})
+pub returns-in_err-send-clause-counts : goal.returns-in_err-send-clause-counts
+returns-in_err-send-clause-counts g c = let p = err_from_is_err_and c.from_residual-in_err-send.result c.from_residual-in_err-send.ensures.1 in rw (p.1, p.2) c.in_err-send.ensures.cause.failed
+
+pub returns-in_err-rest-clause-ends : goal.returns-in_err-rest-clause-ends
+returns-in_err-rest-clause-ends g c = let p = err_from_is_err_and c.from_residual-in_err-rest.result c.from_residual-in_err-rest.ensures.1 in rw (p.1, p.2) (λ q bytes given h. Grows-weaker c.in_ok-send.ensures.ok (λ O s. record {
+  outs_alone = s.outs_alone;
+  end = subst (λ x. IsEnd (answers_to q) c.in_err-rest.field-0.0 bytes ((answers_to q).text given false ++ x) true) (sym (s.all ∙ c.deref.ensures.value))
+      (c.in_err-rest.ensures.err q bytes ((answers_to q).text given false ++ c.in_ok-last.last.items) (c.in_ok-last.ensures.ok q bytes given h));
+}))
+
+pub returns-in_err-rest-clause-asked : goal.returns-in_err-rest-clause-asked
+returns-in_err-rest-clause-asked g c = let p = err_from_is_err_and c.from_residual-in_err-rest.result c.from_residual-in_err-rest.ensures.1 in rw (p.1, p.2) (own_asked _ c.in_err-rest.ensures.own)
+
+pub returns-in_err-rest-clause-counts : goal.returns-in_err-rest-clause-counts
+returns-in_err-rest-clause-counts g c = let p = err_from_is_err_and c.from_residual-in_err-rest.result c.from_residual-in_err-rest.ensures.1 in rw (p.1, p.2) (own_counts _ _ _ _ _ c.in_err-rest.ensures.own c.in_ok-send.ensures.other.same c.in_ok-send.ensures.cause.same)
 
 -- all of the first part, and a front of the second
 front_of : (x y z whole after : List ℕ) (O K : List Entry) → (x ++ y) ++ z ≡ whole → y ≡ outs O → z ≡ outs K ++ after → IsFront (x ++ outs (O ++ K)) whole
@@ -37,16 +56,24 @@ front_of x y z whole after O K e p r = (
   sym e ∙ (ap (λ t. (x ++ y) ++ t) r ∙ (sym (append_assoc (x ++ y) (outs K) after) ∙ ap (λ t. t ++ after) (written_both x y (outs K) O K p refl))),
 )
 
-pub returns-clause-ends : goal.returns-clause-ends
-returns-clause-ends g c = λ q bytes given h. Grows-grows c.in-Ok-send.ensures.ok c.in-Err-send-2.ensures.err (λ O K s t.
-    let done = c.in-Ok-finish.ensures.ok q bytes ((answers_to q).text given false ++ c.in-Ok.out.items) (c.in-Ok.ensures.ok q bytes given h) in
+pub returns-in_err-send-2-clause-ends : goal.returns-in_err-send-2-clause-ends
+returns-in_err-send-2-clause-ends g c = let p = err_from_is_err_and c.from_residual-in_err-send-2.result c.from_residual-in_err-send-2.ensures.1 in rw (p.1, p.2) (λ q bytes given h. Grows-grows c.in_ok-send.ensures.ok c.in_err-send-2.ensures.err (λ O K s t.
+    let done = c.in_ok-rest.ensures.ok q bytes ((answers_to q).text given false ++ c.in_ok-last.last.items) (c.in_ok-last.ensures.ok q bytes given h) in
     record {
       outs_alone = All-append IsOut O K s.outs_alone t.outs_alone;
-      end = front_of ((answers_to q).text given false) c.in-Ok.out.items c.in-Ok-finish.out.items _ t.after O K done.written (sym (s.all ∙ c.deref.ensures.value)) (sym c.deref-2.ensures.value ∙ t.front);
-    })
+      end = front_of ((answers_to q).text given false) c.in_ok-last.last.items c.in_ok-rest.rest.items _ t.after O K done.written (sym (s.all ∙ c.deref.ensures.value)) (sym c.deref-2.ensures.value ∙ t.front);
+    }))
 
-pub returns-in-Err-clause-asked : goal.returns-in-Err-clause-asked
-returns-in-Err-clause-asked g c = own_asked c.in-Err.status c.in-Err.ensures.own
+pub returns-in_err-send-2-clause-asked : goal.returns-in_err-send-2-clause-asked
+returns-in_err-send-2-clause-asked g c = let p = err_from_is_err_and c.from_residual-in_err-send-2.result c.from_residual-in_err-send-2.ensures.1 in rw (p.1, p.2) tt
 
-pub returns-in-Err-finish-clause-asked : goal.returns-in-Err-finish-clause-asked
-returns-in-Err-finish-clause-asked g c = own_asked c.in-Err-finish.status c.in-Err-finish.ensures.own
+pub returns-in_err-send-2-clause-counts : goal.returns-in_err-send-2-clause-counts
+returns-in_err-send-2-clause-counts g c = let p = err_from_is_err_and c.from_residual-in_err-send-2.result c.from_residual-in_err-send-2.ensures.1 in rw (p.1, p.2) (risen _ _ _ c.in_ok-send.ensures.cause.same c.in_err-send-2.ensures.cause.failed)
+
+pub returns-clause-ends : goal.returns-clause-ends
+returns-clause-ends g c = λ q bytes given h. Grows-grows c.in_ok-send.ensures.ok c.in_ok-send-2.ensures.ok (λ O K s t. record {
+  outs_alone = All-append IsOut O K s.outs_alone t.outs_alone;
+  end = subst (λ x. IsDone (answers_to q) bytes x true)
+      (written_both ((answers_to q).text given false) c.in_ok-last.last.items c.in_ok-rest.rest.items O K (sym (s.all ∙ c.deref.ensures.value)) (sym (t.all ∙ c.deref-2.ensures.value)))
+      (c.in_ok-rest.ensures.ok q bytes ((answers_to q).text given false ++ c.in_ok-last.last.items) (c.in_ok-last.ensures.ok q bytes given h));
+})

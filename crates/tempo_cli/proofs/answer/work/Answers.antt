@@ -1,6 +1,7 @@
-use Rattle.std.proofs.Common.{◌≡◌, ◌++◌, ◌∷◌, [], List, ℕ, true, false, refl, sym, ◌∙◌, ap, append_assoc, subst}
+use Rattle.std.proofs.Common.{◌≡◌, ◌++◌, ◌∷◌, [], List, ℕ, false, refl, sym, ◌∙◌, ap, append_assoc, subst}
 use Rattle.std.proofs.lemmas.List.Elements.{All-append, All-nil}
 use Rattle.std.proofs.lemmas.List.{append-nil}
+use Rattle.std.proofs.lemmas.Result.{err_from_is_err_and}
 use Rattle.wire_lines.specs.Journal.{IsOut, outs}
 use Rattle.wire_lines.proofs.Growth.{Grows-none, Grows-weaker, outs-append}
 use Rattle.tempo_cli.specs.Answers.{IsFront}
@@ -37,21 +38,22 @@ returns-in-Stop-clause-counts g c = own_counts _ _ _ _ c.in-Stop.status c.in-Sto
 joined : (x y z bytes : List ℕ) (o : List ℕ) → y ≡ x ++ z → IsFront (y ++ o) bytes → IsFront (x ++ (z ++ o)) bytes
 joined x y z bytes o e f = subst (λ t. IsFront t bytes) (ap (λ t. t ++ o) e ∙ append_assoc x z o) f
 
-pub returns-in-Err-clause-err : goal.returns-in-Err-clause-err
-returns-in-Err-clause-err g c = λ q bytes given h few. Grows-then (c.loop-status.invariant.3 q bytes given h few) (λ O w. c.in-Err.ensures.err) (λ O K w s.
+pub returns-in_err-send-in-Out-clause-err : goal.returns-in_err-send-in-Out-clause-err
+returns-in_err-send-in-Out-clause-err g c =
+    let p = err_from_is_err_and c.from_residual.result c.from_residual.ensures.1 in rw (p.1, p.2) (λ q bytes given h few. Grows-then (c.loop-status.invariant.3 q bytes given h few) (λ O w. c.in_err-send-in-Out.ensures.err) (λ O K w s.
     let comes = c.in-Out.ensures.comes q bytes w.more w.holds few in
     record {
       outs_alone = All-append IsOut O K w.outs_alone s.outs_alone;
       end = λ ended. rw outs-append (joined ((answers_to q).text given false) ((answers_to q).text w.more false) (outs O) ((answers_to q).text (lines bytes ended) ended) (outs K) w.grown
-          (some_written comes.1.within (answers_final q comes.1.engine.took.sound) ((answers_to q).text w.more false) c.in-Out.out.items (outs K) comes.2 (s.after, sym c.deref.ensures.value ∙ s.front) ended));
-    })
+          (some_written comes.1.within (answers_final q comes.1.engine.took.by.sound) ((answers_to q).text w.more false) c.in-Out.out.items (outs K) comes.2 (s.after, sym c.deref.ensures.value ∙ s.front) ended));
+    }))
 
 pub loop-status-preserved : goal.loop-status-preserved
 loop-status-preserved g c = (
   c.in-Out.ensures.longest,
-  c.in-Ok.ensures.other.same ∙ c.loop-status.invariant.1,
-  c.in-Ok.ensures.cause.same ∙ c.loop-status.invariant.2,
-  λ q bytes given h few. Grows-then (c.loop-status.invariant.3 q bytes given h few) (λ O w. c.in-Ok.ensures.ok) (λ O K w s.
+  c.in_ok-send-in-Out.ensures.other.same ∙ c.loop-status.invariant.1,
+  c.in_ok-send-in-Out.ensures.cause.same ∙ c.loop-status.invariant.2,
+  λ q bytes given h few. Grows-then (c.loop-status.invariant.3 q bytes given h few) (λ O w. c.in_ok-send-in-Out.ensures.ok) (λ O K w s.
       let comes = c.in-Out.ensures.comes q bytes w.more w.holds few in
       record {
         outs_alone = All-append IsOut O K w.outs_alone s.outs_alone;

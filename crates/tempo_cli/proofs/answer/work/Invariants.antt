@@ -7,10 +7,10 @@ use Rattle.tempo_cli.proofs.answer.work.Given as goal
 
 abbrev pub invariant-loop-status : goal.invariant-loop-status
 invariant-loop-status g l =
-    (l.session.cutter.longest ≡ 65536)
+    (l.answering.cutter.longest ≡ 65536)
     × (g.W.Wire.read_faults l.wire ≡ g.W.Wire.read_faults l.fn.wire)
     × (g.W.Wire.write_faults l.wire ≡ g.W.Wire.write_faults l.fn.wire)
-    × ((q : Asked) (bytes : List ℕ) (given : List (List ℕ)) → Holds q bytes given l.fn.session → length bytes ≤ limit + 1 → Grows (g.W.Wire.journal l.fn.wire) (g.W.Wire.journal l.wire) (Worked q bytes given l.session))
+    × ((q : Asked) (bytes : List ℕ) (given : List (List ℕ)) → Holds q bytes given l.fn.answering → length bytes ≤ limit + 1 → Grows (g.W.Wire.journal l.fn.wire) (g.W.Wire.journal l.wire) (Worked q bytes given l.answering))
 
 abbrev pub decreases-loop-status : goal.decreases-loop-status
-decreases-loop-status g l = length l.session.cutter.rest
+decreases-loop-status g l = length l.answering.cutter.rest

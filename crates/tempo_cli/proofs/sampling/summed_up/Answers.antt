@@ -9,16 +9,16 @@ pub returns-clause-fine : goal.returns-clause-fine
 returns-clause-fine c =
     let q : Asked = record { plan = c.args.plan; policy = c.args.options.policy; header = c.args.header } in
     let all : List (List ℕ) = map line_of (to_come c.args.sample) in
-    IfOk-weaker c.sum.result _ _ (λ text f. f q all c.in-Ok.ensures.sampled) c.sum.ensures.fine
+    IfOk-weaker c.sum.result _ _ (λ text f. f q all c.in_ok-sampling.ensures.sampled) c.sum.ensures.fine
 
 pub returns-clause-text : goal.returns-clause-text
 returns-clause-text c =
     let q : Asked = record { plan = c.args.plan; policy = c.args.options.policy; header = c.args.header } in
     let all : List (List ℕ) = map line_of (to_come c.args.sample) in
-    IfOk-weaker c.sum.result _ _ (λ text f. f q all c.in-Ok.ensures.sampled) c.sum.ensures.text
+    IfOk-weaker c.sum.result _ _ (λ text f. f q all c.in_ok-sampling.ensures.sampled) c.sum.ensures.text
 
 pub returns-clause-failed : goal.returns-clause-failed
 returns-clause-failed c =
     let q : Asked = record { plan = c.args.plan; policy = c.args.options.policy; header = c.args.header } in
     let all : List (List ℕ) = map line_of (to_come c.args.sample) in
-    IfErr-weaker c.sum.result _ _ (λ status f. f q all c.in-Ok.ensures.sampled) c.sum.ensures.failed
+    IfErr-weaker c.sum.result _ _ (λ status f. f q all c.in_ok-sampling.ensures.sampled) c.sum.ensures.failed

@@ -1,12 +1,12 @@
-use Rattle.std.proofs.Common.{◌≡◌, ◌∙◌, ℕ, [], refl, sym, ap, arith, subst}
+use Rattle.std.proofs.Common.{◌∙◌, ℕ, [], refl, sym, ap, arith, subst}
 use Rattle.wire_lines.specs.Cutter.{CutterState, opening}
 use Rattle.tempo_cli.specs.Feeding.{WantsBytes}
 use Rattle.tempo_cli.proofs.Journals.{limit-is}
-use Rattle.tempo_cli.proofs.session.Session.new.Goals as goal
+use Rattle.tempo_cli.proofs.answering.Answering.new.Goals as goal
 
 -- before the first byte
 wants_first : (total : ℕ) → WantsBytes (opening 65536 total)
-wants_first total = record { longest = refl; hungry = refl; one_line = refl; short = omega arith }
+wants_first total = record { longest = refl; wants_bytes = refl; one_line = refl; short = omega arith }
 
 pub returns-clause-holds : goal.returns-clause-holds
 returns-clause-holds c = record {

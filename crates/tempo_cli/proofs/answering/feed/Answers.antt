@@ -3,7 +3,7 @@ use Rattle.std.specs.Prelude.{◌&&◌, nat_eq, IfOk, OnOk}
 use Rattle.std.proofs.lemmas.Bool.Decides.{nat_tests}
 use Rattle.std.proofs.lemmas.Result.{IfErr-weaker, IfOk-weaker}
 use Rattle.tempo_cli.proofs.Fed.{took_header, text_header, took_more, text_more, fault_more}
-use Rattle.tempo_cli.proofs.session.feed.Goals as goal
+use Rattle.tempo_cli.proofs.answering.feed.Goals as goal
 
 first_line : (h : Bool) (n : ℕ) → (h && nat_eq n 1) ≡ true → n ≡ 1
 first_line true n e = grind (arith, nat_tests)

@@ -1,16 +1,15 @@
-use Rattle.std.proofs.Common.{◌≡◌, ◌≤◌, ◌+◌, ◌∷◌, ◌++◌, [], ℕ, length, refl, sym, ◌∙◌, ap, arith}
+use Rattle.std.proofs.Common.{◌∷◌, ◌++◌, [], length, refl, sym, ap, arith}
 use Rattle.wire_lines.specs.Lines.{line_len}
 use Rattle.wire_lines.proofs.Cutting.{free_take, HasNoLf-one_line}
 use Rattle.wire_lines.proofs.CutsFacts.{tells_line, tells_too_long, tells_too_many, tells_all}
 use Rattle.wire_lines.proofs.LineLength.{line_len-le}
-use Rattle.wire_lines.proofs.Limits.{after_next-longest}
 use Rattle.wire_lines.proofs.NextFacts.{given, wanting}
 use Rattle.std.proofs.lemmas.List.{length-take}
 use Rattle.tempo_cli.proofs.Fed.{took_fine, long_fault}
 use Rattle.tempo_cli.proofs.Final.{answers_final}
 use Rattle.tempo_cli.proofs.Moves.{within_all, within_more, too_many, refused_long}
-use Rattle.tempo_cli.proofs.Stopping.{line_stops}
-use Rattle.tempo_cli.proofs.session.Session.next_step.Goals as goal
+use Rattle.tempo_cli.proofs.Stopping.{line_stops, own_at}
+use Rattle.tempo_cli.proofs.answering.Answering.next_step.Goals as goal
 
 pub returns-in-More-clause-comes : goal.returns-in-More-clause-comes
 returns-in-More-clause-comes c = λ q bytes lines h few. rw c.next_line.follows.holds-at-none (record {
@@ -24,7 +23,7 @@ returns-in-More-clause-wants c = λ e.
     let w = wanting c.args.self.now.cutter c.in-More.ensures.value in
     rw (c.next_line.follows.holds-at-none, w.after) (record {
       longest = c.requires.longest;
-      hungry = refl;
+      wants_bytes = refl;
       one_line = omega (arith, w.no_line, line_len-le c.args.self.now.cutter.rest);
       short = omega (arith, w.no_line, line_len-le c.args.self.now.cutter.rest, w.short, w.room, c.requires.longest);
     })
@@ -35,7 +34,7 @@ returns-in-TooMany-clause-comes c = λ q bytes lines h few ended. too_many h.wit
 pub returns-in-TooLong-clause-comes : goal.returns-in-TooLong-clause-comes
 returns-in-TooLong-clause-comes c = λ q bytes lines h few ended.
     let found = tells_too_long bytes c.args.self.now.cutter lines c.in-TooLong.number c.in-TooLong.ensures.value h.within.cuts in
-    rw c.too_long.ensures (refused_long h.within (answers_final q h.engine.took.sound) c.in-TooLong.number _ c.in-TooLong.ensures.value
+    rw c.too_long.ensures (refused_long h.within (answers_final q h.engine.took.by.sound) c.in-TooLong.number _ c.in-TooLong.ensures.value
     (λ line long. long_fault q lines line c.in-TooLong.number c.args.self.now.engine h.engine found.number_is long) ended)
 
 pub feed-fed-requires-clause-short : goal.feed-fed-requires-clause-short
@@ -67,4 +66,7 @@ pub returns-in-Err-clause-comes : goal.returns-in-Err-clause-comes
 returns-in-Err-clause-comes c = λ q bytes lines h few ended.
     let line = c.in-Line.line.bytes.now in
     let g = tells_line bytes c.args.self.now.cutter lines c.in-Line.line.number line c.in-Line.ensures.value h.within.cuts in
-    rw c.status_of.ensures.status (line_stops h.within (answers_final q h.engine.took.sound) c.in-Line.line.number line c.in-Err.fault g (c.in-Err.ensures.fault q lines (sym h.header) g.number_is h.engine) ended)
+    rw c.from.ensures (line_stops h.within (answers_final q h.engine.took.by.sound) c.in-Line.line.number line c.in-Err.fault g (c.in-Err.ensures.fault q lines (sym h.header) g.number_is h.engine) ended)
+
+pub returns-in-Err-clause-own : goal.returns-in-Err-clause-own
+returns-in-Err-clause-own c = rw c.from.ensures (own_at c.in-Err.fault)

@@ -1,0 +1,181 @@
+// The lines of an input, fed to an engine as their bytes come.
+ghost use Rattle.std.specs.Prelude.{◌≡◌, ◌≤◌, ◌<◌, ◌+◌, ◌++◌, ◌∷◌, ◌&&◌, IfOk, IfErr, IfSome, List, ℕ, [], None, true, false, nat_eq, length, IsTrue};
+ghost use Rattle.std.specs.List.{list_all};
+ghost use Rattle.wire_lines.specs.Lines.{HasNoLf};
+ghost use Rattle.wire_lines.specs.Cutter.{Overlong};
+ghost use Rattle.wire_lines.specs.Next.{next};
+ghost use Rattle.tempo_engine.specs.Faults.{IsFaultOf};
+ghost use Rattle.tempo_cli.specs.Table.{limit, IsDone, IsEnd};
+ghost use Rattle.built_nodes.specs.Built.{is_built};
+ghost use Rattle.wire_lines.specs.Faults.{HasCause, IsOther};
+ghost use Rattle.tempo_cli.specs.Feeding.{answers_to, Took, Holds, HasTaken, WhateverGiven, WhateverHeld, WhateverEnded, GrowsBy, WantsBytes, Comes, Ended, HasLess, IsOwn, StopsOwn};
+
+use crate::status::Status;
+use plan_model::Plan;
+use row_reader::BadLine;
+use std::alloc::Global;
+use tempo_engine::{Engine, EngineFault, Options};
+use tw_rows::Memory;
+use wire_lines::{Cut, LineCutter, ReadFailed, Wire};
+
+// The most bytes of a line, its LF not counted.
+const LONGEST: usize = 65536;
+
+/// The most bytes of the input.
+pub const LIMIT: u64 = 1 << 40;
+
+/// A query at work on an input: bytes come in to it from a wire, and it hands out what is to be written.
+#[derive(Drop)]
+pub struct Answering {
+    pub alloc: Global,
+    pub cutter: LineCutter,
+    pub engine: Engine,
+    pub header: bool,
+}
+
+/// What the next line comes to.
+#[derive(Drop)]
+pub enum Step {
+    /// All lines that came in were taken.
+    More,
+    /// These bytes are due.
+    Out(Vec<u8>),
+    /// No more lines are taken.
+    Stop(Status),
+}
+
+// Whether the line of that number is a header.
+fn is_header(header: bool, number: u64) -> bool
+    ensures { result ≡ (header && nat_eq number 1) }
+{
+    header && number == 1
+}
+
+// Feeds the line of that number; a header is not read.
+pub(crate) fn feed(
+    alloc: Global,
+    engine: &mut Engine,
+    header: bool,
+    number: u64,
+    line: &[u8],
+) -> Result<Vec<u8>, EngineFault>
+    requires short { length line.now ≤ 65536 }
+    requires no_feed { HasNoLf line.now }
+    ensures took { IfOk result (λ _. WhateverGiven header number engine.old (λ q given. Took q (given ++ line.now ∷ []) engine.new)) }
+    ensures text { IfOk result (λ out. WhateverGiven header number engine.old (λ q given. GrowsBy q given line.now out.items)) }
+    ensures fault { IfErr result (λ f.
+        WhateverGiven header number engine.old (λ q given. IsFaultOf f ((answers_to q).fault (given ++ line.now ∷ []) false))) }
+{
+    if is_header(header, number) {
+        return Ok(Vec::new(alloc));
+    }
+    engine.feed_line(number, line)
+}
+
+impl Answering {
+    /// Nothing fed. With a header line 1 is not read.
+    pub fn new(
+        alloc: Global,
+        plan: Plan,
+        options: Options,
+        header: bool,
+    ) -> Result<Answering, Memory>
+        requires batch { 1 ≤ options.batch }
+        requires built { IsTrue (list_all is_built plan.nodes) }
+        ensures holds { IfOk result (λ s. Holds (record { plan = plan; policy = options.policy; header = header }) [] [] s) }
+        ensures wants { IfOk result (λ s. WantsBytes s.cutter) }
+    {
+        let cutter = LineCutter::new(alloc, LONGEST, LIMIT)?;
+        let engine = Engine::new(alloc, plan, options)?;
+        Ok(Answering {
+            alloc,
+            cutter,
+            engine,
+            header,
+        })
+    }
+
+    /// Reads the next bytes of a wire, so many at most, and answers how many they are: 0 is the end of the input. What their
+    /// lines come to is asked for by `next_step`.
+    pub fn read<W: Wire>(&mut self, wire: &mut W, most: usize) -> Result<usize, ReadFailed>
+        requires wants { WantsBytes self.old.cutter }
+        requires some { 0 < most }
+        requires fits { most ≤ 65536 }
+        ensures bound { IfOk result (λ n. n ≤ most) }
+        ensures taken { HasTaken (W.journal wire.old) (W.journal wire.new) self.old self.new result }
+        ensures longest { self.new.cutter.longest ≡ 65536 }
+        ensures cause { HasCause (W.read_faults wire.old) (W.read_faults wire.new) result }
+        ensures other { IsOther (W.write_faults wire.old) (W.write_faults wire.new) result }
+    {
+        self.cutter.read_from(wire, most)
+    }
+
+    /// What the next line comes to.
+    pub fn next_step(&mut self) -> Step
+        requires longest { self.old.cutter.longest ≡ 65536 }
+        ensures longest { self.new.cutter.longest ≡ 65536 }
+        ensures comes { WhateverHeld self.old (λ q bytes given. length bytes ≤ limit + 1 → Comes q bytes given self.new result) }
+        ensures wants { result ≡ Step.More → WantsBytes self.new.cutter }
+        ensures less { HasLess self.old.cutter self.new.cutter result }
+        ensures long { (number : ℕ) → next self.old.cutter ≡ Overlong number → result ≡ Step.Stop (Status.Malformed number BadLine.TooLong) }
+        ensures own { StopsOwn result }
+    {
+        let fed = match self.cutter.next_line() {
+            Cut::More => return Step::More,
+            Cut::TooMany => return Step::Stop(Status::InputTooLong),
+            Cut::TooLong { number } => return Step::Stop(too_long(number)),
+            Cut::Line(line) => feed(
+                self.alloc,
+                &mut self.engine,
+                self.header,
+                line.number,
+                line.bytes,
+            ),
+        };
+        match fed {
+            Ok(out) => Step::Out(out),
+            Err(fault) => Step::Stop(Status::from(fault)),
+        }
+    }
+
+    /// What is due for the last line, where no LF ends it. The input has ended.
+    pub fn last_line(&mut self) -> Result<Vec<u8>, Status>
+        requires wants { WantsBytes self.old.cutter }
+        ensures ok { IfOk result (λ out.
+            WhateverHeld self.old (λ q bytes given. Ended q bytes ((answers_to q).text given false ++ out.items) self.new)) }
+        ensures err { IfErr result (λ status.
+            WhateverHeld self.old (λ q bytes given. IsEnd (answers_to q) status bytes ((answers_to q).text given false) true)) }
+        ensures own { IfErr result IsOwn }
+    {
+        let Some(line) = self.cutter.last_line() else {
+            return Ok(Vec::new(self.alloc));
+        };
+        let out = feed(
+            self.alloc,
+            &mut self.engine,
+            self.header,
+            line.number,
+            line.bytes,
+        )?;
+        Ok(out)
+    }
+
+    /// What is due at the end, after the last line.
+    pub fn finish(&mut self) -> Result<Vec<u8>, Status>
+        ensures ok { IfOk result (λ out. WhateverEnded self.old (λ q bytes written. IsDone (answers_to q) bytes (written ++ out.items) true)) }
+        ensures err { IfErr result (λ status. WhateverEnded self.old (λ q bytes written. IsEnd (answers_to q) status bytes written true)) }
+        ensures own { IfErr result IsOwn }
+    {
+        let out = self.engine.finish()?;
+        Ok(out)
+    }
+}
+
+fn too_long(number: u64) -> Status
+    ensures { result ≡ Status.Malformed number BadLine.TooLong }
+{
+    Status::Malformed {
+        line: number,
+        cause: BadLine::TooLong,
+    }
+}
