@@ -1,0 +1,7 @@
+pub mod Commas
+pub mod Spelling
+pub mod Both
+pub mod Short
+pub mod Cells
+pub mod TextOf
+pub mod Examples
