@@ -12,6 +12,8 @@ mod made;
 #[cfg(test)]
 mod outputs;
 #[cfg(test)]
+mod refusals;
+#[cfg(test)]
 mod sides;
 #[cfg(test)]
 mod stepping;

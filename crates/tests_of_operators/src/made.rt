@@ -1,9 +1,8 @@
 // Lines of rows of one int, lists of them, and the lines of what is told.
 ghost use Rattle.std.specs.Prelude.{◌≡◌, ◌≤◌, length, IfOk};
 
-use batch::Pools;
-use carried_edges::is_edge_part;
-use edge_stream::EdgeList;
+use carried_edges::{is_edge_part, load_part, save_edges};
+use edge_stream::{EdgeList, Saved};
 use std::alloc::Global;
 use std::process::Abort;
 use std::test::Fail;
@@ -32,18 +31,19 @@ fn edges(alloc: Global, lines: &[Line]) -> Result<Vec<Edge>, Fail> {
 pub(crate) fn list(
     rt: &impl Abort,
     alloc: Global,
-    pools: &mut Pools,
     kinds: &[Kind],
     lines: &[Line],
 ) -> Result<EdgeList, Fail>
     requires width { length kinds.now ≤ 32 }
-    requires capacity { pools.old.capacity ≡ 2 }
     ensures kinds { IfOk result (λ list. list.kinds ≡ kinds.now) }
     ensures capacity { IfOk result (λ list. list.capacity ≡ 2) }
 {
     let edges = edges(alloc, lines)?;
-    assert!(rt; is_edge_part(&edges, kinds, Time::ZERO));
-    Ok(EdgeList::from_edges(alloc, pools, kinds, &edges)?)
+    let mut saved = Saved::new(alloc);
+    save_edges(&mut saved, 0, &edges)?;
+    let empty = EdgeList::new(alloc, kinds, 2)?;
+    assert!(rt; is_edge_part(&saved, 0, kinds, Time::ZERO));
+    Ok(load_part(alloc, &saved, 0, &empty)?)
 }
 
 // The ints of a row, as the digits of a number, two for each.

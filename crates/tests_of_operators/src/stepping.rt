@@ -30,18 +30,17 @@ fn take<O: Operator>(
     closed: (Time, Time),
     step: &Step<'_>,
 ) -> Result<Vec<Line>, Fail>
-    requires works { O.has_failed operator.old ≡ false }
-    requires left_closed { O.left_closed operator.old ≡ closed.0 }
-    requires right_closed { O.right_closed operator.old ≡ closed.1 }
-    requires left { O.left_kinds operator.old ≡ CellKind.Whole ∷ [] }
-    requires right { O.right_kinds operator.old ≡ map cell_kind_of right_kinds.now }
+    requires works { (O.standing operator.old).has_failed ≡ false }
+    requires left_closed { (O.standing operator.old).left_closed ≡ closed.0 }
+    requires right_closed { (O.standing operator.old).right_closed ≡ closed.1 }
+    requires left { (O.standing operator.old).left_kinds ≡ CellKind.Whole ∷ [] }
+    requires right { (O.standing operator.old).right_kinds ≡ map cell_kind_of right_kinds.now }
     requires width { length right_kinds.now ≤ 32 }
-    requires rows { O.batch_rows operator.old ≡ 2 }
+    requires rows { (O.standing operator.old).batch_rows ≡ 2 }
 {
     let mut pools = Pools::new(alloc, 8, 2)?;
-    let left = list(rt, alloc, &mut pools, &[Kind::Int], step.left)?;
-    assert!(rt; pools.capacity() == 2);
-    let right = list(rt, alloc, &mut pools, right_kinds, step.right)?;
+    let left = list(rt, alloc, &[Kind::Int], step.left)?;
+    let right = list(rt, alloc, right_kinds, step.right)?;
     let left_to = Time::ZERO.plus(step.left_to);
     let right_to = Time::ZERO.plus(step.right_to);
     assert!(rt; pools.capacity() == 2 && closed.0 <= left_to && closed.1 <= right_to);
@@ -59,10 +58,10 @@ pub(crate) fn first_step<O: Operator>(
     step: &Step<'_>,
 ) -> Result<(Vec<Line>, Saved), Fail>
     requires opening { O.is_opening operator }
-    requires left { O.left_kinds operator ≡ CellKind.Whole ∷ [] }
-    requires right { O.right_kinds operator ≡ map cell_kind_of right_kinds.now }
+    requires left { (O.standing operator).left_kinds ≡ CellKind.Whole ∷ [] }
+    requires right { (O.standing operator).right_kinds ≡ map cell_kind_of right_kinds.now }
     requires width { length right_kinds.now ≤ 32 }
-    requires rows { O.batch_rows operator ≡ 2 }
+    requires rows { (O.standing operator).batch_rows ≡ 2 }
 {
     O::laws();
     let mut operator = operator;
@@ -82,10 +81,10 @@ pub(crate) fn later_step<O: Operator>(
     step: &Step<'_>,
 ) -> Result<Vec<Line>, Fail>
     requires opening { O.is_opening operator }
-    requires left { O.left_kinds operator ≡ CellKind.Whole ∷ [] }
-    requires right { O.right_kinds operator ≡ map cell_kind_of right_kinds.now }
+    requires left { (O.standing operator).left_kinds ≡ CellKind.Whole ∷ [] }
+    requires right { (O.standing operator).right_kinds ≡ map cell_kind_of right_kinds.now }
     requires width { length right_kinds.now ≤ 32 }
-    requires rows { O.batch_rows operator ≡ 2 }
+    requires rows { (O.standing operator).batch_rows ≡ 2 }
 {
     let mut operator = operator;
     let left_to = Time::ZERO.plus(first.0.left_to);

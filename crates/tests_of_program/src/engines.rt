@@ -4,7 +4,7 @@ use plan_model::QueryError;
 use query_plan::{built_nodes_alone, plan};
 use query_text::parse;
 use row_reader::BadLine;
-use std::alloc::Global;
+use std::alloc::{AllocError, Global};
 use std::process::Abort;
 use tempo_engine::{Engine, EngineFault, Options};
 use tw_rows::Time;
@@ -135,6 +135,18 @@ fn an_engine_moves_late_lines_to_the_bound(rt: HostRuntime) -> Result<(), QueryE
     Ok(())
 }
 
+/// Feeds one row a second, each of the second after the one before.
+fn feed_rows(rt: &impl Abort, alloc: Global, engine: &mut Engine) -> Result<(), AllocError> {
+    for i in 0..10000u64 {
+        let line = format!(in alloc; "s,interval,{i},{},a,1", i + 1)?;
+        match answered(rt, engine, i + 1, line.as_str()) {
+            Ok(bytes) => assert!(rt; bytes.is_empty(), "line {i}"),
+            Err(_) => panic!(rt; "line {i}"),
+        }
+    }
+    Ok(())
+}
+
 #[test]
 fn an_engine_tells_what_it_holds(rt: HostRuntime) -> Result<(), QueryError> {
     let policy = Policy {
@@ -144,23 +156,18 @@ fn an_engine_tells_what_it_holds(rt: HostRuntime) -> Result<(), QueryError> {
     };
     let group = "stream s(k text, v int); s | group by k : count as n";
     let mut fed = engine_of(rt.alloc(), group, policy)?;
-    let lines = [
-        ("s,interval,0,1,a,1", ""),
-        ("s,interval,1,2,a,1", ""),
-        ("s,interval,2,3,a,1", ""),
-        ("s,interval,3,4,a,1", ""),
-        ("s,interval,4,5,a,1", ""),
-    ];
-    feed_lines(&rt, &mut fed.engine, &lines);
+    feed_rows(&rt, rt.alloc(), &mut fed.engine)?;
     // The rows wait at the source, and nothing is kept of them yet by the group.
     let waiting = fed.engine.held()?;
     assert_eq!(rt; waiting.len(), 2);
-    assert!(rt; waiting[0].1 >= 5 && waiting[1].1 == 0);
-    match answered(&rt, &mut fed.engine, 6, "*,punct,5") {
-        Ok(bytes) => assert!(rt; bytes.as_slice() == "out,start,0,inf,a,1\n*,punct,5\n".as_bytes()),
+    assert!(rt; waiting[0].1 >= 10000 && waiting[1].1 == 0);
+    match answered(&rt, &mut fed.engine, 10001, "*,punct,10000") {
+        Ok(bytes) => assert!(rt;
+            bytes.as_slice() == "out,start,0,inf,a,1\n*,punct,10000\n".as_bytes()
+        ),
         Err(_) => panic!(rt; "the punctuation"),
     }
-    // One row has an end that is not below 5.
+    // One row has an end that is not below 10000.
     let held = fed.engine.held()?;
     assert_eq!(rt; held.len(), 2);
     assert!(rt; held[0].0 == 0 && held[0].1 <= 2);

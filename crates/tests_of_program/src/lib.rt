@@ -4,4 +4,8 @@
 #[cfg(test)]
 mod engines;
 #[cfg(test)]
+mod rows;
+#[cfg(test)]
 mod runs;
+#[cfg(test)]
+mod trades;

@@ -6,19 +6,19 @@ use wire_lines::MemoryWire;
 
 const FILTER: &str = "stream s(k text, v int); s | where v > 10";
 
-const ALL: &str = "stream s(k text, v int); s";
+pub(crate) const ALL: &str = "stream s(k text, v int); s";
 
 /// How a run over a wire in memory ended, and what went out over it and over the notes.
 #[derive(Drop)]
-struct Ran {
-    status: Status,
-    output: Vec<u8>,
-    notes: Vec<u8>,
-    steps: usize,
+pub(crate) struct Ran {
+    pub(crate) status: Status,
+    pub(crate) output: Vec<u8>,
+    pub(crate) notes: Vec<u8>,
+    pub(crate) steps: usize,
 }
 
 /// Runs the words over the input, which comes in pieces of `step` bytes; the call of number `failing` fails.
-fn run_over(
+pub(crate) fn run_over(
     alloc: Global,
     words: &[&str],
     input: &[u8],
@@ -31,7 +31,7 @@ fn run_over(
     }
     let input = Vec::from_slice(alloc, input)?;
     let step = if step > 0 { step } else { 1 };
-    let mut wire = MemoryWire::new(alloc, input, step, 1 << 16, calls)?;
+    let mut wire = MemoryWire::new(alloc, input, step, 1 << 18, calls)?;
     let mut notes = MemoryWire::new(alloc, Vec::new(alloc), 1, 4000, Vec::new(alloc))?;
     let status = run(alloc, words, &mut wire, &mut notes);
     Ok(Ran {
@@ -140,7 +140,7 @@ fn an_answer_to_generated_lines_is_summed_up(rt: HostRuntime) -> Result<(), Memo
         (
             "stream trades(id int, sym text, px int, qty int); trades",
             0,
-            "starts 200\nends 200\npuncts 3\n",
+            "starts 1000\nends 1000\npuncts 11\n",
             "",
         ),
         (
@@ -152,7 +152,7 @@ fn an_answer_to_generated_lines_is_summed_up(rt: HostRuntime) -> Result<(), Memo
     ];
     for (query, number, output, note) in cases {
         let words = [
-            "tempo", "--query", query, "--mode", "sample", "--events", "200",
+            "tempo", "--query", query, "--mode", "sample", "--events", "1000", "--number", "7",
         ];
         let ran = run_over(rt.alloc(), &words, b"x", 1, None)?;
         assert_eq!(rt; ran.status.number(), number, "{query}");
@@ -272,14 +272,49 @@ fn each_call_fails_in_turn(rt: HostRuntime) -> Result<(), Memory> {
     Ok(())
 }
 
+/// Whether the notes are text that names all of these.
+fn names_all(notes: &[u8], names: &[&str]) -> bool {
+    let Ok(text) = str::from_utf8(notes) else {
+        return false;
+    };
+    for name in names {
+        if !text.contains(*name) {
+            return false;
+        }
+    }
+    true
+}
+
+/// The options of the command.
+const OPTIONS: [&str; 9] = [
+    "--query",
+    "--mode",
+    "--batch",
+    "--late",
+    "--lateness",
+    "--punctuate",
+    "--header",
+    "--number",
+    "--events",
+];
+
+/// Words that are refused, what the text of their refusal names, and the help, which names each option.
 #[test]
 fn other_words_are_refused(rt: HostRuntime) -> Result<(), Memory> {
-    let cases: [&[&str]; 3] = [&[], &["tempo", "--query"], &["tempo", "--help"]];
-    for words in cases {
+    let cases: [(&[&str], &[&str]); 4] = [
+        (&[], &["--query"]),
+        (&["tempo", "--query"], &["--query"]),
+        (
+            &["tempo", "--query", ALL, "--batch", "0"],
+            &["--batch", "0"],
+        ),
+        (&["tempo", "--help"], &OPTIONS),
+    ];
+    for (words, names) in cases {
         let ran = run_over(rt.alloc(), words, b"x", 65536, None)?;
         assert_eq!(rt; ran.status, Status::BadWords);
         assert_eq!(rt; ran.steps, 0);
-        assert!(rt; !ran.notes.is_empty());
+        assert!(rt; names_all(&ran.notes, names));
     }
     Ok(())
 }

@@ -26,4 +26,4 @@ whole_placed texts kinds saved closed is sound =
 
 pub returns-clause-placed : goal.returns-clause-placed
 returns-clause-placed c = λ texts.
-    c.in_ok-load.ensures.placed texts (whole_placed texts c.in_ok-egress.egress.kinds.items c.args.saved.now _ c.in_ok-egress.ensures.kinds c.in_ok-load.ensures.sound)
+    c.in_ok-load.ensures.placed texts (whole_placed texts c.in_ok-egress.egress.rows.kinds.items c.args.saved.now _ c.in_ok-egress.ensures.kinds c.in_ok-load.ensures.sound)
