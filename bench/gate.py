@@ -1,15 +1,19 @@
 #!/usr/bin/env python3
-"""Runs the gate and says how many processor minutes it took, crate by crate.
+"""Measures how many processor minutes the gate takes, crate by crate: for its check, its tests and its must-fail edits.
 
-usage: bench/gate.py [NAME ..]
+usage: bench/gate.py [NAME ..]          runs `rt ci NAME ..` (with no name the whole gate), prints the table and keeps the figures
+       bench/gate.py --watch PID        the same for a run of rt that goes already, until it ends
+       bench/gate.py --table            writes docs/gate.md from the figures that are kept, and measures nothing
 
-Runs `rt ci NAME ..` at the top of the repository (with no name the whole gate), and every two seconds asks Linux for the
-processor time of each process that belongs to it: those of the prover, the compiler and the tests. A process counts for the
-crate that its words name by --crate-name, and for `other` where they name none. What a process used after the last look at
-it is lost, so the sums are a few per cent too low. What `rt ci` had passed before on this machine costs nothing.
-The last line is the exit status of the gate, and the status of this script is the same.
+Every second it asks Linux for the processor time of each process of the run: those of the prover, the compiler and the tests.
+A process counts for the crate that its words name by --crate-name, as those that it starts do, and for `other` where none is
+named. What a process used after the last look at it is lost, so the sums are a few per cent too low.
+Figures are kept in bench/gate.json, with the commit at which each crate was measured last. What `rt ci` had passed before on
+this machine costs nothing, and keeps the figure that it had. ./tempo --build says by these figures how long it takes yet.
+The status is that of the gate.
 """
 import collections
+import json
 import os
 import subprocess
 import sys
@@ -17,55 +21,150 @@ import time
 from pathlib import Path
 
 ROOT = Path(__file__).resolve().parent.parent
+KEPT = ROOT / "bench/gate.json"
+TABLE = ROOT / "docs/gate.md"
 TICK = os.sysconf("SC_CLK_TCK")
+PARTS = ("check", "tests", "edits")
+# Less is a look at what was kept.
+LEAST = 0.02
 
 
 def children(root):
-    """The processes below this one, itself included."""
-    parents = collections.defaultdict(list)
-    for name in os.listdir("/proc"):
-        if name.isdigit():
-            try:
-                fields = Path(f"/proc/{name}/stat").read_text().rpartition(")")[2].split()
-            except OSError:
-                continue
-            parents[int(fields[1])].append((int(name), int(fields[19]), int(fields[11]) + int(fields[12])))
-    found, left = [], [root]
+    """The processes below this one, each behind the one that started it: itself and its starter, each as number and start,
+    and its minutes."""
+    below, starts = collections.defaultdict(list), {}
+    for name in filter(str.isdigit, os.listdir("/proc")):
+        try:
+            fields = Path(f"/proc/{name}/stat").read_text().rpartition(")")[2].split()
+        except OSError:
+            continue
+        starts[int(name)] = int(fields[19])
+        below[int(fields[1])].append((int(name), (int(fields[11]) + int(fields[12])) / TICK / 60))
+    left = [root]
     while left:
-        for child in parents[left.pop()]:
-            found.append(child)
-            left.append(child[0])
-    return found
+        above = left.pop(0)
+        for pid, minutes in below[above]:
+            yield (pid, starts[pid]), (above, starts.get(above)), minutes
+            left.append(pid)
 
 
 def owner(pid):
-    """The crate that the process works for, and how: as its words say."""
+    """The crate that a process works for, and at which of the three parts, as its words and its folder say."""
     try:
         words = Path(f"/proc/{pid}/cmdline").read_bytes().decode(errors="replace").split("\0")
+        folder = os.readlink(f"/proc/{pid}/cwd")
     except OSError:
-        return "other"
-    if "--crate-name" in words:
-        return words[words.index("--crate-name") + 1]
-    return "other"
+        return None
+    if "--crate-name" not in words:
+        return None
+    name = words[words.index("--crate-name") + 1]
+    if "--only" in words and not words[words.index("--only") + 1]:
+        # The look at all sources before anything is proved.
+        return "sources", "check"
+    if "/rt-edit" in folder or any("/rt-edits-" in word for word in words):
+        return name, "edits"
+    return name, "tests" if "--test" in words else "check"
+
+
+def watch(pid, is_going):
+    """The processor minutes of a run, by crate and part."""
+    used, owners = {}, {}
+    while is_going():
+        for key, above, minutes in children(pid):
+            used[key] = minutes
+            if owners.get(key) is None:
+                owners[key] = owner(key[0]) or owners.get(above)
+        time.sleep(1)
+    sums = collections.defaultdict(lambda: dict.fromkeys(PARTS, 0.0))
+    for key, minutes in used.items():
+        name, part = owners[key] or ("other", "check")
+        sums[name][part] += minutes
+    return sums
+
+
+def commit():
+    """The commit that is measured, with a + where something was changed since."""
+    told = [subprocess.run(["git", *words], cwd=ROOT, capture_output=True, text=True).stdout.strip()
+            for words in (["rev-parse", "--short", "HEAD"], ["status", "--porcelain", "--untracked-files=no"])]
+    return told[0] + "+" * bool(told[1])
+
+
+def machine():
+    found = [line.partition(": ")[2] for line in Path("/proc/cpuinfo").read_text().splitlines() if line.startswith("model name")]
+    return f"{len(os.sched_getaffinity(0))} processors, {found[0] if found else os.uname().machine}"
+
+
+def kept():
+    try:
+        return json.loads(KEPT.read_text())
+    except (OSError, ValueError):
+        return {"crates": {}}
+
+
+def keep(sums):
+    """Puts the new figures in place of the old ones, each part by itself, and drops crates that are no more."""
+    named = crates()
+    rows = {name: row for name, row in kept()["crates"].items() if name in named}
+    for name, parts in sums.items():
+        new = {part: round(minutes, 2) for part, minutes in parts.items() if minutes >= LEAST}
+        if name in named and new:
+            rows[name] = {**rows.get(name, {}), **new, "at": commit()}
+    kit = subprocess.run(["rt", "version"], capture_output=True, text=True).stdout.strip()
+    sources = sums.get("sources", {}).get("check") or kept().get("sources")
+    told = {"machine": machine(), "kit": kit, **({"sources": round(sources, 2)} if sources else {}),
+            "crates": {name: rows[name] for name in named if name in rows}}
+    lines = [f'  {json.dumps(key)}: {json.dumps(value)},' for key, value in told.items() if key != "crates"]
+    of_crates = ",\n".join(f"    {json.dumps(name)}: {json.dumps(row)}" for name, row in told["crates"].items())
+    KEPT.write_text("{\n" + "\n".join(lines) + '\n  "crates": {\n' + of_crates + "\n  }\n}\n")
+
+
+def crates():
+    """The crates, as crates.txt has them, lowest first."""
+    rows = [line.partition("#")[0].partition(":")[0].strip() for line in (ROOT / "crates.txt").read_text().splitlines()]
+    return [name for name in rows if name]
+
+
+def table(rows):
+    """The table: for each crate the minutes of its parts, the dearest one first."""
+    whole = lambda row: sum(row.get(part, 0) for part in PARTS)
+    sums = {part: sum(row.get(part, 0) for row in rows.values()) for part in PARTS}
+    lines = ["| crate | check | tests | edits | together |", "|---|---:|---:|---:|---:|"]
+    for name, row in sorted([*rows.items()], key=lambda it: -whole(it[1])) + [("together", sums)]:
+        told = [f"{row[part]:.1f}" if row.get(part) else "" for part in PARTS]
+        lines.append(f"| {name} | {' | '.join(told)} | {whole(row):.1f} |")
+    return "\n".join(lines) + "\n"
+
+
+def write_table():
+    found = kept()
+    lacking = {"check": [name for name in crates() if not found["crates"].get(name, {}).get("check")],
+               "tests and edits": [] if any(row.get("edits") for row in found["crates"].values()) else ["any crate"]}
+    TABLE.write_text(
+        "# What the gate takes\n\nProcessor minutes from nothing, by `bench/gate.py`, on "
+        f"{found.get('machine', '?')}, with {found.get('kit', '?')}. An empty place was not measured, or takes less than a second.\n\n"
+        + table(found["crates"])
+        + "".join(f"\nNot measured by now, {part}: {', '.join(names)}.\n" for part, names in lacking.items() if names))
 
 
 def main():
-    gate = subprocess.Popen(["rt", "ci", *sys.argv[1:]], cwd=ROOT)
-    used, owners, began = {}, {}, time.monotonic()
-    while gate.poll() is None:
-        for pid, start, ticks in children(gate.pid):
-            used[pid, start] = ticks
-            if owners.get((pid, start), "other") == "other":
-                owners[pid, start] = owner(pid)
-        time.sleep(2)
-    sums = collections.Counter()
-    for key, ticks in used.items():
-        sums[owners[key]] += ticks / TICK / 60
-    for name, minutes in sums.most_common():
-        print(f"{minutes:7.1f}  {name}")
-    print(f"{sum(sums.values()):7.1f}  processor minutes, {(time.monotonic() - began) / 60:.1f} by the clock")
-    print(f"status {gate.returncode}")
-    return gate.returncode
+    words = sys.argv[1:]
+    if words == ["--table"]:
+        write_table()
+        return 0
+    began, status = time.monotonic(), 0
+    if words[:1] == ["--watch"]:
+        pid = int(words[1])
+        sums = watch(pid, lambda: os.path.exists(f"/proc/{pid}"))
+    else:
+        gate = subprocess.Popen(["rt", "ci", *words], cwd=ROOT)
+        sums = watch(gate.pid, lambda: gate.poll() is None)
+        status = gate.returncode
+    keep(sums)
+    write_table()
+    print(table(sums), end="")
+    print(f"{sum(sum(row.values()) for row in sums.values()):.1f} processor minutes, {(time.monotonic() - began) / 60:.1f} by the clock")
+    print(f"status {status}")
+    return status
 
 
 if __name__ == "__main__":
