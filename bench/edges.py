@@ -11,7 +11,7 @@ import sys
 from inside import run_inside
 
 EDGES = 1_000_000
-CRATES = "edge_stream edge_history batch tw_rows anyhow".split()
+CRATES = ["edge_stream", "anyhow"]
 
 SOURCE = """//! Times lists of edges.
 #![tactic(auto)]

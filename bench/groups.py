@@ -1,11 +1,10 @@
 #!/usr/bin/env python3
 """Times groups and their aggregates beside a program written by hand.
 
-usage: bench/groups.py YARDSTICK [COUNT] [--program PATH]
+usage: bench/groups.py [COUNT] [--program PATH]
 
-YARDSTICK is a program that, called as `YARDSTICK tumble`, reads the same trades and writes the same bytes by hand.
-Over COUNT trades (1,000,000 if not given): the count and the sum by `sym` in windows of 60 beside it, wanted at most 2.5
-times; `min` and `max` beside `sum`, in the windows and over the lives as they are, wanted at most twice; then ten times as
+Over COUNT trades (1,000,000 if not given): the count and the sum by `sym` in windows of 60 beside the yardstick, wanted at most
+2.5 times; `min` and `max` beside `sum`, in the windows and over the lifetimes as they are, wanted at most twice; then ten times as
 many trades, wanted at most 11 times as long. Then 300,000 start edges that never end, in one group and each in a group of
 its own, wanted below 3 seconds each.
 Ends with status 1 where the program fails or its bytes differ from the yardstick's, from the definition's lines (for `min`
@@ -15,14 +14,12 @@ import sys
 import tempfile
 from pathlib import Path
 
-from program import write_trades
-from runs import arguments, beside, changes, digest_of, in_turn, timed
+from runs import TRADES, arguments, beside, changes, digest_of, in_turn, timed, write_trades, yardstick
 
-TRADES = "stream trades(id int, sym text, px int, qty int); trades"
 TUMBLE = f"{TRADES} | tumble 60 | group by sym : count as n, sum qty as q"
 AGGREGATES = {
     f"{form} of {over}": f"{TRADES}{window} | group by sym : {form} qty as q"
-    for over, window in (("windows", " | tumble 60"), ("lives as they are", ""))
+    for over, window in (("windows", " | tumble 60"), ("lifetimes as they are", ""))
     for form in ("sum", "min", "max")
 }
 EDGES = 300_000
@@ -86,7 +83,7 @@ def start_edges(program, path):
 def main(read):
     with tempfile.TemporaryDirectory() as name:
         path = Path(name) / "lines"
-        ours, theirs = ([read.program, "--query", TUMBLE], path), ([read.yardstick, "tumble"], path)
+        ours, theirs = ([read.program, "--query", TUMBLE], path), ([yardstick(), "tumble"], path)
         write_trades(path, read.count // 10)
         good = holds_definition(read.program, path)
         good = start_edges(read.program, Path(name) / "edges") and good
@@ -109,5 +106,4 @@ def main(read):
 
 
 if __name__ == "__main__":
-    yardstick = {"help": "the program written by hand"}
-    main(arguments(__doc__, ("yardstick", yardstick), ("count", {"nargs": "?", "type": int, "default": 1_000_000})))
+    main(arguments(__doc__, ("count", {"nargs": "?", "type": int, "default": 1_000_000})))

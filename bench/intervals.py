@@ -1,19 +1,20 @@
 #!/usr/bin/env python3
-"""Times the built program over 10,000 intervals whose values are all distinct, all equal, or one of 50.
+"""Times the program over 10,000 intervals whose values are all distinct, all equal, or one of 50, and over 300,000 starts whose
+ends come in opposite order.
 
-usage: bench/intervals.py [COUNT [LONGEST]]
+usage: bench/intervals.py [COUNT [LONGEST]] [--program PATH]
 
-COUNT is the number of intervals, and LONGEST the greatest length of a life: about half as many rows are alive at once.
-Ends with status 1 where a run does not end Done, or takes more than 5 seconds.
+COUNT is the number of intervals, and LONGEST the greatest length of a lifetime: about half as many rows are alive at once.
+Ends with status 1 where a run does not end Done, or takes more than 5 seconds of the processor.
 """
-import subprocess
 import sys
-import time
-from pathlib import Path
+import tempfile
 
-PROGRAM = Path(__file__).resolve().parent.parent / "crates/tempo/out/tempo"
+from runs import arguments, timed
+
 QUERY = "stream s(v int); s | where v > 0"
 LIMIT = 5.0
+STARTS = 300_000
 MIX = 7919  # a prime: steps of it visit every place before one comes twice
 
 
@@ -25,30 +26,39 @@ def intervals(count, longest, value):
     return "".join(lines).encode()
 
 
-def timed(name, lines):
-    began = time.monotonic()
-    run = subprocess.run([PROGRAM, "--query", QUERY], input=lines, capture_output=True)
-    seconds = time.monotonic() - began
-    out = run.stdout.splitlines()
-    starts = sum(line.startswith(b"out,start,") for line in out)
-    ends = sum(line.startswith(b"out,end,") for line in out)
-    good = run.returncode == 0 and seconds <= LIMIT
-    print(f"{name:12} {seconds:7.2f} s  {starts:6} starts  {ends:6} ends  exit {run.returncode}")
-    return good
+def starts_and_ends():
+    """Starts of rows in order, and then their ends, that of the last start first."""
+    lines = [f"s,start,{i},inf,{1 + i % 977}\n" for i in range(STARTS)]
+    lines += [f"s,end,{STARTS},{i},{1 + i % 977}\n" for i in reversed(range(STARTS))]
+    return "".join(lines).encode()
 
 
-def main(count=10_000, longest=5_000):
-    if not PROGRAM.exists():
-        sys.exit("bench: build the program first, by ./tempo")
+def measured(program, name, lines):
+    with tempfile.NamedTemporaryFile() as file, tempfile.TemporaryFile() as out:
+        file.write(lines)
+        file.flush()
+        run = timed([program, "--query", QUERY], file.name, out)
+        out.seek(0)
+        written = list(out)
+    starts = sum(line.startswith(b"out,start,") for line in written)
+    ends = sum(line.startswith(b"out,end,") for line in written)
+    print(f"{name:13} {run.processor:6.2f} s of processor, {run.kilobytes / 1024:.0f} MB  {starts:6} starts  {ends:6} ends")
+    return run.processor <= LIMIT
+
+
+def main(read):
     kinds = {
-        "all distinct": lambda i: 1 + i * MIX % count,
+        "all distinct": lambda i: 1 + i * MIX % read.count,
         "all equal": lambda i: 7,
         "50 distinct": lambda i: 1 + i * MIX % 50,
     }
-    print(f"{count} intervals, lives of up to {longest} instants")
-    results = [timed(name, intervals(count, longest, value)) for name, value in kinds.items()]
-    sys.exit(0 if all(results) else 1)
+    print(f"{read.count} intervals, lifetimes of up to {read.longest} instants")
+    runs = [measured(read.program, name, intervals(read.count, read.longest, value)) for name, value in kinds.items()]
+    runs.append(measured(read.program, f"{STARTS} starts", starts_and_ends()))
+    sys.exit(0 if all(runs) else 1)
 
 
 if __name__ == "__main__":
-    main(*map(int, sys.argv[1:]))
+    count = {"nargs": "?", "type": int, "default": 10_000}
+    longest = {"nargs": "?", "type": int, "default": 5_000}
+    main(arguments(__doc__, ("count", count), ("longest", longest)))

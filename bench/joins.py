@@ -1,17 +1,14 @@
 #!/usr/bin/env python3
-"""Times a join and an anti-join by key beside a program written by hand, and the join beside PostgreSQL and SQLite.
+"""Times a join, an anti-join and sessions by key beside programs written by hand, and the join beside PostgreSQL and SQLite.
 
-usage: bench/joins.py YARDSTICK [COUNT] [--keys KEYS] [--program PATH]
+usage: bench/joins.py [COUNT] [--keys KEYS] [--program PATH]
 
-YARDSTICK is a program that, called as `YARDSTICK gen COUNT KEYS SEED`, writes COUNT lines of two streams with a punctuation
-after each 100, and, called as `YARDSTICK join` or `YARDSTICK anti`, reads them and writes by hand the bytes of
-`l | join r on k` or `l | anti r on k`.
-Over COUNT lines (1,000,000 if not given) of KEYS keys (1,000): both beside it, wanted at most 2.5 times; the join beside
-PostgreSQL (two tables of lives as ranges, an index of one by key, then one by key and life, in a server of this script's
-own) and SQLite (an index by key), once each, where they are installed: they write the pairs in no order, and their loading
-counts. Then, of both, a step over ten edges with 100,000 rows alive on each side beside one with 100 alive, where each row
-that comes meets one: its time, beside that of the yardstick, whose rows leave the caches too, and where valgrind is installed
-its instructions, which do not hang on that.
+Over COUNT lines (1,000,000 if not given) of two streams and KEYS keys (1,000): each beside the yardstick, wanted at most 2.5
+times; the join beside PostgreSQL (two tables of lifetimes as ranges, an index of one by key, then one by key and lifetime, in a
+server of this script's own) and SQLite (an index by key), once each, where they are installed: they write the pairs in no
+order, and their loading counts. Then, of the join and the anti-join, a step over ten edges with 100,000 rows alive on each side
+beside one with 100 alive, where each row that comes meets one: its time, beside that of the yardstick, whose rows leave the
+caches too, and where valgrind is installed its instructions, which do not depend on that.
 The first steps are left out: an anti-join groups its right side, and the first row of a group that ends out of turn brings
 all rows into an index, once. Then ten times as many lines of ten times as many keys, wanted at most 11 times as long.
 Ends with status 1 where a program fails, or its bytes differ from the yardstick's, or the pairs of a database do not give
@@ -27,13 +24,16 @@ import tempfile
 import time
 from pathlib import Path
 
-from runs import Run, arguments, beside, changes, digest_of, in_turn, timed
+from runs import STREAMS, Run, arguments, beside, changes, digest_of, in_turn, timed, write_keyed, yardstick
 
-STREAMS = "stream l(k int, w int); stream r(k int, x int); "
-QUERIES = {"join": STREAMS + "l | join r on k", "anti": STREAMS + "l | anti r on k"}
+QUERIES = {
+    "join": STREAMS + "l | join r on k",
+    "anti": STREAMS + "l | anti r on k",
+    "session": STREAMS + "l | session 30 by k",
+}
+STEPPED = ("join", "anti")
 STEPS = 50_000
 COUNTED_STEPS = 1_000
-SEED = 7
 
 POSTGRES_LOAD = """
 create unlogged table l (life int8range, k int8, w int8);
@@ -45,7 +45,7 @@ analyze;
 """
 POSTGRES_INDEXES = {
     "an index by key": "create index on r (k);",
-    "an index by key and life": "create extension btree_gist; create index on r using gist (k, life);",
+    "an index by key and lifetime": "create extension btree_gist; create index on r using gist (k, life);",
 }
 POSTGRES_JOIN = """
 create view b as select l.k, w, x, l.life * r.life as life from l join r on l.k = r.k where l.life && r.life;
@@ -65,13 +65,8 @@ where l.start < r.stop and r.start < l.stop;
 """
 
 
-def generate(yardstick, count, keys, path):
-    with open(path, "wb") as out:
-        subprocess.run([yardstick, "gen", str(count), str(keys), str(SEED)], stdout=out, check=True)
-
-
 def write_tables(lines, folder, life):
-    """The lines of each stream as a table for a database, with a life as that writes it."""
+    """The lines of each stream as a table for a database, with a lifetime as that writes it."""
     with open(lines) as read, open(folder / "left", "w") as left, open(folder / "right", "w") as right:
         for line in read:
             if not line.startswith("*"):
@@ -193,25 +188,25 @@ def step_instructions(words, folder, alive):
     return (counts[3 * COUNTED_STEPS] - counts[COUNTED_STEPS]) / (2 * COUNTED_STEPS)
 
 
-def jobs_of(program, yardstick, kind, lines):
+def jobs_of(program, kind, lines):
     """The runs of the kind of query over the lines, in the program and by hand."""
-    return {"ours": ([program, "--query", QUERIES[kind]], lines), "theirs": ([yardstick, kind], lines)}
+    return {"ours": ([program, "--query", QUERIES[kind]], lines), "theirs": ([yardstick(), kind], lines)}
 
 
 def main(read):
-    program, yardstick = read.program, Path(read.yardstick).resolve()
+    program = read.program
     with tempfile.TemporaryDirectory() as name:
         folder = Path(name)
         folder.chmod(0o755)
         lines = folder / "lines"
-        generate(yardstick, read.count, read.keys, lines)
+        write_keyed(lines, read.count, read.keys)
         good, runs = True, {}
         for kind in QUERIES:
-            least = in_turn(jobs_of(program, yardstick, kind, lines))
+            least = in_turn(jobs_of(program, kind, lines))
             runs[kind] = least["ours"]
             beside(f"{read.count} lines, {read.keys} keys, the {kind}", least["ours"], "the yardstick", least["theirs"], 2.5)
             good = good and least["ours"].digest == least["theirs"].digest
-        jobs, ours = jobs_of(program, yardstick, "join", lines), runs["join"]
+        jobs, ours = jobs_of(program, "join", lines), runs["join"]
         expected = timed(*jobs["ours"], punctuations=False).digest
         for database in (postgres, sqlite):
             place = folder / database.__name__
@@ -220,9 +215,9 @@ def main(read):
                 beside(f"the same in {name_of}", run, "the join", ours)
                 good = good and run.digest == expected
             shutil.rmtree(place)
-        for kind, query in QUERIES.items():
-            words = [program, "--query", query]
-            for name_of, called in (("", words), (" by hand", [yardstick, kind])):
+        for kind in STEPPED:
+            words = [program, "--query", QUERIES[kind]]
+            for name_of, called in (("", words), (" by hand", [yardstick(), kind])):
                 few, many = (step_time(called, folder, alive) for alive in (100, 100_000))
                 print(
                     f"a step of the {kind}{name_of} over ten edges: {few:.1f} us with 100 rows alive on each side, "
@@ -232,7 +227,7 @@ def main(read):
             if shutil.which("valgrind"):
                 few, many = (step_instructions(words, folder, alive) for alive in (100, 100_000))
                 print(f"instructions of ours: {few:.0f} and {many:.0f}, {many / few:.2f} times", flush=True)
-        generate(yardstick, 10 * read.count, 10 * read.keys, lines)
+        write_keyed(lines, 10 * read.count, 10 * read.keys)
         least = in_turn(jobs, 1)
         beside(f"{10 * read.count} lines, {10 * read.keys} keys", least["ours"], "a tenth of the lines", ours, 11)
         good = good and least["ours"].digest == least["theirs"].digest
@@ -240,6 +235,5 @@ def main(read):
 
 
 if __name__ == "__main__":
-    yardstick = {"help": "the program written by hand"}
     count = {"nargs": "?", "type": int, "default": 1_000_000}
-    main(arguments(__doc__, ("yardstick", yardstick), ("count", count), ("--keys", {"type": int, "default": 1000})))
+    main(arguments(__doc__, ("count", count), ("--keys", {"type": int, "default": 1000})))

@@ -1,59 +1,30 @@
 #!/usr/bin/env python3
-"""Times the built program over trades, and its answer to a line that makes a punctuation due.
+"""Times the program over trades, and its answer to a line that makes a punctuation due.
 
-usage: bench/program.py [YARDSTICK [COUNT]]
+usage: bench/program.py [COUNT] [--program PATH]
 
-YARDSTICK is a program that, called as `YARDSTICK filter`, reads the same lines and writes the same bytes by hand; where
-it is given, the program's time is told as a ratio to its time, the least of five runs of each, run in turn.
-Three figures: the time of `where px > 125` over COUNT trades (1,000,000 if not given) with a punctuation after each 100,
-and over ten times as many with the memory that the program then holds; and the time from a line that makes a punctuation due
-to the bytes being there, over a pipe.
+Three figures: `where px > 125` over COUNT trades (1,000,000 if not given) with a punctuation after each 100, beside the
+yardstick, wanted at most 2 times; the same over ten times as many, with the memory that the program then holds, wanted at most
+11 times as long; and the time from a line that makes a punctuation due to its bytes being there, over a pipe.
 Ends with status 1 where the program fails or its bytes differ from the yardstick's.
 """
-import hashlib
-import os
 import subprocess
 import sys
+import tempfile
 import time
 from pathlib import Path
 
-PROGRAM = Path(__file__).resolve().parent.parent / "crates/tempo/out/tempo"
-QUERY = "stream trades(id int, sym text, px int, qty int); trades | where px > 125"
+from runs import TRADES, arguments, beside, in_turn, write_trades, yardstick
+
+QUERY = f"{TRADES} | where px > 125"
+ROUNDS = 200
 
 
-def write_trades(path, count):
-    """Trades in order, some seconds apart, each alive for up to 20 seconds, with a punctuation after each 100."""
-    state, at = 7, 0
-    with open(path, "w") as out:
-        for i in range(count):
-            state = (state * 6364136223846793005 + 1442695040888963407) % 2**64
-            draw = state >> 33
-            at += 1 + draw % 3
-            end = at + 1 + (draw >> 4) % 20
-            out.write(f"trades,interval,{at},{end},{i},S{(draw >> 9) % 5},{100 + (draw >> 12) % 50},{1 + (draw >> 18) % 10}\n")
-            if (i + 1) % 100 == 0:
-                out.write(f"*,punct,{at}\n")
-
-
-def timed(words, path):
-    """Seconds, kilobytes held at most, and the digest of what the words write when they read the file."""
-    began = time.monotonic()
-    with open(path, "rb") as lines:
-        run = subprocess.Popen(words, stdin=lines, stdout=subprocess.PIPE)
-        digest = hashlib.sha256()
-        while piece := run.stdout.read(1 << 16):
-            digest.update(piece)
-        _, status, usage = os.wait4(run.pid, 0)
-    if status != 0:
-        sys.exit(f"bench: {words[0]} ended with {status}")
-    return time.monotonic() - began, usage.ru_maxrss, digest.hexdigest()
-
-
-def answer_time(rounds=200):
+def answer_time(program):
     """The median of the seconds from a line that makes a punctuation due to the first bytes, over a pipe."""
-    run = subprocess.Popen([PROGRAM, "--query", QUERY], stdin=subprocess.PIPE, stdout=subprocess.PIPE, bufsize=0)
+    run = subprocess.Popen([program, "--query", QUERY], stdin=subprocess.PIPE, stdout=subprocess.PIPE, bufsize=0)
     times = []
-    for i in range(1, rounds + 1):
+    for i in range(1, ROUNDS + 1):
         run.stdin.write(f"trades,interval,{10 * i},{10 * i + 5},{i},S,130,1\n".encode())
         began = time.monotonic()
         run.stdin.write(f"*,punct,{10 * i + 7}\n".encode())
@@ -64,37 +35,25 @@ def answer_time(rounds=200):
     run.stdin.close()
     run.stdout.read()
     run.wait()
-    return sorted(times)[rounds // 2]
+    return sorted(times)[ROUNDS // 2]
 
 
-def main(yardstick=None, count="1000000"):
-    if not PROGRAM.exists():
-        sys.exit("bench: build the program first, by ./tempo")
-    count = int(count)
-    path = Path(os.environ.get("TMPDIR", "/tmp")) / f"tempo_trades_{os.getpid()}"
-    try:
-        write_trades(path, count)
-        words = [str(PROGRAM), "--query", QUERY]
-        ours, theirs, digests = [], [], set()
-        for _ in range(5):
-            seconds, _, digest = timed(words, path)
-            ours.append(seconds)
-            digests.add(digest)
-            if yardstick:
-                seconds, _, digest = timed([yardstick, "filter"], path)
-                theirs.append(seconds)
-                digests.add(digest)
-        least = min(ours)
-        beside = f", {least / min(theirs):.2f} times the yardstick's {min(theirs):.2f} s" if yardstick else ""
-        print(f"{count} trades: {least:.2f} s{beside}")
-        write_trades(path, 10 * count)
-        seconds, kilobytes, _ = timed(words, path)
-        print(f"{10 * count} trades: {seconds:.2f} s, {seconds / least:.1f} times as long, {kilobytes / 1024:.0f} MB at most")
-        print(f"from a line that makes a punctuation due to its bytes: {answer_time() * 1e6:.0f} us")
-        sys.exit(0 if len(digests) == 1 else 1)
-    finally:
-        path.unlink(missing_ok=True)
+def main(read):
+    with tempfile.TemporaryDirectory() as name:
+        path = Path(name) / "trades"
+        ours, theirs = ([read.program, "--query", QUERY], path), ([yardstick(), "filter"], path)
+        write_trades(path, read.count)
+        least = in_turn({"ours": ours, "theirs": theirs})
+        alone = least["ours"]
+        beside(f"{read.count} trades, where px > 125", alone, "the yardstick", least["theirs"], 2)
+        good = alone.digest == least["theirs"].digest
+        write_trades(path, 10 * read.count)
+        least = in_turn({"ours": ours, "theirs": theirs}, 1)
+        beside(f"{10 * read.count} trades", least["ours"], "a tenth of the lines", alone, 11)
+        good = good and least["ours"].digest == least["theirs"].digest
+    print(f"from a line that makes a punctuation due to its bytes: {answer_time(read.program) * 1e6:.0f} us")
+    sys.exit(0 if good else 1)
 
 
 if __name__ == "__main__":
-    main(*sys.argv[1:])
+    main(arguments(__doc__, ("count", {"nargs": "?", "type": int, "default": 1_000_000})))

@@ -1,5 +1,5 @@
-"""What the scripts that time whole runs share: a run timed by the clock and by the processor, runs of several programs in
-turn, and the lines that the definition of output gives for a list of events."""
+"""What the scripts that time whole runs share: the yardstick and its lines, a run timed by the clock and by the processor, runs
+of several programs in turn, and the lines that the definition of output gives for a list of events."""
 import argparse
 import hashlib
 import os
@@ -12,7 +12,12 @@ from collections import defaultdict, deque
 from pathlib import Path
 from typing import NamedTuple
 
-PROGRAM = Path(__file__).resolve().parent.parent / "crates/tempo/out/tempo"
+BENCH = Path(__file__).resolve().parent
+PROGRAM = BENCH.parent / "crates/tempo/out/tempo"
+COLUMNS = "(id int, sym text, px int, qty int)"
+TRADES = f"stream trades{COLUMNS}; trades"
+STREAMS = "stream l(k int, w int); stream r(k int, x int); "
+SEED = 7
 
 
 class Run(NamedTuple):
@@ -22,6 +27,31 @@ class Run(NamedTuple):
     processor: float
     kilobytes: int
     digest: str
+
+
+def yardstick():
+    """The program of the queries written by hand, built by `rustc` where its sources are newer."""
+    program, sources = BENCH / "out/yardstick", sorted((BENCH / "yardstick").glob("*.rs"))
+    if not program.exists() or any(source.stat().st_mtime > program.stat().st_mtime for source in sources):
+        program.parent.mkdir(exist_ok=True)
+        main = BENCH / "yardstick/main.rs"
+        try:
+            subprocess.run(["rustc", "-O", "--edition", "2021", "-o", program, main], check=True)
+        except FileNotFoundError:
+            sys.exit("bench: the yardstick is written in Rust: install rustc")
+    return program
+
+
+def write_trades(path, count):
+    """Trades in order, 1 to 3 units apart, each alive for up to 20, with a punctuation after each 100."""
+    with open(path, "wb") as out:
+        subprocess.run([yardstick(), "trades", str(count), str(SEED)], stdout=out, check=True)
+
+
+def write_keyed(path, count, keys):
+    """Lines of the streams `l` and `r`, of so many keys, with a punctuation after each 100."""
+    with open(path, "wb") as out:
+        subprocess.run([yardstick(), "keyed", str(count), str(keys), str(SEED)], stdout=out, check=True)
 
 
 def digest_of(lines):
@@ -121,5 +151,6 @@ def arguments(text, *positional):
     reader.add_argument("--program", type=Path, default=PROGRAM, help="the program that is timed")
     read = reader.parse_args()
     if not read.program.exists():
-        sys.exit("bench: build the program first, by ./tempo")
+        sys.exit(f"bench: there is no {read.program}: build the program first, or name one by --program")
+    read.program = read.program.resolve()
     return read

@@ -1,12 +1,12 @@
 #!/usr/bin/env python3
-"""Times windows, moves of lives and a union beside the query that is the stream alone.
+"""Times windows, changes of lifetimes and a union beside the query that is the stream alone.
 
 usage: bench/windows.py [COUNT] [--program PATH]
 
 Over COUNT trades (1,000,000 if not given) with a punctuation after each 100: `hop 60 60`, `tumble 60`, `delay 5`,
 `extend 5`, `duration 5`, and the union of two streams that have half of the lines each, all in turn, the least of five runs;
-wanted is at most 1.3 times the stream alone. The tumbling window is also told beside the stream alone over lives that are
-those windows already, which has the same output. Then a step over ten edges, five starts and five ends, with 100,000 rows
+wanted is at most 1.3 times the stream alone. The tumbling window is also told beside the stream alone over lifetimes that
+are those windows already, which has the same output. Then a step over ten edges, five starts and five ends, with 100,000 rows
 alive beside one with 100 alive: the difference of a run of many steps and of one that ends where so many are alive, by step.
 Then ten times as many trades, wanted at most 11 times as long.
 Ends with status 1 where the program fails, where two runs differ, or where what is written over a tenth of the trades is
@@ -16,14 +16,11 @@ import sys
 import tempfile
 from pathlib import Path
 
-from program import write_trades
-from runs import arguments, beside, changes, digest_of, in_turn, timed
+from runs import COLUMNS, TRADES, arguments, beside, changes, digest_of, in_turn, timed, write_trades
 
-COLUMNS = "(id int, sym text, px int, qty int)"
-TRADES = f"stream trades{COLUMNS}; trades"
 HALVES = f"stream a{COLUMNS}; stream b{COLUMNS}; a | union b"
 
-# Each query with the life that the definition gives for a life from start to end.
+# Each query with the lifetime that the definition gives for a lifetime from start to end.
 LIVES = {
     "the stream alone": (TRADES, lambda start, end: (start, end)),
     "hop 60 60": (f"{TRADES} | hop 60 60", lambda start, end: (start // 60 * 60, start // 60 * 60 + 60)),
@@ -45,7 +42,7 @@ def write_halves(path, halves):
 
 
 def write_windows(path, windows):
-    """The same lines, each life the window of 60 that its start is in, and the punctuations between windows."""
+    """The same lines, each lifetime the window of 60 that its start is in, and the punctuations between windows."""
     with open(path) as lines, open(windows, "w") as out:
         last = 0
         for line in lines:
@@ -79,7 +76,7 @@ def holds_definition(program, path, halves):
 
 
 def write_steps(path, steps, life):
-    """Steps of one instant: five rows that start, of lives so long, and a punctuation."""
+    """Steps of one instant: five rows that start, of lifetimes so long, and a punctuation."""
     with open(path, "w") as out:
         for at in range(1, steps + 1):
             for i in range(ROWS_A_STEP):
@@ -122,7 +119,7 @@ def main(read):
         write_windows(path, folder / "windows")
         words = [read.program, "--query", TRADES]
         given = in_turn({"given": (words, folder / "windows")})["given"]
-        beside("tumble 60", least["tumble 60"], "the stream alone over lives that are windows", given)
+        beside("tumble 60", least["tumble 60"], "the stream alone over lifetimes that are windows", given)
         good = good and given.digest == least["tumble 60"].digest
         step = {"the stream alone": "", "hop": " | hop {life} 1", "duration": " | duration {life}"}
         step |= {"delay": " | delay 5", "extend": " | extend 5"}
