@@ -9,3 +9,5 @@ pub mod LastBatch
 pub mod Filling
 pub mod Merging
 pub mod Placed
+pub mod Together
+pub mod ShardCuts

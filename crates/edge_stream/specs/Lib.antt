@@ -1,5 +1,6 @@
--- Callers read Listing, Taking and Reading; Sides is cited by private contracts alone.
+-- Callers read Listing, Taking, Reading and Shards; Sides is cited by private contracts alone.
 pub mod Sides
 pub mod Listing
 pub mod Taking
 pub mod Reading
+pub mod Shards

@@ -1,9 +1,10 @@
 -- What contracts see of a `Cursor`.
-use Rattle.std.specs.Prelude.{◌≡◌, ℕ, true, List, [], ◌∷◌, ◌++◌, map, drop, All, slice_get, Some}
+use Rattle.std.specs.Prelude.{◌≡◌, ℕ, nat_lt, Bool, true, false, List, [], ◌∷◌, ◌++◌, map, drop, All, slice_get, Option, Some, None, IsSome}
 use Rattle.occupancy.specs.Bits.{is_set_at}
 use Rattle.tw_rows.specs.declared.edge.Edge.{Edge}
 use Rattle.tw_rows.specs.declared.kind.CellKind.{CellKind}
 use Rattle.batch.specs.Rows.{Table, edges_of}
+use Rattle.edge_history.specs.Order.{rank}
 use Rattle.edge_stream.specs.Listing.{edges_in}
 
 -- the edges that are still to come, and how their cells are stored
@@ -28,3 +29,19 @@ AreOfKinds kinds batches = All (λ b. b.kinds ≡ kinds) batches
 pub record IsReading (kinds : List CellKind) (batches : List Table) (place row : ℕ) : Type 0 where
   pub alike : AreOfKinds kinds batches
   pub at : IsAtEdge batches place row
+
+-- the rank of the first edge, if there is one
+abbrev pub rank_ahead : List Edge → Option ℕ
+rank_ahead [] = None
+rank_ahead (e ∷ es) = Some (rank e)
+
+-- the first rank is there, and the second is not, or is greater
+abbrev pub is_below_rank : Option ℕ → Option ℕ → Bool
+is_below_rank None other = false
+is_below_rank (Some r) None = true
+is_below_rank (Some r) (Some s) = nat_lt r s
+
+-- the cursor has a next edge, and no other one's comes before it
+pub record IsFirst (c : Unread) (cursors : List Unread) : Type 0 where
+  pub some : IsSome (rank_ahead c.edges)
+  pub least : All (λ other. is_below_rank (rank_ahead other.edges) (rank_ahead c.edges) ≡ false) cursors

@@ -1,5 +1,5 @@
 // Reading the edges of a list, one after another.
-ghost use Rattle.std.specs.Prelude.{◌≡◌, ◌↔◌, List, [], ◌∷◌, ◌++◌, map, drop, IfSome, IsNone, IfOk, OnOk, OnErr};
+ghost use Rattle.std.specs.Prelude.{◌≡◌, ◌≤◌, ◌<◌, ◌↔◌, List, [], ◌∷◌, ◌++◌, map, drop, length, All, IfSome, IsNone, IfOk, OnOk, OnErr};
 ghost use Rattle.std.specs.Option.{option_to_list};
 ghost use Rattle.tw_rows.specs.Cells.{datum_kind};
 ghost use Rattle.tw_rows.specs.declared.edge.Edge.{Edge};
@@ -9,8 +9,10 @@ ghost use Rattle.edge_history.specs.Order.{rank, KeepsOrder};
 ghost use Rattle.edge_stream.specs.Listing.{edges_in, cells_of, appended};
 ghost use Rattle.edge_stream.specs.Taking.{room_taken};
 ghost use Rattle.edge_stream.specs.Reading.{edges_from, IsAtEdge, AreOfKinds};
+ghost use Rattle.edge_stream.specs.Shards.{shard_by};
 
 use crate::list::EdgeList;
+use crate::shards::shard_at;
 use batch::{Batch, Pools};
 use std::collections::VecDeque;
 use std::marker::Model;
@@ -77,8 +79,8 @@ impl<'a> Cursor<'a> {
         }
     }
 
-    // Goes past the next edge.
-    fn advance(&mut self)
+    /// Goes past the next edge.
+    pub(crate) fn advance(&mut self)
         ensures edges { (e : Edge) (rest : List Edge) → self.old.edges ≡ e ∷ rest → self.new.edges ≡ rest }
         ensures kinds { self.new.kinds ≡ self.old.kinds }
     {
@@ -129,6 +131,20 @@ impl<'a> Cursor<'a> {
         let (sync, other) = self.times()?;
         let twice = 2 * sync.word();
         Some(if other < sync { twice } else { twice + 1 })
+    }
+
+    /// The number of the shard of the next edge, of so many.
+    pub(crate) fn shard(&self, count: usize, key: &[usize]) -> Option<usize>
+        requires count { 1 ≤ count }
+        requires key { All (λ column. column < length self.now.kinds) key.now }
+        ensures none { IsNone result ↔ (self.now.edges ≡ []) }
+        ensures shard { IfSome result (λ number. (e : Edge) (rest : List Edge) → self.now.edges ≡ e ∷ rest →
+            number ≡ shard_by count key.now e.cells) }
+    {
+        if self.place >= self.batches.len() {
+            return None;
+        }
+        Some(shard_at(&self.batches[self.place], self.row, count, key))
     }
 
     /// Adds the next edge last to a list of the same kinds, and goes past it. Memory is taken only

@@ -1,5 +1,7 @@
 // Where a list of batches is cut at a time.
-ghost use Rattle.std.specs.Prelude.{◌≡◌, ◌+◌, ◌<◌, ◌≤◌, true, false, ℕ, List, [], ◌∷◌, ◌++◌, length, map, filter, take, drop, slice_get, Some, All, IfOk, OnOk, OnErr};
+ghost use Rattle.std.specs.Prelude.{◌≡◌, ◌+◌, ◌<◌, ◌≤◌, true, false, ℕ, List, [], ◌∷◌, ◌++◌};
+ghost use Rattle.std.specs.Prelude.{length, map, filter, take, drop, slice_get, Some, All, IfOk};
+ghost use Rattle.std.specs.Prelude.{OnOk, OnErr};
 ghost use Rattle.std.specs.Option.{option_to_list};
 ghost use Rattle.std.specs.VecDeque.{deque_len, deque_capacity};
 ghost use Rattle.std.specs.List.{list_all};
@@ -115,7 +117,9 @@ pub(crate) fn part_at(
     requires below { list_all (is_below t) (edges_in (take place batches.old.items)) ≡ true }
     requires next { (b : Table) → slice_get batches.old.items place ≡ Some b → list_all (is_below t) (edges_of b.rows) ≡ false }
     ensures len { length batches.new.items ≡ length batches.old.items }
-    ensures lower { IfOk result (λ part. edges_in (take place batches.new.items ++ option_to_list part) ≡ filter (is_below t) (edges_in batches.old.items)) }
+    ensures lower { IfOk result (λ part.
+        edges_in (take place batches.new.items ++ option_to_list part)
+        ≡ filter (is_below t) (edges_in batches.old.items)) }
     ensures upper { OnOk result (edges_in (drop place batches.new.items) ≡ filter (is_from t) (edges_in batches.old.items)) }
     ensures alike { All (IsOf (map cell_kind_of kinds.now) pools.old.capacity) batches.new.items }
     ensures part { IfOk result (λ part. All (IsOf (map cell_kind_of kinds.now) pools.old.capacity) (option_to_list part)) }

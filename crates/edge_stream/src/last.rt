@@ -26,7 +26,8 @@ pub(crate) fn push_last(batches: &mut VecDeque<Batch>, edge: &Edge)
     ensures edges { edges_in batches.new.items ≡ edges_in batches.old.items ++ edge.now ∷ [] }
     ensures room { last_room batches.new.items + 1 ≡ last_room batches.old.items }
     ensures len { length batches.new.items ≡ length batches.old.items }
-    ensures alike { (kinds : List CellKind) (capacity : ℕ) → All (IsOf kinds capacity) batches.old.items → All (IsOf kinds capacity) batches.new.items }
+    ensures alike { (kinds : List CellKind) (capacity : ℕ) →
+        All (IsOf kinds capacity) batches.old.items → All (IsOf kinds capacity) batches.new.items }
 {
     if let Some(last) = batches.back_mut() {
         // There is room.
@@ -43,7 +44,8 @@ pub(crate) fn copy_last(batches: &mut VecDeque<Batch>, batch: &Batch, i: usize)
     ensures edges { (r : Row) → slice_get batch.now.rows i ≡ Some r → edges_in batches.new.items ≡ edges_in batches.old.items ++ edge_of r ∷ [] }
     ensures room { last_room batches.new.items + 1 ≡ last_room batches.old.items }
     ensures len { length batches.new.items ≡ length batches.old.items }
-    ensures alike { (kinds : List CellKind) (capacity : ℕ) → All (IsOf kinds capacity) batches.old.items → All (IsOf kinds capacity) batches.new.items }
+    ensures alike { (kinds : List CellKind) (capacity : ℕ) →
+        All (IsOf kinds capacity) batches.old.items → All (IsOf kinds capacity) batches.new.items }
 {
     if let Some(last) = batches.back_mut() {
         batch.copy_row(i, last);

@@ -8,9 +8,11 @@ mod last;
 mod laws;
 mod list;
 mod saved;
+mod shards;
 mod whole;
 
 pub use cursor::Cursor;
 pub use laws::batches_hold_the_places_of_their_list;
 pub use list::{EdgeList, Refused};
 pub use saved::{LoadFault, PartRow, Saved, SavedEntry, StepFault};
+pub use shards::shard_of_row;

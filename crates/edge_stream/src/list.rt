@@ -1,5 +1,7 @@
 // A list of edges, in batches.
-ghost use Rattle.std.specs.Prelude.{◌≡◌, ◌+◌, ◌-◌, ◌^◌, min, ◌<◌, ◌≤◌, ◌↔◌, true, [], ◌∷◌, ◌++◌, length, map, filter, slice_get, Some, IsNone, IfNone, IfSome, IsErr, IfErr, IfOk, OnOk, OnErr};
+ghost use Rattle.std.specs.Prelude.{◌≡◌, ◌+◌, ◌-◌, ◌^◌, min, ◌<◌, ◌≤◌, ◌↔◌, true, [], ◌∷◌, ◌++◌};
+ghost use Rattle.std.specs.Prelude.{length, map, filter, slice_get, Some, IsNone, IfNone, IfSome};
+ghost use Rattle.std.specs.Prelude.{IsErr, IfErr, IfOk, OnOk, OnErr};
 ghost use Rattle.tw_rows.specs.Kinds.{cell_kind_of};
 ghost use Rattle.tw_rows.specs.Cells.{datum_kind};
 ghost use Rattle.batch.specs.Rows.{Row, edge_of, edges_of};
@@ -206,8 +208,12 @@ impl EdgeList {
         ensures below { IfOk result (λ front. front.edges ≡ filter (is_below t) self.old.edges) }
         ensures rest { OnOk result (self.new.edges ≡ filter (is_from t) self.old.edges) }
         ensures whole { IfOk result (λ front. front.edges ++ self.new.edges ≡ self.old.edges) }
-        ensures batches { IfOk result (λ front. (self.old.batches ≤ front.batches + self.new.batches) × (front.batches + self.new.batches ≤ self.old.batches + 1)) }
-        ensures pools { IfOk result (λ front. pools.new ≡ batches_taken (front.batches + self.new.batches - self.old.batches) pools.old (cells_of self.old)) }
+        ensures batches { IfOk result
+            (λ front. (self.old.batches ≤ front.batches + self.new.batches)
+            × (front.batches + self.new.batches ≤ self.old.batches + 1)) }
+        ensures pools { IfOk result (λ front. pools.new
+            ≡ batches_taken (front.batches + self.new.batches - self.old.batches) pools.old
+            (cells_of self.old)) }
         ensures err { OnErr result (self.new ≡ self.old) }
         ensures err_pools { OnErr result (IsPartTaken pools.old pools.new (cells_of self.old)) }
         ensures alike { IfOk result (λ front. SameShape self.old front) }
@@ -248,7 +254,13 @@ impl EdgeList {
         requires kinds { batch.kinds ≡ cells_of self.old }
         requires capacity { batch.capacity ≡ self.old.capacity }
         requires order { KeepsOrder (self.old.edges ++ edges_of batch.rows) }
-        ensures ok { OnOk result (self.new ≡ record self.old { edges = self.old.edges ++ edges_of batch.rows; batches = self.old.batches + 1; room = self.old.capacity - length batch.rows }) }
+        ensures ok { OnOk result (self.new
+            ≡ record self.old {
+              edges = self.old.edges
+                  ++ edges_of batch.rows;
+              batches = self.old.batches + 1;
+              room = self.old.capacity - length batch.rows;
+            }) }
         ensures batch { IfErr result (λ refused. refused.batch ≡ batch) }
         ensures err { OnErr result (self.new ≡ self.old) }
     {

@@ -1,5 +1,6 @@
 // Lists that are made whole: from edges, as a copy, and from two lists.
-ghost use Rattle.std.specs.Prelude.{◌≡◌, ◌≤◌, ◌+◌, ◌↔◌, true, false, ℕ, List, [], ◌∷◌, ◌++◌, map, length, All, Some, None, IsNone, IsSome, IfOk, OnErr};
+ghost use Rattle.std.specs.Prelude.{◌≡◌, ◌≤◌, ◌+◌, ◌↔◌, true, false, ℕ, List, [], ◌∷◌, ◌++◌, map};
+ghost use Rattle.std.specs.Prelude.{length, All, Some, None, IsNone, IsSome, IfOk, OnErr};
 ghost use Rattle.tw_rows.specs.Kinds.{cell_kind_of};
 ghost use Rattle.tw_rows.specs.Cells.{datum_kind};
 ghost use Rattle.tw_rows.specs.Bag.{SameBag};
@@ -78,7 +79,9 @@ impl EdgeList {
         ensures order { IfOk result (λ list. KeepsOrder list.edges) }
         ensures shape { IfOk result (λ list. SameShape a list) }
         ensures filled { IfOk result IsFilled }
-        ensures pools { IfOk result (λ list. pools.new ≡ batches_given (a.batches + b.batches) (batches_taken list.batches pools.old (cells_of a)) (cells_of a)) }
+        ensures pools { IfOk result (λ list. pools.new
+            ≡ batches_given (a.batches + b.batches)
+            (batches_taken list.batches pools.old (cells_of a)) (cells_of a)) }
         ensures err_pools { OnErr result (AreBatchesTaken pools.old pools.new (cells_of a)) }
     {
         let list = merged(pools, &a, &b)?;
