@@ -20,20 +20,20 @@ take_drop zero xs = refl
 take_drop (suc n) [] = refl
 take_drop (suc n) (x ∷ xs) = ap (λ l. x ∷ l) (take_drop n xs)
 
-rise_weaker : (s r : ℕ) (xs : List Edge) → s ≤ r → SyncsRise r xs → SyncsRise s xs
+pub rise_weaker : (s r : ℕ) (xs : List Edge) → s ≤ r → SyncsRise r xs → SyncsRise s xs
 rise_weaker s r [] low h = tt
 rise_weaker s r (x ∷ xs) low h = (omega (arith, low, h), h.1)
 
-rise_drop : (n r : ℕ) (xs : List Edge) → SyncsRise r xs → SyncsRise r (drop n xs)
+pub rise_drop : (n r : ℕ) (xs : List Edge) → SyncsRise r xs → SyncsRise r (drop n xs)
 rise_drop zero r xs h = h
 rise_drop (suc n) r [] h = tt
 rise_drop (suc n) r (x ∷ xs) h = rise_weaker r x.sync (drop n xs) (omega (arith, h)) (rise_drop n x.sync xs h.1)
 
-rise_head : (t : ℕ) (xs : List Edge) → HeadFrom t xs → SyncsRise 0 xs → SyncsRise t xs
+pub rise_head : (t : ℕ) (xs : List Edge) → HeadFrom t xs → SyncsRise 0 xs → SyncsRise t xs
 rise_head t [] h k = tt
 rise_head t (x ∷ xs) h k = (h, k.1)
 
-rise_past : (t : ℕ) (xs : List Edge) → SyncsRise t xs → IsPast t xs → SyncsRise (suc t) xs
+pub rise_past : (t : ℕ) (xs : List Edge) → SyncsRise t xs → IsPast t xs → SyncsRise (suc t) xs
 rise_past t [] h p = tt
 rise_past t (x ∷ xs) h p = (above t x.sync h.0 p, h.1)
   where

@@ -1,5 +1,5 @@
 -- Ends that come, of starts that are due.
-use Rattle.std.specs.Prelude.{◌≡◌, ℕ, ◌+◌, ◌<◌, List, [], map, length, get_or, All}
+use Rattle.std.specs.Prelude.{◌≡◌, ℕ, ◌+◌, ◌-◌, ◌<◌, ◌||◌, nat_lt, nat_le, Bool, List, [], map, length, get_or, All}
 use Rattle.tw_rows.specs.Bag.{total}
 use Rattle.tw_rows.specs.declared.edge.Edge.{Edge}
 use Rattle.sweep_sides.specs.declared.endings.Ending.{Ending}
@@ -26,3 +26,14 @@ KeepsStarts due due2 = (ends : List Ending) → HaveStarts due ends → HaveStar
 -- the weight of the edges that are due, of the ends that come, and of the edges that waited
 abbrev pub weight : (Edge → ℕ) → List Edge → List Ending → List Edge → ℕ
 weight w due ends waited = (total w due + total w (ends_of due ends)) + total w waited
+
+-- the end at a place, and whether it comes before the one in front of it. Of ends at 5 and 3 the second does
+abbrev pub end_at : List Ending → ℕ → Ending
+end_at ends i = get_or ends i (record { sync = 0; start = 0 })
+
+abbrev pub falls_at : List Ending → ℕ → Bool
+falls_at ends i = nat_lt (end_at ends i).sync (end_at ends (i - 1)).sync
+
+-- fewer than 16 ends are to come, or the last but 15 comes at the time or before it
+abbrev pub is_near_end : ℕ → List Ending → Bool
+is_near_end t ends = nat_lt (length ends) 16 || nat_le (end_at ends (length ends - 16)).sync t

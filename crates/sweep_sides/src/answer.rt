@@ -3,6 +3,7 @@ ghost use Rattle.std.specs.Prelude.{◌≡◌, ◌≤◌, length, map, IfOk};
 ghost use Rattle.std.specs.List.{list_all};
 ghost use Rattle.tw_rows.specs.Kinds.{cell_kind_of};
 ghost use Rattle.edge_history.specs.Order.{failing};
+ghost use Rattle.edge_stream.specs.Taking.{batches_taken};
 ghost use Rattle.sweep_sides.specs.Answers.{is_between, FitsList};
 
 use batch::Pools;
@@ -52,6 +53,8 @@ pub fn list_of(
     ensures between { IfOk result (λ list. failing (is_between from to) list.edges ≡ 0) }
     ensures kinds { IfOk result (λ list. list.kinds ≡ kinds.now) }
     ensures capacity { IfOk result (λ list. list.capacity ≡ capacity) }
+    ensures taken { IfOk result (λ list.
+        pools.new ≡ batches_taken list.batches pools.old (map cell_kind_of kinds.now)) }
     ensures pools { pools.new.capacity ≡ pools.old.capacity }
     ensures limit { pools.new.limit ≡ pools.old.limit }
 {

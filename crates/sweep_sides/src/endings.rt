@@ -1,6 +1,7 @@
 // Ends that come, of starts that are due.
 ghost use Rattle.std.specs.Prelude.{◌≡◌, ◌≤◌, ◌<◌, length, drop, [], ◌∷◌, IfSome, IfNone, IfOk, OnOk};
 ghost use Rattle.std.specs.List.Sorted.{IsPermutation};
+ghost use Rattle.sweep_sides.specs.Ends.{falls_at, is_near_end};
 
 use std::alloc::Global;
 use std::marker::Model;
@@ -39,6 +40,7 @@ const NEAR: usize = 16;
 fn falls(ends: &[Ending], at: usize) -> bool
     requires after_first { 1 ≤ at }
     requires within { at < length ends.now }
+    ensures { result ≡ falls_at ends.now at }
 {
     ends[at].sync < ends[at - 1].sync
 }
@@ -74,7 +76,9 @@ impl Endings {
     }
 
     /// Whether the place of a new end is near the last ones, if they come in order.
-    pub(crate) fn is_near(&self, sync: Time) -> bool {
+    pub(crate) fn is_near(&self, sync: Time) -> bool
+        ensures { result ≡ is_near_end sync self.now }
+    {
         let len = self.list.len();
         len - self.came < NEAR || self.list[len - NEAR].sync <= sync
     }

@@ -20,8 +20,10 @@ use tw_rows::{Edge, Memory, Time};
 
 // Takes out all edges that are due before a time, and puts them last.
 fn pop_before(queue: &mut EndQueue, due: &mut Vec<Edge>, below: Time) -> Result<(), Memory>
-    ensures parts { OnOk result ((w : Edge → ℕ) → total w due.new.items + total w (queued queue.new) ≡ total w due.old.items + total w (queued queue.old)) }
-    ensures early { OnOk result ((to : ℕ) → below ≤ to → AreTimed queue.old → failing (is_below to) due.old.items ≡ 0 → failing (is_below to) due.new.items ≡ 0) }
+    ensures parts { OnOk result ((w : Edge → ℕ) → total w due.new.items + total w (queued queue.new)
+        ≡ total w due.old.items + total w (queued queue.old)) }
+    ensures early { OnOk result ((to : ℕ) → below ≤ to → AreTimed queue.old →
+        failing (is_below to) due.old.items ≡ 0 → failing (is_below to) due.new.items ≡ 0) }
     ensures rest { OnOk result (AreTimed queue.old → failing (is_from below) (queued queue.new) ≡ 0) }
     ensures timed { OnOk result (AreTimed queue.old → AreTimed queue.new) }
 {
@@ -66,7 +68,10 @@ fn place_end(
     requires start { end.start < length due.now }
     requires starts { HaveStarts due.now ends.old }
     ensures starts { OnOk result (HaveStarts due.now ends.new) }
-    ensures parts { OnOk result ((w : Edge → ℕ) → total w (ends_of due.now ends.new) + total w (queued queue.new) ≡ (total w (ends_of due.now ends.old) + total w (queued queue.old)) + w (end_of due.now end)) }
+    ensures parts { OnOk result ((w : Edge → ℕ) →
+        total w (ends_of due.now ends.new) + total w (queued queue.new)
+        ≡ (total w (ends_of due.now ends.old) + total w (queued queue.old)) + w
+        (end_of due.now end)) }
     ensures early { OnOk result (failing (is_below to) (ends_of due.now ends.old) ≡ 0 → failing (is_below to) (ends_of due.now ends.new) ≡ 0) }
     ensures timed { OnOk result (AreTimed queue.old → AreTimed queue.new) }
 {
@@ -92,7 +97,8 @@ fn next_edge(waited: &mut VecDeque<Edge>, t: Time) -> Option<Edge>
 // Moves the first edges that waited, those that come at the time or before it, behind the edges that are due.
 #[inline(never)]
 fn move_waited(waited: &mut VecDeque<Edge>, due: &mut Vec<Edge>, t: Time) -> Result<(), Memory>
-    ensures parts { OnOk result ((w : Edge → ℕ) → total w due.new.items + total w waited.new.items ≡ total w due.old.items + total w waited.old.items) }
+    ensures parts { OnOk result ((w : Edge → ℕ) → total w due.new.items + total w waited.new.items
+        ≡ total w due.old.items + total w waited.old.items) }
     ensures kept { OnOk result (KeepsStarts due.old.items due.new.items) }
 {
     while let Some(edge) = next_edge(waited, t) {
@@ -104,7 +110,8 @@ fn move_waited(waited: &mut VecDeque<Edge>, due: &mut Vec<Edge>, t: Time) -> Res
 // The same, at no cost where no edge waited.
 #[inline(always)]
 fn push_waited(waited: &mut VecDeque<Edge>, due: &mut Vec<Edge>, t: Time) -> Result<(), Memory>
-    ensures parts { OnOk result ((w : Edge → ℕ) → total w due.new.items + total w waited.new.items ≡ total w due.old.items + total w waited.old.items) }
+    ensures parts { OnOk result ((w : Edge → ℕ) → total w due.new.items + total w waited.new.items
+        ≡ total w due.old.items + total w waited.old.items) }
     ensures kept { OnOk result (KeepsStarts due.old.items due.new.items) }
 {
     if waited.is_empty() {
@@ -117,7 +124,8 @@ fn push_waited(waited: &mut VecDeque<Edge>, due: &mut Vec<Edge>, t: Time) -> Res
 #[inline(always)]
 fn push_end(waited: &mut VecDeque<Edge>, due: &mut Vec<Edge>, end: Ending) -> Result<(), Memory>
     requires { end.start < length due.old.items }
-    ensures parts { OnOk result ((w : Edge → ℕ) → total w due.new.items + total w waited.new.items ≡ (total w due.old.items + total w waited.old.items) + w (end_of due.old.items end)) }
+    ensures parts { OnOk result ((w : Edge → ℕ) → total w due.new.items + total w waited.new.items
+        ≡ (total w due.old.items + total w waited.old.items) + w (end_of due.old.items end)) }
     ensures kept { OnOk result (KeepsStarts due.old.items due.new.items) }
 {
     push_waited(waited, due, end.sync)?;
@@ -135,7 +143,8 @@ fn release(
 ) -> Result<(), Memory>
     requires { HaveStarts due.old.items ends.old }
     ensures starts { OnOk result (HaveStarts due.new.items ends.new) }
-    ensures parts { OnOk result ((w : Edge → ℕ) → weight w due.new.items ends.new waited.new.items ≡ weight w due.old.items ends.old waited.old.items) }
+    ensures parts { OnOk result ((w : Edge → ℕ) → weight w due.new.items ends.new waited.new.items
+        ≡ weight w due.old.items ends.old waited.old.items) }
 {
     while let Some(end) = ends.pop_until(t) {
         push_end(waited, due, end)?;
@@ -173,7 +182,8 @@ fn push_due(
     ensures parts { OnOk result ((w : Edge → ℕ) → (total w due.new.items + total w (ends_of due.new.items ends.new)) + total w (queued queue.new)
         ≡ ((total w due.old.items + total w (ends_of due.old.items ends.old)) + total w (queued queue.old)) + total w (singles_of edge)) }
     ensures early { OnOk result (edge.sync < to → failing (is_below to) due.old.items ≡ 0 → failing (is_below to) due.new.items ≡ 0) }
-    ensures ends_early { OnOk result (failing (is_below to) (ends_of due.old.items ends.old) ≡ 0 → failing (is_below to) (ends_of due.new.items ends.new) ≡ 0) }
+    ensures ends_early { OnOk result (failing (is_below to) (ends_of due.old.items ends.old) ≡ 0 →
+        failing (is_below to) (ends_of due.new.items ends.new) ≡ 0) }
     ensures timed { OnOk result (AreTimed queue.old → AreTimed queue.new) }
 {
     if is_single(&edge) {
@@ -214,7 +224,9 @@ fn take_edge(
     ensures starts { OnOk result (HaveStarts due.new.items ends.new) }
     ensures parts { OnOk result ((w : Edge → ℕ) → weight w due.new.items ends.new waited.new.items + total w (queued queue.new)
         ≡ (weight w due.old.items ends.old waited.old.items + total w (queued queue.old)) + total w (singles_of edge)) }
-    ensures early { OnOk result (weight (λ e. cond (is_below to e) 0 1) due.old.items ends.old waited.old.items ≡ 0 → weight (λ e. cond (is_below to e) 0 1) due.new.items ends.new waited.new.items ≡ 0) }
+    ensures early { OnOk result (weight
+        (λ e. cond (is_below to e) 0 1) due.old.items ends.old waited.old.items ≡ 0 → weight
+        (λ e. cond (is_below to e) 0 1) due.new.items ends.new waited.new.items ≡ 0) }
     ensures timed { OnOk result (AreTimed queue.old → AreTimed queue.new) }
 {
     if !is_due(&edge, to) {
@@ -286,7 +298,9 @@ pub fn take_in(
     edges: &EdgeList,
     to: Time,
 ) -> Result<Vec<Edge>, Memory>
-    ensures parts { IfOk result (λ due. (w : Edge → ℕ) → total w due.items + total w (queued queue.new) ≡ total w (queued queue.old) + total w (singles edges.now.edges)) }
+    ensures parts { IfOk result (λ due. (w : Edge → ℕ) →
+        total w due.items + total w (queued queue.new)
+        ≡ total w (queued queue.old) + total w (singles edges.now.edges)) }
     ensures below { IfOk result (λ due. AreTimed queue.old → failing (is_below to) due.items ≡ 0) }
     ensures order { IfOk result (λ due. SyncsRise 0 due.items) }
     ensures rest { OnOk result (AreTimed queue.old → failing (is_from to) (queued queue.new) ≡ 0) }

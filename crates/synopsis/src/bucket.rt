@@ -1,5 +1,7 @@
 // The rows of one key.
-ghost use Rattle.std.specs.Prelude.{◌≡◌, ◌+◌, ◌≤◌, ◌<◌, ◌++◌, ◌∷◌, [], ℕ, true, false, OnOk, OnErr, IfOk, IfSome, IfNone, IsPermutation, length, get_or};
+ghost use Rattle.std.specs.Prelude.{◌≡◌, ◌+◌, ◌≤◌, ◌<◌, ◌++◌, ◌∷◌, [], ℕ, true, false, OnOk};
+ghost use Rattle.std.specs.Prelude.{OnErr, IfOk, IfSome, IfNone, IsPermutation, length, get_or};
+ghost use Rattle.std.specs.Vec.{vec_capacity};
 ghost use Rattle.tw_rows.specs.Bag.{total};
 ghost use Rattle.tw_rows.specs.declared.edge.HeldRow.{HeldRow};
 ghost use Rattle.edge_history.specs.Order.{many};
@@ -65,7 +67,9 @@ impl Bucket {
     }
 
     /// The memory of its rows, where it is that of a few and there is no index. Its rows have no say: who takes it clears it.
-    pub fn small_room(self) -> Option<Vec<HeldRow>> {
+    pub fn small_room(self) -> Option<Vec<HeldRow>>
+        ensures { IfSome result (λ rows. vec_capacity rows ≤ 8) }
+    {
         let Bucket { rows, marks } = self;
         if marks.is_none() && rows.capacity() <= FEW {
             Some(rows)
@@ -170,7 +174,8 @@ impl Bucket {
 
     /// Takes out a row with these cells that began then, if there is one; the last row moves into the gap.
     pub fn take(&mut self, cells: &[Datum], start: Time) -> bool
-        ensures taken { result ≡ true → (w : HeldRow → ℕ) → total w self.old ≡ total w self.new + w (record { cells = cells.now; start = start }) }
+        ensures taken { result ≡ true → (w : HeldRow → ℕ) → total w self.old ≡ total w self.new
+            + w (record { cells = cells.now; start = start }) }
         ensures none { result ≡ false → many (is_held cells.now start) self.old ≡ 0 }
         ensures unchanged { result ≡ false → self.new ≡ self.old }
     {

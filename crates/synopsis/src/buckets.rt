@@ -37,8 +37,10 @@ pub fn put_row(
     cells: Cells,
     start: Time,
 ) -> Result<(), Memory>
-    ensures rows { OnOk result ((w : HeldRow → ℕ) → total w (rows_in buckets.new.entries) ≡ total w (rows_in buckets.old.entries) + w (record { cells = cells; start = start })) }
-    ensures keyed { OnOk result ((columns : List ℕ) → key.now ≡ key_of columns cells → AreKeyed columns buckets.old.entries → AreKeyed columns buckets.new.entries) }
+    ensures rows { OnOk result ((w : HeldRow → ℕ) → total w (rows_in buckets.new.entries)
+        ≡ total w (rows_in buckets.old.entries) + w (record { cells = cells; start = start })) }
+    ensures keyed { OnOk result ((columns : List ℕ) → key.now ≡ key_of columns cells →
+        AreKeyed columns buckets.old.entries → AreKeyed columns buckets.new.entries) }
     ensures err { OnErr result (buckets.new.entries ≡ buckets.old.entries) }
 {
     if let Some(bucket) = buckets.get_mut(key) {
@@ -62,8 +64,11 @@ pub fn take_row(
     cells: &[Datum],
     start: Time,
 ) -> bool
-    ensures taken { result ≡ true → (w : HeldRow → ℕ) → total w (rows_in buckets.old.entries) ≡ total w (rows_in buckets.new.entries) + w (record { cells = cells.now; start = start }) }
-    ensures none { result ≡ false → (columns : List ℕ) → key.now ≡ key_of columns cells.now → AreKeyed columns buckets.old.entries → many (is_held cells.now start) (rows_in buckets.old.entries) ≡ 0 }
+    ensures taken { result ≡ true → (w : HeldRow → ℕ) → total w (rows_in buckets.old.entries)
+        ≡ total w (rows_in buckets.new.entries) + w (record { cells = cells.now; start = start }) }
+    ensures none { result ≡ false → (columns : List ℕ) → key.now ≡ key_of columns cells.now →
+        AreKeyed columns buckets.old.entries →
+        many (is_held cells.now start) (rows_in buckets.old.entries) ≡ 0 }
     ensures unchanged { result ≡ false → buckets.new.entries ≡ buckets.old.entries }
     ensures keyed { (columns : List ℕ) → AreKeyed columns buckets.old.entries → AreKeyed columns buckets.new.entries }
 {
@@ -82,7 +87,8 @@ pub fn take_row(
 
 /// The rows of a key.
 pub fn rows_with<'a>(buckets: &'a KeyBuckets, key: &[Datum]) -> &'a [HeldRow]
-    ensures { (columns : List ℕ) → AreKeyed columns buckets.now.entries → result.now ≡ filter (is_of_key columns key.now) (rows_in buckets.now.entries) }
+    ensures { (columns : List ℕ) → AreKeyed columns buckets.now.entries → result.now
+        ≡ filter (is_of_key columns key.now) (rows_in buckets.now.entries) }
 {
     // Its call tells the proof that no key stands twice.
     let _ = buckets.len();

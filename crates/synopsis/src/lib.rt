@@ -9,6 +9,7 @@ mod spares;
 mod synopsis;
 mod word_hasher;
 
+pub use bucket::Bucket;
 pub use key_room::{KeyRoom, lone_key};
 pub use synopsis::Synopsis;
 pub use tw_rows::HeldRow;

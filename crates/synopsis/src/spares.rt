@@ -1,5 +1,5 @@
 // The memory of buckets that were let go. No answer rests on it: what is handed out is empty, whatever was kept.
-ghost use Rattle.std.specs.Prelude.{◌≡◌, []};
+ghost use Rattle.std.specs.Prelude.{◌≡◌, ◌≤◌, [], length};
 
 use crate::bucket::Bucket;
 use std::alloc::Global;
@@ -20,6 +20,7 @@ const MOST: usize = 16;
 pub struct Spares {
     alloc: Global,
     spares: Vec<Spare>,
+    ghost few: { length spares.items ≤ 16 },
 }
 
 impl Spares {
@@ -49,8 +50,10 @@ impl Spares {
         }
     }
 
-    /// Keeps the memory of a bucket that was let go, where there is room for it.
-    pub fn keep(&mut self, gone: Option<(Vec<Datum>, Bucket)>) {
+    /// Keeps the memory of a bucket that was let go, where it is that of few rows and fewer than the most are kept.
+    pub fn keep(&mut self, gone: Option<(Vec<Datum>, Bucket)>)
+        ensures { length self.new.spares.items ≤ 16 }
+    {
         let Some((key, bucket)) = gone else {
             return;
         };

@@ -55,7 +55,8 @@ impl Synopsis {
 
     /// Puts in a row. Want of memory changes nothing.
     pub fn add(&mut self, cells: Cells, start: Time) -> Result<(), Memory>
-        ensures ok { OnOk result ((w : HeldRow → ℕ) → total w self.new.rows ≡ total w self.old.rows + w (record { cells = cells; start = start })) }
+        ensures ok { OnOk result ((w : HeldRow → ℕ) → total w self.new.rows ≡ total w self.old.rows
+            + w (record { cells = cells; start = start })) }
         ensures err { OnErr result (self.new.rows ≡ self.old.rows) }
         ensures key { self.new.key ≡ self.old.key }
     {
@@ -78,7 +79,8 @@ impl Synopsis {
 
     /// Takes out a row with these cells that began then, if there is one, and tells whether there was. It takes no memory.
     pub fn take(&mut self, cells: &[Datum], start: Time) -> bool
-        ensures taken { result ≡ true → (w : HeldRow → ℕ) → total w self.old.rows ≡ total w self.new.rows + w (record { cells = cells.now; start = start }) }
+        ensures taken { result ≡ true → (w : HeldRow → ℕ) → total w self.old.rows
+            ≡ total w self.new.rows + w (record { cells = cells.now; start = start }) }
         ensures none { result ≡ false → many (is_held cells.now start) self.old.rows ≡ 0 }
         ensures unchanged { result ≡ false → self.new.rows ≡ self.old.rows }
         ensures key { self.new.key ≡ self.old.key }
@@ -108,7 +110,8 @@ impl Synopsis {
     /// Takes out a row with these cells that began then. It takes no memory.
     pub fn remove(&mut self, cells: &[Datum], start: Time)
         requires { 1 ≤ many (is_held cells.now start) self.old.rows }
-        ensures taken { (w : HeldRow → ℕ) → total w self.old.rows ≡ total w self.new.rows + w (record { cells = cells.now; start = start }) }
+        ensures taken { (w : HeldRow → ℕ) → total w self.old.rows ≡ total w self.new.rows
+            + w (record { cells = cells.now; start = start }) }
         ensures key { self.new.key ≡ self.old.key }
     {
         let taken = self.take(cells, start);

@@ -1,9 +1,10 @@
-use Rattle.std.proofs.Common.{◌≡◌, ◌∙◌, ◌++◌, ◌∷◌, [], ℕ, List, true, sym, ap, take}
+use Rattle.std.proofs.Common.{◌≡◌, ◌∙◌, ◌++◌, ◌∷◌, [], ℕ, List, true, map, sym, ap, take}
 use Rattle.std.specs.List.{list_all}
 use Rattle.std.proofs.lemmas.List.{take_more}
+use Rattle.tw_rows.specs.Kinds.{cell_kind_of}
 use Rattle.tw_rows.specs.declared.edge.Edge.{Edge}
 use Rattle.edge_history.proofs.Keeping.{KeepsOrder-next}
-use Rattle.edge_stream.proofs.Filling.{appended-kinds, appended-capacity, room_taken-capacity}
+use Rattle.edge_stream.proofs.Filling.{appended-kinds, appended-capacity, room_taken-capacity, taken_next}
 use Rattle.carried_edges.proofs.Pools.{part-capacity, part-limit, room_taken-limit}
 use Rattle.edge_history.specs.Order.{failing}
 use Rattle.carried_edges.proofs.Parts.{none_fails, all_pass}
@@ -32,6 +33,7 @@ loop-edge-preserved c =
       so_far = ap (λ l. l.edges) c.in_ok-append.ensures.ok ∙ (ap (λ l. l ++ x ∷ []) k.so_far ∙ (ap (λ (e : Edge). take i c.args.edges.now ++ e ∷ []) c.edge-item.is ∙ sym (take_more c.args.edges.now i x c.loop-edge-test.true)));
       kinds = ap (λ l. l.kinds) c.in_ok-append.ensures.ok ∙ (appended-kinds list x ∙ k.kinds);
       capacity = ap (λ l. l.capacity) c.in_ok-append.ensures.ok ∙ (appended-capacity list x ∙ k.capacity);
+      taken = taken_next list c.append.new.self x c.args.pools.now c.loop-edge.pools c.append.new.pools (map cell_kind_of c.args.kinds.now) (ap (map cell_kind_of) k.kinds) c.in_ok-append.ensures.ok k.taken c.in_ok-append.ensures.pools;
       pools = ap (λ s. s.capacity) c.in_ok-append.ensures.pools ∙ (room_taken-capacity list c.loop-edge.pools ∙ k.pools);
       limit = ap (λ s. s.limit) c.in_ok-append.ensures.pools ∙ (room_taken-limit list c.loop-edge.pools ∙ k.limit);
     }
