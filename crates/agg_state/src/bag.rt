@@ -12,7 +12,7 @@ use tw_rows::Memory;
 
 /// Ints in order, each with how often it is there.
 #[derive(Drop)]
-pub(crate) struct Bag {
+pub struct Bag {
     counts: BTreeMap<i64, u64>,
     len: u64,
 }

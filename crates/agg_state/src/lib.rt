@@ -10,6 +10,6 @@ mod sum;
 
 pub use aggregate::Aggregate;
 pub use count::Count;
-pub use extremes::{Greatest, Least};
+pub use extremes::{End, Extreme, Greatest, Highest, Least, Lowest};
 pub use generic::{alone, replaced};
 pub use sum::Sum;
