@@ -7,7 +7,6 @@ pub mod Passes
 pub mod Changes
 pub mod WholePass
 pub mod Answering
-pub mod Stepped
 pub mod Held
 pub mod Resuming
 pub mod Starting

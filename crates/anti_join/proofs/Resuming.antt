@@ -1,11 +1,9 @@
--- What is kept of an anti-join at first, in longer tables, and after it was saved and loaded.
-use Rattle.std.specs.Prelude.{◌≡◌, ℕ, zero, suc, ◌+◌, ◌*◌, ◌<◌, ◌≤◌, min, true, false, cond, All, List, [], ◌++◌, map, refl}
+-- What is kept of an anti-join at first, and after it was saved and loaded.
+use Rattle.std.specs.Prelude.{◌≡◌, ℕ, zero, suc, ◌+◌, ◌*◌, ◌<◌, ◌≤◌, true, All, List, [], ◌++◌, map, refl}
 use Rattle.std.proofs.Common.{sym, ◌∙◌, ap, subst, arith}
 use Rattle.std.proofs.lemmas.List.{append-nil}
-use Rattle.std.proofs.lemmas.List.Elements.{All-nil}
 use Rattle.tw_rows.specs.Bag.{SameBag}
-use Rattle.tw_rows.specs.Cells.{ArePlaced, datum_kind}
-use Rattle.tw_rows.specs.Texts.{BeginsWith}
+use Rattle.tw_rows.specs.Cells.{datum_kind}
 use Rattle.tw_rows.specs.declared.cells.Datum.{Datum}
 use Rattle.tw_rows.specs.declared.edge.Edge.{Edge}
 use Rattle.tw_rows.specs.declared.edge.HeldRow.{HeldRow}
@@ -20,87 +18,58 @@ use Rattle.carried_edges.specs.Entries.{entries_of, part_of, are_of_parts}
 use Rattle.carried_edges.proofs.Parts.{parts_pass, part_of_own, part_of_other, part_of_append, parts_own, parts_append, all_pass}
 use Rattle.plan_model.specs.declared.node.Node.TheVariants.{Anti}
 use Rattle.plan_laws.specs.Held.{may_hold}
-use Rattle.node_laws.proofs.Standing.{placed_longer}
-use Rattle.node_laws.specs.Places.{AreDistinct, read_of}
-use Rattle.node_laws.specs.Standing.{StandsRead}
-use Rattle.node_laws.proofs.Steps.{keeps_read}
-use Rattle.plan_model.specs.Meaning.{node_events}
 use Rattle.synopsis.specs.Held.{is_of_key}
 use Rattle.operator.specs.Standing.{Standing, IsStoredAs, AreStoredAs}
-use Rattle.sweep_sides.specs.Waiting.{queued}
 use Rattle.sweep_sides.proofs.KeptSides.{row_cells, waiting_cells}
 use Rattle.sweep_laws.specs.Saving.{starts_of, rows_of, is_row_start, may_wait, are_row_starts, may_all_wait, HaveBegun}
 use Rattle.sweep_laws.proofs.Stored.{rows_of_starts}
 use Rattle.anti_join.proofs.Held.{held_same}
 use Rattle.anti_join.proofs.Steps.{kept_none}
-use Rattle.anti_join.specs.Operating.{row_of_part}
-use Rattle.anti_join.proofs.Answering.{node_keeps}
-use Rattle.anti_join.specs.States.{KeepsAnti, AntiStored, AntiSound, AntiResumes}
+use Rattle.anti_join.specs.Operating.{anti_row}
+use Rattle.sweep_sides.specs.Sides.{IsSide}
+use Rattle.sweep_sides.specs.Waiting.{AreTimed}
+use Rattle.anti_join.specs.declared.sides.AntiSides.{AntiSides}
+use Rattle.anti_join.specs.Holding.{AntiKeeps}
+use Rattle.anti_join.specs.States.{SidesKeep, SidesFit, IsEmpty, AntiStored, AntiSound}
 
-module _ (lk rk : List ℕ) (lc rc : List CellKind) where
-  anti_first : (texts : List (List ℕ)) → KeepsAnti lk rk lc rc texts 0 0 [] [] [] (queued []) (queued []) [] [] []
-  anti_first texts = record {
-    left_placed = All-nil (λ (e : Edge). ArePlaced texts e.cells);
-    right_placed = All-nil (λ (e : Edge). ArePlaced texts e.cells);
-    left_cells = All-nil (λ (e : Edge). map datum_kind e.cells ≡ lc);
-    right_cells = All-nil (λ (e : Edge). map datum_kind e.cells ≡ rc);
-    left_low = omega arith;
-    right_low = omega arith;
-    kept = kept_none lk rk;
-    single = λ k. omega arith;
-  }
+-- of no edges nothing is kept, which fits any time
+pub anti_opens : (s : AntiSides) → IsEmpty s → SidesKeep s 0 [] [] []
+anti_opens s e = record {
+  by = e.by;
+  left_timed = subst AreTimed (sym e.none_left) refl;
+  right_timed = subst AreTimed (sym e.none_right) refl;
+  kept = rw (e.left, e.right, e.times, e.none_left, e.none_right) (kept_none s.rows.left.key s.rows.right.key);
+  single = λ k. (let n = ap (many (is_of_key s.rows.left.key k)) e.times in omega (arith, n));
+}
 
-  pub anti_opening : (texts : List (List ℕ)) (x y : ℕ) (left right times : List HeldRow) (lq rq : List Pending) → left ≡ [] → right ≡ [] → times ≡ [] → lq ≡ [] → rq ≡ [] → x ≡ 0 → y ≡ 0 →
-      KeepsAnti lk rk lc rc texts x y left right times (queued lq) (queued rq) [] [] []
-  anti_opening texts x y left right times lq rq a b t c d e f = rw (a, b, t, c, d, e, f) (anti_first texts)
+none_side : (kinds : List CellKind) (to : ℕ) (rows : List HeldRow) (waiting : List Pending) → rows ≡ [] → waiting ≡ [] → IsSide kinds to rows waiting
+none_side kinds to rows waiting e f = rw (e, f) (record { started = refl; later = refl; timed = refl })
 
-  pub anti_longer : (new old : List (List ℕ)) (x y : ℕ) (left right times : List HeldRow) (lw rw hl hr out : List Edge) → BeginsWith new old →
-      KeepsAnti lk rk lc rc old x y left right times lw rw hl hr out → KeepsAnti lk rk lc rc new x y left right times lw rw hl hr out
-  anti_longer new old x y left right times lw rw hl hr out b k = record {
-    left_placed = placed_longer new old b hl k.left_placed;
-    right_placed = placed_longer new old b hr k.right_placed;
-    left_cells = k.left_cells;
-    right_cells = k.right_cells;
-    left_low = k.left_low;
-    right_low = k.right_low;
-    kept = k.kept;
-    single = k.single;
-  }
+none_begun : (kinds : List CellKind) (to : ℕ) (rows : List HeldRow) → rows ≡ [] → HaveBegun kinds to rows
+none_begun kinds to rows e = rw e refl
 
-  -- what was answered stands, read, for the events of the node
-  pub anti_stands : (texts : List (List ℕ)) (x y : ℕ) (left right times : List HeldRow) (lw rw hl hr out : List Edge) → AreDistinct texts →
-      KeepsAnti lk rk lc rc texts x y left right times lw rw hl hr out → StandsRead texts (min x y) out (node_events (Anti 0 1 lk rk) (read_of texts hl) (read_of texts hr))
-  anti_stands texts x y left right times lw rw hl hr out apart k =
-      keeps_read (λ test row. false) (λ items row. row) (Anti 0 1 lk rk) texts x y hl hr out refl apart k.left_low k.right_low (node_keeps lk rk lc rc texts x y left right times lw rw hl hr out k)
+pub anti_fits : (s : AntiSides) (lc rc : List CellKind) (to : ℕ) → IsEmpty s → SidesFit lc rc to s
+anti_fits s lc rc to e = record {
+  by = e.by;
+  sides = record {
+    left = none_side lc to s.rows.left.rows s.left_waiting e.left e.none_left;
+    right = none_side rc to s.rows.right.rows s.right_waiting e.right e.none_right;
+    times = none_begun lc to s.rows.times.rows e.times;
+  };
+}
 
-  -- the same rows, times and edges in another order
-  same_kept : (texts : List (List ℕ)) (x y : ℕ) (left right times left2 right2 times2 : List HeldRow) (lw rw lw2 rw2 hl hr out : List Edge) →
-      SameBag left2 left → SameBag right2 right → SameBag times2 times → SameBag lw2 lw → SameBag rw2 rw →
-      KeepsAnti lk rk lc rc texts x y left right times lw rw hl hr out → KeepsAnti lk rk lc rc texts x y left2 right2 times2 lw2 rw2 hl hr out
-  same_kept texts x y left right times left2 right2 times2 lw rw lw2 rw2 hl hr out a b t c d k = record {
-    left_placed = k.left_placed;
-    right_placed = k.right_placed;
-    left_cells = k.left_cells;
-    right_cells = k.right_cells;
-    left_low = k.left_low;
-    right_low = k.right_low;
-    kept = record {
-      left_history = k.kept.left_history;
-      right_history = k.kept.right_history;
-      left_waits = SameBag-trans _ _ _ c k.kept.left_waits;
-      right_waits = SameBag-trans _ _ _ d k.kept.right_waits;
-      now = held_same lk rk (of hl) (of hr) (min x y) left right times left2 right2 times2 a b t k.kept.now;
-      told = k.kept.told;
-    };
-    single = λ l. (let a = t.weigh (λ r. cond (is_of_key lk l r) 1 0) in let o = k.single l in omega (arith, a, o));
-  }
-
-  -- LOADING
-  pub anti_loaded : (lk2 rk2 : List ℕ) (texts : List (List ℕ)) (x y : ℕ) (left right times left2 right2 times2 : List HeldRow) (lq rq lq2 rq2 hl hr out : List Edge) → lk2 ≡ lk → rk2 ≡ rk →
-      SameBag left2 left → SameBag right2 right → SameBag times2 times → SameBag lq2 lq → SameBag rq2 rq →
-      KeepsAnti lk rk lc rc texts x y left right times lq rq hl hr out → KeepsAnti lk2 rk2 lc rc texts x y left2 right2 times2 lq2 rq2 hl hr out
-  anti_loaded lk2 rk2 texts x y left right times left2 right2 times2 lq rq lq2 rq2 hl hr out e f a b t c d k =
-      rw (e, f) (same_kept texts x y left right times left2 right2 times2 lq rq lq2 rq2 hl hr out a b t c d k)
+-- LOADING: the same rows, times and edges in another order
+pub anti_loaded : (lk rk lk2 rk2 : List ℕ) (to : ℕ) (left right times left2 right2 times2 : List HeldRow) (lw vw lw2 vw2 hl hr out : List Edge) → lk2 ≡ lk → rk2 ≡ rk →
+    SameBag left2 left → SameBag right2 right → SameBag times2 times → SameBag lw2 lw → SameBag vw2 vw →
+    AntiKeeps lk rk left right times lw vw to hl hr out → AntiKeeps lk2 rk2 left2 right2 times2 lw2 vw2 to hl hr out
+anti_loaded lk rk lk2 rk2 to left right times left2 right2 times2 lw vw lw2 vw2 hl hr out e f a b t c d k = rw (e, f) (record {
+  left_history = k.left_history;
+  right_history = k.right_history;
+  left_waits = SameBag-trans _ _ _ c k.left_waits;
+  right_waits = SameBag-trans _ _ _ d k.right_waits;
+  now = held_same lk rk (of hl) (of hr) to left right times left2 right2 times2 a b t k.now;
+  told = k.told;
+})
 
 -- at most two rows and edges for each event of a side that does not end before the time, and one time for each left one
 pub anti_bound : (lk rk : List ℕ) (x to n m l : ℕ) (a b own : List CellEvent) → n ≤ 2 * many (reaches to) a → m ≤ 2 * many (reaches to) b → l ≤ many (reaches to) a →
@@ -109,8 +78,8 @@ anti_bound lk rk x to n m l a b own left right times = omega (arith, left, right
 
 -- each entry of a sound state has the cells of its row
 pub anti_rows_stored : (s : Standing) (saved : List SavedEntry) (to : ℕ) (lc rc : List CellKind) → s.left_kinds ≡ lc → s.right_kinds ≡ rc → AntiStored lc rc to saved →
-    AreStoredAs row_of_part s saved
-anti_rows_stored s saved to lc rc el er sound = parts_pass (λ part. IsStoredAs s (row_of_part part)) 5 saved sound.parts each
+    AreStoredAs anti_row s saved
+anti_rows_stored s saved to lc rc el er sound = parts_pass (λ part. IsStoredAs s (anti_row part)) 5 saved sound.parts each
   where
     left : (p : ℕ) → All (λ e. map datum_kind e.cells ≡ lc) (part_of p saved) → All (λ e. map datum_kind e.cells ≡ s.left_kinds) (part_of p saved)
     left p h = subst (λ (k : List CellKind). All (λ (e : Edge). map datum_kind e.cells ≡ k) (part_of p saved)) (sym el) h
@@ -118,7 +87,7 @@ anti_rows_stored s saved to lc rc el er sound = parts_pass (λ part. IsStoredAs 
     right : (p : ℕ) → All (λ e. map datum_kind e.cells ≡ rc) (part_of p saved) → All (λ e. map datum_kind e.cells ≡ s.right_kinds) (part_of p saved)
     right p h = subst (λ (k : List CellKind). All (λ (e : Edge). map datum_kind e.cells ≡ k) (part_of p saved)) (sym er) h
 
-    each : (p : ℕ) → p < 5 → All (λ e. IsStoredAs s (row_of_part p) e.cells) (part_of p saved)
+    each : (p : ℕ) → p < 5 → All (λ e. IsStoredAs s (anti_row p) e.cells) (part_of p saved)
     each zero low = left 0 (row_cells lc to (part_of 0 saved) sound.left)
     each (suc zero) low = right 1 (row_cells rc to (part_of 1 saved) sound.right)
     each (suc (suc zero)) low = left 2 (waiting_cells lc to (part_of 2 saved) sound.left_waiting)
@@ -195,15 +164,12 @@ module _ (left right times : List HeldRow) (lw rw : List Edge) (s0 s1 s2 s3 s4 s
     single = λ k. subst (λ (l : List HeldRow). many (is_of_key lk k) l ≤ 1) (sym (ap rows_of times_part ∙ rows_of_starts times)) (one k);
   }
 
-  pub anti_resumed : (lk rk : List ℕ) (lc rc : List CellKind) (texts : List (List ℕ)) (x y : ℕ) (hl hr out : List Edge) → AntiSound lk lc rc (min x y) s5 →
-      KeepsAnti lk rk lc rc texts x y left right times lw rw hl hr out → AntiResumes lk rk lc rc texts x y s5 hl hr out
-  anti_resumed lk rk lc rc texts x y hl hr out sound k =
+  pub anti_resumed : (lk rk : List ℕ) (to : ℕ) (hl hr out : List Edge) → AntiKeeps lk rk left right times lw rw to hl hr out →
+      AntiKeeps lk rk (rows_of (part_of 0 s5)) (rows_of (part_of 1 s5)) (rows_of (part_of 4 s5)) (part_of 2 s5) (part_of 3 s5) to hl hr out
+  anti_resumed lk rk to hl hr out k =
       let t = ap rows_of times_part ∙ rows_of_starts times in
-      record {
-        sound = sound;
-        keeps = subst (λ (a : List HeldRow). KeepsAnti lk rk lc rc texts x y a (rows_of (part_of 1 s5)) (rows_of (part_of 4 s5)) (part_of 2 s5) (part_of 3 s5) hl hr out) (sym (ap rows_of left_part ∙ rows_of_starts left))
-            (subst (λ (a : List HeldRow). KeepsAnti lk rk lc rc texts x y left a (rows_of (part_of 4 s5)) (part_of 2 s5) (part_of 3 s5) hl hr out) (sym (ap rows_of right_part ∙ rows_of_starts right))
-            (subst (λ (a : List HeldRow). KeepsAnti lk rk lc rc texts x y left right a (part_of 2 s5) (part_of 3 s5) hl hr out) (sym t)
-            (subst (λ (a : List Edge). KeepsAnti lk rk lc rc texts x y left right times a (part_of 3 s5) hl hr out) (sym left_rest)
-            (subst (λ (a : List Edge). KeepsAnti lk rk lc rc texts x y left right times lw a hl hr out) (sym right_rest) k))));
-      }
+      subst (λ (a : List HeldRow). AntiKeeps lk rk a (rows_of (part_of 1 s5)) (rows_of (part_of 4 s5)) (part_of 2 s5) (part_of 3 s5) to hl hr out) (sym (ap rows_of left_part ∙ rows_of_starts left))
+      (subst (λ (a : List HeldRow). AntiKeeps lk rk left a (rows_of (part_of 4 s5)) (part_of 2 s5) (part_of 3 s5) to hl hr out) (sym (ap rows_of right_part ∙ rows_of_starts right))
+      (subst (λ (a : List HeldRow). AntiKeeps lk rk left right a (part_of 2 s5) (part_of 3 s5) to hl hr out) (sym t)
+      (subst (λ (a : List Edge). AntiKeeps lk rk left right times a (part_of 3 s5) to hl hr out) (sym left_rest)
+      (subst (λ (a : List Edge). AntiKeeps lk rk left right times lw a to hl hr out) (sym right_rest) k))))

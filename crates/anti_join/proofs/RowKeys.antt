@@ -1,14 +1,13 @@
 -- The keys of the rows stay, and what is told by keys that are the same.
 use Rattle.std.specs.Prelude.{◌≡◌, ℕ, zero, suc, ◌+◌, ◌<◌, ◌≤◌, not, ◌&&◌, cond, List, flat_map, length, get_or, take, refl}
 use Rattle.std.proofs.Common.{sym, ◌∙◌, subst, arith}
-use Rattle.tw_rows.specs.Bag.{SameBag, total}
+use Rattle.tw_rows.specs.Bag.{total}
 use Rattle.tw_rows.specs.declared.cells.Datum.{Datum}
 use Rattle.tw_rows.specs.declared.edge.Edge.{Edge}
 use Rattle.tw_rows.specs.declared.edge.HeldRow.{HeldRow}
 use Rattle.edge_history.specs.Order.{many}
 use Rattle.edge_history.specs.Opens.{ended_of, ended_rows}
-use Rattle.edge_history.specs.History.{CellEvent, of}
-use Rattle.edge_history.specs.Balance.{news}
+use Rattle.edge_history.specs.History.{CellEvent}
 use Rattle.synopsis.specs.Held.{KeyedRows, key_of, is_of_key}
 use Rattle.sweep_laws.specs.Moves.{Adds}
 use Rattle.sweep_laws.specs.Sweeps.{Tells}
@@ -147,25 +146,3 @@ gone_more s now later l es i x low is k left none before g here some = pick (man
         let b = before (omega (arith, m, e, some)) in
         let f = fewer_there s now later l k g in
         omega (arith, b, f)
-
--- what is kept by the columns of the rooms is kept by the keys of the rows, and the other way
-pub keys_by : (s : Rows) (lw rw : List Edge) (to : ℕ) (hl hr out : List Edge) → AreByKey s → AntiKeeps s.left_key.columns s.right_key.columns s.left.rows s.right.rows s.times.rows lw rw to hl hr out →
-    AntiKeeps s.left.key s.right.key s.left.rows s.right.rows s.times.rows lw rw to hl hr out
-keys_by s lw rw to hl hr out by h =
-    subst (λ (l : List ℕ). AntiKeeps l s.right.key s.left.rows s.right.rows s.times.rows lw rw to hl hr out) by.left
-    (subst (λ (r : List ℕ). AntiKeeps s.left_key.columns r s.left.rows s.right.rows s.times.rows lw rw to hl hr out) by.right h)
-
-pub keys_back : (s : Rows) (lw rw : List Edge) (to : ℕ) (hl hr out : List Edge) → AreByKey s → AntiKeeps s.left.key s.right.key s.left.rows s.right.rows s.times.rows lw rw to hl hr out →
-    AntiKeeps s.left_key.columns s.right_key.columns s.left.rows s.right.rows s.times.rows lw rw to hl hr out
-keys_back s lw rw to hl hr out by h =
-    subst (λ (l : List ℕ). AntiKeeps l s.right_key.columns s.left.rows s.right.rows s.times.rows lw rw to hl hr out) (sym by.left)
-    (subst (λ (r : List ℕ). AntiKeeps s.left.key r s.left.rows s.right.rows s.times.rows lw rw to hl hr out) (sym by.right) h)
-
-pub news_by : (s : Rows) → AreByKey s → (c d : ℕ) (hl hr told : List Edge) → SameBag told (news c d (antis s.left.key s.right.key (of hl) (of hr))) →
-    SameBag told (news c d (antis s.left_key.columns s.right_key.columns (of hl) (of hr)))
-news_by s by c d hl hr told h =
-    subst (λ (l : List ℕ). SameBag told (news c d (antis l s.right_key.columns (of hl) (of hr)))) (sym by.left)
-    (subst (λ (r : List ℕ). SameBag told (news c d (antis s.left.key r (of hl) (of hr)))) (sym by.right) h)
-
-pub times_key : (s : Rows) → AreByKey s → s.times.key ≡ s.left_key.columns
-times_key s by = by.times ∙ sym by.left

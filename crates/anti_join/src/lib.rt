@@ -3,8 +3,8 @@
 
 mod anti;
 mod free_times;
-mod operating;
 mod sides;
 mod sweep;
 
-pub use anti::Anti;
+pub use anti::{Anti, new_anti};
+pub use sides::AntiSides;

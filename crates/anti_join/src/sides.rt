@@ -1,4 +1,4 @@
-// What an anti-join keeps of its sides, and how it takes new edges in.
+// The sweep of an anti-join.
 ghost use Rattle.std.specs.Prelude.{◌≡◌, ◌≤◌, ◌++◌, ◌↔◌, IsTrue, ℕ, All, map, List, OnOk, OnErr, IfOk, IfErr};
 ghost use Rattle.tw_rows.specs.Bag.{SameBag};
 ghost use Rattle.tw_rows.specs.Cells.{datum_kind};
@@ -21,15 +21,18 @@ ghost use Rattle.anti_join.specs.States.{AntiStored};
 use crate::free_times::FreeTimes;
 use crate::sweep::Rows;
 use carried_edges::{are_of_parts, edges_of_part};
-use edge_stream::{EdgeList, LoadFault, Saved};
+use edge_stream::{EdgeList, LoadFault, PartRow, Saved};
 use end_queue::EndQueue;
 use std::alloc::Global;
-use sweep_sides::{are_rows, can_wait, load_rows, load_waiting, take_in};
+use sweep_operator::Sweep;
+use sweep_sides::{
+    are_rows, can_wait, kept_count, load_rows, load_waiting, save_rows, save_waiting, take_in,
+};
 use tw_rows::{Edge, Kind, Memory, Time};
 
 /// The rows of both sides that are alive, and the edges of both sides that wait.
 #[derive(Drop)]
-pub(crate) struct Sides {
+pub struct AntiSides {
     pub(crate) rows: Rows,
     pub(crate) left_waiting: EndQueue,
     pub(crate) right_waiting: EndQueue,
@@ -52,9 +55,9 @@ fn load_times(
     FreeTimes::of_starts(alloc, key, &edges)
 }
 
-/// Whether saved entries can be the state of an anti-join whose sides are closed up to a time, with columns of these kinds, but
-/// for keys with two times.
-pub(crate) fn is_stored(saved: &Saved, left_kinds: &[Kind], right_kinds: &[Kind], to: Time) -> bool
+// Whether saved entries can be the state of an anti-join whose sides are closed up to a time, with columns of these kinds, but
+// for keys with two times.
+fn is_stored(saved: &Saved, left_kinds: &[Kind], right_kinds: &[Kind], to: Time) -> bool
     ensures { IsTrue result ↔ AntiStored (map cell_kind_of left_kinds.now) (map cell_kind_of right_kinds.now) to saved.now }
 {
     if !are_of_parts(saved, 5) {
@@ -75,40 +78,11 @@ pub(crate) fn is_stored(saved: &Saved, left_kinds: &[Kind], right_kinds: &[Kind]
     are_rows(saved, 4, left_kinds, to)
 }
 
-impl Sides {
-    ghost use Rattle.anti_join.specs.States.{SidesKeep, AreSides};
+impl AntiSides {
+    ghost use Rattle.anti_join.specs.States.{AreSides};
 
-    /// Takes the new edges of both sides in, and tells what happens to the rows that meet none up to a time.
-    pub(crate) fn advance(
-        &mut self,
-        left: &EdgeList,
-        right: &EdgeList,
-        to: Time,
-    ) -> Result<Vec<Edge>, Memory>
-        requires { to ≤ inf }
-        ensures kept { IfOk result (λ answer. (from : ℕ) (hl hr out : List Edge) → from ≤ to →
-            SidesKeep self.old from hl hr out → IsHistory (hl ++ left.now.edges) → IsHistory (hr ++ right.now.edges) →
-            failing (is_from from) left.now.edges ≡ 0 → failing (is_from from) right.now.edges ≡ 0 →
-            SidesKeep self.new to (hl ++ left.now.edges) (hr ++ right.now.edges) (out ++ answer.items)
-            × SameBag answer.items (news from to (antis self.old.rows.left.key self.old.rows.right.key (of
-            (hl ++ left.now.edges)) (of (hr ++ right.now.edges))))) }
-        ensures sides { OnOk result ((from : ℕ) → from ≤ to →
-            AreSides (cells_of left.now) (cells_of right.now) from self.old →
-            AreSides (cells_of left.now) (cells_of right.now) to self.new) }
-        ensures left_cells { OnOk result (All (λ e. map datum_kind e.cells ≡ cells_of left.now) left.now.edges) }
-        ensures right_cells { OnOk result (All (λ e. map datum_kind e.cells ≡ cells_of right.now) right.now.edges) }
-        ensures keys { SameKeys self.old.rows self.new.rows }
-    {
-        let left_due = take_in(&mut self.left_waiting, self.rows.alloc, left, to)?;
-        let right_due = take_in(&mut self.right_waiting, self.rows.alloc, right, to)?;
-        let mut answer = Vec::new(self.rows.alloc);
-        self.rows
-            .sweep(&mut answer, left_due.as_slice(), right_due.as_slice())?;
-        Ok(answer)
-    }
-
-    /// Takes up the rows, the edges and the times that were saved. A fault changes nothing.
-    pub(crate) fn take_up(&mut self, saved: &Saved) -> Result<(), LoadFault>
+    // Takes up the rows, the edges and the times that were saved. A fault changes nothing.
+    fn take_up(&mut self, saved: &Saved) -> Result<(), LoadFault>
         ensures left { OnOk result (SameBag self.new.rows.left.rows (rows_of (part_of 0 saved.now))) }
         ensures right { OnOk result (SameBag self.new.rows.right.rows (rows_of (part_of 1 saved.now))) }
         ensures left_waiting { OnOk result (SameBag (queued self.new.left_waiting) (part_of 2 saved.now)) }
@@ -139,4 +113,95 @@ impl Sides {
         self.right_waiting = right_waiting;
         Ok(())
     }
+}
+
+impl Sweep for AntiSides {
+    ghost use Rattle.anti_join.specs.States.{SidesKeep, SidesFit, IsEmpty, AntiSound};
+    ghost use Rattle.anti_join.specs.Operating.{anti_node, anti_entries, anti_row, Resumes};
+
+    ghost node = { anti_node };
+
+    ghost keeps = { SidesKeep };
+
+    ghost fits = { SidesFit };
+
+    ghost is_empty = { IsEmpty };
+
+    ghost entries = { anti_entries };
+
+    ghost sound = { λ s l r to saved. AntiSound s.rows.left.key l r to saved };
+
+    ghost stored = { λ s l r to saved. AntiStored l r to saved };
+
+    ghost resumes = { Resumes };
+
+    ghost row_of_part = { anti_row };
+
+    fn closes(&self, left_to: Time, right_to: Time) -> Time {
+        left_to.min(right_to)
+    }
+
+    fn advance(
+        &mut self,
+        left: &EdgeList,
+        right: &EdgeList,
+        _from: Time,
+        to: Time,
+    ) -> Result<Vec<Edge>, Memory> {
+        let left_due = take_in(&mut self.left_waiting, self.rows.alloc, left, to)?;
+        let right_due = take_in(&mut self.right_waiting, self.rows.alloc, right, to)?;
+        let mut answer = Vec::new(self.rows.alloc);
+        self.rows
+            .sweep(&mut answer, left_due.as_slice(), right_due.as_slice())?;
+        // Its call tells the proof that no key has two times.
+        let _ = self.rows.times.len();
+        Ok(answer)
+    }
+
+    fn held(&self) -> u64 {
+        let left = kept_count(&self.rows.left, &self.left_waiting);
+        let right = kept_count(&self.rows.right, &self.right_waiting);
+        let rows = left.saturating_add(right);
+        let times = self.rows.times.len() as u64;
+        rows.saturating_add(times)
+    }
+
+    fn save(&self) -> Result<Saved, Memory> {
+        let alloc = self.rows.alloc;
+        let mut saved = Saved::new(alloc);
+        save_rows(&mut saved, 0, &self.rows.left)?;
+        save_rows(&mut saved, 1, &self.rows.right)?;
+        save_waiting(alloc, &mut saved, 2, &self.left_waiting)?;
+        save_waiting(alloc, &mut saved, 3, &self.right_waiting)?;
+        save_rows(&mut saved, 4, self.rows.times.rows())?;
+        // Its call tells the proof that no key has two times.
+        let _ = self.rows.times.len();
+        Ok(saved)
+    }
+
+    fn load(
+        &mut self,
+        saved: &Saved,
+        left_kinds: &[Kind],
+        right_kinds: &[Kind],
+        to: Time,
+    ) -> Result<(), LoadFault> {
+        if !is_stored(saved, left_kinds, right_kinds, to) {
+            return Err(LoadFault::NotState);
+        }
+        self.take_up(saved)?;
+        // Its call tells the proof that no key has two times.
+        let _ = self.rows.times.len();
+        Ok(())
+    }
+
+    fn part_row(part: u64) -> Option<PartRow> {
+        match part {
+            0 | 2 | 4 => Some(PartRow::Left),
+            1 | 3 => Some(PartRow::Right),
+            _ => None,
+        }
+    }
+
+    fn laws() {}
 }

@@ -65,7 +65,9 @@ fn tell(
 }
 
 impl Rows {
-    ghost use Rattle.anti_join.specs.Rows.{AreByKey, SameKeys, SetsTime, SetsTimes, ForgetsTimes, left_key_of, status, free, ends_told, starts_told, lefts_of, times_of, TimesBegin};
+    ghost use Rattle.anti_join.specs.Rows.{AreByKey, SameKeys, SetsTime, SetsTimes, ForgetsTimes};
+    ghost use Rattle.anti_join.specs.Rows.{left_key_of, status, free, ends_told, starts_told};
+    ghost use Rattle.anti_join.specs.Rows.{lefts_of, times_of, TimesBegin};
 
     // No right row has the key.
     fn is_free(&self, key: &[Datum]) -> bool

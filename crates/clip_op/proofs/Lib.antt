@@ -5,6 +5,5 @@ pub mod RightEdges
 pub mod Steps
 pub mod KeyRules
 pub mod Answering
-pub mod Stepped
 pub mod Held
 pub mod Resuming

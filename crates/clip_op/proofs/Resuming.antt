@@ -1,12 +1,10 @@
--- What is kept of a clip at first, in longer tables, and after it was saved and loaded.
-use Rattle.std.specs.Prelude.{◌≡◌, ℕ, zero, suc, ◌<◌, All, min, true, false, List, [], ◌++◌, map, refl}
+-- What is kept of a clip at first, and after it was saved and loaded.
+use Rattle.std.specs.Prelude.{◌≡◌, ℕ, zero, suc, ◌<◌, All, true, List, [], ◌++◌, map, refl}
 use Rattle.std.specs.List.{list_all}
 use Rattle.std.proofs.Common.{sym, ◌∙◌, ap, subst, arith}
 use Rattle.std.proofs.lemmas.List.{append-nil}
-use Rattle.std.proofs.lemmas.List.Elements.{All-nil}
 use Rattle.tw_rows.specs.Bag.{SameBag}
-use Rattle.tw_rows.specs.Cells.{ArePlaced, datum_kind}
-use Rattle.tw_rows.specs.Texts.{BeginsWith}
+use Rattle.tw_rows.specs.Cells.{datum_kind}
 use Rattle.tw_rows.specs.declared.edge.Edge.{Edge}
 use Rattle.tw_rows.specs.declared.edge.HeldRow.{HeldRow}
 use Rattle.tw_rows.specs.declared.kind.CellKind.{CellKind}
@@ -17,85 +15,52 @@ use Rattle.edge_stream.specs.declared.saved.SavedEntry.{SavedEntry}
 use Rattle.end_queue.specs.Pending.{Pending}
 use Rattle.carried_edges.specs.Entries.{entries_of, part_of, are_of_parts}
 use Rattle.carried_edges.proofs.Parts.{parts_pass, part_of_own, part_of_other, part_of_append, parts_own, parts_append, all_pass}
-use Rattle.plan_model.specs.Meaning.{node_events}
-use Rattle.plan_model.specs.declared.node.Node.TheVariants.{Clip}
-use Rattle.node_laws.specs.Places.{AreDistinct, read_of}
-use Rattle.node_laws.specs.Standing.{StandsRead}
-use Rattle.node_laws.proofs.Standing.{placed_longer}
-use Rattle.node_laws.proofs.Steps.{keeps_read}
 use Rattle.operator.specs.Standing.{Standing, IsStoredAs, AreStoredAs}
-use Rattle.sweep_sides.specs.Waiting.{queued}
 use Rattle.sweep_sides.proofs.KeptSides.{row_cells, waiting_cells}
 use Rattle.sweep_laws.specs.Saving.{starts_of, rows_of, is_row_start, may_wait, are_row_starts, may_all_wait}
 use Rattle.sweep_laws.proofs.Stored.{rows_of_starts}
-use Rattle.clip_op.specs.States.{KeepsClip, ClipSound, ClipResumes}
-use Rattle.clip_op.specs.Operating.{row_of_part}
-use Rattle.clip_op.proofs.Answering.{node_keeps}
+use Rattle.sweep_sides.specs.Sides.{IsSide}
+use Rattle.sweep_sides.specs.Waiting.{AreTimed}
+use Rattle.clip_op.specs.declared.sides.ClipSides.{ClipSides}
+use Rattle.clip_op.specs.Holding.{ClipKeeps}
+use Rattle.clip_op.specs.States.{SidesKeep, AreSides, IsEmpty, ClipSound}
+use Rattle.clip_op.specs.Operating.{clip_row}
 use Rattle.clip_op.proofs.Steps.{kept_none}
 
-module _ (lk rk : List ℕ) (lc rc : List CellKind) where
-  clip_first : (texts : List (List ℕ)) → KeepsClip lk rk lc rc texts 0 0 [] (queued []) (queued []) [] [] []
-  clip_first texts = record {
-    left_placed = All-nil (λ (e : Edge). ArePlaced texts e.cells);
-    right_placed = All-nil (λ (e : Edge). ArePlaced texts e.cells);
-    left_cells = All-nil (λ (e : Edge). map datum_kind e.cells ≡ lc);
-    right_cells = All-nil (λ (e : Edge). map datum_kind e.cells ≡ rc);
-    left_low = omega arith;
-    right_low = omega arith;
-    kept = kept_none lk rk;
-  }
+-- of no edges nothing is kept, which fits any time
+pub clip_opens : (s : ClipSides) → IsEmpty s → SidesKeep s 0 [] [] []
+clip_opens s e = record {
+  left_timed = subst AreTimed (sym e.none_left) refl;
+  right_timed = subst AreTimed (sym e.none_right) refl;
+  kept = rw (e.left, e.none_left, e.none_right) (kept_none s.rows.left.key s.rows.right_key.columns);
+}
 
-  pub clip_opening : (texts : List (List ℕ)) (x y : ℕ) (left : List HeldRow) (lq rq : List Pending) → left ≡ [] → lq ≡ [] → rq ≡ [] → x ≡ 0 → y ≡ 0 →
-      KeepsClip lk rk lc rc texts x y left (queued lq) (queued rq) [] [] []
-  clip_opening texts x y left lq rq a b c d e = rw (a, b, c, d, e) (clip_first texts)
+none_side : (kinds : List CellKind) (to : ℕ) (rows : List HeldRow) (waiting : List Pending) → rows ≡ [] → waiting ≡ [] → IsSide kinds to rows waiting
+none_side kinds to rows waiting e f = rw (e, f) (record { started = refl; later = refl; timed = refl })
 
-  pub clip_longer : (new old : List (List ℕ)) (x y : ℕ) (left : List HeldRow) (lw rw hl hr out : List Edge) → BeginsWith new old →
-      KeepsClip lk rk lc rc old x y left lw rw hl hr out → KeepsClip lk rk lc rc new x y left lw rw hl hr out
-  clip_longer new old x y left lw rw hl hr out b k = record {
-    left_placed = placed_longer new old b hl k.left_placed;
-    right_placed = placed_longer new old b hr k.right_placed;
-    left_cells = k.left_cells;
-    right_cells = k.right_cells;
-    left_low = k.left_low;
-    right_low = k.right_low;
-    kept = k.kept;
-  }
+pub clip_fits : (s : ClipSides) (lc rc : List CellKind) (to : ℕ) → IsEmpty s → AreSides lc rc to s
+clip_fits s lc rc to e = record {
+  left = none_side lc to s.rows.left.rows s.left_waiting e.left e.none_left;
+  right = none_side rc to [] s.right_waiting refl e.none_right;
+  right_starts = rw e.none_right refl;
+}
 
-  -- what was answered stands, read, for the events of the node
-  pub clip_stands : (texts : List (List ℕ)) (x y : ℕ) (left : List HeldRow) (lw rw hl hr out : List Edge) → AreDistinct texts →
-      KeepsClip lk rk lc rc texts x y left lw rw hl hr out → StandsRead texts (min x y) out (node_events (Clip 0 1 lk rk) (read_of texts hl) (read_of texts hr))
-  clip_stands texts x y left lw rw hl hr out apart k =
-      keeps_read (λ test row. false) (λ items row. row) (Clip 0 1 lk rk) texts x y hl hr out refl apart k.left_low k.right_low (node_keeps lk rk lc rc texts x y left lw rw hl hr out k)
-
-  -- LOADING: the same rows and edges in another order
-  same_kept : (texts : List (List ℕ)) (x y : ℕ) (left left2 : List HeldRow) (lw rw lw2 rw2 hl hr out : List Edge) → SameBag left2 left → SameBag lw2 lw → SameBag rw2 rw →
-      KeepsClip lk rk lc rc texts x y left lw rw hl hr out → KeepsClip lk rk lc rc texts x y left2 lw2 rw2 hl hr out
-  same_kept texts x y left left2 lw rw lw2 rw2 hl hr out a c d k = record {
-    left_placed = k.left_placed;
-    right_placed = k.right_placed;
-    left_cells = k.left_cells;
-    right_cells = k.right_cells;
-    left_low = k.left_low;
-    right_low = k.right_low;
-    kept = record {
-      left_history = k.kept.left_history;
-      right_history = k.kept.right_history;
-      left_waits = SameBag-trans _ _ _ c k.kept.left_waits;
-      right_waits = SameBag-trans _ _ _ d k.kept.right_waits;
-      now = SameBag-trans _ _ _ a k.kept.now;
-      told = k.kept.told;
-    };
-  }
-
-  pub clip_loaded : (lk2 rk2 : List ℕ) (texts : List (List ℕ)) (x y : ℕ) (left left2 : List HeldRow) (lq rq lq2 rq2 hl hr out : List Edge) → lk2 ≡ lk → rk2 ≡ rk →
-      SameBag left2 left → SameBag lq2 lq → SameBag rq2 rq → KeepsClip lk rk lc rc texts x y left lq rq hl hr out → KeepsClip lk2 rk2 lc rc texts x y left2 lq2 rq2 hl hr out
-  clip_loaded lk2 rk2 texts x y left left2 lq rq lq2 rq2 hl hr out e f a c d k =
-      rw (e, f) (same_kept texts x y left left2 lq rq lq2 rq2 hl hr out a c d k)
+-- LOADING: the same rows and edges in another order
+pub clip_loaded : (lk rk lk2 rk2 : List ℕ) (to : ℕ) (left left2 : List HeldRow) (lw vw lw2 vw2 hl hr out : List Edge) → lk2 ≡ lk → rk2 ≡ rk →
+    SameBag left2 left → SameBag lw2 lw → SameBag vw2 vw → ClipKeeps lk rk left lw vw to hl hr out → ClipKeeps lk2 rk2 left2 lw2 vw2 to hl hr out
+clip_loaded lk rk lk2 rk2 to left left2 lw vw lw2 vw2 hl hr out e f a c d k = rw (e, f) (record {
+  left_history = k.left_history;
+  right_history = k.right_history;
+  left_waits = SameBag-trans _ _ _ c k.left_waits;
+  right_waits = SameBag-trans _ _ _ d k.right_waits;
+  now = SameBag-trans _ _ _ a k.now;
+  told = k.told;
+})
 
 -- each entry of a sound state has the cells of its row
 pub clip_rows_stored : (s : Standing) (saved : List SavedEntry) (to : ℕ) (lc rc : List CellKind) → s.left_kinds ≡ lc → s.right_kinds ≡ rc → ClipSound lc rc to saved →
-    AreStoredAs row_of_part s saved
-clip_rows_stored s saved to lc rc el er sound = parts_pass (λ part. IsStoredAs s (row_of_part part)) 3 saved sound.parts each
+    AreStoredAs clip_row s saved
+clip_rows_stored s saved to lc rc el er sound = parts_pass (λ part. IsStoredAs s (clip_row part)) 3 saved sound.parts each
   where
     left : (p : ℕ) → All (λ e. map datum_kind e.cells ≡ lc) (part_of p saved) → All (λ e. map datum_kind e.cells ≡ s.left_kinds) (part_of p saved)
     left p h = subst (λ (k : List CellKind). All (λ (e : Edge). map datum_kind e.cells ≡ k) (part_of p saved)) (sym el) h
@@ -103,7 +68,7 @@ clip_rows_stored s saved to lc rc el er sound = parts_pass (λ part. IsStoredAs 
     right : (p : ℕ) → All (λ e. map datum_kind e.cells ≡ rc) (part_of p saved) → All (λ e. map datum_kind e.cells ≡ s.right_kinds) (part_of p saved)
     right p h = subst (λ (k : List CellKind). All (λ (e : Edge). map datum_kind e.cells ≡ k) (part_of p saved)) (sym er) h
 
-    each : (p : ℕ) → p < 3 → All (λ e. IsStoredAs s (row_of_part p) e.cells) (part_of p saved)
+    each : (p : ℕ) → p < 3 → All (λ e. IsStoredAs s (clip_row p) e.cells) (part_of p saved)
     each zero low = left 0 (row_cells lc to (part_of 0 saved) sound.left)
     each (suc zero) low = left 1 (waiting_cells lc to (part_of 1 saved) sound.left_waiting)
     each (suc (suc zero)) low = right 2 (waiting_cells rc to (part_of 2 saved) sound.right_waiting)
@@ -152,11 +117,9 @@ module _ (left : List HeldRow) (lw rw : List Edge) (s0 s1 s2 s3 : List SavedEntr
     right_starts = ap (list_all is_start) right_rest ∙ all_pass is_start rw e;
   }
 
-  pub clip_resumed : (lk rk : List ℕ) (lc rc : List CellKind) (texts : List (List ℕ)) (x y : ℕ) (hl hr out : List Edge) → ClipSound lc rc (min x y) s3 →
-      KeepsClip lk rk lc rc texts x y left lw rw hl hr out → ClipResumes lk rk lc rc texts x y s3 hl hr out
-  clip_resumed lk rk lc rc texts x y hl hr out sound k = record {
-    sound = sound;
-    keeps = subst (λ (a : List HeldRow). KeepsClip lk rk lc rc texts x y a (part_of 1 s3) (part_of 2 s3) hl hr out) (sym (ap rows_of left_part ∙ rows_of_starts left))
-        (subst (λ (a : List Edge). KeepsClip lk rk lc rc texts x y left a (part_of 2 s3) hl hr out) (sym left_rest)
-        (subst (λ (a : List Edge). KeepsClip lk rk lc rc texts x y left lw a hl hr out) (sym right_rest) k));
-  }
+  pub clip_resumed : (lk rk : List ℕ) (to : ℕ) (hl hr out : List Edge) → ClipKeeps lk rk left lw rw to hl hr out →
+      ClipKeeps lk rk (rows_of (part_of 0 s3)) (part_of 1 s3) (part_of 2 s3) to hl hr out
+  clip_resumed lk rk to hl hr out k =
+      subst (λ (a : List HeldRow). ClipKeeps lk rk a (part_of 1 s3) (part_of 2 s3) to hl hr out) (sym (ap rows_of left_part ∙ rows_of_starts left))
+      (subst (λ (a : List Edge). ClipKeeps lk rk left a (part_of 2 s3) to hl hr out) (sym left_rest)
+      (subst (λ (a : List Edge). ClipKeeps lk rk left lw a to hl hr out) (sym right_rest) k))

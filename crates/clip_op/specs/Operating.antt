@@ -1,50 +1,28 @@
--- The operator of a Clip: how it stands, and what it keeps.
-use Rattle.std.specs.Prelude.{ℕ, nat_eq, cond, Option, Some, None, ◌+◌, min, length, List, map}
-use Rattle.tw_rows.specs.Kinds.{cell_kind_of}
+-- The sweep of a Clip: its node, and what it keeps, as entries.
+use Rattle.std.specs.Prelude.{ℕ, nat_eq, cond, Option, Some, None, ◌+◌, length, List}
+use Rattle.tw_rows.specs.declared.edge.Edge.{Edge}
 use Rattle.edge_stream.specs.declared.saved.PartRow.{PartRow}
 use Rattle.edge_stream.specs.declared.saved.PartRow.TheVariants.{Left, Right}
 use Rattle.edge_stream.specs.declared.saved.SavedEntry.{SavedEntry}
+use Rattle.carried_edges.specs.Entries.{part_of}
+use Rattle.plan_model.specs.declared.node.Node.{Node}
 use Rattle.plan_model.specs.declared.node.Node.TheVariants.{Clip as ClipNode}
-use Rattle.operator.specs.Standing.{Standing, Keeping}
-use Rattle.sweep_sides.specs.Waiting.{queued}
-use Rattle.clip_op.specs.declared.clip.Clip.{Clip}
-use Rattle.clip_op.specs.States.{KeepsClip, IsOpening, ClipSound, ClipResumes}
+use Rattle.sweep_laws.specs.Saving.{rows_of}
+use Rattle.clip_op.specs.declared.sides.ClipSides.{ClipSides}
+use Rattle.clip_op.specs.Holding.{ClipKeeps}
 
-abbrev pub standing : Clip → Standing
-standing c = record {
-  node = ClipNode 0 1 c.sides.rows.left.key c.sides.rows.right_key.columns;
-  left_closed = c.left_to;
-  right_closed = c.right_to;
-  left_kinds = map cell_kind_of c.left_kinds.items;
-  right_kinds = map cell_kind_of c.right_kinds.items;
-  own_kinds = map cell_kind_of c.left_kinds.items;
-  batch_rows = c.capacity;
-  has_failed = c.failed;
-}
+abbrev pub clip_node : ClipSides → Node
+clip_node s = ClipNode 0 1 s.rows.left.key s.rows.right_key.columns
 
 -- how many entries it keeps: one for each left row, and one for each edge that waits
-abbrev pub entries : Clip → ℕ
-entries c = length c.sides.rows.left.rows + length c.sides.left_waiting + length c.sides.right_waiting
+abbrev pub clip_entries : ClipSides → ℕ
+clip_entries s = length s.rows.left.rows + length s.left_waiting + length s.right_waiting
 
--- it stands as it was made
-abbrev pub IsNew : Clip → Type 0
-IsNew c = IsOpening c.sides.rows.left.rows c.sides.left_waiting c.sides.right_waiting c.left_to c.right_to c.failed
-
--- it is what is left after the edges hl and hr came in and out was answered
-abbrev pub IsKept : Clip → Keeping
-IsKept c texts hl hr out =
-    KeepsClip c.sides.rows.left.key c.sides.rows.right_key.columns (map cell_kind_of c.left_kinds.items) (map cell_kind_of c.right_kinds.items) texts c.left_to c.right_to
-    c.sides.rows.left.rows (queued c.sides.left_waiting) (queued c.sides.right_waiting) hl hr out
-
--- saved entries can be its state, closed up to x and y
-abbrev pub IsSound : Clip → List SavedEntry → ℕ → ℕ → Type 0
-IsSound c saved x y = ClipSound (map cell_kind_of c.left_kinds.items) (map cell_kind_of c.right_kinds.items) (min x y) saved
-
--- they are what it keeps after the edges came in and were answered
-abbrev pub Resumes : Clip → List SavedEntry → ℕ → ℕ → Keeping
-Resumes c saved x y texts hl hr out =
-    ClipResumes c.sides.rows.left.key c.sides.rows.right_key.columns (map cell_kind_of c.left_kinds.items) (map cell_kind_of c.right_kinds.items) texts x y saved hl hr out
+-- saved entries are what it keeps up to a time, after the edges hl and hr came in and out was answered
+abbrev pub Resumes : ClipSides → List SavedEntry → ℕ → List Edge → List Edge → List Edge → Type 0
+Resumes s saved to hl hr out =
+    ClipKeeps s.rows.left.key s.rows.right_key.columns (rows_of (part_of 0 saved)) (part_of 1 saved) (part_of 2 saved) to hl hr out
 
 -- whose row the cells of a part are
-abbrev pub row_of_part : ℕ → Option PartRow
-row_of_part part = cond (nat_eq part 0) (Some Left) (cond (nat_eq part 1) (Some Left) (cond (nat_eq part 2) (Some Right) None))
+abbrev pub clip_row : ℕ → Option PartRow
+clip_row part = cond (nat_eq part 0) (Some Left) (cond (nat_eq part 1) (Some Left) (cond (nat_eq part 2) (Some Right) None))

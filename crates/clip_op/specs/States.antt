@@ -1,64 +1,36 @@
 -- What a clip keeps between its steps, and what it saves.
-use Rattle.std.specs.Prelude.{◌≡◌, ℕ, ◌≤◌, min, Bool, true, false, List, [], length, map, All}
+use Rattle.std.specs.Prelude.{◌≡◌, ℕ, true, List, []}
 use Rattle.std.specs.List.{list_all}
-use Rattle.tw_rows.specs.Cells.{datum_kind}
-use Rattle.tw_rows.specs.Kinds.{cell_kind_of}
-use Rattle.tw_rows.specs.Instant.{inf}
 use Rattle.tw_rows.specs.declared.edge.Edge.{Edge}
-use Rattle.tw_rows.specs.declared.edge.HeldRow.{HeldRow}
-use Rattle.tw_rows.specs.declared.kind.Kind.{Kind}
 use Rattle.tw_rows.specs.declared.kind.CellKind.{CellKind}
 use Rattle.edge_history.specs.Order.{failing}
 use Rattle.edge_history.specs.Opens.{is_start}
 use Rattle.edge_stream.specs.declared.saved.SavedEntry.{SavedEntry}
-use Rattle.end_queue.specs.Pending.{Pending}
 use Rattle.carried_edges.specs.Entries.{part_of, are_of_parts}
-use Rattle.node_laws.specs.Places.{EdgesArePlaced}
 use Rattle.sweep_sides.specs.Waiting.{queued, AreTimed}
 use Rattle.sweep_sides.specs.Sides.{IsSide}
-use Rattle.sweep_laws.specs.Saving.{rows_of, are_row_starts, may_all_wait}
-use Rattle.clip_op.specs.declared.sides.Sides.{Sides}
+use Rattle.sweep_laws.specs.Saving.{are_row_starts, may_all_wait}
+use Rattle.clip_op.specs.declared.sides.ClipSides.{ClipSides}
 use Rattle.clip_op.specs.Holding.{ClipKeeps}
 
 -- it can be what is left, swept up to a time, after the edges hl and hr came in on both sides and out was answered
-pub record SidesKeep (s : Sides) (to : ℕ) (hl hr out : List Edge) : Type 0 where
+pub record SidesKeep (s : ClipSides) (to : ℕ) (hl hr out : List Edge) : Type 0 where
   pub left_timed : AreTimed s.left_waiting
   pub right_timed : AreTimed s.right_waiting
   pub kept : ClipKeeps s.rows.left.key s.rows.right_key.columns s.rows.left.rows (queued s.left_waiting) (queued s.right_waiting) to hl hr out
 
 -- left rows that began before a time, left edges and right starts from it on, of such columns
-pub record AreSides (left_kinds right_kinds : List CellKind) (to : ℕ) (s : Sides) : Type 0 where
+pub record AreSides (left_kinds right_kinds : List CellKind) (to : ℕ) (s : ClipSides) : Type 0 where
   pub left : IsSide left_kinds to s.rows.left.rows s.left_waiting
   pub right : IsSide right_kinds to [] s.right_waiting
   pub right_starts : failing is_start (queued s.right_waiting) ≡ 0
 
--- the same of a clip that works
-pub record IsWorking (s : Sides) (left_kinds right_kinds : List Kind) (capacity to : ℕ) : Type 0 where
-  pub sides : AreSides (map cell_kind_of left_kinds) (map cell_kind_of right_kinds) to s
-  pub width : length left_kinds ≤ 32
-  pub room : 1 ≤ capacity
-
--- the rows and the edges that wait can be what is left after the edges hl and hr came in, closed up to x on the left and to y
--- on the right, and out was answered: swept up to the lesser of both. Of a start at 3 on the left, closed up to 4, and one at
--- 5 on the right, closed up to 7, the left row is kept, and the right start waits
-pub record KeepsClip (left_key right_key : List ℕ) (left_kinds right_kinds : List CellKind) (texts : List (List ℕ)) (x y : ℕ)
-    (left : List HeldRow) (left_waiting right_waiting hl hr out : List Edge) : Type 0 where
-  pub left_placed : EdgesArePlaced texts hl
-  pub right_placed : EdgesArePlaced texts hr
-  pub left_cells : All (λ e. map datum_kind e.cells ≡ left_kinds) hl
-  pub right_cells : All (λ e. map datum_kind e.cells ≡ right_kinds) hr
-  pub left_low : x ≤ inf
-  pub right_low : y ≤ inf
-  pub kept : ClipKeeps left_key right_key left left_waiting right_waiting (min x y) hl hr out
-
--- no row is kept, no edge waits, no side is closed, and no step failed
-pub record IsOpening (left : List HeldRow) (left_waiting right_waiting : List Pending) (x y : ℕ) (failed : Bool) : Type 0 where
-  pub left_empty : left ≡ []
-  pub none_left : left_waiting ≡ []
-  pub none_right : right_waiting ≡ []
-  pub left_open : x ≡ 0
-  pub right_open : y ≡ 0
-  pub works : failed ≡ false
+-- it keeps nothing, by the key columns of its rows
+pub record IsEmpty (s : ClipSides) : Type 0 where
+  pub left : s.rows.left.rows ≡ []
+  pub none_left : s.left_waiting ≡ []
+  pub none_right : s.right_waiting ≡ []
+  pub by_key : s.left_key.items ≡ s.rows.left.key
 
 -- the entries are of three parts: 0, left rows that began before a time, as their starts, 1, left edges that wait from it on,
 -- and 2, right starts that do. Up to 7, a row may have begun at 6, and none at 7
@@ -68,9 +40,3 @@ pub record ClipSound (left_kinds right_kinds : List CellKind) (to : ℕ) (entrie
   pub left_waiting : may_all_wait left_kinds to (part_of 1 entries) ≡ true
   pub right_waiting : may_all_wait right_kinds to (part_of 2 entries) ≡ true
   pub right_starts : list_all is_start (part_of 2 entries) ≡ true
-
--- the entries are what is kept after the edges came in and were answered
-pub record ClipResumes (left_key right_key : List ℕ) (left_kinds right_kinds : List CellKind) (texts : List (List ℕ)) (x y : ℕ)
-    (entries : List SavedEntry) (hl hr out : List Edge) : Type 0 where
-  pub sound : ClipSound left_kinds right_kinds (min x y) entries
-  pub keeps : KeepsClip left_key right_key left_kinds right_kinds texts x y (rows_of (part_of 0 entries)) (part_of 1 entries) (part_of 2 entries) hl hr out

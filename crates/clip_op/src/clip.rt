@@ -1,144 +1,58 @@
-// The operator of a clip.
-ghost use Rattle.std.specs.Prelude.{◌≡◌, ◌≤◌, min, map, length, false, is_err, [], IfOk, OnOk};
-ghost use Rattle.tw_rows.specs.Kinds.{cell_kind_of};
-ghost use Rattle.edge_stream.specs.Listing.{cells_of};
-ghost use Rattle.clip_op.specs.Keys.{SameKeys};
-ghost use Rattle.clip_op.specs.States.{IsWorking};
+// The operator of a Clip.
+ghost use Rattle.std.specs.Prelude.{◌≡◌, ◌≤◌, [], length, IfOk};
+ghost use Rattle.sweep_operator.specs.Sweepers.{new_standing};
+ghost use Rattle.sweep_operator.specs.Operating.{standing, IsNew};
+ghost use Rattle.plan_model.specs.declared.node.Node.TheVariants.{Clip as ClipNode};
 
-use crate::sides::Sides;
+use crate::sides::ClipSides;
 use crate::sweep::Rows;
-use batch::Pools;
-use edge_stream::EdgeList;
 use end_queue::EndQueue;
 use std::alloc::Global;
-use sweep_sides::list_of;
+use sweep_operator::Swept;
 use synopsis::{KeyRoom, Synopsis};
-use tw_rows::{Kind, Memory, Time};
+use tw_rows::{Kind, Memory};
 
 /// A clip: each row of the left side ends at the latest where a row of the right side starts that has the same data in its key
 /// columns and starts after it. What is kept of the left side is its rows that are open just before the lesser of the times up
 /// to which the sides are closed and that are not clipped, and its edges from then on; of the right side its starts from then
 /// on.
-#[derive(Drop)]
-pub struct Clip {
-    pub(crate) sides: Sides,
-    pub(crate) left_key: Vec<usize>,
-    pub(crate) left_kinds: Vec<Kind>,
-    pub(crate) right_kinds: Vec<Kind>,
-    pub(crate) capacity: usize,
-    pub(crate) left_to: Time,
-    pub(crate) right_to: Time,
-    pub(crate) failed: bool,
-    ghost by_key: { left_key.items ≡ sides.rows.left.key },
-    ghost working: { failed ≡ false → IsWorking sides left_kinds.items right_kinds.items capacity (min left_to right_to) },
-}
+pub type Clip = Swept<ClipSides>;
 
 // No rows and no edges, by these key columns.
-fn no_sides(alloc: Global, left_key: &[usize], right_key: &[usize]) -> Result<Sides, Memory>
+fn no_sides(alloc: Global, left_key: &[usize], right_key: &[usize]) -> Result<ClipSides, Memory>
     ensures left_key { IfOk result (λ s. s.rows.left.key ≡ left_key.now) }
     ensures right_key { IfOk result (λ s. s.rows.right_key.columns ≡ right_key.now) }
+    ensures by_key { IfOk result (λ s. s.left_key.items ≡ left_key.now) }
     ensures rows { IfOk result (λ s. s.rows.left.rows ≡ []) }
     ensures waiting { IfOk result (λ s. (s.left_waiting ≡ []) × (s.right_waiting ≡ [])) }
 {
-    Ok(Sides {
+    Ok(ClipSides {
         rows: Rows {
             alloc,
             right_key: KeyRoom::new(alloc, right_key)?,
             left: Synopsis::new(alloc, left_key)?,
         },
+        left_key: Vec::from_slice(alloc, left_key)?,
         left_waiting: EndQueue::new(alloc),
         right_waiting: EndQueue::new(alloc),
     })
 }
 
-impl Clip {
-    ghost use Rattle.operator.specs.Steps.{StaysKept, ComeBetween};
-    ghost use Rattle.clip_op.specs.Operating.{standing, IsNew, IsKept};
-
-    /// A clip of nothing yet, by these key columns, of rows with columns of these kinds, in batches of that capacity.
-    pub fn new(
-        alloc: Global,
-        left_key: &[usize],
-        right_key: &[usize],
-        left_kinds: &[Kind],
-        right_kinds: &[Kind],
-        capacity: usize,
-    ) -> Result<Clip, Memory>
-        requires width { length left_kinds.now ≤ 32 }
-        requires room { 1 ≤ capacity }
-        ensures left_key { IfOk result (λ c. c.sides.rows.left.key ≡ left_key.now) }
-        ensures right_key { IfOk result (λ c. c.sides.rows.right_key.columns ≡ right_key.now) }
-        ensures left_kinds { IfOk result (λ c. c.left_kinds.items ≡ left_kinds.now) }
-        ensures right_kinds { IfOk result (λ c. c.right_kinds.items ≡ right_kinds.now) }
-        ensures capacity { IfOk result (λ c. c.capacity ≡ capacity) }
-        ensures opening { IfOk result IsNew }
-    {
-        Ok(Clip {
-            sides: no_sides(alloc, left_key, right_key)?,
-            left_key: Vec::from_slice(alloc, left_key)?,
-            left_kinds: Vec::from_slice(alloc, left_kinds)?,
-            right_kinds: Vec::from_slice(alloc, right_kinds)?,
-            capacity,
-            left_to: Time::bounds().0,
-            right_to: Time::bounds().0,
-            failed: false,
-        })
-    }
-
-    /// Takes the new edges of both sides, which are closed up to the two times, and answers what happens to the clipped rows
-    /// up to the lesser of them.
-    pub(crate) fn advance(
-        &mut self,
-        pools: &mut Pools,
-        left: EdgeList,
-        right: EdgeList,
-        left_to: Time,
-        right_to: Time,
-    ) -> Result<EdgeList, Memory>
-        requires works { self.old.failed ≡ false }
-        requires left_rises { self.old.left_to ≤ left_to }
-        requires right_rises { self.old.right_to ≤ right_to }
-        requires left_kinds { cells_of left ≡ map cell_kind_of self.old.left_kinds.items }
-        requires right_kinds { cells_of right ≡ map cell_kind_of self.old.right_kinds.items }
-        requires left_capacity { left.capacity ≡ self.old.capacity }
-        requires right_capacity { right.capacity ≡ self.old.capacity }
-        requires capacity { pools.old.capacity ≡ self.old.capacity }
-        ensures kept { IfOk result (λ answer. StaysKept (standing self.old)
-            (IsKept self.old) (IsKept self.new) left.edges right.edges answer.edges) }
-        ensures between { IfOk result (λ answer.
-            ComeBetween (min self.old.left_to self.old.right_to) (min left_to right_to) answer.edges) }
-        ensures kinds { IfOk result (λ answer. cells_of answer ≡ map cell_kind_of self.old.left_kinds.items) }
-        ensures capacity { IfOk result (λ answer. answer.capacity ≡ self.old.capacity) }
-        ensures pools { pools.new.capacity ≡ pools.old.capacity }
-        ensures limit { pools.new.limit ≡ pools.old.limit }
-        ensures left_to { OnOk result (self.new.left_to ≡ left_to) }
-        ensures right_to { OnOk result (self.new.right_to ≡ right_to) }
-        ensures failed { self.new.failed ≡ is_err result }
-        ensures keys { SameKeys self.old.sides.rows self.new.sides.rows }
-        ensures left_like { self.new.left_kinds.items ≡ self.old.left_kinds.items }
-        ensures right_like { self.new.right_kinds.items ≡ self.old.right_kinds.items }
-        ensures rows_like { self.new.capacity ≡ self.old.capacity }
-    {
-        self.failed = true;
-        // Their calls tell the proof that both are times.
-        let _ = (left_to.word(), right_to.word());
-        let from = self.left_to.min(self.right_to);
-        let to = left_to.min(right_to);
-        let told = self.sides.advance(&left, &right, to)?;
-        left.give_back(pools);
-        right.give_back(pools);
-        let answer = list_of(
-            self.sides.rows.alloc,
-            pools,
-            self.left_kinds.as_slice(),
-            self.capacity,
-            from,
-            to,
-            told.as_slice(),
-        )?;
-        self.left_to = left_to;
-        self.right_to = right_to;
-        self.failed = false;
-        Ok(answer)
-    }
+/// A clip of nothing yet, by these key columns, of rows with columns of these kinds, in batches of that capacity.
+pub fn new_clip(
+    alloc: Global,
+    left_key: &[usize],
+    right_key: &[usize],
+    left_kinds: &[Kind],
+    right_kinds: &[Kind],
+    capacity: usize,
+) -> Result<Clip, Memory>
+    requires width { length left_kinds.now ≤ 32 }
+    requires room { 1 ≤ capacity }
+    ensures stands { IfOk result (λ c. standing c
+        ≡ new_standing (ClipNode 0 1 left_key.now right_key.now) left_kinds.now right_kinds.now left_kinds.now capacity) }
+    ensures opening { IfOk result IsNew }
+{
+    let sides = no_sides(alloc, left_key, right_key)?;
+    Swept::new(alloc, sides, left_kinds, right_kinds, left_kinds, capacity)
 }

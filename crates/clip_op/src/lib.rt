@@ -2,8 +2,8 @@
 #![tactic(auto)]
 
 mod clip;
-mod operating;
 mod sides;
 mod sweep;
 
-pub use clip::Clip;
+pub use clip::{Clip, new_clip};
+pub use sides::ClipSides;

@@ -1,4 +1,4 @@
-// What a clip keeps of its sides, and how it takes new edges in.
+// The sweep of a clip.
 ghost use Rattle.std.specs.Prelude.{◌≡◌, ◌≤◌, ◌++◌, ◌↔◌, IsTrue, ℕ, All, map, List, OnOk, OnErr, IfOk};
 ghost use Rattle.tw_rows.specs.Bag.{SameBag};
 ghost use Rattle.tw_rows.specs.Cells.{datum_kind};
@@ -19,68 +19,40 @@ ghost use Rattle.clip_op.specs.States.{ClipSound};
 
 use crate::sweep::Rows;
 use carried_edges::are_of_parts;
-use edge_stream::{EdgeList, Saved};
+use edge_stream::{EdgeList, LoadFault, PartRow, Saved};
 use end_queue::EndQueue;
+use sweep_operator::Sweep;
 use sweep_sides::{
-    are_rows, are_starts, can_wait, load_rows, load_waiting, put_all, put_starts, take_due,
+    are_rows, are_starts, can_wait, kept_count, load_rows, load_waiting, put_all, put_starts,
+    save_rows, save_waiting, take_due,
 };
 use tw_rows::{Edge, Kind, Memory, Time};
 
 /// The left rows that are open and not clipped, the left edges that wait, and the right starts that do.
 #[derive(Drop)]
-pub(crate) struct Sides {
+pub struct ClipSides {
     pub(crate) rows: Rows,
+    pub(crate) left_key: Vec<usize>,
     pub(crate) left_waiting: EndQueue,
     pub(crate) right_waiting: EndQueue,
 }
 
-impl Sides {
-    ghost use Rattle.clip_op.specs.States.{SidesKeep, AreSides};
+impl ClipSides {
+    ghost use Rattle.clip_op.specs.States.{AreSides};
 
-    /// Takes the new edges of both sides in, and tells what happens to the clipped rows up to a time.
-    pub(crate) fn advance(
-        &mut self,
-        left: &EdgeList,
-        right: &EdgeList,
-        to: Time,
-    ) -> Result<Vec<Edge>, Memory>
-        requires { to ≤ inf }
-        ensures kept { IfOk result (λ answer. (from : ℕ) (hl hr out : List Edge) → from ≤ to →
-            SidesKeep self.old from hl hr out → IsHistory (hl ++ left.now.edges) → IsHistory (hr ++ right.now.edges) →
-            failing (is_from from) left.now.edges ≡ 0 → failing (is_from from) right.now.edges ≡ 0 →
-            SidesKeep self.new to (hl ++ left.now.edges) (hr ++ right.now.edges) (out ++ answer.items)
-            × SameBag answer.items (news from to (clips self.old.rows.left.key self.old.rows.right_key.columns (of
-            (hl ++ left.now.edges)) (of (hr ++ right.now.edges))))) }
-        ensures sides { OnOk result ((from : ℕ) → from ≤ to →
-            AreSides (cells_of left.now) (cells_of right.now) from self.old →
-            AreSides (cells_of left.now) (cells_of right.now) to self.new) }
-        ensures left_cells { OnOk result (All (λ e. map datum_kind e.cells ≡ cells_of left.now) left.now.edges) }
-        ensures right_cells { OnOk result (All (λ e. map datum_kind e.cells ≡ cells_of right.now) right.now.edges) }
-        ensures keys { SameKeys self.old.rows self.new.rows }
-    {
-        put_all(&mut self.left_waiting, left)?;
-        put_starts(&mut self.right_waiting, right)?;
-        let left_due = take_due(&mut self.left_waiting, self.rows.alloc, to)?;
-        let right_due = take_due(&mut self.right_waiting, self.rows.alloc, to)?;
-        let mut answer = Vec::new(self.rows.alloc);
-        self.rows
-            .sweep(&mut answer, left_due.as_slice(), right_due.as_slice())?;
-        Ok(answer)
-    }
-
-    /// Takes up the rows, by these key columns, and the edges that were saved. Where there is no memory nothing changes.
-    pub(crate) fn take_up(&mut self, saved: &Saved, left_key: &[usize]) -> Result<(), Memory>
+    // Takes up the rows and the edges that were saved. Out of memory nothing changes.
+    fn take_up(&mut self, saved: &Saved) -> Result<(), Memory>
         ensures rows { OnOk result (SameBag self.new.rows.left.rows (rows_of (part_of 0 saved.now))) }
         ensures left_waiting { OnOk result (SameBag (queued self.new.left_waiting) (part_of 1 saved.now)) }
         ensures right_waiting { OnOk result (SameBag (queued self.new.right_waiting) (part_of 2 saved.now)) }
         ensures sides { OnOk result ((left_kinds right_kinds : List CellKind) (to : ℕ) →
             ClipSound left_kinds right_kinds to saved.now → AreSides left_kinds right_kinds to self.new) }
         ensures err { OnErr result (self.new ≡ self.old) }
-        ensures left_key { OnOk result (self.new.rows.left.key ≡ left_key.now) }
+        ensures left_key { OnOk result (self.new.rows.left.key ≡ self.old.left_key.items) }
         ensures right_key { self.new.rows.right_key ≡ self.old.rows.right_key }
     {
         let alloc = self.rows.alloc;
-        let left = load_rows(alloc, saved, 0, left_key)?;
+        let left = load_rows(alloc, saved, 0, &self.left_key)?;
         let left_waiting = load_waiting(alloc, saved, 1)?;
         let right_waiting = load_waiting(alloc, saved, 2)?;
         self.rows.left = left;
@@ -90,8 +62,8 @@ impl Sides {
     }
 }
 
-/// Whether saved entries can be the state of a clip whose sides are closed up to a time, with columns of these kinds.
-pub(crate) fn is_sound(saved: &Saved, left_kinds: &[Kind], right_kinds: &[Kind], to: Time) -> bool
+// Whether saved entries can be the state of a clip whose sides are closed up to a time, with columns of these kinds.
+fn is_sound(saved: &Saved, left_kinds: &[Kind], right_kinds: &[Kind], to: Time) -> bool
     ensures { IsTrue result ↔ ClipSound (map cell_kind_of left_kinds.now) (map cell_kind_of right_kinds.now) to saved.now }
 {
     if !are_of_parts(saved, 3) {
@@ -107,4 +79,88 @@ pub(crate) fn is_sound(saved: &Saved, left_kinds: &[Kind], right_kinds: &[Kind],
         return false;
     }
     are_starts(saved, 2)
+}
+
+impl Sweep for ClipSides {
+    ghost use Rattle.std.specs.Prelude.{IfErr};
+    ghost use Rattle.edge_stream.specs.declared.saved.SavedEntry.{SavedEntry};
+    ghost use Rattle.clip_op.specs.States.{SidesKeep, AreSides, IsEmpty};
+    ghost use Rattle.clip_op.specs.Operating.{clip_node, clip_entries, clip_row, Resumes};
+
+    ghost node = { clip_node };
+
+    ghost keeps = { SidesKeep };
+
+    ghost fits = { AreSides };
+
+    ghost is_empty = { IsEmpty };
+
+    ghost entries = { clip_entries };
+
+    ghost sound = { λ s l r to saved. ClipSound l r to saved };
+
+    ghost stored = { λ s l r to saved. ClipSound l r to saved };
+
+    ghost resumes = { Resumes };
+
+    ghost row_of_part = { clip_row };
+
+    fn closes(&self, left_to: Time, right_to: Time) -> Time {
+        left_to.min(right_to)
+    }
+
+    fn advance(
+        &mut self,
+        left: &EdgeList,
+        right: &EdgeList,
+        _from: Time,
+        to: Time,
+    ) -> Result<Vec<Edge>, Memory> {
+        put_all(&mut self.left_waiting, left)?;
+        put_starts(&mut self.right_waiting, right)?;
+        let left_due = take_due(&mut self.left_waiting, self.rows.alloc, to)?;
+        let right_due = take_due(&mut self.right_waiting, self.rows.alloc, to)?;
+        let mut answer = Vec::new(self.rows.alloc);
+        self.rows
+            .sweep(&mut answer, left_due.as_slice(), right_due.as_slice())?;
+        Ok(answer)
+    }
+
+    fn held(&self) -> u64 {
+        let left = kept_count(&self.rows.left, &self.left_waiting);
+        left.saturating_add(self.right_waiting.len() as u64)
+    }
+
+    fn save(&self) -> Result<Saved, Memory> {
+        let alloc = self.rows.alloc;
+        let mut saved = Saved::new(alloc);
+        save_rows(&mut saved, 0, &self.rows.left)?;
+        save_waiting(alloc, &mut saved, 1, &self.left_waiting)?;
+        save_waiting(alloc, &mut saved, 2, &self.right_waiting)?;
+        Ok(saved)
+    }
+
+    fn load(
+        &mut self,
+        saved: &Saved,
+        left_kinds: &[Kind],
+        right_kinds: &[Kind],
+        to: Time,
+    ) -> Result<(), LoadFault> {
+        if !is_sound(saved, left_kinds, right_kinds, to) {
+            return Err(LoadFault::NotState);
+        }
+        self.take_up(saved)?;
+        Ok(())
+    }
+
+    fn part_row(part: u64) -> Option<PartRow> {
+        match part {
+            0 | 1 => Some(PartRow::Left),
+            2 => Some(PartRow::Right),
+            _ => None,
+        }
+    }
+
+    fn laws() {}
 }

@@ -1,20 +1,19 @@
--- What is kept of a Session at first, in longer tables, how much it is, and after it was saved and loaded.
+-- What is kept of a Session at first, how much it is, and after it was saved and loaded.
 use Rattle.std.specs.Prelude.{◌≡◌, ℕ, zero, suc, ◌+◌, ◌<◌, ◌≤◌, ◌&&◌, nat_eq, nat_lt, nat_le, Bool, true, false, cond, Option, None, Some, List, [], ◌++◌, length, map, All, refl}
 use Rattle.std.specs.List.{list_all}
 use Rattle.std.proofs.Common.{sym, ◌∙◌, ap, subst, arith}
 use Rattle.std.proofs.lemmas.Bool.Decides.{nat_tests}
 use Rattle.std.proofs.lemmas.List.{append-nil}
-use Rattle.std.proofs.lemmas.List.Elements.{All-nil}
 use Rattle.tw_rows.specs.Bag.{SameBag, total}
-use Rattle.tw_rows.specs.Cells.{ArePlaced, datum_kind}
+use Rattle.tw_rows.specs.Cells.{datum_kind}
 use Rattle.tw_rows.specs.Instant.{inf, later}
 use Rattle.tw_rows.specs.SameCells.{same_cells, same_itself}
-use Rattle.tw_rows.specs.Texts.{BeginsWith}
 use Rattle.tw_rows.specs.declared.cells.Datum.{Datum}
 use Rattle.tw_rows.specs.declared.edge.Edge.{Edge}
 use Rattle.tw_rows.specs.declared.edge.HeldRow.{HeldRow}
 use Rattle.tw_rows.specs.declared.kind.CellKind.{CellKind}
 use Rattle.tw_rows.proofs.Bags.{SameBag-trans, SameBag-filter, total_same, total_swap, total_zero}
+use Rattle.edge_history.specs.Balance.{Told}
 use Rattle.edge_history.specs.History.{CellEvent, of}
 use Rattle.edge_history.specs.Order.{failing, many}
 use Rattle.edge_history.specs.Opens.{is_start}
@@ -25,14 +24,9 @@ use Rattle.end_queue.specs.Pending.{Pending}
 use Rattle.carried_edges.specs.Entries.{entries_of, part_of, are_of_parts}
 use Rattle.carried_edges.proofs.Parts.{parts_pass, part_of_own, part_of_other, part_of_append, parts_own, parts_append, all_pass as all_of_list}
 use Rattle.plan_model.specs.declared.node.Node.TheVariants.{Session}
-use Rattle.plan_model.specs.Meaning.{node_events}
 use Rattle.plan_model.specs.Nodes.{node_in}
 use Rattle.plan_laws.specs.Held.{may_hold}
 use Rattle.node_laws.specs.Keeping.{plain_cells}
-use Rattle.node_laws.specs.Places.{AreDistinct, read_of}
-use Rattle.node_laws.specs.Standing.{StandsRead}
-use Rattle.node_laws.proofs.Standing.{placed_longer}
-use Rattle.node_laws.proofs.Steps.{keeps_read}
 use Rattle.synopsis.specs.Held.{key_of, is_of_key}
 use Rattle.synopsis.proofs.Keyed.{ones}
 use Rattle.sweep_sides.specs.Waiting.{queued}
@@ -42,52 +36,38 @@ use Rattle.sweep_sides.proofs.KeptSides.{row_cells, waiting_cells, open_few, sta
 use Rattle.sweep_laws.proofs.Stored.{rows_of_starts}
 use Rattle.session_window.specs.Kept.{is_for, is_for_at, keeps_to, waits_from, is_placed_at, HasOne}
 use Rattle.session_window.specs.Windows.{windows}
-use Rattle.session_window.specs.Holding.{SessionHeld}
-use Rattle.session_window.specs.States.{KeepsSession, IsOpening, SessionSound, SessionResumes}
+use Rattle.session_window.specs.Holding.{SessionHeld, SessionKeeps}
+use Rattle.sweep_sides.specs.Waiting.{AreTimed}
+use Rattle.sweep_operator.specs.Sweeping.{told_events}
+use Rattle.session_window.specs.declared.side.SessionSide.{SessionSide}
+use Rattle.session_window.specs.Sides.{SideKeeps, SideFits, IsEmpty}
+use Rattle.session_window.specs.States.{SessionSound}
 use Rattle.session_window.proofs.Members.{In, found, counted, passes, all_pass}
 use Rattle.session_window.proofs.Keys.{same_turned, parts, last_there}
 use Rattle.session_window.proofs.Steps.{kept_none}
-use Rattle.session_window.specs.Operating.{row_of_part}
-use Rattle.session_window.proofs.Answering.{node_keeps, windows_are}
+use Rattle.session_window.specs.Operating.{session_node, session_row}
+use Rattle.session_window.proofs.Answering.{windows_are}
 
-module _ (columns : List ℕ) (timeout : ℕ) (kinds : List CellKind) (pos : 1 ≤ timeout) where
-  session_first : (texts : List (List ℕ)) → KeepsSession columns timeout kinds texts 0 [] [] [] [] [] []
-  session_first texts = record {
-    left_placed = All-nil (λ (e : Edge). ArePlaced texts e.cells);
-    left_cells = All-nil (λ (e : Edge). map datum_kind e.cells ≡ kinds);
-    low = omega arith;
-    right_history = record { order = tt; real = refl; paired = λ cells start. omega arith };
-    right_placed = All-nil (λ (e : Edge). ArePlaced texts e.cells);
-    kept = kept_none columns timeout pos;
-  }
+-- of no edges nothing is kept, which fits any time
+pub session_opens : (s : SessionSide) → IsEmpty s → SideKeeps s 0 [] []
+session_opens s e = record {
+  positive = e.positive;
+  timed = subst AreTimed (sym e.none) refl;
+  kept = (let a = e.no_rows in let b = e.no_ends in let c = e.none in rw (a, b, c) (kept_none s.sessions.rows.key s.sessions.timeout e.positive));
+}
 
-  pub session_opening : (texts : List (List ℕ)) (rows : List HeldRow) (ends waiting : List Pending) (x y : ℕ) (failed : Bool) → IsOpening rows ends waiting x y failed →
-      KeepsSession columns timeout kinds texts x rows ends (queued waiting) [] [] []
-  session_opening texts rows ends waiting x y failed o =
-      let a = o.no_rows in
-      let b = o.no_ends in
-      let c = o.none in
-      let d = o.left in
-      rw (a, b, c, d) (session_first texts)
+pub session_fits : (s : SessionSide) (kinds : List CellKind) (to : ℕ) → IsEmpty s → SideFits kinds to s
+session_fits s kinds to e = record {
+  side = (let a = e.no_rows in let c = e.none in rw (a, c) (record { started = refl; later = refl; timed = refl }));
+  starts = (let c = e.none in rw c refl);
+}
 
-  pub session_longer : (new old : List (List ℕ)) (x : ℕ) (rows : List HeldRow) (ends : List Pending) (waiting left right out : List Edge) → BeginsWith new old →
-      KeepsSession columns timeout kinds old x rows ends waiting left right out → KeepsSession columns timeout kinds new x rows ends waiting left right out
-  session_longer new old x rows ends waiting left right out b k = record {
-    left_placed = placed_longer new old b left k.left_placed;
-    left_cells = k.left_cells;
-    low = k.low;
-    right_history = k.right_history;
-    right_placed = placed_longer new old b right k.right_placed;
-    kept = k.kept;
-  }
+-- what was told tells the events of the node
+pub session_tells : (s : SessionSide) (to : ℕ) (hl hr out : List Edge) → SideKeeps s to hl out → Told to out (told_events (session_node s) hl hr)
+session_tells s to hl hr out k =
+    subst (λ (l : List CellEvent). Told to out l) (windows_are s.sessions.rows.key s.sessions.timeout (of hl) (of hr) k.positive) k.kept.told
 
-  -- what was answered stands, read, for the events of the node
-  pub session_stands : (texts : List (List ℕ)) (x : ℕ) (rows : List HeldRow) (ends : List Pending) (waiting left right out : List Edge) → AreDistinct texts →
-      KeepsSession columns timeout kinds texts x rows ends waiting left right out → StandsRead texts x out (node_events (Session 0 timeout columns) (read_of texts left) (read_of texts right))
-  session_stands texts x rows ends waiting left right out apart k =
-      keeps_read (λ test row. false) (λ items row. row) (Session 0 timeout columns) texts x 0 left right out refl apart k.low (omega arith)
-      (node_keeps columns timeout kinds texts x rows ends waiting left right out pos k)
-
+module _ (columns : List ℕ) (timeout : ℕ) where
   -- LOADING
   held_again : (a : List CellEvent) (t : ℕ) (rows rows2 : List HeldRow) (ends ends2 : List Pending) → t ≤ inf → SameBag rows2 rows → HasOne columns rows2 ends2 → failing (is_placed_at t) ends2 ≡ 0 →
       SessionHeld columns timeout a t rows ends → SessionHeld columns timeout a t rows2 ends2
@@ -147,34 +127,27 @@ module _ (columns : List ℕ) (timeout : ℕ) (kinds : List CellKind) (pos : 1 �
           let m = counted (is_for k) p.0 ends2 p.2 q.0 in
           kept k n (omega (arith, e, f)) (found (is_of_key columns k) rows2 (some_rows (many (is_of_key columns k) rows2) (many (is_for k) ends2) m (one k))) (h.last k) refl
 
-  pub session_loaded : (columns2 : List ℕ) (timeout2 : ℕ) (texts : List (List ℕ)) (x : ℕ) (rows rows2 : List HeldRow) (ends ends2 : List Pending) (waiting waiting2 left right out : List Edge) →
+  pub session_loaded : (columns2 : List ℕ) (timeout2 : ℕ) (x : ℕ) (rows rows2 : List HeldRow) (ends ends2 : List Pending) (waiting waiting2 came out : List Edge) → x ≤ inf →
       columns2 ≡ columns → timeout2 ≡ timeout → SameBag rows2 rows → SameBag waiting2 waiting → HasOne columns rows2 ends2 → failing (is_placed_at x) ends2 ≡ 0 →
-      KeepsSession columns timeout kinds texts x rows ends waiting left right out → KeepsSession columns2 timeout2 kinds texts x rows2 ends2 waiting2 left right out
-  session_loaded columns2 timeout2 texts x rows rows2 ends ends2 waiting waiting2 left right out e f a b one placed k =
-      subst (λ (l : List ℕ). KeepsSession l timeout2 kinds texts x rows2 ends2 waiting2 left right out) (sym e)
-      (subst (λ n. KeepsSession columns n kinds texts x rows2 ends2 waiting2 left right out) (sym f) (record {
-        left_placed = k.left_placed;
-        left_cells = k.left_cells;
-        low = k.low;
-        right_history = k.right_history;
-        right_placed = k.right_placed;
-        kept = record {
-          history = k.kept.history;
-          waits = SameBag-trans _ _ _ b k.kept.waits;
-          now = held_again (of left) x rows rows2 ends ends2 k.low a one placed k.kept.now;
-          told = k.kept.told;
-        };
+      SessionKeeps columns timeout rows ends waiting x came out → SessionKeeps columns2 timeout2 rows2 ends2 waiting2 x came out
+  session_loaded columns2 timeout2 x rows rows2 ends ends2 waiting waiting2 came out low e f a b one placed k =
+      subst (λ (l : List ℕ). SessionKeeps l timeout2 rows2 ends2 waiting2 x came out) (sym e)
+      (subst (λ n. SessionKeeps columns n rows2 ends2 waiting2 x came out) (sym f) (record {
+        history = k.history;
+        waits = SameBag-trans _ _ _ b k.waits;
+        now = held_again (of came) x rows rows2 ends ends2 low a one placed k.now;
+        told = k.told;
       }))
 
 -- each entry of a sound state has the cells of its row
 pub session_rows_stored : (s : Standing) (saved : List SavedEntry) (x : ℕ) (kinds : List CellKind) → s.left_kinds ≡ kinds → SessionSound kinds x saved →
-    AreStoredAs row_of_part s saved
-session_rows_stored s saved x kinds el sound = parts_pass (λ part. IsStoredAs s (row_of_part part)) 2 saved sound.parts each
+    AreStoredAs session_row s saved
+session_rows_stored s saved x kinds el sound = parts_pass (λ part. IsStoredAs s (session_row part)) 2 saved sound.parts each
   where
     left : (p : ℕ) → All (λ e. map datum_kind e.cells ≡ kinds) (part_of p saved) → All (λ e. map datum_kind e.cells ≡ s.left_kinds) (part_of p saved)
     left p h = subst (λ (k : List CellKind). All (λ (e : Edge). map datum_kind e.cells ≡ k) (part_of p saved)) (sym el) h
 
-    each : (p : ℕ) → p < 2 → All (λ e. IsStoredAs s (row_of_part p) e.cells) (part_of p saved)
+    each : (p : ℕ) → p < 2 → All (λ e. IsStoredAs s (session_row p) e.cells) (part_of p saved)
     each zero low = left 0 (row_cells kinds x (part_of 0 saved) sound.rows)
     each (suc zero) low = left 1 (waiting_cells kinds x (part_of 1 saved) sound.waiting)
     each (suc (suc n)) low = absurd (omega (arith, low))
@@ -217,13 +190,13 @@ ends_few columns rows ends one =
         let c = one_most (nat_eq (many (is_of_key columns (key_of columns r.cells)) rows) 0) in
         omega (arith, a, b, c)
 
-pub session_bound : (columns : List ℕ) (timeout : ℕ) (kinds : List CellKind) (texts : List (List ℕ)) (x : ℕ) (rows : List HeldRow) (ends waiting : List Pending) (left right out : List Edge) →
-    1 ≤ timeout → KeepsSession columns timeout kinds texts x rows ends (queued waiting) left right out →
+pub session_bound : (columns : List ℕ) (timeout : ℕ) (x : ℕ) (rows : List HeldRow) (ends waiting : List Pending) (left right out : List Edge) →
+    1 ≤ timeout → SessionKeeps columns timeout rows ends (queued waiting) x left out →
     length rows + length ends + length waiting ≤ may_hold (Session 0 timeout columns) x x (of left) (of right) (node_in plain_cells (Session 0 timeout columns) (of left) (of right))
-session_bound columns timeout kinds texts x rows ends waiting left right out pos k =
-    let e = ends_few columns rows ends k.kept.now.awaits.one in
-    let f = open_few x (windows columns timeout (of left)) rows k.kept.now.now.open_rows in
-    let g = starts_few left x waiting k.kept.history k.kept.waits in
+session_bound columns timeout x rows ends waiting left right out pos k =
+    let e = ends_few columns rows ends k.now.awaits.one in
+    let f = open_few x (windows columns timeout (of left)) rows k.now.now.open_rows in
+    let g = starts_few left x waiting k.history k.waits in
     let o = ap (λ (l : List CellEvent). many (reaches x) l) (windows_are columns timeout (of left) (of right) pos) in
     omega (arith, e, f, g, o)
 
@@ -249,11 +222,8 @@ module _ (rows : List HeldRow) (waiting : List Edge) (s0 s1 s2 : List SavedEntry
     starts = ap (list_all is_start) waiting_part ∙ all_of_list is_start waiting e;
   }
 
-  pub session_resumed : (columns : List ℕ) (timeout : ℕ) (kinds : List CellKind) (texts : List (List ℕ)) (x : ℕ) (ends : List Pending) (left right out : List Edge) → SessionSound kinds x s2 →
-      KeepsSession columns timeout kinds texts x rows ends waiting left right out → SessionResumes columns timeout kinds texts x s2 left right out
-  session_resumed columns timeout kinds texts x ends left right out sound k = record {
-    sound = sound;
-    ends = ends;
-    keeps = subst (λ (a : List HeldRow). KeepsSession columns timeout kinds texts x a ends (part_of 1 s2) left right out) (sym (ap rows_of rows_part ∙ rows_of_starts rows))
-        (subst (λ (a : List Edge). KeepsSession columns timeout kinds texts x rows ends a left right out) (sym waiting_part) k);
-  }
+  pub session_resumed : (columns : List ℕ) (timeout : ℕ) (x : ℕ) (ends : List Pending) (came out : List Edge) →
+      SessionKeeps columns timeout rows ends waiting x came out → SessionKeeps columns timeout (rows_of (part_of 0 s2)) ends (part_of 1 s2) x came out
+  session_resumed columns timeout x ends came out k =
+      subst (λ (a : List HeldRow). SessionKeeps columns timeout a ends (part_of 1 s2) x came out) (sym (ap rows_of rows_part ∙ rows_of_starts rows))
+      (subst (λ (a : List Edge). SessionKeeps columns timeout rows ends a x came out) (sym waiting_part) k)

@@ -1,50 +1,29 @@
--- The operator of a Session: how it stands, and what it keeps.
-use Rattle.std.specs.Prelude.{ℕ, nat_lt, cond, Option, Some, None, ◌+◌, length, List, [], map}
-use Rattle.tw_rows.specs.Kinds.{cell_kind_of}
+-- The sweep of a Session: its node, and what it keeps, as entries.
+use Rattle.std.specs.Prelude.{ℕ, nat_lt, cond, Option, Some, None, ◌+◌, length, List}
+use Rattle.tw_rows.specs.declared.edge.Edge.{Edge}
 use Rattle.edge_stream.specs.declared.saved.PartRow.{PartRow}
 use Rattle.edge_stream.specs.declared.saved.PartRow.TheVariants.{Left}
 use Rattle.edge_stream.specs.declared.saved.SavedEntry.{SavedEntry}
+use Rattle.end_queue.specs.Pending.{Pending}
+use Rattle.carried_edges.specs.Entries.{part_of}
+use Rattle.plan_model.specs.declared.node.Node.{Node}
 use Rattle.plan_model.specs.declared.node.Node.TheVariants.{Session as SessionNode}
-use Rattle.operator.specs.Standing.{Standing, Keeping}
-use Rattle.sweep_sides.specs.Waiting.{queued}
-use Rattle.session_window.specs.declared.session.Session.{Session}
-use Rattle.session_window.specs.States.{KeepsSession, IsOpening, SessionSound, SessionResumes}
+use Rattle.sweep_laws.specs.Saving.{rows_of}
+use Rattle.session_window.specs.declared.side.SessionSide.{SessionSide}
+use Rattle.session_window.specs.Holding.{SessionKeeps}
 
-abbrev pub standing : Session → Standing
-standing s = record {
-  node = SessionNode 0 s.side.sessions.timeout s.side.sessions.rows.key;
-  left_closed = s.left_to;
-  right_closed = s.right_to;
-  left_kinds = map cell_kind_of s.kinds.items;
-  right_kinds = [];
-  own_kinds = map cell_kind_of s.kinds.items;
-  batch_rows = s.capacity;
-  has_failed = s.failed;
-}
+abbrev pub session_node : SessionSide → Node
+session_node s = SessionNode 0 s.sessions.timeout s.sessions.rows.key
 
 -- how many entries it keeps: one for each row, one for each key with a row, and one for each start that waits
-abbrev pub entries : Session → ℕ
-entries s = length s.side.sessions.rows.rows + length s.side.sessions.ends + length s.side.waiting
+abbrev pub session_entries : SessionSide → ℕ
+session_entries s = length s.sessions.rows.rows + length s.sessions.ends + length s.waiting
 
--- it stands as it was made
-abbrev pub IsNew : Session → Type 0
-IsNew s = IsOpening s.side.sessions.rows.rows s.side.sessions.ends s.side.waiting s.left_to s.right_to s.failed
-
--- it is what is left after the edges came in and out was answered
-abbrev pub IsKept : Session → Keeping
-IsKept s texts left right out =
-    KeepsSession s.side.sessions.rows.key s.side.sessions.timeout (map cell_kind_of s.kinds.items) texts s.left_to s.side.sessions.rows.rows s.side.sessions.ends
-    (queued s.side.waiting) left right out
-
--- saved entries can be its state, closed up to x
-abbrev pub IsSound : Session → List SavedEntry → ℕ → ℕ → Type 0
-IsSound s saved x y = SessionSound (map cell_kind_of s.kinds.items) x saved
-
--- they are what it keeps after the edges came in and were answered
-abbrev pub Resumes : Session → List SavedEntry → ℕ → ℕ → Keeping
-Resumes s saved x y texts hl hr out =
-    SessionResumes s.side.sessions.rows.key s.side.sessions.timeout (map cell_kind_of s.kinds.items) texts x saved hl hr out
+-- saved entries are what it keeps up to a time, after the edges came in and were answered, with some entries of the queue
+pub record Resumes (s : SessionSide) (saved : List SavedEntry) (to : ℕ) (came out : List Edge) : Type 0 where
+  pub ends : List Pending
+  pub kept : SessionKeeps s.sessions.rows.key s.sessions.timeout (rows_of (part_of 0 saved)) ends (part_of 1 saved) to came out
 
 -- whose row the cells of a part are
-abbrev pub row_of_part : ℕ → Option PartRow
-row_of_part part = cond (nat_lt part 2) (Some Left) None
+abbrev pub session_row : ℕ → Option PartRow
+session_row part = cond (nat_lt part 2) (Some Left) None

@@ -3,11 +3,11 @@
 
 mod one_session;
 mod open_rows;
-mod operating;
 mod saving;
 mod session;
 mod sessions;
 mod side;
 mod times;
 
-pub use session::Session;
+pub use session::{Session, new_session};
+pub use side::SessionSide;

@@ -1,5 +1,6 @@
 // The rows of the sessions that go on, by their keys.
-ghost use Rattle.std.specs.Prelude.{◌≡◌, ◌+◌, ◌<◌, ◌≤◌, ℕ, nat_eq, List, [], filter, flat_map, length, slice_get, Some, IfOk, OnOk, OnErr, IfSome, IfNone};
+ghost use Rattle.std.specs.Prelude.{◌≡◌, ◌+◌, ◌<◌, ◌≤◌, ℕ, nat_eq, List, [], filter, flat_map};
+ghost use Rattle.std.specs.Prelude.{length, slice_get, Some, IfOk, OnOk, OnErr, IfSome, IfNone};
 ghost use Rattle.tw_rows.specs.Bag.{total};
 ghost use Rattle.tw_rows.specs.declared.edge.HeldRow.{HeldRow};
 ghost use Rattle.edge_history.specs.Order.{many};
@@ -94,7 +95,12 @@ impl Model for OpenRows {
 
     ghost Value = { KeptRows };
 
-    ghost view = { λ s. record { key = s.key.columns; values = s.key.values; rows = rows_in s.sessions.entries; blocks = blocks_in s.sessions.entries } };
+    ghost view = { λ s. record {
+      key = s.key.columns;
+      values = s.key.values;
+      rows = rows_in s.sessions.entries;
+      blocks = blocks_in s.sessions.entries;
+    } };
 
     ghost invariant = { λ s. AreKeyed s.key.columns s.sessions.entries × (s.count ≡ length (rows_in s.sessions.entries)) };
 }

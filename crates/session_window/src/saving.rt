@@ -17,7 +17,7 @@ ghost use Rattle.session_window.specs.States.{SessionSound};
 use crate::open_rows::OpenRows;
 use crate::session::no_side;
 use crate::sessions::Sessions;
-use crate::side::Side;
+use crate::side::SessionSide;
 use carried_edges::are_of_parts;
 use edge_stream::Saved;
 use std::alloc::Global;
@@ -88,7 +88,7 @@ pub(crate) fn load_side(
     key: &[usize],
     saved: &Saved,
     to: Time,
-) -> Result<Side, Memory>
+) -> Result<SessionSide, Memory>
     ensures key { IfOk result (λ s. s.sessions.rows.key ≡ key.now) }
     ensures timeout { IfOk result (λ s. s.sessions.timeout ≡ timeout) }
     ensures rows { IfOk result (λ s. SameBag s.sessions.rows.rows (rows_of (part_of 0 saved.now))) }

@@ -1,60 +1,103 @@
-// What a Session keeps of its side, and how it takes new edges in.
-ghost use Rattle.std.specs.Prelude.{◌≡◌, ◌≤◌, ◌++◌, ℕ, All, map, List, OnOk, IfOk};
-ghost use Rattle.tw_rows.specs.Bag.{SameBag};
-ghost use Rattle.tw_rows.specs.Cells.{datum_kind};
-ghost use Rattle.tw_rows.specs.Instant.{inf};
-ghost use Rattle.tw_rows.specs.declared.edge.Edge.{Edge};
-ghost use Rattle.edge_history.specs.Order.{failing, is_from, IsHistory};
-ghost use Rattle.edge_history.specs.History.{of};
-ghost use Rattle.edge_history.specs.Opens.{is_start};
-ghost use Rattle.edge_history.specs.Balance.{news};
-ghost use Rattle.edge_stream.specs.Listing.{cells_of};
-ghost use Rattle.sweep_sides.specs.Waiting.{queued};
-ghost use Rattle.sweep_sides.specs.Sides.{IsSide};
-ghost use Rattle.session_window.specs.Windows.{windows};
-ghost use Rattle.session_window.specs.Sessions.{IsLike};
+// The sweep of a Session.
+ghost use Rattle.std.specs.Prelude.{◌≡◌};
 
+use crate::saving::{is_sound, load_side, save_open};
 use crate::sessions::Sessions;
-use edge_stream::EdgeList;
+use edge_stream::{EdgeList, LoadFault, PartRow, Saved};
 use end_queue::EndQueue;
-use sweep_sides::{put_starts, take_due};
-use tw_rows::{Edge, Memory, Time};
+use sweep_operator::Sweep;
+use sweep_sides::{put_starts, save_waiting, take_due};
+use tw_rows::{Edge, Kind, Memory, Time};
 
 /// The sessions that go on, and the starts that wait.
 #[derive(Drop)]
-pub(crate) struct Side {
+pub struct SessionSide {
     pub(crate) sessions: Sessions,
     pub(crate) waiting: EndQueue,
 }
 
-impl Side {
-    ghost use Rattle.session_window.specs.Sides.{SideKeeps};
+impl Sweep for SessionSide {
+    ghost use Rattle.session_window.specs.Sides.{SideKeeps, SideFits, IsEmpty};
+    ghost use Rattle.session_window.specs.Operating.{session_node, session_entries, session_row, Resumes};
+    ghost use Rattle.session_window.specs.States.{SessionSound};
 
-    /// Takes the starts of new edges in, and tells what happens to the sessions' rows from one time on and before another.
-    pub(crate) fn advance(
+    ghost node = { session_node };
+
+    ghost keeps = { λ s to hl hr out. SideKeeps s to hl out };
+
+    ghost fits = { λ l r to s. SideFits l to s };
+
+    ghost is_empty = { IsEmpty };
+
+    ghost entries = { session_entries };
+
+    ghost sound = { λ s l r to saved. SessionSound l to saved };
+
+    ghost stored = { λ s l r to saved. SessionSound l to saved };
+
+    ghost resumes = { λ s saved to hl hr out. Resumes s saved to hl out };
+
+    ghost row_of_part = { session_row };
+
+    fn closes(&self, left_to: Time, _right_to: Time) -> Time {
+        left_to
+    }
+
+    fn advance(
         &mut self,
         left: &EdgeList,
+        _right: &EdgeList,
         from: Time,
         to: Time,
-    ) -> Result<Vec<Edge>, Memory>
-        requires low { from ≤ to }
-        requires high { to ≤ inf }
-        ensures kept { IfOk result (λ answer. (hl out : List Edge) → 1 ≤ self.old.sessions.timeout →
-            SideKeeps self.old from hl out → IsHistory (hl ++ left.now.edges) → failing (is_from from) left.now.edges
-            ≡ 0 → SideKeeps self.new to (hl ++ left.now.edges) (out ++ answer.items)
-            × SameBag answer.items (news from to (windows self.old.sessions.rows.key self.old.sessions.timeout (of
-            (hl ++ left.now.edges))))) }
-        ensures side { OnOk result (IsSide (cells_of left.now) from self.old.sessions.rows.rows self.old.waiting →
-            IsSide (cells_of left.now) to self.new.sessions.rows.rows self.new.waiting) }
-        ensures starts { OnOk result (failing is_start (queued self.old.waiting) ≡ 0 →
-            failing is_start (queued self.new.waiting) ≡ 0) }
-        ensures cells { OnOk result (All (λ e. map datum_kind e.cells ≡ cells_of left.now) left.now.edges) }
-        ensures like { IsLike self.old.sessions self.new.sessions }
-    {
+    ) -> Result<Vec<Edge>, Memory> {
         put_starts(&mut self.waiting, left)?;
         let due = take_due(&mut self.waiting, self.sessions.alloc, to)?;
         let mut answer = Vec::new(self.sessions.alloc);
         self.sessions.sweep(&mut answer, due.as_slice(), from, to)?;
         Ok(answer)
     }
+
+    fn held(&self) -> u64 {
+        let rows = self.sessions.rows.len() as u64;
+        let ends = self.sessions.ends.len() as u64;
+        let waiting = self.waiting.len() as u64;
+        rows.saturating_add(ends).saturating_add(waiting)
+    }
+
+    fn save(&self) -> Result<Saved, Memory> {
+        let alloc = self.sessions.alloc;
+        let mut saved = Saved::new(alloc);
+        save_open(&mut saved, 0, &self.sessions.rows)?;
+        save_waiting(alloc, &mut saved, 1, &self.waiting)?;
+        Ok(saved)
+    }
+
+    fn load(
+        &mut self,
+        saved: &Saved,
+        left_kinds: &[Kind],
+        _right_kinds: &[Kind],
+        to: Time,
+    ) -> Result<(), LoadFault> {
+        // Its call tells the proof that it is a time.
+        let _ = to.word();
+        if !is_sound(saved, left_kinds, to) {
+            return Err(LoadFault::NotState);
+        }
+        let side = load_side(
+            self.sessions.alloc,
+            self.sessions.timeout,
+            self.sessions.rows.columns(),
+            saved,
+            to,
+        )?;
+        *self = side;
+        Ok(())
+    }
+
+    fn part_row(part: u64) -> Option<PartRow> {
+        if part < 2 { Some(PartRow::Left) } else { None }
+    }
+
+    fn laws() {}
 }

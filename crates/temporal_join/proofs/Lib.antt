@@ -2,5 +2,4 @@ pub mod Partners
 pub mod Stepping
 pub mod Rowing
 pub mod Answering
-pub mod Stepped
 pub mod Resuming

@@ -2,9 +2,9 @@
 #![tactic(auto)]
 
 mod join;
-mod operating;
 mod pairs;
 mod sides;
 mod sweep;
 
-pub use join::Join;
+pub use join::{Join, new_join};
+pub use sides::JoinSides;

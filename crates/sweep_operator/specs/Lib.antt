@@ -1,0 +1,4 @@
+-- Callers read all of these.
+pub mod Sweeping
+pub mod Sweepers
+pub mod Operating
