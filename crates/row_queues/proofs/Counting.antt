@@ -12,7 +12,7 @@ use Rattle.edge_history.specs.Order.{failing}
 use Rattle.key_nodes.specs.Coalesced.{how_often}
 use Rattle.row_queues.specs.declared.queues.Moves.{Moves}
 use Rattle.row_queues.specs.Kept.{AreOnce}
-use Rattle.row_queues.proofs.Once.{cells_tell}
+use Rattle.row_queues.proofs.Once.{either_way}
 use Rattle.row_queues.specs.declared.gathering.Counts.{Counts}
 use Rattle.row_queues.specs.Counted.{as_moves}
 
@@ -25,20 +25,6 @@ set_count n k c old new v more set is = ap n (set c) ∙ pick (same_cells k c) r
     pick : (b : Bool) → same_cells k c ≡ b → n (cond b (Some v) (old c)) ≡ n (old c) + cond b more 0
     pick true e = is ∙ ap (λ x. n (old x) + more) (cells_are_same k c e)
     pick false e = omega arith
-
-swapped : (a b : List Datum) → same_cells a b ≡ false → same_cells b a ≡ false
-swapped a b h = go (same_cells b a) refl
-  where
-    go : (t : Bool) → same_cells b a ≡ t → same_cells b a ≡ false
-    go false e = e
-    go true e = let z = (cells_tell a b).1 (sym ((cells_tell b a).0 e)) in absurd (cc (z, h))
-
-either_way : (a b : List Datum) → same_cells a b ≡ same_cells b a
-either_way a b = go (same_cells a b) refl
-  where
-    go : (t : Bool) → same_cells a b ≡ t → t ≡ same_cells b a
-    go true e = sym ((cells_tell b a).1 (sym ((cells_tell a b).0 e)))
-    go false e = sym (swapped a b e)
 
 -- one more row
 pub often_more : (xs : List (List Datum)) (i : ℕ) (x c : List Datum) → i < length xs → x ≡ get_or xs i x →

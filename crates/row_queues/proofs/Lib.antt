@@ -3,3 +3,7 @@ pub mod Opened
 pub mod Telling
 pub mod Counting
 pub mod Once
+pub mod Ordered
+pub mod OpenRows
+pub mod Saved
+pub mod Lone

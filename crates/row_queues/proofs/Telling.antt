@@ -1,6 +1,6 @@
 -- What the moves of an instant tell, row by row.
-use Rattle.std.specs.Prelude.{◌≡◌, ℕ, zero, suc, ◌+◌, ◌-◌, ◌<◌, ◌≤◌, Bool, true, false, cond, not, Result, Ok, Err, OnOk, List, [], ◌∷◌, ◌++◌, map, flat_map, take, drop, replicate, get_or, length, refl}
-use Rattle.std.proofs.Common.{sym, ◌∙◌, ap, arith, subst}
+use Rattle.std.specs.Prelude.{◌≡◌, ℕ, zero, suc, ◌+◌, ◌-◌, ◌<◌, Bool, true, false, cond, not, Result, Ok, Err, OnOk, List, [], ◌∷◌, ◌++◌, map, flat_map, take, drop, replicate, get_or, length, refl}
+use Rattle.std.proofs.Common.{sym, ◌∙◌, ap, arith}
 use Rattle.std.proofs.lemmas.List.{append-nil, append_assoc, drop-drop, take_more}
 use Rattle.tw_rows.specs.Bag.{total}
 use Rattle.tw_rows.specs.SameCells.{same_cells, cells_are_same, same_itself}

@@ -1,5 +1,5 @@
 // Moves are gathered row by row.
-ghost use Rattle.std.specs.Prelude.{◌≡◌, ◌+◌, ◌++◌, ℕ, List, cond, map, option_to_list, OnOk, IfOk};
+ghost use Rattle.std.specs.Prelude.{◌≡◌, ◌+◌, ◌++◌, ◌∷◌, [], ℕ, List, cond, map, option_to_list, OnOk, IfOk, IfSome};
 ghost use Rattle.tw_rows.specs.declared.cells.Datum.{Datum};
 ghost use Rattle.tw_rows.specs.SameCells.{same_cells as same};
 ghost use Rattle.std.specs.Option.{option_map};
@@ -14,9 +14,9 @@ use tw_rows::{Cells, Memory};
 
 /// How often a row ends and starts.
 #[derive(Clone, Copy, Debug, PartialEq, Eq)]
-pub struct Counts {
-    pub ends: usize,
-    pub starts: usize,
+pub(crate) struct Counts {
+    pub(crate) ends: usize,
+    pub(crate) starts: usize,
 }
 
 type Counted = IndexMap<Cells, Counts>;
@@ -101,8 +101,32 @@ fn moves_of(alloc: Global, counted: Counted) -> Result<Vec<Moves>, Memory>
     Ok(moves)
 }
 
+/// The moves of a row that moves alone, once.
+pub(crate) fn lone_moves(lost: &[Cells], won: &[Cells]) -> Result<Option<Moves>, Memory>
+    ensures ends { IfOk result (λ found. IfSome found (λ m. (c : List Datum) → ends_of (m ∷ []) c ≡ how_often same c lost.now)) }
+    ensures starts { IfOk result (λ found. IfSome found (λ m. (c : List Datum) → starts_of (m ∷ []) c ≡ how_often same c won.now)) }
+{
+    if lost.is_empty() && won.len() == 1 {
+        let cells = won[0].clone()?;
+        return Ok(Some(Moves {
+            cells,
+            ends: 0,
+            starts: 1,
+        }));
+    }
+    if won.is_empty() && lost.len() == 1 {
+        let cells = lost[0].clone()?;
+        return Ok(Some(Moves {
+            cells,
+            ends: 1,
+            starts: 0,
+        }));
+    }
+    Ok(None)
+}
+
 /// How often each row that was lost or won ends and starts, each row once.
-pub fn gather(alloc: Global, lost: &[Cells], won: &[Cells]) -> Result<Vec<Moves>, Memory>
+pub(crate) fn gather(alloc: Global, lost: &[Cells], won: &[Cells]) -> Result<Vec<Moves>, Memory>
     ensures once { IfOk result (λ moves. AreOnce moves.items) }
     ensures ends { IfOk result (λ moves. (c : List Datum) → ends_of moves.items c ≡ how_often same c lost.now) }
     ensures starts { IfOk result (λ moves. (c : List Datum) → starts_of moves.items c ≡ how_often same c won.now) }

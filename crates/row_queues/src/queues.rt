@@ -1,5 +1,6 @@
 // Queues of starts.
-ghost use Rattle.std.specs.Prelude.{◌≡◌, ◌++◌, ◌∷◌, [], ◌+◌, ◌-◌, ℕ, List, Some, map, take, drop, cond, flat_map, replicate, OnOk};
+ghost use Rattle.std.specs.Prelude.{◌≡◌, ◌<◌, ◌≤◌, ◌++◌, ◌∷◌, [], ◌+◌, ◌-◌, ◌*◌, ℕ, suc, List, Some, map};
+ghost use Rattle.std.specs.Prelude.{take, drop, cond, flat_map, length, replicate, OnOk};
 ghost use Rattle.indexmap.specs.IndexMap.{get};
 ghost use Rattle.tw_rows.specs.Bag.{total};
 ghost use Rattle.tw_rows.specs.Instant.{inf};
@@ -7,7 +8,8 @@ ghost use Rattle.tw_rows.specs.declared.cells.Datum.{Datum};
 ghost use Rattle.tw_rows.specs.declared.edge.Edge.{Edge as Told};
 ghost use Rattle.tw_rows.specs.SameCells.{same_cells as same};
 ghost use Rattle.sweep_laws.specs.Queues.{queue_ends, queue_starts, queue_told, queue_after};
-ghost use Rattle.row_queues.specs.Kept.{since_at, ends_of, starts_of, rows_of, AreOnce};
+ghost use Rattle.sweep_laws.specs.Sweeps.{InOrder};
+ghost use Rattle.row_queues.specs.Kept.{since_at, EachIsOpen, AreEarly, ends_of, starts_of, rows_of, AreOnce};
 
 use indexmap::IndexMap;
 use std::alloc::Global;
@@ -15,14 +17,14 @@ use std::collections::VecDeque;
 use tw_rows::{Cells, Edge, Memory, Time};
 
 /// The open starts of each row, the first to end first.
-pub type Starts = IndexMap<Cells, VecDeque<Time>>;
+pub(crate) type Starts = IndexMap<Cells, VecDeque<Time>>;
 
 /// How often a row ends and starts at an instant.
 #[derive(Drop)]
-pub struct Moves {
-    pub cells: Cells,
-    pub ends: usize,
-    pub starts: usize,
+pub(crate) struct Moves {
+    pub(crate) cells: Cells,
+    pub(crate) ends: usize,
+    pub(crate) starts: usize,
 }
 
 #[tactic(auto, unfolding(tw_rows::specs::Instant::inf))]
@@ -70,7 +72,10 @@ fn end_first(
 
 // Puts a row back with the starts that are left of it.
 fn put_back(starts: &mut Starts, cells: &Cells, since: VecDeque<Time>) -> Result<(), Memory>
-    ensures { OnOk result ((c : List Datum) → get same starts.new c ≡ cond (same cells.now c) (Some since) (get same starts.old c)) }
+    requires { 1 ≤ length since.items }
+    ensures since { OnOk result ((c : List Datum) → get same starts.new c
+        ≡ cond (same cells.now c) (Some since) (get same starts.old c)) }
+    ensures filled { EachIsOpen starts.old → EachIsOpen starts.new }
 {
     let kept = cells.clone()?;
     starts.insert(kept, since)?;
@@ -87,8 +92,13 @@ fn end_row(
 ) -> Result<(), Memory>
     ensures since { OnOk result ((c : List Datum) → since_at starts.new c
         ≡ cond (same cells.now c) (drop count (since_at starts.old c)) (since_at starts.old c)) }
-    ensures told { OnOk result (answer.new.items ≡ answer.old.items ++ queue_ends at count cells.now (since_at starts.old cells.now)) }
+    ensures told { OnOk result (answer.new.items
+        ≡ answer.old.items ++ queue_ends at count cells.now (since_at starts.old cells.now)) }
+    ensures filled { EachIsOpen starts.old → EachIsOpen starts.new }
 {
+    if count == 0 {
+        return Ok(());
+    }
     let Some(mut since) = starts.swap_remove(cells) else {
         return Ok(());
     };
@@ -101,7 +111,8 @@ fn end_row(
 }
 
 fn open_more(since: &mut VecDeque<Time>, at: Time, count: usize) -> Result<(), Memory>
-    ensures { OnOk result (since.new.items ≡ since.old.items ++ replicate count at) }
+    ensures ok { OnOk result (since.new.items ≡ since.old.items ++ replicate count at) }
+    ensures kept { length since.old.items ≤ length since.new.items }
 {
     for _ in 0..count {
         since.push_back(at)?;
@@ -109,17 +120,18 @@ fn open_more(since: &mut VecDeque<Time>, at: Time, count: usize) -> Result<(), M
     Ok(())
 }
 
-// Opens a row so often.
-fn open_row(
+/// Opens a row so often.
+pub(crate) fn open_row(
     starts: &mut Starts,
     alloc: Global,
     cells: &Cells,
     at: Time,
     count: usize,
 ) -> Result<(), Memory>
-    ensures { OnOk result ((c : List Datum) → since_at starts.new c
+    ensures since { OnOk result ((c : List Datum) → since_at starts.new c
         ≡ cond (same cells.now c) (since_at starts.old c ++ replicate count at)
         (since_at starts.old c)) }
+    ensures filled { 1 ≤ count → EachIsOpen starts.old → EachIsOpen starts.new }
 {
     if let Some(since) = starts.get_mut(cells) {
         open_more(since, at, count)?;
@@ -154,6 +166,7 @@ fn start_row(
         ≡ cond (same cells.now c) (since_at starts.old c ++ replicate count at)
         (since_at starts.old c)) }
     ensures told { OnOk result (answer.new.items ≡ answer.old.items ++ queue_starts at count cells.now) }
+    ensures filled { EachIsOpen starts.old → EachIsOpen starts.new }
 {
     if count == 0 {
         return Ok(());
@@ -175,6 +188,9 @@ fn end_all(
         ≡ total w answer.old.items + total
         (λ m. total w (queue_ends at (m.ends - m.starts) m.cells
         (since_at starts.old m.cells))) moves.now) }
+    ensures order { OnOk result (AreEarly at starts.old →
+        InOrder (2 * at) answer.old.items → InOrder (2 * at) answer.new.items) }
+    ensures filled { EachIsOpen starts.old → EachIsOpen starts.new }
 {
     for moved in moves {
         end_row(
@@ -201,6 +217,9 @@ fn start_all(
     ensures told { OnOk result ((w : Told → ℕ) → total w answer.new.items
         ≡ total w answer.old.items + total
         (λ m. total w (queue_starts at (m.starts - m.ends) m.cells)) moves.now) }
+    ensures order { OnOk result (at < inf →
+        InOrder (suc (2 * at)) answer.old.items → InOrder (suc (2 * at)) answer.new.items) }
+    ensures filled { EachIsOpen starts.old → EachIsOpen starts.new }
 {
     for moved in moves {
         start_row(
@@ -216,7 +235,7 @@ fn start_all(
 }
 
 /// Tells what an instant shows of the rows that moved, ends first, and keeps their open starts.
-pub fn tell(
+pub(crate) fn tell(
     starts: &mut Starts,
     answer: &mut Vec<Edge>,
     alloc: Global,
@@ -229,6 +248,9 @@ pub fn tell(
         ≡ total w answer.old.items
         + total w (flat_map (queue_told at (ends_of moves.now) (starts_of moves.now)
         (since_at starts.old)) (rows_of moves.now))) }
+    ensures order { OnOk result (at < inf → AreEarly at starts.old →
+        InOrder (2 * at) answer.old.items → InOrder (suc (2 * at)) answer.new.items) }
+    ensures filled { EachIsOpen starts.old → EachIsOpen starts.new }
 {
     end_all(starts, answer, at, moves)?;
     start_all(starts, answer, alloc, at, moves)

@@ -1,24 +1,27 @@
--- What is answered by hand of the proof of instant::tell_instant.
-use Rattle.std.specs.Prelude.{flat_map}
-use Rattle.std.proofs.Common.{sym, ◌∙◌, ap, ◌+◌}
-use Rattle.tw_rows.specs.Bag.{total}
+use Rattle.std.specs.Prelude.{◌≡◌, ℕ, List, [], ◌∷◌, IfSome, refl}
+use Rattle.std.proofs.Common.{sym, ◌∙◌, ap, subst}
+use Rattle.tw_rows.specs.declared.cells.Datum.{Datum}
 use Rattle.tw_rows.specs.SameCells.{same_cells}
-use Rattle.sweep_laws.specs.Queues.{queue_told}
-use Rattle.sweep_laws.proofs.Queueing.{touched_told, queues_next}
-use Rattle.row_queues.specs.Kept.{since_at, ends_of, starts_of, rows_of}
-use Rattle.row_queues.proofs.Once.{cells_tell, none_of, all_distinct, on_both}
+use Rattle.key_nodes.specs.Coalesced.{how_often}
+use Rattle.row_queues.specs.Kept.{since_at, ends_of, starts_of, AreOnce}
+use Rattle.row_queues.proofs.Lone.{tells_of}
 use Rattle.row_queues.proofs.instant.tell_instant.Goals as goal
 
-pub returns-clause-news : goal.returns-clause-news
-returns-clause-news c = on_both c.tell.result _ _ c.tell.ensures.told (λ h f once low moves is w.
-    let ms = c.args.moves.now in
-    h once w
-    ∙ ap (λ n. total w c.args.answer.now.items + n) (
-    ap (λ l. total w (flat_map (queue_told c.args.at (ends_of ms) (starts_of ms) (since_at c.args.starts.now)) l)) (sym (all_distinct ms once))
-    ∙ touched_told same_cells f cells_tell c.args.at low (ends_of ms) (starts_of ms) moves (since_at c.args.starts.now) is (rows_of ms)
-    (λ r none. none_of (λ m. m.ends) r ms none ∙ sym (none_of (λ m. m.starts) r ms none)) w))
+pub returns-clause-tells : goal.returns-clause-tells
+returns-clause-tells c = λ f low moves is.
+    let ms = c.as_slice.result.now in
+    let value = c.as_slice.ensures.value in
+    let once = subst AreOnce (sym value) c.in_ok-moves.ensures.once in
+    tells_of f c.args.at ms (λ r. how_often same_cells r c.args.lost.now) (λ r. how_often same_cells r c.args.won.now) (since_at c.args.starts.now) c.args.answer.now.items c.tell-2.new.answer.items low moves is once
+    (λ r. ap (λ l. ends_of l r) value ∙ c.in_ok-moves.ensures.ends r) (λ r. ap (λ l. starts_of l r) value ∙ c.in_ok-moves.ensures.starts r)
+    (c.in_ok-tell-2.ensures.told once) (c.in_ok-tell-2.ensures.order low)
 
-pub returns-clause-queues : goal.returns-clause-queues
-returns-clause-queues c = on_both c.tell.result _ _ c.tell.ensures.since (λ h f once moves is q.
-    let ms = c.args.moves.now in
-    h once q ∙ queues_next same_cells f c.args.at (ends_of ms) (starts_of ms) moves (since_at c.args.starts.now) is q)
+pub returns-in-Some-clause-tells : goal.returns-in-Some-clause-tells
+returns-in-Some-clause-tells c = λ f low moves is.
+    let m = c.in-Some.alone in
+    let lost : List Datum → ℕ = λ r. how_often same_cells r c.args.lost.now in
+    let won : List Datum → ℕ = λ r. how_often same_cells r c.args.won.now in
+    tells_of f c.args.at (m ∷ []) lost won (since_at c.args.starts.now) c.args.answer.now.items c.tell.new.answer.items low moves is (refl, tt)
+    (subst (λ o. IfSome o (λ n. (r : List Datum) → ends_of (n ∷ []) r ≡ lost r)) c.in-Some.is c.in_ok-alone.ensures.ends)
+    (subst (λ o. IfSome o (λ n. (r : List Datum) → starts_of (n ∷ []) r ≡ won r)) c.in-Some.is c.in_ok-alone.ensures.starts)
+    (c.in_ok-tell.ensures.told (refl, tt)) (c.in_ok-tell.ensures.order low)
