@@ -1,0 +1,4 @@
+pub mod Examples
+pub mod Steps
+pub mod Answering
+pub mod Resuming
