@@ -1,0 +1,10 @@
+//! The operator of a Follow.
+#![tactic(auto)]
+
+mod follow;
+mod operating;
+mod pairs;
+mod rows;
+mod sides;
+
+pub use follow::Follow;
