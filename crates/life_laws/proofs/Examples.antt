@@ -1,8 +1,9 @@
 -- The definitions, worked out on a few edges.
-use Rattle.std.specs.Prelude.{◌≡◌, ℕ, ◌-◌, ◌^◌, [], ◌∷◌, refl}
+use Rattle.std.specs.Prelude.{◌≡◌, ℕ, ◌-◌, ◌^◌, pos, negsuc, [], ◌∷◌, refl}
 use Rattle.tw_rows.specs.Instant.{inf}
+use Rattle.tw_rows.specs.declared.cells.Datum.TheVariants.{Int}
 use Rattle.tw_rows.specs.declared.edge.Edge.{Edge}
-use Rattle.plan_model.specs.declared.node.Node.TheVariants.{Delay, Hop, Duration}
+use Rattle.plan_model.specs.declared.node.Node.TheVariants.{Delay, Hop, Duration, Mean}
 use Rattle.life_laws.specs.Answers.{answered, answered_below}
 use Rattle.life_laws.specs.Extending.{extended_edges}
 
@@ -31,6 +32,11 @@ hop_carries = refl
 
 delay_carries : answered_below (Delay 0 2) 17 ≡ 17
 delay_carries = refl
+
+-- a mean divides the sum -3 by the count 2, rounded down, and keeps the times
+mean_divides : answered (Mean 0 (0 ∷ [])) (record { sync = 5; other = 3; cells = Int (negsuc 2) ∷ Int (pos 2) ∷ [] } ∷ [])
+    ≡ record { sync = 5; other = 3; cells = Int (negsuc 1) ∷ [] } ∷ []
+mean_divides = refl
 
 -- an extend of 4 makes [3, 9) of [3, 5), moves an end at 5 to 9, and passes over an end that moves to infinity
 extend_moves_ends : extended_edges 4 (edge 3 inf ∷ edge 3 5 ∷ edge 5 3 ∷ edge (2 ^ 61 - 1) 3 ∷ []) ≡ edge 3 inf ∷ edge 3 9 ∷ edge 9 3 ∷ []

@@ -1,12 +1,13 @@
--- How a Delay, a Hop and a Duration answer, edge by edge.
-use Rattle.std.specs.Prelude.{◌≡◌, ℕ, ◌*◌, ◌/◌, ◌<◌, ◌≤◌, zero, suc, true, false, cond, List, [], filter, flat_map, refl}
-use Rattle.std.proofs.Common.{arith}
+-- How a Delay, a Hop, a Duration and a Mean answer, edge by edge.
+use Rattle.std.specs.Prelude.{◌≡◌, ℕ, ◌*◌, ◌/◌, ◌<◌, ◌≤◌, zero, suc, true, false, cond, List, [], ◌∷◌, filter, flat_map, refl}
+use Rattle.std.proofs.Common.{arith, ap, subst}
 use Rattle.std.proofs.lemmas.Bool.Decides.{nat_tests}
 use Rattle.std.proofs.lemmas.Nat.{le-div}
 use Rattle.std.proofs.Common.{mul-le-mul_left}
 use Rattle.std.proofs.Math.Nat.{mul-div-le}
 use Rattle.tw_rows.specs.Instant.{inf, later, floor_to}
 use Rattle.tw_rows.specs.Bag.{SameBag, total}
+use Rattle.tw_rows.specs.declared.cells.Datum.{Datum}
 use Rattle.tw_rows.specs.declared.edge.Edge.{Edge}
 use Rattle.edge_history.specs.Order.{failing, is_real, is_below, is_from, rank, Rises}
 use Rattle.edge_history.specs.History.{CellEvent}
@@ -22,7 +23,8 @@ use Rattle.edge_history.specs.Order.{IsHistory}
 use Rattle.edge_history.specs.History.{of}
 use Rattle.edge_history.specs.Ahead.{ToldAhead}
 use Rattle.plan_model.specs.Meaning.{node_closes}
-use Rattle.plan_model.specs.Nodes.{node_in}
+use Rattle.plan_model.specs.Nodes.{node_in, event_to, events_to}
+use Rattle.plan_model.specs.Means.{mean_row}
 use Rattle.node_laws.specs.Keeping.{KeepsAhead, plain_cells}
 use Rattle.std.proofs.lemmas.List.Elements.{All-nil}
 use Rattle.tw_rows.proofs.Bags.{SameBag-refl}
@@ -85,6 +87,30 @@ duration_late : (i by x : ℕ) (w : Edge → ℕ) (e : Edge) → is_from x e ≡
     weight (is_answered (Duration i by)) (new_edge (Duration i by)) (lasting_one by) (λ y. cond (is_below x y) (w y) 0) e ≡ 0
 duration_late i by x w e k = grind (arith, nat_tests)
 
+-- MEANS
+-- the edge with its cells replaced, and the event so
+abbrev replaced : (List Datum → List Datum) → Edge → Edge
+replaced f e = record { sync = e.sync; other = e.other; cells = f e.cells }
+
+abbrev replaced_one : (List Datum → List Datum) → CellEvent → List CellEvent
+replaced_one f v = event_to f v ∷ []
+
+replaced_parts : (f : List Datum → List Datum) (w : Edge → ℕ) (e : Edge) → is_real e ≡ true →
+    weight (λ x. true) (replaced f) (replaced_one f) w e ≡ total (weight (λ x. true) (replaced f) (replaced_one f) w) (singles_of e)
+replaced_parts f w e real = grind (arith, nat_tests)
+
+replaced_news : (f : List Datum → List Datum) (w : Edge → ℕ) (v : CellEvent) → is_event v ≡ true →
+    total w (flat_map (news_of 0 inf) (replaced_one f v)) ≡ total (weight (λ x. true) (replaced f) (replaced_one f) w) (news_of 0 inf v)
+replaced_news f w v k = grind (arith, nat_tests)
+
+replaced_late : (f : List Datum → List Datum) (x : ℕ) (w : Edge → ℕ) (e : Edge) → is_from x e ≡ true →
+    weight (λ y. true) (replaced f) (replaced_one f) (λ y. cond (is_below x y) (w y) 0) e ≡ 0
+replaced_late f x w e k = grind (arith, nat_tests)
+
+each_replaced : (f : List Datum → List Datum) (events : List CellEvent) → flat_map (replaced_one f) events ≡ events_to f events
+each_replaced f [] = refl
+each_replaced f (v ∷ vs) = ap (λ es. event_to f v ∷ es) (each_replaced f vs)
+
 -- WHAT IS ANSWERED
 delay_answers : (i by x : ℕ) → Answers (is_answered (Delay i by)) (new_edge (Delay i by)) (moved_one by) x (later by x)
 delay_answers i by x = record { parts = delay_parts i by; news = delay_news i by; late = delay_late i by x }
@@ -94,6 +120,9 @@ hop_answers i size period x low = record { parts = hop_parts i size period; news
 
 duration_answers : (i by x : ℕ) → Answers (is_answered (Duration i by)) (new_edge (Duration i by)) (lasting_one by) x x
 duration_answers i by x = record { parts = duration_parts i by; news = duration_news i by; late = duration_late i by x }
+
+replaced_answers : (f : List Datum → List Datum) (x : ℕ) → Answers (λ y. true) (replaced f) (replaced_one f) x x
+replaced_answers f x = record { parts = replaced_parts f; news = replaced_news f; late = replaced_late f x }
 
 -- what the answers of a node owe
 pub record NewLives (n : Node) : Type 0 where
@@ -141,6 +170,20 @@ duration_lives i by = record {
   cut_low = λ x low. omega arith;
 }
 
+mean_lives : (i : ℕ) (at : List ℕ) → NewLives (Mean i at)
+mean_lives i at = record {
+  tells = λ x y low h hr out history order real below same.
+      let f : List Datum → List Datum = mean_row plain_cells at in
+      subst (ToldAhead x out) (each_replaced f (of h))
+      (answers_tell (λ e. true) (replaced f) (replaced_one f) x x (replaced_answers f x) low h out history order real below same);
+  later = λ a b la lb tb h ta. h;
+  real = λ e r t. r;
+  below = λ x y e low t h. h;
+  from = λ x y e low t h. h;
+  cut_rises = λ x u h low. h;
+  cut_low = λ x low. omega arith;
+}
+
 pub new_lives : (n : Node) → has_known_lives n ≡ true → NewLives n
 new_lives (Delay i by) k = delay_lives i by
 new_lives (Hop i size period) k = hop_lives i size period
@@ -156,7 +199,7 @@ new_lives (Group a b c) k = absurd (cc)
 new_lives (Join a b c d) k = absurd (cc)
 new_lives (Anti a b c d) k = absurd (cc)
 new_lives (Coalesce a) k = absurd (cc)
-new_lives (Mean a b) k = absurd (cc)
+new_lives (Mean a b) k = mean_lives a b
 new_lives (Top a b c d) k = absurd (cc)
 new_lives (Follow a b c d e) k = absurd (cc)
 

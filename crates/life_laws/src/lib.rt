@@ -1,5 +1,5 @@
-//! The laws of operators whose nodes know the new life of an event at its start: a Delay, a Hop and a Duration. Those of an
-//! Extend and of a Union stand among the proofs, for the operators' own contracts.
+//! The laws of operators whose nodes know the new life of an event at its start: a Delay, a Hop, a Duration and a Mean.
+//! Those of an Extend and of a Union stand among the proofs, for the operators' own contracts.
 #![tactic(auto)]
 
 mod life_laws;

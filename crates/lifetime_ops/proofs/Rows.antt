@@ -6,20 +6,20 @@ use Rattle.std.proofs.lemmas.Option.{slice_get-map}
 use Rattle.std.proofs.Common.{sym, ◌∙◌, ap, arith, get_or, add-one}
 use Rattle.batch.specs.Rows.{Row, edge_of, edges_of, occupied_rows}
 use Rattle.batch.proofs.Keeping.{no_row}
-use Rattle.life_laws.specs.Answers.{new_edge, new_start, new_other}
+use Rattle.life_laws.specs.Answers.{new_start, new_other}
 use Rattle.lifetime_ops.specs.declared.change.Change.{Change}
 use Rattle.lifetime_ops.specs.Nodes.{node_of}
-use Rattle.lifetime_ops.specs.Times.{new_row}
+use Rattle.lifetime_ops.specs.Times.{new_row, retimed_edge}
 
 -- the edges of changed rows
-pub edges_changed : (change : Change) (rows : List Row) → edges_of (map (new_row change) rows) ≡ map (new_edge (node_of change)) (edges_of rows)
+pub edges_changed : (change : Change) (rows : List Row) → edges_of (map (new_row change) rows) ≡ map (retimed_edge (node_of change)) (edges_of rows)
 edges_changed change [] = refl
 edges_changed change (r ∷ rs) = pick r.occupied (edges_changed change rs)
   where
-    pick : (b : Bool) → edges_of (map (new_row change) rs) ≡ map (new_edge (node_of change)) (edges_of rs) →
+    pick : (b : Bool) → edges_of (map (new_row change) rs) ≡ map (retimed_edge (node_of change)) (edges_of rs) →
         map edge_of (cond b (new_row change r ∷ occupied_rows (map (new_row change) rs)) (occupied_rows (map (new_row change) rs)))
-        ≡ map (new_edge (node_of change)) (map edge_of (cond b (r ∷ occupied_rows rs) (occupied_rows rs)))
-    pick true k = ap (λ es. new_edge (node_of change) (edge_of r) ∷ es) k
+        ≡ map (retimed_edge (node_of change)) (map edge_of (cond b (r ∷ occupied_rows rs) (occupied_rows rs)))
+    pick true k = ap (λ es. retimed_edge (node_of change) (edge_of r) ∷ es) k
     pick false k = k
 
 -- the rows once the first i are changed, and one more

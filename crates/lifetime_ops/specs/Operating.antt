@@ -1,11 +1,11 @@
--- How the operator of a Delay, a Hop or a Duration stands, and what it keeps.
+-- How the operator of a Delay, a Hop, a Duration or a Mean stands, and what it keeps.
 use Rattle.std.specs.Prelude.{ℕ, List, [], length}
 use Rattle.tw_rows.specs.declared.edge.Edge.{Edge}
 use Rattle.edge_stream.specs.Listing.{cells_of}
 use Rattle.edge_stream.specs.declared.saved.SavedEntry.{SavedEntry}
 use Rattle.operator.specs.Standing.{Standing}
 use Rattle.life_laws.specs.Keeping.{KeepsLives}
-use Rattle.lifetime_ops.specs.Nodes.{node_of}
+use Rattle.lifetime_ops.specs.Nodes.{node_of, answer_kinds}
 use Rattle.lifetime_ops.specs.Saving.{LifeSound, LifeResumes}
 use Rattle.lifetime_ops.specs.declared.alter_lifetime.AlterLifetime.{AlterLifetime}
 
@@ -16,7 +16,7 @@ standing o = record {
   right_closed = o.right_to;
   left_kinds = cells_of o.carried;
   right_kinds = [];
-  own_kinds = cells_of o.carried;
+  own_kinds = answer_kinds o.change (cells_of o.carried);
   batch_rows = o.carried.capacity;
   has_failed = o.failed;
 }

@@ -1,20 +1,22 @@
-// Changes of lifetimes that are known at their starts.
+// Changes of events that are known at their starts.
 ghost use Rattle.std.specs.Prelude.{◌≡◌, ◌<◌, ◌≤◌, OnOk, IfOk, length, map, true};
 ghost use Rattle.tw_rows.specs.Instant.{inf, floor_to};
 ghost use Rattle.tw_rows.specs.declared.edge.Edge.{Edge};
 ghost use Rattle.batch.specs.Rows.{edges_of, edge_of};
-ghost use Rattle.life_laws.specs.Answers.{new_start, new_other, is_answered, answered, answered_below};
+ghost use Rattle.life_laws.specs.Answers.{new_start, new_other, is_answered, answered_below};
 ghost use Rattle.lifetime_ops.specs.Nodes.{node_of};
-ghost use Rattle.lifetime_ops.specs.Times.{new_row};
+ghost use Rattle.lifetime_ops.specs.Times.{new_row, retimed};
 
 use batch::Batch;
 use occupancy::Occupancy;
+use plan_model::Key;
 use std::alloc::Global;
 use tw_rows::{Memory, Time};
 
-/// A change of lifetimes, as Trill's `ShiftEventLifetime`, `HoppingWindowLifetime` and `AlterEventDuration` make it. Where a new
-/// lifetime would begin at infinity or be empty, the event is dropped: that is our profile.
-#[derive(Clone, Copy, Debug, PartialEq, Eq)]
+/// A change of events one by one: of their lifetimes, as Trill's `ShiftEventLifetime`, `HoppingWindowLifetime` and
+/// `AlterEventDuration` make it, or of their cells. Where a new lifetime would begin at infinity or be empty, the event is
+/// dropped: that is our profile.
+#[derive(Drop)]
 pub enum Change {
     /// Start and end move to later times by so much.
     Delay { by: u64 },
@@ -22,6 +24,8 @@ pub enum Change {
     Hop { size: u64, period: u64 },
     /// The lifetime lasts for so long, whatever its end was.
     Duration { by: u64 },
+    /// The lifetime stays. The last column, a count, is left out, and the columns `at` become their Euclidean quotients by it.
+    Mean { at: Key },
 }
 
 // The greatest multiple of the period that is not above the time. Infinity stays.
@@ -37,52 +41,54 @@ fn floor(time: Time, period: u64) -> Time
 
 impl Change {
     /// The start of the new life.
-    fn start(self, sync: Time) -> Time
-        ensures { result ≡ new_start (node_of self) sync }
+    fn start(&self, sync: Time) -> Time
+        ensures { result ≡ new_start (node_of self.now) sync }
     {
         match self {
-            Change::Delay { by } => sync.plus(by),
-            Change::Hop { period, .. } => floor(sync, period),
-            Change::Duration { .. } => sync,
+            Change::Delay { by } => sync.plus(*by),
+            Change::Hop { period, .. } => floor(sync, *period),
+            Change::Duration { .. } | Change::Mean { .. } => sync,
         }
     }
 
     /// The other time of the new edge.
-    fn other(self, sync: Time, other: Time) -> Time
-        ensures { result ≡ new_other (node_of self) sync other }
+    fn other(&self, sync: Time, other: Time) -> Time
+        ensures { result ≡ new_other (node_of self.now) sync other }
     {
         match self {
-            Change::Delay { by } => other.plus(by),
-            Change::Hop { size, period } => floor(sync, period).plus(size),
-            Change::Duration { by } => sync.plus(by),
+            Change::Delay { by } => other.plus(*by),
+            Change::Hop { size, period } => floor(sync, *period).plus(*size),
+            Change::Duration { by } => sync.plus(*by),
+            Change::Mean { .. } => other,
         }
     }
 
     /// Whether an edge of these times is answered.
-    fn answers(self, sync: Time, other: Time) -> bool
-        ensures { (e : Edge) → e.sync ≡ sync → e.other ≡ other → result ≡ is_answered (node_of self) e }
+    fn answers(&self, sync: Time, other: Time) -> bool
+        ensures { (e : Edge) → e.sync ≡ sync → e.other ≡ other → result ≡ is_answered (node_of self.now) e }
     {
         match self {
-            Change::Delay { by } => sync.plus(by) < Time::bounds().1,
+            Change::Delay { by } => sync.plus(*by) < Time::bounds().1,
             Change::Hop { size, period } => other >= sync
-                && floor(sync, period) < floor(sync, period).plus(size),
-            Change::Duration { by } => other >= sync && sync < sync.plus(by),
+                && floor(sync, *period) < floor(sync, *period).plus(*size),
+            Change::Duration { by } => other >= sync && sync < sync.plus(*by),
+            Change::Mean { .. } => true,
         }
     }
 
     /// The time below which edges are answered, of what is known below `to`.
-    pub(crate) fn answered_below(self, to: Time) -> Time
-        ensures { result ≡ answered_below (node_of self) to }
+    pub(crate) fn answered_below(&self, to: Time) -> Time
+        ensures { result ≡ answered_below (node_of self.now) to }
     {
         match self {
-            Change::Hop { period, .. } => floor(to, period),
-            Change::Delay { .. } | Change::Duration { .. } => to,
+            Change::Hop { period, .. } => floor(to, *period),
+            Change::Delay { .. } | Change::Duration { .. } | Change::Mean { .. } => to,
         }
     }
 
     // Which rows of the batch are answered.
-    fn mask(self, alloc: Global, batch: &Batch) -> Result<Occupancy, Memory>
-        ensures { IfOk result (λ mask. mask.items ≡ map (λ r. is_answered (node_of self) (edge_of r)) batch.now.rows) }
+    fn mask(&self, alloc: Global, batch: &Batch) -> Result<Occupancy, Memory>
+        ensures { IfOk result (λ mask. mask.items ≡ map (λ r. is_answered (node_of self.now) (edge_of r)) batch.now.rows) }
     {
         let mut mask = Occupancy::new(alloc, batch.rows())?;
         for i in 0..batch.rows() {
@@ -92,8 +98,8 @@ impl Change {
     }
 
     // Changes the times of all rows, occupied or not.
-    fn set_times(self, batch: &mut Batch)
-        ensures { batch.new ≡ record batch.old { rows = map (new_row self) batch.old.rows } }
+    fn set_times(&self, batch: &mut Batch)
+        ensures { batch.new ≡ record batch.old { rows = map (new_row self.now) batch.old.rows } }
     {
         for i in 0..batch.rows() {
             let sync = batch.sync_at(i);
@@ -102,9 +108,9 @@ impl Change {
         }
     }
 
-    /// Changes the edges of the batch in place to those that are answered of them. Out of memory, the batch stays as it was.
-    pub(crate) fn apply(self, alloc: Global, batch: &mut Batch) -> Result<(), Memory>
-        ensures edges { OnOk result (edges_of batch.new.rows ≡ answered (node_of self) (edges_of batch.old.rows)) }
+    /// Leaves the edges of the batch that are answered, with their new times. Out of memory, the batch stays as it was.
+    pub(crate) fn apply(&self, alloc: Global, batch: &mut Batch) -> Result<(), Memory>
+        ensures edges { OnOk result (edges_of batch.new.rows ≡ retimed (node_of self.now) (edges_of batch.old.rows)) }
         ensures kinds { batch.new.kinds ≡ batch.old.kinds }
         ensures capacity { batch.new.capacity ≡ batch.old.capacity }
     {

@@ -1,14 +1,15 @@
 -- How an operator stands, and what it keeps.
-use Rattle.std.specs.Prelude.{◌≡◌, ℕ, Bool, false, List, Option, Some, None, map, All}
+use Rattle.std.specs.Prelude.{◌≡◌, ℕ, Bool, false, List, [], Option, Some, None, map, All}
 use Rattle.tw_rows.specs.Cells.{datum_kind}
 use Rattle.tw_rows.specs.declared.cells.Datum.{Datum}
 use Rattle.tw_rows.specs.declared.edge.Edge.{Edge}
 use Rattle.tw_rows.specs.declared.kind.CellKind.{CellKind}
-use Rattle.edge_history.specs.History.{of}
+use Rattle.edge_history.specs.History.{CellEvent, of}
 use Rattle.edge_stream.specs.declared.saved.PartRow.{PartRow}
 use Rattle.edge_stream.specs.declared.saved.PartRow.TheVariants.{Left, Right, Own, KeyFirst}
 use Rattle.edge_stream.specs.declared.saved.SavedEntry.{SavedEntry}
 use Rattle.plan_model.specs.declared.node.Node.{Node}
+use Rattle.plan_model.specs.declared.node.Node.TheVariants.{Top, Follow}
 use Rattle.plan_model.specs.Meaning.{node_closes, node_events}
 use Rattle.plan_model.specs.Nodes.{node_in}
 use Rattle.plan_laws.specs.Held.{may_hold}
@@ -59,10 +60,17 @@ Implies one other = (texts : List (List ℕ)) (hl hr out : List Edge) → one te
 abbrev pub StandsFor : Standing → List (List ℕ) → List Edge → List Edge → List Edge → Type 0
 StandsFor s texts hl hr out = StandsRead texts (closing s) out (node_events s.node (read_of texts hl) (read_of texts hr))
 
+-- the node's own events, where its operator may keep entries for them: none of a Top and of a Follow, which keep no more than
+-- the events that they read
+abbrev pub own_kept : Node → List CellEvent → List CellEvent → List CellEvent
+own_kept (Top of key by count) a b = []
+own_kept (Follow left right left_key right_key within) a b = []
+own_kept n a b = node_in plain_cells n a b
+
 -- how many entries a node may keep of the edges that came in, on sides that are closed up to x and y. A Delay that is closed
 -- up to 4 may keep 4 of a start at 3 that did not end
 abbrev pub may_keep : Node → ℕ → ℕ → List Edge → List Edge → ℕ
-may_keep n x y hl hr = may_hold n x (node_closes n x y) (of hl) (of hr) (node_in plain_cells n (of hl) (of hr))
+may_keep n x y hl hr = may_hold n x (node_closes n x y) (of hl) (of hr) (own_kept n (of hl) (of hr))
 
 abbrev pub most_entries : Standing → List Edge → List Edge → ℕ
 most_entries s hl hr = may_keep s.node s.left_closed s.right_closed hl hr

@@ -1,5 +1,6 @@
 // One node of a plan at work.
-ghost use Rattle.std.specs.Prelude.{◌≡◌, ℕ, ◌-◌, ◌^◌, ◌≤◌, true, false, is_err, Option, Some, None, IsErr, List, [], length, min, IfOk, IfErr, OnOk, OnErr};
+ghost use Rattle.std.specs.Prelude.{◌≡◌, ℕ, ◌-◌, ◌^◌, ◌≤◌, true, false, is_err, Option, Some};
+ghost use Rattle.std.specs.Prelude.{None, IsErr, List, [], length, min, IfOk, IfErr, OnOk, OnErr};
 ghost use Rattle.tw_rows.specs.Texts.{BeginsWith};
 ghost use Rattle.tw_rows.specs.declared.edge.Edge.{Edge};
 ghost use Rattle.edge_stream.specs.Listing.{cells_of};

@@ -27,6 +27,7 @@ use Rattle.sweep_laws.specs.Running.{Run, run_end, run_start, has_row, end_part,
 use Rattle.sweep_laws.specs.Grouping.{keys_of, EndsTold, StartsTold, IsEarly}
 use Rattle.sweep_laws.proofs.Instants.{syncs_rise}
 use Rattle.sweep_laws.proofs.Ordering.{order_later}
+use Rattle.sweep_laws.proofs.Sides.{rise_drop, rise_head, rise_past}
 use Rattle.snapshot_agg.specs.Words.{key_data, tell}
 use Rattle.sweep_laws.specs.Saving.{store_all}
 use Rattle.sweep_laws.proofs.Stored.{stored_kinds, kinds_stored}
@@ -230,26 +231,6 @@ module _ (key : List ℕ) (aggs : List Agg) (left : List CellKind) (from t to : 
     }
 
 -- FROM INSTANT TO INSTANT
-pub rise_weaker : (s r : ℕ) (xs : List Edge) → s ≤ r → SyncsRise r xs → SyncsRise s xs
-rise_weaker s r [] low h = tt
-rise_weaker s r (x ∷ xs) low h = (omega (arith, low, h), h.1)
-
-pub rise_drop : (n r : ℕ) (xs : List Edge) → SyncsRise r xs → SyncsRise r (drop n xs)
-rise_drop zero r xs h = h
-rise_drop (suc n) r [] h = tt
-rise_drop (suc n) r (x ∷ xs) h = rise_weaker r x.sync (drop n xs) (omega (arith, h)) (rise_drop n x.sync xs h.1)
-
-rise_head : (t : ℕ) (xs : List Edge) → HeadFrom t xs → SyncsRise 0 xs → SyncsRise t xs
-rise_head t [] h k = tt
-rise_head t (x ∷ xs) h k = (h, k.1)
-
-rise_past : (t : ℕ) (xs : List Edge) → SyncsRise t xs → IsPast t xs → SyncsRise (suc t) xs
-rise_past t [] h p = tt
-rise_past t (x ∷ xs) h p = (above t x.sync h.0 p, h.1)
-  where
-    above : (t s : ℕ) → t ≤ s → (s ≡ t → ⊥) → suc t ≤ s
-    above t s l p = grind (arith, nat_tests)
-
 rise_starts : (t u : ℕ) (xs : List Edge) → StartsAt t xs → SyncsRise u xs → (u ≤ t) × SyncsRise t xs
 rise_starts t u [] h k = absurd h
 rise_starts t u (x ∷ xs) h k = (omega (arith, h, k.0), (omega (arith, h), k.1))

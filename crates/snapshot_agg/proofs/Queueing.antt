@@ -11,7 +11,7 @@ use Rattle.end_queue.specs.Pending.{Pending, put_pending}
 use Rattle.sweep_laws.specs.Sweeps.{SyncsRise}
 use Rattle.sweep_sides.specs.Waiting.{queued, AreTimed}
 use Rattle.snapshot_agg.specs.Waiting.{own_pending}
-use Rattle.snapshot_agg.proofs.Answering.{rise_drop}
+use Rattle.sweep_laws.proofs.Sides.{rise_drop}
 use Rattle.snapshot_agg.proofs.Lists.{total_more}
 use Rattle.snapshot_agg.proofs.PuttingOff.{total-put_pending, pushed, own_test, from_test, below_later, Popped}
 

@@ -4,6 +4,7 @@ use Rattle.edge_history.proofs.Sums.{failing-kept}
 use Rattle.edge_stream.specs.Listing.{cells_of}
 use Rattle.edge_stream.proofs.Filling.{batches_given-capacity}
 use Rattle.carried_edges.proofs.Pools.{batches_given-limit}
+use Rattle.lifetime_ops.specs.Nodes.{divides_ints}
 use Rattle.lifetime_ops.proofs.Answering.{advanced, between}
 use Rattle.lifetime_ops.proofs.alter_lifetime.AlterLifetime.advance.Goals as goal
 
@@ -15,7 +16,10 @@ pub invariant_of-self-2 : goal.invariant_of-self-2
 invariant_of-self-2 c =
     let cut = c.in_ok-due.ensures.edges in
     let below = c.answered_below-below.result in
-    record { late = λ f. ap (λ t. failing (is_from t) c.take_below.new.carried.edges) (sym c.answered_below-below.ensures) ∙ ap (failing (is_from below)) cut.4 ∙ failing-kept (is_from below) cut.0 }
+    record {
+      late = λ f. ap (λ t. failing (is_from t) c.take_below.new.carried.edges) (sym c.answered_below-below.ensures) ∙ ap (failing (is_from below)) cut.4 ∙ failing-kept (is_from below) cut.0;
+      ints = ap (divides_ints c.args.self.now.change) c.take_below.ensures.kinds ∙ c.args.self.now.ints;
+    }
 
 pub returns-clause-kept : goal.returns-clause-kept
 returns-clause-kept c = λ texts hl hr out k ml mr.
@@ -34,19 +38,27 @@ returns-clause-between c = λ left right.
     (s.late c.requires.works) left
 
 pub returns-clause-pools : goal.returns-clause-pools
-returns-clause-pools c = c.take_below.ensures.pools ∙ ap (λ s. s.capacity) c.give_back.ensures ∙ batches_given-capacity c.args.right.batches c.args.pools.now (cells_of c.args.right)
+returns-clause-pools c = c.answer_of.ensures.pools ∙ c.take_below.ensures.pools ∙ ap (λ s. s.capacity) c.give_back.ensures ∙ batches_given-capacity c.args.right.batches c.args.pools.now (cells_of c.args.right)
 
 pub returns-in_err-answer-clause-pools : goal.returns-in_err-answer-clause-pools
-returns-in_err-answer-clause-pools c = c.take_below.ensures.pools ∙ ap (λ s. s.capacity) c.give_back.ensures ∙ batches_given-capacity c.args.right.batches c.args.pools.now (cells_of c.args.right)
+returns-in_err-answer-clause-pools c = c.answer_of.ensures.pools ∙ c.take_below.ensures.pools ∙ ap (λ s. s.capacity) c.give_back.ensures ∙ batches_given-capacity c.args.right.batches c.args.pools.now (cells_of c.args.right)
 
 pub returns-in_err-due-clause-pools : goal.returns-in_err-due-clause-pools
 returns-in_err-due-clause-pools c = c.take_below.ensures.pools ∙ ap (λ s. s.capacity) c.give_back.ensures ∙ batches_given-capacity c.args.right.batches c.args.pools.now (cells_of c.args.right)
 
 pub returns-clause-limit : goal.returns-clause-limit
-returns-clause-limit c = c.take_below.ensures.limit ∙ ap (λ s. s.limit) c.give_back.ensures ∙ batches_given-limit c.args.right.batches c.args.pools.now (cells_of c.args.right)
+returns-clause-limit c = c.answer_of.ensures.limit ∙ c.take_below.ensures.limit ∙ ap (λ s. s.limit) c.give_back.ensures ∙ batches_given-limit c.args.right.batches c.args.pools.now (cells_of c.args.right)
 
 pub returns-in_err-answer-clause-limit : goal.returns-in_err-answer-clause-limit
-returns-in_err-answer-clause-limit c = c.take_below.ensures.limit ∙ ap (λ s. s.limit) c.give_back.ensures ∙ batches_given-limit c.args.right.batches c.args.pools.now (cells_of c.args.right)
+returns-in_err-answer-clause-limit c = c.answer_of.ensures.limit ∙ c.take_below.ensures.limit ∙ ap (λ s. s.limit) c.give_back.ensures ∙ batches_given-limit c.args.right.batches c.args.pools.now (cells_of c.args.right)
 
 pub returns-in_err-due-clause-limit : goal.returns-in_err-due-clause-limit
 returns-in_err-due-clause-limit c = c.take_below.ensures.limit ∙ ap (λ s. s.limit) c.give_back.ensures ∙ batches_given-limit c.args.right.batches c.args.pools.now (cells_of c.args.right)
+
+pub answer_of-requires-clause-capacity : goal.answer_of-requires-clause-capacity
+answer_of-requires-clause-capacity c =
+    c.take_below.ensures.pools ∙ ap (λ s. s.capacity) c.give_back.ensures ∙ batches_given-capacity c.args.right.batches c.args.pools.now (cells_of c.args.right)
+    ∙ c.requires.capacity ∙ sym c.in_ok-due.ensures.due_capacity
+
+pub answer_of-requires-clause-ints : goal.answer_of-requires-clause-ints
+answer_of-requires-clause-ints c = ap (divides_ints c.args.self.now.change) c.in_ok-due.ensures.due_kinds ∙ c.args.self.now.ints
