@@ -1,0 +1,14 @@
+-- The lemmas.
+pub mod Weighing
+pub mod Moving
+pub mod Settling
+pub mod Topping
+pub mod ByKey
+pub mod Missing
+pub mod Changing
+pub mod TopKeys
+pub mod Passing
+pub mod TopSteps
+pub mod TopSides
+pub mod Answering
+pub mod Resuming

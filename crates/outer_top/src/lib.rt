@@ -1,0 +1,15 @@
+//! The operator of a Top.
+#![tactic(auto)]
+
+mod groups;
+mod keys;
+mod operating;
+mod ranked;
+mod saving;
+mod side;
+mod sweep;
+mod top;
+mod tops;
+
+pub use ranked::{Ranked, tops_are_found_key_by_key};
+pub use top::Top;
