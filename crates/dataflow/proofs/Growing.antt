@@ -16,8 +16,8 @@ module _ (texts more : List (List ℕ)) (last : ℕ) (d : DataflowView) (begins 
   pub can_longer : CanStep texts last d → CanStep more last d
   can_longer can = record {
     count = can.count;
+    fine = can.fine;
     room = can.room;
-    built = can.built;
     ready = λ i n s at here. ready_longer texts more begins d.capacity (left_kinds d.plan n) (right_kinds d.plan n) n s (reached last (left_closing d.plan.nodes last n)) (reached last (right_closing d.plan.nodes last n)) (can.ready i n s at here);
   }
 

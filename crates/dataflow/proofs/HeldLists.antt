@@ -1,11 +1,11 @@
 -- The lists that are held while the nodes of a plan read and make theirs.
-use Rattle.std.specs.Prelude.{◌≡◌, ◌≢◌, ◌↔◌, ◌⊎◌, ℕ, zero, suc, ◌+◌, ◌-◌, ◌<◌, ◌≤◌, nat_eq, Bool, true, cond, IsTrue, Some, None, List, [], ◌∷◌, ◌++◌, map, length, get_or, slice_get, Result, Ok, Err, IfOk, OnErr, min, take}
+use Rattle.std.specs.Prelude.{◌≡◌, ◌≢◌, ◌↔◌, ◌⊎◌, ℕ, zero, suc, ◌+◌, ◌-◌, ◌<◌, nat_eq, Bool, true, cond, IsTrue, Some, None, List, [], ◌∷◌, ◌++◌, map, length, get_or, slice_get, Result, Ok, Err, IfOk, OnErr, min, take}
 use Rattle.std.proofs.Common.{refl, sym, ap, subst, ◌∙◌, arith, inl, inr}
 use Rattle.std.proofs.lemmas.Bool.{cases_lt, cases_eq, ne_eqb}
 use Rattle.std.proofs.lemmas.Bool.Decides.{Decides-eqb}
 use Rattle.std.proofs.lemmas.List.{get_or_push, get_or_append_left, length_push}
 use Rattle.std.proofs.lemmas.List.Elements.{All-nil}
-use Rattle.std.proofs.lemmas.Option.{slice_get-get_or, slice_get_within}
+use Rattle.std.proofs.lemmas.Option.{slice_get-get_or}
 use Rattle.tw_rows.specs.declared.edge.Edge.{Edge}
 use Rattle.tw_rows.specs.declared.kind.CellKind.{CellKind}
 use Rattle.tw_rows.specs.Kinds.{cell_kind_of}
@@ -20,12 +20,10 @@ use Rattle.plan_model.specs.IsPlan.{PlanParts, kinds_at, kinds_of_stream}
 use Rattle.plan_model.specs.Shape.{Shape, Stream, One, Two, shape, left_in, read_left, left_child, right_child, at_child, left_of, right_of, HasLower}
 use Rattle.plan_model.proofs.Kept.{IsNodeAt}
 use Rattle.node_laws.specs.Places.{EdgesArePlaced}
-use Rattle.row_stage.proofs.Nodes.{stream_there, one_node, childless}
+use Rattle.row_stage.proofs.Nodes.{stream_there, one_node}
 use Rattle.dataflow.specs.Lists.{edges_at, IsListOf, AreGiven}
-use Rattle.dataflow.specs.Stages.{left_kinds, right_kinds, right_closing}
-use Rattle.plan_model.specs.Meaning.{closes}
-use Rattle.tw_rows.specs.Instant.{inf}
-use Rattle.dataflow.specs.Held.{IsListWith, IsRead, IsNeeded, IsNeededRight, IsNeededStream, AreHeld, HeldBefore, HeldBetween}
+use Rattle.dataflow.specs.Stages.{left_kinds, right_kinds}
+use Rattle.dataflow.specs.Held.{IsListWith, IsNeeded, IsNeededRight, IsNeededStream, AreHeld, HeldBefore, HeldBetween}
 
 -- the lists by number, with that of i made
 abbrev pub with_list : (ℕ → List Edge) → ℕ → List Edge → ℕ → List Edge
@@ -60,14 +58,6 @@ right_of-child none at n k e = ap (at_child none at) e
 
 pub right_of-none : {R : Type 0} (none : R) (at : ℕ → R) (n : Node) → right_child n ≡ None → right_of none at n ≡ none
 right_of-none none at n e = ap (at_child none at) e
-
-pub left_of-none : {R : Type 0} (none : R) (source : R) (at : ℕ → R) (n : Node) → left_child n ≡ None → left_of none (λ s. source) at n ≡ source
-left_of-none none source at n e = let is = childless n e in ap (left_of none (λ s. source) at) is.1
-
--- the closing of a right child that is not there
-pub right_infinite : (nodes : List Node) (p : ℕ) (n : Node) → right_child n ≡ None → 2305843009213693952 ≡ right_closing nodes p n
-unfolding inf
-right_infinite nodes p n e = sym (ap (at_child inf (λ k. closes nodes k p)) e)
 
 -- a list that was taken or copied
 pub same_list : (texts : List (List ℕ)) (capacity : ℕ) (kinds : List CellKind) (edges : List Edge) (old new : EdgeListView) → IsListWith texts capacity kinds edges old →
@@ -245,28 +235,6 @@ taken_limit (suc n) s ks =
 pub IfOk-three : {X Y : Type 0} (r : Result X Y) (P Q R S : X → Type 0) → ((x : X) → P x → Q x → R x → S x) → IfOk r P → IfOk r Q → IfOk r R → IfOk r S
 IfOk-three (Ok x) P Q R S f a b c = f x a b c
 IfOk-three (Err e) P Q R S f a b c = tt
-
--- none of the nodes so far reads the child
-abbrev pub NoneReads : PlanParts → ℕ → ℕ → ℕ → Type 0
-NoneReads plan from child count = (k : ℕ) (n : Node) → from ≤ k → k < count → slice_get plan.nodes k ≡ Some n → (left_child n ≡ Some child) ⊎ (right_child n ≡ Some child) → ⊥
-
-pub none_more : (plan : PlanParts) (from child j : ℕ) (n : Node) → NoneReads plan from child j → slice_get plan.nodes j ≡ Some n → ((left_child n ≡ Some child) ⊎ (right_child n ≡ Some child) → ⊥) →
-    NoneReads plan from child (j + 1)
-none_more plan from child j n before here not k m low below there reads = elim (cases_lt k j) [
-  | inl less ↦ before k m low less there reads
-  | inr more ↦
-      let e : k ≡ j = omega (arith, below, more) in
-      let same : m ≡ n = one_of plan.nodes j m n (subst (λ i. slice_get plan.nodes i ≡ Some m) e there) here in
-      not (subst (λ x. (left_child x ≡ Some child) ⊎ (right_child x ≡ Some child)) same reads)
-]
-  where
-    one_of : (nodes : List Node) (i : ℕ) (x y : Node) → slice_get nodes i ≡ Some x → slice_get nodes i ≡ Some y → x ≡ y
-    one_of nodes i x y a b = cc
-
-pub none_reads : (plan : PlanParts) (from child count : ℕ) → length plan.nodes ≤ count → NoneReads plan from child count → IsRead plan from child → ⊥
-none_reads plan from child count all none read =
-    let low : read.0 < length plan.nodes = slice_get_within plan.nodes read.0 read.1.0 read.1.1.1.0 in
-    none read.0 read.1.0 read.1.1.0 (omega (arith, low, all)) read.1.1.1.0 read.1.1.1.1
 
 -- and so the pools stay alike whether a copy was made or memory was wanting
 pub copy_leaves : {E : Type 0} (r : Result EdgeListView E) (old new : Shelves) (kinds : List CellKind) → IfOk r (λ copy. new ≡ batches_taken copy.batches old kinds) → OnErr r (AreBatchesTaken old new kinds) →

@@ -10,8 +10,10 @@ pub mod Flowing
 pub mod Stepping
 pub mod Opening
 pub mod Counting
+pub mod CoalescedStarts
 pub mod MayHold
 pub mod PlanHold
 pub mod Bounding
 pub mod Sure
 pub mod RowNodes
+pub mod LastRead

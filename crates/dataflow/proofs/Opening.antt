@@ -15,7 +15,6 @@ use Rattle.row_stage.specs.Texts.{nodes_in}
 use Rattle.dataflow.specs.declared.stage.Stage.{Stage}
 use Rattle.dataflow.specs.Stages.{left_kinds, right_kinds, IsReady, StageKeeps, StandsAsMade, entries_in}
 use Rattle.dataflow.specs.Flows.{parts_of, Flows, held_from}
-use Rattle.built_nodes.specs.Built.{is_built}
 use Rattle.dataflow.specs.Held.{AreFresh}
 use Rattle.dataflow.proofs.Rules.{ready_longer, keeps_longer}
 
@@ -83,13 +82,13 @@ fresh_all texts capacity plan stages count fresh = record {
 }
 
 -- so the plan can take its first step
-pub flows_at_first : (texts : List (List ℕ)) (capacity : ℕ) (plan : PlanParts) (stages : List Stage) → AreFresh texts capacity plan stages → ((i : ℕ) (n : Node) → slice_get plan.nodes i ≡ Some n → is_built n ≡ true) → 1 ≤ capacity →
+pub flows_at_first : (texts : List (List ℕ)) (capacity : ℕ) (plan : PlanParts) (stages : List Stage) → AreFresh texts capacity plan stages → 1 ≤ capacity →
     Flows texts 0 (λ s. []) (λ k. []) (parts_of plan stages capacity false)
-flows_at_first texts capacity plan stages fresh built room = record {
+flows_at_first texts capacity plan stages fresh room = record {
   can = record {
     count = fresh.count;
+    fine = refl;
     room = room;
-    built = built;
     ready = λ i n s there here. fresh.ready i n s there here;
   };
   first = λ none k. (refl, refl);

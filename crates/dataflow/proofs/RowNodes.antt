@@ -5,58 +5,60 @@ use Rattle.tw_rows.specs.declared.kind.CellKind.{CellKind}
 use Rattle.plan_model.specs.declared.agg.Agg.{Agg}
 use Rattle.plan_model.specs.declared.node.Node.{Node}
 use Rattle.plan_model.specs.declared.node.Node.TheVariants.{Source, Where, Select, Union as UnionNode, Delay as DelayNode, Hop as HopNode, Duration as DurationNode, Extend as ExtendNode, Session as SessionNode, Clip as ClipNode, Group as GroupNode, Join as JoinNode, Anti as AntiNode, Coalesce, Mean, Top, Follow}
-use Rattle.built_nodes.specs.Built.{is_built}
 use Rattle.row_stage.specs.Stages.{is_of_rows}
 use Rattle.row_stage.specs.Texts.{nodes_in}
 use Rattle.lifetime_ops.specs.Nodes.{node_of}
 use Rattle.lifetime_ops.specs.declared.change.Change.{Change}
-use Rattle.lifetime_ops.specs.declared.change.Change.TheVariants.{Delay, Hop, Duration}
+use Rattle.lifetime_ops.specs.declared.change.Change.TheVariants.{Delay, Hop, Duration, Mean as MeanChange}
 use Rattle.dataflow.specs.declared.stage.Stage.{Stage}
-use Rattle.dataflow.specs.declared.stage.Stage.TheVariants.{Rows, Life, Union, Extend, Join, Group, Anti, Session, Clip}
+use Rattle.dataflow.specs.declared.stage.Stage.TheVariants.{Rows, Life, Union, Extend, Join, Group, Anti, Session, Clip, Coalesce as CoalesceStage, Follow as FollowStage, Top as TopStage}
 use Rattle.dataflow.specs.Operating.{over_two}
 use Rattle.dataflow.specs.Stages.{IsReady, entries_in}
 use Rattle.dataflow.specs.Held.{has_two}
 
--- a built node that is not of rows, and that no stage of one child computes, has two children
-pub two_left : (n : Node) → is_built n ≡ true → is_of_rows n ≡ false → ((of by : ℕ) → n ≡ DelayNode of by → ⊥) → ((of size period : ℕ) → n ≡ HopNode of size period → ⊥) → ((of by : ℕ) → n ≡ DurationNode of by → ⊥) →
-    ((of by : ℕ) → n ≡ ExtendNode of by → ⊥) → ((of : ℕ) (key : List ℕ) (aggs : List Agg) → n ≡ GroupNode of key aggs → ⊥) → ((of timeout : ℕ) (key : List ℕ) → n ≡ SessionNode of timeout key → ⊥) → has_two n ≡ true
-two_left (Source stream) built other d h l e g s = absurd (cc)
-two_left (Where of test) built other d h l e g s = absurd (cc)
-two_left (Select of items) built other d h l e g s = absurd (cc)
-two_left (UnionNode left right) built other d h l e g s = refl
-two_left (DelayNode of by) built other d h l e g s = absurd (d of by refl)
-two_left (HopNode of size period) built other d h l e g s = absurd (h of size period refl)
-two_left (DurationNode of by) built other d h l e g s = absurd (l of by refl)
-two_left (ExtendNode of by) built other d h l e g s = absurd (e of by refl)
-two_left (SessionNode of timeout key) built other d h l e g s = absurd (s of timeout key refl)
-two_left (ClipNode left right left_key right_key) built other d h l e g s = refl
-two_left (GroupNode of key aggs) built other d h l e g s = absurd (g of key aggs refl)
-two_left (JoinNode left right left_key right_key) built other d h l e g s = refl
-two_left (AntiNode left right left_key right_key) built other d h l e g s = refl
-two_left (Coalesce of) built other d h l e g s = absurd (cc)
-two_left (Mean of at) built other d h l e g s = absurd (cc)
-two_left (Top of key by count) built other d h l e g s = absurd (cc)
-two_left (Follow left right left_key right_key within) built other d h l e g s = absurd (cc)
+-- a node that is not of rows, and that no stage of one child computes, has two children
+pub two_left : (n : Node) → is_of_rows n ≡ false → ((of by : ℕ) → n ≡ DelayNode of by → ⊥) → ((of size period : ℕ) → n ≡ HopNode of size period → ⊥) → ((of by : ℕ) → n ≡ DurationNode of by → ⊥) →
+    ((of by : ℕ) → n ≡ ExtendNode of by → ⊥) → ((of : ℕ) (key : List ℕ) (aggs : List Agg) → n ≡ GroupNode of key aggs → ⊥) → ((of timeout : ℕ) (key : List ℕ) → n ≡ SessionNode of timeout key → ⊥) →
+    ((of : ℕ) → n ≡ Coalesce of → ⊥) → ((of : ℕ) (at : List ℕ) → n ≡ Mean of at → ⊥) →
+    ((of : ℕ) (key : List ℕ) (by count : ℕ) → n ≡ Top of key by count → ⊥) → has_two n ≡ true
+two_left (Source stream) other d h l e g s q m t = absurd (cc)
+two_left (Where of test) other d h l e g s q m t = absurd (cc)
+two_left (Select of items) other d h l e g s q m t = absurd (cc)
+two_left (UnionNode left right) other d h l e g s q m t = refl
+two_left (DelayNode of by) other d h l e g s q m t = absurd (d of by refl)
+two_left (HopNode of size period) other d h l e g s q m t = absurd (h of size period refl)
+two_left (DurationNode of by) other d h l e g s q m t = absurd (l of by refl)
+two_left (ExtendNode of by) other d h l e g s q m t = absurd (e of by refl)
+two_left (SessionNode of timeout key) other d h l e g s q m t = absurd (s of timeout key refl)
+two_left (ClipNode left right left_key right_key) other d h l e g s q m t = refl
+two_left (GroupNode of key aggs) other d h l e g s q m t = absurd (g of key aggs refl)
+two_left (JoinNode left right left_key right_key) other d h l e g s q m t = refl
+two_left (AntiNode left right left_key right_key) other d h l e g s q m t = refl
+two_left (Coalesce of) other d h l e g s q m t = absurd (q of refl)
+two_left (Mean of at) other d h l e g s q m t = absurd (m of at refl)
+two_left (Top of key by count) other d h l e g s q m t = absurd (t of key by count refl)
+two_left (Follow left right left_key right_key within) other d h l e g s q m t = refl
 
 pub two_alone : (n : Node) → has_two n ≡ true → ((left right : ℕ) → n ≡ UnionNode left right → ⊥) → ((left right : ℕ) (left_key right_key : List ℕ) → n ≡ JoinNode left right left_key right_key → ⊥) →
-    ((left right : ℕ) (left_key right_key : List ℕ) → n ≡ AntiNode left right left_key right_key → ⊥) → ((left right : ℕ) (left_key right_key : List ℕ) → n ≡ ClipNode left right left_key right_key → ⊥) → ⊥
-two_alone (Source stream) two u j a c = cc
-two_alone (Where of test) two u j a c = cc
-two_alone (Select of items) two u j a c = cc
-two_alone (UnionNode left right) two u j a c = u left right refl
-two_alone (DelayNode of by) two u j a c = cc
-two_alone (HopNode of size period) two u j a c = cc
-two_alone (DurationNode of by) two u j a c = cc
-two_alone (ExtendNode of by) two u j a c = cc
-two_alone (SessionNode of timeout key) two u j a c = cc
-two_alone (ClipNode left right left_key right_key) two u j a c = c left right left_key right_key refl
-two_alone (GroupNode of key aggs) two u j a c = cc
-two_alone (JoinNode left right left_key right_key) two u j a c = j left right left_key right_key refl
-two_alone (AntiNode left right left_key right_key) two u j a c = a left right left_key right_key refl
-two_alone (Coalesce of) two u j a c = cc
-two_alone (Mean of at) two u j a c = cc
-two_alone (Top of key by count) two u j a c = cc
-two_alone (Follow left right left_key right_key within) two u j a c = cc
+    ((left right : ℕ) (left_key right_key : List ℕ) → n ≡ AntiNode left right left_key right_key → ⊥) → ((left right : ℕ) (left_key right_key : List ℕ) → n ≡ ClipNode left right left_key right_key → ⊥) →
+    ((left right : ℕ) (left_key right_key : List ℕ) (within : ℕ) → n ≡ Follow left right left_key right_key within → ⊥) → ⊥
+two_alone (Source stream) two u j a c f = cc
+two_alone (Where of test) two u j a c f = cc
+two_alone (Select of items) two u j a c f = cc
+two_alone (UnionNode left right) two u j a c f = u left right refl
+two_alone (DelayNode of by) two u j a c f = cc
+two_alone (HopNode of size period) two u j a c f = cc
+two_alone (DurationNode of by) two u j a c f = cc
+two_alone (ExtendNode of by) two u j a c f = cc
+two_alone (SessionNode of timeout key) two u j a c f = cc
+two_alone (ClipNode left right left_key right_key) two u j a c f = c left right left_key right_key refl
+two_alone (GroupNode of key aggs) two u j a c f = cc
+two_alone (JoinNode left right left_key right_key) two u j a c f = j left right left_key right_key refl
+two_alone (AntiNode left right left_key right_key) two u j a c f = a left right left_key right_key refl
+two_alone (Coalesce of) two u j a c f = cc
+two_alone (Mean of at) two u j a c f = cc
+two_alone (Top of key by count) two u j a c f = cc
+two_alone (Follow left right left_key right_key within) two u j a c f = f left right left_key right_key within refl
 
 -- a node that is not of rows has no expressions
 pub no_nodes_in : (n : Node) → is_of_rows n ≡ false → nodes_in n ≡ []
@@ -102,6 +104,7 @@ life_node : (change : Change) → is_of_rows (node_of change) ≡ false
 life_node (Delay by) = refl
 life_node (Hop size period) = refl
 life_node (Duration by) = refl
+life_node (MeanChange at) = refl
 
 -- so the stage of such a node keeps nothing
 pub rows_keep_nothing : (texts : List (List ℕ)) (capacity : ℕ) (left right : List CellKind) (n : Node) (s : Stage) (x y : ℕ) → IsReady texts capacity left right n s x y → is_of_rows n ≡ true → entries_in s ≡ 0
@@ -114,6 +117,9 @@ rows_keep_nothing texts capacity left right n (Group o) x y ready rows = absurd 
 rows_keep_nothing texts capacity left right n (Session o) x y ready rows = absurd (not_rows n _ ready.named refl rows)
 rows_keep_nothing texts capacity left right n (Anti o) x y ready rows = absurd (not_rows n _ ready.named refl rows)
 rows_keep_nothing texts capacity left right n (Clip o) x y ready rows = absurd (not_rows n _ ready.named refl rows)
+rows_keep_nothing texts capacity left right n (CoalesceStage o) x y ready rows = absurd (not_rows n _ ready.named refl rows)
+rows_keep_nothing texts capacity left right n (FollowStage o) x y ready rows = absurd (not_rows n _ ready.named refl rows)
+rows_keep_nothing texts capacity left right n (TopStage o) x y ready rows = absurd (not_rows n _ ready.named refl rows)
 
 -- what holds anyway holds after an Ok
 pub on_ok : {A E : Type 0} (r : Result A E) (P : Type 0) → P → OnOk r P

@@ -16,18 +16,20 @@ use Rattle.plan_model.specs.declared.node.Node.TheVariants.{Source}
 use Rattle.row_stage.proofs.MadeEdges.{by_node, made_more, made_longer, made_later, made_stand}
 use Rattle.row_stage.proofs.Nodes.{stage-more}
 use Rattle.dataflow.specs.declared.stage.Stage.{Stage}
-use Rattle.dataflow.specs.declared.stage.Stage.TheVariants.{Rows, Life, Union, Extend, Join, Group, Anti, Session, Clip}
+use Rattle.dataflow.specs.declared.stage.Stage.TheVariants.{Rows, Life, Union, Extend, Join, Group, Anti, Session, Clip, Coalesce, Follow, Top}
 use Rattle.life_laws.proofs.Lives.{lives_longer, lives_rows}
 use Rattle.life_laws.proofs.Unions.{union_longer, union_rows}
 use Rattle.life_laws.proofs.Extending.{extended_longer, extended_rows}
 use Rattle.std.specs.Prelude.{map}
 use Rattle.tw_rows.specs.Kinds.{cell_kind_of}
 use Rattle.sweep_sides.specs.Waiting.{queued}
-use Rattle.temporal_join.proofs.Resuming.{join_longer, join_stands}
 use Rattle.snapshot_agg.proofs.Standing.{group_longer, group_stands}
-use Rattle.anti_join.proofs.Resuming.{anti_longer, anti_stands}
-use Rattle.clip_op.proofs.Resuming.{clip_longer, clip_stands}
-use Rattle.session_window.proofs.Resuming.{session_longer, session_stands}
+use Rattle.session_window.proofs.Resuming.{session_tells}
+use Rattle.sweep_operator.proofs.Kept.{kept_longer, kept_stands}
+use Rattle.coalesce_op.proofs.Resuming.{coalesce_longer, coalesce_stands}
+use Rattle.follow_op.proofs.Resuming.{follow_longer, follow_stands}
+use Rattle.outer_top.proofs.Resuming.{top_longer, top_stands}
+use Rattle.outer_top.specs.TopKeys.{kept_rows}
 use Rattle.lifetime_ops.specs.Nodes.{node_of, known}
 use Rattle.lifetime_ops.specs.Waiting.{edges_of_pending}
 use Rattle.row_stage.specs.Made.{IsMade}
@@ -36,11 +38,11 @@ use Rattle.row_stage.specs.declared.row_stage.RowStage.{RowStage}
 use Rattle.lifetime_ops.specs.Operating.{standing as life_standing}
 use Rattle.lifetime_ops.specs.ExtendOperating.{standing as extend_standing}
 use Rattle.union_op.specs.Operating.{standing as union_standing}
-use Rattle.temporal_join.specs.Operating.{standing as join_standing}
 use Rattle.snapshot_agg.specs.Operating.{standing as group_standing}
-use Rattle.anti_join.specs.Operating.{standing as anti_standing}
-use Rattle.session_window.specs.Operating.{standing as session_standing}
-use Rattle.clip_op.specs.Operating.{standing as clip_standing}
+use Rattle.sweep_operator.specs.Operating.{standing as swept_standing}
+use Rattle.coalesce_op.specs.Operating.{standing as coalesce_standing}
+use Rattle.follow_op.specs.Operating.{standing as follow_standing}
+use Rattle.outer_top.specs.Operating.{standing as top_standing}
 use Rattle.dataflow.specs.Stages.{HasCome, MayComeUpTo, HasMade, IsReady, StageKeeps, first_undefined_read}
 use Rattle.dataflow.proofs.Operators.{operator_stands}
 
@@ -64,6 +66,9 @@ ready_longer texts more begins capacity left right n (Group o) x y ready = ready
 ready_longer texts more begins capacity left right n (Anti o) x y ready = ready
 ready_longer texts more begins capacity left right n (Clip o) x y ready = ready
 ready_longer texts more begins capacity left right n (Session o) x y ready = ready
+ready_longer texts more begins capacity left right n (Coalesce o) x y ready = ready
+ready_longer texts more begins capacity left right n (Follow o) x y ready = ready
+ready_longer texts more begins capacity left right n (Top o) x y ready = ready
 
 pub keeps_longer : (texts more : List (List ℕ)) → BeginsWith more texts → (capacity : ℕ) (left right : List CellKind) (n : Node) (s : Stage) (x y : ℕ) →
     IsReady texts capacity left right n s x y → (hl hr out : List Edge) → StageKeeps texts n s x y hl hr out → StageKeeps more n s x y hl hr out
@@ -74,11 +79,17 @@ keeps_longer texts more begins capacity left right n (Rows s) x y ready hl hr ou
 keeps_longer texts more begins capacity left right n (Life o) x y ready hl hr out kept = lives_longer (node_of o.change) more texts o.left_to o.right_to o.carried.edges hl hr out begins kept
 keeps_longer texts more begins capacity left right n (Union o) x y ready hl hr out kept = union_longer more texts o.left_to o.right_to o.left.edges o.right.edges hl hr out begins kept
 keeps_longer texts more begins capacity left right n (Extend o) x y ready hl hr out kept = extended_longer o.by more texts o.left_to o.right_to o.carried.edges (edges_of_pending o.ends) hl hr out begins kept
-keeps_longer texts more begins capacity left right n (Join o) x y ready hl hr out kept = join_longer o.sides.rows.left_key.items o.sides.rows.right_key.items (map cell_kind_of o.left_kinds.items) (map cell_kind_of o.right_kinds.items) more texts o.left_to o.right_to o.sides.rows.left.rows o.sides.rows.right.rows (queued o.sides.left_waiting) (queued o.sides.right_waiting) hl hr out begins kept
+keeps_longer texts more begins capacity left right n (Join o) x y ready hl hr out kept = kept_longer o more texts hl hr out begins kept
 keeps_longer texts more begins capacity left right n (Group o) x y ready hl hr out kept = group_longer o.groups.key.items o.groups.aggs.items (map cell_kind_of o.left_kinds.items) more texts o.groups.rows.rows o.running o.waiting o.left_to hl hr out begins kept
-keeps_longer texts more begins capacity left right n (Session o) x y ready hl hr out kept = session_longer o.side.sessions.rows.key o.side.sessions.timeout (map cell_kind_of o.kinds.items) o.positive more texts o.left_to o.side.sessions.rows.rows o.side.sessions.ends (queued o.side.waiting) hl hr out begins kept
-keeps_longer texts more begins capacity left right n (Anti o) x y ready hl hr out kept = anti_longer o.sides.rows.left_key.columns o.sides.rows.right_key.columns (map cell_kind_of o.left_kinds.items) (map cell_kind_of o.right_kinds.items) more texts o.left_to o.right_to o.sides.rows.left.rows o.sides.rows.right.rows o.sides.rows.times.rows (queued o.sides.left_waiting) (queued o.sides.right_waiting) hl hr out begins kept
-keeps_longer texts more begins capacity left right n (Clip o) x y ready hl hr out kept = clip_longer o.sides.rows.left.key o.sides.rows.right_key.columns (map cell_kind_of o.left_kinds.items) (map cell_kind_of o.right_kinds.items) more texts o.left_to o.right_to o.sides.rows.left.rows (queued o.sides.left_waiting) (queued o.sides.right_waiting) hl hr out begins kept
+keeps_longer texts more begins capacity left right n (Session o) x y ready hl hr out kept = kept_longer o more texts hl hr out begins kept
+keeps_longer texts more begins capacity left right n (Anti o) x y ready hl hr out kept = kept_longer o more texts hl hr out begins kept
+keeps_longer texts more begins capacity left right n (Clip o) x y ready hl hr out kept = kept_longer o more texts hl hr out begins kept
+keeps_longer texts more begins capacity left right n (Coalesce o) x y ready hl hr out kept = coalesce_longer (map cell_kind_of o.kinds.items) more texts o.left_to o.right_to o.side.queues (queued o.side.waiting) hl hr out begins kept
+keeps_longer texts more begins capacity left right n (Follow o) x y ready hl hr out kept =
+    follow_longer o.sides.rows.left.key o.sides.rows.right_key.columns o.sides.rows.within (map cell_kind_of o.left_kinds.items) (map cell_kind_of o.right_kinds.items) more texts o.left_to o.right_to
+    o.sides.rows.left.rows o.sides.rows.queue.items (queued o.sides.left_waiting) (queued o.sides.right_waiting) hl hr out begins kept
+keeps_longer texts more begins capacity left right n (Top o) x y ready hl hr out kept =
+    top_longer o.side.tops.key.columns o.side.tops.by o.side.tops.most (map cell_kind_of o.kinds.items) more texts o.left_to o.right_to (kept_rows o.side.tops.keys.entries) (queued o.side.waiting) o.side.queues hl hr out begins kept
 
 -- what it answered stands for the node
 pub stage_stands : (texts : List (List ℕ)) → AreDistinct texts → (capacity : ℕ) (left right : List CellKind) (n : Node) (s : Stage) (x y : ℕ) →
@@ -94,17 +105,22 @@ stage_stands texts distinct capacity left right n (Union o) x y ready hl hr out 
 stage_stands texts distinct capacity left right n (Extend o) x y ready hl hr out kept =
     operator_stands capacity left right n (extend_standing o) x y ready texts hl hr out (extended_rows o.by texts o.left_to o.right_to o.carried.edges (edges_of_pending o.ends) hl hr out distinct kept)
 stage_stands texts distinct capacity left right n (Join o) x y ready hl hr out kept =
-    operator_stands capacity left right n (join_standing o) x y ready texts hl hr out
-    (join_stands o.sides.rows.left_key.items o.sides.rows.right_key.items (map cell_kind_of o.left_kinds.items) (map cell_kind_of o.right_kinds.items) texts o.left_to o.right_to o.sides.rows.left.rows o.sides.rows.right.rows
-    (queued o.sides.left_waiting) (queued o.sides.right_waiting) hl hr out distinct kept)
+    operator_stands capacity left right n (swept_standing o) x y ready texts hl hr out (kept_stands o texts hl hr out refl distinct kept.kept.kept.told kept)
 stage_stands texts distinct capacity left right n (Group o) x y ready hl hr out kept =
     operator_stands capacity left right n (group_standing o) x y ready texts hl hr out (group_stands 0 o.groups.key.items o.groups.aggs.items (map cell_kind_of o.left_kinds.items) texts o.groups.rows.rows o.running o.waiting o.left_to hl hr out distinct kept)
 stage_stands texts distinct capacity left right n (Session o) x y ready hl hr out kept =
-    operator_stands capacity left right n (session_standing o) x y ready texts hl hr out (session_stands o.side.sessions.rows.key o.side.sessions.timeout (map cell_kind_of o.kinds.items) o.positive texts o.left_to o.side.sessions.rows.rows o.side.sessions.ends (queued o.side.waiting) hl hr out distinct kept)
+    operator_stands capacity left right n (swept_standing o) x y ready texts hl hr out (kept_stands o texts hl hr out refl distinct (session_tells o.sweep o.left_to hl hr out kept.kept) kept)
 stage_stands texts distinct capacity left right n (Anti o) x y ready hl hr out kept =
-    operator_stands capacity left right n (anti_standing o) x y ready texts hl hr out (anti_stands o.sides.rows.left_key.columns o.sides.rows.right_key.columns (map cell_kind_of o.left_kinds.items) (map cell_kind_of o.right_kinds.items) texts o.left_to o.right_to o.sides.rows.left.rows o.sides.rows.right.rows o.sides.rows.times.rows (queued o.sides.left_waiting) (queued o.sides.right_waiting) hl hr out distinct kept)
+    operator_stands capacity left right n (swept_standing o) x y ready texts hl hr out (kept_stands o texts hl hr out refl distinct kept.kept.kept.told kept)
 stage_stands texts distinct capacity left right n (Clip o) x y ready hl hr out kept =
-    operator_stands capacity left right n (clip_standing o) x y ready texts hl hr out (clip_stands o.sides.rows.left.key o.sides.rows.right_key.columns (map cell_kind_of o.left_kinds.items) (map cell_kind_of o.right_kinds.items) texts o.left_to o.right_to o.sides.rows.left.rows (queued o.sides.left_waiting) (queued o.sides.right_waiting) hl hr out distinct kept)
+    operator_stands capacity left right n (swept_standing o) x y ready texts hl hr out (kept_stands o texts hl hr out refl distinct kept.kept.kept.told kept)
+stage_stands texts distinct capacity left right n (Coalesce o) x y ready hl hr out kept =
+    operator_stands capacity left right n (coalesce_standing o) x y ready texts hl hr out (coalesce_stands (map cell_kind_of o.kinds.items) texts o.left_to o.right_to o.side.queues (queued o.side.waiting) hl hr out distinct kept)
+stage_stands texts distinct capacity left right n (Follow o) x y ready hl hr out kept =
+    operator_stands capacity left right n (follow_standing o) x y ready texts hl hr out (follow_stands o.sides.rows.left.key o.sides.rows.right_key.columns o.sides.rows.within (map cell_kind_of o.left_kinds.items) (map cell_kind_of o.right_kinds.items) texts o.left_to o.right_to
+    o.sides.rows.left.rows o.sides.rows.queue.items (queued o.sides.left_waiting) (queued o.sides.right_waiting) hl hr out distinct kept)
+stage_stands texts distinct capacity left right n (Top o) x y ready hl hr out kept =
+    operator_stands capacity left right n (top_standing o) x y ready texts hl hr out (top_stands o.side.tops.key.columns o.side.tops.by o.side.tops.most (map cell_kind_of o.kinds.items) texts o.left_to o.right_to (kept_rows o.side.tops.keys.entries) (queued o.side.waiting) o.side.queues hl hr out distinct kept)
 
 -- and all places in it are in the table
 pub keeps_placed : (texts : List (List ℕ)) → AreDistinct texts → (capacity : ℕ) (left right : List CellKind) (n : Node) (s : Stage) (x y : ℕ) → IsReady texts capacity left right n s x y →

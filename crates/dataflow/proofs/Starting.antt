@@ -1,49 +1,57 @@
 -- Stages as they are made.
-use Rattle.std.specs.Prelude.{◌≡◌, ℕ, zero, suc, ◌<◌, ◌≤◌, false, Some, List, [], ◌∷◌, map, length, get_or, slice_get, slice_index_or, All}
+use Rattle.std.specs.Prelude.{◌≡◌, ℕ, zero, suc, ◌<◌, ◌≤◌, true, false, Some, List, [], ◌∷◌, map, length, get_or, slice_get, slice_index_or, All}
 use Rattle.std.proofs.Common.{refl, sym, ap, subst, ◌∙◌, arith}
 use Rattle.std.proofs.lemmas.List.{length-map}
 use Rattle.std.proofs.lemmas.List.Elements.{All-head, All-tail}
 use Rattle.std.proofs.lemmas.Option.{slice_get-get_or, slice_get_within}
 use Rattle.tw_rows.specs.Kinds.{cell_kind_of}
 use Rattle.tw_rows.specs.declared.kind.Kind.{Kind}
+use Rattle.tw_rows.specs.declared.kind.CellKind.{CellKind}
+use Rattle.tw_rows.specs.declared.kind.CellKind.TheVariants.{Whole}
 use Rattle.tw_rows.specs.declared.schema.StreamDef.{StreamDef}
 use Rattle.edge_stream.specs.Listing.{EdgeListView, cells_of}
 use Rattle.plan_model.specs.declared.node.Node.{Node}
-use Rattle.plan_model.specs.declared.node.Node.TheVariants.{Source, Union as UnionNode, Extend as ExtendNode, Session as SessionNode, Clip as ClipNode, Group as GroupNode, Join as JoinNode, Anti as AntiNode}
-use Rattle.plan_model.specs.IsPlan.{PlanParts, IsPlan, kinds_at, kinds_of_schema, kinds_of_stream, node_kinds}
+use Rattle.plan_model.specs.declared.node.Node.TheVariants.{Source, Union as UnionNode, Extend as ExtendNode, Session as SessionNode, Clip as ClipNode, Group as GroupNode, Join as JoinNode, Anti as AntiNode, Coalesce as CoalesceNode, Follow as FollowNode, Top as TopNode}
+use Rattle.plan_model.specs.IsPlan.{PlanParts, IsPlan, IsSoundOver, kinds_at, kinds_of_schema, kinds_of_stream, node_kinds}
 use Rattle.plan_model.specs.Shape.{Shape, Stream, One, Two, shape, left_in, read_left, HasLower}
 use Rattle.life_laws.proofs.Lives.{lives_opening}
 use Rattle.life_laws.proofs.Unions.{union_opening}
 use Rattle.life_laws.proofs.Extending.{extended_opening}
-use Rattle.lifetime_ops.specs.Nodes.{node_of}
+use Rattle.lifetime_ops.specs.Nodes.{node_of, answer_kinds, divides_ints}
 use Rattle.lifetime_ops.specs.declared.change.Change.{Change}
-use Rattle.lifetime_ops.specs.declared.change.Change.TheVariants.{Delay, Hop, Duration}
+use Rattle.lifetime_ops.specs.declared.change.Change.TheVariants.{Delay, Hop, Duration, Mean}
 use Rattle.lifetime_ops.specs.declared.alter_lifetime.AlterLifetime.{AlterLifetime}
 use Rattle.union_op.specs.declared.union.Union.{Union as UnionOperator}
 use Rattle.lifetime_ops.specs.Waiting.{edges_of_pending}
 use Rattle.lifetime_ops.specs.declared.extend.ExtendLifetime.{ExtendLifetime}
 use Rattle.plan_model.specs.Keys.{paired_row}
-use Rattle.temporal_join.specs.States.{IsOpening as IsJoinOpening}
-use Rattle.temporal_join.specs.declared.join.Join.{Join as JoinOperator}
 use Rattle.temporal_join.proofs.Answering.{pair_mapped}
-use Rattle.temporal_join.proofs.Resuming.{join_opening}
 use Rattle.plan_model.specs.declared.agg.Agg.{Agg}
 use Rattle.snapshot_agg.specs.Answering.{group_kinds}
 use Rattle.snapshot_agg.specs.Keeping.{IsOpening}
 use Rattle.snapshot_agg.specs.declared.grouped.Grouped.{Grouped}
 use Rattle.snapshot_agg.proofs.Standing.{group_opening}
-use Rattle.anti_join.specs.States.{IsOpening as IsAntiOpening}
-use Rattle.clip_op.specs.States.{IsOpening as IsClipOpening}
-use Rattle.anti_join.specs.declared.anti.Anti.{Anti as AntiOperator}
-use Rattle.clip_op.specs.declared.clip.Clip.{Clip as ClipOperator}
-use Rattle.anti_join.proofs.Resuming.{anti_opening}
-use Rattle.clip_op.proofs.Resuming.{clip_opening}
-use Rattle.session_window.specs.States.{IsOpening as IsSessionOpening}
-use Rattle.session_window.specs.declared.session.Session.{Session as SessionOperator}
-use Rattle.session_window.proofs.Resuming.{session_opening}
-use Rattle.dataflow.specs.declared.stage.Stage.TheVariants.{Life, Union, Extend, Join, Group, Anti, Session, Clip}
-use Rattle.dataflow.specs.Operating.{MeanAlike, over_two}
-use Rattle.dataflow.specs.Stages.{left_kinds, right_kinds, changing, StartsFor}
+use Rattle.coalesce_op.specs.States.{IsOpening as IsCoalesceOpening}
+use Rattle.coalesce_op.specs.declared.coalesce.Coalesce.{Coalesce as CoalesceOperator}
+use Rattle.coalesce_op.proofs.Resuming.{coalesce_opening}
+use Rattle.follow_op.specs.Operating.{IsNew as IsFollowNew}
+use Rattle.follow_op.specs.declared.follow.Follow.{Follow as FollowOperator}
+use Rattle.follow_op.proofs.Resuming.{follow_opening}
+use Rattle.outer_top.specs.Operating.{IsNew as IsTopNew}
+use Rattle.outer_top.specs.TopKeys.{kept_rows}
+use Rattle.outer_top.specs.declared.top.Top.{Top as TopOperator}
+use Rattle.outer_top.proofs.Resuming.{top_opening}
+use Rattle.sweep_operator.specs.declared.sweep.Sweep.{Ghosts}
+use Rattle.sweep_operator.specs.declared.swept.Swept.{Swept}
+use Rattle.sweep_operator.specs.Operating.{standing as swept_standing, IsNew as IsSweptNew, IsKept as IsSweptKept}
+use Rattle.sweep_operator.specs.Sweepers.{new_standing}
+use Rattle.sweep_operator.proofs.Kept.{kept_first}
+use Rattle.dataflow.specs.declared.stage.Stage.{Stage}
+use Rattle.dataflow.specs.declared.stage.Stage.TheVariants.{Life, Union, Extend, Group, Coalesce, Follow, Top}
+use Rattle.plan_model.specs.Meaning.{node_closes}
+use Rattle.dataflow.specs.Operating.{CanOperate, MeanAlike, over_two}
+use Rattle.dataflow.specs.Stages.{left_kinds, right_kinds, changing, StandsAsMade, StartsFor}
+use Rattle.dataflow.proofs.Variants.{IsVariant}
 
 -- no stream has more columns than a plan may have
 abbrev IsNarrow : StreamDef → Type 0
@@ -88,16 +96,38 @@ changes_alike : (of : ℕ) (change : Change) → MeanAlike (changing of change) 
 changes_alike of (Delay by) = record { events = λ l r. refl; closes = λ x y. refl; undefined = λ rows. refl; held = λ x y hl hr. refl }
 changes_alike of (Hop size period) = record { events = λ l r. refl; closes = λ x y. refl; undefined = λ rows. refl; held = λ x y hl hr. refl }
 changes_alike of (Duration by) = record { events = λ l r. refl; closes = λ x y. refl; undefined = λ rows. refl; held = λ x y hl hr. refl }
+changes_alike of (Mean at) = record { events = λ l r. refl; closes = λ x y. refl; undefined = λ rows. refl; held = λ x y hl hr. refl }
 
 changes_named : (of : ℕ) (change : Change) → node_of change ≡ over_two (changing of change)
 changes_named of (Delay by) = refl
 changes_named of (Hop size period) = refl
 changes_named of (Duration by) = refl
+changes_named of (Mean at) = refl
 
 changes_right : (plan : PlanParts) (of : ℕ) (change : Change) → [] ≡ right_kinds plan (changing of change)
 changes_right plan of (Delay by) = refl
 changes_right plan of (Hop size period) = refl
 changes_right plan of (Duration by) = refl
+changes_right plan of (Mean at) = refl
+
+-- a plan's mean divides ints
+sums_are_ints : (kinds : List CellKind) (at : List ℕ) → All (λ column. slice_get kinds column ≡ Some Whole) at → divides_ints (Mean at) kinds ≡ true
+sums_are_ints kinds [] all = refl
+sums_are_ints kinds (k ∷ ks) all =
+    let here = All-head (λ column. slice_get kinds column ≡ Some Whole) k ks all in
+    let rest = sums_are_ints kinds ks (All-tail (λ column. slice_get kinds column ≡ Some Whole) k ks all) in
+    rw here rest
+
+changes_divide : (of : ℕ) (change : Change) (l r : List CellKind) → IsSoundOver (changing of change) l r → divides_ints change l ≡ true
+changes_divide of (Delay by) l r sound = refl
+changes_divide of (Hop size period) l r sound = refl
+changes_divide of (Duration by) l r sound = refl
+changes_divide of (Mean at) l r sound = sums_are_ints l at sound.whole
+
+pub change_divides : (plan : PlanParts) → IsPlan plan → (i of : ℕ) (change : Change) → slice_get plan.nodes i ≡ Some (changing of change) →
+    divides_ints change (left_kinds plan (changing of change)) ≡ true
+change_divides plan whole i of change there =
+    changes_divide of change (left_kinds plan (changing of change)) (right_kinds plan (changing of change)) (whole.nodes_are.each i (changing of change) there).sound
 
 module _ (plan : PlanParts) (capacity : ℕ) (kinds : List Kind) (texts : List (List ℕ)) where
   pub life_starts : (of : ℕ) (change : Change) (o : AlterLifetime) → o.change ≡ change → o.carried ≡ fresh_list kinds capacity → o.left_to ≡ 0 → o.right_to ≡ 0 → o.failed ≡ false →
@@ -111,17 +141,18 @@ module _ (plan : PlanParts) (capacity : ℕ) (kinds : List Kind) (texts : List (
       right_closed = right_to;
       left_kinds = ap cells_of carried ∙ read;
       right_kinds = changes_right plan of change;
-      own_kinds = ap cells_of carried ∙ read ∙ own of change;
+      own_kinds = ap (λ k. answer_kinds k (cells_of o.carried)) same ∙ ap (answer_kinds change) (ap cells_of carried ∙ read) ∙ own of change;
       batch_rows = ap (λ l. l.capacity) carried;
     };
     opens = lives_opening (node_of o.change) texts o.left_to o.right_to o.carried.edges (ap (λ l. l.edges) carried) left_to right_to;
     made = record { empty = ap (λ l. l.edges) carried; left = left_to; right = right_to; works = works };
   }
     where
-      own : (of : ℕ) (change : Change) → left_kinds plan (changing of change) ≡ node_kinds (changing of change) (left_kinds plan (changing of change)) (right_kinds plan (changing of change))
+      own : (of : ℕ) (change : Change) → answer_kinds change (left_kinds plan (changing of change)) ≡ node_kinds (changing of change) (left_kinds plan (changing of change)) (right_kinds plan (changing of change))
       own of (Delay by) = refl
       own of (Hop size period) = refl
       own of (Duration by) = refl
+      own of (Mean at) = refl
 
   pub extend_starts : (of by : ℕ) (o : ExtendLifetime) → o.by ≡ by → o.carried ≡ fresh_list kinds capacity → o.ends ≡ [] → o.left_to ≡ 0 → o.right_to ≡ 0 → o.failed ≡ false →
       map cell_kind_of kinds ≡ left_kinds plan (ExtendNode of by) → StartsFor texts capacity plan (ExtendNode of by) (Extend o)
@@ -183,7 +214,7 @@ join_right plan whole i left right left_key right_key there =
     let low = slice_get_within plan.nodes i (JoinNode left right left_key right_key) there in
     omega (arith, lower, low)
 
-join_kinds : (plan : PlanParts) (left right : ℕ) (left_key right_key : List ℕ) (l r : List Kind) → map cell_kind_of l ≡ left_kinds plan (JoinNode left right left_key right_key) → map cell_kind_of r ≡ kinds_at plan.schemas right →
+pub join_kinds : (plan : PlanParts) (left right : ℕ) (left_key right_key : List ℕ) (l r : List Kind) → map cell_kind_of l ≡ left_kinds plan (JoinNode left right left_key right_key) → map cell_kind_of r ≡ kinds_at plan.schemas right →
     map cell_kind_of (paired_row right_key l r) ≡ node_kinds (JoinNode left right left_key right_key) (left_kinds plan (JoinNode left right left_key right_key)) (right_kinds plan (JoinNode left right left_key right_key))
 join_kinds plan left right left_key right_key l r read told = sym (pair_mapped cell_kind_of right_key l r) ∙ (λ i. paired_row right_key (read i) (told i))
 
@@ -192,31 +223,6 @@ pub join_narrow : (plan : PlanParts) → IsPlan plan → (i left right : ℕ) (l
 join_narrow plan whole i left right left_key right_key there l r read told =
     told_narrow plan whole i (slice_get_within plan.nodes i (JoinNode left right left_key right_key) there) (paired_row right_key l r)
     (join_kinds plan left right left_key right_key l r read told ∙ sym (own_kinds_are plan whole i (JoinNode left right left_key right_key) there))
-
-join_alike : (left right : ℕ) (left_key right_key : List ℕ) → MeanAlike (JoinNode left right left_key right_key) (JoinNode 0 1 left_key right_key)
-join_alike left right left_key right_key = record { events = λ l r. refl; closes = λ x y. refl; undefined = λ rows. refl; held = λ x y hl hr. refl }
-
-pub join_starts : (plan : PlanParts) (capacity : ℕ) (l r : List Kind) (texts : List (List ℕ)) (left right : ℕ) (left_key right_key : List ℕ) (o : JoinOperator) →
-    o.sides.rows.left_key.items ≡ left_key → o.sides.rows.right_key.items ≡ right_key → o.left_kinds.items ≡ l → o.right_kinds.items ≡ r → o.own_kinds.items ≡ paired_row right_key l r → o.capacity ≡ capacity →
-    IsJoinOpening o.sides.rows.left.rows o.sides.rows.right.rows o.sides.left_waiting o.sides.right_waiting o.left_to o.right_to o.failed →
-    map cell_kind_of l ≡ left_kinds plan (JoinNode left right left_key right_key) → map cell_kind_of r ≡ kinds_at plan.schemas right → StartsFor texts capacity plan (JoinNode left right left_key right_key) (Join o)
-join_starts plan capacity l r texts left right left_key right_key o same_left same_right left_like right_like own_like rows opening read told = record {
-  ready = record {
-    node = subst (λ k. MeanAlike (JoinNode left right left_key right_key) (JoinNode 0 1 k o.sides.rows.right_key.items)) (sym same_left)
-        (subst (λ k. MeanAlike (JoinNode left right left_key right_key) (JoinNode 0 1 left_key k)) (sym same_right) (join_alike left right left_key right_key));
-    named = λ i. JoinNode 0 1 (same_left i) (same_right i);
-    works = opening.works;
-    left_closed = opening.left_open;
-    right_closed = opening.right_open;
-    left_kinds = ap (map cell_kind_of) left_like ∙ read;
-    right_kinds = ap (map cell_kind_of) right_like ∙ told;
-    own_kinds = ap (map cell_kind_of) own_like ∙ join_kinds plan left right left_key right_key l r read told;
-    batch_rows = rows;
-  };
-  opens = join_opening o.sides.rows.left_key.items o.sides.rows.right_key.items (map cell_kind_of o.left_kinds.items) (map cell_kind_of o.right_kinds.items) texts o.left_to o.right_to o.sides.rows.left.rows o.sides.rows.right.rows
-      o.sides.left_waiting o.sides.right_waiting opening.left_empty opening.right_empty opening.none_left opening.none_right opening.left_open opening.right_open;
-  made = opening;
-}
 
 -- the columns of a group follow from those of its child
 pub group_like : (plan : PlanParts) → IsPlan plan → (i of : ℕ) (key : List ℕ) (aggs : List Agg) → slice_get plan.nodes i ≡ Some (GroupNode of key aggs) → (l own : List Kind) →
@@ -253,58 +259,9 @@ anti_right plan whole i left right left_key right_key there =
     let low = slice_get_within plan.nodes i (AntiNode left right left_key right_key) there in
     omega (arith, lower, low)
 
-anti_alike : (left right : ℕ) (left_key right_key : List ℕ) → MeanAlike (AntiNode left right left_key right_key) (AntiNode 0 1 left_key right_key)
-anti_alike left right left_key right_key = record { events = λ l r. refl; closes = λ x y. refl; undefined = λ rows. refl; held = λ x y hl hr. refl }
-
-pub anti_starts : (plan : PlanParts) (capacity : ℕ) (l r : List Kind) (texts : List (List ℕ)) (left right : ℕ) (left_key right_key : List ℕ) (o : AntiOperator) →
-    o.sides.rows.left_key.columns ≡ left_key → o.sides.rows.right_key.columns ≡ right_key → o.left_kinds.items ≡ l → o.right_kinds.items ≡ r → o.capacity ≡ capacity →
-    IsAntiOpening o.sides.rows.left.rows o.sides.rows.right.rows o.sides.rows.times.rows o.sides.left_waiting o.sides.right_waiting o.left_to o.right_to o.failed →
-    map cell_kind_of l ≡ left_kinds plan (AntiNode left right left_key right_key) → map cell_kind_of r ≡ kinds_at plan.schemas right → StartsFor texts capacity plan (AntiNode left right left_key right_key) (Anti o)
-anti_starts plan capacity l r texts left right left_key right_key o same_left same_right left_like right_like rows opening read told = record {
-  ready = record {
-    node = subst (λ k. MeanAlike (AntiNode left right left_key right_key) (AntiNode 0 1 k o.sides.rows.right_key.columns)) (sym same_left)
-        (subst (λ k. MeanAlike (AntiNode left right left_key right_key) (AntiNode 0 1 left_key k)) (sym same_right) (anti_alike left right left_key right_key));
-    named = λ i. AntiNode 0 1 (same_left i) (same_right i);
-    works = opening.works;
-    left_closed = opening.left_open;
-    right_closed = opening.right_open;
-    left_kinds = ap (map cell_kind_of) left_like ∙ read;
-    right_kinds = ap (map cell_kind_of) right_like ∙ told;
-    own_kinds = ap (map cell_kind_of) left_like ∙ read;
-    batch_rows = rows;
-  };
-  opens = anti_opening o.sides.rows.left_key.columns o.sides.rows.right_key.columns (map cell_kind_of o.left_kinds.items) (map cell_kind_of o.right_kinds.items) texts o.left_to o.right_to o.sides.rows.left.rows o.sides.rows.right.rows o.sides.rows.times.rows
-      o.sides.left_waiting o.sides.right_waiting opening.left_empty opening.right_empty opening.times_empty opening.none_left opening.none_right opening.left_open opening.right_open;
-  made = opening;
-}
-
 -- the timeout of a session of a plan is at least 1
 pub session_lasts : (plan : PlanParts) → IsPlan plan → (i of timeout : ℕ) (key : List ℕ) → slice_get plan.nodes i ≡ Some (SessionNode of timeout key) → 1 ≤ timeout
 session_lasts plan whole i of timeout key there = (whole.nodes_are.each i (SessionNode of timeout key) there).sound.0
-
-session_alike : (of timeout : ℕ) (key : List ℕ) → MeanAlike (SessionNode of timeout key) (SessionNode 0 timeout key)
-session_alike of timeout key = record { events = λ l r. refl; closes = λ x y. refl; undefined = λ rows. refl; held = λ x y hl hr. refl }
-
-pub session_starts : (plan : PlanParts) (capacity : ℕ) (l : List Kind) (texts : List (List ℕ)) (of timeout : ℕ) (key : List ℕ) (o : SessionOperator) →
-    o.side.sessions.rows.key ≡ key → o.side.sessions.timeout ≡ timeout → o.kinds.items ≡ l → o.capacity ≡ capacity →
-    IsSessionOpening o.side.sessions.rows.rows o.side.sessions.ends o.side.waiting o.left_to o.right_to o.failed →
-    map cell_kind_of l ≡ left_kinds plan (SessionNode of timeout key) → StartsFor texts capacity plan (SessionNode of timeout key) (Session o)
-session_starts plan capacity l texts of timeout key o same_key same_timeout like rows opening read = record {
-  ready = record {
-    node = subst (λ k. MeanAlike (SessionNode of timeout key) (SessionNode 0 o.side.sessions.timeout k)) (sym same_key)
-        (subst (λ n. MeanAlike (SessionNode of timeout key) (SessionNode 0 n key)) (sym same_timeout) (session_alike of timeout key));
-    named = λ i. SessionNode 0 (same_timeout i) (same_key i);
-    works = opening.works;
-    left_closed = opening.left;
-    right_closed = opening.right;
-    left_kinds = ap (map cell_kind_of) like ∙ read;
-    right_kinds = refl;
-    own_kinds = ap (map cell_kind_of) like ∙ read;
-    batch_rows = rows;
-  };
-  opens = session_opening o.side.sessions.rows.key o.side.sessions.timeout (map cell_kind_of o.kinds.items) o.positive texts o.side.sessions.rows.rows o.side.sessions.ends o.side.waiting o.left_to o.right_to o.failed opening;
-  made = opening;
-}
 
 -- the right child of a clip is a node of the plan
 pub clip_right : (plan : PlanParts) → IsPlan plan → (i left right : ℕ) (left_key right_key : List ℕ) → slice_get plan.nodes i ≡ Some (ClipNode left right left_key right_key) → right < length plan.nodes
@@ -313,27 +270,107 @@ clip_right plan whole i left right left_key right_key there =
     let low = slice_get_within plan.nodes i (ClipNode left right left_key right_key) there in
     omega (arith, lower, low)
 
-clip_alike : (left right : ℕ) (left_key right_key : List ℕ) → MeanAlike (ClipNode left right left_key right_key) (ClipNode 0 1 left_key right_key)
-clip_alike left right left_key right_key = record { events = λ l r. refl; closes = λ x y. refl; undefined = λ rows. refl; held = λ x y hl hr. refl }
+-- a swept operator as it is made, of a node that means the same over the children 0 and 1
+pub swept_starts : {S : Type 0} {g : Ghosts S} (stage : Swept S g → Stage) → IsVariant stage swept_standing IsSweptKept → ((o : Swept S g) → IsSweptNew o → StandsAsMade (stage o)) →
+    (plan : PlanParts) (capacity : ℕ) (texts : List (List ℕ)) (n m : Node) (l r own : List Kind) (o : Swept S g) → swept_standing o ≡ new_standing m l r own capacity → IsSweptNew o →
+    g.keeps o.sweep (node_closes (g.node o.sweep) 0 0) [] [] [] → MeanAlike n m → m ≡ over_two n →
+    map cell_kind_of l ≡ left_kinds plan n → map cell_kind_of r ≡ right_kinds plan n → map cell_kind_of own ≡ node_kinds n (left_kinds plan n) (right_kinds plan n) →
+    StartsFor texts capacity plan n (stage o)
+swept_starts stage is made plan capacity texts n m l r own o stands new keeps alike named on_left on_right on_own = record {
+  ready = is.ready texts capacity (left_kinds plan n) (right_kinds plan n) n o 0 0 (subst (λ s. CanOperate capacity (left_kinds plan n) (right_kinds plan n) n s 0 0) (sym stands) (record {
+    node = alike;
+    named = named;
+    works = refl;
+    left_closed = refl;
+    right_closed = refl;
+    left_kinds = on_left;
+    right_kinds = on_right;
+    own_kinds = on_own;
+    batch_rows = refl;
+  }));
+  opens = is.keeps texts n o 0 0 [] [] [] (kept_first o texts new keeps);
+  made = made o new;
+}
 
-pub clip_starts : (plan : PlanParts) (capacity : ℕ) (l r : List Kind) (texts : List (List ℕ)) (left right : ℕ) (left_key right_key : List ℕ) (o : ClipOperator) →
-    o.sides.rows.left.key ≡ left_key → o.sides.rows.right_key.columns ≡ right_key → o.left_kinds.items ≡ l → o.right_kinds.items ≡ r → o.capacity ≡ capacity →
-    IsClipOpening o.sides.rows.left.rows o.sides.left_waiting o.sides.right_waiting o.left_to o.right_to o.failed →
-    map cell_kind_of l ≡ left_kinds plan (ClipNode left right left_key right_key) → map cell_kind_of r ≡ kinds_at plan.schemas right → StartsFor texts capacity plan (ClipNode left right left_key right_key) (Clip o)
-clip_starts plan capacity l r texts left right left_key right_key o same_left same_right left_like right_like rows opening read told = record {
+pub coalesce_starts : (plan : PlanParts) (capacity : ℕ) (l : List Kind) (texts : List (List ℕ)) (of : ℕ) (o : CoalesceOperator) → o.kinds.items ≡ l → o.capacity ≡ capacity →
+    IsCoalesceOpening o.side.queues o.side.waiting o.left_to o.right_to o.failed →
+    map cell_kind_of l ≡ left_kinds plan (CoalesceNode of) → StartsFor texts capacity plan (CoalesceNode of) (Coalesce o)
+coalesce_starts plan capacity l texts of o like rows opening read = record {
   ready = record {
-    node = subst (λ k. MeanAlike (ClipNode left right left_key right_key) (ClipNode 0 1 k o.sides.rows.right_key.columns)) (sym same_left)
-        (subst (λ k. MeanAlike (ClipNode left right left_key right_key) (ClipNode 0 1 left_key k)) (sym same_right) (clip_alike left right left_key right_key));
-    named = λ i. ClipNode 0 1 (same_left i) (same_right i);
+    node = record { events = λ l r. refl; closes = λ x y. refl; undefined = λ rows. refl; held = λ x y hl hr. refl };
+    named = refl;
+    works = opening.works;
+    left_closed = opening.left;
+    right_closed = opening.right;
+    left_kinds = ap (map cell_kind_of) like ∙ read;
+    right_kinds = refl;
+    own_kinds = ap (map cell_kind_of) like ∙ read;
+    batch_rows = rows;
+  };
+  opens = coalesce_opening (map cell_kind_of o.kinds.items) texts o.side.queues o.side.waiting o.left_to o.right_to o.failed opening;
+  made = opening;
+}
+
+-- the right child of a follow is a node of the plan, the follow is not too wide, and its time is at least 1
+module _ (plan : PlanParts) (whole : IsPlan plan) (i left right : ℕ) (left_key right_key : List ℕ) (within : ℕ) (there : slice_get plan.nodes i ≡ Some (FollowNode left right left_key right_key within)) where
+  pub follow_right : right < length plan.nodes
+  follow_right =
+      let lower : right < i = (whole.nodes_are.each i (FollowNode left right left_key right_key within) there).right_lower in
+      let low = slice_get_within plan.nodes i (FollowNode left right left_key right_key within) there in
+      omega (arith, lower, low)
+
+  pub follow_lasts : 1 ≤ within
+  follow_lasts = (whole.nodes_are.each i (FollowNode left right left_key right_key within) there).sound.0
+
+  pub follow_narrow : (l r : List Kind) → map cell_kind_of l ≡ left_kinds plan (FollowNode left right left_key right_key within) → map cell_kind_of r ≡ kinds_at plan.schemas right →
+      length (paired_row right_key l r) ≤ 32
+  follow_narrow l r read told =
+      told_narrow plan whole i (slice_get_within plan.nodes i (FollowNode left right left_key right_key within) there) (paired_row right_key l r)
+      (join_kinds plan left right left_key right_key l r read told ∙ sym (own_kinds_are plan whole i (FollowNode left right left_key right_key within) there))
+
+pub follow_starts : (plan : PlanParts) (capacity : ℕ) (l r : List Kind) (texts : List (List ℕ)) (left right : ℕ) (left_key right_key : List ℕ) (within : ℕ) (o : FollowOperator) →
+    o.sides.rows.left.key ≡ left_key → o.sides.rows.right_key.columns ≡ right_key → o.sides.rows.within ≡ within → o.left_kinds.items ≡ l → o.right_kinds.items ≡ r →
+    o.own_kinds.items ≡ paired_row right_key l r → o.capacity ≡ capacity → IsFollowNew o →
+    map cell_kind_of l ≡ left_kinds plan (FollowNode left right left_key right_key within) → map cell_kind_of r ≡ kinds_at plan.schemas right →
+    StartsFor texts capacity plan (FollowNode left right left_key right_key within) (Follow o)
+follow_starts plan capacity l r texts left right left_key right_key within o same_left same_right same_within left_like right_like own_like rows opening read told = record {
+  ready = record {
+    node = subst (MeanAlike (FollowNode left right left_key right_key within)) (sym (λ j. FollowNode 0 1 (same_left j) (same_right j) (same_within j)))
+        (record { events = λ a b. refl; closes = λ x y. refl; undefined = λ rows. refl; held = λ x y hl hr. refl });
+    named = λ j. FollowNode 0 1 (same_left j) (same_right j) (same_within j);
     works = opening.works;
     left_closed = opening.left_open;
     right_closed = opening.right_open;
     left_kinds = ap (map cell_kind_of) left_like ∙ read;
     right_kinds = ap (map cell_kind_of) right_like ∙ told;
-    own_kinds = ap (map cell_kind_of) left_like ∙ read;
+    own_kinds = ap (map cell_kind_of) own_like ∙ join_kinds plan left right left_key right_key l r read told;
     batch_rows = rows;
   };
-  opens = clip_opening o.sides.rows.left.key o.sides.rows.right_key.columns (map cell_kind_of o.left_kinds.items) (map cell_kind_of o.right_kinds.items) texts o.left_to o.right_to o.sides.rows.left.rows
-      o.sides.left_waiting o.sides.right_waiting opening.left_empty opening.none_left opening.none_right opening.left_open opening.right_open;
+  opens = follow_opening o.sides.rows.left.key o.sides.rows.right_key.columns o.sides.rows.within (map cell_kind_of o.left_kinds.items) (map cell_kind_of o.right_kinds.items) texts o.left_to o.right_to
+      o.sides.rows.left.rows o.sides.rows.queue.items o.sides.left_waiting o.sides.right_waiting o.failed opening;
+  made = opening;
+}
+
+-- a top of a plan shows at least one row
+pub top_shows : (plan : PlanParts) → IsPlan plan → (i of : ℕ) (key : List ℕ) (by count : ℕ) → slice_get plan.nodes i ≡ Some (TopNode of key by count) → 1 ≤ count
+top_shows plan whole i of key by count there = (whole.nodes_are.each i (TopNode of key by count) there).sound.some
+
+pub top_starts : (plan : PlanParts) (capacity : ℕ) (l : List Kind) (texts : List (List ℕ)) (of : ℕ) (key : List ℕ) (by count : ℕ) (o : TopOperator) →
+    o.side.tops.key.columns ≡ key → o.side.tops.by ≡ by → o.side.tops.most ≡ count → o.kinds.items ≡ l → o.capacity ≡ capacity → IsTopNew o →
+    map cell_kind_of l ≡ left_kinds plan (TopNode of key by count) → StartsFor texts capacity plan (TopNode of key by count) (Top o)
+top_starts plan capacity l texts of key by count o same_key same_by same_most like rows opening read = record {
+  ready = record {
+    node = subst (MeanAlike (TopNode of key by count)) (sym (λ j. TopNode 0 (same_key j) (same_by j) (same_most j)))
+        (record { events = λ a b. refl; closes = λ x y. refl; undefined = λ rows. refl; held = λ x y hl hr. refl });
+    named = λ j. TopNode 0 (same_key j) (same_by j) (same_most j);
+    works = opening.works;
+    left_closed = opening.left;
+    right_closed = opening.right;
+    left_kinds = ap (map cell_kind_of) like ∙ read;
+    right_kinds = refl;
+    own_kinds = ap (map cell_kind_of) like ∙ read;
+    batch_rows = rows;
+  };
+  opens = top_opening o.side.tops.key.columns o.side.tops.by o.side.tops.most (map cell_kind_of o.kinds.items) texts (kept_rows o.side.tops.keys.entries) o.side.waiting o.side.queues o.left_to o.right_to o.failed opening;
   made = opening;
 }

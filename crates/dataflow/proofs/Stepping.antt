@@ -146,8 +146,8 @@ module _ (texts : List (List ℕ)) (plan : PlanParts) (last p : ℕ) (later : la
   pub can_again : CanStep texts p (parts_of plan after capacity thawed)
   can_again = record {
     count = long ∙ can.count;
+    fine = refl;
     room = can.room;
-    built = can.built;
     ready = λ j m s at here.
         subst (λ x. IsReady texts capacity (left_kinds plan m) (right_kinds plan m) m s x (reached p (right_closing plan.nodes p m))) (sym (reached_after last p (left_closing plan.nodes p m) later))
         (subst (λ y. IsReady texts capacity (left_kinds plan m) (right_kinds plan m) m s (left_closing plan.nodes p m) y) (sym (reached_after last p (right_closing plan.nodes p m) later))

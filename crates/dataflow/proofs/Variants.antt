@@ -12,13 +12,13 @@ use Rattle.operator.specs.Standing.{Standing, Keeping, may_keep}
 use Rattle.lifetime_ops.specs.Operating.{standing as life_standing, IsKept as IsLifeKept}
 use Rattle.lifetime_ops.specs.ExtendOperating.{standing as extend_standing, IsKept as IsExtendKept}
 use Rattle.union_op.specs.Operating.{standing as union_standing, IsKept as IsUnionKept}
-use Rattle.temporal_join.specs.Operating.{standing as join_standing, IsKept as IsJoinKept}
 use Rattle.snapshot_agg.specs.Operating.{standing as group_standing, IsKept as IsGroupKept}
-use Rattle.anti_join.specs.Operating.{standing as anti_standing, IsKept as IsAntiKept}
-use Rattle.clip_op.specs.Operating.{standing as clip_standing, IsKept as IsClipKept}
-use Rattle.session_window.specs.Operating.{standing as session_standing, IsKept as IsSessionKept}
 use Rattle.dataflow.specs.declared.stage.Stage.{Stage}
-use Rattle.dataflow.specs.declared.stage.Stage.TheVariants.{Life, Union, Extend, Join, Group, Anti, Session, Clip}
+use Rattle.sweep_operator.specs.Operating.{standing as swept_standing, IsKept as IsSweptKept}
+use Rattle.coalesce_op.specs.Operating.{standing as coalesce_standing, IsKept as IsCoalesceKept}
+use Rattle.follow_op.specs.Operating.{standing as follow_standing, IsKept as IsFollowKept}
+use Rattle.outer_top.specs.Operating.{standing as top_standing, IsKept as IsTopKept}
+use Rattle.dataflow.specs.declared.stage.Stage.TheVariants.{Life, Union, Extend, Join, Group, Anti, Session, Clip, Coalesce, Follow, Top}
 use Rattle.dataflow.proofs.Operators.{operator_held}
 use Rattle.dataflow.specs.Operating.{CanOperate, StaysOperating, KeepsOperating, OperatesUndefinedAt}
 use Rattle.dataflow.specs.Stages.{IsReady, StageKeeps, StaysReady, KeepsOn, IsUndefinedAt, KeepsAtMost, entries_in}
@@ -78,17 +78,26 @@ union_variant = record { can = λ texts capacity left right n o x y h. h; ready 
 pub extend_variant : IsVariant Extend extend_standing IsExtendKept
 extend_variant = record { can = λ texts capacity left right n o x y h. h; ready = λ texts capacity left right n o x y h. h; kept = λ texts n o x y hl hr out h. h; keeps = λ texts n o x y hl hr out h. h }
 
-pub join_variant : IsVariant Join join_standing IsJoinKept
+pub join_variant : IsVariant Join swept_standing IsSweptKept
 join_variant = record { can = λ texts capacity left right n o x y h. h; ready = λ texts capacity left right n o x y h. h; kept = λ texts n o x y hl hr out h. h; keeps = λ texts n o x y hl hr out h. h }
 
 pub group_variant : IsVariant Group group_standing IsGroupKept
 group_variant = record { can = λ texts capacity left right n o x y h. h; ready = λ texts capacity left right n o x y h. h; kept = λ texts n o x y hl hr out h. h; keeps = λ texts n o x y hl hr out h. h }
 
-pub anti_variant : IsVariant Anti anti_standing IsAntiKept
+pub anti_variant : IsVariant Anti swept_standing IsSweptKept
 anti_variant = record { can = λ texts capacity left right n o x y h. h; ready = λ texts capacity left right n o x y h. h; kept = λ texts n o x y hl hr out h. h; keeps = λ texts n o x y hl hr out h. h }
 
-pub session_variant : IsVariant Session session_standing IsSessionKept
+pub session_variant : IsVariant Session swept_standing IsSweptKept
 session_variant = record { can = λ texts capacity left right n o x y h. h; ready = λ texts capacity left right n o x y h. h; kept = λ texts n o x y hl hr out h. h; keeps = λ texts n o x y hl hr out h. h }
 
-pub clip_variant : IsVariant Clip clip_standing IsClipKept
+pub clip_variant : IsVariant Clip swept_standing IsSweptKept
 clip_variant = record { can = λ texts capacity left right n o x y h. h; ready = λ texts capacity left right n o x y h. h; kept = λ texts n o x y hl hr out h. h; keeps = λ texts n o x y hl hr out h. h }
+
+pub coalesce_variant : IsVariant Coalesce coalesce_standing IsCoalesceKept
+coalesce_variant = record { can = λ texts capacity left right n o x y h. h; ready = λ texts capacity left right n o x y h. h; kept = λ texts n o x y hl hr out h. h; keeps = λ texts n o x y hl hr out h. h }
+
+pub follow_variant : IsVariant Follow follow_standing IsFollowKept
+follow_variant = record { can = λ texts capacity left right n o x y h. h; ready = λ texts capacity left right n o x y h. h; kept = λ texts n o x y hl hr out h. h; keeps = λ texts n o x y hl hr out h. h }
+
+pub top_variant : IsVariant Top top_standing IsTopKept
+top_variant = record { can = λ texts capacity left right n o x y h. h; ready = λ texts capacity left right n o x y h. h; kept = λ texts n o x y hl hr out h. h; keeps = λ texts n o x y hl hr out h. h }

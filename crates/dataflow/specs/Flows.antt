@@ -1,40 +1,42 @@
 -- A plan at work: what each of its stages keeps of the edges of streams, and what a step gives.
-use Rattle.std.specs.Prelude.{◌≡◌, ℕ, suc, ◌-◌, ◌^◌, ◌<◌, ◌≤◌, min, Bool, true, false, Some, None, List, [], ◌∷◌, length, slice_get}
+use Rattle.std.specs.Prelude.{◌≡◌, ℕ, suc, ◌-◌, ◌^◌, ◌<◌, ◌≤◌, min, Bool, true, false, Option, Some, None, List, [], ◌∷◌, length, slice_get}
 use Rattle.tw_rows.specs.declared.edge.Edge.{Edge}
 use Rattle.edge_history.specs.Order.{is_from, failing}
 use Rattle.plan_model.specs.declared.node.Node.{Node}
 use Rattle.plan_model.specs.IsPlan.{PlanParts}
 use Rattle.plan_model.specs.Meaning.{Sources, closes, left_of, right_of}
 use Rattle.plan_laws.specs.Undefined.{overflow}
-use Rattle.built_nodes.specs.Built.{is_built}
 use Rattle.node_laws.specs.Places.{AreDistinct}
 use Rattle.node_laws.specs.Standing.{SourcesStandRead, AllStandRead}
+use Rattle.dataflow.specs.declared.fault.PlanFault.{PlanFault}
 use Rattle.dataflow.specs.declared.stage.Stage.{Stage}
 use Rattle.dataflow.specs.Lists.{longer, AreFrom}
 use Rattle.dataflow.specs.Stages.{reached, left_closing, right_closing, left_kinds, right_kinds, IsReady, StageKeeps, entries_in}
 
--- what contracts see of a plan at work: the plan, its stages, how many rows each batch has room for, and whether the stages took
--- up what was saved
+-- what contracts see of a plan at work: the plan, its stages, how many rows each batch has room for, whether the stages took up
+-- what was saved, and the fault of a step
 pub record DataflowView : Type 0 where
   pub plan : PlanParts
   pub stages : List Stage
   pub capacity : ℕ
   pub thawed : Bool
+  pub fault : Option PlanFault
 
--- so much of a plan with these stages
+-- so much of a plan with these stages, of which no step failed
 abbrev pub parts_of : PlanParts → List Stage → ℕ → Bool → DataflowView
-parts_of plan stages capacity thawed = record { plan = plan; stages = stages; capacity = capacity; thawed = thawed }
+parts_of plan stages capacity thawed = record { plan = plan; stages = stages; capacity = capacity; thawed = thawed; fault = None }
 
 -- each stage can take a step, once the punctuation `last` was worked through
 abbrev pub AreReady : List (List ℕ) → ℕ → PlanParts → ℕ → List Stage → Type 0
 AreReady texts capacity plan last stages = (i : ℕ) (n : Node) (s : Stage) → slice_get plan.nodes i ≡ Some n → slice_get stages i ≡ Some s →
     IsReady texts capacity (left_kinds plan n) (right_kinds plan n) n s (reached last (left_closing plan.nodes last n)) (reached last (right_closing plan.nodes last n))
 
--- each node of the plan is built, and the plan can take a step with this table, once the punctuation `last` was worked through; 0 is before the first one
+-- no step failed, and the plan can take a step with this table, once the punctuation `last` was
+-- worked through; 0 is before the first one
 pub record CanStep (texts : List (List ℕ)) (last : ℕ) (d : DataflowView) : Type 0 where
   pub count : length d.stages ≡ length d.plan.nodes
+  pub fine : d.fault ≡ None
   pub room : 1 ≤ d.capacity
-  pub built : (i : ℕ) (n : Node) → slice_get d.plan.nodes i ≡ Some n → is_built n ≡ true
   pub ready : AreReady texts d.capacity d.plan last d.stages
 
 -- the plan is as it can be once the punctuation `last` was worked through, where `given` are the edges that each stream gave

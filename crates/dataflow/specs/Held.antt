@@ -5,7 +5,7 @@ use Rattle.tw_rows.specs.declared.kind.CellKind.{CellKind}
 use Rattle.edge_stream.specs.Listing.{EdgeListView}
 use Rattle.plan_model.specs.declared.node.Node.{Node}
 use Rattle.plan_model.specs.declared.expr.ExprNode.{ExprNode}
-use Rattle.plan_model.specs.declared.node.Node.TheVariants.{Source, Union, Join, Anti, Clip}
+use Rattle.plan_model.specs.declared.node.Node.TheVariants.{Source, Union, Join, Anti, Clip, Follow}
 use Rattle.plan_model.specs.IsPlan.{PlanParts, kinds_of_stream, kinds_at}
 use Rattle.plan_model.specs.Meaning.{left_child, right_child}
 use Rattle.row_stage.specs.Texts.{nodes_of_items, nodes_in}
@@ -62,10 +62,11 @@ pub record AreFresh (texts : List (List ℕ)) (capacity : ℕ) (plan : PlanParts
 abbrev pub nodes_in_all : List Node → List ExprNode
 nodes_in_all nodes = nodes_of_items (map nodes_in nodes)
 
--- a built node with two children
+-- a node with two children
 abbrev pub has_two : Node → Bool
 has_two (Union left right) = true
 has_two (Join left right left_key right_key) = true
 has_two (Anti left right left_key right_key) = true
 has_two (Clip left right left_key right_key) = true
+has_two (Follow left right left_key right_key within) = true
 has_two n = false

@@ -1,7 +1,9 @@
--- Callers read Lists, Stages and Flows; private contracts alone cite Operating and Held.
+-- Callers read Faults, Lists, Stages and Flows; private contracts alone cite Operating, Held, Readers and Closings.
 pub mod Faults
 pub mod Lists
 pub mod Operating
 pub mod Stages
 pub mod Flows
 pub mod Held
+pub mod Readers
+pub mod Closings

@@ -8,7 +8,7 @@ use Rattle.edge_history.specs.History.{of}
 use Rattle.edge_history.specs.Order.{is_from, failing}
 use Rattle.edge_stream.specs.Listing.{EdgeListView, cells_of}
 use Rattle.plan_model.specs.declared.node.Node.{Node}
-use Rattle.plan_model.specs.declared.node.Node.TheVariants.{Union, Delay, Hop, Duration, Extend, Session, Clip, Group, Join, Anti}
+use Rattle.plan_model.specs.declared.node.Node.TheVariants.{Union, Delay, Hop, Duration, Extend, Session, Clip, Group, Join, Anti, Coalesce, Mean, Top, Follow}
 use Rattle.plan_model.specs.IsPlan.{node_kinds}
 use Rattle.plan_model.specs.Keys.{value_ops}
 use Rattle.plan_model.specs.Meaning.{node_events, node_closes}
@@ -36,6 +36,10 @@ over_two (Clip left right left_key right_key) = Clip 0 1 left_key right_key
 over_two (Group of key aggs) = Group 0 key aggs
 over_two (Join left right left_key right_key) = Join 0 1 left_key right_key
 over_two (Anti left right left_key right_key) = Anti 0 1 left_key right_key
+over_two (Coalesce of) = Coalesce 0
+over_two (Mean of at) = Mean 0 at
+over_two (Top of key by count) = Top 0 key by count
+over_two (Follow left right left_key right_key within) = Follow 0 1 left_key right_key within
 over_two n = n
 
 -- an operator that stands so can take a step of the node, over lists of columns that are stored as `left` and `right`, in

@@ -19,21 +19,17 @@ use Rattle.union_op.specs.Operating.{standing as union_standing, entries as unio
 use Rattle.lifetime_ops.specs.Saving.{IsOpening as IsLifeOpening}
 use Rattle.union_op.specs.Saving.{IsOpening as IsUnionOpening}
 use Rattle.lifetime_ops.specs.ExtendSaving.{IsOpening as IsExtendOpening}
-use Rattle.temporal_join.specs.States.{IsOpening as IsJoinOpening}
 use Rattle.snapshot_agg.specs.Keeping.{IsOpening as IsGroupOpening}
-use Rattle.anti_join.specs.States.{IsOpening as IsAntiOpening}
-use Rattle.clip_op.specs.States.{IsOpening as IsClipOpening}
-use Rattle.session_window.specs.States.{IsOpening as IsSessionOpening}
+use Rattle.coalesce_op.specs.Operating.{standing as coalesce_standing, entries as coalesce_entries, IsNew as IsCoalesceNew, IsKept as IsCoalesceKept}
+use Rattle.follow_op.specs.Operating.{standing as follow_standing, entries as follow_entries, IsNew as IsFollowNew, IsKept as IsFollowKept}
+use Rattle.outer_top.specs.Operating.{standing as top_standing, entries as top_entries, IsNew as IsTopNew, IsKept as IsTopKept}
 use Rattle.lifetime_ops.specs.declared.change.Change.{Change}
-use Rattle.lifetime_ops.specs.declared.change.Change.TheVariants.{Delay, Hop, Duration}
-use Rattle.temporal_join.specs.Operating.{standing as join_standing, entries as join_entries, IsKept as IsJoinKept}
+use Rattle.lifetime_ops.specs.declared.change.Change.TheVariants.{Delay, Hop, Duration, Mean}
 use Rattle.snapshot_agg.specs.Operating.{standing as group_standing, entries as group_entries, IsKept as IsGroupKept}
-use Rattle.anti_join.specs.Operating.{standing as anti_standing, entries as anti_entries, IsKept as IsAntiKept}
-use Rattle.clip_op.specs.Operating.{standing as clip_standing, entries as clip_entries, IsKept as IsClipKept}
-use Rattle.session_window.specs.Operating.{standing as session_standing, entries as session_entries, IsKept as IsSessionKept}
+use Rattle.sweep_operator.specs.Operating.{standing as swept_standing, entries as swept_entries, IsNew as IsSweptNew, IsKept as IsSweptKept}
 use Rattle.dataflow.specs.declared.stage.Stage.{Stage}
-use Rattle.dataflow.specs.declared.stage.Stage.TheVariants.{Rows, Life, Union, Extend, Join, Group, Anti, Session, Clip}
-use Rattle.plan_model.specs.declared.node.Node.TheVariants.{Delay as DelayNode, Hop as HopNode, Duration as DurationNode}
+use Rattle.dataflow.specs.declared.stage.Stage.TheVariants.{Rows, Life, Union, Extend, Join, Group, Anti, Session, Clip, Coalesce, Follow, Top}
+use Rattle.plan_model.specs.declared.node.Node.TheVariants.{Delay as DelayNode, Hop as HopNode, Duration as DurationNode, Mean as MeanNode}
 use Rattle.dataflow.specs.Operating.{CanOperate}
 pub use Rattle.dataflow.specs.Operating.{first_undefined_read}
 
@@ -79,11 +75,14 @@ IsReady texts capacity left right n (Rows s) x y = IsStageOf texts capacity left
 IsReady texts capacity left right n (Life o) x y = CanOperate capacity left right n (life_standing o) x y
 IsReady texts capacity left right n (Union o) x y = CanOperate capacity left right n (union_standing o) x y
 IsReady texts capacity left right n (Extend o) x y = CanOperate capacity left right n (extend_standing o) x y
-IsReady texts capacity left right n (Join o) x y = CanOperate capacity left right n (join_standing o) x y
+IsReady texts capacity left right n (Join o) x y = CanOperate capacity left right n (swept_standing o) x y
 IsReady texts capacity left right n (Group o) x y = CanOperate capacity left right n (group_standing o) x y
-IsReady texts capacity left right n (Session o) x y = CanOperate capacity left right n (session_standing o) x y
-IsReady texts capacity left right n (Anti o) x y = CanOperate capacity left right n (anti_standing o) x y
-IsReady texts capacity left right n (Clip o) x y = CanOperate capacity left right n (clip_standing o) x y
+IsReady texts capacity left right n (Session o) x y = CanOperate capacity left right n (swept_standing o) x y
+IsReady texts capacity left right n (Anti o) x y = CanOperate capacity left right n (swept_standing o) x y
+IsReady texts capacity left right n (Clip o) x y = CanOperate capacity left right n (swept_standing o) x y
+IsReady texts capacity left right n (Coalesce o) x y = CanOperate capacity left right n (coalesce_standing o) x y
+IsReady texts capacity left right n (Follow o) x y = CanOperate capacity left right n (follow_standing o) x y
+IsReady texts capacity left right n (Top o) x y = CanOperate capacity left right n (top_standing o) x y
 
 -- the stage can take a step of some node over these two lists, which closes its sides up to u and v
 pub record CanTake (texts : List (List ℕ)) (left right : EdgeListView) (s : Stage) (u v : ℕ) : Type 0 where
@@ -106,11 +105,14 @@ StageKeeps texts n (Rows s) x y hl hr out = HasMade texts n x hl out
 StageKeeps texts n (Life o) x y hl hr out = IsLifeKept o texts hl hr out
 StageKeeps texts n (Union o) x y hl hr out = IsUnionKept o texts hl hr out
 StageKeeps texts n (Extend o) x y hl hr out = IsExtendKept o texts hl hr out
-StageKeeps texts n (Join o) x y hl hr out = IsJoinKept o texts hl hr out
+StageKeeps texts n (Join o) x y hl hr out = IsSweptKept o texts hl hr out
 StageKeeps texts n (Group o) x y hl hr out = IsGroupKept o texts hl hr out
-StageKeeps texts n (Session o) x y hl hr out = IsSessionKept o texts hl hr out
-StageKeeps texts n (Anti o) x y hl hr out = IsAntiKept o texts hl hr out
-StageKeeps texts n (Clip o) x y hl hr out = IsClipKept o texts hl hr out
+StageKeeps texts n (Session o) x y hl hr out = IsSweptKept o texts hl hr out
+StageKeeps texts n (Anti o) x y hl hr out = IsSweptKept o texts hl hr out
+StageKeeps texts n (Clip o) x y hl hr out = IsSweptKept o texts hl hr out
+StageKeeps texts n (Coalesce o) x y hl hr out = IsCoalesceKept o texts hl hr out
+StageKeeps texts n (Follow o) x y hl hr out = IsFollowKept o texts hl hr out
+StageKeeps texts n (Top o) x y hl hr out = IsTopKept o texts hl hr out
 
 -- what is asked of what was kept and of two lists, so that a step keeps it: the lists come on the sides that the stage is
 -- closed up to, and close them up to u and v
@@ -146,11 +148,14 @@ entries_in (Rows s) = 0
 entries_in (Life o) = life_entries o
 entries_in (Union o) = union_entries o
 entries_in (Extend o) = extend_entries o
-entries_in (Join o) = join_entries o
+entries_in (Join o) = swept_entries o
 entries_in (Group o) = group_entries o
-entries_in (Session o) = session_entries o
-entries_in (Anti o) = anti_entries o
-entries_in (Clip o) = clip_entries o
+entries_in (Session o) = swept_entries o
+entries_in (Anti o) = swept_entries o
+entries_in (Clip o) = swept_entries o
+entries_in (Coalesce o) = coalesce_entries o
+entries_in (Follow o) = follow_entries o
+entries_in (Top o) = top_entries o
 
 -- a step of the stage failed, which stood as `old` before: a Source, a Where or a Select is as it was, and an operator says so
 abbrev pub HasStopped : Stage → Stage → Type 0
@@ -158,11 +163,14 @@ HasStopped old (Rows s) = old ≡ Rows s
 HasStopped old (Life o) = (life_standing o).has_failed ≡ true
 HasStopped old (Union o) = (union_standing o).has_failed ≡ true
 HasStopped old (Extend o) = (extend_standing o).has_failed ≡ true
-HasStopped old (Join o) = (join_standing o).has_failed ≡ true
+HasStopped old (Join o) = (swept_standing o).has_failed ≡ true
 HasStopped old (Group o) = (group_standing o).has_failed ≡ true
-HasStopped old (Session o) = (session_standing o).has_failed ≡ true
-HasStopped old (Anti o) = (anti_standing o).has_failed ≡ true
-HasStopped old (Clip o) = (clip_standing o).has_failed ≡ true
+HasStopped old (Session o) = (swept_standing o).has_failed ≡ true
+HasStopped old (Anti o) = (swept_standing o).has_failed ≡ true
+HasStopped old (Clip o) = (swept_standing o).has_failed ≡ true
+HasStopped old (Coalesce o) = (coalesce_standing o).has_failed ≡ true
+HasStopped old (Follow o) = (follow_standing o).has_failed ≡ true
+HasStopped old (Top o) = (top_standing o).has_failed ≡ true
 
 -- the stage keeps no more entries than its node may, whatever came in and was answered
 abbrev pub KeepsAtMost : ℕ → Stage → Type 0
@@ -175,11 +183,14 @@ StandsAsMade (Rows s) = Unit {0}
 StandsAsMade (Life o) = IsLifeOpening o.carried.edges o.left_to o.right_to o.failed
 StandsAsMade (Union o) = IsUnionOpening o.left.edges o.right.edges o.left_to o.right_to o.failed
 StandsAsMade (Extend o) = IsExtendOpening o.carried.edges o.ends o.left_to o.right_to o.failed
-StandsAsMade (Join o) = IsJoinOpening o.sides.rows.left.rows o.sides.rows.right.rows o.sides.left_waiting o.sides.right_waiting o.left_to o.right_to o.failed
+StandsAsMade (Join o) = IsSweptNew o
 StandsAsMade (Group o) = IsGroupOpening o.groups.rows.rows o.running o.waiting o.left_to o.right_to o.failed
-StandsAsMade (Session o) = IsSessionOpening o.side.sessions.rows.rows o.side.sessions.ends o.side.waiting o.left_to o.right_to o.failed
-StandsAsMade (Anti o) = IsAntiOpening o.sides.rows.left.rows o.sides.rows.right.rows o.sides.rows.times.rows o.sides.left_waiting o.sides.right_waiting o.left_to o.right_to o.failed
-StandsAsMade (Clip o) = IsClipOpening o.sides.rows.left.rows o.sides.left_waiting o.sides.right_waiting o.left_to o.right_to o.failed
+StandsAsMade (Session o) = IsSweptNew o
+StandsAsMade (Anti o) = IsSweptNew o
+StandsAsMade (Clip o) = IsSweptNew o
+StandsAsMade (Coalesce o) = IsCoalesceNew o
+StandsAsMade (Follow o) = IsFollowNew o
+StandsAsMade (Top o) = IsTopNew o
 
 -- the stage stands as it was made for the node of the plan: it can take a first step, and nothing came in yet
 pub record StartsFor (texts : List (List ℕ)) (capacity : ℕ) (plan : PlanParts) (n : Node) (s : Stage) : Type 0 where
@@ -187,8 +198,9 @@ pub record StartsFor (texts : List (List ℕ)) (capacity : ℕ) (plan : PlanPart
   pub opens : StageKeeps texts n s 0 0 [] [] []
   pub made : StandsAsMade s
 
--- the node that makes this change of lives, over the child of that number
+-- the node that makes this change, over the child of that number
 abbrev pub changing : ℕ → Change → Node
 changing of (Delay by) = DelayNode of by
 changing of (Hop size period) = HopNode of size period
 changing of (Duration by) = DurationNode of by
+changing of (Mean at) = MeanNode of at

@@ -1,12 +1,11 @@
 // A plan at work.
-ghost use Rattle.std.specs.Prelude.{◌≡◌, ◌<◌, ◌≤◌, ℕ, true, false, Some, List, [], slice_get, IfOk, IfErr, OnOk, OnErr};
+ghost use Rattle.std.specs.Prelude.{◌≡◌, ◌<◌, ◌≤◌, ℕ, true, false, Some, None, Err, List, [], slice_get, IfOk, IfErr, OnOk, OnErr};
 ghost use Rattle.tw_rows.specs.Texts.{BeginsWith};
 ghost use Rattle.plan_model.specs.declared.node.Node.{Node};
 ghost use Rattle.plan_model.specs.IsPlan.{kinds_at, most_columns};
 ghost use Rattle.node_laws.specs.Places.{EdgesArePlaced};
 ghost use Rattle.lane_expr.specs.Steps.{with_texts};
 ghost use Rattle.row_stage.specs.Texts.{HasFirstTexts};
-ghost use Rattle.built_nodes.specs.Built.{is_built};
 ghost use Rattle.dataflow.specs.Lists.{edges_at, AreOfStreams, IsListOf};
 ghost use Rattle.dataflow.specs.declared.stage.Stage.{Stage as Kept};
 ghost use Rattle.dataflow.specs.Stages.{StandsAsMade};
@@ -23,8 +22,9 @@ use std::alloc::Global;
 use std::marker::Model;
 use tw_rows::{Memory, TextTable, Time};
 
-/// A plan at work. Contracts see the plan, its stages, how many rows each batch has room for, and whether the stages took up
-/// what was saved; `Flows` says of which edges the stages have taken steps. After a fault no further step may be taken.
+/// A plan at work. Contracts see the plan, its stages, how many rows each batch has room for, whether the stages took up what
+/// was saved, and the fault of a step; `Flows` says of which edges the stages have taken steps. Once a step answered a fault,
+/// each later one answers it again.
 #[derive(Drop)]
 pub struct Dataflow {
     alloc: Global,
@@ -32,6 +32,8 @@ pub struct Dataflow {
     stages: Vec<Stage>,
     capacity: usize,
     thawed: bool,
+    // why a step gave no edges
+    fault: Option<PlanFault>,
 }
 
 impl Model for Dataflow {
@@ -43,7 +45,7 @@ impl Model for Dataflow {
 
     ghost coded = { Prim.hlevel (codes, stage.the_row.coded) };
 
-    ghost view = { λ d. record { plan = d.plan; stages = d.stages.items; capacity = d.capacity; thawed = d.thawed } };
+    ghost view = { λ d. record { plan = d.plan; stages = d.stages.items; capacity = d.capacity; thawed = d.thawed; fault = d.fault } };
 }
 
 // A stage for each node of the plan.
@@ -54,7 +56,6 @@ fn stages_of(
     texts: &mut TextTable,
 ) -> Result<Vec<Stage>, Memory>
     requires room { 1 ≤ capacity }
-    requires built { (i : ℕ) (n : Node) → slice_get plan.now.nodes i ≡ Some n → is_built n ≡ true }
     ensures fresh { IfOk result (λ stages. AreFresh texts.new capacity plan.now stages.items) }
     ensures table { OnOk result (texts.new ≡ with_texts texts.old (nodes_in_all plan.now.nodes)) }
     ensures err { OnErr result (HasFirstTexts texts.new texts.old (nodes_in_all plan.now.nodes)) }
@@ -78,6 +79,17 @@ fn held_by(alloc: Global, stages: &[Stage]) -> Result<Vec<(usize, u64)>, Memory>
     Ok(held)
 }
 
+// The fault of an answer, where it is one.
+fn fault_in(answer: &Result<EdgeList, PlanFault>) -> Option<PlanFault>
+    ensures ok { OnOk answer.now (result ≡ None) }
+    ensures err { IfErr answer.now (λ fault. result ≡ Some fault) }
+{
+    match answer {
+        Ok(_) => None,
+        Err(fault) => Some(*fault),
+    }
+}
+
 impl Dataflow {
     /// The plan with a stage for each of its nodes, for batches of `capacity` rows. The texts of its expressions come into
     /// the table, and stay there out of memory.
@@ -88,7 +100,6 @@ impl Dataflow {
         texts: &mut TextTable,
     ) -> Result<Dataflow, Memory>
         requires room { 1 ≤ capacity }
-        requires built { (i : ℕ) (n : Node) → slice_get plan.nodes i ≡ Some n → is_built n ≡ true }
         ensures flows { IfOk result (λ d. Flows texts.new 0 (λ s. []) (λ k. []) d) }
         ensures made { IfOk result (λ d. (i : ℕ) (s : Kept) → slice_get d.stages i ≡ Some s → StandsAsMade s) }
         ensures plan { IfOk result (λ d. d.plan ≡ plan) }
@@ -105,6 +116,7 @@ impl Dataflow {
             stages,
             capacity,
             thawed: false,
+            fault: None,
         })
     }
 
@@ -130,8 +142,8 @@ impl Dataflow {
     }
 
     /// One step of each node, in order of number, at the punctuation `p`, which is later than the last one: of the new edges
-    /// of each stream the new edges of the root. Columns are taken from the pools, and go back there. After a fault no further
-    /// step may be taken. Where the stages took up what was saved, Memory also tells that a place is not in the table.
+    /// of each stream the new edges of the root. Columns are taken from the pools, and go back there. After a fault each later
+    /// step answers it again. Where the stages took up what was saved, Memory also tells that a place is not in the table.
     pub fn step(
         &mut self,
         pools: &mut Pools,
@@ -139,15 +151,17 @@ impl Dataflow {
         given: Vec<EdgeList>,
         p: Time,
     ) -> Result<EdgeList, PlanFault>
-        requires may { MayStep texts.now p (edges_at given.items) self.old }
+        requires may { self.old.fault ≡ None → MayStep texts.now p (edges_at given.items) self.old }
         requires given { AreOfStreams self.old.capacity self.old.plan given.items }
         requires placed { self.old.thawed ≡ false → (s : ℕ) → EdgesArePlaced texts.now (edges_at given.items s) }
         requires capacity { pools.old.capacity ≡ self.old.capacity }
         requires limit { most_columns ≤ pools.old.limit }
         ensures flowed { IfOk result (λ out. GivesOn texts.now p (edges_at given.items) self.old self.new out.edges) }
         ensures can { OnOk result (StepsOn texts.now p self.old self.new) }
-        ensures overflow { IfErr result (λ fault. (node time : ℕ) → fault ≡ PlanFault.Overflow node time →
+        ensures overflow { self.old.fault ≡ None → IfErr result (λ fault. (node time : ℕ) → fault ≡ PlanFault.Overflow node time →
             OverflowsAt texts.now p (edges_at given.items) self.old node time) }
+        ensures kept { IfErr result (λ fault. self.new.fault ≡ Some fault) }
+        ensures again { (fault : PlanFault) → self.old.fault ≡ Some fault → result ≡ Err fault }
         ensures list { IfOk result (λ out.
             IsListOf texts.now self.old.capacity (kinds_at self.old.plan.schemas self.old.plan.root) out) }
         ensures plan { self.new.plan ≡ self.old.plan }
@@ -156,10 +170,14 @@ impl Dataflow {
         ensures pools { pools.new.capacity ≡ pools.old.capacity }
         ensures limit { pools.new.limit ≡ pools.old.limit }
     {
+        if let Some(fault) = self.fault {
+            return Err(fault);
+        }
+        self.fault = Some(PlanFault::Memory);
         if !are_all_sure(self.thawed, &given, texts) {
             return Err(PlanFault::Memory);
         }
-        step_all(
+        let stepped = step_all(
             self.alloc,
             pools,
             texts,
@@ -168,6 +186,8 @@ impl Dataflow {
             self.thawed,
             given,
             p,
-        )
+        );
+        self.fault = fault_in(&stepped);
+        stepped
     }
 }

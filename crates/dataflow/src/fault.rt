@@ -1,5 +1,6 @@
 // How a step of a plan can fail.
-ghost use Rattle.std.specs.Prelude.{◌≡◌};
+ghost use Rattle.std.specs.Prelude.{◌≡◌, Some};
+ghost use Rattle.dataflow.specs.Faults.{fault_text};
 ghost use Rattle.dataflow.specs.declared.fault.PlanFault.TheVariants as faults;
 
 use std::alloc::AllocFailed;
@@ -16,6 +17,8 @@ pub enum PlanFault {
 }
 
 impl fmt::Display for PlanFault {
+    ghost output = { λ fault. Some (fault_text fault) };
+
     fn fmt<W: fmt::Write>(&self, f: &mut fmt::Formatter<W>) -> fmt::Result {
         match self {
             PlanFault::Overflow { node, time } => write!(

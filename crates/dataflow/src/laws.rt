@@ -16,8 +16,11 @@ ghost use Rattle.dataflow.specs.Flows.{DataflowView, CanStep, Flows};
 
 use anti_join::Anti;
 use clip_op::Clip;
+use coalesce_op::Coalesce;
+use follow_op::Follow;
 use lifetime_ops::{AlterLifetime, ExtendLifetime};
 use operator::Operator;
+use outer_top::Top;
 use session_window::Session;
 use snapshot_agg::Grouped;
 use temporal_join::Join;
@@ -38,10 +41,11 @@ pub fn answers_have_their_places()
 {}
 
 /// What each node answered so far stands for its events, read: it is what is known of them below the node's closing at the last
-/// punctuation, over the events of the sources for which the edges of the streams stand.
+/// punctuation, over the events of the sources for which the edges of the streams stand. Before the first punctuation that is
+/// nothing: a Delay by 5 has no event below 5 then.
 pub fn answers_stand()
     ensures { (texts : List (List ℕ)) (last : ℕ) (source : Sources) (given lists : ℕ → List Edge) (d : DataflowView) →
-        IsPlan d.plan → AreDistinct texts → Flows texts last given lists d → 0 < last → SourcesStandRead texts last source given →
+        IsPlan d.plan → AreDistinct texts → Flows texts last given lists d → SourcesStandRead texts last source given →
         AllStandRead texts d.plan.nodes last source lists (length d.plan.nodes) }
 {}
 
@@ -63,6 +67,9 @@ pub fn stages_keep_at_most()
     Session::laws();
     Anti::laws();
     Clip::laws();
+    Coalesce::laws();
+    Follow::laws();
+    Top::laws();
 }
 
 /// No stage of a plan at work keeps more entries than its node may after the last punctuation, over the events of the sources

@@ -2,10 +2,12 @@
 #![tactic(auto)]
 
 mod any_operator;
+mod closings;
 mod dataflow;
 mod fault;
 mod laws;
 mod making;
+mod readers;
 mod reading;
 mod stage;
 mod steps;

@@ -4,7 +4,6 @@ ghost use Rattle.tw_rows.specs.Kinds.{cell_kind_of};
 ghost use Rattle.tw_rows.specs.Texts.{BeginsWith};
 ghost use Rattle.plan_model.specs.declared.node.Node.{Node};
 ghost use Rattle.plan_model.specs.IsPlan.{kinds_at};
-ghost use Rattle.built_nodes.specs.Built.{is_built};
 ghost use Rattle.lane_expr.specs.Steps.{with_texts};
 ghost use Rattle.row_stage.specs.Stages.{is_of_rows};
 ghost use Rattle.row_stage.specs.Texts.{nodes_in, HasFirstTexts};
@@ -12,15 +11,18 @@ ghost use Rattle.dataflow.specs.Held.{has_two};
 ghost use Rattle.dataflow.specs.Stages.{left_kinds, changing, StartsFor};
 
 use crate::stage::Stage;
-use anti_join::Anti;
-use clip_op::Clip;
+use anti_join::new_anti;
+use clip_op::new_clip;
+use coalesce_op::Coalesce;
+use follow_op::Follow;
 use lifetime_ops::{AlterLifetime, Change, ExtendLifetime};
-use plan_model::{Agg, Node, Plan};
+use outer_top::Top;
+use plan_model::{Agg, Key, Node, Plan};
 use row_stage::{column_kinds, read_kinds};
-use session_window::Session;
+use session_window::new_session;
 use snapshot_agg::Grouped;
 use std::alloc::Global;
-use temporal_join::Join;
+use temporal_join::new_join;
 use tw_rows::{Kind, Memory, TextTable};
 
 // The kinds of the columns that a node of the plan reads on the left.
@@ -79,7 +81,7 @@ pub(crate) fn rows_stage(
     Ok(Stage::Rows(stage))
 }
 
-/// The stage of another node of the plan that is built. Its operator needs no texts.
+/// The stage of another node of the plan. Its operator needs no texts.
 pub(crate) fn operator_stage(
     alloc: Global,
     plan: &Plan,
@@ -88,7 +90,6 @@ pub(crate) fn operator_stage(
 ) -> Result<Stage, Memory>
     requires node { node < length plan.now.nodes }
     requires room { 1 ≤ capacity }
-    requires built { (n : Node) → slice_get plan.now.nodes node ≡ Some n → is_built n ≡ true }
     requires other { (n : Node) → slice_get plan.now.nodes node ≡ Some n → is_of_rows n ≡ false }
     ensures { IfOk result (λ s. (texts : List (List ℕ)) (n : Node) → slice_get plan.now.nodes node ≡ Some n →
         StartsFor texts capacity plan.now n s) }
@@ -115,11 +116,17 @@ pub(crate) fn operator_stage(
         Node::Session { timeout, key, .. } => {
             session_stage(alloc, plan, node, *timeout, key.items(), capacity)
         }
+        Node::Coalesce { .. } => coalesce_stage(alloc, plan, node, capacity),
+        Node::Mean { at, .. } => mean_stage(alloc, plan, node, at.items(), capacity),
+        Node::Top { key, by, count, .. } => {
+            let most = *count as usize;
+            top_stage(alloc, plan, node, key.items(), *by, most, capacity)
+        }
         _ => two_sided_stage(alloc, plan, node, capacity),
     }
 }
 
-// The stage of a node of the plan that is built and has two children.
+// The stage of a node of the plan that has two children.
 fn two_sided_stage(
     alloc: Global,
     plan: &Plan,
@@ -153,11 +160,21 @@ fn two_sided_stage(
             right_key: r,
             ..
         } => clip_stage(alloc, plan, node, *right, l.items(), r.items(), capacity),
+        Node::Follow {
+            right,
+            left_key: l,
+            right_key: r,
+            within,
+            ..
+        } => {
+            let keys = (l.items(), r.items());
+            follow_stage(alloc, plan, node, *right, keys, *within, capacity)
+        }
         _ => unreachable!(),
     }
 }
 
-// The stage of a Delay, a Hop or a Duration of the plan, which makes this change.
+// The stage of a node of the plan that makes this change.
 fn life_stage(
     alloc: Global,
     plan: &Plan,
@@ -171,6 +188,8 @@ fn life_stage(
     ensures { IfOk result (λ s. (texts : List (List ℕ)) (n : Node) → slice_get plan.now.nodes node ≡ Some n →
         StartsFor texts capacity plan.now n s) }
 {
+    // Its call tells the proof what a plan keeps.
+    let _ = plan.nodes();
     let kinds = kinds_read(alloc, plan, node)?;
     let operator = AlterLifetime::new(alloc, change, &kinds, capacity)?;
     Ok(Stage::Life(operator))
@@ -228,8 +247,64 @@ fn session_stage(
     // Its call tells the proof what a plan keeps.
     let _ = plan.nodes();
     let kinds = kinds_read(alloc, plan, node)?;
-    let operator = Session::new(alloc, timeout, key, &kinds, capacity)?;
+    let operator = new_session(alloc, timeout, key, &kinds, capacity)?;
     Ok(Stage::Session(operator))
+}
+
+// The stage of a Mean of the plan, of these columns.
+fn mean_stage(
+    alloc: Global,
+    plan: &Plan,
+    node: usize,
+    at: &[usize],
+    capacity: usize,
+) -> Result<Stage, Memory>
+    requires node { node < length plan.now.nodes }
+    requires room { 1 ≤ capacity }
+    requires is { (n : Node) → slice_get plan.now.nodes node ≡ Some n → (of : ℕ) × (n ≡ Node.Mean of at.now) }
+    ensures { IfOk result (λ s. (texts : List (List ℕ)) (n : Node) → slice_get plan.now.nodes node ≡ Some n →
+        StartsFor texts capacity plan.now n s) }
+{
+    let at = Key::from_vec(Vec::from_slice(alloc, at)?);
+    life_stage(alloc, plan, node, Change::Mean { at }, capacity)
+}
+
+// The stage of a Coalesce of the plan.
+fn coalesce_stage(alloc: Global, plan: &Plan, node: usize, capacity: usize) -> Result<Stage, Memory>
+    requires node { node < length plan.now.nodes }
+    requires room { 1 ≤ capacity }
+    requires is { (n : Node) → slice_get plan.now.nodes node ≡ Some n → (of : ℕ) × (n ≡ Node.Coalesce of) }
+    ensures { IfOk result (λ s. (texts : List (List ℕ)) (n : Node) → slice_get plan.now.nodes node ≡ Some n →
+        StartsFor texts capacity plan.now n s) }
+{
+    // Its call tells the proof what a plan keeps.
+    let _ = plan.nodes();
+    let kinds = kinds_read(alloc, plan, node)?;
+    let operator = Coalesce::new(alloc, &kinds, capacity)?;
+    Ok(Stage::Coalesce(operator))
+}
+
+// The stage of a Top of the plan, by this key and this column, of which so many are shown.
+fn top_stage(
+    alloc: Global,
+    plan: &Plan,
+    node: usize,
+    key: &[usize],
+    by: usize,
+    most: usize,
+    capacity: usize,
+) -> Result<Stage, Memory>
+    requires node { node < length plan.now.nodes }
+    requires room { 1 ≤ capacity }
+    requires is { (n : Node) → slice_get plan.now.nodes node ≡ Some n → (of : ℕ) × (n ≡ Node.Top of key.now by most) }
+    ensures { IfOk result (λ s. (texts : List (List ℕ)) (n : Node) → slice_get plan.now.nodes node ≡ Some n →
+        StartsFor texts capacity plan.now n s) }
+{
+    // Its call tells the proof what a plan keeps.
+    let _ = plan.nodes();
+    let kinds = kinds_read(alloc, plan, node)?;
+    let operator = Top::new(alloc, key, by, most, &kinds, capacity)?;
+    Ok(Stage::Top(operator))
 }
 
 // The stage of a Join of the plan, by these keys of the left and of the right child.
@@ -252,7 +327,7 @@ fn join_stage(
     let _ = plan.nodes();
     let left_kinds = kinds_read(alloc, plan, node)?;
     let right_kinds = kinds_told(alloc, plan, right)?;
-    let operator = Join::new(
+    let operator = new_join(
         alloc,
         left_key,
         right_key,
@@ -306,7 +381,7 @@ fn anti_stage(
     let _ = plan.nodes();
     let left_kinds = kinds_read(alloc, plan, node)?;
     let right_kinds = kinds_told(alloc, plan, right)?;
-    let operator = Anti::new(
+    let operator = new_anti(
         alloc,
         left_key,
         right_key,
@@ -337,7 +412,7 @@ fn clip_stage(
     let _ = plan.nodes();
     let left_kinds = kinds_read(alloc, plan, node)?;
     let right_kinds = kinds_told(alloc, plan, right)?;
-    let operator = Clip::new(
+    let operator = new_clip(
         alloc,
         left_key,
         right_key,
@@ -346,4 +421,37 @@ fn clip_stage(
         capacity,
     )?;
     Ok(Stage::Clip(operator))
+}
+
+// The stage of a Follow of the plan, by these keys of the left and of the right child, within this time.
+fn follow_stage(
+    alloc: Global,
+    plan: &Plan,
+    node: usize,
+    right: usize,
+    keys: (&[usize], &[usize]),
+    within: u64,
+    capacity: usize,
+) -> Result<Stage, Memory>
+    requires node { node < length plan.now.nodes }
+    requires room { 1 ≤ capacity }
+    requires is { (n : Node) → slice_get plan.now.nodes node ≡ Some n →
+        (left : ℕ) × (n ≡ Node.Follow left right keys.0.now keys.1.now within) }
+    ensures { IfOk result (λ s. (texts : List (List ℕ)) (n : Node) → slice_get plan.now.nodes node ≡ Some n →
+        StartsFor texts capacity plan.now n s) }
+{
+    // Its call tells the proof what a plan keeps.
+    let _ = plan.nodes();
+    let left_kinds = kinds_read(alloc, plan, node)?;
+    let right_kinds = kinds_told(alloc, plan, right)?;
+    let operator = Follow::new(
+        alloc,
+        keys.0,
+        keys.1,
+        within,
+        &left_kinds,
+        &right_kinds,
+        capacity,
+    )?;
+    Ok(Stage::Follow(operator))
 }

@@ -3,10 +3,12 @@ ghost use Rattle.std.specs.Prelude.{◌≡◌, ◌↔◌, ◌≢◌, ◌⊎◌, 
 ghost use Rattle.tw_rows.specs.declared.edge.Edge.{Edge};
 ghost use Rattle.edge_stream.specs.Listing.{EdgeListView};
 ghost use Rattle.plan_model.specs.declared.node.Node.{Node};
-ghost use Rattle.plan_model.specs.Meaning.{left_child, right_child, left_of, right_of};
+ghost use Rattle.plan_model.specs.Meaning.{left_of, right_of};
 ghost use Rattle.dataflow.specs.Stages.{left_kinds, right_kinds};
-ghost use Rattle.dataflow.specs.Held.{IsListWith, IsRead, IsNeeded, IsNeededRight, IsNeededStream, HeldBefore, HeldBetween};
+ghost use Rattle.dataflow.specs.Held.{IsListWith, IsNeededRight, HeldBefore, HeldBetween};
+ghost use Rattle.dataflow.specs.Readers.{AreReaders};
 
+use crate::readers::Readers;
 use batch::Pools;
 use edge_stream::EdgeList;
 use plan_model::{Node, Plan};
@@ -22,61 +24,15 @@ fn is_child(number: Option<usize>, child: usize) -> bool
     }
 }
 
-fn reads_node(node: &Node, child: usize) -> bool
-    ensures { IsTrue result ↔ ((left_child node.now ≡ Some child) ⊎ (right_child node.now ≡ Some child)) }
-{
-    is_child(node.left_child(), child) || is_child(node.right_child(), child)
-}
-
-// Whether a node from the number `from` on reads the node of number `child`.
-fn is_read(plan: &Plan, from: usize, child: usize) -> bool
-    ensures { IsTrue result ↔ IsRead plan.now from child }
-{
-    let nodes = plan.nodes();
-    for j in from..nodes.len() {
-        if reads_node(&nodes[j], child) {
-            return true;
-        }
-    }
-    false
-}
-
-// Whether that is so, or the node is the root.
-fn is_needed(plan: &Plan, from: usize, child: usize) -> bool
-    ensures { IsTrue result ↔ IsNeeded plan.now from child }
-{
-    is_read(plan, from, child) || plan.root() == child
-}
-
-fn reads_stream(node: &Node, stream: usize) -> bool
-    ensures { IsTrue result ↔ (node.now ≡ Node.Source stream) }
-{
-    match node {
-        Node::Source { stream: read } => *read == stream,
-        _ => false,
-    }
-}
-
-// Whether a source from the number `from` on reads the stream.
-fn is_stream_needed(plan: &Plan, from: usize, stream: usize) -> bool
-    ensures { IsTrue result ↔ IsNeededStream plan.now from stream }
-{
-    let nodes = plan.nodes();
-    for j in from..nodes.len() {
-        if reads_stream(&nodes[j], stream) {
-            return true;
-        }
-    }
-    false
-}
-
 // Whether the node of number `i` reads that of number `child` on the right too, or a later one reads it.
-fn is_needed_right(plan: &Plan, i: usize, child: usize) -> bool
-    requires { i < length plan.now.nodes }
+fn is_needed_right(plan: &Plan, readers: &Readers, i: usize, child: usize) -> bool
+    requires node { i < length plan.now.nodes }
+    requires readers { AreReaders plan.now readers.now }
+    requires child { child < length plan.now.nodes }
     ensures { IsTrue result ↔ IsNeededRight plan.now i child }
 {
     let nodes = plan.nodes();
-    is_child(nodes[i].right_child(), child) || is_needed(plan, i + 1, child)
+    is_child(nodes[i].right_child(), child) || readers.is_needed(plan, i + 1, child)
 }
 
 // The list of that number: a copy where it is needed again, and else the list itself, which is then no more there.
@@ -109,17 +65,25 @@ pub(crate) fn left_list(
     alloc: Global,
     pools: &mut Pools,
     plan: &Plan,
+    readers: &Readers,
     i: usize,
     streams: &mut Vec<EdgeList>,
     made: &mut Vec<EdgeList>,
 ) -> Result<EdgeList, Memory>
     requires node { i < length plan.now.nodes }
+    requires readers { AreReaders plan.now readers.now }
     requires streams { length streams.old.items ≡ length plan.now.streams }
     requires made { length made.old.items ≡ i }
-    requires held { (texts : List (List ℕ)) × ((given : ℕ → List Edge) × ((more : ℕ → List Edge) × HeldBefore texts pools.old.capacity plan.now i given more streams.old.items made.old.items)) }
-    ensures list { IfOk result (λ l. (texts : List (List ℕ)) (given more : ℕ → List Edge) (n : Node) → HeldBefore texts pools.old.capacity plan.now i given more streams.old.items made.old.items →
+    requires held { (texts : List (List ℕ))
+        × ((given : ℕ → List Edge)
+        × ((more : ℕ → List Edge)
+        × HeldBefore texts pools.old.capacity plan.now i given more streams.old.items made.old.items)) }
+    ensures list { IfOk result (λ l.
+        (texts : List (List ℕ)) (given more : ℕ → List Edge) (n : Node) →
+        HeldBefore texts pools.old.capacity plan.now i given more streams.old.items made.old.items →
         slice_get plan.now.nodes i ≡ Some n → IsListWith texts pools.old.capacity (left_kinds plan.now n) (left_of [] given more n) l) }
-    ensures held { OnOk result ((texts : List (List ℕ)) (given more : ℕ → List Edge) → HeldBefore texts pools.old.capacity plan.now i given more streams.old.items made.old.items →
+    ensures held { OnOk result ((texts : List (List ℕ)) (given more : ℕ → List Edge) →
+        HeldBefore texts pools.old.capacity plan.now i given more streams.old.items made.old.items →
         HeldBetween texts pools.old.capacity plan.now i given more streams.new.items made.new.items) }
     ensures streams { length streams.new.items ≡ length streams.old.items }
     ensures made { length made.new.items ≡ length made.old.items }
@@ -129,12 +93,12 @@ pub(crate) fn left_list(
     let nodes = plan.nodes();
     match &nodes[i] {
         Node::Source { stream } => {
-            let again = is_stream_needed(plan, i + 1, *stream);
+            let again = readers.is_stream_needed(plan, i + 1, *stream);
             take_list(alloc, pools, streams, *stream, again)
         }
         other => match other.left_child() {
             Some(child) => {
-                let again = is_needed_right(plan, i, child);
+                let again = is_needed_right(plan, readers, i, child);
                 take_list(alloc, pools, made, child, again)
             }
             None => unreachable!(),
@@ -147,16 +111,26 @@ pub(crate) fn right_list(
     alloc: Global,
     pools: &mut Pools,
     plan: &Plan,
+    readers: &Readers,
     i: usize,
     made: &mut Vec<EdgeList>,
 ) -> Result<EdgeList, Memory>
     requires node { i < length plan.now.nodes }
+    requires readers { AreReaders plan.now readers.now }
     requires room { 1 ≤ pools.old.capacity }
     requires made { length made.old.items ≡ i }
-    requires held { (texts : List (List ℕ)) × ((given : ℕ → List Edge) × ((more : ℕ → List Edge) × ((streams : List EdgeListView) × HeldBetween texts pools.old.capacity plan.now i given more streams made.old.items))) }
-    ensures list { IfOk result (λ l. (texts : List (List ℕ)) (given more : ℕ → List Edge) (streams : List EdgeListView) (n : Node) → HeldBetween texts pools.old.capacity plan.now i given more streams made.old.items →
+    requires held { (texts : List (List ℕ))
+        × ((given : ℕ → List Edge)
+        × ((more : ℕ → List Edge)
+        × ((streams : List EdgeListView)
+        × HeldBetween texts pools.old.capacity plan.now i given more streams made.old.items))) }
+    ensures list { IfOk result (λ l.
+        (texts : List (List ℕ)) (given more : ℕ → List Edge) (streams : List EdgeListView)
+        (n : Node) → HeldBetween texts pools.old.capacity plan.now i given more streams made.old.items →
         slice_get plan.now.nodes i ≡ Some n → IsListWith texts pools.old.capacity (right_kinds plan.now n) (right_of [] more n) l) }
-    ensures held { OnOk result ((texts : List (List ℕ)) (given more : ℕ → List Edge) (streams : List EdgeListView) → HeldBetween texts pools.old.capacity plan.now i given more streams made.old.items →
+    ensures held { OnOk result
+        ((texts : List (List ℕ)) (given more : ℕ → List Edge) (streams : List EdgeListView) →
+        HeldBetween texts pools.old.capacity plan.now i given more streams made.old.items →
         HeldBefore texts pools.old.capacity plan.now (i + 1) given more streams made.new.items) }
     ensures made { length made.new.items ≡ length made.old.items }
     ensures pools { pools.new.capacity ≡ pools.old.capacity }
@@ -165,7 +139,7 @@ pub(crate) fn right_list(
     let nodes = plan.nodes();
     match nodes[i].right_child() {
         Some(child) => {
-            let again = is_needed(plan, i + 1, child);
+            let again = readers.is_needed(plan, i + 1, child);
             take_list(alloc, pools, made, child, again)
         }
         None => EdgeList::new(alloc, &[], pools.capacity()),

@@ -3,7 +3,6 @@ ghost use Rattle.std.specs.Prelude.{◌≡◌, ◌-◌, ◌^◌, ◌<◌, ◌≤
 ghost use Rattle.tw_rows.specs.Texts.{BeginsWith};
 ghost use Rattle.plan_model.specs.declared.node.Node.{Node};
 ghost use Rattle.plan_model.specs.IsPlan.{most_columns};
-ghost use Rattle.built_nodes.specs.Built.{is_built};
 ghost use Rattle.node_laws.specs.Places.{EdgesArePlaced};
 ghost use Rattle.lane_expr.specs.Steps.{with_texts};
 ghost use Rattle.row_stage.specs.Texts.{nodes_in, HasFirstTexts};
@@ -15,9 +14,12 @@ use crate::making::{operator_stage, reads_rows_alone, rows_stage};
 use anti_join::Anti;
 use batch::Pools;
 use clip_op::Clip;
+use coalesce_op::Coalesce;
 use edge_stream::{EdgeList, StepFault};
+use follow_op::Follow;
 use lifetime_ops::{AlterLifetime, ExtendLifetime};
 use operator::Operator;
+use outer_top::Top;
 use plan_model::Plan;
 use session_window::Session;
 use snapshot_agg::Grouped;
@@ -31,7 +33,7 @@ use tw_rows::{Memory, TextTable, Time};
 pub enum Stage {
     /// Of a Source, a Where or a Select.
     Rows(row_stage::RowStage),
-    /// Of a Delay, a Hop or a Duration.
+    /// Of a Delay, a Hop, a Duration or a Mean.
     Life(AlterLifetime),
     /// Of a Union.
     Union(union_op::Union),
@@ -47,10 +49,16 @@ pub enum Stage {
     Clip(Clip),
     /// Of a Session.
     Session(Session),
+    /// Of a Coalesce.
+    Coalesce(Coalesce),
+    /// Of a Follow.
+    Follow(Follow),
+    /// Of a Top.
+    Top(Top),
 }
 
 impl Stage {
-    /// The stage of a node of the plan that is built, for batches of `capacity` rows. The texts of the node's expressions come
+    /// The stage of a node of the plan, for batches of `capacity` rows. The texts of the node's expressions come
     /// into the table, and stay there out of memory.
     pub fn new(
         alloc: Global,
@@ -61,7 +69,6 @@ impl Stage {
     ) -> Result<Stage, Memory>
         requires node { node < length plan.now.nodes }
         requires room { 1 ≤ capacity }
-        requires built { (n : Node) → slice_get plan.now.nodes node ≡ Some n → is_built n ≡ true }
         ensures starts { IfOk result (λ s. (n : Node) → slice_get plan.now.nodes node ≡ Some n →
             StartsFor texts.new capacity plan.now n s) }
         ensures table { OnOk result ((n : Node) → slice_get plan.now.nodes node ≡ Some n →
@@ -131,6 +138,15 @@ impl Stage {
             Stage::Clip(operator) => {
                 step_operator(operator, pools, left, right, left_to, right_to)
             }
+            Stage::Coalesce(operator) => {
+                step_operator(operator, pools, left, right, left_to, right_to)
+            }
+            Stage::Follow(operator) => {
+                step_operator(operator, pools, left, right, left_to, right_to)
+            }
+            Stage::Top(operator) => {
+                step_operator(operator, pools, left, right, left_to, right_to)
+            }
         }
     }
 
@@ -158,6 +174,9 @@ impl Stage {
             Stage::Anti(operator) => operator.held(),
             Stage::Clip(operator) => operator.held(),
             Stage::Session(operator) => operator.held(),
+            Stage::Coalesce(operator) => operator.held(),
+            Stage::Follow(operator) => operator.held(),
+            Stage::Top(operator) => operator.held(),
         }
     }
 }

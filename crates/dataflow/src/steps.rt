@@ -1,46 +1,21 @@
 // One step of each node of a plan.
-ghost use Rattle.std.specs.Prelude.{◌≡◌, ◌<◌, ◌≤◌, ℕ, true, false, Some, List, length, slice_get, IsTrue, IfOk, IfErr, OnOk};
-ghost use Rattle.plan_model.specs.declared.node.Node.{Node};
+ghost use Rattle.std.specs.Prelude.{◌≡◌, ◌<◌, ◌≤◌, ℕ, true, false, List, length, IsTrue, IfOk, IfErr, OnOk};
 ghost use Rattle.plan_model.specs.IsPlan.{kinds_at, most_columns};
 ghost use Rattle.node_laws.specs.Places.{EdgesArePlaced};
 ghost use Rattle.dataflow.specs.Faults.{fault_at};
 ghost use Rattle.dataflow.specs.Lists.{edges_at, AreGiven, IsListOf};
-ghost use Rattle.dataflow.specs.Stages.{left_closing as left_closing_of, right_closing as right_closing_of};
 ghost use Rattle.dataflow.specs.Flows.{parts_of, MayStep, StepsOn, GivesOn, OverflowsAt};
 
+use crate::closings::{closings_at, left_closing, right_closing};
 use crate::fault::PlanFault;
+use crate::readers::Readers;
 use crate::reading::{left_list, right_list};
 use crate::stage::Stage;
 use batch::Pools;
 use edge_stream::{EdgeList, StepFault};
-use plan_model::{Plan, closes};
+use plan_model::Plan;
 use std::alloc::Global;
 use tw_rows::{TextTable, Time};
-
-// The closing of what the node of number `i` reads on the left.
-fn left_closing(plan: &Plan, i: usize, p: Time) -> Time
-    requires { i < length plan.now.nodes }
-    ensures { (n : Node) → slice_get plan.now.nodes i ≡ Some n → result ≡ left_closing_of plan.now.nodes p n }
-{
-    let nodes = plan.nodes();
-    match nodes[i].left_child() {
-        Some(child) => closes(plan, child, p),
-        None => p,
-    }
-}
-
-#[tactic(auto, unfolding(tw_rows::specs::Instant::inf))]
-// The closing of what it reads on the right: infinity where that is nothing.
-fn right_closing(plan: &Plan, i: usize, p: Time) -> Time
-    requires { i < length plan.now.nodes }
-    ensures { (n : Node) → slice_get plan.now.nodes i ≡ Some n → result ≡ right_closing_of plan.now.nodes p n }
-{
-    let nodes = plan.nodes();
-    match nodes[i].right_child() {
-        Some(child) => closes(plan, child, p),
-        None => Time::INF,
-    }
-}
 
 // The fault of the node of that number.
 fn fault_of(node: usize, fault: &StepFault) -> PlanFault
@@ -103,12 +78,14 @@ pub(crate) fn step_all(
     // Its call tells the proof that it is a time.
     let _ = p.word();
     let nodes = plan.nodes();
+    let closings = closings_at(plan, p);
+    let readers = Readers::of(alloc, plan)?;
     let mut made: Vec<EdgeList> = Vec::new(alloc);
     for i in 0..nodes.len() {
-        let left = left_list(alloc, pools, plan, i, &mut given, &mut made)?;
-        let right = right_list(alloc, pools, plan, i, &mut made)?;
-        let left_to = left_closing(plan, i, p);
-        let right_to = right_closing(plan, i, p);
+        let left = left_list(alloc, pools, plan, &readers, i, &mut given, &mut made)?;
+        let right = right_list(alloc, pools, plan, &readers, i, &mut made)?;
+        let left_to = left_closing(plan, &closings, i, p);
+        let right_to = right_closing(plan, &closings, i);
         match stages[i].step(alloc, pools, texts, left, right, left_to, right_to) {
             Ok(list) => {
                 if !are_sure(thawed, &list, texts) {

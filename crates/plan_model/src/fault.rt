@@ -33,8 +33,6 @@ pub enum QueryFault {
     TooManyColumns { item: usize },
     /// A name of a stream or `let` is taken by an earlier one, or a schema or a key has a name twice.
     NameTaken { item: usize },
-    /// A node of the item cannot be computed yet.
-    NotBuilt { item: usize },
 }
 
 /// Why a text gave no query, or a query no plan.

@@ -102,10 +102,6 @@ group = refl
 a_sum_of_texts : step_nodes 3 both_streams 0 (S.Group [] (record { fun = G.Sum; column = Some (107 ∷ []); name = 116 ∷ [] } ∷ [])) ≡ Err (F.TypeClash 3)
 a_sum_of_texts = refl
 
-a_coalesce_is_not_built : planned (over_a (S.Coalesce ∷ [])) ≡ Err (F.NotBuilt 3)
-unfolding most_reach
-a_coalesce_is_not_built = refl
-
 a_period_that_does_not_divide : planned (over_a (S.Hop 60 25 ∷ [])) ≡ Err (F.BadWindow 3)
 unfolding most_reach
 a_period_that_does_not_divide = refl
@@ -115,7 +111,7 @@ too_far : planned (over_a (S.Delay 1152921504606846977 ∷ [])) ≡ Err (F.Reach
 unfolding most_reach
 too_far = refl
 
-not_too_far : planned (over_a (S.Delay 1152921504606846976 ∷ S.Coalesce ∷ [])) ≡ Err (F.NotBuilt 4)
+not_too_far : planned (over_a (S.Delay 1152921504606846976 ∷ S.Hop 60 25 ∷ [])) ≡ Err (F.BadWindow 4)
 unfolding most_reach
 not_too_far = refl
 
@@ -199,7 +195,3 @@ follow = refl
 
 a_follow_over_a_group : step_nodes 4 (with_nodes both_streams (record { node = Group 0 (0 ∷ []) []; schema = text_column 107 ∷ [] } ∷ [])) 2 (S.Follow (97 ∷ []) ((107 ∷ []) ∷ []) 5) ≡ Err (F.NotEventLevel 4)
 a_follow_over_a_group = refl
-
-an_average_is_not_built : planned (over_a (S.Group [] (record { fun = G.Avg; column = Some (118 ∷ []); name = 109 ∷ [] } ∷ []) ∷ [])) ≡ Err (F.NotBuilt 3)
-unfolding most_reach
-an_average_is_not_built = refl

@@ -13,7 +13,7 @@ use Rattle.query_text.specs.declared.query.QueryStep.TheVariants as S
 use Rattle.query_columns.specs.Names.{column_of, key_of, expr_of, exprs_of, tree_exprs, aggs_of}
 use Rattle.query_columns.specs.Types.{same_kind, is_number, type_of, types_of, tree_types}
 use Rattle.query_columns.specs.Schemas.{column_at, select_schema, same_kinds, keys_alike, aggs_fit, fills_fit}
-use Rattle.query_plan.specs.Checked.{is_wide, has_twice, has_unbuilt}
+use Rattle.query_plan.specs.Checked.{is_wide, has_twice}
 use Rattle.query_plan.specs.Draft.{Draft, Planned, and_then, needs, node_named, schema_at, with_nodes, reaches_too_far, admitted}
 use Rattle.query_plan.specs.Faults.{FaultRow, first_fault, fault_of, operand_or, key_or, unknown_sides, unlike_sides, is_test, lacks_events, step_rows, node_rows}
 use Rattle.query_plan.specs.Steps.{alone, over_events, Sides, named_sides, are_alike, sides, joined, is_window, is_top_count, join_node, key_group, anti_node, left_nodes, grouped, step_nodes}
@@ -202,8 +202,7 @@ pub nodes_told : (item : ℕ) (d : Draft) (ps : List Planned) → fault_of (admi
 nodes_told item d ps =
     let far = reaches_too_far (with_nodes d ps).nodes (length d.nodes) (length ps) in
     let many = nat_lt most_nodes (length d.nodes + length ps) in
-    lacks_told far (F.ReachTooLong item) _ (row many (F.TooManyNodes item) ∷ row (is_wide ps) (F.TooManyColumns item) ∷ row (has_twice ps) (F.NameTaken item) ∷ row (has_unbuilt ps) (F.NotBuilt item) ∷ [])
-    (lacks_told many (F.TooManyNodes item) _ (row (is_wide ps) (F.TooManyColumns item) ∷ row (has_twice ps) (F.NameTaken item) ∷ row (has_unbuilt ps) (F.NotBuilt item) ∷ [])
-    (lacks_told (is_wide ps) (F.TooManyColumns item) _ (row (has_twice ps) (F.NameTaken item) ∷ row (has_unbuilt ps) (F.NotBuilt item) ∷ [])
-    (lacks_told (has_twice ps) (F.NameTaken item) _ (row (has_unbuilt ps) (F.NotBuilt item) ∷ [])
-    (lacks_told (has_unbuilt ps) (F.NotBuilt item) (λ u. Ok (with_nodes d ps)) [] refl))))
+    lacks_told far (F.ReachTooLong item) _ (row many (F.TooManyNodes item) ∷ row (is_wide ps) (F.TooManyColumns item) ∷ row (has_twice ps) (F.NameTaken item) ∷ [])
+    (lacks_told many (F.TooManyNodes item) _ (row (is_wide ps) (F.TooManyColumns item) ∷ row (has_twice ps) (F.NameTaken item) ∷ [])
+    (lacks_told (is_wide ps) (F.TooManyColumns item) _ (row (has_twice ps) (F.NameTaken item) ∷ [])
+    (lacks_told (has_twice ps) (F.NameTaken item) (λ u. Ok (with_nodes d ps)) [] refl)))

@@ -14,7 +14,6 @@ use Rattle.plan_model.specs.declared.node.Node.{Node}
 use Rattle.plan_model.specs.IsPlan.{kinds_of_schema, kinds_at, kinds_of_stream, node_kinds, IsSoundOver, ReadsStream, IsOverEvents, HasKeysOnRight, HasCountBelow, AreNodes, most_reach, most_nodes, most_columns}
 use Rattle.plan_model.specs.Meaning.{left_child, right_child, left_of, right_of, HasLower, reads_events, reads_right_events}
 use Rattle.plan_model.specs.Reach.{reach, event_level}
-use Rattle.built_nodes.specs.Built.{is_built}
 use Rattle.plan_model.proofs.Growing.{reach_grows, reach_of_new, nodes_grow}
 use Rattle.query_columns.specs.Schemas.{name_twice}
 use Rattle.query_plan.specs.Draft.{Planned, Draft, and_then, needs, with_nodes, has_key_twice, reaches_too_far, admitted}
@@ -38,22 +37,20 @@ pub passes : {B : Type 0} (test : Bool) (fault : QueryFault) (next : Unit {0} �
 passes true fault next b h = (refl, h)
 passes false fault next b h = absurd (cc)
 
-five_pass : {B : Type 0} (t1 t2 t3 t4 t5 : Bool) (f1 f2 f3 f4 f5 : QueryFault) (a b : B) →
-    and_then (needs t1 f1) (λ u. and_then (needs t2 f2) (λ u. and_then (needs t3 f3) (λ u. and_then (needs t4 f4) (λ u. and_then (needs t5 f5) (λ u. Ok a))))) ≡ Ok b →
-    (t1 ≡ true) × (t2 ≡ true) × (t3 ≡ true) × (t4 ≡ true) × (t5 ≡ true) × (a ≡ b)
-five_pass true true true true true f1 f2 f3 f4 f5 a b h = (refl, refl, refl, refl, refl, same_Ok a b h)
-five_pass false t2 t3 t4 t5 f1 f2 f3 f4 f5 a b h = absurd (cc)
-five_pass true false t3 t4 t5 f1 f2 f3 f4 f5 a b h = absurd (cc)
-five_pass true true false t4 t5 f1 f2 f3 f4 f5 a b h = absurd (cc)
-five_pass true true true false t5 f1 f2 f3 f4 f5 a b h = absurd (cc)
-five_pass true true true true false f1 f2 f3 f4 f5 a b h = absurd (cc)
+four_pass : {B : Type 0} (t1 t2 t3 t4 : Bool) (f1 f2 f3 f4 : QueryFault) (a b : B) →
+    and_then (needs t1 f1) (λ u. and_then (needs t2 f2) (λ u. and_then (needs t3 f3) (λ u. and_then (needs t4 f4) (λ u. Ok a)))) ≡ Ok b →
+    (t1 ≡ true) × (t2 ≡ true) × (t3 ≡ true) × (t4 ≡ true) × (a ≡ b)
+four_pass true true true true f1 f2 f3 f4 a b h = (refl, refl, refl, refl, same_Ok a b h)
+four_pass false t2 t3 t4 f1 f2 f3 f4 a b h = absurd (cc)
+four_pass true false t3 t4 f1 f2 f3 f4 a b h = absurd (cc)
+four_pass true true false t4 f1 f2 f3 f4 a b h = absurd (cc)
+four_pass true true true false f1 f2 f3 f4 a b h = absurd (cc)
 
 -- what an item keeps of the nodes that it puts behind a draft
 pub record IsAdmitted (d : Draft) (ps : List Planned) : Type 0 where
   pub near : reaches_too_far (with_nodes d ps).nodes (length d.nodes) (length ps) ≡ false
   pub room : nat_lt most_nodes (length d.nodes + length ps) ≡ false
   pub narrow : list_any (λ p. nat_lt most_columns (length p.schema)) ps ≡ false
-  pub built : list_any (λ p. not (is_built p.node)) ps ≡ false
 
 pub admitted_is : (item : ℕ) (d e : Draft) (ps : List Planned) → admitted item d ps ≡ Ok e → IsAdmitted d ps × (with_nodes d ps ≡ e)
 admitted_is item d e ps h =
@@ -61,10 +58,9 @@ admitted_is item d e ps h =
     let many = nat_lt most_nodes (length d.nodes + length ps) in
     let wide = list_any (λ (p : Planned). nat_lt most_columns (length p.schema)) ps in
     let twice = list_any (λ (p : Planned). name_twice p.schema || has_key_twice p.node) ps in
-    let unbuilt = list_any (λ (p : Planned). not (is_built p.node)) ps in
-    let all = five_pass (not far) (not many) (not wide) (not twice) (not unbuilt)
-    (F.ReachTooLong item) (F.TooManyNodes item) (F.TooManyColumns item) (F.NameTaken item) (F.NotBuilt item) (with_nodes d ps) e h in
-    (record { near = not-true far all.0; room = not-true many all.1; narrow = not-true wide all.2; built = not-true unbuilt all.4 }, all.5)
+    let all = four_pass (not far) (not many) (not wide) (not twice)
+    (F.ReachTooLong item) (F.TooManyNodes item) (F.TooManyColumns item) (F.NameTaken item) (with_nodes d ps) e h in
+    (record { near = not-true far all.0; room = not-true many all.1; narrow = not-true wide all.2 }, all.4)
 
 -- what is asked of a node, with its schema, that is put behind these nodes, but for how far it reaches and how large it is
 pub record IsFit (streams : List StreamDef) (nodes : List Node) (schemas : List (List ColumnDef)) (n : Node) (schema : List ColumnDef) : Type 0 where
@@ -135,34 +131,18 @@ all_grow streams nodes schemas (p ∷ ps) kept fits near narrow room =
     subst (AreNodes streams (nodes ++ p.node ∷ more)) whole_schemas
     (subst (λ l. AreNodes streams l ((schemas ++ p.schema ∷ []) ++ map (λ (x : Planned). x.schema) ps)) whole rest)
 
--- a draft whose nodes are those of a plan, all of them built, and whose names stand for some of them
+-- a draft whose nodes are those of a plan, and whose names stand for some of them
 pub record IsDraft (streams : List StreamDef) (d : Draft) : Type 0 where
   pub nodes_are : AreNodes streams d.nodes d.schemas
   pub named : All (λ n. n.node < length d.nodes) d.names
-  pub built : list_all is_built d.nodes ≡ true
 
 pub more_named : (d : Draft) (m n : ℕ) → m ≤ n → All (λ x. x.node < m) d.names → All (λ x. x.node < n) d.names
 more_named d m n more named = All-weaker (λ x. x.node < m) (λ x. x.node < n) (λ x low. omega (arith, low, more)) d.names named
-
-built_all : (ps : List Planned) → list_any (λ p. not (is_built p.node)) ps ≡ false → list_all is_built (map (λ (p : Planned). p.node) ps) ≡ true
-built_all [] h = refl
-built_all (p ∷ ps) h =
-    let parts = or_parts (not (is_built p.node)) (list_any (λ (x : Planned). not (is_built x.node)) ps) h in
-    and_from (is_built p.node) (list_all is_built (map (λ (x : Planned). x.node) ps)) (not-false (is_built p.node) parts.0) (built_all ps parts.1)
-
--- built nodes stay so where built ones are put behind them
-built_more : (nodes : List Node) (ps : List Planned) → list_all is_built nodes ≡ true → list_any (λ p. not (is_built p.node)) ps ≡ false →
-    list_all is_built (nodes ++ map (λ (p : Planned). p.node) ps) ≡ true
-built_more [] ps built h = built_all ps h
-built_more (n ∷ ns) ps built h =
-    let parts = and_parts (is_built n) (list_all is_built ns) built in
-    and_from (is_built n) (list_all is_built (ns ++ map (λ (p : Planned). p.node) ps)) parts.0 (built_more ns ps parts.1 h)
 
 grown : (streams : List StreamDef) (d : Draft) (ps : List Planned) → IsDraft streams d → AllFit streams d.nodes d.schemas ps → IsAdmitted d ps → IsDraft streams (with_nodes d ps)
 grown streams d ps kept fits admits = record {
   nodes_are = all_grow streams d.nodes d.schemas ps kept.nodes_are fits admits.near admits.narrow (not_above most_nodes (length d.nodes + length ps) admits.room);
   named = more_named d (length d.nodes) (length (d.nodes ++ map (λ (p : Planned). p.node) ps)) (let long = length-append d.nodes (map (λ (p : Planned). p.node) ps) in omega (arith, long)) kept.named;
-  built = built_more d.nodes ps kept.built admits.built;
 }
 
 -- the nodes of an item that fit are put behind the draft

@@ -15,7 +15,7 @@ use Rattle.plan_model.specs.IsPlan.{most_reach, most_nodes}
 use Rattle.plan_model.specs.Meaning.{left_child, left_of, at_child}
 use Rattle.plan_model.specs.Reach.{reach}
 use Rattle.plan_model.proofs.Folds.{length-results_from}
-use Rattle.query_plan.specs.Checked.{is_wide, has_twice, has_unbuilt, checked}
+use Rattle.query_plan.specs.Checked.{is_wide, has_twice, checked}
 use Rattle.query_plan.specs.Draft.{Draft, Planned, and_then, needs, with_nodes, reaches_too_far, admitted}
 use Rattle.query_plan.proofs.Answering.{goes_on}
 use Rattle.query_plan.specs.Growing.{next_level, levels_of, next_reach, reaches_of, reaches_with}
@@ -89,22 +89,21 @@ reaches_with_is item nodes (p ∷ ps) =
     ∙ ap (λ k. near_from item all k (length ps)) next)))
     ∙ ap (λ k. and_then (needs (not (nat_lt most_reach k || far)) (F.ReachTooLong item)) (λ u. Ok (reaches_of all))) (sym (reach_of_next nodes p.node behind))
 
-regroup : (a b c e g : Bool) (f0 f1 f2 f3 f4 : QueryFault) (all : List ℕ) (d : Draft) →
-    and_then (needs a f0) (λ u. and_then (needs b f1) (λ u. and_then (needs c f2) (λ u. and_then (needs e f3) (λ u. and_then (needs g f4) (λ u. Ok d)))))
-    ≡ and_then (and_then (needs a f0) (λ u. Ok all)) (λ r. and_then (and_then (needs b f1) (λ u. and_then (needs c f2) (λ u. and_then (needs e f3) (λ u. needs g f4)))) (λ u. Ok d))
-regroup false b c e g f0 f1 f2 f3 f4 all d = refl
-regroup true false c e g f0 f1 f2 f3 f4 all d = refl
-regroup true true false e g f0 f1 f2 f3 f4 all d = refl
-regroup true true true false g f0 f1 f2 f3 f4 all d = refl
-regroup true true true true false f0 f1 f2 f3 f4 all d = refl
-regroup true true true true true f0 f1 f2 f3 f4 all d = refl
+regroup : (a b c e : Bool) (f0 f1 f2 f3 : QueryFault) (all : List ℕ) (d : Draft) →
+    and_then (needs a f0) (λ u. and_then (needs b f1) (λ u. and_then (needs c f2) (λ u. and_then (needs e f3) (λ u. Ok d))))
+    ≡ and_then (and_then (needs a f0) (λ u. Ok all)) (λ r. and_then (and_then (needs b f1) (λ u. and_then (needs c f2) (λ u. needs e f3))) (λ u. Ok d))
+regroup false b c e f0 f1 f2 f3 all d = refl
+regroup true false c e f0 f1 f2 f3 all d = refl
+regroup true true false e f0 f1 f2 f3 all d = refl
+regroup true true true false f0 f1 f2 f3 all d = refl
+regroup true true true true f0 f1 f2 f3 all d = refl
 
 -- what is admitted has reaches that are near, and then no other fault
 pub admitted_is : (item : ℕ) (d : Draft) (ps : List Planned) →
     admitted item d ps ≡ and_then (reaches_with item (reaches_of d.nodes) ps) (λ r. and_then (checked item (length d.nodes) ps) (λ u. Ok (with_nodes d ps)))
 admitted_is item d ps =
-    regroup (not (reaches_too_far (with_nodes d ps).nodes (length d.nodes) (length ps))) (not (nat_lt most_nodes (length d.nodes + length ps))) (not (is_wide ps)) (not (has_twice ps)) (not (has_unbuilt ps))
-    (F.ReachTooLong item) (F.TooManyNodes item) (F.TooManyColumns item) (F.NameTaken item) (F.NotBuilt item) (reaches_of (with_nodes d ps).nodes) (with_nodes d ps)
+    regroup (not (reaches_too_far (with_nodes d ps).nodes (length d.nodes) (length ps))) (not (nat_lt most_nodes (length d.nodes + length ps))) (not (is_wide ps)) (not (has_twice ps))
+    (F.ReachTooLong item) (F.TooManyNodes item) (F.TooManyColumns item) (F.NameTaken item) (reaches_of (with_nodes d ps).nodes) (with_nodes d ps)
     ∙ ap (λ q. and_then q (λ r. and_then (checked item (length d.nodes) ps) (λ u. Ok (with_nodes d ps)))) (sym (reaches_with_is item d.nodes ps))
 
 -- where they are near, they are those of all nodes

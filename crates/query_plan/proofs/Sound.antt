@@ -17,7 +17,6 @@ use Rattle.plan_model.specs.declared.node.Node.{Node}
 use Rattle.plan_model.specs.declared.node.Node.TheVariants.{Source, Where, Select, Union, Delay, Hop, Duration, Extend, Session, Clip, Coalesce, Top, Follow}
 use Rattle.plan_model.specs.IsPlan.{kinds_of_schema, kinds_at, IsWindow, AreNarrow, PlanParts, IsPlan, most_columns}
 use Rattle.plan_model.specs.Reach.{event_level}
-use Rattle.built_nodes.specs.Built.{is_built}
 use Rattle.plan_model.proofs.Growing.{no_nodes}
 use Rattle.query_text.specs.declared.query.Item.{Item}
 use Rattle.query_text.specs.declared.query.Let.{Let}
@@ -365,7 +364,6 @@ name_keeps : (streams : List StreamDef) (d : Draft) (name : List ℕ) (node : �
 name_keeps streams d name node kept low = record {
   nodes_are = kept.nodes_are;
   named = All-push (λ n. n.node < length d.nodes) d.names (record { name = name; node = node }) kept.named low;
-  built = kept.built;
 }
 
 -- a draft has no fewer nodes after an item
@@ -455,15 +453,11 @@ narrow_streams item d e (s ∷ ss) h =
     All-cons (λ (x : StreamDef). length x.schema ≤ most_columns) s ss (narrow_stream item d step.0 s step.1) (narrow_streams (suc item) step.0 e ss step.2)
 
 no_draft_kept : (streams : List StreamDef) → AreNarrow streams → IsDraft streams no_draft
-no_draft_kept streams narrow = record { nodes_are = no_nodes streams narrow; named = All-nil (λ n. n.node < 0); built = refl }
+no_draft_kept streams narrow = record { nodes_are = no_nodes streams narrow; named = All-nil (λ n. n.node < 0) }
 
--- a plan whose nodes are all built
-pub record IsBuiltPlan (p : PlanParts) : Type 0 where
-  pub kept : IsPlan p
-  pub built : list_all is_built p.nodes ≡ true
-
-pub planned-is_built : (q : Query) (p : PlanParts) → planned q ≡ Ok p → IsBuiltPlan p
-planned-is_built q p h =
+-- what is planned is a plan
+pub planned-IsPlan : (q : Query) (p : PlanParts) → planned q ≡ Ok p → IsPlan p
+planned-IsPlan q p h =
     let sourced = goes_on (streams_planned 0 no_draft q.streams) (λ d.
     and_then (lets_planned (length q.streams) d q.lets q.body) (λ r.
     Ok (record { streams = q.streams; nodes = r.draft.nodes; schemas = r.draft.schemas; root = r.at }))) p h in
@@ -472,13 +466,5 @@ planned-is_built q p h =
     let r = piped.0 in
     let reached = lets_keep q.streams q.lets q.body (length q.streams) sourced.0 r
     (streams_keep q.streams [] q.streams 0 no_draft sourced.0 refl refl (no_draft_kept q.streams (narrow_streams 0 no_draft sourced.0 q.streams sourced.1)) sourced.1) piped.1 in
-    subst IsBuiltPlan (same_Ok (record { streams = q.streams; nodes = r.draft.nodes; schemas = r.draft.schemas; root = r.at }) p piped.2)
-    (record { kept = record { nodes_are = reached.kept.nodes_are; rooted = reached.low }; built = reached.kept.built })
-
--- what is planned is a plan
-pub planned-IsPlan : (q : Query) (p : PlanParts) → planned q ≡ Ok p → IsPlan p
-planned-IsPlan q p h = (planned-is_built q p h).kept
-
--- and its nodes are built
-pub planned-built : (q : Query) (p : PlanParts) → planned q ≡ Ok p → list_all is_built p.nodes ≡ true
-planned-built q p h = (planned-is_built q p h).built
+    subst IsPlan (same_Ok (record { streams = q.streams; nodes = r.draft.nodes; schemas = r.draft.schemas; root = r.at }) p piped.2)
+    (record { nodes_are = reached.kept.nodes_are; rooted = reached.low })

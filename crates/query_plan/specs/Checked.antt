@@ -4,7 +4,6 @@ use Rattle.std.specs.List.{list_any}
 use Rattle.plan_model.specs.declared.fault.QueryFault.{QueryFault}
 use Rattle.plan_model.specs.declared.fault.QueryFault.TheVariants as F
 use Rattle.plan_model.specs.IsPlan.{most_nodes, most_columns}
-use Rattle.built_nodes.specs.Built.{is_built}
 use Rattle.query_columns.specs.Schemas.{name_twice}
 use Rattle.query_plan.specs.Draft.{Planned, has_key_twice, and_then, needs}
 
@@ -16,14 +15,9 @@ is_wide ps = list_any (λ p. nat_lt most_columns (length p.schema)) ps
 abbrev pub has_twice : List Planned → Bool
 has_twice ps = list_any (λ p. name_twice p.schema || has_key_twice p.node) ps
 
--- one of the nodes cannot be computed today
-abbrev pub has_unbuilt : List Planned → Bool
-has_unbuilt ps = list_any (λ p. not (is_built p.node)) ps
-
 -- nothing, or the first fault of these nodes behind n others
 abbrev pub checked : ℕ → ℕ → List Planned → Result (Unit {0}) QueryFault
 checked item n ps =
     and_then (needs (not (nat_lt most_nodes (n + length ps))) (F.TooManyNodes item)) (λ u.
     and_then (needs (not (is_wide ps)) (F.TooManyColumns item)) (λ u.
-    and_then (needs (not (has_twice ps)) (F.NameTaken item)) (λ u.
-    needs (not (has_unbuilt ps)) (F.NotBuilt item))))
+    needs (not (has_twice ps)) (F.NameTaken item)))

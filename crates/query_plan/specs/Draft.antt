@@ -9,7 +9,6 @@ use Rattle.plan_model.specs.declared.fault.QueryFault.TheVariants as F
 use Rattle.plan_model.specs.declared.node.Node.{Node}
 use Rattle.plan_model.specs.declared.node.Node.TheVariants.{Source, Where, Select, Union, Delay, Hop, Duration, Extend, Session, Clip, Group, Join, Anti, Coalesce, Mean, Top, Follow}
 use Rattle.plan_model.specs.Reach.{reach}
-use Rattle.built_nodes.specs.Built.{is_built}
 use Rattle.plan_model.specs.IsPlan.{most_reach, most_nodes, most_columns}
 use Rattle.query_columns.specs.Schemas.{name_twice, key_twice}
 
@@ -87,12 +86,11 @@ abbrev pub reaches_too_far : List Node → ℕ → ℕ → Bool
 reaches_too_far nodes i n = list_any (λ j. nat_lt most_reach (reach nodes j)) (instants i n)
 
 -- the draft with these nodes, which an item makes, or the first of its faults: how far they reach, how many nodes there
--- are with them, how many columns they have, whether a name or a column of a key stands twice, and whether they are built
+-- are with them, how many columns they have, and whether a name or a column of a key stands twice
 abbrev pub admitted : ℕ → Draft → List Planned → Result Draft QueryFault
 admitted item d ps =
     and_then (needs (not (reaches_too_far (with_nodes d ps).nodes (length d.nodes) (length ps))) (F.ReachTooLong item)) (λ u.
     and_then (needs (not (nat_lt most_nodes (length d.nodes + length ps))) (F.TooManyNodes item)) (λ u.
     and_then (needs (not (list_any (λ p. nat_lt most_columns (length p.schema)) ps)) (F.TooManyColumns item)) (λ u.
     and_then (needs (not (list_any (λ p. name_twice p.schema || has_key_twice p.node) ps)) (F.NameTaken item)) (λ u.
-    and_then (needs (not (list_any (λ p. not (is_built p.node)) ps)) (F.NotBuilt item)) (λ u.
-    Ok (with_nodes d ps))))))
+    Ok (with_nodes d ps)))))

@@ -13,7 +13,7 @@ use Rattle.query_text.specs.declared.query.QueryStep.TheVariants as S
 use Rattle.query_columns.specs.Names.{column_of, key_of, expr_of, exprs_of, tree_exprs, aggs_of}
 use Rattle.query_columns.specs.Types.{same_kind, is_number, type_of, types_of, tree_types}
 use Rattle.query_columns.specs.Schemas.{column_at, same_kinds, keys_alike, aggs_fit, fills_fit}
-use Rattle.query_plan.specs.Checked.{is_wide, has_twice, has_unbuilt}
+use Rattle.query_plan.specs.Checked.{is_wide, has_twice}
 use Rattle.query_plan.specs.Draft.{Draft, Planned, node_named, schema_at, with_nodes, reaches_too_far}
 use Rattle.query_plan.specs.Steps.{is_window, is_top_count}
 
@@ -125,5 +125,4 @@ node_rows item d ps =
     record { holds = reaches_too_far (with_nodes d ps).nodes (length d.nodes) (length ps); fault = F.ReachTooLong item }
     ∷ record { holds = nat_lt most_nodes (length d.nodes + length ps); fault = F.TooManyNodes item }
     ∷ record { holds = is_wide ps; fault = F.TooManyColumns item }
-    ∷ record { holds = has_twice ps; fault = F.NameTaken item }
-    ∷ record { holds = has_unbuilt ps; fault = F.NotBuilt item } ∷ []
+    ∷ record { holds = has_twice ps; fault = F.NameTaken item } ∷ []

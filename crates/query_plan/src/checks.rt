@@ -2,12 +2,11 @@
 ghost use Rattle.std.specs.Prelude.{◌≡◌, ◌+◌, ◌^◌, ◌<◌, nat_lt, not, true, slice_index_or};
 ghost use Rattle.plan_model.specs.Meaning.{at_child};
 ghost use Rattle.query_plan.specs.Answer.{Is};
-ghost use Rattle.query_plan.specs.Checked.{is_wide, has_twice, has_unbuilt, checked};
+ghost use Rattle.query_plan.specs.Checked.{is_wide, has_twice, checked};
 ghost use Rattle.query_plan.specs.Draft.{needs, has_key_twice};
 ghost use Rattle.query_plan.specs.Growing.{next_level, next_reach, near_reach, reaches_with};
 
 use crate::draft::PlannedNode;
-use built_nodes::built;
 use plan_model::{MOST_COLUMNS, MOST_NODES, Node, QueryError, QueryFault, level_over, reach_over};
 use query_columns::{key_twice, name_twice};
 
@@ -131,13 +130,6 @@ fn has_twice(planned: &[PlannedNode]) -> bool
     planned.iter().any(|next| name_twice(next.schema.items()) || has_key_twice(&next.node))
 }
 
-/// Whether one of the nodes cannot be computed today.
-fn has_unbuilt(planned: &[PlannedNode]) -> bool
-    ensures { result ≡ has_unbuilt planned.now }
-{
-    planned.iter().any(|next| !built(&next.node))
-}
-
 /// Nothing, or the first fault of these nodes behind `count` others, but for how far they look back.
 pub(crate) fn checked(item: usize, count: usize, planned: &[PlannedNode]) -> Result<(), QueryError>
     requires { count < 2 ^ 63 }
@@ -148,6 +140,5 @@ pub(crate) fn checked(item: usize, count: usize, planned: &[PlannedNode]) -> Res
         QueryFault::TooManyNodes { item },
     )?;
     needs(!is_wide(planned), QueryFault::TooManyColumns { item })?;
-    needs(!has_twice(planned), QueryFault::NameTaken { item })?;
-    needs(!has_unbuilt(planned), QueryFault::NotBuilt { item })
+    needs(!has_twice(planned), QueryFault::NameTaken { item })
 }

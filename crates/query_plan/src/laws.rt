@@ -1,8 +1,6 @@
 // The laws of what is planned. Each is a function that does nothing; its clauses are the law.
-ghost use Rattle.std.specs.Prelude.{ℕ, ◌≡◌, List, IsTrue};
-ghost use Rattle.std.specs.List.{list_all};
+ghost use Rattle.std.specs.Prelude.{ℕ, ◌≡◌, List};
 ghost use Rattle.plan_model.specs.IsPlan.{PlanParts, IsPlan};
-ghost use Rattle.built_nodes.specs.Built.{is_built};
 ghost use Rattle.query_text.specs.declared.query.Query.{Query};
 ghost use Rattle.query_text.specs.declared.query.QueryStep.{QueryStep};
 ghost use Rattle.query_plan.specs.Draft.{Draft, Planned, admitted};
@@ -17,14 +15,9 @@ pub fn plans_keep_their_rules()
     ensures { (q : Query) (p : PlanParts) → planned q ≡ Ok p → IsPlan p }
 {}
 
-/// Each node of what is planned can be computed today.
-pub fn built_nodes_alone()
-    ensures { (q : Query) (p : PlanParts) → planned q ≡ Ok p → IsTrue (list_all is_built p.nodes) }
-{}
-
 /// Faults come in one order, that of the table in `specs/Faults`: a step has the fault of the first row that holds of it by
 /// itself, of names, kinds, levels and windows; where none does, its nodes have that of the first row that holds of them, of
-/// reach, number, columns, names and what is built. Where no row holds there is no fault.
+/// reach, number, columns and names. Where no row holds there is no fault.
 pub fn faults_are_told_in_order()
     ensures steps { (item : ℕ) (d : Draft) (at : ℕ) (s : QueryStep) → fault_of (step_nodes item d at s) ≡ first_fault (step_rows item d at s) }
     ensures nodes { (item : ℕ) (d : Draft) (ps : List Planned) → fault_of (admitted item d ps) ≡ first_fault (node_rows item d ps) }

@@ -12,6 +12,6 @@ mod planning;
 mod sides;
 mod steps;
 
-pub use laws::{built_nodes_alone, faults_are_told_in_order, plans_keep_their_rules};
+pub use laws::{faults_are_told_in_order, plans_keep_their_rules};
 pub use plan_text::explain;
 pub use planning::plan;

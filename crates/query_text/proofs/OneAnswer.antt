@@ -4,7 +4,7 @@ use Rattle.std.proofs.lemmas.Bool.Decides.{nat_tests}
 use Rattle.query_text.specs.Spelling.{query_of}
 use Rattle.std.proofs.Common.{Bool, true, false, nat_le, sym, ◌∙◌, ap, arith, inl, inr}
 use Rattle.plan_model.specs.declared.fault.QueryFault.{QueryFault}
-use Rattle.plan_model.specs.declared.fault.QueryFault.TheVariants.{Syntax, LongExpr, TooLarge, UnknownName, TypeClash, NotEventLevel, BadWindow, ReachTooLong, TooManyNodes, TooManyColumns, NameTaken, NotBuilt}
+use Rattle.plan_model.specs.declared.fault.QueryFault.TheVariants.{Syntax, LongExpr, TooLarge, UnknownName, TypeClash, NotEventLevel, BadWindow, ReachTooLong, TooManyNodes, TooManyColumns, NameTaken}
 use Rattle.query_grammar.specs.Answer.{IsAnswer}
 use Rattle.query_grammar.specs.declared.fault.Fault.{Fault}
 use Rattle.query_grammar.specs.declared.fault.Fault.TheVariants as F
@@ -31,7 +31,6 @@ which text (ReachTooLong item) h = absurd h
 which text (TooManyNodes item) h = absurd h
 which text (TooManyColumns item) h = absurd h
 which text (NameTaken item) h = absurd h
-which text (NotBuilt item) h = absurd h
 
 pub no_fault : (text : List ℕ) (q : Query) (fault : QueryFault) → IsSmallText text → Spells text q → IsTextFault text fault → ⊥
 no_fault text q fault small spells h = elim (which text fault h) [

@@ -1,8 +1,8 @@
 use Rattle.std.proofs.Common.{refl, arith}
 use Rattle.dataflow.specs.declared.stage.Stage.{Stage}
-use Rattle.dataflow.specs.declared.stage.Stage.TheVariants.{Rows, Life, Union, Extend, Join, Group, Anti, Session, Clip}
+use Rattle.dataflow.specs.declared.stage.Stage.TheVariants.{Rows, Life, Union, Extend, Join, Group, Anti, Session, Clip, Coalesce, Follow, Top}
 use Rattle.dataflow.specs.Stages.{entries_in, KeepsAtMost}
-use Rattle.dataflow.proofs.Variants.{variant_held, life_variant, union_variant, extend_variant, join_variant, group_variant, anti_variant, session_variant, clip_variant}
+use Rattle.dataflow.proofs.Variants.{variant_held, life_variant, union_variant, extend_variant, join_variant, group_variant, anti_variant, session_variant, clip_variant, coalesce_variant, follow_variant, top_variant}
 use Rattle.dataflow.proofs.laws.stages_keep_at_most.Goals as goal
 
 pub returns : goal.returns
@@ -18,3 +18,6 @@ returns c = go
     go (Session o) = variant_held _ _ _ session_variant (Session o) o refl (entries_in (Session o)) (λ texts hl hr out k. c.laws-6.ensures.bounded o texts hl hr out k)
     go (Anti o) = variant_held _ _ _ anti_variant (Anti o) o refl (entries_in (Anti o)) (λ texts hl hr out k. c.laws-7.ensures.bounded o texts hl hr out k)
     go (Clip o) = variant_held _ _ _ clip_variant (Clip o) o refl (entries_in (Clip o)) (λ texts hl hr out k. c.laws-8.ensures.bounded o texts hl hr out k)
+    go (Coalesce o) = variant_held _ _ _ coalesce_variant (Coalesce o) o refl (entries_in (Coalesce o)) (λ texts hl hr out k. c.laws-9.ensures.bounded o texts hl hr out k)
+    go (Follow o) = variant_held _ _ _ follow_variant (Follow o) o refl (entries_in (Follow o)) (λ texts hl hr out k. c.laws-10.ensures.bounded o texts hl hr out k)
+    go (Top o) = variant_held _ _ _ top_variant (Top o) o refl (entries_in (Top o)) (λ texts hl hr out k. c.laws-11.ensures.bounded o texts hl hr out k)

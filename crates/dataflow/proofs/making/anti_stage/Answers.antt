@@ -1,11 +1,13 @@
 use Rattle.std.specs.Prelude.{Some, map, get_or, length}
-use Rattle.std.proofs.Common.{sym, ap, subst, ◌∙◌, arith}
+use Rattle.std.proofs.Common.{refl, sym, ap, subst, ◌∙◌, arith}
 use Rattle.std.proofs.lemmas.Option.{slice_get-get_or}
 use Rattle.tw_rows.specs.Kinds.{cell_kind_of}
-use Rattle.plan_model.specs.declared.node.Node.TheVariants.{Source}
+use Rattle.plan_model.specs.declared.node.Node.TheVariants.{Source, Anti as AntiNode}
 use Rattle.dataflow.specs.declared.stage.Stage.TheVariants.{Anti}
 use Rattle.dataflow.specs.Stages.{left_kinds, StartsFor}
-use Rattle.dataflow.proofs.Starting.{anti_starts, anti_right}
+use Rattle.dataflow.proofs.Starting.{swept_starts, anti_right}
+use Rattle.anti_join.proofs.Resuming.{anti_opens}
+use Rattle.dataflow.proofs.Variants.{anti_variant}
 use Rattle.dataflow.proofs.making.anti_stage.Goals as goal
 
 pub kinds_told-requires : goal.kinds_told-requires
@@ -16,8 +18,8 @@ kinds_told-requires c =
     let is = c.requires.is n there in
     anti_right plan c.nodes.ensures.kept c.args.node is.0 c.args.right c.args.left_key.now c.args.right_key.now (there ∙ ap Some is.1)
 
-pub new-requires-clause-width : goal.new-requires-clause-width
-new-requires-clause-width c = let same = ap length c.deref.ensures.value in let width = c.in_ok-left_kinds.ensures.width in omega (arith, same, width)
+pub new_anti-requires-clause-width : goal.new_anti-requires-clause-width
+new_anti-requires-clause-width c = let same = ap length c.deref.ensures.value in let width = c.in_ok-left_kinds.ensures.width in omega (arith, same, width)
 
 pub returns : goal.returns
 returns c = λ texts n there.
@@ -27,6 +29,8 @@ returns c = λ texts n there.
     let made = c.in_ok-operator.ensures in
     let read = ap (map cell_kind_of) c.deref.ensures.value ∙ c.in_ok-left_kinds.ensures.kinds n there ∙ ap (left_kinds plan) is.1 in
     let told = ap (map cell_kind_of) c.deref-2.ensures.value ∙ c.in_ok-right_kinds.ensures.kinds in
+    let l = c.args.left_key.now in
+    let r = c.args.right_key.now in
     subst (λ m. StartsFor texts c.args.capacity plan m (Anti o)) (sym is.1)
-    (anti_starts plan c.args.capacity c.deref.result.now c.deref-2.result.now texts is.0 c.args.right c.args.left_key.now c.args.right_key.now o
-    made.left_key made.right_key made.left_kinds made.right_kinds made.capacity made.opening read told)
+    (swept_starts Anti anti_variant (λ p new. new) plan c.args.capacity texts (AntiNode is.0 c.args.right l r) (AntiNode 0 1 l r) c.deref.result.now c.deref-2.result.now c.deref.result.now o
+    made.stands made.opening (anti_opens o.sweep made.opening.0) (record { events = λ a b. refl; closes = λ x y. refl; undefined = λ rows. refl; held = λ x y hl hr. refl }) refl read told read)

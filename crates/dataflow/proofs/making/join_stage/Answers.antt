@@ -1,11 +1,14 @@
 use Rattle.std.specs.Prelude.{Some, map, get_or}
-use Rattle.std.proofs.Common.{sym, ap, subst, ◌∙◌}
+use Rattle.std.proofs.Common.{refl, sym, ap, subst, ◌∙◌}
 use Rattle.std.proofs.lemmas.Option.{slice_get-get_or}
 use Rattle.tw_rows.specs.Kinds.{cell_kind_of}
-use Rattle.plan_model.specs.declared.node.Node.TheVariants.{Source}
+use Rattle.plan_model.specs.declared.node.Node.TheVariants.{Source, Join as JoinNode}
+use Rattle.plan_model.specs.Keys.{paired_row}
 use Rattle.dataflow.specs.declared.stage.Stage.TheVariants.{Join}
 use Rattle.dataflow.specs.Stages.{left_kinds, StartsFor}
-use Rattle.dataflow.proofs.Starting.{join_starts, join_right, join_narrow}
+use Rattle.dataflow.proofs.Starting.{swept_starts, join_right, join_narrow, join_kinds}
+use Rattle.temporal_join.proofs.Resuming.{join_opens}
+use Rattle.dataflow.proofs.Variants.{join_variant}
 use Rattle.dataflow.proofs.making.join_stage.Goals as goal
 
 pub kinds_told-requires : goal.kinds_told-requires
@@ -16,8 +19,8 @@ kinds_told-requires c =
     let is = c.requires.is n there in
     join_right plan c.nodes.ensures.kept c.args.node is.0 c.args.right c.args.left_key.now c.args.right_key.now (there ∙ ap Some is.1)
 
-pub new-requires-clause-width : goal.new-requires-clause-width
-new-requires-clause-width c =
+pub new_join-requires-clause-width : goal.new_join-requires-clause-width
+new_join-requires-clause-width c =
     let plan = c.args.plan.now in
     let n = get_or plan.nodes c.args.node (Source 0) in
     let there = slice_get-get_or plan.nodes c.args.node (Source 0) c.requires.node in
@@ -34,6 +37,8 @@ returns c = λ texts n there.
     let made = c.in_ok-operator.ensures in
     let read = ap (map cell_kind_of) c.deref.ensures.value ∙ c.in_ok-left_kinds.ensures.kinds n there ∙ ap (left_kinds plan) is.1 in
     let told = ap (map cell_kind_of) c.deref-2.ensures.value ∙ c.in_ok-right_kinds.ensures.kinds in
+    let l = c.args.left_key.now in
+    let r = c.args.right_key.now in
     subst (λ m. StartsFor texts c.args.capacity plan m (Join o)) (sym is.1)
-    (join_starts plan c.args.capacity c.deref.result.now c.deref-2.result.now texts is.0 c.args.right c.args.left_key.now c.args.right_key.now o
-    made.left_key made.right_key made.left_kinds made.right_kinds made.own_kinds made.capacity made.opening read told)
+    (swept_starts Join join_variant (λ p new. new) plan c.args.capacity texts (JoinNode is.0 c.args.right l r) (JoinNode 0 1 l r) c.deref.result.now c.deref-2.result.now (paired_row r c.deref.result.now c.deref-2.result.now) o
+    made.stands made.opening (join_opens o.sweep made.opening.0) (record { events = λ a b. refl; closes = λ x y. refl; undefined = λ rows. refl; held = λ x y hl hr. refl }) refl read told (join_kinds plan is.0 c.args.right l r c.deref.result.now c.deref-2.result.now read told))

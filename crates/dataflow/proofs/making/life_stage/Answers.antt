@@ -1,9 +1,12 @@
-use Rattle.std.specs.Prelude.{map}
+use Rattle.std.specs.Prelude.{Some, map, get_or}
+use Rattle.std.proofs.lemmas.Option.{slice_get-get_or}
 use Rattle.std.proofs.Common.{sym, ap, subst, ◌∙◌}
 use Rattle.tw_rows.specs.Kinds.{cell_kind_of}
+use Rattle.plan_model.specs.declared.node.Node.TheVariants.{Source}
+use Rattle.lifetime_ops.specs.Nodes.{divides_ints}
 use Rattle.dataflow.specs.declared.stage.Stage.TheVariants.{Life}
 use Rattle.dataflow.specs.Stages.{left_kinds, StartsFor}
-use Rattle.dataflow.proofs.Starting.{life_starts}
+use Rattle.dataflow.proofs.Starting.{life_starts, change_divides}
 use Rattle.dataflow.proofs.making.life_stage.Goals as goal
 
 pub returns : goal.returns
@@ -15,3 +18,12 @@ returns c = λ texts n there.
     let read = ap (map cell_kind_of) c.deref.ensures.value ∙ c.in_ok-kinds.ensures.kinds n there ∙ ap (left_kinds plan) is.1 in
     subst (λ m. StartsFor texts c.args.capacity plan m (Life o)) (sym is.1)
     (life_starts plan c.args.capacity c.deref.result.now texts is.0 c.args.change o made.change made.carried made.times.0 made.times.1 made.works read)
+
+pub new-requires-clause-ints : goal.new-requires-clause-ints
+new-requires-clause-ints c =
+    let plan = c.args.plan.now in
+    let n = get_or plan.nodes c.args.node (Source 0) in
+    let there = slice_get-get_or plan.nodes c.args.node (Source 0) c.requires.node in
+    let is = c.requires.is n there in
+    let read = ap (map cell_kind_of) c.deref.ensures.value ∙ c.in_ok-kinds.ensures.kinds n there ∙ ap (left_kinds plan) is.1 in
+    ap (divides_ints c.args.change) read ∙ change_divides plan c.nodes.ensures.kept c.args.node is.0 c.args.change (there ∙ ap Some is.1)

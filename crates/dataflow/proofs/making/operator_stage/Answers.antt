@@ -15,5 +15,6 @@ two_sided_stage-requires c =
       node = c.requires.node;
       room = c.requires.room;
       two = λ m there. subst (λ k. has_two k ≡ true) (one_node plan c.args.node n at m there)
-          (two_left n (c.requires.built n at.here) (c.requires.other n at.here) other.not-Delay other.not-Hop other.not-Duration other.not-Extend other.not-Group other.not-Session);
+          (two_left n (c.requires.other n at.here) other.not-Delay other.not-Hop other.not-Duration other.not-Extend other.not-Group other.not-Session
+          other.not-Coalesce other.not-Mean other.not-Top);
     }

@@ -8,4 +8,4 @@ unreachable-requires c =
     let n = c.index-nodes-node.result in
     let at = node_at plan _ c.args.node n c.nodes-nodes.ensures.kept c.nodes-nodes.ensures.nodes c.requires.node c.index-nodes-node.is in
     let other = c.in_default in
-    two_alone n (c.requires.two n at.here) other.not-Union other.not-Join other.not-Anti other.not-Clip
+    two_alone n (c.requires.two n at.here) other.not-Union other.not-Join other.not-Anti other.not-Clip other.not-Follow

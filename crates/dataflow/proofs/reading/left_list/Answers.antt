@@ -12,6 +12,18 @@ use Rattle.dataflow.specs.Held.{HeldBefore, HeldBetween, IsListWith}
 use Rattle.dataflow.proofs.HeldLists.{IfOk-three, left_stream_taken, left_node_taken, stream_list, left_child_list}
 use Rattle.dataflow.proofs.reading.left_list.Goals as goal
 
+pub is_stream_needed-again-requires-clause-stream : goal.is_stream_needed-again-requires-clause-stream
+is_stream_needed-again-requires-clause-stream c =
+    let at = node_at c.args.plan.now _ c.args.i _ c.nodes-nodes.ensures.kept c.nodes-nodes.ensures.nodes c.requires.node c.index-nodes-i.is in
+    stream_there c.args.plan.now c.args.i c.index-nodes-i.result at c.in-Source.stream c.in-Source.is
+
+pub is_needed_right-again-requires-clause-child : goal.is_needed_right-again-requires-clause-child
+is_needed_right-again-requires-clause-child c =
+    let at = node_at c.args.plan.now _ c.args.i _ c.nodes-nodes.ensures.kept c.nodes-nodes.ensures.nodes c.requires.node c.index-nodes-i.is in
+    let low : c.in-Some.child < c.args.i = subst (HasLower c.args.i) (sym c.left_child.ensures ∙ c.in-Some.is) (at.kept.nodes_are.each c.args.i c.index-nodes-i.result at.here).left_lower in
+    let within = c.requires.node in
+    omega (arith, low, within)
+
 pub take_list-requires-clause-at : goal.take_list-requires-clause-at
 take_list-requires-clause-at c =
     let at = node_at c.args.plan.now _ c.args.i _ c.nodes-nodes.ensures.kept c.nodes-nodes.ensures.nodes c.requires.node c.index-nodes-i.is in

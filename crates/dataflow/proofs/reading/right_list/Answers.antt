@@ -1,4 +1,4 @@
-use Rattle.std.proofs.Common.{◌≡◌, ◌<◌, ◌∙◌, ◌+◌, ℕ, List, [], ap, sym, subst, inl}
+use Rattle.std.proofs.Common.{◌≡◌, ◌<◌, ◌∙◌, ◌+◌, ℕ, List, [], ap, sym, subst, arith, inl}
 use Rattle.std.specs.Prelude.{◌≢◌, ◌⊎◌, true, Some, slice_get, get_or}
 use Rattle.std.proofs.lemmas.Result.{IfOk-weaker}
 use Rattle.tw_rows.specs.declared.edge.Edge.{Edge}
@@ -10,6 +10,13 @@ use Rattle.dataflow.specs.Stages.{right_kinds}
 use Rattle.dataflow.specs.Held.{HeldBefore, HeldBetween, IsListWith}
 use Rattle.dataflow.proofs.HeldLists.{IfOk-three, right_node_taken, right_child_list, right_no_list}
 use Rattle.dataflow.proofs.reading.right_list.Goals as goal
+
+pub is_needed-again-requires-clause-child : goal.is_needed-again-requires-clause-child
+is_needed-again-requires-clause-child c =
+    let at = node_at c.args.plan.now _ c.args.i _ c.nodes-nodes.ensures.kept c.nodes-nodes.ensures.nodes c.requires.node c.index-nodes-i.is in
+    let low : c.in-Some.child < c.args.i = subst (HasLower c.args.i) (sym c.right_child.ensures ∙ c.in-Some.is) (at.kept.nodes_are.each c.args.i c.index-nodes-i.result at.here).right_lower in
+    let within = c.requires.node in
+    omega (arith, low, within)
 
 pub take_list-requires-clause-at : goal.take_list-requires-clause-at
 take_list-requires-clause-at c =

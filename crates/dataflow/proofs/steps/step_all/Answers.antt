@@ -50,7 +50,7 @@ step-requires-clause-ready c =
     let u = c.left_closing-left_to.result in
     let v = c.right_closing-right_to.result in
     let eu = c.left_closing-left_to.ensures n here.1 in
-    let ev = c.right_closing-right_to.ensures n here.1 in
+    let ev = c.right_closing-right_to.ensures c.args.p n c.closings_at-closings.ensures here.1 in
     let within = c.word.ensures.within in
     can_take texts plan whole capacity c.args.p within i n here.1 given before.more left right read.is_left read.is_right stages s at u v eu ev may.last can.ready may.later
 
@@ -116,7 +116,7 @@ returns-in-Err-clause-overflow c = λ node time e last old lists source distinct
     let u = c.left_closing-left_to.result in
     let v = c.right_closing-right_to.result in
     let eu = c.left_closing-left_to.ensures n here.1 in
-    let ev = c.right_closing-right_to.ensures n here.1 in
+    let ev = c.right_closing-right_to.ensures c.args.p n c.closings_at-closings.ensures here.1 in
     let within = c.word.ensures.within in
     let f = fault_of_overflow i c.in-Err.fault node time (sym c.fault_of.ensures ∙ e) in
     let so_far = before.progress last old lists source distinct flows later from begun in
@@ -149,7 +149,7 @@ loop-i-preserved c =
     let u = c.left_closing-left_to.result in
     let v = c.right_closing-right_to.result in
     let eu = c.left_closing-left_to.ensures n here.1 in
-    let ev = c.right_closing-right_to.ensures n here.1 in
+    let ev = c.right_closing-right_to.ensures c.args.p n c.closings_at-closings.ensures here.1 in
     let within = c.word.ensures.within in
     let out = c.in-Ok.list in
     let new = c.step.new.self in

@@ -4,11 +4,11 @@ use Rattle.node_laws.specs.Places.{EdgesArePlaced}
 use Rattle.dataflow.specs.declared.fault.PlanFault.TheVariants.{Overflow}
 use Rattle.dataflow.specs.Lists.{edges_at, AreOfStreams}
 use Rattle.dataflow.specs.Flows.{DataflowView, StepsOn, OverflowsAt, parts_of}
-use Rattle.dataflow.proofs.Sure.{sure_or_tested, given_placed}
+use Rattle.dataflow.proofs.Sure.{sure_or_tested, given_placed, steps_on}
 use Rattle.dataflow.proofs.dataflow.Dataflow.step.Goals as goal
 
-pub step_all-requires-clause-given : goal.step_all-requires-clause-given
-step_all-requires-clause-given c =
+pub step_all-stepped-requires-clause-given : goal.step_all-stepped-requires-clause-given
+step_all-stepped-requires-clause-given c =
     let texts = c.args.texts.now in
     let inside = c.self.inside in
     let rows : c.args.pools.now.capacity ≡ inside.capacity = c.requires.capacity ∙ sym (ap (λ d. d.capacity) c.self.view_is) in
@@ -18,18 +18,22 @@ step_all-requires-clause-given c =
     (λ fresh. c.requires.placed (sym (ap (λ d. d.thawed) c.self.view_is) ∙ fresh))
     (λ thawed s. subst (λ ls. EdgesArePlaced texts (edges_at ls s)) c.deref.ensures.value (c.are_all_sure.ensures.tested thawed c.if-not-are_all_sure.false s)))
 
-pub returns-clause-overflow : goal.returns-clause-overflow
-returns-clause-overflow c =
-    let inside = c.self.inside in
-    let rows : c.args.pools.now.capacity ≡ inside.capacity = c.requires.capacity ∙ sym (ap (λ d. d.capacity) c.self.view_is) in
-    let P : DataflowView → Type 0 = λ d. IfErr c.step_all.result (λ fault. (node time : ℕ) → fault ≡ Overflow node time → OverflowsAt c.args.texts.now c.args.p (edges_at c.args.given.items) d node time) in
-    subst P c.self.view_is (subst (λ k. P (parts_of inside.plan inside.stages.items k inside.thawed)) rows c.step_all.ensures.overflow)
-
 pub returns-clause-can : goal.returns-clause-can
 returns-clause-can c =
     let inside = c.self.inside in
     let rows : c.args.pools.now.capacity ≡ inside.capacity = c.requires.capacity ∙ sym (ap (λ d. d.capacity) c.self.view_is) in
-    let after : ℕ → DataflowView = λ k. parts_of inside.plan c.step_all.new.stages.items k inside.thawed in
-    let P : DataflowView → Type 0 = λ d. OnOk c.step_all.result (StepsOn c.args.texts.now c.args.p d (after inside.capacity)) in
+    let after : ℕ → DataflowView = λ k. parts_of inside.plan c.step_all-stepped.new.stages.items k inside.thawed in
+    let P : DataflowView → Type 0 = λ d. OnOk c.step_all-stepped.result (StepsOn c.args.texts.now c.args.p d (after inside.capacity)) in
+    steps_on c.step_all-stepped.result c.args.texts.now c.args.p c.args.self.now inside.plan c.step_all-stepped.new.stages.items inside.capacity inside.thawed c.fault_in-self-inside.result c.fault_in-self-inside.ensures.ok
+    (subst P c.self.view_is
+    (subst (λ f. P (record { plan = inside.plan; stages = inside.stages.items; capacity = inside.capacity; thawed = inside.thawed; fault = f })) (sym c.in_default.is)
+    (subst (λ k. OnOk c.step_all-stepped.result (StepsOn c.args.texts.now c.args.p (parts_of inside.plan inside.stages.items k inside.thawed) (after k))) rows c.step_all-stepped.ensures.can)))
+
+pub returns-clause-overflow : goal.returns-clause-overflow
+returns-clause-overflow c = λ none.
+    let inside = c.self.inside in
+    let rows : c.args.pools.now.capacity ≡ inside.capacity = c.requires.capacity ∙ sym (ap (λ d. d.capacity) c.self.view_is) in
+    let P : DataflowView → Type 0 = λ d. IfErr c.step_all-stepped.result (λ fault. (node time : ℕ) → fault ≡ Overflow node time → OverflowsAt c.args.texts.now c.args.p (edges_at c.args.given.items) d node time) in
     subst P c.self.view_is
-    (subst (λ k. OnOk c.step_all.result (StepsOn c.args.texts.now c.args.p (parts_of inside.plan inside.stages.items k inside.thawed) (after k))) rows c.step_all.ensures.can)
+    (subst (λ f. P (record { plan = inside.plan; stages = inside.stages.items; capacity = inside.capacity; thawed = inside.thawed; fault = f })) (sym c.in_default.is)
+    (subst (λ k. P (parts_of inside.plan inside.stages.items k inside.thawed)) rows c.step_all-stepped.ensures.overflow))

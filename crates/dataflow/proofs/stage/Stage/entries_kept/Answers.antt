@@ -26,3 +26,12 @@ returns-in-Clip c = c.held-in-Clip.ensures ∙ ap (λ s. min (entries_in s) (2 ^
 
 pub returns-in-Session : goal.returns-in-Session
 returns-in-Session c = c.held-in-Session.ensures ∙ ap (λ s. min (entries_in s) (2 ^ 64 - 1)) (sym c.in-Session.is)
+
+pub returns-in-Coalesce : goal.returns-in-Coalesce
+returns-in-Coalesce c = c.held-in-Coalesce.ensures ∙ ap (λ s. min (entries_in s) (2 ^ 64 - 1)) (sym c.in-Coalesce.is)
+
+pub returns-in-Follow : goal.returns-in-Follow
+returns-in-Follow c = c.held-in-Follow.ensures ∙ ap (λ s. min (entries_in s) (2 ^ 64 - 1)) (sym c.in-Follow.is)
+
+pub returns-in-Top : goal.returns-in-Top
+returns-in-Top c = c.held-in-Top.ensures ∙ ap (λ s. min (entries_in s) (2 ^ 64 - 1)) (sym c.in-Top.is)

@@ -26,7 +26,6 @@ operator_stage-requires c =
     record {
       node = c.requires.node;
       room = c.requires.room;
-      built = c.requires.built;
       other = λ m there. subst (λ k. is_of_rows k ≡ false) (one_node plan c.args.node n at m there) (sym c.reads_rows_alone.ensures ∙ c.if-reads_rows_alone.false);
     }
 

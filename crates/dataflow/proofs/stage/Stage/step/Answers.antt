@@ -1,4 +1,4 @@
-use Rattle.dataflow.proofs.Variants.{variant_ready, variant_kept, variant_defined, variant_overflow, life_variant, union_variant, extend_variant, join_variant, group_variant, anti_variant, session_variant, clip_variant}
+use Rattle.dataflow.proofs.Variants.{variant_ready, variant_kept, variant_defined, variant_overflow, life_variant, union_variant, extend_variant, join_variant, group_variant, anti_variant, session_variant, clip_variant, coalesce_variant, follow_variant, top_variant}
 use Rattle.dataflow.proofs.stage.Stage.step.Goals as goal
 
 pub returns-in-Life-clause-ready : goal.returns-in-Life-clause-ready
@@ -128,3 +128,51 @@ returns-in-Clip-clause-defined c =
 pub returns-in-Clip-clause-overflow : goal.returns-in-Clip-clause-overflow
 returns-in-Clip-clause-overflow c =
     variant_overflow _ _ _ clip_variant c.args.texts.now c.args.left c.args.right c.args.self.now c.in-Clip.operator c.step_operator-in-Clip.new.operator c.in-Clip.is c.args.left_to c.args.right_to c.step_operator-in-Clip.result c.step_operator-in-Clip.ensures.overflow
+
+pub returns-in-Coalesce-clause-ready : goal.returns-in-Coalesce-clause-ready
+returns-in-Coalesce-clause-ready c =
+    variant_ready _ _ _ coalesce_variant c.args.texts.now c.args.left c.args.right c.args.self.now c.in-Coalesce.operator c.step_operator-in-Coalesce.new.operator c.in-Coalesce.is c.args.left_to c.args.right_to c.step_operator-in-Coalesce.result c.step_operator-in-Coalesce.ensures.ready
+
+pub returns-in-Coalesce-clause-kept : goal.returns-in-Coalesce-clause-kept
+returns-in-Coalesce-clause-kept c =
+    variant_kept _ _ _ coalesce_variant c.args.texts.now c.args.left c.args.right c.args.self.now c.in-Coalesce.operator c.step_operator-in-Coalesce.new.operator c.in-Coalesce.is c.args.left_to c.args.right_to c.step_operator-in-Coalesce.result c.step_operator-in-Coalesce.ensures.kept
+
+pub returns-in-Coalesce-clause-defined : goal.returns-in-Coalesce-clause-defined
+returns-in-Coalesce-clause-defined c =
+    variant_defined _ _ _ coalesce_variant c.args.texts.now c.args.left c.args.right c.args.self.now c.in-Coalesce.operator c.step_operator-in-Coalesce.new.operator c.in-Coalesce.is c.args.left_to c.args.right_to c.step_operator-in-Coalesce.result c.step_operator-in-Coalesce.ensures.defined
+
+pub returns-in-Coalesce-clause-overflow : goal.returns-in-Coalesce-clause-overflow
+returns-in-Coalesce-clause-overflow c =
+    variant_overflow _ _ _ coalesce_variant c.args.texts.now c.args.left c.args.right c.args.self.now c.in-Coalesce.operator c.step_operator-in-Coalesce.new.operator c.in-Coalesce.is c.args.left_to c.args.right_to c.step_operator-in-Coalesce.result c.step_operator-in-Coalesce.ensures.overflow
+
+pub returns-in-Follow-clause-ready : goal.returns-in-Follow-clause-ready
+returns-in-Follow-clause-ready c =
+    variant_ready _ _ _ follow_variant c.args.texts.now c.args.left c.args.right c.args.self.now c.in-Follow.operator c.step_operator-in-Follow.new.operator c.in-Follow.is c.args.left_to c.args.right_to c.step_operator-in-Follow.result c.step_operator-in-Follow.ensures.ready
+
+pub returns-in-Follow-clause-kept : goal.returns-in-Follow-clause-kept
+returns-in-Follow-clause-kept c =
+    variant_kept _ _ _ follow_variant c.args.texts.now c.args.left c.args.right c.args.self.now c.in-Follow.operator c.step_operator-in-Follow.new.operator c.in-Follow.is c.args.left_to c.args.right_to c.step_operator-in-Follow.result c.step_operator-in-Follow.ensures.kept
+
+pub returns-in-Follow-clause-defined : goal.returns-in-Follow-clause-defined
+returns-in-Follow-clause-defined c =
+    variant_defined _ _ _ follow_variant c.args.texts.now c.args.left c.args.right c.args.self.now c.in-Follow.operator c.step_operator-in-Follow.new.operator c.in-Follow.is c.args.left_to c.args.right_to c.step_operator-in-Follow.result c.step_operator-in-Follow.ensures.defined
+
+pub returns-in-Follow-clause-overflow : goal.returns-in-Follow-clause-overflow
+returns-in-Follow-clause-overflow c =
+    variant_overflow _ _ _ follow_variant c.args.texts.now c.args.left c.args.right c.args.self.now c.in-Follow.operator c.step_operator-in-Follow.new.operator c.in-Follow.is c.args.left_to c.args.right_to c.step_operator-in-Follow.result c.step_operator-in-Follow.ensures.overflow
+
+pub returns-in-Top-clause-ready : goal.returns-in-Top-clause-ready
+returns-in-Top-clause-ready c =
+    variant_ready _ _ _ top_variant c.args.texts.now c.args.left c.args.right c.args.self.now c.in-Top.operator c.step_operator-in-Top.new.operator c.in-Top.is c.args.left_to c.args.right_to c.step_operator-in-Top.result c.step_operator-in-Top.ensures.ready
+
+pub returns-in-Top-clause-kept : goal.returns-in-Top-clause-kept
+returns-in-Top-clause-kept c =
+    variant_kept _ _ _ top_variant c.args.texts.now c.args.left c.args.right c.args.self.now c.in-Top.operator c.step_operator-in-Top.new.operator c.in-Top.is c.args.left_to c.args.right_to c.step_operator-in-Top.result c.step_operator-in-Top.ensures.kept
+
+pub returns-in-Top-clause-defined : goal.returns-in-Top-clause-defined
+returns-in-Top-clause-defined c =
+    variant_defined _ _ _ top_variant c.args.texts.now c.args.left c.args.right c.args.self.now c.in-Top.operator c.step_operator-in-Top.new.operator c.in-Top.is c.args.left_to c.args.right_to c.step_operator-in-Top.result c.step_operator-in-Top.ensures.defined
+
+pub returns-in-Top-clause-overflow : goal.returns-in-Top-clause-overflow
+returns-in-Top-clause-overflow c =
+    variant_overflow _ _ _ top_variant c.args.texts.now c.args.left c.args.right c.args.self.now c.in-Top.operator c.step_operator-in-Top.new.operator c.in-Top.is c.args.left_to c.args.right_to c.step_operator-in-Top.result c.step_operator-in-Top.ensures.overflow
