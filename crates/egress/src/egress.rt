@@ -1,6 +1,8 @@
 // Output while the input goes on.
 ghost use Rattle.std.specs.Prelude.{◌≡◌, ℕ, false, List, [], ◌++◌, IfOk, IfErr, OnOk, OnErr, is_err};
 ghost use Rattle.tw_rows.specs.Cells.{ArePlaced};
+ghost use Rattle.edge_stream.specs.Listing.{cells_of};
+ghost use Rattle.edge_stream.specs.Taking.{batches_given};
 ghost use Rattle.node_laws.specs.Places.{EdgesArePlaced};
 ghost use Rattle.egress.specs.Output.{Holds, IsPlacedIn, IsText, IsRendered, GoesOn, GoesOnWith, ShowsTo};
 ghost use Rattle.egress.specs.Print.{punctuation_if};
@@ -10,6 +12,7 @@ use crate::loading::load_entries;
 use crate::open_rows::OpenRows;
 use crate::saving::{copy_starts, copy_waiting, save_rest, save_waiting};
 use crate::waiting::{Expected, pop_due, put_singles};
+use batch::Pools;
 use edge_stream::{EdgeList, LoadFault, Saved};
 use line_text::push_punctuation;
 use std::alloc::Global;
@@ -111,18 +114,31 @@ impl Egress {
     }
 
     /// Takes the next edges, which come from the time up to which edges were taken before, and works out the changes up to
-    /// `to`. Ends that are known ahead wait. Out of memory is an end: `failed` is then true.
-    pub fn take(&mut self, edges: EdgeList, to: Time, texts: &TextTable) -> Result<(), Memory>
+    /// `to`. Ends that are known ahead wait. The columns go to the pools, which are of the list's capacity. Out of memory is
+    /// an end: `failed` is then true.
+    pub fn take(
+        &mut self,
+        pools: &mut Pools,
+        edges: EdgeList,
+        to: Time,
+        texts: &TextTable,
+    ) -> Result<(), Memory>
         requires ready { self.old.failed ≡ false }
+        requires capacity { pools.old.capacity ≡ edges.capacity }
         requires placed { EdgesArePlaced texts.now edges.edges }
         requires waiting { IsPlacedIn texts.now self.old }
         ensures holds { OnOk result (GoesOn texts.now edges.edges to self.old self.new) }
         ensures placed { OnOk result (IsPlacedIn texts.now self.new) }
         ensures kinds { self.new.rows.kinds.items ≡ self.old.rows.kinds.items }
+        ensures given { OnOk result (pools.new ≡ batches_given edges.batches pools.old (cells_of edges)) }
+        ensures pools { OnErr result (pools.new ≡ pools.old) }
+        ensures capacity { pools.new.capacity ≡ pools.old.capacity }
+        ensures limit { pools.new.limit ≡ pools.old.limit }
         ensures failed { self.new.failed ≡ is_err result }
     {
         self.failed = true;
         self.take_edges(&edges, to, texts)?;
+        edges.give_back(pools);
         self.failed = false;
         Ok(())
     }

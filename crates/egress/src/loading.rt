@@ -129,7 +129,8 @@ fn load_entry(
     ensures open { OnOk result (EachIsOpen loaded.old.starts → EachIsOpen loaded.new.starts) }
     ensures waiting { OnOk result (ArePut (waiting_in loaded.old.waiting) (waiting_in loaded.new.waiting) (end_of entry.now)) }
     ensures follows { OnOk result (MayFollow kinds.now closed loaded.old.starts loaded.old.ends entry.now) }
-    ensures refused { IfErr result (λ fault. fault ≡ LoadFault.NotState → MayFollow kinds.now closed loaded.old.starts loaded.old.ends entry.now → ⊥) }
+    ensures refused { IfErr result (λ fault. fault ≡ LoadFault.NotState →
+        MayFollow kinds.now closed loaded.old.starts loaded.old.ends entry.now → ⊥) }
 {
     if !is_kept(entry, kinds, closed) {
         return Err(LoadFault::NotState);

@@ -43,8 +43,8 @@ pub record IsShorterBelow {S : Type 0} (end : ℕ) (old new : List (ℕ × Vec E
   pub below : first.0 < end
 
 -- from one list and pools to others: the pools are what the batches of the list leave, as they were before
-abbrev pub Takes : EdgeListView → Shelves → EdgeListView → Shelves → Type 0
-Takes old before new after = (first : Shelves) (kinds : List CellKind) → cells_of old ≡ kinds →
+abbrev pub TakesBatches : EdgeListView → Shelves → EdgeListView → Shelves → Type 0
+TakesBatches old before new after = (first : Shelves) (kinds : List CellKind) → cells_of old ≡ kinds →
     before ≡ batches_taken old.batches first kinds → after ≡ batches_taken new.batches first kinds
 
 -- what the batches of lists leave of the pools, list by list

@@ -1,5 +1,7 @@
 // Lines that are admitted, one by one.
-ghost use Rattle.std.specs.Prelude.{◌≡◌, ℕ, ◌+◌, ◌-◌, ◌^◌, min, ◌<◌, ◌≤◌, ◌&&◌, nat_lt, List, [], length, get_or, map, take, Ok, Err, IfSome, IfOk, IfErr, OnOk, OnErr, MatchOption};
+ghost use Rattle.std.specs.Prelude.{◌≡◌, ℕ, ◌+◌, ◌-◌, ◌^◌, min, ◌<◌, ◌≤◌, ◌&&◌, nat_lt, List, []};
+ghost use Rattle.std.specs.Prelude.{length, get_or, map, take, Ok, Err, IfSome, IfOk, IfErr, OnOk};
+ghost use Rattle.std.specs.Prelude.{OnErr, MatchOption};
 ghost use Rattle.tw_rows.specs.Bag.{total};
 ghost use Rattle.tw_rows.specs.Instant.{inf};
 ghost use Rattle.tw_rows.specs.Cells.{ArePlaced, read_cells, with_row};
@@ -13,7 +15,9 @@ ghost use Rattle.row_reader.specs.Interned.{row_read};
 ghost use Rattle.row_reader.specs.declared.entry.Entry.TheVariants as entries;
 ghost use Rattle.ingress.specs.Fits.{Fits, plain, row_cells};
 ghost use Rattle.ingress.specs.Counts.{may_hold};
-ghost use Rattle.ingress.specs.Admits.{cells_of, IsFor, SameFixed, Admits, WhateverFollowed, StillAdmits, Takes, IsRefused, WantsMemory, IsLeft, LeavesTexts};
+ghost use Rattle.ingress.specs.Admits.{cells_of, IsFor, SameFixed, Admits, WhateverFollowed};
+ghost use Rattle.ingress.specs.Admits.{StillAdmits, Takes, IsRefused, WantsMemory, IsLeft};
+ghost use Rattle.ingress.specs.Admits.{LeavesTexts};
 
 use crate::entering::EventLine;
 use crate::held_streams::{HeldStreams, is_before};

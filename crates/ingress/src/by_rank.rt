@@ -1,12 +1,14 @@
 // Edges by rank, each of which comes in logarithmic time wherever its place is.
-ghost use Rattle.std.specs.Prelude.{◌≡◌, ◌+◌, ◌-◌, ◌*◌, ◌^◌, ◌<◌, ◌≤◌, min, length, get_or, filter, true, false, IsTrue, IfSome, IsNone, OnOk, OnErr, [], ◌∷◌, ◌++◌};
+ghost use Rattle.std.specs.Prelude.{◌≡◌, ◌+◌, ◌-◌, ◌*◌, ◌^◌, ◌<◌, ◌≤◌, min, length, get_or};
+ghost use Rattle.std.specs.Prelude.{filter, true, false, IsTrue, IfSome, IsNone, OnOk, OnErr, []};
+ghost use Rattle.std.specs.Prelude.{◌∷◌, ◌++◌};
 ghost use Rattle.tw_rows.specs.Instant.{inf};
 ghost use Rattle.tw_rows.specs.Bag.{SameBag};
 ghost use Rattle.tw_rows.specs.declared.edge.Edge.{Edge};
 ghost use Rattle.edge_history.specs.Order.{rank, many, failing, starts_it, is_from, KeepsOrder};
 ghost use Rattle.edge_stream.specs.Listing.{cells_of, SameShape};
 ghost use Rattle.ingress.specs.Fits.{is_fit};
-ghost use Rattle.ingress.specs.Ranks.{is_up_to, is_between, Takes, SamePools, IsShorterBelow, StartsFrom};
+ghost use Rattle.ingress.specs.Ranks.{is_up_to, is_between, TakesBatches, SamePools, IsShorterBelow, StartsFrom};
 
 use batch::Pools;
 use edge_stream::EdgeList;
@@ -167,7 +169,7 @@ impl ByRank {
         ensures order { OnOk result (KeepsOrder list.new.edges) }
         ensures high { OnOk result (failing (is_up_to to) list.new.edges ≡ 0) }
         ensures shape { SameShape list.old list.new }
-        ensures taken { OnOk result (Takes list.old pools.old list.new pools.new) }
+        ensures taken { OnOk result (TakesBatches list.old pools.old list.new pools.new) }
         ensures pools { SamePools pools.old pools.new }
     {
         if self.ranks.is_empty() {
@@ -195,7 +197,7 @@ fn append_all(pools: &mut Pools, edges: &[Edge], list: &mut EdgeList) -> Result<
     requires fit { failing (is_fit (cells_of list.old)) edges.now ≡ 0 }
     ensures ok { OnOk result (list.new.edges ≡ list.old.edges ++ edges.now) }
     ensures shape { SameShape list.old list.new }
-    ensures taken { OnOk result (Takes list.old pools.old list.new pools.new) }
+    ensures taken { OnOk result (TakesBatches list.old pools.old list.new pools.new) }
     ensures pools { SamePools pools.old pools.new }
 {
     for edge in edges {

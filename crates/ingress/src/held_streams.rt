@@ -1,5 +1,6 @@
 // What is held of all streams: the edges that wait for a punctuation, and the open starts.
-ghost use Rattle.std.specs.Prelude.{◌≡◌, ℕ, ◌+◌, ◌-◌, ◌^◌, ◌<◌, ◌≤◌, ◌↔◌, min, IsTrue, false, [], ◌∷◌, length, get_or, filter, None, IfOk, OnOk, OnErr};
+ghost use Rattle.std.specs.Prelude.{◌≡◌, ℕ, ◌+◌, ◌-◌, ◌^◌, ◌<◌, ◌≤◌, ◌↔◌, min, IsTrue, false, []};
+ghost use Rattle.std.specs.Prelude.{◌∷◌, length, get_or, filter, None, IfOk, OnOk, OnErr};
 ghost use Rattle.tw_rows.specs.Instant.{inf};
 ghost use Rattle.tw_rows.specs.Bag.{total, SameBag};
 ghost use Rattle.indexmap.specs.IndexMap.{IsUnique};

@@ -1,12 +1,14 @@
 // Edges that wait for their time.
-ghost use Rattle.std.specs.Prelude.{◌≡◌, ◌-◌, ◌^◌, ◌<◌, ◌≤◌, min, length, take, drop, get_or, filter, true, false, IsTrue, IfSome, IsNone, OnOk, OnErr, [], ◌∷◌, ◌++◌};
+ghost use Rattle.std.specs.Prelude.{◌≡◌, ◌-◌, ◌^◌, ◌<◌, ◌≤◌, min, length, take, drop, get_or};
+ghost use Rattle.std.specs.Prelude.{filter, true, false, IsTrue, IfSome, IsNone, OnOk, OnErr, []};
+ghost use Rattle.std.specs.Prelude.{◌∷◌, ◌++◌};
 ghost use Rattle.tw_rows.specs.Instant.{inf};
 ghost use Rattle.tw_rows.specs.Bag.{SameBag};
 ghost use Rattle.tw_rows.specs.declared.edge.Edge.{Edge};
 ghost use Rattle.edge_history.specs.Order.{rank as edge_rank, many, failing, starts_it, is_below, is_from, Rises};
 ghost use Rattle.edge_stream.specs.Listing.{cells_of, SameShape};
 ghost use Rattle.ingress.specs.Fits.{is_fit};
-ghost use Rattle.ingress.specs.Ranks.{Takes, SamePools};
+ghost use Rattle.ingress.specs.Ranks.{TakesBatches, SamePools};
 
 use crate::by_rank::{ByRank, end_rank, is_start_of, rank_of};
 use batch::Pools;
@@ -159,7 +161,7 @@ impl Waiting {
         ensures ok { OnOk result (SameBag list.new.edges (filter (is_below t) self.now)) }
         ensures order { OnOk result (Rises 0 list.new.edges) }
         ensures shape { SameShape list.old list.new }
-        ensures taken { OnOk result (Takes list.old pools.old list.new pools.new) }
+        ensures taken { OnOk result (TakesBatches list.old pools.old list.new pools.new) }
         ensures pools { SamePools pools.old pools.new }
     {
         let count = count_below(&self.queue, t);

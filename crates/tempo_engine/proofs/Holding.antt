@@ -26,6 +26,7 @@ use Rattle.dataflow.specs.Stages.{entries_in}
 use Rattle.tempo_engine.specs.Output.{told}
 use Rattle.tempo_engine.specs.Went.{Went, HasFed, WhateverFed, EngineView}
 use Rattle.tempo_engine.specs.Fed.{WhateverTook}
+use Rattle.tempo_engine.specs.Texts.{texts_of}
 use Rattle.tempo_engine.proofs.Keeping.{TakesLine}
 use Rattle.tempo_engine.specs.Held.{HasWorked, MadeDue, Holds, AreHeld, with_first}
 use Rattle.tempo_engine.specs.declared.fault.EngineFault.{EngineFault}
@@ -86,12 +87,13 @@ module _ (keep : PlansKeep) (plan : PlanParts) (policy : Policy) (lines : List T
       subst (λ q. entries_in s ≤ node_may_hold (rows (progress plan policy made false).after) q.nodes w.last i) worked.planned
       (keep e.texts w.last (rows (progress plan policy made false).after) worked.given worked.lists e.dataflow (subst IsPlan (sym worked.planned) sound) distinct worked.flows (stand_by made due) i s here)
 
-  pub holds : fault plan policy lines ended ≡ None → (v : EngineView) → v.parts ≡ e → v.fault ≡ None → Holds plan policy lines ended v
-  holds fine v same none = record {
+  pub holds : fault plan policy lines ended ≡ None → e.texts ≡ texts_of plan lines → (v : EngineView) → v.parts ≡ e → v.fault ≡ None → Holds plan policy lines ended v
+  holds fine texts v same none = record {
     sound = sound;
     read = read;
     fine = fine;
     none = none;
+    texts = ap (λ x. x.texts) same ∙ texts;
     worked = subst (HasWorked plan w) (sym same) worked;
     few = λ made due i s here. few made due i s (subst (λ x. slice_get x.dataflow.stages i ≡ Some s) same here);
   }
@@ -125,25 +127,25 @@ module _ {X : Type 0} (keep : PlansKeep) (answer : Result X EngineFault) (old ne
           OnOk a (WhateverTook view_then (λ plan policy lines. Holds plan policy (lines ++ told plan number line ∷ []) false view_now))
       go (Ok x) takes none = λ plan policy lines is.
           let all = lines ++ told plan number line ∷ [] in
-          let next = takes plan policy lines is.given is.lists (record { sound = is.by.sound; read = is.by.read; fine = is.by.fine; went = is.by.went }) in
-          holds keep plan policy all false next.there.sound next.there.read new distinct (worked_of plan policy (progress plan policy all false) next.more_given next.more_lists new next.there.went) next.there.fine view_now refl none
+          let next = takes plan policy lines is.given is.lists (record { sound = is.by.sound; read = is.by.read; fine = is.by.fine; texts = is.by.texts; went = is.by.went }) in
+          holds keep plan policy all false next.there.sound next.there.read new distinct (worked_of plan policy (progress plan policy all false) next.more_given next.more_lists new next.there.went) next.there.fine next.there.texts view_now refl none
       go (Err f) takes none = tt
 
   -- or the end of the input
-  pub end_holds : OnOk answer (WhateverFed old (λ plan policy lines given lists. fault plan policy lines true ≡ None)) →
+  pub end_holds : new.texts ≡ old.texts → OnOk answer (WhateverFed old (λ plan policy lines given lists. fault plan policy lines true ≡ None)) →
       OnOk answer (WhateverFed old (λ plan policy lines given lists. HasWorked plan (progress plan policy lines true) new)) →
       OnOk answer (WhateverTook view_then (λ plan policy lines. Holds plan policy lines true view_now))
-  end_holds fine worked = go answer fine worked ok
+  end_holds same_texts fine worked = go answer fine worked ok
     where
       go : (a : Result X EngineFault) → OnOk a (WhateverFed old (λ plan policy lines given lists. fault plan policy lines true ≡ None)) →
           OnOk a (WhateverFed old (λ plan policy lines given lists. HasWorked plan (progress plan policy lines true) new)) →
           OnOk a (fault_now ≡ None) → OnOk a (WhateverTook view_then (λ plan policy lines. Holds plan policy lines true view_now))
       go (Ok x) tells works none = λ plan policy lines is.
-          let fed : HasFed plan policy lines is.given is.lists old = record { sound = is.by.sound; read = is.by.read; fine = is.by.fine; went = is.by.went } in
-          holds keep plan policy lines true is.by.sound is.by.read new distinct (works plan policy lines is.given is.lists fed) (tells plan policy lines is.given is.lists fed) view_now refl none
+          let fed : HasFed plan policy lines is.given is.lists old = record { sound = is.by.sound; read = is.by.read; fine = is.by.fine; texts = is.by.texts; went = is.by.went } in
+          holds keep plan policy lines true is.by.sound is.by.read new distinct (works plan policy lines is.given is.lists fed) (tells plan policy lines is.given is.lists fed) (same_texts ∙ is.by.texts) view_now refl none
       go (Err f) tells works none = tt
 
 -- what an engine tells of its lines, by what its parts tell
 pub tells_of_lines : (old : Parts) (before : ℕ) (first : Option EngineFault) (was : Bool) (P : PlanParts → Policy → List Told → Type 0) → WhateverFed old (λ plan policy lines given lists. P plan policy lines) →
     WhateverTook (record { parts = old; lines = before; fault = first; ended = was }) P
-tells_of_lines old before first was P told plan policy lines is = told plan policy lines is.given is.lists (record { sound = is.by.sound; read = is.by.read; fine = is.by.fine; went = is.by.went })
+tells_of_lines old before first was P told plan policy lines is = told plan policy lines is.given is.lists (record { sound = is.by.sound; read = is.by.read; fine = is.by.fine; texts = is.by.texts; went = is.by.went })

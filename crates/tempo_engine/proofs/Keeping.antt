@@ -70,7 +70,7 @@ module _ {X : Type 0} (number : ℕ) (line : List ℕ) (answer : Result X Engine
       where
         go : (a : Result X EngineFault) → OnOk a (TakesLine number line old new) → OnOk a (fault ≡ None) → OnOk a (FeedsOn view_then (λ plan. told plan number line) view_now)
         go (Ok x) takes none = λ plan policy lines given lists is.
-            let next = takes plan policy lines given lists (record { sound = is.sound; read = is.read; fine = is.fine; went = is.went }) in
+            let next = takes plan policy lines given lists (record { sound = is.sound; read = is.read; fine = is.fine; texts = is.texts; went = is.went }) in
             record {
               more_given = next.more_given;
               more_lists = next.more_lists;
@@ -83,6 +83,7 @@ module _ {X : Type 0} (number : ℕ) (line : List ℕ) (answer : Result X Engine
                 none = none;
                 going = open_yet;
                 number = number_is lines (told plan number line);
+                texts = next.there.texts;
                 went = next.there.went;
               };
             }

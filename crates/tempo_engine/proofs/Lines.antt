@@ -2,6 +2,12 @@
 use Rattle.std.specs.Prelude.{◌≡◌, ℕ, ◌<◌, ◌≤◌, true, false, List, [], ◌∷◌, ◌++◌, flat_map, length, Some, None}
 use Rattle.std.proofs.Common.{refl, sym, ◌∙◌, ap, subst, inr, arith}
 use Rattle.std.proofs.lemmas.List.{append-nil}
+use Rattle.std.proofs.lemmas.List.Sums.{fold-append}
+use Rattle.tw_rows.specs.Cells.{with_row}
+use Rattle.lane_expr.specs.Steps.{with_texts}
+use Rattle.row_reader.specs.Interned.{row_read}
+use Rattle.dataflow.specs.Held.{nodes_in_all}
+use Rattle.tempo_engine.specs.Texts.{texts_of}
 use Rattle.tw_rows.specs.Instant.{inf}
 use Rattle.tw_rows.specs.declared.edge.Edge.{Edge}
 use Rattle.row_reader.specs.Printed.{IsEnd}
@@ -25,6 +31,10 @@ use Rattle.tempo_engine.specs.declared.parts.Parts.{Parts}
 use Rattle.tempo_engine.proofs.Feeding.{read_more, after_going, due_below, quiet_next, loud_next, quiet_text, loud_text, quiet_end, loud_end, end_text}
 use Rattle.tempo_engine.proofs.Holding.{worked_of}
 use Rattle.tempo_engine.proofs.Telling.{undefined_told, end_told}
+
+-- the texts of one line more come last
+pub texts_next : (plan : PlanParts) (lines : List Told) (line : Told) → with_row (texts_of plan lines) (row_read line.read) ≡ texts_of plan (lines ++ line ∷ [])
+texts_next plan lines line = sym (fold-append (λ (texts : List (List ℕ)) (l : Told). with_row texts (row_read l.read)) (with_texts [] (nodes_in_all plan.nodes)) lines (line ∷ []))
 
 module _ (plan : PlanParts) (policy : Policy) (lines : List Told) (line : Told) (valid : IsRead (length plan.streams) line.read) (given lists : ℕ → List Edge) (old : Parts) (fed : HasFed plan policy lines given lists old)
     (e : Parts) (taken : HasTaken plan policy lines line given lists e) where
@@ -58,6 +68,7 @@ module _ (plan : PlanParts) (policy : Policy) (lines : List Told) (line : Told) 
           sound = fed.sound;
           read = read_more (length plan.streams) lines line fed.read valid;
           fine = ap (λ w. w.fault) q ∙ fed.fine;
+          texts = taken.texts;
           went = subst (λ w. Went plan policy w given lists e) (sym q) taken.went;
         };
       }
@@ -87,9 +98,9 @@ module _ (plan : PlanParts) (policy : Policy) (lines : List Told) (line : Told) 
     pub below : (s : ℕ) → s < length plan.streams → p ≤ taken.after.bound s
     below s there = subst (λ q. q ≤ taken.after.bound s) p_due (due_below plan fed.sound policy lines fed.read fed.fine line valid taken.entry taken.says taken.after taken.takes s there)
 
-    pub loud_fed : (bytes : List ℕ) → IsShown p plan after bytes → (new : Parts) → Further given lists (λ more_given more_lists. Went plan policy (judged p after None) more_given more_lists new) →
+    pub loud_fed : (bytes : List ℕ) → IsShown p plan after bytes → (new : Parts) → new.texts ≡ e.texts → Further given lists (λ more_given more_lists. Went plan policy (judged p after None) more_given more_lists new) →
         Further given lists (λ more_given more_lists. HasFed plan policy (lines ++ line ∷ []) more_given more_lists new)
-    loud_fed bytes shown new further =
+    loud_fed bytes shown new same further =
         let q = loud_next plan fed.sound policy lines fed.read fed.fine line valid taken.entry taken.says taken.after taken.takes p None p_due p_above shown.defined in
         record {
           more_given = further.more_given;
@@ -100,6 +111,7 @@ module _ (plan : PlanParts) (policy : Policy) (lines : List Told) (line : Told) 
             sound = fed.sound;
             read = read_more (length plan.streams) lines line fed.read valid;
             fine = ap (λ w. w.fault) q ∙ fed.fine;
+            texts = same ∙ taken.texts;
             went = subst (λ w. Went plan policy w further.more_given further.more_lists new) (sym q) further.there;
           };
         }

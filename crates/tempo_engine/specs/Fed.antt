@@ -5,6 +5,7 @@ use Rattle.plan_model.specs.IsPlan.{PlanParts, IsPlan}
 use Rattle.admission.specs.declared.policy.Policy.{Policy}
 use Rattle.admission.specs.Entries.{Told, AreRead}
 use Rattle.admission.specs.Progress.{progress, fault}
+use Rattle.tempo_engine.specs.Texts.{texts_of}
 use Rattle.tempo_engine.specs.Went.{Went, Further, EngineView}
 
 -- the number of the last line: of lines 4 and 7 it is 7, and of none 0
@@ -12,7 +13,8 @@ abbrev pub last_number : List Told → ℕ
 last_number lines = fold (λ n line. line.number) 0 lines
 
 -- the engine of this plan and this policy took these lines, of which none had a fault, and the input goes on. At first it
--- took no line. The streams gave these edges, and the nodes answered with these
+-- took no line. The streams gave these edges, and the nodes answered with these. Each text in the table is one of the plan's
+-- expressions or of the row of a line
 pub record FedBy (plan : PlanParts) (policy : Policy) (lines : List Told) (given lists : ℕ → List Edge) (e : EngineView) : Type 0 where
   pub sound : IsPlan plan
   pub read : AreRead (length plan.streams) lines
@@ -20,6 +22,7 @@ pub record FedBy (plan : PlanParts) (policy : Policy) (lines : List Told) (given
   pub none : e.fault ≡ None
   pub going : e.ended ≡ false
   pub number : e.lines ≡ last_number lines
+  pub texts : e.parts.texts ≡ texts_of plan lines
   pub went : Went plan policy (progress plan policy lines false) given lists e.parts
 
 -- for some edges

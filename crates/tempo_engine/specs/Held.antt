@@ -14,6 +14,7 @@ use Rattle.ingress.specs.Counts.{may_hold}
 use Rattle.dataflow.specs.declared.stage.Stage.{Stage}
 use Rattle.dataflow.specs.Flows.{Flows, held_from}
 use Rattle.dataflow.specs.Stages.{entries_in}
+use Rattle.tempo_engine.specs.Texts.{texts_of}
 use Rattle.tempo_engine.specs.Went.{EngineView}
 use Rattle.tempo_engine.specs.declared.parts.Parts.{Parts}
 
@@ -36,7 +37,8 @@ pub record MadeDue (plan : PlanParts) (policy : Policy) (lines : List Told) (end
   pub all : lines ≡ made ++ since
   pub last : (made ≡ lines) ⊎ ((progress plan policy made false).last ≡ (progress plan policy lines ended).last)
 
--- the engine of this plan and this policy took these lines, all of the input or not yet, and none had a fault; and no node
+-- the engine of this plan and this policy took these lines, all of the input or not yet, and none had a fault; each text in the
+-- table is one of the plan's expressions or of the row of a line; and no node
 -- keeps more entries than it may after the last punctuation, over the rows of the lines that made it due. After intervals from
 -- i to i + 1, for i from 0 to 9, and a punctuation at 10, a group with one aggregate over their source keeps at most 5 entries,
 -- since one row has an end that is not below 10
@@ -45,6 +47,7 @@ pub record Holds (plan : PlanParts) (policy : Policy) (lines : List Told) (ended
   pub read : AreRead (length plan.streams) lines
   pub fine : fault plan policy lines ended ≡ None
   pub none : e.fault ≡ None
+  pub texts : e.parts.texts ≡ texts_of plan lines
   pub worked : HasWorked plan (progress plan policy lines ended) e.parts
   pub few : (made : List Told) → MadeDue plan policy lines ended made → (i : ℕ) (s : Stage) → slice_get e.parts.dataflow.stages i ≡ Some s →
       entries_in s ≤ node_may_hold (rows (progress plan policy made false).after) plan.nodes (progress plan policy lines ended).last i

@@ -1,6 +1,7 @@
--- Callers read Output, Faults, Fed and Held. Of Went they read what `Fed` says of the parts of an engine; Working, and the other
+-- Callers read Output, Texts, Faults, Fed and Held. Of Went they read what `Fed` says of the parts of an engine; Working, and the other
 -- words of Went and Faults, are cited by private contracts alone.
 pub mod Output
+pub mod Texts
 pub mod Faults
 pub mod Went
 pub mod Fed

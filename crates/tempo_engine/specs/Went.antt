@@ -18,6 +18,7 @@ use Rattle.ingress.specs.Times.{IsTimed}
 use Rattle.dataflow.specs.Flows.{CanStep, Flows}
 use Rattle.egress.specs.Output.{Holds, IsPlacedIn}
 use Rattle.tempo_engine.specs.Output.{result_kinds}
+use Rattle.tempo_engine.specs.Texts.{texts_of}
 use Rattle.tempo_engine.specs.declared.fault.EngineFault.{EngineFault}
 use Rattle.tempo_engine.specs.declared.parts.Parts.{Parts}
 
@@ -43,11 +44,12 @@ pub record Went (plan : PlanParts) (policy : Policy) (w : Progress) (given lists
   pub typed : All (λ edge. map datum_kind edge.cells ≡ map cell_kind_of (result_kinds plan)) (lists plan.root)
 
 -- they took these lines of a plan, of which none had a fault, and the input goes on: the streams gave these edges, and the nodes
--- answered with these
+-- answered with these. Each text in the table is one of the plan's expressions or of the row of a line
 pub record HasFed (plan : PlanParts) (policy : Policy) (lines : List Told) (given lists : ℕ → List Edge) (e : Parts) : Type 0 where
   pub sound : IsPlan plan
   pub read : AreRead (length plan.streams) lines
   pub fine : fault plan policy lines false ≡ None
+  pub texts : e.texts ≡ texts_of plan lines
   pub went : Went plan policy (progress plan policy lines false) given lists e
 
 -- there are lists that begin with those, of which it holds

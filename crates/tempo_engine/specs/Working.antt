@@ -1,5 +1,5 @@
 -- A line, and a punctuation, while the parts of an engine work at them.
-use Rattle.std.specs.Prelude.{◌≡◌, ℕ, ◌<◌, ◌≤◌, false, None, Ok, List, length, flat_map}
+use Rattle.std.specs.Prelude.{◌≡◌, ℕ, ◌<◌, ◌≤◌, false, None, Ok, List, [], ◌∷◌, ◌++◌, length, flat_map}
 use Rattle.tw_rows.specs.declared.edge.Edge.{Edge}
 use Rattle.tw_rows.specs.Instant.{inf}
 use Rattle.plan_model.specs.IsPlan.{PlanParts, IsPlan}
@@ -14,6 +14,7 @@ use Rattle.admission.specs.Keeping.{IsGoing}
 use Rattle.admission.specs.Progress.{Progress, progress}
 use Rattle.admission.specs.Text.{between, closed_up}
 use Rattle.tempo_engine.specs.Output.{item_text, result_kinds}
+use Rattle.tempo_engine.specs.Texts.{texts_of}
 use Rattle.tempo_engine.specs.Went.{Went}
 use Rattle.tempo_engine.specs.declared.parts.Parts.{Parts}
 
@@ -23,6 +24,7 @@ pub record HasTaken (plan : PlanParts) (policy : Policy) (lines : List Told) (li
   pub after : Admission
   pub says : line.read ≡ Ok entry
   pub takes : admit policy (progress plan policy lines false).after entry ≡ Taken after
+  pub texts : e.texts ≡ texts_of plan (lines ++ line ∷ [])
   pub went : Went plan policy (record (progress plan policy lines false) { after = after }) given lists e
   pub instant : IsEnd (allowed policy (length plan.streams) after)
 

@@ -1,8 +1,6 @@
 // An engine: lines in, text out.
-ghost use Rattle.std.specs.Prelude.{◌≡◌, ◌≢◌, ◌≤◌, Bool, List, [], ◌∷◌, ◌++◌, true, false, None, length, IsTrue, All, IfOk, IfErr, OnOk};
-ghost use Rattle.std.specs.List.{list_all};
+ghost use Rattle.std.specs.Prelude.{◌≡◌, ◌≢◌, ◌≤◌, Bool, List, [], ◌∷◌, ◌++◌, true, false, None, length, All, IfOk, IfErr, OnOk};
 ghost use Rattle.plan_model.specs.IsPlan.{PlanParts};
-ghost use Rattle.built_nodes.specs.Built.{is_built};
 ghost use Rattle.admission.specs.declared.policy.Policy.{Policy as Admitting};
 ghost use Rattle.admission.specs.Entries.{Told};
 ghost use Rattle.admission.specs.Progress.{progress, fault as fault_of};
@@ -28,13 +26,24 @@ pub struct Options {
 
 /// A plan at work. `Fed` says which lines it took. Once a call answered a fault, each later one answers it again; after the
 /// end of the input nothing more is taken, and nothing answered.
-#[derive(Drop)]
 pub struct Engine {
     parts: Parts,
     // the number of the last line, 0 before the first one
     lines: u64,
     fault: Option<EngineFault>,
     ended: bool,
+}
+
+// By hand, so that a crate that lets an engine go cites this and not the destructors of all its parts.
+impl Drop for Engine {
+    fn drop(self) {
+        let Engine {
+            parts: _parts,
+            lines: _,
+            fault: _,
+            ended: _,
+        } = self;
+    }
 }
 
 impl Model for Engine {
@@ -78,7 +87,6 @@ impl Engine {
     /// An engine that took no line.
     pub fn new(alloc: Global, plan: Plan, options: Options) -> Result<Engine, Memory>
         requires batch { 1 ≤ options.batch }
-        requires built { IsTrue (list_all is_built plan.nodes) }
         ensures fed { IfOk result (Fed plan options.policy []) }
         ensures batch { IfOk result (λ e. e.parts.dataflow.capacity ≡ options.batch) }
     {

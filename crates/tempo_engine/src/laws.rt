@@ -1,5 +1,5 @@
 // The laws of engines. Each is a function that does nothing; its clauses are the law.
-ghost use Rattle.std.specs.Prelude.{◌≡◌, ℕ, ◌<◌, false, List, length};
+ghost use Rattle.std.specs.Prelude.{ℕ, false, List, length};
 ghost use Rattle.tw_rows.specs.declared.edge.Edge.{Edge};
 ghost use Rattle.plan_model.specs.IsPlan.{PlanParts};
 ghost use Rattle.node_laws.specs.Places.{AreDistinct};
@@ -13,10 +13,10 @@ ghost use Rattle.tempo_engine.specs.Went.{EngineView};
 
 use dataflow::answers_stand;
 
-/// After the first punctuation, what each node answered of the lines stands for its events, read, below its closing.
+/// What each node answered of the lines stands for its events, read, below its closing at the last punctuation.
 pub fn answers_of_lines_stand()
     ensures { (plan : PlanParts) (policy : Policy) (lines : List Told) (given lists : ℕ → List Edge) (e : EngineView) →
-        AreDistinct e.parts.texts → FedBy plan policy lines given lists e → 0 < (progress plan policy lines false).last →
+        AreDistinct e.parts.texts → FedBy plan policy lines given lists e →
         AllStandRead e.parts.texts plan.nodes (progress plan policy lines false).last (rows (progress plan policy lines false).after)
         lists (length plan.nodes) }
 {

@@ -1,9 +1,9 @@
 // The parts of an engine at work.
-ghost use Rattle.std.specs.Prelude.{◌≡◌, ◌≢◌, ◌<◌, ◌≤◌, ◌↔◌, IsTrue, ℕ, List, [], ◌∷◌, ◌++◌, true, false, Some, None, length, map, slice_get, nat_lt, cond, All, IfOk, IfErr, OnOk};
+ghost use Rattle.std.specs.Prelude.{◌≡◌, ◌≢◌, ◌<◌, ◌≤◌, ◌↔◌, IsTrue, ℕ, List, [], ◌∷◌, ◌++◌, true};
+ghost use Rattle.std.specs.Prelude.{false, Some, None, length, map, nat_lt, cond, All};
+ghost use Rattle.std.specs.Prelude.{IfOk, IfErr, OnOk};
 ghost use Rattle.tw_rows.specs.Instant.{inf};
-ghost use Rattle.plan_model.specs.declared.node.Node.{Node};
 ghost use Rattle.plan_model.specs.IsPlan.{PlanParts};
-ghost use Rattle.built_nodes.specs.Built.{is_built};
 ghost use Rattle.plan_laws.specs.Undefined.{overflow};
 ghost use Rattle.node_laws.specs.Places.{AreDistinct};
 ghost use Rattle.admission.specs.declared.policy.Policy.{Policy as Admitting};
@@ -87,7 +87,6 @@ impl Parts {
         batch: usize,
     ) -> Result<Parts, Memory>
         requires batch { 1 ≤ batch }
-        requires built { (i : ℕ) (n : Node) → slice_get plan.nodes i ≡ Some n → is_built n ≡ true }
         ensures fed { IfOk result (HasFed plan policy [] (λ s. []) (λ k. [])) }
         ensures run { IfOk result CanRun }
         ensures thawed { IfOk result (λ e. e.dataflow.thawed ≡ false) }
@@ -120,6 +119,7 @@ impl Parts {
         requires due { IsDueOfLines p self.old }
         ensures run { OnOk result (CanRun self.new) }
         ensures thawed { self.new.dataflow.thawed ≡ self.old.dataflow.thawed }
+        ensures texts { self.new.texts ≡ self.old.texts }
         ensures went { OnOk result (WhenDue p self.old (λ plan policy w given lists.
             ((s : ℕ) → s < length plan.streams → p ≤ w.after.bound s) →
             Further given lists (λ more_given more_lists. Went plan policy (judged p w None) more_given more_lists self.new))) }
@@ -144,7 +144,7 @@ impl Parts {
         edges.cells_are_of_kinds();
         let plan = self.dataflow.plan();
         let to = closes(plan, plan.root(), p);
-        match self.egress.take(edges, to, &self.texts) {
+        match self.egress.take(&mut self.pools, edges, to, &self.texts) {
             Ok(()) => {}
             Err(Memory) => return Err(PlanFault::Memory),
         }
@@ -214,6 +214,7 @@ impl Parts {
     pub(crate) fn finish(&mut self) -> Result<Vec<u8>, EngineFault>
         requires run { CanRun self.old }
         requires took { TookLines self.old }
+        ensures texts { self.new.texts ≡ self.old.texts }
         ensures fine { OnOk result (WhateverFed self.old (λ plan policy lines given lists.
             fault_of plan policy lines true ≡ None)) }
         ensures worked { OnOk result (WhateverFed self.old (λ plan policy lines given lists.

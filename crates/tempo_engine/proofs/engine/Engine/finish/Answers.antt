@@ -21,7 +21,7 @@ pub returns-clause-holds : goal.returns-clause-holds
 returns-clause-holds c =
     rw (← c.self.view_is)
     (end_holds c.plans_keep_at_most.ensures c.finish-finished.result c.self.inside.parts c.finish-finished.new.self c.each_text_once.ensures c.fault_in-self-inside.result c.fault_in-self-inside.ensures.ok
-    c.self.inside.lines c.self.inside.lines c.self.inside.fault c.self.inside.ended true c.finish-finished.ensures.fine c.finish-finished.ensures.worked)
+    c.self.inside.lines c.self.inside.lines c.self.inside.fault c.self.inside.ended true c.finish-finished.ensures.texts c.finish-finished.ensures.fine c.finish-finished.ensures.worked)
 
 pub returns-clause-text : goal.returns-clause-text
 returns-clause-text c =

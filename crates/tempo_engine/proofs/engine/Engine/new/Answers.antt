@@ -1,10 +1,5 @@
 use Rattle.std.proofs.Common.{[], refl}
-use Rattle.built_nodes.specs.Built.{is_built}
-use Rattle.tempo_engine.proofs.Keeping.{all_there}
 use Rattle.tempo_engine.proofs.engine.Engine.new.Goals as goal
-
-pub new-requires-clause-built : goal.new-requires-clause-built
-new-requires-clause-built c = λ i n there. all_there is_built c.args.plan.nodes i n c.requires.built there
 
 pub returns-clause-fed : goal.returns-clause-fed
 returns-clause-fed c =
@@ -12,7 +7,7 @@ returns-clause-fed c =
     record {
       given = λ s. [];
       lists = λ k. [];
-      by = record { sound = fed.sound; read = fed.read; fine = fed.fine; none = refl; going = refl; number = refl; went = fed.went };
+      by = record { sound = fed.sound; read = fed.read; fine = fed.fine; none = refl; going = refl; number = refl; texts = fed.texts; went = fed.went };
     }
 
 pub invariant_of-result : goal.invariant_of-result

@@ -54,7 +54,7 @@ returns-in-Ok-punctuate-clause-fed c = λ plan policy lines given lists fed.
     let due = is_due plan policy lines (told plan c.args.number c.args.line.now) valid given lists c.args.self.now fed c.take_line.new.self taken c.in-Some.p d.0 d.1 in
     let high = below plan policy lines (told plan c.args.number c.args.line.now) valid given lists c.args.self.now fed c.take_line.new.self taken c.in-Some.p d.0 d.1 in
     loud_fed plan policy lines (told plan c.args.number c.args.line.now) valid given lists c.args.self.now fed c.take_line.new.self taken c.in-Some.p d.0 d.1 c.in-Ok-punctuate.bytes.items
-    (c.in-Ok-punctuate.ensures.shown plan policy after given lists due) c.punctuate.new.self (c.in-Ok-punctuate.ensures.went plan policy after given lists due high)
+    (c.in-Ok-punctuate.ensures.shown plan policy after given lists due) c.punctuate.new.self c.punctuate.ensures.texts (c.in-Ok-punctuate.ensures.went plan policy after given lists due high)
 
 pub returns-in-Ok-punctuate-clause-text : goal.returns-in-Ok-punctuate-clause-text
 returns-in-Ok-punctuate-clause-text c = λ plan policy lines given lists fed.

@@ -4,6 +4,8 @@ use Rattle.plan_model.specs.IsPlan.{PlanParts, IsPlan}
 use Rattle.ingress.specs.Admits.{IsFor}
 use Rattle.dataflow.specs.Flows.{CanStep}
 use Rattle.tw_rows.specs.Instant.{inf}
+use Rattle.lane_expr.specs.Steps.{with_texts}
+use Rattle.dataflow.specs.Held.{nodes_in_all}
 use Rattle.tempo_engine.proofs.parts.Parts.new.Goals as goal
 
 pub returns-clause-fed : goal.returns-clause-fed
@@ -13,6 +15,7 @@ returns-clause-fed c =
       sound = c.streams.ensures.kept;
       read = tt;
       fine = refl;
+      texts = c.in_ok-dataflow.ensures.table ∙ ap (λ t. with_texts t (nodes_in_all c.args.plan.nodes)) c.new-texts.ensures;
       went = record {
         fixed = rw c.in_ok-dataflow.ensures.capacity fixed;
         took = c.in_ok-ingress.ensures.admits c.new-4.new.texts;

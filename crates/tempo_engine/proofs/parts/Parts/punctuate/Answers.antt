@@ -35,7 +35,7 @@ step-requires-clause-limit c = subst (λ m. most_columns ≤ m) (sym c.release.e
 pub step-requires-clause-may : goal.step-requires-clause-may
 step-requires-clause-may c =
     let e = c.args.self.now in
-    record {
+    λ fine. record {
       last = e.ingress.released;
       can = c.requires.run.can;
       later = c.requires.later.0;
@@ -59,6 +59,9 @@ step-requires-clause-may c =
           };
     }
 
+pub take-requires-clause-capacity : goal.take-requires-clause-capacity
+take-requires-clause-capacity c = c.step.ensures.pools ∙ c.release.ensures.pools.capacity ∙ c.requires.run.pooled ∙ sym c.in-Ok-step.ensures.list.rows
+
 pub returns-in-Err-step-clause-overflow : goal.returns-in-Err-step-clause-overflow
 returns-in-Err-step-clause-overflow c = λ node time is plan policy w given lists due.
     let e = c.args.self.now in
@@ -67,7 +70,7 @@ returns-in-Err-step-clause-overflow c = λ node time is plan policy w given list
     let from : SourcesStandRead e.texts c.args.p (rows w.after) (longer given fresh) =
     (let l = follows_stand e.texts w.after (longer given fresh) c.release.new.self follows in rw c.in-Ok.ensures.released at l) in
     let late : (s : ℕ) → failing (is_from w.last) (fresh s) ≡ 0 = λ s. (let l = c.in-Ok.ensures.later e.texts w.after given due.went.took.follows s in rw due.went.released at l) in
-    let o = c.in-Err-step.ensures.overflow node time is w.last given lists (rows w.after) c.each_text_once.ensures due.went.flows due.above from late in
+    let o = c.in-Err-step.ensures.overflow c.requires.run.can.fine node time is w.last given lists (rows w.after) c.each_text_once.ensures due.went.flows due.above from late in
     (rw due.went.planned at o)
 
 pub returns-in-Ok-render-clause-went : goal.returns-in-Ok-render-clause-went
@@ -91,15 +94,15 @@ returns-in-Ok-render-clause-went c = λ plan policy w given lists due high.
     c.in-Ok-step.ensures.list.cells ∙ ap (λ q. kinds_at q.schemas q.root) due.went.planned ∙ sym (stored_kinds (slice_index_or plan.schemas plan.root [])) in
     let typed : All (λ edge. map datum_kind edge.cells ≡ map cell_kind_of (result_kinds plan)) out = subst (λ ks. All (λ edge. map datum_kind edge.cells ≡ ks) out) kinds_of_root c.cells_are_of_kinds.ensures in
     rw to_is (further_went c.args.p plan policy w given lists e due fresh c.step.new.self out planned flowed _
-    (next_went c.args.p plan policy w given lists e due fresh c.step.new.self out planned flowed c.release.new.self c.step.new.pools c.render.new.self
-    c.release.ensures.fixed took c.in-Ok.ensures.released (c.step.ensures.pools ∙ c.release.ensures.pools.capacity) c.step.ensures.capacity rendered
+    (next_went c.args.p plan policy w given lists e due fresh c.step.new.self out planned flowed c.release.new.self c.take.new.pools c.render.new.self
+    c.release.ensures.fixed took c.in-Ok.ensures.released (c.take.ensures.capacity ∙ c.step.ensures.pools ∙ c.release.ensures.pools.capacity) c.step.ensures.capacity rendered
     (c.render.ensures.placed e.texts c.in-Ok-take.ensures.placed) c.in-Ok-render.ensures.failed (c.render.ensures.kinds ∙ c.take.ensures.kinds) typed))
 
 pub returns-in-Ok-render-clause-run : goal.returns-in-Ok-render-clause-run
 returns-in-Ok-render-clause-run c =
     let e = c.args.self.now in
-    punctuated_run c.args.p e c.requires.run c.requires.later.0 c.requires.later.1 c.release.new.self c.step.new.pools c.step.new.self c.render.new.self c.closes-to.result
-    c.release.ensures.fixed c.in-Ok.ensures.released (c.step.ensures.pools ∙ c.release.ensures.pools.capacity) (c.step.ensures.limit ∙ c.release.ensures.pools.limit)
+    punctuated_run c.args.p e c.requires.run c.requires.later.0 c.requires.later.1 c.release.new.self c.take.new.pools c.step.new.self c.render.new.self c.closes-to.result
+    c.release.ensures.fixed c.in-Ok.ensures.released (c.take.ensures.capacity ∙ c.step.ensures.pools ∙ c.release.ensures.pools.capacity) (c.take.ensures.limit ∙ c.step.ensures.limit ∙ c.release.ensures.pools.limit)
     c.step.ensures.plan c.step.ensures.capacity c.in-Ok-step.ensures.can (c.render.ensures.placed e.texts c.in-Ok-take.ensures.placed) c.in-Ok-render.ensures.failed
 
 pub returns-in-Ok-render-clause-worked : goal.returns-in-Ok-render-clause-worked
@@ -111,7 +114,7 @@ returns-in-Ok-render-clause-worked c = λ plan policy w given lists due.
     (let l = follows_stand e.texts w.after (longer given fresh) c.release.new.self follows in rw c.in-Ok.ensures.released at l) in
     let late : (s : ℕ) → failing (is_from w.last) (fresh s) ≡ 0 = λ s. (let l = c.in-Ok.ensures.later e.texts w.after given due.went.took.follows s in rw due.went.released at l) in
     let flowed = c.in-Ok-step.ensures.flowed w.last given lists (rows w.after) c.each_text_once.ensures due.went.flows due.above from late in
-    next_worked c.args.p plan policy w given lists e due fresh c.step.new.self c.in-Ok-step.edges.edges (c.step.ensures.plan ∙ due.went.planned) flowed c.release.new.self c.step.new.pools c.render.new.self c.closes-to.result
+    next_worked c.args.p plan policy w given lists e due fresh c.step.new.self c.in-Ok-step.edges.edges (c.step.ensures.plan ∙ due.went.planned) flowed c.release.new.self c.take.new.pools c.render.new.self c.closes-to.result
     c.release.ensures.fixed follows c.in-Ok.ensures.released
 
 pub returns-in-Ok-render-clause-shown : goal.returns-in-Ok-render-clause-shown

@@ -6,6 +6,9 @@ use Rattle.admission.specs.Progress.{progress}
 use Rattle.admission.proofs.Growing.{line_read}
 use Rattle.ingress.specs.Fits.{Fits}
 use Rattle.tempo_engine.specs.Output.{told}
+use Rattle.tw_rows.specs.Cells.{with_row}
+use Rattle.row_reader.specs.Interned.{row_read}
+use Rattle.tempo_engine.proofs.Lines.{texts_next}
 use Rattle.ingress.proofs.LinesFit.{line_fits}
 use Rattle.ingress.proofs.Reading.{admits_longer}
 use Rattle.tempo_engine.proofs.Punctuating.{taken_went, taken_run}
@@ -46,6 +49,7 @@ returns-in-Ok-admit_cells-clause-taken c = λ plan policy lines given lists fed.
       after = taken.0;
       says = rw same at says;
       takes = takes;
+      texts = (rw same at c.in-Ok.ensures.texts) ∙ ap (λ t. with_row t (row_read (told plan c.args.number c.args.line.now).read)) fed.texts ∙ texts_next plan lines (told plan c.args.number c.args.line.now);
       went = taken_went plan policy w given lists c.args.self.now fed.went taken.0 texts c.admit_cells.new.self c.in-Ok.ensures.begins taken.1.1 c.admit_cells.ensures.fixed c.admit_cells.ensures.released timed;
       instant = c.event_times_stay.ensures.due policy (length plan.streams) taken.0 timed;
     }
