@@ -3,7 +3,10 @@ ghost use Rattle.std.specs.Prelude.{◌≡◌, ◌∷◌, [], IfOk, List, codes,
 ghost use Rattle.std.specs.Borrow.{Bor};
 ghost use Rattle.clap.specs.Words.{Text, app_of, new_app, rule_of};
 ghost use Rattle.clap.specs.declared.builder.value_parser.ValueParser.TheVariants.{Names};
-ghost use Rattle.command_line.specs.Options.{batch_rule, events_rule, header_rule, late_names, late_rule, lateness_rule, mode_names, mode_rule, number_rule, punctuate_rule, query_rule, tempo_app_with};
+ghost use Rattle.command_line.specs.Options.{batch_rule, events_rule, header_rule, late_names};
+ghost use Rattle.command_line.specs.Options.{late_rule, lateness_rule, mode_names, mode_rule};
+ghost use Rattle.command_line.specs.Options.{number_rule, punctuate_rule, query_rule};
+ghost use Rattle.command_line.specs.Options.{tempo_app_with};
 
 use clap::builder::ValueParser;
 use clap::{Arg, ArgAction, Command};

@@ -3,7 +3,9 @@ ghost use Rattle.std.specs.Prelude.{◌≡◌, ℕ, Bool, IfErr, IfOk, Some, Lis
 ghost use Rattle.clap.specs.Words.{Text, found_of, kind_of, matches_of, one_text, first_value, rows_of};
 ghost use Rattle.clap.specs.Values.{bool_text};
 ghost use Rattle.command_line.specs.Options.{tempo_app};
-ghost use Rattle.command_line.specs.Words.{AreWithin, Asked, HasCause, ShowsCommand, ShowsNumber, SpellsCommand, are_taken, asked_by, late_text, mode_text};
+ghost use Rattle.command_line.specs.Words.{AreWithin, Asked, HasCause, ShowsCommand, ShowsNumber};
+ghost use Rattle.command_line.specs.Words.{SpellsCommand, are_taken, asked_by, late_text};
+ghost use Rattle.command_line.specs.Words.{mode_text};
 ghost use Rattle.admission.specs.declared.policy.Lateness.{Lateness as SomeLateness};
 
 use crate::options::tempo_command;

@@ -5,7 +5,7 @@ use Rattle.wire_lines.specs.Faults.{Rose}
 use Rattle.wire_lines.specs.Journal.{Entry, outs, IsOut, SentAll, SentFront}
 use Rattle.line_text.specs.Fields.{time_text}
 use Rattle.plan_model.specs.declared.fault.QueryFault.{QueryFault}
-use Rattle.plan_model.specs.declared.fault.QueryFault.TheVariants.{Syntax, LongExpr, TooLarge, UnknownName, TypeClash, NotEventLevel, BadWindow, ReachTooLong, TooManyNodes, TooManyColumns, NameTaken, NotBuilt}
+use Rattle.plan_model.specs.declared.fault.QueryFault.TheVariants.{Syntax, LongExpr, TooLarge, UnknownName, TypeClash, NotEventLevel, BadWindow, ReachTooLong, TooManyNodes, TooManyColumns, NameTaken}
 use Rattle.row_reader.specs.declared.entry.BadLine.{BadLine}
 use Rattle.row_reader.specs.declared.entry.BadLine.TheVariants.{TooLong, NotUtf8, StrayReturn, OddQuotes, UnknownStream, UnknownKind, WrongFields, BadTime, BadLife, BadValue, NoStart}
 use Rattle.tempo_cli.specs.Answers.{IsFront}
@@ -39,7 +39,6 @@ fault_words (ReachTooLong item) = codes "reach too long in item "
 fault_words (TooManyNodes item) = codes "too many nodes in item "
 fault_words (TooManyColumns item) = codes "too many columns in item "
 fault_words (NameTaken item) = codes "name taken in item "
-fault_words (NotBuilt item) = codes "not built in item "
 
 abbrev pub fault_place : QueryFault → Option ℕ
 fault_place (Syntax at) = Some at
@@ -53,7 +52,6 @@ fault_place (ReachTooLong item) = Some item
 fault_place (TooManyNodes item) = Some item
 fault_place (TooManyColumns item) = Some item
 fault_place (NameTaken item) = Some item
-fault_place (NotBuilt item) = Some item
 
 -- what is told of a bad line
 abbrev pub cause_words : BadLine → List ℕ

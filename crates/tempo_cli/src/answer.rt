@@ -1,8 +1,6 @@
 // A query answered over a wire: from the bytes that come in to the bytes that go out and the status.
-ghost use Rattle.std.specs.Prelude.{◌≡◌, ◌≤◌, OnOk, IfErr, min, IsTrue};
-ghost use Rattle.std.specs.List.{list_all};
+ghost use Rattle.std.specs.Prelude.{◌≡◌, ◌≤◌, OnOk, IfErr, min};
 ghost use Rattle.wire_lines.specs.Journal.{Grows};
-ghost use Rattle.built_nodes.specs.Built.{is_built};
 ghost use Rattle.tempo_cli.specs.Status.{Counts};
 ghost use Rattle.tempo_cli.specs.Table.{Ends};
 ghost use Rattle.tempo_cli.specs.Told.{answers};
@@ -88,7 +86,6 @@ pub fn answer<W: Wire>(
     wire: &mut W,
 ) -> Status
     requires batch { 1 ≤ options.batch }
-    requires built { IsTrue (list_all is_built plan.nodes) }
     ensures ends { Grows (W.journal wire.old) (W.journal wire.new) (Ends (answers plan options.policy header) result) }
     ensures asked { IsAsked result }
     ensures counts { Counts (W.read_faults wire.old) (W.read_faults wire.new) (W.write_faults wire.old) (W.write_faults wire.new) result }

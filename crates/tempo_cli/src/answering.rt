@@ -1,14 +1,14 @@
 // The lines of an input, fed to an engine as their bytes come.
-ghost use Rattle.std.specs.Prelude.{◌≡◌, ◌≤◌, ◌<◌, ◌+◌, ◌++◌, ◌∷◌, ◌&&◌, IfOk, IfErr, IfSome, List, ℕ, [], None, true, false, nat_eq, length, IsTrue};
-ghost use Rattle.std.specs.List.{list_all};
+ghost use Rattle.std.specs.Prelude.{◌≡◌, ◌≤◌, ◌<◌, ◌+◌, ◌++◌, ◌∷◌, ◌&&◌, IfOk, IfErr, IfSome, List, ℕ, [], None, true, false, nat_eq, length};
 ghost use Rattle.wire_lines.specs.Lines.{HasNoLf};
 ghost use Rattle.wire_lines.specs.Cutter.{Overlong};
 ghost use Rattle.wire_lines.specs.Next.{next};
 ghost use Rattle.tempo_engine.specs.Faults.{IsFaultOf};
 ghost use Rattle.tempo_cli.specs.Table.{limit, IsDone, IsEnd};
-ghost use Rattle.built_nodes.specs.Built.{is_built};
 ghost use Rattle.wire_lines.specs.Faults.{HasCause, IsOther};
-ghost use Rattle.tempo_cli.specs.Feeding.{answers_to, Took, Holds, HasTaken, WhateverGiven, WhateverHeld, WhateverEnded, GrowsBy, WantsBytes, Comes, Ended, HasLess, IsOwn, StopsOwn};
+ghost use Rattle.tempo_cli.specs.Feeding.{answers_to, Took, Holds, HasTaken, WhateverGiven};
+ghost use Rattle.tempo_cli.specs.Feeding.{WhateverHeld, WhateverEnded, GrowsBy, WantsBytes, Comes};
+ghost use Rattle.tempo_cli.specs.Feeding.{Ended, HasLess, IsOwn, StopsOwn};
 
 use crate::status::Status;
 use plan_model::Plan;
@@ -81,7 +81,6 @@ impl Answering {
         header: bool,
     ) -> Result<Answering, Memory>
         requires batch { 1 ≤ options.batch }
-        requires built { IsTrue (list_all is_built plan.nodes) }
         ensures holds { IfOk result (λ s. Holds (record { plan = plan; policy = options.policy; header = header }) [] [] s) }
         ensures wants { IfOk result (λ s. WantsBytes s.cutter) }
     {

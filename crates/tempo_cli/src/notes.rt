@@ -3,7 +3,9 @@ ghost use Rattle.std.specs.Prelude.{◌≡◌, ◌++◌, OnOk, OnErr, IfSome, If
 ghost use Rattle.wire_lines.specs.Journal.{Grows, SentAll, SentFront};
 ghost use Rattle.wire_lines.specs.Faults.{HasCause};
 ghost use Rattle.line_text.specs.Fields.{time_text as text_of_time};
-ghost use Rattle.tempo_cli.specs.Status.{cause_words, cause_place, fault_words, fault_place, place_text as text_of_place, note_of, joined_pieces, IsNoted};
+ghost use Rattle.tempo_cli.specs.Status.{cause_words, cause_place, fault_words, fault_place};
+ghost use Rattle.tempo_cli.specs.Status.{place_text as text_of_place, note_of, joined_pieces};
+ghost use Rattle.tempo_cli.specs.Status.{IsNoted};
 
 use crate::status::Status;
 use itoa::Buffer;
@@ -66,7 +68,6 @@ fn words_of_fault(fault: &QueryFault) -> &'static [u8]
         QueryFault::TooManyNodes { .. } => b"too many nodes in item ",
         QueryFault::TooManyColumns { .. } => b"too many columns in item ",
         QueryFault::NameTaken { .. } => b"name taken in item ",
-        QueryFault::NotBuilt { .. } => b"not built in item ",
     }
 }
 
@@ -83,8 +84,7 @@ fn place_of_fault(fault: &QueryFault) -> Option<usize>
         | QueryFault::ReachTooLong { item }
         | QueryFault::TooManyNodes { item }
         | QueryFault::TooManyColumns { item }
-        | QueryFault::NameTaken { item }
-        | QueryFault::NotBuilt { item } => Some(*item),
+        | QueryFault::NameTaken { item } => Some(*item),
     }
 }
 

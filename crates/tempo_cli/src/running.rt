@@ -1,13 +1,11 @@
 // The whole run: from the words and the bytes that come in to the bytes that go out, the notes and the status.
-ghost use Rattle.std.specs.Prelude.{◌≡◌, ◌≤◌, ◌⊎◌, ℕ, List, [], map, option_map, IsTrue};
+ghost use Rattle.std.specs.Prelude.{◌≡◌, ◌≤◌, ◌⊎◌, ℕ, List, [], map, option_map};
 ghost use Rattle.wire_lines.specs.Journal.{Grows};
 ghost use Rattle.plan_model.specs.IsPlan.{PlanParts};
 ghost use Rattle.tempo_cli.specs.Jobs.{Job, IsJob, IsPlanned, HasPlan, HasFault, Does, DoesMode, Tells, HasReason, HasQueryReason, query_status};
 ghost use Rattle.tempo_cli.specs.Feeding.{IsAsked};
 ghost use Rattle.tempo_cli.specs.Status.{Counts, IsNoted, IsRefusalTold};
 ghost use Rattle.command_line.specs.Words.{AreWithin, asked_by};
-ghost use Rattle.std.specs.List.{list_all};
-ghost use Rattle.built_nodes.specs.Built.{is_built};
 ghost use Rattle.plan_model.specs.declared.fault.QueryFault.{QueryFault as SomeFault};
 
 use crate::answer::answer;
@@ -60,7 +58,6 @@ fn options_of(asked: &CommandLine<'_>) -> Options
 fn do_mode<W: Wire>(alloc: Global, asked: &CommandLine<'_>, plan: Plan, wire: &mut W) -> Status
     requires batch { 1 ≤ asked.now.batch }
     requires events { asked.now.events ≤ 1000000 }
-    requires built { IsTrue (list_all is_built plan.nodes) }
     ensures asked { IsAsked result }
     ensures does { Grows (W.journal wire.old) (W.journal wire.new) (DoesMode asked.now.mode (asked_by asked.now) plan result) }
     ensures counts { Counts (W.read_faults wire.old) (W.read_faults wire.new) (W.write_faults wire.old) (W.write_faults wire.new) result }

@@ -1,8 +1,6 @@
 // A query answered over generated lines, and the summary of the answer.
-ghost use Rattle.std.specs.Prelude.{◌≡◌, ◌≤◌, ◌<◌, ◌+◌, [], IfOk, IfErr, OnOk, List, ℕ, None, map, length, IsTrue, true, false};
-ghost use Rattle.std.specs.List.{list_all};
+ghost use Rattle.std.specs.Prelude.{◌≡◌, ◌≤◌, ◌<◌, ◌+◌, [], IfOk, IfErr, OnOk, List, ℕ, None, map, length, true, false};
 ghost use Rattle.wire_lines.specs.Journal.{Grows};
-ghost use Rattle.built_nodes.specs.Built.{is_built};
 ghost use Rattle.sample_trades.specs.Lines.{line_of};
 ghost use Rattle.sample_trades.specs.ToCome.{to_come};
 ghost use Rattle.tempo_cli.specs.Told.{answers};
@@ -43,7 +41,6 @@ impl Sampling {
         sample: Sample,
     ) -> Result<Sampling, Memory>
         requires batch { 1 ≤ options.batch }
-        requires built { IsTrue (list_all is_built plan.nodes) }
         ensures sampled { IfOk result (λ s.
             Sampled (record { plan = plan; policy = options.policy; header = header }) (map line_of (to_come sample)) s) }
         ensures number { IfOk result (λ s. s.number ≡ 0) }
@@ -141,7 +138,6 @@ fn summed_up(
     sample: Sample,
 ) -> Result<Vec<u8>, Status>
     requires batch { 1 ≤ options.batch }
-    requires built { IsTrue (list_all is_built plan.nodes) }
     requires few { length (to_come sample) ≤ 2000000 }
     ensures fine { IfOk result (λ _. (answers plan options.policy header).fault (map line_of (to_come sample)) true ≡ None) }
     ensures text { IfOk result (λ text. text.items ≡ summary_for (answers plan options.policy header) (map line_of (to_come sample))) }
@@ -162,7 +158,6 @@ pub fn sum_up<W: Wire>(
     wire: &mut W,
 ) -> Status
     requires batch { 1 ≤ options.batch }
-    requires built { IsTrue (list_all is_built plan.nodes) }
     requires few { length (to_come sample) ≤ 2000000 }
     ensures sums { Grows (W.journal wire.old) (W.journal wire.new) (Sums (answers plan options.policy header) (map line_of (to_come sample)) result) }
     ensures asked { IsAsked result }

@@ -2,14 +2,10 @@ use Rattle.std.proofs.Common.{refl, subst}
 use Rattle.plan_model.specs.IsPlan.{PlanParts}
 use Rattle.wire_lines.specs.Journal.{Grows}
 use Rattle.wire_lines.proofs.Growth.{Grows-none}
-use Rattle.query_plan.proofs.Sound.{planned-built}
 use Rattle.command_line.specs.Words.{asked_by}
 use Rattle.tempo_cli.specs.Jobs.{DoesMode}
 use Rattle.tempo_cli.proofs.Jobs.{plan_once, never_both, asked_reason, failed_planned, failed_unplanned, failed_reason}
 use Rattle.tempo_cli.proofs.running.perform.Goals as goal
-
-pub do_mode-requires-clause-built : goal.do_mode-requires-clause-built
-do_mode-requires-clause-built g c = let h = c.in-Ok.ensures in planned-built h.query c.in-Ok.plan h.plan_is
 
 pub returns-in-Ok-clause-reason : goal.returns-in-Ok-clause-reason
 returns-in-Ok-clause-reason g c = asked_reason c.args.asked.now.query.now c.do_mode.result c.do_mode.ensures.asked
