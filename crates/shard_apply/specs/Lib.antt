@@ -1,0 +1,4 @@
+-- Callers read all of these.
+pub mod Stepping
+pub mod Whole
+pub mod Saving
