@@ -16,7 +16,7 @@ use Rattle.row_reader.specs.Fields.{commas}
 use Rattle.row_reader.specs.Values.{both}
 use Rattle.row_reader.proofs.Records.{other}
 use Rattle.row_reader.proofs.Numbers.{number_of-spelled, number_of-is, same_text-Decides}
-use Rattle.checkpoint_lines.specs.declared.owner.Owner.{Owner}
+use Rattle.frozen_state.specs.declared.owner.Owner.{Owner}
 use Rattle.checkpoint_lines.specs.declared.owner.EntryPart.{EntryPart}
 use Rattle.checkpoint_lines.specs.declared.entry.EntryLine.{EntryLine}
 use Rattle.checkpoint_lines.specs.Lines.{line_of, time_line, bound_line, text_line, owner_text, datum_text, entry_fields, line_of_entry, part_of_entry, IsTimes, IsBound, IsText, IsOwner, IsEntry}

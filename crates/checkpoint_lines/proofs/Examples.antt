@@ -10,7 +10,7 @@ use Rattle.row_reader.specs.Fields.{commas}
 use Rattle.admission.specs.declared.policy.Lateness.TheVariants.{Refuse}
 use Rattle.admission.specs.declared.policy.Policy.{Policy}
 use Rattle.edge_stream.specs.declared.saved.SavedEntry.{SavedEntry}
-use Rattle.checkpoint_lines.specs.declared.owner.Owner.TheVariants.{In, Node, Out}
+use Rattle.frozen_state.specs.declared.owner.Owner.TheVariants.{In, Node, Out}
 use Rattle.checkpoint_lines.specs.Lines.{query_line, options_line, time_line, bound_line, text_line, entry_line}
 use Rattle.checkpoint_lines.specs.Reading.{time_of, bound_of}
 

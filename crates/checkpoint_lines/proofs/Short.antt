@@ -16,8 +16,8 @@ use Rattle.row_reader.proofs.ReadBack.{inf-is}
 use Rattle.admission.specs.declared.policy.Lateness.{Lateness}
 use Rattle.admission.specs.declared.policy.Lateness.TheVariants as late
 use Rattle.admission.specs.declared.policy.Policy.{Policy}
-use Rattle.checkpoint_lines.specs.declared.owner.Owner.{Owner}
-use Rattle.checkpoint_lines.specs.declared.owner.Owner.TheVariants.{In, Node, Out}
+use Rattle.frozen_state.specs.declared.owner.Owner.{Owner}
+use Rattle.frozen_state.specs.declared.owner.Owner.TheVariants.{In, Node, Out}
 use Rattle.checkpoint_lines.specs.declared.entry.EntryLine.{EntryLine}
 use Rattle.checkpoint_lines.specs.Lines.{line_of, query_line, options_line, late_text, time_line, bound_line, text_line, owner_text, datum_text, entry_fields, line_of_entry, IsOwner, IsCell, AreCells, IsEntry}
 

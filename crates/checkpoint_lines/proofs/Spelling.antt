@@ -18,8 +18,8 @@ use Rattle.row_reader.specs.Number.{number_of, units_of, same_text, fits_i64}
 use Rattle.row_reader.proofs.Numbers.{number_of-spelled, number_of-is, same_text-Decides}
 use Rattle.row_reader.proofs.Places.{units_of-spelled, units_of-is}
 use Rattle.row_reader.proofs.ReadBack.{inf-is, text_inf}
-use Rattle.checkpoint_lines.specs.declared.owner.Owner.{Owner}
-use Rattle.checkpoint_lines.specs.declared.owner.Owner.TheVariants.{In, Node, Out}
+use Rattle.frozen_state.specs.declared.owner.Owner.{Owner}
+use Rattle.frozen_state.specs.declared.owner.Owner.TheVariants.{In, Node, Out}
 use Rattle.checkpoint_lines.specs.Lines.{owner_text, datum_text, IsOwner, IsCell, AreCells}
 use Rattle.checkpoint_lines.specs.Reading.{instant_of, owner_of, flag_of, datum_of, before, cells_of}
 use Rattle.checkpoint_lines.proofs.Commas.{IsBare, AreBare, bare_word, plain_bare}

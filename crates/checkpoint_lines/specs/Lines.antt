@@ -15,8 +15,8 @@ use Rattle.admission.specs.declared.policy.Lateness.{Lateness}
 use Rattle.admission.specs.declared.policy.Lateness.TheVariants as late
 use Rattle.admission.specs.declared.policy.Policy.{Policy}
 use Rattle.edge_stream.specs.declared.saved.SavedEntry.{SavedEntry}
-use Rattle.checkpoint_lines.specs.declared.owner.Owner.{Owner}
-use Rattle.checkpoint_lines.specs.declared.owner.Owner.TheVariants.{In, Node, Out}
+use Rattle.frozen_state.specs.declared.owner.Owner.{Owner}
+use Rattle.frozen_state.specs.declared.owner.Owner.TheVariants.{In, Node, Out}
 use Rattle.checkpoint_lines.specs.declared.owner.EntryPart.{EntryPart}
 use Rattle.checkpoint_lines.specs.declared.entry.EntryLine.{EntryLine}
 

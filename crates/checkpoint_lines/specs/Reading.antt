@@ -10,8 +10,8 @@ use Rattle.tw_rows.specs.declared.kind.CellKind.TheVariants.{Whole, Bit, Place}
 use Rattle.row_reader.specs.Number.{number_of, units_of, same_text}
 use Rattle.row_reader.specs.Fields.{commas}
 use Rattle.row_reader.specs.Values.{both}
-use Rattle.checkpoint_lines.specs.declared.owner.Owner.{Owner}
-use Rattle.checkpoint_lines.specs.declared.owner.Owner.TheVariants.{In, Node, Out}
+use Rattle.frozen_state.specs.declared.owner.Owner.{Owner}
+use Rattle.frozen_state.specs.declared.owner.Owner.TheVariants.{In, Node, Out}
 use Rattle.checkpoint_lines.specs.declared.owner.EntryPart.{EntryPart}
 use Rattle.checkpoint_lines.specs.declared.entry.EntryLine.{EntryLine}
 

@@ -5,8 +5,9 @@ ghost use Rattle.checkpoint_lines.specs.Lines.{datum_text, entry_line};
 ghost use Rattle.checkpoint_lines.specs.Reading.{flag_of, datum_of, times_of, cells_of, entry_of};
 
 use crate::fields::{push_decimal, push_number_field, push_time_field, read_instant};
-use crate::owner::{Owner, push_owner, take_part};
+use crate::owner::{push_owner, take_part};
 use edge_stream::SavedEntry;
+use frozen_state::Owner;
 use line_text::push_number;
 use row_reader::{Fields, read_places, read_whole};
 use smallvec::SmallVec;

@@ -4,7 +4,9 @@ ghost use Rattle.tw_rows.specs.declared.kind.CellKind.{CellKind};
 ghost use Rattle.row_reader.specs.Fields.{commas};
 ghost use Rattle.admission.specs.declared.policy.Policy.{Policy};
 ghost use Rattle.checkpoint_lines.specs.declared.entry.EntryLine.{EntryLine};
-ghost use Rattle.checkpoint_lines.specs.Lines.{query_line, options_line, time_line, bound_line, text_line, line_of_entry, part_of_entry, IsTimes, IsBound, IsText, IsEntry};
+ghost use Rattle.checkpoint_lines.specs.Lines.{query_line, options_line, time_line, bound_line};
+ghost use Rattle.checkpoint_lines.specs.Lines.{text_line, line_of_entry, part_of_entry, IsTimes};
+ghost use Rattle.checkpoint_lines.specs.Lines.{IsBound, IsText, IsEntry};
 ghost use Rattle.checkpoint_lines.specs.Reading.{time_of, bound_of, text_of, part_of, entry_of};
 
 /// A line says what was written, and nothing else: it is read as something exactly where it is the line of that, and that has

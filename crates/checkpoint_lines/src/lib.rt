@@ -16,6 +16,6 @@ pub use head::{
     push_options_line, push_query_line,
 };
 pub use laws::{lines_are_short, lines_say_what_was_written};
-pub use owner::{EntryPart, Owner, read_entry_part};
+pub use owner::{EntryPart, read_entry_part};
 pub use progress::{push_bound_line, push_time_line, read_bound_line, read_time_line};
 pub use text::{push_text_line, read_text_line};

@@ -5,19 +5,9 @@ ghost use Rattle.checkpoint_lines.specs.Lines.{owner_text};
 ghost use Rattle.checkpoint_lines.specs.Reading.{owner_of, part_of, part_by};
 
 use crate::fields::push_decimal;
+use frozen_state::Owner;
 use row_reader::{Fields, read_whole};
 use tw_rows::Memory;
-
-/// Whose entries they are.
-#[derive(Clone, Copy, Debug, PartialEq, Eq)]
-pub enum Owner {
-    /// Those of the input.
-    In,
-    /// Those of the node of that number.
-    Node(u64),
-    /// Those of the output.
-    Out,
-}
 
 /// Which entries of whom.
 #[derive(Clone, Copy, Debug, PartialEq, Eq)]

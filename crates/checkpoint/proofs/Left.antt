@@ -1,0 +1,72 @@
+-- What is left to be written.
+use Rattle.std.proofs.Common.{◌≡◌, ◌<◌, ◌≤◌, ◌+◌, ℕ, zero, suc, List, [], ◌∷◌, ◌++◌, length, map, drop, get_or, Some, slice_get, refl, sym, ◌∙◌, ap, arith, append_assoc}
+use Rattle.std.proofs.lemmas.List.{drop_more}
+use Rattle.edge_stream.specs.declared.saved.SavedEntry.{SavedEntry}
+use Rattle.frozen_state.specs.declared.frozen.FrozenPart.{FrozenPart}
+use Rattle.frozen_state.specs.Frozen.{FrozenView}
+use Rattle.checkpoint_lines.specs.Lines.{end_line, time_line, text_line, entry_line}
+use Rattle.checkpoint.specs.declared.writing.Place.TheVariants.{Head}
+use Rattle.checkpoint.specs.Form.{FormView}
+use Rattle.checkpoint.specs.Text.{bound_lines, entry_lines, checkpoint_lines}
+use Rattle.checkpoint.specs.Writing.{entries_left, lines_left, bytes_of, Appends}
+
+pub dropped_all : {X : Type 0} (xs : List X) (n : ℕ) → length xs ≤ n → drop n xs ≡ []
+dropped_all [] zero low = refl
+dropped_all [] (suc n) low = refl
+dropped_all (x ∷ xs) zero low = absurd (omega (arith, low))
+dropped_all (x ∷ xs) (suc n) low = dropped_all xs n (omega (arith, low))
+
+pub dropped_more : {X : Type 0} (xs : List X) (n : ℕ) (x : X) → slice_get xs n ≡ Some x → drop n xs ≡ x ∷ drop (n + 1) xs
+dropped_more [] n x h = absurd (cc)
+dropped_more (y ∷ xs) zero x h = let e : y ≡ x = cc in ap (λ z. z ∷ xs) e
+dropped_more {X = X} (y ∷ xs) (suc n) x h = let e : suc (n + 1) ≡ suc n + 1 = omega arith in dropped_more xs n x h ∙ ap (λ (k : ℕ). x ∷ drop k (y ∷ xs)) e
+
+pub entries_start : (ps : List FrozenPart) → entries_left ps 0 ≡ entry_lines ps
+entries_start [] = refl
+entries_start (p ∷ ps) = refl
+
+-- all entries of a part were written
+pub past_part : (ps : List FrozenPart) (i : ℕ) (p : FrozenPart) (from : ℕ) → i < length ps → p ≡ get_or ps i p → length p.saved ≤ from →
+    entries_left (drop i ps) from ≡ entries_left (drop (i + 1) ps) 0
+past_part ps i p from low is long =
+    let there : drop i ps ≡ p ∷ drop (i + 1) ps = drop_more ps i p low ∙ ap (λ (q : FrozenPart). q ∷ drop (i + 1) ps) (sym is) in
+    ap (λ (l : List FrozenPart). entries_left l from) there
+    ∙ ap (λ (l : List SavedEntry). map (entry_line p.owner p.shard) l ++ entry_lines (drop (i + 1) ps)) (dropped_all p.saved from long)
+    ∙ sym (entries_start (drop (i + 1) ps))
+
+-- and of these the next one is written
+pub next_of_part : (ps : List FrozenPart) (i : ℕ) (p : FrozenPart) (n : ℕ) (e : SavedEntry) → slice_get ps i ≡ Some p → slice_get p.saved n ≡ Some e →
+    entries_left (drop i ps) n ≡ entry_line p.owner p.shard e ∷ entries_left (drop i ps) (n + 1)
+next_of_part ps i p n e at is =
+    let there = dropped_more ps i p at in
+    ap (λ (l : List FrozenPart). entries_left l n) there
+    ∙ ap (λ (l : List SavedEntry). map (entry_line p.owner p.shard) l ++ entry_lines (drop (i + 1) ps)) (dropped_more p.saved n e is)
+    ∙ ap (λ (l : List FrozenPart). entry_line p.owner p.shard e ∷ entries_left l (n + 1)) (sym there)
+
+pub bounds_end : (bs ms : List ℕ) (n : ℕ) → length ms ≤ n → bound_lines (drop n bs) (drop n ms) ≡ []
+bounds_end bs ms n low = ap (bound_lines (drop n bs)) (dropped_all ms n low) ∙ none (drop n bs)
+  where
+    none : (xs : List ℕ) → bound_lines xs [] ≡ []
+    none [] = refl
+    none (x ∷ xs) = refl
+
+-- from the first place on all is left
+pub whole_left : (form : FormView) (f : FrozenView) → lines_left form f (Head 0) ≡ checkpoint_lines form.head f
+whole_left form f =
+    let time = time_line f.lines f.last in
+    let bs = bound_lines f.bounds f.marks in
+    let ts = map text_line f.texts in
+    let es = entry_lines f.parts in
+    let last = end_line ∷ [] in
+    ap (λ (l : List (List ℕ)). form.head ++ time ∷ (bs ++ l)) (sym (append_assoc ts es last))
+    ∙ ap (λ (l : List (List ℕ)). form.head ++ time ∷ l) (sym (append_assoc bs (ts ++ es) last))
+    ∙ sym (append_assoc form.head (time ∷ (bs ++ (ts ++ es))) last)
+
+-- a line with its line feed
+pub fed : (left rest : List (List ℕ)) (old mid new : List ℕ) → Appends left rest old mid → new ≡ mid ++ 10 ∷ [] →
+    (line : List ℕ) × ((left ≡ line ∷ rest) × (new ≡ old ++ (line ++ 10 ∷ [])))
+fed left rest old mid new a e = (a.line, (a.next, e ∙ ap (λ (l : List ℕ). l ++ 10 ∷ []) a.bytes ∙ append_assoc old a.line (10 ∷ [])))
+
+pub bytes_more : (left rest : List (List ℕ)) (old new line : List ℕ) → left ≡ line ∷ rest → new ≡ old ++ (line ++ 10 ∷ []) → new ++ bytes_of rest ≡ old ++ bytes_of left
+bytes_more left rest old new line a b =
+    ap (λ (l : List ℕ). l ++ bytes_of rest) b ∙ append_assoc old (line ++ 10 ∷ []) (bytes_of rest) ∙ ap (λ (l : List (List ℕ)). old ++ bytes_of l) (sym a)

@@ -1,0 +1,11 @@
+pub mod Pieces
+pub mod Places
+pub mod Entries
+pub mod Growing
+pub mod Going
+pub mod Leading
+pub mod Stepping
+pub mod Left
+pub mod Valued
+pub mod Short
+pub mod Examples

@@ -1,0 +1,46 @@
+-- The lines that are still to be written.
+use Rattle.std.specs.Prelude.{◌≡◌, ℕ, Option, Some, None, List, [], ◌∷◌, ◌++◌, map, flat_map, drop}
+use Rattle.frozen_state.specs.declared.frozen.FrozenPart.{FrozenPart}
+use Rattle.frozen_state.specs.Frozen.{FrozenView}
+use Rattle.checkpoint_lines.specs.Lines.{end_line, time_line, text_line, entry_line}
+use Rattle.checkpoint.specs.declared.writing.Place.{Place}
+use Rattle.checkpoint.specs.declared.writing.Place.TheVariants.{Head, Bounds, Texts, Entries, Done}
+use Rattle.checkpoint.specs.Form.{FormView}
+use Rattle.checkpoint.specs.Text.{bound_lines, entry_lines}
+
+-- the lines of the entries from that number on of the first part, and of all entries of the others
+abbrev pub entries_left : List FrozenPart → ℕ → List (List ℕ)
+entries_left [] entry = []
+entries_left (p ∷ ps) entry = map (entry_line p.owner p.shard) (drop entry p.saved) ++ entry_lines ps
+
+-- the lines from the texts on
+abbrev pub texts_left : FrozenView → ℕ → List (List ℕ)
+texts_left f n = map text_line (drop n f.texts) ++ (entry_lines f.parts ++ end_line ∷ [])
+
+-- the lines from the streams on
+abbrev pub bounds_left : FrozenView → ℕ → List (List ℕ)
+bounds_left f n = bound_lines (drop n f.bounds) (drop n f.marks) ++ texts_left f 0
+
+-- the lines from a place on
+abbrev pub lines_left : FormView → FrozenView → Place → List (List ℕ)
+lines_left form f (Head n) = drop n form.head ++ time_line f.lines f.last ∷ bounds_left f 0
+lines_left form f (Bounds n) = bounds_left f n
+lines_left form f (Texts n) = texts_left f n
+lines_left form f (Entries part entry) = entries_left (drop part f.parts) entry ++ end_line ∷ []
+lines_left form f Done = []
+
+-- the bytes of lines, with a line feed behind each
+abbrev pub bytes_of : List (List ℕ) → List ℕ
+bytes_of lines = flat_map (λ line. line ++ 10 ∷ []) lines
+
+-- one line was appended, and from the next place on the rest is left
+pub record Appends (left rest : List (List ℕ)) (old new : List ℕ) : Type 0 where
+  pub line : List ℕ
+  pub next : left ≡ line ∷ rest
+  pub bytes : new ≡ old ++ line
+
+-- the next line was appended with its line feed; or none was left
+abbrev pub WritesLine : FormView → FrozenView → Place → List ℕ → List ℕ → Option Place → Type 0
+WritesLine form f place old new (Some next) =
+    (line : List ℕ) × ((lines_left form f place ≡ line ∷ lines_left form f next) × (new ≡ old ++ (line ++ 10 ∷ [])))
+WritesLine form f place old new None = (lines_left form f place ≡ []) × (new ≡ old)
