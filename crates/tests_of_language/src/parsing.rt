@@ -551,7 +551,11 @@ fn outline(step: &QueryStep) -> (&'static str, u64, u64) {
 }
 
 static STEPS: &str =
-    "stream s(v int); let m = s; m | where v | select v, v + 1 as q | union s | delay 0 | duration 3 | extend 4 | hop 10 5 | tumble 7 | session 6 by v, q | clip s | join s on v | anti s on v, q | group : count as n | group by v : sum q as a, min q as b, max q as c | coalesce | left s on v else -1, 2.5 | top 3 per v, q by w | follow s on v within 7 | group : avg v as m";
+    "stream s(v int); let m = s; m | where v | select v, v + 1 as q | union s | delay 0 | \
+    duration 3 | extend 4 | hop 10 5 | tumble 7 | session 6 by v, q | clip s | join s on v | \
+    anti s on v, q | group : count as n | group by v : sum q as a, min q as b, max q as c | \
+    coalesce | left s on v else -1, 2.5 | top 3 per v, q by w | follow s on v within 7 | \
+    group : avg v as m";
 
 static OUTLINES: [(&str, u64, u64); 19] = [
     ("where", 1, 0),

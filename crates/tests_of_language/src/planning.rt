@@ -13,10 +13,16 @@ fn planned(alloc: Global, text: &str) -> Result<(usize, usize), QueryError> {
 }
 
 /// Texts with how many nodes their plans have, and the roots.
-static PLANS: [(&str, usize, usize); 7] = [
+static PLANS: [(&str, usize, usize); 9] = [
     ("stream s(k text, v int); s", 1, 0),
     ("stream s(k text, v int); s | where v > 10", 2, 1),
     ("stream a(k text); stream b(v int); a", 2, 0),
+    ("stream s(k text, v int); s | top 1000 per k by v", 2, 1),
+    (
+        "stream s(k text, v int); s | group : avg v as m | coalesce",
+        4,
+        3,
+    ),
     (
         "stream s(k text, v int); let m = s | where v > 10; let n = m | select k; m",
         3,
@@ -47,7 +53,7 @@ fn plans_have_a_node_for_each_stream_and_step(rt: HostRuntime) {
 }
 
 /// Texts without a plan, with their faults.
-static FAULTS: [(&str, QueryFault); 30] = [
+static FAULTS: [(&str, QueryFault); 27] = [
     (
         "stream s(k text, v int); s | where v = 'a'",
         QueryFault::TypeClash { item: 2 },
@@ -109,16 +115,8 @@ static FAULTS: [(&str, QueryFault); 30] = [
         QueryFault::UnknownName { item: 2 },
     ),
     (
-        "stream s(v int); s | group : avg v as m",
-        QueryFault::NotBuilt { item: 2 },
-    ),
-    (
         "stream s(v int); s | coalesce | hop 3 2",
-        QueryFault::NotBuilt { item: 2 },
-    ),
-    (
-        "stream s(k text, v int); s | top 1000 per k by v",
-        QueryFault::NotBuilt { item: 2 },
+        QueryFault::BadWindow { item: 3 },
     ),
     (
         "stream s(k text, v int); s | top 1001 per k by v",
@@ -149,10 +147,6 @@ static FAULTS: [(&str, QueryFault); 30] = [
         QueryFault::UnknownName { item: 3 },
     ),
     (
-        "stream l(k text, w int); stream r(k text, x int); l | follow r on k within 5",
-        QueryFault::NotBuilt { item: 3 },
-    ),
-    (
         "stream l(k text, w int); stream r(k int, x int); l | follow r on k within 5",
         QueryFault::TypeClash { item: 3 },
     ),
@@ -161,8 +155,8 @@ static FAULTS: [(&str, QueryFault); 30] = [
         QueryFault::NameTaken { item: 3 },
     ),
     (
-        "stream s(v int); s | delay 1152921504606846976 | coalesce",
-        QueryFault::NotBuilt { item: 3 },
+        "stream s(v int); s | delay 1152921504606846976 | hop 3 2",
+        QueryFault::BadWindow { item: 3 },
     ),
     (
         "stream s(v int); s | delay 1152921504606846977",

@@ -2,7 +2,7 @@
 use crate::made::INF;
 use crate::stepping::{Step, first_step, later_step};
 use plan_model::Agg;
-use session_window::Session;
+use session_window::new_session;
 use snapshot_agg::Grouped;
 use std::test::Fail;
 use tw_rows::Kind;
@@ -61,7 +61,7 @@ fn sessions_end_at_the_first_gap_of_their_key(rt: HostRuntime) -> Result<(), Fai
         left_to: 7,
         right_to: 0,
     };
-    let operator = Session::new(alloc, 5, &[0], &INT, 2)?;
+    let operator = new_session(alloc, 5, &[0], &INT, 2)?;
     let (told, saved) = first_step(&rt, alloc, operator, &[], &first)?;
     assert_eq!(rt; told.as_slice(), [(1, INF, 7), (4, INF, 7)].as_slice());
     let second = Step {
@@ -70,7 +70,7 @@ fn sessions_end_at_the_first_gap_of_their_key(rt: HostRuntime) -> Result<(), Fai
         left_to: 14,
         right_to: 0,
     };
-    let operator = Session::new(alloc, 5, &[0], &INT, 2)?;
+    let operator = new_session(alloc, 5, &[0], &INT, 2)?;
     let told = later_step(&rt, alloc, operator, &[], (&first, &saved), &second)?;
     assert_eq!(rt;
         told.as_slice(),

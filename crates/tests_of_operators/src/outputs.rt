@@ -36,6 +36,7 @@ fn list(rt: &impl Abort, alloc: Global, start: u64, end: u64) -> Result<EdgeList
 
 // What is shown when the edges are taken up to `to`.
 fn text_of(
+    alloc: Global,
     egress: &mut Egress,
     edges: EdgeList,
     to: u64,
@@ -46,7 +47,8 @@ fn text_of(
     requires waiting { IsPlacedIn texts.now egress.old }
     ensures { OnOk result (egress.new.failed ≡ false) }
 {
-    egress.take(edges, Time::ZERO.plus(to), texts)?;
+    let mut pools = Pools::new(alloc, 8, edges.capacity())?;
+    egress.take(&mut pools, edges, Time::ZERO.plus(to), texts)?;
     egress.render(None)
 }
 
@@ -54,7 +56,7 @@ fn text_of(
 fn saved_at_five(rt: &impl Abort, alloc: Global, texts: &TextTable) -> Result<Saved, Fail> {
     let edges = list(rt, alloc, 3, 9)?;
     let mut egress = Egress::new(alloc, &[Kind::Int])?;
-    text_of(&mut egress, edges, 5, texts)?;
+    text_of(alloc, &mut egress, edges, 5, texts)?;
     Ok(egress.save()?)
 }
 
@@ -77,7 +79,7 @@ fn text_after(
 ) -> Result<Vec<u8>, Fail> {
     let edges = list(rt, alloc, 5, 6)?;
     let mut egress = loaded_at_five(alloc, saved)?;
-    Ok(text_of(&mut egress, edges, 20, texts)?)
+    Ok(text_of(alloc, &mut egress, edges, 20, texts)?)
 }
 
 #[test]

@@ -1,12 +1,12 @@
 // What is no state of an operator, or of an output, is refused where it is loaded.
 use crate::made::INF;
-use anti_join::Anti;
-use clip_op::Clip;
+use anti_join::new_anti;
+use clip_op::new_clip;
 use edge_stream::{LoadFault, Saved, SavedEntry};
 use egress::Egress;
 use operator::Operator;
 use plan_model::Agg;
-use session_window::Session;
+use session_window::new_session;
 use snapshot_agg::Grouped;
 use std::alloc::Global;
 use std::test::Fail;
@@ -48,9 +48,9 @@ fn refuses<O: Operator>(alloc: Global, operator: O, entries: &[Entry]) -> Result
 #[test]
 fn what_is_no_state_of_a_sweep_is_refused(rt: HostRuntime) -> Result<(), Fail> {
     let alloc = rt.alloc();
-    let anti = Anti::new(alloc, &[0], &[0], &INT, &INT, 2)?;
+    let anti = new_anti(alloc, &[0], &[0], &INT, &INT, 2)?;
     assert!(rt; refuses(alloc, anti, &[(0, 2, INF, 5), (4, 1000, INF, 5)])?);
-    let anti = Anti::new(alloc, &[0], &[0], &INT, &INT, 2)?;
+    let anti = new_anti(alloc, &[0], &[0], &INT, &INT, 2)?;
     assert!(rt;
         refuses(
             alloc,
@@ -58,9 +58,9 @@ fn what_is_no_state_of_a_sweep_is_refused(rt: HostRuntime) -> Result<(), Fail> {
             &[(0, 2, INF, 5), (4, 3, INF, 5), (4, 4, INF, 5)]
         )?
     );
-    let clip = Clip::new(alloc, &[0], &[0], &INT, &INT, 2)?;
+    let clip = new_clip(alloc, &[0], &[0], &INT, &INT, 2)?;
     assert!(rt; refuses(alloc, clip, &[(0, 3, INF, 1), (2, 9, 4, 1)])?);
-    let session = Session::new(alloc, 5, &[0], &INT, 2)?;
+    let session = new_session(alloc, 5, &[0], &INT, 2)?;
     assert!(rt; refuses(alloc, session, &[(0, 3, INF, 1), (1, 9, 4, 1)])?);
     Ok(())
 }

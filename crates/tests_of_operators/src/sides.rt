@@ -1,10 +1,11 @@
 // Operators with two children, whose sides are closed apart: what they keep of both is saved and loaded.
 use crate::made::INF;
 use crate::stepping::{Step, first_step, later_step};
-use anti_join::Anti;
-use clip_op::Clip;
+use anti_join::new_anti;
+use clip_op::new_clip;
+use follow_op::Follow;
 use std::test::Fail;
-use temporal_join::Join;
+use temporal_join::new_join;
 use tw_rows::Kind;
 use union_op::Union;
 
@@ -45,7 +46,7 @@ fn pairs_end_when_both_sides_are_closed(rt: HostRuntime) -> Result<(), Fail> {
         left_to: 6,
         right_to: 4,
     };
-    let operator = Join::new(alloc, &[0], &[0], &INT, &INT, 2)?;
+    let operator = new_join(alloc, &[0], &[0], &INT, &INT, 2)?;
     let (told, saved) = first_step(&rt, alloc, operator, &INT, &first)?;
     assert_eq!(rt; told.as_slice(), [(3, INF, 7)].as_slice());
     let second = Step {
@@ -54,7 +55,7 @@ fn pairs_end_when_both_sides_are_closed(rt: HostRuntime) -> Result<(), Fail> {
         left_to: 6,
         right_to: 8,
     };
-    let operator = Join::new(alloc, &[0], &[0], &INT, &INT, 2)?;
+    let operator = new_join(alloc, &[0], &[0], &INT, &INT, 2)?;
     let told = later_step(&rt, alloc, operator, &INT, (&first, &saved), &second)?;
     assert_eq!(rt; told.as_slice(), [(5, 3, 7)].as_slice());
     Ok(())
@@ -71,7 +72,7 @@ fn partners_take_turns(rt: HostRuntime) -> Result<(), Fail> {
         left_to: 9,
         right_to: 7,
     };
-    let operator = Anti::new(alloc, &[0], &[0], &INT, &INT, 2)?;
+    let operator = new_anti(alloc, &[0], &[0], &INT, &INT, 2)?;
     let (told, saved) = first_step(&rt, alloc, operator, &INT, &first)?;
     assert_eq!(rt;
         told.as_slice(),
@@ -83,7 +84,7 @@ fn partners_take_turns(rt: HostRuntime) -> Result<(), Fail> {
         left_to: 11,
         right_to: 11,
     };
-    let operator = Anti::new(alloc, &[0], &[0], &INT, &INT, 2)?;
+    let operator = new_anti(alloc, &[0], &[0], &INT, &INT, 2)?;
     let told = later_step(&rt, alloc, operator, &INT, (&first, &saved), &second)?;
     assert_eq!(rt;
         told.as_slice(),
@@ -103,7 +104,7 @@ fn rows_are_clipped_once(rt: HostRuntime) -> Result<(), Fail> {
         left_to: 10,
         right_to: 11,
     };
-    let operator = Clip::new(alloc, &[0], &[0], &INT, &INT, 2)?;
+    let operator = new_clip(alloc, &[0], &[0], &INT, &INT, 2)?;
     let (told, saved) = first_step(&rt, alloc, operator, &INT, &first)?;
     assert_eq!(rt;
         told.as_slice(),
@@ -115,11 +116,37 @@ fn rows_are_clipped_once(rt: HostRuntime) -> Result<(), Fail> {
         left_to: 100,
         right_to: 100,
     };
-    let operator = Clip::new(alloc, &[0], &[0], &INT, &INT, 2)?;
+    let operator = new_clip(alloc, &[0], &[0], &INT, &INT, 2)?;
     let told = later_step(&rt, alloc, operator, &INT, (&first, &saved), &second)?;
     assert_eq!(rt;
         told.as_slice(),
         [(12, INF, 7), (15, 12, 7), (99, 4, 5)].as_slice()
     );
+    Ok(())
+}
+
+/// Within 5 of the left row 7 from 1 on, both right rows that start at 4 follow it, and their pairs live until 6. That at 1
+/// starts with it, and that at 5 comes later. The row 5 from 10 on is not followed by the start at 15.
+#[test]
+fn rows_are_followed_by_the_next_start(rt: HostRuntime) -> Result<(), Fail> {
+    let alloc = rt.alloc();
+    let first = Step {
+        left: &[(1, 2, 7)],
+        right: &[(1, INF, 8), (4, INF, 8), (4, INF, 9)],
+        left_to: 4,
+        right_to: 5,
+    };
+    let operator = Follow::new(alloc, &[], &[], 5, &INT, &INT, 2)?;
+    let (told, saved) = first_step(&rt, alloc, operator, &INT, &first)?;
+    assert!(rt; told.is_empty());
+    let second = Step {
+        left: &[(10, 11, 5)],
+        right: &[(5, INF, 9), (15, INF, 9)],
+        left_to: 20,
+        right_to: 20,
+    };
+    let operator = Follow::new(alloc, &[], &[], 5, &INT, &INT, 2)?;
+    let told = later_step(&rt, alloc, operator, &INT, (&first, &saved), &second)?;
+    assert_eq!(rt; told.as_slice(), [(4, 6, 708), (4, 6, 709)].as_slice());
     Ok(())
 }

@@ -1,7 +1,7 @@
 // An engine line by line, against worked examples.
 use admission::{Lateness, Policy};
 use plan_model::QueryError;
-use query_plan::{built_nodes_alone, plan};
+use query_plan::plan;
 use query_text::parse;
 use row_reader::BadLine;
 use std::alloc::{AllocError, Global};
@@ -31,8 +31,6 @@ impl Drop for Fed {
 fn engine_of(alloc: Global, text: &str, policy: Policy) -> Result<Fed, QueryError> {
     let query = parse(alloc, text)?;
     let plan = plan(alloc, &query)?;
-    // This call tells the proof that an engine takes the plan.
-    built_nodes_alone();
     let engine = Engine::new(alloc, plan, Options { batch: 2, policy })?;
     Ok(Fed { engine })
 }
@@ -126,8 +124,9 @@ fn an_engine_moves_late_lines_to_the_bound(rt: HostRuntime) -> Result<(), QueryE
         ("s,interval,6,20,a,4", ""),
     ];
     feed_lines(&rt, &mut fed.engine, &lines);
-    let text =
-        "out,start,3,inf,a,1\nout,start,7,inf,a,4\nout,start,8,inf,a,3\nout,start,12,inf,a,2\nout,end,20,3,a,1\nout,end,20,12,a,2\nout,end,20,8,a,3\nout,end,20,7,a,4\n*,punct,inf\n";
+    let text = "out,start,3,inf,a,1\nout,start,7,inf,a,4\nout,start,8,inf,a,3\n\
+        out,start,12,inf,a,2\nout,end,20,3,a,1\nout,end,20,12,a,2\n\
+        out,end,20,8,a,3\nout,end,20,7,a,4\n*,punct,inf\n";
     match fed.engine.finish() {
         Ok(bytes) => assert!(rt; bytes.as_slice() == text.as_bytes()),
         Err(_) => panic!(rt; "the end"),

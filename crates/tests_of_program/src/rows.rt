@@ -8,7 +8,7 @@ const SUM: &str = "stream s(k text, v int); s | group : sum v as t";
 const PRICES: &str = "stream s(p dec(2), q int); s | where p >= 1.50 | select p * q as t, q";
 
 /// A query, its input, what goes out, the exit number and the note.
-const ROWS: [(&str, &str, &str, u8, &str); 23] = [
+const ROWS: [(&str, &str, &str, u8, &str); 29] = [
     (
         "stream s(k text, v int); s | group : count as n",
         "s,interval,1,5,a,1\ns,interval,3,8,a,1\n",
@@ -169,6 +169,53 @@ const ROWS: [(&str, &str, &str, u8, &str); 23] = [
         "",
         3,
         "query: type clash in item 2\n",
+    ),
+    (
+        "stream l(k text, w int); stream r(k text, x int); l | left r on k else -1",
+        "l,interval,1,7,a,1\nr,interval,3,5,a,2\n",
+        "out,start,1,inf,a,1,-1\nout,end,3,1,a,1,-1\nout,start,3,inf,a,1,2\nout,end,5,3,a,1,2\n\
+            out,start,5,inf,a,1,-1\nout,end,7,5,a,1,-1\n*,punct,inf\n",
+        0,
+        "",
+    ),
+    (
+        "stream s(k text, v int); s | group : count as n | coalesce | duration 2",
+        "s,interval,1,5,a,1\ns,interval,3,8,a,1\n",
+        "out,start,1,inf,1\nout,end,3,1,1\nout,start,3,inf,2\nout,end,5,3,2\nout,start,5,inf,1\n\
+            out,end,7,5,1\n*,punct,inf\n",
+        0,
+        "",
+    ),
+    (
+        "stream s(k text, v int); s | coalesce | tumble 10",
+        "s,interval,1,9,a,1\ns,interval,9,12,a,1\n",
+        "out,start,0,inf,a,1\nout,end,10,0,a,1\n*,punct,inf\n",
+        0,
+        "",
+    ),
+    (
+        "stream s(k text, v int); s | group : avg v as m",
+        "s,interval,0,4,a,-3\ns,interval,2,6,b,0\n",
+        "out,start,0,inf,-3\nout,end,2,0,-3\nout,start,2,inf,-2\nout,end,4,2,-2\nout,start,4,inf,0\n\
+            out,end,6,4,0\n*,punct,inf\n",
+        0,
+        "",
+    ),
+    (
+        "stream s(k text, v int); s | top 1 by v",
+        "s,interval,1,5,a,3\ns,interval,3,8,b,7\ns,interval,4,6,c,7\n",
+        "out,start,1,inf,a,3\nout,end,3,1,a,3\nout,start,3,inf,b,7\nout,start,4,inf,c,7\nout,end,6,4,c,7\n\
+            out,end,8,3,b,7\n*,punct,inf\n",
+        0,
+        "",
+    ),
+    (
+        "stream l(k text, w int); stream r(k text, x int); l | follow r on k within 5",
+        "l,interval,1,2,a,1\nr,interval,1,2,a,7\nr,interval,4,5,a,8\nr,interval,5,6,a,9\n\
+            l,interval,10,11,a,2\nr,interval,15,16,a,3\n",
+        "out,start,4,inf,a,1,8\nout,end,6,4,a,1,8\n*,punct,inf\n",
+        0,
+        "",
     ),
 ];
 

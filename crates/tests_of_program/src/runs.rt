@@ -191,11 +191,13 @@ const ONE_LIFE: &str = "out,start,3,inf,a,1\nout,end,20,3,a,1\n*,punct,inf\n";
 const TWO_LIVES: &str =
     "out,start,3,inf,a,1\nout,start,12,inf,a,2\nout,end,20,3,a,1\nout,end,20,12,a,2\n*,punct,inf\n";
 
-const THREE_LIVES: &str =
-    "out,start,3,inf,a,1\nout,start,8,inf,a,3\nout,start,12,inf,a,2\nout,end,20,3,a,1\nout,end,20,12,a,2\nout,end,20,8,a,3\n*,punct,inf\n";
+const THREE_LIVES: &str = "out,start,3,inf,a,1\nout,start,8,inf,a,3\nout,start,12,inf,a,2\n\
+    out,end,20,3,a,1\nout,end,20,12,a,2\nout,end,20,8,a,3\n\
+    *,punct,inf\n";
 
-const FOUR_LIVES: &str =
-    "out,start,3,inf,a,1\nout,start,7,inf,a,4\nout,start,8,inf,a,3\nout,start,12,inf,a,2\nout,end,20,3,a,1\nout,end,20,12,a,2\nout,end,20,8,a,3\nout,end,20,7,a,4\n*,punct,inf\n";
+const FOUR_LIVES: &str = "out,start,3,inf,a,1\nout,start,7,inf,a,4\nout,start,8,inf,a,3\n\
+    out,start,12,inf,a,2\nout,end,20,3,a,1\nout,end,20,12,a,2\n\
+    out,end,20,8,a,3\nout,end,20,7,a,4\n*,punct,inf\n";
 
 /// What the first bytes of these lines come to, where they are fewer than so many: the exit number, what goes out, and the note.
 /// A line that is cut off has no kind yet, or too few fields, or no value in column 2, or is whole but for its LF.

@@ -3,8 +3,9 @@ use crate::runs::run_over;
 use std::alloc::{AllocError, Global};
 use tw_rows::Memory;
 
-const MINUTES: &str =
-    "stream trades(sym text, px int, qty int); let g = trades | tumble 60 | group by sym : count as n, sum qty as q; let old = g | delay 60 | select sym, q as q0; g | join old on sym";
+const MINUTES: &str = "stream trades(sym text, px int, qty int); \
+    let g = trades | tumble 60 | group by sym : count as n, sum qty as q; \
+    let old = g | delay 60 | select sym, q as q0; g | join old on sym";
 
 fn push(text: &mut Vec<u8>, line: &str) -> Result<(), AllocError> {
     text.extend_from_slice(line.as_bytes())
