@@ -40,8 +40,12 @@ impl RowStage {
         requires pools { pools.old.capacity ≡ left.capacity }
         requires limit { most_columns ≤ pools.old.limit }
         requires placed { EdgesArePlaced texts.now left.edges }
-        ensures made { IfOk result (λ out. (n : Node) → IsStageOf texts.now left.capacity (cells_of left) n self.old → IsMade texts.now n left.edges out.edges) }
-        ensures kinds { IfOk result (λ out. (n : Node) → IsStageOf texts.now left.capacity (cells_of left) n self.old → cells_of out ≡ node_kinds n (cells_of left) []) }
+        ensures made { IfOk result (λ out. (n : Node) →
+            IsStageOf texts.now left.capacity (cells_of left) n self.old →
+            IsMade texts.now n left.edges out.edges) }
+        ensures kinds { IfOk result (λ out. (n : Node) →
+            IsStageOf texts.now left.capacity (cells_of left) n self.old → cells_of out
+            ≡ node_kinds n (cells_of left) []) }
         ensures plain { IfOk result (λ out. ArePlain left.kinds → ArePlain out.kinds) }
         ensures placed { IfOk result (λ out. EdgesArePlaced texts.now out.edges) }
         ensures later { IfOk result (λ out. (x : ℕ) → failing (is_from x) left.edges ≡ 0 → failing (is_from x) out.edges ≡ 0) }
@@ -68,8 +72,12 @@ impl RowStage {
         requires pools { pools.old.capacity ≡ left.capacity }
         requires limit { most_columns ≤ pools.old.limit }
         requires placed { EdgesArePlaced texts.now left.edges }
-        ensures made { IfOk result (λ out. (n : Node) → IsStageOf texts.now left.capacity (cells_of left) n self.old → IsMade texts.now n left.edges out.edges) }
-        ensures kinds { IfOk result (λ out. (n : Node) → IsStageOf texts.now left.capacity (cells_of left) n self.old → cells_of out ≡ node_kinds n (cells_of left) []) }
+        ensures made { IfOk result (λ out. (n : Node) →
+            IsStageOf texts.now left.capacity (cells_of left) n self.old →
+            IsMade texts.now n left.edges out.edges) }
+        ensures kinds { IfOk result (λ out. (n : Node) →
+            IsStageOf texts.now left.capacity (cells_of left) n self.old → cells_of out
+            ≡ node_kinds n (cells_of left) []) }
         ensures plain { IfOk result (λ out. ArePlain left.kinds → ArePlain out.kinds) }
         ensures placed { IfOk result (λ out. EdgesArePlaced texts.now out.edges) }
         ensures capacity { IfOk result (λ out. out.capacity ≡ left.capacity) }
@@ -89,7 +97,9 @@ impl RowStage {
     // A list with no edge, of the kinds of the node.
     fn empty_list(&self, alloc: Global, left: &EdgeList) -> Result<EdgeList, Memory>
         requires stage { (texts : List (List ℕ)) × IsStage texts left.now.capacity (cells_of left.now) self.now }
-        ensures kinds { IfOk result (λ list. (n : Node) (texts : List (List ℕ)) → IsStageOf texts left.now.capacity (cells_of left.now) n self.now → cells_of list ≡ node_kinds n (cells_of left.now) []) }
+        ensures kinds { IfOk result (λ list. (n : Node) (texts : List (List ℕ)) →
+            IsStageOf texts left.now.capacity (cells_of left.now) n self.now → cells_of list
+            ≡ node_kinds n (cells_of left.now) []) }
         ensures plain { IfOk result (λ list. ArePlain left.now.kinds → ArePlain list.kinds) }
         ensures edges { IfOk result (λ list. list.edges ≡ []) }
         ensures capacity { IfOk result (λ list. list.capacity ≡ left.now.capacity) }
@@ -106,8 +116,12 @@ impl RowStage {
         requires pools { pools.old.capacity ≡ batch.capacity }
         requires limit { most_columns ≤ pools.old.limit }
         requires placed { EdgesArePlaced texts.now (edges_of batch.rows) }
-        ensures made { IfOk result (λ b. (n : Node) → IsStageOf texts.now batch.capacity batch.kinds n self.old → IsMade texts.now n (edges_of batch.rows) (edges_of b.rows)) }
-        ensures kinds { IfOk result (λ b. (n : Node) → IsStageOf texts.now batch.capacity batch.kinds n self.old → b.kinds ≡ node_kinds n batch.kinds []) }
+        ensures made { IfOk result (λ b. (n : Node) →
+            IsStageOf texts.now batch.capacity batch.kinds n self.old →
+            IsMade texts.now n (edges_of batch.rows) (edges_of b.rows)) }
+        ensures kinds { IfOk result (λ b. (n : Node) →
+            IsStageOf texts.now batch.capacity batch.kinds n self.old → b.kinds
+            ≡ node_kinds n batch.kinds []) }
         ensures placed { IfOk result (λ b. EdgesArePlaced texts.now (edges_of b.rows)) }
         ensures capacity { IfOk result (λ b. b.capacity ≡ batch.capacity) }
         ensures pools { pools.new.capacity ≡ pools.old.capacity }
@@ -126,8 +140,11 @@ impl RowStage {
 fn filtered(filter: &mut Filter, texts: &TextTable, mut batch: Batch) -> Batch
     requires stage { IsStage texts.now batch.capacity batch.kinds (RowStage.Where filter.old) }
     requires placed { EdgesArePlaced texts.now (edges_of batch.rows) }
-    ensures made { (n : Node) → IsStageOf texts.now batch.capacity batch.kinds n (RowStage.Where filter.old) → IsMade texts.now n (edges_of batch.rows) (edges_of result.rows) }
-    ensures kinds { (n : Node) → IsStageOf texts.now batch.capacity batch.kinds n (RowStage.Where filter.old) → result.kinds ≡ node_kinds n batch.kinds [] }
+    ensures made { (n : Node) → IsStageOf texts.now batch.capacity batch.kinds n
+        (RowStage.Where filter.old) →
+        IsMade texts.now n (edges_of batch.rows) (edges_of result.rows) }
+    ensures kinds { (n : Node) → IsStageOf texts.now batch.capacity batch.kinds n
+        (RowStage.Where filter.old) → result.kinds ≡ node_kinds n batch.kinds [] }
     ensures placed { EdgesArePlaced texts.now (edges_of result.rows) }
     ensures capacity { result.capacity ≡ batch.capacity }
     ensures same { filter.new ≡ filter.old }
@@ -148,8 +165,12 @@ fn projected(
     requires pools { pools.old.capacity ≡ batch.capacity }
     requires limit { most_columns ≤ pools.old.limit }
     requires placed { EdgesArePlaced texts.now (edges_of batch.rows) }
-    ensures made { IfOk result (λ b. (n : Node) → IsStageOf texts.now batch.capacity batch.kinds n (RowStage.Select project.old) → IsMade texts.now n (edges_of batch.rows) (edges_of b.rows)) }
-    ensures kinds { IfOk result (λ b. (n : Node) → IsStageOf texts.now batch.capacity batch.kinds n (RowStage.Select project.old) → b.kinds ≡ node_kinds n batch.kinds []) }
+    ensures made { IfOk result (λ b. (n : Node) →
+        IsStageOf texts.now batch.capacity batch.kinds n (RowStage.Select project.old) →
+        IsMade texts.now n (edges_of batch.rows) (edges_of b.rows)) }
+    ensures kinds { IfOk result (λ b. (n : Node) →
+        IsStageOf texts.now batch.capacity batch.kinds n (RowStage.Select project.old) → b.kinds
+        ≡ node_kinds n batch.kinds []) }
     ensures placed { IfOk result (λ b. EdgesArePlaced texts.now (edges_of b.rows)) }
     ensures capacity { IfOk result (λ b. b.capacity ≡ batch.capacity) }
     ensures pools { pools.new.capacity ≡ pools.old.capacity }

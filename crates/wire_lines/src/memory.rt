@@ -113,7 +113,9 @@ impl MemoryWire {
 
 impl Wire for MemoryWire {
     ghost use Rattle.std.specs.Prelude.{Some, ◌≡◌, ◌≤◌, ◌<◌, ◌++◌, length, IfOk, OnErr, take, drop, not, is_ok};
-    ghost use Rattle.wire_lines.specs.Memory.{told, call_fails, write_fails, read_count, after_read, after_write, after_failed_read, after_failed_write};
+    ghost use Rattle.wire_lines.specs.Memory.{told, call_fails, write_fails, read_count};
+    ghost use Rattle.wire_lines.specs.Memory.{after_read, after_write, after_failed_read};
+    ghost use Rattle.wire_lines.specs.Memory.{after_failed_write};
     ghost use Rattle.wire_lines.specs.Journal.{Reads, Writes};
     ghost use Rattle.wire_lines.specs.Faults.{HasCause, IsOther};
 
