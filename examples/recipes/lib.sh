@@ -68,6 +68,18 @@ tempo_pid() {
     done | grep -m 1 .
 }
 
+# The kinds of the answer's columns, with commas between: of the plan the line of the root has them.
+kinds_of() {
+    local plan
+    plan=$("$TEMPO" --mode explain --query "$1") || return
+    awk '$1 == "root" { print node[$2] } { node[$1] = $NF }' <<<"$plan" | sed -E 's/[^,]*:([a-z0-9()]+)/\1/g'
+}
+
+# The files, or what comes in, with a line of progress where somebody looks and pv is installed.
+shown() {
+    if [ -t 2 ] && command -v pv >/dev/null; then pv -- "$@"; else cat -- "$@"; fi
+}
+
 # Compares a file with what was wanted.
 same() {
     diff -u --label wanted --label got <(printf '%s\n' "$2") "$1"

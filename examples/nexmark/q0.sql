@@ -1,0 +1,1 @@
+select began, ended, c1, c2, c3 from bid
