@@ -4,10 +4,11 @@
 usage: bench/parts.py [COUNT] [--program PATH]
 
 Runs the program and the yardstick under valgrind over COUNT lines (20,000 if not given) and over none, and takes the difference:
-for the filter, the windows with a group, the join, the anti-join and the sessions of the other scripts, and for open starts whose
-ends come in opposite order, which the yardstick does not have. An instruction counts for the part whose function it is in; one
-in a library, or in a crate that several parts call (rows, columns, edges, printing), counts for those that called it. Functions
-that the compiler put into their callers count with these: a part of reading, admission and release is in `engine and program`.
+for the filter, the windows with a group, the join, the anti-join, the sessions, the greatest, what follows and the averages of
+the other scripts, as far as the program computes them, and for open starts whose ends come in opposite order, which the
+yardstick does not have. An instruction counts for the part whose function it is in; one in a library, or in a crate that several
+parts call (rows, columns, edges, printing), counts for those that called it. Functions that the compiler put into their callers
+count with these: a part of reading, admission and release is in `engine and program`.
 Instructions do not depend on what else the machine does.
 """
 import re
@@ -18,14 +19,14 @@ import tempfile
 from collections import defaultdict
 from pathlib import Path
 
-from runs import STREAMS, TRADES, arguments, write_keyed, write_trades, yardstick
+from runs import STREAMS, TRADES, arguments, computes, write_keyed, write_trades, yardstick
 
 KEYS = 1000
 PARTS = {
     "reading": "wire_lines row_reader",
     "admission": "ingress",
     "the plan": "dataflow row_stage where_select lane_expr lifetime_ops union_op clip_op temporal_join anti_join session_window "
-    "snapshot_agg sweep_sides synopsis agg_state end_queue carried_edges",
+    "snapshot_agg coalesce_op outer_top follow_op sweep_sides synopsis agg_state end_queue carried_edges",
     "output": "egress",
     "engine and program": "tempo tempo_cli tempo_engine command_line query_words query_grammar query_text query_columns query_plan",
 }
@@ -36,6 +37,9 @@ QUERIES = {
     "join": STREAMS + "l | join r on k",
     "anti": STREAMS + "l | anti r on k",
     "session": STREAMS + "l | session 30 by k",
+    "top": STREAMS + "l | top 3 per k by w",
+    "follow": STREAMS + "l | follow r on k within 30",
+    "average": STREAMS + "l | group by k : avg w as m",
 }
 ROUNDS = 60
 ENGINE = "engine and program"
@@ -124,10 +128,13 @@ def main(read):
         write_keyed(keyed, read.count, KEYS)
         write_opens(opens, read.count)
         none.touch()
-        runs = {kind: (query, keyed if STREAMS in query else trades) for kind, query in QUERIES.items()}
+        taken = {kind: query for kind, query in QUERIES.items() if computes(read.program, query)}
+        runs = {kind: (query, keyed if STREAMS in query else trades) for kind, query in taken.items()}
         runs["open starts"] = ("stream s(v int); s", opens)
         for kind, (query, lines) in runs.items():
             ours = a_line([read.program, "--query", query], lines, none, read.count)
+            if not ours["reading"]:
+                sys.exit("bench: the program has no names of functions: take the one that ./tempo --build makes, not that of dist/")
             told = ", ".join(f"{part} {cost:.0f}" for part, cost in ours.items())
             whole = sum(ours.values())
             beside = ""

@@ -54,6 +54,12 @@ def write_keyed(path, count, keys):
         subprocess.run([yardstick(), "keyed", str(count), str(keys), str(SEED)], stdout=out, check=True)
 
 
+def computes(program, query):
+    """Whether the program takes the query."""
+    words = [program, "--mode", "explain", "--query", query]
+    return subprocess.run(words, stdout=subprocess.DEVNULL, stderr=subprocess.DEVNULL).returncode == 0
+
+
 def digest_of(lines):
     digest = hashlib.sha256()
     for line in lines:

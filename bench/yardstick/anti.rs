@@ -1,21 +1,12 @@
 //! An anti-join: instant by instant, which keys have a right row, and which left rows come, go and change for it.
 
 use crate::changes::{Changes, Row};
-use crate::keyed::{Event, Query};
-use crate::text::INF;
+use crate::keyed::{Event, Move, Pending, Query};
 use std::collections::{BTreeMap, HashMap};
-
-/// A row that starts or ends.
-struct Move {
-    starts: bool,
-    is_left: bool,
-    key: i64,
-    value: i64,
-}
 
 #[derive(Default)]
 pub struct Anti {
-    pending: BTreeMap<i64, Vec<Move>>,
+    pending: Pending,
     /// How many right rows of each key are there.
     rights: HashMap<i64, i64>,
     /// The left rows that are there, by key, with their numbers.
@@ -24,27 +15,14 @@ pub struct Anti {
 
 impl Query for Anti {
     fn step(&mut self, events: Vec<Event>, to: i64, changes: &mut Changes) {
-        for Event { start, end, is_left, key, value } in events {
-            self.wait(start, Move { starts: true, is_left, key, value });
-            if end != INF {
-                self.wait(end, Move { starts: false, is_left, key, value });
-            }
-        }
-        while let Some(entry) = self.pending.first_entry() {
-            if *entry.key() >= to {
-                break;
-            }
-            let (at, moves) = entry.remove_entry();
+        events.into_iter().for_each(|event| self.pending.put(event));
+        while let Some((at, moves)) = self.pending.next_before(to) {
             self.instant(at, &moves, changes);
         }
     }
 }
 
 impl Anti {
-    fn wait(&mut self, at: i64, change: Move) {
-        self.pending.entry(at).or_default().push(change);
-    }
-
     fn instant(&mut self, at: i64, moves: &[Move], changes: &mut Changes) {
         let mut was_blocked: BTreeMap<i64, bool> = BTreeMap::new();
         let (mut came, mut went) = (Vec::new(), Vec::new());

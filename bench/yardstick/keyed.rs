@@ -3,6 +3,7 @@
 use crate::changes::Changes;
 use crate::draws::Draws;
 use crate::text::{input, lines, number_of, push_fields, push_punctuation, write_much, INF};
+use std::collections::BTreeMap;
 use std::io::{self, Write};
 
 pub struct Event {
@@ -11,6 +12,39 @@ pub struct Event {
     pub is_left: bool,
     pub key: i64,
     pub value: i64,
+}
+
+/// A row that starts or ends.
+pub struct Move {
+    pub starts: bool,
+    pub is_left: bool,
+    pub key: i64,
+    pub value: i64,
+}
+
+/// Starts and ends of events that wait for their time.
+#[derive(Default)]
+pub struct Pending {
+    moves: BTreeMap<i64, Vec<Move>>,
+}
+
+impl Pending {
+    pub fn put(&mut self, Event { start, end, is_left, key, value }: Event) {
+        self.wait(start, Move { starts: true, is_left, key, value });
+        if end != INF {
+            self.wait(end, Move { starts: false, is_left, key, value });
+        }
+    }
+
+    fn wait(&mut self, at: i64, change: Move) {
+        self.moves.entry(at).or_default().push(change);
+    }
+
+    /// Takes out what moves at the first instant, if that is before the time.
+    pub fn next_before(&mut self, to: i64) -> Option<(i64, Vec<Move>)> {
+        let first = self.moves.first_entry()?;
+        (*first.key() < to).then(|| first.remove_entry())
+    }
 }
 
 /// A query that is answered in steps.

@@ -8,6 +8,10 @@
 //!        yardstick join                     l | join r on k
 //!        yardstick anti                     l | anti r on k
 //!        yardstick session                  l | session 30 by k
+//!        yardstick top                      l | top 3 per k by w
+//!        yardstick follow                   l | follow r on k within 30
+//!        yardstick sum                      l | group by k : sum w as m
+//!        yardstick average                  l | group by k : avg w as m
 //!
 //! The lines have to be as these generators write them: intervals in the order of their starts, and a punctuation for all
 //! streams after each hundred. Built by `rustc -O --edition 2021 main.rs`.
@@ -15,10 +19,13 @@
 mod anti;
 mod changes;
 mod draws;
+mod follow;
 mod join;
 mod keyed;
 mod session;
 mod text;
+mod top;
+mod totals;
 mod trades;
 
 use std::io;
@@ -36,6 +43,10 @@ fn main() -> io::Result<()> {
         ["join"] => keyed::answer(join::Join::default(), 3),
         ["anti"] => keyed::answer(anti::Anti::default(), 2),
         ["session"] => keyed::answer(session::Sessions::default(), 2),
-        _ => Err(io::Error::other("usage: yardstick trades|filter|tumble|keyed|join|anti|session ..")),
+        ["top"] => keyed::answer(top::Top::default(), 2),
+        ["follow"] => keyed::answer(follow::Follow::default(), 3),
+        ["sum"] => keyed::answer(totals::Totals::new(false), 2),
+        ["average"] => keyed::answer(totals::Totals::new(true), 2),
+        _ => Err(io::Error::other("usage: yardstick trades|filter|tumble|keyed|join|anti|session|top|follow|sum|average ..")),
     }
 }
