@@ -16,7 +16,6 @@ from pathlib import Path
 
 ROOT = Path(__file__).resolve().parent.parent
 SECONDS = 120
-NOT_BUILT = re.compile(r"^query: not built in item \d+$", re.M)
 S_WORDS = "stream s(k text, v int); s"
 NESTED = f"stream s(v int); s | where {'(' * 201}"
 HINTS = [
@@ -85,10 +84,6 @@ stream s(v int); s | delay 1152921504606846977
 stream s(v int, k int); s | select v as a, k as a
                             ~~~~~~~~~~~~~~~~~~~~^
 two columns are called a
-"""),
-    ("stream s(v int); s | top 3 by v", None, "query: not built in item 2", """
-stream s(v int); s | top 3 by v
-                     ^^^^^^^^^^
 """),
     (S_WORDS, b"x" * 65537, "line 1: too long", f"""
 {"x" * 93}...
@@ -177,9 +172,7 @@ def check_terminal(report, program):
         wanted = note + "\n" + "".join(f"  {line}\n" for line in below.strip("\n").split("\n") if line)
         last = noted.rstrip("\n").rpartition("\n")[2]
         told = plain.stderr.decode()
-        if NOT_BUILT.search(note) and not NOT_BUILT.search(told):
-            report.skips(name, "the step is built by now")
-        elif told != note + "\n":
+        if told != note + "\n":
             report.fails(name, f"without a terminal its note is {told!r}")
         elif (out, status) != (plain.stdout, plain.returncode):
             report.fails(name, f"at a terminal its output or its status {status} is another")
