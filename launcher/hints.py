@@ -230,7 +230,8 @@ def run(program, words):
     if os.isatty(0) and "--query" in " ".join(words) and option(words, "--mode") in (None, "run"):
         # Not where it ends at once, as at a query that it refuses.
         if not select.select([ran.stderr], [], [], ENTER)[0]:
-            print(how_to_type(words), file=sys.stderr, flush=True)
+            # (In one write, so that nothing that is typed comes into the line.)
+            os.write(2, f"{how_to_type(words)}\n".encode())
     noted = b""
     while True:
         part = os.read(ran.stderr.fileno(), 1 << 16)
