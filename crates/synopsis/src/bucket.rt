@@ -7,6 +7,7 @@ ghost use Rattle.tw_rows.specs.declared.edge.HeldRow.{HeldRow};
 ghost use Rattle.edge_history.specs.Order.{many};
 ghost use Rattle.edge_history.specs.Opens.{is_held};
 ghost use Rattle.synopsis.specs.Held.{IsPlace};
+ghost use Rattle.synopsis.specs.Marks.{Fits};
 
 use crate::marks::Marks;
 use crate::word_hasher::WordHasher;
@@ -27,6 +28,31 @@ fn marks_of(alloc: Global, rows: &[HeldRow]) -> Result<Marks, Memory> {
     Ok(marks)
 }
 
+// The index with the mark of the row that comes next. Where there is none it is made once there are many rows.
+fn next_marked(
+    alloc: Global,
+    marks: Option<Box<Marks>>,
+    rows: &[HeldRow],
+    cells: &[Datum],
+    start: Time,
+) -> Result<Option<Box<Marks>>, Memory> {
+    let mut marks = match marks {
+        Some(marks) => marks,
+        None if rows.len() >= MANY => Box::new(alloc, marks_of(alloc, rows)?)?,
+        None => return Ok(None),
+    };
+    marks.push(hash_of(cells, start))?;
+    Ok(Some(marks))
+}
+
+// The index, where it is that of so many rows. Another is let go, so that no mark outlives its row.
+fn fitting(marks: Option<Box<Marks>>, rows: usize) -> Option<Box<Marks>>
+    ensures { IfSome result (λ m. Fits rows m.value) }
+{
+    let marks = marks?;
+    if marks.fits(rows) { Some(marks) } else { None }
+}
+
 // Whether the row has these cells and this start.
 fn is_row(row: &HeldRow, cells: &[Datum], start: Time) -> bool
     ensures { result ≡ is_held cells.now start row.now }
@@ -44,17 +70,20 @@ const FEW: usize = 8;
 #[derive(Drop)]
 pub struct Bucket {
     rows: Vec<HeldRow>,
-    // There since the rows were many.
+    // There since the rows were many, if it is not to be made anew with the next row.
     marks: Option<Box<Marks>>,
 }
 
 impl Model for Bucket {
-    ghost use Rattle.std.specs.Prelude.{List};
+    ghost use Rattle.std.specs.Prelude.{List, IfSome, length};
     ghost use Rattle.tw_rows.specs.declared.edge.HeldRow.{HeldRow as Item};
+    ghost use Rattle.synopsis.specs.Marks.{Fits};
 
     ghost Value = { List Item };
 
     ghost view = { λ b. b.rows.items };
+
+    ghost invariant = { λ b. IfSome b.marks (λ m. Fits (length b.rows.items) m.value) };
 }
 
 impl Bucket {
@@ -85,30 +114,16 @@ impl Bucket {
         self.rows.as_slice()
     }
 
-    // Marks the row that comes next, where it is marked, and makes the index where there are many rows and none.
-    fn mark_next(&mut self, alloc: Global, cells: &[Datum], start: Time) -> Result<(), Memory>
-        ensures { self.new ≡ self.old }
-    {
-        if self.marks.is_none() && self.rows.len() >= MANY {
-            self.marks = Some(Box::new(alloc, marks_of(alloc, self.rows.as_slice())?)?);
-        }
-        if let Some(marks) = &mut self.marks {
-            marks.push(hash_of(cells, start))?;
-        }
-        Ok(())
-    }
-
     /// Puts in a row, as the last.
     pub fn add(&mut self, alloc: Global, cells: Cells, start: Time) -> Result<(), Memory>
         ensures ok { OnOk result (self.new ≡ self.old ++ record { cells = cells; start = start } ∷ []) }
         ensures err { OnErr result (self.new ≡ self.old) }
     {
-        self.mark_next(alloc, cells.items(), start)?;
-        if self.rows.push(HeldRow { cells, start }).is_err() {
-            // It is made anew with the next row.
-            self.marks = None;
-            return Err(Memory);
-        }
+        // Where there is no room the index is gone.
+        let marks = self.marks.take();
+        let marks = next_marked(alloc, marks, self.rows.as_slice(), cells.items(), start)?;
+        self.rows.push(HeldRow { cells, start })?;
+        self.marks = fitting(marks, self.rows.len());
         Ok(())
     }
 
@@ -154,13 +169,19 @@ impl Bucket {
     }
 
     // Takes the mark of the row that is to go, and tells its place then: it has changed places with the row whose mark it is.
-    fn unmarked(&mut self, place: usize, cells: &[Datum], start: Time) -> usize
+    fn unmarked(
+        &mut self,
+        marks: &mut Option<Box<Marks>>,
+        place: usize,
+        cells: &[Datum],
+        start: Time,
+    ) -> usize
         requires within { place < length self.old }
         ensures within { result < length self.new }
         ensures same { IsPermutation self.old self.new }
         ensures moved { (d : HeldRow) → get_or self.new result d ≡ get_or self.old place d }
     {
-        let Some(marks) = &mut self.marks else {
+        let Some(marks) = marks else {
             return place;
         };
         match marks.take(hash_of(cells, start)) {
@@ -182,8 +203,10 @@ impl Bucket {
         let Some(i) = self.find(cells, start) else {
             return false;
         };
-        let place = self.unmarked(i, cells, start);
+        let mut marks = self.marks.take();
+        let place = self.unmarked(&mut marks, i, cells, start);
         self.rows.swap_remove(place);
+        self.marks = fitting(marks, self.rows.len());
         true
     }
 }

@@ -1,6 +1,10 @@
 // The index of a list of rows: beside each row its mark.
+ghost use Rattle.std.specs.Prelude.{◌≡◌, ◌+◌, ◌≤◌, true, IfSome};
+ghost use Rattle.synopsis.specs.Marks.{Fits};
+
 use indexmap::{IndexMap, IndexSet};
 use std::alloc::Global;
+use std::marker::Model;
 use tw_rows::Memory;
 
 /// For each place of the list a hash and a number: rows of the same hash have the numbers from 0 on. It is a guess: who asks
@@ -13,13 +17,32 @@ pub struct Marks {
     counts: IndexMap<u64, u64>,
 }
 
+impl Model for Marks {
+    ghost use Rattle.indexmap.specs.IndexMap.{index_map_len};
+    ghost use Rattle.indexmap.specs.IndexSet.{index_set_len};
+    ghost use Rattle.synopsis.specs.Marks.{MarkCount};
+
+    ghost Value = { MarkCount };
+
+    ghost view = { λ m. record { places = index_set_len m.marks; hashes = index_map_len m.counts } };
+}
+
 impl Marks {
     /// No place is marked.
-    pub fn new(alloc: Global) -> Marks {
+    pub fn new(alloc: Global) -> Marks
+        ensures { Fits 0 result }
+    {
         Marks {
             marks: IndexSet::new(alloc),
             counts: IndexMap::new(alloc),
         }
+    }
+
+    /// Whether it is the index of so many rows.
+    pub fn fits(&self, rows: usize) -> bool
+        ensures { result ≡ true → Fits rows self.now }
+    {
+        self.marks.len() == rows && self.counts.len() <= rows
     }
 
     /// How many places have the hash.
@@ -44,7 +67,10 @@ impl Marks {
     }
 
     /// Takes the mark of the hash's last number and tells its place; the last mark moves into the gap.
-    pub fn take(&mut self, hash: u64) -> Option<usize> {
+    pub fn take(&mut self, hash: u64) -> Option<usize>
+        ensures marks { IfSome result (λ _. self.old.places ≡ self.new.places + 1) }
+        ensures hashes { self.new.hashes ≤ self.old.hashes }
+    {
         let count = self.counts.get_mut(&hash)?;
         *count = count.saturating_sub(1);
         let number = *count;
