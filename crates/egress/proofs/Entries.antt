@@ -21,7 +21,8 @@ use Rattle.edge_history.specs.History.{of}
 use Rattle.edge_history.specs.Balance.{news}
 use Rattle.edge_history.proofs.Sums.{failing-append, failing-filter}
 use Rattle.node_laws.specs.Places.{read_events, EdgesArePlaced}
-use Rattle.egress.specs.Kept.{cells_of, since_at, since_in, HasAdded, EachIsOpen}
+use Rattle.row_queues.specs.Kept.{since_at, EachIsOpen}
+use Rattle.egress.specs.Kept.{cells_of, since_in, HasAdded}
 use Rattle.egress.specs.Waiting.{Waiting, edges_if, edges_at, waiting_in, ArePut, SameMoves, WaitingArePlaced}
 use Rattle.egress.specs.Output.{Holds}
 use Rattle.egress.specs.Reached.{Reached}

@@ -7,7 +7,6 @@ mod Counted
 mod Gathered
 mod Ordered
 mod Instant
-mod Opened
 mod Ending
 mod Passes
 mod Shown

@@ -22,7 +22,8 @@ use Rattle.tw_rows.specs.SameCells.{same_cells, cells_are_same, same_itself}
 use Rattle.edge_history.specs.Order.{failing}
 use Rattle.node_laws.specs.Places.{AreDistinct, EdgesArePlaced}
 use Rattle.plan_model.proofs.InOrder.{same_row, row_itself}
-use Rattle.egress.specs.Kept.{datum_of, cells_of, is_placed, are_placed, stand_for, since_at, since_in, OpensPass}
+use Rattle.row_queues.specs.Kept.{since_at}
+use Rattle.egress.specs.Kept.{datum_of, cells_of, is_placed, are_placed, stand_for, since_in, OpensPass}
 
 pub both : (a b : Bool) → a ≡ true → b ≡ true → (a && b) ≡ true
 both true true e f = refl

@@ -27,7 +27,8 @@ use Rattle.edge_history.proofs.Sums.{failing-append}
 use Rattle.node_laws.specs.Places.{read_events, AreDistinct, EdgesArePlaced}
 use Rattle.node_laws.proofs.Standing.{of_valid}
 use Rattle.plan_model.specs.Opens.{rise, starts_before, ends_before, open_before}
-use Rattle.egress.specs.Kept.{cells_of, are_placed, since_at}
+use Rattle.row_queues.specs.Kept.{since_at}
+use Rattle.egress.specs.Kept.{cells_of, are_placed}
 use Rattle.egress.specs.Waiting.{edges_if, edges_at, waiting_in, SameMoves, WaitingArePlaced}
 use Rattle.egress.specs.Output.{Holds}
 use Rattle.egress.specs.Saving.{entries_of, starts_of, end_of, ends_of, IsKept, Resumes}

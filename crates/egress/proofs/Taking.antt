@@ -32,7 +32,8 @@ use Rattle.plan_model.specs.Changes.{changes}
 use Rattle.plan_model.specs.ChangeWords.{start_times}
 use Rattle.plan_model.proofs.Counting.{counts, starts_below}
 use Rattle.plan_model.proofs.Steady.{often_same, changes_same}
-use Rattle.egress.specs.Kept.{are_placed, since_at, since_in}
+use Rattle.row_queues.specs.Kept.{since_at}
+use Rattle.egress.specs.Kept.{are_placed, since_in}
 use Rattle.egress.specs.Print.{print}
 use Rattle.egress.specs.Reached.{Reached}
 use Rattle.egress.specs.Waiting.{Waiting, edges_if, edges_at, ArePut, ArePopped, SameMoves, Swept}

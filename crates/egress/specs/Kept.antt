@@ -1,10 +1,10 @@
 -- What is kept of rows: how often each ends and starts at an instant, and its open starts.
-use Rattle.std.specs.Prelude.{◌≡◌, ℕ, nat_lt, ◌&&◌, Bool, true, cond, Option, Some, None, List, [], ◌∷◌, ◌++◌, map, length, replicate, All}
+use Rattle.std.specs.Prelude.{◌≡◌, ℕ, nat_lt, ◌&&◌, Bool, true, cond, List, [], ◌∷◌, ◌++◌, map, length, replicate, All}
 use Rattle.std.specs.Ordering.{eq_by_cmp}
 use Rattle.std.specs.Str.{bytes_eq}
 use Rattle.std.specs.List.{position_or_len}
 use Rattle.std.specs.declared.collections.VecDeque.{VecDeque}
-use Rattle.indexmap.specs.IndexMap.{get as value_at, IndexMap}
+use Rattle.indexmap.specs.IndexMap.{IndexMap}
 use Rattle.tw_rows.specs.Bag.{total}
 use Rattle.tw_rows.specs.Rows.{Row, row_cmp}
 use Rattle.tw_rows.specs.declared.row.Value.{Value}
@@ -15,6 +15,7 @@ use Rattle.tw_rows.specs.SameCells.{same_cells}
 use Rattle.tw_rows.specs.declared.edge.Edge.{Edge}
 use Rattle.edge_history.specs.Opens.{ended_of, started_of}
 use Rattle.tw_rows.specs.Cells.{read_cells}
+use Rattle.row_queues.specs.Kept.{since_at}
 use Rattle.egress.specs.declared.moves.Moves.{Moves}
 
 -- how often a row ends at the instant, and how often it starts; 0 where no moves are of it. Of moves of the row 7 with two
@@ -52,14 +53,6 @@ are_placed texts (d ∷ ds) = is_placed texts d && are_placed texts ds
 abbrev pub stand_for : List (List ℕ) → Row → List Datum → Bool
 stand_for texts r cells = are_placed texts cells && eq_by_cmp row_cmp (read_cells texts cells) r
 
-abbrev pub times_if : {S : Type 0} → Option (VecDeque ℕ S) → List ℕ
-times_if None = []
-times_if (Some d) = d.items
-
--- the open starts of the row of these cells, the earliest first; none where the map does not have it
-abbrev pub since_at : {S H : Type 0} → IndexMap (List Datum) (VecDeque ℕ S) H → List Datum → List ℕ
-since_at opens cells = times_if (value_at same_cells opens cells)
-
 -- the datum of a value: of a text its place, which is the number of texts where the table does not have it
 abbrev pub datum_of : List (List ℕ) → Value → Datum
 datum_of texts (Int x) = IntDatum x
@@ -81,7 +74,3 @@ OpensPass p since = (cells : List Datum) (t : ℕ) (rest : List ℕ) → since c
 -- a time was added so often to those of the row of these cells, and the other rows have theirs
 abbrev pub HasAdded : {S H : Type 0} → List Datum → ℕ → ℕ → IndexMap (List Datum) (VecDeque ℕ S) H → IndexMap (List Datum) (VecDeque ℕ S) H → Type 0
 HasAdded cells time count old new = (c : List Datum) → since_at new c ≡ cond (same_cells cells c) (since_at old c ++ replicate count time) (since_at old c)
-
--- a row that is kept has an open start: one whose starts have all ended is not kept
-abbrev pub EachIsOpen : {S H : Type 0} → IndexMap (List Datum) (VecDeque ℕ S) H → Type 0
-EachIsOpen opens = (cells : List Datum) → since_at opens cells ≡ [] → value_at same_cells opens cells ≡ None

@@ -1,5 +1,5 @@
 -- Callers read Instants, Print, Reached, Waiting, Output and Saving. The words of Kept, Gathering, Saved and Showing, and `ArePut` and
--- `ArePopped` of Waiting, are used inside the crate, and `EachIsOpen` of Kept by Output.
+-- `ArePopped` of Waiting, are used inside the crate.
 pub mod Instants
 pub mod Print
 pub mod Reached

@@ -3,15 +3,16 @@ ghost use Rattle.std.specs.Prelude.{◌≡◌, ◌↔◌, ℕ, List, [], ◌∷�
 ghost use Rattle.std.specs.List.Sorted.{IsNonDecreasing};
 ghost use Rattle.tw_rows.specs.Instant.{inf};
 ghost use Rattle.tw_rows.specs.declared.cells.Datum.{Datum as DatumOf};
-ghost use Rattle.egress.specs.Kept.{since_at, HasAdded, EachIsOpen};
+ghost use Rattle.row_queues.specs.Kept.{since_at, EachIsOpen};
+ghost use Rattle.egress.specs.Kept.{HasAdded};
 ghost use Rattle.egress.specs.Waiting.{waiting_in, ArePut};
 ghost use Rattle.egress.specs.Saving.{starts_of, end_of, ends_of, IsKept, IsSound, MayFollow};
 
-use crate::open_rows::open_row;
 use crate::waiting::put;
 use carried_edges::is_stored_as;
 use edge_stream::{LoadFault, SavedEntry};
 use indexmap::IndexMap;
+use row_queues::{Starts, open_row};
 use std::alloc::Global;
 use std::collections::{BTreeMap, VecDeque};
 use tw_rows::{Cells, Edge, Kind, Memory, Time};
@@ -19,7 +20,7 @@ use tw_rows::{Cells, Edge, Kind, Memory, Time};
 // What is kept of entries: the open starts of each row, its ends, and the edges of those that are known.
 #[derive(Drop)]
 pub(crate) struct Loaded {
-    pub(crate) starts: IndexMap<Cells, VecDeque<Time>>,
+    pub(crate) starts: Starts,
     pub(crate) ends: IndexMap<Cells, VecDeque<Time>>,
     pub(crate) waiting: BTreeMap<u64, Vec<Edge>>,
 }

@@ -1,13 +1,13 @@
 // The rows that are open, and the lines that end and start them.
-ghost use Rattle.std.specs.Prelude.{◌≡◌, ◌≤◌, ◌++◌, [], replicate, IfOk, OnOk};
+ghost use Rattle.std.specs.Prelude.{◌≡◌, ◌++◌, [], map, take, drop, replicate, IfOk, OnOk};
 ghost use Rattle.tw_rows.specs.Cells.{ArePlaced, read_cells};
 ghost use Rattle.plan_model.specs.Changes.{Started, Ended};
-ghost use Rattle.egress.specs.Kept.{HasAdded, EachIsOpen};
 ghost use Rattle.egress.specs.Print.{print, line_text};
 ghost use Rattle.egress.specs.Showing.{EndsRow, StartsRow, AreNone};
 
 use indexmap::IndexMap;
 use line_text::{Form, push_event};
+use row_queues::{Starts, open_row, put_back};
 use std::alloc::Global;
 use std::collections::VecDeque;
 use tw_rows::{Cells, Kind, Memory, TextTable, Time};
@@ -18,7 +18,7 @@ use tw_rows::{Cells, Kind, Memory, TextTable, Time};
 pub(crate) struct OpenRows {
     pub(crate) alloc: Global,
     pub(crate) kinds: Vec<Kind>,
-    pub(crate) starts: IndexMap<Cells, VecDeque<Time>>,
+    pub(crate) starts: Starts,
     pub(crate) lines: Vec<u8>,
 }
 
@@ -61,6 +61,30 @@ fn push_end(
     push_event(lines, "out", Form::End, at, start, kinds, cells, texts)
 }
 
+// Ends the first of the open starts of a row, so many of them or all: their end lines come last.
+fn end_first(
+    lines: &mut Vec<u8>,
+    kinds: &[Kind],
+    since: &mut VecDeque<Time>,
+    at: Time,
+    cells: &Cells,
+    texts: &TextTable,
+    count: usize,
+) -> Result<(), Memory>
+    requires { ArePlaced texts.now cells.now }
+    ensures since { OnOk result (since.new.items ≡ drop count since.old.items) }
+    ensures lines { OnOk result (lines.new.items ≡ lines.old.items
+        ++ print kinds.now (map (λ s. Ended at s (read_cells texts.now cells.now)) (take count since.old.items))) }
+{
+    for _ in 0..count {
+        match since.pop_front() {
+            Some(start) => push_end(lines, kinds, at, start, cells, texts)?,
+            None => return Ok(()),
+        }
+    }
+    Ok(())
+}
+
 // So many start lines of a row.
 fn push_starts(
     lines: &mut Vec<u8>,
@@ -76,37 +100,6 @@ fn push_starts(
     for _ in 0..count {
         push_start(lines, kinds, at, cells, texts)?;
     }
-    Ok(())
-}
-
-fn open_more(since: &mut VecDeque<Time>, at: Time, count: usize) -> Result<(), Memory>
-    ensures { OnOk result (since.new.items ≡ since.old.items ++ replicate count at) }
-{
-    for _ in 0..count {
-        since.push_back(at)?;
-    }
-    Ok(())
-}
-
-// Opens a row so often at a time.
-pub(crate) fn open_row(
-    starts: &mut IndexMap<Cells, VecDeque<Time>>,
-    alloc: Global,
-    cells: &Cells,
-    at: Time,
-    count: usize,
-) -> Result<(), Memory>
-    ensures since { OnOk result (HasAdded cells.now at count starts.old starts.new) }
-    ensures kept { OnOk result (1 ≤ count → EachIsOpen starts.old → EachIsOpen starts.new) }
-{
-    if let Some(since) = starts.get_mut(cells) {
-        open_more(since, at, count)?;
-        return Ok(());
-    }
-    let mut since = VecDeque::new(alloc);
-    open_more(&mut since, at, count)?;
-    let kept = cells.clone()?;
-    starts.insert(kept, since)?;
     Ok(())
 }
 
@@ -144,17 +137,12 @@ impl OpenRows {
         let Some(mut since) = self.starts.swap_remove(cells) else {
             return Ok(());
         };
-        for _ in 0..count {
-            let Some(start) = since.pop_front() else {
-                return Ok(());
-            };
-            push_end(&mut self.lines, &self.kinds, at, start, cells, texts)?;
-        }
+        let lines = &mut self.lines;
+        end_first(lines, &self.kinds, &mut since, at, cells, texts, count)?;
         if since.is_empty() {
             return Ok(());
         }
-        let kept = cells.clone()?;
-        self.starts.insert(kept, since)?;
+        put_back(&mut self.starts, cells, since)?;
         Ok(())
     }
 

@@ -3,20 +3,18 @@ ghost use Rattle.std.specs.Prelude.{◌≡◌, ◌≤◌, ℕ, List, ◌++◌, c
 ghost use Rattle.std.specs.Option.{option_to_list};
 ghost use Rattle.tw_rows.specs.Instant.{inf};
 ghost use Rattle.tw_rows.specs.declared.cells.Datum.{Datum as DatumOf};
-ghost use Rattle.egress.specs.Kept.{since_at};
+ghost use Rattle.row_queues.specs.Kept.{since_at};
 ghost use Rattle.egress.specs.Waiting.{waiting_in};
 ghost use Rattle.egress.specs.Saved.{entry_at, HasDropped, Taken, TakenRest, TakesWaiting};
 
 use crate::waiting::pop_due;
 use edge_stream::{Saved, SavedEntry};
-use indexmap::IndexMap;
+use row_queues::Starts;
 use std::collections::{BTreeMap, VecDeque};
 use tw_rows::{Cells, Edge, Memory, Time};
 
 // A copy of the open starts.
-pub(crate) fn copy_starts(
-    starts: &IndexMap<Cells, VecDeque<Time>>,
-) -> Result<IndexMap<Cells, VecDeque<Time>>, Memory>
+pub(crate) fn copy_starts(starts: &Starts) -> Result<Starts, Memory>
     ensures { IfOk result (λ copy. (c : List DatumOf) → since_at copy c ≡ since_at starts.now c) }
 {
     let copy = starts.clone()?;
@@ -34,7 +32,7 @@ pub(crate) fn copy_waiting(
 }
 
 // Takes out the first open start of a row.
-fn take_first(starts: &mut IndexMap<Cells, VecDeque<Time>>, cells: &Cells) -> Option<Time>
+fn take_first(starts: &mut Starts, cells: &Cells) -> Option<Time>
     ensures since { HasDropped cells.now starts.old starts.new }
     ensures first { option_to_list result ≡ take 1 (since_at starts.old cells.now) }
 {
@@ -45,12 +43,7 @@ fn take_first(starts: &mut IndexMap<Cells, VecDeque<Time>>, cells: &Cells) -> Op
 }
 
 // Adds an entry of the row of an edge that ends at the time, with the first open start of the row, which is taken out.
-fn save_end(
-    saved: &mut Saved,
-    starts: &mut IndexMap<Cells, VecDeque<Time>>,
-    edge: &Edge,
-    at: Time,
-) -> Result<(), Memory>
+fn save_end(saved: &mut Saved, starts: &mut Starts, edge: &Edge, at: Time) -> Result<(), Memory>
     ensures entries { OnOk result (saved.new ≡ saved.old ++ map (entry_at at edge.now.cells) (take 1 (since_at starts.old edge.now.cells))) }
     ensures since { OnOk result (HasDropped edge.now.cells starts.old starts.new) }
 {
@@ -68,12 +61,7 @@ fn save_end(
 }
 
 // Adds an entry for each of the edges, which end at the time.
-fn save_ends(
-    saved: &mut Saved,
-    starts: &mut IndexMap<Cells, VecDeque<Time>>,
-    edges: &[Edge],
-    at: Time,
-) -> Result<(), Memory>
+fn save_ends(saved: &mut Saved, starts: &mut Starts, edges: &[Edge], at: Time) -> Result<(), Memory>
     ensures { OnOk result (Taken at edges.now saved.old saved.new (since_at starts.old) (since_at starts.new)) }
 {
     for edge in edges {
@@ -86,7 +74,7 @@ fn save_ends(
 // taken out.
 pub(crate) fn save_waiting(
     saved: &mut Saved,
-    starts: &mut IndexMap<Cells, VecDeque<Time>>,
+    starts: &mut Starts,
     waiting: &mut BTreeMap<u64, Vec<Edge>>,
     last: Time,
 ) -> Result<(), Memory>
@@ -121,11 +109,7 @@ fn save_starts(
 }
 
 // Adds an entry without an end for each open start.
-pub(crate) fn save_rest(
-    saved: &mut Saved,
-    starts: &mut IndexMap<Cells, VecDeque<Time>>,
-    last: Time,
-) -> Result<(), Memory>
+pub(crate) fn save_rest(saved: &mut Saved, starts: &mut Starts, last: Time) -> Result<(), Memory>
     requires { last ≡ inf }
     ensures { OnOk result (TakenRest saved.old saved.new (since_at starts.old)) }
 {

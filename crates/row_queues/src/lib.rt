@@ -8,4 +8,5 @@ mod queues;
 mod row_queues;
 mod saving;
 
+pub use queues::{Starts, open_row, put_back};
 pub use row_queues::RowQueues;

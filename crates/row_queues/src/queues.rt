@@ -17,7 +17,7 @@ use std::collections::VecDeque;
 use tw_rows::{Cells, Edge, Memory, Time};
 
 /// The open starts of each row, the first to end first.
-pub(crate) type Starts = IndexMap<Cells, VecDeque<Time>>;
+pub type Starts = IndexMap<Cells, VecDeque<Time>>;
 
 /// How often a row ends and starts at an instant.
 #[derive(Drop)]
@@ -70,8 +70,8 @@ fn end_first(
     Ok(())
 }
 
-// Puts a row back with the starts that are left of it.
-fn put_back(starts: &mut Starts, cells: &Cells, since: VecDeque<Time>) -> Result<(), Memory>
+/// Puts a row back that was taken out, with the starts that are left of it.
+pub fn put_back(starts: &mut Starts, cells: &Cells, since: VecDeque<Time>) -> Result<(), Memory>
     requires { 1 ≤ length since.items }
     ensures since { OnOk result ((c : List Datum) → get same starts.new c
         ≡ cond (same cells.now c) (Some since) (get same starts.old c)) }
@@ -120,8 +120,8 @@ fn open_more(since: &mut VecDeque<Time>, at: Time, count: usize) -> Result<(), M
     Ok(())
 }
 
-/// Opens a row so often.
-pub(crate) fn open_row(
+/// Opens a row so often at a time: its new starts are the last to end.
+pub fn open_row(
     starts: &mut Starts,
     alloc: Global,
     cells: &Cells,

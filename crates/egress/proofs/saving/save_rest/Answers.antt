@@ -3,7 +3,7 @@ use Rattle.std.specs.Map.{lookup}
 use Rattle.std.proofs.Common.{◌∙◌, ap}
 use Rattle.tw_rows.specs.Instant.{inf}
 use Rattle.tw_rows.specs.SameCells.{same_cells}
-use Rattle.egress.specs.Kept.{times_if, since_at}
+use Rattle.row_queues.specs.Kept.{times_if, since_at}
 use Rattle.egress.specs.Saved.{entry_at}
 use Rattle.egress.proofs.Entries.{nothing}
 use Rattle.egress.proofs.SavedEnds.{rest_first, rest_next, rest_last, popped_own, popped_others}

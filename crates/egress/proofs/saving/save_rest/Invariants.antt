@@ -1,6 +1,6 @@
 -- Entries were added for the rows that were taken out.
 use Rattle.indexmap.specs.IndexMap.{index_map_len}
-use Rattle.egress.specs.Kept.{since_at}
+use Rattle.row_queues.specs.Kept.{since_at}
 use Rattle.egress.proofs.SavedEnds.{RestSo}
 use Rattle.egress.proofs.saving.save_rest.Given as goal
 

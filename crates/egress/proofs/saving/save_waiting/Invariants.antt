@@ -4,7 +4,8 @@ use Rattle.std.specs.BTreeMap.{btree_map_len}
 use Rattle.tw_rows.specs.Instant.{inf}
 use Rattle.tw_rows.specs.declared.kind.Kind.{Kind}
 use Rattle.edge_history.specs.History.{CellEvent}
-use Rattle.egress.specs.Kept.{since_at, since_in}
+use Rattle.row_queues.specs.Kept.{since_at}
+use Rattle.egress.specs.Kept.{since_in}
 use Rattle.egress.specs.Waiting.{waiting_in, Swept, WaitingArePlaced}
 use Rattle.egress.specs.Saved.{IsSettled}
 use Rattle.egress.proofs.SavedInstants.{EndsSo}

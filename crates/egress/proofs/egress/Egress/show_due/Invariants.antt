@@ -3,7 +3,8 @@ use Rattle.std.specs.BTreeMap.{btree_map_len}
 use Rattle.tw_rows.specs.Event.{AreEvents}
 use Rattle.tw_rows.specs.declared.cells.Datum.{Datum}
 use Rattle.edge_history.specs.History.{CellEvent}
-use Rattle.egress.specs.Kept.{since_in, EachIsOpen}
+use Rattle.row_queues.specs.Kept.{EachIsOpen}
+use Rattle.egress.specs.Kept.{since_in}
 use Rattle.egress.specs.Waiting.{waiting_in}
 use Rattle.egress.specs.Output.{HasSwept, AllPassed, IsPlacedIn}
 use Rattle.egress.proofs.Sweeps.{Going}

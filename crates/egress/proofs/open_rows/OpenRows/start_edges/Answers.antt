@@ -3,7 +3,8 @@ use Rattle.std.proofs.Common.{refl, ◌∙◌, subst, arith}
 use Rattle.std.proofs.lemmas.List.{length-map}
 use Rattle.tw_rows.specs.Cells.{read_cells}
 use Rattle.plan_model.specs.Changes.{Started}
-use Rattle.egress.specs.Kept.{moves_of, since_at, since_in}
+use Rattle.row_queues.specs.Kept.{since_at}
+use Rattle.egress.specs.Kept.{moves_of, since_in}
 use Rattle.egress.specs.Print.{print}
 use Rattle.egress.proofs.Passing.{added_pass}
 use Rattle.egress.proofs.Shown.{own_placed, own_kept, starting_first, starting_next, starting_last}
