@@ -26,7 +26,7 @@ use Rattle.shard_apply.proofs.WholeSteps.{shard_low, over_list, stands_as, in_st
 abbrev Answer : Type 0
 Answer = Result EdgeListView StepFault
 
-both_of : {R : Type 0} (r : Answer) (P Q : EdgeListView → Type 0) → IsOk r → IfOk r P → IfOk r Q → ((a : EdgeListView) → P a → Q a → R) → R
+pub both_of : {R : Type 0} (r : Answer) (P Q : EdgeListView → Type 0) → IsOk r → IfOk r P → IfOk r Q → ((a : EdgeListView) → P a → Q a → R) → R
 both_of (Ok a) P Q ok p q f = f a p q
 both_of (Err e) P Q ok p q f = absurd (cc)
 
@@ -138,7 +138,7 @@ module _ {O S : Type 0} (standing : O → Standing) (operator : S → O) (shards
       ap standing (sym (get_or-map operator shards i d (operator d) low))
       ∙ stands_as standing (map operator shards) first in_step.alike i (operator d) (omega (arith, low, length-map shards operator))
 
-  columns : (kinds : List CellKind) (list : EdgeListView) (key : List ℕ) → cells_of list ≡ kinds → All (λ column. column < length kinds) key →
+  pub columns : (kinds : List CellKind) (list : EdgeListView) (key : List ℕ) → cells_of list ≡ kinds → All (λ column. column < length kinds) key →
       All (λ column. column < length list.kinds) key
   columns kinds list key is all i d low =
       let long = length-map list.kinds cell_kind_of in

@@ -116,7 +116,7 @@ in_answer : (r : Result EdgeListView StepFault) (P : EdgeListView → Type 0) (Q
 in_answer (Ok l) P Q to ok h = to l h
 in_answer (Err e) P Q to ok h = absurd (cc)
 
-on_answer : (r : Result EdgeListView StepFault) (P : Type 0) → IsOk r → OnOk r P → P
+pub on_answer : (r : Result EdgeListView StepFault) (P : Type 0) → IsOk r → OnOk r P → P
 on_answer (Ok l) P ok h = h
 on_answer (Err e) P ok h = absurd (cc)
 

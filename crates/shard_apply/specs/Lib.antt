@@ -1,4 +1,5 @@
 -- Callers read all of these.
 pub mod Stepping
+pub mod Rounds
 pub mod Whole
 pub mod Saving

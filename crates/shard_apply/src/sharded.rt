@@ -55,13 +55,18 @@ fn shards_of<O: Operator>(
     let mut shards = Vec::with_capacity(alloc, operators.len())?;
     let mut rest = operators.into_iter();
     while let Some(operator) = rest.next() {
-        add_shard(&mut shards, operator, &mut pools);
+        add_shard(alloc, &mut shards, operator, &mut pools);
     }
     Ok(shards)
 }
 
 // Adds a shard of the operator, with pools out of these.
-fn add_shard<O: Operator>(shards: &mut Vec<Shard<O>>, operator: O, pools: &mut Vec<Pools>)
+fn add_shard<O: Operator>(
+    alloc: Global,
+    shards: &mut Vec<Shard<O>>,
+    operator: O,
+    pools: &mut Vec<Pools>,
+)
     requires some { 0 < vec_len pools.old }
     requires room { vec_len shards.old < vec_capacity shards.old }
     ensures operators { map (λ s. s.operator) shards.new.items ≡ map (λ s. s.operator) shards.old.items ++ operator ∷ [] }
@@ -77,6 +82,7 @@ fn add_shard<O: Operator>(shards: &mut Vec<Shard<O>>, operator: O, pools: &mut V
             operator,
             pools: own,
             answer: Err(StepFault::Memory),
+            answers: Vec::new(alloc),
         });
     }
 }

@@ -67,7 +67,8 @@ impl<O: Operator> Sharded<O> {
         ensures shards { length self.new.operators ≡ length self.old.operators }
     {
         if self.shards.len() == 1 {
-            return self.step_alone(gate, pools, left, right, left_to, right_to);
+            gate.enter(0);
+            return self.step_alone(pools, left, right, left_to, right_to);
         }
         let answer = self.step_apart(rt, gate, pools, &left, &right, left_to, right_to);
         give_back_both(pools, left, right);
@@ -75,9 +76,8 @@ impl<O: Operator> Sharded<O> {
     }
 
     // The step of a node in one shard, which takes all edges.
-    fn step_alone<G: Gate>(
+    pub(crate) fn step_alone(
         &mut self,
-        gate: &G,
         pools: &mut Pools,
         left: EdgeList,
         right: EdgeList,
@@ -95,7 +95,6 @@ impl<O: Operator> Sharded<O> {
         ensures shards { length self.new.operators ≡ length self.old.operators }
     {
         self.failed = true;
-        gate.enter(0);
         let answer = self.shards[0]
             .operator
             .step(pools, left, right, left_to, right_to);
@@ -192,7 +191,7 @@ fn step_together<R: Threads + Sync, G: Gate, O: Operator>(
 }
 
 // Gives the columns of both lists back.
-fn give_back_both(pools: &mut Pools, left: EdgeList, right: EdgeList)
+pub(crate) fn give_back_both(pools: &mut Pools, left: EdgeList, right: EdgeList)
     requires left { pools.old.capacity ≡ left.capacity }
     requires right { pools.old.capacity ≡ right.capacity }
     ensures capacity { pools.new.capacity ≡ pools.old.capacity }
