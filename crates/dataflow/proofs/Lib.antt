@@ -1,5 +1,8 @@
 mod Examples
 pub mod Operators
+pub mod Running
+pub mod Workers
+pub mod MadeShards
 pub mod Starting
 pub mod Variants
 pub mod Rules

@@ -1,5 +1,5 @@
 -- A plan at work before its first step.
-use Rattle.std.specs.Prelude.{◌≡◌, ℕ, suc, ◌+◌, ◌-◌, ◌^◌, ◌<◌, ◌≤◌, min, true, false, Some, List, [], ◌∷◌, ◌++◌, map, length, get_or, slice_get}
+use Rattle.std.specs.Prelude.{◌≡◌, ℕ, suc, ◌+◌, ◌-◌, ◌^◌, ◌<◌, ◌≤◌, min, false, Some, List, [], ◌∷◌, ◌++◌, map, length, get_or, slice_get}
 use Rattle.std.proofs.Common.{refl, sym, ap, subst, ◌∙◌, take, arith, inl, inr}
 use Rattle.std.proofs.lemmas.Bool.{cases_lt}
 use Rattle.std.proofs.lemmas.List.{get_or_push, get_or_append_left, get_or-map, take_more, length-map, length-take-le}
@@ -17,6 +17,7 @@ use Rattle.dataflow.specs.Stages.{left_kinds, right_kinds, IsReady, StageKeeps, 
 use Rattle.dataflow.specs.Flows.{parts_of, Flows, held_from}
 use Rattle.dataflow.specs.Held.{AreFresh}
 use Rattle.dataflow.proofs.Rules.{ready_longer, keeps_longer}
+use Rattle.dataflow.proofs.Workers.{with_workers}
 
 left_none : (s : Shape) → read_left {R = List Edge} [] (λ k. []) (λ k. []) s ≡ []
 left_none (Stream stream) = refl
@@ -82,9 +83,9 @@ fresh_all texts capacity plan stages count fresh = record {
 }
 
 -- so the plan can take its first step
-pub flows_at_first : (texts : List (List ℕ)) (capacity : ℕ) (plan : PlanParts) (stages : List Stage) → AreFresh texts capacity plan stages → 1 ≤ capacity →
-    Flows texts 0 (λ s. []) (λ k. []) (parts_of plan stages capacity false)
-flows_at_first texts capacity plan stages fresh room = record {
+pub flows_at_first : (texts : List (List ℕ)) (capacity workers : ℕ) (plan : PlanParts) (stages : List Stage) → AreFresh texts capacity plan stages → 1 ≤ capacity →
+    Flows texts 0 (λ s. []) (λ k. []) (with_workers workers (parts_of plan stages capacity false))
+flows_at_first texts capacity workers plan stages fresh room = record {
   can = record {
     count = fresh.count;
     fine = refl;

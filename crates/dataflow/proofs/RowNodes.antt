@@ -1,6 +1,7 @@
 -- The nodes of a plan by the stages that compute them.
-use Rattle.std.specs.Prelude.{◌≡◌, ℕ, true, false, List, []}
+use Rattle.std.specs.Prelude.{◌≡◌, ℕ, true, false, List, [], ◌∷◌, map}
 use Rattle.std.proofs.Common.{refl, ap, Result, Ok, Err, OnOk}
+use Rattle.tw_rows.specs.Bag.{total}
 use Rattle.tw_rows.specs.declared.kind.CellKind.{CellKind}
 use Rattle.plan_model.specs.declared.agg.Agg.{Agg}
 use Rattle.plan_model.specs.declared.node.Node.{Node}
@@ -10,6 +11,10 @@ use Rattle.row_stage.specs.Texts.{nodes_in}
 use Rattle.lifetime_ops.specs.Nodes.{node_of}
 use Rattle.lifetime_ops.specs.declared.change.Change.{Change}
 use Rattle.lifetime_ops.specs.declared.change.Change.TheVariants.{Delay, Hop, Duration, Mean as MeanChange}
+use Rattle.operator.specs.Standing.{Standing}
+use Rattle.snapshot_agg.specs.Operating.{standing as group_standing, entries as group_entries}
+use Rattle.sweep_operator.specs.Operating.{standing as swept_standing, entries as swept_entries}
+use Rattle.shard_apply.specs.Whole.{first_of}
 use Rattle.dataflow.specs.declared.stage.Stage.{Stage}
 use Rattle.dataflow.specs.declared.stage.Stage.TheVariants.{Rows, Life, Union, Extend, Join, Group, Anti, Session, Clip, Coalesce as CoalesceStage, Follow as FollowStage, Top as TopStage}
 use Rattle.dataflow.specs.Operating.{over_two}
@@ -106,17 +111,23 @@ life_node (Hop size period) = refl
 life_node (Duration by) = refl
 life_node (MeanChange at) = refl
 
+-- nor does one in shards
+shards_keep_nothing : {O : Type 0} (standing : O → Standing) (entries : O → ℕ) → ((o : O) → is_of_rows (standing o).node ≡ false) → (os : List O) (n : Node) →
+    (first_of (map standing os)).node ≡ over_two n → is_of_rows n ≡ true → total entries os ≡ 0
+shards_keep_nothing standing entries other [] n named rows = refl
+shards_keep_nothing standing entries other (o ∷ os) n named rows = absurd (not_rows n (standing o).node named (other o) rows)
+
 -- so the stage of such a node keeps nothing
 pub rows_keep_nothing : (texts : List (List ℕ)) (capacity : ℕ) (left right : List CellKind) (n : Node) (s : Stage) (x y : ℕ) → IsReady texts capacity left right n s x y → is_of_rows n ≡ true → entries_in s ≡ 0
 rows_keep_nothing texts capacity left right n (Rows s) x y ready rows = refl
 rows_keep_nothing texts capacity left right n (Life o) x y ready rows = absurd (not_rows n (node_of o.change) ready.named (life_node o.change) rows)
 rows_keep_nothing texts capacity left right n (Union o) x y ready rows = absurd (not_rows n _ ready.named refl rows)
 rows_keep_nothing texts capacity left right n (Extend o) x y ready rows = absurd (not_rows n _ ready.named refl rows)
-rows_keep_nothing texts capacity left right n (Join o) x y ready rows = absurd (not_rows n _ ready.named refl rows)
-rows_keep_nothing texts capacity left right n (Group o) x y ready rows = absurd (not_rows n _ ready.named refl rows)
-rows_keep_nothing texts capacity left right n (Session o) x y ready rows = absurd (not_rows n _ ready.named refl rows)
-rows_keep_nothing texts capacity left right n (Anti o) x y ready rows = absurd (not_rows n _ ready.named refl rows)
-rows_keep_nothing texts capacity left right n (Clip o) x y ready rows = absurd (not_rows n _ ready.named refl rows)
+rows_keep_nothing texts capacity left right n (Join w) x y ready rows = shards_keep_nothing swept_standing swept_entries (λ o. refl) w.operators n ready.named rows
+rows_keep_nothing texts capacity left right n (Group w) x y ready rows = shards_keep_nothing group_standing group_entries (λ o. refl) w.operators n ready.named rows
+rows_keep_nothing texts capacity left right n (Session w) x y ready rows = shards_keep_nothing swept_standing swept_entries (λ o. refl) w.operators n ready.named rows
+rows_keep_nothing texts capacity left right n (Anti w) x y ready rows = shards_keep_nothing swept_standing swept_entries (λ o. refl) w.operators n ready.named rows
+rows_keep_nothing texts capacity left right n (Clip w) x y ready rows = shards_keep_nothing swept_standing swept_entries (λ o. refl) w.operators n ready.named rows
 rows_keep_nothing texts capacity left right n (CoalesceStage o) x y ready rows = absurd (not_rows n _ ready.named refl rows)
 rows_keep_nothing texts capacity left right n (FollowStage o) x y ready rows = absurd (not_rows n _ ready.named refl rows)
 rows_keep_nothing texts capacity left right n (TopStage o) x y ready rows = absurd (not_rows n _ ready.named refl rows)

@@ -38,8 +38,12 @@ use Rattle.row_stage.specs.declared.row_stage.RowStage.{RowStage}
 use Rattle.lifetime_ops.specs.Operating.{standing as life_standing}
 use Rattle.lifetime_ops.specs.ExtendOperating.{standing as extend_standing}
 use Rattle.union_op.specs.Operating.{standing as union_standing}
-use Rattle.snapshot_agg.specs.Operating.{standing as group_standing}
-use Rattle.sweep_operator.specs.Operating.{standing as swept_standing}
+use Rattle.snapshot_agg.specs.Operating.{standing as group_standing, IsKept as IsGroupKept}
+use Rattle.snapshot_agg.specs.declared.grouped.Grouped.{Grouped}
+use Rattle.sweep_operator.specs.Operating.{standing as swept_standing, IsKept as IsSweptKept}
+use Rattle.operator.specs.Standing.{StandsFor}
+use Rattle.shard_apply.specs.Whole.{standing_in}
+use Rattle.shard_apply.proofs.WholeLaws.{grows_together, stands_together}
 use Rattle.coalesce_op.specs.Operating.{standing as coalesce_standing}
 use Rattle.follow_op.specs.Operating.{standing as follow_standing}
 use Rattle.outer_top.specs.Operating.{standing as top_standing}
@@ -53,6 +57,15 @@ came_longer texts more begins x h came = record {
   below = came.below;
   placed = placed_longer more texts begins h came.placed;
 }
+
+-- what holds of the operator of a Group holds of one that is a shard
+group_grows : (o : Grouped) (more texts : List (List ℕ)) (hl hr out : List Edge) → BeginsWith more texts → IsGroupKept o texts hl hr out → IsGroupKept o more hl hr out
+group_grows o more texts hl hr out begins kept =
+    group_longer o.groups.key.items o.groups.aggs.items (map cell_kind_of o.left_kinds.items) more texts o.groups.rows.rows o.running o.waiting o.left_to hl hr out begins kept
+
+shard_stands : (o : Grouped) (texts : List (List ℕ)) (hl hr out : List Edge) → AreDistinct texts → IsGroupKept o texts hl hr out → StandsFor (group_standing o) texts hl hr out
+shard_stands o texts hl hr out distinct kept =
+    group_stands 0 o.groups.key.items o.groups.aggs.items (map cell_kind_of o.left_kinds.items) texts o.groups.rows.rows o.running o.waiting o.left_to hl hr out distinct kept
 
 -- a table that grows changes nothing
 pub ready_longer : (texts more : List (List ℕ)) → BeginsWith more texts → (capacity : ℕ) (left right : List CellKind) (n : Node) (s : Stage) (x y : ℕ) →
@@ -79,11 +92,11 @@ keeps_longer texts more begins capacity left right n (Rows s) x y ready hl hr ou
 keeps_longer texts more begins capacity left right n (Life o) x y ready hl hr out kept = lives_longer (node_of o.change) more texts o.left_to o.right_to o.carried.edges hl hr out begins kept
 keeps_longer texts more begins capacity left right n (Union o) x y ready hl hr out kept = union_longer more texts o.left_to o.right_to o.left.edges o.right.edges hl hr out begins kept
 keeps_longer texts more begins capacity left right n (Extend o) x y ready hl hr out kept = extended_longer o.by more texts o.left_to o.right_to o.carried.edges (edges_of_pending o.ends) hl hr out begins kept
-keeps_longer texts more begins capacity left right n (Join o) x y ready hl hr out kept = kept_longer o more texts hl hr out begins kept
-keeps_longer texts more begins capacity left right n (Group o) x y ready hl hr out kept = group_longer o.groups.key.items o.groups.aggs.items (map cell_kind_of o.left_kinds.items) more texts o.groups.rows.rows o.running o.waiting o.left_to hl hr out begins kept
-keeps_longer texts more begins capacity left right n (Session o) x y ready hl hr out kept = kept_longer o more texts hl hr out begins kept
-keeps_longer texts more begins capacity left right n (Anti o) x y ready hl hr out kept = kept_longer o more texts hl hr out begins kept
-keeps_longer texts more begins capacity left right n (Clip o) x y ready hl hr out kept = kept_longer o more texts hl hr out begins kept
+keeps_longer texts more begins capacity left right n (Join w) x y ready hl hr out kept = grows_together swept_standing IsSweptKept w (λ o. kept_longer o) more texts hl hr out begins kept
+keeps_longer texts more begins capacity left right n (Group w) x y ready hl hr out kept = grows_together group_standing IsGroupKept w group_grows more texts hl hr out begins kept
+keeps_longer texts more begins capacity left right n (Session w) x y ready hl hr out kept = grows_together swept_standing IsSweptKept w (λ o. kept_longer o) more texts hl hr out begins kept
+keeps_longer texts more begins capacity left right n (Anti w) x y ready hl hr out kept = grows_together swept_standing IsSweptKept w (λ o. kept_longer o) more texts hl hr out begins kept
+keeps_longer texts more begins capacity left right n (Clip w) x y ready hl hr out kept = grows_together swept_standing IsSweptKept w (λ o. kept_longer o) more texts hl hr out begins kept
 keeps_longer texts more begins capacity left right n (Coalesce o) x y ready hl hr out kept = coalesce_longer (map cell_kind_of o.kinds.items) more texts o.left_to o.right_to o.side.queues (queued o.side.waiting) hl hr out begins kept
 keeps_longer texts more begins capacity left right n (Follow o) x y ready hl hr out kept =
     follow_longer o.sides.rows.left.key o.sides.rows.right_key.columns o.sides.rows.within (map cell_kind_of o.left_kinds.items) (map cell_kind_of o.right_kinds.items) more texts o.left_to o.right_to
@@ -104,16 +117,16 @@ stage_stands texts distinct capacity left right n (Union o) x y ready hl hr out 
     operator_stands capacity left right n (union_standing o) x y ready texts hl hr out (union_rows texts o.left_to o.right_to o.left.edges o.right.edges hl hr out distinct kept)
 stage_stands texts distinct capacity left right n (Extend o) x y ready hl hr out kept =
     operator_stands capacity left right n (extend_standing o) x y ready texts hl hr out (extended_rows o.by texts o.left_to o.right_to o.carried.edges (edges_of_pending o.ends) hl hr out distinct kept)
-stage_stands texts distinct capacity left right n (Join o) x y ready hl hr out kept =
-    operator_stands capacity left right n (swept_standing o) x y ready texts hl hr out (kept_stands o texts hl hr out refl distinct kept.kept.kept.told kept)
-stage_stands texts distinct capacity left right n (Group o) x y ready hl hr out kept =
-    operator_stands capacity left right n (group_standing o) x y ready texts hl hr out (group_stands 0 o.groups.key.items o.groups.aggs.items (map cell_kind_of o.left_kinds.items) texts o.groups.rows.rows o.running o.waiting o.left_to hl hr out distinct kept)
-stage_stands texts distinct capacity left right n (Session o) x y ready hl hr out kept =
-    operator_stands capacity left right n (swept_standing o) x y ready texts hl hr out (kept_stands o texts hl hr out refl distinct (session_tells o.sweep o.left_to hl hr out kept.kept) kept)
-stage_stands texts distinct capacity left right n (Anti o) x y ready hl hr out kept =
-    operator_stands capacity left right n (swept_standing o) x y ready texts hl hr out (kept_stands o texts hl hr out refl distinct kept.kept.kept.told kept)
-stage_stands texts distinct capacity left right n (Clip o) x y ready hl hr out kept =
-    operator_stands capacity left right n (swept_standing o) x y ready texts hl hr out (kept_stands o texts hl hr out refl distinct kept.kept.kept.told kept)
+stage_stands texts distinct capacity left right n (Join w) x y ready hl hr out kept =
+    operator_stands capacity left right n (standing_in swept_standing w) x y ready texts hl hr out (stands_together swept_standing IsSweptKept w texts hl hr out kept (λ o t l r e apart k. kept_stands o t l r e refl apart k.kept.kept.told k) distinct)
+stage_stands texts distinct capacity left right n (Group w) x y ready hl hr out kept =
+    operator_stands capacity left right n (standing_in group_standing w) x y ready texts hl hr out (stands_together group_standing IsGroupKept w texts hl hr out kept shard_stands distinct)
+stage_stands texts distinct capacity left right n (Session w) x y ready hl hr out kept =
+    operator_stands capacity left right n (standing_in swept_standing w) x y ready texts hl hr out (stands_together swept_standing IsSweptKept w texts hl hr out kept (λ o t l r e apart k. kept_stands o t l r e refl apart (session_tells o.sweep o.left_to l r e k.kept) k) distinct)
+stage_stands texts distinct capacity left right n (Anti w) x y ready hl hr out kept =
+    operator_stands capacity left right n (standing_in swept_standing w) x y ready texts hl hr out (stands_together swept_standing IsSweptKept w texts hl hr out kept (λ o t l r e apart k. kept_stands o t l r e refl apart k.kept.kept.told k) distinct)
+stage_stands texts distinct capacity left right n (Clip w) x y ready hl hr out kept =
+    operator_stands capacity left right n (standing_in swept_standing w) x y ready texts hl hr out (stands_together swept_standing IsSweptKept w texts hl hr out kept (λ o t l r e apart k. kept_stands o t l r e refl apart k.kept.kept.told k) distinct)
 stage_stands texts distinct capacity left right n (Coalesce o) x y ready hl hr out kept =
     operator_stands capacity left right n (coalesce_standing o) x y ready texts hl hr out (coalesce_stands (map cell_kind_of o.kinds.items) texts o.left_to o.right_to o.side.queues (queued o.side.waiting) hl hr out distinct kept)
 stage_stands texts distinct capacity left right n (Follow o) x y ready hl hr out kept =

@@ -28,9 +28,6 @@ use Rattle.plan_model.specs.Keys.{paired_row}
 use Rattle.temporal_join.proofs.Answering.{pair_mapped}
 use Rattle.plan_model.specs.declared.agg.Agg.{Agg}
 use Rattle.snapshot_agg.specs.Answering.{group_kinds}
-use Rattle.snapshot_agg.specs.Keeping.{IsOpening}
-use Rattle.snapshot_agg.specs.declared.grouped.Grouped.{Grouped}
-use Rattle.snapshot_agg.proofs.Standing.{group_opening}
 use Rattle.coalesce_op.specs.States.{IsOpening as IsCoalesceOpening}
 use Rattle.coalesce_op.specs.declared.coalesce.Coalesce.{Coalesce as CoalesceOperator}
 use Rattle.coalesce_op.proofs.Resuming.{coalesce_opening}
@@ -41,17 +38,10 @@ use Rattle.outer_top.specs.Operating.{IsNew as IsTopNew}
 use Rattle.outer_top.specs.TopKeys.{kept_rows}
 use Rattle.outer_top.specs.declared.top.Top.{Top as TopOperator}
 use Rattle.outer_top.proofs.Resuming.{top_opening}
-use Rattle.sweep_operator.specs.declared.sweep.Sweep.{Ghosts}
-use Rattle.sweep_operator.specs.declared.swept.Swept.{Swept}
-use Rattle.sweep_operator.specs.Operating.{standing as swept_standing, IsNew as IsSweptNew, IsKept as IsSweptKept}
 use Rattle.sweep_operator.specs.Sweepers.{new_standing}
-use Rattle.sweep_operator.proofs.Kept.{kept_first}
-use Rattle.dataflow.specs.declared.stage.Stage.{Stage}
-use Rattle.dataflow.specs.declared.stage.Stage.TheVariants.{Life, Union, Extend, Group, Coalesce, Follow, Top}
-use Rattle.plan_model.specs.Meaning.{node_closes}
+use Rattle.dataflow.specs.declared.stage.Stage.TheVariants.{Life, Union, Extend, Coalesce, Follow, Top}
 use Rattle.dataflow.specs.Operating.{CanOperate, MeanAlike, over_two}
-use Rattle.dataflow.specs.Stages.{left_kinds, right_kinds, changing, StandsAsMade, StartsFor}
-use Rattle.dataflow.proofs.Variants.{IsVariant}
+use Rattle.dataflow.specs.Stages.{left_kinds, right_kinds, changing, StartsFor}
 
 -- no stream has more columns than a plan may have
 abbrev IsNarrow : StreamDef → Type 0
@@ -229,29 +219,6 @@ pub group_like : (plan : PlanParts) → IsPlan plan → (i of : ℕ) (key : List
     map cell_kind_of l ≡ left_kinds plan (GroupNode of key aggs) → map cell_kind_of own ≡ kinds_at plan.schemas i → map cell_kind_of own ≡ group_kinds key aggs (map cell_kind_of l)
 group_like plan whole i of key aggs there l own read told = told ∙ own_kinds_are plan whole i (GroupNode of key aggs) there ∙ ap (group_kinds key aggs) (sym read)
 
-group_alike : (of : ℕ) (key : List ℕ) (aggs : List Agg) → MeanAlike (GroupNode of key aggs) (GroupNode 0 key aggs)
-group_alike of key aggs = record { events = λ l r. refl; closes = λ x y. refl; undefined = λ rows. refl; held = λ x y hl hr. refl }
-
-pub group_starts : (plan : PlanParts) → IsPlan plan → (i capacity : ℕ) (left own : List Kind) (texts : List (List ℕ)) (of : ℕ) (key : List ℕ) (aggs : List Agg) → slice_get plan.nodes i ≡ Some (GroupNode of key aggs) →
-    (o : Grouped) → o.groups.key.items ≡ key → o.groups.aggs.items ≡ aggs → o.left_kinds.items ≡ left → o.kinds.items ≡ own → o.capacity ≡ capacity →
-    IsOpening o.groups.rows.rows o.running o.waiting o.left_to o.right_to o.failed → map cell_kind_of left ≡ left_kinds plan (GroupNode of key aggs) → map cell_kind_of own ≡ kinds_at plan.schemas i →
-    StartsFor texts capacity plan (GroupNode of key aggs) (Group o)
-group_starts plan whole i capacity left own texts of key aggs there o same_key same_aggs left_like own_like rows opening read told = record {
-  ready = record {
-    node = subst (λ k. MeanAlike (GroupNode of key aggs) (GroupNode 0 k o.groups.aggs.items)) (sym same_key) (subst (λ a. MeanAlike (GroupNode of key aggs) (GroupNode 0 key a)) (sym same_aggs) (group_alike of key aggs));
-    named = λ i. GroupNode 0 (same_key i) (same_aggs i);
-    works = opening.works;
-    left_closed = opening.left;
-    right_closed = opening.right;
-    left_kinds = ap (map cell_kind_of) left_like ∙ read;
-    right_kinds = refl;
-    own_kinds = ap (map cell_kind_of) own_like ∙ told ∙ own_kinds_are plan whole i (GroupNode of key aggs) there;
-    batch_rows = rows;
-  };
-  opens = group_opening o.groups.key.items o.groups.aggs.items (map cell_kind_of o.left_kinds.items) texts o.groups.rows.rows o.running o.waiting o.left_to o.right_to o.failed opening;
-  made = opening;
-}
-
 -- the right child of an anti-join is a node of the plan
 pub anti_right : (plan : PlanParts) → IsPlan plan → (i left right : ℕ) (left_key right_key : List ℕ) → slice_get plan.nodes i ≡ Some (AntiNode left right left_key right_key) → right < length plan.nodes
 anti_right plan whole i left right left_key right_key there =
@@ -270,26 +237,20 @@ clip_right plan whole i left right left_key right_key there =
     let low = slice_get_within plan.nodes i (ClipNode left right left_key right_key) there in
     omega (arith, lower, low)
 
--- a swept operator as it is made, of a node that means the same over the children 0 and 1
-pub swept_starts : {S : Type 0} {g : Ghosts S} (stage : Swept S g → Stage) → IsVariant stage swept_standing IsSweptKept → ((o : Swept S g) → IsSweptNew o → StandsAsMade (stage o)) →
-    (plan : PlanParts) (capacity : ℕ) (texts : List (List ℕ)) (n m : Node) (l r own : List Kind) (o : Swept S g) → swept_standing o ≡ new_standing m l r own capacity → IsSweptNew o →
-    g.keeps o.sweep (node_closes (g.node o.sweep) 0 0) [] [] [] → MeanAlike n m → m ≡ over_two n →
+-- an operator that stands so as it is made, of a node that means the same over the children 0 and 1, can take a first step
+pub new_can : (plan : PlanParts) (capacity : ℕ) (n m : Node) (l r own : List Kind) → MeanAlike n m → m ≡ over_two n →
     map cell_kind_of l ≡ left_kinds plan n → map cell_kind_of r ≡ right_kinds plan n → map cell_kind_of own ≡ node_kinds n (left_kinds plan n) (right_kinds plan n) →
-    StartsFor texts capacity plan n (stage o)
-swept_starts stage is made plan capacity texts n m l r own o stands new keeps alike named on_left on_right on_own = record {
-  ready = is.ready texts capacity (left_kinds plan n) (right_kinds plan n) n o 0 0 (subst (λ s. CanOperate capacity (left_kinds plan n) (right_kinds plan n) n s 0 0) (sym stands) (record {
-    node = alike;
-    named = named;
-    works = refl;
-    left_closed = refl;
-    right_closed = refl;
-    left_kinds = on_left;
-    right_kinds = on_right;
-    own_kinds = on_own;
-    batch_rows = refl;
-  }));
-  opens = is.keeps texts n o 0 0 [] [] [] (kept_first o texts new keeps);
-  made = made o new;
+    CanOperate capacity (left_kinds plan n) (right_kinds plan n) n (new_standing m l r own capacity) 0 0
+new_can plan capacity n m l r own alike named on_left on_right on_own = record {
+  node = alike;
+  named = named;
+  works = refl;
+  left_closed = refl;
+  right_closed = refl;
+  left_kinds = on_left;
+  right_kinds = on_right;
+  own_kinds = on_own;
+  batch_rows = refl;
 }
 
 pub coalesce_starts : (plan : PlanParts) (capacity : ℕ) (l : List Kind) (texts : List (List ℕ)) (of : ℕ) (o : CoalesceOperator) → o.kinds.items ≡ l → o.capacity ≡ capacity →

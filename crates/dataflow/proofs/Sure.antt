@@ -1,6 +1,6 @@
 -- Places that are in the table, by a test or by what the stages took steps of, and the overflow of a node.
 use Rattle.std.proofs.Common.{Result, Ok, Err, ◌≡◌, ◌<◌, ℕ, zero, suc, Bool, true, false, List, [], ◌∷◌, length, get_or, refl, ap, sym, subst, arith}
-use Rattle.std.specs.Prelude.{Option, Some, None, slice_get, IfErr, OnOk}
+use Rattle.std.specs.Prelude.{Option, Some, None, slice_get, IfOk, IfErr, OnOk}
 use Rattle.std.specs.Result.{IsErrAnd}
 use Rattle.std.proofs.lemmas.List.Elements.{All-nil}
 use Rattle.tw_rows.specs.Cells.{ArePlaced}
@@ -15,7 +15,8 @@ use Rattle.dataflow.specs.Faults.{fault_at}
 use Rattle.plan_model.specs.IsPlan.{PlanParts}
 use Rattle.dataflow.specs.Lists.{edges_at, AreOfStreams, AreGiven}
 use Rattle.dataflow.specs.declared.stage.Stage.{Stage}
-use Rattle.dataflow.specs.Flows.{DataflowView, StepsOn, parts_of}
+use Rattle.dataflow.specs.Flows.{DataflowView, StepsOn, GivesOn, parts_of}
+use Rattle.dataflow.proofs.Workers.{with_workers}
 
 pub sure_or_tested : (thawed : Bool) (P : Type 0) → (thawed ≡ false → P) → (thawed ≡ true → P) → P
 sure_or_tested true P sure tested = tested refl
@@ -54,8 +55,16 @@ of_memory (Ok x) Q is all = tt
 of_memory (Err f) Q is all = all f is
 
 -- after a step without a fault none is kept
-pub steps_on : {X : Type 0} (r : Result X PlanFault) (texts : List (List ℕ)) (p : ℕ) (old : DataflowView) (plan : PlanParts) (stages : List Stage) (capacity : ℕ) (thawed : Bool) (fault : Option PlanFault) →
-    OnOk r (fault ≡ None) → OnOk r (StepsOn texts p old (parts_of plan stages capacity thawed)) →
-    OnOk r (StepsOn texts p old (record { plan = plan; stages = stages; capacity = capacity; thawed = thawed; fault = fault }))
-steps_on (Ok x) texts p old plan stages capacity thawed fault none steps = subst (λ f. StepsOn texts p old (record { plan = plan; stages = stages; capacity = capacity; thawed = thawed; fault = f })) (sym none) steps
-steps_on (Err f) texts p old plan stages capacity thawed fault none steps = tt
+pub steps_on : {X : Type 0} (r : Result X PlanFault) (texts : List (List ℕ)) (p : ℕ) (old : DataflowView) (plan : PlanParts) (stages : List Stage) (capacity workers : ℕ) (thawed : Bool) (fault : Option PlanFault) →
+    OnOk r (fault ≡ None) → OnOk r (StepsOn texts p old (with_workers workers (parts_of plan stages capacity thawed))) →
+    OnOk r (StepsOn texts p old (record { plan = plan; stages = stages; capacity = capacity; workers = workers; thawed = thawed; fault = fault }))
+steps_on (Ok x) texts p old plan stages capacity workers thawed fault none steps =
+    subst (λ f. StepsOn texts p old (record { plan = plan; stages = stages; capacity = capacity; workers = workers; thawed = thawed; fault = f })) (sym none) steps
+steps_on (Err f) texts p old plan stages capacity workers thawed fault none steps = tt
+
+pub gives_on : {X : Type 0} (edges : X → List Edge) (r : Result X PlanFault) (texts : List (List ℕ)) (p : ℕ) (given : ℕ → List Edge) (old : DataflowView) (plan : PlanParts) (stages : List Stage) (capacity workers : ℕ) (thawed : Bool)
+    (fault : Option PlanFault) → OnOk r (fault ≡ None) → IfOk r (λ out. GivesOn texts p given old (with_workers workers (parts_of plan stages capacity thawed)) (edges out)) →
+    IfOk r (λ out. GivesOn texts p given old (record { plan = plan; stages = stages; capacity = capacity; workers = workers; thawed = thawed; fault = fault }) (edges out))
+gives_on edges (Ok x) texts p given old plan stages capacity workers thawed fault none gives =
+    subst (λ f. GivesOn texts p given old (record { plan = plan; stages = stages; capacity = capacity; workers = workers; thawed = thawed; fault = f }) (edges x)) (sym none) gives
+gives_on edges (Err f) texts p given old plan stages capacity workers thawed fault none gives = tt

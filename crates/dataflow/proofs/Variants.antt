@@ -18,6 +18,7 @@ use Rattle.sweep_operator.specs.Operating.{standing as swept_standing, IsKept as
 use Rattle.coalesce_op.specs.Operating.{standing as coalesce_standing, IsKept as IsCoalesceKept}
 use Rattle.follow_op.specs.Operating.{standing as follow_standing, IsKept as IsFollowKept}
 use Rattle.outer_top.specs.Operating.{standing as top_standing, IsKept as IsTopKept}
+use Rattle.shard_apply.specs.Whole.{standing_in, ShardsKeep}
 use Rattle.dataflow.specs.declared.stage.Stage.TheVariants.{Life, Union, Extend, Join, Group, Anti, Session, Clip, Coalesce, Follow, Top}
 use Rattle.dataflow.proofs.Operators.{operator_held}
 use Rattle.dataflow.specs.Operating.{CanOperate, StaysOperating, KeepsOperating, OperatesUndefinedAt}
@@ -78,19 +79,19 @@ union_variant = record { can = λ texts capacity left right n o x y h. h; ready 
 pub extend_variant : IsVariant Extend extend_standing IsExtendKept
 extend_variant = record { can = λ texts capacity left right n o x y h. h; ready = λ texts capacity left right n o x y h. h; kept = λ texts n o x y hl hr out h. h; keeps = λ texts n o x y hl hr out h. h }
 
-pub join_variant : IsVariant Join swept_standing IsSweptKept
+pub join_variant : IsVariant Join (standing_in swept_standing) (ShardsKeep swept_standing IsSweptKept)
 join_variant = record { can = λ texts capacity left right n o x y h. h; ready = λ texts capacity left right n o x y h. h; kept = λ texts n o x y hl hr out h. h; keeps = λ texts n o x y hl hr out h. h }
 
-pub group_variant : IsVariant Group group_standing IsGroupKept
+pub group_variant : IsVariant Group (standing_in group_standing) (ShardsKeep group_standing IsGroupKept)
 group_variant = record { can = λ texts capacity left right n o x y h. h; ready = λ texts capacity left right n o x y h. h; kept = λ texts n o x y hl hr out h. h; keeps = λ texts n o x y hl hr out h. h }
 
-pub anti_variant : IsVariant Anti swept_standing IsSweptKept
+pub anti_variant : IsVariant Anti (standing_in swept_standing) (ShardsKeep swept_standing IsSweptKept)
 anti_variant = record { can = λ texts capacity left right n o x y h. h; ready = λ texts capacity left right n o x y h. h; kept = λ texts n o x y hl hr out h. h; keeps = λ texts n o x y hl hr out h. h }
 
-pub session_variant : IsVariant Session swept_standing IsSweptKept
+pub session_variant : IsVariant Session (standing_in swept_standing) (ShardsKeep swept_standing IsSweptKept)
 session_variant = record { can = λ texts capacity left right n o x y h. h; ready = λ texts capacity left right n o x y h. h; kept = λ texts n o x y hl hr out h. h; keeps = λ texts n o x y hl hr out h. h }
 
-pub clip_variant : IsVariant Clip swept_standing IsSweptKept
+pub clip_variant : IsVariant Clip (standing_in swept_standing) (ShardsKeep swept_standing IsSweptKept)
 clip_variant = record { can = λ texts capacity left right n o x y h. h; ready = λ texts capacity left right n o x y h. h; kept = λ texts n o x y hl hr out h. h; keeps = λ texts n o x y hl hr out h. h }
 
 pub coalesce_variant : IsVariant Coalesce coalesce_standing IsCoalesceKept

@@ -1,5 +1,5 @@
 -- A plan at work: what each of its stages keeps of the edges of streams, and what a step gives.
-use Rattle.std.specs.Prelude.{◌≡◌, ℕ, suc, ◌-◌, ◌^◌, ◌<◌, ◌≤◌, min, Bool, true, false, Option, Some, None, List, [], ◌∷◌, length, slice_get}
+use Rattle.std.specs.Prelude.{◌≡◌, ℕ, suc, ◌-◌, ◌^◌, ◌<◌, ◌≤◌, min, Bool, false, Option, Some, None, List, [], ◌∷◌, length, slice_get}
 use Rattle.tw_rows.specs.declared.edge.Edge.{Edge}
 use Rattle.edge_history.specs.Order.{is_from, failing}
 use Rattle.plan_model.specs.declared.node.Node.{Node}
@@ -13,18 +13,19 @@ use Rattle.dataflow.specs.declared.stage.Stage.{Stage}
 use Rattle.dataflow.specs.Lists.{longer, AreFrom}
 use Rattle.dataflow.specs.Stages.{reached, left_closing, right_closing, left_kinds, right_kinds, IsReady, StageKeeps, entries_in}
 
--- what contracts see of a plan at work: the plan, its stages, how many rows each batch has room for, whether the stages took up
--- what was saved, and the fault of a step
+-- what contracts see of a plan at work: the plan, its stages, how many rows each batch has room for, in how many shards a node
+-- with a key is run, whether the stages took up what was saved, and the fault of a step
 pub record DataflowView : Type 0 where
   pub plan : PlanParts
   pub stages : List Stage
   pub capacity : ℕ
+  pub workers : ℕ
   pub thawed : Bool
   pub fault : Option PlanFault
 
--- so much of a plan with these stages, of which no step failed
+-- so much of a plan with these stages, of which no step failed. What follows asks of no number of workers, and here it is 1
 abbrev pub parts_of : PlanParts → List Stage → ℕ → Bool → DataflowView
-parts_of plan stages capacity thawed = record { plan = plan; stages = stages; capacity = capacity; thawed = thawed; fault = None }
+parts_of plan stages capacity thawed = record { plan = plan; stages = stages; capacity = capacity; workers = 1; thawed = thawed; fault = None }
 
 -- each stage can take a step, once the punctuation `last` was worked through
 abbrev pub AreReady : List (List ℕ) → ℕ → PlanParts → ℕ → List Stage → Type 0

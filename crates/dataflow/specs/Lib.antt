@@ -1,8 +1,9 @@
--- Callers read Faults, Lists, Stages and Flows; private contracts alone cite Operating, Held, Readers and Closings.
+-- Callers read Faults, Lists, Stages, Shards and Flows; private contracts alone cite Operating, Held, Readers and Closings.
 pub mod Faults
 pub mod Lists
 pub mod Operating
 pub mod Stages
+pub mod Shards
 pub mod Flows
 pub mod Held
 pub mod Readers

@@ -20,6 +20,8 @@ use Rattle.lifetime_ops.specs.Saving.{IsOpening as IsLifeOpening}
 use Rattle.union_op.specs.Saving.{IsOpening as IsUnionOpening}
 use Rattle.lifetime_ops.specs.ExtendSaving.{IsOpening as IsExtendOpening}
 use Rattle.snapshot_agg.specs.Keeping.{IsOpening as IsGroupOpening}
+use Rattle.snapshot_agg.specs.declared.grouped.Grouped.{Grouped}
+use Rattle.shard_apply.specs.Whole.{standing_in, entries_in as entries_of_shards, AreNew, ShardsKeep}
 use Rattle.coalesce_op.specs.Operating.{standing as coalesce_standing, entries as coalesce_entries, IsNew as IsCoalesceNew, IsKept as IsCoalesceKept}
 use Rattle.follow_op.specs.Operating.{standing as follow_standing, entries as follow_entries, IsNew as IsFollowNew, IsKept as IsFollowKept}
 use Rattle.outer_top.specs.Operating.{standing as top_standing, entries as top_entries, IsNew as IsTopNew, IsKept as IsTopKept}
@@ -75,11 +77,11 @@ IsReady texts capacity left right n (Rows s) x y = IsStageOf texts capacity left
 IsReady texts capacity left right n (Life o) x y = CanOperate capacity left right n (life_standing o) x y
 IsReady texts capacity left right n (Union o) x y = CanOperate capacity left right n (union_standing o) x y
 IsReady texts capacity left right n (Extend o) x y = CanOperate capacity left right n (extend_standing o) x y
-IsReady texts capacity left right n (Join o) x y = CanOperate capacity left right n (swept_standing o) x y
-IsReady texts capacity left right n (Group o) x y = CanOperate capacity left right n (group_standing o) x y
-IsReady texts capacity left right n (Session o) x y = CanOperate capacity left right n (swept_standing o) x y
-IsReady texts capacity left right n (Anti o) x y = CanOperate capacity left right n (swept_standing o) x y
-IsReady texts capacity left right n (Clip o) x y = CanOperate capacity left right n (swept_standing o) x y
+IsReady texts capacity left right n (Join o) x y = CanOperate capacity left right n (standing_in swept_standing o) x y
+IsReady texts capacity left right n (Group o) x y = CanOperate capacity left right n (standing_in group_standing o) x y
+IsReady texts capacity left right n (Session o) x y = CanOperate capacity left right n (standing_in swept_standing o) x y
+IsReady texts capacity left right n (Anti o) x y = CanOperate capacity left right n (standing_in swept_standing o) x y
+IsReady texts capacity left right n (Clip o) x y = CanOperate capacity left right n (standing_in swept_standing o) x y
 IsReady texts capacity left right n (Coalesce o) x y = CanOperate capacity left right n (coalesce_standing o) x y
 IsReady texts capacity left right n (Follow o) x y = CanOperate capacity left right n (follow_standing o) x y
 IsReady texts capacity left right n (Top o) x y = CanOperate capacity left right n (top_standing o) x y
@@ -99,17 +101,18 @@ pub record HasMade (texts : List (List ℕ)) (n : Node) (x : ℕ) (hl out : List
   pub made : IsMade texts n hl out
 
 -- the stage is as it can be once hl and hr came in on its sides, which are closed up to x and y, and `out` was answered. A
--- stage that keeps nothing of one step for the next only has to have made out of hl; an operator keeps what its trait says
+-- stage that keeps nothing of one step for the next only has to have made out of hl; an operator keeps what its trait says, and
+-- each shard of a node does so of its edges
 abbrev pub StageKeeps : List (List ℕ) → Node → Stage → ℕ → ℕ → List Edge → List Edge → List Edge → Type 0
 StageKeeps texts n (Rows s) x y hl hr out = HasMade texts n x hl out
 StageKeeps texts n (Life o) x y hl hr out = IsLifeKept o texts hl hr out
 StageKeeps texts n (Union o) x y hl hr out = IsUnionKept o texts hl hr out
 StageKeeps texts n (Extend o) x y hl hr out = IsExtendKept o texts hl hr out
-StageKeeps texts n (Join o) x y hl hr out = IsSweptKept o texts hl hr out
-StageKeeps texts n (Group o) x y hl hr out = IsGroupKept o texts hl hr out
-StageKeeps texts n (Session o) x y hl hr out = IsSweptKept o texts hl hr out
-StageKeeps texts n (Anti o) x y hl hr out = IsSweptKept o texts hl hr out
-StageKeeps texts n (Clip o) x y hl hr out = IsSweptKept o texts hl hr out
+StageKeeps texts n (Join o) x y hl hr out = ShardsKeep swept_standing IsSweptKept o texts hl hr out
+StageKeeps texts n (Group o) x y hl hr out = ShardsKeep group_standing IsGroupKept o texts hl hr out
+StageKeeps texts n (Session o) x y hl hr out = ShardsKeep swept_standing IsSweptKept o texts hl hr out
+StageKeeps texts n (Anti o) x y hl hr out = ShardsKeep swept_standing IsSweptKept o texts hl hr out
+StageKeeps texts n (Clip o) x y hl hr out = ShardsKeep swept_standing IsSweptKept o texts hl hr out
 StageKeeps texts n (Coalesce o) x y hl hr out = IsCoalesceKept o texts hl hr out
 StageKeeps texts n (Follow o) x y hl hr out = IsFollowKept o texts hl hr out
 StageKeeps texts n (Top o) x y hl hr out = IsTopKept o texts hl hr out
@@ -141,18 +144,18 @@ abbrev pub IsAnswerOf : List (List ℕ) → EdgeListView → EdgeListView → St
 IsAnswerOf texts left right old answer = (n : Node) (x y : ℕ) → IsReady texts left.capacity (cells_of left) (cells_of right) n old x y →
     cells_of answer ≡ node_kinds n (cells_of left) (cells_of right)
 
--- how many entries the stage keeps for later steps: as many as its operator, and none for a Source, a Where or a Select. An
--- Extend that carries 2 edges while 3 ends wait keeps 5
+-- how many entries the stage keeps for later steps: as many as its operator, as all its shards, and none for a Source, a Where
+-- or a Select. An Extend that carries 2 edges while 3 ends wait keeps 5
 abbrev pub entries_in : Stage → ℕ
 entries_in (Rows s) = 0
 entries_in (Life o) = life_entries o
 entries_in (Union o) = union_entries o
 entries_in (Extend o) = extend_entries o
-entries_in (Join o) = swept_entries o
-entries_in (Group o) = group_entries o
-entries_in (Session o) = swept_entries o
-entries_in (Anti o) = swept_entries o
-entries_in (Clip o) = swept_entries o
+entries_in (Join o) = entries_of_shards swept_entries o
+entries_in (Group o) = entries_of_shards group_entries o
+entries_in (Session o) = entries_of_shards swept_entries o
+entries_in (Anti o) = entries_of_shards swept_entries o
+entries_in (Clip o) = entries_of_shards swept_entries o
 entries_in (Coalesce o) = coalesce_entries o
 entries_in (Follow o) = follow_entries o
 entries_in (Top o) = top_entries o
@@ -163,11 +166,11 @@ HasStopped old (Rows s) = old ≡ Rows s
 HasStopped old (Life o) = (life_standing o).has_failed ≡ true
 HasStopped old (Union o) = (union_standing o).has_failed ≡ true
 HasStopped old (Extend o) = (extend_standing o).has_failed ≡ true
-HasStopped old (Join o) = (swept_standing o).has_failed ≡ true
-HasStopped old (Group o) = (group_standing o).has_failed ≡ true
-HasStopped old (Session o) = (swept_standing o).has_failed ≡ true
-HasStopped old (Anti o) = (swept_standing o).has_failed ≡ true
-HasStopped old (Clip o) = (swept_standing o).has_failed ≡ true
+HasStopped old (Join o) = o.failed ≡ true
+HasStopped old (Group o) = o.failed ≡ true
+HasStopped old (Session o) = o.failed ≡ true
+HasStopped old (Anti o) = o.failed ≡ true
+HasStopped old (Clip o) = o.failed ≡ true
 HasStopped old (Coalesce o) = (coalesce_standing o).has_failed ≡ true
 HasStopped old (Follow o) = (follow_standing o).has_failed ≡ true
 HasStopped old (Top o) = (top_standing o).has_failed ≡ true
@@ -177,17 +180,21 @@ abbrev pub KeepsAtMost : ℕ → Stage → Type 0
 KeepsAtMost count s = (texts : List (List ℕ)) (capacity : ℕ) (left right : List CellKind) (n : Node) (x y : ℕ) (hl hr out : List Edge) →
     IsReady texts capacity left right n s x y → StageKeeps texts n s x y hl hr out → count ≤ may_keep n x y hl hr
 
+-- the operator of a Group stands as it was made
+abbrev pub IsNewGroup : Grouped → Type 0
+IsNewGroup o = IsGroupOpening o.groups.rows.rows o.running o.waiting o.left_to o.right_to o.failed
+
 -- the stage stands as it was made: nothing is kept, no side is closed, and no step failed
 abbrev pub StandsAsMade : Stage → Type 0
 StandsAsMade (Rows s) = Unit {0}
 StandsAsMade (Life o) = IsLifeOpening o.carried.edges o.left_to o.right_to o.failed
 StandsAsMade (Union o) = IsUnionOpening o.left.edges o.right.edges o.left_to o.right_to o.failed
 StandsAsMade (Extend o) = IsExtendOpening o.carried.edges o.ends o.left_to o.right_to o.failed
-StandsAsMade (Join o) = IsSweptNew o
-StandsAsMade (Group o) = IsGroupOpening o.groups.rows.rows o.running o.waiting o.left_to o.right_to o.failed
-StandsAsMade (Session o) = IsSweptNew o
-StandsAsMade (Anti o) = IsSweptNew o
-StandsAsMade (Clip o) = IsSweptNew o
+StandsAsMade (Join o) = AreNew IsSweptNew swept_standing o
+StandsAsMade (Group o) = AreNew IsNewGroup group_standing o
+StandsAsMade (Session o) = AreNew IsSweptNew swept_standing o
+StandsAsMade (Anti o) = AreNew IsSweptNew swept_standing o
+StandsAsMade (Clip o) = AreNew IsSweptNew swept_standing o
 StandsAsMade (Coalesce o) = IsCoalesceNew o
 StandsAsMade (Follow o) = IsFollowNew o
 StandsAsMade (Top o) = IsTopNew o

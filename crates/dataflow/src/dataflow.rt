@@ -9,6 +9,7 @@ ghost use Rattle.row_stage.specs.Texts.{HasFirstTexts};
 ghost use Rattle.dataflow.specs.Lists.{edges_at, AreOfStreams, IsListOf};
 ghost use Rattle.dataflow.specs.declared.stage.Stage.{Stage as Kept};
 ghost use Rattle.dataflow.specs.Stages.{StandsAsMade};
+ghost use Rattle.dataflow.specs.Shards.{RunAll};
 ghost use Rattle.dataflow.specs.Flows.{MayStep, StepsOn, Flows, GivesOn, OverflowsAt, held_from};
 ghost use Rattle.dataflow.specs.Held.{AreFresh, nodes_in_all};
 
@@ -18,19 +19,22 @@ use crate::steps::{are_all_sure, step_all};
 use batch::Pools;
 use edge_stream::EdgeList;
 use plan_model::Plan;
+use shard_apply::Gate;
 use std::alloc::Global;
 use std::marker::Model;
+use std::thread::Threads;
 use tw_rows::{Memory, TextTable, Time};
 
-/// A plan at work. Contracts see the plan, its stages, how many rows each batch has room for, whether the stages took up what
-/// was saved, and the fault of a step; `Flows` says of which edges the stages have taken steps. Once a step answered a fault,
-/// each later one answers it again.
+/// A plan at work. Contracts see the plan, its stages, how many rows each batch has room for, in how many shards a node with a
+/// key is run, whether the stages took up what was saved, and the fault of a step; `Flows` says of which edges the stages have
+/// taken steps. Once a step answered a fault, each later one answers it again.
 #[derive(Drop)]
 pub struct Dataflow {
     alloc: Global,
     plan: Plan,
     stages: Vec<Stage>,
     capacity: usize,
+    workers: usize,
     thawed: bool,
     // why a step gave no edges
     fault: Option<PlanFault>,
@@ -40,12 +44,22 @@ impl Model for Dataflow {
     ghost use Rattle.std.specs.Coded.{codes};
     ghost use Rattle.dataflow.specs.contracts.stage.Stage as stage;
     ghost use Rattle.dataflow.specs.Flows.{DataflowView};
+    ghost use Rattle.dataflow.specs.Shards.{RunAll};
 
     ghost Value = { DataflowView };
 
     ghost coded = { Prim.hlevel (codes, stage.the_row.coded) };
 
-    ghost view = { λ d. record { plan = d.plan; stages = d.stages.items; capacity = d.capacity; thawed = d.thawed; fault = d.fault } };
+    ghost view = { λ d. record {
+      plan = d.plan;
+      stages = d.stages.items;
+      capacity = d.capacity;
+      workers = d.workers;
+      thawed = d.thawed;
+      fault = d.fault;
+    } };
+
+    ghost invariant = { λ d. RunAll d.workers d.plan.nodes d.stages.items };
 }
 
 // A stage for each node of the plan.
@@ -53,9 +67,13 @@ fn stages_of(
     alloc: Global,
     plan: &Plan,
     capacity: usize,
+    workers: usize,
     texts: &mut TextTable,
 ) -> Result<Vec<Stage>, Memory>
     requires room { 1 ≤ capacity }
+    requires some { 1 ≤ workers }
+    requires few { workers ≤ 16 }
+    ensures runs { IfOk result (λ stages. RunAll workers plan.now.nodes stages.items) }
     ensures fresh { IfOk result (λ stages. AreFresh texts.new capacity plan.now stages.items) }
     ensures table { OnOk result (texts.new ≡ with_texts texts.old (nodes_in_all plan.now.nodes)) }
     ensures err { OnErr result (HasFirstTexts texts.new texts.old (nodes_in_all plan.now.nodes)) }
@@ -63,7 +81,7 @@ fn stages_of(
 {
     let mut stages = Vec::new(alloc);
     for i in 0..plan.nodes().len() {
-        stages.push(Stage::new(alloc, plan, i, capacity, texts)?)?;
+        stages.push(Stage::new(alloc, plan, i, capacity, workers, texts)?)?;
     }
     Ok(stages)
 }
@@ -91,30 +109,35 @@ fn fault_in(answer: &Result<EdgeList, PlanFault>) -> Option<PlanFault>
 }
 
 impl Dataflow {
-    /// The plan with a stage for each of its nodes, for batches of `capacity` rows. The texts of its expressions come into
-    /// the table, and stay there out of memory.
+    /// The plan with a stage for each of its nodes, for batches of `capacity` rows, a node with a key in a shard for each
+    /// worker. The texts of its expressions come into the table, and stay there out of memory.
     pub fn new(
         alloc: Global,
         plan: Plan,
         capacity: usize,
+        workers: usize,
         texts: &mut TextTable,
     ) -> Result<Dataflow, Memory>
         requires room { 1 ≤ capacity }
+        requires some { 1 ≤ workers }
+        requires few { workers ≤ 16 }
         ensures flows { IfOk result (λ d. Flows texts.new 0 (λ s. []) (λ k. []) d) }
         ensures made { IfOk result (λ d. (i : ℕ) (s : Kept) → slice_get d.stages i ≡ Some s → StandsAsMade s) }
         ensures plan { IfOk result (λ d. d.plan ≡ plan) }
         ensures capacity { IfOk result (λ d. d.capacity ≡ capacity) }
+        ensures workers { IfOk result (λ d. d.workers ≡ workers) }
         ensures thawed { IfOk result (λ d. d.thawed ≡ false) }
         ensures table { OnOk result (texts.new ≡ with_texts texts.old (nodes_in_all plan.nodes)) }
         ensures err { OnErr result (HasFirstTexts texts.new texts.old (nodes_in_all plan.nodes)) }
         ensures begins { BeginsWith texts.new texts.old }
     {
-        let stages = stages_of(alloc, &plan, capacity, texts)?;
+        let stages = stages_of(alloc, &plan, capacity, workers, texts)?;
         Ok(Dataflow {
             alloc,
             plan,
             stages,
             capacity,
+            workers,
             thawed: false,
             fault: None,
         })
@@ -127,9 +150,17 @@ impl Dataflow {
         &self.plan
     }
 
+    /// In how many shards a node with a key is run.
+    pub fn workers(&self) -> usize
+        ensures { result ≡ self.now.workers }
+    {
+        self.workers
+    }
+
     /// What computes each node, in order of number.
     pub fn stages(&self) -> &[Stage]
-        ensures { result.now ≡ self.now.stages }
+        ensures stages { result.now ≡ self.now.stages }
+        ensures runs { RunAll self.now.workers self.now.plan.nodes result.now }
     {
         &self.stages
     }
@@ -144,8 +175,11 @@ impl Dataflow {
     /// One step of each node, in order of number, at the punctuation `p`, which is later than the last one: of the new edges
     /// of each stream the new edges of the root. Columns are taken from the pools, and go back there. After a fault each later
     /// step answers it again. Where the stages took up what was saved, Memory also tells that a place is not in the table.
-    pub fn step(
+    /// Shards pass the gate, and run beside each other where threads can be made; no answer depends on their number.
+    pub fn step<R: Threads + Sync, G: Gate>(
         &mut self,
+        rt: &R,
+        gate: &G,
         pools: &mut Pools,
         texts: &TextTable,
         given: Vec<EdgeList>,
@@ -166,6 +200,7 @@ impl Dataflow {
             IsListOf texts.now self.old.capacity (kinds_at self.old.plan.schemas self.old.plan.root) out) }
         ensures plan { self.new.plan ≡ self.old.plan }
         ensures capacity { self.new.capacity ≡ self.old.capacity }
+        ensures workers { self.new.workers ≡ self.old.workers }
         ensures thawed { self.new.thawed ≡ self.old.thawed }
         ensures pools { pools.new.capacity ≡ pools.old.capacity }
         ensures limit { pools.new.limit ≡ pools.old.limit }
@@ -178,6 +213,8 @@ impl Dataflow {
             return Err(PlanFault::Memory);
         }
         let stepped = step_all(
+            rt,
+            gate,
             self.alloc,
             pools,
             texts,

@@ -22,6 +22,7 @@ use lifetime_ops::{AlterLifetime, ExtendLifetime};
 use operator::Operator;
 use outer_top::Top;
 use session_window::Session;
+use shard_apply::Sharded;
 use snapshot_agg::Grouped;
 use temporal_join::Join;
 
@@ -62,11 +63,11 @@ pub fn stages_keep_at_most()
     AlterLifetime::laws();
     union_op::Union::laws();
     ExtendLifetime::laws();
-    Join::laws();
-    Grouped::laws();
-    Session::laws();
-    Anti::laws();
-    Clip::laws();
+    Sharded::<Join>::laws();
+    Sharded::<Grouped>::laws();
+    Sharded::<Session>::laws();
+    Sharded::<Anti>::laws();
+    Sharded::<Clip>::laws();
     Coalesce::laws();
     Follow::laws();
     Top::laws();

@@ -1,4 +1,4 @@
-//! A plan at work: all its nodes take one step at each punctuation, in order of number.
+//! A plan at work: all its nodes take one step at each punctuation, in order of number, those with a key in shards.
 #![tactic(auto)]
 
 mod any_operator;
@@ -9,6 +9,7 @@ mod laws;
 mod making;
 mod readers;
 mod reading;
+mod sharding;
 mod stage;
 mod steps;
 

@@ -9,7 +9,9 @@ ghost use Rattle.row_stage.specs.Stages.{is_of_rows};
 ghost use Rattle.row_stage.specs.Texts.{nodes_in, HasFirstTexts};
 ghost use Rattle.dataflow.specs.Held.{has_two};
 ghost use Rattle.dataflow.specs.Stages.{left_kinds, changing, StartsFor};
+ghost use Rattle.dataflow.specs.Shards.{RunsNode};
 
+use crate::sharding::{in_shards, new_grouped, operators_of};
 use crate::stage::Stage;
 use anti_join::new_anti;
 use clip_op::new_clip;
@@ -20,7 +22,6 @@ use outer_top::Top;
 use plan_model::{Agg, Key, Node, Plan};
 use row_stage::{column_kinds, read_kinds};
 use session_window::new_session;
-use snapshot_agg::Grouped;
 use std::alloc::Global;
 use temporal_join::new_join;
 use tw_rows::{Kind, Memory, TextTable};
@@ -71,6 +72,8 @@ pub(crate) fn rows_stage(
     requires rows { (n : Node) → slice_get plan.now.nodes node ≡ Some n → is_of_rows n ≡ true }
     ensures starts { IfOk result (λ s. (n : Node) → slice_get plan.now.nodes node ≡ Some n →
         StartsFor texts.new capacity plan.now n s) }
+    ensures runs { IfOk result (λ s. (workers : ℕ) (n : Node) → slice_get plan.now.nodes node ≡ Some n →
+        RunsNode workers n s) }
     ensures table { OnOk result ((n : Node) → slice_get plan.now.nodes node ≡ Some n →
         texts.new ≡ with_texts texts.old (nodes_in n)) }
     ensures err { OnErr result ((n : Node) → slice_get plan.now.nodes node ≡ Some n →
@@ -87,12 +90,16 @@ pub(crate) fn operator_stage(
     plan: &Plan,
     node: usize,
     capacity: usize,
+    workers: usize,
 ) -> Result<Stage, Memory>
     requires node { node < length plan.now.nodes }
     requires room { 1 ≤ capacity }
+    requires some { 1 ≤ workers }
+    requires few { workers ≤ 16 }
     requires other { (n : Node) → slice_get plan.now.nodes node ≡ Some n → is_of_rows n ≡ false }
-    ensures { IfOk result (λ s. (texts : List (List ℕ)) (n : Node) → slice_get plan.now.nodes node ≡ Some n →
+    ensures starts { IfOk result (λ s. (texts : List (List ℕ)) (n : Node) → slice_get plan.now.nodes node ≡ Some n →
         StartsFor texts capacity plan.now n s) }
+    ensures runs { IfOk result (λ s. (n : Node) → slice_get plan.now.nodes node ≡ Some n → RunsNode workers n s) }
 {
     let nodes = plan.nodes();
     match &nodes[node] {
@@ -111,10 +118,11 @@ pub(crate) fn operator_stage(
         }
         Node::Extend { by, .. } => extend_stage(alloc, plan, node, *by, capacity),
         Node::Group { key, aggs, .. } => {
-            group_stage(alloc, plan, node, key.items(), aggs.items(), capacity)
+            let (key, aggs) = (key.items(), aggs.items());
+            group_stage(alloc, plan, node, key, aggs, capacity, workers)
         }
         Node::Session { timeout, key, .. } => {
-            session_stage(alloc, plan, node, *timeout, key.items(), capacity)
+            session_stage(alloc, plan, node, *timeout, key.items(), capacity, workers)
         }
         Node::Coalesce { .. } => coalesce_stage(alloc, plan, node, capacity),
         Node::Mean { at, .. } => mean_stage(alloc, plan, node, at.items(), capacity),
@@ -122,7 +130,7 @@ pub(crate) fn operator_stage(
             let most = *count as usize;
             top_stage(alloc, plan, node, key.items(), *by, most, capacity)
         }
-        _ => two_sided_stage(alloc, plan, node, capacity),
+        _ => two_sided_stage(alloc, plan, node, capacity, workers),
     }
 }
 
@@ -132,12 +140,16 @@ fn two_sided_stage(
     plan: &Plan,
     node: usize,
     capacity: usize,
+    workers: usize,
 ) -> Result<Stage, Memory>
     requires node { node < length plan.now.nodes }
     requires room { 1 ≤ capacity }
+    requires some { 1 ≤ workers }
+    requires few { workers ≤ 16 }
     requires two { (n : Node) → slice_get plan.now.nodes node ≡ Some n → has_two n ≡ true }
-    ensures { IfOk result (λ s. (texts : List (List ℕ)) (n : Node) → slice_get plan.now.nodes node ≡ Some n →
+    ensures starts { IfOk result (λ s. (texts : List (List ℕ)) (n : Node) → slice_get plan.now.nodes node ≡ Some n →
         StartsFor texts capacity plan.now n s) }
+    ensures runs { IfOk result (λ s. (n : Node) → slice_get plan.now.nodes node ≡ Some n → RunsNode workers n s) }
 {
     let nodes = plan.nodes();
     match &nodes[node] {
@@ -147,19 +159,28 @@ fn two_sided_stage(
             left_key: l,
             right_key: r,
             ..
-        } => join_stage(alloc, plan, node, *right, l.items(), r.items(), capacity),
+        } => {
+            let (l, r) = (l.items(), r.items());
+            join_stage(alloc, plan, node, *right, l, r, capacity, workers)
+        }
         Node::Anti {
             right,
             left_key: l,
             right_key: r,
             ..
-        } => anti_stage(alloc, plan, node, *right, l.items(), r.items(), capacity),
+        } => {
+            let (l, r) = (l.items(), r.items());
+            anti_stage(alloc, plan, node, *right, l, r, capacity, workers)
+        }
         Node::Clip {
             right,
             left_key: l,
             right_key: r,
             ..
-        } => clip_stage(alloc, plan, node, *right, l.items(), r.items(), capacity),
+        } => {
+            let (l, r) = (l.items(), r.items());
+            clip_stage(alloc, plan, node, *right, l, r, capacity, workers)
+        }
         Node::Follow {
             right,
             left_key: l,
@@ -185,8 +206,10 @@ fn life_stage(
     requires node { node < length plan.now.nodes }
     requires room { 1 ≤ capacity }
     requires is { (n : Node) → slice_get plan.now.nodes node ≡ Some n → (of : ℕ) × (n ≡ changing of change) }
-    ensures { IfOk result (λ s. (texts : List (List ℕ)) (n : Node) → slice_get plan.now.nodes node ≡ Some n →
+    ensures starts { IfOk result (λ s. (texts : List (List ℕ)) (n : Node) → slice_get plan.now.nodes node ≡ Some n →
         StartsFor texts capacity plan.now n s) }
+    ensures runs { IfOk result (λ s. (workers : ℕ) (n : Node) → slice_get plan.now.nodes node ≡ Some n →
+        RunsNode workers n s) }
 {
     // Its call tells the proof what a plan keeps.
     let _ = plan.nodes();
@@ -200,8 +223,10 @@ fn union_stage(alloc: Global, plan: &Plan, node: usize, capacity: usize) -> Resu
     requires node { node < length plan.now.nodes }
     requires room { 1 ≤ capacity }
     requires is { (n : Node) → slice_get plan.now.nodes node ≡ Some n → (left : ℕ) × ((right : ℕ) × (n ≡ Node.Union left right)) }
-    ensures { IfOk result (λ s. (texts : List (List ℕ)) (n : Node) → slice_get plan.now.nodes node ≡ Some n →
+    ensures starts { IfOk result (λ s. (texts : List (List ℕ)) (n : Node) → slice_get plan.now.nodes node ≡ Some n →
         StartsFor texts capacity plan.now n s) }
+    ensures runs { IfOk result (λ s. (workers : ℕ) (n : Node) → slice_get plan.now.nodes node ≡ Some n →
+        RunsNode workers n s) }
 {
     // Its call tells the proof what a plan keeps.
     let _ = plan.nodes();
@@ -221,8 +246,10 @@ fn extend_stage(
     requires node { node < length plan.now.nodes }
     requires room { 1 ≤ capacity }
     requires is { (n : Node) → slice_get plan.now.nodes node ≡ Some n → (of : ℕ) × (n ≡ Node.Extend of by) }
-    ensures { IfOk result (λ s. (texts : List (List ℕ)) (n : Node) → slice_get plan.now.nodes node ≡ Some n →
+    ensures starts { IfOk result (λ s. (texts : List (List ℕ)) (n : Node) → slice_get plan.now.nodes node ≡ Some n →
         StartsFor texts capacity plan.now n s) }
+    ensures runs { IfOk result (λ s. (workers : ℕ) (n : Node) → slice_get plan.now.nodes node ≡ Some n →
+        RunsNode workers n s) }
 {
     let kinds = kinds_read(alloc, plan, node)?;
     let operator = ExtendLifetime::new(alloc, by, &kinds, capacity)?;
@@ -237,18 +264,28 @@ fn session_stage(
     timeout: u64,
     key: &[usize],
     capacity: usize,
+    workers: usize,
 ) -> Result<Stage, Memory>
     requires node { node < length plan.now.nodes }
     requires room { 1 ≤ capacity }
+    requires some { 1 ≤ workers }
+    requires few { workers ≤ 16 }
     requires is { (n : Node) → slice_get plan.now.nodes node ≡ Some n → (of : ℕ) × (n ≡ Node.Session of timeout key.now) }
-    ensures { IfOk result (λ s. (texts : List (List ℕ)) (n : Node) → slice_get plan.now.nodes node ≡ Some n →
+    ensures starts { IfOk result (λ s. (texts : List (List ℕ)) (n : Node) → slice_get plan.now.nodes node ≡ Some n →
         StartsFor texts capacity plan.now n s) }
+    ensures runs { IfOk result (λ s. (n : Node) → slice_get plan.now.nodes node ≡ Some n → RunsNode workers n s) }
 {
     // Its call tells the proof what a plan keeps.
     let _ = plan.nodes();
     let kinds = kinds_read(alloc, plan, node)?;
-    let operator = new_session(alloc, timeout, key, &kinds, capacity)?;
-    Ok(Stage::Session(operator))
+    let read = kinds.as_slice();
+    let operators = operators_of(
+        alloc,
+        workers,
+        &|| { new_session(alloc, timeout, key, read, capacity) },
+    )?;
+    let whole = in_shards(alloc, operators, capacity, key, &[])?;
+    Ok(Stage::Session(whole))
 }
 
 // The stage of a Mean of the plan, of these columns.
@@ -262,8 +299,10 @@ fn mean_stage(
     requires node { node < length plan.now.nodes }
     requires room { 1 ≤ capacity }
     requires is { (n : Node) → slice_get plan.now.nodes node ≡ Some n → (of : ℕ) × (n ≡ Node.Mean of at.now) }
-    ensures { IfOk result (λ s. (texts : List (List ℕ)) (n : Node) → slice_get plan.now.nodes node ≡ Some n →
+    ensures starts { IfOk result (λ s. (texts : List (List ℕ)) (n : Node) → slice_get plan.now.nodes node ≡ Some n →
         StartsFor texts capacity plan.now n s) }
+    ensures runs { IfOk result (λ s. (workers : ℕ) (n : Node) → slice_get plan.now.nodes node ≡ Some n →
+        RunsNode workers n s) }
 {
     let at = Key::from_vec(Vec::from_slice(alloc, at)?);
     life_stage(alloc, plan, node, Change::Mean { at }, capacity)
@@ -274,8 +313,10 @@ fn coalesce_stage(alloc: Global, plan: &Plan, node: usize, capacity: usize) -> R
     requires node { node < length plan.now.nodes }
     requires room { 1 ≤ capacity }
     requires is { (n : Node) → slice_get plan.now.nodes node ≡ Some n → (of : ℕ) × (n ≡ Node.Coalesce of) }
-    ensures { IfOk result (λ s. (texts : List (List ℕ)) (n : Node) → slice_get plan.now.nodes node ≡ Some n →
+    ensures starts { IfOk result (λ s. (texts : List (List ℕ)) (n : Node) → slice_get plan.now.nodes node ≡ Some n →
         StartsFor texts capacity plan.now n s) }
+    ensures runs { IfOk result (λ s. (workers : ℕ) (n : Node) → slice_get plan.now.nodes node ≡ Some n →
+        RunsNode workers n s) }
 {
     // Its call tells the proof what a plan keeps.
     let _ = plan.nodes();
@@ -297,8 +338,10 @@ fn top_stage(
     requires node { node < length plan.now.nodes }
     requires room { 1 ≤ capacity }
     requires is { (n : Node) → slice_get plan.now.nodes node ≡ Some n → (of : ℕ) × (n ≡ Node.Top of key.now by most) }
-    ensures { IfOk result (λ s. (texts : List (List ℕ)) (n : Node) → slice_get plan.now.nodes node ≡ Some n →
+    ensures starts { IfOk result (λ s. (texts : List (List ℕ)) (n : Node) → slice_get plan.now.nodes node ≡ Some n →
         StartsFor texts capacity plan.now n s) }
+    ensures runs { IfOk result (λ s. (workers : ℕ) (n : Node) → slice_get plan.now.nodes node ≡ Some n →
+        RunsNode workers n s) }
 {
     // Its call tells the proof what a plan keeps.
     let _ = plan.nodes();
@@ -316,26 +359,30 @@ fn join_stage(
     left_key: &[usize],
     right_key: &[usize],
     capacity: usize,
+    workers: usize,
 ) -> Result<Stage, Memory>
     requires node { node < length plan.now.nodes }
     requires room { 1 ≤ capacity }
+    requires some { 1 ≤ workers }
+    requires few { workers ≤ 16 }
     requires is { (n : Node) → slice_get plan.now.nodes node ≡ Some n → (left : ℕ) × (n ≡ Node.Join left right left_key.now right_key.now) }
-    ensures { IfOk result (λ s. (texts : List (List ℕ)) (n : Node) → slice_get plan.now.nodes node ≡ Some n →
+    ensures starts { IfOk result (λ s. (texts : List (List ℕ)) (n : Node) → slice_get plan.now.nodes node ≡ Some n →
         StartsFor texts capacity plan.now n s) }
+    ensures runs { IfOk result (λ s. (n : Node) → slice_get plan.now.nodes node ≡ Some n → RunsNode workers n s) }
 {
     // Its call tells the proof what a plan keeps.
     let _ = plan.nodes();
     let left_kinds = kinds_read(alloc, plan, node)?;
     let right_kinds = kinds_told(alloc, plan, right)?;
-    let operator = new_join(
+    let read = left_kinds.as_slice();
+    let told = right_kinds.as_slice();
+    let operators = operators_of(
         alloc,
-        left_key,
-        right_key,
-        &left_kinds,
-        &right_kinds,
-        capacity,
+        workers,
+        &|| { new_join(alloc, left_key, right_key, read, told, capacity) },
     )?;
-    Ok(Stage::Join(operator))
+    let whole = in_shards(alloc, operators, capacity, left_key, right_key)?;
+    Ok(Stage::Join(whole))
 }
 
 // The stage of a Group of the plan, by this key and with these aggregates.
@@ -346,19 +393,30 @@ fn group_stage(
     key: &[usize],
     aggs: &[Agg],
     capacity: usize,
+    workers: usize,
 ) -> Result<Stage, Memory>
     requires node { node < length plan.now.nodes }
     requires room { 1 ≤ capacity }
+    requires some { 1 ≤ workers }
+    requires few { workers ≤ 16 }
     requires is { (n : Node) → slice_get plan.now.nodes node ≡ Some n → (of : ℕ) × (n ≡ Node.Group of key.now aggs.now) }
-    ensures { IfOk result (λ s. (texts : List (List ℕ)) (n : Node) → slice_get plan.now.nodes node ≡ Some n →
+    ensures starts { IfOk result (λ s. (texts : List (List ℕ)) (n : Node) → slice_get plan.now.nodes node ≡ Some n →
         StartsFor texts capacity plan.now n s) }
+    ensures runs { IfOk result (λ s. (n : Node) → slice_get plan.now.nodes node ≡ Some n → RunsNode workers n s) }
 {
     // Its call tells the proof what a plan keeps.
     let _ = plan.nodes();
-    let left = kinds_read(alloc, plan, node)?;
-    let own = kinds_told(alloc, plan, node)?;
-    let operator = Grouped::new(alloc, key, aggs, &left, &own, capacity)?;
-    Ok(Stage::Group(operator))
+    let left_kinds = kinds_read(alloc, plan, node)?;
+    let own_kinds = kinds_told(alloc, plan, node)?;
+    let read = left_kinds.as_slice();
+    let told = own_kinds.as_slice();
+    let operators = operators_of(
+        alloc,
+        workers,
+        &|| { new_grouped(alloc, key, aggs, read, told, capacity) },
+    )?;
+    let whole = in_shards(alloc, operators, capacity, key, &[])?;
+    Ok(Stage::Group(whole))
 }
 
 // The stage of an Anti of the plan, by these keys of the left and of the right child.
@@ -370,26 +428,30 @@ fn anti_stage(
     left_key: &[usize],
     right_key: &[usize],
     capacity: usize,
+    workers: usize,
 ) -> Result<Stage, Memory>
     requires node { node < length plan.now.nodes }
     requires room { 1 ≤ capacity }
+    requires some { 1 ≤ workers }
+    requires few { workers ≤ 16 }
     requires is { (n : Node) → slice_get plan.now.nodes node ≡ Some n → (left : ℕ) × (n ≡ Node.Anti left right left_key.now right_key.now) }
-    ensures { IfOk result (λ s. (texts : List (List ℕ)) (n : Node) → slice_get plan.now.nodes node ≡ Some n →
+    ensures starts { IfOk result (λ s. (texts : List (List ℕ)) (n : Node) → slice_get plan.now.nodes node ≡ Some n →
         StartsFor texts capacity plan.now n s) }
+    ensures runs { IfOk result (λ s. (n : Node) → slice_get plan.now.nodes node ≡ Some n → RunsNode workers n s) }
 {
     // Its call tells the proof what a plan keeps.
     let _ = plan.nodes();
     let left_kinds = kinds_read(alloc, plan, node)?;
     let right_kinds = kinds_told(alloc, plan, right)?;
-    let operator = new_anti(
+    let read = left_kinds.as_slice();
+    let told = right_kinds.as_slice();
+    let operators = operators_of(
         alloc,
-        left_key,
-        right_key,
-        &left_kinds,
-        &right_kinds,
-        capacity,
+        workers,
+        &|| { new_anti(alloc, left_key, right_key, read, told, capacity) },
     )?;
-    Ok(Stage::Anti(operator))
+    let whole = in_shards(alloc, operators, capacity, left_key, right_key)?;
+    Ok(Stage::Anti(whole))
 }
 
 // The stage of a Clip of the plan, by these keys of the left and of the right child.
@@ -401,26 +463,30 @@ fn clip_stage(
     left_key: &[usize],
     right_key: &[usize],
     capacity: usize,
+    workers: usize,
 ) -> Result<Stage, Memory>
     requires node { node < length plan.now.nodes }
     requires room { 1 ≤ capacity }
+    requires some { 1 ≤ workers }
+    requires few { workers ≤ 16 }
     requires is { (n : Node) → slice_get plan.now.nodes node ≡ Some n → (left : ℕ) × (n ≡ Node.Clip left right left_key.now right_key.now) }
-    ensures { IfOk result (λ s. (texts : List (List ℕ)) (n : Node) → slice_get plan.now.nodes node ≡ Some n →
+    ensures starts { IfOk result (λ s. (texts : List (List ℕ)) (n : Node) → slice_get plan.now.nodes node ≡ Some n →
         StartsFor texts capacity plan.now n s) }
+    ensures runs { IfOk result (λ s. (n : Node) → slice_get plan.now.nodes node ≡ Some n → RunsNode workers n s) }
 {
     // Its call tells the proof what a plan keeps.
     let _ = plan.nodes();
     let left_kinds = kinds_read(alloc, plan, node)?;
     let right_kinds = kinds_told(alloc, plan, right)?;
-    let operator = new_clip(
+    let read = left_kinds.as_slice();
+    let told = right_kinds.as_slice();
+    let operators = operators_of(
         alloc,
-        left_key,
-        right_key,
-        &left_kinds,
-        &right_kinds,
-        capacity,
+        workers,
+        &|| { new_clip(alloc, left_key, right_key, read, told, capacity) },
     )?;
-    Ok(Stage::Clip(operator))
+    let whole = in_shards(alloc, operators, capacity, left_key, right_key)?;
+    Ok(Stage::Clip(whole))
 }
 
 // The stage of a Follow of the plan, by these keys of the left and of the right child, within this time.
@@ -437,8 +503,10 @@ fn follow_stage(
     requires room { 1 ≤ capacity }
     requires is { (n : Node) → slice_get plan.now.nodes node ≡ Some n →
         (left : ℕ) × (n ≡ Node.Follow left right keys.0.now keys.1.now within) }
-    ensures { IfOk result (λ s. (texts : List (List ℕ)) (n : Node) → slice_get plan.now.nodes node ≡ Some n →
+    ensures starts { IfOk result (λ s. (texts : List (List ℕ)) (n : Node) → slice_get plan.now.nodes node ≡ Some n →
         StartsFor texts capacity plan.now n s) }
+    ensures runs { IfOk result (λ s. (workers : ℕ) (n : Node) → slice_get plan.now.nodes node ≡ Some n →
+        RunsNode workers n s) }
 {
     // Its call tells the proof what a plan keeps.
     let _ = plan.nodes();

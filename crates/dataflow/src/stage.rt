@@ -7,8 +7,9 @@ ghost use Rattle.node_laws.specs.Places.{EdgesArePlaced};
 ghost use Rattle.lane_expr.specs.Steps.{with_texts};
 ghost use Rattle.row_stage.specs.Texts.{nodes_in, HasFirstTexts};
 ghost use Rattle.dataflow.specs.Stages.{CanTake, StaysReady, KeepsOn, IsUndefinedAt, IsAnswerOf, HasStopped, entries_in, KeepsAtMost, StartsFor};
+ghost use Rattle.dataflow.specs.Shards.{RunsNode};
 
-use crate::any_operator::step_operator;
+use crate::any_operator::{step_operator, step_sharded};
 use crate::laws::stages_keep_at_most;
 use crate::making::{operator_stage, reads_rows_alone, rows_stage};
 use anti_join::Anti;
@@ -22,13 +23,15 @@ use operator::Operator;
 use outer_top::Top;
 use plan_model::Plan;
 use session_window::Session;
+use shard_apply::{Gate, Sharded};
 use snapshot_agg::Grouped;
 use std::alloc::Global;
+use std::thread::Threads;
 use temporal_join::Join;
 use tw_rows::{Memory, TextTable, Time};
 
-/// What computes one node of a plan. Contracts see it through `IsReady` and `StageKeeps` alone, which are by cases of what it
-/// is.
+/// What computes one node of a plan: a node with a key in shards, every other as a whole. Contracts see it through `IsReady`,
+/// `StageKeeps` and `RunsNode` alone, which are by cases of what it is.
 #[derive(Drop)]
 pub enum Stage {
     /// Of a Source, a Where or a Select.
@@ -40,15 +43,15 @@ pub enum Stage {
     /// Of an Extend.
     Extend(ExtendLifetime),
     /// Of a Join.
-    Join(Join),
+    Join(Sharded<Join>),
     /// Of a Group.
-    Group(Grouped),
+    Group(Sharded<Grouped>),
     /// Of an Anti.
-    Anti(Anti),
+    Anti(Sharded<Anti>),
     /// Of a Clip.
-    Clip(Clip),
+    Clip(Sharded<Clip>),
     /// Of a Session.
-    Session(Session),
+    Session(Sharded<Session>),
     /// Of a Coalesce.
     Coalesce(Coalesce),
     /// Of a Follow.
@@ -58,19 +61,23 @@ pub enum Stage {
 }
 
 impl Stage {
-    /// The stage of a node of the plan, for batches of `capacity` rows. The texts of the node's expressions come
-    /// into the table, and stay there out of memory.
+    /// The stage of a node of the plan, for batches of `capacity` rows, with a shard for each worker where the node has a key.
+    /// The texts of the node's expressions come into the table, and stay there out of memory.
     pub fn new(
         alloc: Global,
         plan: &Plan,
         node: usize,
         capacity: usize,
+        workers: usize,
         texts: &mut TextTable,
     ) -> Result<Stage, Memory>
         requires node { node < length plan.now.nodes }
         requires room { 1 ≤ capacity }
+        requires some { 1 ≤ workers }
+        requires few { workers ≤ 16 }
         ensures starts { IfOk result (λ s. (n : Node) → slice_get plan.now.nodes node ≡ Some n →
             StartsFor texts.new capacity plan.now n s) }
+        ensures runs { IfOk result (λ s. (n : Node) → slice_get plan.now.nodes node ≡ Some n → RunsNode workers n s) }
         ensures table { OnOk result ((n : Node) → slice_get plan.now.nodes node ≡ Some n →
             texts.new ≡ with_texts texts.old (nodes_in n)) }
         ensures err { OnErr result ((n : Node) → slice_get plan.now.nodes node ≡ Some n →
@@ -81,14 +88,17 @@ impl Stage {
         if reads_rows_alone(&nodes[node]) {
             rows_stage(alloc, plan, node, capacity, texts)
         } else {
-            operator_stage(alloc, plan, node, capacity)
+            operator_stage(alloc, plan, node, capacity, workers)
         }
     }
 
     /// What the node has to tell once the new edges of its sides came in, which are then closed up to the two times. Of a
-    /// node with one child the right list has no columns. Want of memory loses the lists.
-    pub fn step(
+    /// node with one child the right list has no columns. Shards pass the gate, and run beside each other where threads can be
+    /// made. Want of memory loses the lists.
+    pub fn step<R: Threads + Sync, G: Gate>(
         &mut self,
+        rt: &R,
+        gate: &G,
         alloc: Global,
         pools: &mut Pools,
         texts: &TextTable,
@@ -107,6 +117,7 @@ impl Stage {
         ensures overflow { IfErr result (λ fault. (time : ℕ) → fault ≡ StepFault.Overflow time →
             IsUndefinedAt texts.now left right self.old left_to right_to (Some time)) }
         ensures stopped { OnErr result (HasStopped self.old self.new) }
+        ensures runs { (workers : ℕ) (n : Node) → RunsNode workers n self.old → RunsNode workers n self.new }
         ensures kinds { IfOk result (IsAnswerOf texts.now left right self.old) }
         ensures capacity { IfOk result (λ answer. answer.capacity ≡ left.capacity) }
         ensures pools { pools.new.capacity ≡ pools.old.capacity }
@@ -123,20 +134,20 @@ impl Stage {
             Stage::Extend(operator) => {
                 step_operator(operator, pools, left, right, left_to, right_to)
             }
-            Stage::Join(operator) => {
-                step_operator(operator, pools, left, right, left_to, right_to)
+            Stage::Join(whole) => {
+                step_sharded(whole, rt, gate, pools, left, right, left_to, right_to)
             }
-            Stage::Group(operator) => {
-                step_operator(operator, pools, left, right, left_to, right_to)
+            Stage::Group(whole) => {
+                step_sharded(whole, rt, gate, pools, left, right, left_to, right_to)
             }
-            Stage::Session(operator) => {
-                step_operator(operator, pools, left, right, left_to, right_to)
+            Stage::Session(whole) => {
+                step_sharded(whole, rt, gate, pools, left, right, left_to, right_to)
             }
-            Stage::Anti(operator) => {
-                step_operator(operator, pools, left, right, left_to, right_to)
+            Stage::Anti(whole) => {
+                step_sharded(whole, rt, gate, pools, left, right, left_to, right_to)
             }
-            Stage::Clip(operator) => {
-                step_operator(operator, pools, left, right, left_to, right_to)
+            Stage::Clip(whole) => {
+                step_sharded(whole, rt, gate, pools, left, right, left_to, right_to)
             }
             Stage::Coalesce(operator) => {
                 step_operator(operator, pools, left, right, left_to, right_to)
@@ -169,11 +180,11 @@ impl Stage {
             Stage::Life(operator) => operator.held(),
             Stage::Union(operator) => operator.held(),
             Stage::Extend(operator) => operator.held(),
-            Stage::Join(operator) => operator.held(),
-            Stage::Group(operator) => operator.held(),
-            Stage::Anti(operator) => operator.held(),
-            Stage::Clip(operator) => operator.held(),
-            Stage::Session(operator) => operator.held(),
+            Stage::Join(whole) => whole.held(),
+            Stage::Group(whole) => whole.held(),
+            Stage::Anti(whole) => whole.held(),
+            Stage::Clip(whole) => whole.held(),
+            Stage::Session(whole) => whole.held(),
             Stage::Coalesce(operator) => operator.held(),
             Stage::Follow(operator) => operator.held(),
             Stage::Top(operator) => operator.held(),

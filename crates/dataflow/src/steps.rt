@@ -4,6 +4,7 @@ ghost use Rattle.plan_model.specs.IsPlan.{kinds_at, most_columns};
 ghost use Rattle.node_laws.specs.Places.{EdgesArePlaced};
 ghost use Rattle.dataflow.specs.Faults.{fault_at};
 ghost use Rattle.dataflow.specs.Lists.{edges_at, AreGiven, IsListOf};
+ghost use Rattle.dataflow.specs.Shards.{RunAll};
 ghost use Rattle.dataflow.specs.Flows.{parts_of, MayStep, StepsOn, GivesOn, OverflowsAt};
 
 use crate::closings::{closings_at, left_closing, right_closing};
@@ -14,7 +15,9 @@ use crate::stage::Stage;
 use batch::Pools;
 use edge_stream::{EdgeList, StepFault};
 use plan_model::Plan;
+use shard_apply::Gate;
 use std::alloc::Global;
+use std::thread::Threads;
 use tw_rows::{TextTable, Time};
 
 // The fault of the node of that number.
@@ -51,7 +54,9 @@ pub(crate) fn are_all_sure(thawed: bool, lists: &[EdgeList], texts: &TextTable) 
 }
 
 // One step of each node of a plan, in order of number.
-pub(crate) fn step_all(
+pub(crate) fn step_all<R: Threads + Sync, G: Gate>(
+    rt: &R,
+    gate: &G,
     alloc: Global,
     pools: &mut Pools,
     texts: &TextTable,
@@ -71,6 +76,7 @@ pub(crate) fn step_all(
         (parts_of plan.now stages.new.items pools.old.capacity thawed)) }
     ensures overflow { IfErr result (λ fault. (node time : ℕ) → fault ≡ PlanFault.Overflow node time →
         OverflowsAt texts.now p (edges_at given.items) (parts_of plan.now stages.old.items pools.old.capacity thawed) node time) }
+    ensures runs { (workers : ℕ) → RunAll workers plan.now.nodes stages.old.items → RunAll workers plan.now.nodes stages.new.items }
     ensures list { IfOk result (λ out. IsListOf texts.now pools.old.capacity (kinds_at plan.now.schemas plan.now.root) out) }
     ensures capacity { pools.new.capacity ≡ pools.old.capacity }
     ensures limit { pools.new.limit ≡ pools.old.limit }
@@ -86,7 +92,9 @@ pub(crate) fn step_all(
         let right = right_list(alloc, pools, plan, &readers, i, &mut made)?;
         let left_to = left_closing(plan, &closings, i, p);
         let right_to = right_closing(plan, &closings, i);
-        match stages[i].step(alloc, pools, texts, left, right, left_to, right_to) {
+        match stages[i].step(
+            rt, gate, alloc, pools, texts, left, right, left_to, right_to,
+        ) {
             Ok(list) => {
                 if !are_sure(thawed, &list, texts) {
                     return Err(PlanFault::Memory);

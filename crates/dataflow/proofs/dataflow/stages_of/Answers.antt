@@ -9,6 +9,8 @@ use Rattle.row_stage.specs.Texts.{nodes_of_items, nodes_in, HasFirstTexts}
 use Rattle.row_stage.proofs.Tables.{texts_next, first_next, all_first, items_push, items_parts, on_err}
 use Rattle.dataflow.proofs.Opening.{AreFreshTo, fresh_next, fresh_all, made_at, items_next}
 use Rattle.dataflow.proofs.Stepping.{node_there}
+use Rattle.dataflow.proofs.Running.{one_runs}
+use Rattle.dataflow.specs.Shards.{RunAll}
 use Rattle.dataflow.proofs.dataflow.stages_of.Goals as goal
 
 pub loop-i-preserved : goal.loop-i-preserved
@@ -26,6 +28,7 @@ loop-i-preserved c =
     let next : take (i + 1) items ≡ take i items ++ nodes_in at.0 ∷ [] = items_next plan.nodes i at.0 low at.1 in
     record {
       count = ap length pushed ∙ length_push c.loop-i.stages.items c.in_ok-new.field-0 ∙ ap (λ m. m + 1) before.count;
+      runs = subst (RunAll c.args.workers plan.nodes) (sym {A = List Stage} pushed) (one_runs c.args.workers plan.nodes c.loop-i.stages.items i c.in_ok-new.field-0 before.count c.in_ok-new.ensures.runs before.runs);
       fresh = subst (AreFreshTo c.new.new.texts c.args.capacity plan (i + 1)) (sym {A = List Stage} pushed)
           (fresh_next c.loop-i.texts c.new.new.texts c.new.ensures.begins c.args.capacity plan i c.loop-i.stages.items c.in_ok-new.field-0 before.count before.fresh
           (λ n there. (starts n there).ready) (λ n there. (starts n there).opens) (made_at plan.nodes i low c.in_ok-new.field-0 (λ n there. (starts n there).made)));

@@ -1,7 +1,8 @@
 use Rattle.std.specs.Prelude.{map, length}
-use Rattle.std.proofs.Common.{sym, ap, subst, ◌∙◌, arith}
+use Rattle.std.proofs.Common.{sym, ap, subst, ◌∙◌, arith, refl}
 use Rattle.tw_rows.specs.Kinds.{cell_kind_of}
 use Rattle.dataflow.specs.declared.stage.Stage.TheVariants.{Coalesce}
+use Rattle.dataflow.specs.Shards.{RunsNode}
 use Rattle.dataflow.specs.Stages.{left_kinds, StartsFor}
 use Rattle.dataflow.proofs.Starting.{coalesce_starts}
 use Rattle.dataflow.proofs.making.coalesce_stage.Goals as goal
@@ -9,8 +10,8 @@ use Rattle.dataflow.proofs.making.coalesce_stage.Goals as goal
 pub new-requires-clause-width : goal.new-requires-clause-width
 new-requires-clause-width c = let same = ap length c.deref.ensures.value in let width = c.in_ok-kinds.ensures.width in omega (arith, same, width)
 
-pub returns : goal.returns
-returns c = λ texts n there.
+pub returns-clause-starts : goal.returns-clause-starts
+returns-clause-starts c = λ texts n there.
     let plan = c.args.plan.now in
     let is = c.requires.is n there in
     let o = c.in_ok-operator.operator in
@@ -18,3 +19,8 @@ returns c = λ texts n there.
     let read = ap (map cell_kind_of) c.deref.ensures.value ∙ c.in_ok-kinds.ensures.kinds n there ∙ ap (left_kinds plan) is.1 in
     subst (λ m. StartsFor texts c.args.capacity plan m (Coalesce o)) (sym is.1)
     (coalesce_starts plan c.args.capacity c.deref.result.now texts is.0 o made.kinds made.capacity made.opening read)
+
+pub returns-clause-runs : goal.returns-clause-runs
+returns-clause-runs c = λ workers n there.
+    let is = c.requires.is n there in
+    subst (λ m. RunsNode workers m (Coalesce c.in_ok-operator.operator)) (sym is.1) (record { variant = refl; shards = refl })

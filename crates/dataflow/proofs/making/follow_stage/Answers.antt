@@ -1,9 +1,10 @@
 use Rattle.std.specs.Prelude.{Some, map, get_or}
-use Rattle.std.proofs.Common.{sym, ap, subst, ◌∙◌}
+use Rattle.std.proofs.Common.{sym, ap, subst, ◌∙◌, refl}
 use Rattle.std.proofs.lemmas.Option.{slice_get-get_or}
 use Rattle.tw_rows.specs.Kinds.{cell_kind_of}
 use Rattle.plan_model.specs.declared.node.Node.TheVariants.{Source}
 use Rattle.dataflow.specs.declared.stage.Stage.TheVariants.{Follow}
+use Rattle.dataflow.specs.Shards.{RunsNode}
 use Rattle.dataflow.specs.Stages.{left_kinds, StartsFor}
 use Rattle.dataflow.proofs.Starting.{follow_starts, follow_right, follow_narrow, follow_lasts}
 use Rattle.dataflow.proofs.making.follow_stage.Goals as goal
@@ -34,8 +35,8 @@ new-requires-clause-width c =
     (ap (map cell_kind_of) c.deref.ensures.value ∙ c.in_ok-left_kinds.ensures.kinds n there ∙ ap (left_kinds plan) is.1)
     (ap (map cell_kind_of) c.deref-2.ensures.value ∙ c.in_ok-right_kinds.ensures.kinds)
 
-pub returns : goal.returns
-returns c = λ texts n there.
+pub returns-clause-starts : goal.returns-clause-starts
+returns-clause-starts c = λ texts n there.
     let plan = c.args.plan.now in
     let is = c.requires.is n there in
     let o = c.in_ok-operator.operator in
@@ -45,3 +46,8 @@ returns c = λ texts n there.
     subst (λ m. StartsFor texts c.args.capacity plan m (Follow o)) (sym is.1)
     (follow_starts plan c.args.capacity c.deref.result.now c.deref-2.result.now texts is.0 c.args.right c.args.keys.0.now c.args.keys.1.now c.args.within o
     made.left_key made.right_key made.within made.left_kinds made.right_kinds made.own_kinds made.capacity made.opening read told)
+
+pub returns-clause-runs : goal.returns-clause-runs
+returns-clause-runs c = λ workers n there.
+    let is = c.requires.is n there in
+    subst (λ m. RunsNode workers m (Follow c.in_ok-operator.operator)) (sym is.1) (record { variant = refl; shards = refl })

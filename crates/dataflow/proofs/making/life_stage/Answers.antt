@@ -5,12 +5,14 @@ use Rattle.tw_rows.specs.Kinds.{cell_kind_of}
 use Rattle.plan_model.specs.declared.node.Node.TheVariants.{Source}
 use Rattle.lifetime_ops.specs.Nodes.{divides_ints}
 use Rattle.dataflow.specs.declared.stage.Stage.TheVariants.{Life}
+use Rattle.dataflow.specs.Shards.{RunsNode}
 use Rattle.dataflow.specs.Stages.{left_kinds, StartsFor}
+use Rattle.dataflow.proofs.Running.{change_runs}
 use Rattle.dataflow.proofs.Starting.{life_starts, change_divides}
 use Rattle.dataflow.proofs.making.life_stage.Goals as goal
 
-pub returns : goal.returns
-returns c = λ texts n there.
+pub returns-clause-starts : goal.returns-clause-starts
+returns-clause-starts c = λ texts n there.
     let plan = c.args.plan.now in
     let is = c.requires.is n there in
     let o = c.in_ok-operator.operator in
@@ -27,3 +29,8 @@ new-requires-clause-ints c =
     let is = c.requires.is n there in
     let read = ap (map cell_kind_of) c.deref.ensures.value ∙ c.in_ok-kinds.ensures.kinds n there ∙ ap (left_kinds plan) is.1 in
     ap (divides_ints c.args.change) read ∙ change_divides plan c.nodes.ensures.kept c.args.node is.0 c.args.change (there ∙ ap Some is.1)
+
+pub returns-clause-runs : goal.returns-clause-runs
+returns-clause-runs c = λ workers n there.
+    let is = c.requires.is n there in
+    subst (λ m. RunsNode workers m (Life c.in_ok-operator.operator)) (sym is.1) (change_runs workers is.0 c.args.change c.in_ok-operator.operator)

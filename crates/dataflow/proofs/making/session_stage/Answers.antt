@@ -1,34 +1,86 @@
-use Rattle.std.specs.Prelude.{Some, map, get_or, length}
-use Rattle.std.proofs.Common.{refl, sym, [], ap, subst, ◌∙◌, arith}
+use Rattle.std.specs.Prelude.{Some, map, get_or, length, ◌≤◌}
+use Rattle.std.proofs.Common.{refl, sym, ap, subst, ◌∙◌, [], arith, rules}
+use Rattle.std.proofs.iter.Serving.{serving}
 use Rattle.std.proofs.lemmas.Option.{slice_get-get_or}
 use Rattle.tw_rows.specs.Kinds.{cell_kind_of}
+use Rattle.plan_model.specs.IsPlan.{IsKey}
 use Rattle.plan_model.specs.declared.node.Node.TheVariants.{Source, Session as SessionNode}
-use Rattle.dataflow.specs.declared.stage.Stage.TheVariants.{Session}
-use Rattle.dataflow.specs.Stages.{left_kinds, StartsFor}
-use Rattle.dataflow.proofs.Starting.{swept_starts, session_lasts}
+use Rattle.sweep_operator.specs.Sweepers.{new_standing}
 use Rattle.session_window.proofs.Resuming.{session_opens}
+use Rattle.std.proofs.lemmas.List.Elements.{All-nil}
+use Rattle.sweep_operator.specs.Operating.{standing as swept_standing, IsNew as IsSweptNew, IsKept as IsSweptKept}
+use Rattle.sweep_operator.proofs.Kept.{kept_first}
+use Rattle.dataflow.specs.declared.stage.Stage.TheVariants.{Session}
+use Rattle.dataflow.specs.Shards.{RunsNode}
+use Rattle.dataflow.specs.Stages.{left_kinds, StartsFor}
+use Rattle.dataflow.proofs.MadeShards.{AreMade, first_is, in_step, sharded_starts}
+use Rattle.dataflow.proofs.Starting.{new_can, session_lasts}
 use Rattle.dataflow.proofs.Variants.{session_variant}
 use Rattle.dataflow.proofs.making.session_stage.Goals as goal
 
-pub new_session-requires-clause-timeout : goal.new_session-requires-clause-timeout
-new_session-requires-clause-timeout c =
+pub operators_of-requires-after_bounds : goal.operators_of-requires-after_bounds
+operators_of-requires-after_bounds c =
     let plan = c.args.plan.now in
     let n = get_or plan.nodes c.args.node (Source 0) in
     let there = slice_get-get_or plan.nodes c.args.node (Source 0) c.requires.node in
     let is = c.requires.is n there in
-    session_lasts plan c.nodes.ensures.kept c.args.node is.0 c.args.timeout c.args.key.now (there ∙ ap Some is.1)
+    let lasts = session_lasts plan c.nodes.ensures.kept c.args.node is.0 c.args.timeout c.args.key.now (there ∙ ap Some is.1) in
+    let width : length c.as_slice-read.result.now ≤ 32 = (let same = ap length c.as_slice-read.ensures.value in let width = c.in_ok-kinds.ensures.width in omega (arith, same, width)) in
+    let room = c.requires.room in
+    grind (serving, lasts, width, room)
 
-pub new_session-requires-clause-width : goal.new_session-requires-clause-width
-new_session-requires-clause-width c = let same = ap length c.deref.ensures.value in let width = c.in_ok-kinds.ensures.width in omega (arith, same, width)
+pub in_shards-requires-clause-few : goal.in_shards-requires-clause-few
+in_shards-requires-clause-few c κs = let few = c.requires.few in let count = c.in_ok-operators.ensures.count in omega (arith, few, count)
 
-pub returns : goal.returns
-returns c = λ texts n there.
+pub in_shards-requires-clause-opening : goal.in_shards-requires-clause-opening
+in_shards-requires-clause-opening c κs = λ k d low. let each = c.in_ok-operators.ensures.each k d low in search rules
+
+pub in_shards-requires-clause-in_step : goal.in_shards-requires-clause-in_step
+in_shards-requires-clause-in_step c κs =
+    let plan = c.args.plan.now in
+    let n = get_or plan.nodes c.args.node (Source 0) in
+    let there = slice_get-get_or plan.nodes c.args.node (Source 0) c.requires.node in
+    let is = c.requires.is n there in
+    let l = c.args.key.now in
+    let read = ap (map cell_kind_of) c.as_slice-read.ensures.value ∙ c.in_ok-kinds.ensures.kinds n there ∙ ap (left_kinds plan) is.1 in
+    let keyed = (c.nodes.ensures.kept.nodes_are.each c.args.node (SessionNode is.0 c.args.timeout l) (there ∙ ap Some is.1)).sound.1 in
+    let made : AreMade swept_standing IsSweptNew c.args.workers (new_standing (SessionNode 0 c.args.timeout c.args.key.now) c.as_slice-read.result.now [] c.as_slice-read.result.now c.args.capacity) c.in_ok-operators.operators.items = record {
+      some = c.requires.some;
+      count = c.in_ok-operators.ensures.count;
+      stand = λ k d low. (let each = c.in_ok-operators.ensures.each k d low in search rules);
+      new = λ k d low. (let each = c.in_ok-operators.ensures.each k d low in search rules);
+    } in
+    in_step swept_standing IsSweptNew c.args.workers _ c.in_ok-operators.operators.items made l [] refl refl refl refl (subst (λ ks. IsKey ks l) (sym read) keyed) (All-nil _)
+
+pub in_shards-requires-clause-capacity : goal.in_shards-requires-clause-capacity
+in_shards-requires-clause-capacity c κs =
+    let made : AreMade swept_standing IsSweptNew c.args.workers (new_standing (SessionNode 0 c.args.timeout c.args.key.now) c.as_slice-read.result.now [] c.as_slice-read.result.now c.args.capacity) c.in_ok-operators.operators.items = record {
+      some = c.requires.some;
+      count = c.in_ok-operators.ensures.count;
+      stand = λ k d low. (let each = c.in_ok-operators.ensures.each k d low in search rules);
+      new = λ k d low. (let each = c.in_ok-operators.ensures.each k d low in search rules);
+    } in
+    ap (λ s. s.batch_rows) (first_is swept_standing IsSweptNew c.args.workers _ c.in_ok-operators.operators.items made)
+
+pub returns-clause-starts : goal.returns-clause-starts
+returns-clause-starts c = λ texts n there.
     let plan = c.args.plan.now in
     let is = c.requires.is n there in
-    let o = c.in_ok-operator.operator in
-    let made = c.in_ok-operator.ensures in
-    let read = ap (map cell_kind_of) c.deref.ensures.value ∙ c.in_ok-kinds.ensures.kinds n there ∙ ap (left_kinds plan) is.1 in
-    let key = c.args.key.now in
-    subst (λ m. StartsFor texts c.args.capacity plan m (Session o)) (sym is.1)
-    (swept_starts Session session_variant (λ p new. new) plan c.args.capacity texts (SessionNode is.0 c.args.timeout key) (SessionNode 0 c.args.timeout key) c.deref.result.now [] c.deref.result.now o
-    made.stands made.opening (session_opens o.sweep made.opening.0) (record { events = λ a b. refl; closes = λ x y. refl; undefined = λ rows. refl; held = λ x y hl hr. refl }) refl read refl read)
+    let l = c.args.key.now in
+    let read = ap (map cell_kind_of) c.as_slice-read.ensures.value ∙ c.in_ok-kinds.ensures.kinds n there ∙ ap (left_kinds plan) is.1 in
+    let made : AreMade swept_standing IsSweptNew c.args.workers (new_standing (SessionNode 0 c.args.timeout l) c.as_slice-read.result.now [] c.as_slice-read.result.now c.args.capacity) c.in_ok-operators.operators.items = record {
+      some = c.requires.some;
+      count = c.in_ok-operators.ensures.count;
+      stand = λ k d low. (let each = c.in_ok-operators.ensures.each k d low in search rules);
+      new = λ k d low. (let each = c.in_ok-operators.ensures.each k d low in search rules);
+    } in
+    subst (λ m. StartsFor texts c.args.capacity plan m (Session c.in_ok-whole.whole)) (sym is.1)
+    (sharded_starts swept_standing IsSweptNew c.args.workers _ c.in_ok-operators.operators.items made Session IsSweptKept session_variant (λ w new. new) (λ o texts new. kept_first o texts new (session_opens o.sweep new.0))
+    plan c.args.capacity texts (SessionNode is.0 c.args.timeout l) (new_can plan c.args.capacity (SessionNode is.0 c.args.timeout l) (SessionNode 0 c.args.timeout l) c.as_slice-read.result.now [] c.as_slice-read.result.now (record { events = λ a b. refl; closes = λ x y. refl; undefined = λ rows. refl; held = λ x y hl hr. refl }) refl read refl read)
+    c.in_ok-whole.whole l [] c.in_ok-whole.ensures.whole c.in_ok-whole.ensures.opening)
+
+pub returns-clause-runs : goal.returns-clause-runs
+returns-clause-runs c = λ n there.
+    let is = c.requires.is n there in
+    subst (λ m. RunsNode c.args.workers m (Session c.in_ok-whole.whole)) (sym is.1)
+    (record { variant = refl; shards = ap (λ w. length w.operators) c.in_ok-whole.ensures.whole ∙ c.in_ok-operators.ensures.count })

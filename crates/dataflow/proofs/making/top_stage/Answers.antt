@@ -1,9 +1,10 @@
 use Rattle.std.specs.Prelude.{Some, map, get_or, length}
-use Rattle.std.proofs.Common.{sym, ap, subst, ◌∙◌, arith}
+use Rattle.std.proofs.Common.{sym, ap, subst, ◌∙◌, arith, refl}
 use Rattle.std.proofs.lemmas.Option.{slice_get-get_or}
 use Rattle.tw_rows.specs.Kinds.{cell_kind_of}
 use Rattle.plan_model.specs.declared.node.Node.TheVariants.{Source}
 use Rattle.dataflow.specs.declared.stage.Stage.TheVariants.{Top}
+use Rattle.dataflow.specs.Shards.{RunsNode}
 use Rattle.dataflow.specs.Stages.{left_kinds, StartsFor}
 use Rattle.dataflow.proofs.Starting.{top_starts, top_shows}
 use Rattle.dataflow.proofs.making.top_stage.Goals as goal
@@ -19,8 +20,8 @@ new-requires-clause-some c =
 pub new-requires-clause-width : goal.new-requires-clause-width
 new-requires-clause-width c = let same = ap length c.deref.ensures.value in let width = c.in_ok-kinds.ensures.width in omega (arith, same, width)
 
-pub returns : goal.returns
-returns c = λ texts n there.
+pub returns-clause-starts : goal.returns-clause-starts
+returns-clause-starts c = λ texts n there.
     let plan = c.args.plan.now in
     let is = c.requires.is n there in
     let o = c.in_ok-operator.operator in
@@ -28,3 +29,8 @@ returns c = λ texts n there.
     let read = ap (map cell_kind_of) c.deref.ensures.value ∙ c.in_ok-kinds.ensures.kinds n there ∙ ap (left_kinds plan) is.1 in
     subst (λ m. StartsFor texts c.args.capacity plan m (Top o)) (sym is.1)
     (top_starts plan c.args.capacity c.deref.result.now texts is.0 c.args.key.now c.args.by c.args.most o made.key made.by made.most made.kinds made.capacity made.opening read)
+
+pub returns-clause-runs : goal.returns-clause-runs
+returns-clause-runs c = λ workers n there.
+    let is = c.requires.is n there in
+    subst (λ m. RunsNode workers m (Top c.in_ok-operator.operator)) (sym is.1) (record { variant = refl; shards = refl })

@@ -1,13 +1,14 @@
 use Rattle.std.specs.Prelude.{Some, map}
-use Rattle.std.proofs.Common.{sym, ap, subst, ◌∙◌}
+use Rattle.std.proofs.Common.{sym, ap, subst, ◌∙◌, refl}
 use Rattle.tw_rows.specs.Kinds.{cell_kind_of}
 use Rattle.dataflow.specs.declared.stage.Stage.TheVariants.{Union}
+use Rattle.dataflow.specs.Shards.{RunsNode}
 use Rattle.dataflow.specs.Stages.{left_kinds, StartsFor}
 use Rattle.dataflow.proofs.Starting.{union_starts, union_alike}
 use Rattle.dataflow.proofs.making.union_stage.Goals as goal
 
-pub returns : goal.returns
-returns c = λ texts n there.
+pub returns-clause-starts : goal.returns-clause-starts
+returns-clause-starts c = λ texts n there.
     let plan = c.args.plan.now in
     let is = c.requires.is n there in
     let o = c.in_ok-operator.operator in
@@ -16,3 +17,8 @@ returns c = λ texts n there.
     subst (λ m. StartsFor texts c.args.capacity plan m (Union o)) (sym is.1.1)
     (union_starts plan c.args.capacity c.deref.result.now texts is.0 is.1.0 o made.left made.right made.times.0 made.times.1 made.works read
     (union_alike plan c.nodes.ensures.kept c.args.node is.0 is.1.0 (there ∙ ap Some is.1.1)))
+
+pub returns-clause-runs : goal.returns-clause-runs
+returns-clause-runs c = λ workers n there.
+    let is = c.requires.is n there in
+    subst (λ m. RunsNode workers m (Union c.in_ok-operator.operator)) (sym is.1.1) (record { variant = refl; shards = refl })

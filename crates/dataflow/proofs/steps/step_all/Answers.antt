@@ -7,11 +7,12 @@ use Rattle.dataflow.specs.Held.{HeldBefore}
 use Rattle.dataflow.proofs.HeldLists.{with_list, held_first, held_next}
 use Rattle.dataflow.proofs.Flowing.{Progress, no_progress}
 use Rattle.dataflow.proofs.Stepping.{reads, stage_there, node_there, can_take, answer_is, ready_out, ready_next, undefined_found, progress_made, answer_placed, next_progress, has_flowed, can_again}
+use Rattle.dataflow.proofs.Running.{next_runs}
 use Rattle.dataflow.proofs.Sure.{sure_or_tested, fault_of_overflow, of_memory}
 use Rattle.dataflow.proofs.steps.step_all.Goals as goal
 
 pub loop-i-init : goal.loop-i-init
-loop-i-init c = record {
+loop-i-init g c = record {
   more = λ k. [];
   held = subst (HeldBefore c.args.texts.now c.args.pools.now.capacity c.args.plan.now 0 (edges_at c.args.given.items) (λ k. []) c.args.given.items) (sym c.new-made.ensures.items) (held_first c.args.texts.now c.args.pools.now.capacity c.args.plan.now c.args.given.items (λ k. []) c.requires.given);
   count = ap length c.new-made.ensures.items;
@@ -20,12 +21,13 @@ loop-i-init c = record {
   behind = λ j d low. refl;
   ready = λ j n d low there. absurd (omega (arith, low));
   progress = λ last old lists source distinct flows later from begun. no_progress c.args.texts.now c.args.plan.now last c.args.p source old (edges_at c.args.given.items) lists (λ k. []) c.args.stages.now.items;
+  runs = λ workers all. all;
   pools = refl;
   limit = refl;
 }
 
 pub step-requires-clause-ready : goal.step-requires-clause-ready
-step-requires-clause-ready c =
+step-requires-clause-ready g c κs lives =
     let before = c.loop-i.invariant in
     let texts = c.args.texts.now in
     let plan = c.args.plan.now in
@@ -55,7 +57,7 @@ step-requires-clause-ready c =
     can_take texts plan whole capacity c.args.p within i n here.1 given before.more left right read.is_left read.is_right stages s at u v eu ev may.last can.ready may.later
 
 pub step-requires-clause-capacity : goal.step-requires-clause-capacity
-step-requires-clause-capacity c =
+step-requires-clause-capacity g c κs lives =
     let before = c.loop-i.invariant in
     let texts = c.args.texts.now in
     let plan = c.args.plan.now in
@@ -73,7 +75,7 @@ step-requires-clause-capacity c =
     (c.right_list.ensures.pools ∙ c.left_list.ensures.pools ∙ before.pools ∙ sym read.is_left.list.rows, read.is_right.list.rows ∙ sym read.is_left.list.rows)
 
 pub step-requires-clause-placed : goal.step-requires-clause-placed
-step-requires-clause-placed c =
+step-requires-clause-placed g c κs lives =
     let before = c.loop-i.invariant in
     let texts = c.args.texts.now in
     let plan = c.args.plan.now in
@@ -91,7 +93,7 @@ step-requires-clause-placed c =
     (read.is_left.list.placed, read.is_right.list.placed)
 
 pub returns-in-Err-clause-overflow : goal.returns-in-Err-clause-overflow
-returns-in-Err-clause-overflow c = λ node time e last old lists source distinct flows later from begun.
+returns-in-Err-clause-overflow g c = λ node time e last old lists source distinct flows later from begun.
     let before = c.loop-i.invariant in
     let texts = c.args.texts.now in
     let plan = c.args.plan.now in
@@ -124,7 +126,7 @@ returns-in-Err-clause-overflow c = λ node time e last old lists source distinct
     ∙ ap (λ k. Some (record { node = k; time = time })) (sym f.0)
 
 pub loop-i-preserved : goal.loop-i-preserved
-loop-i-preserved c =
+loop-i-preserved g c =
     let before = c.loop-i.invariant in
     let texts = c.args.texts.now in
     let plan = c.args.plan.now in
@@ -179,12 +181,14 @@ loop-i-preserved c =
           next_progress texts plan last c.args.p source old given lists (with_list before.more i out.edges) (slice_set now i new) i
           (progress_made texts plan whole capacity c.args.p within i n here.1 given before.more left right read.is_left read.is_right stages s at u v eu ev last source old lists distinct later from begun flows.can.ready (flows.kept i n s here.1 at) now
           (before.progress last old lists source distinct flows later from begun) new out told.kept told.ready told.defined within_now);
+      runs = λ workers all.
+          next_runs workers plan.nodes now i s new within_now c.index_mut.ensures.value (c.step.ensures.runs workers) (before.runs workers all);
       pools = c.step.ensures.pools ∙ c.right_list.ensures.pools ∙ c.left_list.ensures.pools ∙ before.pools;
       limit = c.step.ensures.limit ∙ c.right_list.ensures.limit ∙ c.left_list.ensures.limit ∙ before.limit;
     }
 
 pub returns-clause-flowed : goal.returns-clause-flowed
-returns-clause-flowed c = λ last old lists source distinct flows later from begun.
+returns-clause-flowed g c = λ last old lists source distinct flows later from begun.
     let before = c.loop-i.invariant in
     let texts = c.args.texts.now in
     let plan = c.args.plan.now in
@@ -205,7 +209,7 @@ returns-clause-flowed c = λ last old lists source distinct flows later from beg
     (ap (λ l. l.edges) (c.swap_remove.ensures.value ∙ ap (λ r. get_or c.loop-i.made.items r c.swap_remove.result) c.root.ensures.root) ∙ at.same)
 
 pub returns-clause-can : goal.returns-clause-can
-returns-clause-can c = λ last can later.
+returns-clause-can g c = λ last can later.
     let before = c.loop-i.invariant in
     let count = ap length c.nodes-nodes.ensures.nodes in
     let test = c.loop-i-test.false in
@@ -215,4 +219,22 @@ returns-clause-can c = λ last can later.
     (λ j m d low there. before.ready j m d (omega (arith, low, end)) there)
 
 pub returns-in_err-push-in-Ok-clause-overflow : goal.returns-in_err-push-in-Ok-clause-overflow
-returns-in_err-push-in-Ok-clause-overflow c = of_memory c.from_residual-in_err-push-in-Ok.result _ c.from_residual-in_err-push-in-Ok.ensures.1 (λ f is node time e. absurd (cc))
+returns-in_err-push-in-Ok-clause-overflow g c = of_memory c.from_residual-in_err-push-in-Ok.result _ c.from_residual-in_err-push-in-Ok.ensures.1 (λ f is node time e. absurd (cc))
+
+pub returns-in-Err-clause-runs : goal.returns-in-Err-clause-runs
+returns-in-Err-clause-runs g c = λ workers all.
+    next_runs workers c.args.plan.now.nodes c.loop-i.stages.items c.loop-i.i c.index_mut.result.now c.step.new.self
+    (let low = c.loop-i-test.true in let count = ap length c.nodes-nodes.ensures.nodes in let each = c.requires.may.can.count in let long = c.loop-i.invariant.long in omega (arith, low, count, each, long))
+    c.index_mut.ensures.value (c.step.ensures.runs workers) (c.loop-i.invariant.runs workers all)
+
+pub returns-then-not-are_sure-clause-runs : goal.returns-then-not-are_sure-clause-runs
+returns-then-not-are_sure-clause-runs g c = λ workers all.
+    next_runs workers c.args.plan.now.nodes c.loop-i.stages.items c.loop-i.i c.index_mut.result.now c.step.new.self
+    (let low = c.loop-i-test.true in let count = ap length c.nodes-nodes.ensures.nodes in let each = c.requires.may.can.count in let long = c.loop-i.invariant.long in omega (arith, low, count, each, long))
+    c.index_mut.ensures.value (c.step.ensures.runs workers) (c.loop-i.invariant.runs workers all)
+
+pub returns-in_err-push-in-Ok-clause-runs : goal.returns-in_err-push-in-Ok-clause-runs
+returns-in_err-push-in-Ok-clause-runs g c = λ workers all.
+    next_runs workers c.args.plan.now.nodes c.loop-i.stages.items c.loop-i.i c.index_mut.result.now c.step.new.self
+    (let low = c.loop-i-test.true in let count = ap length c.nodes-nodes.ensures.nodes in let each = c.requires.may.can.count in let long = c.loop-i.invariant.long in omega (arith, low, count, each, long))
+    c.index_mut.ensures.value (c.step.ensures.runs workers) (c.loop-i.invariant.runs workers all)

@@ -9,13 +9,14 @@ use Rattle.node_laws.specs.Standing.{SourcesStandRead}
 use Rattle.dataflow.specs.declared.stage.Stage.{Stage}
 use Rattle.dataflow.specs.Lists.{edges_at, longer, AreFrom}
 use Rattle.dataflow.specs.Stages.{left_closing, right_closing, left_kinds, right_kinds, IsReady}
+use Rattle.dataflow.specs.Shards.{RunAll}
 use Rattle.dataflow.specs.Flows.{parts_of, Flows}
 use Rattle.dataflow.specs.Held.{HeldBefore}
 use Rattle.dataflow.proofs.Flowing.{Progress}
 use Rattle.dataflow.proofs.steps.step_all.Given as goal
 
 abbrev pub invariant-loop-i : goal.invariant-loop-i
-invariant-loop-i l = record {
+invariant-loop-i g l = record {
   more : ℕ → List Edge;
   held : HeldBefore l.texts l.fn.pools.capacity l.plan l.i (edges_at l.fn.given.items) more l.given.items l.made.items;
   count : length l.made.items ≡ l.i;
@@ -27,6 +28,7 @@ invariant-loop-i l = record {
   progress : (last : ℕ) (old lists : ℕ → List Edge) (source : Sources) → AreDistinct l.texts → Flows l.texts last old lists (parts_of l.plan l.fn.stages.items l.fn.pools.capacity l.thawed) → last < l.p →
       SourcesStandRead l.texts l.p source (longer old (edges_at l.fn.given.items)) → AreFrom last (edges_at l.fn.given.items) →
       Progress l.texts l.plan last l.p source old (edges_at l.fn.given.items) lists more l.stages.items l.i;
+  runs : (workers : ℕ) → RunAll workers l.plan.nodes l.fn.stages.items → RunAll workers l.plan.nodes l.stages.items;
   pools : l.pools.capacity ≡ l.fn.pools.capacity;
   limit : l.pools.limit ≡ l.fn.pools.limit;
 }

@@ -26,11 +26,13 @@ operator_stage-requires c =
     record {
       node = c.requires.node;
       room = c.requires.room;
+      some = c.requires.some;
+      few = c.requires.few;
       other = λ m there. subst (λ k. is_of_rows k ≡ false) (one_node plan c.args.node n at m there) (sym c.reads_rows_alone.ensures ∙ c.if-reads_rows_alone.false);
     }
 
 pub returns-else-reads_rows_alone-clause-starts : goal.returns-else-reads_rows_alone-clause-starts
-returns-else-reads_rows_alone-clause-starts c = IfOk-weaker c.operator_stage.result _ _ (λ s starts n there. starts c.args.texts.now n there) c.operator_stage.ensures
+returns-else-reads_rows_alone-clause-starts c = IfOk-weaker c.operator_stage.result _ _ (λ s starts n there. starts c.args.texts.now n there) c.operator_stage.ensures.starts
 
 pub returns-else-reads_rows_alone-clause-table : goal.returns-else-reads_rows_alone-clause-table
 returns-else-reads_rows_alone-clause-table c =
@@ -42,3 +44,6 @@ returns-else-reads_rows_alone-clause-table c =
 
 pub returns-else-reads_rows_alone-clause-err : goal.returns-else-reads_rows_alone-clause-err
 returns-else-reads_rows_alone-clause-err c = on_err c.operator_stage.result _ (λ m there. (0, refl))
+
+pub returns-then-reads_rows_alone-clause-runs : goal.returns-then-reads_rows_alone-clause-runs
+returns-then-reads_rows_alone-clause-runs c = IfOk-weaker c.rows_stage.result _ _ (λ s runs n there. runs c.args.workers n there) c.rows_stage.ensures.runs
