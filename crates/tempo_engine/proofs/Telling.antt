@@ -1,5 +1,6 @@
 -- The fault that is told is the first fault of the lines.
 use Rattle.std.specs.Prelude.{◌≡◌, ℕ, ◌<◌, true, false, List, [], ◌∷◌, ◌++◌, length, Some, None, Ok, Err, refl}
+use Rattle.std.proofs.Common.{inl, inr}
 use Rattle.tw_rows.specs.Instant.{inf}
 use Rattle.plan_model.specs.IsPlan.{PlanParts, IsPlan}
 use Rattle.plan_laws.specs.Undefined.{overflow}
@@ -16,7 +17,8 @@ use Rattle.ingress.specs.declared.ingress.Refusal.{Refusal}
 use Rattle.ingress.specs.declared.ingress.Refusal.TheVariants as refusals
 use Rattle.dataflow.specs.declared.fault.PlanFault.{PlanFault}
 use Rattle.dataflow.specs.declared.fault.PlanFault.TheVariants as stepping
-use Rattle.tempo_engine.specs.Faults.{IsFaultOf, unread, refused, undefined_at}
+use Rattle.tempo_engine.specs.Faults.{IsFaultOf, IsBadOf, unread, refused, undefined_at}
+use Rattle.tempo_engine.specs.Output.{told}
 use Rattle.tempo_engine.proofs.Feeding.{bad_fault, late_fault, unmatched_fault, overflow_fault, end_overflow}
 
 module _ (plan : PlanParts) (sound : IsPlan plan) (policy : Policy) (lines : List Told) (read : AreRead (length plan.streams) lines) (fine : fault plan policy lines false ≡ None)
@@ -43,3 +45,18 @@ pub end_told : (plan : PlanParts) (sound : IsPlan plan) (policy : Policy) (lines
     IsFaultOf (undefined_at inf f) (fault plan policy lines true)
 end_told plan sound policy lines fine above (stepping.Overflow node time) tells = end_overflow plan sound policy lines fine (record { node = node; time = time }) above (tells node time refl)
 end_told plan sound policy lines fine above stepping.Memory tells = tt
+
+-- a line that is told as bad is the line
+module _ (plan : PlanParts) (number : ℕ) (line : List ℕ) where
+  pub bad_unread : (f : RowFault) → Answers (Err f) (told plan number line).read → IsBadOf plan number line (unread number f)
+  bad_unread (reading.Bad cause) says = (refl, inr says)
+  bad_unread reading.Memory says = tt
+
+  pub bad_refused : (f : Refusal) → IsBadOf plan number line (refused number f)
+  bad_refused (refusals.Late time bound) = tt
+  bad_refused refusals.NoStart = (refl, inl refl)
+  bad_refused refusals.Memory = tt
+
+  pub bad_undefined : (p : ℕ) (f : PlanFault) → IsBadOf plan number line (undefined_at p f)
+  bad_undefined p (stepping.Overflow node time) = tt
+  bad_undefined p stepping.Memory = tt

@@ -1,5 +1,6 @@
 -- The fault that an engine tells.
-use Rattle.std.specs.Prelude.{◌≡◌, ℕ, Option, Some}
+use Rattle.std.specs.Prelude.{◌≡◌, ◌⊎◌, ℕ, Option, Some, Err, List}
+use Rattle.plan_model.specs.IsPlan.{PlanParts}
 use Rattle.row_reader.specs.declared.entry.BadLine.TheVariants as causes
 use Rattle.row_reader.specs.declared.entry.RowFault.{RowFault}
 use Rattle.row_reader.specs.declared.entry.RowFault.TheVariants as reading
@@ -8,6 +9,7 @@ use Rattle.ingress.specs.declared.ingress.Refusal.{Refusal}
 use Rattle.ingress.specs.declared.ingress.Refusal.TheVariants as refusals
 use Rattle.dataflow.specs.declared.fault.PlanFault.{PlanFault}
 use Rattle.dataflow.specs.declared.fault.PlanFault.TheVariants as stepping
+use Rattle.tempo_engine.specs.Output.{told}
 use Rattle.tempo_engine.specs.declared.fault.EngineFault.{EngineFault}
 use Rattle.tempo_engine.specs.declared.fault.EngineFault.TheVariants.{Bad, Late, Overflow, Memory}
 
@@ -18,6 +20,12 @@ IsFaultOf (Bad line cause) fault = fault ≡ Some (Malformed line cause)
 IsFaultOf (Late line time bound) fault = fault ≡ Some (TooLate line time bound)
 IsFaultOf (Overflow punctuation node time) fault = fault ≡ Some (Overflowed punctuation (record { node = node; time = time }))
 IsFaultOf Memory fault = Unit {0}
+
+-- a line that is told as bad is the line itself, whatever was before it: for a cause that can be read off it, or since it ends
+-- a start that is not open
+abbrev pub IsBadOf : PlanParts → ℕ → List ℕ → EngineFault → Type 0
+IsBadOf plan number line (Bad told_number cause) = (told_number ≡ number) × ((cause ≡ causes.NoStart) ⊎ ((told plan number line).read ≡ Err cause))
+IsBadOf plan number line f = Unit {0}
 
 -- what is told of the line of that number, where it is not read, where it is refused, and where a punctuation cannot be
 -- worked through

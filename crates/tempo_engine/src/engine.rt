@@ -4,7 +4,8 @@ ghost use Rattle.plan_model.specs.IsPlan.{PlanParts};
 ghost use Rattle.admission.specs.declared.policy.Policy.{Policy as Admitting};
 ghost use Rattle.admission.specs.Entries.{Told};
 ghost use Rattle.admission.specs.Progress.{progress, fault as fault_of};
-ghost use Rattle.tempo_engine.specs.Faults.{IsFaultOf};
+ghost use Rattle.dataflow.specs.Shards.{RunAll};
+ghost use Rattle.tempo_engine.specs.Faults.{IsFaultOf, IsBadOf};
 ghost use Rattle.tempo_engine.specs.Held.{with_first};
 ghost use Rattle.tempo_engine.specs.Output.{plan_text, told};
 
@@ -13,14 +14,18 @@ use crate::parts::{Parts, each_text_once};
 use admission::Policy;
 use dataflow::{Stage, plans_keep_at_most};
 use plan_model::Plan;
+use shard_apply::Gate;
 use std::alloc::Global;
 use std::marker::Model;
+use std::thread::Threads;
 use tw_rows::Memory;
 
-/// How an engine works: so many rows go through the plan at once, and lines are admitted by the policy.
+/// How an engine works: so many rows go through the plan at once, each node with a key is so many operators side by side, and
+/// lines are admitted by the policy.
 #[derive(Clone, Copy, Debug, PartialEq, Eq)]
 pub struct Options {
     pub batch: usize,
+    pub workers: usize,
     pub policy: Policy,
 }
 
@@ -87,10 +92,12 @@ impl Engine {
     /// An engine that took no line.
     pub fn new(alloc: Global, plan: Plan, options: Options) -> Result<Engine, Memory>
         requires batch { 1 ≤ options.batch }
+        requires workers { (1 ≤ options.workers) × (options.workers ≤ 16) }
         ensures fed { IfOk result (Fed plan options.policy []) }
         ensures batch { IfOk result (λ e. e.parts.dataflow.capacity ≡ options.batch) }
+        ensures workers { IfOk result (λ e. e.parts.dataflow.workers ≡ options.workers) }
     {
-        let parts = Parts::new(alloc, plan, options.policy, options.batch)?;
+        let parts = Parts::new(alloc, plan, options.policy, options.batch, options.workers)?;
         Ok(Engine {
             parts,
             lines: 0,
@@ -99,9 +106,10 @@ impl Engine {
         })
     }
 
-    /// What computes each node of the plan, in order of number.
+    /// What computes each node of the plan, in order of number: as many operators as there are workers where the node has a key.
     pub fn stages(&self) -> &[Stage]
-        ensures { result.now ≡ self.now.parts.dataflow.stages }
+        ensures stages { result.now ≡ self.now.parts.dataflow.stages }
+        ensures runs { RunAll self.now.parts.dataflow.workers self.now.parts.dataflow.plan.nodes result.now }
     {
         self.parts.dataflow.stages()
     }
@@ -118,7 +126,13 @@ impl Engine {
     }
 
     /// Takes the line of that number, which stands without its line feed: the bytes by which the text grows.
-    pub fn feed_line(&mut self, number: u64, line: &[u8]) -> Result<Vec<u8>, EngineFault>
+    pub fn feed_line<R: Threads + Sync, G: Gate>(
+        &mut self,
+        rt: &R,
+        gate: &G,
+        number: u64,
+        line: &[u8],
+    ) -> Result<Vec<u8>, EngineFault>
         requires short { length line.now ≤ 65536 }
         requires no_feed { All (λ b. b ≢ 10) line.now }
         ensures fed { OnOk result (WhateverTook self.old (λ plan policy lines.
@@ -134,6 +148,9 @@ impl Engine {
         ensures again { (f : EngineFault) → self.old.fault ≡ Some f → result ≡ Err f }
         ensures over { self.old.ended ≡ true → IfOk result (λ bytes. bytes.items ≡ []) }
         ensures ended { self.new.ended ≡ self.old.ended }
+        ensures bad { self.old.fault ≡ None → IfErr result (IsBadOf self.old.parts.dataflow.plan number line.now) }
+        ensures plan { self.new.parts.dataflow.plan ≡ self.old.parts.dataflow.plan }
+        ensures workers { self.new.parts.dataflow.workers ≡ self.old.parts.dataflow.workers }
     {
         if let Some(fault) = self.fault {
             return Err(fault);
@@ -141,7 +158,7 @@ impl Engine {
         if self.ended {
             return Ok(Vec::new(self.parts.alloc));
         }
-        let fed = self.parts.feed_line(number, line);
+        let fed = self.parts.feed_line(rt, gate, number, line);
         self.lines = number;
         self.fault = fault_in(&fed);
         // These calls tell the proof how much the nodes may keep.
@@ -151,7 +168,11 @@ impl Engine {
     }
 
     /// The input ends here: the bytes by which the text grows.
-    pub fn finish(&mut self) -> Result<Vec<u8>, EngineFault>
+    pub fn finish<R: Threads + Sync, G: Gate>(
+        &mut self,
+        rt: &R,
+        gate: &G,
+    ) -> Result<Vec<u8>, EngineFault>
         ensures fine { OnOk result (WhateverTook self.old (λ plan policy lines. fault_of plan policy lines true ≡ None)) }
         ensures holds { OnOk result (WhateverTook self.old (λ plan policy lines. Holds plan policy lines true self.new)) }
         ensures text { IfOk result (λ bytes. WhateverTook self.old (λ plan policy lines.
@@ -170,7 +191,7 @@ impl Engine {
             return Ok(Vec::new(self.parts.alloc));
         }
         self.ended = true;
-        let finished = self.parts.finish();
+        let finished = self.parts.finish(rt, gate);
         self.fault = fault_in(&finished);
         // These calls tell the proof how much the nodes may keep.
         each_text_once(&self.parts.texts);

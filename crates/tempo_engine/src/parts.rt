@@ -10,7 +10,7 @@ ghost use Rattle.admission.specs.declared.policy.Policy.{Policy as Admitting};
 ghost use Rattle.admission.specs.Admission.{rows};
 ghost use Rattle.admission.specs.Entries.{Told};
 ghost use Rattle.admission.specs.Progress.{Progress, judged, start, progress, fault as fault_of};
-ghost use Rattle.tempo_engine.specs.Faults.{IsFaultOf};
+ghost use Rattle.tempo_engine.specs.Faults.{IsFaultOf, IsBadOf};
 ghost use Rattle.tempo_engine.specs.Output.{result_kinds, plan_text, told};
 
 use crate::fault::EngineFault;
@@ -22,7 +22,9 @@ use ingress::{Ingress, event_times_stay};
 use plan_model::{MOST_COLUMNS, Plan, closes};
 use row_reader::read_cells;
 use row_stage::column_kinds;
+use shard_apply::Gate;
 use std::alloc::Global;
+use std::thread::Threads;
 use tw_rows::{Kind, Memory, TextTable, Time};
 
 /// The parts of an engine: lines come in at the ingress, their edges go through the dataflow of the plan, and the egress shows
@@ -85,12 +87,15 @@ impl Parts {
         plan: Plan,
         policy: Policy,
         batch: usize,
+        workers: usize,
     ) -> Result<Parts, Memory>
         requires batch { 1 ≤ batch }
+        requires workers { (1 ≤ workers) × (workers ≤ 16) }
         ensures fed { IfOk result (HasFed plan policy [] (λ s. []) (λ k. [])) }
         ensures run { IfOk result CanRun }
         ensures thawed { IfOk result (λ e. e.dataflow.thawed ≡ false) }
         ensures batch { IfOk result (λ e. e.dataflow.capacity ≡ batch) }
+        ensures workers { IfOk result (λ e. e.dataflow.workers ≡ workers) }
     {
         // its call tells the proof that no line has other times than event times
         event_times_stay();
@@ -99,7 +104,7 @@ impl Parts {
         let egress = Egress::new(alloc, &kinds)?;
         let pools = Pools::new(alloc, MOST_COLUMNS, batch)?;
         let mut texts = TextTable::new(alloc);
-        let dataflow = Dataflow::new(alloc, plan, batch, &mut texts)?;
+        let dataflow = Dataflow::new(alloc, plan, batch, workers, &mut texts)?;
         Ok(Parts {
             alloc,
             texts,
@@ -113,12 +118,19 @@ impl Parts {
 
     // Works through a punctuation: the edges before it go through the plan, and what the root changes up to its closing is
     // shown. After a fault nothing more is asked.
-    fn punctuate(&mut self, p: Time) -> Result<Vec<u8>, PlanFault>
+    fn punctuate<R: Threads + Sync, G: Gate>(
+        &mut self,
+        rt: &R,
+        gate: &G,
+        p: Time,
+    ) -> Result<Vec<u8>, PlanFault>
         requires run { CanRun self.old }
         requires later { (self.old.ingress.released < p) × (p ≤ inf) }
         requires due { IsDueOfLines p self.old }
         ensures run { OnOk result (CanRun self.new) }
         ensures thawed { self.new.dataflow.thawed ≡ self.old.dataflow.thawed }
+        ensures plan { self.new.dataflow.plan ≡ self.old.dataflow.plan }
+        ensures workers { self.new.dataflow.workers ≡ self.old.dataflow.workers }
         ensures texts { self.new.texts ≡ self.old.texts }
         ensures went { OnOk result (WhenDue p self.old (λ plan policy w given lists.
             ((s : ℕ) → s < length plan.streams → p ≤ w.after.bound s) →
@@ -136,7 +148,10 @@ impl Parts {
             Ok(given) => given,
             Err(Memory) => return Err(PlanFault::Memory),
         };
-        let edges = match self.dataflow.step(&mut self.pools, &self.texts, given, p) {
+        let edges = match self
+            .dataflow
+            .step(rt, gate, &mut self.pools, &self.texts, given, p)
+        {
             Ok(edges) => edges,
             Err(fault) => return Err(fault),
         };
@@ -164,10 +179,13 @@ impl Parts {
         requires run { CanRun self.old }
         ensures run { OnOk result (CanRun self.new) }
         ensures thawed { self.new.dataflow.thawed ≡ self.old.dataflow.thawed }
+        ensures plan { self.new.dataflow.plan ≡ self.old.dataflow.plan }
+        ensures workers { self.new.dataflow.workers ≡ self.old.dataflow.workers }
         ensures taken { OnOk result (WhateverFed self.old (λ plan policy lines given lists.
             HasTaken plan policy lines (told plan number line.now) given lists self.new)) }
         ensures fault { IfErr result (λ f. WhateverFed self.old (λ plan policy lines given lists.
             IsFaultOf f (fault_of plan policy (lines ++ told plan number line.now ∷ []) false))) }
+        ensures bad { IfErr result (IsBadOf self.old.dataflow.plan number line.now) }
     {
         // its call tells the proof that the line has no other times than event times
         event_times_stay();
@@ -183,19 +201,28 @@ impl Parts {
     }
 
     // Takes the line of that number, and works through the punctuation that it makes due.
-    pub(crate) fn feed_line(&mut self, number: u64, line: &[u8]) -> Result<Vec<u8>, EngineFault>
+    pub(crate) fn feed_line<R: Threads + Sync, G: Gate>(
+        &mut self,
+        rt: &R,
+        gate: &G,
+        number: u64,
+        line: &[u8],
+    ) -> Result<Vec<u8>, EngineFault>
         requires short { length line.now ≤ 65536 }
         requires no_feed { All (λ b. b ≢ 10) line.now }
         requires run { CanRun self.old }
         requires took { TookLines self.old }
         ensures run { OnOk result (CanRun self.new) }
         ensures thawed { self.new.dataflow.thawed ≡ self.old.dataflow.thawed }
+        ensures plan { self.new.dataflow.plan ≡ self.old.dataflow.plan }
+        ensures workers { self.new.dataflow.workers ≡ self.old.dataflow.workers }
         ensures fed { OnOk result (WhateverFed self.old (λ plan policy lines given lists. Further given lists (λ more_given more_lists.
             HasFed plan policy (lines ++ told plan number line.now ∷ []) more_given more_lists self.new))) }
         ensures text { IfOk result (λ bytes. WhateverFed self.old (λ plan policy lines given lists.
             plan_text plan policy (lines ++ told plan number line.now ∷ []) false ≡ plan_text plan policy lines false ++ bytes.items)) }
         ensures fault { IfErr result (λ f. WhateverFed self.old (λ plan policy lines given lists.
             IsFaultOf f (fault_of plan policy (lines ++ told plan number line.now ∷ []) false))) }
+        ensures bad { IfErr result (IsBadOf self.old.dataflow.plan number line.now) }
     {
         match self.take_line(number, line) {
             Ok(()) => {}
@@ -203,7 +230,7 @@ impl Parts {
         }
         match self.ingress.due() {
             None => Ok(Vec::new(self.alloc)),
-            Some(p) => match self.punctuate(p) {
+            Some(p) => match self.punctuate(rt, gate, p) {
                 Ok(bytes) => Ok(bytes),
                 Err(fault) => Err(EngineFault::of_plan(p, &fault)),
             },
@@ -211,7 +238,11 @@ impl Parts {
     }
 
     // Works through infinity.
-    pub(crate) fn finish(&mut self) -> Result<Vec<u8>, EngineFault>
+    pub(crate) fn finish<R: Threads + Sync, G: Gate>(
+        &mut self,
+        rt: &R,
+        gate: &G,
+    ) -> Result<Vec<u8>, EngineFault>
         requires run { CanRun self.old }
         requires took { TookLines self.old }
         ensures texts { self.new.texts ≡ self.old.texts }
@@ -226,7 +257,7 @@ impl Parts {
     {
         let end = infinity();
         if is_before(self.ingress.released(), end) {
-            match self.punctuate(end) {
+            match self.punctuate(rt, gate, end) {
                 Ok(bytes) => Ok(bytes),
                 Err(fault) => Err(EngineFault::of_plan(end, &fault)),
             }

@@ -17,23 +17,23 @@ use Rattle.tempo_engine.proofs.Punctuating.{taken, root_stands, shown, next_work
 use Rattle.tempo_engine.proofs.parts.Parts.punctuate.Goals as goal
 
 pub step-requires-clause-given : goal.step-requires-clause-given
-step-requires-clause-given c =
+step-requires-clause-given g c κs within =
     let e = c.args.self.now in
     given_are e.dataflow.plan e.ingress.policy e.dataflow.capacity e.ingress c.in-Ok.given.items c.requires.run.fixed c.in-Ok.ensures.lists
 
 pub step-requires-clause-placed : goal.step-requires-clause-placed
-step-requires-clause-placed c = λ thawed.
+step-requires-clause-placed g c κs within = λ thawed.
     let past = c.requires.due thawed in
     c.in-Ok.ensures.placed c.args.self.now.texts past.1.1.0.after past.1.1.1.0 past.1.1.1.1.1.went.took.follows
 
 pub step-requires-clause-capacity : goal.step-requires-clause-capacity
-step-requires-clause-capacity c = c.release.ensures.pools.capacity ∙ c.requires.run.pooled
+step-requires-clause-capacity g c κs within = c.release.ensures.pools.capacity ∙ c.requires.run.pooled
 
 pub step-requires-clause-limit : goal.step-requires-clause-limit
-step-requires-clause-limit c = subst (λ m. most_columns ≤ m) (sym c.release.ensures.pools.limit) c.requires.run.wide
+step-requires-clause-limit g c κs within = subst (λ m. most_columns ≤ m) (sym c.release.ensures.pools.limit) c.requires.run.wide
 
 pub step-requires-clause-may : goal.step-requires-clause-may
-step-requires-clause-may c =
+step-requires-clause-may g c κs within =
     let e = c.args.self.now in
     λ fine. record {
       last = e.ingress.released;
@@ -60,10 +60,10 @@ step-requires-clause-may c =
     }
 
 pub take-requires-clause-capacity : goal.take-requires-clause-capacity
-take-requires-clause-capacity c = c.step.ensures.pools ∙ c.release.ensures.pools.capacity ∙ c.requires.run.pooled ∙ sym c.in-Ok-step.ensures.list.rows
+take-requires-clause-capacity g c = c.step.ensures.pools ∙ c.release.ensures.pools.capacity ∙ c.requires.run.pooled ∙ sym c.in-Ok-step.ensures.list.rows
 
 pub returns-in-Err-step-clause-overflow : goal.returns-in-Err-step-clause-overflow
-returns-in-Err-step-clause-overflow c = λ node time is plan policy w given lists due.
+returns-in-Err-step-clause-overflow g c = λ node time is plan policy w given lists due.
     let e = c.args.self.now in
     let fresh = edges_at c.in-Ok.given.items in
     let follows = c.in-Ok.ensures.follows e.texts w.after given due.went.took.follows in
@@ -74,7 +74,7 @@ returns-in-Err-step-clause-overflow c = λ node time is plan policy w given list
     (rw due.went.planned at o)
 
 pub returns-in-Ok-render-clause-went : goal.returns-in-Ok-render-clause-went
-returns-in-Ok-render-clause-went c = λ plan policy w given lists due high.
+returns-in-Ok-render-clause-went g c = λ plan policy w given lists due high.
     let e = c.args.self.now in
     let fresh = edges_at c.in-Ok.given.items in
     let out = c.in-Ok-step.edges.edges in
@@ -99,14 +99,14 @@ returns-in-Ok-render-clause-went c = λ plan policy w given lists due high.
     (c.render.ensures.placed e.texts c.in-Ok-take.ensures.placed) c.in-Ok-render.ensures.failed (c.render.ensures.kinds ∙ c.take.ensures.kinds) typed))
 
 pub returns-in-Ok-render-clause-run : goal.returns-in-Ok-render-clause-run
-returns-in-Ok-render-clause-run c =
+returns-in-Ok-render-clause-run g c =
     let e = c.args.self.now in
     punctuated_run c.args.p e c.requires.run c.requires.later.0 c.requires.later.1 c.release.new.self c.take.new.pools c.step.new.self c.render.new.self c.closes-to.result
     c.release.ensures.fixed c.in-Ok.ensures.released (c.take.ensures.capacity ∙ c.step.ensures.pools ∙ c.release.ensures.pools.capacity) (c.take.ensures.limit ∙ c.step.ensures.limit ∙ c.release.ensures.pools.limit)
     c.step.ensures.plan c.step.ensures.capacity c.in-Ok-step.ensures.can (c.render.ensures.placed e.texts c.in-Ok-take.ensures.placed) c.in-Ok-render.ensures.failed
 
 pub returns-in-Ok-render-clause-worked : goal.returns-in-Ok-render-clause-worked
-returns-in-Ok-render-clause-worked c = λ plan policy w given lists due.
+returns-in-Ok-render-clause-worked g c = λ plan policy w given lists due.
     let e = c.args.self.now in
     let fresh = edges_at c.in-Ok.given.items in
     let follows = c.in-Ok.ensures.follows e.texts w.after given due.went.took.follows in
@@ -118,7 +118,7 @@ returns-in-Ok-render-clause-worked c = λ plan policy w given lists due.
     c.release.ensures.fixed follows c.in-Ok.ensures.released
 
 pub returns-in-Ok-render-clause-shown : goal.returns-in-Ok-render-clause-shown
-returns-in-Ok-render-clause-shown c = λ plan policy w given lists due.
+returns-in-Ok-render-clause-shown g c = λ plan policy w given lists due.
     let e = c.args.self.now in
     let fresh = edges_at c.in-Ok.given.items in
     let out = c.in-Ok-step.edges.edges in

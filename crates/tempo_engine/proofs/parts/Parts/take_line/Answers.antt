@@ -12,7 +12,7 @@ use Rattle.tempo_engine.proofs.Lines.{texts_next}
 use Rattle.ingress.proofs.LinesFit.{line_fits}
 use Rattle.ingress.proofs.Reading.{admits_longer}
 use Rattle.tempo_engine.proofs.Punctuating.{taken_went, taken_run}
-use Rattle.tempo_engine.proofs.Telling.{unread_told, refused_told}
+use Rattle.tempo_engine.proofs.Telling.{unread_told, refused_told, bad_unread, bad_refused}
 use Rattle.tempo_engine.proofs.parts.Parts.take_line.Goals as goal
 
 pub returns-in-Err-clause-fault : goal.returns-in-Err-clause-fault
@@ -65,3 +65,13 @@ returns-in-Err-admit_cells-clause-fault c = λ plan policy lines given lists fed
     rw c.of_refusal.ensures
     (refused_told plan fed.sound policy lines fed.read fed.fine (told plan c.args.number c.args.line.now) valid (entry_in texts c.in-Ok.entry) (rw same at says) c.in-Err-admit_cells.refusal
     (rw fed.went.fixed.policy at refuses))
+
+pub returns-in-Err-clause-bad : goal.returns-in-Err-clause-bad
+returns-in-Err-clause-bad c =
+    let plan = c.args.self.now.dataflow.plan in
+    let same : c.streams-streams.result.now ≡ plan.streams = c.streams-streams.ensures.streams ∙ ap (λ p. p.streams) c.plan.ensures in
+    let answers = fault_told c.read_cells.new.texts c.in-Err.fault _ c.in-Err.ensures.entry in
+    rw c.of_row.ensures (bad_unread plan c.args.number c.args.line.now c.in-Err.fault (rw same at answers))
+
+pub returns-in-Err-admit_cells-clause-bad : goal.returns-in-Err-admit_cells-clause-bad
+returns-in-Err-admit_cells-clause-bad c = rw c.of_refusal.ensures (bad_refused c.args.self.now.dataflow.plan c.args.number c.args.line.now c.in-Err-admit_cells.refusal)
