@@ -56,6 +56,10 @@ module _ (q r : Text) where
   unfolding clap_on_literals are_taken
   a_batch_of_8193_is_not_taken = refl
 
+  no_17_workers_are_taken : are_taken (codes "tempo" ∷ query ∷ codes "--workers" ∷ codes "17" ∷ []) ≡ false
+  unfolding clap_on_literals are_taken
+  no_17_workers_are_taken = refl
+
 a_query_has_to_stand : are_taken (codes "tempo" ∷ codes "--header" ∷ []) ≡ false
 unfolding clap_on_literals are_taken
 a_query_has_to_stand = refl

@@ -8,7 +8,6 @@ use Rattle.clap.specs.Values.{bool_text}
 use Rattle.clap.specs.ValueTests.{accepts}
 use Rattle.clap.specs.Walk.{Text, first_of}
 use Rattle.clap.specs.Simple.{matches_of}
-use Rattle.clap.specs.Takes.{takes}
 use Rattle.clap.specs.declared.builder.value_parser.ValueParser.TheVariants as vp
 use Rattle.clap.proofs.OnLiterals.{clap_on_literals}
 use Rattle.clap.proofs.ValueTestLemmas.{Accepts-accepts}
@@ -22,29 +21,29 @@ use Rattle.command_line.proofs.Taken.{Passes, modes, ways, tempo_shape}
 use Rattle.command_line.proofs.Faults.{takes_from}
 
 -- the words, with the modes and the numbers as texts
-abbrev words_with : Text → Text → Text → Text → Text → Text → Text → Text → Bool → List Text
-words_with query mode batch late lateness period number events header =
-    codes "tempo" ∷ (codes "--query=" ++ query) ∷ (codes "--mode=" ++ mode) ∷ (codes "--batch=" ++ batch) ∷ (codes "--late=" ++ late)
-    ∷ (codes "--lateness=" ++ lateness) ∷ (codes "--punctuate=" ++ period) ∷ (codes "--number=" ++ number) ∷ (codes "--events=" ++ events) ∷ header_words header
+abbrev words_with : Text → Text → Text → Text → Text → Text → Text → Text → Text → Bool → List Text
+words_with query mode batch workers late lateness period number events header =
+    codes "tempo" ∷ (codes "--query=" ++ query) ∷ (codes "--mode=" ++ mode) ∷ (codes "--batch=" ++ batch) ∷ (codes "--workers=" ++ workers)
+    ∷ (codes "--late=" ++ late) ∷ (codes "--lateness=" ++ lateness) ∷ (codes "--punctuate=" ++ period) ∷ (codes "--number=" ++ number) ∷ (codes "--events=" ++ events) ∷ header_words header
 
 -- what clap asks of a word with a value that has this test
 abbrev asks : Bool → Bool
 asks t = (t && true) && true
 
-all_pass : (a b c d e f g : Bool) → a ≡ true → b ≡ true → c ≡ true → d ≡ true → e ≡ true → f ≡ true → g ≡ true →
-    (asks a && (asks b && (asks c && (asks d && (asks e && (asks f && (asks g && true))))))) ≡ true
-all_pass a b c d e f g p q r s t u v = rw (p, q, r, s, t, u, v) refl
+all_pass : (a b c d e f g h : Bool) → a ≡ true → b ≡ true → c ≡ true → d ≡ true → e ≡ true → f ≡ true → g ≡ true → h ≡ true →
+    (asks a && (asks b && (asks c && (asks d && (asks e && (asks f && (asks g && (asks h && true)))))))) ≡ true
+all_pass a b c d e f g h p q r s t u v w = rw (p, q, r, s, t, u, v, w) refl
 
-module _ (query mode batch late lateness period number events : Text) where
+module _ (query mode batch workers late lateness period number events : Text) where
   abbrev given : Bool → List Text
-  given header = words_with query mode batch late lateness period number events header
+  given header = words_with query mode batch workers late lateness period number events header
 
-  passes : (header : Bool) → accepts false modes mode ≡ true → accepts false (vp.Unsigned 1 8192) batch ≡ true → accepts false ways late ≡ true →
+  passes : (header : Bool) → accepts false modes mode ≡ true → accepts false (vp.Unsigned 1 8192) batch ≡ true → accepts false (vp.Unsigned 1 16) workers ≡ true → accepts false ways late ≡ true →
       accepts false (vp.Unsigned 0 1152921504606846975) lateness ≡ true → accepts false (vp.Unsigned 0 1152921504606846975) period ≡ true →
       accepts false (vp.Unsigned 0 4294967295) number ≡ true → accepts false (vp.Unsigned 1 1000000) events ≡ true → Passes tempo_shape (drop 1 (given header))
   unfolding clap_on_literals
-  passes true a b c d e f g = record { walks = all_pass (accepts false modes mode) (accepts false (vp.Unsigned 1 8192) batch) (accepts false ways late) (accepts false (vp.Unsigned 0 1152921504606846975) lateness) (accepts false (vp.Unsigned 0 1152921504606846975) period) (accepts false (vp.Unsigned 0 4294967295) number) (accepts false (vp.Unsigned 1 1000000) events) a b c d e f g; settles = refl; query = refl }
-  passes false a b c d e f g = record { walks = all_pass (accepts false modes mode) (accepts false (vp.Unsigned 1 8192) batch) (accepts false ways late) (accepts false (vp.Unsigned 0 1152921504606846975) lateness) (accepts false (vp.Unsigned 0 1152921504606846975) period) (accepts false (vp.Unsigned 0 4294967295) number) (accepts false (vp.Unsigned 1 1000000) events) a b c d e f g; settles = refl; query = refl }
+  passes true a b c d e f g h = record { walks = all_pass (accepts false modes mode) (accepts false (vp.Unsigned 1 8192) batch) (accepts false (vp.Unsigned 1 16) workers) (accepts false ways late) (accepts false (vp.Unsigned 0 1152921504606846975) lateness) (accepts false (vp.Unsigned 0 1152921504606846975) period) (accepts false (vp.Unsigned 0 4294967295) number) (accepts false (vp.Unsigned 1 1000000) events) a b c d e f g h; settles = refl; query = refl }
+  passes false a b c d e f g h = record { walks = all_pass (accepts false modes mode) (accepts false (vp.Unsigned 1 8192) batch) (accepts false (vp.Unsigned 1 16) workers) (accepts false ways late) (accepts false (vp.Unsigned 0 1152921504606846975) lateness) (accepts false (vp.Unsigned 0 1152921504606846975) period) (accepts false (vp.Unsigned 0 4294967295) number) (accepts false (vp.Unsigned 1 1000000) events) a b c d e f g h; settles = refl; query = refl }
 
   query_is : (header : Bool) → first_of (codes "query") (matches_of tempo_app (given header)) ≡ Some query
   unfolding clap_on_literals
@@ -60,6 +59,11 @@ module _ (query mode batch late lateness period number events : Text) where
   unfolding clap_on_literals
   batch_is true = refl
   batch_is false = refl
+
+  workers_is : (header : Bool) → first_of (codes "workers") (matches_of tempo_app (given header)) ≡ Some workers
+  unfolding clap_on_literals
+  workers_is true = refl
+  workers_is false = refl
 
   late_is : (header : Bool) → first_of (codes "late") (matches_of tempo_app (given header)) ≡ Some late
   unfolding clap_on_literals
@@ -123,28 +127,31 @@ pub printed : (a : Asked) → AreWithin a → SpellsCommand (words_for a) a
 unfolding are_taken value_of
 printed a w =
     let batch : a.batch < 2 ^ 64 = omega (arith, w.most) in
+    let workers : a.workers < 2 ^ 64 = omega (arith, w.workers) in
     let lateness : a.policy.lateness < 2 ^ 64 = omega (arith, w.lateness) in
     let period : a.policy.period < 2 ^ 64 = omega (arith, w.period) in
     let number : a.number < 2 ^ 64 = omega (arith, w.number) in
     let events : a.events < 2 ^ 64 = omega (arith, w.events) in
     let m = mode_text a.mode in
     let b = decimal a.batch in
+    let threads = decimal a.workers in
     let l = late_text a.policy.late in
     let older = decimal a.policy.lateness in
     let every = decimal a.policy.period in
     let n = decimal a.number in
     let many = decimal a.events in
     record {
-      taken = takes_from modes ways (words_for a) refl (passes a.query m b l older every n many a.header (mode_passes a.mode) (in_range 1 8192 a.batch w.least w.most batch)
-          (late_passes a.policy.late) (in_range 0 1152921504606846975 a.policy.lateness (omega arith) w.lateness lateness) (in_range 0 1152921504606846975 a.policy.period (omega arith) w.period period)
+      taken = takes_from modes ways (words_for a) refl (passes a.query m b threads l older every n many a.header (mode_passes a.mode) (in_range 1 8192 a.batch w.least w.most batch)
+          (in_range 1 16 a.workers w.some_workers w.workers workers) (late_passes a.policy.late) (in_range 0 1152921504606846975 a.policy.lateness (omega arith) w.lateness lateness) (in_range 0 1152921504606846975 a.policy.period (omega arith) w.period period)
           (in_range 0 4294967295 a.number (omega arith) w.number number) (in_range 1 1000000 a.events w.some_events w.events events));
-      query = query_is a.query m b l older every n many a.header;
-      mode = mode_is a.query m b l older every n many a.header;
-      batch = ap (option_map number_said) (batch_is a.query m b l older every n many a.header) ∙ ap (λ (n : ℕ). Some n) (decimal_said a.batch batch).1;
-      header = header_is a.query m b l older every n many a.header;
-      late = late_is a.query m b l older every n many a.header;
-      lateness = ap (option_map number_said) (lateness_is a.query m b l older every n many a.header) ∙ ap (λ (n : ℕ). Some n) (decimal_said a.policy.lateness lateness).1;
-      punctuate = ap (option_map number_said) (punctuate_is a.query m b l older every n many a.header) ∙ ap (λ (n : ℕ). Some n) (decimal_said a.policy.period period).1;
-      number = ap (option_map number_said) (number_is a.query m b l older every n many a.header) ∙ ap (λ (n : ℕ). Some n) (decimal_said a.number number).1;
-      events = ap (option_map number_said) (events_is a.query m b l older every n many a.header) ∙ ap (λ (n : ℕ). Some n) (decimal_said a.events events).1;
+      query = query_is a.query m b threads l older every n many a.header;
+      mode = mode_is a.query m b threads l older every n many a.header;
+      batch = ap (option_map number_said) (batch_is a.query m b threads l older every n many a.header) ∙ ap (λ (n : ℕ). Some n) (decimal_said a.batch batch).1;
+      workers = ap (option_map number_said) (workers_is a.query m b threads l older every n many a.header) ∙ ap (λ (n : ℕ). Some n) (decimal_said a.workers workers).1;
+      header = header_is a.query m b threads l older every n many a.header;
+      late = late_is a.query m b threads l older every n many a.header;
+      lateness = ap (option_map number_said) (lateness_is a.query m b threads l older every n many a.header) ∙ ap (λ (n : ℕ). Some n) (decimal_said a.policy.lateness lateness).1;
+      punctuate = ap (option_map number_said) (punctuate_is a.query m b threads l older every n many a.header) ∙ ap (λ (n : ℕ). Some n) (decimal_said a.policy.period period).1;
+      number = ap (option_map number_said) (number_is a.query m b threads l older every n many a.header) ∙ ap (λ (n : ℕ). Some n) (decimal_said a.number number).1;
+      events = ap (option_map number_said) (events_is a.query m b threads l older every n many a.header) ∙ ap (λ (n : ℕ). Some n) (decimal_said a.events events).1;
     }

@@ -6,12 +6,12 @@ use Rattle.admission.specs.declared.policy.Lateness.{Lateness}
 use Rattle.command_line.specs.Words.{Asked}
 use Rattle.command_line.specs.declared.words.Mode.{Mode}
 
-abbrev pub asked_with : Text → Mode → ℕ → Bool → Policy → ℕ → ℕ → Asked
-asked_with query mode batch header policy number events = record { query = query; mode = mode; batch = batch; header = header; policy = policy; number = number; events = events }
+abbrev pub asked_with : Text → Mode → ℕ → ℕ → Bool → Policy → ℕ → ℕ → Asked
+asked_with query mode batch workers header policy number events = record { query = query; mode = mode; batch = batch; workers = workers; header = header; policy = policy; number = number; events = events }
 
-pub asked_is : (q r : Text) (m o : Mode) (b d : ℕ) (h i : Bool) (p s : Policy) (n k : ℕ) (e f : ℕ) → q ≡ r → m ≡ o → b ≡ d → h ≡ i → p ≡ s → n ≡ k → e ≡ f →
-    asked_with q m b h p n e ≡ asked_with r o d i s k f
-asked_is q r m o b d h i p s n k e f query mode batch header policy number events = rw (query, mode, batch, header, policy, number, events) refl
+pub asked_is : (q r : Text) (m o : Mode) (b d : ℕ) (w v : ℕ) (h i : Bool) (p s : Policy) (n k : ℕ) (e f : ℕ) → q ≡ r → m ≡ o → b ≡ d → w ≡ v → h ≡ i → p ≡ s → n ≡ k → e ≡ f →
+    asked_with q m b w h p n e ≡ asked_with r o d v i s k f
+asked_is q r m o b d w v h i p s n k e f query mode batch workers header policy number events = rw (query, mode, batch, workers, header, policy, number, events) refl
 
 abbrev pub policy_with : ℕ → Lateness → ℕ → Policy
 policy_with lateness late period = record { lateness = lateness; late = late; period = period }

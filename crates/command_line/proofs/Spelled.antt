@@ -1,5 +1,5 @@
 -- Words that are taken spell a command, and clap's getters give it.
-use Rattle.std.proofs.Common.{◌≡◌, ◌∙◌, ◌≤◌, ◌||◌, ℕ, Bool, true, false, refl, sym, ap, true≢false, List, codes, Some, option_map}
+use Rattle.std.proofs.Common.{◌≡◌, ◌∙◌, ◌||◌, ℕ, Bool, true, false, refl, sym, ap, true≢false, List, codes, Some, option_map}
 use Rattle.std.specs.Str.{bytes_eq}
 use Rattle.std.proofs.lemmas.Slice.Eq.{bytes_eq-Decides}
 use Rattle.clap.specs.Values.{IsUnsignedIn, bool_text}
@@ -65,6 +65,7 @@ spelled words taken =
     let mode = mode_said values.mode.text values.mode.passes in
     let header = header_said values.header.text values.header.passes in
     let batch = number_is_said 1 8192 values.batch.text values.batch.passes in
+    let workers = number_is_said 1 16 values.workers.text values.workers.passes in
     let late = late_said values.late.text values.late.passes in
     let lateness = number_is_said 0 1152921504606846975 values.lateness.text values.lateness.passes in
     let punctuate = number_is_said 0 1152921504606846975 values.punctuate.text values.punctuate.passes in
@@ -75,6 +76,7 @@ spelled words taken =
         query = values.query.text;
         mode = mode.0;
         batch = number_said values.batch.text;
+        workers = number_said values.workers.text;
         header = header.0;
         policy = record { lateness = number_said values.lateness.text; late = late.0; period = number_said values.punctuate.text };
         number = number_said values.number.text;
@@ -85,6 +87,7 @@ spelled words taken =
         query = values.query.first;
         mode = values.mode.first ∙ ap (λ (t : Text). Some t) mode.1;
         batch = ap (option_map number_said) values.batch.first;
+        workers = ap (option_map number_said) values.workers.first;
         header = values.header.first ∙ ap (λ (t : Text). Some t) header.1;
         late = values.late.first ∙ ap (λ (t : Text). Some t) late.1;
         lateness = ap (option_map number_said) values.lateness.first;
@@ -92,11 +95,12 @@ spelled words taken =
         number = ap (option_map number_said) values.number.first;
         events = ap (option_map number_said) values.events.first;
       };
-      within = record { least = batch.2; most = batch.3; lateness = lateness.3; period = punctuate.3; number = number.3; some_events = events.2; events = events.3 };
+      within = record { least = batch.2; most = batch.3; some_workers = workers.2; workers = workers.3; lateness = lateness.3; period = punctuate.3; number = number.3; some_events = events.2; events = events.3 };
       shows = λ f same. record {
         query = first_value-rows f (codes "query") ∙ ap (first_of (codes "query")) same ∙ values.query.first;
         mode = first_value-rows f (codes "mode") ∙ ap (first_of (codes "mode")) same ∙ values.mode.first ∙ ap (λ (t : Text). Some t) mode.1;
         batch = record { text = values.batch.text; one = one_text-rows f (codes "batch") ∙ ap (one_of (codes "batch")) same ∙ values.batch.one; in_range = batch; number_is = refl };
+        workers = record { text = values.workers.text; one = one_text-rows f (codes "workers") ∙ ap (one_of (codes "workers")) same ∙ values.workers.one; in_range = workers; number_is = refl };
         header = one_text-rows f (codes "header") ∙ ap (one_of (codes "header")) same ∙ values.header.one ∙ ap (λ (t : Text). Some t) header.1;
         late = first_value-rows f (codes "late") ∙ ap (first_of (codes "late")) same ∙ values.late.first ∙ ap (λ (t : Text). Some t) late.1;
         lateness = record { text = values.lateness.text; one = one_text-rows f (codes "lateness") ∙ ap (one_of (codes "lateness")) same ∙ values.lateness.one; in_range = lateness; number_is = refl };

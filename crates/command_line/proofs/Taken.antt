@@ -1,14 +1,13 @@
 -- Words that are taken give each option a value that passes.
-use Rattle.std.proofs.Common.{◌≡◌, ◌∙◌, true, false, inl, inr, refl, sym, ap, subst, true≢false, List, [], ◌∷◌, codes, length, map, nat_le, ◌++◌}
+use Rattle.std.proofs.Common.{◌≡◌, true, false, inl, inr, refl, sym, subst, true≢false, List, [], ◌∷◌, codes, length, map, nat_le, ◌++◌}
 use Rattle.std.specs.List.{fold}
-use Rattle.std.specs.Str.{bytes_eq}
 use Rattle.clap.specs.Walk.{Row, Rule, Text, finished, has_row, nothing_held, reading_by, settled_rows, used, walk, walk_from, with_default}
 use Rattle.clap.specs.Simple.{Shape, built, filled, help_rule, with_index}
 use Rattle.clap.specs.Takes.{is_given, settle_passes, use_passes, walk_passes}
 use Rattle.clap.specs.declared.builder.value_parser.ValueParser.{ValueParser}
 use Rattle.clap.specs.declared.builder.value_parser.Reading.TheVariants as reading
 use Rattle.clap.proofs.WalkLemmas.{both}
-use Rattle.command_line.specs.Options.{among, batch_rule, events_rule, header_rule, late_names, late_rule, lateness_rule, mode_names, mode_rule, number_rule, option_rules, punctuate_rule, query_rule, tempo_app_with}
+use Rattle.command_line.specs.Options.{among, batch_rule, events_rule, header_rule, late_names, late_rule, lateness_rule, mode_names, mode_rule, number_rule, option_rules, punctuate_rule, query_rule, tempo_app_with, workers_rule}
 use Rattle.command_line.proofs.Distinct.{Each, are_distinct, defaults_keep, each_in, one_of_id, row_by_default}
 use Rattle.command_line.proofs.Kept.{IsIn, settling_keeps, walk_keeps}
 use Rattle.command_line.proofs.Rows.{AllFit, Reads, default_fits, flag_use, given_has, no_default, reads_of, row_found, set_use}
@@ -32,6 +31,9 @@ mode_built = built_rule (mode_rule modes)
 
 abbrev pub batch_built : Rule
 batch_built = built_rule batch_rule
+
+abbrev pub workers_built : Rule
+workers_built = built_rule workers_rule
 
 abbrev pub header_built : Rule
 header_built = built_rule header_rule
@@ -76,23 +78,26 @@ of_mode = inr (inl refl)
 of_batch : IsIn batch_built tempo_rules
 of_batch = inr (inr (inl refl))
 
+of_workers : IsIn workers_built tempo_rules
+of_workers = inr (inr (inr (inl refl)))
+
 of_header : IsIn header_built tempo_rules
-of_header = inr (inr (inr (inl refl)))
+of_header = inr (inr (inr (inr (inl refl))))
 
 of_late : IsIn late_built tempo_rules
-of_late = inr (inr (inr (inr (inl refl))))
+of_late = inr (inr (inr (inr (inr (inl refl)))))
 
 of_lateness : IsIn lateness_built tempo_rules
-of_lateness = inr (inr (inr (inr (inr (inl refl)))))
+of_lateness = inr (inr (inr (inr (inr (inr (inl refl))))))
 
 of_punctuate : IsIn punctuate_built tempo_rules
-of_punctuate = inr (inr (inr (inr (inr (inr (inl refl))))))
+of_punctuate = inr (inr (inr (inr (inr (inr (inr (inl refl)))))))
 
 of_number : IsIn number_built tempo_rules
-of_number = inr (inr (inr (inr (inr (inr (inr (inl refl)))))))
+of_number = inr (inr (inr (inr (inr (inr (inr (inr (inl refl))))))))
 
 of_events : IsIn events_built tempo_rules
-of_events = inr (inr (inr (inr (inr (inr (inr (inr (inl refl))))))))
+of_events = inr (inr (inr (inr (inr (inr (inr (inr (inr (inl refl)))))))))
 
 -- ---- one use, and one default: a line for each option
 
@@ -114,20 +119,23 @@ uses = (
     (
       set_use tempo_rules batch_built of_batch,
       (
-        flag_use tempo_rules header_built of_header (codes "true") refl refl,
+        set_use tempo_rules workers_built of_workers,
         (
-          set_use tempo_rules late_built of_late,
+          flag_use tempo_rules header_built of_header (codes "true") refl refl,
           (
-            set_use tempo_rules lateness_built of_lateness,
+            set_use tempo_rules late_built of_late,
             (
-              set_use tempo_rules punctuate_built of_punctuate,
+              set_use tempo_rules lateness_built of_lateness,
               (
-                set_use tempo_rules number_built of_number,
+                set_use tempo_rules punctuate_built of_punctuate,
                 (
-                  set_use tempo_rules events_built of_events,
+                  set_use tempo_rules number_built of_number,
                   (
-                    (λ vs rows p k. absurd (by_help vs rows p)),
-                    tt,
+                    set_use tempo_rules events_built of_events,
+                    (
+                      (λ vs rows p k. absurd (by_help vs rows p)),
+                      tt,
+                    ),
                   ),
                 ),
               ),
@@ -158,20 +166,23 @@ keeps = (
     (
       default_fits tempo_rules batch_built of_batch (codes "1024") refl refl,
       (
-        default_fits tempo_rules header_built of_header (codes "false") refl refl,
+        default_fits tempo_rules workers_built of_workers (codes "1") refl refl,
         (
-          default_fits tempo_rules late_built of_late (codes "refuse") refl refl,
+          default_fits tempo_rules header_built of_header (codes "false") refl refl,
           (
-            default_fits tempo_rules lateness_built of_lateness (codes "0") refl refl,
+            default_fits tempo_rules late_built of_late (codes "refuse") refl refl,
             (
-              default_fits tempo_rules punctuate_built of_punctuate (codes "0") refl refl,
+              default_fits tempo_rules lateness_built of_lateness (codes "0") refl refl,
               (
-                default_fits tempo_rules number_built of_number (codes "0") refl refl,
+                default_fits tempo_rules punctuate_built of_punctuate (codes "0") refl refl,
                 (
-                  default_fits tempo_rules events_built of_events (codes "1000") refl refl,
+                  default_fits tempo_rules number_built of_number (codes "0") refl refl,
                   (
-                    keeps_none help_built refl,
-                    tt,
+                    default_fits tempo_rules events_built of_events (codes "1000") refl refl,
+                    (
+                      keeps_none help_built refl,
+                      tt,
+                    ),
                   ),
                 ),
               ),
@@ -214,6 +225,7 @@ pub record Values (rows : List Row) : Type 0 where
   pub query : Reads query_built (codes "query") rows
   pub mode : Reads mode_built (codes "mode") rows
   pub batch : Reads batch_built (codes "batch") rows
+  pub workers : Reads workers_built (codes "workers") rows
   pub header : Reads header_built (codes "header") rows
   pub late : Reads late_built (codes "late") rows
   pub lateness : Reads lateness_built (codes "lateness") rows
@@ -234,6 +246,7 @@ values_of_words words p =
       query = value_of_rule query_built of_query refl rows k (given_has (codes "query") rows p.query);
       mode = value_of_rule mode_built of_mode refl rows k (row_by_default mode_built (codes "run") refl refl tempo_rules of_mode before);
       batch = value_of_rule batch_built of_batch refl rows k (row_by_default batch_built (codes "1024") refl refl tempo_rules of_batch before);
+      workers = value_of_rule workers_built of_workers refl rows k (row_by_default workers_built (codes "1") refl refl tempo_rules of_workers before);
       header = value_of_rule header_built of_header refl rows k (row_by_default header_built (codes "false") refl refl tempo_rules of_header before);
       late = value_of_rule late_built of_late refl rows k (row_by_default late_built (codes "refuse") refl refl tempo_rules of_late before);
       lateness = value_of_rule lateness_built of_lateness refl rows k (row_by_default lateness_built (codes "0") refl refl tempo_rules of_lateness before);

@@ -38,6 +38,10 @@ mode_rule modes = record (option_rule (codes "mode")) { parser = Some modes; def
 abbrev pub batch_rule : Rule
 batch_rule = record (option_rule (codes "batch")) { parser = Some (vp.Unsigned 1 8192); defaults = codes "1024" ∷ [] }
 
+-- --workers: a whole number from 1 to 16; 1 where it does not stand: --workers 4
+abbrev pub workers_rule : Rule
+workers_rule = record (option_rule (codes "workers")) { parser = Some (vp.Unsigned 1 16); defaults = codes "1" ∷ [] }
+
 -- --header: it stands, or it does not
 abbrev pub header_rule : Rule
 header_rule = record (new_rule (codes "header")) { long = Some (codes "header"); action = Some SetTrue }
@@ -68,7 +72,7 @@ events_rule = record (option_rule (codes "events")) { parser = Some (vp.Unsigned
 
 -- the options, where the values of --mode and of --late are given by parsers
 abbrev pub option_rules : ValueParser → ValueParser → List Rule
-option_rules modes ways = query_rule ∷ mode_rule modes ∷ batch_rule ∷ header_rule ∷ late_rule ways ∷ lateness_rule ∷ punctuate_rule ∷ number_rule ∷ events_rule ∷ []
+option_rules modes ways = query_rule ∷ mode_rule modes ∷ batch_rule ∷ workers_rule ∷ header_rule ∷ late_rule ways ∷ lateness_rule ∷ punctuate_rule ∷ number_rule ∷ events_rule ∷ []
 
 -- the command tempo with its options; clap adds --help itself
 abbrev pub tempo_app_with : ValueParser → ValueParser → App

@@ -17,12 +17,13 @@ use Rattle.command_line.specs.declared.words.CommandLine.{CommandLine}
 use Rattle.command_line.specs.declared.words.WordsFault.{WordsFault}
 use Rattle.command_line.specs.declared.words.WordsFault.TheVariants.{Refused, Memory}
 
--- what is asked for: --query s asks for the query s in the mode Run, with batches of 1024 and no header; in the mode Sample it
+-- what is asked for: --query s asks for the query s in the mode Run, with batches of 1024, 1 worker and no header; in the mode Sample it
 -- would be for 1000 events from the number 0
 pub record Asked : Type 0 where
   pub query : Text
   pub mode : Mode
   pub batch : ℕ
+  pub workers : ℕ
   pub header : Bool
   pub policy : Policy
   pub number : ℕ
@@ -30,7 +31,7 @@ pub record Asked : Type 0 where
 
 -- what a command line asks for, with the query as text
 abbrev pub asked_by : CommandLine → Asked
-asked_by c = record { query = c.query.now; mode = c.mode; batch = c.batch; header = c.header; policy = c.policy; number = c.number; events = c.events }
+asked_by c = record { query = c.query.now; mode = c.mode; batch = c.batch; workers = c.workers; header = c.header; policy = c.policy; number = c.number; events = c.events }
 
 -- the word for a mode: explain for Explain
 abbrev pub mode_text : Mode → Text
@@ -62,6 +63,7 @@ pub record SpellsCommand (words : List Text) (a : Asked) : Type 0 where
   pub query : value_of words (codes "query") ≡ Some a.query
   pub mode : value_of words (codes "mode") ≡ Some (mode_text a.mode)
   pub batch : option_map number_said (value_of words (codes "batch")) ≡ Some a.batch
+  pub workers : option_map number_said (value_of words (codes "workers")) ≡ Some a.workers
   pub header : value_of words (codes "header") ≡ Some (bool_text a.header)
   pub late : value_of words (codes "late") ≡ Some (late_text a.policy.late)
   pub lateness : option_map number_said (value_of words (codes "lateness")) ≡ Some a.policy.lateness
@@ -74,18 +76,20 @@ abbrev pub header_words : Bool → List Text
 header_words true = codes "--header" ∷ []
 header_words false = []
 
--- words that print what is asked for: tempo --query=s --mode=run --batch=1024 --late=refuse --lateness=0 --punctuate=0
--- --number=0 --events=1000
+-- words that print what is asked for: tempo --query=s --mode=run --batch=1024 --workers=1 --late=refuse --lateness=0
+-- --punctuate=0 --number=0 --events=1000
 abbrev pub words_for : Asked → List Text
 words_for a =
-    codes "tempo" ∷ (codes "--query=" ++ a.query) ∷ (codes "--mode=" ++ mode_text a.mode) ∷ (codes "--batch=" ++ decimal a.batch) ∷ (codes "--late=" ++ late_text a.policy.late)
-    ∷ (codes "--lateness=" ++ decimal a.policy.lateness) ∷ (codes "--punctuate=" ++ decimal a.policy.period)
+    codes "tempo" ∷ (codes "--query=" ++ a.query) ∷ (codes "--mode=" ++ mode_text a.mode) ∷ (codes "--batch=" ++ decimal a.batch) ∷ (codes "--workers=" ++ decimal a.workers)
+    ∷ (codes "--late=" ++ late_text a.policy.late) ∷ (codes "--lateness=" ++ decimal a.policy.lateness) ∷ (codes "--punctuate=" ++ decimal a.policy.period)
     ∷ (codes "--number=" ++ decimal a.number) ∷ (codes "--events=" ++ decimal a.events) ∷ header_words a.header
 
 -- the numbers of what is asked for are those that the options take
 pub record AreWithin (a : Asked) : Type 0 where
   pub least : 1 ≤ a.batch
   pub most : a.batch ≤ 8192
+  pub some_workers : 1 ≤ a.workers
+  pub workers : a.workers ≤ 16
   pub lateness : a.policy.lateness ≤ 1152921504606846975
   pub period : a.policy.period ≤ 1152921504606846975
   pub number : a.number ≤ 4294967295
@@ -109,6 +113,7 @@ pub record ShowsCommand (f : Found) (a : Asked) : Type 0 where
   pub query : first_value f (codes "query") ≡ Some a.query
   pub mode : first_value f (codes "mode") ≡ Some (mode_text a.mode)
   pub batch : ShowsNumber f (codes "batch") 1 8192 a.batch
+  pub workers : ShowsNumber f (codes "workers") 1 16 a.workers
   pub header : one_text f (codes "header") ≡ Some (bool_text a.header)
   pub late : first_value f (codes "late") ≡ Some (late_text a.policy.late)
   pub lateness : ShowsNumber f (codes "lateness") 0 1152921504606846975 a.policy.lateness

@@ -5,7 +5,7 @@ ghost use Rattle.clap.specs.Words.{Text, app_of, new_app, rule_of};
 ghost use Rattle.clap.specs.declared.builder.value_parser.ValueParser.TheVariants.{Names};
 ghost use Rattle.command_line.specs.Options.{batch_rule, events_rule, header_rule, late_names};
 ghost use Rattle.command_line.specs.Options.{late_rule, lateness_rule, mode_names, mode_rule};
-ghost use Rattle.command_line.specs.Options.{number_rule, punctuate_rule, query_rule};
+ghost use Rattle.command_line.specs.Options.{number_rule, punctuate_rule, query_rule, workers_rule};
 ghost use Rattle.command_line.specs.Options.{tempo_app_with};
 
 use clap::builder::ValueParser;
@@ -53,6 +53,18 @@ fn batch_option<'a>(alloc: Global) -> Arg<'a>
         .value_parser(ValueParser::unsigned(1, 8192))
         .default_value("1024")
         .help("How many rows a batch has at most, from 1 to 8192")
+}
+
+fn workers_option<'a>(alloc: Global) -> Arg<'a>
+    ensures rule { rule_of result ≡ workers_rule }
+    ensures local { result.global ≡ false }
+{
+    Arg::new(alloc, "workers")
+        .long("workers")
+        .action(ArgAction::Set)
+        .value_parser(ValueParser::unsigned(1, 16))
+        .default_value("1")
+        .help("How many threads work on a step with a key, from 1 to 16")
 }
 
 fn header_option<'a>(alloc: Global) -> Arg<'a>
@@ -142,6 +154,7 @@ pub(crate) fn tempo_command<'a>(alloc: Global) -> Result<Command<'a>, AllocError
         .arg(query_option(alloc))?
         .arg(mode_option(alloc))?
         .arg(batch_option(alloc))?
+        .arg(workers_option(alloc))?
         .arg(header_option(alloc))?
         .arg(late_option(alloc))?
         .arg(lateness_option(alloc))?

@@ -32,6 +32,8 @@ pub struct CommandLine<'a> {
     pub mode: Mode,
     /// How many rows a batch has at most.
     pub batch: usize,
+    /// How many threads work on a step with a key.
+    pub workers: usize,
     /// Whether the first line of the input is a header.
     pub header: bool,
     /// How late lines and punctuations are taken.
@@ -74,10 +76,10 @@ fn mode_of(matches: &ArgMatches<'_>) -> Mode
     }
 }
 
-fn batch_of(matches: &ArgMatches<'_>) -> usize
-    ensures { (n : ℕ) → ShowsNumber (found_of matches.now) (codes "batch") 1 8192 n → result ≡ n }
+fn size_of(matches: &ArgMatches<'_>, name: &str) -> usize
+    ensures { (least most n : ℕ) → ShowsNumber (found_of matches.now) name.now least most n → result ≡ n }
 {
-    matches.get_one::<usize>("batch").unwrap_or(0)
+    matches.get_one::<usize>(name).unwrap_or(0)
 }
 
 fn late_of(matches: &ArgMatches<'_>) -> Lateness
@@ -113,7 +115,8 @@ fn command_of<'a>(matches: &ArgMatches<'a>) -> CommandLine<'a>
     CommandLine {
         query: query_of(matches),
         mode: mode_of(matches),
-        batch: batch_of(matches),
+        batch: size_of(matches, "batch"),
+        workers: size_of(matches, "workers"),
         header: header_of(matches),
         policy: policy_of(matches),
         number: number_of(matches, "number"),
