@@ -3,6 +3,7 @@
 
 ghost use Rattle.std.specs.Prelude.{◌≡◌, IfOk, map};
 
+use shard_apply::OpenGate;
 use std::alloc::{AllocError, Global};
 use std::env;
 use std::io::ErrorKind;
@@ -42,6 +43,6 @@ fn main(rt: HostRuntime) -> ExitCode {
         note(&mut notes, &Status::Memory);
         return ExitCode::from(Status::Memory.number());
     };
-    let status = run(alloc, &texts, &mut wire, &mut notes);
+    let status = run(&rt, alloc, &texts, &mut wire, &mut notes, &OpenGate);
     ExitCode::from(status.number())
 }

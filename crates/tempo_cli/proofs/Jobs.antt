@@ -130,10 +130,11 @@ late_once ways.Adjust ways.Adjust e = refl
 
 -- words spell one command
 pub one_command : (words : List (List ℕ)) (a b : Asked) → SpellsCommand words a → SpellsCommand words b → a ≡ b
-one_command words a b p q = asked_is a.query b.query a.mode b.mode a.batch b.batch a.header b.header a.policy b.policy a.number b.number a.events b.events
+one_command words a b p q = asked_is a.query b.query a.mode b.mode a.batch b.batch a.workers b.workers a.header b.header a.policy b.policy a.number b.number a.events b.events
     (some_once _ a.query b.query p.query q.query)
     (mode_once a.mode b.mode (some_once _ (mode_text a.mode) (mode_text b.mode) p.mode q.mode))
     (some_once _ a.batch b.batch p.batch q.batch)
+    (some_once _ a.workers b.workers p.workers q.workers)
     (flag_once a.header b.header (some_once _ (bool_text a.header) (bool_text b.header) p.header q.header))
     (policy_is a.policy.lateness b.policy.lateness a.policy.late b.policy.late a.policy.period b.policy.period (some_once _ a.policy.lateness b.policy.lateness p.lateness q.lateness)
     (late_once a.policy.late b.policy.late (some_once _ (late_text a.policy.late) (late_text b.policy.late) p.late q.late))

@@ -5,7 +5,7 @@ use Rattle.sample_trades.specs.Summary.{summary_of, summary_text}
 use Rattle.admission.specs.Progress.{Malformed as WasBad, TooLate, Overflowed}
 use Rattle.tempo_cli.specs.Answers.{Answers}
 use Rattle.tempo_cli.specs.declared.status.Status.{Status}
-use Rattle.tempo_cli.specs.declared.status.Status.TheVariants.{Done, BadWords, BadQuery, Malformed, Late, Overflow, InputTooLong, ReadFault, WriteFault, Memory}
+use Rattle.tempo_cli.specs.declared.status.Status.TheVariants.{Done, Malformed, Late, Overflow, WriteFault, Memory}
 
 -- the summary of the text of all lines: `starts 2`, `ends 1` and `puncts 1`, a line each
 abbrev pub summary_for : Answers → List (List ℕ) → List ℕ

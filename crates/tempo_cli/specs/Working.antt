@@ -1,5 +1,5 @@
 -- What private contracts say of a run in the midst of its lines.
-use Rattle.std.specs.Prelude.{◌≡◌, ◌+◌, ◌≤◌, ℕ, Bool, false, true, Option, List, [], ◌∷◌, ◌++◌, length, Result, Ok, Err}
+use Rattle.std.specs.Prelude.{◌≡◌, ◌+◌, ◌≤◌, ℕ, Bool, false, true, Option, List, [], ◌++◌, length, Result, Ok, Err}
 use Rattle.std.specs.List.{All}
 use Rattle.wire_lines.specs.Journal.{Entry, Grows, ins, outs, ended, IsOut}
 use Rattle.tempo_cli.specs.Feeding.{Asked, answers_to, Holds}

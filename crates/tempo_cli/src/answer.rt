@@ -10,7 +10,9 @@ ghost use Rattle.tempo_cli.specs.Working.{WorksThrough, StopsWith, EndsAll, Runs
 use crate::answering::{Answering, LIMIT, Step};
 use crate::status::Status;
 use plan_model::Plan;
+use shard_apply::Gate;
 use std::alloc::Global;
+use std::thread::Threads;
 use tempo_engine::Options;
 use wire_lines::{Wire, send};
 
@@ -25,7 +27,12 @@ fn asked(left: u64) -> usize
 }
 
 // Works through all whole lines that came in, and writes what is due for each before the next.
-fn work<W: Wire>(answering: &mut Answering, wire: &mut W) -> Result<(), Status>
+fn work<R: Threads + Sync, W: Wire, G: Gate>(
+    rt: &R,
+    answering: &mut Answering,
+    wire: &mut W,
+    gate: &G,
+) -> Result<(), Status>
     requires longest { answering.old.cutter.longest ≡ 65536 }
     ensures ok { OnOk result (WorksThrough (W.journal wire.old) (W.journal wire.new) answering.old answering.new) }
     ensures wants { OnOk result (WantsBytes answering.new.cutter) }
@@ -35,7 +42,7 @@ fn work<W: Wire>(answering: &mut Answering, wire: &mut W) -> Result<(), Status>
     ensures counts { IfErr result (Counts (W.read_faults wire.old) (W.read_faults wire.new) (W.write_faults wire.old) (W.write_faults wire.new)) }
 {
     loop {
-        match answering.next_step() {
+        match answering.next_step(rt, gate) {
             Step::More => return Ok(()),
             Step::Stop(status) => return Err(status),
             Step::Out(out) => send(wire, &out)?,
@@ -44,22 +51,32 @@ fn work<W: Wire>(answering: &mut Answering, wire: &mut W) -> Result<(), Status>
 }
 
 // Writes what is due for the last line and at the end of the input.
-fn end<W: Wire>(answering: &mut Answering, wire: &mut W) -> Result<(), Status>
+fn end<R: Threads + Sync, W: Wire, G: Gate>(
+    rt: &R,
+    answering: &mut Answering,
+    wire: &mut W,
+    gate: &G,
+) -> Result<(), Status>
     requires wants { WantsBytes answering.old.cutter }
     ensures ends { EndsAll (W.journal wire.old) (W.journal wire.new) answering.old (status_of result) }
     ensures asked { IsAsked (status_of result) }
     ensures counts { Counts (W.read_faults wire.old) (W.read_faults wire.new) (W.write_faults wire.old) (W.write_faults wire.new) (status_of result) }
 {
-    let last = answering.last_line()?;
+    let last = answering.last_line(rt, gate)?;
     send(wire, &last)?;
-    let rest = answering.finish()?;
+    let rest = answering.finish(rt, gate)?;
     send(wire, &rest)?;
     Ok(())
 }
 
 // Reads the input to its end, and writes what is answered as it becomes due. Only `answer`, which made it, drops what answers:
 // dropping it costs the prover half a minute at each place.
-fn read_on<W: Wire>(answering: &mut Answering, wire: &mut W) -> Result<(), Status>
+fn read_on<R: Threads + Sync, W: Wire, G: Gate>(
+    rt: &R,
+    answering: &mut Answering,
+    wire: &mut W,
+    gate: &G,
+) -> Result<(), Status>
     requires wants { WantsBytes answering.old.cutter }
     ensures ends { RunsFrom (W.journal wire.old) (W.journal wire.new) answering.old (status_of result) }
     ensures asked { IsAsked (status_of result) }
@@ -69,23 +86,26 @@ fn read_on<W: Wire>(answering: &mut Answering, wire: &mut W) -> Result<(), Statu
     while left > 0 {
         let count = answering.read(wire, asked(left))?;
         if count == 0 {
-            return end(answering, wire);
+            return end(rt, answering, wire, gate);
         }
         left -= count as u64;
-        work(answering, wire)?;
+        work(rt, answering, wire, gate)?;
     }
     Err(Status::InputTooLong)
 }
 
 /// Answers the input by the plan.
-pub fn answer<W: Wire>(
+pub fn answer<R: Threads + Sync, W: Wire, G: Gate>(
+    rt: &R,
     alloc: Global,
     plan: Plan,
     options: Options,
     header: bool,
     wire: &mut W,
+    gate: &G,
 ) -> Status
     requires batch { 1 ≤ options.batch }
+    requires workers { (1 ≤ options.workers) × (options.workers ≤ 16) }
     ensures ends { Grows (W.journal wire.old) (W.journal wire.new) (Ends (answers plan options.policy header) result) }
     ensures asked { IsAsked result }
     ensures counts { Counts (W.read_faults wire.old) (W.read_faults wire.new) (W.write_faults wire.old) (W.write_faults wire.new) result }
@@ -93,7 +113,7 @@ pub fn answer<W: Wire>(
     let Ok(mut answering) = Answering::new(alloc, plan, options, header) else {
         return Status::Memory;
     };
-    match read_on(&mut answering, wire) {
+    match read_on(rt, &mut answering, wire, gate) {
         Ok(()) => Status::Done,
         Err(status) => status,
     }

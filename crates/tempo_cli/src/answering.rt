@@ -13,7 +13,9 @@ ghost use Rattle.tempo_cli.specs.Feeding.{Ended, HasLess, IsOwn, StopsOwn};
 use crate::status::Status;
 use plan_model::Plan;
 use row_reader::BadLine;
+use shard_apply::Gate;
 use std::alloc::Global;
+use std::thread::Threads;
 use tempo_engine::{Engine, EngineFault, Options};
 use tw_rows::Memory;
 use wire_lines::{Cut, LineCutter, ReadFailed, Wire};
@@ -52,12 +54,14 @@ fn is_header(header: bool, number: u64) -> bool
 }
 
 // Feeds the line of that number; a header is not read.
-pub(crate) fn feed(
+pub(crate) fn feed<R: Threads + Sync, G: Gate>(
+    rt: &R,
     alloc: Global,
     engine: &mut Engine,
     header: bool,
     number: u64,
     line: &[u8],
+    gate: &G,
 ) -> Result<Vec<u8>, EngineFault>
     requires short { length line.now ≤ 65536 }
     requires no_feed { HasNoLf line.now }
@@ -69,7 +73,7 @@ pub(crate) fn feed(
     if is_header(header, number) {
         return Ok(Vec::new(alloc));
     }
-    engine.feed_line(number, line)
+    engine.feed_line(rt, gate, number, line)
 }
 
 impl Answering {
@@ -81,6 +85,7 @@ impl Answering {
         header: bool,
     ) -> Result<Answering, Memory>
         requires batch { 1 ≤ options.batch }
+        requires workers { (1 ≤ options.workers) × (options.workers ≤ 16) }
         ensures holds { IfOk result (λ s. Holds (record { plan = plan; policy = options.policy; header = header }) [] [] s) }
         ensures wants { IfOk result (λ s. WantsBytes s.cutter) }
     {
@@ -110,7 +115,7 @@ impl Answering {
     }
 
     /// What the next line comes to.
-    pub fn next_step(&mut self) -> Step
+    pub fn next_step<R: Threads + Sync, G: Gate>(&mut self, rt: &R, gate: &G) -> Step
         requires longest { self.old.cutter.longest ≡ 65536 }
         ensures longest { self.new.cutter.longest ≡ 65536 }
         ensures comes { WhateverHeld self.old (λ q bytes given. length bytes ≤ limit + 1 → Comes q bytes given self.new result) }
@@ -124,11 +129,13 @@ impl Answering {
             Cut::TooMany => return Step::Stop(Status::InputTooLong),
             Cut::TooLong { number } => return Step::Stop(too_long(number)),
             Cut::Line(line) => feed(
+                rt,
                 self.alloc,
                 &mut self.engine,
                 self.header,
                 line.number,
                 line.bytes,
+                gate,
             ),
         };
         match fed {
@@ -138,7 +145,11 @@ impl Answering {
     }
 
     /// What is due for the last line, where no LF ends it. The input has ended.
-    pub fn last_line(&mut self) -> Result<Vec<u8>, Status>
+    pub fn last_line<R: Threads + Sync, G: Gate>(
+        &mut self,
+        rt: &R,
+        gate: &G,
+    ) -> Result<Vec<u8>, Status>
         requires wants { WantsBytes self.old.cutter }
         ensures ok { IfOk result (λ out.
             WhateverHeld self.old (λ q bytes given. Ended q bytes ((answers_to q).text given false ++ out.items) self.new)) }
@@ -150,22 +161,28 @@ impl Answering {
             return Ok(Vec::new(self.alloc));
         };
         let out = feed(
+            rt,
             self.alloc,
             &mut self.engine,
             self.header,
             line.number,
             line.bytes,
+            gate,
         )?;
         Ok(out)
     }
 
     /// What is due at the end, after the last line.
-    pub fn finish(&mut self) -> Result<Vec<u8>, Status>
+    pub fn finish<R: Threads + Sync, G: Gate>(
+        &mut self,
+        rt: &R,
+        gate: &G,
+    ) -> Result<Vec<u8>, Status>
         ensures ok { IfOk result (λ out. WhateverEnded self.old (λ q bytes written. IsDone (answers_to q) bytes (written ++ out.items) true)) }
         ensures err { IfErr result (λ status. WhateverEnded self.old (λ q bytes written. IsEnd (answers_to q) status bytes written true)) }
         ensures own { IfErr result IsOwn }
     {
-        let out = self.engine.finish()?;
+        let out = self.engine.finish(rt, gate)?;
         Ok(out)
     }
 }

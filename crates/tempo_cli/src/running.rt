@@ -17,7 +17,9 @@ use plan_model::{Plan, QueryError};
 use query_plan::{explain, plan};
 use query_text::parse;
 use sample_trades::Sample;
+use shard_apply::Gate;
 use std::alloc::Global;
+use std::thread::Threads;
 use tempo_engine::Options;
 use wire_lines::{Wire, WriteFailed, send};
 
@@ -46,17 +48,26 @@ fn tell<W: Wire>(alloc: Global, plan: &Plan, wire: &mut W) -> Status
 
 // How an engine works for what the words ask for.
 fn options_of(asked: &CommandLine<'_>) -> Options
-    ensures { result ≡ record { batch = asked.now.batch; policy = asked.now.policy } }
+    ensures { result ≡ record { batch = asked.now.batch; workers = asked.now.workers; policy = asked.now.policy } }
 {
     Options {
         batch: asked.batch,
+        workers: asked.workers,
         policy: asked.policy,
     }
 }
 
 // Does what the mode says with the plan.
-fn do_mode<W: Wire>(alloc: Global, asked: &CommandLine<'_>, plan: Plan, wire: &mut W) -> Status
+fn do_mode<R: Threads + Sync, W: Wire, G: Gate>(
+    rt: &R,
+    alloc: Global,
+    asked: &CommandLine<'_>,
+    plan: Plan,
+    wire: &mut W,
+    gate: &G,
+) -> Status
     requires batch { 1 ≤ asked.now.batch }
+    requires workers { (1 ≤ asked.now.workers) × (asked.now.workers ≤ 16) }
     requires events { asked.now.events ≤ 1000000 }
     ensures asked { IsAsked result }
     ensures does { Grows (W.journal wire.old) (W.journal wire.new) (DoesMode asked.now.mode (asked_by asked.now) plan result) }
@@ -64,17 +75,23 @@ fn do_mode<W: Wire>(alloc: Global, asked: &CommandLine<'_>, plan: Plan, wire: &m
 {
     let options = options_of(asked);
     match asked.mode {
-        Mode::Run => answer(alloc, plan, options, asked.header, wire),
+        Mode::Run => answer(rt, alloc, plan, options, asked.header, wire, gate),
         Mode::Explain => tell(alloc, &plan, wire),
         Mode::Sample => {
             let sample = Sample::new(asked.number, asked.events);
-            sum_up(alloc, plan, options, asked.header, sample, wire)
+            sum_up(rt, alloc, plan, options, asked.header, sample, wire, gate)
         }
     }
 }
 
 // Does what is asked for. The words were taken.
-fn perform<W: Wire>(alloc: Global, asked: &CommandLine<'_>, wire: &mut W) -> Status
+fn perform<R: Threads + Sync, W: Wire, G: Gate>(
+    rt: &R,
+    alloc: Global,
+    asked: &CommandLine<'_>,
+    wire: &mut W,
+    gate: &G,
+) -> Status
     requires within { AreWithin (asked_by asked.now) }
     ensures reason { HasQueryReason asked.now.query.now result }
     ensures planned { (plan : PlanParts) → HasPlan asked.now.query.now plan →
@@ -84,7 +101,7 @@ fn perform<W: Wire>(alloc: Global, asked: &CommandLine<'_>, wire: &mut W) -> Sta
     ensures counts { Counts (W.read_faults wire.old) (W.read_faults wire.new) (W.write_faults wire.old) (W.write_faults wire.new) result }
 {
     match plan_of(alloc, asked.query) {
-        Ok(plan) => do_mode(alloc, asked, plan, wire),
+        Ok(plan) => do_mode(rt, alloc, asked, plan, wire, gate),
         Err(error) => status_of(error),
     }
 }
@@ -119,11 +136,16 @@ fn tell_refusal<N: Wire>(notes: &mut N, text: &Option<String>)
 /// `words` are the words of the command line, the program's name first. Bytes come in and go out over `wire`, and what is
 /// told of a run that did not end Done goes to `notes`, whose faults change nothing. The clauses on bytes hold where the
 /// wire tells its journal; over the standard streams no contract can say what came or went.
-pub fn run<'a, W: Wire, N: Wire>(
+///
+/// A node with a key runs as so many shards as there are workers, in threads where `rt` can make them; each passes `gate`
+/// before it steps. No clause speaks of workers: bytes and status are the same for any number.
+pub fn run<'a, R: Threads + Sync, W: Wire, N: Wire, G: Gate>(
+    rt: &R,
     alloc: Global,
     words: &'a [&'a str],
     wire: &mut W,
     notes: &mut N,
+    gate: &G,
 ) -> Status
     // Words and queries are refused only for a fault of theirs.
     ensures reason { HasReason (map (λ w. w.now) words.now) result }
@@ -136,7 +158,7 @@ pub fn run<'a, W: Wire, N: Wire>(
 {
     match read_words(alloc, words) {
         Ok(asked) => {
-            let status = perform(alloc, &asked, wire);
+            let status = perform(rt, alloc, &asked, wire, gate);
             note(notes, &status);
             status
         }

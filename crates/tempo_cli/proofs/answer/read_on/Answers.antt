@@ -20,11 +20,6 @@ returns-in_err-count-clause-asked g c = let p = err_from_is_err_and c.from_resid
 pub returns-in_err-count-clause-counts : goal.returns-in_err-count-clause-counts
 returns-in_err-count-clause-counts g c = let p = err_from_is_err_and c.from_residual.result c.from_residual.ensures.1 in rw (p.1, p.2) (risen _ _ _ c.loop-left.invariant.1 c.in_err-count.ensures.cause.failed)
 
-pub end-requires : goal.end-requires
-end-requires g c =
-    let taken = c.in_ok-count.ensures.taken in
-    record { wants = taken.wants (no_bytes taken.piece c.in_ok-count.count taken.count c.if-count-eq0.true) }
-
 pub returns-then-count-eq0-clause-ends : goal.returns-then-count-eq0-clause-ends
 returns-then-count-eq0-clause-ends g c = λ q h.
     let taken = c.in_ok-count.ensures.taken in

@@ -22,26 +22,26 @@ to_each (Ok x) f h = f h
 to_each (Err e) f h = tt
 
 pub returns-then-is_header-clause-took : goal.returns-then-is_header-clause-took
-returns-then-is_header-clause-took c = λ q given h is t.
+returns-then-is_header-clause-took g c = λ q given h is t.
     let both = sym c.is_header.ensures ∙ c.if-is_header.true in
     took_header q given c.args.line.now c.args.engine.now (h ∙ with_header c.args.header c.args.number both) (omega (arith, is, first_line c.args.header c.args.number both)) c.requires.short t
 
 pub returns-then-is_header-clause-text : goal.returns-then-is_header-clause-text
-returns-then-is_header-clause-text c = λ q given h is t.
+returns-then-is_header-clause-text g c = λ q given h is t.
     let both = sym c.is_header.ensures ∙ c.if-is_header.true in
     text_header q given c.args.line.now c.args.engine.now c.new.result.items c.new.ensures.items (h ∙ with_header c.args.header c.args.number both) (omega (arith, is, first_line c.args.header c.args.number both)) c.requires.short t
 
 pub returns-clause-took : goal.returns-clause-took
-returns-clause-took c = to_each c.feed_line.result (λ f q given h is t.
+returns-clause-took g c = to_each c.feed_line.result (λ f q given h is t.
     took_more q given c.args.line.now c.args.number c.args.engine.now t is
     (no_header q.header c.args.header c.args.number c.is_header.result h c.is_header.ensures c.if-is_header.false) c.requires.short _ (f q.plan q.policy t.fed t.took)) c.feed_line.ensures.fed
 
 pub returns-clause-text : goal.returns-clause-text
-returns-clause-text c = IfOk-weaker c.feed_line.result _ _ (λ out f q given h is t.
+returns-clause-text g c = IfOk-weaker c.feed_line.result _ _ (λ out f q given h is t.
     text_more q given c.args.line.now c.args.number c.args.engine.now t is
     (no_header q.header c.args.header c.args.number c.is_header.result h c.is_header.ensures c.if-is_header.false) c.requires.short out.items (f q.plan q.policy t.fed t.took)) c.feed_line.ensures.text
 
 pub returns-clause-fault : goal.returns-clause-fault
-returns-clause-fault c = IfErr-weaker c.feed_line.result _ _ (λ fault f q given h is t.
+returns-clause-fault g c = IfErr-weaker c.feed_line.result _ _ (λ fault f q given h is t.
     fault_more q given c.args.line.now c.args.number c.args.engine.now t is
     (no_header q.header c.args.header c.args.number c.is_header.result h c.is_header.ensures c.if-is_header.false) c.requires.short fault (f q.plan q.policy t.fed t.took)) c.feed_line.ensures.fault

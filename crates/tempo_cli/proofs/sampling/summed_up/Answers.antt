@@ -6,19 +6,19 @@ use Rattle.tempo_cli.specs.Feeding.{Asked}
 use Rattle.tempo_cli.proofs.sampling.summed_up.Goals as goal
 
 pub returns-clause-fine : goal.returns-clause-fine
-returns-clause-fine c =
+returns-clause-fine g c =
     let q : Asked = record { plan = c.args.plan; policy = c.args.options.policy; header = c.args.header } in
     let all : List (List ℕ) = map line_of (to_come c.args.sample) in
     IfOk-weaker c.sum.result _ _ (λ text f. f q all c.in_ok-sampling.ensures.sampled) c.sum.ensures.fine
 
 pub returns-clause-text : goal.returns-clause-text
-returns-clause-text c =
+returns-clause-text g c =
     let q : Asked = record { plan = c.args.plan; policy = c.args.options.policy; header = c.args.header } in
     let all : List (List ℕ) = map line_of (to_come c.args.sample) in
     IfOk-weaker c.sum.result _ _ (λ text f. f q all c.in_ok-sampling.ensures.sampled) c.sum.ensures.text
 
 pub returns-clause-failed : goal.returns-clause-failed
-returns-clause-failed c =
+returns-clause-failed g c =
     let q : Asked = record { plan = c.args.plan; policy = c.args.options.policy; header = c.args.header } in
     let all : List (List ℕ) = map line_of (to_come c.args.sample) in
     IfErr-weaker c.sum.result _ _ (λ status f. f q all c.in_ok-sampling.ensures.sampled) c.sum.ensures.failed

@@ -36,18 +36,18 @@ ended_by q bytes written all s few is took so_far = record {
 }
 
 pub returns-in_default-clause-ok : goal.returns-in_default-clause-ok
-returns-in_default-clause-ok c = λ q bytes given h.
+returns-in_default-clause-ok g c = λ q bytes given h.
     let all = lines_without_last bytes c.args.self.now.cutter given h.within.cuts (c.in_default.ensures.none.0 refl) in
     ended_by q bytes _ given _ (few_bytes h.within c.requires.wants.wants_bytes) all h.engine (ap (λ x. (answers_to q).text given false ++ x) c.new.ensures.items ∙ append-nil _)
 
 pub feed-requires-clause-short : goal.feed-requires-clause-short
-feed-requires-clause-short c = rw c.in-Some.ensures.some.1 c.requires.wants.short
+feed-requires-clause-short g c κs within = rw c.in-Some.ensures.some.1 c.requires.wants.short
 
 pub feed-requires-clause-no_feed : goal.feed-requires-clause-no_feed
-feed-requires-clause-no_feed c = HasNoLf-one_line _ (rw c.in-Some.ensures.some.1 c.requires.wants.one_line)
+feed-requires-clause-no_feed g c κs within = HasNoLf-one_line _ (rw c.in-Some.ensures.some.1 c.requires.wants.one_line)
 
 pub returns-clause-ok : goal.returns-clause-ok
-returns-clause-ok c = λ q bytes given h.
+returns-clause-ok g c = λ q bytes given h.
     let line = c.in-Some.line.bytes.now in
     let all = with_last line h.within c.requires.wants (λ e. never (c.in-Some.ensures.none.1 e)) c.in-Some.ensures.some.1 in
     let number : c.in-Some.line.number ≡ length given + 1 = omega (arith, c.in-Some.ensures.some.0, h.within.cuts.number_is) in
@@ -55,7 +55,7 @@ returns-clause-ok c = λ q bytes given h.
     ended_by q bytes _ (given ++ line ∷ []) _ (few_bytes h.within c.requires.wants.wants_bytes) all took (sym (c.in_ok-out.ensures.text q given (sym h.header) number h.engine))
 
 pub returns-in_err-out-clause-err : goal.returns-in_err-out-clause-err
-returns-in_err-out-clause-err c = let p = err_from_is_err_and c.from_residual.result c.from_residual.ensures.1 in rw (p.1, p.2) (λ q bytes given h.
+returns-in_err-out-clause-err g c = let p = err_from_is_err_and c.from_residual.result c.from_residual.ensures.1 in rw (p.1, p.2) (λ q bytes given h.
     let line = c.in-Some.line.bytes.now in
     let all = with_last line h.within c.requires.wants (λ e. never (c.in-Some.ensures.none.1 e)) c.in-Some.ensures.some.1 in
     let number : c.in-Some.line.number ≡ length given + 1 = omega (arith, c.in-Some.ensures.some.0, h.within.cuts.number_is) in
@@ -63,4 +63,4 @@ returns-in_err-out-clause-err c = let p = err_from_is_err_and c.from_residual.re
     (c.in_err-out.ensures.fault q given (sym h.header) number h.engine) (short h.within true))
 
 pub returns-in_err-out-clause-own : goal.returns-in_err-out-clause-own
-returns-in_err-out-clause-own c = let p = err_from_is_err_and c.from_residual.result c.from_residual.ensures.1 in rw (p.1, p.2) (own_at _)
+returns-in_err-out-clause-own g c = let p = err_from_is_err_and c.from_residual.result c.from_residual.ensures.1 in rw (p.1, p.2) (own_at _)

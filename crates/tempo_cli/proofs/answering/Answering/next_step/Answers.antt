@@ -12,14 +12,14 @@ use Rattle.tempo_cli.proofs.Stopping.{line_stops, own_at}
 use Rattle.tempo_cli.proofs.answering.Answering.next_step.Goals as goal
 
 pub returns-in-More-clause-comes : goal.returns-in-More-clause-comes
-returns-in-More-clause-comes c = λ q bytes lines h few. rw c.next_line.follows.holds-at-none (record {
+returns-in-More-clause-comes g c = λ q bytes lines h few. rw c.next_line.follows.holds-at-none (record {
   header = h.header;
   within = within_all h.within (tells_all bytes c.args.self.now.cutter lines c.in-More.ensures.value h.within.cuts);
   engine = h.engine;
 })
 
 pub returns-in-More-clause-wants : goal.returns-in-More-clause-wants
-returns-in-More-clause-wants c = λ e.
+returns-in-More-clause-wants g c = λ e.
     let w = wanting c.args.self.now.cutter c.in-More.ensures.value in
     rw (c.next_line.follows.holds-at-none, w.after) (record {
       longest = c.requires.longest;
@@ -29,27 +29,27 @@ returns-in-More-clause-wants c = λ e.
     })
 
 pub returns-in-TooMany-clause-comes : goal.returns-in-TooMany-clause-comes
-returns-in-TooMany-clause-comes c = λ q bytes lines h few ended. too_many h.within (tells_too_many bytes c.args.self.now.cutter lines c.in-TooMany.ensures.value h.within.cuts) few
+returns-in-TooMany-clause-comes g c = λ q bytes lines h few ended. too_many h.within (tells_too_many bytes c.args.self.now.cutter lines c.in-TooMany.ensures.value h.within.cuts) few
 
 pub returns-in-TooLong-clause-comes : goal.returns-in-TooLong-clause-comes
-returns-in-TooLong-clause-comes c = λ q bytes lines h few ended.
+returns-in-TooLong-clause-comes g c = λ q bytes lines h few ended.
     let found = tells_too_long bytes c.args.self.now.cutter lines c.in-TooLong.number c.in-TooLong.ensures.value h.within.cuts in
     rw c.too_long.ensures (refused_long h.within (answers_final q h.engine.took.by.sound) c.in-TooLong.number _ c.in-TooLong.ensures.value
     (λ line long. long_fault q lines line c.in-TooLong.number c.args.self.now.engine h.engine found.number_is long) ended)
 
 pub feed-fed-requires-clause-short : goal.feed-fed-requires-clause-short
-feed-fed-requires-clause-short c =
+feed-fed-requires-clause-short g c κs within =
     let s = c.args.self.now.cutter in
     let g = given s c.in-Line.line.number c.in-Line.line.bytes.now c.in-Line.ensures.value in
     omega (arith, ap length g.bytes_is, length-take (line_len s.rest) s.rest, g.not_long, g.room, g.within, c.requires.longest)
 
 pub feed-fed-requires-clause-no_feed : goal.feed-fed-requires-clause-no_feed
-feed-fed-requires-clause-no_feed c =
+feed-fed-requires-clause-no_feed g c κs within =
     let g = given c.args.self.now.cutter c.in-Line.line.number c.in-Line.line.bytes.now c.in-Line.ensures.value in
     HasNoLf-one_line c.in-Line.line.bytes.now (rw g.bytes_is (free_take c.args.self.now.cutter.rest))
 
 pub returns-in-Ok-clause-comes : goal.returns-in-Ok-clause-comes
-returns-in-Ok-clause-comes c = λ q bytes lines h few.
+returns-in-Ok-clause-comes g c = λ q bytes lines h few.
     let line = c.in-Line.line.bytes.now in
     let g = tells_line bytes c.args.self.now.cutter lines c.in-Line.line.number line c.in-Line.ensures.value h.within.cuts in
     let took = c.in-Ok.ensures.took q lines (sym h.header) g.number_is h.engine in (
@@ -63,10 +63,10 @@ returns-in-Ok-clause-comes c = λ q bytes lines h few.
     )
 
 pub returns-in-Err-clause-comes : goal.returns-in-Err-clause-comes
-returns-in-Err-clause-comes c = λ q bytes lines h few ended.
+returns-in-Err-clause-comes g c = λ q bytes lines h few ended.
     let line = c.in-Line.line.bytes.now in
     let g = tells_line bytes c.args.self.now.cutter lines c.in-Line.line.number line c.in-Line.ensures.value h.within.cuts in
     rw c.from.ensures (line_stops h.within (answers_final q h.engine.took.by.sound) c.in-Line.line.number line c.in-Err.fault g (c.in-Err.ensures.fault q lines (sym h.header) g.number_is h.engine) ended)
 
 pub returns-in-Err-clause-own : goal.returns-in-Err-clause-own
-returns-in-Err-clause-own c = rw c.from.ensures (own_at c.in-Err.fault)
+returns-in-Err-clause-own g c = rw c.from.ensures (own_at c.in-Err.fault)

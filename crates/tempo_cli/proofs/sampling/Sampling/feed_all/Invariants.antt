@@ -5,10 +5,10 @@ use Rattle.tempo_cli.specs.Sampled.{Sampled}
 use Rattle.tempo_cli.proofs.sampling.Sampling.feed_all.Given as goal
 
 abbrev pub invariant-lines : goal.invariant-lines
-invariant-lines l = record {
+invariant-lines g l = record {
   few : l.self.number + length (to_come l.self.sample) ≤ 2000000;
   sampled : (q : Asked) (all : List (List ℕ)) → Sampled q all l.fn.self → Sampled q all l.self;
 }
 
 abbrev pub decreases-lines : goal.decreases-lines
-decreases-lines l = length (to_come l.self.sample)
+decreases-lines g l = length (to_come l.self.sample)
