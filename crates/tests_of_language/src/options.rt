@@ -7,10 +7,11 @@ fn told(alloc: Global, text: &str) -> Result<String, AllocError> {
     let words: Vec<&str> = text.split('|').collect(alloc)?;
     match read_words(alloc, words.as_slice()) {
         Ok(asked) => format!(in alloc;
-            "[{}] {:?} {} {} {:?} {} {} {} {}",
+            "[{}] {:?} {} {} {} {:?} {} {} {} {}",
             asked.query,
             asked.mode,
             asked.batch,
+            asked.workers,
             asked.header,
             asked.policy.late,
             asked.policy.lateness,
@@ -24,50 +25,63 @@ fn told(alloc: Global, text: &str) -> Result<String, AllocError> {
 }
 
 /// Words with what they ask for.
-static ASKED: [(&str, &str); 16] = [
-    ("tempo|--query|q", "[q] Run 1024 false Refuse 0 0 0 1000"),
-    ("tempo|--query|", "[] Run 1024 false Refuse 0 0 0 1000"),
-    ("tempo|--query=", "[] Run 1024 false Refuse 0 0 0 1000"),
-    ("tempo|--query=-q", "[-q] Run 1024 false Refuse 0 0 0 1000"),
-    ("tempo|--query|-", "[-] Run 1024 false Refuse 0 0 0 1000"),
-    ("tempo|--query|q|--", "[q] Run 1024 false Refuse 0 0 0 1000"),
+static ASKED: [(&str, &str); 17] = [
+    ("tempo|--query|q", "[q] Run 1024 1 false Refuse 0 0 0 1000"),
+    ("tempo|--query|", "[] Run 1024 1 false Refuse 0 0 0 1000"),
+    ("tempo|--query=", "[] Run 1024 1 false Refuse 0 0 0 1000"),
+    (
+        "tempo|--query=-q",
+        "[-q] Run 1024 1 false Refuse 0 0 0 1000",
+    ),
+    ("tempo|--query|-", "[-] Run 1024 1 false Refuse 0 0 0 1000"),
+    (
+        "tempo|--query|q|--",
+        "[q] Run 1024 1 false Refuse 0 0 0 1000",
+    ),
     (
         "tempo|--query|a b = c",
-        "[a b = c] Run 1024 false Refuse 0 0 0 1000",
+        "[a b = c] Run 1024 1 false Refuse 0 0 0 1000",
     ),
     (
         "tempo|--query|q|--batch=+7",
-        "[q] Run 7 false Refuse 0 0 0 1000",
+        "[q] Run 7 1 false Refuse 0 0 0 1000",
     ),
     (
         "tempo|--batch|007|--query|q",
-        "[q] Run 7 false Refuse 0 0 0 1000",
+        "[q] Run 7 1 false Refuse 0 0 0 1000",
     ),
     (
         "tempo|--query|q|--batch|1",
-        "[q] Run 1 false Refuse 0 0 0 1000",
+        "[q] Run 1 1 false Refuse 0 0 0 1000",
     ),
     (
         "tempo|--query|q|--batch|8192",
-        "[q] Run 8192 false Refuse 0 0 0 1000",
+        "[q] Run 8192 1 false Refuse 0 0 0 1000",
     ),
     (
         "tempo|--query|q|--mode|run",
-        "[q] Run 1024 false Refuse 0 0 0 1000",
+        "[q] Run 1024 1 false Refuse 0 0 0 1000",
     ),
     (
         "tempo|--header|--query=q|--mode|explain",
-        "[q] Explain 1024 true Refuse 0 0 0 1000",
+        "[q] Explain 1024 1 true Refuse 0 0 0 1000",
     ),
     (
         "tempo|--query|q|--late|adjust|--lateness|5|--punctuate=1152921504606846975",
-        "[q] Run 1024 false Adjust 5 1152921504606846975 0 1000",
+        "[q] Run 1024 1 false Adjust 5 1152921504606846975 0 1000",
     ),
     (
         "tempo|--query|q|--mode=sample|--number|4294967295|--events|+1000000",
-        "[q] Sample 1024 false Refuse 0 0 4294967295 1000000",
+        "[q] Sample 1024 1 false Refuse 0 0 4294967295 1000000",
     ),
-    ("--query|--query|q", "[q] Run 1024 false Refuse 0 0 0 1000"),
+    (
+        "tempo|--query|q|--workers|16",
+        "[q] Run 1024 16 false Refuse 0 0 0 1000",
+    ),
+    (
+        "--query|--query|q",
+        "[q] Run 1024 1 false Refuse 0 0 0 1000",
+    ),
 ];
 
 #[test]
@@ -79,7 +93,7 @@ fn words_ask_for_their_command(rt: HostRuntime) {
 }
 
 /// Words that are refused.
-static REFUSED: [&str; 26] = [
+static REFUSED: [&str; 28] = [
     "tempo",
     "tempo|--query",
     "tempo|--query|-q",
@@ -88,6 +102,8 @@ static REFUSED: [&str; 26] = [
     "tempo|--query|q|--batch|x",
     "tempo|--query|q|--batch|",
     "tempo|--query|q|--batch|18446744073709551617",
+    "tempo|--query|q|--workers|0",
+    "tempo|--query|q|--workers|17",
     "tempo|--query|q|--number|4294967296",
     "tempo|--query|q|--events|0",
     "tempo|--query|q|--events|1000001",
@@ -125,10 +141,11 @@ fn refusal(alloc: Global, words: &[&str]) -> Option<String> {
 }
 
 /// The options, which the help names.
-static OPTIONS: [&str; 9] = [
+static OPTIONS: [&str; 10] = [
     "--query",
     "--mode",
     "--batch",
+    "--workers",
     "--header",
     "--late",
     "--lateness",

@@ -4,8 +4,10 @@ use plan_model::QueryError;
 use query_plan::plan;
 use query_text::parse;
 use row_reader::BadLine;
+use shard_apply::OpenGate;
 use std::alloc::{AllocError, Global};
 use std::process::Abort;
+use std::thread::Threads;
 use tempo_engine::{Engine, EngineFault, Options};
 use tw_rows::Time;
 
@@ -31,24 +33,29 @@ impl Drop for Fed {
 fn engine_of(alloc: Global, text: &str, policy: Policy) -> Result<Fed, QueryError> {
     let query = parse(alloc, text)?;
     let plan = plan(alloc, &query)?;
-    let engine = Engine::new(alloc, plan, Options { batch: 2, policy })?;
+    let options = Options {
+        batch: 2,
+        workers: 2,
+        policy,
+    };
+    let engine = Engine::new(alloc, plan, options)?;
     Ok(Fed { engine })
 }
 
 /// What the engine answers to the line of that number.
-fn answered(
-    rt: &impl Abort,
+fn answered<R: Threads + Sync + Abort>(
+    rt: &R,
     engine: &mut Engine,
     number: u64,
     line: &str,
 ) -> Result<Vec<u8>, EngineFault> {
     let bytes = line.as_bytes();
     assert!(rt; bytes.len() <= 65536 && !bytes.contains(&b'\n'));
-    engine.feed_line(number, bytes)
+    engine.feed_line(rt, &OpenGate, number, bytes)
 }
 
 /// Feeds lines that stand beside what each of them is to add to the text.
-fn feed_lines(rt: &impl Abort, engine: &mut Engine, lines: &[(&str, &str)]) {
+fn feed_lines<R: Threads + Sync + Abort>(rt: &R, engine: &mut Engine, lines: &[(&str, &str)]) {
     let mut number: u64 = 0;
     for (line, text) in lines {
         number = number.saturating_add(1);
@@ -88,7 +95,7 @@ fn an_engine_answers_each_line(rt: HostRuntime) -> Result<(), QueryError> {
     feed_lines(&rt, &mut fed.engine, &lines);
     let fault = answered(&rt, &mut fed.engine, 6, "r,interval,3,9,d,4").err();
     assert_eq!(rt; fault, Some(late_line()));
-    assert_eq!(rt; fed.engine.finish().err(), Some(late_line()));
+    assert_eq!(rt; fed.engine.finish(&rt, &OpenGate).err(), Some(late_line()));
     Ok(())
 }
 
@@ -127,7 +134,7 @@ fn an_engine_moves_late_lines_to_the_bound(rt: HostRuntime) -> Result<(), QueryE
     let text = "out,start,3,inf,a,1\nout,start,7,inf,a,4\nout,start,8,inf,a,3\n\
         out,start,12,inf,a,2\nout,end,20,3,a,1\nout,end,20,12,a,2\n\
         out,end,20,8,a,3\nout,end,20,7,a,4\n*,punct,inf\n";
-    match fed.engine.finish() {
+    match fed.engine.finish(&rt, &OpenGate) {
         Ok(bytes) => assert!(rt; bytes.as_slice() == text.as_bytes()),
         Err(_) => panic!(rt; "the end"),
     }
@@ -135,7 +142,11 @@ fn an_engine_moves_late_lines_to_the_bound(rt: HostRuntime) -> Result<(), QueryE
 }
 
 /// Feeds one row a second, each of the second after the one before.
-fn feed_rows(rt: &impl Abort, alloc: Global, engine: &mut Engine) -> Result<(), AllocError> {
+fn feed_rows<R: Threads + Sync + Abort>(
+    rt: &R,
+    alloc: Global,
+    engine: &mut Engine,
+) -> Result<(), AllocError> {
     for i in 0..10000u64 {
         let line = format!(in alloc; "s,interval,{i},{},a,1", i + 1)?;
         match answered(rt, engine, i + 1, line.as_str()) {

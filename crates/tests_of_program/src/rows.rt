@@ -1,6 +1,7 @@
 // Whole runs of worked examples, of each kind of node and of fault.
 use crate::runs::{ALL, Ran, run_over};
-use std::alloc::{AllocError, Global};
+use std::alloc::{AllocError, AllocGlobal, Global};
+use std::thread::Threads;
 use tw_rows::Memory;
 
 const SUM: &str = "stream s(k text, v int); s | group : sum v as t";
@@ -224,11 +225,37 @@ fn worked_rows_come_out(rt: HostRuntime) -> Result<(), Memory> {
     for (query, input, output, number, note) in ROWS {
         for step in [1, 65536] {
             let words = ["tempo", "--query", query];
-            let ran = run_over(rt.alloc(), &words, input.as_bytes(), step, None)?;
+            let ran = run_over(&rt, &words, input.as_bytes(), step, None)?;
             assert_eq!(rt; ran.status.number(), number, "{query}");
             assert!(rt; ran.output.as_slice() == output.as_bytes(), "{query}");
             assert!(rt; ran.notes.as_slice() == note.as_bytes(), "{query}");
         }
+    }
+    Ok(())
+}
+
+/// Two groups whose sums pass the greatest number: node 3 from 2 on, and node 1 from 8 on. The lowest node is told, and not the
+/// earliest time, for any number of workers.
+#[test]
+fn the_lowest_node_is_told(rt: HostRuntime) -> Result<(), Memory> {
+    let query = "stream s(k text, v int); let a = s | group : sum v as t; \
+        s | where v > 0 | group : sum v as u | union a";
+    let input = "s,interval,0,8,a,-10\ns,interval,1,20,a,9223372036854775807\n\
+        s,interval,2,20,b,5\n";
+    for (batch, workers) in [("1", "1"), ("4096", "1"), ("1024", "4")] {
+        let words = [
+            "tempo",
+            "--query",
+            query,
+            "--batch",
+            batch,
+            "--workers",
+            workers,
+        ];
+        let ran = run_over(&rt, &words, input.as_bytes(), 65536, None)?;
+        assert_eq!(rt; ran.status.number(), 6, "{batch} {workers}");
+        assert!(rt; ran.output.is_empty(), "{batch} {workers}");
+        assert!(rt; ran.notes.as_slice() == b"node 1: overflow at 8, closing inf\n".as_slice());
     }
     Ok(())
 }
@@ -255,7 +282,7 @@ const BAD_LINES: [(&[u8], &str); 12] = [
 #[test]
 fn bad_lines_are_told(rt: HostRuntime) -> Result<(), Memory> {
     for (line, note) in BAD_LINES {
-        let ran = run_over(rt.alloc(), &["tempo", "--query", ALL], line, 65536, None)?;
+        let ran = run_over(&rt, &["tempo", "--query", ALL], line, 65536, None)?;
         assert_eq!(rt; ran.status.number(), 4, "{note}");
         assert!(rt; ran.output.is_empty(), "{note}");
         assert!(rt; ran.notes.as_slice() == note.as_bytes(), "{note}");
@@ -277,20 +304,25 @@ fn with_long(
     Ok(bytes)
 }
 
-fn run_long(alloc: Global, before: &str, count: usize, after: &str) -> Result<Ran, Memory> {
-    let input = with_long(alloc, before, count, after)?;
-    run_over(alloc, &["tempo", "--query", ALL], &input, 65536, None)
+fn run_long<R: Threads + Sync + AllocGlobal>(
+    rt: &R,
+    before: &str,
+    count: usize,
+    after: &str,
+) -> Result<Ran, Memory> {
+    let input = with_long(rt.alloc(), before, count, after)?;
+    run_over(rt, &["tempo", "--query", ALL], &input, 65536, None)
 }
 
 #[test]
 fn a_line_has_65536_bytes_at_most(rt: HostRuntime) -> Result<(), Memory> {
-    let ran = run_long(rt.alloc(), "s,interval,1,5,", 65519, ",1\n")?;
+    let ran = run_long(&rt, "s,interval,1,5,", 65519, ",1\n")?;
     assert_eq!(rt; ran.status.number(), 0);
     let start = with_long(rt.alloc(), "out,start,1,inf,", 65519, ",1\n")?;
     let end = with_long(rt.alloc(), "out,end,5,1,", 65519, ",1\n*,punct,inf\n")?;
     assert!(rt; ran.output.starts_with(&start) && ran.output.ends_with(&end));
     assert_eq!(rt; ran.output.len(), start.len().saturating_add(end.len()));
-    let ran = run_long(rt.alloc(), "s,interval,1,5,", 65520, ",1\n")?;
+    let ran = run_long(&rt, "s,interval,1,5,", 65520, ",1\n")?;
     assert_eq!(rt; ran.status.number(), 4);
     assert!(rt; ran.output.is_empty());
     assert!(rt; ran.notes.as_slice() == "line 1: too long\n".as_bytes());
@@ -299,7 +331,7 @@ fn a_line_has_65536_bytes_at_most(rt: HostRuntime) -> Result<(), Memory> {
 
 #[test]
 fn a_line_without_end_is_not_read_to_its_end(rt: HostRuntime) -> Result<(), Memory> {
-    let ran = run_long(rt.alloc(), "", 65537, "")?;
+    let ran = run_long(&rt, "", 65537, "")?;
     assert_eq!(rt; ran.status.number(), 4);
     assert!(rt; ran.notes.as_slice() == "line 1: too long\n".as_bytes());
     // Two reads, and none of the end of the input.

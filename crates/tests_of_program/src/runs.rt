@@ -1,5 +1,7 @@
 // The whole run over wires in memory, against worked examples.
-use std::alloc::Global;
+use shard_apply::{Gate, OpenGate};
+use std::alloc::AllocGlobal;
+use std::thread::Threads;
 use tempo_cli::{Status, run};
 use tw_rows::Memory;
 use wire_lines::MemoryWire;
@@ -18,13 +20,26 @@ pub(crate) struct Ran {
 }
 
 /// Runs the words over the input, which comes in pieces of `step` bytes; the call of number `failing` fails.
-pub(crate) fn run_over(
-    alloc: Global,
+pub(crate) fn run_over<R: Threads + Sync + AllocGlobal>(
+    rt: &R,
     words: &[&str],
     input: &[u8],
     step: usize,
     failing: Option<u64>,
 ) -> Result<Ran, Memory> {
+    run_past(rt, words, input, step, failing, &OpenGate)
+}
+
+/// The same, where shards pass a gate.
+pub(crate) fn run_past<R: Threads + Sync + AllocGlobal, G: Gate>(
+    rt: &R,
+    words: &[&str],
+    input: &[u8],
+    step: usize,
+    failing: Option<u64>,
+    gate: &G,
+) -> Result<Ran, Memory> {
+    let alloc = rt.alloc();
     let mut calls = Vec::new(alloc);
     if let Some(number) = failing {
         calls.push(number)?;
@@ -33,7 +48,7 @@ pub(crate) fn run_over(
     let step = if step > 0 { step } else { 1 };
     let mut wire = MemoryWire::new(alloc, input, step, 1 << 18, calls)?;
     let mut notes = MemoryWire::new(alloc, Vec::new(alloc), 1, 4000, Vec::new(alloc))?;
-    let status = run(alloc, words, &mut wire, &mut notes);
+    let status = run(rt, alloc, words, &mut wire, &mut notes, gate);
     Ok(Ran {
         status,
         output: Vec::from_slice(alloc, wire.output())?,
@@ -87,7 +102,7 @@ fn inputs_give_their_changes(rt: HostRuntime) -> Result<(), Memory> {
     for (query, input, output, number, note) in cases {
         for step in [1, 65536] {
             let words = ["tempo", "--query", query];
-            let ran = run_over(rt.alloc(), &words, input.as_bytes(), step, None)?;
+            let ran = run_over(&rt, &words, input.as_bytes(), step, None)?;
             assert_eq!(rt; ran.status.number(), number, "{input}");
             assert!(rt; ran.output.as_slice() == output.as_bytes(), "{input}");
             assert!(rt; ran.notes.as_slice() == note.as_bytes(), "{input}");
@@ -126,7 +141,7 @@ fn queries_are_explained_or_refused(rt: HostRuntime) -> Result<(), Memory> {
     ];
     for (query, number, output, note) in cases {
         let words = ["tempo", "--query", query, "--mode", "explain"];
-        let ran = run_over(rt.alloc(), &words, b"x", 1, None)?;
+        let ran = run_over(&rt, &words, b"x", 1, None)?;
         assert_eq!(rt; ran.status.number(), number, "{query}");
         assert!(rt; ran.output.as_slice() == output.as_bytes(), "{query}");
         assert!(rt; ran.notes.as_slice() == note.as_bytes(), "{query}");
@@ -154,7 +169,7 @@ fn an_answer_to_generated_lines_is_summed_up(rt: HostRuntime) -> Result<(), Memo
         let words = [
             "tempo", "--query", query, "--mode", "sample", "--events", "1000", "--number", "7",
         ];
-        let ran = run_over(rt.alloc(), &words, b"x", 1, None)?;
+        let ran = run_over(&rt, &words, b"x", 1, None)?;
         assert_eq!(rt; ran.status.number(), number, "{query}");
         assert!(rt; ran.output.as_slice() == output.as_bytes(), "{query}");
         assert!(rt; ran.notes.as_slice() == note.as_bytes(), "{query}");
@@ -172,7 +187,7 @@ fn a_failed_call_has_its_status(rt: HostRuntime) -> Result<(), Memory> {
     ];
     for (call, number, output, note) in cases {
         let words = ["tempo", "--query", ALL];
-        let ran = run_over(rt.alloc(), &words, b"*,punct,10\n", 65536, Some(call))?;
+        let ran = run_over(&rt, &words, b"*,punct,10\n", 65536, Some(call))?;
         assert_eq!(rt; ran.status.number(), number, "call {call}");
         assert!(rt; ran.output.as_slice() == output.as_bytes(), "call {call}");
         assert!(rt; ran.notes.as_slice() == note.as_bytes(), "call {call}");
@@ -222,7 +237,11 @@ const FRONTS: [(usize, u8, &str, &str); 17] = [
 ];
 
 /// Runs the first bytes of these lines, one by one, where a late line starts at the bound.
-fn run_adjusting(alloc: Global, count: usize, failing: Option<u64>) -> Result<Ran, Memory> {
+fn run_adjusting<R: Threads + Sync + AllocGlobal>(
+    rt: &R,
+    count: usize,
+    failing: Option<u64>,
+) -> Result<Ran, Memory> {
     let words = [
         "tempo",
         "--query",
@@ -236,7 +255,7 @@ fn run_adjusting(alloc: Global, count: usize, failing: Option<u64>) -> Result<Ra
     ];
     let lines = LATE_LINES.as_bytes();
     let count = count.min(lines.len());
-    run_over(alloc, &words, &lines[..count], 1, failing)
+    run_over(rt, &words, &lines[..count], 1, failing)
 }
 
 #[test]
@@ -244,7 +263,7 @@ fn each_front_of_the_input_is_answered(rt: HostRuntime) -> Result<(), Memory> {
     let mut first = 0;
     for (end, number, output, note) in FRONTS {
         for count in first..end {
-            let ran = run_adjusting(rt.alloc(), count, None)?;
+            let ran = run_adjusting(&rt, count, None)?;
             assert_eq!(rt; ran.status.number(), number, "{count} bytes");
             assert!(rt; ran.output.as_slice() == output.as_bytes(), "{count} bytes");
             assert!(rt; ran.notes.as_slice() == note.as_bytes(), "{count} bytes");
@@ -259,7 +278,7 @@ fn each_front_of_the_input_is_answered(rt: HostRuntime) -> Result<(), Memory> {
 fn each_call_fails_in_turn(rt: HostRuntime) -> Result<(), Memory> {
     // 81 bytes are read one by one, then the end of the input, and then the output is written.
     for call in 0..84 {
-        let ran = run_adjusting(rt.alloc(), 81, Some(call))?;
+        let ran = run_adjusting(&rt, 81, Some(call))?;
         let (number, output, note) = match call {
             0..=81 => (8, "", "read failed\n"),
             82 => (9, "", "write failed\n"),
@@ -288,10 +307,11 @@ fn names_all(notes: &[u8], names: &[&str]) -> bool {
 }
 
 /// The options of the command.
-const OPTIONS: [&str; 9] = [
+const OPTIONS: [&str; 10] = [
     "--query",
     "--mode",
     "--batch",
+    "--workers",
     "--late",
     "--lateness",
     "--punctuate",
@@ -313,7 +333,7 @@ fn other_words_are_refused(rt: HostRuntime) -> Result<(), Memory> {
         (&["tempo", "--help"], &OPTIONS),
     ];
     for (words, names) in cases {
-        let ran = run_over(rt.alloc(), words, b"x", 65536, None)?;
+        let ran = run_over(&rt, words, b"x", 65536, None)?;
         assert_eq!(rt; ran.status, Status::BadWords);
         assert_eq!(rt; ran.steps, 0);
         assert!(rt; names_all(&ran.notes, names));

@@ -1,6 +1,8 @@
 // A run over trades: sums of minutes, joined with those of the minute before.
-use crate::runs::run_over;
+use crate::runs::{run_over, run_past};
+use shard_apply::Gate;
 use std::alloc::{AllocError, Global};
+use std::sync::atomic::{AtomicBool, Ordering};
 use tw_rows::Memory;
 
 const MINUTES: &str = "stream trades(sym text, px int, qty int); \
@@ -57,24 +59,78 @@ fn output(alloc: Global) -> Result<Vec<u8>, AllocError> {
     Ok(text)
 }
 
+/// The words of a run with batches of this size and so many workers.
+fn words_for<'a>(batch: &'a str, workers: &'a str) -> [&'a str; 10] {
+    [
+        "tempo",
+        "--query",
+        MINUTES,
+        "--header",
+        "--punctuate",
+        "60",
+        "--batch",
+        batch,
+        "--workers",
+        workers,
+    ]
+}
+
 #[test]
 fn minutes_are_joined_with_those_before(rt: HostRuntime) -> Result<(), Memory> {
     let input = input(rt.alloc())?;
     let output = output(rt.alloc())?;
-    for batch in ["1", "7", "1024", "4096"] {
-        let words = [
-            "tempo",
-            "--query",
-            MINUTES,
-            "--header",
-            "--punctuate",
-            "60",
-            "--batch",
-            batch,
-        ];
-        let ran = run_over(rt.alloc(), &words, &input, 65536, None)?;
-        assert_eq!(rt; ran.status.number(), 0, "{batch}");
-        assert!(rt; ran.output.as_slice() == output.as_slice(), "{batch}");
+    let cases = [
+        ("1", "1"),
+        ("7", "2"),
+        ("1024", "1"),
+        ("1024", "8"),
+        ("1024", "16"),
+        ("4096", "1"),
+    ];
+    for (batch, workers) in cases {
+        let words = words_for(batch, workers);
+        let ran = run_over(&rt, &words, &input, 65536, None)?;
+        assert_eq!(rt; ran.status.number(), 0, "{batch} {workers}");
+        assert!(rt;
+            ran.output.as_slice() == output.as_slice(),
+            "{batch} {workers}"
+        );
     }
+    Ok(())
+}
+
+/// A gate at which each of two shards, as it first comes, waits for the other, but not without end.
+#[derive(Drop)]
+struct Meeting {
+    came: [AtomicBool; 2],
+    met: [AtomicBool; 2],
+}
+
+impl Gate for Meeting {
+    fn enter(&self, shard: usize) {
+        if shard > 1 || self.came[shard].swap(true, Ordering::SeqCst) {
+            return;
+        }
+        for _ in 0..100_000_000u64 {
+            if self.came[1 - shard].load(Ordering::SeqCst) {
+                self.met[shard].store(true, Ordering::SeqCst);
+                return;
+            }
+        }
+    }
+}
+
+/// Of two shards that ran one after the other, the first would wait in vain.
+#[test]
+fn two_shards_meet(rt: HostRuntime) -> Result<(), Memory> {
+    let gate = Meeting {
+        came: [AtomicBool::new(false), AtomicBool::new(false)],
+        met: [AtomicBool::new(false), AtomicBool::new(false)],
+    };
+    let input = input(rt.alloc())?;
+    let words = words_for("1024", "2");
+    let ran = run_past(&rt, &words, &input, 65536, None, &gate)?;
+    assert_eq!(rt; ran.status.number(), 0);
+    assert!(rt; gate.met[0].load(Ordering::SeqCst) && gate.met[1].load(Ordering::SeqCst));
     Ok(())
 }
