@@ -5,7 +5,7 @@ ghost use Rattle.std.specs.List.{range_with_len};
 ghost use Rattle.edge_stream.specs.declared.saved.SavedEntry.{SavedEntry};
 ghost use Rattle.operator.specs.Standing.{IsLike, Implies};
 ghost use Rattle.shard_apply.specs.Saving.{is_row_of, AreRowsOf, AreSound, AreOwn, ShardsResume, HasLoaded};
-ghost use Rattle.shard_apply.specs.Whole.{standing_in, AreNew, ShardsKeep};
+ghost use Rattle.shard_apply.specs.Whole.{standing_in, AreInStep, AreNew, ShardsKeep};
 
 use crate::shard::Shard;
 use crate::sharded::Sharded;
@@ -53,6 +53,28 @@ impl<O: Operator> Sharded<O> {
         );
         self.failed = loaded.is_err();
         loaded
+    }
+
+    /// Whether the entries for each operator are of rows of its shard. No step failed.
+    pub fn are_own(&self, saved: &[Saved]) -> Result<bool, Memory>
+        requires works { self.now.failed ≡ false }
+        requires many { length saved.now ≡ length self.now.operators }
+        ensures in_step { AreInStep (map O.standing self.now.operators) self.now.left_key self.now.right_key }
+        ensures own { IfOk result (λ own. IsTrue own ↔ AreOwn O.row_of_part self.now saved.now) }
+    {
+        let first = columns_below(self.alloc, self.left_key.len())?;
+        let keys = RowKeys {
+            left: &self.left_key,
+            right: &self.right_key,
+            first: &first,
+            count: self.shards.len(),
+        };
+        for i in 0..saved.len() {
+            if !are_rows_of::<O>(&saved[i], i, &keys) {
+                return Ok(false);
+            }
+        }
+        Ok(true)
     }
 }
 
