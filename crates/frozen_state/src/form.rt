@@ -92,8 +92,8 @@ fn part_rows(node: &Node) -> &'static [PartRow]
     }
 }
 
-// How many parts the node's state has: a shard each where it is run as shards.
-fn shards_of_node(node: &Node, workers: u64) -> u64
+/// How many parts the node's state has: a shard each where it is run as shards.
+pub fn shards_of_node(node: &Node, workers: u64) -> u64
     ensures { result ≡ shards_of workers node.now }
 {
     match node {

@@ -115,6 +115,23 @@ impl Frozen {
         &self.parts
     }
 
+    /// The bounds, the marks and the parts, taken out of it.
+    pub fn into_parts(self) -> (Vec<Time>, Vec<Time>, Vec<FrozenPart>)
+        ensures bounds { result.0.items ≡ self.bounds }
+        ensures marks { result.1.items ≡ self.marks }
+        ensures parts { result.2.items ≡ self.parts }
+    {
+        let Frozen {
+            lines: _,
+            last: _,
+            bounds,
+            marks,
+            texts: _texts,
+            parts,
+        } = self;
+        (bounds, marks, parts)
+    }
+
     /// Sets the number of the last line and the last punctuation.
     pub fn set_times(&mut self, lines: u64, last: Time)
         ensures { self.new ≡ record self.old { lines = lines; last = last } }

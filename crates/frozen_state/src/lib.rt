@@ -6,7 +6,7 @@ mod frozen;
 mod laws;
 mod owner;
 
-pub use form::{PartForm, part_forms};
+pub use form::{PartForm, part_forms, shards_of_node};
 pub use frozen::{Frozen, FrozenPart};
 pub use laws::parts_are_apart;
 pub use owner::{Owner, is_owner};
