@@ -4,6 +4,7 @@ pub mod Entries
 pub mod Growing
 pub mod Going
 pub mod Leading
+pub mod Unfinished
 pub mod Stepping
 pub mod Left
 pub mod Valued

@@ -71,3 +71,8 @@ pub record BeginsText (form : FormView) (lines : List (List ℕ)) : Type 0 where
   pub rest : List (List ℕ)
   pub of_form : IsOfForm form frozen
   pub text : checkpoint_lines form.head frozen ≡ lines ++ rest
+
+-- and hold none that is whole
+pub record IsUnfinished (form : FormView) (lines : List (List ℕ)) : Type 0 where
+  pub begins : BeginsText form lines
+  pub none_whole : (f : FrozenView) (rest : List (List ℕ)) → IsOfForm form f → lines ≡ checkpoint_lines form.head f ++ rest → ⊥

@@ -1,5 +1,5 @@
 // The laws of the text.
-ghost use Rattle.std.specs.Prelude.{◌≡◌, ◌<◌, ◌≤◌, ◌^◌, ℕ, List, length, All};
+ghost use Rattle.std.specs.Prelude.{◌≡◌, ◌<◌, ◌≤◌, ◌^◌, ◌++◌, ℕ, List, length, All};
 ghost use Rattle.plan_model.specs.IsPlan.{PlanParts, IsPlan};
 ghost use Rattle.admission.specs.declared.policy.Policy.{Policy};
 ghost use Rattle.frozen_state.specs.Frozen.{FrozenView};
@@ -11,6 +11,13 @@ pub fn one_text_for_each()
     ensures { (query : List ℕ) (workers : ℕ) (policy : Policy) (plan : PlanParts) (f g : FrozenView) →
         let form = form_of query workers policy plan in
         IsOfForm form f → IsOfForm form g → checkpoint_lines form.head f ≡ checkpoint_lines form.head g → f ≡ g }
+{}
+
+/// No text is the front of another one: where a text ends, a checkpoint does.
+pub fn no_text_goes_on()
+    ensures { (query : List ℕ) (workers : ℕ) (policy : Policy) (plan : PlanParts) (f g : FrozenView) (rest : List (List ℕ)) →
+        let form = form_of query workers policy plan in
+        IsOfForm form f → IsOfForm form g → checkpoint_lines form.head f ≡ checkpoint_lines form.head g ++ rest → f ≡ g }
 {}
 
 /// No line is longer than a line of input may be, where each text came from a line or from the query.

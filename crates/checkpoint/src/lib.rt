@@ -9,7 +9,7 @@ mod values;
 mod writing;
 
 pub use form::Form;
-pub use laws::{lines_are_short, one_text_for_each};
+pub use laws::{lines_are_short, no_text_goes_on, one_text_for_each};
 pub use reader::{Reader, Taken};
 pub use reading::{Stage, TakeFault};
 pub use values::formed_has_text;

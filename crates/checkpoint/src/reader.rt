@@ -1,6 +1,6 @@
 // A reader of checkpoints.
 ghost use Rattle.std.specs.Prelude.{◌≡◌, ◌≢◌, ◌++◌, ◌∷◌, [], IfOk, IfErr, OnErr};
-ghost use Rattle.checkpoint.specs.Text.{BeginsText};
+ghost use Rattle.checkpoint.specs.Text.{BeginsText, IsUnfinished};
 ghost use Rattle.checkpoint.specs.Taking.{lines_taken, HasTaken};
 
 use crate::form::Form;
@@ -59,6 +59,14 @@ impl Reader {
         Ok(Reader {
             reading: Reading::new(alloc, form)?,
         })
+    }
+
+    /// The lines that it took begin a checkpoint and hold no whole one. The call does nothing but tell a proof of this.
+    pub fn goes_on(&self)
+        requires { self.now.stage ≢ Stage.Ended }
+        ensures { IsUnfinished self.now.form (lines_taken self.now) }
+    {
+        let _ended = self.reading.has_ended();
     }
 
     /// Takes the next line, which stands without its line feed. Where it is refused the reader is as it was.
