@@ -1,19 +1,17 @@
 -- A Coalesce from instant to instant, and what new edges leave of what is kept.
-use Rattle.std.specs.Prelude.{◌≡◌, ℕ, zero, suc, ◌+◌, ◌-◌, ◌<◌, ◌≤◌, nat_eq, true, false, cond, List, [], ◌∷◌, ◌++◌, flat_map, take, drop, replicate, length, get_or, refl}
+use Rattle.std.specs.Prelude.{◌≡◌, ℕ, zero, suc, ◌+◌, ◌-◌, ◌<◌, ◌≤◌, nat_eq, cond, List, [], ◌∷◌, ◌++◌, take, drop, replicate, refl}
 use Rattle.std.proofs.Common.{inl, inr, sym, ◌∙◌, ap, subst, arith}
 use Rattle.std.proofs.lemmas.Bool.Decides.{nat_tests}
-use Rattle.std.proofs.lemmas.List.{append-nil, map-append, take_more}
-use Rattle.std.proofs.lemmas.Grind.{flat_map-append}
+use Rattle.std.proofs.lemmas.List.{append-nil}
 use Rattle.tw_rows.specs.Instant.{inf}
 use Rattle.tw_rows.specs.Bag.{SameBag, total}
 use Rattle.tw_rows.specs.Event.{alive, cut, AreEvents}
 use Rattle.tw_rows.specs.SameCells.{same_cells}
-use Rattle.tw_rows.specs.declared.cells.Datum.{Datum}
 use Rattle.tw_rows.specs.declared.edge.Edge.{Edge}
 use Rattle.tw_rows.specs.declared.edge.HeldRow.{HeldRow}
 use Rattle.tw_rows.proofs.Bags.{total-append}
 use Rattle.tw_rows.proofs.Lives.{alive_known}
-use Rattle.edge_history.specs.Order.{failing, is_end}
+use Rattle.edge_history.specs.Order.{failing}
 use Rattle.edge_history.specs.History.{CellEvent}
 use Rattle.edge_history.specs.Balance.{news}
 use Rattle.edge_history.specs.Opens.{bare, started_of, started_rows}
@@ -27,7 +25,7 @@ use Rattle.sweep_laws.specs.Sweeps.{is_at, IsPast, StartsAt, IsDue, Tells, IsNex
 use Rattle.sweep_laws.proofs.QueueMoves.{edges_move}
 use Rattle.sweep_laws.proofs.Queueing.{queues_next, touched_told}
 use Rattle.sweep_laws.proofs.Sides.{side_now, side_none, side_rest, starts_between, some_done, tells_parts, tells_still}
-use Rattle.coalesce_op.specs.Coalesces.{coalesces, MovesBy}
+use Rattle.coalesce_op.specs.Coalesces.{coalesces}
 use Rattle.coalesce_op.specs.Holding.{CoalesceReached}
 
 -- BETWEEN INSTANTS
@@ -115,44 +113,6 @@ pub next_done : (t n : ℕ) (rest : List Edge) → IsNext t rest [] → IsPast t
 next_done t n rest next past = let h = some_done t n 0 rest [] next past tt in omega (arith, h)
 
 -- THE ROWS OF AN INSTANT
-bare_append : (xs ys : List HeldRow) → bare (xs ++ ys) ≡ bare xs ++ bare ys
-bare_append xs ys = map-append (λ (r : HeldRow). r.cells) xs ys
-
--- one more edge
-pub rows_more : (f : Edge → List HeldRow) (now : List Edge) (i : ℕ) (x : Edge) (old new : List (List Datum)) → i < length now → x ≡ get_or now i x →
-    new ≡ old ++ bare (f x) → old ≡ bare (flat_map f (take i now)) → new ≡ bare (flat_map f (take (i + 1) now))
-rows_more f now i x old new low is more so =
-    more
-    ∙ (ap (λ l. l ++ bare (f x)) so
-    ∙ (sym (bare_append (flat_map f (take i now)) (f x))
-    ∙ sym (ap (λ l. bare (flat_map f l)) (take_more now i x low ∙ ap (λ y. take i now ++ y ∷ []) (sym is))
-    ∙ ap bare (flat_map-append f (take i now) (x ∷ []) ∙ ap (λ l. flat_map f (take i now) ++ l) (append-nil (f x))))))
-
--- the rows of an edge that stands alone
-pub lone_rows : (f : Edge → List HeldRow) (now : List Edge) (x d : Edge) → length now ≡ 1 → x ≡ get_or now 0 d → bare (flat_map f now) ≡ bare (f x)
-lone_rows f [] x d one is = absurd (omega (arith, one))
-lone_rows f (y ∷ []) x d one is = ap bare (append-nil (f y)) ∙ ap (λ z. bare (f z)) (sym is)
-lone_rows f (y ∷ z ∷ now) x d one is = absurd (omega (arith, one))
-
--- by an edge alone its row ends, or starts
-pub end_alone : (f : ℕ → List (List Datum)) (t : ℕ) (x : Edge) (cells : List Datum) → is_end x ≡ true → cells ≡ x.cells → MovesBy f t x →
-    AreMoves same_cells f t (λ r. how_often same_cells r (cells ∷ [])) (λ r. how_often same_cells r [])
-end_alone f t x cells is same moves = λ r.
-    let m = moves r in
-    let a = ap (λ b. how_often same_cells r (bare (cond b (record { cells = x.cells; start = x.other } ∷ []) []))) is in
-    let b = ap (λ b. how_often same_cells r (bare (cond b [] (record { cells = x.cells; start = x.sync } ∷ [])))) is in
-    let k = ap (λ l. how_often same_cells r (l ∷ [])) same in
-    omega (arith, m, a, b, k)
-
-pub start_alone : (f : ℕ → List (List Datum)) (t : ℕ) (x : Edge) (cells : List Datum) → is_end x ≡ false → cells ≡ x.cells → MovesBy f t x →
-    AreMoves same_cells f t (λ r. how_often same_cells r []) (λ r. how_often same_cells r (cells ∷ []))
-start_alone f t x cells is same moves = λ r.
-    let m = moves r in
-    let a = ap (λ b. how_often same_cells r (bare (cond b (record { cells = x.cells; start = x.other } ∷ []) []))) is in
-    let b = ap (λ b. how_often same_cells r (bare (cond b [] (record { cells = x.cells; start = x.sync } ∷ [])))) is in
-    let k = ap (λ l. how_often same_cells r (l ∷ [])) same in
-    omega (arith, m, a, b, k)
-
 -- edges of one instant start rows there
 pub started_there : (t : ℕ) (now : List Edge) → failing (is_at t) now ≡ 0 → rows_at t (bare (started_rows now)) ≡ started_rows now
 started_there t [] h = refl

@@ -52,7 +52,7 @@ impl Side {
     {
         let due = take_in(&mut self.waiting, self.alloc, left, to)?;
         let mut answer = Vec::new(self.alloc);
-        sweep(&mut self.queues, &mut answer, self.alloc, due.as_slice())?;
+        sweep(&mut self.queues, &mut answer, due.as_slice())?;
         Ok(answer)
     }
 }

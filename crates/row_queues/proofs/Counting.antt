@@ -10,7 +10,7 @@ use Rattle.tw_rows.specs.declared.cells.Datum.{Datum}
 use Rattle.tw_rows.proofs.Bags.{total-append}
 use Rattle.edge_history.specs.Order.{failing}
 use Rattle.key_nodes.specs.Coalesced.{how_often}
-use Rattle.row_queues.specs.declared.queues.Moves.{Moves}
+use Rattle.row_queues.specs.declared.moves.Moves.{Moves}
 use Rattle.row_queues.specs.Kept.{AreOnce}
 use Rattle.row_queues.proofs.Once.{either_way}
 use Rattle.row_queues.specs.declared.gathering.Counts.{Counts}

@@ -1,4 +1,5 @@
 pub mod Ending
+pub mod Compared
 pub mod Opened
 pub mod Telling
 pub mod Counting
@@ -7,3 +8,7 @@ pub mod Ordered
 pub mod OpenRows
 pub mod Saved
 pub mod Lone
+pub mod MarkedRows
+pub mod EdgesApart
+pub mod HeldRows
+pub mod Moving

@@ -12,7 +12,7 @@ use Rattle.sweep_laws.specs.Queues.{AreMoves, open_starts, queue_told}
 use Rattle.sweep_laws.specs.Sweeps.{InOrder, Tells}
 use Rattle.sweep_laws.proofs.Ordering.{order_later}
 use Rattle.sweep_laws.proofs.Queueing.{touched_told}
-use Rattle.row_queues.specs.declared.queues.Moves.{Moves}
+use Rattle.row_queues.specs.declared.moves.Moves.{Moves}
 use Rattle.row_queues.specs.Kept.{ends_of, starts_of, rows_of, AreOnce}
 use Rattle.row_queues.proofs.Once.{cells_tell, either_way, none_of, all_distinct}
 use Rattle.row_queues.proofs.Ordered.{starts_early}

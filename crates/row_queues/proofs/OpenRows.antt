@@ -83,6 +83,11 @@ module _ {S : Type 0} where
       go true is rest = ap (λ l. e.1.items ++ l) (absent e.0 c is es h.0) ∙ append-nil e.1.items
       go false is rest = rest
 
+-- the queue of a row, among a few and in a map
+pub held_is : {S : Type 0} (few : List HeldRow) (es : List (List Datum × VecDeque ℕ S)) (c : List Datum) → IsDistinct same_cells (keys_of es) →
+    queue_of (few ++ rows_in es) c ≡ queue_of few c ++ times_if (lookup (same_cells c) es)
+held_is few es c unique = queue_append few (rows_in es) c ∙ ap (λ l. queue_of few c ++ l) (queue_is es c unique)
+
 -- WEIGHTS OF ROWS, QUEUE BY QUEUE
 module _ (w : HeldRow → ℕ) where
   abbrev part : List HeldRow → List Datum → ℕ

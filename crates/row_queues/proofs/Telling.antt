@@ -10,7 +10,7 @@ use Rattle.tw_rows.proofs.Bags.{total-append, total-flat_map, total-map, total-a
 use Rattle.edge_history.specs.Order.{failing}
 use Rattle.edge_history.proofs.Sums.{sum_eq}
 use Rattle.sweep_laws.specs.Queues.{queue_ends, queue_starts, queue_told}
-use Rattle.row_queues.specs.declared.queues.Moves.{Moves}
+use Rattle.row_queues.specs.declared.moves.Moves.{Moves}
 use Rattle.row_queues.specs.Kept.{ends_of, starts_of, rows_of, AreOnce}
 
 pub no_ends : (at count : ℕ) (cells : List Datum) (answer : List Edge) (since : List ℕ) → since ≡ [] → answer ≡ answer ++ queue_ends at count cells since

@@ -1,9 +1,9 @@
 -- Counts of rows in a map.
-use Rattle.std.specs.Prelude.{ℕ, Option, Some, None, List}
+use Rattle.std.specs.Prelude.{ℕ, Option, Some, None, List, map}
 use Rattle.indexmap.specs.IndexMap.{get, IndexMap}
 use Rattle.tw_rows.specs.SameCells.{same_cells}
 use Rattle.tw_rows.specs.declared.cells.Datum.{Datum}
-use Rattle.row_queues.specs.declared.queues.Moves.{Moves}
+use Rattle.row_queues.specs.declared.moves.Moves.{Moves}
 use Rattle.row_queues.specs.declared.gathering.Counts.{Counts}
 
 abbrev pub ends_if : Option Counts → ℕ
@@ -24,3 +24,7 @@ starts_at counts c = starts_if (get same_cells counts c)
 -- an entry as moves
 abbrev pub as_moves : (List Datum × Counts) → Moves
 as_moves e = record { cells = e.0; ends = e.1.ends; starts = e.1.starts }
+
+-- a move of each row, which ends and starts so often
+abbrev pub each_moves : ℕ → ℕ → List (List Datum) → List Moves
+each_moves ends starts rows = map (λ c. record { cells = c; ends = ends; starts = starts }) rows

@@ -2,3 +2,5 @@
 pub mod Queued
 pub mod Kept
 pub mod Counted
+pub mod Marked
+pub mod Holding

@@ -7,7 +7,8 @@ ghost use Rattle.key_nodes.specs.Coalesced.{how_often};
 ghost use Rattle.row_queues.specs.Kept.{ends_of, starts_of, AreOnce};
 ghost use Rattle.row_queues.specs.Counted.{ends_at, starts_at, as_moves};
 
-use crate::queues::Moves;
+use crate::few::few_moves;
+use crate::moves::Moves;
 use indexmap::IndexMap;
 use std::alloc::Global;
 use tw_rows::{Cells, Memory};
@@ -131,6 +132,9 @@ pub(crate) fn gather(alloc: Global, lost: &[Cells], won: &[Cells]) -> Result<Vec
     ensures ends { IfOk result (λ moves. (c : List Datum) → ends_of moves.items c ≡ how_often same c lost.now) }
     ensures starts { IfOk result (λ moves. (c : List Datum) → starts_of moves.items c ≡ how_often same c won.now) }
 {
+    if let Some(moves) = few_moves(alloc, lost, won)? {
+        return Ok(moves);
+    }
     let mut counted = IndexMap::new(alloc);
     count_lost(&mut counted, lost)?;
     count_won(&mut counted, won)?;

@@ -2,8 +2,13 @@
 //! answer: a row that ends ends its first open start.
 #![tactic(auto)]
 
+mod edges;
+mod few;
+mod few_rows;
 mod gathering;
+mod held;
 mod instant;
+mod moves;
 mod queues;
 mod row_queues;
 mod saving;

@@ -9,7 +9,7 @@ ghost use Rattle.tw_rows.specs.declared.edge.Edge.{Edge as Told};
 ghost use Rattle.tw_rows.specs.SameCells.{same_cells as same};
 ghost use Rattle.sweep_laws.specs.Queues.{queue_ends, queue_starts, queue_told, queue_after};
 ghost use Rattle.sweep_laws.specs.Sweeps.{InOrder};
-ghost use Rattle.row_queues.specs.Kept.{since_at, EachIsOpen, AreEarly, ends_of, starts_of, rows_of, AreOnce};
+ghost use Rattle.row_queues.specs.Kept.{since_at, EachIsOpen};
 
 use indexmap::IndexMap;
 use std::alloc::Global;
@@ -19,16 +19,9 @@ use tw_rows::{Cells, Edge, Memory, Time};
 /// The open starts of each row, the first to end first.
 pub type Starts = IndexMap<Cells, VecDeque<Time>>;
 
-/// How often a row ends and starts at an instant.
-#[derive(Drop)]
-pub(crate) struct Moves {
-    pub(crate) cells: Cells,
-    pub(crate) ends: usize,
-    pub(crate) starts: usize,
-}
-
+/// Tells a start.
 #[tactic(auto, unfolding(tw_rows::specs::Instant::inf))]
-fn push_start(answer: &mut Vec<Edge>, at: Time, cells: &Cells) -> Result<(), Memory>
+pub(crate) fn push_start(answer: &mut Vec<Edge>, at: Time, cells: &Cells) -> Result<(), Memory>
     ensures { OnOk result (answer.new.items ≡ answer.old.items ++ record { sync = at; other = inf; cells = cells.now } ∷ []) }
 {
     answer.push(Edge {
@@ -82,8 +75,8 @@ pub fn put_back(starts: &mut Starts, cells: &Cells, since: VecDeque<Time>) -> Re
     Ok(())
 }
 
-// Ends a row so often.
-fn end_row(
+/// Ends a row so often.
+pub(crate) fn end_row(
     starts: &mut Starts,
     answer: &mut Vec<Edge>,
     at: Time,
@@ -142,116 +135,4 @@ pub fn open_row(
     let kept = cells.clone()?;
     starts.insert(kept, since)?;
     Ok(())
-}
-
-fn push_starts(answer: &mut Vec<Edge>, at: Time, cells: &Cells, count: usize) -> Result<(), Memory>
-    ensures { OnOk result (answer.new.items ≡ answer.old.items ++ queue_starts at count cells.now) }
-{
-    for _ in 0..count {
-        push_start(answer, at, cells)?;
-    }
-    Ok(())
-}
-
-// Starts a row so often.
-fn start_row(
-    starts: &mut Starts,
-    answer: &mut Vec<Edge>,
-    alloc: Global,
-    at: Time,
-    cells: &Cells,
-    count: usize,
-) -> Result<(), Memory>
-    ensures since { OnOk result ((c : List Datum) → since_at starts.new c
-        ≡ cond (same cells.now c) (since_at starts.old c ++ replicate count at)
-        (since_at starts.old c)) }
-    ensures told { OnOk result (answer.new.items ≡ answer.old.items ++ queue_starts at count cells.now) }
-    ensures filled { EachIsOpen starts.old → EachIsOpen starts.new }
-{
-    if count == 0 {
-        return Ok(());
-    }
-    push_starts(answer, at, cells, count)?;
-    open_row(starts, alloc, cells, at, count)
-}
-
-// Ends the rows that end more often than they start.
-fn end_all(
-    starts: &mut Starts,
-    answer: &mut Vec<Edge>,
-    at: Time,
-    moves: &[Moves],
-) -> Result<(), Memory>
-    ensures since { OnOk result (AreOnce moves.now → (c : List Datum) → since_at starts.new c
-        ≡ drop (ends_of moves.now c - starts_of moves.now c) (since_at starts.old c)) }
-    ensures told { OnOk result (AreOnce moves.now → (w : Told → ℕ) → total w answer.new.items
-        ≡ total w answer.old.items + total
-        (λ m. total w (queue_ends at (m.ends - m.starts) m.cells
-        (since_at starts.old m.cells))) moves.now) }
-    ensures order { OnOk result (AreEarly at starts.old →
-        InOrder (2 * at) answer.old.items → InOrder (2 * at) answer.new.items) }
-    ensures filled { EachIsOpen starts.old → EachIsOpen starts.new }
-{
-    for moved in moves {
-        end_row(
-            starts,
-            answer,
-            at,
-            &moved.cells,
-            moved.ends.saturating_sub(moved.starts),
-        )?;
-    }
-    Ok(())
-}
-
-// Starts the rows that start more often than they end.
-fn start_all(
-    starts: &mut Starts,
-    answer: &mut Vec<Edge>,
-    alloc: Global,
-    at: Time,
-    moves: &[Moves],
-) -> Result<(), Memory>
-    ensures since { OnOk result (AreOnce moves.now → (c : List Datum) → since_at starts.new c
-        ≡ since_at starts.old c ++ replicate (starts_of moves.now c - ends_of moves.now c) at) }
-    ensures told { OnOk result ((w : Told → ℕ) → total w answer.new.items
-        ≡ total w answer.old.items + total
-        (λ m. total w (queue_starts at (m.starts - m.ends) m.cells)) moves.now) }
-    ensures order { OnOk result (at < inf →
-        InOrder (suc (2 * at)) answer.old.items → InOrder (suc (2 * at)) answer.new.items) }
-    ensures filled { EachIsOpen starts.old → EachIsOpen starts.new }
-{
-    for moved in moves {
-        start_row(
-            starts,
-            answer,
-            alloc,
-            at,
-            &moved.cells,
-            moved.starts.saturating_sub(moved.ends),
-        )?;
-    }
-    Ok(())
-}
-
-/// Tells what an instant shows of the rows that moved, ends first, and keeps their open starts.
-pub(crate) fn tell(
-    starts: &mut Starts,
-    answer: &mut Vec<Edge>,
-    alloc: Global,
-    at: Time,
-    moves: &[Moves],
-) -> Result<(), Memory>
-    ensures since { OnOk result (AreOnce moves.now → (c : List Datum) → since_at starts.new c
-        ≡ queue_after at (ends_of moves.now) (starts_of moves.now) (since_at starts.old) c) }
-    ensures told { OnOk result (AreOnce moves.now → (w : Told → ℕ) → total w answer.new.items
-        ≡ total w answer.old.items
-        + total w (flat_map (queue_told at (ends_of moves.now) (starts_of moves.now)
-        (since_at starts.old)) (rows_of moves.now))) }
-    ensures order { OnOk result (at < inf → AreEarly at starts.old →
-        InOrder (2 * at) answer.old.items → InOrder (suc (2 * at)) answer.new.items) }
-    ensures filled { EachIsOpen starts.old → EachIsOpen starts.new }
-{
-    end_all(starts, answer, at, moves)?;
-    start_all(starts, answer, alloc, at, moves)
 }

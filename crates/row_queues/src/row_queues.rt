@@ -1,18 +1,23 @@
 // Rows with their open starts.
-ghost use Rattle.std.specs.Prelude.{◌≡◌, ◌<◌, ◌+◌, ◌-◌, ◌^◌, ◌≤◌, ◌++◌, ◌∷◌, [], ℕ, suc, cond, length, min, List, IfOk, OnOk};
+ghost use Rattle.std.specs.Prelude.{◌≡◌, ◌<◌, ◌+◌, ◌-◌, ◌^◌, ◌≤◌, ◌++◌, ◌∷◌, [], ℕ, suc};
+ghost use Rattle.std.specs.Prelude.{cond, length, min, List, IfOk, OnOk};
 ghost use Rattle.tw_rows.specs.Bag.{total};
 ghost use Rattle.tw_rows.specs.Instant.{inf};
 ghost use Rattle.tw_rows.specs.SameCells.{same_cells as same};
 ghost use Rattle.tw_rows.specs.declared.edge.HeldRow.{HeldRow};
+ghost use Rattle.edge_history.specs.Opens.{bare, ended_rows, started_rows};
 ghost use Rattle.key_nodes.specs.Coalesced.{how_often, coalesced};
 ghost use Rattle.sweep_laws.specs.Queues.{Cells as Row, AreMoves};
 ghost use Rattle.sweep_laws.specs.Sweeps.{Tells};
 ghost use Rattle.sweep_laws.specs.Saving.{starts_of, rows_of};
 ghost use Rattle.carried_edges.specs.Entries.{entries_of, part_of};
-ghost use Rattle.row_queues.specs.Queued.{queue_of, rows_at, AreQueues};
+ghost use Rattle.row_queues.specs.Queued.{queue_of, rows_at, AreQueues, EdgesLead};
 
+use crate::edges::tell_edges;
+use crate::few_rows::FewRows;
+use crate::held::Held;
 use crate::instant::tell_instant;
-use crate::queues::{Starts, open_row};
+use crate::queues::open_row;
 use crate::saving::{save_starts, start_count};
 use carried_edges::edges_of_part;
 use edge_stream::Saved;
@@ -26,19 +31,19 @@ use tw_rows::{Cells, Edge, Memory, Time};
 #[derive(Drop)]
 pub struct RowQueues {
     alloc: Global,
-    starts: Starts,
+    held: Held,
 }
 
 impl Model for RowQueues {
-    ghost use Rattle.std.specs.Prelude.{List};
+    ghost use Rattle.std.specs.Prelude.{List, ◌++◌};
     ghost use Rattle.tw_rows.specs.declared.edge.HeldRow.{HeldRow};
     ghost use Rattle.row_queues.specs.Kept.{rows_in, EachIsOpen};
 
     ghost Value = { List HeldRow };
 
-    ghost view = { λ q. rows_in q.starts.entries };
+    ghost view = { λ q. q.held.few ++ rows_in q.held.starts.entries };
 
-    ghost invariant = { λ q. EachIsOpen q.starts };
+    ghost invariant = { λ q. EachIsOpen q.held.starts };
 }
 
 // The rows that the edges start.
@@ -59,7 +64,10 @@ impl RowQueues {
     {
         RowQueues {
             alloc,
-            starts: IndexMap::new(alloc),
+            held: Held {
+                few: FewRows::new(alloc),
+                starts: IndexMap::new(alloc),
+            },
         }
     }
 
@@ -80,9 +88,29 @@ impl RowQueues {
             total w self.new ≤ total w self.old + total w (rows_at at won.now)) }
     {
         // Their calls tell the proof that no row stands twice.
-        let _ = self.starts.len();
-        tell_instant(&mut self.starts, answer, self.alloc, at, lost, won)?;
-        let _ = self.starts.len();
+        let _ = self.held.starts.len();
+        tell_instant(&mut self.held, answer, self.alloc, at, lost, won)?;
+        let _ = self.held.starts.len();
+        Ok(())
+    }
+
+    /// Takes the edges of one instant: the row of each end is lost, and the row of each start is won.
+    pub fn move_edges(
+        &mut self,
+        answer: &mut Vec<Edge>,
+        at: Time,
+        now: &[Edge],
+    ) -> Result<(), Memory>
+        ensures moved { OnOk result ((f : ℕ → List Row) → at < inf →
+            EdgesLead f at now.now → AreQueues f at self.old → AreQueues f (suc at) self.new
+            × Tells (coalesced same f) at (suc at) answer.old.items answer.new.items) }
+        ensures rows { OnOk result ((w : HeldRow → ℕ) →
+            total w self.new ≤ total w self.old + total w (rows_at at (bare (started_rows now.now)))) }
+    {
+        // Their calls tell the proof that no row stands twice.
+        let _ = self.held.starts.len();
+        tell_edges(&mut self.held, answer, self.alloc, at, now)?;
+        let _ = self.held.starts.len();
         Ok(())
     }
 
@@ -91,9 +119,9 @@ impl RowQueues {
         ensures { OnOk result ((c : Row) → queue_of self.new c
             ≡ queue_of self.old c ++ cond (same cells.now c) (start ∷ []) []) }
     {
-        let _ = self.starts.len();
-        open_row(&mut self.starts, self.alloc, cells, start, 1)?;
-        let _ = self.starts.len();
+        let _ = self.held.starts.len();
+        open_row(&mut self.held.starts, self.alloc, cells, start, 1)?;
+        let _ = self.held.starts.len();
         Ok(())
     }
 
@@ -101,14 +129,16 @@ impl RowQueues {
     pub fn len(&self) -> u64
         ensures { result ≡ min (length self.now) (2 ^ 64 - 1) }
     {
-        start_count(&self.starts)
+        start_count(&self.held.starts).saturating_add(self.held.few.len() as u64)
     }
 
     /// Adds the open starts as entries of that part.
     pub fn save(&self, saved: &mut Saved, part: u64) -> Result<(), Memory>
         ensures { OnOk result (saved.new ≡ saved.old ++ entries_of part (starts_of self.now)) }
     {
-        save_starts(saved, part, &self.starts)
+        self.held.few.save(saved, part)?;
+        save_starts(saved, part, &self.held.starts)?;
+        Ok(())
     }
 
     /// The rows that the entries of that part start. The entries of one row are its queue, in their order.

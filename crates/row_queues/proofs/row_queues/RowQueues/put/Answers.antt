@@ -1,16 +1,20 @@
 use Rattle.std.proofs.Common.{sym, ◌∙◌, ap, ◌++◌}
 use Rattle.std.specs.Prelude.{cond, []}
 use Rattle.std.specs.Prelude.{◌∷◌}
+use Rattle.std.proofs.lemmas.List.{append_assoc}
 use Rattle.tw_rows.specs.SameCells.{same_cells}
 use Rattle.row_queues.specs.Kept.{since_at}
 use Rattle.row_queues.specs.Queued.{queue_of}
-use Rattle.row_queues.proofs.OpenRows.{queue_is, queue_put}
+use Rattle.row_queues.proofs.OpenRows.{held_is, queue_put}
 use Rattle.row_queues.proofs.row_queues.RowQueues.put.Goals as goal
 
 pub returns : goal.returns
 returns c = λ q.
-    let old = c.self.inside.starts in
+    let few = c.self.inside.held.few in
+    let old = c.self.inside.held.starts in
     let new = c.open_row.new.starts in
-    queue_is new.entries q c.len-2.ensures.unique
-    ∙ (queue_put (since_at old q) (since_at new q) (same_cells c.args.cells.now q) c.args.start (c.in_ok-open_row.ensures.since q)
-    ∙ ap (λ l. l ++ cond (same_cells c.args.cells.now q) (c.args.start ∷ []) []) (sym (queue_is old.entries q c.len.ensures.unique) ∙ ap (λ l. queue_of l q) c.self.view_is))
+    let more = cond (same_cells c.args.cells.now q) (c.args.start ∷ []) [] in
+    held_is few new.entries q c.len-2.ensures.unique
+    ∙ (ap (λ l. queue_of few q ++ l) (queue_put (since_at old q) (since_at new q) (same_cells c.args.cells.now q) c.args.start (c.in_ok-open_row.ensures.since q))
+    ∙ (sym (append_assoc (queue_of few q) (since_at old q) more)
+    ∙ ap (λ l. l ++ more) (sym (held_is few old.entries q c.len.ensures.unique) ∙ ap (λ l. queue_of l q) c.self.view_is)))
