@@ -20,3 +20,6 @@ pub mod Bounding
 pub mod Sure
 pub mod RowNodes
 pub mod LastRead
+pub mod SavedStages
+pub mod SavedVariants
+pub mod Reloading

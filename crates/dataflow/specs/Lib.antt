@@ -1,4 +1,4 @@
--- Callers read Faults, Lists, Stages, Shards and Flows; private contracts alone cite Operating, Held, Readers and Closings.
+-- Callers read Faults, Lists, Stages, Shards, Flows and Saving; private contracts alone cite Operating, Held, Readers and Closings.
 pub mod Faults
 pub mod Lists
 pub mod Operating
@@ -8,3 +8,4 @@ pub mod Flows
 pub mod Held
 pub mod Readers
 pub mod Closings
+pub mod Saving

@@ -1,8 +1,9 @@
 // A plan at work.
-ghost use Rattle.std.specs.Prelude.{◌≡◌, ◌<◌, ◌≤◌, ℕ, true, false, Some, None, Err, List, [], slice_get, IfOk, IfErr, OnOk, OnErr};
+ghost use Rattle.std.specs.Prelude.{◌≡◌, ◌<◌, ◌≤◌, ℕ, true, false, Some, None, Err, List, [], map, slice_get, IfOk, IfErr, OnOk, OnErr};
 ghost use Rattle.tw_rows.specs.Texts.{BeginsWith};
+ghost use Rattle.tw_rows.specs.declared.edge.Edge.{Edge};
 ghost use Rattle.plan_model.specs.declared.node.Node.{Node};
-ghost use Rattle.plan_model.specs.IsPlan.{kinds_at, most_columns};
+ghost use Rattle.plan_model.specs.IsPlan.{IsPlan, kinds_at, most_columns};
 ghost use Rattle.node_laws.specs.Places.{EdgesArePlaced};
 ghost use Rattle.lane_expr.specs.Steps.{with_texts};
 ghost use Rattle.row_stage.specs.Texts.{HasFirstTexts};
@@ -10,14 +11,16 @@ ghost use Rattle.dataflow.specs.Lists.{edges_at, AreOfStreams, IsListOf};
 ghost use Rattle.dataflow.specs.declared.stage.Stage.{Stage as Kept};
 ghost use Rattle.dataflow.specs.Stages.{StandsAsMade};
 ghost use Rattle.dataflow.specs.Shards.{RunAll};
-ghost use Rattle.dataflow.specs.Flows.{MayStep, StepsOn, Flows, GivesOn, OverflowsAt, held_from};
+ghost use Rattle.dataflow.specs.Flows.{CanStep, MayStep, StepsOn, Flows, GivesOn, OverflowsAt, held_from};
+ghost use Rattle.dataflow.specs.Saving.{SavesAll, AreStates, AreStored, FlowsResume};
 ghost use Rattle.dataflow.specs.Held.{AreFresh, nodes_in_all};
 
 use crate::fault::PlanFault;
+use crate::saving::{load_all, save_all};
 use crate::stage::Stage;
 use crate::steps::{are_all_sure, step_all};
 use batch::Pools;
-use edge_stream::EdgeList;
+use edge_stream::{EdgeList, LoadFault, Saved};
 use plan_model::Plan;
 use shard_apply::Gate;
 use std::alloc::Global;
@@ -226,5 +229,63 @@ impl Dataflow {
         );
         self.fault = fault_in(&stepped);
         stepped
+    }
+}
+
+// What each step answers once lists were taken up, where it is a fault.
+fn fault_after(loaded: &Result<(), LoadFault>) -> Option<PlanFault>
+    ensures ok { OnOk loaded.now (result ≡ None) }
+    ensures err { OnErr loaded.now (result ≡ Some PlanFault.Memory) }
+{
+    match loaded {
+        Ok(()) => None,
+        Err(_) => Some(PlanFault::Memory),
+    }
+}
+
+impl Dataflow {
+    /// What each stage keeps, as entries, in order of number: for each a list for each of its shards, and no more entries than
+    /// it keeps. No step failed.
+    pub fn save(&self) -> Result<Vec<Vec<Saved>>, Memory>
+        requires { (texts : List (List ℕ)) × ((last : ℕ) × CanStep texts last self.now) }
+        ensures saves { IfOk result (λ saved. SavesAll self.now.stages (map (λ v. v.items) saved.items)) }
+        ensures states { IfOk result (λ saved. (texts : List (List ℕ)) (last : ℕ) → CanStep texts last self.now →
+            AreStates self.now.workers self.now.plan last (map (λ v. v.items) saved.items)) }
+        ensures resumes { IfOk result (λ saved. (texts : List (List ℕ)) (last : ℕ) (given lists : ℕ → List Edge) →
+            Flows texts last given lists self.now →
+            FlowsResume texts last given lists self.now.workers self.now.plan (map (λ v. v.items) saved.items)) }
+        ensures stored { IfOk result (λ saved. IsPlan self.now.plan → AreStored self.now.plan (map (λ v. v.items) saved.items)) }
+    {
+        save_all(self.alloc, &self.stages)
+    }
+
+    /// Takes up what was saved once the punctuation `last` was worked through, 0 before the first one. Each stage stands as it
+    /// was made. It is refused where the lists are no state of the plan, for this number of workers. After a fault the plan is
+    /// of no more use: each step answers Memory.
+    pub fn load(&mut self, saved: &[Vec<Saved>], last: Time) -> Result<(), LoadFault>
+        requires made { (i : ℕ) (s : Kept) → slice_get self.old.stages i ≡ Some s → StandsAsMade s }
+        requires can { (texts : List (List ℕ)) × CanStep texts 0 self.old }
+        ensures can { OnOk result ((texts : List (List ℕ)) → CanStep texts 0 self.old → CanStep texts last self.new) }
+        ensures flows { OnOk result ((texts then : List (List ℕ)) (given lists : ℕ → List Edge) →
+            CanStep texts 0 self.old → BeginsWith texts then →
+            FlowsResume then last given lists self.old.workers self.old.plan (map (λ v. v.items) saved.now) →
+            Flows texts last given lists self.new) }
+        ensures states { OnOk result (AreStates self.old.workers self.old.plan last (map (λ v. v.items) saved.now)) }
+        ensures refused { IfErr result (λ fault. fault ≡ LoadFault.NotState →
+            AreStates self.old.workers self.old.plan last (map (λ v. v.items) saved.now) → ⊥) }
+        ensures stopped { OnErr result (self.new.fault ≡ Some PlanFault.Memory) }
+        ensures thawed { self.new.thawed ≡ true }
+        ensures plan { self.new.plan ≡ self.old.plan }
+        ensures capacity { self.new.capacity ≡ self.old.capacity }
+        ensures workers { self.new.workers ≡ self.old.workers }
+    {
+        self.thawed = true;
+        self.fault = Some(PlanFault::Memory);
+        if saved.len() != self.plan.nodes().len() {
+            return Err(LoadFault::NotState);
+        }
+        let loaded = load_all(&self.plan, &mut self.stages, saved, last);
+        self.fault = fault_after(&loaded);
+        loaded
     }
 }

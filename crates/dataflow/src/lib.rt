@@ -9,6 +9,7 @@ mod laws;
 mod making;
 mod readers;
 mod reading;
+mod saving;
 mod sharding;
 mod stage;
 mod steps;
