@@ -8,3 +8,5 @@ pub mod Keeping
 mod Examples
 pub mod Holding
 pub mod Sources
+pub mod Thawing
+pub mod Fitting

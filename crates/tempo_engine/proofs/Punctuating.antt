@@ -97,7 +97,7 @@ punctuated_run p e run above low i pools d g closed same released pooled wide pl
 }
 
 -- the text goes up to where the root is closed by the last punctuation
-closed_reached : (plan : PlanParts) → IsPlan plan → (w : Progress) → IsGoing (length plan.streams) w → closed_up plan 0 w.dues ≡ reached w.last (closes plan.nodes plan.root w.last)
+pub closed_reached : (plan : PlanParts) → IsPlan plan → (w : Progress) → IsGoing (length plan.streams) w → closed_up plan 0 w.dues ≡ reached w.last (closes plan.nodes plan.root w.last)
 closed_reached plan sound w going = go w.last refl
   where
     go : (last : ℕ) → w.last ≡ last → closed_up plan 0 w.dues ≡ reached last (closes plan.nodes plan.root w.last)

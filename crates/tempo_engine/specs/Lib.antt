@@ -1,4 +1,4 @@
--- Callers read Output, Texts, Faults, Fed and Held. Of Went they read what `Fed` says of the parts of an engine; Working, and the other
+-- Callers read Output, Texts, Faults, Fed, Held and Frozen. Of Went they read what `Fed` says of the parts of an engine; Working, and the other
 -- words of Went and Faults, are cited by private contracts alone.
 pub mod Output
 pub mod Texts
@@ -7,3 +7,5 @@ pub mod Went
 pub mod Fed
 pub mod Held
 pub mod Working
+pub mod Frozen
+pub mod Freezing

@@ -32,11 +32,11 @@ pub struct Options {
 /// A plan at work. `Fed` says which lines it took. Once a call answered a fault, each later one answers it again; after the
 /// end of the input nothing more is taken, and nothing answered.
 pub struct Engine {
-    parts: Parts,
+    pub(crate) parts: Parts,
     // the number of the last line, 0 before the first one
-    lines: u64,
-    fault: Option<EngineFault>,
-    ended: bool,
+    pub(crate) lines: u64,
+    pub(crate) fault: Option<EngineFault>,
+    pub(crate) ended: bool,
 }
 
 // By hand, so that a crate that lets an engine go cites this and not the destructors of all its parts.

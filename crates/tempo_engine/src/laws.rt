@@ -8,7 +8,9 @@ ghost use Rattle.admission.specs.declared.policy.Policy.{Policy};
 ghost use Rattle.admission.specs.Admission.{rows};
 ghost use Rattle.admission.specs.Entries.{Told};
 ghost use Rattle.admission.specs.Progress.{progress};
+ghost use Rattle.frozen_state.specs.Frozen.{FrozenView};
 ghost use Rattle.tempo_engine.specs.Fed.{FedBy};
+ghost use Rattle.tempo_engine.specs.Frozen.{Fits, IsState};
 ghost use Rattle.tempo_engine.specs.Went.{EngineView};
 
 use dataflow::answers_stand;
@@ -22,3 +24,9 @@ pub fn answers_of_lines_stand()
 {
     answers_stand();
 }
+
+/// What fits lines is a state, so that an engine can be made of it.
+pub fn what_fits_is_a_state()
+    ensures { (workers : ℕ) (plan : PlanParts) (policy : Policy) (lines : List Told) (f : FrozenView) →
+        Fits workers plan policy lines f → IsState workers plan f }
+{}

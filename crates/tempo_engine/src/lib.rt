@@ -3,10 +3,12 @@
 
 mod engine;
 mod fault;
+mod freezing;
+mod frozen_engine;
 mod laws;
 mod parts;
 
 pub use engine::{Engine, Options};
 pub use fault::EngineFault;
-pub use laws::answers_of_lines_stand;
+pub use laws::{answers_of_lines_stand, what_fits_is_a_state};
 pub use parts::Parts;

@@ -69,7 +69,7 @@ fn is_before(a: Time, b: Time) -> bool
 }
 
 // The kinds of the columns of the result.
-fn kinds_of_result(alloc: Global, plan: &Plan) -> Result<Vec<Kind>, Memory>
+pub(crate) fn kinds_of_result(alloc: Global, plan: &Plan) -> Result<Vec<Kind>, Memory>
     ensures { IfOk result (λ kinds. kinds.items ≡ result_kinds plan.now) }
 {
     let schemas = plan.schemas();
