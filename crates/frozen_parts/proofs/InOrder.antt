@@ -15,8 +15,7 @@ pub never_falls : (saved : List SavedEntry) → ((cells : List Datum) → IsNonD
     ((cells : List Datum) → IsNonDecreasing (map (λ e. e.other) (filter (λ e. same_cells e.cells cells) saved))) → NeverFalls saved
 never_falls saved starts others = λ i j d below low same.
     let cells = (get_or saved j d).cells in
-    let pi : same_cells (get_or saved i d).cells cells ≡ true = rw same (same_itself cells) in
-    (
+    let pi : same_cells (get_or saved i d).cells cells ≡ true = rw same (same_itself cells) in (
       passing_rise (λ (e : SavedEntry). same_cells e.cells cells) (λ e. e.sync) saved (starts cells) i j d below low pi (same_itself cells),
       passing_rise (λ (e : SavedEntry). same_cells e.cells cells) (λ e. e.other) saved (others cells) i j d below low pi (same_itself cells),
     )
