@@ -1,5 +1,6 @@
 -- Several rounds of edges, each with the times up to which the sides are closed, taken in turn.
-use Rattle.std.specs.Prelude.{◌≡◌, ℕ, suc, ◌<◌, Option, Some, None, List, [], ◌∷◌, ◌++◌, map, fold, flat_map, length, take, Result, Ok, Err, IsOk, IfOk, IfErr, OnOk, All, slice_index_or}
+use Rattle.std.specs.Prelude.{◌≡◌, ℕ, suc, ◌<◌, Option, Some, None, Result, Ok, Err, IsOk, IfOk, IfErr, OnOk}
+use Rattle.std.specs.Prelude.{List, [], ◌∷◌, ◌++◌, map, fold, flat_map, length, take, All, slice_index_or}
 use Rattle.tw_rows.specs.Bag.{SameBag}
 use Rattle.edge_history.specs.Order.{KeepsOrder}
 use Rattle.edge_stream.specs.Listing.{EdgeListView, cells_of}

@@ -42,7 +42,8 @@ pub record IsSoundKept (workers : ℕ) (plan : PlanParts) (k : KeptView) : Type 
 
 -- they are what the parts of an engine of the plan keep once lines gave w, with places in the table, where the streams gave
 -- these edges, and the nodes answered with these
-pub record FitsProgress (workers : ℕ) (plan : PlanParts) (w : Progress) (given lists : ℕ → List Edge) (texts : List (List ℕ)) (k : KeptView) : Type 0 where
+pub record FitsProgress (workers : ℕ) (plan : PlanParts) (w : Progress) (given lists : ℕ → List Edge) (texts : List (List ℕ))
+    (k : KeptView) : Type 0 where
   pub last : k.last ≡ w.last
   pub input : Resumes (stream_cells plan.streams) k.input (time_at k.bounds) (time_at k.marks) k.last texts w.after given
   pub nodes : FlowsResume texts w.last given lists workers plan k.nodes
