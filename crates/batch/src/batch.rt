@@ -6,9 +6,12 @@ ghost use Rattle.tw_rows.specs.Cells.{datum_kind};
 ghost use Rattle.batch.specs.Rows.{Row, Table, edge_of, edges_of, occupied_rows, row_of, kept, cell_column};
 ghost use Rattle.batch.specs.Payloads.{payload_kind, payload_data, payload_capacity};
 ghost use Rattle.batch.specs.Columns.{IsColumn, with_cells};
+ghost use Rattle.batch.specs.Shelves.{batch_given};
 
 use crate::columns::{clear_columns, copy_cells, push_cells};
+use crate::making::give_columns;
 use crate::payload::Payload;
+use crate::pools::Pools;
 use column_pool::Column;
 use occupancy::Occupancy;
 use smallvec::SmallVec;
@@ -35,7 +38,6 @@ impl Error for Full {}
 /// Edges in columns: their times, a key and a hash, and their cells. A row that is not occupied keeps
 /// its place and holds no edge. Contracts see the batch as its rows, its capacity, and how the cells of
 /// each payload column are stored.
-#[derive(Drop)]
 pub struct Batch {
     pub(crate) sync: Column<u64>,
     pub(crate) other: Column<u64>,
@@ -43,6 +45,20 @@ pub struct Batch {
     pub(crate) hash: Column<u64>,
     pub(crate) payload: SmallVec<Payload, WIDTH>,
     pub(crate) occupied: Occupancy,
+}
+
+// By hand, so that crates that let one go cite this and not the destructors of its parts.
+impl Drop for Batch {
+    fn drop(self) {
+        let Batch {
+            sync: _sync,
+            other: _other,
+            key: _key,
+            hash: _hash,
+            payload: _payload,
+            occupied: _occupied,
+        } = self;
+    }
 }
 
 impl Model for Batch {
@@ -284,5 +300,27 @@ impl Batch {
                 self.copy_row(i, to);
             }
         }
+    }
+
+    /// Gives the columns back to pools of the batch's capacity, for which they are made empty. What
+    /// would pass the limit is dropped.
+    pub fn give_back(self, pools: &mut Pools)
+        requires { self.capacity ≡ pools.old.capacity }
+        ensures { pools.new ≡ batch_given pools.old self.kinds }
+    {
+        let Batch {
+            sync,
+            other,
+            key,
+            hash,
+            payload,
+            occupied,
+        } = self;
+        pools.give(Payload::Places(sync));
+        pools.give(Payload::Places(other));
+        pools.give(Payload::Places(key));
+        pools.give(Payload::Places(hash));
+        pools.give_occupancy(occupied);
+        give_columns(pools, payload);
     }
 }

@@ -3,7 +3,7 @@ ghost use Rattle.std.specs.Prelude.{◌≡◌, ◌≤◌, [], length, map, All, 
 ghost use Rattle.tw_rows.specs.Kinds.{cell_kind_of};
 ghost use Rattle.batch.specs.Payloads.{payload_kind, payload_capacity};
 ghost use Rattle.batch.specs.Columns.{IsColumn};
-ghost use Rattle.batch.specs.Shelves.{all_taken, all_given, batch_taken, batch_given, IsPartTaken, AreSomeTaken};
+ghost use Rattle.batch.specs.Shelves.{all_taken, all_given, batch_taken, IsPartTaken, AreSomeTaken};
 
 use crate::batch::{Batch, WIDTH};
 use crate::payload::Payload;
@@ -36,20 +36,6 @@ impl Batch {
             occupied,
         })
     }
-
-    /// Gives the columns back to pools of the batch's capacity, for which they are made empty. What
-    /// would pass the limit is dropped.
-    pub fn give_back(self, pools: &mut Pools)
-        requires { self.capacity ≡ pools.old.capacity }
-        ensures { pools.new ≡ batch_given pools.old self.kinds }
-    {
-        pools.give(Payload::Places(self.sync));
-        pools.give(Payload::Places(self.other));
-        pools.give(Payload::Places(self.key));
-        pools.give(Payload::Places(self.hash));
-        pools.give_occupancy(self.occupied);
-        give_columns(pools, self.payload);
-    }
 }
 
 // An empty column for each kind, in order.
@@ -71,7 +57,7 @@ fn payload_columns(
 }
 
 // Gives the columns back, the last one first.
-fn give_columns(pools: &mut Pools, mut payload: SmallVec<Payload, WIDTH>)
+pub(crate) fn give_columns(pools: &mut Pools, mut payload: SmallVec<Payload, WIDTH>)
     requires { All (λ p. payload_capacity p ≡ pools.old.capacity) payload.items }
     ensures { pools.new ≡ all_given pools.old (map payload_kind payload.items) }
 {

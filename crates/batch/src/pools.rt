@@ -13,13 +13,25 @@ use tw_rows::{CellKind, Memory};
 /// Pools of columns, one for each sort of cell, and free bit vectors. All have one limit and one
 /// capacity. Only `new`, `refill` and `Batch::new` take memory. Contracts see how many of each are
 /// free, the limit and the capacity.
-#[derive(Drop)]
 pub struct Pools {
     pub words: Pool<u64>,
     pub ints: Pool<i64>,
     pub bits: Pool<Bit>,
     occupancies: Vec<Occupancy>,
     alloc: Global,
+}
+
+// By hand, so that crates that let one go cite this and not the destructors of its parts.
+impl Drop for Pools {
+    fn drop(self) {
+        let Pools {
+            words: _words,
+            ints: _ints,
+            bits: _bits,
+            occupancies: _occupancies,
+            alloc: _,
+        } = self;
+    }
 }
 
 impl Model for Pools {

@@ -25,12 +25,23 @@ use tw_rows::{Edge, Kind, Memory, Time};
 /// the edges, the kinds of the columns, the capacity, how many batches there are, and how many rows
 /// more the last one takes. A batch may hold no edge. Pools that are handed to its calls have its
 /// capacity.
-#[derive(Drop)]
 pub struct EdgeList {
     pub(crate) batches: VecDeque<Batch>,
     pub(crate) kinds: Vec<Kind>,
     pub(crate) capacity: usize,
     pub(crate) alloc: Global,
+}
+
+// By hand, so that crates that let one go cite this and not the destructors of its parts.
+impl Drop for EdgeList {
+    fn drop(self) {
+        let EdgeList {
+            batches: _batches,
+            kinds: _kinds,
+            capacity: _,
+            alloc: _,
+        } = self;
+    }
 }
 
 impl Model for EdgeList {

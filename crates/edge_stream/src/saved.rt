@@ -11,7 +11,6 @@ use tw_rows::{Cells, Memory, Time};
 
 /// One entry that an operator keeps: which of its parts it belongs to, two times, and cells. What
 /// they mean is told by the operator.
-#[derive(Drop)]
 pub struct SavedEntry {
     pub part: u64,
     pub sync: Time,
@@ -19,11 +18,29 @@ pub struct SavedEntry {
     pub cells: Cells,
 }
 
+// By hand, so that crates that let one go cite this and not the destructors of its parts.
+impl Drop for SavedEntry {
+    fn drop(self) {
+        let SavedEntry {
+            part: _,
+            sync: _,
+            other: _,
+            cells: _cells,
+        } = self;
+    }
+}
+
 /// The entries that an operator keeps, in the order in which it saved them. Contracts see the list of
 /// them.
-#[derive(Drop)]
 pub struct Saved {
     entries: Vec<SavedEntry>,
+}
+
+// By hand, so that crates that let one go cite this and not the destructors of its parts.
+impl Drop for Saved {
+    fn drop(self) {
+        let Saved { entries: _entries } = self;
+    }
 }
 
 impl Model for Saved {

@@ -9,12 +9,23 @@ use tw_rows::{Schema, StreamDef};
 
 /// A plan: the streams of a query, the nodes over them with a schema each, and the number of the node whose rows are the
 /// result.
-#[derive(Drop)]
 pub struct Plan {
     streams: StreamList,
     nodes: NodeList,
     schemas: SchemaList,
     root: usize,
+}
+
+// By hand, so that crates that let one go cite this and not the destructors of its parts.
+impl Drop for Plan {
+    fn drop(self) {
+        let Plan {
+            streams: _streams,
+            nodes: _nodes,
+            schemas: _schemas,
+            root: _,
+        } = self;
+    }
 }
 
 impl Model for Plan {

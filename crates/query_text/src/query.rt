@@ -7,11 +7,21 @@ use std::marker::Model;
 use tw_rows::Label;
 
 /// A query: its streams, its lets, and the pipe whose rows are the result.
-#[derive(Drop)]
 pub struct Query {
     pub streams: StreamList,
     pub lets: LetList,
     pub body: Pipe,
+}
+
+// By hand, so that crates that let one go cite this and not the destructors of its parts.
+impl Drop for Query {
+    fn drop(self) {
+        let Query {
+            streams: _streams,
+            lets: _lets,
+            body: _body,
+        } = self;
+    }
 }
 
 /// A pipe that has a name, by which the lets after it and the body can speak of it.
@@ -22,10 +32,19 @@ pub struct Let {
 }
 
 /// A base, which is the name of a stream or of a let, and what is done with its rows, step by step.
-#[derive(Drop)]
 pub struct Pipe {
     pub base: Label,
     pub steps: StepList,
+}
+
+// By hand, so that crates that let one go cite this and not the destructors of its parts.
+impl Drop for Pipe {
+    fn drop(self) {
+        let Pipe {
+            base: _base,
+            steps: _steps,
+        } = self;
+    }
 }
 
 /// A step of a pipe. Sizes, periods, durations and timeouts are in the unit of the events' times.

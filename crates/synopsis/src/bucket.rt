@@ -67,11 +67,20 @@ const MANY: usize = 32;
 const FEW: usize = 8;
 
 /// Rows, in no order, each found by its cells and its start.
-#[derive(Drop)]
 pub struct Bucket {
     rows: Vec<HeldRow>,
     // There since the rows were many, if it is not to be made anew with the next row.
     marks: Option<Box<Marks>>,
+}
+
+// By hand, so that crates that let one go cite this and not the destructors of its parts.
+impl Drop for Bucket {
+    fn drop(self) {
+        let Bucket {
+            rows: _rows,
+            marks: _marks,
+        } = self;
+    }
 }
 
 impl Model for Bucket {

@@ -8,10 +8,19 @@ use std::marker::Model;
 use tw_rows::{Datum, Memory};
 
 /// Key columns, and the data that the row that was written last has in them.
-#[derive(Drop)]
 pub struct KeyRoom {
     columns: Vec<usize>,
     values: Vec<Datum>,
+}
+
+// By hand, so that crates that let one go cite this and not the destructors of its parts.
+impl Drop for KeyRoom {
+    fn drop(self) {
+        let KeyRoom {
+            columns: _columns,
+            values: _values,
+        } = self;
+    }
 }
 
 impl Model for KeyRoom {

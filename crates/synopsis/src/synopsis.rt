@@ -17,13 +17,25 @@ use tw_rows::{Cells, Datum, HeldRow, Memory, Time};
 
 /// Rows that are alive, each with its start. A row is found by its cells and its start, and those with the same data in the
 /// key columns lie side by side; both take no longer where more rows are held.
-#[derive(Drop)]
 pub struct Synopsis {
     alloc: Global,
     key: KeyRoom,
     buckets: KeyBuckets,
     spares: Spares,
     count: usize,
+}
+
+// By hand, so that crates that let one go cite this and not the destructors of its parts.
+impl Drop for Synopsis {
+    fn drop(self) {
+        let Synopsis {
+            alloc: _,
+            key: _key,
+            buckets: _buckets,
+            spares: _spares,
+            count: _,
+        } = self;
+    }
 }
 
 impl Model for Synopsis {
