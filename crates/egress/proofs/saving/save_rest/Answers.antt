@@ -12,14 +12,6 @@ use Rattle.egress.proofs.saving.save_rest.Goals as goal
 pub rows-init : goal.rows-init
 rows-init c = rest_first c.args.saved.now (since_at c.args.starts.now)
 
-pub rows-preserved-in_ok-save_starts : goal.rows-preserved-in_ok-save_starts
-rows-preserved-in_ok-save_starts c =
-    rest_next c.args.saved.now c.rows.saved c.save_starts.new.saved (since_at c.args.starts.now) (since_at c.rows.starts) (since_at c.pop.new.self) c.in-Some.cells c.rows.invariant
-    (c.in_ok-save_starts.ensures
-    ∙ ap (λ t. c.rows.saved ++ map (entry_at t c.in-Some.cells) c.in-Some.since.items) c.requires
-    ∙ ap (λ l. c.rows.saved ++ map (entry_at inf c.in-Some.cells) l) (popped_own c.rows.starts c.pop.new.self c.in-Some.cells c.in-Some.since c.in-Some.ensures.entries c.in-Some.ensures.updates.0))
-    (popped_others c.rows.starts c.pop.new.self c.in-Some.cells c.in-Some.since c.in-Some.ensures.entries c.in-Some.ensures.updates.0)
-
 pub rows-preserved : goal.rows-preserved
 rows-preserved c =
     rest_next c.args.saved.now c.rows.saved c.save_starts.new.saved (since_at c.args.starts.now) (since_at c.rows.starts) (since_at c.pop.new.self) c.in-Some.cells c.rows.invariant

@@ -7,29 +7,6 @@ use Rattle.synopsis.proofs.Keyed.{ones}
 use Rattle.follow_op.proofs.Taken.{all_others, other_rows}
 use Rattle.follow_op.proofs.rows.drop_key.Goals as goal
 
-pub rows-smaller-in-Some : goal.rows-smaller-in-Some
-rows-smaller-in-Some c =
-    let a = c.remove.ensures.taken (λ r. 1) in
-    let b = ones c.rows.left.rows in
-    let d = ones c.remove.new.self.rows in
-    let e : length c.remove.new.self.rows < length c.rows.left.rows = omega (arith, a, b, d) in
-    e
-
-pub rows-preserved-in-Some : goal.rows-preserved-in-Some
-rows-preserved-in-Some c =
-    let k = c.rows.invariant in
-    let r = c.in-Some.row in
-    let key = c.args.key.now in
-    let p = is_of_key c.args.left.now.key key in
-    let found : (is_of_key c.rows.left.key key r ≡ true) × (1 ≤ many (is_held r.cells r.start) c.rows.left.rows) =
-    subst (λ o. IfSome o (λ x. (is_of_key c.rows.left.key key x ≡ true) × (1 ≤ many (is_held x.cells x.start) c.rows.left.rows))) c.in-Some.is c.in_ok-row.ensures.some in
-    let same : record { cells = c.items.result.now; start = r.start } ≡ r = λ i. record { cells = c.items.ensures i; start = r.start } in
-    record {
-      rows = other_rows p c.rows.left.rows c.remove.new.self.rows c.args.left.now.rows r (record { cells = c.items.result.now; start = r.start })
-          (subst (λ l. is_of_key l key r ≡ true) k.key found.0) same c.remove.ensures.taken k.rows;
-      key = c.remove.ensures.key ∙ k.key;
-    }
-
 pub rows-smaller : goal.rows-smaller
 rows-smaller c =
     let a = c.remove.ensures.taken (λ r. 1) in

@@ -44,28 +44,6 @@ pub returns-in_err-append-clause-limit : goal.returns-in_err-append-clause-limit
 returns-in_err-append-clause-limit c =
     part-limit c.loop-edge.pools c.append.new.pools (cells_of c.loop-edge.starts) c.in_err-append.ensures.err_pools ∙ c.loop-edge.invariant.limit
 
-pub loop-edge-preserved-in_ok-append : goal.loop-edge-preserved-in_ok-append
-loop-edge-preserved-in_ok-append c =
-    let l = c.loop-edge.starts in
-    let i = c.loop-edge.invariant in
-    let e = c.in-Some.edge in
-    let next = next_is c.in_ok-edge.field-0 c.loop-edge.cursor.edges c.next.new.self.edges e c.in_ok-edge.ensures.edges c.in-Some.is in
-    let start = end_false e c.is_end.result c.if-is_end.false c.is_end.ensures.1 in
-    let ok = c.in_ok-append.ensures.ok in
-    let pools = c.in_ok-append.ensures.pools in
-    let new : Edge = record { sync = e.sync; other = c.plus.result; cells = e.cells } in
-    record {
-      starts = ap (λ v. v.edges ++ extended_starts c.args.by c.next.new.self.edges) ok ∙ start_next c.args.by c.plus.result e l.edges c.loop-edge.cursor.edges c.next.new.self.edges (extended_starts c.args.by c.args.due.now.edges) c.plus.ensures next start i.starts;
-      ends = ends_skip c.args.by e c.loop-edge.cursor.edges c.next.new.self.edges c.loop-edge.ends (λ w. total w (edges_of_pending c.args.ends.now) + total w (extended_ends c.args.by c.args.due.now.edges)) next start i.ends;
-      waiting = i.waiting;
-      order = rest_in_order e c.loop-edge.cursor.edges c.next.new.self.edges next i.order;
-      cells = c.next.ensures.kinds ∙ i.cells;
-      kinds = ap cells_of ok ∙ ap (map cell_kind_of) (appended-kinds l new) ∙ i.kinds;
-      capacity = ap (λ v. v.capacity) ok ∙ appended-capacity l new ∙ i.capacity;
-      room = ap (λ s. s.capacity) pools ∙ room_taken-capacity l c.loop-edge.pools ∙ i.room;
-      limit = ap (λ s. s.limit) pools ∙ room_taken-limit l c.loop-edge.pools ∙ i.limit;
-    }
-
 pub loop-edge-preserved : goal.loop-edge-preserved
 loop-edge-preserved c =
     let l = c.loop-edge.starts in

@@ -26,23 +26,6 @@ pub returns-in_err-append-clause-limit : goal.returns-in_err-append-clause-limit
 returns-in_err-append-clause-limit c =
     part-limit c.loop-edge.pools c.append.new.pools (cells_of c.loop-edge.due) c.in_err-append.ensures.err_pools ∙ c.loop-edge.invariant.limit
 
-pub loop-edge-preserved-in_ok-append : goal.loop-edge-preserved-in_ok-append
-loop-edge-preserved-in_ok-append c =
-    let l = c.loop-edge.due in
-    let i = c.loop-edge.invariant in
-    let t = c.in-Some.ensures.some in
-    let ok = c.in_ok-append.ensures.ok in
-    let pools = c.in_ok-append.ensures.pools in
-    record {
-      edges = taken_next l.edges c.append.new.self.edges t.0 c.loop-edge.ends c.pop_due.new.self c.args.ends.now c.in-Some.edge t.1 t.3 i.edges (ap (λ v. v.edges) ok);
-      low = taken_low (cells_of c.args.like.now) c.args.below l.edges c.append.new.self.edges t.0 c.loop-edge.ends c.pop_due.new.self c.in-Some.edge t.1 t.2 t.3 i.waiting i.low (ap (λ v. v.edges) ok);
-      waiting = rest_waits (cells_of c.args.like.now) t.0 c.loop-edge.ends c.pop_due.new.self t.3 i.waiting;
-      kinds = ap (λ v. v.kinds) ok ∙ appended-kinds l c.in-Some.edge ∙ i.kinds;
-      capacity = ap (λ v. v.capacity) ok ∙ appended-capacity l c.in-Some.edge ∙ i.capacity;
-      room = ap (λ s. s.capacity) pools ∙ room_taken-capacity l c.loop-edge.pools ∙ i.room;
-      limit = ap (λ s. s.limit) pools ∙ room_taken-limit l c.loop-edge.pools ∙ i.limit;
-    }
-
 pub loop-edge-preserved : goal.loop-edge-preserved
 loop-edge-preserved c =
     let l = c.loop-edge.due in

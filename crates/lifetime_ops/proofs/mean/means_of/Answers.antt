@@ -63,26 +63,6 @@ loop-answer-preserved c =
       limit = ap (λ s. s.limit) pools ∙ room_taken-limit l c.loop-answer.pools ∙ i.limit;
     }
 
-pub loop-answer-preserved-in_ok-append : goal.loop-answer-preserved-in_ok-append
-loop-answer-preserved-in_ok-append c =
-    let l = c.loop-answer.answer in
-    let i = c.loop-answer.invariant in
-    let e = c.in-Some.edge in
-    let new : Edge = record { sync = e.sync; other = e.other; cells = c.in_ok-mean_row.field-0 } in
-    let next = next_is c.in_ok-edge.field-0 c.loop-answer.cursor.edges c.next.new.self.edges e c.in_ok-edge.ensures.edges c.in-Some.is in
-    let ok = c.in_ok-append.ensures.ok in
-    let pools = c.in_ok-append.ensures.pools in
-    record {
-      edges = ap (λ v. v.edges ++ answered (node_of (Mean c.args.at.now)) c.next.new.self.edges) ok
-          ∙ means_next c.args.at.now e new l.edges c.loop-answer.cursor.edges c.next.new.self.edges (answered (node_of (Mean c.args.at.now)) c.args.due.edges) next
-          (ap (λ cells. record { sync = e.sync; other = e.other; cells = cells }) (c.in_ok-mean_row.ensures ∙ ap (mean_row plain_cells c.args.at.now) c.items.ensures)) i.edges;
-      cells = c.next.ensures.kinds ∙ i.cells;
-      kinds = ap cells_of ok ∙ ap (map cell_kind_of) (appended-kinds l new) ∙ i.kinds;
-      capacity = ap (λ v. v.capacity) ok ∙ appended-capacity l new ∙ i.capacity;
-      room = ap (λ s. s.capacity) pools ∙ room_taken-capacity l c.loop-answer.pools ∙ i.room;
-      limit = ap (λ s. s.limit) pools ∙ room_taken-limit l c.loop-answer.pools ∙ i.limit;
-    }
-
 pub returns-in_err-append-clause-pools : goal.returns-in_err-append-clause-pools
 returns-in_err-append-clause-pools c =
     part-capacity c.loop-answer.pools c.append.new.pools (cells_of c.loop-answer.answer) c.in_err-append.ensures.err_pools ∙ c.loop-answer.invariant.room
