@@ -89,6 +89,18 @@ pub stored_on : (fs : List PartFormView) (ps : List FrozenPart) (i : ℕ) (f : P
 stored_on fs ps i f p low fi pi named h so_far =
     stored_more fs ps i f p low named (subst (λ g. All (IsStoredIn g.rows) (get_or ps i p).saved) fi (subst (λ q. All (IsStoredIn f.rows) q.saved) pi h)) so_far
 
+-- what is so of all is so of each
+stored_at : (fs : List PartFormView) (ps : List FrozenPart) (i : ℕ) (f : PartFormView) (p : FrozenPart) → i < length fs → ArePartsOf fs ps →
+    All (IsStoredIn (get_or fs i f).rows) (get_or ps i p).saved
+stored_at [] ps i f p low h = absurd (omega (arith, low))
+stored_at (x ∷ fs) [] i f p low h = absurd h
+stored_at (x ∷ fs) (y ∷ ps) zero f p low h = h.0.stored
+stored_at (x ∷ fs) (y ∷ ps) (suc i) f p low h = stored_at fs ps i f p (omega (arith, low)) h.1
+
+pub stored_here : (fs : List PartFormView) (ps : List FrozenPart) (i : ℕ) (f : PartFormView) (p : FrozenPart) → i < length fs → f ≡ get_or fs i f → p ≡ get_or ps i p →
+    ArePartsOf fs ps → All (IsStoredIn f.rows) p.saved
+stored_here fs ps i f p low fi pi h = subst (λ g. All (IsStoredIn g.rows) p.saved) (sym fi) (subst (λ q. All (IsStoredIn (get_or fs i f).rows) q.saved) (sym pi) (stored_at fs ps i f p low h))
+
 -- places, one by one
 pub placed_at : (texts : List (List ℕ)) (cells : List Datum) (i : ℕ) (d : Datum) → i < length cells → ArePlaced texts cells → IsPlaced texts (get_or cells i d)
 placed_at texts [] i d low h = absurd (omega (arith, low))

@@ -34,7 +34,7 @@ pub fn table_of(alloc: Global, labels: &[Label]) -> Result<Option<TextTable>, Me
 
 // Whether neither a CR nor a LF is in the text.
 fn is_one_line(text: &str) -> bool
-    ensures { IsTrue result → IsOneLine text.now }
+    ensures { IsTrue result ↔ IsOneLine text.now }
 {
     for byte in text.as_bytes() {
         if *byte == b'\r' || *byte == b'\n' {
@@ -46,7 +46,7 @@ fn is_one_line(text: &str) -> bool
 
 /// Whether neither a CR nor a LF is in one of the texts.
 pub fn are_one_line(labels: &[Label]) -> bool
-    ensures { IsTrue result → All IsOneLine labels.now }
+    ensures { IsTrue result ↔ All IsOneLine labels.now }
 {
     for label in labels {
         if !is_one_line(label.as_str()) {

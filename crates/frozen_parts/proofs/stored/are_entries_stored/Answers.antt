@@ -1,5 +1,5 @@
 use Rattle.std.specs.Prelude.{◌++◌, ◌∷◌, [], All}
-use Rattle.std.proofs.Common.{◌∙◌, ap, sym, subst, take}
+use Rattle.std.proofs.Common.{◌∙◌, ap, refl, sym, subst, take}
 use Rattle.std.proofs.lemmas.List.{take_more, take_all}
 use Rattle.std.proofs.lemmas.List.Elements.{All-push}
 use Rattle.frozen_state.specs.Formed.{IsStoredIn}
@@ -11,7 +11,10 @@ loop-entry-preserved c =
     let i = c.loop-entry.entry-index in
     let P = IsStoredIn c.args.form.now.rows in
     subst (All P) (ap (λ x. take i es ++ x ∷ []) c.entry-item.is ∙ sym (take_more es i c.entry-item.result c.loop-entry-test.true))
-    (All-push P (take i es) c.entry-item.result c.loop-entry.invariant (c.is_stored.ensures c.if-not-is_stored.false))
+    (All-push P (take i es) c.entry-item.result c.loop-entry.invariant (c.is_stored.ensures.0 c.if-not-is_stored.false))
 
 pub returns : goal.returns
-returns c = λ yes. subst (All (IsStoredIn c.args.form.now.rows)) (take_all c.loop-entry.entry-index c.args.entries.now c.loop-entry-test.false) c.loop-entry.invariant
+returns c = (
+  λ yes. subst (All (IsStoredIn c.args.form.now.rows)) (take_all c.loop-entry.entry-index c.args.entries.now c.loop-entry-test.false) c.loop-entry.invariant,
+  λ all. refl,
+)
