@@ -31,7 +31,6 @@ use tw_rows::{Memory, TextTable, Time};
 /// A plan at work. Contracts see the plan, its stages, how many rows each batch has room for, in how many shards a node with a
 /// key is run, whether the stages took up what was saved, and the fault of a step; `Flows` says of which edges the stages have
 /// taken steps. Once a step answered a fault, each later one answers it again.
-#[derive(Drop)]
 pub struct Dataflow {
     alloc: Global,
     plan: Plan,
@@ -41,6 +40,21 @@ pub struct Dataflow {
     thawed: bool,
     // why a step gave no edges
     fault: Option<PlanFault>,
+}
+
+// By hand, so that crates that let one go cite this and not the destructors of its parts.
+impl Drop for Dataflow {
+    fn drop(self) {
+        let Dataflow {
+            alloc: _,
+            plan: _plan,
+            stages: _stages,
+            capacity: _,
+            workers: _,
+            thawed: _,
+            fault: _fault,
+        } = self;
+    }
 }
 
 impl Model for Dataflow {
