@@ -14,6 +14,26 @@ use plan_model::Plan;
 use std::alloc::Global;
 use tw_rows::Memory;
 
+/// Why no engine is made of what was frozen.
+#[derive(Clone, Copy, Debug, PartialEq, Eq)]
+pub enum ThawFault {
+    /// It is no state of an engine of the plan and the options.
+    NotState,
+    /// Memory was wanting.
+    Memory,
+}
+
+impl ThawFault {
+    fn of_load(fault: LoadFault) -> ThawFault
+        ensures { (result ≡ ThawFault.NotState) ↔ (fault ≡ LoadFault.NotState) }
+    {
+        match fault {
+            LoadFault::NotState => ThawFault::NotState,
+            LoadFault::Memory => ThawFault::Memory,
+        }
+    }
+}
+
 impl Engine {
     ghost use Rattle.tempo_engine.specs.Fed.{Fed, FedBy, WhateverTook};
     ghost use Rattle.tempo_engine.specs.Frozen.{Fits, FitsBy, IsState};
@@ -38,6 +58,48 @@ impl Engine {
         match self.parts.freeze(self.lines) {
             Ok(frozen) => Ok(frozen),
             Err(Memory) => Err(EngineFault::Memory),
+        }
+    }
+
+    /// An engine that goes on from what was frozen: as if it had taken the lines that this fits.
+    pub fn thaw(
+        alloc: Global,
+        plan: Plan,
+        options: Options,
+        frozen: Frozen,
+    ) -> Result<Engine, ThawFault>
+        requires batch { 1 ≤ options.batch }
+        requires workers { (1 ≤ options.workers) × (options.workers ≤ 16) }
+        ensures fed { IfOk result (λ e. (lines : List Told) →
+            Fits options.workers plan options.policy lines frozen → Fed plan options.policy lines e) }
+        ensures lists { IfOk result (λ e. (lines : List Told) (given lists : ℕ → List Edge) →
+            FitsBy options.workers plan options.policy lines given lists frozen →
+            FedBy plan options.policy lines given lists e) }
+        ensures lines { IfOk result (λ e. e.lines ≡ frozen.lines) }
+        ensures going { IfOk result (λ e. (e.fault ≡ None) × (e.ended ≡ false)) }
+        ensures plan { IfOk result (λ e. e.parts.dataflow.plan ≡ plan) }
+        ensures batch { IfOk result (λ e. e.parts.dataflow.capacity ≡ options.batch) }
+        ensures workers { IfOk result (λ e. e.parts.dataflow.workers ≡ options.workers) }
+        ensures state { IfOk result (λ e. IsState options.workers plan frozen) }
+        ensures refused { IfErr result (λ fault. fault ≡ ThawFault.NotState →
+            IsState options.workers plan frozen → ⊥) }
+    {
+        let lines = frozen.lines();
+        match Parts::thaw(
+            alloc,
+            plan,
+            options.policy,
+            options.batch,
+            options.workers,
+            frozen,
+        ) {
+            Ok(parts) => Ok(Engine {
+                parts,
+                lines,
+                fault: None,
+                ended: false,
+            }),
+            Err(fault) => Err(ThawFault::of_load(fault)),
         }
     }
 }
