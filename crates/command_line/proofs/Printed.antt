@@ -16,7 +16,7 @@ use Rattle.command_line.specs.Words.{AreWithin, Asked, SpellsCommand, are_taken,
 use Rattle.admission.specs.declared.policy.Lateness.{Lateness}
 use Rattle.admission.specs.declared.policy.Lateness.TheVariants.{Refuse, Drop, Adjust}
 use Rattle.command_line.specs.declared.words.Mode.{Mode}
-use Rattle.command_line.specs.declared.words.Mode.TheVariants.{Run, Explain, Sample}
+use Rattle.command_line.specs.declared.words.Mode.TheVariants.{Run, Freeze, Resume, Explain, Sample}
 use Rattle.command_line.proofs.Taken.{Passes, modes, ways, tempo_shape}
 use Rattle.command_line.proofs.Faults.{takes_from}
 
@@ -97,6 +97,8 @@ module _ (query mode batch workers late lateness period number events : Text) wh
 
 mode_passes : (m : Mode) → accepts false modes (mode_text m) ≡ true
 mode_passes Run = refl
+mode_passes Freeze = refl
+mode_passes Resume = refl
 mode_passes Explain = refl
 mode_passes Sample = refl
 

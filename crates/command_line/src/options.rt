@@ -12,7 +12,7 @@ use clap::builder::ValueParser;
 use clap::{Arg, ArgAction, Command};
 use std::alloc::{AllocError, Global};
 
-static MODES: [&str; 3] = ["run", "explain", "sample"];
+static MODES: [&str; 5] = ["run", "freeze", "resume", "explain", "sample"];
 
 static WAYS: [&str; 3] = ["refuse", "drop", "adjust"];
 
@@ -40,7 +40,9 @@ fn mode_option<'a>(alloc: Global) -> Arg<'a>
         .action(ArgAction::Set)
         .value_parser(MODES.as_slice())
         .default_value("run")
-        .help("Whether the query is answered, explained, or answered for generated events")
+        .help(
+            "What is done with the query: freeze ends with a checkpoint, and resume begins with one",
+        )
 }
 
 fn batch_option<'a>(alloc: Global) -> Arg<'a>

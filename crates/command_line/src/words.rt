@@ -19,6 +19,10 @@ use std::alloc::{AllocError, Global};
 pub enum Mode {
     /// It is answered.
     Run,
+    /// It is answered, and a checkpoint is written where the input ends.
+    Freeze,
+    /// A checkpoint is read, and the lines behind it are answered.
+    Resume,
     /// It is explained.
     Explain,
     /// It is answered for generated events, and the lines of the answer are counted.
@@ -70,6 +74,8 @@ fn mode_of(matches: &ArgMatches<'_>) -> Mode
     ensures { (m : Mode) → first_value (found_of matches.now) (codes "mode") ≡ Some (mode_text m) → result ≡ m }
 {
     match matches.get_str("mode") {
+        Some("freeze") => Mode::Freeze,
+        Some("resume") => Mode::Resume,
         Some("explain") => Mode::Explain,
         Some("sample") => Mode::Sample,
         _ => Mode::Run,
