@@ -1,9 +1,11 @@
 -- Words ask for one job.
-use Rattle.std.proofs.Common.{◌≡◌, ◌⊎◌, ◌≤◌, ℕ, Bool, true, false, List, [], length, Option, Some, None, Result, Ok, Err, inl, inr, refl, sym, ◌∙◌, ap, ap₂, arith, subst, true≢false}
+use Rattle.std.proofs.Common.{◌≡◌, ◌⊎◌, ◌≤◌, ◌++◌, ℕ, suc, Bool, true, false, List, [], drop, length, Option, Some, None, Result, Ok, Err, inl, inr, refl, sym, ◌∙◌, ap, ap₂, arith, subst, true≢false}
 use Rattle.std.specs.Prelude.{codes}
+use Rattle.std.proofs.Math.Seq.{drop-length, drop-nil}
+use Rattle.std.proofs.lemmas.List.{append-nil}
 use Rattle.std.proofs.lemmas.List.Elements.{All-nil}
 use Rattle.clap.specs.Values.{bool_text}
-use Rattle.wire_lines.specs.Journal.{Entry, IsOut, ins, ended, Grows}
+use Rattle.wire_lines.specs.Journal.{Entry, IsOut, ins, outs, ended, Grows}
 use Rattle.wire_lines.specs.Faults.{Rose}
 use Rattle.wire_lines.specs.Lines.{lines}
 use Rattle.plan_model.specs.IsPlan.{PlanParts}
@@ -18,21 +20,27 @@ use Rattle.query_plan.specs.Planned.{planned}
 use Rattle.command_line.specs.Words.{Asked, SpellsCommand, are_taken, late_text, mode_text}
 use Rattle.std.specs.Str.{bytes_eq}
 use Rattle.std.proofs.lemmas.Slice.Eq.{bytes_eq-Decides}
+use Rattle.admission.specs.Entries.{Told}
+use Rattle.admission.specs.declared.policy.Policy.{Policy}
 use Rattle.admission.specs.declared.policy.Lateness.{Lateness}
 use Rattle.admission.specs.declared.policy.Lateness.TheVariants as ways
 use Rattle.command_line.specs.declared.words.Mode.{Mode}
-use Rattle.command_line.specs.declared.words.Mode.TheVariants.{Run, Explain, Sample}
+use Rattle.command_line.specs.declared.words.Mode.TheVariants.{Run, Freeze, Resume, Explain, Sample}
 use Rattle.command_line.proofs.Same.{asked_is, policy_is}
 use Rattle.command_line.proofs.Spelled.{spelled}
 use Rattle.tempo_cli.specs.Answers.{Answers}
 use Rattle.tempo_cli.specs.Jobs.{HasPlan, HasFault, Tells, Job, NoWords, NoPlan, Planned, IsJob, Does, DoesMode, HasQueryReason, IsPlanned, query_status}
 use Rattle.tempo_cli.specs.Feeding.{IsOwn, IsAsked}
 use Rattle.tempo_cli.specs.Status.{Counts}
-use Rattle.tempo_cli.specs.Table.{limit, Ends}
+use Rattle.tempo_cli.specs.Table.{limit, Ends, IsEnd}
 use Rattle.tempo_cli.specs.Summing.{Sums}
-use Rattle.tempo_cli.specs.Told.{answers}
+use Rattle.tempo_cli.specs.Resumed.{going_on, resumed, later}
+use Rattle.tempo_cli.specs.Freezing.{Freezes}
+use Rattle.tempo_cli.specs.Told.{told_from, answers}
+use Rattle.tempo_engine.specs.Fed.{last_number}
+use Rattle.tempo_engine.specs.Output.{plan_text}
 use Rattle.tempo_cli.specs.declared.status.Status.{Status}
-use Rattle.tempo_cli.specs.declared.status.Status.TheVariants.{Done, BadWords, BadQuery, Malformed, Late, Overflow, InputTooLong, ReadFault, WriteFault, Memory}
+use Rattle.tempo_cli.specs.declared.status.Status.TheVariants.{Done, BadWords, BadQuery, Malformed, Late, Overflow, InputTooLong, ReadFault, WriteFault, Memory, BadCheckpoint}
 use Rattle.tempo_cli.proofs.Journals.{no_memory}
 
 pub plan_once : (text : List ℕ) (p r : PlanParts) → HasPlan text p → HasPlan text r → p ≡ r
@@ -57,25 +65,55 @@ fault_once text f g (inr h) (inr k) =
     let e : Err f ≡ Err g = sym h.fault_is ∙ (ap planned same ∙ k.fault_is) in
     cc
 
+-- where no line came in behind a checkpoint there is no more text
+resumed_silent : (plan : PlanParts) (policy : Policy) (before : List Told) (k : ℕ) → (resumed plan policy before k).text [] false ≡ []
+resumed_silent plan policy before k =
+    let none : before ++ later plan.streams before k [] ≡ before = ap (λ ls. before ++ told_from plan.streams false (suc (last_number before)) ls) (drop-nil k) ∙ append-nil before in
+    ap (λ ls. drop (length (plan_text plan policy before false)) (plan_text plan policy ls false)) none ∙ drop-length (plan_text plan policy before false)
+
 -- before anything was done
 pub memory_does : (mode : Mode) (asked : Asked) (plan : PlanParts) → DoesMode mode asked plan Memory []
 memory_does Run asked plan = no_memory (answers plan asked.policy asked.header) refl
+memory_does Freeze asked plan = record { prompt = tt; end = (no_memory (going_on (answers plan asked.policy asked.header)) refl).end }
+memory_does Resume asked plan = record {
+  resumed = λ before C froze front. no_memory (resumed plan asked.policy before (length C)) (resumed_silent plan asked.policy before (length C));
+  unclaimed = inl refl;
+}
 memory_does Explain asked plan = record { outs_alone = All-nil IsOut; told = refl }
 memory_does Sample asked plan = (refl, tt)
 
--- a run over lines without fault is done, or memory was wanting
+pub memory_job : (job : Job) → Does job Memory []
+memory_job NoWords = (refl, inr refl)
+memory_job (NoPlan asked fault) = (refl, inr refl)
+memory_job (Planned asked plan) = memory_does asked.mode asked plan
+
+-- a run over lines without fault ends Done, or memory was wanting
+ended_well : (a : Answers) (status : Status) (bytes out : List ℕ) (ended : Bool) (reads reads' writes writes' : ℕ) → IsEnd a status bytes out ended →
+    Counts reads reads' writes writes' status → a.fault (lines bytes ended) ended ≡ None → length bytes ≤ limit → (Rose reads reads' → ⊥) → (Rose writes writes' → ⊥) →
+    (status ≡ Done) ⊎ (status ≡ Memory)
+ended_well a Done bytes out ended r r' w w' end counts none few reads writes = inl refl
+ended_well a BadWords bytes out ended r r' w w' end counts none few reads writes = absurd end
+ended_well a (BadQuery f) bytes out ended r r' w w' end counts none few reads writes = absurd end
+ended_well a (Malformed line cause) bytes out ended r r' w w' end counts none few reads writes = absurd (let e = sym end.first ∙ none in cc)
+ended_well a (Late line time bound) bytes out ended r r' w w' end counts none few reads writes = absurd (let e = sym end.first ∙ none in cc)
+ended_well a (Overflow punct node time) bytes out ended r r' w w' end counts none few reads writes = absurd (let e = sym end.first ∙ none in cc)
+ended_well a InputTooLong bytes out ended r r' w w' end counts none few reads writes = let long = end.long in absurd (omega (arith, long, few))
+ended_well a ReadFault bytes out ended r r' w w' end counts none few reads writes = absurd (reads counts)
+ended_well a WriteFault bytes out ended r r' w w' end counts none few reads writes = absurd (writes counts)
+ended_well a Memory bytes out ended r r' w w' end counts none few reads writes = inr refl
+ended_well a (BadCheckpoint line) bytes out ended r r' w w' end counts none few reads writes = absurd end
+
 pub complete : (a : Answers) (status : Status) (J : List Entry) (reads reads' writes writes' : ℕ) → Ends a status J → Counts reads reads' writes writes' status →
     a.fault (lines (ins J) (ended J)) (ended J) ≡ None → length (ins J) ≤ limit → (Rose reads reads' → ⊥) → (Rose writes writes' → ⊥) → (status ≡ Done) ⊎ (status ≡ Memory)
-complete a Done J r r' w w' ends counts none few reads writes = inl refl
-complete a BadWords J r r' w w' ends counts none few reads writes = absurd ends.end
-complete a (BadQuery f) J r r' w w' ends counts none few reads writes = absurd ends.end
-complete a (Malformed line cause) J r r' w w' ends counts none few reads writes = absurd (let e = sym ends.end.first ∙ none in cc)
-complete a (Late line time bound) J r r' w w' ends counts none few reads writes = absurd (let e = sym ends.end.first ∙ none in cc)
-complete a (Overflow punct node time) J r r' w w' ends counts none few reads writes = absurd (let e = sym ends.end.first ∙ none in cc)
-complete a InputTooLong J r r' w w' ends counts none few reads writes = let long = ends.end.long in absurd (omega (arith, long, few))
-complete a ReadFault J r r' w w' ends counts none few reads writes = absurd (reads counts)
-complete a WriteFault J r r' w w' ends counts none few reads writes = absurd (writes counts)
-complete a Memory J r r' w w' ends counts none few reads writes = inr refl
+complete a status J r r' w w' ends = ended_well a status (ins J) (outs J) (ended J) r r' w w' ends.end
+
+pub complete_frozen : (a : Answers) (Froze : List (List ℕ) → List (List ℕ) → Type 0) (status : Status) (J : List Entry) (reads reads' writes writes' : ℕ) →
+    Freezes a Froze status J → Counts reads reads' writes writes' status → a.fault (lines (ins J) (ended J)) false ≡ None → length (ins J) ≤ limit →
+    (Rose reads reads' → ⊥) → (Rose writes writes' → ⊥) → (status ≡ Done) ⊎ (status ≡ Memory)
+complete_frozen a Froze Done J r r' w w' f counts none few reads writes = inl refl
+complete_frozen a Froze WriteFault J r r' w w' f counts none few reads writes = absurd (writes counts)
+complete_frozen a Froze status J r r' w w' f counts none few reads writes =
+    ended_well (going_on a) status (ins J) (outs J) (ended J) r r' w w' f.end counts none few reads writes
 
 pub complete_told : (plan : PlanParts) (status : Status) (J : List Entry) (reads reads' writes writes' : ℕ) → Tells plan status J → Counts reads reads' writes writes' status →
     (Rose writes writes' → ⊥) → (status ≡ Done) ⊎ (status ≡ Memory)
@@ -94,15 +132,34 @@ complete_summed a lines WriteFault J r r' w w' sums counts none writes = absurd 
 complete_summed a lines Memory J r r' w w' sums counts none writes = inr refl
 complete_summed a lines status J r r' w w' sums counts none writes = absurd sums.1
 
+apart : {A : Type 0} (a b : List ℕ) → bytes_eq a b ≡ false → a ≡ b → A
+apart a b differs e = absurd (true≢false (sym ((bytes_eq-Decides a b).1 e) ∙ differs))
+
 mode_once : (m n : Mode) → mode_text m ≡ mode_text n → m ≡ n
 mode_once Run Run e = refl
-mode_once Run Explain e = cc
-mode_once Run Sample e = cc
-mode_once Explain Run e = cc
+mode_once Run Freeze e = apart (codes "run") (codes "freeze") refl e
+mode_once Run Resume e = apart (codes "run") (codes "resume") refl e
+mode_once Run Explain e = apart (codes "run") (codes "explain") refl e
+mode_once Run Sample e = apart (codes "run") (codes "sample") refl e
+mode_once Freeze Run e = apart (codes "freeze") (codes "run") refl e
+mode_once Freeze Freeze e = refl
+mode_once Freeze Resume e = apart (codes "freeze") (codes "resume") refl e
+mode_once Freeze Explain e = apart (codes "freeze") (codes "explain") refl e
+mode_once Freeze Sample e = apart (codes "freeze") (codes "sample") refl e
+mode_once Resume Run e = apart (codes "resume") (codes "run") refl e
+mode_once Resume Freeze e = apart (codes "resume") (codes "freeze") refl e
+mode_once Resume Resume e = refl
+mode_once Resume Explain e = apart (codes "resume") (codes "explain") refl e
+mode_once Resume Sample e = apart (codes "resume") (codes "sample") refl e
+mode_once Explain Run e = apart (codes "explain") (codes "run") refl e
+mode_once Explain Freeze e = apart (codes "explain") (codes "freeze") refl e
+mode_once Explain Resume e = apart (codes "explain") (codes "resume") refl e
 mode_once Explain Explain e = refl
-mode_once Explain Sample e = cc
-mode_once Sample Run e = cc
-mode_once Sample Explain e = cc
+mode_once Explain Sample e = apart (codes "explain") (codes "sample") refl e
+mode_once Sample Run e = apart (codes "sample") (codes "run") refl e
+mode_once Sample Freeze e = apart (codes "sample") (codes "freeze") refl e
+mode_once Sample Resume e = apart (codes "sample") (codes "resume") refl e
+mode_once Sample Explain e = apart (codes "sample") (codes "explain") refl e
 mode_once Sample Sample e = refl
 
 flag_once : (b d : Bool) → bool_text b ≡ bool_text d → b ≡ d
@@ -113,9 +170,6 @@ flag_once false false e = refl
 
 some_once : {X : Type 0} (t : Option X) (a b : X) → t ≡ Some a → t ≡ Some b → a ≡ b
 some_once t a b p q = let e : Some a ≡ Some b = sym p ∙ q in cc
-
-apart : {A : Type 0} (a b : List ℕ) → bytes_eq a b ≡ false → a ≡ b → A
-apart a b differs e = absurd (true≢false (sym ((bytes_eq-Decides a b).1 e) ∙ differs))
 
 late_once : (l m : Lateness) → late_text l ≡ late_text m → l ≡ m
 late_once ways.Refuse ways.Refuse e = refl

@@ -2,15 +2,16 @@
 use Rattle.std.proofs.Common.{◌≡◌, ◌≤◌, ◌<◌, ℕ, suc, ◌+◌, ◌-◌, List, [], ◌∷◌, ◌++◌, length, Bool, true, false, Option, Some, refl, sym, ◌∙◌, ap, arith, append_assoc, subst}
 use Rattle.std.specs.Prelude.{◌||◌, ◌^◌}
 use Rattle.std.specs.List.{All}
-use Rattle.std.proofs.lemmas.List.{append-nil, length-append}
+use Rattle.std.proofs.lemmas.List.{append-nil, append_cancel_left, length-append}
 use Rattle.wire_lines.specs.Journal.{Entry, In, Out, ins, outs, ended, IsOut, Grows}
 use Rattle.wire_lines.specs.Faults.{Rose}
+use Rattle.wire_lines.specs.Cutter.{CutterState}
 use Rattle.wire_lines.proofs.Growth.{ins-append, outs-append}
 use Rattle.tempo_cli.specs.Answers.{Answers}
 use Rattle.tempo_cli.specs.Table.{limit, IsReady, IsPiece, IsPromptAfter, IsPrompt, IsEnd, Ends}
-use Rattle.tempo_cli.specs.Feeding.{Asked, answers_to, Holds, WantsBytes, IsOwn}
+use Rattle.tempo_cli.specs.Feeding.{Asked, answers_to, Holds, HasCut, WantsBytes, IsFull, IsOwn}
 use Rattle.tempo_cli.specs.Status.{Counts}
-use Rattle.tempo_cli.specs.Working.{Worked, Stopped, EndsWith, Reading}
+use Rattle.tempo_cli.specs.Working.{Worked, Stopped, EndsWith, Reading, AtEnd, Stops, CutsOn, CutsOff, MayCome}
 use Rattle.tempo_cli.specs.declared.answering.Answering.{Answering}
 use Rattle.tempo_cli.specs.declared.status.Status.{Status}
 use Rattle.tempo_cli.specs.declared.status.Status.TheVariants as statuses
@@ -32,7 +33,7 @@ ended-append (In [] ∷ J) K = refl
 ended-append (In (b ∷ bs) ∷ J) K = ended-append J K
 ended-append (Out b ∷ J) K = ended-append J K
 
-ins_outs : (K : List Entry) → All IsOut K → ins K ≡ []
+pub ins_outs : (K : List Entry) → All IsOut K → ins K ≡ []
 ins_outs [] a = refl
 ins_outs (In b ∷ K) a = absurd (a 0 (In b) (omega arith))
 ins_outs (Out b ∷ K) a = ins_outs K (λ k d h. a (suc k) d (omega arith))
@@ -42,12 +43,12 @@ ended_outs [] a = refl
 ended_outs (In b ∷ K) a = absurd (a 0 (In b) (omega arith))
 ended_outs (Out b ∷ K) a = ended_outs K (λ k d h. a (suc k) d (omega arith))
 
-prompt_in : (a : Answers) (K J : List Entry) (b : List ℕ) → IsPromptAfter a K J → IsReady a (K ++ J) → IsPiece (K ++ J) b → IsPromptAfter a K (J ++ In b ∷ [])
+pub prompt_in : (a : Answers) (K J : List Entry) (b : List ℕ) → IsPromptAfter a K J → IsReady a (K ++ J) → IsPiece (K ++ J) b → IsPromptAfter a K (J ++ In b ∷ [])
 prompt_in a K [] b p ready piece = (rw append-nil at ready, rw append-nil at piece, tt)
 prompt_in a K (In bytes ∷ J) b p ready piece = (p.0, p.1, prompt_in a (K ++ In bytes ∷ []) J b p.2 (rw append_assoc ready) (rw append_assoc piece))
 prompt_in a K (Out bytes ∷ J) b p ready piece = prompt_in a (K ++ Out bytes ∷ []) J b p (rw append_assoc ready) (rw append_assoc piece)
 
-prompt_outs : (a : Answers) (K J O : List Entry) → All IsOut O → IsPromptAfter a K J → IsPromptAfter a K (J ++ O)
+pub prompt_outs : (a : Answers) (K J O : List Entry) → All IsOut O → IsPromptAfter a K J → IsPromptAfter a K (J ++ O)
 prompt_outs a K [] [] o p = tt
 prompt_outs a K [] (In b ∷ O) o p = absurd (o 0 (In b) (omega arith))
 prompt_outs a K [] (Out b ∷ O) o p = prompt_outs a (K ++ Out b ∷ []) [] O (λ k d h. o (suc k) d (omega arith)) tt
@@ -61,18 +62,15 @@ ins_after J O b o = ins-append (J ++ In b ∷ []) O ∙ (ap (λ x. ins (J ++ In 
 pub outs_after : (J O : List Entry) (b : List ℕ) → outs ((J ++ In b ∷ []) ++ O) ≡ outs J ++ outs O
 outs_after J O b = outs-append (J ++ In b ∷ []) O ∙ ap (λ x. x ++ outs O) (outs-append J (In b ∷ []) ∙ append-nil (outs J))
 
-read_on : (J : List Entry) (b : List ℕ) → ended J ≡ false → 0 < length b → ended (J ++ In b ∷ []) ≡ false
+pub read_on : (J : List Entry) (b : List ℕ) → ended J ≡ false → 0 < length b → ended (J ++ In b ∷ []) ≡ false
 read_on J [] e h = absurd (omega arith)
 read_on J (x ∷ b) e h = ended-append J (In (x ∷ b) ∷ []) ∙ ap (λ t. t || false) e
 
 goes_on_after : (J O : List Entry) (b : List ℕ) → ended J ≡ false → 0 < length b → All IsOut O → ended ((J ++ In b ∷ []) ++ O) ≡ false
 goes_on_after J O b e some o = ended-append (J ++ In b ∷ []) O ∙ (ap (λ t. t || ended O) (read_on J b e some) ∙ ended_outs O o)
 
-ends_after : (J O : List Entry) → ended J ≡ false → ended ((J ++ In [] ∷ []) ++ O) ≡ true
-ends_after J O e = ended-append (J ++ In [] ∷ []) O ∙ ap (λ t. t || ended O) (ended-append J (In [] ∷ []) ∙ ap (λ t. t || true) e)
-
 -- the table looks at what came in, what went out and whether the input has ended
-same_end : (a : Answers) (status : Status) (b b' o o' : List ℕ) (e e' : Bool) → b' ≡ b → o' ≡ o → e' ≡ e → IsEnd a status b o e → IsEnd a status b' o' e'
+pub same_end : (a : Answers) (status : Status) (b b' o o' : List ℕ) (e e' : Bool) → b' ≡ b → o' ≡ o → e' ≡ e → IsEnd a status b o e → IsEnd a status b' o' e'
 same_end a status b b' o o' e e' p q r h = rw (p, q, r) h
 
 -- before a read
@@ -111,23 +109,94 @@ reads_on {q} {s} {t} {left} {J} {O} b n is some piece few wants r w = record {
 
 -- or the run ended at one of them
 pub reads_stop : {q : Asked} {s : Answering} {left : ℕ} {J O : List Entry} (b : List ℕ) (n : ℕ) (status : Status) → n ≡ length b → 0 < n → length b ≤ 65536 → n ≤ left → WantsBytes s.cutter → (r : Reading q s left J) →
-    Stopped q (ins J ++ b) r.given status O → Ends (answers_to q) status ((J ++ In b ∷ []) ++ O)
+    Stopped q (ins J ++ b) r.given status O → Stops (answers_to q) status ((J ++ In b ∷ []) ++ O)
 reads_stop {q} {s} {left} {J} {O} b n status is some piece few wants r w = record {
-  prompt = prompt_after {q = q} {s = s} {left = left} {J = J} b O wants piece (omega arith) w.outs_alone r;
-  end = same_end (answers_to q) status _ _ _ _ _ _ (ins_after J O b w.outs_alone) (outs_after J O b ∙ ap (λ x. x ++ outs O) r.written) (goes_on_after J O b r.goes_on (omega arith) w.outs_alone) (w.end false);
+  ends = record {
+    prompt = prompt_after {q = q} {s = s} {left = left} {J = J} b O wants piece (omega arith) w.outs_alone r;
+    end = same_end (answers_to q) status _ _ _ _ _ _ (ins_after J O b w.outs_alone) (outs_after J O b ∙ ap (λ x. x ++ outs O) r.written) (goes_on_after J O b r.goes_on (omega arith) w.outs_alone) (w.end false);
+  };
+  goes_on = goes_on_after J O b r.goes_on (omega arith) w.outs_alone;
 }
 
--- the input has ended
-pub reads_end : {q : Asked} {s : Answering} {left : ℕ} {J O : List Entry} (status : Status) → WantsBytes s.cutter → (r : Reading q s left J) → EndsWith q (ins J) r.given status O → Ends (answers_to q) status ((J ++ In [] ∷ []) ++ O)
-reads_end {q} {s} {left} {J} {O} status wants r w = record {
-  prompt = prompt_after {q = q} {s = s} {left = left} {J = J} [] O wants (omega arith) (omega arith) w.outs_alone r;
-  end = same_end (answers_to q) status _ _ _ _ _ _ (ins_after J O [] w.outs_alone ∙ append-nil (ins J)) (outs_after J O [] ∙ ap (λ x. x ++ outs O) r.written) (ends_after J O r.goes_on) w.end;
+-- the lines of what came in were worked through
+pub works_on : {q : Asked} {s t : Answering} {left : ℕ} {J O : List Entry} → (r : Reading q s left J) → Worked q (ins J) r.given t O → Reading q t left (J ++ O)
+works_on {q} {s} {t} {left} {J} {O} r w =
+    let came : ins (J ++ O) ≡ ins J = ins-append J O ∙ (ap (λ x. ins J ++ x) (ins_outs O w.outs_alone) ∙ append-nil (ins J)) in
+    record {
+      prompt = prompt_outs (answers_to q) [] J O w.outs_alone r.prompt;
+      goes_on = ended-append J O ∙ (ap (λ x. x || ended O) r.goes_on ∙ ended_outs O w.outs_alone);
+      given = w.more;
+      holds = subst (λ b. Holds q b w.more t) (sym came) w.holds;
+      written = outs-append J O ∙ (ap (λ x. x ++ outs O) r.written ∙ sym w.grown);
+      count = omega (arith, ap length came, r.count);
+    }
+
+pub works_stop : {q : Asked} {s : Answering} {left : ℕ} {J O : List Entry} (status : Status) → (r : Reading q s left J) → Stopped q (ins J) r.given status O → Ends (answers_to q) status (J ++ O)
+works_stop {q} {s} {left} {J} {O} status r w = record {
+  prompt = prompt_outs (answers_to q) [] J O w.outs_alone r.prompt;
+  end = same_end (answers_to q) status _ _ _ _ _ _
+      (ins-append J O ∙ (ap (λ x. ins J ++ x) (ins_outs O w.outs_alone) ∙ append-nil (ins J)))
+      (outs-append J O ∙ ap (λ x. x ++ outs O) r.written)
+      (ended-append J O ∙ (ap (λ x. x || ended O) r.goes_on ∙ ended_outs O w.outs_alone))
+      (w.end false);
 }
 
-pub read_failed : {q : Asked} {s : Answering} {left : ℕ} {J : List Entry} → WantsBytes s.cutter → Reading q s left J → Ends (answers_to q) statuses.ReadFault J
+-- as many bytes as may come
+pub few_came : {q : Asked} {s : Answering} {left : ℕ} {J : List Entry} → Reading q s left J → length (ins J) ≤ limit + 1
+few_came {q} {s} {left} {J} r = omega (arith, r.count)
+
+-- the input had ended, and what was due at its end was written
+pub end_outs : {a : Answers} (J O : List Entry) (status : Status) → IsPrompt a J → ended J ≡ true → All IsOut O → IsEnd a status (ins J) (outs J ++ outs O) true → Ends a status (J ++ O)
+end_outs {a} J O status prompt over o end = record {
+  prompt = prompt_outs a [] J O o prompt;
+  end = same_end a status _ _ _ _ _ _
+      (ins-append J O ∙ (ap (λ x. ins J ++ x) (ins_outs O o) ∙ append-nil (ins J)))
+      (outs-append J O)
+      (ended-append J O ∙ ap (λ x. x || ended O) over)
+      end;
+}
+
+-- two things are known of what a journal grew by
+some_same : {X : Type 0} (x y : X) → Some x ≡ Some y → x ≡ y
+some_same x y e = cc
+
+pub Grows-all : {a b : Option (List Entry)} {P : List Entry → Type 0} {X : Type 0} {Q : X → List Entry → Type 0} → Grows a b P → ((x : X) → Grows a b (Q x)) → Grows a b (λ K. P K × ((x : X) → Q x K))
+Grows-all {a} {b} {P} {X} {Q} first each = record {
+  grown = λ told e.
+      let p = first.grown told e in
+      (p.0, p.1, (p.2, λ x. (let q = (each x).grown told e in subst (Q x) (append_cancel_left told q.0 p.0 (some_same (told ++ q.0) (told ++ p.0) (sym q.1 ∙ p.1))) q.2)));
+}
+
+-- a read gave no bytes: the input has ended
+pub all_read : {q : Asked} {s t : Answering} {left : ℕ} {J : List Entry} → WantsBytes s.cutter → (r : Reading q s left J) → Holds q (ins J) r.given t → AtEnd q t (J ++ In [] ∷ [])
+all_read {q} {s} {t} {left} {J} wants r holds =
+    let came : ins (J ++ In [] ∷ []) ≡ ins J = ins-append J (In [] ∷ []) ∙ append-nil (ins J) in
+    record {
+      prompt = prompt_in (answers_to q) [] J [] r.prompt (ready wants r) (record { short = omega arith; within = omega (arith, r.count) });
+      at_end = ended-append J (In [] ∷ []) ∙ ap (λ t. t || true) r.goes_on;
+      given = r.given;
+      holds = subst (λ b. Holds q b r.given t) (sym came) holds;
+      written = outs-append J (In [] ∷ []) ∙ (append-nil (outs J) ∙ r.written);
+    }
+
+-- and what was due was written
+pub ends_all : {q : Asked} {s : Answering} {J O : List Entry} (status : Status) → (r : AtEnd q s J) → EndsWith q (ins J) r.given status O → Ends (answers_to q) status (J ++ O)
+ends_all {q} {s} {J} {O} status r w = record {
+  prompt = prompt_outs (answers_to q) [] J O w.outs_alone r.prompt;
+  end = same_end (answers_to q) status _ _ _ _ _ _
+      (ins-append J O ∙ (ap (λ x. ins J ++ x) (ins_outs O w.outs_alone) ∙ append-nil (ins J)))
+      (outs-append J O ∙ ap (λ x. x ++ outs O) r.written)
+      (ended-append J O ∙ ap (λ t. t || ended O) r.at_end)
+      w.end;
+}
+
+pub read_failed : {q : Asked} {s : Answering} {left : ℕ} {J : List Entry} → WantsBytes s.cutter → Reading q s left J → Stops (answers_to q) statuses.ReadFault J
 read_failed {q} {s} {left} {J} wants r = record {
-  prompt = r.prompt;
-  end = same_end (answers_to q) statuses.ReadFault _ _ _ _ _ _ refl r.written r.goes_on (cut_off r.holds.within wants.wants_bytes);
+  ends = record {
+    prompt = r.prompt;
+    end = same_end (answers_to q) statuses.ReadFault _ _ _ _ _ _ refl r.written r.goes_on (cut_off r.holds.within wants.wants_bytes);
+  };
+  goes_on = r.goes_on;
 }
 
 -- before the first read
@@ -152,19 +221,45 @@ pub record AfterRead (q : Asked) (s : Answering) (left : ℕ) (b : List ℕ) (no
   pub is : now ≡ before ++ In b ∷ []
   pub reading : Reading q s left before
 
-pub after_read : {q : Asked} {s : Answering} {left : ℕ} {J : List Entry} (b : List ℕ) → Reading q s left J → AfterRead q s left b (J ++ In b ∷ [])
-after_read {q} {s} {left} {J} b r = record { before = J; is = refl; reading = r }
+pub after_read : {q : Asked} {s : Answering} {left : ℕ} (J K : List Entry) (b : List ℕ) → Reading q s left (J ++ K) → AfterRead q s left b (J ++ (K ++ In b ∷ []))
+after_read {q} {s} {left} J K b r = record { before = J ++ K; is = sym (append_assoc J K (In b ∷ [])); reading = r }
 
-pub after_on : {q : Asked} {s t : Answering} {left : ℕ} {J O : List Entry} (b : List ℕ) (n : ℕ) → n ≡ length b → 0 < n → length b ≤ 65536 → n ≤ left → WantsBytes s.cutter → (p : AfterRead q s left b J) →
-    Worked q (ins p.before ++ b) p.reading.given t O → Reading q t (left - n) (J ++ O)
-after_on {q} {s} {t} {left} {J} {O} b n is some piece few wants p w = subst (λ x. Reading q t (left - n) (x ++ O)) (sym p.is) (reads_on b n is some piece few wants p.reading w)
+pub after_on : {q : Asked} {s t : Answering} {left : ℕ} (J K O : List Entry) (b : List ℕ) (n : ℕ) → n ≡ length b → 0 < n → length b ≤ 65536 → n ≤ left → WantsBytes s.cutter → (p : AfterRead q s left b (J ++ K)) →
+    Worked q (ins p.before ++ b) p.reading.given t O → Reading q t (left - n) (J ++ (K ++ O))
+after_on {q} {s} {t} {left} J K O b n is some piece few wants p w =
+    subst (Reading q t (left - n)) (ap (λ x. x ++ O) (sym p.is) ∙ append_assoc J K O) (reads_on b n is some piece few wants p.reading w)
 
-pub after_stop : {q : Asked} {s : Answering} {left : ℕ} {J O : List Entry} (b : List ℕ) (n : ℕ) (status : Status) → n ≡ length b → 0 < n → length b ≤ 65536 → n ≤ left → WantsBytes s.cutter → (p : AfterRead q s left b J) →
-    Stopped q (ins p.before ++ b) p.reading.given status O → Ends (answers_to q) status (J ++ O)
-after_stop {q} {s} {left} {J} {O} b n status is some piece few wants p w = subst (λ x. Ends (answers_to q) status (x ++ O)) (sym p.is) (reads_stop b n status is some piece few wants p.reading w)
+pub after_stop : {q : Asked} {s : Answering} {left : ℕ} (J K O : List Entry) (b : List ℕ) (n : ℕ) (status : Status) → n ≡ length b → 0 < n → length b ≤ 65536 → n ≤ left → WantsBytes s.cutter → (p : AfterRead q s left b (J ++ K)) →
+    Stopped q (ins p.before ++ b) p.reading.given status O → Stops (answers_to q) status (J ++ (K ++ O))
+after_stop {q} {s} {left} J K O b n status is some piece few wants p w =
+    subst (Stops (answers_to q) status) (ap (λ x. x ++ O) (sym p.is) ∙ append_assoc J K O) (reads_stop b n status is some piece few wants p.reading w)
 
-pub after_end : {q : Asked} {s : Answering} {left : ℕ} {J O : List Entry} (status : Status) → WantsBytes s.cutter → (p : AfterRead q s left [] J) → EndsWith q (ins p.before) p.reading.given status O → Ends (answers_to q) status (J ++ O)
-after_end {q} {s} {left} {J} {O} status wants p w = subst (λ x. Ends (answers_to q) status (x ++ O)) (sym p.is) (reads_end status wants p.reading w)
+-- the bytes of what came in, and then some was written
+ins_more : (J K O : List Entry) → All IsOut O → ins (J ++ (K ++ O)) ≡ ins (J ++ K)
+ins_more J K O o = ap ins (sym (append_assoc J K O)) ∙ (ins-append (J ++ K) O ∙ (ap (λ x. ins (J ++ K) ++ x) (ins_outs O o) ∙ append-nil (ins (J ++ K))))
+
+-- whatever the engine is: bytes came in, and their lines were given
+pub came_last : {c d : CutterState} {left : ℕ} (J K : List Entry) (b : List ℕ) (n : ℕ) → n ≡ length b → n ≤ left → MayCome c left (J ++ K) →
+    ((bytes : List ℕ) (given : List (List ℕ)) → HasCut bytes given c → HasCut (bytes ++ b) given d) → MayCome d (left - n) (J ++ (K ++ In b ∷ []))
+came_last {c} {d} {left} J K b n is few m cut =
+    let e : ins (J ++ (K ++ In b ∷ [])) ≡ ins (J ++ K) ++ b =
+    ap ins (sym (append_assoc J K (In b ∷ []))) ∙ (ins-append (J ++ K) (In b ∷ []) ∙ ap (λ x. ins (J ++ K) ++ x) (append-nil b)) in
+    record {
+      given = m.given;
+      cut = subst (λ x. HasCut x m.given d) (sym e) (cut (ins (J ++ K)) m.given m.cut);
+      count = omega (arith, ap length e, length-append (ins (J ++ K)) b, m.count);
+    }
+
+pub came_on : {c d : CutterState} {left : ℕ} (J K O : List Entry) → MayCome c left (J ++ K) → CutsOn (ins (J ++ K)) d O → MayCome d left (J ++ (K ++ O))
+came_on {c} {d} {left} J K O m o = record {
+  given = o.more;
+  cut = subst (λ x. HasCut x o.more d) (sym (ins_more J K O o.outs_alone)) o.cut;
+  count = omega (arith, ap length (ins_more J K O o.outs_alone), m.count);
+}
+
+-- or the input is full
+pub came_off : (J K O : List Entry) (status : Status) → CutsOff (ins (J ++ K)) status O → IsFull status (ins (J ++ (K ++ O)))
+came_off J K O status o = subst (IsFull status) (sym (ins_more J K O o.outs_alone)) o.full
 
 -- where no call failed
 pub own_counts : (r r' w w' : ℕ) (status : Status) → IsOwn status → r' ≡ r → w' ≡ w → Counts r r' w w' status

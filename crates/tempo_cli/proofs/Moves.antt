@@ -15,6 +15,8 @@ use Rattle.wire_lines.proofs.NextFacts.{overlong}
 use Rattle.wire_lines.proofs.Limits.{after_next-longest, after_next-total}
 use Rattle.admission.specs.Progress.{Fault}
 use Rattle.tempo_cli.specs.Answers.{Answers, IsFinal, IsFront}
+use Rattle.tempo_cli.specs.Resumed.{going_on}
+use Rattle.tempo_cli.specs.Restoring.{AreFront}
 use Rattle.tempo_cli.specs.Feeding.{Within}
 use Rattle.tempo_cli.specs.Table.{limit, IsRefused, IsTooLong, IsCutOff, IsShort}
 use Rattle.tempo_cli.proofs.Lines.{lines_are_free, lines_within, lines_long_within}
@@ -36,10 +38,10 @@ module _ {a : Answers} {bytes : List ℕ} {given : List (List ℕ)} {c : CutterS
   pub within_all : HasGivenAll bytes c given → Within a bytes given (after_next c)
   within_all g = record { longest = after_next-longest c ∙ w.longest; total = after_next-total c ∙ w.total; cuts = g.after; fine = w.fine }
 
-  lines_after : (ended : Bool) → lines bytes ended ≡ given ++ lines c.rest ended
+  pub lines_after : (ended : Bool) → lines bytes ended ≡ given ++ lines c.rest ended
   lines_after ended = lines_go_on bytes c.rest given ended w.cuts.all w.cuts.each
 
-  given_low : length (joined given) ≤ limit
+  pub given_low : length (joined given) ≤ limit
   given_low = omega (arith, w.cuts.passed_is, w.cuts.fits, w.total)
 
   -- while the input goes on, the lines are those that were given
@@ -50,6 +52,32 @@ module _ {a : Answers} {bytes : List ℕ} {given : List (List ℕ)} {c : CutterS
 
   pub few_bytes : IsTrue c.wants_bytes → length bytes ≤ limit
   few_bytes wants_bytes = let settled = w.cuts.settled wants_bytes in omega (arith, settled.few, w.total)
+
+  -- and so they are where more lines are to come
+  pub within_going : Within (going_on a) bytes given c
+  within_going = record { longest = w.longest; total = w.total; cuts = w.cuts; fine = w.fine }
+
+  -- the lines up to the next one are the first ones, of all bytes and of those that the input may have
+  pub line_fronts : (number : ℕ) (line : List ℕ) → GivesLine bytes c given number line → (ended : Bool) → AreFront (given ++ line ∷ []) (lines bytes ended) × AreFront (given ++ line ∷ []) (lines (take limit bytes) ended)
+  line_fronts number line g ended =
+      let others = g.among_lines ended in
+      let cuts = g.after in
+      let low : length (joined (given ++ line ∷ [])) ≤ limit = omega (arith, cuts.passed_is, cuts.fits, after_next-total c, w.total) in
+      ((others.0, others.1 ∙ sym (append_assoc given (line ∷ []) others.0)), (_, lines_within bytes (after_next c).rest (given ++ line ∷ []) ended cuts.all cuts.each low))
+
+  -- and where the next one is too long it is so in both
+  pub long_fronts : (number : ℕ) → Overlong number ≡ next c → (ended : Bool) →
+      ((line : List ℕ) × AreFront (given ++ line ∷ []) (lines bytes ended) × (65536 < length line)) × ((line : List ℕ) × AreFront (given ++ line ∷ []) (lines (take limit bytes) ended) × (65536 < length line))
+  long_fronts number is ended =
+      let over = overlong c number is in
+      let found = tells_too_long bytes c given number is w.cuts in
+      let others = found.among_lines (omega (arith, w.longest)) ended in
+      let room : 65536 < limit - length (joined given) = omega (arith, over.long, w.longest, w.total, w.cuts.passed_is) in
+      let line_long : 65536 < line_len c.rest = omega (arith, over.long, w.longest) in
+      let here = lines_long_within c.rest (limit - length (joined given)) ended room line_long in (
+        (found.line, (others.0, others.1 ∙ sym (append_assoc given (found.line ∷ []) others.0)), omega (arith, found.long, w.longest)),
+        (here.0, (here.1, lines_within bytes c.rest given ended w.cuts.all w.cuts.each given_low ∙ (ap (λ ls. given ++ ls) here.2 ∙ sym (append_assoc given (here.0 ∷ []) here.1))), here.3),
+      )
 
   -- memory was wanting
   pub short : (ended : Bool) → IsShort a bytes (a.text given false) ended

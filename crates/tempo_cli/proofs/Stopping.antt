@@ -11,14 +11,14 @@ use Rattle.tempo_engine.specs.Output.{plan_text}
 use Rattle.tempo_engine.specs.declared.fault.EngineFault.{EngineFault}
 use Rattle.tempo_engine.specs.declared.fault.EngineFault.TheVariants.{Bad, Late, Overflow, Memory}
 use Rattle.tempo_cli.specs.Answers.{Answers, IsFinal, IsFront}
-use Rattle.tempo_cli.specs.Told.{told}
 use Rattle.tempo_cli.specs.Table.{limit, IsDone, IsEnd, IsRefused, IsShort}
-use Rattle.tempo_cli.specs.Feeding.{Asked, answers_to, status_at, Within, Ended, IsOwn}
+use Rattle.tempo_cli.specs.Feeding.{Asked, answers_to, said, status_at, Within, Ended, IsOwn, IsFull}
+use Rattle.tempo_cli.specs.Resumed.{going_on}
 use Rattle.tempo_cli.specs.declared.answering.Answering.{Answering}
 use Rattle.tempo_cli.proofs.Lines.{lines_are_free}
 use Rattle.tempo_cli.proofs.Moves.{refused, short}
-use Rattle.tempo_cli.proofs.Fed.{same_fault, same_text}
-use Rattle.tempo_cli.proofs.Final.{answers_final}
+use Rattle.tempo_cli.proofs.Fed.{same_fault, same_text, before_low, took_final}
+use Rattle.tempo_cli.proofs.Final.{cut_grows}
 
 -- it tells no fault of the words, of the query or of a wire
 pub own_at : (f : EngineFault) → IsOwn (status_at f)
@@ -26,6 +26,24 @@ own_at (Bad line cause) = tt
 own_at (Late line time bound) = tt
 own_at (Overflow punctuation node time) = tt
 own_at Memory = tt
+
+-- nor is the input full
+pub full_at : (f : EngineFault) (bytes : List ℕ) → IsFull (status_at f) bytes
+full_at (Bad line cause) bytes = tt
+full_at (Late line time bound) bytes = tt
+full_at (Overflow punctuation node time) bytes = tt
+full_at Memory bytes = tt
+
+-- what is asked of an input that goes on is final too
+pub going_final : (a : Answers) → IsFinal a → IsFinal (going_on a)
+going_final a f = record {
+  silent = f.silent;
+  front = λ ls more ended free. f.front ls more false free;
+  stays = λ ls more ended fault e. f.stays ls more false fault e;
+  text_stays = λ ls more ended fault e. f.text_stays ls more false fault e;
+  no_more = f.no_more;
+  none_at_end = λ ls fault none e. refl;
+}
 
 -- at a line
 pub line_stops : {a : Answers} {bytes : List ℕ} {given : List (List ℕ)} {c : CutterState} (w : Within a bytes given c) (final : IsFinal a) (number : ℕ) (line : List ℕ) (f : EngineFault) →
@@ -62,7 +80,7 @@ refused_end a final bytes written f few fine so_far is = record {
   written = so_far ∙ sym (final.none_at_end (lines bytes true) f fine is);
 }
 
-short_end : (a : Answers) (bytes written : List ℕ) → written ≡ a.text (lines bytes true) false → IsShort a bytes written true
+pub short_end : (a : Answers) (bytes written : List ℕ) → written ≡ a.text (lines bytes true) false → IsShort a bytes written true
 short_end a bytes written so_far = record {
   k = length (lines bytes true);
   few = omega arith;
@@ -71,10 +89,10 @@ short_end a bytes written so_far = record {
 
 -- at the end
 pub end_stops : (q : Asked) (bytes written : List ℕ) (s : Answering) (e : Ended q bytes written s) (f : EngineFault) → IsFaultOf f (fault q.plan q.policy e.engine.fed true) → IsEnd (answers_to q) (status_at f) bytes written true
-end_stops q bytes written s e f is = go f (subst (IsFaultOf f) (same_fault q.plan q.policy e.engine.fed (told q.plan.streams q.header (lines bytes true)) true e.engine.same) is)
+end_stops q bytes written s e f is = go f (subst (IsFaultOf f) (same_fault q.plan q.policy e.engine.fed (said q (lines bytes true)) true e.engine.same) is)
   where
     final : IsFinal (answers_to q)
-    final = answers_final q e.engine.took.by.sound
+    final = took_final q (lines bytes true) s.engine e.engine
 
     go : (f : EngineFault) → IsFaultOf f ((answers_to q).fault (lines bytes true) true) → IsEnd (answers_to q) (status_at f) bytes written true
     go (Bad n cause) h = refused_end (answers_to q) final bytes written _ e.few e.fine e.so_far h
@@ -86,18 +104,19 @@ end_stops q bytes written s e f is = go f (subst (IsFaultOf f) (same_fault q.pla
 pub end_done : (q : Asked) (bytes written out : List ℕ) (s : Answering) (e : Ended q bytes written s) → fault q.plan q.policy e.engine.fed true ≡ None →
     plan_text q.plan q.policy e.engine.fed true ≡ plan_text q.plan q.policy e.engine.fed false ++ out → IsDone (answers_to q) bytes (written ++ out) true
 end_done q bytes written out s e fine grows =
-    let all = told q.plan.streams q.header (lines bytes true) in
+    let all = said q (lines bytes true) in
     record {
       at_end = refl;
       no_fault = sym (same_fault q.plan q.policy e.engine.fed all true e.engine.same) ∙ fine;
-      written = ap (λ x. x ++ out) (e.so_far ∙ sym (same_text q.plan q.policy e.engine.fed all false e.engine.same)) ∙ (sym grows ∙ same_text q.plan q.policy e.engine.fed all true e.engine.same);
+      written = ap (λ x. x ++ out) e.so_far ∙ sym (cut_grows _ (plan_text q.plan q.policy all false) _ out (before_low q (lines bytes true) s.engine e.engine)
+          (sym (same_text q.plan q.policy e.engine.fed all true e.engine.same) ∙ (grows ∙ ap (λ x. x ++ out) (same_text q.plan q.policy e.engine.fed all false e.engine.same))));
     }
 
 -- a front of what is due for the last line went out
 pub end_front : (q : Asked) (bytes before out front : List ℕ) (s : Answering) → Ended q bytes (before ++ out) s → IsFront front out → IsFront (before ++ front) ((answers_to q).text (lines bytes true) true)
 end_front q bytes before out front s e some =
     let ls = lines bytes true in
-    let final = answers_final q e.engine.took.by.sound in
+    let final = took_final q ls s.engine e.engine in
     let none = append-nil ls in
     let fin = final.front ls [] true (subst (All HasNoLf) (sym none) (lines_are_free bytes true)) in (
       some.0 ++ fin.0,

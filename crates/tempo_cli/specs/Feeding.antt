@@ -1,5 +1,5 @@
 -- What private contracts say of an engine and of a query that lines were fed to.
-use Rattle.std.specs.Prelude.{◌≡◌, ◌+◌, ◌≤◌, ◌<◌, ℕ, Bool, true, false, IsTrue, List, [], ◌∷◌, ◌++◌, Option, None, Result, MatchResult, length}
+use Rattle.std.specs.Prelude.{◌≡◌, ◌+◌, ◌^◌, ◌≤◌, ◌<◌, ℕ, suc, Bool, true, false, IsTrue, List, [], ◌∷◌, ◌++◌, Option, None, Result, MatchResult, length, drop}
 use Rattle.wire_lines.specs.Cutter.{CutterState}
 use Rattle.wire_lines.specs.Cuts.{Cuts}
 use Rattle.wire_lines.specs.Journal.{Entry, In, Adds}
@@ -7,13 +7,14 @@ use Rattle.wire_lines.specs.Reading.{count_of}
 use Rattle.wire_lines.specs.Lines.{IsOneLine, lines}
 use Rattle.plan_model.specs.IsPlan.{PlanParts}
 use Rattle.admission.specs.Entries.{Told}
-use Rattle.admission.specs.Progress.{start, steps}
+use Rattle.admission.specs.Progress.{start, steps, fault}
 use Rattle.admission.specs.declared.policy.Policy.{Policy}
-use Rattle.tempo_engine.specs.Fed.{Fed}
+use Rattle.tempo_engine.specs.Fed.{Fed, last_number}
+use Rattle.tempo_engine.specs.Output.{plan_text}
 use Rattle.tempo_engine.specs.Went.{EngineView}
 use Rattle.tempo_cli.specs.Answers.{Answers}
 use Rattle.tempo_cli.specs.Table.{limit, IsEnd}
-use Rattle.tempo_cli.specs.Told.{told, answers}
+use Rattle.tempo_cli.specs.Told.{told_from, fed_from}
 use Rattle.tempo_engine.specs.declared.fault.EngineFault.{EngineFault}
 use Rattle.tempo_engine.specs.declared.fault.EngineFault.TheVariants as faults
 use Rattle.tempo_cli.specs.declared.status.Status.{Status}
@@ -22,20 +23,39 @@ use Rattle.tempo_cli.specs.declared.answering.Answering.{Answering}
 use Rattle.tempo_cli.specs.declared.answering.Step.{Step}
 use Rattle.tempo_cli.specs.declared.answering.Step.TheVariants.{More, Out, Stop}
 
--- what is asked for: a plan, a policy, and whether line 1 is a header
+-- what is asked for: a plan, a policy, and whether line 1 is a header. And what was before: the lines that another run took, and how
+-- many lines tell what it was frozen to
 pub record Asked : Type 0 where
   pub plan : PlanParts
   pub policy : Policy
   pub header : Bool
+  pub before : List Told
+  pub passed : ℕ
+
+-- of a run from its first line on, before which there was none
+abbrev pub from_start : PlanParts → Policy → Bool → Asked
+from_start plan policy header = record { plan = plan; policy = policy; header = header; before = []; passed = 0 }
+
+-- what the lines say, behind those that tell what was frozen, after what the lines before said
+abbrev pub said : Asked → List (List ℕ) → List Told
+said q lines = q.before ++ told_from q.plan.streams q.header (suc (last_number q.before)) (drop q.passed lines)
+
+-- and those of them that were fed
+abbrev pub fed_by : Asked → List (List ℕ) → List Told
+fed_by q lines = q.before ++ fed_from q.plan.streams q.header (suc (last_number q.before)) (drop q.passed lines)
 
 abbrev pub answers_to : Asked → Answers
-answers_to q = answers q.plan q.policy q.header
+answers_to q = record {
+  fault = λ lines ended. fault q.plan q.policy (said q lines) ended;
+  text = λ lines ended. drop (length (plan_text q.plan q.policy q.before false)) (plan_text q.plan q.policy (said q lines) ended);
+}
 
 -- the engine was fed these lines, but for a header, which changes nothing
 pub record Took (q : Asked) (given : List (List ℕ)) (e : EngineView) : Type 0 where
   pub fed : List Told
+  pub is : fed ≡ fed_by q given
   pub took : Fed q.plan q.policy fed e
-  pub same : steps q.plan q.policy start fed ≡ steps q.plan q.policy start (told q.plan.streams q.header given)
+  pub same : steps q.plan q.policy start fed ≡ steps q.plan q.policy start (said q given)
 
 -- the cutter has given these lines of the bytes, and none of them has a fault
 pub record Within (a : Answers) (bytes : List ℕ) (given : List (List ℕ)) (c : CutterState) : Type 0 where
@@ -44,15 +64,36 @@ pub record Within (a : Answers) (bytes : List ℕ) (given : List (List ℕ)) (c 
   pub cuts : Cuts bytes c given
   pub fine : a.fault given false ≡ None
 
+-- nothing is asked of any line
+abbrev pub nothing : Answers
+nothing = record { fault = λ lines ended. None; text = λ lines ended. [] }
+
+-- the cutter has given these lines of the bytes, whatever became of them
+abbrev pub HasCut : List ℕ → List (List ℕ) → CutterState → Type 0
+HasCut bytes given c = Within nothing bytes given c
+
 -- it has taken these lines of the bytes
 pub record Holds (q : Asked) (bytes : List ℕ) (given : List (List ℕ)) (s : Answering) : Type 0 where
   pub header : s.header ≡ q.header
+  pub base : s.base ≡ last_number q.before
+  pub low : s.base ≤ 2 ^ 62
+  pub skipped : s.skipped ≡ q.passed
+  pub passed : q.passed ≤ length given
   pub within : Within (answers_to q) bytes given s.cutter
   pub engine : Took q given s.engine
 
+-- the line behind these has this number for the engine: the numbers go on from the line before a checkpoint
+pub record IsNext (q : Asked) (given : List (List ℕ)) (number : ℕ) : Type 0 where
+  pub passed : q.passed ≤ length given
+  pub number_is : number + q.passed ≡ last_number q.before + length given + 1
+
 -- whatever is asked for, and whichever lines the engine took, of which the next has this number
 abbrev pub WhateverGiven : Bool → ℕ → EngineView → (Asked → List (List ℕ) → Type 0) → Type 0
-WhateverGiven header number e P = (q : Asked) (given : List (List ℕ)) → q.header ≡ header → number ≡ length given + 1 → Took q given e → P q given
+WhateverGiven header number e P = (q : Asked) (given : List (List ℕ)) → q.header ≡ header → IsNext q given number → Took q given e → P q given
+
+-- the number that the engine has for a line of the input, where that is one of 64 bits
+abbrev pub IsNumbered : ℕ → ℕ → ℕ → ℕ → Type 0
+IsNumbered base skipped line number = skipped ≤ line → base + line < 2 ^ 64 → number + skipped ≡ base + line
 
 -- whatever is asked for, and whichever lines of whichever bytes were taken
 abbrev pub WhateverHeld : Answering → (Asked → List ℕ → List (List ℕ) → Type 0) → Type 0
@@ -76,6 +117,7 @@ pub record HasTaken {E : Type 0} (before now : Option (List Entry)) (old new : A
   pub count : length piece ≡ count_of result
   pub told : MatchResult result (λ _. Adds before now (In piece ∷ [])) (λ _. Adds before now [])
   pub holds : (q : Asked) (bytes : List ℕ) (given : List (List ℕ)) → Holds q bytes given old → Holds q (bytes ++ piece) given new
+  pub cut : (bytes : List ℕ) (given : List (List ℕ)) → HasCut bytes given old.cutter → HasCut (bytes ++ piece) given new.cutter
   pub wants : piece ≡ [] → WantsBytes new.cutter
 
 -- what the next line comes to: all whole lines were taken; or a line was, by which the text grows; or the run
@@ -85,6 +127,18 @@ Comes q bytes given s More = Holds q bytes given s
 Comes q bytes given s (Out out) = (line : List ℕ) × Holds q bytes (given ++ line ∷ []) s
     × ((answers_to q).text (given ++ line ∷ []) false ≡ (answers_to q).text given false ++ out.items)
 Comes q bytes given s (Stop status) = (ended : Bool) → IsEnd (answers_to q) status bytes ((answers_to q).text given false) ended
+
+-- the status tells of lines and not of a checkpoint; where the input is too long it has one byte more than it may have
+abbrev pub IsFull : Status → List ℕ → Type 0
+IsFull statuses.InputTooLong bytes = length bytes ≡ limit + 1
+IsFull (statuses.BadCheckpoint line) bytes = ⊥
+IsFull status bytes = Unit {0}
+
+-- what the next line comes to for the cutter, whatever the engine is
+abbrev pub StepCuts : List ℕ → List (List ℕ) → CutterState → Step → Type 0
+StepCuts bytes given c More = HasCut bytes given c
+StepCuts bytes given c (Out out) = (line : List ℕ) × HasCut bytes (given ++ line ∷ []) c
+StepCuts bytes given c (Stop status) = IsFull status bytes
 
 -- the status of a run that the engine's fault ends
 abbrev pub status_at : EngineFault → Status

@@ -6,18 +6,23 @@ use Rattle.plan_model.specs.declared.fault.QueryFault.{QueryFault}
 use Rattle.plan_model.specs.declared.fault.QueryError.{QueryError}
 use Rattle.plan_model.specs.declared.fault.QueryError.TheVariants as errors
 use Rattle.plan_model.specs.IsPlan.{PlanParts}
+use Rattle.admission.specs.declared.policy.Policy.{Policy}
 use Rattle.query_text.specs.IsParse.{Spells, IsSmallText, IsTextFault}
 use Rattle.query_text.specs.declared.query.Query.{Query}
 use Rattle.query_plan.specs.Planned.{planned}
 use Rattle.query_plan.specs.Explained.{explained}
 use Rattle.command_line.specs.Words.{Asked, SpellsCommand, are_taken}
 use Rattle.command_line.specs.declared.words.Mode.{Mode}
-use Rattle.command_line.specs.declared.words.Mode.TheVariants.{Run, Explain, Sample}
+use Rattle.command_line.specs.declared.words.Mode.TheVariants.{Run, Freeze, Resume, Explain, Sample}
 use Rattle.sample_trades.specs.Lines.{sample_lines}
+use Rattle.checkpoint.specs.Form.{FormView, form_of}
+use Rattle.tempo_engine.specs.Frozen.{Fits, IsState}
 use Rattle.tempo_cli.specs.Answers.{IsFront}
 use Rattle.tempo_cli.specs.Table.{Ends}
-use Rattle.tempo_cli.specs.Told.{answers}
+use Rattle.tempo_cli.specs.Told.{answers, fed}
 use Rattle.tempo_cli.specs.Summing.{Sums}
+use Rattle.tempo_cli.specs.Freezing.{Freezes, Froze}
+use Rattle.tempo_cli.specs.Restoring.{Resumes}
 use Rattle.tempo_cli.specs.declared.status.Status.{Status}
 use Rattle.tempo_cli.specs.declared.status.Status.TheVariants.{Done, BadWords, BadQuery, WriteFault, Memory}
 
@@ -63,10 +68,25 @@ pub record Tells (plan : PlanParts) (status : Status) (J : List Entry) : Type 0 
   pub outs_alone : All IsOut J
   pub told : IsTold status (explained plan) J
 
--- in mode run the query is answered, in mode explain its plan is told, and in mode sample the answer to generated lines is
--- summed up
+-- the form of the checkpoints of what is asked for
+abbrev pub form_asked : Asked → PlanParts → FormView
+form_asked asked plan = form_of asked.query asked.workers asked.policy plan
+
+-- the lines C are a checkpoint of what is asked for, after these lines of an input
+abbrev pub HasFroze : Asked → PlanParts → List (List ℕ) → List (List ℕ) → Type 0
+HasFroze asked plan lines C = Froze (form_asked asked plan) (Fits asked.workers plan asked.policy (fed plan.streams asked.header lines)) C
+
+-- the run went on from a checkpoint of the query, so many workers, the plan and the policy
+abbrev pub HasResumed : List ℕ → ℕ → PlanParts → Policy → Status → List Entry → Type 0
+HasResumed query workers plan policy status J =
+    Resumes (form_of query workers policy plan) (Fits workers plan policy) (IsState workers plan) plan policy status J
+
+-- in mode run the query is answered, in mode freeze a checkpoint stands at the end of the answer, in mode resume the answer goes
+-- on from one, in mode explain the plan is told, and in mode sample the answer to generated lines is summed up
 abbrev pub DoesMode : Mode → Asked → PlanParts → Status → List Entry → Type 0
 DoesMode Run asked plan status J = Ends (answers plan asked.policy asked.header) status J
+DoesMode Freeze asked plan status J = Freezes (answers plan asked.policy asked.header) (HasFroze asked plan) status J
+DoesMode Resume asked plan status J = HasResumed asked.query asked.workers plan asked.policy status J
 DoesMode Explain asked plan status J = Tells plan status J
 DoesMode Sample asked plan status J = Sums (answers plan asked.policy asked.header) (sample_lines asked.number asked.events) status J
 

@@ -1,10 +1,16 @@
--- Callers read Answers, Told, Table, Summing, Jobs and Status. Only private contracts cite Feeding, Working and Sampled.
+-- Callers read Answers, Told, Table, Resumed, Freezing, Restoring, Summing, Jobs and Status. Only private contracts cite Feeding, Working,
+-- Sampled, Restored and Halting.
 pub mod Answers
 pub mod Told
 pub mod Table
+pub mod Resumed
+pub mod Freezing
+pub mod Restoring
 pub mod Summing
 pub mod Status
 pub mod Jobs
 pub mod Feeding
 pub mod Working
 pub mod Sampled
+pub mod Restored
+pub mod Halting

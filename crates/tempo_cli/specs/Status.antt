@@ -10,7 +10,7 @@ use Rattle.row_reader.specs.declared.entry.BadLine.{BadLine}
 use Rattle.row_reader.specs.declared.entry.BadLine.TheVariants.{TooLong, NotUtf8, StrayReturn, OddQuotes, UnknownStream, UnknownKind, WrongFields, BadTime, BadLife, BadValue, NoStart}
 use Rattle.tempo_cli.specs.Answers.{IsFront}
 use Rattle.tempo_cli.specs.declared.status.Status.{Status}
-use Rattle.tempo_cli.specs.declared.status.Status.TheVariants.{Done, BadWords, BadQuery, Malformed, Late, Overflow, InputTooLong, ReadFault, WriteFault, Memory}
+use Rattle.tempo_cli.specs.declared.status.Status.TheVariants.{Done, BadWords, BadQuery, Malformed, Late, Overflow, InputTooLong, ReadFault, WriteFault, Memory, BadCheckpoint}
 
 -- the exit number of the program
 abbrev pub exit_of : Status → ℕ
@@ -24,6 +24,7 @@ exit_of InputTooLong = 7
 exit_of ReadFault = 8
 exit_of WriteFault = 9
 exit_of Memory = 10
+exit_of (BadCheckpoint line) = 12
 
 -- what is told of a query: the words, and the offset or the number of an item where one is told. Of a type clash in item 2:
 -- `type clash in item 2`
@@ -88,6 +89,7 @@ note_pieces InputTooLong = codes "input too long\n" ∷ []
 note_pieces ReadFault = codes "read failed\n" ∷ []
 note_pieces WriteFault = codes "write failed\n" ∷ []
 note_pieces Memory = codes "no memory\n" ∷ []
+note_pieces (BadCheckpoint line) = codes "line " ∷ decimal line ∷ codes ": not a checkpoint\n" ∷ []
 
 abbrev pub joined_pieces : List (List ℕ) → List ℕ
 joined_pieces [] = []

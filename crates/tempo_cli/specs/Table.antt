@@ -6,7 +6,7 @@ use Rattle.wire_lines.specs.Lines.{whole, rest, lines}
 use Rattle.admission.specs.Progress.{Fault, Malformed as WasBad, TooLate, Overflowed}
 use Rattle.tempo_cli.specs.Answers.{Answers, IsFront}
 use Rattle.tempo_cli.specs.declared.status.Status.{Status}
-use Rattle.tempo_cli.specs.declared.status.Status.TheVariants.{Done, BadWords, BadQuery, Malformed, Late, Overflow, InputTooLong, ReadFault, WriteFault, Memory}
+use Rattle.tempo_cli.specs.declared.status.Status.TheVariants.{Done, BadWords, BadQuery, Malformed, Late, Overflow, InputTooLong, ReadFault, WriteFault, Memory, BadCheckpoint}
 
 -- the most bytes of the input
 unfoldable pub limit : ℕ
@@ -65,7 +65,7 @@ pub record IsShort (a : Answers) (bytes out : List ℕ) (ended : Bool) : Type 0 
   pub few : k ≤ length (lines bytes ended)
   pub written : out ≡ a.text (take k (lines bytes ended)) false
 
--- the table, row by row. Where a query is answered, words and query have no fault
+-- the table, row by row. Where a query is answered, words and query have no fault, and no checkpoint is read
 abbrev pub IsEnd : Answers → Status → List ℕ → List ℕ → Bool → Type 0
 IsEnd a Done bytes out ended = IsDone a bytes out ended
 IsEnd a BadWords bytes out ended = ⊥
@@ -77,6 +77,7 @@ IsEnd a InputTooLong bytes out ended = IsTooLong a bytes out
 IsEnd a ReadFault bytes out ended = IsCutOff a bytes out ended
 IsEnd a WriteFault bytes out ended = IsFront out (a.text (lines bytes ended) ended)
 IsEnd a Memory bytes out ended = IsShort a bytes out ended
+IsEnd a (BadCheckpoint line) bytes out ended = ⊥
 
 -- the run was prompt, and ended as its status says. J is what it added to the journal
 pub record Ends (a : Answers) (status : Status) (J : List Entry) : Type 0 where

@@ -1,5 +1,5 @@
 -- What the lines of an input say, numbered from 1, and what a plan answers to them.
-use Rattle.std.specs.Prelude.{ℕ, suc, Bool, List, [], ◌∷◌, Ok, Err, if◌then◌else◌, nat_lt, nat_eq, ◌&&◌, length}
+use Rattle.std.specs.Prelude.{ℕ, suc, Bool, false, List, [], ◌∷◌, Ok, Err, if◌then◌else◌, nat_lt, nat_eq, ◌&&◌, cond, length}
 use Rattle.tw_rows.specs.declared.schema.StreamDef.{StreamDef}
 use Rattle.plan_model.specs.IsPlan.{PlanParts}
 use Rattle.row_reader.specs.Entry.{Read, entry}
@@ -29,6 +29,16 @@ told_from streams header n (line ∷ lines) = told_at streams header n line ∷ 
 
 abbrev pub told : List StreamDef → Bool → List (List ℕ) → List Told
 told streams header lines = told_from streams header 1 lines
+
+-- what the lines say that are fed, of which the first has the number n: all but a header. With a header, `x` and `y` from 1 on: line 2
+-- alone, which says what `y` says
+abbrev pub fed_from : List StreamDef → Bool → ℕ → List (List ℕ) → List Told
+fed_from streams header n [] = []
+fed_from streams header n (line ∷ lines) =
+    cond (header && nat_eq n 1) (fed_from streams header (suc n) lines) (told_at streams false n line ∷ fed_from streams header (suc n) lines)
+
+abbrev pub fed : List StreamDef → Bool → List (List ℕ) → List Told
+fed streams header lines = fed_from streams header 1 lines
 
 -- the fault and the text of lines under a plan and a policy, with a header or without
 abbrev pub answers : PlanParts → Policy → Bool → Answers

@@ -1,11 +1,13 @@
 // A query answered over a wire: from the bytes that come in to the bytes that go out and the status.
-ghost use Rattle.std.specs.Prelude.{◌≡◌, ◌≤◌, OnOk, IfErr, min};
-ghost use Rattle.wire_lines.specs.Journal.{Grows};
+ghost use Rattle.std.specs.Prelude.{◌≡◌, ◌≤◌, ℕ, List, All, OnOk, IfErr, min};
+ghost use Rattle.wire_lines.specs.Journal.{Grows, IsOut};
 ghost use Rattle.tempo_cli.specs.Status.{Counts};
 ghost use Rattle.tempo_cli.specs.Table.{Ends};
 ghost use Rattle.tempo_cli.specs.Told.{answers};
-ghost use Rattle.tempo_cli.specs.Feeding.{WantsBytes, IsAsked};
-ghost use Rattle.tempo_cli.specs.Working.{WorksThrough, StopsWith, EndsAll, RunsFrom, status_of};
+ghost use Rattle.tempo_cli.specs.Feeding.{answers_to, WantsBytes, IsFull, IsAsked};
+ghost use Rattle.tempo_cli.specs.Working.{WorksThrough, StopsWith, WhateverRead, AtEnd, Stops, EndsAll, status_of};
+ghost use Rattle.tempo_cli.specs.Working.{WhateverCut, CutsOn, CutsOff, WhateverCame};
+ghost use Rattle.tempo_cli.specs.Halting.{StaysOpen};
 
 use crate::answering::{Answering, LIMIT, Step};
 use crate::status::Status;
@@ -20,14 +22,14 @@ use wire_lines::{Wire, send};
 const PIECE: usize = 65536;
 
 // How many bytes the next read asks for, where so many more may come.
-fn asked(left: u64) -> usize
+pub(crate) fn asked(left: u64) -> usize
     ensures { result ≡ min left 65536 }
 {
     left.min(PIECE as u64) as usize
 }
 
 // Works through all whole lines that came in, and writes what is due for each before the next.
-fn work<R: Threads + Sync, W: Wire, G: Gate>(
+pub(crate) fn work<R: Threads + Sync, W: Wire, G: Gate>(
     rt: &R,
     answering: &mut Answering,
     wire: &mut W,
@@ -35,9 +37,12 @@ fn work<R: Threads + Sync, W: Wire, G: Gate>(
 ) -> Result<(), Status>
     requires longest { answering.old.cutter.longest ≡ 65536 }
     ensures ok { OnOk result (WorksThrough (W.journal wire.old) (W.journal wire.new) answering.old answering.new) }
+    ensures cuts { OnOk result (WhateverCut (W.journal wire.old) (W.journal wire.new) answering.old.cutter (λ bytes. CutsOn bytes answering.new.cutter)) }
     ensures wants { OnOk result (WantsBytes answering.new.cutter) }
+    ensures open { OnOk result (StaysOpen answering.old.engine answering.new.engine) }
     ensures same { OnOk result ((W.read_faults wire.new ≡ W.read_faults wire.old) × (W.write_faults wire.new ≡ W.write_faults wire.old)) }
     ensures err { IfErr result (StopsWith (W.journal wire.old) (W.journal wire.new) answering.old) }
+    ensures full { IfErr result (λ status. WhateverCut (W.journal wire.old) (W.journal wire.new) answering.old.cutter (λ bytes. CutsOff bytes status)) }
     ensures asked { IfErr result IsAsked }
     ensures counts { IfErr result (Counts (W.read_faults wire.old) (W.read_faults wire.new) (W.write_faults wire.old) (W.write_faults wire.new)) }
 {
@@ -59,6 +64,8 @@ fn end<R: Threads + Sync, W: Wire, G: Gate>(
 ) -> Result<(), Status>
     requires wants { WantsBytes answering.old.cutter }
     ensures ends { EndsAll (W.journal wire.old) (W.journal wire.new) answering.old (status_of result) }
+    ensures grows { Grows (W.journal wire.old) (W.journal wire.new) (λ O. All IsOut O) }
+    ensures full { (bytes : List ℕ) → IsFull (status_of result) bytes }
     ensures asked { IsAsked (status_of result) }
     ensures counts { Counts (W.read_faults wire.old) (W.read_faults wire.new) (W.write_faults wire.old) (W.write_faults wire.new) (status_of result) }
 {
@@ -69,29 +76,55 @@ fn end<R: Threads + Sync, W: Wire, G: Gate>(
     Ok(())
 }
 
-// Reads the input to its end, and writes what is answered as it becomes due. Only `answer`, which made it, drops what answers:
-// dropping it costs the prover half a minute at each place.
-fn read_on<R: Threads + Sync, W: Wire, G: Gate>(
+// Reads the input to its end, so many bytes at most, and writes what is answered as it becomes due. A last line that no LF ends
+// is still to be taken.
+pub(crate) fn read_on<R: Threads + Sync, W: Wire, G: Gate>(
     rt: &R,
     answering: &mut Answering,
+    most: u64,
     wire: &mut W,
     gate: &G,
 ) -> Result<(), Status>
     requires wants { WantsBytes answering.old.cutter }
-    ensures ends { RunsFrom (W.journal wire.old) (W.journal wire.new) answering.old (status_of result) }
-    ensures asked { IsAsked (status_of result) }
-    ensures counts { Counts (W.read_faults wire.old) (W.read_faults wire.new) (W.write_faults wire.old) (W.write_faults wire.new) (status_of result) }
+    ensures ok { OnOk result (WhateverRead (W.journal wire.old) (W.journal wire.new) answering.old most (λ q J. AtEnd q answering.new J)) }
+    ensures wants { OnOk result (WantsBytes answering.new.cutter) }
+    ensures open { OnOk result (StaysOpen answering.old.engine answering.new.engine) }
+    ensures same { OnOk result ((W.read_faults wire.new ≡ W.read_faults wire.old) × (W.write_faults wire.new ≡ W.write_faults wire.old)) }
+    ensures err { IfErr result (λ status.
+        WhateverRead (W.journal wire.old) (W.journal wire.new) answering.old most (λ q J. Stops (answers_to q) status J)) }
+    ensures full { WhateverCame (W.journal wire.old) (W.journal wire.new) answering.old.cutter most (IsFull (status_of result)) }
+    ensures asked { IfErr result IsAsked }
+    ensures counts { IfErr result (Counts (W.read_faults wire.old) (W.read_faults wire.new) (W.write_faults wire.old) (W.write_faults wire.new)) }
 {
-    let mut left = LIMIT + 1;
+    let mut left = most;
     while left > 0 {
         let count = answering.read(wire, asked(left))?;
         if count == 0 {
-            return end(rt, answering, wire, gate);
+            return Ok(());
         }
         left -= count as u64;
         work(rt, answering, wire, gate)?;
     }
     Err(Status::InputTooLong)
+}
+
+// Reads and answers the input to its end. Only who made what answers drops it: dropping it costs the prover half a minute at
+// each place.
+pub(crate) fn answer_on<R: Threads + Sync, W: Wire, G: Gate>(
+    rt: &R,
+    answering: &mut Answering,
+    most: u64,
+    wire: &mut W,
+    gate: &G,
+) -> Result<(), Status>
+    requires wants { WantsBytes answering.old.cutter }
+    ensures ends { WhateverRead (W.journal wire.old) (W.journal wire.new) answering.old most (λ q J. Ends (answers_to q) (status_of result) J) }
+    ensures full { WhateverCame (W.journal wire.old) (W.journal wire.new) answering.old.cutter most (IsFull (status_of result)) }
+    ensures asked { IsAsked (status_of result) }
+    ensures counts { Counts (W.read_faults wire.old) (W.read_faults wire.new) (W.write_faults wire.old) (W.write_faults wire.new) (status_of result) }
+{
+    read_on(rt, answering, most, wire, gate)?;
+    end(rt, answering, wire, gate)
 }
 
 /// Answers the input by the plan.
@@ -113,7 +146,7 @@ pub fn answer<R: Threads + Sync, W: Wire, G: Gate>(
     let Ok(mut answering) = Answering::new(alloc, plan, options, header) else {
         return Status::Memory;
     };
-    match read_on(rt, &mut answering, wire, gate) {
+    match answer_on(rt, &mut answering, LIMIT + 1, wire, gate) {
         Ok(()) => Status::Done,
         Err(status) => status,
     }

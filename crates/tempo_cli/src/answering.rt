@@ -6,9 +6,10 @@ ghost use Rattle.wire_lines.specs.Next.{next};
 ghost use Rattle.tempo_engine.specs.Faults.{IsFaultOf};
 ghost use Rattle.tempo_cli.specs.Table.{limit, IsDone, IsEnd};
 ghost use Rattle.wire_lines.specs.Faults.{HasCause, IsOther};
-ghost use Rattle.tempo_cli.specs.Feeding.{answers_to, Took, Holds, HasTaken, WhateverGiven};
+ghost use Rattle.tempo_cli.specs.Feeding.{from_start, answers_to, Took, Holds, HasTaken, IsNumbered, WhateverGiven};
 ghost use Rattle.tempo_cli.specs.Feeding.{WhateverHeld, WhateverEnded, GrowsBy, WantsBytes, Comes};
-ghost use Rattle.tempo_cli.specs.Feeding.{Ended, HasLess, IsOwn, StopsOwn};
+ghost use Rattle.tempo_cli.specs.Feeding.{Ended, HasCut, HasLess, StepCuts, IsFull, IsOwn, StopsOwn};
+ghost use Rattle.tempo_cli.specs.Halting.{StaysOpen, StopsGoing};
 
 use crate::status::Status;
 use plan_model::Plan;
@@ -21,7 +22,7 @@ use tw_rows::Memory;
 use wire_lines::{Cut, LineCutter, ReadFailed, Wire};
 
 // The most bytes of a line, its LF not counted.
-const LONGEST: usize = 65536;
+pub(crate) const LONGEST: usize = 65536;
 
 /// The most bytes of the input.
 pub const LIMIT: u64 = 1 << 40;
@@ -33,6 +34,10 @@ pub struct Answering {
     pub cutter: LineCutter,
     pub engine: Engine,
     pub header: bool,
+    /// The number of the last line that another run took before this one, 0 where there was none.
+    pub base: u64,
+    /// How many lines of the input tell what that run was frozen to.
+    pub skipped: u64,
 }
 
 /// What the next line comes to.
@@ -53,6 +58,13 @@ fn is_header(header: bool, number: u64) -> bool
     header && number == 1
 }
 
+// The number that the engine has for the line of that number of the input: it goes on from those of a run before this one.
+fn engine_number(base: u64, skipped: u64, line: u64) -> u64
+    ensures { IsNumbered base skipped line result }
+{
+    base.saturating_add(line.saturating_sub(skipped))
+}
+
 // Feeds the line of that number; a header is not read.
 pub(crate) fn feed<R: Threads + Sync, G: Gate>(
     rt: &R,
@@ -69,6 +81,7 @@ pub(crate) fn feed<R: Threads + Sync, G: Gate>(
     ensures text { IfOk result (λ out. WhateverGiven header number engine.old (λ q given. GrowsBy q given line.now out.items)) }
     ensures fault { IfErr result (λ f.
         WhateverGiven header number engine.old (λ q given. IsFaultOf f ((answers_to q).fault (given ++ line.now ∷ []) false))) }
+    ensures open { StaysOpen engine.old engine.new }
 {
     if is_header(header, number) {
         return Ok(Vec::new(alloc));
@@ -86,8 +99,10 @@ impl Answering {
     ) -> Result<Answering, Memory>
         requires batch { 1 ≤ options.batch }
         requires workers { (1 ≤ options.workers) × (options.workers ≤ 16) }
-        ensures holds { IfOk result (λ s. Holds (record { plan = plan; policy = options.policy; header = header }) [] [] s) }
+        ensures holds { IfOk result (λ s. Holds (from_start plan options.policy header) [] [] s) }
         ensures wants { IfOk result (λ s. WantsBytes s.cutter) }
+        ensures going { IfOk result (λ s. s.engine.ended ≡ false) }
+        ensures workers { IfOk result (λ s. s.engine.parts.dataflow.workers ≡ options.workers) }
     {
         let cutter = LineCutter::new(alloc, LONGEST, LIMIT)?;
         let engine = Engine::new(alloc, plan, options)?;
@@ -96,6 +111,8 @@ impl Answering {
             cutter,
             engine,
             header,
+            base: 0,
+            skipped: 0,
         })
     }
 
@@ -108,6 +125,7 @@ impl Answering {
         ensures bound { IfOk result (λ n. n ≤ most) }
         ensures taken { HasTaken (W.journal wire.old) (W.journal wire.new) self.old self.new result }
         ensures longest { self.new.cutter.longest ≡ 65536 }
+        ensures open { StaysOpen self.old.engine self.new.engine }
         ensures cause { HasCause (W.read_faults wire.old) (W.read_faults wire.new) result }
         ensures other { IsOther (W.write_faults wire.old) (W.write_faults wire.new) result }
     {
@@ -119,21 +137,27 @@ impl Answering {
         requires longest { self.old.cutter.longest ≡ 65536 }
         ensures longest { self.new.cutter.longest ≡ 65536 }
         ensures comes { WhateverHeld self.old (λ q bytes given. length bytes ≤ limit + 1 → Comes q bytes given self.new result) }
+        ensures cuts { (bytes : List ℕ) (given : List (List ℕ)) → HasCut bytes given self.old.cutter → length bytes ≤ limit + 1 →
+            StepCuts bytes given self.new.cutter result }
         ensures wants { result ≡ Step.More → WantsBytes self.new.cutter }
         ensures less { HasLess self.old.cutter self.new.cutter result }
-        ensures long { (number : ℕ) → next self.old.cutter ≡ Overlong number → result ≡ Step.Stop (Status.Malformed number BadLine.TooLong) }
+        ensures long { (line : ℕ) → next self.old.cutter ≡ Overlong line →
+            (number : ℕ) × IsNumbered self.old.base self.old.skipped line number × (result ≡ Step.Stop (Status.Malformed number BadLine.TooLong)) }
+        ensures open { StaysOpen self.old.engine self.new.engine }
         ensures own { StopsOwn result }
     {
         let fed = match self.cutter.next_line() {
             Cut::More => return Step::More,
             Cut::TooMany => return Step::Stop(Status::InputTooLong),
-            Cut::TooLong { number } => return Step::Stop(too_long(number)),
+            Cut::TooLong { number } => {
+                return Step::Stop(too_long(engine_number(self.base, self.skipped, number)));
+            }
             Cut::Line(line) => feed(
                 rt,
                 self.alloc,
                 &mut self.engine,
                 self.header,
-                line.number,
+                engine_number(self.base, self.skipped, line.number),
                 line.bytes,
                 gate,
             ),
@@ -155,7 +179,11 @@ impl Answering {
             WhateverHeld self.old (λ q bytes given. Ended q bytes ((answers_to q).text given false ++ out.items) self.new)) }
         ensures err { IfErr result (λ status.
             WhateverHeld self.old (λ q bytes given. IsEnd (answers_to q) status bytes ((answers_to q).text given false) true)) }
+        ensures err_frozen { IfErr result (λ status. WhateverHeld self.old (λ q bytes given.
+            StopsGoing (answers_to q) status bytes ((answers_to q).text given false) true)) }
+        ensures open { StaysOpen self.old.engine self.new.engine }
         ensures own { IfErr result IsOwn }
+        ensures full { IfErr result (λ status. (bytes : List ℕ) → IsFull status bytes) }
     {
         let Some(line) = self.cutter.last_line() else {
             return Ok(Vec::new(self.alloc));
@@ -165,7 +193,7 @@ impl Answering {
             self.alloc,
             &mut self.engine,
             self.header,
-            line.number,
+            engine_number(self.base, self.skipped, line.number),
             line.bytes,
             gate,
         )?;
@@ -181,6 +209,7 @@ impl Answering {
         ensures ok { IfOk result (λ out. WhateverEnded self.old (λ q bytes written. IsDone (answers_to q) bytes (written ++ out.items) true)) }
         ensures err { IfErr result (λ status. WhateverEnded self.old (λ q bytes written. IsEnd (answers_to q) status bytes written true)) }
         ensures own { IfErr result IsOwn }
+        ensures full { IfErr result (λ status. (bytes : List ℕ) → IsFull status bytes) }
     {
         let out = self.engine.finish(rt, gate)?;
         Ok(out)

@@ -141,6 +141,16 @@ fn send_bad_line<N: Wire>(notes: &mut N, line: u64, cause: &BadLine) -> Result<(
     )
 }
 
+fn send_bad_checkpoint<N: Wire>(notes: &mut N, line: u64) -> Result<(), WriteFailed>
+    ensures ok { OnOk result (Grows (N.journal notes.old) (N.journal notes.new) (SentAll (note_of (Status.BadCheckpoint line)))) }
+    ensures err { OnErr result (Grows (N.journal notes.old) (N.journal notes.new) (SentFront (note_of (Status.BadCheckpoint line)))) }
+    ensures cause { HasCause (N.write_faults notes.old) (N.write_faults notes.new) result }
+{
+    let mut number = Buffer::new();
+    let line = number.format(line).as_bytes();
+    send_pieces(notes, &[b"line ".as_slice(), line, b": not a checkpoint\n"])
+}
+
 fn send_late<N: Wire>(notes: &mut N, line: u64, time: Time, bound: Time) -> Result<(), WriteFailed>
     ensures ok { OnOk result (Grows (N.journal notes.old) (N.journal notes.new) (SentAll (note_of (Status.Late line time bound)))) }
     ensures err { OnErr result (Grows (N.journal notes.old) (N.journal notes.new) (SentFront (note_of (Status.Late line time bound)))) }
@@ -211,6 +221,7 @@ fn send_note<N: Wire>(notes: &mut N, status: &Status) -> Result<(), WriteFailed>
         Status::ReadFault => send_pieces(notes, &[b"read failed\n".as_slice()]),
         Status::WriteFault => send_pieces(notes, &[b"write failed\n".as_slice()]),
         Status::Memory => send_pieces(notes, &[b"no memory\n".as_slice()]),
+        Status::BadCheckpoint { line } => send_bad_checkpoint(notes, *line),
     }
 }
 

@@ -9,7 +9,9 @@ ghost use Rattle.command_line.specs.Words.{AreWithin, asked_by};
 ghost use Rattle.plan_model.specs.declared.fault.QueryFault.{QueryFault as SomeFault};
 
 use crate::answer::answer;
+use crate::freezing::answer_frozen;
 use crate::notes::note;
+use crate::resuming::resume;
 use crate::sampling::sum_up;
 use crate::status::Status;
 use command_line::{CommandLine, Mode, WordsFault, read_words};
@@ -47,7 +49,7 @@ fn tell<W: Wire>(alloc: Global, plan: &Plan, wire: &mut W) -> Status
 }
 
 // How an engine works for what the words ask for.
-fn options_of(asked: &CommandLine<'_>) -> Options
+pub(crate) fn options_of(asked: &CommandLine<'_>) -> Options
     ensures { result ≡ record { batch = asked.now.batch; workers = asked.now.workers; policy = asked.now.policy } }
 {
     Options {
@@ -66,9 +68,7 @@ fn do_mode<R: Threads + Sync, W: Wire, G: Gate>(
     wire: &mut W,
     gate: &G,
 ) -> Status
-    requires batch { 1 ≤ asked.now.batch }
-    requires workers { (1 ≤ asked.now.workers) × (asked.now.workers ≤ 16) }
-    requires events { asked.now.events ≤ 1000000 }
+    requires within { AreWithin (asked_by asked.now) }
     ensures asked { IsAsked result }
     ensures does { Grows (W.journal wire.old) (W.journal wire.new) (DoesMode asked.now.mode (asked_by asked.now) plan result) }
     ensures counts { Counts (W.read_faults wire.old) (W.read_faults wire.new) (W.write_faults wire.old) (W.write_faults wire.new) result }
@@ -76,6 +76,8 @@ fn do_mode<R: Threads + Sync, W: Wire, G: Gate>(
     let options = options_of(asked);
     match asked.mode {
         Mode::Run => answer(rt, alloc, plan, options, asked.header, wire, gate),
+        Mode::Freeze => answer_frozen(rt, alloc, asked, plan, wire, gate),
+        Mode::Resume => resume(rt, alloc, asked.query, plan, options, wire, gate),
         Mode::Explain => tell(alloc, &plan, wire),
         Mode::Sample => {
             let sample = Sample::new(asked.number, asked.events);

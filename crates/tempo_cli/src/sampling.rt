@@ -5,7 +5,7 @@ ghost use Rattle.sample_trades.specs.Lines.{line_of};
 ghost use Rattle.sample_trades.specs.ToCome.{to_come};
 ghost use Rattle.tempo_cli.specs.Told.{answers};
 ghost use Rattle.tempo_cli.specs.Summing.{IsFailed, Sums, summary_for};
-ghost use Rattle.tempo_cli.specs.Feeding.{Asked, answers_to, IsAsked, IsOwn};
+ghost use Rattle.tempo_cli.specs.Feeding.{Asked, from_start, answers_to, IsAsked, IsOwn};
 ghost use Rattle.tempo_cli.specs.Sampled.{Sampled};
 ghost use Rattle.tempo_cli.specs.Status.{Counts};
 
@@ -45,7 +45,7 @@ impl Sampling {
         requires batch { 1 ≤ options.batch }
         requires workers { (1 ≤ options.workers) × (options.workers ≤ 16) }
         ensures sampled { IfOk result (λ s.
-            Sampled (record { plan = plan; policy = options.policy; header = header }) (map line_of (to_come sample)) s) }
+            Sampled (from_start plan options.policy header) (map line_of (to_come sample)) s) }
         ensures number { IfOk result (λ s. s.number ≡ 0) }
         ensures to_come { IfOk result (λ s. to_come s.sample ≡ to_come sample) }
     {

@@ -41,6 +41,11 @@ pub enum Status {
     WriteFault,
     /// Out of memory.
     Memory,
+    /// This line is the first that is none of a checkpoint of the query and these options; or the checkpoint ended at it, and no
+    /// engine can be at work so.
+    BadCheckpoint {
+        line: u64,
+    },
 }
 
 impl Status {
@@ -61,6 +66,7 @@ impl Status {
             Status::ReadFault => 8,
             Status::WriteFault => 9,
             Status::Memory => 10,
+            Status::BadCheckpoint { .. } => 12,
         }
     }
 }

@@ -77,3 +77,33 @@ returns-clause-ends g c = λ q bytes given h. Grows-grows c.in_ok-send.ensures.o
       (written_both ((answers_to q).text given false) c.in_ok-last.last.items c.in_ok-rest.rest.items O K (sym (s.all ∙ c.deref.ensures.value)) (sym (t.all ∙ c.deref-2.ensures.value)))
       (c.in_ok-rest.ensures.ok q bytes ((answers_to q).text given false ++ c.in_ok-last.last.items) (c.in_ok-last.ensures.ok q bytes given h));
 })
+
+pub returns-in_err-last-clause-grows : goal.returns-in_err-last-clause-grows
+returns-in_err-last-clause-grows g c = Grows-none _ (All-nil IsOut)
+
+pub returns-in_err-last-clause-full : goal.returns-in_err-last-clause-full
+returns-in_err-last-clause-full g c = let p = err_from_is_err_and c.from_residual.result c.from_residual.ensures.1 in rw (p.1, p.2) c.in_err-last.ensures.full
+
+pub returns-in_err-send-clause-grows : goal.returns-in_err-send-clause-grows
+returns-in_err-send-clause-grows g c = Grows-weaker c.in_err-send.ensures.err (λ O s. s.outs_alone)
+
+pub returns-in_err-send-clause-full : goal.returns-in_err-send-clause-full
+returns-in_err-send-clause-full g c = let p = err_from_is_err_and c.from_residual-in_err-send.result c.from_residual-in_err-send.ensures.1 in rw (p.1, p.2) (λ bytes. tt)
+
+pub returns-in_err-rest-clause-grows : goal.returns-in_err-rest-clause-grows
+returns-in_err-rest-clause-grows g c = Grows-weaker c.in_ok-send.ensures.ok (λ O s. s.outs_alone)
+
+pub returns-in_err-rest-clause-full : goal.returns-in_err-rest-clause-full
+returns-in_err-rest-clause-full g c = let p = err_from_is_err_and c.from_residual-in_err-rest.result c.from_residual-in_err-rest.ensures.1 in rw (p.1, p.2) c.in_err-rest.ensures.full
+
+pub returns-in_err-send-2-clause-grows : goal.returns-in_err-send-2-clause-grows
+returns-in_err-send-2-clause-grows g c = Grows-grows c.in_ok-send.ensures.ok c.in_err-send-2.ensures.err (λ O K s t. All-append IsOut O K s.outs_alone t.outs_alone)
+
+pub returns-in_err-send-2-clause-full : goal.returns-in_err-send-2-clause-full
+returns-in_err-send-2-clause-full g c = let p = err_from_is_err_and c.from_residual-in_err-send-2.result c.from_residual-in_err-send-2.ensures.1 in rw (p.1, p.2) (λ bytes. tt)
+
+pub returns-clause-grows : goal.returns-clause-grows
+returns-clause-grows g c = Grows-grows c.in_ok-send.ensures.ok c.in_ok-send-2.ensures.ok (λ O K s t. All-append IsOut O K s.outs_alone t.outs_alone)
+
+pub returns-clause-full : goal.returns-clause-full
+returns-clause-full g c = λ bytes. tt

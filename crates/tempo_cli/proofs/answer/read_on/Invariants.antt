@@ -1,15 +1,18 @@
-use Rattle.std.proofs.Common.{◌≡◌, []}
-use Rattle.wire_lines.specs.Journal.{Grows}
-use Rattle.tempo_cli.specs.Feeding.{Asked, Holds, WantsBytes}
-use Rattle.tempo_cli.specs.Working.{Reading}
+use Rattle.std.proofs.Common.{◌≡◌, ◌++◌, List}
+use Rattle.wire_lines.specs.Journal.{Entry, Grows}
+use Rattle.tempo_cli.specs.Feeding.{WantsBytes}
+use Rattle.tempo_cli.specs.Working.{Reading, WhateverRead, MayCome}
+use Rattle.tempo_cli.specs.Halting.{StaysOpen}
 use Rattle.tempo_cli.proofs.answer.read_on.Given as goal
 
 abbrev pub invariant-loop-left : goal.invariant-loop-left
 invariant-loop-left g l =
-    ((q : Asked) → Holds q [] [] l.fn.answering → Grows (g.W.Wire.journal l.fn.wire) (g.W.Wire.journal l.wire) (Reading q l.answering l.left))
+    WhateverRead (g.W.Wire.journal l.fn.wire) (g.W.Wire.journal l.wire) l.fn.answering l.fn.most (λ q J. Reading q l.answering l.left J)
     × (g.W.Wire.read_faults l.wire ≡ g.W.Wire.read_faults l.fn.wire)
     × (g.W.Wire.write_faults l.wire ≡ g.W.Wire.write_faults l.fn.wire)
     × WantsBytes l.answering.cutter
+    × ((J : List Entry) → MayCome l.fn.answering.cutter l.fn.most J → Grows (g.W.Wire.journal l.fn.wire) (g.W.Wire.journal l.wire) (λ K. MayCome l.answering.cutter l.left (J ++ K)))
+    × StaysOpen l.fn.answering.engine l.answering.engine
 
 abbrev pub decreases-loop-left : goal.decreases-loop-left
 decreases-loop-left g l = l.left

@@ -8,14 +8,22 @@ use Rattle.tempo_cli.specs.Answers.{IsFront}
 use Rattle.tempo_cli.specs.Feeding.{answers_to}
 use Rattle.tempo_cli.specs.Table.{IsEnd}
 use Rattle.wire_lines.specs.Lines.{lines}
-use Rattle.tempo_cli.proofs.Final.{answers_final}
+use Rattle.tempo_cli.proofs.Fed.{took_final}
 use Rattle.tempo_cli.proofs.Moves.{some_written}
 use Rattle.tempo_cli.proofs.Journals.{Grows-then, own_counts}
 use Rattle.tempo_cli.proofs.Jobs.{own_asked}
+use Rattle.tempo_cli.proofs.Halting.{stays_on}
 use Rattle.tempo_cli.proofs.answer.work.Goals as goal
 
 pub loop-status-init : goal.loop-status-init
-loop-status-init g c = (c.requires.longest, refl, refl, λ q bytes given h few. Grows-none _ (record { outs_alone = All-nil IsOut; more = given; holds = h; grown = sym (append-nil ((answers_to q).text given false)) }))
+loop-status-init g c = (
+  c.requires.longest,
+  refl,
+  refl,
+  λ q bytes given h few. Grows-none _ (record { outs_alone = All-nil IsOut; more = given; holds = h; grown = sym (append-nil ((answers_to q).text given false)) }),
+  λ bytes given w few. Grows-none _ (record { outs_alone = All-nil IsOut; more = given; cut = w }),
+  (refl, refl),
+)
 
 pub returns-in-More-clause-ok : goal.returns-in-More-clause-ok
 returns-in-More-clause-ok g c = λ q bytes given h few. Grows-weaker (c.loop-status.invariant.3 q bytes given h few) (λ O w. record {
@@ -45,7 +53,7 @@ returns-in_err-send-in-Out-clause-err g c =
     record {
       outs_alone = All-append IsOut O K w.outs_alone s.outs_alone;
       end = λ ended. rw outs-append (joined ((answers_to q).text given false) ((answers_to q).text w.more false) (outs O) ((answers_to q).text (lines bytes ended) ended) (outs K) w.grown
-          (some_written comes.1.within (answers_final q comes.1.engine.took.by.sound) ((answers_to q).text w.more false) c.in-Out.out.items (outs K) comes.2 (s.after, sym c.deref.ensures.value ∙ s.front) ended));
+          (some_written comes.1.within (took_final q (w.more ++ comes.0 ∷ []) _ comes.1.engine) ((answers_to q).text w.more false) c.in-Out.out.items (outs K) comes.2 (s.after, sym c.deref.ensures.value ∙ s.front) ended));
     }))
 
 pub loop-status-preserved : goal.loop-status-preserved
@@ -62,7 +70,32 @@ loop-status-preserved g c = (
         grown = comes.2 ∙ (ap (λ x. x ++ c.in-Out.out.items) w.grown ∙ (append_assoc ((answers_to q).text given false) (outs O) c.in-Out.out.items
             ∙ ap (λ x. (answers_to q).text given false ++ x) (ap (λ y. outs O ++ y) (sym (s.all ∙ c.deref.ensures.value)) ∙ sym (outs-append O K))));
       }),
+  λ bytes given w few. Grows-then (c.loop-status.invariant.4 bytes given w few) (λ O k. c.in_ok-send-in-Out.ensures.ok) (λ O K k s.
+      let comes = c.in-Out.ensures.cuts bytes k.more k.cut few in
+      record { outs_alone = All-append IsOut O K k.outs_alone s.outs_alone; more = k.more ++ comes.0 ∷ []; cut = comes.1 }),
+  stays_on c.loop-status.invariant.5 c.in-Out.ensures.open,
 )
 
 pub returns-in-Stop-clause-asked : goal.returns-in-Stop-clause-asked
 returns-in-Stop-clause-asked g c = own_asked c.in-Stop.status c.in-Stop.ensures.own
+
+pub returns-in-More-clause-cuts : goal.returns-in-More-clause-cuts
+returns-in-More-clause-cuts g c = λ bytes given w few. Grows-weaker (c.loop-status.invariant.4 bytes given w few) (λ O k. record {
+  outs_alone = k.outs_alone;
+  more = k.more;
+  cut = c.in-More.ensures.cuts bytes k.more k.cut few;
+})
+
+pub returns-in-Stop-clause-full : goal.returns-in-Stop-clause-full
+returns-in-Stop-clause-full g c = λ bytes given w few. Grows-weaker (c.loop-status.invariant.4 bytes given w few) (λ O k. record {
+  outs_alone = k.outs_alone;
+  full = c.in-Stop.ensures.cuts bytes k.more k.cut few;
+})
+
+pub returns-in_err-send-in-Out-clause-full : goal.returns-in_err-send-in-Out-clause-full
+returns-in_err-send-in-Out-clause-full g c =
+    let p = err_from_is_err_and c.from_residual.result c.from_residual.ensures.1 in rw (p.1, p.2) (λ bytes given w few. Grows-then (c.loop-status.invariant.4 bytes given w few) (λ O k. c.in_err-send-in-Out.ensures.err) (λ O K k s.
+    record { outs_alone = All-append IsOut O K k.outs_alone s.outs_alone; full = tt }))
+
+pub returns-in-More-clause-open : goal.returns-in-More-clause-open
+returns-in-More-clause-open g c = stays_on c.loop-status.invariant.5 c.in-More.ensures.open

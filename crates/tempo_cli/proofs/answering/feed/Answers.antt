@@ -1,20 +1,12 @@
 use Rattle.std.proofs.Common.{◌≡◌, ℕ, Bool, true, false, Result, Ok, Err, refl, sym, ◌∙◌, ap, arith}
 use Rattle.std.specs.Prelude.{◌&&◌, nat_eq, IfOk, OnOk}
-use Rattle.std.proofs.lemmas.Bool.Decides.{nat_tests}
 use Rattle.std.proofs.lemmas.Result.{IfErr-weaker, IfOk-weaker}
 use Rattle.tempo_cli.proofs.Fed.{took_header, text_header, took_more, text_more, fault_more}
 use Rattle.tempo_cli.proofs.answering.feed.Goals as goal
 
-first_line : (h : Bool) (n : ℕ) → (h && nat_eq n 1) ≡ true → n ≡ 1
-first_line true n e = grind (arith, nat_tests)
-first_line false n e = absurd (cc)
-
-with_header : (h : Bool) (n : ℕ) → (h && nat_eq n 1) ≡ true → h ≡ true
-with_header true n e = refl
-with_header false n e = e
-
-no_header : (h k : Bool) (n : ℕ) (r : Bool) → h ≡ k → r ≡ (k && nat_eq n 1) → r ≡ false → (h && nat_eq n 1) ≡ false
-no_header h k n r e is isnt = ap (λ b. b && nat_eq n 1) e ∙ (sym is ∙ isnt)
+-- whether it is a header
+header_as : (h k : Bool) (n : ℕ) (r b : Bool) → h ≡ k → r ≡ (k && nat_eq n 1) → r ≡ b → (h && nat_eq n 1) ≡ b
+header_as h k n r b e is isnt = ap (λ x. x && nat_eq n 1) e ∙ (sym is ∙ isnt)
 
 -- where there is a value, the fact of it
 to_each : {T E P Q : Type 0} (r : Result T E) → (P → Q) → OnOk r P → IfOk r (λ _. Q)
@@ -22,26 +14,26 @@ to_each (Ok x) f h = f h
 to_each (Err e) f h = tt
 
 pub returns-then-is_header-clause-took : goal.returns-then-is_header-clause-took
-returns-then-is_header-clause-took g c = λ q given h is t.
-    let both = sym c.is_header.ensures ∙ c.if-is_header.true in
-    took_header q given c.args.line.now c.args.engine.now (h ∙ with_header c.args.header c.args.number both) (omega (arith, is, first_line c.args.header c.args.number both)) c.requires.short t
+returns-then-is_header-clause-took g c = λ q given h next t.
+    took_header q given c.args.line.now c.args.number c.args.engine.now t next
+    (header_as q.header c.args.header c.args.number c.is_header.result true h c.is_header.ensures c.if-is_header.true) c.requires.short
 
 pub returns-then-is_header-clause-text : goal.returns-then-is_header-clause-text
-returns-then-is_header-clause-text g c = λ q given h is t.
-    let both = sym c.is_header.ensures ∙ c.if-is_header.true in
-    text_header q given c.args.line.now c.args.engine.now c.new.result.items c.new.ensures.items (h ∙ with_header c.args.header c.args.number both) (omega (arith, is, first_line c.args.header c.args.number both)) c.requires.short t
+returns-then-is_header-clause-text g c = λ q given h next t.
+    text_header q given c.args.line.now c.args.number c.args.engine.now t next
+    (header_as q.header c.args.header c.args.number c.is_header.result true h c.is_header.ensures c.if-is_header.true) c.requires.short c.new.result.items c.new.ensures.items
 
 pub returns-clause-took : goal.returns-clause-took
-returns-clause-took g c = to_each c.feed_line.result (λ f q given h is t.
-    took_more q given c.args.line.now c.args.number c.args.engine.now t is
-    (no_header q.header c.args.header c.args.number c.is_header.result h c.is_header.ensures c.if-is_header.false) c.requires.short _ (f q.plan q.policy t.fed t.took)) c.feed_line.ensures.fed
+returns-clause-took g c = to_each c.feed_line.result (λ f q given h next t.
+    took_more q given c.args.line.now c.args.number c.args.engine.now t next
+    (header_as q.header c.args.header c.args.number c.is_header.result false h c.is_header.ensures c.if-is_header.false) c.requires.short _ (f q.plan q.policy t.fed t.took)) c.feed_line.ensures.fed
 
 pub returns-clause-text : goal.returns-clause-text
-returns-clause-text g c = IfOk-weaker c.feed_line.result _ _ (λ out f q given h is t.
-    text_more q given c.args.line.now c.args.number c.args.engine.now t is
-    (no_header q.header c.args.header c.args.number c.is_header.result h c.is_header.ensures c.if-is_header.false) c.requires.short out.items (f q.plan q.policy t.fed t.took)) c.feed_line.ensures.text
+returns-clause-text g c = IfOk-weaker c.feed_line.result _ _ (λ out f q given h next t.
+    text_more q given c.args.line.now c.args.number c.args.engine.now t next
+    (header_as q.header c.args.header c.args.number c.is_header.result false h c.is_header.ensures c.if-is_header.false) c.requires.short out.items (f q.plan q.policy t.fed t.took)) c.feed_line.ensures.text
 
 pub returns-clause-fault : goal.returns-clause-fault
-returns-clause-fault g c = IfErr-weaker c.feed_line.result _ _ (λ fault f q given h is t.
-    fault_more q given c.args.line.now c.args.number c.args.engine.now t is
-    (no_header q.header c.args.header c.args.number c.is_header.result h c.is_header.ensures c.if-is_header.false) c.requires.short fault (f q.plan q.policy t.fed t.took)) c.feed_line.ensures.fault
+returns-clause-fault g c = IfErr-weaker c.feed_line.result _ _ (λ fault f q given h next t.
+    fault_more q given c.args.line.now c.args.number c.args.engine.now t next
+    (header_as q.header c.args.header c.args.number c.is_header.result false h c.is_header.ensures c.if-is_header.false) c.requires.short fault (f q.plan q.policy t.fed t.took)) c.feed_line.ensures.fault

@@ -1,5 +1,5 @@
 use Rattle.std.proofs.lemmas.Result.{err_from_is_err_and}
-use Rattle.tempo_cli.proofs.Stopping.{end_done, end_stops, own_at}
+use Rattle.tempo_cli.proofs.Stopping.{end_done, end_stops, own_at, full_at}
 use Rattle.tempo_cli.proofs.answering.Answering.finish.Goals as goal
 
 pub returns-clause-ok : goal.returns-clause-ok
@@ -11,3 +11,6 @@ returns-in_err-out-clause-err g c = let p = err_from_is_err_and c.from_residual.
 
 pub returns-in_err-out-clause-own : goal.returns-in_err-out-clause-own
 returns-in_err-out-clause-own g c = let p = err_from_is_err_and c.from_residual.result c.from_residual.ensures.1 in rw (p.1, p.2) (own_at _)
+
+pub returns-in_err-out-clause-full : goal.returns-in_err-out-clause-full
+returns-in_err-out-clause-full g c = let p = err_from_is_err_and c.from_residual.result c.from_residual.ensures.1 in rw (p.1, p.2) (λ bytes. full_at _ bytes)

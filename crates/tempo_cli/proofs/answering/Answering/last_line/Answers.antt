@@ -6,13 +6,14 @@ use Rattle.wire_lines.specs.Lines.{lines}
 use Rattle.wire_lines.proofs.Cutting.{HasNoLf-one_line}
 use Rattle.wire_lines.proofs.CutsFacts.{lines_with_last, lines_without_last}
 use Rattle.tempo_cli.specs.Answers.{Answers}
+use Rattle.tempo_cli.specs.Resumed.{going_on}
 use Rattle.tempo_cli.specs.Table.{limit}
 use Rattle.tempo_cli.specs.Feeding.{Asked, answers_to, Took, Within, WantsBytes, Ended}
 use Rattle.tempo_cli.specs.declared.answering.Answering.{Answering}
-use Rattle.tempo_cli.proofs.Fed.{took_fine}
-use Rattle.tempo_cli.proofs.Final.{answers_final}
-use Rattle.tempo_cli.proofs.Moves.{few_bytes, short}
-use Rattle.tempo_cli.proofs.Stopping.{last_stops, own_at}
+use Rattle.tempo_cli.proofs.Fed.{took_fine, took_final}
+use Rattle.tempo_cli.proofs.Numbers.{next_number}
+use Rattle.tempo_cli.proofs.Moves.{few_bytes, short, within_going}
+use Rattle.tempo_cli.proofs.Stopping.{last_stops, own_at, full_at, going_final}
 use Rattle.tempo_cli.proofs.answering.Answering.last_line.Goals as goal
 
 some_bytes : (xs : List ℕ) → (xs ≡ [] → ⊥) → 0 < length xs
@@ -41,26 +42,44 @@ returns-in_default-clause-ok g c = λ q bytes given h.
     ended_by q bytes _ given _ (few_bytes h.within c.requires.wants.wants_bytes) all h.engine (ap (λ x. (answers_to q).text given false ++ x) c.new.ensures.items ∙ append-nil _)
 
 pub feed-requires-clause-short : goal.feed-requires-clause-short
-feed-requires-clause-short g c κs within = rw c.in-Some.ensures.some.1 c.requires.wants.short
+feed-requires-clause-short g c = λ κs k. rw c.in-Some.ensures.some.1 c.requires.wants.short
 
 pub feed-requires-clause-no_feed : goal.feed-requires-clause-no_feed
-feed-requires-clause-no_feed g c κs within = HasNoLf-one_line _ (rw c.in-Some.ensures.some.1 c.requires.wants.one_line)
+feed-requires-clause-no_feed g c = λ κs k. HasNoLf-one_line _ (rw c.in-Some.ensures.some.1 c.requires.wants.one_line)
 
 pub returns-clause-ok : goal.returns-clause-ok
 returns-clause-ok g c = λ q bytes given h.
     let line = c.in-Some.line.bytes.now in
     let all = with_last line h.within c.requires.wants (λ e. never (c.in-Some.ensures.none.1 e)) c.in-Some.ensures.some.1 in
     let number : c.in-Some.line.number ≡ length given + 1 = omega (arith, c.in-Some.ensures.some.0, h.within.cuts.number_is) in
-    let took = c.in_ok-out.ensures.took q given (sym h.header) number h.engine in
-    ended_by q bytes _ (given ++ line ∷ []) _ (few_bytes h.within c.requires.wants.wants_bytes) all took (sym (c.in_ok-out.ensures.text q given (sym h.header) number h.engine))
+    let next = next_number h c.in-Some.line.number c.engine_number.result number c.engine_number.ensures in
+    let took = c.in_ok-out.ensures.took q given (sym h.header) next h.engine in
+    ended_by q bytes _ (given ++ line ∷ []) _ (few_bytes h.within c.requires.wants.wants_bytes) all took (sym (c.in_ok-out.ensures.text q given (sym h.header) next h.engine))
 
 pub returns-in_err-out-clause-err : goal.returns-in_err-out-clause-err
 returns-in_err-out-clause-err g c = let p = err_from_is_err_and c.from_residual.result c.from_residual.ensures.1 in rw (p.1, p.2) (λ q bytes given h.
     let line = c.in-Some.line.bytes.now in
     let all = with_last line h.within c.requires.wants (λ e. never (c.in-Some.ensures.none.1 e)) c.in-Some.ensures.some.1 in
     let number : c.in-Some.line.number ≡ length given + 1 = omega (arith, c.in-Some.ensures.some.0, h.within.cuts.number_is) in
-    last_stops (answers_to q) (answers_final q h.engine.took.by.sound) bytes given line _ (few_bytes h.within c.requires.wants.wants_bytes) all h.within.fine
-    (c.in_err-out.ensures.fault q given (sym h.header) number h.engine) (short h.within true))
+    let next = next_number h c.in-Some.line.number c.engine_number.result number c.engine_number.ensures in
+    last_stops (answers_to q) (took_final q given c.args.self.now.engine h.engine) bytes given line _ (few_bytes h.within c.requires.wants.wants_bytes) all h.within.fine
+    (c.in_err-out.ensures.fault q given (sym h.header) next h.engine) (short h.within true))
 
 pub returns-in_err-out-clause-own : goal.returns-in_err-out-clause-own
 returns-in_err-out-clause-own g c = let p = err_from_is_err_and c.from_residual.result c.from_residual.ensures.1 in rw (p.1, p.2) (own_at _)
+
+pub returns-in_err-out-clause-err_frozen : goal.returns-in_err-out-clause-err_frozen
+returns-in_err-out-clause-err_frozen g c = let p = err_from_is_err_and c.from_residual.result c.from_residual.ensures.1 in rw (p.1, p.2) (λ q bytes given h.
+    let line = c.in-Some.line.bytes.now in
+    let all = with_last line h.within c.requires.wants (λ e. never (c.in-Some.ensures.none.1 e)) c.in-Some.ensures.some.1 in
+    let number : c.in-Some.line.number ≡ length given + 1 = omega (arith, c.in-Some.ensures.some.0, h.within.cuts.number_is) in
+    let next = next_number h c.in-Some.line.number c.engine_number.result number c.engine_number.ensures in
+    record {
+      fault = c.in_err-out.field-0.0;
+      is = refl;
+      end = last_stops (going_on (answers_to q)) (going_final (answers_to q) (took_final q given c.args.self.now.engine h.engine)) bytes given line _ (few_bytes h.within c.requires.wants.wants_bytes) all h.within.fine
+          (c.in_err-out.ensures.fault q given (sym h.header) next h.engine) (short (within_going h.within) true);
+    })
+
+pub returns-in_err-out-clause-full : goal.returns-in_err-out-clause-full
+returns-in_err-out-clause-full g c = let p = err_from_is_err_and c.from_residual.result c.from_residual.ensures.1 in rw (p.1, p.2) (λ bytes. full_at _ bytes)

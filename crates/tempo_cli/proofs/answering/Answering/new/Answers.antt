@@ -11,13 +11,17 @@ wants_first total = record { longest = refl; wants_bytes = refl; one_line = refl
 pub returns-clause-holds : goal.returns-clause-holds
 returns-clause-holds c = record {
   header = refl;
+  base = refl;
+  low = omega arith;
+  skipped = refl;
+  passed = omega arith;
   within = record {
     longest = ap (λ (s : CutterState). s.longest) c.in_ok-cutter.ensures.state;
     total = ap (λ (s : CutterState). s.total) c.in_ok-cutter.ensures.state ∙ sym limit-is;
     cuts = c.in_ok-cutter.ensures.lines;
     fine = refl;
   };
-  engine = record { fed = []; took = c.in_ok-engine.ensures.fed; same = refl };
+  engine = record { fed = []; is = refl; took = c.in_ok-engine.ensures.fed; same = refl };
 }
 
 pub returns-clause-wants : goal.returns-clause-wants

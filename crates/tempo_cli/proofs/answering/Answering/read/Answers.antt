@@ -27,6 +27,10 @@ returns-clause-taken g c =
       told = r.told;
       holds = λ q bytes given h. record {
         header = h.header;
+        base = h.base;
+        low = h.low;
+        skipped = h.skipped;
+        passed = h.passed;
         within = record {
           longest = ap (λ (s : CutterState). s.longest) r.state ∙ fed_longest old r.piece ∙ h.within.longest;
           total = ap (λ (s : CutterState). s.total) r.state ∙ fed_total old r.piece ∙ h.within.total;
@@ -34,6 +38,12 @@ returns-clause-taken g c =
           fine = h.within.fine;
         };
         engine = h.engine;
+      };
+      cut = λ bytes given w. record {
+        longest = ap (λ (s : CutterState). s.longest) r.state ∙ fed_longest old r.piece ∙ w.longest;
+        total = ap (λ (s : CutterState). s.total) r.state ∙ fed_total old r.piece ∙ w.total;
+        cuts = r.lines bytes given w.cuts;
+        fine = refl;
       };
       wants = λ none. subst WantsBytes (sym (r.state ∙ ap (fed old) none)) c.requires.wants;
     }
