@@ -25,7 +25,7 @@ fn told(alloc: Global, text: &str) -> Result<String, AllocError> {
 }
 
 /// Words with what they ask for.
-static ASKED: [(&str, &str); 17] = [
+static ASKED: [(&str, &str); 19] = [
     ("tempo|--query|q", "[q] Run 1024 1 false Refuse 0 0 0 1000"),
     ("tempo|--query|", "[] Run 1024 1 false Refuse 0 0 0 1000"),
     ("tempo|--query=", "[] Run 1024 1 false Refuse 0 0 0 1000"),
@@ -61,6 +61,14 @@ static ASKED: [(&str, &str); 17] = [
     (
         "tempo|--query|q|--mode|run",
         "[q] Run 1024 1 false Refuse 0 0 0 1000",
+    ),
+    (
+        "tempo|--query|q|--mode|freeze",
+        "[q] Freeze 1024 1 false Refuse 0 0 0 1000",
+    ),
+    (
+        "tempo|--query|q|--mode=resume",
+        "[q] Resume 1024 1 false Refuse 0 0 0 1000",
     ),
     (
         "tempo|--header|--query=q|--mode|explain",

@@ -2,14 +2,17 @@
 use sample_trades::{LineCounts, Sample};
 use tw_rows::Memory;
 
+/// The lines of the sample of number 7.
+static SAMPLE: [&str; 2] = [
+    "trades,interval,1,4,0,S0,107,7",
+    "trades,interval,3,16,1,S0,117,2",
+];
+
 #[test]
 fn a_sample_is_that_of_its_number(rt: HostRuntime) -> Result<(), Memory> {
     let mut sample = Sample::new(7, 2);
     let mut line = Vec::new(rt.alloc());
-    for wanted in [
-        "trades,interval,1,4,0,S0,107,7",
-        "trades,interval,3,16,1,S0,117,2",
-    ] {
+    for &wanted in SAMPLE.iter() {
         if let Some(next) = sample.next_line() {
             next.write(&mut line)?;
         }
@@ -19,14 +22,17 @@ fn a_sample_is_that_of_its_number(rt: HostRuntime) -> Result<(), Memory> {
     Ok(())
 }
 
+/// A text in parts.
+static PARTS: [&str; 3] = [
+    "out,start,1,inf,a\nou",
+    "t,end,4,1,a\n*,pu",
+    "nct,inf\nout,start,",
+];
+
 #[test]
 fn lines_are_counted_in_parts(rt: HostRuntime) -> Result<(), Memory> {
     let mut counts = LineCounts::new(rt.alloc());
-    for part in [
-        "out,start,1,inf,a\nou",
-        "t,end,4,1,a\n*,pu",
-        "nct,inf\nout,start,",
-    ] {
+    for &part in PARTS.iter() {
         counts.add(part.as_bytes())?;
     }
     let summary = counts.summary(rt.alloc())?;
