@@ -159,6 +159,17 @@ def fields_of(line):
     return [*found, (first, len(line))]
 
 
+def of_checkpoint(fields):
+    """What to say of the fields of a line at which a checkpoint is refused."""
+    if fields[:1] == [b"#query"]:
+        return ["the checkpoint is of another query"]
+    if fields[:1] == [b"#options"] and len(fields) == 5:
+        names = ("--workers", "--late", "--lateness", "--punctuate")
+        told = " ".join(f"{name} {field.decode(errors='replace')}" for name, field in zip(names, fields[1:]))
+        return [f"the checkpoint was taken with {told}"]
+    return []
+
+
 def of_line(note, line, text, width):
     """What to say of a line that was refused; `line` is None where standard input is no file."""
     streams = query.streams_of(text)
@@ -187,6 +198,8 @@ def of_line(note, line, text, width):
             told = [f"column {number} of {texts[0].decode()} is {' '.join(columns[number - 1])}"]
     elif cause.startswith("late"):
         at = [2]
+    elif cause == "not a checkpoint":
+        at, told = [], of_checkpoint(texts)
     marks = [(*fields[i], "^") for i in at if i < len(fields)]
     return (shown(line, marks, width) if line else []) + told
 
@@ -227,7 +240,7 @@ def run(program, words):
                            preexec_fn=lambda: signal.signal(signal.SIGINT, signal.SIG_DFL))
     for number in (signal.SIGTERM, signal.SIGHUP):
         signal.signal(number, lambda number, _: ran.send_signal(number))
-    if os.isatty(0) and "--query" in " ".join(words) and option(words, "--mode") in (None, "run"):
+    if os.isatty(0) and "--query" in " ".join(words) and option(words, "--mode") in (None, "run", "freeze"):
         # Not where it ends at once, as at a query that it refuses.
         if not select.select([ran.stderr], [], [], ENTER)[0]:
             # (In one write, so that nothing that is typed comes into the line.)

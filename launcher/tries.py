@@ -125,6 +125,16 @@ s,interval,2,5,a,1
     ("stream s(v int); s | group : sum v as t", b"s,interval,0,6,9223372036854775807\ns,interval,5,9,1\n",
      "node 1: overflow at 5, closing inf", "\nnode 1 group 0 snapshot 0 t:int\n"),
 ]
+HEAD = f"#tempo,1\n#query,{S_WORDS.encode().hex()}\n"
+RESUMED = [
+    # the same in mode resume
+    (S_WORDS, b"s,interval,1,2,a,1\n", "line 1: not a checkpoint", "\ns,interval,1,2,a,1\n"),
+    (S_WORDS, b"#tempo,1\n#query,73\n", "line 2: not a checkpoint", "\n#query,73\nthe checkpoint is of another query\n"),
+    (S_WORDS, f"{HEAD}#options,1,drop,5,0\n".encode(), "line 3: not a checkpoint", """
+#options,1,drop,5,0
+the checkpoint was taken with --workers 1 --late drop --lateness 5 --punctuate 0
+"""),
+]
 
 
 def at_terminal(command, stdin, env, keys=b""):
@@ -158,13 +168,14 @@ def check_terminal(report, program):
     env = {name: value for name, value in os.environ.items() if name not in ("TEMPO_HINTS", "LINES")}
     if path != str(ROOT / "tempo"):
         env["TEMPO_PROGRAM"] = path
-    for query, fed, note, below in HINTS:
+    tried = [([], it) for it in HINTS] + [(["--mode", "resume"], it) for it in RESUMED]
+    for mode, (query, fed, note, below) in tried:
         name = f"hint {note}"
         if not report.wants(name):
             continue
         with tempfile.TemporaryFile() as stdin:
             stdin.write(fed or b"")
-            words = [ROOT / "tempo", "--query", query]
+            words = [ROOT / "tempo", *mode, "--query", query]
             stdin.seek(0)
             plain = subprocess.run(words, stdin=stdin, capture_output=True, env=env, timeout=SECONDS)
             stdin.seek(0)
