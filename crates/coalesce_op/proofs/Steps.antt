@@ -1,8 +1,11 @@
 -- A Coalesce from instant to instant, and what new edges leave of what is kept.
-use Rattle.std.specs.Prelude.{◌≡◌, ℕ, zero, suc, ◌+◌, ◌-◌, ◌<◌, ◌≤◌, nat_eq, cond, List, [], ◌∷◌, ◌++◌, take, drop, replicate, refl}
+use Rattle.std.specs.Prelude.{◌≡◌, ℕ, zero, suc, ◌+◌, ◌-◌, ◌<◌, ◌≤◌, ◌*◌, nat_eq, nat_le, length, cond, List, [], ◌∷◌, ◌++◌, take, drop, replicate, refl}
 use Rattle.std.proofs.Common.{inl, inr, sym, ◌∙◌, ap, subst, arith}
 use Rattle.std.proofs.lemmas.Bool.Decides.{nat_tests}
-use Rattle.std.proofs.lemmas.List.{append-nil}
+use Rattle.std.proofs.lemmas.List.{append-nil, drop-drop, length-drop, length-take, take-append-drop}
+use Rattle.std.proofs.lemmas.Grind.{flat_map-append}
+use Rattle.std.proofs.lemmas.Slice.{drop-put_mid, take-put_mid}
+use borrow.Rule.Slice.PartMut.{put_mid}
 use Rattle.tw_rows.specs.Instant.{inf}
 use Rattle.tw_rows.specs.Bag.{SameBag, total}
 use Rattle.tw_rows.specs.Event.{alive, cut, AreEvents}
@@ -11,17 +14,19 @@ use Rattle.tw_rows.specs.declared.edge.Edge.{Edge}
 use Rattle.tw_rows.specs.declared.edge.HeldRow.{HeldRow}
 use Rattle.tw_rows.proofs.Bags.{total-append}
 use Rattle.tw_rows.proofs.Lives.{alive_known}
-use Rattle.edge_history.specs.Order.{failing}
+use Rattle.edge_history.specs.Order.{failing, rank, Rises, is_from}
 use Rattle.edge_history.specs.History.{CellEvent}
 use Rattle.edge_history.specs.Balance.{news}
 use Rattle.edge_history.specs.Opens.{bare, started_of, started_rows}
 use Rattle.edge_history.proofs.Retaining.{AreEvents-none_fails}
-use Rattle.edge_history.proofs.Telling.{news_none, news_in_parts}
+use Rattle.edge_history.proofs.Sums.{failing-append}
+use Rattle.edge_history.proofs.Telling.{news_none, news_in_parts, rises_weaker, answer_from}
 use Rattle.key_nodes.specs.Coalesced.{how_often, rows_before}
 use Rattle.row_queues.proofs.Once.{cells_tell}
 use Rattle.row_queues.specs.Queued.{queue_of, rows_at, AreQueues}
 use Rattle.sweep_laws.specs.Queues.{Cells, rise, fall, open_starts, AreMoves}
 use Rattle.sweep_laws.specs.Sweeps.{is_at, IsPast, StartsAt, IsDue, Tells, IsNext}
+use Rattle.sweep_laws.proofs.Ordering.{order_later}
 use Rattle.sweep_laws.proofs.QueueMoves.{edges_move}
 use Rattle.sweep_laws.proofs.Queueing.{queues_next, touched_told}
 use Rattle.sweep_laws.proofs.Sides.{side_now, side_none, side_rest, starts_between, some_done, tells_parts, tells_still}
@@ -111,6 +116,59 @@ reach_end a from u to rest rows answer0 answer1 e r =
 
 pub next_done : (t n : ℕ) (rest : List Edge) → IsNext t rest [] → IsPast t (drop n rest) → 1 ≤ n
 next_done t n rest next past = let h = some_done t n 0 rest [] next past tt in omega (arith, h)
+
+-- IN PLACE
+join_rises : (q r : ℕ) (xs ys : List Edge) → q ≤ r → Rises q xs → failing (λ e. nat_le (rank e) r) xs ≡ 0 → Rises r ys → Rises q (xs ++ ys)
+join_rises q r [] ys low h b k = rises_weaker r q ys low k
+join_rises q r (x ∷ xs) ys low h b k = (h.0, join_rises (rank x) r xs ys (one x r (omega (arith, b))) h.1 (omega (arith, b)) k)
+  where
+    one : (x : Edge) (r : ℕ) → cond {A = ℕ} (nat_le (rank x) r) 0 1 ≡ 0 → rank x ≤ r
+    one x r z = grind (arith, nat_tests)
+
+rises_from : (t : ℕ) (xs : List Edge) → failing (is_from t) xs ≡ 0 → Rises 0 xs → Rises (2 * t) xs
+rises_from t [] h k = tt
+rises_from t (x ∷ xs) h k = (one x (omega (arith, h)), k.1)
+  where
+    one : (x : Edge) → cond {A = ℕ} (is_from t x) 0 1 ≡ 0 → 2 * t ≤ rank x
+    one x z = grind (arith, nat_tests)
+
+-- what is told by itself is told behind what was told before
+pub tells_behind : (events : List CellEvent) (t u : ℕ) (a b : List Edge) → t ≤ u → Tells events t u [] b → Tells events t u a (a ++ b)
+tells_behind events t u a b low h =
+    let same : SameBag b (news t u events) = record { weigh = λ w. (let k = h.weigh w in omega (arith, k)) } in
+    let up = h.order (record { rises = tt; below = refl }) in
+    record {
+      weigh = λ w. let k = h.weigh w in let p = total-append w a b in omega (arith, k, p);
+      order = λ o. record {
+        rises = join_rises 0 (2 * t) a b (omega arith) o.rises o.below (rises_from t b (answer_from t u b events same) up.rises);
+        below = failing-append (λ e. nat_le (rank e) (2 * u)) a b (order_later (2 * t) (2 * u) a (omega (arith, low)) o).below up.below;
+      };
+    }
+
+-- the rows that edges start, in two parts
+pub starts_parted : (w : HeldRow → ℕ) (i : ℕ) (due : List Edge) → total w (started_rows due) ≡ total w (started_rows (take i due)) + total w (started_rows (drop i due))
+starts_parted w i due =
+    ap (λ (l : List Edge). total w (started_rows l)) (sym (take-append-drop i due))
+    ∙ (ap (total w) (flat_map-append started_of (take i due) (drop i due)) ∙ total-append w (started_rows (take i due)) (started_rows (drop i due)))
+
+-- a part of n edges, and what stands behind it once it is written over
+pub part_is : {X : Type 0} (xs rest : List X) (i n : ℕ) → rest ≡ drop i xs → take ((i + n) - i) (drop i xs) ≡ take n rest
+part_is {X} xs rest i n e = ap (λ k. take k (drop i xs)) (let z : (i + n) - i ≡ n = omega arith in z) ∙ ap (λ (l : List X). take n l) (sym e)
+
+module _ {X : Type 0} (xs part : List X) (i n : ℕ) (within : i + n ≤ length xs) (same : length part ≡ length (take ((i + n) - i) (drop i xs))) where
+  part_long : length part ≡ n
+  part_long =
+      let a = length-take ((i + n) - i) (drop i xs) in
+      let b = length-drop i xs in
+      omega (arith, within, same, a, b)
+
+  pub rest_written : (ys : List X) → drop i xs ≡ drop i ys → drop (i + n) (put_mid i ((i + n) - i) xs part) ≡ drop (i + n) ys
+  rest_written ys e =
+      drop-put_mid i ((i + n) - i) xs part (i + n) (omega arith) (omega (arith, within)) (let l = part_long in omega (arith, l))
+      ∙ (sym (drop-drop n i xs) ∙ (ap (λ (l : List X). drop n l) e ∙ drop-drop n i ys))
+
+  pub part_written : take (i + n) (put_mid i ((i + n) - i) xs part) ≡ take i xs ++ part
+  part_written = take-put_mid i ((i + n) - i) xs part (i + n) (let l = part_long in omega (arith, l)) (omega (arith, within))
 
 -- THE ROWS OF AN INSTANT
 -- edges of one instant start rows there

@@ -19,7 +19,7 @@ ghost use Rattle.sweep_laws.specs.Sweeps.{Tells};
 ghost use Rattle.coalesce_op.specs.Coalesces.{coalesces};
 ghost use Rattle.coalesce_op.specs.States.{CoalesceSound};
 
-use crate::sweep::sweep;
+use crate::sweep::tell_due;
 use carried_edges::are_of_parts;
 use edge_stream::{EdgeList, Saved};
 use end_queue::EndQueue;
@@ -51,9 +51,8 @@ impl Side {
         ensures cells { OnOk result (All (λ e. map datum_kind e.cells ≡ cells_of left.now) left.now.edges) }
     {
         let due = take_in(&mut self.waiting, self.alloc, left, to)?;
-        let mut answer = Vec::new(self.alloc);
-        sweep(&mut self.queues, &mut answer, due.as_slice())?;
-        Ok(answer)
+        let told = tell_due(&mut self.queues, due)?;
+        Ok(told)
     }
 }
 

@@ -1,6 +1,7 @@
 -- The open starts of rows that are held, as one row ends or starts.
-use Rattle.std.specs.Prelude.{◌≡◌, ℕ, zero, suc, ◌+◌, Bool, true, false, cond, List, [], ◌∷◌, ◌++◌, map, take, drop, replicate, length, refl}
+use Rattle.std.specs.Prelude.{◌≡◌, ℕ, zero, suc, ◌+◌, Bool, true, false, cond, List, [], ◌∷◌, ◌++◌, map, take, drop, replicate, length, Option, refl}
 use Rattle.std.specs.Map.{lookup}
+use Rattle.std.specs.Option.{option_to_list}
 use Rattle.std.specs.declared.collections.VecDeque.{VecDeque}
 use Rattle.std.proofs.Common.{sym, ◌∙◌, ap, arith}
 use Rattle.std.proofs.lemmas.List.{append-nil, append_assoc, drop-drop, map-append}
@@ -38,11 +39,23 @@ few_ended k since old new s first rest q = ap (λ l. l ++ since q) (rest q) ∙ 
     go true e = behind (queue_of old q) (since q) (let z = ap (λ c. queue_of old c) (cells_are_same k q e) in sym z ∙ (first ∙ ap (λ l. s ∷ drop 1 l) z))
     go false e = refl
 
-pub few_told : (t : ℕ) (k kept : List Datum) (queue since : List ℕ) (s : ℕ) → kept ≡ k → queue ≡ s ∷ drop 1 queue →
-    record { sync = t; other = s; cells = kept } ∷ [] ≡ queue_ends t 1 k (queue ++ since)
-few_told t k kept queue since s same first =
-    let f : List Datum → ℕ → Edge = λ c x. record { sync = t; other = x; cells = c } in
-    ap (λ c. f c s ∷ []) same ∙ sym (ap (λ l. map (f k) (take 1 (l ++ since))) first)
+pub few_first : (queue since : List ℕ) (s : ℕ) → queue ≡ s ∷ drop 1 queue → queue ++ since ≡ s ∷ drop 1 (queue ++ since)
+few_first [] since s e = absurd (cc)
+few_first (x ∷ queue) since s e = let z : x ≡ s = cc in ap (λ y. y ∷ (queue ++ since)) z
+
+pub map_first : (o : Option ℕ) (queue since : List ℕ) → queue ≡ [] → since ≡ option_to_list o ++ drop 1 since → queue ++ since ≡ option_to_list o ++ drop 1 (queue ++ since)
+map_first o [] since e h = h
+map_first o (x ∷ queue) since e h = absurd (cc)
+
+-- the first start of a row, if it has one
+pub no_first : (since : List ℕ) → since ≡ drop 1 since → since ≡ []
+no_first [] h = refl
+no_first (x ∷ since) h = let z = ap length h in absurd (omega (arith, z))
+
+pub first_told : (t : ℕ) (k : List Datum) (since : List ℕ) (s : ℕ) → since ≡ s ∷ drop 1 since → record { sync = t; other = s; cells = k } ∷ [] ≡ queue_ends t 1 k since
+first_told t k since s first =
+    let f : ℕ → Edge = λ x. record { sync = t; other = x; cells = k } in
+    sym (ap (λ l. map f (take 1 l)) first)
 
 -- none of the few is of the row
 pub map_ended : (k : List Datum) (few few2 : List HeldRow) (old new : List Datum → List ℕ) → few2 ≡ few → queue_of few k ≡ [] →

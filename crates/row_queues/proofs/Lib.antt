@@ -12,3 +12,4 @@ pub mod MarkedRows
 pub mod EdgesApart
 pub mod HeldRows
 pub mod Moving
+pub mod InPlace

@@ -1,6 +1,6 @@
 -- The open starts of the rows that are held, and edges of one instant.
 use Rattle.std.specs.Prelude.{◌≡◌, ℕ, nat_lt, Bool, true, ◌&&◌, ◌||◌, not, cond}
-use Rattle.std.specs.Prelude.{List, [], ◌∷◌, ◌++◌, ◌-◌, map, drop, replicate}
+use Rattle.std.specs.Prelude.{List, [], ◌∷◌, ◌++◌, ◌-◌, ◌≤◌, length, map, drop, replicate}
 use Rattle.std.specs.List.{list_all}
 use Rattle.tw_rows.specs.SameCells.{same_cells}
 use Rattle.tw_rows.specs.declared.edge.Edge.{Edge}
@@ -49,9 +49,25 @@ net_ends_of x = (move_of x).ends - (move_of x).starts
 abbrev pub net_starts_of : Edge → ℕ
 net_starts_of x = (move_of x).starts - (move_of x).ends
 
--- the row of an edge ends at t, or starts there, and that is told
+-- the row of an edge ends at t, or starts there
+abbrev pub IsMoved : ℕ → Edge → Held → Held → Type 0
+IsMoved t x old new = (c : Cells) → since_of new c
+    ≡ cond (same_cells x.cells c) (drop (net_ends_of x) (since_of old c) ++ replicate (net_starts_of x) t) (since_of old c)
+
+-- it does, and that is told
 pub record MovesOnce (t : ℕ) (x : Edge) (old new : Held) (before after : List Edge) : Type 0 where
-  pub since : (c : Cells) → since_of new c
-      ≡ cond (same_cells x.cells c) (drop (net_ends_of x) (since_of old c) ++ replicate (net_starts_of x) t) (since_of old c)
+  pub since : IsMoved t x old new
   pub told : after ≡ before
       ++ (queue_ends t (net_ends_of x) x.cells (since_of old x.cells) ++ queue_starts t (net_starts_of x) x.cells)
+
+-- the row of each end has an open start
+abbrev pub HaveStarts : (Cells → List ℕ) → List Edge → Type 0
+HaveStarts since [] = Unit {0}
+HaveStarts since (x ∷ xs) = (is_end x ≡ true → 1 ≤ length (since x.cells)) × HaveStarts since xs
+
+-- it does, and the edge y tells that in its place, if an end has an open start. Of a row that is open from 3 and 4 on, an end
+-- at t becomes that of the start at 3
+pub record MovesInPlace (t : ℕ) (x y : Edge) (old new : Held) : Type 0 where
+  pub since : IsMoved t x old new
+  pub told : (is_end x ≡ true → 1 ≤ length (since_of old x.cells)) →
+      y ∷ [] ≡ queue_ends t (net_ends_of x) x.cells (since_of old x.cells) ++ queue_starts t (net_starts_of x) x.cells

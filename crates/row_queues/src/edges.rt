@@ -6,8 +6,8 @@ ghost use Rattle.tw_rows.specs.Instant.{inf};
 ghost use Rattle.tw_rows.specs.declared.edge.Edge.{Edge as Told};
 ghost use Rattle.tw_rows.specs.SameCells.{same_cells as same};
 ghost use Rattle.edge_history.specs.Order.{is_end};
-ghost use Rattle.edge_history.specs.Opens.{bare, ended_of, started_of, ended_rows, started_rows};
-ghost use Rattle.key_nodes.specs.Coalesced.{how_often, coalesced};
+ghost use Rattle.edge_history.specs.Opens.{bare, ended_of, started_of};
+ghost use Rattle.key_nodes.specs.Coalesced.{coalesced};
 ghost use Rattle.sweep_laws.specs.Queues.{Cells as Row, open_starts, queue_told, queue_after};
 ghost use Rattle.sweep_laws.specs.Sweeps.{InOrder, Tells};
 ghost use Rattle.row_queues.specs.Kept.{EachIsOpen, ends_of, starts_of, rows_of};
@@ -64,8 +64,8 @@ fn are_apart(edges: &[Edge]) -> bool
     true
 }
 
-// The same of few edges. More are not compared with each other.
-fn is_few_apart(edges: &[Edge]) -> bool
+/// Whether the edges are few, of different rows, and their ends stand first. More are not compared with each other.
+pub fn is_few_apart(edges: &[Edge]) -> bool
     ensures { IsTrue result → AreApart edges.now }
 {
     if edges.len() > FEW {

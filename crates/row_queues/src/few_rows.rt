@@ -11,7 +11,7 @@ ghost use Rattle.row_queues.specs.Marked.{is_marked, held_rows, AreMarked, HasNo
 use edge_stream::{Saved, SavedEntry};
 use std::alloc::Global;
 use std::marker::Model;
-use tw_rows::{Cells, HeldRow, Memory, Time, mix_words, same_cells};
+use tw_rows::{Cells, Memory, Time, mix_words, same_cells};
 
 // How many rows are few: so many words are looked at sooner than a map.
 const FEW: usize = 16;
@@ -135,13 +135,12 @@ impl FewRows {
         Ok(())
     }
 
-    /// Takes the first row of these cells out.
+    /// Takes the first row of these cells out, and gives its start.
     #[tactic(auto, using(crate::proofs::MarkedRows::marked_less))]
-    pub(crate) fn take(&mut self, cells: &Cells) -> Option<HeldRow>
-        ensures cells { IfSome result (λ row. row.cells ≡ cells.now) }
-        ensures first { IfSome result (λ row. queue_of self.old cells.now
-            ≡ row.start ∷ drop 1 (queue_of self.old cells.now)) }
-        ensures rest { IfSome result (λ row. (c : List Datum) → queue_of self.new c
+    pub(crate) fn take(&mut self, cells: &Cells) -> Option<Time>
+        ensures first { IfSome result (λ start. queue_of self.old cells.now
+            ≡ start ∷ drop 1 (queue_of self.old cells.now)) }
+        ensures rest { IfSome result (λ start. (c : List Datum) → queue_of self.new c
             ≡ cond (same cells.now c) (drop 1 (queue_of self.old c)) (queue_of self.old c)) }
         ensures none { IfNone result (queue_of self.old cells.now ≡ []) }
         ensures kept { IfNone result (self.new ≡ self.old) }
@@ -150,10 +149,7 @@ impl FewRows {
             return None;
         };
         let row = self.rows.remove(place);
-        Some(HeldRow {
-            cells: row.cells,
-            start: row.start,
-        })
+        Some(row.start)
     }
 
     /// Adds an entry of that part for the start of each row.

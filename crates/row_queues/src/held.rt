@@ -1,5 +1,6 @@
 // The rows that are open.
-ghost use Rattle.std.specs.Prelude.{◌≡◌, ◌++◌, [], List, false, drop, cond, replicate, IsTrue, OnOk};
+ghost use Rattle.std.specs.Prelude.{◌≡◌, ◌++◌, [], List, false, drop, cond, replicate, IsTrue, IfOk, OnOk};
+ghost use Rattle.std.specs.Option.{option_to_list};
 ghost use Rattle.tw_rows.specs.declared.cells.Datum.{Datum};
 ghost use Rattle.tw_rows.specs.SameCells.{same_cells as same};
 ghost use Rattle.sweep_laws.specs.Queues.{queue_ends, queue_starts};
@@ -7,7 +8,7 @@ ghost use Rattle.row_queues.specs.Kept.{since_at, EachIsOpen};
 ghost use Rattle.row_queues.specs.Holding.{since_of};
 
 use crate::few_rows::FewRows;
-use crate::queues::{Starts, end_row, open_row, push_start};
+use crate::queues::{Starts, open_row, push_end, push_start, take_first};
 use std::alloc::Global;
 use tw_rows::{Cells, Edge, Memory, Time};
 
@@ -41,6 +42,40 @@ fn goes_to_few(held: &Held, cells: &Cells) -> bool
     !is_mapped(&held.starts, cells)
 }
 
+/// Takes the first open start of a row out.
+pub(crate) fn take_start(held: &mut Held, cells: &Cells) -> Result<Option<Time>, Memory>
+    ensures first { IfOk result (λ start. since_of held.old cells.now
+        ≡ option_to_list start ++ drop 1 (since_of held.old cells.now)) }
+    ensures since { OnOk result ((c : List Datum) → since_of held.new c
+        ≡ cond (same cells.now c) (drop 1 (since_of held.old c)) (since_of held.old c)) }
+    ensures filled { EachIsOpen held.old.starts → EachIsOpen held.new.starts }
+{
+    if let Some(start) = held.few.take(cells) {
+        return Ok(Some(start));
+    }
+    let start = take_first(&mut held.starts, cells)?;
+    Ok(start)
+}
+
+/// Puts a start last in the queue of a row.
+pub(crate) fn put_start(
+    held: &mut Held,
+    alloc: Global,
+    at: Time,
+    cells: &Cells,
+) -> Result<(), Memory>
+    ensures since { OnOk result ((c : List Datum) → since_of held.new c
+        ≡ cond (same cells.now c) (since_of held.old c ++ replicate 1 at) (since_of held.old c)) }
+    ensures filled { EachIsOpen held.old.starts → EachIsOpen held.new.starts }
+{
+    if goes_to_few(held, cells) {
+        held.few.push(cells, at)?;
+        return Ok(());
+    }
+    open_row(&mut held.starts, alloc, cells, at, 1)?;
+    Ok(())
+}
+
 /// Ends the first open start of a row, and tells it.
 pub(crate) fn end_one(
     held: &mut Held,
@@ -54,15 +89,11 @@ pub(crate) fn end_one(
         ≡ answer.old.items ++ queue_ends at 1 cells.now (since_of held.old cells.now)) }
     ensures filled { EachIsOpen held.old.starts → EachIsOpen held.new.starts }
 {
-    if let Some(row) = held.few.take(cells) {
-        answer.push(Edge {
-            sync: at,
-            other: row.start,
-            cells: row.cells,
-        })?;
+    let taken = take_start(held, cells)?;
+    let Some(start) = taken else {
         return Ok(());
-    }
-    end_row(&mut held.starts, answer, at, cells, 1)?;
+    };
+    push_end(answer, at, start, cells)?;
     Ok(())
 }
 
@@ -80,11 +111,7 @@ pub(crate) fn start_one(
     ensures filled { EachIsOpen held.old.starts → EachIsOpen held.new.starts }
 {
     push_start(answer, at, cells)?;
-    if goes_to_few(held, cells) {
-        held.few.push(cells, at)?;
-        return Ok(());
-    }
-    open_row(&mut held.starts, alloc, cells, at, 1)?;
+    put_start(held, alloc, at, cells)?;
     Ok(())
 }
 

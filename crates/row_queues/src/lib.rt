@@ -7,11 +7,13 @@ mod few;
 mod few_rows;
 mod gathering;
 mod held;
+mod in_place;
 mod instant;
 mod moves;
 mod queues;
 mod row_queues;
 mod saving;
 
+pub use edges::is_few_apart;
 pub use queues::{Starts, open_row, put_back};
 pub use row_queues::RowQueues;

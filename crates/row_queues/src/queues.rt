@@ -1,14 +1,11 @@
 // Queues of starts.
-ghost use Rattle.std.specs.Prelude.{◌≡◌, ◌<◌, ◌≤◌, ◌++◌, ◌∷◌, [], ◌+◌, ◌-◌, ◌*◌, ℕ, suc, List, Some, map};
-ghost use Rattle.std.specs.Prelude.{take, drop, cond, flat_map, length, replicate, OnOk};
+ghost use Rattle.std.specs.Prelude.{◌≡◌, ◌<◌, ◌≤◌, ◌++◌, ◌∷◌, [], ◌+◌, ◌-◌, List, Some};
+ghost use Rattle.std.specs.Prelude.{drop, cond, length, replicate, IfOk, OnOk};
+ghost use Rattle.std.specs.Option.{option_to_list};
 ghost use Rattle.indexmap.specs.IndexMap.{get};
-ghost use Rattle.tw_rows.specs.Bag.{total};
 ghost use Rattle.tw_rows.specs.Instant.{inf};
 ghost use Rattle.tw_rows.specs.declared.cells.Datum.{Datum};
-ghost use Rattle.tw_rows.specs.declared.edge.Edge.{Edge as Told};
 ghost use Rattle.tw_rows.specs.SameCells.{same_cells as same};
-ghost use Rattle.sweep_laws.specs.Queues.{queue_ends, queue_starts, queue_told, queue_after};
-ghost use Rattle.sweep_laws.specs.Sweeps.{InOrder};
 ghost use Rattle.row_queues.specs.Kept.{since_at, EachIsOpen};
 
 use indexmap::IndexMap;
@@ -32,7 +29,13 @@ pub(crate) fn push_start(answer: &mut Vec<Edge>, at: Time, cells: &Cells) -> Res
     Ok(())
 }
 
-fn push_end(answer: &mut Vec<Edge>, at: Time, start: Time, cells: &Cells) -> Result<(), Memory>
+/// Tells an end.
+pub(crate) fn push_end(
+    answer: &mut Vec<Edge>,
+    at: Time,
+    start: Time,
+    cells: &Cells,
+) -> Result<(), Memory>
     ensures { OnOk result (answer.new.items ≡ answer.old.items ++ record { sync = at; other = start; cells = cells.now } ∷ []) }
 {
     answer.push(Edge {
@@ -40,26 +43,6 @@ fn push_end(answer: &mut Vec<Edge>, at: Time, start: Time, cells: &Cells) -> Res
         other: start,
         cells: cells.clone()?,
     })?;
-    Ok(())
-}
-
-// Ends the first of the open starts of a row, so many of them or all.
-fn end_first(
-    since: &mut VecDeque<Time>,
-    answer: &mut Vec<Edge>,
-    at: Time,
-    cells: &Cells,
-    count: usize,
-) -> Result<(), Memory>
-    ensures since { OnOk result (since.new.items ≡ drop count since.old.items) }
-    ensures told { OnOk result (answer.new.items ≡ answer.old.items ++ queue_ends at count cells.now since.old.items) }
-{
-    for _ in 0..count {
-        match since.pop_front() {
-            Some(start) => push_end(answer, at, start, cells)?,
-            None => return Ok(()),
-        }
-    }
     Ok(())
 }
 
@@ -75,32 +58,23 @@ pub fn put_back(starts: &mut Starts, cells: &Cells, since: VecDeque<Time>) -> Re
     Ok(())
 }
 
-/// Ends a row so often.
-pub(crate) fn end_row(
-    starts: &mut Starts,
-    answer: &mut Vec<Edge>,
-    at: Time,
-    cells: &Cells,
-    count: usize,
-) -> Result<(), Memory>
+/// Takes the first open start of a row out.
+pub(crate) fn take_first(starts: &mut Starts, cells: &Cells) -> Result<Option<Time>, Memory>
+    ensures first { IfOk result (λ start. since_at starts.old cells.now
+        ≡ option_to_list start ++ drop 1 (since_at starts.old cells.now)) }
     ensures since { OnOk result ((c : List Datum) → since_at starts.new c
-        ≡ cond (same cells.now c) (drop count (since_at starts.old c)) (since_at starts.old c)) }
-    ensures told { OnOk result (answer.new.items
-        ≡ answer.old.items ++ queue_ends at count cells.now (since_at starts.old cells.now)) }
+        ≡ cond (same cells.now c) (drop 1 (since_at starts.old c)) (since_at starts.old c)) }
     ensures filled { EachIsOpen starts.old → EachIsOpen starts.new }
 {
-    if count == 0 {
-        return Ok(());
-    }
     let Some(mut since) = starts.swap_remove(cells) else {
-        return Ok(());
+        return Ok(None);
     };
-    end_first(&mut since, answer, at, cells, count)?;
+    let start = since.pop_front();
     if since.is_empty() {
-        return Ok(());
+        return Ok(start);
     }
     put_back(starts, cells, since)?;
-    Ok(())
+    Ok(start)
 }
 
 fn open_more(since: &mut VecDeque<Time>, at: Time, count: usize) -> Result<(), Memory>

@@ -5,17 +5,19 @@ ghost use Rattle.tw_rows.specs.Bag.{total};
 ghost use Rattle.tw_rows.specs.Instant.{inf};
 ghost use Rattle.tw_rows.specs.SameCells.{same_cells as same};
 ghost use Rattle.tw_rows.specs.declared.edge.HeldRow.{HeldRow};
-ghost use Rattle.edge_history.specs.Opens.{bare, ended_rows, started_rows};
+ghost use Rattle.edge_history.specs.Opens.{bare, started_rows};
 ghost use Rattle.key_nodes.specs.Coalesced.{how_often, coalesced};
 ghost use Rattle.sweep_laws.specs.Queues.{Cells as Row, AreMoves};
 ghost use Rattle.sweep_laws.specs.Sweeps.{Tells};
 ghost use Rattle.sweep_laws.specs.Saving.{starts_of, rows_of};
 ghost use Rattle.carried_edges.specs.Entries.{entries_of, part_of};
+ghost use Rattle.row_queues.specs.Holding.{AreApart};
 ghost use Rattle.row_queues.specs.Queued.{queue_of, rows_at, AreQueues, EdgesLead};
 
 use crate::edges::tell_edges;
 use crate::few_rows::FewRows;
 use crate::held::Held;
+use crate::in_place::tell_in_place;
 use crate::instant::tell_instant;
 use crate::queues::open_row;
 use crate::saving::{save_starts, start_count};
@@ -119,6 +121,22 @@ impl RowQueues {
         // Their calls tell the proof that no row stands twice.
         let _ = self.held.starts.len();
         tell_edges(&mut self.held, answer, self.alloc, at, now)?;
+        let _ = self.held.starts.len();
+        Ok(())
+    }
+
+    /// Takes the edges of one instant, which then tell what they show: an end names the first open start of its row.
+    pub fn move_in_place(&mut self, at: Time, now: &mut [Edge]) -> Result<(), Memory>
+        requires { AreApart now.old }
+        ensures moved { OnOk result ((f : ℕ → List Row) → at < inf →
+            EdgesLead f at now.old → AreQueues f at self.old → AreQueues f (suc at) self.new
+            × Tells (coalesced same f) at (suc at) [] now.new) }
+        ensures rows { OnOk result ((w : HeldRow → ℕ) →
+            total w self.new ≤ total w self.old + total w (rows_at at (bare (started_rows now.old)))) }
+    {
+        // Their calls tell the proof that no row stands twice.
+        let _ = self.held.starts.len();
+        tell_in_place(&mut self.held, self.alloc, at, now)?;
         let _ = self.held.starts.len();
         Ok(())
     }

@@ -1,18 +1,13 @@
-use Rattle.std.proofs.Common.{◌++◌, List, sym, ap, subst, arith}
-use Rattle.tw_rows.specs.Bag.{total}
-use Rattle.tw_rows.specs.declared.edge.Edge.{Edge}
+use Rattle.std.proofs.Common.{◌++◌, arith}
 use Rattle.edge_history.specs.History.{of}
 use Rattle.edge_history.specs.Order.{is_real}
-use Rattle.edge_history.specs.Opens.{started_rows}
 use Rattle.edge_history.proofs.Sums.{failing-parts}
 use Rattle.edge_history.proofs.Retaining.{events_of_are, same_below}
 use Rattle.edge_history.proofs.Waiting.{pending_then}
 use Rattle.edge_stream.specs.Listing.{cells_of}
-use Rattle.sweep_laws.specs.Sweeps.{IsDue, Tells}
 use Rattle.sweep_laws.proofs.Joins.{due_by_syncs}
 use Rattle.sweep_sides.specs.Waiting.{queued}
 use Rattle.sweep_sides.proofs.TakenIn.{side_taken}
-use Rattle.coalesce_op.specs.Coalesces.{coalesces}
 use Rattle.coalesce_op.proofs.Steps.{queues_known}
 use Rattle.coalesce_op.proofs.side.Side.advance.Goals as goal
 
@@ -28,19 +23,19 @@ returns-clause-kept c = λ from hl low k whole fresh.
     let all = of (hl ++ nl) in
     let known = same_below from hl nl (of hl) all (omega (arith, low, high)) (failing-parts is_real hl nl whole.real).1 fresh (events_of_are hl k.history) (events_of_are (hl ++ nl) whole) in
     let is_due = due_by_syncs hl nl (queued s.waiting) due (queued rest) from to low high whole fresh k.waits d.parts (d.below k.timed) (d.rest k.timed) d.order in
-    let swept = c.in_ok-sweep.ensures.swept all from to (subst (IsDue all from to) (sym c.as_slice.ensures.value) is_due) (queues_known from (of hl) all s.queues (omega (arith, low, high)) known k.now) in (
+    let swept = c.in_ok-told.ensures.swept all from to is_due (queues_known from (of hl) all s.queues (omega (arith, low, high)) known k.now) in (
       record {
         timed = d.timed k.timed;
         history = whole;
         waits = pending_then hl nl (queued s.waiting) due (queued rest) from to low high whole fresh k.waits d.parts (d.below k.timed) (d.rest k.timed);
         now = swept.0;
       },
-      subst (λ (l : List Edge). Tells (coalesces all) from to l c.sweep.new.answer.items) c.new-answer.ensures.items swept.1,
+      swept.1,
     )
 
 pub returns-clause-side : goal.returns-clause-side
 returns-clause-side c = λ from low s.
     let d = c.in_ok-due.ensures in
-    side_taken (cells_of c.args.left.now) from c.args.to c.args.self.now.queues c.sweep.new.queues c.args.self.now.waiting c.take_in.new.queue c.args.left.now.edges c.in_ok-due.due.items
+    side_taken (cells_of c.args.left.now) from c.args.to c.args.self.now.queues c.tell_due.new.queues c.args.self.now.waiting c.take_in.new.queue c.args.left.now.edges c.in_ok-due.due.items
     low s d.list.real d.cells d.parts (d.below s.timed) (d.rest s.timed) (d.timed s.timed)
-    (λ w. let f = c.in_ok-sweep.ensures.rows w in let e = ap (λ l. total w (started_rows l)) c.as_slice.ensures.value in omega (arith, f, e))
+    c.in_ok-told.ensures.rows

@@ -1,6 +1,6 @@
 use Rattle.std.specs.Prelude.{◌≡◌, [], ◌∷◌, cond, drop, length}
 use Rattle.std.proofs.Common.{sym, ◌∙◌, ap, subst, arith}
-use Rattle.tw_rows.specs.SameCells.{same_cells, cells_are_same}
+use Rattle.tw_rows.specs.SameCells.{same_cells}
 use Rattle.row_queues.specs.declared.few_rows.MarkedRow.{MarkedRow}
 use Rattle.row_queues.specs.Marked.{AreMarked, HasNone, IsFirst, held_rows}
 use Rattle.row_queues.specs.Queued.{queue_of}
@@ -13,14 +13,6 @@ returns-in_default-clause-none c =
     let same = c.as_slice.ensures.value in
     let none = subst (HasNone k) same (c.in_default.ensures.none (subst AreMarked (sym same) c.self.invariant)) in
     subst (λ l. queue_of l k ≡ []) c.self.view_is (no_queue k c.self.inside.rows.items none)
-
-pub returns-clause-cells : goal.returns-clause-cells
-returns-clause-cells c =
-    let k = c.args.cells.now in
-    let same = c.as_slice.ensures.value in
-    let x = c.remove-row.result in
-    let first = subst (λ l. IsFirst k l c.in-Some.place) same (c.in-Some.ensures.first (subst AreMarked (sym same) c.self.invariant)) in
-    sym (cells_are_same k x.cells (ap (λ (y : MarkedRow). same_cells k y.cells) c.remove-row.ensures.value ∙ first.1 x))
 
 pub returns-clause-first : goal.returns-clause-first
 returns-clause-first c =

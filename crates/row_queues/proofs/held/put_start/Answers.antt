@@ -2,7 +2,7 @@ use Rattle.tw_rows.specs.SameCells.{same_cells}
 use Rattle.row_queues.specs.Kept.{since_at}
 use Rattle.row_queues.specs.Queued.{queue_of}
 use Rattle.row_queues.proofs.HeldRows.{few_started, map_started}
-use Rattle.row_queues.proofs.held.start_one.Goals as goal
+use Rattle.row_queues.proofs.held.put_start.Goals as goal
 
 pub returns-then-goes_to_few-clause-since : goal.returns-then-goes_to_few-clause-since
 returns-then-goes_to_few-clause-since c = λ q.
