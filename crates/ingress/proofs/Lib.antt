@@ -19,3 +19,7 @@ mod HeldTimes
 mod SavedAll
 mod LoadedAll
 mod KeptExamples
+pub mod SliceEnds
+pub mod Below
+pub mod EndsFound
+mod SliceExamples

@@ -1,4 +1,4 @@
--- Callers read Fits, Times, Saving, Admits and what it stands on (Streams, Held, Keeping, OpenKeys); Ranks, Entering, Changes and Loaded are cited by
+-- Callers read Fits, Times, Saving, Slices, Admits and what it stands on (Streams, Held, Keeping, OpenKeys); Ranks, Entering, Changes and Loaded are cited by
 -- contracts of this crate alone.
 pub mod Streams
 pub mod Held
@@ -13,3 +13,6 @@ pub mod Counts
 pub mod Times
 pub mod Saving
 pub mod Loaded
+pub mod Slices
+pub mod Words
+pub mod Queued

@@ -5,14 +5,17 @@
 mod admitting;
 mod by_rank;
 mod entering;
+mod few_cells;
 mod held_laws;
 mod held_streams;
 mod ingress;
 mod ingress_laws;
 mod loading;
 mod opens;
+mod queued_edge;
 mod releasing;
 mod saving;
+mod slicing;
 mod waiting;
 mod watermarks;
 

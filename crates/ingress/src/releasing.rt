@@ -30,6 +30,7 @@ impl Ingress {
         ensures placed { IfOk result (λ lists. WhateverFollowed self.old (λ texts a given.
             (s : ℕ) → EdgesArePlaced texts (edges_at lists.items s))) }
         ensures lists { IfOk result (λ lists. AreListsOf self.old lists.items) }
+        ensures edges { IfOk result (λ lists. AreReleased p self.old.held.waiting.items lists.items) }
         ensures released { OnOk result (self.new.released ≡ p) }
         ensures err { OnErr result (self.new ≡ self.old) }
         ensures fixed { SameFixed self.old self.new }

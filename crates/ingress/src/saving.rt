@@ -17,11 +17,13 @@ use crate::by_rank::ByRank;
 use crate::held_streams::HeldStreams;
 use crate::ingress::Ingress;
 use crate::opens::{OpenKey, OpenStart, OpenStarts};
+use crate::queued_edge::QueuedEdge;
 use crate::waiting::Waiting;
 use carried_edges::save_edges;
 use edge_stream::{Saved, SavedEntry};
+use std::alloc::Global;
 use std::collections::VecDeque;
-use tw_rows::{Edge, Memory};
+use tw_rows::Memory;
 
 // The first part of a stream. So many streams that there is none have no room in memory.
 fn first_part(stream: usize) -> Result<u64, Memory>
@@ -48,12 +50,24 @@ impl ByRank {
 }
 
 // Adds the edges of a queue as entries of that part.
-fn save_queue(saved: &mut Saved, part: u64, queue: &VecDeque<Edge>) -> Result<(), Memory>
+fn save_queue(
+    saved: &mut Saved,
+    alloc: Global,
+    part: u64,
+    queue: &VecDeque<QueuedEdge>,
+) -> Result<(), Memory>
     ensures { OnOk result (saved.new ≡ saved.old ++ entries_of part queue.now.items) }
 {
-    let (first, rest) = queue.as_slices();
-    save_edges(saved, part, first)?;
-    save_edges(saved, part, rest)
+    for i in 0..queue.len() {
+        let edge = queue[i].to_edge(alloc)?;
+        saved.push(SavedEntry {
+            part,
+            sync: edge.sync,
+            other: edge.other,
+            cells: edge.cells,
+        })?;
+    }
+    Ok(())
 }
 
 impl Waiting {
@@ -61,7 +75,7 @@ impl Waiting {
     pub(crate) fn save(&self, saved: &mut Saved, part: u64) -> Result<(), Memory>
         ensures { OnOk result (saved.new ≡ saved.old ++ entries_of part self.now) }
     {
-        save_queue(saved, part, &self.queue)?;
+        save_queue(saved, self.alloc, part, &self.queue)?;
         self.others.save(saved, part)
     }
 }

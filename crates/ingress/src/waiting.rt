@@ -10,7 +10,8 @@ ghost use Rattle.edge_stream.specs.Listing.{cells_of, SameShape};
 ghost use Rattle.ingress.specs.Fits.{is_fit};
 ghost use Rattle.ingress.specs.Ranks.{TakesBatches, SamePools};
 
-use crate::by_rank::{ByRank, end_rank, is_start_of, rank_of};
+use crate::by_rank::{ByRank, end_rank, rank_of};
+use crate::queued_edge::QueuedEdge;
 use batch::Pools;
 use edge_stream::EdgeList;
 use std::alloc::Global;
@@ -18,11 +19,13 @@ use std::collections::VecDeque;
 use std::marker::Model;
 use tw_rows::{Cells, Edge, Memory, Time};
 
-/// Edges from which those before a time are taken first. One that comes in order is put last, and any other by its rank.
+/// Edges from which those before a time are taken first. One that comes in order is put last, in little room, and any other by
+/// its rank.
 #[derive(Drop)]
 pub struct Waiting {
-    pub(crate) queue: VecDeque<Edge>,
+    pub(crate) queue: VecDeque<QueuedEdge>,
     pub(crate) others: ByRank,
+    pub(crate) alloc: Global,
 }
 
 impl Model for Waiting {
@@ -38,31 +41,36 @@ impl Model for Waiting {
 }
 
 // Whether an edge of that rank comes after those of the queue.
-fn comes_last(queue: &VecDeque<Edge>, rank: u64) -> bool
+fn comes_last(queue: &VecDeque<QueuedEdge>, rank: u64) -> bool
     ensures { IsTrue result → Rises 0 queue.now.items → (edge : Edge) → edge_rank edge ≡ rank → Rises 0 (queue.now.items ++ edge ∷ []) }
 {
     match queue.back() {
-        Some(last) => rank_of(last) <= rank,
+        Some(last) => last.rank() <= rank,
         None => true,
     }
 }
 
-// How many edges come before the time.
-fn count_below(queue: &VecDeque<Edge>, t: Time) -> usize
+// How many edges of a queue in order come before the time.
+pub(crate) fn count_below(queue: &VecDeque<QueuedEdge>, t: Time) -> usize
     ensures within { result ≤ length queue.now.items }
-    ensures below { failing (is_below t) (take result queue.now.items) ≡ 0 }
+    ensures below { Rises 0 queue.now.items → failing (is_below t) (take result queue.now.items) ≡ 0 }
     ensures from { Rises 0 queue.now.items → failing (is_from t) (drop result queue.now.items) ≡ 0 }
 {
-    for i in 0..queue.len() {
-        if t <= queue[i].sync {
-            return i;
+    let mut low = 0;
+    let mut high = queue.len();
+    'halves: while low < high {
+        let middle = low + (high - low) / 2;
+        if queue[middle].sync() < t {
+            low = middle + 1;
+        } else {
+            high = middle;
         }
     }
-    queue.len()
+    low
 }
 
 // Takes the first edges out.
-fn drop_front(queue: &mut VecDeque<Edge>, count: usize)
+fn drop_front(queue: &mut VecDeque<QueuedEdge>, count: usize)
     ensures { queue.new.items ≡ drop count queue.old.items }
 {
     for _ in 0..count {
@@ -71,13 +79,13 @@ fn drop_front(queue: &mut VecDeque<Edge>, count: usize)
 }
 
 // The place of a start edge of these cells, if there is one.
-fn queue_place(queue: &VecDeque<Edge>, cells: &Cells, start: Time) -> Option<usize>
+fn queue_place(queue: &VecDeque<QueuedEdge>, cells: &Cells, start: Time) -> Option<usize>
     ensures within { IfSome result (λ i. i < length queue.now.items) }
     ensures some { IfSome result (λ i. (d : Edge) → starts_it cells.now start (get_or queue.now.items i d) ≡ true) }
     ensures none { IsNone result → (many (starts_it cells.now start) queue.now.items ≡ 0) }
 {
     for i in 0..queue.len() {
-        if is_start_of(&queue[i], cells, start) {
+        if queue[i].is_start_of(cells, start) {
             return Some(i);
         }
     }
@@ -85,7 +93,7 @@ fn queue_place(queue: &VecDeque<Edge>, cells: &Cells, start: Time) -> Option<usi
 }
 
 // Takes one start edge of these cells out, if there is one.
-fn remove_queued(queue: &mut VecDeque<Edge>, cells: &Cells, start: Time) -> bool
+fn remove_queued(queue: &mut VecDeque<QueuedEdge>, cells: &Cells, start: Time) -> bool
     ensures taken { IsTrue result → SameBag (record { sync = start; other = inf; cells = cells.now } ∷ queue.new.items) queue.old.items }
     ensures kept { result ≡ false → queue.new.items ≡ queue.old.items }
     ensures none { result ≡ false → many (starts_it cells.now start) queue.old.items ≡ 0 }
@@ -108,6 +116,7 @@ impl Waiting {
         Waiting {
             queue: VecDeque::new(alloc),
             others: ByRank::new(alloc),
+            alloc,
         }
     }
 
@@ -117,7 +126,8 @@ impl Waiting {
         ensures err { OnErr result (self.new ≡ self.old) }
     {
         if comes_last(&self.queue, rank_of(&edge)) {
-            self.queue.push_back(edge)?;
+            let queued = QueuedEdge::new(self.alloc, &edge)?;
+            self.queue.push_back(queued)?;
             return Ok(());
         }
         self.put_by_rank(edge)
@@ -167,10 +177,11 @@ impl Waiting {
         let count = count_below(&self.queue, t);
         let mut low = 0;
         for i in 0..count {
-            let edge = &self.queue[i];
-            let rank = rank_of(edge);
+            let queued = &self.queue[i];
+            let rank = queued.rank();
             self.others.append_between(pools, low, rank, list)?;
-            list.append(pools, edge)?;
+            let edge = queued.to_edge(self.alloc)?;
+            list.append(pools, &edge)?;
             low = rank;
         }
         self.others.append_between(pools, low, end_rank(t), list)

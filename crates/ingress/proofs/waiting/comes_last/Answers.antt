@@ -11,7 +11,7 @@ returns-in-Some c = λ up rises edge is.
     let some = c.in-Some.ensures.variant.0 refl in
     let long : deque_len q ≡ length q.items = (let ok = q.ok in omega (arith, ok)) in
     let at = subst (λ n. c.in-Some.last.now ≡ get_or q.items (n - 1) c.in-Some.last.now) long c.in-Some.ensures.lookup in
-    let r = c.rank_of.ensures in
+    let r = c.rank.ensures in
     let le : rank c.in-Some.last.now ≤ rank edge = grind (arith, nat_tests) in
     last_rises q.items c.in-Some.last.now edge (let ok = q.ok in omega (arith, some, ok)) at le rises
 

@@ -1,27 +1,42 @@
-use Rattle.std.specs.Prelude.{◌<◌, ◌≤◌}
+use Rattle.std.specs.Prelude.{◌<◌, ◌≤◌, ◌+◌, ◌-◌, ◌/◌, length}
 use Rattle.std.proofs.Common.{arith}
 use Rattle.std.proofs.lemmas.Bool.Decides.{nat_tests}
-use Rattle.ingress.proofs.Merged.{below_next, later_from}
+use Rattle.ingress.proofs.Below.{up_to_below}
+use Rattle.ingress.proofs.Merged.{later_from}
 use Rattle.ingress.proofs.waiting.count_below.Goals as goal
 
-pub loop-i-preserved : goal.loop-i-preserved
-loop-i-preserved c =
-    let q = c.args.queue.now in
-    let e = c.len-i-end.ensures in
-    let t = c.loop-i-test.true in
-    let k = q.ok in
-    let a = c.le.ensures in
-    let b = c.if-le.false in
+pub halves-preserved-then-lt : goal.halves-preserved-then-lt
+halves-preserved-then-lt c =
+    let items = c.args.queue.now.items in
+    let middle = c.halves.low + (c.halves.high - c.halves.low) / 2 in
+    let t = c.halves-test.true in
+    let w = c.halves.invariant.within in
+    let a = c.lt.ensures in
+    let s = c.sync.ensures in
+    let b = c.if-lt.true in
     let early : c.index.result.now.sync < c.args.t = grind (arith, nat_tests) in
-    below_next c.args.t q.items c.loop-i.i c.index.result.now (omega (arith, e, t, k)) c.index.ensures early c.loop-i.invariant
+    let low : middle < length items = omega (arith, t, w) in
+    record {
+      ordered = omega (arith, t);
+      within = w;
+      below = λ rises. up_to_below c.args.t items middle c.index.result.now (middle + 1) rises low c.index.ensures early (omega arith);
+      from = c.halves.invariant.from;
+    }
 
-pub returns-then-le-clause-from : goal.returns-then-le-clause-from
-returns-then-le-clause-from c = λ rises.
-    let q = c.args.queue.now in
-    let e = c.len-i-end.ensures in
-    let t = c.loop-i-test.true in
-    let k = q.ok in
-    let a = c.le.ensures in
-    let b = c.if-le.true in
+pub halves-preserved : goal.halves-preserved
+halves-preserved c =
+    let items = c.args.queue.now.items in
+    let middle = c.halves.low + (c.halves.high - c.halves.low) / 2 in
+    let t = c.halves-test.true in
+    let w = c.halves.invariant.within in
+    let a = c.lt.ensures in
+    let s = c.sync.ensures in
+    let b = c.if-lt.false in
     let late : c.args.t ≤ c.index.result.now.sync = grind (arith, nat_tests) in
-    later_from c.args.t q.items c.loop-i.i c.index.result.now (omega (arith, e, t, k)) c.index.ensures late rises
+    let low : middle < length items = omega (arith, t, w) in
+    record {
+      ordered = omega (arith, t);
+      within = omega (arith, t, w);
+      below = c.halves.invariant.below;
+      from = λ rises. later_from c.args.t items middle c.index.result.now low c.index.ensures late rises;
+    }
