@@ -17,6 +17,8 @@ pub mod CoalescedStarts
 pub mod MayHold
 pub mod PlanHold
 pub mod Bounding
+pub mod Slicing
+pub mod Below
 pub mod Sure
 pub mod RowNodes
 pub mod LastRead

@@ -2,33 +2,33 @@
 use Rattle.std.specs.Prelude.{◌≡◌, ℕ, zero, suc, ◌+◌, ◌<◌, ◌≤◌, Bool, Some, None, List, [], ◌++◌, length, get_or, slice_get, slice_set}
 use Rattle.std.proofs.Common.{refl, sym, ap, subst, ◌∙◌, arith, inl, inr}
 use Rattle.std.proofs.lemmas.Bool.{cases_lt}
-use Rattle.std.proofs.lemmas.List.{get_or-set_same, get_or-set_other}
-use Rattle.std.proofs.lemmas.Option.{slice_get-get_or, slice_get_within, get_or_from_slice_get}
+use Rattle.std.proofs.lemmas.List.{get_or-set_same, get_or-set_other, length-set}
+use Rattle.std.proofs.lemmas.Option.{slice_get-get_or, get_or_from_slice_get}
 use Rattle.tw_rows.specs.Cells.{ArePlaced}
 use Rattle.tw_rows.specs.Instant.{inf}
 use Rattle.tw_rows.specs.declared.edge.Edge.{Edge}
 use Rattle.tw_rows.specs.declared.kind.CellKind.{CellKind}
-use Rattle.edge_history.specs.Order.{is_from, failing}
 use Rattle.edge_stream.specs.Listing.{EdgeListView, cells_of}
 use Rattle.edge_stream.proofs.Placed.{All-right}
 use Rattle.plan_model.specs.declared.node.Node.{Node}
 use Rattle.plan_model.specs.declared.node.Node.TheVariants.{Source}
 use Rattle.plan_model.specs.IsPlan.{PlanParts, IsPlan, kinds_at, node_kinds}
-use Rattle.plan_model.specs.Meaning.{Sources, left_of, right_of, right_child, closes}
+use Rattle.plan_model.specs.Meaning.{Sources, left_of, right_of, right_child}
 use Rattle.plan_model.proofs.Closings.{left_rises, right_rises}
 use Rattle.plan_model.proofs.Kept.{IsPlan-ordered}
 use Rattle.plan_model.proofs.Plans.{left_of_below, at_child_below}
-use Rattle.plan_laws.specs.Undefined.{overflow}
 use Rattle.node_laws.specs.Places.{AreDistinct, EdgesArePlaced}
 use Rattle.node_laws.specs.Standing.{SourcesStandRead}
 use Rattle.dataflow.specs.declared.stage.Stage.{Stage}
 use Rattle.dataflow.specs.Lists.{longer, AreFrom, IsListOf}
 use Rattle.dataflow.specs.Stages.{reached, left_closing, right_closing, left_kinds, right_kinds, IsReady, CanTake, StageKeeps, KeepsOn, StaysReady, IsUndefinedAt, IsAnswerOf}
-use Rattle.dataflow.specs.Flows.{AreReady, CanStep, Flows, HasFlowed, parts_of}
+use Rattle.dataflow.specs.Slices.{overflow_under}
+use Rattle.dataflow.specs.Flows.{parts_of}
+use Rattle.dataflow.specs.Below.{AreReadyBelow, KeepBelow, FlowBelow, HasFlowedBelow}
 use Rattle.dataflow.specs.Held.{IsListWith, HeldBefore, HeldBetween}
 use Rattle.dataflow.proofs.HeldLists.{with_list, with_list-at, with_list-below}
 use Rattle.dataflow.proofs.Flowing.{Progress, progress_same, progress_next, first_found, reached_below}
-use Rattle.dataflow.proofs.Undefining.{no_overflow, overflow_at}
+use Rattle.dataflow.proofs.Undefining.{none_under, overflow_at}
 
 pub reached_after : (last p c : ℕ) → last < p → reached p c ≡ c
 reached_after last zero c later = absurd (omega (arith, later))
@@ -39,14 +39,18 @@ ready_as texts c d k l j m n s x y e f g h = subst (λ z. IsReady texts d l z n 
 
 module _ (texts : List (List ℕ)) (plan : PlanParts) (whole : IsPlan plan) (capacity p : ℕ) (within : p ≤ inf) (i : ℕ) (n : Node) (there : slice_get plan.nodes i ≡ Some n) (given more : ℕ → List Edge)
     (left right : EdgeListView) (is_left : IsListWith texts capacity (left_kinds plan n) (left_of [] given more n) left) (is_right : IsListWith texts capacity (right_kinds plan n) (right_of [] more n) right)
-    (stages : List Stage) (s : Stage) (at : slice_get stages i ≡ Some s) (u v : ℕ) (eu : u ≡ left_closing plan.nodes p n) (ev : v ≡ right_closing plan.nodes p n) where
-  ready_in : (last : ℕ) → AreReady texts capacity plan last stages →
+    (s : Stage) (u v : ℕ) (eu : u ≡ left_closing plan.nodes p n) (ev : v ≡ right_closing plan.nodes p n) where
+  -- it can take a step, once the punctuation `last` was worked through
+  abbrev ReadyAt : ℕ → Type 0
+  ReadyAt last = IsReady texts capacity (left_kinds plan n) (right_kinds plan n) n s (reached last (left_closing plan.nodes last n)) (reached last (right_closing plan.nodes last n))
+
+  ready_in : (last : ℕ) → ReadyAt last →
       IsReady texts left.capacity (cells_of left) (cells_of right) n s (reached last (left_closing plan.nodes last n)) (reached last (right_closing plan.nodes last n))
   ready_in last ready =
       ready_as texts capacity left.capacity (left_kinds plan n) (cells_of left) (right_kinds plan n) (cells_of right) n s _ _
-      (sym is_left.list.rows) (sym is_left.list.cells) (sym is_right.list.cells) (ready i n s there at)
+      (sym is_left.list.rows) (sym is_left.list.cells) (sym is_right.list.cells) ready
 
-  pub can_take : (last : ℕ) → AreReady texts capacity plan last stages → last < p → CanTake texts left right s u v
+  pub can_take : (last : ℕ) → ReadyAt last → last < p → CanTake texts left right s u v
   can_take last ready later = record {
     node = n;
     x = reached last (left_closing plan.nodes last n);
@@ -59,7 +63,7 @@ module _ (texts : List (List ℕ)) (plan : PlanParts) (whole : IsPlan plan) (cap
   }
 
   -- what it answers is a list of its columns
-  pub answer_is : (last : ℕ) → AreReady texts capacity plan last stages → (answer : EdgeListView) → IsAnswerOf texts left right s answer → EdgesArePlaced texts answer.edges → answer.capacity ≡ left.capacity →
+  pub answer_is : (last : ℕ) → ReadyAt last → (answer : EdgeListView) → IsAnswerOf texts left right s answer → EdgesArePlaced texts answer.edges → answer.capacity ≡ left.capacity →
       IsListOf texts capacity (kinds_at plan.schemas i) answer
   answer_is last ready answer kinds placed rows = record {
     cells = kinds n _ _ (ready_in last ready)
@@ -71,7 +75,7 @@ module _ (texts : List (List ℕ)) (plan : PlanParts) (whole : IsPlan plan) (cap
   }
 
   -- it is ready for the next step
-  pub ready_out : (last : ℕ) → AreReady texts capacity plan last stages → (new : Stage) → StaysReady texts left right s new u v →
+  pub ready_out : (last : ℕ) → ReadyAt last → (new : Stage) → StaysReady texts left right s new u v →
       IsReady texts capacity (left_kinds plan n) (right_kinds plan n) n new (left_closing plan.nodes p n) (right_closing plan.nodes p n)
   ready_out last ready new stays =
       subst (λ x. IsReady texts capacity (left_kinds plan n) (right_kinds plan n) n new x (right_closing plan.nodes p n)) eu
@@ -81,13 +85,13 @@ module _ (texts : List (List ℕ)) (plan : PlanParts) (whole : IsPlan plan) (cap
       (stays.stays n _ _ (ready_in last ready))))
 
   module _ (last : ℕ) (source : Sources) (old lists : ℕ → List Edge) (distinct : AreDistinct texts) (later : last < p) (from : SourcesStandRead texts p source (longer old given)) (begun : AreFrom last given)
-      (ready : AreReady texts capacity plan last stages)
+      (ready : ReadyAt last)
       (kept : StageKeeps texts n s (reached last (left_closing plan.nodes last n)) (reached last (right_closing plan.nodes last n)) (left_of [] old lists n) (right_of [] lists n) (lists i))
       (now : List Stage) (so_far : Progress texts plan last p source old given lists more now i) where
     -- where it is undefined
-    pub undefined_found : (time : ℕ) → IsUndefinedAt texts left right s u v (Some time) → i < length plan.nodes → overflow source plan.nodes p ≡ Some (record { node = i; time = time })
-    undefined_found time h low =
-        overflow_at source plan.nodes p i time low
+    pub undefined_found : (count time : ℕ) → IsUndefinedAt texts left right s u v (Some time) → i < count → overflow_under source plan.nodes p count ≡ Some (record { node = i; time = time })
+    undefined_found count time h low =
+        overflow_at source plan.nodes p count i time low
         (first_found texts plan last p source old given lists whole distinct later within from begun more now i so_far n there left right is_left.same is_right.same s (ready_in last ready) kept (Some time)
         (subst (λ z. IsUndefinedAt texts left right s z (right_closing plan.nodes p n) (Some time)) eu (subst (λ z. IsUndefinedAt texts left right s u z (Some time)) ev h)))
         so_far.defined
@@ -136,46 +140,62 @@ ready_next texts plan capacity p now i n there new low before here j m d lower a
     one_of : (nodes : List Node) (k : ℕ) (x y : Node) → slice_get nodes k ≡ Some x → slice_get nodes k ≡ Some y → x ≡ y
     one_of nodes k x y a b = cc
 
--- all nodes have taken their steps
-module _ (texts : List (List ℕ)) (plan : PlanParts) (last p : ℕ) (later : last < p) (before after : List Stage) (capacity : ℕ) (thawed : Bool) (can : CanStep texts last (parts_of plan before capacity thawed))
-    (long : length after ≡ length before)
-    (ready : (j : ℕ) (m : Node) (d : Stage) → j < length plan.nodes → slice_get plan.nodes j ≡ Some m → IsReady texts capacity (left_kinds plan m) (right_kinds plan m) m (get_or after j d) (left_closing plan.nodes p m) (right_closing plan.nodes p m)) where
-  low_of : (j : ℕ) (m : Node) → slice_get plan.nodes j ≡ Some m → j < length plan.nodes
-  low_of j m at = slice_get_within plan.nodes j m at
-
-  pub can_again : CanStep texts p (parts_of plan after capacity thawed)
+-- the first n nodes have taken their steps
+module _ (texts : List (List ℕ)) (plan : PlanParts) (last p n : ℕ) (later : last < p) (after : List Stage) (capacity : ℕ) (each : length after ≡ length plan.nodes) (room : 1 ≤ capacity)
+    (ready : (j : ℕ) (m : Node) (d : Stage) → j < n → slice_get plan.nodes j ≡ Some m → IsReady texts capacity (left_kinds plan m) (right_kinds plan m) m (get_or after j d) (left_closing plan.nodes p m) (right_closing plan.nodes p m)) where
+  pub can_again : AreReadyBelow texts p n plan after capacity
   can_again = record {
-    count = long ∙ can.count;
-    fine = refl;
-    room = can.room;
-    ready = λ j m s at here.
+    count = each;
+    room = room;
+    ready = λ j m s low at here.
         subst (λ x. IsReady texts capacity (left_kinds plan m) (right_kinds plan m) m s x (reached p (right_closing plan.nodes p m))) (sym (reached_after last p (left_closing plan.nodes p m) later))
         (subst (λ y. IsReady texts capacity (left_kinds plan m) (right_kinds plan m) m s (left_closing plan.nodes p m) y) (sym (reached_after last p (right_closing plan.nodes p m) later))
         (subst (λ x. IsReady texts capacity (left_kinds plan m) (right_kinds plan m) m x (left_closing plan.nodes p m) (right_closing plan.nodes p m)) (get_or_from_slice_get after j s s here)
-        (ready j m s (low_of j m at) at)));
+        (ready j m s low at)));
   }
 
-  module _ (whole : IsPlan plan) (source : Sources) (old given lists more : ℕ → List Edge) (so_far : Progress texts plan last p source old given lists more after (length plan.nodes)) where
-    pub flows_again : Flows texts p (longer old given) (longer lists more) (parts_of plan after capacity thawed)
+  module _ (source : Sources) (old given lists more : ℕ → List Edge) (so_far : Progress texts plan last p source old given lists more after n) where
+    pub flows_again : KeepBelow texts p n (longer old given) (longer lists more) plan after capacity
     flows_again = record {
       can = can_again;
-      first = λ none k. absurd (omega (arith, none, later));
-      kept = λ j m s at here.
+      kept = λ j m s low at here.
           subst (λ x. StageKeeps texts m s x (reached p (right_closing plan.nodes p m)) (left_of [] (longer old given) (longer lists more) m) (right_of [] (longer lists more) m) (longer lists more j)) (sym (reached_after last p (left_closing plan.nodes p m) later))
           (subst (λ y. StageKeeps texts m s (left_closing plan.nodes p m) y (left_of [] (longer old given) (longer lists more) m) (right_of [] (longer lists more) m) (longer lists more j)) (sym (reached_after last p (right_closing plan.nodes p m) later))
           (subst (λ x. StageKeeps texts m x (left_closing plan.nodes p m) (right_closing plan.nodes p m) (left_of [] (longer old given) (longer lists more) m) (right_of [] (longer lists more) m) (longer lists more j)) (get_or_from_slice_get after j s s here)
-          (so_far.kept j m s (low_of j m at) at)));
+          (so_far.kept j m s low at)));
     }
 
-    pub has_flowed : (out : List Edge) → out ≡ more plan.root → HasFlowed texts last p source old given lists (parts_of plan after capacity thawed) out
-    has_flowed out root = record {
+    pub has_flowed : (thawed : Bool) (made : List EdgeListView) → ((l : EdgeListView) → plan.root < n → (get_or made plan.root l).edges ≡ more plan.root) →
+        HasFlowedBelow texts last p n source old given lists (parts_of plan after capacity thawed) made
+    has_flowed thawed made root = record {
       more = more;
       flows = flows_again;
       stand = so_far.stand;
+      later = so_far.from;
+      defined = none_under source plan.nodes p n so_far.defined;
       root = root;
-      later = subst (λ l. failing (is_from (reached last (closes plan.nodes plan.root last))) l ≡ 0) (sym root) (so_far.from plan.root whole.rooted);
-      defined = no_overflow source plan.nodes p so_far.defined;
     }
+
+-- a node failed: those before it stand as they did when it was their turn
+module _ (texts : List (List ℕ)) (plan : PlanParts) (whole : IsPlan plan) (last p i : ℕ) (later : last < p) (within : p ≤ inf) (now : List Stage) (new : Stage) (capacity : ℕ) (each : length now ≡ length plan.nodes) (room : 1 ≤ capacity)
+    (ready : (j : ℕ) (m : Node) (d : Stage) → j < i → slice_get plan.nodes j ≡ Some m → IsReady texts capacity (left_kinds plan m) (right_kinds plan m) m (get_or now j d) (left_closing plan.nodes p m) (right_closing plan.nodes p m)) where
+  others : (j : ℕ) (d : Stage) → j < i → get_or (slice_set now i new) j d ≡ get_or now j d
+  others j d low = get_or-set_other now i j new d (λ e. absurd (omega (arith, low, e)))
+
+  ready_others : (j : ℕ) (m : Node) (d : Stage) → j < i → slice_get plan.nodes j ≡ Some m → IsReady texts capacity (left_kinds plan m) (right_kinds plan m) m (get_or (slice_set now i new) j d) (left_closing plan.nodes p m) (right_closing plan.nodes p m)
+  ready_others j m d low at =
+      subst (λ s. IsReady texts capacity (left_kinds plan m) (right_kinds plan m) m s (left_closing plan.nodes p m) (right_closing plan.nodes p m)) (sym (others j d low)) (ready j m d low at)
+
+  pub stopped_can : AreReadyBelow texts p i plan (slice_set now i new) capacity
+  stopped_can = can_again texts plan last p i later (slice_set now i new) capacity (length-set now i new ∙ each) room ready_others
+
+  pub stopped_flow : (thawed : Bool) (source : Sources) (old given lists more : ℕ → List Edge) → AreDistinct texts → SourcesStandRead texts p source (longer old given) → AreFrom last given →
+      Progress texts plan last p source old given lists more now i → FlowBelow texts p i old given lists (parts_of plan (slice_set now i new) capacity thawed)
+  stopped_flow thawed source old given lists more distinct from begun so_far = record {
+    more = more;
+    flows = flows_again texts plan last p i later (slice_set now i new) capacity (length-set now i new ∙ each) room ready_others source old given lists more
+        (progress_same texts plan last p source old given lists whole distinct later within from begun more more now (slice_set now i new) i (λ k low. refl) others so_far);
+  }
 
 -- what the node of number i reads, and what is held then
 pub record Reads (texts : List (List ℕ)) (capacity : ℕ) (plan : PlanParts) (i : ℕ) (given more : ℕ → List Edge) (n : Node) (left right : EdgeListView) (streams made : List EdgeListView) : Type 0 where

@@ -1,5 +1,5 @@
 -- Instants at which the nodes of a plan are undefined, as their stages find them.
-use Rattle.std.specs.Prelude.{◌≡◌, ℕ, ◌<◌, ◌≤◌, Bool, true, false, is_some, IsTrue, Option, Some, None, List, [], length, slice_get}
+use Rattle.std.specs.Prelude.{◌≡◌, ℕ, ◌<◌, ◌≤◌, Bool, true, false, is_some, IsTrue, Option, Some, None, List, [], slice_get}
 use Rattle.std.proofs.Common.{refl, sym, ap, subst, ◌∙◌, arith, inl, inr}
 use Rattle.std.proofs.lemmas.Bool.{cases_lt}
 use Rattle.tw_rows.specs.Bag.{SameBag}
@@ -18,10 +18,11 @@ use Rattle.plan_model.proofs.Kept.{IsPlan-ordered}
 use Rattle.plan_model.proofs.Levels.{IsPlan-levelled}
 use Rattle.plan_model.proofs.PlanLaws.{events_agree}
 use Rattle.plan_model.proofs.Plans.{over_nodes-is, left_all}
-use Rattle.plan_laws.specs.Undefined.{is_group, undefined_over, left_rows, undefined_node, undefined_at, first_below, first_undefined, overflow_of, overflow_there, overflow}
+use Rattle.plan_laws.specs.Undefined.{is_group, undefined_over, left_rows, undefined_node, undefined_at, first_below, first_undefined, overflow_of, overflow_there}
 use Rattle.plan_laws.proofs.Undefinedness.{undefined_others, undefined_alike, undefined_known, first_below_same, IsFirst, first_below_is}
 use Rattle.node_laws.specs.Places.{read_of}
 use Rattle.node_laws.specs.Standing.{StandsRead}
+use Rattle.dataflow.specs.Slices.{overflow_under}
 use Rattle.dataflow.specs.Stages.{left_closing, right_closing, first_undefined_read}
 
 -- a group is closed where its child is
@@ -99,9 +100,9 @@ module _ (first : ℕ → Option ℕ) where
         ]
       ]
 
-pub no_overflow : (source : Sources) (nodes : List Node) (p : ℕ) → ((j : ℕ) → j < length nodes → first_undefined source nodes j (closes nodes j p) ≡ None) → overflow source nodes p ≡ None
-no_overflow source nodes p none = none_there (λ i. first_undefined source nodes i (closes nodes i p)) (length nodes) none
+pub none_under : (source : Sources) (nodes : List Node) (p count : ℕ) → ((j : ℕ) → j < count → first_undefined source nodes j (closes nodes j p) ≡ None) → overflow_under source nodes p count ≡ None
+none_under source nodes p count none = none_there (λ i. first_undefined source nodes i (closes nodes i p)) count none
 
-pub overflow_at : (source : Sources) (nodes : List Node) (p i time : ℕ) → i < length nodes → first_undefined source nodes i (closes nodes i p) ≡ Some time →
-    ((j : ℕ) → j < i → first_undefined source nodes j (closes nodes j p) ≡ None) → overflow source nodes p ≡ Some (record { node = i; time = time })
-overflow_at source nodes p i time low here none = some_there (λ i. first_undefined source nodes i (closes nodes i p)) (length nodes) i time low here none
+pub overflow_at : (source : Sources) (nodes : List Node) (p count i time : ℕ) → i < count → first_undefined source nodes i (closes nodes i p) ≡ Some time →
+    ((j : ℕ) → j < i → first_undefined source nodes j (closes nodes j p) ≡ None) → overflow_under source nodes p count ≡ Some (record { node = i; time = time })
+overflow_at source nodes p count i time low here none = some_there (λ i. first_undefined source nodes i (closes nodes i p)) count i time low here none

@@ -1,10 +1,13 @@
--- Callers read Faults, Lists, Stages, Shards, Flows and Saving; private contracts alone cite Operating, Held, Readers and Closings.
+-- Callers read Faults, Lists, Stages, Shards, Flows, Slices, Below and Saving; private contracts alone cite Operating, Held,
+-- Readers and Closings.
 pub mod Faults
 pub mod Lists
 pub mod Operating
 pub mod Stages
 pub mod Shards
 pub mod Flows
+pub mod Slices
+pub mod Below
 pub mod Held
 pub mod Readers
 pub mod Closings

@@ -1,5 +1,6 @@
 // A plan at work.
-ghost use Rattle.std.specs.Prelude.{◌≡◌, ◌<◌, ◌≤◌, ℕ, true, false, Some, None, Err, List, [], map, slice_get, IfOk, IfErr, OnOk, OnErr};
+ghost use Rattle.std.specs.Prelude.{◌≡◌, ◌≢◌, ◌<◌, ◌≤◌, ℕ, true, false, Some, None, Err, List, [], map, length, slice_get};
+ghost use Rattle.std.specs.Prelude.{IfOk, IfErr, OnOk, OnErr};
 ghost use Rattle.tw_rows.specs.Texts.{BeginsWith};
 ghost use Rattle.tw_rows.specs.declared.edge.Edge.{Edge};
 ghost use Rattle.plan_model.specs.declared.node.Node.{Node};
@@ -12,13 +13,14 @@ ghost use Rattle.dataflow.specs.declared.stage.Stage.{Stage as Kept};
 ghost use Rattle.dataflow.specs.Stages.{StandsAsMade};
 ghost use Rattle.dataflow.specs.Shards.{RunAll};
 ghost use Rattle.dataflow.specs.Flows.{CanStep, MayStep, StepsOn, Flows, GivesOn, OverflowsAt, held_from};
+ghost use Rattle.dataflow.specs.Below.{MayStepBelow, StopsAt, UnderNone, OverflowsUnder};
 ghost use Rattle.dataflow.specs.Saving.{SavesAll, AreStates, AreStored, FlowsResume};
 ghost use Rattle.dataflow.specs.Held.{AreFresh, nodes_in_all};
 
 use crate::fault::PlanFault;
 use crate::saving::{load_all, save_all};
 use crate::stage::Stage;
-use crate::steps::{are_all_sure, step_all};
+use crate::steps::{are_all_sure, step_all, step_nodes};
 use batch::Pools;
 use edge_stream::{EdgeList, LoadFault, Saved};
 use plan_model::Plan;
@@ -125,6 +127,20 @@ fn fault_in(answer: &Result<EdgeList, PlanFault>) -> Option<PlanFault>
     }
 }
 
+// The fault that is kept behind a further step: its own, or else the one before.
+fn fault_behind(
+    before: Option<PlanFault>,
+    stepped: &Result<Vec<EdgeList>, PlanFault>,
+) -> Option<PlanFault>
+    ensures ok { OnOk stepped.now (result ≡ before) }
+    ensures err { IfErr stepped.now (λ fault. result ≡ Some fault) }
+{
+    match stepped {
+        Ok(_) => before,
+        Err(fault) => Some(*fault),
+    }
+}
+
 impl Dataflow {
     /// The plan with a stage for each of its nodes, for batches of `capacity` rows, a node with a key in a shard for each
     /// worker. The texts of its expressions come into the table, and stay there out of memory.
@@ -211,6 +227,8 @@ impl Dataflow {
         ensures can { OnOk result (StepsOn texts.now p self.old self.new) }
         ensures overflow { self.old.fault ≡ None → IfErr result (λ fault. (node time : ℕ) → fault ≡ PlanFault.Overflow node time →
             OverflowsAt texts.now p (edges_at given.items) self.old node time) }
+        ensures stopped { self.old.fault ≡ None → IfErr result (λ fault. (node time : ℕ) → fault ≡ PlanFault.Overflow node time →
+            StopsAt texts.now p (edges_at given.items) node self.old self.new) }
         ensures kept { IfErr result (λ fault. self.new.fault ≡ Some fault) }
         ensures again { (fault : PlanFault) → self.old.fault ≡ Some fault → result ≡ Err fault }
         ensures list { IfOk result (λ out.
@@ -243,6 +261,63 @@ impl Dataflow {
         );
         self.fault = fault_in(&stepped);
         stepped
+    }
+
+    /// After a step that failed: one step more of the nodes below `node`, at the later punctuation `p`, with all edges before
+    /// it that were not given yet. The fault is that of the lowest of them that overflows by then. A fault stays kept: this
+    /// one, or else the one that was.
+    pub fn step_below<R: Threads + Sync, G: Gate>(
+        &mut self,
+        rt: &R,
+        gate: &G,
+        pools: &mut Pools,
+        texts: &TextTable,
+        node: usize,
+        given: Vec<EdgeList>,
+        p: Time,
+    ) -> Result<(), PlanFault>
+        requires failed { self.old.fault ≢ None }
+        requires node { node ≤ length self.old.plan.nodes }
+        requires may { MayStepBelow texts.now p node (edges_at given.items) self.old }
+        requires given { AreOfStreams self.old.capacity self.old.plan given.items }
+        requires placed { self.old.thawed ≡ false → (s : ℕ) → EdgesArePlaced texts.now (edges_at given.items s) }
+        requires capacity { pools.old.capacity ≡ self.old.capacity }
+        requires limit { most_columns ≤ pools.old.limit }
+        ensures none { OnOk result (UnderNone texts.now p node (edges_at given.items) self.old) }
+        ensures overflow { IfErr result (λ fault. (lower time : ℕ) → fault ≡ PlanFault.Overflow lower time →
+            OverflowsUnder texts.now p node (edges_at given.items) self.old lower time) }
+        ensures kept { IfErr result (λ fault. self.new.fault ≡ Some fault) }
+        ensures stays { OnOk result (self.new.fault ≡ self.old.fault) }
+        ensures plan { self.new.plan ≡ self.old.plan }
+        ensures capacity { self.new.capacity ≡ self.old.capacity }
+        ensures workers { self.new.workers ≡ self.old.workers }
+        ensures thawed { self.new.thawed ≡ self.old.thawed }
+        ensures pools { pools.new.capacity ≡ pools.old.capacity }
+        ensures limit { pools.new.limit ≡ pools.old.limit }
+    {
+        if !are_all_sure(self.thawed, &given, texts) {
+            self.fault = Some(PlanFault::Memory);
+            return Err(PlanFault::Memory);
+        }
+        let stepped = step_nodes(
+            rt,
+            gate,
+            self.alloc,
+            pools,
+            texts,
+            &self.plan,
+            &mut self.stages,
+            self.thawed,
+            given,
+            p,
+            node,
+        );
+        self.fault = fault_behind(self.fault, &stepped);
+        match stepped {
+            Ok(_made) => {}
+            Err(fault) => return Err(fault),
+        }
+        Ok(())
     }
 }
 

@@ -1,18 +1,21 @@
 // The laws of plans at work. Each is a function that does nothing; its clauses are the law.
 ghost use Rattle.std.specs.Prelude.{◌≡◌, ℕ, ◌<◌, ◌≤◌, true, Some, List, length, slice_get};
+ghost use Rattle.tw_rows.specs.Instant.{inf};
 ghost use Rattle.tw_rows.specs.Texts.{BeginsWith};
 ghost use Rattle.tw_rows.specs.declared.edge.Edge.{Edge};
 ghost use Rattle.tw_rows.specs.declared.kind.CellKind.{CellKind};
 ghost use Rattle.plan_model.specs.declared.node.Node.{Node};
 ghost use Rattle.plan_model.specs.IsPlan.{IsPlan};
-ghost use Rattle.plan_model.specs.Meaning.{Sources};
+ghost use Rattle.plan_model.specs.Meaning.{Sources, IsOrdered};
 ghost use Rattle.plan_laws.specs.Held.{node_may_hold};
+ghost use Rattle.plan_laws.specs.Undefined.{Overflow, overflow};
 ghost use Rattle.node_laws.specs.Places.{AreDistinct, EdgesArePlaced};
 ghost use Rattle.node_laws.specs.Standing.{SourcesStandRead, AllStandRead};
 ghost use Rattle.row_stage.specs.Stages.{is_of_rows};
 ghost use Rattle.dataflow.specs.declared.stage.Stage.{Stage as Kept};
 ghost use Rattle.dataflow.specs.Stages.{IsReady, entries_in, KeepsAtMost};
 ghost use Rattle.dataflow.specs.Flows.{DataflowView, CanStep, Flows};
+ghost use Rattle.dataflow.specs.Slices.{overflow_under, or_this};
 
 use anti_join::Anti;
 use clip_op::Clip;
@@ -48,6 +51,13 @@ pub fn answers_stand()
     ensures { (texts : List (List ℕ)) (last : ℕ) (source : Sources) (given lists : ℕ → List Edge) (d : DataflowView) →
         IsPlan d.plan → AreDistinct texts → Flows texts last given lists d → SourcesStandRead texts last source given →
         AllStandRead texts d.plan.nodes last source lists (length d.plan.nodes) }
+{}
+
+/// Where a node overflows in a slice of an epoch, which ends at x, the overflow of the epoch, which ends at p, is that of the
+/// lowest node below it that overflows by p, and where there is none this one.
+pub fn overflows_stay()
+    ensures { (source : Sources) (nodes : List Node) (x p : ℕ) (o : Overflow) → IsOrdered nodes → x ≤ p → p ≤ inf →
+        overflow source nodes x ≡ Some o → overflow source nodes p ≡ Some (or_this o (overflow_under source nodes p o.node)) }
 {}
 
 /// The stage of a Source, a Where or a Select keeps nothing of one step for the next.

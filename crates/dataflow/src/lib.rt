@@ -17,7 +17,7 @@ mod steps;
 pub use dataflow::Dataflow;
 pub use fault::PlanFault;
 pub use laws::{
-    answers_have_their_places, answers_stand, plans_flow_on_with_longer_tables, plans_keep_at_most,
-    row_stages_keep_nothing, stages_keep_at_most,
+    answers_have_their_places, answers_stand, overflows_stay, plans_flow_on_with_longer_tables,
+    plans_keep_at_most, row_stages_keep_nothing, stages_keep_at_most,
 };
 pub use stage::Stage;

@@ -6,6 +6,7 @@ ghost use Rattle.dataflow.specs.Faults.{fault_at};
 ghost use Rattle.dataflow.specs.Lists.{edges_at, AreGiven, IsListOf};
 ghost use Rattle.dataflow.specs.Shards.{RunAll};
 ghost use Rattle.dataflow.specs.Flows.{parts_of, MayStep, StepsOn, GivesOn, OverflowsAt};
+ghost use Rattle.dataflow.specs.Below.{MayStepBelow, GivesBelow, StepsBelow, AreMade, StopsAt, StopsUnder, OverflowsUnder};
 
 use crate::closings::{closings_at, left_closing, right_closing};
 use crate::fault::PlanFault;
@@ -53,8 +54,8 @@ pub(crate) fn are_all_sure(thawed: bool, lists: &[EdgeList], texts: &TextTable) 
     true
 }
 
-// One step of each node of a plan, in order of number.
-pub(crate) fn step_all<R: Threads + Sync, G: Gate>(
+/// One step of each of the first `count` nodes of a plan, in order of number: what each made, as long as no later one took it.
+pub(crate) fn step_nodes<R: Threads + Sync, G: Gate>(
     rt: &R,
     gate: &G,
     alloc: Global,
@@ -65,19 +66,27 @@ pub(crate) fn step_all<R: Threads + Sync, G: Gate>(
     thawed: bool,
     mut given: Vec<EdgeList>,
     p: Time,
-) -> Result<EdgeList, PlanFault>
-    requires may { MayStep texts.now p (edges_at given.items) (parts_of plan.now stages.old.items pools.old.capacity thawed) }
+    count: usize,
+) -> Result<Vec<EdgeList>, PlanFault>
+    requires count { count ≤ length plan.now.nodes }
+    requires may { MayStepBelow texts.now p count (edges_at given.items)
+        (parts_of plan.now stages.old.items pools.old.capacity thawed) }
     requires given { AreGiven texts.now pools.old.capacity plan.now given.items }
     requires limit { most_columns ≤ pools.old.limit }
-    ensures flowed { IfOk result (λ out. GivesOn texts.now p (edges_at given.items)
+    ensures flowed { IfOk result (λ made. GivesBelow texts.now p count (edges_at given.items)
         (parts_of plan.now stages.old.items pools.old.capacity thawed)
-        (parts_of plan.now stages.new.items pools.old.capacity thawed) out.edges) }
-    ensures can { OnOk result (StepsOn texts.now p (parts_of plan.now stages.old.items pools.old.capacity thawed)
+        (parts_of plan.now stages.new.items pools.old.capacity thawed) made.items) }
+    ensures can { OnOk result (StepsBelow texts.now p count (parts_of plan.now stages.old.items pools.old.capacity thawed)
+        (parts_of plan.now stages.new.items pools.old.capacity thawed)) }
+    ensures made { IfOk result (λ made. AreMade texts.now pools.old.capacity plan.now count made.items) }
+    ensures stopped { IfErr result (λ fault. (node time : ℕ) → fault ≡ PlanFault.Overflow node time →
+        StopsUnder texts.now p count (edges_at given.items) node
+        (parts_of plan.now stages.old.items pools.old.capacity thawed)
         (parts_of plan.now stages.new.items pools.old.capacity thawed)) }
     ensures overflow { IfErr result (λ fault. (node time : ℕ) → fault ≡ PlanFault.Overflow node time →
-        OverflowsAt texts.now p (edges_at given.items) (parts_of plan.now stages.old.items pools.old.capacity thawed) node time) }
+        OverflowsUnder texts.now p count (edges_at given.items)
+        (parts_of plan.now stages.old.items pools.old.capacity thawed) node time) }
     ensures runs { (workers : ℕ) → RunAll workers plan.now.nodes stages.old.items → RunAll workers plan.now.nodes stages.new.items }
-    ensures list { IfOk result (λ out. IsListOf texts.now pools.old.capacity (kinds_at plan.now.schemas plan.now.root) out) }
     ensures capacity { pools.new.capacity ≡ pools.old.capacity }
     ensures limit { pools.new.limit ≡ pools.old.limit }
 {
@@ -87,7 +96,7 @@ pub(crate) fn step_all<R: Threads + Sync, G: Gate>(
     let closings = closings_at(plan, p);
     let readers = Readers::of(alloc, plan)?;
     let mut made: Vec<EdgeList> = Vec::new(alloc);
-    for i in 0..nodes.len() {
+    for i in 0..count {
         let left = left_list(alloc, pools, plan, &readers, i, &mut given, &mut made)?;
         let right = right_list(alloc, pools, plan, &readers, i, &mut made)?;
         let left_to = left_closing(plan, &closings, i, p);
@@ -104,5 +113,46 @@ pub(crate) fn step_all<R: Threads + Sync, G: Gate>(
             Err(fault) => return Err(fault_of(i, &fault)),
         }
     }
-    Ok(made.swap_remove(plan.root()))
+    Ok(made)
+}
+
+/// One step of each node of a plan, in order of number: the new edges of the root.
+pub(crate) fn step_all<R: Threads + Sync, G: Gate>(
+    rt: &R,
+    gate: &G,
+    alloc: Global,
+    pools: &mut Pools,
+    texts: &TextTable,
+    plan: &Plan,
+    stages: &mut Vec<Stage>,
+    thawed: bool,
+    given: Vec<EdgeList>,
+    p: Time,
+) -> Result<EdgeList, PlanFault>
+    requires may { MayStep texts.now p (edges_at given.items) (parts_of plan.now stages.old.items pools.old.capacity thawed) }
+    requires given { AreGiven texts.now pools.old.capacity plan.now given.items }
+    requires limit { most_columns ≤ pools.old.limit }
+    ensures flowed { IfOk result (λ out. GivesOn texts.now p (edges_at given.items)
+        (parts_of plan.now stages.old.items pools.old.capacity thawed)
+        (parts_of plan.now stages.new.items pools.old.capacity thawed) out.edges) }
+    ensures can { OnOk result (StepsOn texts.now p (parts_of plan.now stages.old.items pools.old.capacity thawed)
+        (parts_of plan.now stages.new.items pools.old.capacity thawed)) }
+    ensures stopped { IfErr result (λ fault. (node time : ℕ) → fault ≡ PlanFault.Overflow node time →
+        StopsAt texts.now p (edges_at given.items) node
+        (parts_of plan.now stages.old.items pools.old.capacity thawed)
+        (parts_of plan.now stages.new.items pools.old.capacity thawed)) }
+    ensures overflow { IfErr result (λ fault. (node time : ℕ) → fault ≡ PlanFault.Overflow node time →
+        OverflowsAt texts.now p (edges_at given.items) (parts_of plan.now stages.old.items pools.old.capacity thawed) node time) }
+    ensures runs { (workers : ℕ) → RunAll workers plan.now.nodes stages.old.items → RunAll workers plan.now.nodes stages.new.items }
+    ensures list { IfOk result (λ out. IsListOf texts.now pools.old.capacity (kinds_at plan.now.schemas plan.now.root) out) }
+    ensures capacity { pools.new.capacity ≡ pools.old.capacity }
+    ensures limit { pools.new.limit ≡ pools.old.limit }
+{
+    let count = plan.nodes().len();
+    match step_nodes(
+        rt, gate, alloc, pools, texts, plan, stages, thawed, given, p, count,
+    ) {
+        Ok(mut made) => Ok(made.swap_remove(plan.root())),
+        Err(fault) => Err(fault),
+    }
 }

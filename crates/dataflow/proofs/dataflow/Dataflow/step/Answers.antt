@@ -3,8 +3,9 @@ use Rattle.std.specs.Prelude.{IfOk, IfErr, OnOk}
 use Rattle.node_laws.specs.Places.{EdgesArePlaced}
 use Rattle.dataflow.specs.declared.fault.PlanFault.TheVariants.{Overflow}
 use Rattle.dataflow.specs.Lists.{edges_at, AreOfStreams}
+use Rattle.dataflow.specs.Below.{StopsAt}
 use Rattle.dataflow.specs.Flows.{DataflowView, MayStep, StepsOn, GivesOn, OverflowsAt, parts_of}
-use Rattle.dataflow.proofs.Workers.{with_workers, may_with, all_step, all_give, all_overflow}
+use Rattle.dataflow.proofs.Workers.{with_workers, may_with, all_step, all_give, all_overflow, all_stop, all_views}
 use Rattle.dataflow.proofs.Sure.{sure_or_tested, given_placed, steps_on, gives_on}
 use Rattle.dataflow.proofs.dataflow.Dataflow.step.Goals as goal
 
@@ -69,6 +70,19 @@ returns-clause-overflow g c = λ none.
     (all_overflow inside.workers c.args.texts.now c.args.p (edges_at c.args.given.items) (parts_of inside.plan inside.stages.items inside.capacity inside.thawed)
     (parts_of inside.plan c.step_all-stepped.new.stages.items inside.capacity inside.thawed) c.step_all-stepped.result
     (subst (λ k. P (parts_of inside.plan inside.stages.items k inside.thawed)) rows c.step_all-stepped.ensures.overflow)))
+
+pub returns-clause-stopped : goal.returns-clause-stopped
+returns-clause-stopped g c = λ none.
+    let inside = c.self.inside in
+    let r = c.step_all-stepped.result in
+    let rows : c.args.pools.now.capacity ≡ inside.capacity = c.requires.capacity ∙ sym (ap (λ d. d.capacity) c.self.view_is) in
+    let after : ℕ → DataflowView = λ k. parts_of inside.plan c.step_all-stepped.new.stages.items k inside.thawed in
+    let P : DataflowView → Type 0 = λ d. IfErr r (λ fault. (node time : ℕ) → fault ≡ Overflow node time → StopsAt c.args.texts.now c.args.p (edges_at c.args.given.items) node d (after inside.capacity)) in
+    all_views r c.args.texts.now c.args.p (edges_at c.args.given.items) c.args.self.now (after inside.capacity) inside.workers c.fault_in-self-inside.result
+    (subst P c.self.view_is
+    (subst (λ f. P (record { plan = inside.plan; stages = inside.stages.items; capacity = inside.capacity; workers = inside.workers; thawed = inside.thawed; fault = f })) (sym c.in_default.is)
+    (all_stop inside.workers c.args.texts.now c.args.p (edges_at c.args.given.items) (parts_of inside.plan inside.stages.items inside.capacity inside.thawed) (after inside.capacity) r
+    (subst (λ k. IfErr r (λ fault. (node time : ℕ) → fault ≡ Overflow node time → StopsAt c.args.texts.now c.args.p (edges_at c.args.given.items) node (parts_of inside.plan inside.stages.items k inside.thawed) (after k))) rows c.step_all-stepped.ensures.stopped))))
 
 pub invariant_of-self-2 : goal.invariant_of-self-2
 invariant_of-self-2 g c = c.step_all-stepped.ensures.runs c.self.inside.workers c.self.invariant
