@@ -10,3 +10,5 @@ pub mod Holding
 pub mod Sources
 pub mod Thawing
 pub mod Fitting
+pub mod Counting
+mod FrozenExamples

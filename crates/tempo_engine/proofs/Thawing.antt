@@ -22,7 +22,7 @@ use Rattle.row_reader.specs.Printed.{IsEnd}
 use Rattle.ingress.specs.Saving.{Resumes}
 use Rattle.ingress.proofs.Reading.{admits_longer}
 use Rattle.egress.specs.Output.{Holds, IsPlacedIn}
-use Rattle.egress.specs.Saving.{EntriesArePlaced, SavesAs}
+use Rattle.egress.specs.Saving.{EntriesArePlaced, SavesAs, StandsAt}
 use Rattle.egress.specs.Saving.{Resumes as ShownResumes}
 use Rattle.egress.specs.Waiting.{edges_if, waiting_in}
 use Rattle.egress.proofs.Taking.{holds_longer}
@@ -72,6 +72,17 @@ module _ (workers : ℕ) (plan : PlanParts) (whole : IsPlan plan) (policy : Poli
         typed = fits.typed;
       }
 
+-- the output took what the root answered
+pub shown_stands : (plan : PlanParts) (policy : Policy) (w : Progress) (given lists : ℕ → List Edge) (e : Parts) → Went plan policy w given lists e →
+    AreDistinct e.texts → StandsAt e.texts (lists plan.root) e.closed e.egress
+shown_stands plan policy w given lists e went distinct = record {
+  distinct = distinct;
+  placed = went.placed;
+  typed = subst (λ x. All (λ edge. map datum_kind edge.cells ≡ map cell_kind_of x) (lists plan.root)) (sym went.kinds) went.typed;
+  below = went.below;
+  holds = went.holds;
+}
+
 -- the parts went on to w, and saved what they keep
 module _ (workers : ℕ) (plan : PlanParts) (whole : IsPlan plan) (policy : Policy) (w : Progress) (going : IsGoing (length plan.streams) w) (given lists : ℕ → List Edge) (e : Parts) (went : Went plan policy w given lists e) (k : KeptView)
     (last : k.last ≡ e.ingress.released) (distinct : AreDistinct e.texts) where
@@ -92,13 +103,7 @@ module _ (workers : ℕ) (plan : PlanParts) (whole : IsPlan plan) (policy : Poli
       let count = went.fixed.count in
       let both : AreMarksOf e.ingress w.after (time_at k.bounds) (time_at k.marks) = λ s low. (same_bounds s (subst (λ n. s < n) count low), same_marks s (subst (λ n. s < n) count low)) in
       let input = resumes e.texts w.after given (time_at k.bounds) (time_at k.marks) went.took went.timed (subst IsEnd (sym went.released) went.instant) both in
-      let shown = shows e.texts (lists plan.root) e.closed (record {
-        distinct = distinct;
-        placed = went.placed;
-        typed = subst (λ x. All (λ edge. map datum_kind edge.cells ≡ map cell_kind_of x) (lists plan.root)) (sym went.kinds) went.typed;
-        below = went.below;
-        holds = went.holds;
-      }) in
+      let shown = shows e.texts (lists plan.root) e.closed (shown_stands plan policy w given lists e went distinct) in
       record {
         last = at;
         input = subst (λ l. Resumes (stream_cells plan.streams) k.input (time_at k.bounds) (time_at k.marks) l e.texts w.after given) (sym last)

@@ -27,6 +27,12 @@ abbrev pub IsBadOf : PlanParts → ℕ → List ℕ → EngineFault → Type 0
 IsBadOf plan number line (Bad told_number cause) = (told_number ≡ number) × ((cause ≡ causes.NoStart) ⊎ ((told plan number line).read ≡ Err cause))
 IsBadOf plan number line f = Unit {0}
 
+-- no line is told at the end of an input: a punctuation cannot be worked through, or memory is wanting
+abbrev pub IsFaultAtEnd : EngineFault → Type 0
+IsFaultAtEnd (Bad line cause) = ⊥
+IsFaultAtEnd (Late line time bound) = ⊥
+IsFaultAtEnd f = Unit {0}
+
 -- what is told of the line of that number, where it is not read, where it is refused, and where a punctuation cannot be
 -- worked through
 abbrev pub unread : ℕ → RowFault → EngineFault

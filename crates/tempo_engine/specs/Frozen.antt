@@ -81,8 +81,10 @@ pub record IsComplete (workers : ℕ) (plan : PlanParts) (f : FrozenView) : Type
   pub marks : length f.marks ≡ length plan.streams
   pub placed : PartsArePlaced f.texts f.parts
 
--- an engine of the plan and of so many workers can be made of it: it is complete, no text stands twice, and its entries are
--- states of the parts
+-- an engine of the plan and of so many workers can be made of it: it has its parts, in order, and no other, with a bound and a
+-- mark for each stream; no text stands twice, and no place is without one; and the entries are states of the parts, where no
+-- bound is below the last punctuation or the mark of its stream, and each shard of a node has rows of its own alone. Of a plan of
+-- two streams it needs two bounds, and of a join with two workers two parts, of the shards 0 and 1
 pub record IsState (workers : ℕ) (plan : PlanParts) (f : FrozenView) : Type 0 where
   pub complete : IsComplete workers plan f
   pub distinct : AreDistinct f.texts

@@ -1,5 +1,5 @@
--- Callers read Output, Texts, Faults, Fed, Held and Frozen. Of Went they read what `Fed` says of the parts of an engine; Working, and the other
--- words of Went and Faults, are cited by private contracts alone.
+-- Callers read Output, Texts, Faults, Fed, Held, Frozen and Entries. Of Went they read what `Fed` says of the parts of an engine;
+-- Working, Underway, Freezing, and the other words of Went and Faults, are cited by private contracts alone.
 pub mod Output
 pub mod Texts
 pub mod Faults
@@ -7,5 +7,7 @@ pub mod Went
 pub mod Fed
 pub mod Held
 pub mod Working
+pub mod Underway
 pub mod Frozen
+pub mod Entries
 pub mod Freezing

@@ -5,7 +5,7 @@ ghost use Rattle.admission.specs.declared.policy.Policy.{Policy as Admitting};
 ghost use Rattle.admission.specs.Entries.{Told};
 ghost use Rattle.admission.specs.Progress.{progress, fault as fault_of};
 ghost use Rattle.dataflow.specs.Shards.{RunAll};
-ghost use Rattle.tempo_engine.specs.Faults.{IsFaultOf, IsBadOf};
+ghost use Rattle.tempo_engine.specs.Faults.{IsFaultOf, IsBadOf, IsFaultAtEnd};
 ghost use Rattle.tempo_engine.specs.Held.{with_first};
 ghost use Rattle.tempo_engine.specs.Output.{plan_text, told};
 
@@ -148,6 +148,7 @@ impl Engine {
         ensures again { (f : EngineFault) → self.old.fault ≡ Some f → result ≡ Err f }
         ensures over { self.old.ended ≡ true → IfOk result (λ bytes. bytes.items ≡ []) }
         ensures ended { self.new.ended ≡ self.old.ended }
+        ensures fine { OnOk result (self.new.fault ≡ None) }
         ensures bad { self.old.fault ≡ None → IfErr result (IsBadOf self.old.parts.dataflow.plan number line.now) }
         ensures plan { self.new.parts.dataflow.plan ≡ self.old.parts.dataflow.plan }
         ensures workers { self.new.parts.dataflow.workers ≡ self.old.parts.dataflow.workers }
@@ -183,6 +184,7 @@ impl Engine {
         ensures again { (f : EngineFault) → self.old.fault ≡ Some f → result ≡ Err f }
         ensures over { self.old.ended ≡ true → IfOk result (λ bytes. bytes.items ≡ []) }
         ensures ended { OnOk result (self.new.ended ≡ true) }
+        ensures at_end { self.old.fault ≡ None → IfErr result IsFaultAtEnd }
     {
         if let Some(fault) = self.fault {
             return Err(fault);

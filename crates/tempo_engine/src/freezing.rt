@@ -1,5 +1,5 @@
 // The parts of an engine frozen, and parts that were made of what others were frozen to.
-ghost use Rattle.std.specs.Prelude.{◌≡◌, ◌≢◌, ◌↔◌, ◌<◌, ◌≤◌, ℕ, IsTrue, false, true, List, length, map, get_or, All, IfOk, IfErr, OnOk};
+ghost use Rattle.std.specs.Prelude.{◌≡◌, ◌≢◌, ◌↔◌, ◌<◌, ◌≤◌, ℕ, IsTrue, false, true, List, length, map, get_or, IfOk, IfErr, OnOk};
 ghost use Rattle.tw_rows.specs.Instant.{inf};
 ghost use Rattle.tw_rows.specs.Texts.{BeginsWith};
 ghost use Rattle.tw_rows.specs.declared.edge.Edge.{Edge};
@@ -12,17 +12,17 @@ ghost use Rattle.ingress.specs.Fits.{stream_cells};
 ghost use Rattle.ingress.specs.Saving.{Resumes, IsSound as IsSoundInput};
 ghost use Rattle.egress.specs.Output.{Holds, IsPlacedIn};
 ghost use Rattle.egress.specs.Saving.{EntriesArePlaced, Resumes as ShownResumes, IsSound as IsSoundOutput};
-ghost use Rattle.frozen_parts.specs.Kept.{kept_of, node_counts};
-ghost use Rattle.frozen_parts.specs.Named.{AreNamed, PartsArePlaced};
+ghost use Rattle.frozen_parts.specs.Kept.{kept_of, node_counts, parts_of};
+ghost use Rattle.frozen_parts.specs.Named.{AreNamed};
 ghost use Rattle.frozen_state.specs.Forms.{part_forms as forms_of};
-ghost use Rattle.frozen_state.specs.Formed.{ArePartsOf, IsOneLine};
 ghost use Rattle.dataflow.specs.Flows.{CanStep, Flows};
 ghost use Rattle.dataflow.specs.Held.{nodes_in_all};
 ghost use Rattle.dataflow.specs.Saving.{AreStates, FlowsResume};
 ghost use Rattle.dataflow.specs.Stages.{reached};
 ghost use Rattle.tempo_engine.specs.Output.{result_kinds};
 ghost use Rattle.tempo_engine.specs.Frozen.{time_at, FitsProgress, IsSoundKept, IsComplete, IsState};
-ghost use Rattle.tempo_engine.specs.Freezing.{WhateverWent, FitsParts, GoesOnFrom};
+ghost use Rattle.tempo_engine.specs.Entries.{entries_of};
+ghost use Rattle.tempo_engine.specs.Freezing.{WhateverWent, FitsParts, GoesOnFrom, HasForm, kept_at_most};
 
 use crate::parts::{Parts, each_text_once, kinds_of_result};
 use admission::Policy;
@@ -81,9 +81,7 @@ fn has_form(
     texts: &TextTable,
 ) -> Result<bool, Memory>
     requires named { AreNamed (forms_of workers plan.now) frozen.now.parts }
-    ensures parts { IfOk result (λ b. IsTrue b → ArePartsOf (forms_of workers plan.now) frozen.now.parts) }
-    ensures placed { IfOk result (λ b. IsTrue b → PartsArePlaced texts.now frozen.now.parts) }
-    ensures one_line { IfOk result (λ b. IsTrue b → All IsOneLine frozen.now.texts) }
+    ensures { IfOk result (λ b. IsTrue b ↔ HasForm (forms_of workers plan.now) texts.now frozen.now) }
 {
     let forms = part_forms(alloc, plan, workers)?;
     Ok(
@@ -236,6 +234,8 @@ impl Parts {
             node_counts self.now.dataflow.workers self.now.dataflow.plan) }
         ensures bounds { IfOk result (λ k. length k.bounds ≡ length self.now.dataflow.plan.streams) }
         ensures marks { IfOk result (λ k. length k.marks ≡ length self.now.dataflow.plan.streams) }
+        ensures few { IfOk result (λ k. WhateverWent self.now (λ plan policy w given lists.
+            entries_of (parts_of k) ≤ kept_at_most plan w lists self.now)) }
     {
         each_text_once(&self.texts);
         let count = self.dataflow.plan().streams().len();
@@ -263,6 +263,8 @@ impl Parts {
             FitsParts self.now.dataflow.workers plan w given lists f)) }
         ensures lines { IfOk result (λ f. f.lines ≡ lines) }
         ensures texts { IfOk result (λ f. f.texts ≡ self.now.texts) }
+        ensures few { IfOk result (λ f. WhateverWent self.now (λ plan policy w given lists.
+            entries_of f.parts ≤ kept_at_most plan w lists self.now)) }
     {
         each_text_once(&self.texts);
         let kept = self.keep()?;

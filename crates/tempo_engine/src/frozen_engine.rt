@@ -7,7 +7,9 @@ ghost use Rattle.admission.specs.Entries.{Told};
 
 use crate::engine::{Engine, Options};
 use crate::fault::EngineFault;
-use crate::parts::Parts;
+use crate::laws::answers_of_lines_stand;
+use crate::parts::{Parts, each_text_once};
+use dataflow::{plans_keep_at_most, row_stages_keep_nothing};
 use edge_stream::LoadFault;
 use frozen_state::Frozen;
 use plan_model::Plan;
@@ -36,7 +38,9 @@ impl ThawFault {
 
 impl Engine {
     ghost use Rattle.tempo_engine.specs.Fed.{Fed, FedBy, WhateverTook};
+    ghost use Rattle.tempo_engine.specs.Held.{MadeDue};
     ghost use Rattle.tempo_engine.specs.Frozen.{Fits, FitsBy, IsState};
+    ghost use Rattle.tempo_engine.specs.Entries.{entries_of, may_freeze};
 
     /// What it keeps, while the input goes on. It stays as it was. After a fault it answers that fault. Memory also tells that
     /// what it keeps is of no form; that is never so of an engine that took its state from lines.
@@ -49,12 +53,19 @@ impl Engine {
             FedBy plan policy lines given lists self.now →
             FitsBy self.now.parts.dataflow.workers plan policy lines given lists f) }
         ensures lines { IfOk result (λ f. f.lines ≡ self.now.lines) }
+        ensures few { IfOk result (λ f. WhateverTook self.now (λ plan policy lines. (made : List Told) →
+            MadeDue plan policy lines false made → entries_of f.parts ≤ may_freeze plan policy made lines)) }
         ensures again { (f : EngineFault) → self.now.fault ≡ Some f → result ≡ Err f }
         ensures fault { self.now.fault ≡ None → IfErr result (λ f. f ≡ EngineFault.Memory) }
     {
         if let Some(fault) = self.fault {
             return Err(fault);
         }
+        // These calls tell the proof how much the nodes may keep, and which rows the root shows.
+        each_text_once(&self.parts.texts);
+        plans_keep_at_most();
+        row_stages_keep_nothing();
+        answers_of_lines_stand();
         match self.parts.freeze(self.lines) {
             Ok(frozen) => Ok(frozen),
             Err(Memory) => Err(EngineFault::Memory),

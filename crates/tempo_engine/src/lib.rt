@@ -2,6 +2,7 @@
 #![tactic(auto)]
 
 mod engine;
+mod epoch;
 mod fault;
 mod freezing;
 mod frozen_engine;

@@ -3,23 +3,20 @@ ghost use Rattle.std.specs.Prelude.{◌≡◌, ◌≢◌, ◌<◌, ◌≤◌, �
 ghost use Rattle.std.specs.Prelude.{false, Some, None, length, map, nat_lt, cond, All};
 ghost use Rattle.std.specs.Prelude.{IfOk, IfErr, OnOk};
 ghost use Rattle.tw_rows.specs.Instant.{inf};
-ghost use Rattle.plan_model.specs.IsPlan.{PlanParts};
-ghost use Rattle.plan_laws.specs.Undefined.{overflow};
 ghost use Rattle.node_laws.specs.Places.{AreDistinct};
 ghost use Rattle.admission.specs.declared.policy.Policy.{Policy as Admitting};
-ghost use Rattle.admission.specs.Admission.{rows};
 ghost use Rattle.admission.specs.Entries.{Told};
 ghost use Rattle.admission.specs.Progress.{Progress, judged, start, progress, fault as fault_of};
-ghost use Rattle.tempo_engine.specs.Faults.{IsFaultOf, IsBadOf};
+ghost use Rattle.tempo_engine.specs.Faults.{IsFaultOf, IsBadOf, IsFaultAtEnd};
 ghost use Rattle.tempo_engine.specs.Output.{result_kinds, plan_text, told};
 
 use crate::fault::EngineFault;
 use admission::Policy;
 use batch::Pools;
-use dataflow::{Dataflow, PlanFault};
+use dataflow::Dataflow;
 use egress::Egress;
 use ingress::{Ingress, event_times_stay};
-use plan_model::{MOST_COLUMNS, Plan, closes};
+use plan_model::{MOST_COLUMNS, Plan};
 use row_reader::read_cells;
 use row_stage::column_kinds;
 use shard_apply::Gate;
@@ -47,13 +44,6 @@ pub(crate) fn each_text_once(texts: &TextTable)
     let _count = texts.len();
 }
 
-// The time, where it is later than the other.
-fn if_later(last: Time, time: Time) -> Option<Time>
-    ensures { result ≡ cond (nat_lt last time) (Some time) None }
-{
-    if last < time { Some(time) } else { None }
-}
-
 // The time after all instants.
 #[tactic(auto, unfolding(tw_rows::specs::Instant::inf))]
 fn infinity() -> Time
@@ -62,7 +52,7 @@ fn infinity() -> Time
     Time::INF
 }
 
-fn is_before(a: Time, b: Time) -> bool
+pub(crate) fn is_before(a: Time, b: Time) -> bool
     ensures { IsTrue result ↔ (a < b) }
 {
     a < b
@@ -77,9 +67,9 @@ pub(crate) fn kinds_of_result(alloc: Global, plan: &Plan) -> Result<Vec<Kind>, M
 }
 
 impl Parts {
-    ghost use Rattle.tempo_engine.specs.Went.{Went, HasFed, Further, WhateverFed, CanRun, TookLines};
+    ghost use Rattle.tempo_engine.specs.Went.{HasFed, Further, WhateverFed, CanRun, TookLines};
     ghost use Rattle.tempo_engine.specs.Held.{HasWorked};
-    ghost use Rattle.tempo_engine.specs.Working.{HasTaken, IsDue, IsDueOfLines, WhenDue, IsShown};
+    ghost use Rattle.tempo_engine.specs.Working.{HasTaken};
 
     // Before the first line.
     pub(crate) fn new(
@@ -114,62 +104,6 @@ impl Parts {
             egress,
             closed: Time::ZERO,
         })
-    }
-
-    // Works through a punctuation: the edges before it go through the plan, and what the root changes up to its closing is
-    // shown. After a fault nothing more is asked.
-    fn punctuate<R: Threads + Sync, G: Gate>(
-        &mut self,
-        rt: &R,
-        gate: &G,
-        p: Time,
-    ) -> Result<Vec<u8>, PlanFault>
-        requires run { CanRun self.old }
-        requires later { (self.old.ingress.released < p) × (p ≤ inf) }
-        requires due { IsDueOfLines p self.old }
-        ensures run { OnOk result (CanRun self.new) }
-        ensures thawed { self.new.dataflow.thawed ≡ self.old.dataflow.thawed }
-        ensures plan { self.new.dataflow.plan ≡ self.old.dataflow.plan }
-        ensures workers { self.new.dataflow.workers ≡ self.old.dataflow.workers }
-        ensures texts { self.new.texts ≡ self.old.texts }
-        ensures went { OnOk result (WhenDue p self.old (λ plan policy w given lists.
-            ((s : ℕ) → s < length plan.streams → p ≤ w.after.bound s) →
-            Further given lists (λ more_given more_lists. Went plan policy (judged p w None) more_given more_lists self.new))) }
-        ensures worked { OnOk result (WhenDue p self.old (λ plan policy w given lists.
-            HasWorked plan (judged p w None) self.new)) }
-        ensures shown { IfOk result (λ bytes. WhenDue p self.old (λ plan policy w given lists.
-            IsShown p plan w bytes.items)) }
-        ensures overflow { IfErr result (λ fault. (node time : ℕ) → fault ≡ PlanFault.Overflow node time →
-            WhenDue p self.old (λ plan policy w given lists.
-            overflow (rows w.after) plan.nodes p ≡ Some (record { node = node; time = time }))) }
-    {
-        each_text_once(&self.texts);
-        let given = match self.ingress.release(&mut self.pools, p) {
-            Ok(given) => given,
-            Err(Memory) => return Err(PlanFault::Memory),
-        };
-        let edges = match self
-            .dataflow
-            .step(rt, gate, &mut self.pools, &self.texts, given, p)
-        {
-            Ok(edges) => edges,
-            Err(fault) => return Err(fault),
-        };
-        // its call tells the proof how the cells are stored
-        edges.cells_are_of_kinds();
-        let plan = self.dataflow.plan();
-        let to = closes(plan, plan.root(), p);
-        match self.egress.take(&mut self.pools, edges, to, &self.texts) {
-            Ok(()) => {}
-            Err(Memory) => return Err(PlanFault::Memory),
-        }
-        match self.egress.render(if_later(self.closed, to)) {
-            Ok(bytes) => {
-                self.closed = to;
-                Ok(bytes)
-            }
-            Err(Memory) => Err(PlanFault::Memory),
-        }
     }
 
     // Admits the line of that number.
@@ -254,6 +188,7 @@ impl Parts {
             plan_text plan policy lines true ≡ plan_text plan policy lines false ++ bytes.items)) }
         ensures fault { IfErr result (λ f. WhateverFed self.old (λ plan policy lines given lists.
             IsFaultOf f (fault_of plan policy lines true))) }
+        ensures at_end { IfErr result IsFaultAtEnd }
     {
         let end = infinity();
         if is_before(self.ingress.released(), end) {

@@ -1,7 +1,10 @@
-use Rattle.std.proofs.Common.{◌<◌, ◌≤◌, false, inl, inr, arith}
+use Rattle.std.proofs.Common.{◌<◌, ◌≤◌, ℕ, false, inl, inr, arith}
 use Rattle.std.proofs.lemmas.Bool.{cases_lt}
 use Rattle.tw_rows.specs.Instant.{inf}
 use Rattle.admission.specs.Progress.{progress}
+use Rattle.dataflow.specs.declared.fault.PlanFault.{PlanFault}
+use Rattle.dataflow.specs.declared.fault.PlanFault.TheVariants as stepping
+use Rattle.tempo_engine.specs.Faults.{IsFaultAtEnd, undefined_at}
 use Rattle.tempo_engine.proofs.Lines.{closed_fine, closed_worked, closed_grows, end_due, end_fine, end_worked, end_grows, end_fault_told}
 use Rattle.tempo_engine.proofs.parts.Parts.finish.Goals as goal
 
@@ -75,3 +78,10 @@ returns-else-is_before-clause-text g c = λ plan policy lines given lists fed.
       | inr a ↦ (let l = c.released.ensures in let e = c.infinity-end.ensures in omega (arith, a, l, e))
     ] in
     closed_grows plan policy lines given lists c.args.self.now fed low c.new.result.items c.new.ensures.items
+
+told_at_end : (p : ℕ) (fault : PlanFault) → IsFaultAtEnd (undefined_at p fault)
+told_at_end p (stepping.Overflow node time) = tt
+told_at_end p stepping.Memory = tt
+
+pub returns-in-Err-clause-at_end : goal.returns-in-Err-clause-at_end
+returns-in-Err-clause-at_end g c = rw c.of_plan.ensures (told_at_end _ c.in-Err.fault)

@@ -1,139 +1,112 @@
-use Rattle.std.proofs.Common.{◌≡◌, ℕ, ◌≤◌, [], ◌++◌, cond, map, nat_lt, Some, None, ◌∙◌, ap, sym, subst}
-use Rattle.std.specs.Prelude.{All, slice_index_or}
-use Rattle.tw_rows.specs.Cells.{datum_kind}
-use Rattle.tw_rows.specs.Kinds.{cell_kind_of}
-use Rattle.edge_stream.specs.Listing.{cells_of}
-use Rattle.plan_model.specs.IsPlan.{kinds_at, most_columns}
-use Rattle.row_stage.proofs.Nodes.{stored_kinds}
-use Rattle.edge_history.specs.Order.{is_from, failing}
+use Rattle.std.proofs.Common.{◌≡◌, ◌<◌, ◌≤◌, ℕ, List, [], cond, nat_lt, Some, None, ◌∙◌, refl, ap, sym, subst, arith, inl, inr}
+use Rattle.std.specs.Prelude.{◌↔◌, Bool, true, false, IsTrue}
+use Rattle.std.proofs.lemmas.Bool.{cases_lt}
+use Rattle.std.proofs.lemmas.List.{append-nil}
 use Rattle.plan_model.specs.Meaning.{closes, events}
-use Rattle.node_laws.specs.Standing.{SourcesStandRead}
 use Rattle.admission.specs.Admission.{rows}
-use Rattle.dataflow.specs.Lists.{edges_at, longer}
 use Rattle.tempo_engine.specs.Output.{result_kinds}
-use Rattle.ingress.proofs.Reading.{follows_stand}
-use Rattle.tempo_engine.proofs.Giving.{given_are}
-use Rattle.tempo_engine.proofs.Punctuating.{taken, root_stands, shown, next_worked, next_went, further_went, punctuated_run}
+use Rattle.tempo_engine.proofs.Punctuating.{begins, ends, begun, further_on, whole_holds, whole_stands, shown, next_worked, next_went, rendered_run}
 use Rattle.tempo_engine.proofs.parts.Parts.punctuate.Goals as goal
 
-pub step-requires-clause-given : goal.step-requires-clause-given
-step-requires-clause-given g c κs within =
-    let e = c.args.self.now in
-    given_are e.dataflow.plan e.ingress.policy e.dataflow.capacity e.ingress c.in-Ok.given.items c.requires.run.fixed c.in-Ok.ensures.lists
+pub slices-init : goal.slices-init
+slices-init g c = record {
+  run = c.requires.run;
+  low = (let t = c.requires.later.0 in omega (arith, t));
+  thawed = refl;
+  plan = refl;
+  workers = refl;
+  texts = refl;
+  underway = λ plan policy w given lists due. record {
+    more_given = given;
+    more_lists = lists;
+    on_given = λ k. ([], sym (append-nil (given k)));
+    on_lists = λ k. ([], sym (append-nil (lists k)));
+    there = begun c.args.p plan policy w given lists c.args.self.now due;
+  };
+}
 
-pub step-requires-clause-placed : goal.step-requires-clause-placed
-step-requires-clause-placed g c κs within = λ thawed.
-    let past = c.requires.due thawed in
-    c.in-Ok.ensures.placed c.args.self.now.texts past.1.1.0.after past.1.1.1.0 past.1.1.1.1.1.went.took.follows
+pub work_slice-requires-clause-run : goal.work_slice-requires-clause-run
+work_slice-requires-clause-run g c κs within = c.slices.invariant.run
 
-pub step-requires-clause-capacity : goal.step-requires-clause-capacity
-step-requires-clause-capacity g c κs within = c.release.ensures.pools.capacity ∙ c.requires.run.pooled
+pub work_slice-requires-clause-later : goal.work_slice-requires-clause-later
+work_slice-requires-clause-later g c κs within = (c.slice_end-end.ensures.later.0, (c.slice_end-end.ensures.later.1, c.requires.later.1))
 
-pub step-requires-clause-limit : goal.step-requires-clause-limit
-step-requires-clause-limit g c κs within = subst (λ m. most_columns ≤ m) (sym c.release.ensures.pools.limit) c.requires.run.wide
+pub work_slice-requires-clause-lines : goal.work_slice-requires-clause-lines
+work_slice-requires-clause-lines g c κs within = λ thawed.
+    let past = c.requires.due (sym c.slices.invariant.thawed ∙ thawed) in
+    let plan = past.0 in
+    let policy = past.1.0 in
+    let w = past.1.1.0 in
+    let more = c.slices.invariant.underway plan policy w past.1.1.1.0 past.1.1.1.1.0 past.1.1.1.1.1 in
+    (plan, (policy, (w, (more.more_given, (more.more_lists, more.there)))))
 
-pub step-requires-clause-may : goal.step-requires-clause-may
-step-requires-clause-may g c κs within =
-    let e = c.args.self.now in
-    λ fine. record {
-      last = e.ingress.released;
-      can = c.requires.run.can;
-      later = c.requires.later.0;
-      past = λ thawed.
-          let past = c.requires.due thawed in
-          let w = past.1.1.0 in
-          let given = past.1.1.1.0 in
-          let lists = past.1.1.1.1.0 in
-          let due = past.1.1.1.1.1 in
-          let follows = c.in-Ok.ensures.follows e.texts w.after given due.went.took.follows in
-          record {
-            last = w.last;
-            old = given;
-            lists = lists;
-            source = rows w.after;
-            distinct = c.each_text_once.ensures;
-            flows = due.went.flows;
-            later = due.above;
-            stand = (let l = follows_stand e.texts w.after (longer given (edges_at c.in-Ok.given.items)) c.release.new.self follows in rw c.in-Ok.ensures.released at l);
-            from = λ s. (let l = c.in-Ok.ensures.later e.texts w.after given due.went.took.follows s in rw due.went.released at l);
-          };
+pub slices-preserved : goal.slices-preserved
+slices-preserved g c =
+    let before = c.slices.invariant in
+    record {
+      run = c.in-Ok.ensures.run;
+      low = (let e = c.in-Ok.ensures.released in let l = c.slice_end-end.ensures.later.1 in omega (arith, e, l));
+      thawed = c.work_slice.ensures.thawed ∙ before.thawed;
+      plan = c.work_slice.ensures.plan ∙ before.plan;
+      workers = c.work_slice.ensures.workers ∙ before.workers;
+      texts = c.work_slice.ensures.texts ∙ before.texts;
+      underway = λ plan policy w given lists due.
+          further_on given lists _ _ (before.underway plan policy w given lists due) (λ more_given more_lists way. c.in-Ok.ensures.underway plan policy w more_given more_lists way);
     }
 
-pub take-requires-clause-capacity : goal.take-requires-clause-capacity
-take-requires-clause-capacity g c = c.step.ensures.pools ∙ c.release.ensures.pools.capacity ∙ c.requires.run.pooled ∙ sym c.in-Ok-step.ensures.list.rows
+pub slices-smaller : goal.slices-smaller
+slices-smaller g c =
+    (let e = c.in-Ok.ensures.released in let l = c.slice_end-end.ensures.later.1 in let m = c.slice_end-end.ensures.later.0 in omega (arith, e, l, m))
 
-pub returns-in-Err-step-clause-overflow : goal.returns-in-Err-step-clause-overflow
-returns-in-Err-step-clause-overflow g c = λ node time is plan policy w given lists due.
-    let e = c.args.self.now in
-    let fresh = edges_at c.in-Ok.given.items in
-    let follows = c.in-Ok.ensures.follows e.texts w.after given due.went.took.follows in
-    let from : SourcesStandRead e.texts c.args.p (rows w.after) (longer given fresh) =
-    (let l = follows_stand e.texts w.after (longer given fresh) c.release.new.self follows in rw c.in-Ok.ensures.released at l) in
-    let late : (s : ℕ) → failing (is_from w.last) (fresh s) ≡ 0 = λ s. (let l = c.in-Ok.ensures.later e.texts w.after given due.went.took.follows s in rw due.went.released at l) in
-    let o = c.in-Err-step.ensures.overflow c.requires.run.can.fine node time is w.last given lists (rows w.after) c.each_text_once.ensures due.went.flows due.above from late in
-    (rw due.went.planned at o)
+pub returns-in-Err-clause-overflow : goal.returns-in-Err-clause-overflow
+returns-in-Err-clause-overflow g c = λ node time is plan policy w given lists due.
+    let more = c.slices.invariant.underway plan policy w given lists due in
+    c.in-Err.ensures.overflow node time is plan policy w more.more_given more.more_lists more.there
 
 pub returns-in-Ok-render-clause-went : goal.returns-in-Ok-render-clause-went
 returns-in-Ok-render-clause-went g c = λ plan policy w given lists due high.
-    let e = c.args.self.now in
-    let fresh = edges_at c.in-Ok.given.items in
-    let out = c.in-Ok-step.edges.edges in
-    let follows = c.in-Ok.ensures.follows e.texts w.after given due.went.took.follows in
-    let from : SourcesStandRead e.texts c.args.p (rows w.after) (longer given fresh) =
-    (let l = follows_stand e.texts w.after (longer given fresh) c.release.new.self follows in rw c.in-Ok.ensures.released at l) in
-    let late : (s : ℕ) → failing (is_from w.last) (fresh s) ≡ 0 = λ s. (let l = c.in-Ok.ensures.later e.texts w.after given due.went.took.follows s in rw due.went.released at l) in
-    let flowed = c.in-Ok-step.ensures.flowed w.last given lists (rows w.after) c.each_text_once.ensures due.went.flows due.above from late in
-    let planned : c.step.new.self.plan ≡ plan = c.step.ensures.plan ∙ due.went.planned in
-    let took = c.in-Ok.ensures.admits e.texts w.after given due.went.took.follows (λ s inside. high s (rw due.went.fixed.count at inside)) in
-    let at_plan : c.plan-plan.result.now ≡ plan = c.plan-plan.ensures ∙ planned in
+    let e = c.slices.self in
+    let p = c.args.p in
+    let more = c.slices.invariant.underway plan policy w given lists due in
+    let there = ends e.ingress.released c.released.result p c.is_before.result c.is_before.ensures c.slices-test.false c.released.ensures c.slices.invariant.low in
+    let at_plan : c.plan-plan.result.now ≡ plan = c.plan-plan.ensures ∙ more.there.planned in
     let at_root : c.root.result ≡ plan.root = c.root.ensures.root ∙ ap (λ q. q.root) at_plan in
-    let to_is : c.closes-to.result ≡ closes plan.nodes plan.root c.args.p = c.closes-to.ensures ∙ ap (λ q. closes q.nodes c.root.result c.args.p) at_plan ∙ ap (λ r. closes plan.nodes r c.args.p) at_root in
-    let held = taken c.args.p plan policy w given lists e due fresh c.step.new.self out planned flowed c.take.new.self (rw to_is at c.in-Ok-take.ensures.holds) in
-    let rendered = c.in-Ok-render.ensures.holds e.texts (lists plan.root ++ out) e.closed (closes plan.nodes plan.root c.args.p) held in
-    let kinds_of_root : cells_of c.in-Ok-step.edges ≡ map cell_kind_of (result_kinds plan) =
-    c.in-Ok-step.ensures.list.cells ∙ ap (λ q. kinds_at q.schemas q.root) due.went.planned ∙ sym (stored_kinds (slice_index_or plan.schemas plan.root [])) in
-    let typed : All (λ edge. map datum_kind edge.cells ≡ map cell_kind_of (result_kinds plan)) out = subst (λ ks. All (λ edge. map datum_kind edge.cells ≡ ks) out) kinds_of_root c.cells_are_of_kinds.ensures in
-    rw to_is (further_went c.args.p plan policy w given lists e due fresh c.step.new.self out planned flowed _
-    (next_went c.args.p plan policy w given lists e due fresh c.step.new.self out planned flowed c.release.new.self c.take.new.pools c.render.new.self
-    c.release.ensures.fixed took c.in-Ok.ensures.released (c.take.ensures.capacity ∙ c.step.ensures.pools ∙ c.release.ensures.pools.capacity) c.step.ensures.capacity rendered
-    (c.render.ensures.placed e.texts c.in-Ok-take.ensures.placed) c.in-Ok-render.ensures.failed (c.render.ensures.kinds ∙ c.take.ensures.kinds) typed))
+    let to_is : c.closes-to.result ≡ closes plan.nodes plan.root p = c.closes-to.ensures ∙ ap (λ q. closes q.nodes c.root.result p) at_plan ∙ ap (λ r. closes plan.nodes r p) at_root in
+    let held = whole_holds p plan policy w given lists c.args.self.now due e more.more_given more.more_lists more.there there in
+    let rendered = c.in-Ok-render.ensures.holds e.texts (more.more_lists plan.root) e.closed (closes plan.nodes plan.root p) held in
+    rw to_is (record {
+      more_given = more.more_given;
+      more_lists = more.more_lists;
+      on_given = more.on_given;
+      on_lists = more.on_lists;
+      there = next_went p plan policy w given lists c.args.self.now due e more.more_given more.more_lists more.there there high c.slices.invariant.run.pooled c.render.new.self rendered
+          (c.render.ensures.placed e.texts c.slices.invariant.run.waits) c.in-Ok-render.ensures.failed c.render.ensures.kinds;
+    })
 
 pub returns-in-Ok-render-clause-run : goal.returns-in-Ok-render-clause-run
 returns-in-Ok-render-clause-run g c =
-    let e = c.args.self.now in
-    punctuated_run c.args.p e c.requires.run c.requires.later.0 c.requires.later.1 c.release.new.self c.take.new.pools c.step.new.self c.render.new.self c.closes-to.result
-    c.release.ensures.fixed c.in-Ok.ensures.released (c.take.ensures.capacity ∙ c.step.ensures.pools ∙ c.release.ensures.pools.capacity) (c.take.ensures.limit ∙ c.step.ensures.limit ∙ c.release.ensures.pools.limit)
-    c.step.ensures.plan c.step.ensures.capacity c.in-Ok-step.ensures.can (c.render.ensures.placed e.texts c.in-Ok-take.ensures.placed) c.in-Ok-render.ensures.failed
+    let e = c.slices.self in
+    rendered_run e c.slices.invariant.run c.render.new.self c.closes-to.result (c.render.ensures.placed e.texts c.slices.invariant.run.waits) c.in-Ok-render.ensures.failed
 
 pub returns-in-Ok-render-clause-worked : goal.returns-in-Ok-render-clause-worked
 returns-in-Ok-render-clause-worked g c = λ plan policy w given lists due.
-    let e = c.args.self.now in
-    let fresh = edges_at c.in-Ok.given.items in
-    let follows = c.in-Ok.ensures.follows e.texts w.after given due.went.took.follows in
-    let from : SourcesStandRead e.texts c.args.p (rows w.after) (longer given fresh) =
-    (let l = follows_stand e.texts w.after (longer given fresh) c.release.new.self follows in rw c.in-Ok.ensures.released at l) in
-    let late : (s : ℕ) → failing (is_from w.last) (fresh s) ≡ 0 = λ s. (let l = c.in-Ok.ensures.later e.texts w.after given due.went.took.follows s in rw due.went.released at l) in
-    let flowed = c.in-Ok-step.ensures.flowed w.last given lists (rows w.after) c.each_text_once.ensures due.went.flows due.above from late in
-    next_worked c.args.p plan policy w given lists e due fresh c.step.new.self c.in-Ok-step.edges.edges (c.step.ensures.plan ∙ due.went.planned) flowed c.release.new.self c.take.new.pools c.render.new.self c.closes-to.result
-    c.release.ensures.fixed follows c.in-Ok.ensures.released
+    let e = c.slices.self in
+    let more = c.slices.invariant.underway plan policy w given lists due in
+    let there = ends e.ingress.released c.released.result c.args.p c.is_before.result c.is_before.ensures c.slices-test.false c.released.ensures c.slices.invariant.low in
+    next_worked c.args.p plan policy w given lists c.args.self.now due e more.more_given more.more_lists more.there there c.render.new.self c.closes-to.result
 
 pub returns-in-Ok-render-clause-shown : goal.returns-in-Ok-render-clause-shown
 returns-in-Ok-render-clause-shown g c = λ plan policy w given lists due.
-    let e = c.args.self.now in
-    let fresh = edges_at c.in-Ok.given.items in
-    let out = c.in-Ok-step.edges.edges in
-    let follows = c.in-Ok.ensures.follows e.texts w.after given due.went.took.follows in
-    let from : SourcesStandRead e.texts c.args.p (rows w.after) (longer given fresh) =
-    (let l = follows_stand e.texts w.after (longer given fresh) c.release.new.self follows in rw c.in-Ok.ensures.released at l) in
-    let late : (s : ℕ) → failing (is_from w.last) (fresh s) ≡ 0 = λ s. (let l = c.in-Ok.ensures.later e.texts w.after given due.went.took.follows s in rw due.went.released at l) in
-    let flowed = c.in-Ok-step.ensures.flowed w.last given lists (rows w.after) c.each_text_once.ensures due.went.flows due.above from late in
-    let planned : c.step.new.self.plan ≡ plan = c.step.ensures.plan ∙ due.went.planned in
-    let at_plan : c.plan-plan.result.now ≡ plan = c.plan-plan.ensures ∙ planned in
+    let e = c.slices.self in
+    let p = c.args.p in
+    let more = c.slices.invariant.underway plan policy w given lists due in
+    let there = ends e.ingress.released c.released.result p c.is_before.result c.is_before.ensures c.slices-test.false c.released.ensures c.slices.invariant.low in
+    let at_plan : c.plan-plan.result.now ≡ plan = c.plan-plan.ensures ∙ more.there.planned in
     let at_root : c.root.result ≡ plan.root = c.root.ensures.root ∙ ap (λ q. q.root) at_plan in
-    let to_is : c.closes-to.result ≡ closes plan.nodes plan.root c.args.p = c.closes-to.ensures ∙ ap (λ q. closes q.nodes c.root.result c.args.p) at_plan ∙ ap (λ r. closes plan.nodes r c.args.p) at_root in
-    let held = taken c.args.p plan policy w given lists e due fresh c.step.new.self out planned flowed c.take.new.self (rw to_is at c.in-Ok-take.ensures.holds) in
-    let stands = root_stands c.args.p plan policy w given lists e due fresh c.step.new.self out planned flowed in
-    let bytes = c.in-Ok-render.ensures.text e.texts (lists plan.root ++ out) e.closed (closes plan.nodes plan.root c.args.p) (events (rows w.after) plan.nodes plan.root) held stands in
-    let kinds : c.take.new.self.rows.kinds.items ≡ result_kinds plan = c.in-Ok-take.ensures.kinds ∙ due.went.kinds in
-    let later : c.if_later.result ≡ cond (nat_lt e.closed (closes plan.nodes plan.root c.args.p)) (Some (closes plan.nodes plan.root c.args.p)) None = (rw to_is at c.if_later.ensures) in
-    shown c.args.p plan policy w given lists e due fresh c.step.new.self out planned flowed c.in-Ok-render.bytes.items (rw (kinds, later) at bytes)
+    let to_is : c.closes-to.result ≡ closes plan.nodes plan.root p = c.closes-to.ensures ∙ ap (λ q. closes q.nodes c.root.result p) at_plan ∙ ap (λ r. closes plan.nodes r p) at_root in
+    let held = whole_holds p plan policy w given lists c.args.self.now due e more.more_given more.more_lists more.there there in
+    let stands = whole_stands p plan policy w given lists c.args.self.now due e more.more_given more.more_lists more.there there in
+    let bytes = c.in-Ok-render.ensures.text e.texts (more.more_lists plan.root) e.closed (closes plan.nodes plan.root p) (events (rows w.after) plan.nodes plan.root) held stands in
+    let kinds : e.egress.rows.kinds.items ≡ result_kinds plan = more.there.kinds in
+    let later : c.if_later.result ≡ cond (nat_lt e.closed (closes plan.nodes plan.root p)) (Some (closes plan.nodes plan.root p)) None = (rw to_is at c.if_later.ensures) in
+    shown p plan policy w given lists c.args.self.now due e more.more_given more.more_lists more.there there c.in-Ok-render.bytes.items (rw (kinds, later) at bytes)
