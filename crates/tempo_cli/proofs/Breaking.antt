@@ -1,5 +1,5 @@
 -- A run that ends before its checkpoint has come in.
-use Rattle.std.proofs.Common.{◌≡◌, ◌≤◌, ◌<◌, ◌+◌, ℕ, suc, List, [], ◌∷◌, ◌++◌, length, drop, take, Bool, true, false, Some, None, inl, inr, refl, sym, ◌∙◌, ap, arith, append_assoc, append-nil, subst}
+use Rattle.std.proofs.Common.{◌≡◌, ◌≤◌, ◌<◌, ℕ, suc, List, [], ◌∷◌, ◌++◌, length, drop, take, Bool, false, None, inl, inr, sym, ◌∙◌, ap, arith, append_assoc, append-nil, subst}
 use Rattle.std.specs.List.{All}
 use Rattle.std.proofs.lemmas.List.{drop_all, length-append}
 use Rattle.wire_lines.specs.Journal.{Entry, ins, outs, ended}
@@ -11,17 +11,17 @@ use Rattle.admission.specs.declared.policy.Policy.{Policy}
 use Rattle.frozen_state.specs.Frozen.{FrozenView}
 use Rattle.frozen_state.specs.Forms.{AreApart}
 use Rattle.checkpoint.specs.Form.{FormView}
-use Rattle.checkpoint.specs.Text.{checkpoint_lines, IsOfForm, BeginsText}
+use Rattle.checkpoint.specs.Text.{checkpoint_lines, IsOfForm}
 use Rattle.checkpoint.proofs.Unfinished.{one_front}
 use Rattle.tempo_engine.specs.Fed.{last_number}
 use Rattle.tempo_engine.specs.Output.{plan_text}
 use Rattle.tempo_cli.specs.Answers.{Answers}
-use Rattle.tempo_cli.specs.Table.{limit, IsEnd, Ends}
+use Rattle.tempo_cli.specs.Table.{limit, IsEnd}
 use Rattle.tempo_cli.specs.Told.{told_from}
 use Rattle.tempo_cli.specs.Resumed.{resumed}
 use Rattle.tempo_cli.specs.Freezing.{Froze, IsShort}
-use Rattle.tempo_cli.specs.Restoring.{AreFront, IsBegun, IsNoLine, IsNoState, IsBrokenOff, IsNotWhole, IsRefusedAt, IsUnclaimed, Resumes}
-use Rattle.tempo_cli.specs.Restored.{IsQuiet, IsHeard, IsRestoreEnd, StopsAt, BreaksOff, IsFitting}
+use Rattle.tempo_cli.specs.Restoring.{AreFront, IsBegun, IsNotWhole, IsRefusedAt, IsUnclaimed, Resumes}
+use Rattle.tempo_cli.specs.Restored.{IsQuiet, IsRestoreEnd, BreaksOff, IsFitting}
 use Rattle.tempo_cli.specs.declared.status.Status.{Status}
 use Rattle.tempo_cli.specs.declared.status.Status.TheVariants.{InputTooLong, ReadFault, Memory, BadCheckpoint}
 use Rattle.tempo_cli.proofs.Fronts.{le_or_lt, shorter_front, last_all, front_all}
@@ -90,7 +90,7 @@ module _ {form : FormView} {Fits : List Told → FrozenView → Type 0} {IsState
   broken_end before C froze front (BadCheckpoint n) end quiet = never_torn froze front (ended J) n end.1
   broken_end before C froze front s end quiet = absurd end
 
-  broken_unclaimed : (s : Status) → IsRestoreEnd form s (ins J) b.given (ended J) → IsUnclaimed form IsState s J
+  broken_unclaimed : (s : Status) → IsRestoreEnd form s (ins J) b.given (ended J) → IsUnclaimed form IsState plan.streams s J
   broken_unclaimed InputTooLong end = record { long = end.0; silent = inl (b.heard.unwritten, subst (IsBegun form) (sym end.1) b.stops.begun, end.2) }
   broken_unclaimed ReadFault end = inl b.heard.unwritten
   broken_unclaimed Memory end = inl b.heard.unwritten

@@ -1,5 +1,5 @@
 -- What an engine says of the lines that it was fed, with a header or without.
-use Rattle.std.proofs.Common.{◌≡◌, ◌≤◌, ◌<◌, ◌+◌, ℕ, suc, List, [], ◌∷◌, ◌++◌, length, drop, Bool, true, false, cond, Some, None, Ok, Err, refl, sym, ◌∙◌, ap, arith, append-nil, subst}
+use Rattle.std.proofs.Common.{◌≡◌, ◌≤◌, ◌<◌, ℕ, List, [], ◌∷◌, ◌++◌, length, drop, Bool, true, false, cond, Some, None, Ok, Err, refl, sym, ◌∙◌, ap, arith, append-nil, subst}
 use Rattle.std.specs.Prelude.{nat_lt, nat_eq, ◌&&◌, flat_map}
 use Rattle.std.proofs.lemmas.Bool.Decides.{nat_tests}
 use Rattle.tw_rows.specs.declared.schema.StreamDef.{StreamDef}
@@ -42,7 +42,7 @@ pub same_text : (plan : PlanParts) (policy : Policy) (xs ys : List Told) (ended 
 same_text plan policy xs ys ended e = ap (λ w. flat_map (item_text (result_kinds plan)) (written plan (at_end plan ended w))) e
 
 -- a line that is no header, and not too long, is read
-plain : (streams : List StreamDef) (header : Bool) (number : ℕ) (line : List ℕ) → (header && nat_eq number 1) ≡ false → length line ≤ 65536 → entry_at streams header number line ≡ entry streams (nat_eq number 1) line
+pub plain : (streams : List StreamDef) (header : Bool) (number : ℕ) (line : List ℕ) → (header && nat_eq number 1) ≡ false → length line ≤ 65536 → entry_at streams header number line ≡ entry streams (nat_eq number 1) line
 unfolding entry_at
 plain streams header number line not_first short = let t : nat_lt 65536 (length line) ≡ false = grind (arith, nat_tests) in rw (t, not_first) refl
 

@@ -1,5 +1,5 @@
 -- A run that writes a checkpoint at the end of its input.
-use Rattle.std.proofs.Common.{◌≡◌, ◌++◌, List, ℕ, [], length, Bool, true, false, inl, inr, refl, sym, ◌∙◌, ap, append_assoc, append-nil, subst}
+use Rattle.std.proofs.Common.{◌≡◌, ◌++◌, List, ℕ, [], Bool, true, false, inl, inr, refl, sym, ◌∙◌, ap, append_assoc, append-nil, subst}
 use Rattle.std.specs.Prelude.{◌||◌}
 use Rattle.wire_lines.specs.Journal.{Entry, ins, outs, ended}
 use Rattle.wire_lines.specs.Lines.{lines}
@@ -7,8 +7,6 @@ use Rattle.wire_lines.proofs.Growth.{ins-append, outs-append}
 use Rattle.frozen_state.specs.Frozen.{FrozenView}
 use Rattle.checkpoint.specs.Form.{FormView}
 use Rattle.checkpoint.specs.Text.{checkpoint_lines}
-use Rattle.checkpoint.specs.Writing.{bytes_of}
-use Rattle.tempo_engine.specs.Frozen.{Fits}
 use Rattle.tempo_engine.specs.declared.fault.EngineFault.{EngineFault}
 use Rattle.tempo_engine.specs.declared.fault.EngineFault.TheVariants as faults
 use Rattle.tempo_cli.specs.Answers.{Answers, IsFront}
@@ -20,7 +18,7 @@ use Rattle.admission.specs.declared.policy.Policy.{Policy}
 use Rattle.command_line.specs.Words.{Asked as Words}
 use Rattle.tempo_cli.specs.Told.{answers}
 use Rattle.tempo_cli.specs.Jobs.{form_asked, HasFroze}
-use Rattle.tempo_cli.specs.Feeding.{Asked, from_start, answers_to, fed_by, status_at, Ended}
+use Rattle.tempo_cli.specs.Feeding.{Asked, from_start, answers_to, status_at, Ended}
 use Rattle.tempo_cli.specs.Working.{AtEnd, Stops}
 use Rattle.tempo_cli.specs.Halting.{StopsGoing, FrozeAfter, FreezesWith}
 use Rattle.tempo_cli.specs.declared.answering.Answering.{Answering}
@@ -30,8 +28,8 @@ use Rattle.tempo_cli.proofs.Stopping.{short_end}
 use Rattle.tempo_cli.proofs.Journals.{prompt_outs, ins_outs, ended-append, written_both}
 
 -- what stays over two calls
-pub stays_on : {l m n : ℕ} {b d e : Bool} → (m ≡ l) × (d ≡ b) → (n ≡ m) × (e ≡ d) → (n ≡ l) × (e ≡ b)
-stays_on p q = (q.0 ∙ p.0, q.1 ∙ p.1)
+pub stays_on : {l m n : ℕ} {b d e : Bool} {x y z : PlanParts} → (m ≡ l) × (d ≡ b) × (y ≡ x) → (n ≡ m) × (e ≡ d) × (z ≡ y) → (n ≡ l) × (e ≡ b) × (z ≡ x)
+stays_on p q = (q.0 ∙ p.0, q.1 ∙ p.1, q.2 ∙ p.2)
 
 -- a fault of the engine is told as in a run whose input goes on
 pub freeze_end_at : (a : Answers) (F : List (List ℕ) → Type 0) (f : EngineFault) (bytes out : List ℕ) (ended : Bool) → IsEnd (going_on a) (status_at f) bytes out ended → IsFreezeEnd a F (status_at f) bytes out ended

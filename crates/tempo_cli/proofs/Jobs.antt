@@ -29,7 +29,8 @@ use Rattle.command_line.specs.declared.words.Mode.TheVariants.{Run, Freeze, Resu
 use Rattle.command_line.proofs.Same.{asked_is, policy_is}
 use Rattle.command_line.proofs.Spelled.{spelled}
 use Rattle.tempo_cli.specs.Answers.{Answers}
-use Rattle.tempo_cli.specs.Jobs.{HasPlan, HasFault, Tells, Job, NoWords, NoPlan, Planned, IsJob, Does, DoesMode, HasQueryReason, IsPlanned, query_status}
+use Rattle.tempo_cli.specs.Jobs.{HasPlan, HasFault, Tells, Job, NoWords, NoPlan, Planned, IsJob, Does, DoesMode, IsCheckpointOf, HasQueryReason, IsPlanned, query_status}
+use Rattle.tempo_cli.specs.Restoring.{AreFront}
 use Rattle.tempo_cli.specs.Feeding.{IsOwn, IsAsked}
 use Rattle.tempo_cli.specs.Status.{Counts}
 use Rattle.tempo_cli.specs.Table.{limit, Ends, IsEnd}
@@ -114,6 +115,13 @@ complete_frozen a Froze Done J r r' w w' f counts none few reads writes = inl re
 complete_frozen a Froze WriteFault J r r' w w' f counts none few reads writes = absurd (writes counts)
 complete_frozen a Froze status J r r' w w' f counts none few reads writes =
     ended_well (going_on a) status (ins J) (outs J) (ended J) r r' w w' f.end counts none few reads writes
+
+pub complete_resumed : (asked : Asked) (plan : PlanParts) (before : List Told) (C : List (List ℕ)) (status : Status) (J : List Entry) (reads reads' writes writes' : ℕ) →
+    DoesMode Resume asked plan status J → Counts reads reads' writes writes' status → IsCheckpointOf asked plan before C → AreFront C (lines (ins J) (ended J)) →
+    (resumed plan asked.policy before (length C)).fault (lines (ins J) (ended J)) (ended J) ≡ None → length (ins J) ≤ limit →
+    (Rose reads reads' → ⊥) → (Rose writes writes' → ⊥) → (status ≡ Done) ⊎ (status ≡ Memory)
+complete_resumed asked plan before C status J r r' w w' does counts froze front =
+    complete (resumed plan asked.policy before (length C)) status J r r' w w' (does.resumed before C froze front) counts
 
 pub complete_told : (plan : PlanParts) (status : Status) (J : List Entry) (reads reads' writes writes' : ℕ) → Tells plan status J → Counts reads reads' writes writes' status →
     (Rose writes writes' → ⊥) → (status ≡ Done) ⊎ (status ≡ Memory)

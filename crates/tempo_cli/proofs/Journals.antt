@@ -5,13 +5,12 @@ use Rattle.std.specs.List.{All}
 use Rattle.std.proofs.lemmas.List.{append-nil, append_cancel_left, length-append}
 use Rattle.wire_lines.specs.Journal.{Entry, In, Out, ins, outs, ended, IsOut, Grows}
 use Rattle.wire_lines.specs.Faults.{Rose}
-use Rattle.wire_lines.specs.Cutter.{CutterState}
 use Rattle.wire_lines.proofs.Growth.{ins-append, outs-append}
 use Rattle.tempo_cli.specs.Answers.{Answers}
 use Rattle.tempo_cli.specs.Table.{limit, IsReady, IsPiece, IsPromptAfter, IsPrompt, IsEnd, Ends}
-use Rattle.tempo_cli.specs.Feeding.{Asked, answers_to, Holds, HasCut, WantsBytes, IsFull, IsOwn}
+use Rattle.tempo_cli.specs.Feeding.{Asked, answers_to, Holds, LineRules, HasGiven, StopsFor, WantsBytes, IsOwn}
 use Rattle.tempo_cli.specs.Status.{Counts}
-use Rattle.tempo_cli.specs.Working.{Worked, Stopped, EndsWith, Reading, AtEnd, Stops, CutsOn, CutsOff, MayCome}
+use Rattle.tempo_cli.specs.Working.{Worked, Stopped, EndsWith, Reading, AtEnd, Stops, GivesOn, GivesOut, MayCome, HasAllCome, EndsFor}
 use Rattle.tempo_cli.specs.declared.answering.Answering.{Answering}
 use Rattle.tempo_cli.specs.declared.status.Status.{Status}
 use Rattle.tempo_cli.specs.declared.status.Status.TheVariants as statuses
@@ -239,27 +238,45 @@ ins_more : (J K O : List Entry) → All IsOut O → ins (J ++ (K ++ O)) ≡ ins 
 ins_more J K O o = ap ins (sym (append_assoc J K O)) ∙ (ins-append (J ++ K) O ∙ (ap (λ x. ins (J ++ K) ++ x) (ins_outs O o) ∙ append-nil (ins (J ++ K))))
 
 -- whatever the engine is: bytes came in, and their lines were given
-pub came_last : {c d : CutterState} {left : ℕ} (J K : List Entry) (b : List ℕ) (n : ℕ) → n ≡ length b → n ≤ left → MayCome c left (J ++ K) →
-    ((bytes : List ℕ) (given : List (List ℕ)) → HasCut bytes given c → HasCut (bytes ++ b) given d) → MayCome d (left - n) (J ++ (K ++ In b ∷ []))
-came_last {c} {d} {left} J K b n is few m cut =
+pub came_last : {k : LineRules} {s t : Answering} {left : ℕ} (J K : List Entry) (b : List ℕ) (n : ℕ) → n ≡ length b → 0 < n → n ≤ left → MayCome k s left (J ++ K) →
+    ((bytes : List ℕ) (given : List (List ℕ)) → HasGiven k bytes given s → HasGiven k (bytes ++ b) given t) → MayCome k t (left - n) (J ++ (K ++ In b ∷ []))
+came_last {k} {s} {t} {left} J K b n is some few m gives =
     let e : ins (J ++ (K ++ In b ∷ [])) ≡ ins (J ++ K) ++ b =
     ap ins (sym (append_assoc J K (In b ∷ []))) ∙ (ins-append (J ++ K) (In b ∷ []) ∙ ap (λ x. ins (J ++ K) ++ x) (append-nil b)) in
     record {
       given = m.given;
-      cut = subst (λ x. HasCut x m.given d) (sym e) (cut (ins (J ++ K)) m.given m.cut);
+      gives = subst (λ x. HasGiven k x m.given t) (sym e) (gives (ins (J ++ K)) m.given m.gives);
+      goes_on = ap ended (sym (append_assoc J K (In b ∷ []))) ∙ read_on (J ++ K) b m.goes_on (omega arith);
       count = omega (arith, ap length e, length-append (ins (J ++ K)) b, m.count);
     }
 
-pub came_on : {c d : CutterState} {left : ℕ} (J K O : List Entry) → MayCome c left (J ++ K) → CutsOn (ins (J ++ K)) d O → MayCome d left (J ++ (K ++ O))
-came_on {c} {d} {left} J K O m o = record {
+pub came_on : {k : LineRules} {s t : Answering} {left : ℕ} (J K O : List Entry) → MayCome k s left (J ++ K) → GivesOn k (ins (J ++ K)) t O → MayCome k t left (J ++ (K ++ O))
+came_on {k} {s} {t} {left} J K O m o = record {
   given = o.more;
-  cut = subst (λ x. HasCut x o.more d) (sym (ins_more J K O o.outs_alone)) o.cut;
+  gives = subst (λ x. HasGiven k x o.more t) (sym (ins_more J K O o.outs_alone)) o.gives;
+  goes_on = ap ended (sym (append_assoc J K O)) ∙ (ended-append (J ++ K) O ∙ (ap (λ x. x || ended O) m.goes_on ∙ ended_outs O o.outs_alone));
   count = omega (arith, ap length (ins_more J K O o.outs_alone), m.count);
 }
 
--- or the input is full
-pub came_off : (J K O : List Entry) (status : Status) → CutsOff (ins (J ++ K)) status O → IsFull status (ins (J ++ (K ++ O)))
-came_off J K O status o = subst (IsFull status) (sym (ins_more J K O o.outs_alone)) o.full
+-- or the run ended
+pub came_off : {k : LineRules} (J K O : List Entry) (status : Status) → GivesOut k (ins (J ++ K)) status O → EndsFor k status (J ++ (K ++ O))
+came_off {k} J K O status o = subst (λ x. StopsFor k status x (ended (J ++ (K ++ O)))) (sym (ins_more J K O o.outs_alone)) (o.reason (ended (J ++ (K ++ O))))
+
+-- or a read gave no bytes: the input has ended
+pub came_all : {k : LineRules} {s t : Answering} {left : ℕ} (J K : List Entry) → (m : MayCome k s left (J ++ K)) → HasGiven k (ins (J ++ K)) m.given t → HasAllCome k t (J ++ (K ++ In [] ∷ []))
+came_all {k} {s} {t} {left} J K m gives =
+    let e : ins (J ++ (K ++ In [] ∷ [])) ≡ ins (J ++ K) = ap ins (sym (append_assoc J K (In [] ∷ []))) ∙ (ins-append (J ++ K) (In [] ∷ []) ∙ append-nil (ins (J ++ K))) in
+    record {
+      given = m.given;
+      gives = subst (λ x. HasGiven k x m.given t) (sym e) gives;
+      at_end = ap ended (sym (append_assoc J K (In [] ∷ []))) ∙ (ended-append (J ++ K) (In [] ∷ []) ∙ ap (λ t. t || true) m.goes_on);
+    }
+
+-- what was due at the end was written
+pub came_end : {k : LineRules} {s : Answering} (J K O : List Entry) (status : Status) → All IsOut O → HasAllCome k s (J ++ K) → StopsFor k status (ins (J ++ K)) true → EndsFor k status (J ++ (K ++ O))
+came_end {k} {s} J K O status o m why =
+    let over : ended (J ++ (K ++ O)) ≡ true = ap ended (sym (append_assoc J K O)) ∙ (ended-append (J ++ K) O ∙ ap (λ x. x || ended O) m.at_end) in
+    subst (λ x. StopsFor k status x (ended (J ++ (K ++ O)))) (sym (ins_more J K O o)) (subst (StopsFor k status (ins (J ++ K))) (sym over) why)
 
 -- where no call failed
 pub own_counts : (r r' w w' : ℕ) (status : Status) → IsOwn status → r' ≡ r → w' ≡ w → Counts r r' w w' status

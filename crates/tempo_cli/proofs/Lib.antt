@@ -8,6 +8,7 @@ pub mod Examples
 pub mod Stopping
 pub mod Journals
 pub mod Numbers
+pub mod Giving
 pub mod Taking
 pub mod Fronts
 pub mod Breaking

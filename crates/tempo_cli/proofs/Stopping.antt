@@ -12,7 +12,7 @@ use Rattle.tempo_engine.specs.declared.fault.EngineFault.{EngineFault}
 use Rattle.tempo_engine.specs.declared.fault.EngineFault.TheVariants.{Bad, Late, Overflow, Memory}
 use Rattle.tempo_cli.specs.Answers.{Answers, IsFinal, IsFront}
 use Rattle.tempo_cli.specs.Table.{limit, IsDone, IsEnd, IsRefused, IsShort}
-use Rattle.tempo_cli.specs.Feeding.{Asked, answers_to, said, status_at, Within, Ended, IsOwn, IsFull}
+use Rattle.tempo_cli.specs.Feeding.{Asked, answers_to, said, status_at, Within, Ended, IsOwn}
 use Rattle.tempo_cli.specs.Resumed.{going_on}
 use Rattle.tempo_cli.specs.declared.answering.Answering.{Answering}
 use Rattle.tempo_cli.proofs.Lines.{lines_are_free}
@@ -26,13 +26,6 @@ own_at (Bad line cause) = tt
 own_at (Late line time bound) = tt
 own_at (Overflow punctuation node time) = tt
 own_at Memory = tt
-
--- nor is the input full
-pub full_at : (f : EngineFault) (bytes : List ℕ) → IsFull (status_at f) bytes
-full_at (Bad line cause) bytes = tt
-full_at (Late line time bound) bytes = tt
-full_at (Overflow punctuation node time) bytes = tt
-full_at Memory bytes = tt
 
 -- what is asked of an input that goes on is final too
 pub going_final : (a : Answers) → IsFinal a → IsFinal (going_on a)

@@ -1,14 +1,14 @@
 -- An engine that goes on from what was read back.
-use Rattle.std.proofs.Common.{◌≡◌, ◌≤◌, ◌<◌, ◌+◌, ℕ, suc, List, [], ◌∷◌, ◌++◌, length, drop, take, Bool, true, false, Some, None, inl, inr, refl, sym, ◌∙◌, ap, arith, append_assoc, append-nil, subst, true≢false}
+use Rattle.std.proofs.Common.{◌≡◌, ◌≤◌, ℕ, suc, List, [], ◌++◌, length, drop, take, Bool, true, false, None, inl, inr, refl, sym, ◌∙◌, ap, arith, append_assoc, append-nil, subst}
 use Rattle.std.specs.Prelude.{◌||◌}
 use Rattle.std.specs.List.{All}
-use Rattle.std.proofs.lemmas.List.{drop_all, length-append, take_all}
-use Rattle.wire_lines.specs.Journal.{Entry, IsOut, ins, outs, ended}
+use Rattle.std.proofs.lemmas.List.{drop_all, take_all}
+use Rattle.wire_lines.specs.Journal.{Entry, IsOut, ins, ended}
 use Rattle.wire_lines.specs.Cutter.{CutterState}
 use Rattle.wire_lines.specs.Cuts.{Cuts}
 use Rattle.wire_lines.specs.Lines.{lines}
 use Rattle.wire_lines.proofs.Cutting.{lines_go_on}
-use Rattle.wire_lines.proofs.Growth.{ins-append, outs-append}
+use Rattle.wire_lines.proofs.Growth.{ins-append}
 use Rattle.plan_model.specs.IsPlan.{PlanParts}
 use Rattle.plan_model.specs.declared.fault.QueryFault.{QueryFault}
 use Rattle.admission.specs.Entries.{Told}
@@ -20,22 +20,20 @@ use Rattle.checkpoint.specs.Form.{FormView, form_of}
 use Rattle.checkpoint.specs.Text.{checkpoint_lines}
 use Rattle.tempo_engine.specs.Fed.{Fed, last_number}
 use Rattle.tempo_engine.specs.Frozen.{Fits, IsState}
-use Rattle.tempo_engine.specs.Went.{EngineView}
-use Rattle.tempo_cli.specs.Answers.{Answers}
 use Rattle.tempo_cli.specs.Table.{limit, Ends}
 use Rattle.tempo_cli.specs.Told.{told_from, fed_from}
 use Rattle.tempo_cli.specs.Freezing.{Froze, IsShort}
 use Rattle.tempo_cli.specs.Restoring.{AreFront, IsReadBack, HasRestored, IsUnclaimed, Resumes}
-use Rattle.tempo_cli.specs.Feeding.{Asked, answers_to, said, fed_by, Took, IsFull, IsAsked}
-use Rattle.tempo_cli.specs.Restored.{IsQuiet, CameIn, GoesOnFrom, GrewBy, IsFitting}
-use Rattle.tempo_cli.specs.Jobs.{HasResumed}
+use Rattle.tempo_cli.specs.Feeding.{Asked, answers_to, said, fed_by, Took, HasCut, LineRules, IsAsked}
+use Rattle.tempo_cli.specs.Working.{EndsFor}
+use Rattle.tempo_cli.specs.Restored.{IsQuiet, CameIn, GoesOnFrom, StandsBehind, GrewBy, IsFitting}
 use Rattle.tempo_cli.specs.declared.answering.Answering.{Answering}
 use Rattle.tempo_cli.specs.declared.resuming.Restoring.{Restoring}
 use Rattle.tempo_cli.specs.declared.status.Status.{Status}
 use Rattle.tempo_cli.specs.declared.status.Status.TheVariants as statuses
 use Rattle.tempo_cli.proofs.Behind.{behind}
-use Rattle.tempo_cli.proofs.Breaking.{quiet_resumed, quiet_less, same_whole}
-use Rattle.tempo_cli.proofs.Fronts.{front_again}
+use Rattle.tempo_cli.proofs.Breaking.{quiet_resumed, same_whole}
+use Rattle.tempo_cli.proofs.Giving.{bad_behind}
 use Rattle.tempo_cli.proofs.Journals.{ended-append, ins_outs}
 use Rattle.tempo_cli.proofs.Lines.{lines_within}
 use Rattle.tempo_cli.proofs.Moves.{given_low}
@@ -51,6 +49,12 @@ fitting query workers plan policy state = record {
   number = λ before f fits. fits.by.number;
   state = state;
 }
+
+rules : PlanParts → ℕ → ℕ → LineRules
+rules plan base skipped = record { streams = plan.streams; base = base; skipped = skipped }
+
+same_rules : (p : PlanParts) (b n : ℕ) (plan : PlanParts) (base skipped : ℕ) → p ≡ plan → b ≡ base → n ≡ skipped → rules p b n ≡ rules plan base skipped
+same_rules p b n plan base skipped e f g = ap (λ x. rules x b n) e ∙ (ap (λ x. rules plan x n) f ∙ ap (rules plan base) g)
 
 -- a checkpoint that came in stands in front of all lines, whatever came behind it
 module _ {form : FormView} {f : FrozenView} {r : Restoring} {left : ℕ} {over : Bool} {J : List Entry} (k : CameIn form f r left over J) where
@@ -91,15 +95,49 @@ module _ {form : FormView} {f : FrozenView} {r : Restoring} {left : ℕ} {over :
   pub restored : (IsState : FrozenView → Type 0) → IsState f → (K : List Entry) → HasRestored form IsState (J ++ K)
   restored IsState state K = record { frozen = f; state = state; front = J; back = K; are = refl; read = came_read _ came_now; unwritten = k.heard.unwritten }
 
+  -- how the lines behind it are read
+  pub rules_behind : PlanParts → LineRules
+  rules_behind plan = record { streams = plan.streams; base = f.lines; skipped = length k.given }
+
+  -- an engine that was made of it goes on from there
+  pub stands_behind : (plan : PlanParts) (s : Answering) → s.cutter ≡ r.cutter → s.engine.fault ≡ None → s.engine.parts.dataflow.plan ≡ plan → s.base ≡ f.lines → s.skipped ≡ r.taken →
+      StandsBehind (rules_behind plan) s left over J
+  unfolding rules rules_behind
+  stands_behind plan s cutter fine planned base skipped = record {
+    fine = fine;
+    may_come = λ e. record {
+      given = k.given;
+      gives = record {
+        cut = subst (HasCut (ins J) k.given) (sym cutter) (k.within e);
+        fine = fine;
+        rules = same_rules s.engine.parts.dataflow.plan s.base s.skipped plan f.lines (length k.given) planned base (skipped ∙ k.number);
+        low = k.whole.of_form.read.times.0;
+        passed = omega arith;
+      };
+      goes_on = k.ended_is ∙ e;
+      count = k.count;
+    };
+  }
+
   -- whatever is told of what is behind it
-  pub behind_unclaimed : (IsState : FrozenView → Type 0) → IsState f → (status : Status) (K : List Entry) → IsFull status (ins (J ++ K)) → (status ≡ statuses.BadWords → ⊥) → ((fault : QueryFault) → status ≡ statuses.BadQuery fault → ⊥) → IsUnclaimed form IsState status (J ++ K)
-  behind_unclaimed IsState state statuses.InputTooLong K full words query = record { long = full; silent = inr (restored IsState state K) }
-  behind_unclaimed IsState state statuses.ReadFault K full words query = inr (restored IsState state K)
-  behind_unclaimed IsState state statuses.Memory K full words query = inr (restored IsState state K)
-  behind_unclaimed IsState state statuses.BadWords K full words query = absurd (words refl)
-  behind_unclaimed IsState state (statuses.BadQuery fault) K full words query = absurd (query fault refl)
-  behind_unclaimed IsState state (statuses.BadCheckpoint line) K full words query = absurd full
-  behind_unclaimed IsState state status K full words query = restored IsState state K
+  pub behind_unclaimed : (IsState : FrozenView → Type 0) (plan : PlanParts) → IsState f → (status : Status) (K : List Entry) → (over ≡ true → All IsOut K) → EndsFor (rules_behind plan) status (J ++ K) →
+      (status ≡ statuses.BadWords → ⊥) → ((fault : QueryFault) → status ≡ statuses.BadQuery fault → ⊥) → IsUnclaimed form IsState plan.streams status (J ++ K)
+  unfolding restored rules_behind
+  behind_unclaimed IsState plan state statuses.InputTooLong K o why words query = record { long = why; silent = inr (restored IsState state K) }
+  behind_unclaimed IsState plan state statuses.ReadFault K o why words query = inr (restored IsState state K)
+  behind_unclaimed IsState plan state statuses.Memory K o why words query = inr (restored IsState state K)
+  behind_unclaimed IsState plan state statuses.BadWords K o why words query = absurd (words refl)
+  behind_unclaimed IsState plan state (statuses.BadQuery fault) K o why words query = absurd (query fault refl)
+  behind_unclaimed IsState plan state (statuses.BadCheckpoint line) K o why words query = absurd why
+  behind_unclaimed IsState plan state (statuses.Malformed n cause) K o why words query =
+      let front = came_front K o in
+      record {
+        restored = restored IsState state K;
+        behind = front.0;
+        lines_are = front.1 ∙ ap (λ x. x ++ front.0) k.whole.text;
+        bad = bad_behind (rules_behind plan) k.given front.0 (lines (ins (J ++ K)) (ended (J ++ K))) n cause front.1 refl why;
+      }
+  behind_unclaimed IsState plan state status K o why words query = restored IsState state K
 
   module _ {Fits : List Told → FrozenView → Type 0} {IsState : FrozenView → Type 0} {plan : PlanParts} {policy : Policy} (fits : IsFitting form Fits IsState plan policy) where
     -- what is asked is asked behind the lines that were read
@@ -109,13 +147,13 @@ module _ {form : FormView} {f : FrozenView} {r : Restoring} {left : ℕ} {over :
         let same = same_whole froze front f fits.apart k.whole.of_form (c.0, c.1 ∙ ap (λ x. x ++ c.0) k.whole.text) in
         (same, froze.text ∙ (ap (checkpoint_lines form.head) same ∙ sym k.whole.text))
 
-    pub behind_resumes : (status : Status) (K : List Entry) → GrewBy over status J K → (status ≡ statuses.BadWords → ⊥) → ((fault : QueryFault) → status ≡ statuses.BadQuery fault → ⊥) → IsState f →
+    pub behind_resumes : (status : Status) (K : List Entry) → GrewBy (rules_behind plan) over status J K → (status ≡ statuses.BadWords → ⊥) → ((fault : QueryFault) → status ≡ statuses.BadQuery fault → ⊥) → IsState f →
         ((x : (before : List Told) × Fits before f) → Ends (answers_to (behind plan policy x.0 (length k.given))) status (J ++ K)) → Resumes form Fits IsState plan policy status (J ++ K)
     behind_resumes status K grew words query state each = record {
       resumed = λ before C froze front.
           let same = same_lines froze K grew.outs_alone front in
           subst (λ n. Ends (answers_to (behind plan policy before n)) status (J ++ K)) (ap length (sym same.1)) (each (before, subst (Fits before) same.0 froze.fits));
-      unclaimed = behind_unclaimed IsState state status K grew.full words query;
+      unclaimed = behind_unclaimed IsState plan state status K grew.outs_alone grew.reason words query;
     }
 
     -- it is no state

@@ -1,5 +1,5 @@
 -- Lines that a reader of a checkpoint takes.
-use Rattle.std.proofs.Common.{◌≡◌, ◌⊎◌, ◌≤◌, ◌<◌, ◌+◌, ℕ, zero, suc, List, [], ◌∷◌, ◌++◌, length, drop, take, Bool, true, false, Option, Some, None, Result, Ok, Err, inl, inr, refl, sym, ◌∙◌, ap, arith, append_assoc, append-nil, subst}
+use Rattle.std.proofs.Common.{◌≡◌, ◌⊎◌, ◌≤◌, ◌<◌, ◌+◌, ℕ, zero, suc, List, [], ◌∷◌, ◌++◌, length, take, Bool, true, Some, None, Ok, Err, inl, inr, refl, sym, ◌∙◌, ap, arith, append-nil, subst}
 use Rattle.std.specs.List.{All}
 use Rattle.std.proofs.lemmas.List.{length-append, take_all}
 use Rattle.std.proofs.lemmas.List.Elements.{All-append}
@@ -13,12 +13,11 @@ use Rattle.frozen_state.specs.Frozen.{FrozenView}
 use Rattle.checkpoint.specs.Form.{FormView}
 use Rattle.checkpoint.specs.Text.{checkpoint_lines, IsOfForm, BeginsText, IsUnfinished}
 use Rattle.checkpoint.specs.Taking.{ReaderView, lines_taken}
-use Rattle.tempo_cli.specs.Answers.{Answers}
 use Rattle.tempo_cli.specs.Table.{limit}
 use Rattle.tempo_cli.specs.Freezing.{IsShort}
-use Rattle.tempo_cli.specs.Restoring.{AreFront, IsBegun, IsNoLine, IsNotWhole}
+use Rattle.tempo_cli.specs.Restoring.{AreFront, IsBegun, IsNotWhole}
 use Rattle.tempo_cli.specs.Feeding.{HasCut, WantsBytes}
-use Rattle.tempo_cli.specs.Restored.{Reads, IsWhole, HasRead, TakesLine, IsRestoreEnd, StopsAt}
+use Rattle.tempo_cli.specs.Restored.{Reads, IsWhole, HasRead, TakesLine, StopsAt}
 use Rattle.tempo_cli.specs.declared.status.Status.{Status}
 use Rattle.tempo_cli.specs.declared.status.Status.TheVariants.{InputTooLong, Memory, BadCheckpoint}
 use Rattle.tempo_cli.specs.declared.resuming.Restoring.{Restoring}

@@ -13,6 +13,9 @@ use Rattle.tempo_engine.specs.Fed.{Fed, last_number}
 use Rattle.tempo_engine.specs.Output.{plan_text}
 use Rattle.tempo_engine.specs.Went.{EngineView}
 use Rattle.tempo_cli.specs.Answers.{Answers}
+use Rattle.tw_rows.specs.declared.schema.StreamDef.{StreamDef}
+use Rattle.row_reader.specs.declared.entry.BadLine.{BadLine}
+use Rattle.tempo_cli.specs.Restoring.{AreFront, IsCause}
 use Rattle.tempo_cli.specs.Table.{limit, IsEnd}
 use Rattle.tempo_cli.specs.Told.{told_from, fed_from}
 use Rattle.tempo_engine.specs.declared.fault.EngineFault.{EngineFault}
@@ -72,6 +75,38 @@ nothing = record { fault = λ lines ended. None; text = λ lines ended. [] }
 abbrev pub HasCut : List ℕ → List (List ℕ) → CutterState → Type 0
 HasCut bytes given c = Within nothing bytes given c
 
+-- how lines are read, and numbered for an engine: as those of these streams, on from the number `base`, behind the lines that tell
+-- a checkpoint
+pub record LineRules : Type 0 where
+  pub streams : List StreamDef
+  pub base : ℕ
+  pub skipped : ℕ
+
+abbrev pub rules_of : Answering → LineRules
+rules_of s = record { streams = s.engine.parts.dataflow.plan.streams; base = s.base; skipped = s.skipped }
+
+-- whatever the engine is: it has no fault, and by these rules it was given these lines of the bytes
+pub record HasGiven (k : LineRules) (bytes : List ℕ) (given : List (List ℕ)) (s : Answering) : Type 0 where
+  pub cut : HasCut bytes given s.cutter
+  pub fine : s.engine.fault ≡ None
+  pub rules : rules_of s ≡ k
+  pub low : k.base ≤ 2 ^ 62
+  pub passed : k.skipped ≤ length given
+
+-- one of the lines is bad for the cause, and has this number for the engine
+pub record HasBad (k : LineRules) (ls : List (List ℕ)) (n : ℕ) (cause : BadLine) : Type 0 where
+  pub before : List (List ℕ)
+  pub line : List ℕ
+  pub front : AreFront (before ++ line ∷ []) ls
+  pub passed : k.skipped ≤ length before
+  pub number : n + k.skipped ≡ k.base + length before + 1
+  pub cause_is : IsCause k.streams n line cause
+
+-- where the fault tells a bad line it is the one of that number, which is bad for its cause
+abbrev pub TellsLine : List StreamDef → ℕ → List ℕ → EngineFault → Type 0
+TellsLine streams number line (faults.Bad n cause) = (n ≡ number) × IsCause streams number line cause
+TellsLine streams number line fault = Unit {0}
+
 -- it has taken these lines of the bytes
 pub record Holds (q : Asked) (bytes : List ℕ) (given : List (List ℕ)) (s : Answering) : Type 0 where
   pub header : s.header ≡ q.header
@@ -117,7 +152,7 @@ pub record HasTaken {E : Type 0} (before now : Option (List Entry)) (old new : A
   pub count : length piece ≡ count_of result
   pub told : MatchResult result (λ _. Adds before now (In piece ∷ [])) (λ _. Adds before now [])
   pub holds : (q : Asked) (bytes : List ℕ) (given : List (List ℕ)) → Holds q bytes given old → Holds q (bytes ++ piece) given new
-  pub cut : (bytes : List ℕ) (given : List (List ℕ)) → HasCut bytes given old.cutter → HasCut (bytes ++ piece) given new.cutter
+  pub gives : (k : LineRules) (bytes : List ℕ) (given : List (List ℕ)) → HasGiven k bytes given old → HasGiven k (bytes ++ piece) given new
   pub wants : piece ≡ [] → WantsBytes new.cutter
 
 -- what the next line comes to: all whole lines were taken; or a line was, by which the text grows; or the run
@@ -128,17 +163,23 @@ Comes q bytes given s (Out out) = (line : List ℕ) × Holds q bytes (given ++ l
     × ((answers_to q).text (given ++ line ∷ []) false ≡ (answers_to q).text given false ++ out.items)
 Comes q bytes given s (Stop status) = (ended : Bool) → IsEnd (answers_to q) status bytes ((answers_to q).text given false) ended
 
--- the status tells of lines and not of a checkpoint; where the input is too long it has one byte more than it may have
-abbrev pub IsFull : Status → List ℕ → Type 0
-IsFull statuses.InputTooLong bytes = length bytes ≡ limit + 1
-IsFull (statuses.BadCheckpoint line) bytes = ⊥
-IsFull status bytes = Unit {0}
+-- why the run ended so, whatever the engine is: where the input is too long it has one byte more than it may have, and where a line
+-- is bad it is there. No status tells of a checkpoint
+abbrev pub StopsFor : LineRules → Status → List ℕ → Bool → Type 0
+StopsFor k statuses.InputTooLong bytes ended = length bytes ≡ limit + 1
+StopsFor k (statuses.Malformed n cause) bytes ended = HasBad k (lines bytes ended) n cause
+StopsFor k (statuses.BadCheckpoint line) bytes ended = ⊥
+StopsFor k status bytes ended = Unit {0}
 
--- what the next line comes to for the cutter, whatever the engine is
-abbrev pub StepCuts : List ℕ → List (List ℕ) → CutterState → Step → Type 0
-StepCuts bytes given c More = HasCut bytes given c
-StepCuts bytes given c (Out out) = (line : List ℕ) × HasCut bytes (given ++ line ∷ []) c
-StepCuts bytes given c (Stop status) = IsFull status bytes
+-- what the next line comes to, whatever the engine is
+abbrev pub StepGives : LineRules → List ℕ → List (List ℕ) → Answering → Step → Type 0
+StepGives k bytes given s More = HasGiven k bytes given s
+StepGives k bytes given s (Out out) = (line : List ℕ) × HasGiven k bytes (given ++ line ∷ []) s
+StepGives k bytes given s (Stop status) = (ended : Bool) → StopsFor k status bytes ended
+
+-- by whichever rules it was given whichever lines of whichever bytes
+abbrev pub WhateverGave : Answering → (LineRules → List ℕ → List (List ℕ) → Type 0) → Type 0
+WhateverGave s P = (k : LineRules) (bytes : List ℕ) (given : List (List ℕ)) → HasGiven k bytes given s → P k bytes given
 
 -- the status of a run that the engine's fault ends
 abbrev pub status_at : EngineFault → Status

@@ -16,9 +16,10 @@ use Rattle.tempo_cli.specs.Working.{Reading}
 use Rattle.tempo_cli.specs.declared.answering.Answering.{Answering}
 use Rattle.tempo_cli.specs.declared.status.Status.{Status}
 
--- the engine has as many workers, and for it the input goes on where it did
+-- the engine has as many workers and the same plan, and for it the input goes on where it did
 abbrev pub StaysOpen : EngineView → EngineView → Type 0
-StaysOpen old new = (new.parts.dataflow.workers ≡ old.parts.dataflow.workers) × (new.ended ≡ old.ended)
+StaysOpen old new =
+    (new.parts.dataflow.workers ≡ old.parts.dataflow.workers) × (new.ended ≡ old.ended) × (new.parts.dataflow.plan ≡ old.parts.dataflow.plan)
 
 -- the engine's fault ended the run, in which nothing is due for the end of the input
 pub record StopsGoing (a : Answers) (status : Status) (bytes out : List ℕ) (ended : Bool) : Type 0 where

@@ -7,6 +7,7 @@ use Rattle.plan_model.specs.declared.fault.QueryError.{QueryError}
 use Rattle.plan_model.specs.declared.fault.QueryError.TheVariants as errors
 use Rattle.plan_model.specs.IsPlan.{PlanParts}
 use Rattle.admission.specs.declared.policy.Policy.{Policy}
+use Rattle.admission.specs.Entries.{Told}
 use Rattle.query_text.specs.IsParse.{Spells, IsSmallText, IsTextFault}
 use Rattle.query_text.specs.declared.query.Query.{Query}
 use Rattle.query_plan.specs.Planned.{planned}
@@ -72,9 +73,13 @@ pub record Tells (plan : PlanParts) (status : Status) (J : List Entry) : Type 0 
 abbrev pub form_asked : Asked → PlanParts → FormView
 form_asked asked plan = form_of asked.query asked.workers asked.policy plan
 
--- the lines C are a checkpoint of what is asked for, after these lines of an input
+-- the lines C are a checkpoint of what is asked for, where an engine was fed these
+abbrev pub IsCheckpointOf : Asked → PlanParts → List Told → List (List ℕ) → Type 0
+IsCheckpointOf asked plan before C = Froze (form_asked asked plan) (Fits asked.workers plan asked.policy before) C
+
+-- after these lines of an input
 abbrev pub HasFroze : Asked → PlanParts → List (List ℕ) → List (List ℕ) → Type 0
-HasFroze asked plan lines C = Froze (form_asked asked plan) (Fits asked.workers plan asked.policy (fed plan.streams asked.header lines)) C
+HasFroze asked plan lines C = IsCheckpointOf asked plan (fed plan.streams asked.header lines) C
 
 -- the run went on from a checkpoint of the query, so many workers, the plan and the policy
 abbrev pub HasResumed : List ℕ → ℕ → PlanParts → Policy → Status → List Entry → Type 0

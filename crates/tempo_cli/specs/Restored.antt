@@ -18,8 +18,8 @@ use Rattle.tempo_cli.specs.Answers.{Answers}
 use Rattle.tempo_cli.specs.Table.{limit, IsPrompt}
 use Rattle.tempo_cli.specs.Freezing.{IsShort}
 use Rattle.tempo_cli.specs.Restoring.{AreFront, IsBegun, IsNotWhole}
-use Rattle.tempo_cli.specs.Feeding.{Asked, answers_to, Ended as HasEnded, HasCut, IsFull, IsOwn}
-use Rattle.tempo_cli.specs.Working.{Reading}
+use Rattle.tempo_cli.specs.Feeding.{Asked, answers_to, Ended as HasEnded, HasCut, LineRules, IsOwn}
+use Rattle.tempo_cli.specs.Working.{Reading, MayCome, EndsFor}
 use Rattle.tempo_cli.specs.declared.answering.Answering.{Answering}
 use Rattle.tempo_cli.specs.declared.status.Status.{Status}
 use Rattle.tempo_cli.specs.declared.status.Status.TheVariants.{InputTooLong, ReadFault, Memory, BadCheckpoint}
@@ -153,7 +153,12 @@ pub record GoesOnFrom (q : Asked) (s : Answering) (left : ℕ) (over : Bool) (J 
   pub reading : over ≡ false → Reading q s left J
   pub all : over ≡ true → HasEnded q (ins J) (outs J) s
 
--- whatever is written behind it
-pub record GrewBy (over : Bool) (status : Status) (J K : List Entry) : Type 0 where
-  pub full : IsFull status (ins (J ++ K))
+-- whatever the engine is that goes on: it has no fault, and so many bytes may still come, or the input has ended
+pub record StandsBehind (k : LineRules) (s : Answering) (left : ℕ) (over : Bool) (J : List Entry) : Type 0 where
+  pub fine : s.engine.fault ≡ None
+  pub may_come : over ≡ false → MayCome k s left J
+
+-- and whatever is written behind it
+pub record GrewBy (k : LineRules) (over : Bool) (status : Status) (J K : List Entry) : Type 0 where
+  pub reason : EndsFor k status (J ++ K)
   pub outs_alone : over ≡ true → All IsOut K

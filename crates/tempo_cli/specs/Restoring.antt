@@ -1,5 +1,5 @@
 -- What a run has done that reads a checkpoint and goes on from it, by its status.
-use Rattle.std.specs.Prelude.{◌≡◌, ◌<◌, ◌≤◌, ◌+◌, ◌⊎◌, ◌++◌, ℕ, Bool, true, false, nat_eq, List, [], ◌∷◌, Some, Err, take, length, slice_get, All}
+use Rattle.std.specs.Prelude.{◌≡◌, ◌<◌, ◌≤◌, ◌+◌, ◌⊎◌, ◌++◌, ℕ, Bool, true, false, List, [], ◌∷◌, Err, take, length, All}
 use Rattle.wire_lines.specs.Journal.{Entry, ins, outs, ended}
 use Rattle.wire_lines.specs.Lines.{lines, whole, rest}
 use Rattle.plan_model.specs.IsPlan.{PlanParts}
@@ -8,7 +8,11 @@ use Rattle.admission.specs.declared.policy.Policy.{Policy}
 use Rattle.frozen_state.specs.Frozen.{FrozenView}
 use Rattle.checkpoint.specs.Form.{FormView}
 use Rattle.checkpoint.specs.Text.{checkpoint_lines, IsOfForm, BeginsText, IsUnfinished}
+use Rattle.tw_rows.specs.declared.schema.StreamDef.{StreamDef}
+use Rattle.row_reader.specs.declared.entry.BadLine.{BadLine}
+use Rattle.row_reader.specs.declared.entry.BadLine.TheVariants as causes
 use Rattle.tempo_cli.specs.Table.{limit, Ends}
+use Rattle.tempo_cli.specs.Told.{entry_at}
 use Rattle.tempo_cli.specs.Resumed.{resumed}
 use Rattle.tempo_cli.specs.Freezing.{Froze, IsShort}
 use Rattle.tempo_cli.specs.declared.status.Status.{Status}
@@ -80,24 +84,44 @@ pub record HasRestored (form : FormView) (IsState : FrozenView → Type 0) (J : 
 abbrev pub IsSilent : FormView → (FrozenView → Type 0) → List Entry → Type 0
 IsSilent form IsState J = (outs J ≡ []) ⊎ HasRestored form IsState J
 
+-- the line of that number is bad for this cause, or it is an end without an open start, of which only an engine knows
+abbrev pub IsCause : List StreamDef → ℕ → List ℕ → BadLine → Type 0
+IsCause streams number line cause = (cause ≡ causes.NoStart) ⊎ (entry_at streams false number line ≡ Err cause)
+
+-- behind a checkpoint whose last line before it has the number `last`, line n is bad for this cause. Where `last` is 2, the second
+-- line behind it is line 4
+pub record IsBadLine (streams : List StreamDef) (last : ℕ) (behind : List (List ℕ)) (n : ℕ) (cause : BadLine) : Type 0 where
+  pub before : List (List ℕ)
+  pub line : List ℕ
+  pub front : AreFront (before ++ line ∷ []) behind
+  pub number : n ≡ last + length before + 1
+  pub cause_is : IsCause streams n line cause
+
+-- a checkpoint of a state came in whole before anything was written, and a line behind it is bad
+pub record IsMalformed (form : FormView) (IsState : FrozenView → Type 0) (streams : List StreamDef) (n : ℕ) (cause : BadLine) (J : List Entry) : Type 0 where
+  pub restored : HasRestored form IsState J
+  pub behind : List (List ℕ)
+  pub lines_are : lines (ins J) (ended J) ≡ checkpoint_lines form.head restored.frozen ++ behind
+  pub bad : IsBadLine streams restored.frozen.lines behind n cause
+
 -- one byte more than the input may have came in; where no checkpoint did, the lines before it are of one that goes on
 pub record IsOverfull (form : FormView) (IsState : FrozenView → Type 0) (J : List Entry) : Type 0 where
   pub long : length (ins J) ≡ limit + 1
   pub silent : ((outs J ≡ []) × IsBegun form (whole (take limit (ins J))) × (length (rest (take limit (ins J))) ≤ 65536)) ⊎ HasRestored form IsState J
 
 -- whatever came in: while it holds no whole checkpoint nothing is written, and no status tells of what is behind it
-abbrev pub IsUnclaimed : FormView → (FrozenView → Type 0) → Status → List Entry → Type 0
-IsUnclaimed form IsState Done J = HasRestored form IsState J
-IsUnclaimed form IsState BadWords J = ⊥
-IsUnclaimed form IsState (BadQuery fault) J = ⊥
-IsUnclaimed form IsState (Malformed line cause) J = HasRestored form IsState J
-IsUnclaimed form IsState (Late line time bound) J = HasRestored form IsState J
-IsUnclaimed form IsState (Overflow punct node time) J = HasRestored form IsState J
-IsUnclaimed form IsState InputTooLong J = IsOverfull form IsState J
-IsUnclaimed form IsState ReadFault J = IsSilent form IsState J
-IsUnclaimed form IsState WriteFault J = HasRestored form IsState J
-IsUnclaimed form IsState Memory J = IsSilent form IsState J
-IsUnclaimed form IsState (BadCheckpoint line) J = IsBadCheckpoint form IsState line J
+abbrev pub IsUnclaimed : FormView → (FrozenView → Type 0) → List StreamDef → Status → List Entry → Type 0
+IsUnclaimed form IsState streams Done J = HasRestored form IsState J
+IsUnclaimed form IsState streams BadWords J = ⊥
+IsUnclaimed form IsState streams (BadQuery fault) J = ⊥
+IsUnclaimed form IsState streams (Malformed line cause) J = IsMalformed form IsState streams line cause J
+IsUnclaimed form IsState streams (Late line time bound) J = HasRestored form IsState J
+IsUnclaimed form IsState streams (Overflow punct node time) J = HasRestored form IsState J
+IsUnclaimed form IsState streams InputTooLong J = IsOverfull form IsState J
+IsUnclaimed form IsState streams ReadFault J = IsSilent form IsState J
+IsUnclaimed form IsState streams WriteFault J = HasRestored form IsState J
+IsUnclaimed form IsState streams Memory J = IsSilent form IsState J
+IsUnclaimed form IsState streams (BadCheckpoint line) J = IsBadCheckpoint form IsState line J
 
 -- where the lines begin with a checkpoint of lines before it, the run is one over those lines and the ones behind it; and whatever
 -- came in, it is safe
@@ -105,4 +129,4 @@ pub record Resumes (form : FormView) (Fits : List Told → FrozenView → Type 0
     (status : Status) (J : List Entry) : Type 0 where
   pub resumed : (before : List Told) (C : List (List ℕ)) → Froze form (Fits before) C → AreFront C (lines (ins J) (ended J)) →
       Ends (resumed plan policy before (length C)) status J
-  pub unclaimed : IsUnclaimed form IsState status J
+  pub unclaimed : IsUnclaimed form IsState plan.streams status J

@@ -1,10 +1,9 @@
 -- What private contracts say of a run in the midst of its lines.
-use Rattle.std.specs.Prelude.{◌≡◌, ◌+◌, ◌≤◌, ℕ, Bool, false, true, Option, List, [], ◌++◌, length, Result, Ok, Err}
+use Rattle.std.specs.Prelude.{◌≡◌, ◌+◌, ◌≤◌, ℕ, Bool, false, true, Option, List, ◌++◌, length, Result, Ok, Err}
 use Rattle.std.specs.List.{All}
 use Rattle.wire_lines.specs.Journal.{Entry, Grows, ins, outs, ended, IsOut}
 use Rattle.tempo_cli.specs.Answers.{Answers}
-use Rattle.wire_lines.specs.Cutter.{CutterState}
-use Rattle.tempo_cli.specs.Feeding.{Asked, answers_to, Holds, HasCut, IsFull}
+use Rattle.tempo_cli.specs.Feeding.{Asked, answers_to, Holds, LineRules, HasGiven, StopsFor}
 use Rattle.tempo_cli.specs.Table.{limit, Ends, IsEnd, IsPrompt}
 use Rattle.tempo_cli.specs.declared.answering.Answering.{Answering}
 use Rattle.tempo_cli.specs.declared.status.Status.{Status}
@@ -38,29 +37,41 @@ StopsWith before now old status = (q : Asked) (bytes : List ℕ) (given : List (
     Grows before now (Stopped q bytes given status)
 
 -- whatever the engine is: what was written is written, and more lines of the bytes were given
-pub record CutsOn (bytes : List ℕ) (c : CutterState) (O : List Entry) : Type 0 where
+pub record GivesOn (k : LineRules) (bytes : List ℕ) (s : Answering) (O : List Entry) : Type 0 where
   pub outs_alone : All IsOut O
   pub more : List (List ℕ)
-  pub cut : HasCut bytes more c
+  pub gives : HasGiven k bytes more s
 
--- or the run ended so
-pub record CutsOff (bytes : List ℕ) (status : Status) (O : List Entry) : Type 0 where
+-- or the run ended so, whether or not the input ends here
+pub record GivesOut (k : LineRules) (bytes : List ℕ) (status : Status) (O : List Entry) : Type 0 where
   pub outs_alone : All IsOut O
-  pub full : IsFull status bytes
+  pub reason : (ended : Bool) → StopsFor k status bytes ended
 
--- whatever lines of whatever bytes the cutter has given
-abbrev pub WhateverCut : Option (List Entry) → Option (List Entry) → CutterState → (List ℕ → List Entry → Type 0) → Type 0
-WhateverCut before now c P = (bytes : List ℕ) (given : List (List ℕ)) → HasCut bytes given c → length bytes ≤ limit + 1 → Grows before now (P bytes)
+-- whatever lines of whatever bytes were given
+abbrev pub AfterGiven : Option (List Entry) → Option (List Entry) → Answering → (LineRules → List ℕ → List Entry → Type 0) → Type 0
+AfterGiven before now s P = (k : LineRules) (bytes : List ℕ) (given : List (List ℕ)) → HasGiven k bytes given s → length bytes ≤ limit + 1 →
+    Grows before now (P k bytes)
 
--- so many bytes may still come to the cutter
-pub record MayCome (c : CutterState) (left : ℕ) (J : List Entry) : Type 0 where
+-- so many bytes may still come
+pub record MayCome (k : LineRules) (s : Answering) (left : ℕ) (J : List Entry) : Type 0 where
   pub given : List (List ℕ)
-  pub cut : HasCut (ins J) given c
+  pub gives : HasGiven k (ins J) given s
+  pub goes_on : ended J ≡ false
   pub count : length (ins J) + left ≡ limit + 1
 
--- whatever came to the cutter before, and then the bytes of both
-abbrev pub WhateverCame : Option (List Entry) → Option (List Entry) → CutterState → ℕ → (List ℕ → Type 0) → Type 0
-WhateverCame before now c left P = (J : List Entry) → MayCome c left J → Grows before now (λ K. P (ins (J ++ K)))
+-- the input has ended, and all lines that came in were given, but a last one that no LF ends
+pub record HasAllCome (k : LineRules) (s : Answering) (J : List Entry) : Type 0 where
+  pub given : List (List ℕ)
+  pub gives : HasGiven k (ins J) given s
+  pub at_end : ended J ≡ true
+
+-- the run ended so, for a reason that is in what came in
+abbrev pub EndsFor : LineRules → Status → List Entry → Type 0
+EndsFor k status J = StopsFor k status (ins J) (ended J)
+
+-- whatever came in before, and then all of both
+abbrev pub WhateverCame : Option (List Entry) → Option (List Entry) → Answering → ℕ → (LineRules → List Entry → Type 0) → Type 0
+WhateverCame before now s left P = (k : LineRules) (J : List Entry) → MayCome k s left J → Grows before now (λ K. P k (J ++ K))
 
 -- before a read: all lines that came in were taken, what they call for is written, and so many bytes may still come
 pub record Reading (q : Asked) (s : Answering) (left : ℕ) (J : List Entry) : Type 0 where

@@ -1,12 +1,12 @@
 // A query answered over a wire: from the bytes that come in to the bytes that go out and the status.
-ghost use Rattle.std.specs.Prelude.{◌≡◌, ◌≤◌, ℕ, List, All, OnOk, IfErr, min};
+ghost use Rattle.std.specs.Prelude.{◌≡◌, ◌≤◌, ℕ, List, All, OnOk, IfErr, min, true};
 ghost use Rattle.wire_lines.specs.Journal.{Grows, IsOut};
 ghost use Rattle.tempo_cli.specs.Status.{Counts};
 ghost use Rattle.tempo_cli.specs.Table.{Ends};
 ghost use Rattle.tempo_cli.specs.Told.{answers};
-ghost use Rattle.tempo_cli.specs.Feeding.{answers_to, WantsBytes, IsFull, IsAsked};
+ghost use Rattle.tempo_cli.specs.Feeding.{answers_to, WantsBytes, WhateverGave, StopsFor, IsAsked};
 ghost use Rattle.tempo_cli.specs.Working.{WorksThrough, StopsWith, WhateverRead, AtEnd, Stops, EndsAll, status_of};
-ghost use Rattle.tempo_cli.specs.Working.{WhateverCut, CutsOn, CutsOff, WhateverCame};
+ghost use Rattle.tempo_cli.specs.Working.{AfterGiven, GivesOn, GivesOut, WhateverCame, HasAllCome, EndsFor};
 ghost use Rattle.tempo_cli.specs.Halting.{StaysOpen};
 
 use crate::answering::{Answering, LIMIT, Step};
@@ -37,12 +37,12 @@ pub(crate) fn work<R: Threads + Sync, W: Wire, G: Gate>(
 ) -> Result<(), Status>
     requires longest { answering.old.cutter.longest ≡ 65536 }
     ensures ok { OnOk result (WorksThrough (W.journal wire.old) (W.journal wire.new) answering.old answering.new) }
-    ensures cuts { OnOk result (WhateverCut (W.journal wire.old) (W.journal wire.new) answering.old.cutter (λ bytes. CutsOn bytes answering.new.cutter)) }
+    ensures gives { OnOk result (AfterGiven (W.journal wire.old) (W.journal wire.new) answering.old (λ k bytes. GivesOn k bytes answering.new)) }
     ensures wants { OnOk result (WantsBytes answering.new.cutter) }
     ensures open { OnOk result (StaysOpen answering.old.engine answering.new.engine) }
     ensures same { OnOk result ((W.read_faults wire.new ≡ W.read_faults wire.old) × (W.write_faults wire.new ≡ W.write_faults wire.old)) }
     ensures err { IfErr result (StopsWith (W.journal wire.old) (W.journal wire.new) answering.old) }
-    ensures full { IfErr result (λ status. WhateverCut (W.journal wire.old) (W.journal wire.new) answering.old.cutter (λ bytes. CutsOff bytes status)) }
+    ensures reason { IfErr result (λ status. AfterGiven (W.journal wire.old) (W.journal wire.new) answering.old (λ k bytes. GivesOut k bytes status)) }
     ensures asked { IfErr result IsAsked }
     ensures counts { IfErr result (Counts (W.read_faults wire.old) (W.read_faults wire.new) (W.write_faults wire.old) (W.write_faults wire.new)) }
 {
@@ -65,7 +65,7 @@ fn end<R: Threads + Sync, W: Wire, G: Gate>(
     requires wants { WantsBytes answering.old.cutter }
     ensures ends { EndsAll (W.journal wire.old) (W.journal wire.new) answering.old (status_of result) }
     ensures grows { Grows (W.journal wire.old) (W.journal wire.new) (λ O. All IsOut O) }
-    ensures full { (bytes : List ℕ) → IsFull (status_of result) bytes }
+    ensures reason { WhateverGave answering.old (λ k bytes given. StopsFor k (status_of result) bytes true) }
     ensures asked { IsAsked (status_of result) }
     ensures counts { Counts (W.read_faults wire.old) (W.read_faults wire.new) (W.write_faults wire.old) (W.write_faults wire.new) (status_of result) }
 {
@@ -92,7 +92,9 @@ pub(crate) fn read_on<R: Threads + Sync, W: Wire, G: Gate>(
     ensures same { OnOk result ((W.read_faults wire.new ≡ W.read_faults wire.old) × (W.write_faults wire.new ≡ W.write_faults wire.old)) }
     ensures err { IfErr result (λ status.
         WhateverRead (W.journal wire.old) (W.journal wire.new) answering.old most (λ q J. Stops (answers_to q) status J)) }
-    ensures full { WhateverCame (W.journal wire.old) (W.journal wire.new) answering.old.cutter most (IsFull (status_of result)) }
+    ensures came { OnOk result (WhateverCame (W.journal wire.old) (W.journal wire.new) answering.old most (λ k J. HasAllCome k answering.new J)) }
+    ensures reason { IfErr result (λ status.
+        WhateverCame (W.journal wire.old) (W.journal wire.new) answering.old most (λ k J. EndsFor k status J)) }
     ensures asked { IfErr result IsAsked }
     ensures counts { IfErr result (Counts (W.read_faults wire.old) (W.read_faults wire.new) (W.write_faults wire.old) (W.write_faults wire.new)) }
 {
@@ -119,7 +121,7 @@ pub(crate) fn answer_on<R: Threads + Sync, W: Wire, G: Gate>(
 ) -> Result<(), Status>
     requires wants { WantsBytes answering.old.cutter }
     ensures ends { WhateverRead (W.journal wire.old) (W.journal wire.new) answering.old most (λ q J. Ends (answers_to q) (status_of result) J) }
-    ensures full { WhateverCame (W.journal wire.old) (W.journal wire.new) answering.old.cutter most (IsFull (status_of result)) }
+    ensures reason { WhateverCame (W.journal wire.old) (W.journal wire.new) answering.old most (λ k J. EndsFor k (status_of result) J) }
     ensures asked { IsAsked (status_of result) }
     ensures counts { Counts (W.read_faults wire.old) (W.read_faults wire.new) (W.write_faults wire.old) (W.write_faults wire.new) (status_of result) }
 {

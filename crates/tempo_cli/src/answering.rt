@@ -1,5 +1,5 @@
 // The lines of an input, fed to an engine as their bytes come.
-ghost use Rattle.std.specs.Prelude.{◌≡◌, ◌≤◌, ◌<◌, ◌+◌, ◌++◌, ◌∷◌, ◌&&◌, IfOk, IfErr, IfSome, List, ℕ, [], None, true, false, nat_eq, length};
+ghost use Rattle.std.specs.Prelude.{◌≡◌, ◌≤◌, ◌<◌, ◌+◌, ◌++◌, ◌∷◌, ◌&&◌, IfOk, IfErr, OnOk, Bool, List, ℕ, [], None, true, false, nat_eq, length};
 ghost use Rattle.wire_lines.specs.Lines.{HasNoLf};
 ghost use Rattle.wire_lines.specs.Cutter.{Overlong};
 ghost use Rattle.wire_lines.specs.Next.{next};
@@ -8,7 +8,7 @@ ghost use Rattle.tempo_cli.specs.Table.{limit, IsDone, IsEnd};
 ghost use Rattle.wire_lines.specs.Faults.{HasCause, IsOther};
 ghost use Rattle.tempo_cli.specs.Feeding.{from_start, answers_to, Took, Holds, HasTaken, IsNumbered, WhateverGiven};
 ghost use Rattle.tempo_cli.specs.Feeding.{WhateverHeld, WhateverEnded, GrowsBy, WantsBytes, Comes};
-ghost use Rattle.tempo_cli.specs.Feeding.{Ended, HasCut, HasLess, StepCuts, IsFull, IsOwn, StopsOwn};
+ghost use Rattle.tempo_cli.specs.Feeding.{Ended, HasLess, LineRules, WhateverGave, StepGives, StopsFor, TellsLine, IsOwn, StopsOwn};
 ghost use Rattle.tempo_cli.specs.Halting.{StaysOpen, StopsGoing};
 
 use crate::status::Status;
@@ -82,6 +82,8 @@ pub(crate) fn feed<R: Threads + Sync, G: Gate>(
     ensures fault { IfErr result (λ f.
         WhateverGiven header number engine.old (λ q given. IsFaultOf f ((answers_to q).fault (given ++ line.now ∷ []) false))) }
     ensures open { StaysOpen engine.old engine.new }
+    ensures fine { OnOk result (engine.old.fault ≡ None → engine.new.fault ≡ None) }
+    ensures bad { engine.old.fault ≡ None → IfErr result (TellsLine engine.old.parts.dataflow.plan.streams number line.now) }
 {
     if is_header(header, number) {
         return Ok(Vec::new(alloc));
@@ -137,8 +139,7 @@ impl Answering {
         requires longest { self.old.cutter.longest ≡ 65536 }
         ensures longest { self.new.cutter.longest ≡ 65536 }
         ensures comes { WhateverHeld self.old (λ q bytes given. length bytes ≤ limit + 1 → Comes q bytes given self.new result) }
-        ensures cuts { (bytes : List ℕ) (given : List (List ℕ)) → HasCut bytes given self.old.cutter → length bytes ≤ limit + 1 →
-            StepCuts bytes given self.new.cutter result }
+        ensures gives { WhateverGave self.old (λ k bytes given. length bytes ≤ limit + 1 → StepGives k bytes given self.new result) }
         ensures wants { result ≡ Step.More → WantsBytes self.new.cutter }
         ensures less { HasLess self.old.cutter self.new.cutter result }
         ensures long { (line : ℕ) → next self.old.cutter ≡ Overlong line →
@@ -182,8 +183,9 @@ impl Answering {
         ensures err_frozen { IfErr result (λ status. WhateverHeld self.old (λ q bytes given.
             StopsGoing (answers_to q) status bytes ((answers_to q).text given false) true)) }
         ensures open { StaysOpen self.old.engine self.new.engine }
+        ensures fine { OnOk result (self.old.engine.fault ≡ None → self.new.engine.fault ≡ None) }
         ensures own { IfErr result IsOwn }
-        ensures full { IfErr result (λ status. (bytes : List ℕ) → IsFull status bytes) }
+        ensures reason { IfErr result (λ status. WhateverGave self.old (λ k bytes given. StopsFor k status bytes true)) }
     {
         let Some(line) = self.cutter.last_line() else {
             return Ok(Vec::new(self.alloc));
@@ -209,7 +211,8 @@ impl Answering {
         ensures ok { IfOk result (λ out. WhateverEnded self.old (λ q bytes written. IsDone (answers_to q) bytes (written ++ out.items) true)) }
         ensures err { IfErr result (λ status. WhateverEnded self.old (λ q bytes written. IsEnd (answers_to q) status bytes written true)) }
         ensures own { IfErr result IsOwn }
-        ensures full { IfErr result (λ status. (bytes : List ℕ) → IsFull status bytes) }
+        ensures reason { IfErr result (λ status. self.old.engine.fault ≡ None →
+            (k : LineRules) (bytes : List ℕ) (ended : Bool) → StopsFor k status bytes ended) }
     {
         let out = self.engine.finish(rt, gate)?;
         Ok(out)

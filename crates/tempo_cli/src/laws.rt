@@ -12,7 +12,9 @@ ghost use Rattle.wire_lines.specs.Lines.{lines};
 ghost use Rattle.tempo_cli.specs.Answers.{Answers, IsFinal};
 ghost use Rattle.plan_model.specs.IsPlan.{PlanParts, IsPlan};
 ghost use Rattle.command_line.specs.Words.{Asked};
-ghost use Rattle.tempo_cli.specs.Jobs.{Job, IsJob, Tells, HasFroze};
+ghost use Rattle.tempo_cli.specs.Jobs.{Job, IsJob, Tells, DoesMode, IsCheckpointOf, HasFroze};
+ghost use Rattle.tempo_cli.specs.Restoring.{AreFront};
+ghost use Rattle.command_line.specs.declared.words.Mode.TheVariants.{Resume};
 ghost use Rattle.tempo_cli.specs.Summing.{Sums};
 ghost use Rattle.tempo_cli.specs.Freezing.{Freezes};
 ghost use Rattle.tempo_cli.specs.declared.status.Status.{Status};
@@ -40,6 +42,13 @@ pub fn runs_are_complete()
         let a = answers plan asked.policy asked.header in
         Freezes a (HasFroze asked plan) status J → Counts reads reads' writes writes' status →
         a.fault (lines (ins J) (ended J)) false ≡ None → length (ins J) ≤ limit → (Rose reads reads' → ⊥) → (Rose writes writes' → ⊥) →
+        (status ≡ Done) ⊎ (status ≡ Memory) }
+    ensures resumed { (asked : Asked) (plan : PlanParts) (before : List Told) (C : List (List ℕ)) (status : Status) (J : List Entry)
+        (reads reads' writes writes' : ℕ) →
+        let a = resumed plan asked.policy before (length C) in
+        DoesMode Resume asked plan status J → Counts reads reads' writes writes' status →
+        IsCheckpointOf asked plan before C → AreFront C (lines (ins J) (ended J)) →
+        a.fault (lines (ins J) (ended J)) (ended J) ≡ None → length (ins J) ≤ limit → (Rose reads reads' → ⊥) → (Rose writes writes' → ⊥) →
         (status ≡ Done) ⊎ (status ≡ Memory) }
     ensures told { (plan : PlanParts) (status : Status) (J : List Entry) (reads reads' writes writes' : ℕ) →
         Tells plan status J → Counts reads reads' writes writes' status →

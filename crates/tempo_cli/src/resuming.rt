@@ -5,11 +5,11 @@ ghost use Rattle.wire_lines.specs.Journal.{Entry, Grows};
 ghost use Rattle.checkpoint.specs.Form.{FormView, form_of};
 ghost use Rattle.tempo_cli.specs.Table.{limit, Ends};
 ghost use Rattle.tempo_cli.specs.Status.{Counts};
-ghost use Rattle.tempo_cli.specs.Feeding.{Asked, answers_to, WantsBytes, IsOwn, IsAsked};
-ghost use Rattle.tempo_cli.specs.Working.{MayCome, status_of};
+ghost use Rattle.tempo_cli.specs.Feeding.{Asked, answers_to, WantsBytes, LineRules, IsOwn, IsAsked};
+ghost use Rattle.tempo_cli.specs.Working.{status_of};
 ghost use Rattle.tempo_cli.specs.Jobs.{HasResumed};
 ghost use Rattle.tempo_cli.specs.Restored.{Reads, IsWhole, TakesLine, WhateverTaken, PartComes, PartsCome, HasFewer, TakesMore, IsOwnPart};
-ghost use Rattle.tempo_cli.specs.Restored.{StopsAt, CameIn, BreaksOff, GoesOnFrom, GrewBy};
+ghost use Rattle.tempo_cli.specs.Restored.{StopsAt, CameIn, BreaksOff, GoesOnFrom, StandsBehind, GrewBy};
 
 use crate::answer::{answer_on, asked, work};
 use crate::answering::{Answering, LIMIT, LONGEST};
@@ -212,8 +212,8 @@ fn answer_behind<R: Threads + Sync, W: Wire, G: Gate>(
     requires longest { ended ≡ false → answering.old.cutter.longest ≡ 65536 }
     ensures ends { (q : Asked) (J : List Entry) → GoesOnFrom q answering.old left ended J →
         Grows (W.journal wire.old) (W.journal wire.new) (λ K. Ends (answers_to q) (status_of result) (J ++ K)) }
-    ensures grew { (J : List Entry) → (ended ≡ false → MayCome answering.old.cutter left J) →
-        Grows (W.journal wire.old) (W.journal wire.new) (GrewBy ended (status_of result) J) }
+    ensures grew { (k : LineRules) (J : List Entry) → StandsBehind k answering.old left ended J →
+        Grows (W.journal wire.old) (W.journal wire.new) (GrewBy k ended (status_of result) J) }
     ensures asked { IsAsked (status_of result) }
     ensures counts { Counts (W.read_faults wire.old) (W.read_faults wire.new) (W.write_faults wire.old) (W.write_faults wire.new) (status_of result) }
 {

@@ -5,7 +5,7 @@ use Rattle.wire_lines.proofs.Growth.{Grows-weaker, Grows-grows}
 use Rattle.tempo_cli.specs.Feeding.{answers_to}
 use Rattle.tempo_cli.specs.Table.{Ends}
 use Rattle.tempo_cli.specs.Working.{AtEnd, status_of}
-use Rattle.tempo_cli.proofs.Journals.{Grows-then, ends_all, counts_after}
+use Rattle.tempo_cli.proofs.Journals.{Grows-then, ends_all, came_end, counts_after}
 use Rattle.tempo_cli.proofs.answer.answer_on.Goals as goal
 
 pub returns-in_err-read_on-clause-ends : goal.returns-in_err-read_on-clause-ends
@@ -25,8 +25,9 @@ returns-clause-ends g c = λ q J h. Grows-then {P = λ K. AtEnd q c.read_on.new.
 pub returns-clause-counts : goal.returns-clause-counts
 returns-clause-counts g c = counts_after _ _ _ _ _ _ (status_of c.end.result) c.in_ok-read_on.ensures.same.0 c.in_ok-read_on.ensures.same.1 c.end.ensures.counts
 
-pub returns-in_err-read_on-clause-full : goal.returns-in_err-read_on-clause-full
-returns-in_err-read_on-clause-full g c = let p = err_from_is_err_and c.from_residual.result c.from_residual.ensures.1 in rw (p.1, p.2) c.in_err-read_on.ensures.full
+pub returns-in_err-read_on-clause-reason : goal.returns-in_err-read_on-clause-reason
+returns-in_err-read_on-clause-reason g c = let p = err_from_is_err_and c.from_residual.result c.from_residual.ensures.1 in rw (p.1, p.2) c.in_err-read_on.ensures.reason
 
-pub returns-clause-full : goal.returns-clause-full
-returns-clause-full g c = λ J h. Grows-grows (c.in_ok-read_on.ensures.full J h) c.end.ensures.grows (λ K O u o. c.end.ensures.full _)
+pub returns-clause-reason : goal.returns-clause-reason
+returns-clause-reason g c = λ k J m. Grows-grows (c.in_ok-read_on.ensures.came k J m) c.end.ensures.grows
+    (λ K O a o. came_end J K O (status_of c.end.result) o a (c.end.ensures.reason k (ins (J ++ K)) a.given a.gives))

@@ -81,29 +81,30 @@ returns-clause-ends g c = λ q bytes given h. Grows-grows c.in_ok-send.ensures.o
 pub returns-in_err-last-clause-grows : goal.returns-in_err-last-clause-grows
 returns-in_err-last-clause-grows g c = Grows-none _ (All-nil IsOut)
 
-pub returns-in_err-last-clause-full : goal.returns-in_err-last-clause-full
-returns-in_err-last-clause-full g c = let p = err_from_is_err_and c.from_residual.result c.from_residual.ensures.1 in rw (p.1, p.2) c.in_err-last.ensures.full
+pub returns-in_err-last-clause-reason : goal.returns-in_err-last-clause-reason
+returns-in_err-last-clause-reason g c = let p = err_from_is_err_and c.from_residual.result c.from_residual.ensures.1 in rw (p.1, p.2) c.in_err-last.ensures.reason
 
 pub returns-in_err-send-clause-grows : goal.returns-in_err-send-clause-grows
 returns-in_err-send-clause-grows g c = Grows-weaker c.in_err-send.ensures.err (λ O s. s.outs_alone)
 
-pub returns-in_err-send-clause-full : goal.returns-in_err-send-clause-full
-returns-in_err-send-clause-full g c = let p = err_from_is_err_and c.from_residual-in_err-send.result c.from_residual-in_err-send.ensures.1 in rw (p.1, p.2) (λ bytes. tt)
+pub returns-in_err-send-clause-reason : goal.returns-in_err-send-clause-reason
+returns-in_err-send-clause-reason g c = let p = err_from_is_err_and c.from_residual-in_err-send.result c.from_residual-in_err-send.ensures.1 in rw (p.1, p.2) (λ k bytes given h. tt)
 
 pub returns-in_err-rest-clause-grows : goal.returns-in_err-rest-clause-grows
 returns-in_err-rest-clause-grows g c = Grows-weaker c.in_ok-send.ensures.ok (λ O s. s.outs_alone)
 
-pub returns-in_err-rest-clause-full : goal.returns-in_err-rest-clause-full
-returns-in_err-rest-clause-full g c = let p = err_from_is_err_and c.from_residual-in_err-rest.result c.from_residual-in_err-rest.ensures.1 in rw (p.1, p.2) c.in_err-rest.ensures.full
+pub returns-in_err-rest-clause-reason : goal.returns-in_err-rest-clause-reason
+returns-in_err-rest-clause-reason g c = let p = err_from_is_err_and c.from_residual-in_err-rest.result c.from_residual-in_err-rest.ensures.1 in rw (p.1, p.2)
+    (λ k bytes given h. c.in_err-rest.ensures.reason (c.in_ok-last.ensures.fine h.fine) k bytes true)
 
 pub returns-in_err-send-2-clause-grows : goal.returns-in_err-send-2-clause-grows
 returns-in_err-send-2-clause-grows g c = Grows-grows c.in_ok-send.ensures.ok c.in_err-send-2.ensures.err (λ O K s t. All-append IsOut O K s.outs_alone t.outs_alone)
 
-pub returns-in_err-send-2-clause-full : goal.returns-in_err-send-2-clause-full
-returns-in_err-send-2-clause-full g c = let p = err_from_is_err_and c.from_residual-in_err-send-2.result c.from_residual-in_err-send-2.ensures.1 in rw (p.1, p.2) (λ bytes. tt)
+pub returns-in_err-send-2-clause-reason : goal.returns-in_err-send-2-clause-reason
+returns-in_err-send-2-clause-reason g c = let p = err_from_is_err_and c.from_residual-in_err-send-2.result c.from_residual-in_err-send-2.ensures.1 in rw (p.1, p.2) (λ k bytes given h. tt)
 
 pub returns-clause-grows : goal.returns-clause-grows
 returns-clause-grows g c = Grows-grows c.in_ok-send.ensures.ok c.in_ok-send-2.ensures.ok (λ O K s t. All-append IsOut O K s.outs_alone t.outs_alone)
 
-pub returns-clause-full : goal.returns-clause-full
-returns-clause-full g c = λ bytes. tt
+pub returns-clause-reason : goal.returns-clause-reason
+returns-clause-reason g c = λ k bytes given h. tt

@@ -1,7 +1,6 @@
-use Rattle.std.proofs.Common.{◌≡◌, ◌++◌, List}
-use Rattle.wire_lines.specs.Journal.{Entry, Grows}
+use Rattle.std.proofs.Common.{◌≡◌}
 use Rattle.tempo_cli.specs.Feeding.{WantsBytes}
-use Rattle.tempo_cli.specs.Working.{Reading, WhateverRead, MayCome}
+use Rattle.tempo_cli.specs.Working.{Reading, WhateverRead, WhateverCame, MayCome}
 use Rattle.tempo_cli.specs.Halting.{StaysOpen}
 use Rattle.tempo_cli.proofs.answer.read_on.Given as goal
 
@@ -11,7 +10,7 @@ invariant-loop-left g l =
     × (g.W.Wire.read_faults l.wire ≡ g.W.Wire.read_faults l.fn.wire)
     × (g.W.Wire.write_faults l.wire ≡ g.W.Wire.write_faults l.fn.wire)
     × WantsBytes l.answering.cutter
-    × ((J : List Entry) → MayCome l.fn.answering.cutter l.fn.most J → Grows (g.W.Wire.journal l.fn.wire) (g.W.Wire.journal l.wire) (λ K. MayCome l.answering.cutter l.left (J ++ K)))
+    × WhateverCame (g.W.Wire.journal l.fn.wire) (g.W.Wire.journal l.wire) l.fn.answering l.fn.most (λ k J. MayCome k l.answering l.left J)
     × StaysOpen l.fn.answering.engine l.answering.engine
 
 abbrev pub decreases-loop-left : goal.decreases-loop-left

@@ -21,8 +21,8 @@ loop-status-init g c = (
   refl,
   refl,
   λ q bytes given h few. Grows-none _ (record { outs_alone = All-nil IsOut; more = given; holds = h; grown = sym (append-nil ((answers_to q).text given false)) }),
-  λ bytes given w few. Grows-none _ (record { outs_alone = All-nil IsOut; more = given; cut = w }),
-  (refl, refl),
+  λ k bytes given h few. Grows-none _ (record { outs_alone = All-nil IsOut; more = given; gives = h }),
+  (refl, refl, refl),
 )
 
 pub returns-in-More-clause-ok : goal.returns-in-More-clause-ok
@@ -70,32 +70,32 @@ loop-status-preserved g c = (
         grown = comes.2 ∙ (ap (λ x. x ++ c.in-Out.out.items) w.grown ∙ (append_assoc ((answers_to q).text given false) (outs O) c.in-Out.out.items
             ∙ ap (λ x. (answers_to q).text given false ++ x) (ap (λ y. outs O ++ y) (sym (s.all ∙ c.deref.ensures.value)) ∙ sym (outs-append O K))));
       }),
-  λ bytes given w few. Grows-then (c.loop-status.invariant.4 bytes given w few) (λ O k. c.in_ok-send-in-Out.ensures.ok) (λ O K k s.
-      let comes = c.in-Out.ensures.cuts bytes k.more k.cut few in
-      record { outs_alone = All-append IsOut O K k.outs_alone s.outs_alone; more = k.more ++ comes.0 ∷ []; cut = comes.1 }),
+  λ k bytes given h few. Grows-then (c.loop-status.invariant.4 k bytes given h few) (λ O o. c.in_ok-send-in-Out.ensures.ok) (λ O K o s.
+      let comes = c.in-Out.ensures.gives k bytes o.more o.gives few in
+      record { outs_alone = All-append IsOut O K o.outs_alone s.outs_alone; more = o.more ++ comes.0 ∷ []; gives = comes.1 }),
   stays_on c.loop-status.invariant.5 c.in-Out.ensures.open,
 )
 
 pub returns-in-Stop-clause-asked : goal.returns-in-Stop-clause-asked
 returns-in-Stop-clause-asked g c = own_asked c.in-Stop.status c.in-Stop.ensures.own
 
-pub returns-in-More-clause-cuts : goal.returns-in-More-clause-cuts
-returns-in-More-clause-cuts g c = λ bytes given w few. Grows-weaker (c.loop-status.invariant.4 bytes given w few) (λ O k. record {
-  outs_alone = k.outs_alone;
-  more = k.more;
-  cut = c.in-More.ensures.cuts bytes k.more k.cut few;
+pub returns-in-More-clause-gives : goal.returns-in-More-clause-gives
+returns-in-More-clause-gives g c = λ k bytes given h few. Grows-weaker (c.loop-status.invariant.4 k bytes given h few) (λ O o. record {
+  outs_alone = o.outs_alone;
+  more = o.more;
+  gives = c.in-More.ensures.gives k bytes o.more o.gives few;
 })
 
-pub returns-in-Stop-clause-full : goal.returns-in-Stop-clause-full
-returns-in-Stop-clause-full g c = λ bytes given w few. Grows-weaker (c.loop-status.invariant.4 bytes given w few) (λ O k. record {
-  outs_alone = k.outs_alone;
-  full = c.in-Stop.ensures.cuts bytes k.more k.cut few;
+pub returns-in-Stop-clause-reason : goal.returns-in-Stop-clause-reason
+returns-in-Stop-clause-reason g c = λ k bytes given h few. Grows-weaker (c.loop-status.invariant.4 k bytes given h few) (λ O o. record {
+  outs_alone = o.outs_alone;
+  reason = c.in-Stop.ensures.gives k bytes o.more o.gives few;
 })
 
-pub returns-in_err-send-in-Out-clause-full : goal.returns-in_err-send-in-Out-clause-full
-returns-in_err-send-in-Out-clause-full g c =
-    let p = err_from_is_err_and c.from_residual.result c.from_residual.ensures.1 in rw (p.1, p.2) (λ bytes given w few. Grows-then (c.loop-status.invariant.4 bytes given w few) (λ O k. c.in_err-send-in-Out.ensures.err) (λ O K k s.
-    record { outs_alone = All-append IsOut O K k.outs_alone s.outs_alone; full = tt }))
+pub returns-in_err-send-in-Out-clause-reason : goal.returns-in_err-send-in-Out-clause-reason
+returns-in_err-send-in-Out-clause-reason g c =
+    let p = err_from_is_err_and c.from_residual.result c.from_residual.ensures.1 in rw (p.1, p.2) (λ k bytes given h few. Grows-then (c.loop-status.invariant.4 k bytes given h few) (λ O o. c.in_err-send-in-Out.ensures.err) (λ O K o s.
+    record { outs_alone = All-append IsOut O K o.outs_alone s.outs_alone; reason = λ ended. tt }))
 
 pub returns-in-More-clause-open : goal.returns-in-More-clause-open
 returns-in-More-clause-open g c = stays_on c.loop-status.invariant.5 c.in-More.ensures.open

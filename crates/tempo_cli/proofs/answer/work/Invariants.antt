@@ -2,7 +2,7 @@ use Rattle.std.proofs.Common.{◌≡◌, ◌≤◌, ◌+◌, ℕ, List, length}
 use Rattle.wire_lines.specs.Journal.{Grows}
 use Rattle.tempo_cli.specs.Feeding.{Asked, Holds}
 use Rattle.tempo_cli.specs.Table.{limit}
-use Rattle.tempo_cli.specs.Working.{Worked, WhateverCut, CutsOn}
+use Rattle.tempo_cli.specs.Working.{Worked, AfterGiven, GivesOn}
 use Rattle.tempo_cli.specs.Halting.{StaysOpen}
 use Rattle.tempo_cli.proofs.answer.work.Given as goal
 
@@ -12,7 +12,7 @@ invariant-loop-status g l =
     × (g.W.Wire.read_faults l.wire ≡ g.W.Wire.read_faults l.fn.wire)
     × (g.W.Wire.write_faults l.wire ≡ g.W.Wire.write_faults l.fn.wire)
     × ((q : Asked) (bytes : List ℕ) (given : List (List ℕ)) → Holds q bytes given l.fn.answering → length bytes ≤ limit + 1 → Grows (g.W.Wire.journal l.fn.wire) (g.W.Wire.journal l.wire) (Worked q bytes given l.answering))
-    × WhateverCut (g.W.Wire.journal l.fn.wire) (g.W.Wire.journal l.wire) l.fn.answering.cutter (λ bytes. CutsOn bytes l.answering.cutter)
+    × AfterGiven (g.W.Wire.journal l.fn.wire) (g.W.Wire.journal l.wire) l.fn.answering (λ k bytes. GivesOn k bytes l.answering)
     × StaysOpen l.fn.answering.engine l.answering.engine
 
 abbrev pub decreases-loop-status : goal.decreases-loop-status

@@ -1,7 +1,8 @@
-use Rattle.std.proofs.Common.{◌≡◌, ℕ, Bool, true, false, Result, Ok, Err, refl, sym, ◌∙◌, ap, arith}
+use Rattle.std.proofs.Common.{◌≡◌, ℕ, Bool, true, false, Result, Ok, Err, sym, ◌∙◌, ap}
 use Rattle.std.specs.Prelude.{◌&&◌, nat_eq, IfOk, OnOk}
 use Rattle.std.proofs.lemmas.Result.{IfErr-weaker, IfOk-weaker}
 use Rattle.tempo_cli.proofs.Fed.{took_header, text_header, took_more, text_more, fault_more}
+use Rattle.tempo_cli.proofs.Giving.{told_bad}
 use Rattle.tempo_cli.proofs.answering.feed.Goals as goal
 
 -- whether it is a header
@@ -37,3 +38,6 @@ pub returns-clause-fault : goal.returns-clause-fault
 returns-clause-fault g c = IfErr-weaker c.feed_line.result _ _ (λ fault f q given h next t.
     fault_more q given c.args.line.now c.args.number c.args.engine.now t next
     (header_as q.header c.args.header c.args.number c.is_header.result false h c.is_header.ensures c.if-is_header.false) c.requires.short fault (f q.plan q.policy t.fed t.took)) c.feed_line.ensures.fault
+
+pub returns-clause-bad : goal.returns-clause-bad
+returns-clause-bad g c = λ none. IfErr-weaker c.feed_line.result _ _ (λ fault told. told_bad c.args.engine.now.parts.dataflow.plan c.args.number c.args.line.now fault c.requires.short told) (c.feed_line.ensures.bad none)

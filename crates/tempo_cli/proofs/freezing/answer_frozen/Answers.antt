@@ -1,4 +1,4 @@
-use Rattle.std.proofs.Common.{◌≡◌, ◌<◌, ◌+◌, ◌^◌, ◌∙◌, ℕ, [], arith, refl, sym, ap, ap₂}
+use Rattle.std.proofs.Common.{◌≡◌, ◌+◌, ◌∙◌, [], arith, refl, sym, ap, ap₂}
 use Rattle.wire_lines.proofs.Growth.{Grows-weaker}
 use Rattle.checkpoint.specs.Form.{form_of}
 use Rattle.admission.specs.declared.policy.Policy.{Policy}

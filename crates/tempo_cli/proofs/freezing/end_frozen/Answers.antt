@@ -1,8 +1,8 @@
-use Rattle.std.proofs.Common.{◌≡◌, ◌++◌, List, ℕ, true, false, refl, sym, ◌∙◌, ap, subst}
+use Rattle.std.proofs.Common.{◌++◌, true, false, refl, sym, ◌∙◌, subst}
 use Rattle.std.proofs.lemmas.List.Elements.{All-append, All-nil}
 use Rattle.std.proofs.lemmas.List.{append-nil}
 use Rattle.std.proofs.lemmas.Result.{err_from_is_err_and}
-use Rattle.wire_lines.specs.Journal.{Entry, IsOut, outs}
+use Rattle.wire_lines.specs.Journal.{IsOut, outs}
 use Rattle.wire_lines.specs.Lines.{lines}
 use Rattle.wire_lines.proofs.Growth.{Grows-none, Grows-weaker, Grows-grows}
 use Rattle.frozen_state.specs.Frozen.{FrozenView}
@@ -10,7 +10,6 @@ use Rattle.tempo_engine.specs.Frozen.{Fits}
 use Rattle.tempo_cli.specs.Feeding.{answers_to, fed_by}
 use Rattle.tempo_cli.specs.Freezing.{IsFreezeEnd}
 use Rattle.tempo_cli.specs.Halting.{FrozeAfter}
-use Rattle.tempo_cli.specs.declared.status.Status.TheVariants.{Memory}
 use Rattle.tempo_cli.proofs.Journals.{own_counts, risen}
 use Rattle.tempo_cli.proofs.Jobs.{own_asked}
 use Rattle.tempo_cli.proofs.Halting.{freeze_end_of, front_due, short_frozen, frozen_done, frozen_front}

@@ -6,7 +6,7 @@ use Rattle.tempo_cli.specs.Feeding.{answers_to}
 use Rattle.tempo_cli.specs.Table.{limit}
 use Rattle.tempo_cli.specs.Freezing.{Freezes}
 use Rattle.tempo_cli.specs.Working.{AtEnd, Reading, status_of}
-use Rattle.tempo_cli.specs.Halting.{IsFormFor, FrozeAfter, FreezesWith}
+use Rattle.tempo_cli.specs.Halting.{IsFormFor, FrozeAfter}
 use Rattle.tempo_cli.proofs.Journals.{Grows-then, counts_after, limit-is}
 use Rattle.tempo_cli.proofs.Halting.{stops_freezing, freezes_all}
 use Rattle.tempo_cli.proofs.freezing.freeze_on.Goals as goal

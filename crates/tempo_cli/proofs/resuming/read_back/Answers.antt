@@ -2,11 +2,8 @@ use Rattle.std.proofs.Common.{◌≡◌, ◌≤◌, ◌<◌, ◌++◌, ◌∷◌
 use Rattle.std.proofs.lemmas.Result.{err_from_is_err_and}
 use Rattle.wire_lines.specs.Journal.{In, Adds, ins}
 use Rattle.wire_lines.proofs.Growth.{Grows-none, Grows-adds, Grows-same, Grows-weaker}
-use Rattle.tempo_cli.specs.Feeding.{WantsBytes}
-use Rattle.tempo_cli.specs.Restored.{PartsCome}
 use Rattle.tempo_cli.proofs.Awaiting.{awaits_first, failed, none_left, few_read, awaits_on, came_in, broke_off, came_last, broke_last}
-use Rattle.tempo_cli.proofs.Jobs.{own_asked}
-use Rattle.tempo_cli.proofs.Journals.{limit-is, no_bytes, risen, own_counts}
+use Rattle.tempo_cli.proofs.Journals.{limit-is, no_bytes, own_counts}
 use Rattle.tempo_cli.proofs.Taking.{reads_fed, reads_none}
 use Rattle.tempo_cli.proofs.resuming.read_back.Goals as goal
 

@@ -1,4 +1,4 @@
-use Rattle.std.proofs.Common.{◌≡◌, [], List, ℕ}
+use Rattle.std.proofs.Common.{◌≡◌, []}
 use Rattle.wire_lines.specs.Journal.{Grows}
 use Rattle.checkpoint.specs.Form.{FormView}
 use Rattle.checkpoint.specs.declared.reading.Stage.TheVariants.{Ended}

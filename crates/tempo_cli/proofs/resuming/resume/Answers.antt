@@ -1,4 +1,4 @@
-use Rattle.std.proofs.Common.{◌++◌, List, [], subst}
+use Rattle.std.proofs.Common.{List, [], subst}
 use Rattle.wire_lines.specs.Journal.{Entry}
 use Rattle.wire_lines.proofs.Growth.{Grows-none, Grows-weaker}
 use Rattle.checkpoint.specs.Form.{form_of}

@@ -1,6 +1,5 @@
-use Rattle.std.proofs.Common.{◌≡◌, List, ap, subst, true}
+use Rattle.std.proofs.Common.{ap, subst}
 use Rattle.std.proofs.lemmas.Result.{err_from_is_err_and}
-use Rattle.wire_lines.specs.Lines.{lines}
 use Rattle.tempo_engine.specs.Frozen.{Fits}
 use Rattle.tempo_cli.specs.Feeding.{status_at}
 use Rattle.tempo_cli.proofs.Stopping.{own_at}

@@ -13,7 +13,8 @@ use Rattle.tempo_cli.specs.declared.answering.Answering.{Answering}
 use Rattle.tempo_cli.proofs.Fed.{took_fine, took_final}
 use Rattle.tempo_cli.proofs.Numbers.{next_number}
 use Rattle.tempo_cli.proofs.Moves.{few_bytes, short, within_going}
-use Rattle.tempo_cli.proofs.Stopping.{last_stops, own_at, full_at, going_final}
+use Rattle.tempo_cli.proofs.Stopping.{last_stops, own_at, going_final}
+use Rattle.tempo_cli.proofs.Giving.{stops_at}
 use Rattle.tempo_cli.proofs.answering.Answering.last_line.Goals as goal
 
 some_bytes : (xs : List ℕ) → (xs ≡ [] → ⊥) → 0 < length xs
@@ -81,5 +82,9 @@ returns-in_err-out-clause-err_frozen g c = let p = err_from_is_err_and c.from_re
           (c.in_err-out.ensures.fault q given (sym h.header) next h.engine) (short (within_going h.within) true);
     })
 
-pub returns-in_err-out-clause-full : goal.returns-in_err-out-clause-full
-returns-in_err-out-clause-full g c = let p = err_from_is_err_and c.from_residual.result c.from_residual.ensures.1 in rw (p.1, p.2) (λ bytes. full_at _ bytes)
+pub returns-in_err-out-clause-reason : goal.returns-in_err-out-clause-reason
+returns-in_err-out-clause-reason g c = let p = err_from_is_err_and c.from_residual.result c.from_residual.ensures.1 in rw (p.1, p.2) (λ k bytes given h.
+    let line = c.in-Some.line.bytes.now in
+    let all = with_last line h.cut c.requires.wants (λ e. never (c.in-Some.ensures.none.1 e)) c.in-Some.ensures.some.1 in
+    let number : c.in-Some.line.number ≡ length given + 1 = omega (arith, c.in-Some.ensures.some.0, h.cut.cuts.number_is) in
+    stops_at h _ true c.in-Some.line.number c.engine_number.result line ([], all ∙ sym (append-nil (given ++ line ∷ []))) number c.engine_number.ensures (c.in_err-out.ensures.bad h.fine))

@@ -7,8 +7,9 @@ use Rattle.wire_lines.proofs.NextFacts.{given, wanting}
 use Rattle.std.proofs.lemmas.List.{length-take, length-append}
 use Rattle.tempo_cli.proofs.Fed.{took_fine, took_final, long_fault}
 use Rattle.tempo_cli.proofs.Numbers.{next_number}
-use Rattle.tempo_cli.proofs.Moves.{within_all, within_more, too_many, refused_long}
-use Rattle.tempo_cli.proofs.Stopping.{line_stops, own_at, full_at}
+use Rattle.tempo_cli.proofs.Giving.{given_on, stops_at, stops_long}
+use Rattle.tempo_cli.proofs.Moves.{within_all, within_more, line_fronts, too_many, refused_long}
+use Rattle.tempo_cli.proofs.Stopping.{line_stops, own_at}
 use Rattle.tempo_cli.proofs.answering.Answering.next_step.Goals as goal
 
 pub returns-in-More-clause-comes : goal.returns-in-More-clause-comes
@@ -82,20 +83,30 @@ returns-in-Err-clause-comes g c = λ q bytes lines h few ended.
 pub returns-in-Err-clause-own : goal.returns-in-Err-clause-own
 returns-in-Err-clause-own g c = rw c.from.ensures (own_at c.in-Err.fault)
 
-pub returns-in-More-clause-cuts : goal.returns-in-More-clause-cuts
-returns-in-More-clause-cuts g c = λ bytes lines w few. rw c.next_line.follows.holds-at-none (within_all w (tells_all bytes c.args.self.now.cutter lines c.in-More.ensures.value w.cuts))
+pub returns-in-More-clause-gives : goal.returns-in-More-clause-gives
+returns-in-More-clause-gives g c = λ k bytes lines h few. rw c.next_line.follows.holds-at-none
+    (given_on h (within_all h.cut (tells_all bytes c.args.self.now.cutter lines c.in-More.ensures.value h.cut.cuts)) h.fine refl refl refl (omega arith))
 
-pub returns-in-TooMany-clause-cuts : goal.returns-in-TooMany-clause-cuts
-returns-in-TooMany-clause-cuts g c = λ bytes lines w few. (too_many w (tells_too_many bytes c.args.self.now.cutter lines c.in-TooMany.ensures.value w.cuts) few).long
+pub returns-in-TooMany-clause-gives : goal.returns-in-TooMany-clause-gives
+returns-in-TooMany-clause-gives g c = λ k bytes lines h few ended. (too_many h.cut (tells_too_many bytes c.args.self.now.cutter lines c.in-TooMany.ensures.value h.cut.cuts) few).long
 
-pub returns-in-TooLong-clause-cuts : goal.returns-in-TooLong-clause-cuts
-returns-in-TooLong-clause-cuts g c = λ bytes lines w few. rw c.too_long.ensures tt
+pub returns-in-TooLong-clause-gives : goal.returns-in-TooLong-clause-gives
+returns-in-TooLong-clause-gives g c = λ k bytes lines h few ended.
+    let found = tells_too_long bytes c.args.self.now.cutter lines c.in-TooLong.number c.in-TooLong.ensures.value h.cut.cuts in
+    rw c.too_long.ensures (stops_long h c.in-TooLong.number c.engine_number.result ended c.in-TooLong.ensures.value found.number_is c.engine_number.ensures)
 
-pub returns-in-Ok-clause-cuts : goal.returns-in-Ok-clause-cuts
-returns-in-Ok-clause-cuts g c = λ bytes lines w few.
+pub returns-in-Ok-clause-gives : goal.returns-in-Ok-clause-gives
+returns-in-Ok-clause-gives g c = λ k bytes lines h few.
     let line = c.in-Line.line.bytes.now in
-    let g = tells_line bytes c.args.self.now.cutter lines c.in-Line.line.number line c.in-Line.ensures.value w.cuts in
-    (line, rw c.next_line.follows.holds-at-none (within_more w c.in-Line.line.number line g refl))
+    let g = tells_line bytes c.args.self.now.cutter lines c.in-Line.line.number line c.in-Line.ensures.value h.cut.cuts in (
+      line,
+      rw c.next_line.follows.holds-at-none
+          (given_on h (within_more h.cut c.in-Line.line.number line g refl) (c.in-Ok.ensures.fine h.fine) refl refl c.in-Ok.ensures.open.2 (omega (arith, length-append lines (line ∷ [])))),
+    )
 
-pub returns-in-Err-clause-cuts : goal.returns-in-Err-clause-cuts
-returns-in-Err-clause-cuts g c = λ bytes lines w few. rw c.from.ensures (full_at c.in-Err.fault bytes)
+pub returns-in-Err-clause-gives : goal.returns-in-Err-clause-gives
+returns-in-Err-clause-gives g c = λ k bytes lines h few ended.
+    let line = c.in-Line.line.bytes.now in
+    let g = tells_line bytes c.args.self.now.cutter lines c.in-Line.line.number line c.in-Line.ensures.value h.cut.cuts in
+    rw c.from.ensures (stops_at h c.in-Err.fault ended c.in-Line.line.number c.engine_number-in-Line.result line (line_fronts h.cut c.in-Line.line.number line g ended).0 g.number_is c.engine_number-in-Line.ensures
+    (c.in-Err.ensures.bad h.fine))

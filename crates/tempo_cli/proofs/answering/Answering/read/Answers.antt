@@ -39,11 +39,17 @@ returns-clause-taken g c =
         };
         engine = h.engine;
       };
-      cut = λ bytes given w. record {
-        longest = ap (λ (s : CutterState). s.longest) r.state ∙ fed_longest old r.piece ∙ w.longest;
-        total = ap (λ (s : CutterState). s.total) r.state ∙ fed_total old r.piece ∙ w.total;
-        cuts = r.lines bytes given w.cuts;
-        fine = refl;
+      gives = λ k bytes given h. record {
+        cut = record {
+          longest = ap (λ (s : CutterState). s.longest) r.state ∙ fed_longest old r.piece ∙ h.cut.longest;
+          total = ap (λ (s : CutterState). s.total) r.state ∙ fed_total old r.piece ∙ h.cut.total;
+          cuts = r.lines bytes given h.cut.cuts;
+          fine = refl;
+        };
+        fine = h.fine;
+        rules = h.rules;
+        low = h.low;
+        passed = h.passed;
       };
       wants = λ none. subst WantsBytes (sym (r.state ∙ ap (fed old) none)) c.requires.wants;
     }

@@ -1,4 +1,4 @@
-use Rattle.std.proofs.Common.{◌≡◌, ◌++◌, ◌∷◌, [], Ok, refl, sym, append-nil}
+use Rattle.std.proofs.Common.{◌++◌, ◌∷◌, [], refl, sym, append-nil}
 use Rattle.tempo_cli.proofs.Fronts.{front_again}
 use Rattle.tempo_cli.proofs.resuming.Restoring.take_lines.Goals as goal
 
