@@ -124,11 +124,14 @@ fn insert_twice(keys: &mut IndexSet<Cells>, key: Cells) -> Result<(bool, bool), 
     Ok((first, second))
 }
 
+/// Two cells that differ only in what they are.
+static ONES: [Datum; 2] = [Datum::Text(1), Datum::Int(1)];
+
 #[test]
 fn equal_cells_are_one_key(rt: HostRuntime) -> Result<(), Fail> {
     let alloc = rt.alloc();
     let mut keys = IndexSet::new(alloc);
-    for datum in [Datum::Text(1), Datum::Int(1)] {
+    for &datum in ONES.iter() {
         let key = Cells::from_slice(alloc, &[datum])?;
         assert_eq!(rt; insert_twice(&mut keys, key), Ok((true, false)));
     }
