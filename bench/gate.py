@@ -3,13 +3,17 @@
 
 usage: bench/gate.py [NAME ..]          runs `rt ci NAME ..` (with no name the whole gate), prints the table and keeps the figures
        bench/gate.py --watch PID        the same for a run of rt that goes already, until it ends
+       bench/gate.py --edits NAME ..    the same for `rt must-fail NAME ..`, over what `rt check` kept
        bench/gate.py --table            writes docs/gate.md from the figures that are kept, and measures nothing
 
 Every second it asks Linux for the processor time of each process of the run: those of the prover, the compiler and the tests.
 A process counts for the crate that its words name by --crate-name, as those that it starts do, and for `other` where none is
 named. What a process used after the last look at it is lost, so the sums are a few per cent too low.
-Figures are kept in bench/gate.json, with the commit at which each crate was measured last. What `rt ci` had passed before on
-this machine costs nothing, and keeps the figure that it had. ./tempo --build says by these figures how long it takes yet.
+`rt ci` tries a crate's edits over a second proof of the crate, or a single edit from nothing. `rt must-fail` begins with what
+a check kept instead, so with --edits the crate's check is added to what was seen.
+Figures are kept in bench/gate.json, with the commit at which each crate was measured last, and with a line for each dear crate
+that says why. What `rt ci` had passed before on this machine costs nothing, and keeps the figure that it had. ./tempo --build
+says by these figures how long it takes yet.
 The status is that of the gate.
 """
 import collections
@@ -27,6 +31,8 @@ TICK = os.sysconf("SC_CLK_TCK")
 PARTS = ("check", "tests", "edits")
 # Less is a look at what was kept.
 LEAST = 0.02
+# A crate that takes more has a line that says why.
+DEAR = 8
 
 
 def children(root):
@@ -82,6 +88,12 @@ def watch(pid, is_going):
     return sums
 
 
+def with_second_proof(sums):
+    """What the gate takes for the edits that rt must-fail tried over kept proofs."""
+    rows = kept()["crates"]
+    return {name: {"edits": parts["edits"] + rows.get(name, {}).get("check", 0)} for name, parts in sums.items() if parts["edits"]}
+
+
 def commit():
     """The commit that is measured, with a + where something was changed since."""
     told = [subprocess.run(["git", *words], cwd=ROOT, capture_output=True, text=True).stdout.strip()
@@ -111,11 +123,14 @@ def keep(sums):
             rows[name] = {**rows.get(name, {}), **new, "at": commit()}
     kit = subprocess.run(["rt", "version"], capture_output=True, text=True).stdout.strip()
     sources = sums.get("sources", {}).get("check") or kept().get("sources")
-    told = {"machine": machine(), "kit": kit, **({"sources": round(sources, 2)} if sources else {}),
+    told = {"machine": machine(), "kit": kit, **({"sources": round(sources, 2)} if sources else {})}
+    maps = {"why": {name: why for name, why in kept().get("why", {}).items() if name in named},
             "crates": {name: rows[name] for name in named if name in rows}}
-    lines = [f'  {json.dumps(key)}: {json.dumps(value)},' for key, value in told.items() if key != "crates"]
-    of_crates = ",\n".join(f"    {json.dumps(name)}: {json.dumps(row)}" for name, row in told["crates"].items())
-    KEPT.write_text("{\n" + "\n".join(lines) + '\n  "crates": {\n' + of_crates + "\n  }\n}\n")
+    lines = [f"  {json.dumps(key)}: {json.dumps(value)}" for key, value in told.items()]
+    for key, rows in maps.items():
+        inside = ",\n".join(f"    {json.dumps(name)}: {json.dumps(row)}" for name, row in rows.items())
+        lines.append(f"  {json.dumps(key)}: {{\n{inside}\n  }}")
+    KEPT.write_text("{\n" + ",\n".join(lines) + "\n}\n")
 
 
 def crates():
@@ -124,25 +139,47 @@ def crates():
     return [name for name in rows if name]
 
 
+def edits(name):
+    """How many edits the gate tries in a crate."""
+    return len([*ROOT.glob(f"crates/{name}/must-fail/*.edit")])
+
+
+def whole(row):
+    return sum(row.get(part, 0) for part in PARTS)
+
+
 def table(rows):
-    """The table: for each crate the minutes of its parts, the dearest one first."""
-    whole = lambda row: sum(row.get(part, 0) for part in PARTS)
+    """The table: for each crate the minutes of its parts and the number of its edits, the dearest one first."""
     sums = {part: sum(row.get(part, 0) for row in rows.values()) for part in PARTS}
-    lines = ["| crate | check | tests | edits | together |", "|---|---:|---:|---:|---:|"]
+    tried = {name: edits(name) for name in crates()}
+    lines = ["| crate | check | tests | edits | together | number of edits |", "|---|---:|---:|---:|---:|---:|"]
     for name, row in sorted([*rows.items()], key=lambda it: -whole(it[1])) + [("together", sums)]:
         told = [f"{row[part]:.1f}" if row.get(part) else "" for part in PARTS]
-        lines.append(f"| {name} | {' | '.join(told)} | {whole(row):.1f} |")
+        number = tried.get(name, sum(tried.values()) if row is sums else 0) or ""
+        lines.append(f"| {name} | {' | '.join(told)} | {whole(row):.1f} | {number} |")
     return "\n".join(lines) + "\n"
+
+
+def reasons(found):
+    """A line for each dear crate, the dearest one first."""
+    dear = sorted((name for name, row in found["crates"].items() if whole(row) > DEAR), key=lambda it: -whole(found["crates"][it]))
+    lines = [f"- `{name}`: {found.get('why', {}).get(name, 'nobody has said why yet.')}" for name in dear]
+    return f"\n## Why a crate takes more than {DEAR} minutes\n\n" + "\n".join(lines) + "\n" if lines else ""
 
 
 def write_table():
     found = kept()
-    lacking = {"check": [name for name in crates() if not found["crates"].get(name, {}).get("check")],
-               "tests and edits": [] if any(row.get("edits") for row in found["crates"].values()) else ["any crate"]}
+    has = lambda name, part: found["crates"].get(name, {}).get(part)
+    lacking = {"check": [name for name in crates() if not has(name, "check")],
+               "tests": [name for name in crates() if name.startswith("tests_") and not has(name, "tests")],
+               "edits": [name for name in crates() if edits(name) and not has(name, "edits")]}
     TABLE.write_text(
         "# What the gate takes\n\nProcessor minutes from nothing, by `bench/gate.py`, on "
         f"{found.get('machine', '?')}, with {found.get('kit', '?')}. An empty place was not measured, or takes less than a second.\n\n"
-        + table(found["crates"])
+        "The gate proves a crate with two edits or more a second time, since each of them begins with what that proof leaves; a "
+        "single edit is tried from nothing. So about as much as `check` of what stands under `edits` is the same whatever the "
+        "number of edits.\n\n"
+        + table(found["crates"]) + reasons(found)
         + "".join(f"\nNot measured by now, {part}: {', '.join(names)}.\n" for part, names in lacking.items() if names))
 
 
@@ -156,9 +193,12 @@ def main():
         pid = int(words[1])
         sums = watch(pid, lambda: os.path.exists(f"/proc/{pid}"))
     else:
-        gate = subprocess.Popen(["rt", "ci", *words], cwd=ROOT)
+        alone = words[:1] == ["--edits"]
+        gate = subprocess.Popen(["rt", *(["must-fail", *words[1:]] if alone else ["ci", *words])], cwd=ROOT)
         sums = watch(gate.pid, lambda: gate.poll() is None)
         status = gate.returncode
+        if alone:
+            sums = with_second_proof(sums)
     keep(sums)
     write_table()
     print(table(sums), end="")
