@@ -54,7 +54,8 @@ WhileUnderway e P = (plan : PlanParts) (policy : Policy) (w : Progress) (given l
 
 abbrev pub IsUnderwayOfLines : Parts → Type 0
 IsUnderwayOfLines e = e.dataflow.thawed ≡ false →
-    (plan : PlanParts) × ((policy : Policy) × ((w : Progress) × ((given : ℕ → List Edge) × ((lists : ℕ → List Edge) × IsUnderway plan policy w given lists e))))
+    (plan : PlanParts) × ((policy : Policy) × ((w : Progress) × ((given : ℕ → List Edge) × ((lists : ℕ → List Edge) ×
+    IsUnderway plan policy w given lists e))))
 
 -- at the end of a slice the node of that number failed, and those below it can take a step more
 pub record CanStepRest (node : ℕ) (e : Parts) : Type 0 where
