@@ -12,7 +12,8 @@ use Rattle.synopsis.specs.Held.{is_of_key}
 abbrev pub is_free_key : List ℕ → List HeldRow → List Datum → Bool
 is_free_key right_key right key = nat_eq (many (is_of_key right_key key) right) 0
 
--- the time since which a free key is free: the start of the row that is kept for it, and 0 where none is
+-- the time since which a free key is free: the start of the row that is kept for it, and 0 where none is. Of a key whose last
+-- right row ended at 8 it is 8
 abbrev pub free_since : List ℕ → List HeldRow → List Datum → ℕ
 free_since left_key times key = total (λ r. cond (is_of_key left_key key r) r.start 0) times
 

@@ -22,7 +22,8 @@ same_run None (Some u) r = false
 same_run (Some s) None r = false
 
 -- just before t: the open rows of both sides, and times that tell the run of each left row. No time is later than t, and
--- none is kept of a key that has no left row
+-- none is kept of a key that has no left row.
+-- At 9, of a left row since 2 whose key had a right row up to 8: the row, and the time 8
 pub record AntiHeld (left_key right_key : List ℕ) (a b : List CellEvent) (t : ℕ) (left right times : List HeldRow) : Type 0 where
   pub status : List Datum → Option ℕ
   pub now : Judging (key_of left_key) (anti_meets left_key right_key) a b t left right status

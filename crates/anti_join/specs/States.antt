@@ -56,7 +56,7 @@ pub record AntiStored (left_kinds right_kinds : List CellKind) (to : ℕ) (entri
   pub right_waiting : may_all_wait right_kinds to (part_of 3 entries) ≡ true
   pub times : are_row_starts left_kinds to (part_of 4 entries) ≡ true
 
--- and no key has two times
+-- and no key has two times. Up to 9, of a left row since 2 whose key is free since 8: the start at 2, and the time 8
 pub record AntiSound (left_key : List ℕ) (left_kinds right_kinds : List CellKind) (to : ℕ) (entries : List SavedEntry) : Type 0 where
   pub stored : AntiStored left_kinds right_kinds to entries
   pub single : HaveOneTime left_key (part_of 4 entries)

@@ -19,12 +19,13 @@ is_met left_key right_key edges r = list_any (λ x. clip_meets left_key right_ke
 abbrev pub row_named : Edge → HeldRow
 row_named e = record { cells = e.cells; start = e.other }
 
--- the rows `gone` were taken out, and their ends at t were told
+-- the rows `gone` were taken out, and their ends at t were told. Of a row from 3 on that leaves at 8 an end at 8 that names 3
 pub record Leave (gone : List HeldRow) (t : ℕ) (old new : List HeldRow) (before after : List Edge) : Type 0 where
   pub rows : (w : HeldRow → ℕ) → total w old ≡ total w new + total w gone
   pub told : Adds before after (map (told_at false t) gone)
 
--- of rows that end, those that were not clipped are all among the rows, and none that was clipped is
+-- of rows that end, those that were not clipped are all among the rows, and none that was clipped is. A row that was clipped at 8
+-- and ends at 20 is not there at 20
 pub record EndsHeld (clipped : HeldRow → Bool) (ended rows : List HeldRow) : Type 0 where
   pub held : (w : HeldRow → ℕ) → total (λ r. cond (clipped r) 0 (w r)) ended ≤ total w rows
   pub none : (cells : List Datum) (start : ℕ) → clipped (record { cells = cells; start = start }) ≡ true → many (is_held cells start) rows ≡ 0

@@ -67,7 +67,8 @@ pub record IsSound (kinds : List Kind) (saved : List SavedEntry) (closed : ℕ) 
   pub others : (cells : List Datum) → IsNonDecreasing (others_of saved cells)
 
 -- such entries are what an output keeps at the time after the edges h: their starts are those that are open, and their ends
--- those that the events of h have from then on. They have no cells but those of h
+-- those that the events of h have from then on. They have no cells but those of h. At 3, of a start at 1 and its end at 9: the
+-- entry [1, 9)
 pub record Resumes (kinds : List Kind) (saved : List SavedEntry) (closed : ℕ) (texts : List (List ℕ)) (h : List Edge) : Type 0 where
   pub sound : IsSound kinds saved closed
   pub history : IsHistory h

@@ -18,7 +18,8 @@ use Rattle.session_window.specs.Lasts.{IsLastStart}
 use Rattle.session_window.specs.Kept.{Await, waits_from}
 use Rattle.session_window.specs.Windows.{windows}
 
--- just before t: the open rows, the last start of each key that has one, and an entry for each such key, none of an earlier time
+-- just before t: the open rows, the last start of each key that has one, and an entry for each such key, none of an earlier time.
+-- With timeout 5, at 6, of rows from 1 and 4 on: both rows, the last start 4, and an entry
 pub record SessionHeld (columns : List ℕ) (timeout : ℕ) (a : List CellEvent) (t : ℕ) (rows : List HeldRow) (ends : List Pending) : Type 0 where
   pub last : List Datum → Option ℕ
   pub now : Sessioning (key_of columns) same_cells timeout a t rows last
@@ -47,7 +48,7 @@ pub record SessionReached (columns : List ℕ) (timeout : ℕ) (a : List CellEve
   pub told : Tells (windows columns timeout a) from u before after
 
 -- what a Session keeps after the edges came in and out was answered: it is swept up to `to`, and the starts from then on wait.
--- Ends that came in are kept nowhere
+-- Ends that came in are kept nowhere. Of [1, 2) and [4, 5) with timeout 5, closed up to 8: both rows, with no end
 pub record SessionKeeps (columns : List ℕ) (timeout : ℕ) (rows : List HeldRow) (ends : List Pending) (waiting : List Edge) (to : ℕ) (came out : List Edge) : Type 0 where
   pub history : IsHistory came
   pub waits : SameBag waiting (starts_from to came)

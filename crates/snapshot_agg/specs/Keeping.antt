@@ -25,7 +25,7 @@ KeepsGroup key aggs rows running waiting to came out =
     GroupKeeps (key_data key) same_cells (tell key aggs) (bad key aggs) rows (run_of running) (queued waiting) to came out
 
 -- the same, closed up to x, of edges that columns of these kinds store, with places in a table, and beside a right side of
--- which nothing is read
+-- which nothing is read. Of a count over two starts at 3, closed up to 4: both rows, and the row 2 since 3 as what was told
 pub record KeepsGrouped {S : Type 0} (key : List ℕ) (aggs : List Agg) (kinds : List CellKind) (texts : List (List ℕ)) (rows : List HeldRow)
     (running : IndexMap (List Datum) HeldRow S) (waiting : List Pending) (x : ℕ) (left right out : List Edge) : Type 0 where
   pub group : KeepsGroup key aggs rows running waiting x left out

@@ -7,7 +7,8 @@ use Rattle.end_queue.specs.Pending.{Pending}
 use Rattle.sweep_laws.specs.Saving.{starts_of, is_row_start, may_wait}
 use Rattle.sweep_sides.specs.Waiting.{queued, AreTimed}
 
--- what is kept of a side: rows that began before a time, and edges that wait from it on, each due at its sync
+-- what is kept of a side: rows that began before a time, and edges that wait from it on, each due at its sync. Before 5 a row
+-- since 3, and an end at 7 that waits
 pub record IsSide (kinds : List CellKind) (to : ℕ) (rows : List HeldRow) (waiting : List Pending) : Type 0 where
   pub started : failing (is_row_start kinds to) (starts_of rows) ≡ 0
   pub later : failing (may_wait kinds to) (queued waiting) ≡ 0
