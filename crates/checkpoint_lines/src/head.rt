@@ -16,6 +16,7 @@ pub fn push_form_line(out: &mut Vec<u8>) -> Result<(), Memory>
     Ok(())
 }
 
+/// Whether it is the first line of a checkpoint of this form.
 pub fn is_form_line(line: &[u8]) -> bool
     ensures { result ≡ same_text line.now form_line }
 {
@@ -85,6 +86,7 @@ pub fn push_end_line(out: &mut Vec<u8>) -> Result<(), Memory>
     Ok(())
 }
 
+/// Whether it is the last line.
 pub fn is_end_line(line: &[u8]) -> bool
     ensures { result ≡ same_text line.now end_line }
 {

@@ -45,7 +45,6 @@ fn split_three(line: &[u8]) -> Option<(&[u8], &[u8], &[u8])>
 const MOST_LINES: u64 = 1 << 62;
 
 /// What a line of `push_time_line` says, where it is one.
-
 pub fn read_time_line(line: &[u8]) -> Option<(u64, Time)>
     ensures { result ≡ time_of line.now }
 {

@@ -32,12 +32,14 @@ impl Model for PartForm {
 }
 
 impl PartForm {
+    /// Whose the part is.
     pub fn owner(&self) -> Owner
         ensures { result ≡ self.now.owner }
     {
         self.owner
     }
 
+    /// The number of its shard, from 0 on; 0 where there is but one.
     pub fn shard(&self) -> u64
         ensures { result ≡ self.now.shard }
     {

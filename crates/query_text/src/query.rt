@@ -150,6 +150,7 @@ impl LetList {
         LetList { items }
     }
 
+    /// The lets, in the order of the text.
     pub fn items(&self) -> &[Let]
         ensures { result.now ≡ self.now }
     {
@@ -180,6 +181,7 @@ impl StepList {
         StepList { items }
     }
 
+    /// The steps, in the order of the text.
     pub fn items(&self) -> &[QueryStep]
         ensures { result.now ≡ self.now }
     {
@@ -210,6 +212,7 @@ impl ItemList {
         ItemList { items }
     }
 
+    /// The items, in the order of the text.
     pub fn items(&self) -> &[Item]
         ensures { result.now ≡ self.now }
     {
@@ -240,6 +243,7 @@ impl AggList {
         AggList { items }
     }
 
+    /// The aggregates, in the order of the text.
     pub fn items(&self) -> &[QueryAgg]
         ensures { result.now ≡ self.now }
     {
@@ -269,6 +273,7 @@ impl NameList {
         NameList { items }
     }
 
+    /// The names, in the order of the text.
     pub fn items(&self) -> &[Label]
         ensures { result.now ≡ self.now }
     {
@@ -299,6 +304,7 @@ impl TreeList {
         TreeList { items }
     }
 
+    /// The literals, in the order of the text.
     pub fn items(&self) -> &[Tree]
         ensures { result.now ≡ self.now }
     {

@@ -113,6 +113,7 @@ impl Cells {
         })
     }
 
+    /// The data in the order of the columns.
     pub fn items(&self) -> &[Datum]
         ensures { result.now ≡ self.now }
     {

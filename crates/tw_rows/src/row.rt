@@ -55,12 +55,14 @@ impl Model for Row {
 }
 
 impl Row {
+    /// The row of these values. It takes no memory.
     pub fn from_vec(values: Vec<Value>) -> Row
         ensures { result ≡ values.items }
     {
         Row { values }
     }
 
+    /// The values in the order of the columns.
     pub fn values(&self) -> &[Value]
         ensures { result.now ≡ self.now }
     {

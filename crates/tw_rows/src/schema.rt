@@ -47,12 +47,14 @@ impl Model for Schema {
 }
 
 impl Schema {
+    /// The schema of these columns. It takes no memory.
     pub fn from_vec(items: Vec<ColumnDef>) -> Schema
         ensures { result ≡ items.items }
     {
         Schema { columns: items }
     }
 
+    /// The columns, in order.
     pub fn items(&self) -> &[ColumnDef]
         ensures { result.now ≡ self.now }
     {
