@@ -1,2 +1,3 @@
+-- Callers read Words; Options is cited by private contracts alone.
 pub mod Options
 pub mod Words

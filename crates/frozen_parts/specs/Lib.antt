@@ -1,2 +1,3 @@
+-- Callers read both.
 pub mod Kept
 pub mod Named

@@ -1,2 +1,3 @@
+-- Callers read Lanes.
 pub mod Lanes
 pub mod Reciprocals

@@ -1,3 +1,4 @@
+-- Callers read all of these.
 pub mod Names
 pub mod Types
 pub mod Schemas

@@ -1,3 +1,4 @@
+-- Callers read Planned and Explained, and the laws Draft, Steps and Faults. The others are cited by private contracts.
 pub mod Draft
 pub mod Answer
 pub mod Growing

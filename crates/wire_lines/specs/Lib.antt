@@ -1,3 +1,4 @@
+-- Callers read all but Cut and Found, which the model and private contracts cite.
 pub mod Journal
 pub mod Faults
 pub mod Memory
