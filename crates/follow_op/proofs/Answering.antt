@@ -27,7 +27,7 @@ use Rattle.sweep_laws.proofs.Stored.{kinds_stored, stored_kinds}
 use Rattle.sweep_sides.specs.Answers.{FitsList, is_between}
 use Rattle.follow_op.specs.Followed.{follow_meets, follows}
 use Rattle.follow_op.specs.Intervals.{starts_between, TellsAhead}
-use Rattle.follow_op.proofs.Columns.{pair_mapped}
+use Rattle.sweep_sides.proofs.Paired.{pair_mapped}
 use Rattle.follow_op.proofs.Sums.{below_known, below_parts}
 
 pub lives : (h : List Edge) → IsHistory h → AreEvents (of h)

@@ -1,4 +1,3 @@
-pub mod Columns
 pub mod KeyRules
 pub mod Sums
 pub mod Taken

@@ -6,7 +6,6 @@ ghost use Rattle.plan_model.specs.Keys.{paired_row};
 ghost use Rattle.follow_op.specs.Keys.{SameKeys};
 ghost use Rattle.follow_op.specs.States.{IsWorking};
 
-use crate::pairs::pair_kinds;
 use crate::rows::Rows;
 use crate::sides::Sides;
 use batch::Pools;
@@ -14,7 +13,7 @@ use edge_stream::EdgeList;
 use end_queue::EndQueue;
 use std::alloc::Global;
 use std::collections::VecDeque;
-use sweep_sides::list_of;
+use sweep_sides::{list_of, pair_kinds};
 use synopsis::{KeyRoom, Synopsis};
 use tw_rows::{Kind, Memory, Time};
 

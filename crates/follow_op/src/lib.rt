@@ -3,7 +3,6 @@
 
 mod follow;
 mod operating;
-mod pairs;
 mod rows;
 mod sides;
 

@@ -16,10 +16,9 @@ ghost use Rattle.follow_op.specs.Followed.{follows, match_told, is_met, is_follo
 ghost use Rattle.follow_op.specs.Waits.{still_waits, StartsRise, FirstWaits, FollowHeld};
 ghost use Rattle.follow_op.specs.Intervals.{TellsAhead};
 
-use crate::pairs::pair_cells;
 use std::alloc::Global;
 use std::collections::VecDeque;
-use sweep_sides::{first_instant, next_instant, rest};
+use sweep_sides::{first_instant, next_instant, pair_cells, rest};
 use synopsis::{HeldRow, KeyRoom, Synopsis};
 use tw_rows::{Datum, Edge, Memory, Time};
 

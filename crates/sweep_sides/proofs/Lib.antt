@@ -5,3 +5,4 @@ pub mod TakenIn
 pub mod KeptStarts
 pub mod Telling
 pub mod Starting
+pub mod Paired

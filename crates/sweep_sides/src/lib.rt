@@ -5,6 +5,7 @@
 mod answer;
 mod endings;
 mod instants;
+mod pairs;
 mod saving;
 mod starts;
 mod taking;
@@ -12,6 +13,7 @@ mod waiting;
 
 pub use answer::list_of;
 pub use instants::{first_instant, next_instant, rest};
+pub use pairs::{pair_cells, pair_kinds};
 pub use saving::{
     are_rows, are_starts, can_wait, kept_count, load_rows, load_waiting, save_block, save_rows,
     save_waiting,

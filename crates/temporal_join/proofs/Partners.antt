@@ -1,13 +1,12 @@
 -- The rows of the other side with which a row is paired.
-use Rattle.std.specs.Prelude.{◌≡◌, ℕ, zero, suc, ◌+◌, ◌<◌, max, nat_eq, Bool, true, false, cond, List, [], ◌∷◌, ◌++◌, map, filter, length, get_or, take, refl}
-use Rattle.std.specs.List.{list_any}
-use Rattle.std.proofs.Common.{sym, ◌∙◌, ap, subst, arith, append_assoc}
+use Rattle.std.specs.Prelude.{◌≡◌, ℕ, max, Bool, true, false, cond, List, [], ◌∷◌, ◌++◌, map, filter, refl}
+use Rattle.std.proofs.Common.{sym, ◌∙◌, ap, subst, arith}
 use Rattle.tw_rows.specs.Bag.{total}
 use Rattle.tw_rows.specs.SameCells.{same_cells, cells_are_same, same_itself}
 use Rattle.tw_rows.specs.declared.cells.Datum.{Datum}
 use Rattle.tw_rows.specs.declared.edge.Edge.{Edge}
 use Rattle.tw_rows.specs.declared.edge.HeldRow.{HeldRow}
-use Rattle.plan_model.specs.Keys.{outside_from, paired_row}
+use Rattle.plan_model.specs.Keys.{paired_row}
 use Rattle.sweep_laws.specs.Moves.{Adds, told_at}
 use Rattle.sweep_laws.specs.Pairs.{sided, partners, pairs_told}
 use Rattle.sweep_laws.specs.Sweeps.{Tells}
@@ -86,42 +85,6 @@ row_told lk rk r starts t x others key values answer0 answer by own is =
     ∙ ap (map (told_at starts t)) (sym (partners_are lk rk r x others) ∙ sym (append_nil (partners (join_meets lk rk) (paired_row rk) r x others)))) in
     record { added = map f (filter (is_of_key key values) others); is = is; bag = record { weigh = λ w. ap (total w) same } }
 
--- the columns that stand in no key, one more of them
-pub outside_next : {X : Type 0} (c : ℕ) (key : List ℕ) (xs : List X) (i : ℕ) (x : X) → i < length xs → x ≡ get_or xs i x →
-    outside_from c key (take (suc i) xs) ≡ outside_from c key (take i xs) ++ cond (list_any (nat_eq (c + i)) key) [] (x ∷ [])
-outside_next c key [] i x low is = absurd (omega (arith, low))
-outside_next c key (y ∷ xs) zero x low is =
-    ap (λ n. cond (list_any (nat_eq n) key) [] (y ∷ [])) (let e : c ≡ c + 0 = omega arith in e) ∙ ap (λ z. cond (list_any (nat_eq (c + 0)) key) [] (z ∷ [])) (sym is)
-outside_next {X} c key (y ∷ xs) (suc i) x low is =
-    go (list_any (nat_eq c) key)
-    (outside_next (suc c) key xs i x (omega (arith, low)) is ∙ ap (λ n. outside_from (suc c) key (take i xs) ++ cond (list_any (nat_eq n) key) [] (x ∷ [])) (let e : suc c + i ≡ c + suc i = omega arith in e))
-  where
-    go : (t : Bool) → outside_from (suc c) key (take (suc i) xs) ≡ outside_from (suc c) key (take i xs) ++ cond (list_any (nat_eq (c + suc i)) key) [] (x ∷ []) →
-        cond t (outside_from (suc c) key (take (suc i) xs)) (y ∷ outside_from (suc c) key (take (suc i) xs))
-        ≡ cond t (outside_from (suc c) key (take i xs)) (y ∷ outside_from (suc c) key (take i xs)) ++ cond (list_any (nat_eq (c + suc i)) key) [] (x ∷ [])
-    go true h = h
-    go false h = ap (λ l. y ∷ l) h
-
--- a pair's row, one more column of the right row
-pub pair_next : {X : Type 0} (key : List ℕ) (left right row row2 : List X) (i : ℕ) (x : X) → i < length right → x ≡ get_or right i x → row ≡ left ++ outside_from 0 key (take i right) →
-    row2 ≡ row ++ cond (list_any (nat_eq i) key) [] (x ∷ []) → row2 ≡ left ++ outside_from 0 key (take (i + 1) right)
-pair_next {X} key left right row row2 i x low is before pushed =
-    let z : 0 + i ≡ i = omega arith in
-    let o : suc i ≡ i + 1 = omega arith in
-    pushed ∙ (ap (λ (l : List X). l ++ cond (list_any (nat_eq i) key) [] (x ∷ [])) before ∙ (append_assoc left (outside_from 0 key (take i right)) (cond (list_any (nat_eq i) key) [] (x ∷ []))
-    ∙ ap (λ (l : List X). left ++ l) (ap (λ n. outside_from 0 key (take i right) ++ cond (list_any (nat_eq n) key) [] (x ∷ [])) (sym z)
-    ∙ (sym (outside_next 0 key right i x low is) ∙ ap (λ n. outside_from 0 key (take n right)) o))))
-
-get_or_any : {X : Type 0} (xs : List X) (i : ℕ) (d e : X) → i < length xs → get_or xs i d ≡ get_or xs i e
-get_or_any [] i d e low = absurd (omega (arith, low))
-get_or_any (x ∷ xs) zero d e low = refl
-get_or_any (x ∷ xs) (suc i) d e low = get_or_any xs i d e (omega (arith, low))
-
-pub pair_next_at : {X : Type 0} (key : List ℕ) (left right row row2 : List X) (i : ℕ) (d : X) → i < length right → row ≡ left ++ outside_from 0 key (take i right) →
-    row2 ≡ row ++ cond (list_any (nat_eq i) key) [] (get_or right i d ∷ []) → row2 ≡ left ++ outside_from 0 key (take (i + 1) right)
-pair_next_at key left right row row2 i d low before pushed =
-    pair_next key left right row row2 i (get_or right i d) low (get_or_any right i d (get_or right i d) low) before pushed
-
 -- what is told by equal keys
 pub same_told : (lk rk k r : List ℕ) (side starts : Bool) (t : ℕ) (xs ys : List HeldRow) (answer0 answer : List Edge) → k ≡ lk → r ≡ rk →
     Adds answer0 answer (pairs_told (join_meets k r) (paired_row r) side starts t xs ys) → Adds answer0 answer (pairs_told (join_meets lk rk) (paired_row rk) side starts t xs ys)
@@ -133,9 +96,3 @@ pub same_tells : (lk rk k r : List ℕ) (a b : List CellEvent) (t u : ℕ) (answ
     Tells (joins k r a b) t u answer0 answer → Tells (joins lk rk a b) t u answer0 answer
 same_tells lk rk k r a b t u answer0 answer e f h =
     subst (λ (l : List ℕ). Tells (joins l rk a b) t u answer0 answer) e (subst (λ (l : List ℕ). Tells (joins k l a b) t u answer0 answer) f h)
-
-pub same_if_among : {X : Type 0} (b : Bool) (row : List X) (x : X) → b ≡ true → row ≡ row ++ cond b [] (x ∷ [])
-same_if_among b row x h = sym (append_nil row) ∙ ap (λ c. row ++ cond c [] (x ∷ [])) (sym h)
-
-pub more_if_outside : {X : Type 0} (b : Bool) (row : List X) (x : X) → b ≡ false → row ++ x ∷ [] ≡ row ++ cond b [] (x ∷ [])
-more_if_outside b row x h = ap (λ c. row ++ cond c [] (x ∷ [])) (sym h)

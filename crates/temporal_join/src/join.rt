@@ -1,50 +1,22 @@
 // The operator of a Join.
-ghost use Rattle.std.specs.Prelude.{◌≡◌, ◌≤◌, ◌++◌, ◌∷◌, nat_eq, length, cond, [], IfOk, OnOk};
-ghost use Rattle.std.specs.List.{list_any};
+ghost use Rattle.std.specs.Prelude.{◌≡◌, ◌≤◌, length, [], IfOk};
 ghost use Rattle.plan_model.specs.Keys.{paired_row};
 ghost use Rattle.plan_model.specs.declared.node.Node.TheVariants.{Join as JoinNode};
 ghost use Rattle.sweep_operator.specs.Operating.{standing, IsNew};
 ghost use Rattle.sweep_operator.specs.Sweepers.{new_standing};
 
-use crate::pairs::is_among;
 use crate::sides::JoinSides;
 use crate::sweep::Rows;
 use end_queue::EndQueue;
 use std::alloc::Global;
 use sweep_operator::Swept;
+use sweep_sides::pair_kinds;
 use synopsis::Synopsis;
 use tw_rows::{Kind, Memory};
 
 /// A join of the rows of two sides that have the same data in their key columns. What is kept of a side is its rows that are
 /// alive just before the lesser of the times up to which the sides are closed, and its edges from then on.
 pub type Join = Swept<JoinSides>;
-
-// Puts the kind of a column last, where the column stands in no key.
-fn push_kind(kinds: &mut Vec<Kind>, key: &[usize], column: usize, kind: Kind) -> Result<(), Memory>
-    ensures { OnOk result (kinds.new.items ≡ kinds.old.items ++ cond (list_any (nat_eq column) key.now) [] (kind ∷ [])) }
-{
-    if is_among(key, column) {
-        return Ok(());
-    }
-    kinds.push(kind)?;
-    Ok(())
-}
-
-// The kinds of the columns of a pair: those of the left row, and those of the right row in no column of its key.
-fn pair_kinds(
-    alloc: Global,
-    right_key: &[usize],
-    left: &[Kind],
-    right: &[Kind],
-) -> Result<Vec<Kind>, Memory>
-    ensures { IfOk result (λ kinds. kinds.items ≡ paired_row right_key.now left.now right.now) }
-{
-    let mut kinds = Vec::from_slice(alloc, left)?;
-    for i in 0..right.len() {
-        push_kind(&mut kinds, right_key, i, right[i])?;
-    }
-    Ok(kinds)
-}
 
 // No rows and no edges, by these key columns.
 fn no_sides(alloc: Global, left_key: &[usize], right_key: &[usize]) -> Result<JoinSides, Memory>

@@ -1,6 +1,5 @@
 // The pairs of the rows of two sides.
-ghost use Rattle.std.specs.Prelude.{◌≡◌, ◌+◌, ◌≤◌, ◌++◌, ◌∷◌, [], ℕ, max, map, nat_eq, true, false, Bool, cond, List, OnOk, IfOk};
-ghost use Rattle.std.specs.List.{list_any};
+ghost use Rattle.std.specs.Prelude.{◌≡◌, ◌+◌, ◌≤◌, ◌++◌, ◌∷◌, [], ℕ, max, map, true, false, cond, OnOk, IfOk};
 ghost use Rattle.tw_rows.specs.Bag.{total};
 ghost use Rattle.tw_rows.specs.Instant.{inf};
 ghost use Rattle.tw_rows.specs.declared.edge.HeldRow.{HeldRow};
@@ -12,8 +11,9 @@ ghost use Rattle.synopsis.specs.Held.{key_of as key_data, cell_or_zero};
 use smallvec::SmallVec;
 use std::alloc::Global;
 use std::mem::replace;
+use sweep_sides::pair_cells;
 use synopsis::{HeldRow, Synopsis, lone_key};
-use tw_rows::{Cells, Datum, Edge, Memory, SHORT_ROW, Time};
+use tw_rows::{Cells, Datum, Edge, Memory, Time};
 
 /// How rows of one side are paired with those of the other at an instant. `right` tells that they are right rows.
 #[derive(Drop)]
@@ -23,17 +23,6 @@ pub(crate) struct Pairing<'a> {
     pub(crate) right_key: &'a [usize],
     pub(crate) right: bool,
     pub(crate) at: Time,
-}
-
-pub(crate) fn is_among(columns: &[usize], column: usize) -> bool
-    ensures { result ≡ list_any (nat_eq column) columns.now }
-{
-    for c in columns {
-        if column == *c {
-            return true;
-        }
-    }
-    false
 }
 
 // The datum of a row in a column.
@@ -52,39 +41,6 @@ fn key_of(alloc: Global, key: &[usize], cells: &[Datum]) -> Result<SmallVec<Datu
         data.push(cell_at(cells, key[i]))?;
     }
     Ok(data)
-}
-
-// Puts the datum of a column last, where the column stands in no key.
-fn push_outside(
-    row: &mut SmallVec<Datum, SHORT_ROW>,
-    key: &[usize],
-    column: usize,
-    datum: Datum,
-) -> Result<(), Memory>
-    ensures { OnOk result (row.new.items ≡ row.old.items ++ cond (list_any (nat_eq column) key.now) [] (datum ∷ [])) }
-{
-    if is_among(key, column) {
-        return Ok(());
-    }
-    row.push(datum)?;
-    Ok(())
-}
-
-// The left row, followed by what the right row has in no column of its key.
-fn pair_cells(
-    alloc: Global,
-    right_key: &[usize],
-    left: &[Datum],
-    right: &[Datum],
-) -> Result<Cells, Memory>
-    ensures { IfOk result (λ cells. cells ≡ paired_row right_key.now left.now right.now) }
-{
-    let mut data = SmallVec::new(alloc);
-    data.extend_from_slice(left)?;
-    for i in 0..right.len() {
-        push_outside(&mut data, right_key, i, right[i])?;
-    }
-    Ok(Cells::new(data))
 }
 
 // The other time of the edge of a pair: infinity at its start, and at its end the later start of its rows.

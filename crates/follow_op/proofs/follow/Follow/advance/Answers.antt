@@ -13,7 +13,7 @@ use Rattle.sweep_sides.specs.Waiting.{queued}
 use Rattle.sweep_sides.proofs.Telling.{from_lesser, list_is, between_parts}
 use Rattle.sweep_sides.specs.Answers.{FitsList}
 use Rattle.follow_op.specs.States.{AreSides}
-use Rattle.follow_op.proofs.Columns.{pair_mapped}
+use Rattle.sweep_sides.proofs.Paired.{pair_mapped}
 use Rattle.follow_op.proofs.KeyRules.{held_back, kept_by}
 use Rattle.follow_op.proofs.Resuming.{follow_stepped}
 use Rattle.follow_op.proofs.follow.Follow.advance.Goals as goal

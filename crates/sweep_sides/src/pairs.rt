@@ -35,7 +35,7 @@ fn push_outside(
 }
 
 /// The left row, followed by what the right row has in no column of its key.
-pub(crate) fn pair_cells(
+pub fn pair_cells(
     alloc: Global,
     right_key: &[usize],
     left: &[Datum],
@@ -63,7 +63,7 @@ fn push_kind(kinds: &mut Vec<Kind>, key: &[usize], column: usize, kind: Kind) ->
 }
 
 /// The kinds of the columns of a pair: those of the left row, and those of the right row in no column of its key.
-pub(crate) fn pair_kinds(
+pub fn pair_kinds(
     alloc: Global,
     right_key: &[usize],
     left: &[Kind],

@@ -1,6 +1,6 @@
 use Rattle.std.proofs.Common.{◌∙◌, sym}
-use Rattle.follow_op.proofs.Columns.{same_if_among, more_if_outside}
-use Rattle.follow_op.proofs.pairs.push_kind.Goals as goal
+use Rattle.sweep_sides.proofs.Paired.{same_if_among, more_if_outside}
+use Rattle.sweep_sides.proofs.pairs.push_kind.Goals as goal
 
 pub returns-then-is_among : goal.returns-then-is_among
 returns-then-is_among c = same_if_among _ c.args.kinds.now.items c.args.kind (sym c.is_among.ensures ∙ c.if-is_among.true)

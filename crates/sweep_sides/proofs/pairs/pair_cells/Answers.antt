@@ -1,5 +1,5 @@
-use Rattle.temporal_join.proofs.Partners.{pair_next_at}
-use Rattle.temporal_join.proofs.pairs.pair_cells.Goals as goal
+use Rattle.sweep_sides.proofs.Paired.{pair_next_at}
+use Rattle.sweep_sides.proofs.pairs.pair_cells.Goals as goal
 
 pub loop-i-preserved : goal.loop-i-preserved
 loop-i-preserved c =

@@ -1,5 +1,5 @@
-use Rattle.follow_op.proofs.Columns.{pair_next_at}
-use Rattle.follow_op.proofs.pairs.pair_kinds.Goals as goal
+use Rattle.sweep_sides.proofs.Paired.{pair_next_at}
+use Rattle.sweep_sides.proofs.pairs.pair_kinds.Goals as goal
 
 pub loop-i-preserved : goal.loop-i-preserved
 loop-i-preserved c =

@@ -1,7 +1,0 @@
--- The kinds so far are those of the left row, and of the columns before this one that stand in no key.
-use Rattle.std.proofs.Common.{◌≡◌, ◌++◌, take}
-use Rattle.plan_model.specs.Keys.{outside_key}
-use Rattle.follow_op.proofs.pairs.pair_kinds.Given as goal
-
-abbrev pub invariant-loop-i : goal.invariant-loop-i
-invariant-loop-i l = l.kinds.items ≡ l.left ++ outside_key l.right_key (take l.i l.right)

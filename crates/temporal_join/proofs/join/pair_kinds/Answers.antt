@@ -1,6 +1,0 @@
-use Rattle.temporal_join.proofs.Partners.{pair_next_at}
-use Rattle.temporal_join.proofs.join.pair_kinds.Goals as goal
-
-pub loop-i-preserved : goal.loop-i-preserved
-loop-i-preserved c =
-    pair_next_at c.args.right_key.now c.args.left.now c.args.right.now c.loop-i.kinds.items c.push_kind.new.kinds.items c.loop-i.i _ c.loop-i-test.true c.loop-i.invariant c.in_ok-push_kind.ensures

@@ -1,9 +1,0 @@
-use Rattle.std.proofs.Common.{◌∙◌, sym}
-use Rattle.temporal_join.proofs.Partners.{same_if_among, more_if_outside}
-use Rattle.temporal_join.proofs.join.push_kind.Goals as goal
-
-pub returns-then-is_among : goal.returns-then-is_among
-returns-then-is_among c = same_if_among _ c.args.kinds.now.items c.args.kind (sym c.is_among.ensures ∙ c.if-is_among.true)
-
-pub returns : goal.returns
-returns c = c.in_ok-push.ensures.items ∙ more_if_outside _ c.args.kinds.now.items c.args.kind (sym c.is_among.ensures ∙ c.if-is_among.false)
