@@ -13,20 +13,18 @@ use Rattle.edge_history.specs.History.{CellEvent, of}
 use Rattle.edge_history.specs.Order.{failing, many}
 use Rattle.edge_history.specs.Side.{reaches}
 use Rattle.edge_stream.specs.declared.saved.SavedEntry.{SavedEntry}
-use Rattle.end_queue.specs.Pending.{Pending}
 use Rattle.carried_edges.specs.Entries.{entries_of, part_of, are_of_parts}
 use Rattle.carried_edges.proofs.Parts.{parts_pass, part_of_own, part_of_other, part_of_append, parts_own, parts_append, all_pass}
 use Rattle.plan_model.specs.declared.node.Node.TheVariants.{Anti}
 use Rattle.plan_laws.specs.Held.{may_hold}
 use Rattle.synopsis.specs.Held.{is_of_key}
 use Rattle.operator.specs.Standing.{Standing, IsStoredAs, AreStoredAs}
-use Rattle.sweep_sides.proofs.KeptSides.{row_cells, waiting_cells}
+use Rattle.sweep_sides.proofs.KeptSides.{row_cells, waiting_cells, none_side}
 use Rattle.sweep_laws.specs.Saving.{starts_of, rows_of, is_row_start, may_wait, are_row_starts, may_all_wait, HaveBegun}
 use Rattle.sweep_laws.proofs.Stored.{rows_of_starts}
 use Rattle.anti_join.proofs.Held.{held_same}
 use Rattle.anti_join.proofs.Steps.{kept_none}
 use Rattle.anti_join.specs.Operating.{anti_row}
-use Rattle.sweep_sides.specs.Sides.{IsSide}
 use Rattle.sweep_sides.specs.Waiting.{AreTimed}
 use Rattle.anti_join.specs.declared.sides.AntiSides.{AntiSides}
 use Rattle.anti_join.specs.Holding.{AntiKeeps}
@@ -41,9 +39,6 @@ anti_opens s e = record {
   kept = rw (e.left, e.right, e.times, e.none_left, e.none_right) (kept_none s.rows.left.key s.rows.right.key);
   single = λ k. (let n = ap (many (is_of_key s.rows.left.key k)) e.times in omega (arith, n));
 }
-
-none_side : (kinds : List CellKind) (to : ℕ) (rows : List HeldRow) (waiting : List Pending) → rows ≡ [] → waiting ≡ [] → IsSide kinds to rows waiting
-none_side kinds to rows waiting e f = rw (e, f) (record { started = refl; later = refl; timed = refl })
 
 none_begun : (kinds : List CellKind) (to : ℕ) (rows : List HeldRow) → rows ≡ [] → HaveBegun kinds to rows
 none_begun kinds to rows e = rw e refl

@@ -1,7 +1,6 @@
 pub mod Examples
 pub mod Leaving
 pub mod Meeting
-pub mod RightEdges
 pub mod Steps
 pub mod KeyRules
 pub mod Answering

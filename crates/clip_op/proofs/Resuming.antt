@@ -12,14 +12,12 @@ use Rattle.tw_rows.proofs.Bags.{SameBag-trans}
 use Rattle.edge_history.specs.Order.{failing}
 use Rattle.edge_history.specs.Opens.{is_start}
 use Rattle.edge_stream.specs.declared.saved.SavedEntry.{SavedEntry}
-use Rattle.end_queue.specs.Pending.{Pending}
 use Rattle.carried_edges.specs.Entries.{entries_of, part_of, are_of_parts}
 use Rattle.carried_edges.proofs.Parts.{parts_pass, part_of_own, part_of_other, part_of_append, parts_own, parts_append, all_pass}
 use Rattle.operator.specs.Standing.{Standing, IsStoredAs, AreStoredAs}
-use Rattle.sweep_sides.proofs.KeptSides.{row_cells, waiting_cells}
+use Rattle.sweep_sides.proofs.KeptSides.{row_cells, waiting_cells, none_side}
 use Rattle.sweep_laws.specs.Saving.{starts_of, rows_of, is_row_start, may_wait, are_row_starts, may_all_wait}
 use Rattle.sweep_laws.proofs.Stored.{rows_of_starts}
-use Rattle.sweep_sides.specs.Sides.{IsSide}
 use Rattle.sweep_sides.specs.Waiting.{AreTimed}
 use Rattle.clip_op.specs.declared.sides.ClipSides.{ClipSides}
 use Rattle.clip_op.specs.Holding.{ClipKeeps}
@@ -34,9 +32,6 @@ clip_opens s e = record {
   right_timed = subst AreTimed (sym e.none_right) refl;
   kept = rw (e.left, e.none_left, e.none_right) (kept_none s.rows.left.key s.rows.right_key.columns);
 }
-
-none_side : (kinds : List CellKind) (to : ℕ) (rows : List HeldRow) (waiting : List Pending) → rows ≡ [] → waiting ≡ [] → IsSide kinds to rows waiting
-none_side kinds to rows waiting e f = rw (e, f) (record { started = refl; later = refl; timed = refl })
 
 pub clip_fits : (s : ClipSides) (lc rc : List CellKind) (to : ℕ) → IsEmpty s → AreSides lc rc to s
 clip_fits s lc rc to e = record {

@@ -25,7 +25,7 @@ use Rattle.sweep_laws.proofs.Sides.{side_now, side_none, side_rest, next_between
 use Rattle.sweep_laws.proofs.Unending.{clipped_unending}
 use Rattle.clip_op.specs.Clipped.{clip_meets, clips}
 use Rattle.clip_op.specs.Holding.{ClipHeld, ClipReached, ClipKeeps}
-use Rattle.clip_op.proofs.RightEdges.{starts_due_are}
+use Rattle.sweep_sides.proofs.DueStarts.{starts_due_are}
 
 module _ (lk rk : List ℕ) where
   held_between : (a b : List CellEvent) (u t : ℕ) (left : List HeldRow) → u ≤ t → AreEvents a → AreEvents b → ((w : Edge → ℕ) → total w (news u t a) ≡ 0) → ((w : Edge → ℕ) → total w (news u t b) ≡ 0) →

@@ -1,5 +1,5 @@
 -- A Follow from instant to instant, and what new edges leave of what is kept.
-use Rattle.std.specs.Prelude.{◌≡◌, ℕ, suc, ◌+◌, ◌*◌, ◌<◌, ◌≤◌, ◌&&◌, nat_lt, not, Bool, cond, List, [], ◌++◌, map, filter, take, drop}
+use Rattle.std.specs.Prelude.{◌≡◌, ℕ, suc, ◌*◌, ◌<◌, ◌≤◌, ◌&&◌, nat_lt, not, Bool, cond, List, [], map, filter, take, drop}
 use Rattle.std.proofs.lemmas.Bool.Decides.{nat_tests}
 use Rattle.std.proofs.Common.{sym, ◌∙◌, ap, arith}
 use Rattle.tw_rows.specs.Instant.{inf, later}
@@ -7,19 +7,14 @@ use Rattle.tw_rows.specs.Bag.{SameBag, total}
 use Rattle.tw_rows.specs.Event.{cut}
 use Rattle.tw_rows.specs.declared.edge.Edge.{Edge}
 use Rattle.tw_rows.specs.declared.edge.HeldRow.{HeldRow}
-use Rattle.tw_rows.proofs.Bags.{SameBag-trans, total_same, total-filter}
-use Rattle.edge_history.specs.Order.{failing, is_from, is_below, IsHistory}
+use Rattle.tw_rows.proofs.Bags.{total_same, total-filter}
+use Rattle.edge_history.specs.Order.{failing}
 use Rattle.edge_history.specs.History.{CellEvent, of}
 use Rattle.edge_history.specs.Balance.{news}
-use Rattle.edge_history.specs.Opens.{singles, is_start}
-use Rattle.edge_history.proofs.Retaining.{events_of_are, valid_from, AreEvents-from}
-use Rattle.edge_history.proofs.Waiting.{starts_due}
-use Rattle.sweep_laws.specs.Sweeps.{is_at, IsPast, SyncsRise, IsDue, IsNext}
+use Rattle.sweep_laws.specs.Sweeps.{is_at, IsPast, IsDue, IsNext}
 use Rattle.sweep_laws.specs.Unending.{unending}
 use Rattle.sweep_laws.proofs.Ordering.{order_later}
 use Rattle.sweep_laws.proofs.Sides.{side_now, side_none, side_rest, next_between}
-use Rattle.sweep_laws.proofs.Unending.{starts_are_news, unending_valid}
-use Rattle.sweep_sides.specs.Starts.{starts_from}
 use Rattle.follow_op.specs.Followed.{follow_meets, follows}
 use Rattle.follow_op.specs.Waits.{still_waits, StartsRise, is_free, FollowHeld}
 use Rattle.follow_op.specs.Intervals.{intervals, TellsAhead}
@@ -102,21 +97,6 @@ module _ (lk rk : List ℕ) (within : ℕ) (a b : List CellEvent) where
       )
 
 -- WHAT IS KNOWN
--- the starts that are due of a side are the news of its events as if they never ended
-pub starts_due_are : (came new waiting due rest : List Edge) (c d : ℕ) → c ≤ d → d ≤ inf → IsHistory (came ++ new) → failing (is_from c) new ≡ 0 →
-    SameBag waiting (starts_from c came) → ((w : Edge → ℕ) → total w due + total w rest ≡ total w waiting + total w (filter is_start (singles new))) →
-    failing (is_below d) due ≡ 0 → failing (is_from d) rest ≡ 0 → SyncsRise 0 due → IsDue (map unending (of (came ++ new))) c d due
-starts_due_are came new waiting due rest c d low high whole from waits parts below later up =
-    let valid = valid_from (came ++ new) (of (came ++ new)) whole.real (events_of_are (came ++ new) whole) in
-    record {
-      low = low;
-      high = high;
-      lives = unending_valid (of (came ++ new)) (AreEvents-from (of (came ++ new)) valid);
-      news_of = SameBag-trans due (filter is_start (news c d (of (came ++ new)))) (news c d (map unending (of (came ++ new))))
-          (starts_due came new waiting due rest c d low high whole from waits parts below later) (starts_are_news c d (of (came ++ new)) high valid);
-      order = up;
-    }
-
 module _ (lk rk : List ℕ) (within : ℕ) where
   -- rows that wait hang on what is known before alone
   pub held_known : (c v : ℕ) (a a2 b b2 : List CellEvent) (rows queue : List HeldRow) → SameBag (cut c a) (cut c a2) → SameBag (cut c b) (cut c b2) →

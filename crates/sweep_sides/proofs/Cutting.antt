@@ -1,5 +1,5 @@
 -- Lists that are cut.
-use Rattle.std.specs.Prelude.{◌≡◌, ℕ, zero, suc, ◌+◌, ◌≤◌, not, Bool, true, false, List, [], ◌∷◌, ◌++◌, length, take, drop, refl}
+use Rattle.std.specs.Prelude.{◌≡◌, ℕ, ◌+◌, ◌≤◌, not, Bool, true, false, List, ◌++◌, take, drop, refl}
 use Rattle.std.proofs.Common.{sym, ◌∙◌, ap, arith}
 use Rattle.std.proofs.Math.Seq.{take-add}
 use Rattle.std.proofs.lemmas.List.{take-append-drop}
@@ -8,16 +8,11 @@ use Rattle.tw_rows.specs.declared.edge.Edge.{Edge}
 use Rattle.tw_rows.specs.declared.edge.HeldRow.{HeldRow}
 use Rattle.tw_rows.proofs.Bags.{total-append, total-flat_map}
 use Rattle.edge_history.specs.Opens.{started_of, started_rows}
+pub use Rattle.sweep_laws.proofs.Instants.{drop_past}
 
 pub no_not : (b : Bool) → not b ≡ false → b ≡ true
 no_not true h = refl
 no_not false h = absurd (cc)
-
-pub drop_past : {X : Type 0} (xs : List X) (i : ℕ) → length xs ≤ i → drop i xs ≡ []
-drop_past [] zero low = refl
-drop_past [] (suc i) low = refl
-drop_past (x ∷ xs) zero low = absurd (omega arith)
-drop_past (x ∷ xs) (suc i) low = drop_past xs i (omega arith)
 
 -- the rows that start in parts of a list
 starts_parts : (w : HeldRow → ℕ) (xs ys : List Edge) → total w (started_rows (xs ++ ys)) ≡ total w (started_rows xs) + total w (started_rows ys)

@@ -207,3 +207,7 @@ waiting_added part waiting saved0 saved1 is =
     let a = saved_length saved0 saved1 part (queued waiting) is in
     let b = length-map waiting (λ (p : Pending). p.edge) in
     omega (arith, a, b)
+
+-- nothing is kept of a side at first
+pub none_side : (kinds : List CellKind) (to : ℕ) (rows : List HeldRow) (waiting : List Pending) → rows ≡ [] → waiting ≡ [] → IsSide kinds to rows waiting
+none_side kinds to rows waiting e f = rw (e, f) (record { started = refl; later = refl; timed = refl })

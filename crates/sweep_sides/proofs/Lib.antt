@@ -6,3 +6,4 @@ pub mod KeptStarts
 pub mod Telling
 pub mod Starting
 pub mod Paired
+pub mod DueStarts

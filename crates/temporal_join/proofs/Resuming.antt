@@ -12,7 +12,6 @@ use Rattle.edge_history.specs.History.{CellEvent}
 use Rattle.edge_history.specs.Order.{failing, many}
 use Rattle.edge_history.specs.Side.{reaches}
 use Rattle.edge_stream.specs.declared.saved.SavedEntry.{SavedEntry}
-use Rattle.end_queue.specs.Pending.{Pending}
 use Rattle.carried_edges.specs.Entries.{entries_of, part_of, are_of_parts}
 use Rattle.carried_edges.proofs.Parts.{parts_pass, part_of_own, part_of_other, part_of_append, parts_own, parts_append, all_pass}
 use Rattle.plan_model.specs.declared.node.Node.TheVariants.{Join}
@@ -22,13 +21,12 @@ use Rattle.node_laws.proofs.Standing.{no_history}
 use Rattle.node_laws.proofs.Steps.{keeps_first}
 use Rattle.operator.specs.Standing.{Standing, IsStoredAs, AreStoredAs}
 use Rattle.sweep_sides.specs.Waiting.{queued}
-use Rattle.sweep_sides.proofs.KeptSides.{row_cells, waiting_cells}
+use Rattle.sweep_sides.proofs.KeptSides.{row_cells, waiting_cells, none_side}
 use Rattle.sweep_laws.specs.Saving.{starts_of, rows_of, is_row_start, may_wait, are_row_starts, may_all_wait}
 use Rattle.sweep_laws.proofs.Stored.{rows_of_starts}
 use Rattle.temporal_join.specs.Operating.{join_row}
 use Rattle.plan_model.specs.Keys.{paired_row}
 use Rattle.sweep_laws.specs.Joining.{JoinKeeps}
-use Rattle.sweep_sides.specs.Sides.{IsSide}
 use Rattle.sweep_sides.specs.Waiting.{AreTimed}
 use Rattle.temporal_join.specs.Joined.{join_meets}
 use Rattle.temporal_join.specs.declared.sides.JoinSides.{JoinSides}
@@ -52,9 +50,6 @@ join_opens s e = record {
   right_timed = subst AreTimed (sym e.none_right) refl;
   kept = rw (e.left, e.right, e.none_left, e.none_right) (kept_none s.rows.left_key.items s.rows.right_key.items);
 }
-
-none_side : (kinds : List CellKind) (to : ℕ) (rows : List HeldRow) (waiting : List Pending) → rows ≡ [] → waiting ≡ [] → IsSide kinds to rows waiting
-none_side kinds to rows waiting e f = rw (e, f) (record { started = refl; later = refl; timed = refl })
 
 pub join_fits : (s : JoinSides) (lc rc : List CellKind) (to : ℕ) → IsEmpty s → AreSides lc rc to s
 join_fits s lc rc to e = record {

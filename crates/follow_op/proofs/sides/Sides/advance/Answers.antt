@@ -15,7 +15,8 @@ use Rattle.follow_op.specs.Followed.{follows}
 use Rattle.follow_op.specs.Intervals.{TellsAhead}
 use Rattle.follow_op.proofs.Answering.{lives, known}
 use Rattle.follow_op.proofs.KeyRules.{held_by}
-use Rattle.follow_op.proofs.Steps.{starts_due_are, held_known}
+use Rattle.follow_op.proofs.Steps.{held_known}
+use Rattle.sweep_sides.proofs.DueStarts.{starts_due_are}
 use Rattle.follow_op.proofs.sides.Sides.advance.Goals as goal
 
 pub returns-clause-kept : goal.returns-clause-kept

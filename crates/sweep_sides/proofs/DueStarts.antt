@@ -1,4 +1,4 @@
--- The starts of a right side: which they are, and what waits of them.
+-- The starts that are due of a side of which ends are not kept.
 use Rattle.std.specs.Prelude.{◌≡◌, ℕ, ◌+◌, ◌≤◌, List, ◌++◌, map, filter}
 use Rattle.tw_rows.specs.Instant.{inf}
 use Rattle.tw_rows.specs.Bag.{SameBag, total}
@@ -15,7 +15,7 @@ use Rattle.sweep_laws.specs.Unending.{unending}
 use Rattle.sweep_laws.proofs.Unending.{starts_are_news, unending_valid}
 use Rattle.sweep_sides.specs.Starts.{starts_from}
 
--- what is due of them are the news of right events that never end
+-- they are the news of its events as if they never ended
 pub starts_due_are : (came new waiting due rest : List Edge) (c d : ℕ) → c ≤ d → d ≤ inf → IsHistory (came ++ new) → failing (is_from c) new ≡ 0 →
     SameBag waiting (starts_from c came) → ((w : Edge → ℕ) → total w due + total w rest ≡ total w waiting + total w (filter is_start (singles new))) →
     failing (is_below d) due ≡ 0 → failing (is_from d) rest ≡ 0 → SyncsRise 0 due → IsDue (map unending (of (came ++ new))) c d due
