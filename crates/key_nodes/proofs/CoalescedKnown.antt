@@ -1,8 +1,7 @@
 -- What is known of coalesced events below a time depends on the rows before it alone.
-use Rattle.std.specs.Prelude.{◌≡◌, ℕ, zero, suc, ◌+◌, ◌-◌, ◌<◌, ◌≤◌, Bool, true, false, ◌||◌, List, [], ◌∷◌, ◌++◌, replicate, refl}
+use Rattle.std.specs.Prelude.{◌≡◌, ℕ, zero, suc, ◌+◌, ◌-◌, ◌<◌, ◌≤◌, Bool, true, false, ◌||◌, List, [], ◌∷◌, ◌++◌, refl}
 use Rattle.std.specs.List.{list_any}
 use Rattle.std.proofs.Common.{sym, ◌∙◌, ap, arith, add-zero, add-suc}
-use Rattle.std.proofs.lemmas.List.{append-nil, append_assoc}
 use Rattle.std.proofs.lemmas.List.Folds.{list_any-append}
 use Rattle.std.proofs.lemmas.Bool.{le-ltb}
 use Rattle.std.proofs.lemmas.Bool.Decides.{nat_tests}
@@ -16,26 +15,7 @@ use Rattle.key_nodes.specs.Groups.{distinct}
 use Rattle.key_nodes.proofs.Bags.{any_of_same, sum_distinct}
 use Rattle.key_nodes.specs.Coalesced.{rise_times, fall_times, paired_times, rows_below, row_events, coalesced}
 use Rattle.key_nodes.proofs.Coalescing.{row_same, below_same, row_none}
-
--- all times are from c on
-abbrev AllFrom : ℕ → List ℕ → Type 0
-AllFrom c [] = Unit {0}
-AllFrom c (x ∷ xs) = (c ≤ x) × AllFrom c xs
-
-from_append : (c : ℕ) (xs ys : List ℕ) → AllFrom c xs → AllFrom c ys → AllFrom c (xs ++ ys)
-from_append c [] ys h k = k
-from_append c (x ∷ xs) ys h k = (h.0, from_append c xs ys h.1 k)
-
-from_replicate : (c t n : ℕ) → c ≤ t → AllFrom c (replicate n t)
-from_replicate c t zero h = tt
-from_replicate c t (suc n) h = (h, from_replicate c t n h)
-
--- a longer list goes on with times from c on
-abbrev Rest : ℕ → List ℕ → List ℕ → Type 0
-Rest c xs ys = (more : List ℕ) × (ys ≡ xs ++ more) × AllFrom c more
-
-rest_more : (c t n : ℕ) (xs ys : List ℕ) → c ≤ t → Rest c xs ys → Rest c xs (ys ++ replicate n t)
-rest_more c t n xs ys low h = (h.0 ++ replicate n t, ap (λ l. l ++ replicate n t) h.1 ∙ append_assoc xs h.0 (replicate n t), from_append c h.0 (replicate n t) h.2 (from_replicate c t n low))
+use Rattle.key_nodes.proofs.CoalescedTimes.{AllFrom, rises_rest, falls_rest}
 
 cut_past : {R : Type 0} (c a b : ℕ) (r : R) → c ≤ a → cut_one c (record { row = r; start = a; end = b }) ≡ []
 cut_past c a b r h = rw (le-ltb a c h) refl
@@ -56,18 +36,10 @@ matched_cut c r (a ∷ up) more [] (b ∷ rest) h k =
 matched_cut c r (a ∷ up) more (b ∷ down) rest h k = ap (λ l. cut_one c (record { row = r; start = a; end = b }) ++ l) (matched_cut c r up more down rest h k)
 
 module _ {R : Type 0} (same : R → R → Bool) where
-  rises_rest : (f : ℕ → List R) (r : R) (c d : ℕ) → Rest c (rise_times same f r c) (rise_times same f r (c + d))
-  rises_rest f r c zero = ([], ap (rise_times same f r) (add-zero c) ∙ sym (append-nil (rise_times same f r c)), tt)
-  rises_rest f r c (suc d) = rw (add-suc c d) (rest_more c (c + d) _ (rise_times same f r c) (rise_times same f r (c + d)) (omega arith) (rises_rest f r c d))
-
-  falls_rest : (f : ℕ → List R) (r : R) (c d : ℕ) → Rest c (fall_times same f r c) (fall_times same f r (c + d))
-  falls_rest f r c zero = ([], ap (fall_times same f r) (add-zero c) ∙ sym (append-nil (fall_times same f r c)), tt)
-  falls_rest f r c (suc d) = rw (add-suc c d) (rest_more c (c + d) _ (fall_times same f r c) (fall_times same f r (c + d)) (omega arith) (falls_rest f r c d))
-
   row_cut_more : (f : ℕ → List R) (r : R) (c d : ℕ) → cut c (row_events same f (c + d) r) ≡ cut c (row_events same f c r)
   row_cut_more f r c d =
-      let a = rises_rest f r c d in
-      let b = falls_rest f r c d in
+      let a = rises_rest same f r c d in
+      let b = falls_rest same f r c d in
       ap (λ l. cut c (paired_times r l (fall_times same f r (c + d)))) a.1
       ∙ (ap (λ l. cut c (paired_times r (rise_times same f r c ++ a.0) l)) b.1 ∙ matched_cut c r (rise_times same f r c) a.0 (fall_times same f r c) b.0 a.2 b.2)
 

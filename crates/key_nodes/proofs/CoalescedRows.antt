@@ -15,6 +15,7 @@ use Rattle.key_nodes.specs.Runs.{Tells}
 use Rattle.key_nodes.specs.Groups.{distinct}
 use Rattle.key_nodes.proofs.Bags.{count_distinct}
 use Rattle.key_nodes.proofs.Lives.{AreEvents-flat_map}
+use Rattle.key_nodes.proofs.CoalescedTimes.{AllBelow, rises_below}
 use Rattle.key_nodes.specs.Coalesced.{how_often, rows_before, rise_times, fall_times, paired_times, rows_below, row_events, coalesced}
 
 abbrev times : ℕ → ℕ → ℕ
@@ -40,15 +41,6 @@ times_both a b v = elim (cases_lt a b) [
       let n = ap (λ k. times k v) z in
       omega (arith, s, n))
 ]
-
-abbrev AllBelow : ℕ → List ℕ → Type 0
-AllBelow c [] = Unit {0}
-AllBelow c (x ∷ xs) = (x < c) × AllBelow c xs
-
-below_append : (c d n : ℕ) (xs : List ℕ) → c ≤ d → AllBelow c xs → n < d → (k : ℕ) → AllBelow d (xs ++ replicate k n)
-below_append c d n [] low h m zero = tt
-below_append c d n [] low h m (suc k) = (m, below_append c d n [] low tt m k)
-below_append c d n (x ∷ xs) low h m k = ((let a = h.0 in omega (arith, a)), below_append c d n xs low h.1 m k)
 
 module _ {R : Type 0} (r : R) where
   -- starts that come after as many as there are ends are open
@@ -113,7 +105,8 @@ module _ {R : Type 0} (same : R → R → Bool) (f : ℕ → List R) (r : R) whe
   abbrev down : ℕ → List ℕ
   down n = fall_times same f r n
 
-  lengths : (n : ℕ) → length (up n) ≡ length (down n) + how_often same r (rows_before f n)
+  -- as many starts as ends and open rows
+  pub lengths : (n : ℕ) → length (up n) ≡ length (down n) + how_often same r (rows_before f n)
   lengths zero = refl
   lengths (suc t) =
       let h = lengths t in
@@ -122,10 +115,6 @@ module _ {R : Type 0} (same : R → R → Bool) (f : ℕ → List R) (r : R) whe
       let c = length-replicate (how_often same r (f t) - how_often same r (rows_before f t)) t in
       let d = length-replicate (how_often same r (rows_before f t) - how_often same r (f t)) t in
       omega (arith, h, a, b, c, d)
-
-  up_below : (n : ℕ) → AllBelow n (up n)
-  up_below zero = tt
-  up_below (suc t) = below_append t (suc t) t (up t) (omega arith) (up_below t) (omega arith) _
 
   fits : (t : ℕ) → length (down t ++ replicate (how_often same r (rows_before f t) - how_often same r (f t)) t) ≤ length (up t)
   fits t =
@@ -137,7 +126,7 @@ module _ {R : Type 0} (same : R → R → Bool) (f : ℕ → List R) (r : R) whe
   valid : (n : ℕ) → n ≤ inf → AreEvents (row_events same f n r)
   valid zero low = tt
   valid (suc t) low = rw (matched_more r (up t) (replicate (how_often same r (f t) - how_often same r (rows_before f t)) t) (down t ++ replicate (how_often same r (rows_before f t) - how_often same r (f t)) t) (fits t))
-      (AreEvents-append _ _ (valid_more r t _ (up t) (down t) (omega (arith, low)) (up_below t) (valid t (omega (arith, low)))) (valid_open r t _ (omega (arith, low))))
+      (AreEvents-append _ _ (valid_more r t _ (up t) (down t) (omega (arith, low)) (rises_below same f r t) (valid t (omega (arith, low)))) (valid_open r t _ (omega (arith, low))))
 
   module _ (w : R → ℕ) (u : ℕ) (now : u < inf) where
     abbrev sum_of : ℕ → ℕ
@@ -151,7 +140,7 @@ module _ {R : Type 0} (same : R → R → Bool) (f : ℕ → List R) (r : R) whe
         let more = ap (total v) (matched_more r (up t) (replicate (a - b) t) (down t ++ replicate (b - a) t) (fits t)) ∙ total-append v (paired_times r (up t) (down t ++ replicate (b - a) t)) (paired_times r (replicate (a - b) t) []) in
         let x = opened r w u now t (a - b) in
         let l = lengths t in
-        let y = shut r w u now t (b - a) (up t) (down t) (up_below t) (omega (arith, l)) in
+        let y = shut r w u now t (b - a) (up t) (down t) (rises_below same f r t) (omega (arith, l)) in
         omega (arith, more, x, y)
 
     sum_is : (n : ℕ) → ((u < n) → sum_of n ≡ times (how_often same r (f u)) (w r)) × ((n ≤ u) → sum_of n ≡ times (how_often same r (rows_before f n)) (w r))

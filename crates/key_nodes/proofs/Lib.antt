@@ -12,6 +12,7 @@ pub mod Maximal
 pub mod Shards
 pub mod EventExamples
 pub mod Coalescing
+pub mod CoalescedTimes
 pub mod CoalescedKnown
 pub mod CoalescedRows
 pub mod Topping

@@ -1,8 +1,8 @@
 -- The open rows of coalesced events are queues of starts.
 use Rattle.std.specs.Prelude.{◌≡◌, ℕ, zero, suc, ◌+◌, ◌-◌, ◌<◌, ◌≤◌, nat_lt, Bool, true, false, cond, ◌||◌, List, [], ◌∷◌, ◌++◌, take, drop, replicate, map, flat_map, length, refl}
 use Rattle.std.specs.List.{list_any}
-use Rattle.std.proofs.Common.{sym, ◌∙◌, ap, arith, subst, inl, inr, add-zero, add-suc}
-use Rattle.std.proofs.lemmas.List.{append-nil, append_assoc, length-append, length-replicate, map-append, take-append-drop, length-drop, drop-drop, drop-append-le}
+use Rattle.std.proofs.Common.{sym, ◌∙◌, ap, arith, subst, inl, inr}
+use Rattle.std.proofs.lemmas.List.{append-nil, length-append, length-replicate, map-append, take-append-drop, length-drop, drop-drop, drop-append-le}
 use Rattle.std.proofs.lemmas.Bool.{cases_lt}
 use Rattle.std.proofs.lemmas.Bool.Decides.{nat_tests}
 use Rattle.std.proofs.lemmas.List.Folds.{list_any-append}
@@ -19,18 +19,11 @@ use Rattle.sweep_laws.specs.Moves.{ending, starting}
 use Rattle.sweep_laws.proofs.Moving.{news_move}
 use Rattle.key_nodes.specs.Runs.{Tells}
 use Rattle.key_nodes.proofs.Bags.{any_by_weight, sum_distinct}
-use Rattle.key_nodes.proofs.CoalescedRows.{coalesced_valid}
+use Rattle.key_nodes.proofs.CoalescedRows.{coalesced_valid, lengths}
+use Rattle.key_nodes.proofs.CoalescedTimes.{AllBelow, AllFrom, rises_below, falls_below, rises_rest, falls_rest}
 use Rattle.key_nodes.specs.Groups.{distinct}
 use Rattle.key_nodes.specs.Coalesced.{how_often, rows_before, rise_times, fall_times, paired_times, row_events, rows_below, coalesced}
 use Rattle.sweep_laws.specs.Queues.{Cells, rise, fall, open_starts, held_with, queue_ends, queue_starts, AreMoves, queue_told, queue_after}
-
-abbrev AllBelow : ℕ → List ℕ → Type 0
-AllBelow c [] = Unit {0}
-AllBelow c (x ∷ xs) = (x < c) × AllBelow c xs
-
-abbrev AllFrom : ℕ → List ℕ → Type 0
-AllFrom c [] = Unit {0}
-AllFrom c (x ∷ xs) = (c ≤ x) × AllFrom c xs
 
 -- PAIRS OF STARTS AND ENDS
 module _ (t : ℕ) (low : t ≤ inf) (r : Cells) where
@@ -60,57 +53,12 @@ module _ (t : ℕ) (low : t ≤ inf) (r : Cells) where
   open_pairs (x ∷ up) more (y ∷ down) rest a b c d fits =
       ap (λ l. l ++ opens t (paired_times r (up ++ more) (down ++ rest))) (no_more x y b.0) ∙ open_pairs up more down rest a.1 b.1 c d (omega (arith, fits))
 
-below_append : (c d n : ℕ) (xs : List ℕ) → c ≤ d → AllBelow c xs → n < d → (k : ℕ) → AllBelow d (xs ++ replicate k n)
-below_append c d n [] low h m zero = tt
-below_append c d n [] low h m (suc k) = (m, below_append c d n [] low tt m k)
-below_append c d n (x ∷ xs) low h m k = ((let a = h.0 in omega (arith, a, low)), below_append c d n xs low h.1 m k)
-
-from_append : (c : ℕ) (xs ys : List ℕ) → AllFrom c xs → AllFrom c ys → AllFrom c (xs ++ ys)
-from_append c [] ys h k = k
-from_append c (x ∷ xs) ys h k = (h.0, from_append c xs ys h.1 k)
-
-from_replicate : (c t n : ℕ) → c ≤ t → AllFrom c (replicate n t)
-from_replicate c t zero h = tt
-from_replicate c t (suc n) h = (h, from_replicate c t n h)
-
-abbrev Rest : ℕ → List ℕ → List ℕ → Type 0
-Rest c xs ys = (more : List ℕ) × (ys ≡ xs ++ more) × AllFrom c more
-
-rest_more : (c t n : ℕ) (xs ys : List ℕ) → c ≤ t → Rest c xs ys → Rest c xs (ys ++ replicate n t)
-rest_more c t n xs ys low h = (h.0 ++ replicate n t, ap (λ l. l ++ replicate n t) h.1 ∙ append_assoc xs h.0 (replicate n t), from_append c h.0 (replicate n t) h.2 (from_replicate c t n low))
-
 module _ (same : Cells → Cells → Bool) (f : ℕ → List Cells) (r : Cells) where
   abbrev up : ℕ → List ℕ
   up t = rise_times same f r t
 
   abbrev down : ℕ → List ℕ
   down t = fall_times same f r t
-
-  up_below : (n : ℕ) → AllBelow n (up n)
-  up_below zero = tt
-  up_below (suc t) = below_append t (suc t) t (up t) (omega arith) (up_below t) (omega arith) _
-
-  down_below : (n : ℕ) → AllBelow n (down n)
-  down_below zero = tt
-  down_below (suc t) = below_append t (suc t) t (down t) (omega arith) (down_below t) (omega arith) _
-
-  up_rest : (c d : ℕ) → Rest c (up c) (up (c + d))
-  up_rest c zero = ([], ap up (add-zero c) ∙ sym (append-nil (up c)), tt)
-  up_rest c (suc d) = let h = rest_more c (c + d) (rise same f r (c + d)) (up c) (up (c + d)) (omega arith) (up_rest c d) in (h.0, ap up (add-suc c d) ∙ h.1, h.2)
-
-  down_rest : (c d : ℕ) → Rest c (down c) (down (c + d))
-  down_rest c zero = ([], ap down (add-zero c) ∙ sym (append-nil (down c)), tt)
-  down_rest c (suc d) = let h = rest_more c (c + d) (fall same f r (c + d)) (down c) (down (c + d)) (omega arith) (down_rest c d) in (h.0, ap down (add-suc c d) ∙ h.1, h.2)
-
-  lengths : (t : ℕ) → length (down t) + how_often same r (rows_before f t) ≡ length (up t)
-  lengths zero = omega arith
-  lengths (suc t) =
-      let h = lengths t in
-      let a = length-append (up t) (replicate (rise same f r t) t) in
-      let b = length-append (down t) (replicate (fall same f r t) t) in
-      let c = length-replicate (rise same f r t) t in
-      let d = length-replicate (fall same f r t) t in
-      omega (arith, h, a, b, c, d)
 
   queue_length : (t : ℕ) → length (open_starts same f r t) ≡ how_often same r (rows_before f t)
   queue_length zero = refl
@@ -128,7 +76,7 @@ module _ (same : Cells → Cells → Bool) (f : ℕ → List Cells) (r : Cells) 
       let k = fall same f r t in
       let more = replicate (rise same f r t) t in
       let h = queue_is t in
-      let l = lengths t in
+      let l = lengths same f r t in
       let q = queue_length t in
       let n : length (down t ++ replicate k t) ≡ length (down t) + k = length-append (down t) (replicate k t) ∙ ap (λ m. length (down t) + m) (length-replicate k t) in
       ap (λ m. drop m (up t ++ more)) n
@@ -138,14 +86,14 @@ module _ (same : Cells → Cells → Bool) (f : ℕ → List Cells) (r : Cells) 
 
   pub row_opens : (t : ℕ) → t ≤ inf → opens t (row_events same f inf r) ≡ held_with r (open_starts same f r t)
   row_opens t low =
-      let a = up_rest t (inf - t) in
-      let b = down_rest t (inf - t) in
-      let l = lengths t in
+      let a = rises_rest same f r t (inf - t) in
+      let b = falls_rest same f r t (inf - t) in
+      let l = lengths same f r t in
       let e : inf ≡ t + (inf - t) = omega (arith, low) in
       ap (λ n. opens t (paired_times r (up n) (down n))) e
       ∙ (ap (λ x. opens t (paired_times r x (down (t + (inf - t))))) a.1
       ∙ (ap (λ x. opens t (paired_times r (up t ++ a.0) x)) b.1
-      ∙ (open_pairs t low r (up t) a.0 (down t) b.0 (up_below t) (down_below t) a.2 b.2 (omega (arith, l))
+      ∙ (open_pairs t low r (up t) a.0 (down t) b.0 (rises_below same f r t) (falls_below same f r t) a.2 b.2 (omega (arith, l))
       ∙ ap (held_with r) (queue_is t))))
 
 total-opens : (w : HeldRow → ℕ) (t : ℕ) (es : List CellEvent) → total w (opens t es) ≡ total (λ e. total w (open_of t e)) es
@@ -234,7 +182,7 @@ module _ (t : ℕ) (r : Cells) (w : Edge → ℕ) where
 -- THE ROWS THAT MOVED ARE ENOUGH
 module _ (same : Cells → Cells → Bool) (f : ℕ → List Cells) where
   queue_early : (r : Cells) (t : ℕ) → AllBelow t (open_starts same f r t)
-  queue_early r t = subst (AllBelow t) (queue_is same f r t) (below_drop t (length (down same f r t)) (up same f r t) (up_below same f r t))
+  queue_early r t = subst (AllBelow t) (queue_is same f r t) (below_drop t (length (down same f r t)) (up same f r t) (rises_below same f r t))
 
   none_left : (a b : Bool) → (a || b) ≡ false → (a ≡ false) × (b ≡ false)
   none_left true b h = absurd (cc)
