@@ -3,14 +3,13 @@ use Rattle.std.specs.Prelude.{◌≡◌, ℕ, suc, ◌+◌, ◌-◌, ◌<◌, �
 use Rattle.std.specs.List.Sorted.{IsNonDecreasing}
 use Rattle.std.proofs.Common.{sym, ◌∙◌, ap, subst, arith, get_or, take, drop}
 use Rattle.std.proofs.lemmas.Bool.Decides.{nat_tests}
-use Rattle.std.proofs.lemmas.List.{append-nil, map-append, length-append, get_or_append_left, get_or_push, get_or_default, take_more, take_all, take-append-drop, length-map, get_or-map}
+use Rattle.std.proofs.lemmas.List.{append-nil, map-append, length-append, get_or_append_left, get_or_push, get_or_default, take_more, take_all, take-append-drop}
 use Rattle.std.proofs.lemmas.List.Elements.{filter-append, All-nil, All-cons, All-head, All-tail, All-append, All-filter, All-get_or}
 use Rattle.std.proofs.lemmas.List.Sorted.{IsNonDecreasingBy-push, IsNonDecreasingBy-short}
 use Rattle.std.proofs.lemmas.Grind.{flat_map-append}
 use Rattle.tw_rows.specs.Instant.{inf}
 use Rattle.tw_rows.specs.Event.{alive}
-use Rattle.tw_rows.specs.Cells.{datum_kind, ArePlaced}
-use Rattle.tw_rows.specs.Kinds.{cell_kind_of}
+use Rattle.tw_rows.specs.Cells.{ArePlaced}
 use Rattle.tw_rows.specs.SameCells.{same_cells, cells_are_same, same_itself}
 use Rattle.tw_rows.specs.declared.cells.Datum.{Datum}
 use Rattle.tw_rows.specs.declared.kind.Kind.{Kind}
@@ -22,7 +21,8 @@ use Rattle.edge_history.specs.Balance.{news}
 use Rattle.edge_history.proofs.Sums.{failing-append, failing-filter}
 use Rattle.node_laws.specs.Places.{read_events, EdgesArePlaced}
 use Rattle.row_queues.specs.Kept.{since_at, EachIsOpen}
-use Rattle.egress.specs.Kept.{cells_of, since_in, HasAdded}
+use Rattle.node_laws.specs.RowCells.{cells_of}
+use Rattle.egress.specs.Kept.{since_in, HasAdded}
 use Rattle.egress.specs.Waiting.{Waiting, edges_if, edges_at, waiting_in, ArePut, SameMoves, WaitingArePlaced}
 use Rattle.egress.specs.Output.{Holds}
 use Rattle.egress.specs.Reached.{Reached}
@@ -170,14 +170,6 @@ front_is es i e low is = ap (λ x. take i es ++ x ∷ []) is ∙ sym (take_more 
 
 pub all_there : (kinds : List Kind) (closed : ℕ) (es : List SavedEntry) (i : ℕ) (e : SavedEntry) → i < length es → e ≡ get_or es i e → All (IsKept kinds closed) es → IsKept kinds closed e
 all_there kinds closed es i e low is h = subst (IsKept kinds closed) (sym is) (All-get_or (IsKept kinds closed) es i e low h)
-
--- the cell at a place is stored as its column is
-pub stored_at : (cells : List Datum) (kinds : List Kind) (i : ℕ) (d : Datum) (k : Kind) → i < length cells → map datum_kind cells ≡ map cell_kind_of kinds →
-    datum_kind (get_or cells i d) ≡ cell_kind_of (get_or kinds i k)
-stored_at cells kinds i d k lt same =
-    let len : length cells ≡ length kinds = sym (length-map cells datum_kind) ∙ ap length same ∙ length-map kinds cell_kind_of in
-    let here : i < length kinds = omega (arith, lt, len) in
-    sym (get_or-map datum_kind cells i d (datum_kind d) lt) ∙ ap (λ l. get_or l i (datum_kind d)) same ∙ get_or-map cell_kind_of kinds i k (datum_kind d) here
 
 -- what is put of an entry
 pub none_put : (w : Waiting) (e : SavedEntry) → nat_lt e.other inf ≡ false → ArePut w w (end_of e)

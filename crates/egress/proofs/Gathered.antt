@@ -13,8 +13,9 @@ use Rattle.tw_rows.specs.declared.cells.Datum.{Datum}
 use Rattle.node_laws.specs.Places.{AreDistinct}
 use Rattle.plan_model.proofs.InOrder.{same_row, row_itself}
 use Rattle.egress.specs.declared.moves.Moves.{Moves}
-use Rattle.egress.specs.Kept.{cells_of, rows_of, KeepCells}
-use Rattle.egress.proofs.Reading.{cells_again}
+use Rattle.node_laws.specs.RowCells.{cells_of}
+use Rattle.egress.specs.Kept.{rows_of, KeepCells}
+use Rattle.node_laws.proofs.RowCells.{cells_again}
 
 abbrev pub same : Row → Row → Bool
 same = eq_by_cmp row_cmp

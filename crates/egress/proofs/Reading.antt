@@ -7,7 +7,6 @@ use Rattle.std.specs.Ordering.{eq_by_cmp}
 use Rattle.std.proofs.Common.{inl, inr, sym, ◌∙◌, ap, subst, arith, get_or}
 use Rattle.std.proofs.lemmas.Bool.{ltb-true, lt-ltb, and_parts, false_from_ne_true}
 use Rattle.std.proofs.lemmas.List.Elements.{All-head, All-tail}
-use Rattle.std.proofs.lemmas.List.Sums.{position_or_len_is}
 use Rattle.std.proofs.lemmas.Slice.Eq.{bytes_eq-Decides}
 use Rattle.indexmap.specs.IndexMap.{IndexMap}
 use Rattle.tw_rows.specs.Rows.{Row, row_cmp}
@@ -21,9 +20,11 @@ use Rattle.tw_rows.specs.Cells.{IsPlaced, ArePlaced, read_datum, read_cells}
 use Rattle.tw_rows.specs.SameCells.{same_cells, cells_are_same, same_itself}
 use Rattle.edge_history.specs.Order.{failing}
 use Rattle.node_laws.specs.Places.{AreDistinct, EdgesArePlaced}
+use Rattle.node_laws.proofs.RowCells.{cells_again}
 use Rattle.plan_model.proofs.InOrder.{same_row, row_itself}
 use Rattle.row_queues.specs.Kept.{since_at}
-use Rattle.egress.specs.Kept.{datum_of, cells_of, is_placed, are_placed, stand_for, since_in, OpensPass}
+use Rattle.node_laws.specs.RowCells.{datum_of, cells_of}
+use Rattle.egress.specs.Kept.{is_placed, are_placed, stand_for, since_in, OpensPass}
 
 pub both : (a b : Bool) → a ≡ true → b ≡ true → (a && b) ≡ true
 both true true e f = refl
@@ -47,22 +48,6 @@ datum_placed_then texts (PlaceDatum i) h = lt-ltb i (length texts) h
 pub placed_then : (texts : List (List ℕ)) (ds : List Datum) → ArePlaced texts ds → are_placed texts ds ≡ true
 placed_then texts [] h = refl
 placed_then texts (d ∷ ds) h = both (is_placed texts d) (are_placed texts ds) (datum_placed_then texts d h.0) (placed_then texts ds h.1)
-
--- the place of a text of a distinct table is where it stands
-place_again : (texts : List (List ℕ)) → AreDistinct texts → (i : ℕ) → i < length texts → position_or_len (bytes_eq (get_or texts i [])) texts ≡ i
-place_again texts apart i low =
-    position_or_len_is (bytes_eq (get_or texts i [])) texts i [] (omega (arith, low))
-    (λ k before. false_from_ne_true (bytes_eq (get_or texts i []) (get_or texts k [])) (λ same. apart k i [] before low (sym ((bytes_eq-Decides (get_or texts i []) (get_or texts k [])).0 same))))
-    (λ inside. (bytes_eq-Decides (get_or texts i []) (get_or texts i [])).1 refl)
-
-datum_again : (texts : List (List ℕ)) → AreDistinct texts → (d : Datum) → IsPlaced texts d → datum_of texts (read_datum texts d) ≡ d
-datum_again texts apart (IntDatum x) h = refl
-datum_again texts apart (FlagDatum x) h = refl
-datum_again texts apart (PlaceDatum x) h = ap PlaceDatum (place_again texts apart x h)
-
-pub cells_again : (texts : List (List ℕ)) → AreDistinct texts → (ds : List Datum) → ArePlaced texts ds → cells_of texts (read_cells texts ds) ≡ ds
-cells_again texts apart [] h = refl
-cells_again texts apart (d ∷ ds) h = let x = datum_again texts apart d h.0 in let y = cells_again texts apart ds h.1 in λ i. x i ∷ y i
 
 -- at the first place of a test it holds
 first_holds : {X : Type 0} (p : X → Bool) (xs : List X) (d : X) → position_or_len p xs < length xs → p (get_or xs (position_or_len p xs) d) ≡ true

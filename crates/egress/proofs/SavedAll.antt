@@ -28,14 +28,16 @@ use Rattle.node_laws.specs.Places.{read_events, AreDistinct, EdgesArePlaced}
 use Rattle.node_laws.proofs.Standing.{of_valid}
 use Rattle.plan_model.specs.Opens.{rise, starts_before, ends_before, open_before}
 use Rattle.row_queues.specs.Kept.{since_at}
-use Rattle.egress.specs.Kept.{cells_of, are_placed}
+use Rattle.node_laws.specs.RowCells.{cells_of}
+use Rattle.egress.specs.Kept.{are_placed}
 use Rattle.egress.specs.Waiting.{edges_if, edges_at, waiting_in, SameMoves, WaitingArePlaced}
 use Rattle.egress.specs.Output.{Holds}
 use Rattle.egress.specs.Saving.{entries_of, starts_of, end_of, ends_of, IsKept, Resumes}
 use Rattle.egress.specs.Saved.{EndAt, TakenEnds, TakenRest, IsSettled}
 use Rattle.egress.specs.declared.egress.Egress.{Egress}
 use Rattle.egress.proofs.Entries.{starts_append}
-use Rattle.egress.proofs.Reading.{cells_again, placed_if, placed_all, none_unplaced}
+use Rattle.node_laws.proofs.RowCells.{cells_again}
+use Rattle.egress.proofs.Reading.{placed_if, placed_all, none_unplaced}
 use Rattle.egress.proofs.SavedEnds.{no_ends, order_more}
 use Rattle.egress.proofs.SavedInstants.{none_begun}
 use Rattle.egress.proofs.Taking.{first_passes}

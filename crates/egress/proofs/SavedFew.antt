@@ -16,7 +16,8 @@ use Rattle.node_laws.specs.Places.{read_events, AreDistinct, EdgesArePlaced}
 use Rattle.plan_model.specs.Opens.{how_often, before}
 use Rattle.plan_model.proofs.Counting.{open_length}
 use Rattle.plan_model.proofs.InOrder.{same_row, row_itself}
-use Rattle.egress.specs.Kept.{are_placed, cells_of}
+use Rattle.node_laws.specs.RowCells.{cells_of}
+use Rattle.egress.specs.Kept.{are_placed}
 use Rattle.egress.specs.Saving.{starts_of, Resumes}
 use Rattle.egress.proofs.Counted.{either_way}
 use Rattle.egress.proofs.Reading.{placed_if, placed_all, same_place, stands_itself}

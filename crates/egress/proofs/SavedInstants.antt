@@ -33,7 +33,8 @@ use Rattle.plan_model.specs.Opens.{how_often, before}
 use Rattle.plan_model.specs.Changes.{changes_at}
 use Rattle.plan_model.proofs.Counting.{open_length}
 use Rattle.egress.specs.Instants.{AreMoves, AreOpen}
-use Rattle.egress.specs.Kept.{cells_of, are_placed}
+use Rattle.node_laws.specs.RowCells.{cells_of}
+use Rattle.egress.specs.Kept.{are_placed}
 use Rattle.egress.specs.Print.{print}
 use Rattle.egress.specs.Waiting.{Waiting, edges_if, edges_at, ArePopped, SameMoves, Swept, WaitingArePlaced}
 use Rattle.egress.specs.Saving.{starts_of, end_of, ends_of}
@@ -42,7 +43,8 @@ use Rattle.egress.proofs.Counted.{either_way}
 use Rattle.egress.proofs.Entries.{starts_append}
 use Rattle.egress.proofs.Moving.{edges_move}
 use Rattle.egress.proofs.Placing.{popped_placed, rest_placed}
-use Rattle.egress.proofs.Reading.{cells_again, placed_if, placed_then, same_place, stands_itself}
+use Rattle.node_laws.proofs.RowCells.{cells_again}
+use Rattle.egress.proofs.Reading.{placed_if, placed_then, same_place, stands_itself}
 use Rattle.egress.proofs.SavedEnds.{order_more}
 use Rattle.egress.proofs.Sweeps.{swept_to, swept_next, now_are}
 use Rattle.egress.proofs.Taking.{first_passes, popped_passes, rest_passes}

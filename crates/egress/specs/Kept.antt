@@ -1,20 +1,17 @@
 -- What is kept of rows: how often each ends and starts at an instant, and its open starts.
 use Rattle.std.specs.Prelude.{◌≡◌, ℕ, nat_lt, ◌&&◌, Bool, true, cond, List, [], ◌∷◌, ◌++◌, map, length, replicate, All}
 use Rattle.std.specs.Ordering.{eq_by_cmp}
-use Rattle.std.specs.Str.{bytes_eq}
-use Rattle.std.specs.List.{position_or_len}
 use Rattle.std.specs.declared.collections.VecDeque.{VecDeque}
 use Rattle.indexmap.specs.IndexMap.{IndexMap}
 use Rattle.tw_rows.specs.Bag.{total}
 use Rattle.tw_rows.specs.Rows.{Row, row_cmp}
-use Rattle.tw_rows.specs.declared.row.Value.{Value}
-use Rattle.tw_rows.specs.declared.row.Value.TheVariants.{Int, Bool as Flag, Text}
 use Rattle.tw_rows.specs.declared.cells.Datum.{Datum}
 use Rattle.tw_rows.specs.declared.cells.Datum.TheVariants.{Int as IntDatum, Bool as FlagDatum, Text as PlaceDatum}
 use Rattle.tw_rows.specs.SameCells.{same_cells}
 use Rattle.tw_rows.specs.declared.edge.Edge.{Edge}
 use Rattle.edge_history.specs.Opens.{ended_of, started_of}
 use Rattle.tw_rows.specs.Cells.{read_cells}
+use Rattle.node_laws.specs.RowCells.{cells_of}
 use Rattle.row_queues.specs.Kept.{since_at}
 use Rattle.egress.specs.declared.moves.Moves.{Moves}
 
@@ -52,16 +49,6 @@ are_placed texts (d ∷ ds) = is_placed texts d && are_placed texts ds
 -- the cells are placed and read as the row. With the text `a`, place 0 stands for the row `a`
 abbrev pub stand_for : List (List ℕ) → Row → List Datum → Bool
 stand_for texts r cells = are_placed texts cells && eq_by_cmp row_cmp (read_cells texts cells) r
-
--- the datum of a value: of a text its place, which is the number of texts where the table does not have it
-abbrev pub datum_of : List (List ℕ) → Value → Datum
-datum_of texts (Int x) = IntDatum x
-datum_of texts (Flag b) = FlagDatum b
-datum_of texts (Text t) = PlaceDatum (position_or_len (bytes_eq t) texts)
-
--- the cells of a row. With the texts `a` and `b`, the row `b`, 7 has the cells place 1, 7
-abbrev pub cells_of : List (List ℕ) → Row → List Datum
-cells_of texts row = map (datum_of texts) row
 
 -- the open starts of a row: those of its cells. With the text `a`, of the row `a` those of place 0
 abbrev pub since_in : {S H : Type 0} → List (List ℕ) → IndexMap (List Datum) (VecDeque ℕ S) H → Row → List ℕ

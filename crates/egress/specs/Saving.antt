@@ -19,7 +19,7 @@ use Rattle.egress.specs.Instants.{AreOpen}
 use Rattle.indexmap.specs.IndexMap.{IndexMap}
 use Rattle.std.specs.declared.collections.VecDeque.{VecDeque}
 use Rattle.row_queues.specs.Kept.{since_at}
-use Rattle.egress.specs.Kept.{cells_of}
+use Rattle.node_laws.specs.RowCells.{cells_of}
 use Rattle.egress.specs.Output.{Holds}
 use Rattle.egress.specs.Showing.{AreNone}
 use Rattle.egress.specs.Waiting.{edges_at, waiting_in, SameMoves}

@@ -10,6 +10,7 @@ pub mod Steps
 pub mod StepsAhead
 pub mod ShardSteps
 pub mod ShardsAhead
+pub mod RowCells
 pub mod Selecting
 pub mod Through
 pub mod Examples

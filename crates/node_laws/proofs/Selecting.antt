@@ -1,24 +1,16 @@
 -- The edges of a Where and of a Select stand for the events of these.
-use Rattle.std.specs.Prelude.{◌≡◌, ℕ, ◌<◌, nat_le, Bool, cond, List, [], ◌∷◌, ◌++◌, All, map, filter, length, refl}
-use Rattle.std.specs.Str.{bytes_eq}
-use Rattle.std.specs.List.{position_or_len}
-use Rattle.std.proofs.Common.{sym, ◌∙◌, ap, subst, arith, get_or}
-use Rattle.std.proofs.lemmas.Bool.{false_from_ne_true}
+use Rattle.std.specs.Prelude.{◌≡◌, ℕ, nat_le, Bool, cond, List, [], ◌∷◌, ◌++◌, All, map, filter, refl}
+use Rattle.std.proofs.Common.{sym, ◌∙◌, ap, subst}
 use Rattle.std.proofs.lemmas.List.{map-append}
 use Rattle.std.proofs.lemmas.List.Elements.{All-cons, All-head, All-tail, All-nil, filter-append}
-use Rattle.std.proofs.lemmas.List.Sums.{position_or_len_is}
-use Rattle.std.proofs.lemmas.Slice.Eq.{bytes_eq-Decides}
 use Rattle.tw_rows.specs.Bag.{total}
 use Rattle.tw_rows.specs.Event.{Event, cut}
 use Rattle.tw_rows.specs.Rows.{Row}
-use Rattle.tw_rows.specs.declared.row.Value.{Value}
-use Rattle.tw_rows.specs.declared.row.Value.TheVariants.{Int, Bool as Flag, Text}
 use Rattle.tw_rows.specs.declared.cells.Datum.{Datum}
-use Rattle.tw_rows.specs.declared.cells.Datum.TheVariants.{Int as IntDatum, Bool as FlagDatum, Text as PlaceDatum}
 use Rattle.tw_rows.specs.declared.edge.Edge.{Edge}
 use Rattle.tw_rows.specs.Texts.{BeginsWith}
 use Rattle.tw_rows.proofs.CellReads.{read_cells-begins}
-use Rattle.tw_rows.specs.Cells.{IsPlaced, ArePlaced, read_datum, read_cells}
+use Rattle.tw_rows.specs.Cells.{ArePlaced, read_cells}
 use Rattle.tw_rows.proofs.Bags.{total-map, SameBag-refl}
 use Rattle.edge_history.specs.Order.{is_from, failing}
 use Rattle.edge_history.proofs.Sums.{failing-filter}
@@ -31,35 +23,12 @@ use Rattle.plan_model.specs.Expr.{holds, selected_row}
 use Rattle.plan_model.specs.Meaning.{node_events}
 use Rattle.plan_model.specs.Nodes.{events_to}
 use Rattle.node_laws.specs.Places.{AreDistinct, read_of, EdgesArePlaced}
+use Rattle.node_laws.specs.RowCells.{cells_of}
 use Rattle.node_laws.specs.Standing.{StandsRead}
 use Rattle.node_laws.specs.Selected.{RowEdge, read_edge, selected_edge, tested_edges, AreSelected}
 use Rattle.node_laws.proofs.Agreeing.{select_read}
+use Rattle.node_laws.proofs.RowCells.{cells_again}
 use Rattle.node_laws.proofs.Standing.{all_of, placed_stand, node_valid, no_history, none_stand, stands_where, stands_of_sides}
-
--- the datum of a value: of a text its place in the table
-abbrev datum_of : List (List ℕ) → Value → Datum
-datum_of texts (Int x) = IntDatum x
-datum_of texts (Flag b) = FlagDatum b
-datum_of texts (Text t) = PlaceDatum (position_or_len (bytes_eq t) texts)
-
-abbrev cells_of : List (List ℕ) → Row → List Datum
-cells_of texts row = map (datum_of texts) row
-
--- the place of a text of a distinct table is where it stands
-place_again : (texts : List (List ℕ)) → AreDistinct texts → (i : ℕ) → i < length texts → position_or_len (bytes_eq (get_or texts i [])) texts ≡ i
-place_again texts apart i low =
-    position_or_len_is (bytes_eq (get_or texts i [])) texts i [] (omega (arith, low))
-    (λ k before. false_from_ne_true (bytes_eq (get_or texts i []) (get_or texts k [])) (λ same. apart k i [] before low (sym ((bytes_eq-Decides (get_or texts i []) (get_or texts k [])).0 same))))
-    (λ inside. (bytes_eq-Decides (get_or texts i []) (get_or texts i [])).1 refl)
-
-datum_again : (texts : List (List ℕ)) → AreDistinct texts → (d : Datum) → IsPlaced texts d → datum_of texts (read_datum texts d) ≡ d
-datum_again texts apart (IntDatum x) h = refl
-datum_again texts apart (FlagDatum x) h = refl
-datum_again texts apart (PlaceDatum x) h = ap PlaceDatum (place_again texts apart x h)
-
-cells_again : (texts : List (List ℕ)) → AreDistinct texts → (ds : List Datum) → ArePlaced texts ds → cells_of texts (read_cells texts ds) ≡ ds
-cells_again texts apart [] h = refl
-cells_again texts apart (d ∷ ds) h = let x = datum_again texts apart d h.0 in let y = cells_again texts apart ds h.1 in λ i. x i ∷ y i
 
 module _ (texts : List (List ℕ)) (apart : AreDistinct texts) (items : List (List ExprNode)) where
   -- the cells that read as the values of the items on what is read of cells

@@ -5,3 +5,4 @@ pub mod Standing
 pub mod Keeping
 pub mod Selected
 pub mod Shards
+pub mod RowCells

@@ -3,7 +3,8 @@ use Rattle.std.specs.Map.{lookup}
 use Rattle.std.specs.Ordering.{eq_by_cmp, nat_cmp}
 use Rattle.edge_history.specs.Order.{failing}
 use Rattle.row_queues.specs.Kept.{times_if}
-use Rattle.egress.specs.Kept.{cells_of, since_in}
+use Rattle.node_laws.specs.RowCells.{cells_of}
+use Rattle.egress.specs.Kept.{since_in}
 use Rattle.egress.specs.Waiting.{edges_if, items_if, waiting_in}
 use Rattle.egress.proofs.Taking.{swept_none, no_history}
 use Rattle.egress.proofs.egress.Egress.new.Goals as goal

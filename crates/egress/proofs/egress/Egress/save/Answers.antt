@@ -2,7 +2,8 @@ use Rattle.std.specs.Prelude.{◌≡◌, []}
 use Rattle.std.proofs.Common.{sym, subst}
 use Rattle.edge_history.specs.History.{of}
 use Rattle.row_queues.specs.Kept.{since_at}
-use Rattle.egress.specs.Kept.{cells_of, since_in}
+use Rattle.node_laws.specs.RowCells.{cells_of}
+use Rattle.egress.specs.Kept.{since_in}
 use Rattle.egress.specs.Waiting.{waiting_in, Swept, WaitingArePlaced}
 use Rattle.egress.specs.Saved.{TakenEnds}
 use Rattle.egress.proofs.SavedAll.{settles, save_resumes, waits_placed}
