@@ -1,5 +1,5 @@
 -- What a step of a Follow answers: interval edges in order, with the columns of the pairs.
-use Rattle.std.specs.Prelude.{◌≡◌, ℕ, ◌≤◌, nat_lt, Bool, true, false, cond, IsTrue, List, [], ◌∷◌, ◌++◌, filter, map, All, refl}
+use Rattle.std.specs.Prelude.{◌≡◌, ℕ, ◌≤◌, nat_lt, Bool, true, false, cond, IsTrue, List, [], ◌++◌, filter, map, All, refl}
 use Rattle.std.proofs.Common.{sym, ◌∙◌, ap, arith}
 use Rattle.std.proofs.lemmas.Bool.Decides.{nat_tests}
 use Rattle.std.proofs.lemmas.List.Elements.{All-weaker}
@@ -7,7 +7,6 @@ use Rattle.tw_rows.specs.Bag.{SameBag, total}
 use Rattle.tw_rows.specs.Cells.{datum_kind}
 use Rattle.tw_rows.specs.Event.{AreEvents, cut}
 use Rattle.tw_rows.specs.Instant.{inf}
-use Rattle.tw_rows.specs.declared.cells.Datum.{Datum}
 use Rattle.tw_rows.specs.declared.edge.Edge.{Edge}
 use Rattle.tw_rows.specs.declared.kind.CellKind.{CellKind}
 use Rattle.tw_rows.proofs.Bags.{total-append, total-map, total-filter, total_same, total_zero}
@@ -18,8 +17,7 @@ use Rattle.edge_history.proofs.Retaining.{events_of_are, same_below, valid_from,
 use Rattle.edge_history.proofs.Sums.{sum_eq, failing-All, failing-parts}
 use Rattle.edge_history.proofs.Telling.{is_event, order_from}
 use Rattle.key_nodes.proofs.Following.{followed_valid}
-use Rattle.node_laws.proofs.Standing.{all_of}
-use Rattle.plan_laws.proofs.RowsOf.{Rows, followed_rows_hold}
+use Rattle.plan_laws.proofs.RowsOf.{followed_rows_hold}
 use Rattle.plan_model.specs.Keys.{paired_row}
 use Rattle.sweep_laws.specs.Saving.{store_all}
 use Rattle.sweep_laws.specs.Waits.{as_interval, starts_below}
@@ -28,6 +26,7 @@ use Rattle.sweep_sides.specs.Answers.{FitsList, is_between}
 use Rattle.follow_op.specs.Followed.{follow_meets, follows}
 use Rattle.follow_op.specs.Intervals.{starts_between, TellsAhead}
 use Rattle.sweep_sides.proofs.Paired.{pair_mapped}
+use Rattle.sweep_sides.proofs.StoredRows.{Stored, rows_stored, stored_rows, events_stored}
 use Rattle.follow_op.proofs.Sums.{below_known, below_parts}
 
 pub lives : (h : List Edge) → IsHistory h → AreEvents (of h)
@@ -40,29 +39,6 @@ pub known : (c : ℕ) (h new : List Edge) → c ≤ inf → IsHistory h → IsHi
 known c h new low k whole fresh = same_below c h new (of h) (of (h ++ new)) low (failing-parts is_real h new whole.real).1 fresh (events_of_are h k) (events_of_are (h ++ new) whole)
 
 -- THE COLUMNS OF THE ANSWER
-abbrev Stored : List CellKind → List Datum → Type 0
-Stored kinds cells = store_all kinds cells ≡ true
-
-rows_stored : (kinds : List CellKind) (es : List CellEvent) → failing (λ e. store_all kinds e.row) es ≡ 0 → Rows (Stored kinds) es
-rows_stored kinds [] h = tt
-rows_stored kinds (e ∷ es) h = (one (store_all kinds e.row) (omega (arith, h)), rows_stored kinds es (omega (arith, h)))
-  where
-    one : (b : Bool) → cond {A = ℕ} b 0 1 ≡ 0 → b ≡ true
-    one true z = refl
-    one false z = absurd (omega (arith, z))
-
-stored_rows : (kinds : List CellKind) (es : List CellEvent) → Rows (Stored kinds) es → failing (λ e. store_all kinds e.row) es ≡ 0
-stored_rows kinds [] h = refl
-stored_rows kinds (e ∷ es) h =
-    let a = ap (λ b. cond {A = ℕ} b 0 1) h.0 in
-    let b = stored_rows kinds es h.1 in
-    omega (arith, a, b)
-
-events_stored : (kinds : List CellKind) (h : List Edge) → All (λ e. map datum_kind e.cells ≡ kinds) h → failing (λ e. store_all kinds e.row) (of h) ≡ 0
-events_stored kinds h cells =
-    (failing-All (λ (e : CellEvent). store_all kinds e.row) (of h)).1 (all_of (λ cells. IsTrue (store_all kinds cells)) h
-    (All-weaker (λ (e : Edge). map datum_kind e.cells ≡ kinds) (λ (e : Edge). IsTrue (store_all kinds e.cells)) (λ e k. kinds_stored kinds e.cells k) h cells))
-
 follows_stored : (lk rk : List ℕ) (within : ℕ) (left right own : List CellKind) → own ≡ paired_row rk left right → (a b : List CellEvent) →
     failing (λ e. store_all left e.row) a ≡ 0 → failing (λ e. store_all right e.row) b ≡ 0 → failing (λ e. store_all own e.row) (follows lk rk within a b) ≡ 0
 follows_stored lk rk within left right own is a b ha hb =

@@ -1,18 +1,17 @@
 -- A step of the operator of a sweep, and what it kept before the first and in longer tables.
-use Rattle.std.specs.Prelude.{IsTrue, ◌≡◌, ℕ, ◌≤◌, false, List, [], ◌++◌, map, All}
+use Rattle.std.specs.Prelude.{◌≡◌, ℕ, ◌≤◌, false, List, [], ◌++◌, map, All}
 use Rattle.std.proofs.Common.{sym, subst, arith}
-use Rattle.std.proofs.lemmas.List.Elements.{All-append, All-nil, All-weaker}
+use Rattle.std.proofs.lemmas.List.Elements.{All-append, All-nil}
 use Rattle.tw_rows.specs.Cells.{ArePlaced, datum_kind}
 use Rattle.tw_rows.specs.Instant.{inf}
 use Rattle.tw_rows.specs.Texts.{BeginsWith}
 use Rattle.tw_rows.specs.declared.edge.Edge.{Edge}
 use Rattle.tw_rows.specs.declared.kind.CellKind.{CellKind}
 use Rattle.edge_history.specs.Balance.{Told}
-use Rattle.edge_history.specs.History.{CellEvent, of}
+use Rattle.edge_history.specs.History.{of}
 use Rattle.edge_history.specs.Order.{KeepsOrder}
 use Rattle.edge_history.proofs.Agreeing.{same_order}
 use Rattle.edge_history.proofs.Keeping.{KeepsOrder-back}
-use Rattle.edge_history.proofs.Sums.{failing-All}
 use Rattle.edge_history.proofs.Telling.{answer_from, answer_below}
 use Rattle.plan_model.specs.declared.node.Node.{Node}
 use Rattle.plan_model.specs.Meaning.{node_closes, node_events}
@@ -20,21 +19,13 @@ use Rattle.node_laws.specs.Keeping.{Keeps, plain_cells}
 use Rattle.node_laws.specs.Places.{AreDistinct, read_of}
 use Rattle.node_laws.specs.Readings.{has_expressions}
 use Rattle.node_laws.specs.Standing.{StandsRead}
-use Rattle.node_laws.proofs.Standing.{all_of, no_history, placed_longer}
+use Rattle.node_laws.proofs.Standing.{no_history, placed_longer}
 use Rattle.node_laws.proofs.Steps.{keeps_read, keeps_stand}
 use Rattle.operator.specs.Steps.{MayCome}
-use Rattle.sweep_laws.specs.Saving.{store_all}
-use Rattle.sweep_laws.proofs.Stored.{kinds_stored}
 use Rattle.sweep_sides.specs.Answers.{FitsList}
 use Rattle.sweep_sides.proofs.Telling.{between_both, told_stored}
 use Rattle.sweep_operator.specs.Sweeping.{AreStored, Keeping, told_events, HasSwept, ComeOn}
 use Rattle.sweep_operator.specs.Sweepers.{HaveCome, SweptKeeps}
-
--- the events of edges have the columns of the edges
-pub events_stored : (kinds : List CellKind) (h : List Edge) → All (λ e. map datum_kind e.cells ≡ kinds) h → AreStored kinds (of h)
-events_stored kinds h cells =
-    (failing-All (λ (e : CellEvent). store_all kinds e.row) (of h)).1 (all_of (λ cells. IsTrue (store_all kinds cells)) h
-    (All-weaker (λ (e : Edge). map datum_kind e.cells ≡ kinds) (λ (e : Edge). IsTrue (store_all kinds e.cells)) (λ e k. kinds_stored kinds e.cells k) h cells))
 
 -- new edges may come to both sides
 pub come_on : (x y : ℕ) (texts : List (List ℕ)) (hl hr l r : List Edge) → MayCome texts x hl l → MayCome texts y hr r → ComeOn x y hl hr l r

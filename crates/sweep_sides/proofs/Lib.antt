@@ -7,3 +7,4 @@ pub mod Telling
 pub mod Starting
 pub mod Paired
 pub mod DueStarts
+pub mod StoredRows

@@ -16,7 +16,8 @@ use Rattle.sweep_sides.specs.Answers.{FitsList}
 use Rattle.sweep_sides.proofs.Telling.{list_is, between_parts}
 use Rattle.sweep_operator.specs.Sweeping.{AreStored, HasSwept, told_events}
 use Rattle.sweep_operator.specs.Sweepers.{HasColumns, SweptKeeps}
-use Rattle.sweep_operator.proofs.Stepped.{events_stored, come_more, come_on, swept_more}
+use Rattle.sweep_operator.proofs.Stepped.{come_more, come_on, swept_more}
+use Rattle.sweep_sides.proofs.StoredRows.{events_stored}
 use Rattle.sweep_operator.proofs.swept.Swept.advance.Goals as goal
 
 pub advance-requires-clause-rises : goal.advance-requires-clause-rises
