@@ -1,13 +1,12 @@
 -- Pools keep their capacity and their limit, whatever is taken and given.
-use Rattle.std.specs.Prelude.{◌≡◌, ℕ, zero, suc, ◌+◌, ◌-◌, min, List, [], ◌∷◌}
+use Rattle.std.specs.Prelude.{◌≡◌, ℕ, zero, suc, ◌+◌, ◌-◌, min, List}
 use Rattle.std.proofs.Common.{◌∙◌, ap, refl, take}
 use Rattle.tw_rows.specs.declared.kind.CellKind.{CellKind}
-use Rattle.tw_rows.specs.declared.kind.CellKind.TheVariants.{Whole, Bit, Place}
-use Rattle.batch.specs.Shelves.{Shelves, given, all_given, batch_given, batch_taken, IsPartTaken}
+use Rattle.batch.specs.Shelves.{Shelves, batch_given, batch_taken, IsPartTaken}
 use Rattle.batch.proofs.Stocks.{NoMore-all}
 use Rattle.edge_stream.specs.Listing.{EdgeListView, cells_of, where_full}
 use Rattle.edge_stream.specs.Taking.{batches_taken, batches_given, room_taken, AreBatchesTaken}
-use Rattle.edge_stream.proofs.Filling.{batches_taken-capacity}
+use Rattle.edge_stream.proofs.Filling.{batches_taken-capacity, all_given-limit}
 
 pub part-capacity : (old new : Shelves) (kinds : List CellKind) → IsPartTaken old new kinds → new.capacity ≡ old.capacity
 part-capacity old new kinds part =
@@ -37,15 +36,6 @@ room_taken-limit l s = pick l.room
     pick : (r : ℕ) → (where_full r (batch_taken s (cells_of l)) s).limit ≡ s.limit
     pick zero = (NoMore-all (record s { words = s.words - 4; occupancies = s.occupancies - 1 }) (cells_of l)).limit
     pick (suc r) = refl
-
-given-limit : (s : Shelves) (k : CellKind) → (given s k).limit ≡ s.limit
-given-limit s Whole = refl
-given-limit s Bit = refl
-given-limit s Place = refl
-
-all_given-limit : (s : Shelves) (ks : List CellKind) → (all_given s ks).limit ≡ s.limit
-all_given-limit s [] = refl
-all_given-limit s (k ∷ ks) = given-limit (all_given s ks) k ∙ all_given-limit s ks
 
 pub batches_given-limit : (n : ℕ) (s : Shelves) (ks : List CellKind) → (batches_given n s ks).limit ≡ s.limit
 batches_given-limit zero s ks = refl

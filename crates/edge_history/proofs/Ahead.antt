@@ -1,6 +1,6 @@
 -- What is told ahead: an interval edge tells an end before its time.
 use Rattle.std.specs.Prelude.{◌≡◌, ◌⊎◌, ℕ, ◌+◌, ◌<◌, ◌≤◌, ◌&&◌, Bool, true, cond, List, ◌++◌, filter}
-use Rattle.std.proofs.Common.{inl, inr, sym, ◌∙◌, ap, arith}
+use Rattle.std.proofs.Common.{inl, inr, ◌∙◌, arith}
 use Rattle.std.proofs.lemmas.Bool.Decides.{nat_tests}
 use Rattle.std.proofs.lemmas.Bool.{cases_lt}
 use Rattle.tw_rows.specs.Instant.{inf}
@@ -18,7 +18,7 @@ use Rattle.edge_history.proofs.Sums.{sum_eq, sum_le, weaker, failing-append}
 use Rattle.edge_history.proofs.Telling.{is_event, gain, loss, news_all, before_all, news_in_parts, order_from}
 use Rattle.edge_history.proofs.Retaining.{events_of_are, valid_from}
 use Rattle.edge_history.proofs.Opening.{singles_are_news}
-use Rattle.edge_history.proofs.Waiting.{news_between}
+use Rattle.edge_history.proofs.Waiting.{news_between, singles_both}
 
 -- a start edge of the cells at the start, among single edges
 abbrev begins_it : List Datum → ℕ → Edge → Bool
@@ -135,12 +135,6 @@ ahead_stands c h es high v t =
     }
 
 -- a step
-singles_both : (w : Edge → ℕ) (h new : List Edge) → total w (singles (h ++ new)) ≡ total w (singles h) + total w (singles new)
-singles_both w h new =
-    total-flat_map w singles_of (h ++ new) ∙ total-append (λ e. total w (singles_of e)) h new
-    ∙ ap (λ n. n + total (λ e. total w (singles_of e)) new) (sym (total-flat_map w singles_of h))
-    ∙ ap (λ n. total w (singles h) + n) (sym (total-flat_map w singles_of new))
-
 later_below : (c d : ℕ) (x : Edge) → c ≤ d → is_below c x ≡ true → is_below d x ≡ true
 later_below c d x low k = grind (arith, nat_tests)
 

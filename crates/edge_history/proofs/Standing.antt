@@ -12,7 +12,7 @@ use Rattle.edge_history.specs.Order.{failing, many, rank, Rises, is_real, is_bel
 use Rattle.edge_history.specs.History.{CellEvent, of, StandsBelow}
 use Rattle.edge_history.specs.Balance.{given, taken, AreEventsOf, StandsFor, is_settled, is_single, Told}
 use Rattle.edge_history.proofs.Sums.{sum_le, sum_eq, weaker, failing-both, failing-filter, failing-kept}
-use Rattle.edge_history.proofs.Telling.{gain, loss, stands_by_weight, weight_of_standing, stands_same, told_below, told_history, rises_weaker}
+use Rattle.edge_history.proofs.Telling.{gain, loss, stands_by_weight, weight_of_standing, stands_same, told_below, told_history, rises_weaker, settled_real}
 use Rattle.edge_history.proofs.Retaining.{events_of_are, events_unique}
 
 -- of its events a list stands for what is known below any time
@@ -165,9 +165,6 @@ stands_below_less c d h es low high k = record {
 single_settled : (c d : ℕ) (x : Edge) → (is_settled d x && is_single x) ≡ true →
     cond {A = ℕ} (is_below c x) (cond (is_settled c x) 0 1) 0 ≡ 0
 single_settled c d x k = grind (arith, nat_tests)
-
-settled_real : (c : ℕ) (e : Edge) → c ≤ inf → is_settled c e ≡ true → is_real e ≡ true
-settled_real c e high k = grind (arith, nat_tests)
 
 pub told_less : (c d : ℕ) (h : List Edge) (es : List CellEvent) → c ≤ d → d ≤ inf → failing is_single h ≡ 0 →
     Told d h es → Told c (filter (is_below c) h) es

@@ -192,7 +192,7 @@ settled_starts : (cells : List Datum) (start c : ℕ) (e : Edge) → c ≤ inf �
     gain (opens cells start) c e ≤ cond {A = ℕ} (starts_it cells start e) 1 0
 settled_starts cells start c e high k = grind (arith, nat_tests)
 
-settled_real : (c : ℕ) (e : Edge) → c ≤ inf → is_settled c e ≡ true → is_real e ≡ true
+pub settled_real : (c : ℕ) (e : Edge) → c ≤ inf → is_settled c e ≡ true → is_real e ≡ true
 settled_real c e high k = grind (arith, nat_tests)
 
 pub told_history : (c : ℕ) (out : List Edge) (es : List CellEvent) → c ≤ inf → Told c out es → IsHistory out

@@ -37,7 +37,7 @@ singles_from w c new from =
     total-flat_map (λ x. cond (is_from c x) (w x) 0) singles_of new
     ∙ sum_eq (is_from c) _ _ new (λ e h. single_from w c e h) from ∙ sym (total-flat_map w singles_of new)
 
-singles_both : (w : Edge → ℕ) (h new : List Edge) → total w (singles (h ++ new)) ≡ total w (singles h) + total w (singles new)
+pub singles_both : (w : Edge → ℕ) (h new : List Edge) → total w (singles (h ++ new)) ≡ total w (singles h) + total w (singles new)
 singles_both w h new =
     total-flat_map w singles_of (h ++ new) ∙ total-append (λ e. total w (singles_of e)) h new
     ∙ ap (λ n. n + total (λ e. total w (singles_of e)) new) (sym (total-flat_map w singles_of h))

@@ -4,7 +4,8 @@ use Rattle.std.proofs.lemmas.List.{length_push, take_all}
 use Rattle.tw_rows.specs.declared.edge.Edge.{Edge}
 use Rattle.tw_rows.specs.declared.kind.Kind.{Kind}
 use Rattle.tw_rows.specs.declared.kind.CellKind.{CellKind}
-use Rattle.batch.specs.Shelves.{Shelves, all_taken, all_given, batch_taken, batch_given, IsPartTaken, AreSomeTaken}
+use Rattle.tw_rows.specs.declared.kind.CellKind.TheVariants.{Whole, Bit, Place}
+use Rattle.batch.specs.Shelves.{Shelves, given, all_taken, all_given, batch_taken, batch_given, IsPartTaken, AreSomeTaken}
 use Rattle.batch.proofs.Stocks.{payload_told, given-capacity, NoMore-all}
 use Rattle.edge_stream.specs.Listing.{EdgeListView, cells_of, where_full, with_room, appended, IsFilled}
 use Rattle.edge_stream.specs.Taking.{batches_taken, batches_given, room_taken, AreBatchesTaken}
@@ -90,9 +91,19 @@ room_taken-capacity l s = pick l.room
     pick zero = (NoMore-all (record s { words = s.words - 4; occupancies = s.occupancies - 1 }) (cells_of l)).capacity
     pick (suc r) = refl
 
-all_given-capacity : (s : Shelves) (ks : List CellKind) → (all_given s ks).capacity ≡ s.capacity
+pub all_given-capacity : (s : Shelves) (ks : List CellKind) → (all_given s ks).capacity ≡ s.capacity
 all_given-capacity s [] = refl
 all_given-capacity s (k ∷ ks) = given-capacity (all_given s ks) k ∙ all_given-capacity s ks
+
+-- and no limit
+given-limit : (s : Shelves) (k : CellKind) → (given s k).limit ≡ s.limit
+given-limit s Whole = refl
+given-limit s Bit = refl
+given-limit s Place = refl
+
+pub all_given-limit : (s : Shelves) (ks : List CellKind) → (all_given s ks).limit ≡ s.limit
+all_given-limit s [] = refl
+all_given-limit s (k ∷ ks) = given-limit (all_given s ks) k ∙ all_given-limit s ks
 
 pub batch_given-capacity : (s : Shelves) (ks : List CellKind) → (batch_given s ks).capacity ≡ s.capacity
 batch_given-capacity s ks = all_given-capacity (record s { words = min (s.words + 4) s.limit; occupancies = min (s.occupancies + 1) s.limit }) ks

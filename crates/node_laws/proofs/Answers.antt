@@ -16,6 +16,7 @@ use Rattle.tw_rows.proofs.Lives.{total-cut}
 use Rattle.edge_history.specs.Order.{is_end, is_below, ends_it, starts_it, many}
 use Rattle.tw_rows.specs.SameCells.{same_cells}
 use Rattle.edge_history.specs.History.{CellEvent, begun_one, begun, is_open, ended, end_step, end_all, of, StandsBelow}
+use Rattle.key_nodes.proofs.Bags.{total_le}
 use Rattle.tw_rows.specs.SameCells.{cells_are_same, same_itself}
 use Rattle.node_laws.specs.Places.{EventsArePlaced, EdgesArePlaced}
 
@@ -57,10 +58,6 @@ total_at : {X : Type 0} (v : X → ℕ) (xs : List X) (i : ℕ) (d : X) → i < 
 total_at v [] i d low = absurd (omega (arith, low))
 total_at v (x ∷ xs) zero d low = omega arith
 total_at v (x ∷ xs) (suc i) d low = let h = total_at v xs i d (omega (arith, low)) in omega (arith, h)
-
-total_le : {X : Type 0} (v w : X → ℕ) (xs : List X) → ((x : X) → v x ≤ w x) → total v xs ≤ total w xs
-total_le v w [] h = omega arith
-total_le v w (x ∷ xs) h = let a = h x in let b = total_le v w xs h in omega (arith, a, b)
 
 module _ (texts : List (List ℕ)) (c : ℕ) where
   -- the weight of an event that starts below c: what is lost of its row

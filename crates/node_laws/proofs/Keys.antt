@@ -23,7 +23,7 @@ use Rattle.node_laws.specs.Shards.{left_key_of, right_key_of, is_keyed, any_shar
 use Rattle.plan_model.proofs.Aggregates.{row_of_group_is}
 use Rattle.node_laws.proofs.Maps.{filter_to}
 
-over_none : {X : Type 0} (n : ℕ) → over_shards {X = X} (λ s. []) n ≡ []
+pub over_none : {X : Type 0} (n : ℕ) → over_shards {X = X} (λ s. []) n ≡ []
 over_none zero = refl
 over_none {X} (suc n) = ap (λ l. l ++ []) (over_none {X = X} n)
 

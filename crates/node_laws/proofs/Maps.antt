@@ -20,10 +20,6 @@ pub map_to : {A B C D : Type 0} (h : A → B) (k : C → D) (g : A → C) (g' : 
 map_to h k g g' e [] = refl
 map_to h k g g' e (x ∷ xs) = ap (λ y. y ∷ map g' (map h xs)) (e x) ∙ ap (λ l. k (g x) ∷ l) (map_to h k g g' e xs)
 
-pub map_same : {X Y : Type 0} (f g : X → Y) (xs : List X) → ((x : X) → f x ≡ g x) → map f xs ≡ map g xs
-map_same f g [] h = refl
-map_same f g (x ∷ xs) h = ap (λ y. y ∷ map f xs) (h x) ∙ ap (λ ys. g x ∷ ys) (map_same f g xs h)
-
 pub map_map : {X Y Z : Type 0} (f : X → Y) (g : Y → Z) (xs : List X) → map g (map f xs) ≡ map (λ x. g (f x)) xs
 map_map f g [] = refl
 map_map f g (x ∷ xs) = ap (λ l. g (f x) ∷ l) (map_map f g xs)

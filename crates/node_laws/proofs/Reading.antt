@@ -19,7 +19,8 @@ use Rattle.plan_model.specs.Nodes.{event_to, events_to, node_in}
 use Rattle.plan_model.specs.Keys.{paired_row}
 use Rattle.node_laws.specs.Readings.{has_expressions, IsReading}
 use Rattle.node_laws.proofs.CoalescedMaps.{coalesced_to, top_to, followed_to}
-use Rattle.node_laws.proofs.Maps.{alive_to, map_to, map_map, map_same, filter_to, any_to, joined_to, grouped_to, alone_to, in_sessions_to, clipped_to, moved_to, hopped_to, lasting_to, extended_to}
+use Rattle.node_laws.proofs.Maps.{alive_to, map_to, map_map, filter_to, any_to, joined_to, grouped_to, alone_to, in_sessions_to, clipped_to, moved_to, hopped_to, lasting_to, extended_to}
+use Rattle.plan_model.proofs.Aggregates.{map_same}
 
 module _ {X Y : Type 0} (f : X → Y) (v : RowOps X) (w : RowOps Y) (reads : IsReading f v w) where
   pub column_read : (row : List X) (i : ℕ) → slice_index_or (map f row) i w.zero ≡ f (slice_index_or row i v.zero)

@@ -28,8 +28,9 @@ use Rattle.plan_model.proofs.InOrder.{rows_equal_tells}
 use Rattle.plan_model.proofs.Plans.{over_nodes-is}
 use Rattle.plan_laws.specs.Widths.{FitStreams}
 use Rattle.plan_laws.proofs.Widths.{snapshots_wide}
-use Rattle.plan_laws.proofs.RowsOf.{Each, each_distinct}
+use Rattle.plan_laws.proofs.RowsOf.{each_distinct}
 use Rattle.plan_laws.specs.LeftJoin.{literal, filling_items, IsLeftJoin}
+use Rattle.plan_model.proofs.Each.{Each}
 
 any_each : {K : Type 0} (p q : K → Bool) (P : K → Type 0) → ((k : K) → P k → p k ≡ q k) → (ks : List K) → Each P ks →
     list_any p ks ≡ list_any q ks

@@ -19,15 +19,11 @@ use Rattle.plan_model.specs.Keys.{value_ops}
 use Rattle.plan_model.specs.Meaning.{Sources, events, node_events}
 use Rattle.plan_model.specs.Nodes.{node_in}
 use Rattle.plan_model.specs.RowOps.{RowOps, key_in, group_row_in, rows_of_key_in, row_of_group_in}
-use Rattle.plan_model.proofs.Aggregates.{row_of_group_is}
+use Rattle.plan_model.proofs.Aggregates.{length_is, row_of_group_is}
 use Rattle.plan_model.proofs.InOrder.{rows_equal_tells}
 use Rattle.plan_model.proofs.Kept.{IsPlan-ordered}
 use Rattle.plan_model.proofs.Plans.{over_nodes-is}
 use Rattle.plan_laws.specs.OneAKey.{HasOneAKey}
-
-length_is : {X : Type 0} (xs : List X) → length xs ≡ total (λ x. 1) xs
-length_is [] = refl
-length_is (x ∷ xs) = let h = length_is xs in omega (arith, h)
 
 pub count_is : {X : Type 0} (p : X → Bool) (xs : List X) → length (filter p xs) ≡ total (λ x. cond (p x) 1 0) xs
 count_is p xs = length_is (filter p xs) ∙ total-filter (λ x. 1) p xs

@@ -1,6 +1,6 @@
 -- How late the finite times of the nodes of a plan are.
-use Rattle.std.specs.Prelude.{◌≡◌, ℕ, ◌+◌, ◌-◌, ◌*◌, ◌/◌, ◌^◌, ◌<◌, ◌≤◌, max, nat_lt, Bool, true, false, cond, List, [], length}
-use Rattle.std.proofs.Common.{arith, ap, inl, inr, div-mul-le_self}
+use Rattle.std.specs.Prelude.{◌≡◌, ℕ, ◌+◌, ◌-◌, ◌^◌, ◌<◌, ◌≤◌, max, nat_lt, Bool, true, false, cond, List, [], length}
+use Rattle.std.proofs.Common.{arith, ap, inl, inr}
 use Rattle.std.proofs.lemmas.Bool.{cases_lt}
 use Rattle.std.proofs.lemmas.Option.{slice_get-get_or}
 use Rattle.std.proofs.lemmas.Bool.Decides.{nat_tests}
@@ -26,9 +26,7 @@ use Rattle.plan_model.proofs.Kept.{IsPlan-ordered}
 use Rattle.plan_model.proofs.Plans.{by_nodes}
 use Rattle.plan_laws.specs.Times.{TimesUpTo}
 use Rattle.plan_laws.proofs.StepTimes.{up_to_more, up_to_append, up_to_each, up_to_map, up_to_filter, up_to_with_life, grouped_up_to, alone_up_to, sessions_up_to, clipped_up_to, joined_up_to, alive_after, coalesced_up_to, followed_up_to}
-
-multiple_low : (p c : ℕ) → p * (c / p) ≤ c
-multiple_low p c = let below = div-mul-le_self c p in omega (arith, below)
+use Rattle.plan_model.proofs.NewLives.{multiple_low}
 
 floor_low : (p s : ℕ) → s < inf → floor_to p s ≤ s
 floor_low p s h = let low = multiple_low p s in grind (arith, nat_tests)

@@ -1,5 +1,5 @@
 -- What holds of the rows that are read holds of the rows of what each step makes.
-use Rattle.std.specs.Prelude.{◌≡◌, ℕ, zero, suc, max, min, nat_eq, nat_lt, Bool, true, false, cond, ◌&&◌, Option, Some, None, List, [], ◌∷◌, ◌++◌, map, filter, flat_map, refl}
+use Rattle.std.specs.Prelude.{◌≡◌, ℕ, zero, suc, max, min, nat_eq, nat_lt, Bool, true, false, cond, ◌&&◌, Option, Some, None, List, [], ◌∷◌, map, filter, flat_map, refl}
 use Rattle.std.specs.List.{list_any}
 use Rattle.std.proofs.Common.{ap, subst}
 use Rattle.tw_rows.specs.Instant.{inf, later}
@@ -10,18 +10,11 @@ use Rattle.key_nodes.specs.Antis.{meets_none, alone_at, alone}
 use Rattle.key_nodes.specs.Joins.{with_life, joined_one, joined}
 use Rattle.key_nodes.specs.Coalesced.{rise_times, fall_times, paired_times, row_events, rows_below, coalesced}
 use Rattle.key_nodes.specs.Follows.{starts_next, followed_one, followed}
-
-abbrev pub Each : {X : Type 0} → (X → Type 0) → List X → Type 0
-Each P [] = Unit {0}
-Each P (x ∷ xs) = P x × Each P xs
+use Rattle.plan_model.proofs.Each.{Each, each_append}
 
 -- of the row of each event
 abbrev pub Rows : {R : Type 0} → (R → Type 0) → List (Event R) → Type 0
 Rows P es = Each (λ e. P e.row) es
-
-pub each_append : {X : Type 0} (P : X → Type 0) (xs ys : List X) → Each P xs → Each P ys → Each P (xs ++ ys)
-each_append P [] ys h k = k
-each_append P (x ∷ xs) ys h k = (h.0, each_append P xs ys h.1 k)
 
 pub each_map : {X Y : Type 0} (P : X → Type 0) (Q : Y → Type 0) (f : X → Y) → ((x : X) → P x → Q (f x)) → (xs : List X) →
     Each P xs → Each Q (map f xs)

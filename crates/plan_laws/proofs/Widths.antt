@@ -36,7 +36,8 @@ use Rattle.plan_model.proofs.Levels.{IsPlan-levelled}
 use Rattle.plan_model.proofs.PlanLaws.{events_agree}
 use Rattle.plan_model.proofs.Plans.{over_nodes-is}
 use Rattle.plan_laws.specs.Widths.{AreWide, FitStreams}
-use Rattle.plan_laws.proofs.RowsOf.{Each, Rows, or_else, each_append, each_map, each_filter, each_flat_map, rows_with_life, rows_alive, grouped_rows_hold, alone_rows_hold, coalesced_rows_hold, joined_rows_hold, followed_rows_hold}
+use Rattle.plan_laws.proofs.RowsOf.{Rows, or_else, each_map, each_filter, each_flat_map, rows_with_life, rows_alive, grouped_rows_hold, alone_rows_hold, coalesced_rows_hold, joined_rows_hold, followed_rows_hold}
+use Rattle.plan_model.proofs.Each.{Each, each_append}
 
 abbrev pub HasWidth : ℕ → Row → Type 0
 HasWidth n row = length row ≡ n

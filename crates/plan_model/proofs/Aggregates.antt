@@ -15,7 +15,7 @@ use Rattle.plan_model.specs.declared.agg.Agg.TheVariants.{Count, Sum, Least, Gre
 use Rattle.plan_model.specs.Amounts.{exact_sum, least_from, least_int, greatest_from, greatest_int, most_rows, is_outside_i64}
 use Rattle.plan_model.specs.RowOps.{RowOps, key_in, ints_in, agg_in, group_row_in, rows_of_key_in, row_of_group_in, has_large_sum_in, is_undefined_group_in, is_undefined_in}
 
-length_is : {X : Type 0} (xs : List X) → length xs ≡ total (λ x. 1) xs
+pub length_is : {X : Type 0} (xs : List X) → length xs ≡ total (λ x. 1) xs
 length_is [] = refl
 length_is (x ∷ xs) = let h = length_is xs in omega (arith, h)
 
@@ -80,7 +80,7 @@ greatest_same (x ∷ xs) (y ∷ ys) h =
     alike : (z : ℤ) → int_le (greatest_from x xs) z ≡ int_le (greatest_from y ys) z
     alike z = greatest_is z x xs ∙ (ap not (any_of_same (int_lt z) (x ∷ xs) (y ∷ ys) h) ∙ sym (greatest_is z y ys))
 
-map_same : {X Y : Type 0} (f g : X → Y) (xs : List X) → ((x : X) → f x ≡ g x) → map f xs ≡ map g xs
+pub map_same : {X Y : Type 0} (f g : X → Y) (xs : List X) → ((x : X) → f x ≡ g x) → map f xs ≡ map g xs
 map_same f g [] h = refl
 map_same f g (x ∷ xs) h = ap (λ y. y ∷ map f xs) (h x) ∙ ap (λ ys. g x ∷ ys) (map_same f g xs h)
 

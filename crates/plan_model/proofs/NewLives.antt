@@ -94,7 +94,7 @@ multiple_rises (suc p) c s h = mul-le-mul_left (suc p) (le-div (c / suc p) s (su
 pub floor_rises : (p c s : ℕ) → c ≤ s → s ≤ inf → floor_to p c ≤ floor_to p s
 floor_rises p c s h low = let rises = multiple_rises p c s h in let below = div-mul-le_self c p in grind (arith, nat_tests)
 
-multiple_low : (p c : ℕ) → p * (c / p) ≤ c
+pub multiple_low : (p c : ℕ) → p * (c / p) ≤ c
 multiple_low p c = let below = div-mul-le_self c p in omega (arith, below)
 
 floor_instant : (p s : ℕ) → s < inf → floor_to p s < inf

@@ -1,7 +1,7 @@
 -- The fields that are read as an event, or as a punctuation, are those that are printed of it.
 use Rattle.std.proofs.Common.{◌≡◌, ◌<◌, inl, inr, ℕ, ℤ, suc, ◌+◌, List, [], ◌∷◌, length, drop, Bool, true, false, cond, Option, Some, None, Result, Ok, Err, refl, sym, ◌∙◌, ap, arith, subst}
 use Rattle.std.specs.Prelude.{◌⊎◌, ◌^◌, ◌==◌, ◌↔◌, not, codes, option_map}
-use Rattle.std.proofs.lemmas.Bool.Decides.{Decides-ltb, eqb_tells}
+use Rattle.std.proofs.lemmas.Bool.Decides.{Decides-ltb}
 use Rattle.csv.specs.Records.{field_at}
 use Rattle.tw_rows.specs.Instant.{inf}
 use Rattle.tw_rows.specs.Rows.{Row}
@@ -26,6 +26,7 @@ use Rattle.row_reader.specs.Printed.{kinds_of, IsValue, IsRowOf, IsEnd, AreTimes
 use Rattle.row_reader.proofs.Numbers.{number_of-is, same_text-Decides}
 use Rattle.row_reader.proofs.Places.{units_of-is}
 use Rattle.row_reader.proofs.ReadBack.{text_below, text_inf, events_read_back}
+use Rattle.row_reader.proofs.Whole.{equal}
 
 -- a text that is a value of a kind is what is printed of it
 abbrev Prints : Kind → List ℕ → Value → Type 0
@@ -123,9 +124,6 @@ passed false cause read e h = absurd (cc)
 pub with_row-is : (r : Result Row ℕ) (more : Row → Read) (e : Entry) → with_row r more ≡ Ok e → (row : Row) × (r ≡ Ok row) × (more row ≡ Ok e)
 with_row-is (Err n) more e h = absurd (cc)
 with_row-is (Ok row) more e h = (row, refl, h)
-
-equal : (a b : ℕ) → (a == b) ≡ true → a ≡ b
-equal a b h = elim (eqb_tells a b) [ inl t ↦ t.1 | inr t ↦ absurd (let f : (a == b) ≡ false = t.0 in cc) ]
 
 record Parts (columns : List ColumnDef) (fields : List (List ℕ)) (form : Form) (sync other : ℕ) (row : Row) : Type 0 where
   form_is : form_of (field_of fields 0) ≡ Some form

@@ -117,7 +117,7 @@ minus_by_first true true bs b h f = f refl
 minus_by_first true false bs b h f = absurd (cc)
 minus_by_first false q bs b h f = absurd (cc)
 
-equal : (a b : ℕ) → (a == b) ≡ true → a ≡ b
+pub equal : (a b : ℕ) → (a == b) ≡ true → a ≡ b
 equal a b h = elim (eqb_tells a b) [ inl t ↦ t.1 | inr t ↦ absurd (let f : (a == b) ≡ false = t.0 in cc) ]
 
 minus_is : (bs : List ℕ) → has_minus bs ≡ true → bs ≡ 45 ∷ drop 1 bs

@@ -9,7 +9,8 @@ use Rattle.tw_rows.specs.declared.kind.CellKind.{CellKind}
 use Rattle.tw_rows.specs.declared.kind.CellKind.TheVariants.{Whole, Bit, Place}
 use Rattle.batch.specs.Rows.{Row, Table, edge_of, edges_of, occupied_rows}
 use Rattle.batch.specs.Shelves.{Shelves, free_of, given, all_taken, all_given}
-use Rattle.batch.proofs.Stocks.{NoMore-all, given-capacity}
+use Rattle.batch.proofs.Stocks.{NoMore-all}
+use Rattle.edge_stream.proofs.Filling.{all_given-capacity, all_given-limit}
 use Rattle.plan_model.specs.declared.expr.ExprNode.{ExprNode}
 use Rattle.plan_model.specs.declared.node.Node.{Node}
 use Rattle.plan_model.specs.Expr.{holds}
@@ -132,22 +133,9 @@ pub stage_same : (texts : List (List ℕ)) (c d : ℕ) (kinds others : List Cell
 stage_same texts c d kinds others n s t e f g is =
     subst (λ x. IsStageOf texts d others n x) g (subst (λ x. IsStageOf texts d x n s) f (subst (λ x. IsStageOf texts x kinds n s) e is))
 
-all_given-capacity : (s : Shelves) (ks : List CellKind) → (all_given s ks).capacity ≡ s.capacity
-all_given-capacity s [] = refl
-all_given-capacity s (k ∷ ks) = given-capacity (all_given s ks) k ∙ all_given-capacity s ks
-
 -- the pools keep their capacity
 pub pools_kept : (old new : Shelves) (ks ls : List CellKind) → new ≡ all_given (all_taken old ks) ls → new.capacity ≡ old.capacity
 pools_kept old new ks ls given = ap (λ s. s.capacity) given ∙ all_given-capacity (all_taken old ks) ls ∙ (NoMore-all old ks).capacity
-
-given-limit : (s : Shelves) (k : CellKind) → (given s k).limit ≡ s.limit
-given-limit s Whole = refl
-given-limit s Bit = refl
-given-limit s Place = refl
-
-all_given-limit : (s : Shelves) (ks : List CellKind) → (all_given s ks).limit ≡ s.limit
-all_given-limit s [] = refl
-all_given-limit s (k ∷ ks) = given-limit (all_given s ks) k ∙ all_given-limit s ks
 
 pub limit_kept : (old new : Shelves) (ks ls : List CellKind) → new ≡ all_given (all_taken old ks) ls → new.limit ≡ old.limit
 limit_kept old new ks ls given = ap (λ s. s.limit) given ∙ all_given-limit (all_taken old ks) ls ∙ (NoMore-all old ks).limit

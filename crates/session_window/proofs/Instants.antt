@@ -36,16 +36,10 @@ use Rattle.session_window.specs.Kept.{is_for, is_for_at, keeps_to, waits_from, A
 use Rattle.session_window.specs.Windows.{windows}
 use Rattle.session_window.specs.Holding.{SessionHeld}
 use Rattle.session_window.proofs.Members.{In, found, counted, uncounted, passes, all_pass, none_pass}
-use Rattle.session_window.proofs.Keys.{cells_tell, same_turned, of_own_key, key_is, parts, last_there, last_late, last_if}
-
-equal : (m n : ℕ) → nat_eq m n ≡ true → m ≡ n
-equal m n h = grind (arith, nat_tests)
+use Rattle.session_window.proofs.Keys.{cells_tell, same_turned, of_own_key, key_is, parts, equal, same_number, last_there, last_late, last_if}
 
 at_most : (m n : ℕ) → nat_le m n ≡ true → m ≤ n
 at_most m n h = grind (arith, nat_tests)
-
-same_number : (m n : ℕ) → m ≡ n → nat_eq m n ≡ true
-same_number m n h = grind (arith, nat_tests)
 
 above : (m n : ℕ) → n < m → nat_eq m n ≡ false
 above m n h = grind (arith, nat_tests)

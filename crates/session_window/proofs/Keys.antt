@@ -40,7 +40,7 @@ pub parts : (a b : Bool) → (a && b) ≡ true → (a ≡ true) × (b ≡ true)
 parts true b h = (refl, h)
 parts false b h = absurd (cc)
 
-equal : (m n : ℕ) → nat_eq m n ≡ true → m ≡ n
+pub equal : (m n : ℕ) → nat_eq m n ≡ true → m ≡ n
 equal m n h = grind (arith, nat_tests)
 
 not_above : (m n : ℕ) → nat_lt m n ≡ false → n ≤ m
@@ -49,7 +49,7 @@ not_above m n h = grind (arith, nat_tests)
 never_above : (m n : ℕ) → n ≤ m → nat_lt m n ≡ false
 never_above m n h = grind (arith, nat_tests)
 
-same_number : (m n : ℕ) → m ≡ n → nat_eq m n ≡ true
+pub same_number : (m n : ℕ) → m ≡ n → nat_eq m n ≡ true
 same_number m n h = grind (arith, nat_tests)
 
 in_filter : (p : HeldRow → Bool) (r : HeldRow) (rows : List HeldRow) → In r rows → p r ≡ true → In r (filter p rows)

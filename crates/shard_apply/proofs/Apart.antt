@@ -1,5 +1,5 @@
 -- A step of several shards, from what each of them owes and what was gathered.
-use Rattle.std.specs.Prelude.{◌≡◌, ℕ, zero, suc, ◌<◌, ◌≤◌, nat_eq, nat_le, is_ok, Bool, true, false, List, [], ◌∷◌, ◌++◌, map, flat_map, length, take, Result, Ok, Err, is_err, IsOk, IfOk, IfErr, OnOk, All, refl}
+use Rattle.std.specs.Prelude.{◌≡◌, ℕ, zero, suc, ◌<◌, ◌≤◌, nat_eq, nat_le, is_ok, Bool, true, false, List, [], ◌∷◌, ◌++◌, map, flat_map, length, take, Ok, Err, is_err, IsOk, IfOk, IfErr, OnOk, All, refl}
 use Rattle.std.proofs.Common.{◌∙◌, sym, ap, subst, arith, get_or}
 use Rattle.std.proofs.lemmas.List.{get_or-map, length-map, take_all, take-append-le}
 use Rattle.std.proofs.lemmas.Bool.{eq-eqb}
@@ -22,9 +22,7 @@ use Rattle.shard_apply.specs.Whole.{Whole, side_by_side, first_of, standing_in, 
 use Rattle.shard_apply.proofs.Faults.{edges_of_shards}
 use Rattle.shard_apply.proofs.Stepped.{stepped_with}
 use Rattle.shard_apply.proofs.WholeSteps.{shard_low, over_list, stands_as, in_step_now, stepped_ok, stepped_err}
-
-abbrev Answer : Type 0
-Answer = Result EdgeListView StepFault
+use Rattle.shard_apply.specs.Rounds.{Answer}
 
 pub both_of : {R : Type 0} (r : Answer) (P Q : EdgeListView → Type 0) → IsOk r → IfOk r P → IfOk r Q → ((a : EdgeListView) → P a → Q a → R) → R
 both_of (Ok a) P Q ok p q f = f a p q

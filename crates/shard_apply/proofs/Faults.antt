@@ -1,5 +1,5 @@
 -- The fault that is told of several answers, and the lists of answers that are none.
-use Rattle.std.specs.Prelude.{◌≡◌, ℕ, suc, ◌<◌, ◌≤◌, ◌⊎◌, nat_le, min, Bool, true, false, Option, Some, None, List, [], ◌∷◌, ◌++◌, map, flat_map, fold, length, Result, Ok, Err, IsOk, IfOk, All, refl}
+use Rattle.std.specs.Prelude.{◌≡◌, ℕ, suc, ◌<◌, ◌≤◌, ◌⊎◌, nat_le, min, Bool, true, false, Option, Some, None, List, [], ◌∷◌, ◌++◌, map, flat_map, fold, length, Ok, Err, IsOk, IfOk, All, refl}
 use Rattle.std.proofs.Common.{◌∙◌, sym, ap, subst, arith, get_or, inl, inr}
 use Rattle.std.proofs.lemmas.Bool.{cases_lt}
 use Rattle.std.proofs.lemmas.Bool.Decides.{nat_tests}
@@ -8,10 +8,8 @@ use Rattle.std.proofs.lemmas.List.Elements.{All-nil, All-cons}
 use Rattle.edge_stream.specs.Listing.{EdgeListView, cells_of}
 use Rattle.edge_stream.specs.declared.saved.StepFault.{StepFault}
 use Rattle.edge_stream.specs.declared.saved.StepFault.TheVariants.{Overflow, Memory}
+use Rattle.shard_apply.specs.Rounds.{Answer}
 use Rattle.shard_apply.specs.Stepping.{edges_answered, first_list, is_fine_before, IsLeastOverflow, fault_of, worse_of, worst_of}
-
-abbrev Answer : Type 0
-Answer = Result EdgeListView StepFault
 
 abbrev step : Option StepFault → Answer → Option StepFault
 step worst answer = worse_of worst (fault_of answer)

@@ -1,5 +1,5 @@
 -- What holds of every operator holds of several side by side.
-use Rattle.std.specs.Prelude.{◌≡◌, ℕ, zero, suc, ◌<◌, ◌≤◌, true, List, [], ◌∷◌, ◌++◌, map, take, length, refl}
+use Rattle.std.specs.Prelude.{◌≡◌, ℕ, zero, suc, ◌<◌, ◌≤◌, true, List, [], ◌∷◌, map, take, length, refl}
 use Rattle.std.proofs.Common.{◌∙◌, sym, ap, subst, arith, get_or, add-one}
 use Rattle.std.proofs.lemmas.List.{length-map, take_more, take_all}
 use Rattle.std.proofs.lemmas.List.Elements.{All-nil, All-append}
@@ -10,6 +10,7 @@ use Rattle.tw_rows.specs.declared.edge.Edge.{Edge}
 use Rattle.tw_rows.proofs.Bags.{SameBag-refl, total-append}
 use Rattle.key_nodes.specs.Shards.{over_shards}
 use Rattle.edge_stream.specs.Shards.{shard_of, edges_in_shard}
+use Rattle.node_laws.proofs.Keys.{over_none}
 use Rattle.plan_model.specs.Meaning.{node_events}
 use Rattle.plan_model.specs.declared.node.Node.{Node}
 use Rattle.plan_model.specs.declared.node.Node.TheVariants.{Top, Follow}
@@ -25,10 +26,6 @@ use Rattle.shard_laws.proofs.Held.{held_together}
 use Rattle.shard_apply.specs.Whole.{Whole, first_of, standing_in, entries_in, AreInStep, AreNew, ShardsKeep}
 use Rattle.shard_apply.proofs.Faults.{with_item}
 use Rattle.shard_apply.proofs.WholeSteps.{shard_low, stands_as, first_as}
-
-over_none : {X : Type 0} (n : ℕ) → over_shards {X = X} (λ s. []) n ≡ []
-over_none zero = refl
-over_none {X} (suc n) = ap (λ l. l ++ []) (over_none {X = X} n)
 
 placed_over : (texts : List (List ℕ)) (n : ℕ) (outs : ℕ → List Edge) → ((s : ℕ) → s < n → EdgesArePlaced texts (outs s)) → EdgesArePlaced texts (over_shards outs n)
 placed_over texts zero outs each = All-nil (λ e. ArePlaced texts e.cells)

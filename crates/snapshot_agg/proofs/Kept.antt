@@ -183,7 +183,7 @@ pub record At (ss : List State) (bs : List Agg) (i : ℕ) (s : State) (rows : Li
   pub more : take (suc i) bs ≡ take i bs ++ agg ∷ []
   pub there : (p : Agg → Bool) → p agg ≡ true → list_any p bs ≡ true
 
-or_last : (a b : Bool) → b ≡ true → (a || b) ≡ true
+pub or_last : (a b : Bool) → b ≡ true → (a || b) ≡ true
 or_last true b e = refl
 or_last false b e = e
 

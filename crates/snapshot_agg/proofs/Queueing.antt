@@ -12,7 +12,7 @@ use Rattle.sweep_laws.specs.Sweeps.{SyncsRise}
 use Rattle.sweep_sides.specs.Waiting.{queued, AreTimed}
 use Rattle.snapshot_agg.specs.Waiting.{own_pending}
 use Rattle.sweep_laws.proofs.Sides.{rise_drop}
-use Rattle.snapshot_agg.proofs.Lists.{total_more}
+use Rattle.tw_rows.proofs.Fronts.{total_more}
 use Rattle.snapshot_agg.proofs.PuttingOff.{total-put_pending, pushed, own_test, from_test, below_later, Popped}
 
 -- ONE EDGE MORE

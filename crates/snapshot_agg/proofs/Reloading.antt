@@ -43,7 +43,7 @@ use Rattle.sweep_sides.specs.Sides.{IsSide}
 use Rattle.snapshot_agg.specs.Operating.{group_row}
 use Rattle.snapshot_agg.specs.Saving.{later_run, run_among, GroupSound, GroupResumes}
 use Rattle.snapshot_agg.proofs.Answering.{some_is}
-use Rattle.snapshot_agg.proofs.Lists.{total_more}
+use Rattle.tw_rows.proofs.Fronts.{total_more}
 use Rattle.snapshot_agg.proofs.Totaling.{tell_is_group, bad_by_key, of_key}
 
 -- THE SAME IN ANOTHER ORDER

@@ -1,5 +1,6 @@
 -- The keys that an instant touches, and the passes over them.
 use Rattle.std.specs.Prelude.{◌≡◌, ℕ, zero, suc, ◌+◌, ◌<◌, ◌||◌, Bool, true, false, Option, List, [], ◌∷◌, ◌++◌, map, length, get_or, take, refl}
+use Rattle.snapshot_agg.proofs.Kept.{or_last}
 use Rattle.std.specs.List.{list_any}
 use Rattle.std.proofs.Common.{sym, ◌∙◌, ap, arith}
 use Rattle.std.proofs.lemmas.List.{take_more}
@@ -15,10 +16,6 @@ use Rattle.snapshot_agg.specs.Touching.{edge_of_key, EndsOfKeys, StartsOfKeys}
 or_none : (b : Bool) → (b || false) ≡ b
 or_none true = refl
 or_none false = refl
-
-or_last : (a b : Bool) → b ≡ true → (a || b) ≡ true
-or_last true b e = refl
-or_last false b e = e
 
 or_shift : (a b c : Bool) → (a || (b || c)) ≡ ((a || b) || c)
 or_shift true b c = refl

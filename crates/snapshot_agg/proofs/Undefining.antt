@@ -9,16 +9,13 @@ use Rattle.node_laws.specs.Keeping.{plain_cells}
 use Rattle.plan_laws.specs.Undefined.{first_below, or_next}
 use Rattle.plan_model.specs.declared.agg.Agg.{Agg}
 use Rattle.plan_model.specs.RowOps.{rows_of_key_in, is_undefined_group_in, is_undefined_in}
+use Rattle.snapshot_agg.proofs.Kept.{or_last}
 use Rattle.snapshot_agg.specs.Words.{key_data, bad}
 use Rattle.snapshot_agg.proofs.Totaling.{none_undefined}
 
 none_any : {X : Type 0} (p : X → Bool) (xs : List X) → ((x : X) → p x ≡ false) → list_any p xs ≡ false
 none_any p [] h = refl
 none_any p (x ∷ xs) h = ap (λ b. b || list_any p xs) (h x) ∙ none_any p xs h
-
-or_last : (a b : Bool) → b ≡ true → (a || b) ≡ true
-or_last true b e = refl
-or_last false b e = e
 
 module _ (key : List ℕ) (aggs : List Agg) where
   pub all_defined : (rows : List (List Datum)) → ((k : List Datum) → bad key aggs k rows ≡ false) → is_undefined_in plain_cells key aggs rows ≡ false

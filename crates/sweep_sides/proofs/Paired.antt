@@ -2,7 +2,7 @@
 use Rattle.std.specs.Prelude.{◌≡◌, ℕ, zero, suc, ◌+◌, ◌<◌, nat_eq, Bool, true, false, cond, List, [], ◌∷◌, ◌++◌, map, length, get_or, take, refl}
 use Rattle.std.specs.List.{list_any}
 use Rattle.std.proofs.Common.{sym, ◌∙◌, ap, arith, append_assoc}
-use Rattle.std.proofs.lemmas.List.{append-nil, map-append}
+use Rattle.std.proofs.lemmas.List.{append-nil, map-append, get_or_default}
 use Rattle.plan_model.specs.Keys.{outside_from, outside_key, paired_row}
 
 -- the columns that stand in no key, one more of them
@@ -31,15 +31,10 @@ pair_next {X} key left right row row2 i x low is before pushed =
     ∙ ap (λ (l : List X). left ++ l) (ap (λ n. outside_from 0 key (take i right) ++ cond (list_any (nat_eq n) key) [] (x ∷ [])) (sym z)
     ∙ (sym (outside_next 0 key right i x low is) ∙ ap (λ n. outside_from 0 key (take n right)) o))))
 
-get_or_any : {X : Type 0} (xs : List X) (i : ℕ) (d e : X) → i < length xs → get_or xs i d ≡ get_or xs i e
-get_or_any [] i d e low = absurd (omega (arith, low))
-get_or_any (x ∷ xs) zero d e low = refl
-get_or_any (x ∷ xs) (suc i) d e low = get_or_any xs i d e (omega (arith, low))
-
 pub pair_next_at : {X : Type 0} (key : List ℕ) (left right row row2 : List X) (i : ℕ) (d : X) → i < length right → row ≡ left ++ outside_from 0 key (take i right) →
     row2 ≡ row ++ cond (list_any (nat_eq i) key) [] (get_or right i d ∷ []) → row2 ≡ left ++ outside_from 0 key (take (i + 1) right)
 pair_next_at key left right row row2 i d low before pushed =
-    pair_next key left right row row2 i (get_or right i d) low (get_or_any right i d (get_or right i d) low) before pushed
+    pair_next key left right row row2 i (get_or right i d) low (get_or_default right i d (get_or right i d) low) before pushed
 
 pub same_if_among : {X : Type 0} (b : Bool) (row : List X) (x : X) → b ≡ true → row ≡ row ++ cond b [] (x ∷ [])
 same_if_among b row x h = sym (append-nil row) ∙ ap (λ c. row ++ cond c [] (x ∷ [])) (sym h)

@@ -10,7 +10,7 @@ use Rattle.sweep_laws.proofs.Passing.{starts_more}
 use Rattle.snapshot_agg.specs.Words.{tell}
 use Rattle.snapshot_agg.specs.Touching.{edge_of_key}
 use Rattle.snapshot_agg.specs.Totaled.{run_of, Reruns}
-use Rattle.snapshot_agg.proofs.Lists.{take_past}
+use Rattle.std.proofs.lemmas.List.{take_all}
 use Rattle.snapshot_agg.proofs.Totaling.{keys_tell}
 use Rattle.snapshot_agg.proofs.Touching.{key_there, few_edges, edge_at}
 use Rattle.snapshot_agg.proofs.passes.emit_starts.Goals as goal
@@ -42,4 +42,4 @@ returns-clause-told c =
     let n = few_edges c.args.keys.now in
     subst (λ l. StartsTold (λ k. k) same_cells c.args.t l (λ k. tell g.key.items g.aggs.items k (bare g.rows.rows))
     (run_of c.args.running.now) (run_of c.loop-key.running) c.args.answer.now.items c.loop-key.answer.items)
-    (take_past es c.loop-key.key-index (let z = c.loop-key-test.false in omega (arith, n, z))) c.loop-key.invariant.told
+    (take_all c.loop-key.key-index es (let z = c.loop-key-test.false in omega (arith, n, z))) c.loop-key.invariant.told

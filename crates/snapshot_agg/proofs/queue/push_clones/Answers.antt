@@ -1,6 +1,6 @@
 use Rattle.std.specs.Prelude.{◌≡◌, ◌++◌}
 use Rattle.std.proofs.Common.{◌∙◌, ap, arith, rules}
-use Rattle.snapshot_agg.proofs.Lists.{take_past}
+use Rattle.std.proofs.lemmas.List.{take_all}
 use Rattle.snapshot_agg.proofs.Queueing.{one_copied}
 use Rattle.snapshot_agg.proofs.queue.push_clones.Goals as goal
 
@@ -20,4 +20,4 @@ returns c =
     let e = c.len-i-end.ensures in
     let t = c.loop-i-test.false in
     let k = q.ok in
-    c.loop-i.invariant ∙ ap (λ l. c.args.copy.now.items ++ l) (take_past q.items c.loop-i.i (omega (arith, e, t, k)))
+    c.loop-i.invariant ∙ ap (λ l. c.args.copy.now.items ++ l) (take_all c.loop-i.i q.items (omega (arith, e, t, k)))

@@ -2,7 +2,7 @@ use Rattle.std.specs.Prelude.{◌++◌, ◌∷◌, [], map}
 use Rattle.std.proofs.Common.{◌∙◌, ap, arith}
 use Rattle.sweep_laws.specs.Moves.{start_of}
 use Rattle.snapshot_agg.proofs.Lined.{start_more}
-use Rattle.snapshot_agg.proofs.Lists.{take_past}
+use Rattle.std.proofs.lemmas.List.{take_all}
 use Rattle.snapshot_agg.proofs.saving.push_line.Goals as goal
 
 pub loop-i-preserved : goal.loop-i-preserved
@@ -20,4 +20,4 @@ returns c =
     let e = c.len-i-end.ensures in
     let t = c.loop-i-test.false in
     let k = q.ok in
-    c.loop-i.invariant ∙ ap (λ l. c.args.starts.now.items ++ map start_of l) (take_past q.items c.loop-i.i (omega (arith, e, t, k)))
+    c.loop-i.invariant ∙ ap (λ l. c.args.starts.now.items ++ map start_of l) (take_all c.loop-i.i q.items (omega (arith, e, t, k)))
