@@ -1,6 +1,6 @@
 -- A line is read exactly where it is what is written of what is read.
 use Rattle.std.proofs.Common.{◌≡◌, ◌<◌, ◌≤◌, ◌+◌, ◌^◌, ℕ, zero, suc, List, [], ◌∷◌, ◌++◌, map, take, drop, Bool, true, false, cond, Option, Some, None, refl, sym, ◌∙◌, ap, subst, arith, inl, inr, length, get_or}
-use Rattle.std.specs.Prelude.{◌↔◌, ◌≢◌, ◌==◌, ◌&&◌, ◌||◌, not, codes, decimal}
+use Rattle.std.specs.Prelude.{◌↔◌, ◌≢◌, ◌==◌, ◌&&◌, not, codes, decimal}
 use Rattle.std.proofs.lemmas.Bool.Decides.{eqb_tells}
 use Rattle.std.proofs.lemmas.List.Folds.{list_any_none}
 use Rattle.std.specs.List.{list_any}
@@ -14,6 +14,7 @@ use Rattle.line_text.specs.Fields.{time_text}
 use Rattle.row_reader.specs.Number.{number_of, same_text}
 use Rattle.row_reader.specs.Fields.{commas}
 use Rattle.row_reader.specs.Values.{both}
+use Rattle.row_reader.proofs.Commas.{NoComma}
 use Rattle.row_reader.proofs.Records.{other}
 use Rattle.row_reader.proofs.Numbers.{number_of-spelled, number_of-is, same_text-Decides}
 use Rattle.frozen_state.specs.declared.owner.Owner.{Owner}
@@ -21,7 +22,7 @@ use Rattle.checkpoint_lines.specs.declared.owner.EntryPart.{EntryPart}
 use Rattle.checkpoint_lines.specs.declared.entry.EntryLine.{EntryLine}
 use Rattle.checkpoint_lines.specs.Lines.{line_of, time_line, bound_line, text_line, owner_text, datum_text, entry_fields, line_of_entry, part_of_entry, IsTimes, IsBound, IsText, IsOwner, IsEntry}
 use Rattle.checkpoint_lines.specs.Reading.{is_break, instant_of, pair_of, time_of, bound_of, text_of, owner_of, all_three, part_of, times_of, cells_of, all_parts, entry_by, entry_of}
-use Rattle.checkpoint_lines.proofs.Commas.{IsBare, bare_word, commas-line, line-commas}
+use Rattle.checkpoint_lines.proofs.Commas.{neither, bare_word, commas-line, line-commas}
 use Rattle.checkpoint_lines.proofs.Spelling.{number_back, decimal_bare, time_bare, instant_back, instant_is, owner_back, owner_is, owner_bare, cells_back, cells_bare, cells_are}
 
 both_are : (o p : Option ℕ) (x : ℕ × ℕ) → both o p ≡ Some x → (o ≡ Some x.0) × (p ≡ Some x.1)
@@ -51,7 +52,7 @@ pair_is word first (w ∷ a ∷ []) x h = absurd (cc)
 pair_is word first (w ∷ a ∷ b ∷ []) x h = pair_by word w a b first (same_text w word) x refl h
 pair_is word first (w ∷ a ∷ b ∷ c ∷ fs) x h = absurd (cc)
 
-pair_back : (word a b : List ℕ) (first : List ℕ → Option ℕ) (n p : ℕ) → IsBare word → IsBare a → IsBare b → first a ≡ Some n → instant_of b ≡ Some p →
+pair_back : (word a b : List ℕ) (first : List ℕ → Option ℕ) (n p : ℕ) → NoComma word → NoComma a → NoComma b → first a ≡ Some n → instant_of b ≡ Some p →
     pair_of word first (commas (line_of word (a ∷ b ∷ []))) ≡ Some (n, p)
 pair_back word a b first n p bare bare_a bare_b one two =
     let same : same_text word word ≡ true = (same_text-Decides word word).1 refl in
@@ -81,10 +82,6 @@ bound_both line n p = (
 )
 
 -- TEXTS
-neither : (x y : Bool) → (x || y) ≡ false → (x ≡ false) × (y ≡ false)
-neither true y h = absurd (cc)
-neither false y h = (refl, h)
-
 none_at : (xs : List ℕ) → list_any is_break xs ≡ false → (n d : ℕ) → n < length xs → is_break (get_or xs n d) ≡ false
 none_at [] h n d low = absurd (omega (arith, low))
 none_at (x ∷ xs) h zero d low = (neither (is_break x) (list_any is_break xs) h).0

@@ -1,5 +1,5 @@
 -- A line and its fields.
-use Rattle.std.proofs.Common.{◌≡◌, ℕ, List, [], ◌∷◌, ◌++◌, Bool, true, false, refl, sym, ◌∙◌, ap, inl, inr}
+use Rattle.std.proofs.Common.{◌≡◌, ℕ, List, [], ◌∷◌, Bool, true, false, refl, sym, ◌∙◌, ap, inl, inr}
 use Rattle.std.specs.Prelude.{◌==◌, ◌||◌}
 use Rattle.std.specs.List.{list_any}
 use Rattle.std.proofs.lemmas.List.{append-nil}
@@ -7,48 +7,35 @@ use Rattle.std.proofs.lemmas.Bool.Decides.{eqb_tells}
 use Rattle.csv.specs.Writing.{default_writer, needs_byte}
 use Rattle.line_text.proofs.Plain.{IsPlain}
 use Rattle.row_reader.specs.Fields.{commas, before_first}
+use Rattle.row_reader.proofs.Commas.{NoComma, commas-bare, commas-more}
 use Rattle.checkpoint_lines.specs.Lines.{line_of}
 
--- no byte is a comma
-abbrev pub IsBare : List ℕ → Type 0
-IsBare [] = Unit {0}
-IsBare (b ∷ bs) = ((b == 44) ≡ false) × IsBare bs
-
+-- no byte of them is a comma
 abbrev pub AreBare : List (List ℕ) → Type 0
 AreBare [] = Unit {0}
-AreBare (f ∷ fs) = IsBare f × AreBare fs
+AreBare (f ∷ fs) = NoComma f × AreBare fs
 
-neither : (x y : Bool) → (x || y) ≡ false → (x ≡ false) × (y ≡ false)
+pub neither : (x y : Bool) → (x || y) ≡ false → (x ≡ false) × (y ≡ false)
 neither true y h = absurd (cc)
 neither false y h = (refl, h)
 
 -- a word
-pub bare_word : (xs : List ℕ) → list_any (λ b. b == 44) xs ≡ false → IsBare xs
+pub bare_word : (xs : List ℕ) → list_any (λ b. b == 44) xs ≡ false → NoComma xs
 bare_word [] h = tt
 bare_word (b ∷ bs) h = let n = neither (b == 44) (list_any (λ b. b == 44) bs) h in (n.0, bare_word bs n.1)
 
 comma_needs : (b : ℕ) → (b == 44) ≡ true → needs_byte default_writer b ≡ true
 comma_needs b h = rw h refl
 
-pub plain_bare : (xs : List ℕ) → IsPlain xs → IsBare xs
+pub plain_bare : (xs : List ℕ) → IsPlain xs → NoComma xs
 plain_bare [] h = tt
 plain_bare (b ∷ bs) h = let n = neither (needs_byte default_writer b) (list_any (needs_byte default_writer) bs) h in elim (eqb_tells b 44) [
   | inl t ↦ absurd (let e = comma_needs b t.0 in let f = n.0 in cc)
   | inr t ↦ (t.0, plain_bare bs n.1)
 ]
 
-commas-bare : (xs : List ℕ) → IsBare xs → commas xs ≡ xs ∷ []
-unfolding commas
-commas-bare [] h = refl
-commas-bare (x ∷ xs) h = rw (h.0, commas-bare xs h.1) refl
-
-commas-more : (xs rest : List ℕ) → IsBare xs → commas (xs ++ 44 ∷ rest) ≡ xs ∷ commas rest
-unfolding commas
-commas-more [] rest h = refl
-commas-more (x ∷ xs) rest h = rw (h.0, commas-more xs rest h.1) refl
-
 -- the fields of a line
-pub commas-line : (w : List ℕ) (fs : List (List ℕ)) → IsBare w → AreBare fs → commas (line_of w fs) ≡ w ∷ fs
+pub commas-line : (w : List ℕ) (fs : List (List ℕ)) → NoComma w → AreBare fs → commas (line_of w fs) ≡ w ∷ fs
 commas-line w [] h hs = ap commas (append-nil w) ∙ commas-bare w h
 commas-line w (g ∷ gs) h hs = commas-more w (line_of g gs) h ∙ ap (λ (l : List (List ℕ)). w ∷ l) (commas-line g gs hs.0 hs.1)
 

@@ -22,16 +22,17 @@ use Rattle.frozen_state.specs.declared.owner.Owner.{Owner}
 use Rattle.frozen_state.specs.declared.owner.Owner.TheVariants.{In, Node, Out}
 use Rattle.checkpoint_lines.specs.Lines.{owner_text, datum_text, IsOwner, IsCell, AreCells}
 use Rattle.checkpoint_lines.specs.Reading.{instant_of, owner_of, flag_of, datum_of, before, cells_of}
-use Rattle.checkpoint_lines.proofs.Commas.{IsBare, AreBare, bare_word, plain_bare}
+use Rattle.row_reader.proofs.Commas.{NoComma}
+use Rattle.checkpoint_lines.proofs.Commas.{AreBare, bare_word, plain_bare}
 
 -- NUMBERS
 pub number_back : (n : ℕ) → n < 2 ^ 64 → number_of (2 ^ 64) (decimal n) ≡ Some n
 number_back n h = number_of-spelled (2 ^ 64) n (decimal n) h (omega arith) refl
 
-pub decimal_bare : (n : ℕ) → n < 2 ^ 64 → IsBare (decimal n)
+pub decimal_bare : (n : ℕ) → n < 2 ^ 64 → NoComma (decimal n)
 decimal_bare n h = plain_bare _ (decimal_plain n h)
 
-pub time_bare : (t : ℕ) → IsBare (time_text t)
+pub time_bare : (t : ℕ) → NoComma (time_text t)
 time_bare t = plain_bare _ (time_plain t)
 
 -- no number is spelled as a word that has no digit
@@ -91,7 +92,7 @@ pub owner_is : (text : List ℕ) (o : Owner) → owner_of text ≡ Some o → Is
 unfolding owner_of
 owner_is text o h = owner_is_by text (same_text text (codes "in")) (same_text text (codes "out")) refl refl o h
 
-pub owner_bare : (o : Owner) → IsOwner o → IsBare (owner_text o)
+pub owner_bare : (o : Owner) → IsOwner o → NoComma (owner_text o)
 owner_bare In h = bare_word (codes "in") refl
 owner_bare (Node n) h = decimal_bare n h
 owner_bare Out h = bare_word (codes "out") refl
@@ -120,7 +121,7 @@ small_fits : (x : ℤ) → fits_i64 x ≡ true → IsSmall x
 small_fits (pos n) h = let low : n < 2 ^ 63 = (Decides-ltb n (2 ^ 63)).0 h in omega (arith, low)
 small_fits (negsuc n) h = let low : n < 2 ^ 63 = (Decides-ltb n (2 ^ 63)).0 h in omega (arith, low)
 
-datum_bare : (k : CellKind) (d : Datum) → IsCell k d → IsBare (datum_text d)
+datum_bare : (k : CellKind) (d : Datum) → IsCell k d → NoComma (datum_text d)
 datum_bare Whole (Int x) h = plain_bare (number_text 0 x) (number_plain 0 x (small_fits x h))
 datum_bare Whole (Flag b) h = absurd h
 datum_bare Whole (Text p) h = absurd h

@@ -163,9 +163,6 @@ swept_none texts kinds since waiting text closed none empty = record {
   reached = subst (λ l. Reached (alive (read_events texts (of []))) kinds 0 0 since l) (sym empty) (reached_first (alive (read_events texts (of []))) kinds 0 since closed);
 }
 
-pub no_history : IsHistory []
-no_history = record { order = tt; real = refl; paired = λ cells start. omega arith }
-
 -- through a longer table the same is read
 pub holds_longer : (new old : List (List ℕ)) → BeginsWith new old → (h : List Edge) (a c : ℕ) (o : Egress) → EdgesArePlaced old h → Holds old h a c o → Holds new h a c o
 holds_longer new old begins h a c o placed s = record {

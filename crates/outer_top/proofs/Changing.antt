@@ -1,6 +1,7 @@
 -- A row that comes or goes, and rows that are settled.
 use Rattle.std.specs.Prelude.{◌≡◌, ◌⊎◌, ℕ, ◌+◌, ◌<◌, ◌≤◌, ◌&&◌, ◌||◌, nat_eq, nat_lt, nat_le, Bool, true, false, cond, List, [], ◌∷◌, length, refl}
 use Rattle.std.proofs.Common.{◌∙◌, ap, arith, inl, inr}
+use Rattle.std.proofs.lemmas.Bool.{and_parts}
 use Rattle.std.proofs.lemmas.Bool.Decides.{nat_tests}
 use Rattle.tw_rows.specs.Bag.{total}
 use Rattle.tw_rows.specs.declared.cells.Datum.{Datum}
@@ -144,14 +145,10 @@ settled_is most r few enough =
     last true n h = refl
     last false n h = grind (arith, nat_tests)
 
-parts : (a b : Bool) → (a && b) ≡ true → (a ≡ true) × (b ≡ true)
-parts true b h = (refl, h)
-parts false b h = absurd (cc)
-
 pub settled_few : (most : ℕ) (r : Ranked) → is_settled most r ≡ true → AreFew most r.shown.entries × AreEnough most r.shown.entries r.hidden.entries
 settled_few most r h =
-    let p = parts (nat_lt (length (rows_in (but_first r.shown.entries))) most) _ h in
-    let q = parts (first_is_least r.shown.entries) _ p.1 in
+    let p = and_parts (nat_lt (length (rows_in (but_first r.shown.entries))) most) _ h in
+    let q = and_parts (first_is_least r.shown.entries) _ p.1 in
     (record { few = low (length (rows_in (but_first r.shown.entries))) p.0; least = least r.shown.entries q.0 }, enough r.hidden.entries (length (rows_in r.shown.entries)) q.1)
   where
     low : (n : ℕ) → nat_lt n most ≡ true → n < most

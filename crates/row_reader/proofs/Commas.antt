@@ -12,20 +12,24 @@ use Rattle.row_reader.specs.declared.quotes.Place.TheVariants.{Start, Plain}
 use Rattle.row_reader.proofs.Records.{other}
 use Rattle.row_reader.proofs.Spelling.{even_quotes_spell, fields_are_read}
 
--- a byte that is no comma stands before the first of the parts
-commas-other : (b : ℕ) (bs : List ℕ) → b ≢ 44 → commas (b ∷ bs) ≡ before_first b (commas bs)
-unfolding commas
-commas-other b bs h = rw (other b 44 h) refl
+-- no byte is a comma
+abbrev pub NoComma : List ℕ → Type 0
+NoComma [] = Unit {0}
+NoComma (b ∷ bs) = ((b == 44) ≡ false) × NoComma bs
 
-commas-bare : (xs : List ℕ) → IsBare xs → commas xs ≡ xs ∷ []
+pub commas-bare : (xs : List ℕ) → NoComma xs → commas xs ≡ xs ∷ []
 unfolding commas
 commas-bare [] h = refl
-commas-bare (x ∷ xs) h = commas-other x xs h.1 ∙ ap (before_first x) (commas-bare xs h.2)
+commas-bare (x ∷ xs) h = rw (h.0, commas-bare xs h.1) refl
 
-commas-more : (xs rest : List ℕ) → IsBare xs → commas (xs ++ 44 ∷ rest) ≡ xs ∷ commas rest
+pub commas-more : (xs rest : List ℕ) → NoComma xs → commas (xs ++ 44 ∷ rest) ≡ xs ∷ commas rest
 unfolding commas
 commas-more [] rest h = refl
-commas-more (x ∷ xs) rest h = commas-other x (xs ++ 44 ∷ rest) h.1 ∙ ap (before_first x) (commas-more xs rest h.2)
+commas-more (x ∷ xs) rest h = rw (h.0, commas-more xs rest h.1) refl
+
+bare_none : (xs : List ℕ) → IsBare xs → NoComma xs
+bare_none [] h = tt
+bare_none (x ∷ xs) h = (other x 44 h.1, bare_none xs h.2)
 
 abbrev NoQuote : List ℕ → Type 0
 NoQuote [] = Unit {0}
@@ -51,11 +55,11 @@ bare_field (b ∷ bs) f n (inr h) = absurd (n.0 (ap (λ (l : List ℕ). first l)
 -- fields that are spelled without quotes are the parts between the commas
 parts : (fields : List (List ℕ)) (line : List ℕ) → NoQuote line → SpellsFields line fields → commas line ≡ fields
 parts [] line n h = absurd h
-parts (f ∷ []) line n h = let b = bare_field line f n h in ap commas b.0 ∙ commas-bare f b.1
+parts (f ∷ []) line n h = let b = bare_field line f n h in ap commas b.0 ∙ commas-bare f (bare_none f b.1)
 parts (f ∷ g ∷ gs) line n h =
     let s = NoQuote-split h.0 (44 ∷ h.1) (subst NoQuote h.2 n) in
     let b = bare_field h.0 f s.0 h.3 in
-    ap commas h.2 ∙ ap (λ (t : List ℕ). commas (t ++ 44 ∷ h.1)) b.0 ∙ commas-more f h.1 b.1 ∙ ap (λ (l : List (List ℕ)). f ∷ l) (parts (g ∷ gs) h.1 s.1.1 h.4)
+    ap commas h.2 ∙ ap (λ (t : List ℕ). commas (t ++ 44 ∷ h.1)) b.0 ∙ commas-more f h.1 (bare_none f b.1) ∙ ap (λ (l : List (List ℕ)). f ∷ l) (parts (g ∷ gs) h.1 s.1.1 h.4)
 
 -- without quotes no quotes are odd
 even_both : (xs : List ℕ) → NoQuote xs → (odd_from (Some Start) xs ≡ false) × (odd_from (Some Plain) xs ≡ false)

@@ -1,6 +1,7 @@
 -- One instant of a Session with its kept rows, and the time between two.
 use Rattle.std.specs.Prelude.{◌≡◌, ℕ, suc, ◌+◌, ◌*◌, ◌<◌, ◌≤◌, ◌&&◌, nat_eq, nat_le, nat_lt, not, Bool, true, false, cond, Option, Some, None, List, [], ◌∷◌, filter, map, refl}
 use Rattle.std.proofs.Common.{sym, ◌∙◌, ap, subst, arith}
+use Rattle.std.proofs.lemmas.Bool.{and_parts}
 use Rattle.std.proofs.lemmas.Bool.Decides.{nat_tests}
 use Rattle.tw_rows.specs.Bag.{SameBag, total}
 use Rattle.tw_rows.specs.Event.{AreEvents}
@@ -36,7 +37,7 @@ use Rattle.session_window.specs.Kept.{is_for, is_for_at, keeps_to, waits_from, A
 use Rattle.session_window.specs.Windows.{windows}
 use Rattle.session_window.specs.Holding.{SessionHeld}
 use Rattle.session_window.proofs.Members.{In, found, counted, uncounted, passes, all_pass, none_pass}
-use Rattle.session_window.proofs.Keys.{cells_tell, same_turned, of_own_key, key_is, parts, equal, same_number, last_there, last_late, last_if}
+use Rattle.session_window.proofs.Keys.{cells_tell, same_turned, of_own_key, key_is, equal, same_number, last_there, last_late, last_if}
 
 at_most : (m n : ℕ) → nat_le m n ≡ true → m ≤ n
 at_most m n h = grind (arith, nat_tests)
@@ -73,7 +74,7 @@ module _ (columns : List ℕ) (timeout t : ℕ) (rows : List HeldRow) (ends : Li
 
       of_row : (n : ℕ) → t ≤ n → (r : HeldRow) × (keeps_to timeout columns k n r ≡ true) × In r rows → (r : HeldRow) × (is_of_key columns k r ≡ true) × (t ≤ later timeout r.start) × In r rows
       of_row n low x =
-          let p = parts (is_of_key columns k x.0) (nat_le n (later timeout x.0.start)) x.1 in
+          let p = and_parts (is_of_key columns k x.0) (nat_le n (later timeout x.0.start)) x.1 in
           let q = at_most n (later timeout x.0.start) p.1 in
           (x.0, p.0, omega (arith, low, q), x.2)
 
@@ -152,7 +153,7 @@ module _ (columns : List ℕ) (timeout t : ℕ) (a : List CellEvent) (now : List
           meets : l.0 + timeout ≡ t
           meets =
               let x = found (λ (x : HeldRow). is_of_key columns (key_of columns r.cells) x && nat_eq x.start l.0) e.ended some in
-              let y = equal x.0.start l.0 (parts (is_of_key columns (key_of columns r.cells) x.0) (nat_eq x.0.start l.0) x.1).1 in
+              let y = equal x.0.start l.0 (and_parts (is_of_key columns (key_of columns r.cells) x.0) (nat_eq x.0.start l.0) x.1).1 in
               let z = at_most (later timeout x.0.start) t (passes (λ (x : HeldRow). nat_le (later timeout x.start) t) x.0 e.ended x.2 e.due) in
               let g = (gap_at r l.0 l.1).1 in
               omega (arith, y, z, g, low)
@@ -309,7 +310,7 @@ module _ (columns : List ℕ) (timeout t : ℕ) (a : List CellEvent) (now : List
                   stays : IsLastStart u (filter (is_of_key columns k) rows2)
                   stays =
                       let x = found (λ (r : HeldRow). is_of_key columns k r && nat_eq r.start u) rows2 there in
-                      let p = parts (is_of_key columns k x.0) (nat_eq x.0.start u) x.1 in
+                      let p = and_parts (is_of_key columns k x.0) (nat_eq x.0.start u) x.1 in
                       last_if (is_of_key columns k) rows2 u x.0 x.2 p.0 (equal x.0.start u p.1) (λ y i q. low_enough y q (uncounted (λ (r : HeldRow). is_of_key columns k r && nat_lt u r.start) y rows2 i none_after))
                     where
                       low_enough : (y : HeldRow) → is_of_key columns k y ≡ true → (is_of_key columns k y && nat_lt u y.start) ≡ false → y.start ≤ u

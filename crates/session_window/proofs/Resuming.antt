@@ -2,6 +2,7 @@
 use Rattle.std.specs.Prelude.{◌≡◌, ℕ, zero, suc, ◌+◌, ◌<◌, ◌≤◌, ◌&&◌, nat_eq, nat_lt, nat_le, Bool, true, false, cond, Option, None, Some, List, [], ◌++◌, length, map, All, refl}
 use Rattle.std.specs.List.{list_all}
 use Rattle.std.proofs.Common.{sym, ◌∙◌, ap, subst, arith}
+use Rattle.std.proofs.lemmas.Bool.{and_parts}
 use Rattle.std.proofs.lemmas.Bool.Decides.{nat_tests}
 use Rattle.std.proofs.lemmas.List.{append-nil}
 use Rattle.tw_rows.specs.Bag.{SameBag, total}
@@ -43,7 +44,7 @@ use Rattle.session_window.specs.declared.side.SessionSide.{SessionSide}
 use Rattle.session_window.specs.Sides.{SideKeeps, SideFits, IsEmpty}
 use Rattle.session_window.specs.States.{SessionSound}
 use Rattle.session_window.proofs.Members.{In, found, counted, passes, all_pass}
-use Rattle.session_window.proofs.Keys.{same_turned, parts, last_there}
+use Rattle.session_window.proofs.Keys.{same_turned, last_there}
 use Rattle.session_window.proofs.Steps.{kept_none}
 use Rattle.session_window.specs.Operating.{session_node, session_row}
 use Rattle.session_window.proofs.Answering.{windows_are}
@@ -121,7 +122,7 @@ module _ (columns : List ℕ) (timeout : ℕ) where
 
       of_entry : (k : List Datum) (n : ℕ) → (p : Pending) × (is_for_at k n p ≡ true) × In p ends2 → 1 ≤ many (keeps_to timeout columns k n) rows2
       of_entry k n p =
-          let q = parts (same_cells p.0.edge.cells k) (nat_eq p.0.at n) p.1 in
+          let q = and_parts (same_cells p.0.edge.cells k) (nat_eq p.0.at n) p.1 in
           let e = equal p.0.at t (passes (is_placed_at t) p.0 ends2 p.2 placed) in
           let f = equal p.0.at n q.1 in
           let m = counted (is_for k) p.0 ends2 p.2 q.0 in

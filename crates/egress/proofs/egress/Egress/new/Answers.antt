@@ -6,7 +6,8 @@ use Rattle.row_queues.specs.Kept.{times_if}
 use Rattle.node_laws.specs.RowCells.{cells_of}
 use Rattle.egress.specs.Kept.{since_in}
 use Rattle.egress.specs.Waiting.{edges_if, items_if, waiting_in}
-use Rattle.egress.proofs.Taking.{swept_none, no_history}
+use Rattle.node_laws.proofs.Standing.{no_history}
+use Rattle.egress.proofs.Taking.{swept_none}
 use Rattle.egress.proofs.egress.Egress.new.Goals as goal
 
 pub returns-clause-holds : goal.returns-clause-holds
