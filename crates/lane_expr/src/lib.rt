@@ -6,6 +6,7 @@ mod compare;
 mod compile;
 mod hash;
 mod kernel;
+mod lane;
 mod laws;
 mod maps;
 mod registers;

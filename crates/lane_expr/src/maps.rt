@@ -1,17 +1,15 @@
 // The columns that kernels compute.
-ghost use Rattle.std.specs.Prelude.{◌≡◌, ◌+◌, ◌<◌, ◌≤◌, ℕ, [], pos, false, length, map, slice_index_or};
+ghost use Rattle.std.specs.Prelude.{◌≡◌, ◌+◌, ◌<◌, ◌≤◌, ℕ, [], length, map, slice_index_or};
 ghost use Rattle.plan_model.specs.Typed.{kind_of};
-ghost use Rattle.occupancy.specs.Bits.{test};
-ghost use Rattle.lanes.specs.Lanes.{number, place};
 ghost use Rattle.lane_expr.specs.Steps.{expr_of, step_kind, AreSteps, AreStepsPlaced};
 ghost use Rattle.lane_expr.specs.Registers.{AreFilled};
 ghost use Rattle.lane_expr.specs.Kernels.{result_kind, CanRead, HoldsPlaces, AreResults};
 
 use crate::block::run;
 use crate::kernel::Kernel;
+use crate::lane::Lane;
 use crate::registers::Register;
 use crate::step::Step;
-use crate::words::is_marked;
 use batch::Batch;
 use column_pool::{Bit, Column};
 use lanes::BLOCK;
@@ -30,7 +28,7 @@ impl Kernel {
         ensures room { out.new.capacity ≡ out.old.capacity }
         ensures same { self.new ≡ self.old }
     {
-        fill_ints(&mut self.registers, &self.steps, batch, texts, out);
+        fill(&mut self.registers, &self.steps, batch, texts, out);
     }
 
     /// The values of an expression of truth values.
@@ -43,7 +41,7 @@ impl Kernel {
         ensures room { out.new.capacity ≡ out.old.capacity }
         ensures same { self.new ≡ self.old }
     {
-        fill_bits(&mut self.registers, &self.steps, batch, texts, out);
+        fill(&mut self.registers, &self.steps, batch, texts, out);
     }
 
     /// The places of the values of an expression of texts.
@@ -56,27 +54,27 @@ impl Kernel {
         ensures room { out.new.capacity ≡ out.old.capacity }
         ensures same { self.new ≡ self.old }
     {
-        fill_places(&mut self.registers, &self.steps, batch, texts, out);
+        fill(&mut self.registers, &self.steps, batch, texts, out);
     }
 }
 
-// Adds the number of each row.
-fn fill_ints(
+// Adds the result of each row.
+fn fill<C: Lane>(
     registers: &mut [Register],
     steps: &[Step],
     batch: &Batch,
     texts: &TextTable,
-    out: &mut Column<i64>,
+    out: &mut Column<C>,
 )
     requires steps { AreSteps batch.now.kinds steps.now }
-    requires kind { kind_of (expr_of [] steps.now) batch.now.kinds ≡ CellKind.Whole }
+    requires kind { kind_of (expr_of [] steps.now) batch.now.kinds ≡ C.kind }
     requires kinds { map (λ r. r.kind) registers.old ≡ map (step_kind batch.now.kinds) steps.now }
     requires filled { AreFilled steps.now registers.old }
     requires placed { AreStepsPlaced texts.now steps.now }
     requires cells { HoldsPlaces texts.now batch.now.rows }
     requires empty { out.old.items ≡ [] }
     requires room { length batch.now.rows ≤ out.old.capacity }
-    ensures results { AreResults texts.now (expr_of texts.now steps.now) batch.now.rows (map Datum.Int out.new.items) }
+    ensures results { AreResults texts.now (expr_of texts.now steps.now) batch.now.rows (map C.datum out.new.items) }
     ensures room { out.new.capacity ≡ out.old.capacity }
     ensures kinds { map (λ r. r.kind) registers.new ≡ map (λ r. r.kind) registers.old }
     ensures filled { AreFilled steps.now registers.new }
@@ -84,7 +82,7 @@ fn fill_ints(
     let rows = batch.rows();
     for block in 0..rows.div_ceil(BLOCK) {
         run(registers, steps, batch, texts, block);
-        store_ints(
+        store(
             &registers[steps.len() - 1],
             (rows - BLOCK * block).min(BLOCK),
             out,
@@ -92,108 +90,18 @@ fn fill_ints(
     }
 }
 
-// Adds the truth value of each row.
-fn fill_bits(
-    registers: &mut [Register],
-    steps: &[Step],
-    batch: &Batch,
-    texts: &TextTable,
-    out: &mut Column<Bit>,
-)
-    requires steps { AreSteps batch.now.kinds steps.now }
-    requires kind { kind_of (expr_of [] steps.now) batch.now.kinds ≡ CellKind.Bit }
-    requires kinds { map (λ r. r.kind) registers.old ≡ map (step_kind batch.now.kinds) steps.now }
-    requires filled { AreFilled steps.now registers.old }
-    requires placed { AreStepsPlaced texts.now steps.now }
-    requires cells { HoldsPlaces texts.now batch.now.rows }
-    requires empty { out.old.items ≡ [] }
-    requires room { length batch.now.rows ≤ out.old.capacity }
-    ensures results { AreResults texts.now (expr_of texts.now steps.now) batch.now.rows (map Datum.Bool out.new.items) }
-    ensures room { out.new.capacity ≡ out.old.capacity }
-    ensures kinds { map (λ r. r.kind) registers.new ≡ map (λ r. r.kind) registers.old }
-    ensures filled { AreFilled steps.now registers.new }
-{
-    let rows = batch.rows();
-    for block in 0..rows.div_ceil(BLOCK) {
-        run(registers, steps, batch, texts, block);
-        store_bits(
-            &registers[steps.len() - 1],
-            (rows - BLOCK * block).min(BLOCK),
-            out,
-        );
-    }
-}
-
-// Adds the place of each row.
-fn fill_places(
-    registers: &mut [Register],
-    steps: &[Step],
-    batch: &Batch,
-    texts: &TextTable,
-    out: &mut Column<u64>,
-)
-    requires steps { AreSteps batch.now.kinds steps.now }
-    requires kind { kind_of (expr_of [] steps.now) batch.now.kinds ≡ CellKind.Place }
-    requires kinds { map (λ r. r.kind) registers.old ≡ map (step_kind batch.now.kinds) steps.now }
-    requires filled { AreFilled steps.now registers.old }
-    requires placed { AreStepsPlaced texts.now steps.now }
-    requires cells { HoldsPlaces texts.now batch.now.rows }
-    requires empty { out.old.items ≡ [] }
-    requires room { length batch.now.rows ≤ out.old.capacity }
-    ensures results { AreResults texts.now (expr_of texts.now steps.now) batch.now.rows (map Datum.Text out.new.items) }
-    ensures room { out.new.capacity ≡ out.old.capacity }
-    ensures kinds { map (λ r. r.kind) registers.new ≡ map (λ r. r.kind) registers.old }
-    ensures filled { AreFilled steps.now registers.new }
-{
-    let rows = batch.rows();
-    for block in 0..rows.div_ceil(BLOCK) {
-        run(registers, steps, batch, texts, block);
-        store_places(
-            &registers[steps.len() - 1],
-            (rows - BLOCK * block).min(BLOCK),
-            out,
-        );
-    }
-}
-
-// Adds the first `count` numbers of the register.
-fn store_ints(from: &Register, count: usize, out: &mut Column<i64>)
+// Adds the first `count` results of the register.
+fn store<C: Lane>(from: &Register, count: usize, out: &mut Column<C>)
     requires few { count ≤ 64 }
     requires room { length out.old.items + count ≤ out.old.capacity }
-    ensures before { (i : ℕ) → i < length out.old.items → slice_index_or out.new.items i (pos 0) ≡ slice_index_or out.old.items i (pos 0) }
+    ensures before { (i : ℕ) → i < length out.old.items →
+        slice_index_or out.new.items i C.blank ≡ slice_index_or out.old.items i C.blank }
     ensures long { length out.new.items ≡ length out.old.items + count }
-    ensures values { (j : ℕ) → j < count → slice_index_or out.new.items (length out.old.items + j) (pos 0) ≡ number from.now.numbers.lanes j }
+    ensures values { (j : ℕ) → j < count →
+        slice_index_or out.new.items (length out.old.items + j) C.blank ≡ C.cell_at from.now j }
     ensures room { out.new.capacity ≡ out.old.capacity }
 {
     for j in 0..count {
-        out.push(from.numbers.lanes[j]);
-    }
-}
-
-// Adds the first `count` truth values of the register.
-fn store_bits(from: &Register, count: usize, out: &mut Column<Bit>)
-    requires few { count ≤ 64 }
-    requires room { length out.old.items + count ≤ out.old.capacity }
-    ensures before { (i : ℕ) → i < length out.old.items → slice_index_or out.new.items i false ≡ slice_index_or out.old.items i false }
-    ensures long { length out.new.items ≡ length out.old.items + count }
-    ensures values { (j : ℕ) → j < count → slice_index_or out.new.items (length out.old.items + j) false ≡ test from.now.bits j }
-    ensures room { out.new.capacity ≡ out.old.capacity }
-{
-    for j in 0..count {
-        out.push(Bit::new(is_marked(from.bits, j)));
-    }
-}
-
-// Adds the first `count` places of the register.
-fn store_places(from: &Register, count: usize, out: &mut Column<u64>)
-    requires few { count ≤ 64 }
-    requires room { length out.old.items + count ≤ out.old.capacity }
-    ensures before { (i : ℕ) → i < length out.old.items → slice_index_or out.new.items i 0 ≡ slice_index_or out.old.items i 0 }
-    ensures long { length out.new.items ≡ length out.old.items + count }
-    ensures values { (j : ℕ) → j < count → slice_index_or out.new.items (length out.old.items + j) 0 ≡ place from.now.places.lanes j }
-    ensures room { out.new.capacity ≡ out.old.capacity }
-{
-    for j in 0..count {
-        out.push(from.places.lanes[j]);
+        out.push(C::cell(from, j));
     }
 }
