@@ -1,4 +1,4 @@
 -- Callers read all of these.
 pub mod Word
 pub mod Contents
-pub mod Stock
+pub mod PoolView

@@ -18,9 +18,9 @@ pub struct Pool<T: Cell> {
 }
 
 impl<T: Cell> Model for Pool<T> {
-    ghost use Rattle.column_pool.specs.Stock.{Stock};
+    ghost use Rattle.column_pool.specs.PoolView.{PoolView};
 
-    ghost Value = { Stock };
+    ghost Value = { PoolView };
 
     ghost use Rattle.std.specs.Prelude.{◌≡◌, ◌≤◌, [], All, vec_len, vec_capacity};
 

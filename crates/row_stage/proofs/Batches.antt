@@ -19,7 +19,7 @@ use Rattle.plan_model.specs.Typed.{kind_of}
 use Rattle.lane_expr.specs.Steps.{expr_of}
 use Rattle.lane_expr.specs.Kernels.{Program, CanRead, HoldsPlaces, result_kind, kind_for}
 use Rattle.lane_expr.proofs.Typing.{kind_of-texts}
-use Rattle.where_select.specs.Filters.{Sieve, filtered}
+use Rattle.where_select.specs.Filters.{FilterView, filtered}
 use Rattle.where_select.specs.Projects.{AreProjected, exprs_of, is_same_kind, many, Lacks}
 use Rattle.where_select.proofs.Edges.{edges-filtered, edges-projected}
 use Rattle.row_stage.specs.declared.row_stage.RowStage.{RowStage}
@@ -58,7 +58,7 @@ projected_placed texts exprs (r ∷ rs) (n ∷ ns) h = pick n.occupied (ap (λ q
     pick false o rest = rest
 
 -- a filter and its batch
-module _ (texts : List (List ℕ)) (capacity : ℕ) (kinds : List CellKind) (n : Node) (f : Sieve) (is : IsWhereOf texts capacity kinds n f) where
+module _ (texts : List (List ℕ)) (capacity : ℕ) (kinds : List CellKind) (n : Node) (f : FilterView) (is : IsWhereOf texts capacity kinds n f) where
   pub filter_reads : (batch : Table) → batch.kinds ≡ kinds → length batch.rows ≤ capacity → EdgesArePlaced texts (edges_of batch.rows) → CanRead texts f.test batch
   filter_reads batch alike within placed = record {
     kinds = alike ∙ sym is.filter.suited.alike;

@@ -10,7 +10,7 @@ use Rattle.plan_model.specs.IsPlan.{PlanParts, kinds_of_stream, kinds_at}
 use Rattle.plan_model.specs.Meaning.{left_of}
 use Rattle.lane_expr.specs.Steps.{AreStepsPlaced}
 use Rattle.lane_expr.specs.Kernels.{Program, IsKernelOf, kind_for}
-use Rattle.where_select.specs.Filters.{Sieve}
+use Rattle.where_select.specs.Filters.{FilterView}
 use Rattle.where_select.specs.Projects.{exprs_of}
 use Rattle.row_stage.specs.declared.row_stage.RowStage.{RowStage}
 use Rattle.row_stage.specs.declared.row_stage.RowStage.TheVariants.{Source as SourceStage, Where as WhereStage, Select as SelectStage}
@@ -33,7 +33,7 @@ pub record IsFor (capacity : ℕ) (kinds : List CellKind) (k : Program) : Type 0
   pub rows : k.capacity ≡ capacity
 
 -- the filter keeps the rows for which the test is true. The filter of `v > 10` keeps 20 of 5 and 20
-pub record IsFilterOf (texts : List (List ℕ)) (capacity : ℕ) (kinds : List CellKind) (test : List ExprNode) (f : Sieve) : Type 0 where
+pub record IsFilterOf (texts : List (List ℕ)) (capacity : ℕ) (kinds : List CellKind) (test : List ExprNode) (f : FilterView) : Type 0 where
   pub kernel : IsKernelOf texts test f.test
   pub suited : IsFor capacity kinds f.test
   pub room : f.capacity ≡ capacity
@@ -47,7 +47,7 @@ pub record IsProjectOf (texts : List (List ℕ)) (capacity : ℕ) (kinds : List 
 
 -- the node is a Where of the filter's test, and the node is a Select of the projection's items. The node `where v > 10` is
 -- a Where of the filter of `v > 10`
-pub record IsWhereOf (texts : List (List ℕ)) (capacity : ℕ) (kinds : List CellKind) (n : Node) (f : Sieve) : Type 0 where
+pub record IsWhereOf (texts : List (List ℕ)) (capacity : ℕ) (kinds : List CellKind) (n : Node) (f : FilterView) : Type 0 where
   pub child : ℕ
   pub test : List ExprNode
   pub is : n ≡ Where child test

@@ -7,7 +7,7 @@ use Rattle.batch.specs.Rows.{Row}
 use Rattle.lane_expr.specs.Kernels.{Program}
 
 -- the test, and how many rows a batch may have
-pub record Sieve : Type 0 where
+pub record FilterView : Type 0 where
   pub test : Program
   pub capacity : ℕ
 

@@ -23,9 +23,9 @@ impl Model for Filter {
     ghost use Rattle.std.specs.Prelude.{◌≡◌};
     ghost use Rattle.tw_rows.specs.declared.kind.CellKind.TheVariants.{Bit};
     ghost use Rattle.lane_expr.specs.Kernels.{result_kind};
-    ghost use Rattle.where_select.specs.Filters.{Sieve};
+    ghost use Rattle.where_select.specs.Filters.{FilterView};
 
-    ghost Value = { Sieve };
+    ghost Value = { FilterView };
 
     ghost view = { λ f. record { test = f.test; capacity = f.mask.capacity } };
 
