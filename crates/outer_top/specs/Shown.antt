@@ -7,7 +7,7 @@ use Rattle.tw_rows.specs.declared.edge.HeldRow.{HeldRow}
 use Rattle.edge_history.specs.Order.{failing}
 use Rattle.edge_history.specs.Opens.{bare, ended_of, started_of}
 use Rattle.sweep_laws.specs.Moves.{HoldsEnded}
-use Rattle.outer_top.specs.Ranks.{Group, rows_in, but_first, strays, IsOnlyRank}
+use Rattle.outer_top.specs.Ranks.{Group, rows_in, but_first, strays, AreRanked, IsOnlyRank}
 use Rattle.outer_top.specs.declared.ranked.Ranked.{Ranked}
 
 -- all rows of a key, those that are shown first
@@ -17,6 +17,15 @@ rows_of r = rows_in r.shown.entries ++ rows_in r.hidden.entries
 -- those that are shown, without their starts
 abbrev pub shown_of : Ranked → List (List Datum)
 shown_of r = bare (rows_in r.shown.entries)
+
+-- what all rows weigh together. Of two that are shown and one that is hidden, with 1 for each, it is 3
+abbrev pub weight_of : (HeldRow → ℕ) → Ranked → ℕ
+weight_of w r = total w (rows_in r.shown.entries) + total w (rows_in r.hidden.entries)
+
+-- rows that stand in the groups of their ranks stand so still, whatever rows have which ranks
+abbrev pub KeepsRanks : Ranked → Ranked → Type 0
+KeepsRanks old new = (rank_of : List Datum → ℕ → Bool) → AreRanked rank_of old.shown.entries → AreRanked rank_of old.hidden.entries →
+    AreRanked rank_of new.shown.entries × AreRanked rank_of new.hidden.entries
 
 -- how many rows are not in the group of their rank
 abbrev pub rank_strays : (List Datum → ℕ → Bool) → Ranked → ℕ

@@ -57,7 +57,7 @@ fn sum_of(a: usize, b: usize) -> Result<usize, Memory>
 impl Ranked {
     ghost use Rattle.std.specs.Prelude.{IsTrue};
     ghost use Rattle.carried_edges.specs.Entries.{entries_of};
-    ghost use Rattle.outer_top.specs.Shown.{rows_of, HasChanged, HasSettled, IsBare};
+    ghost use Rattle.outer_top.specs.Shown.{rows_of, shown_of, weight_of, KeepsRanks, HasChanged, HasSettled, IsBare};
     ghost use Rattle.sweep_laws.specs.Saving.{starts_of};
 
     /// No rows.
@@ -80,10 +80,9 @@ impl Ranked {
         row: HeldRow,
         won: &mut Vec<Cells>,
     ) -> Result<(), Memory>
-        ensures rows { OnOk result ((w : HeldRow → ℕ) → total w (rows_in self.new.shown.entries) + total w (rows_in self.new.hidden.entries)
-            ≡ total w (rows_in self.old.shown.entries) + total w (rows_in self.old.hidden.entries) + w row) }
-        ensures won { OnOk result ((w : List Datum → ℕ) → total w (bare (rows_in self.new.shown.entries)) + total w won.old.items
-            ≡ total w (bare (rows_in self.old.shown.entries)) + total w won.new.items) }
+        ensures rows { OnOk result ((w : HeldRow → ℕ) → weight_of w self.new ≡ weight_of w self.old + w row) }
+        ensures won { OnOk result ((w : List Datum → ℕ) → total w (shown_of self.new) + total w won.old.items
+            ≡ total w (shown_of self.old) + total w won.new.items) }
         ensures ranked { OnOk result ((rank_of : List Datum → ℕ → Bool) → rank_of row.cells rank
             ≡ true → AreRanked rank_of self.old.shown.entries →
             AreRanked rank_of self.old.hidden.entries →
@@ -109,14 +108,10 @@ impl Ranked {
         lost: &mut Vec<Cells>,
     ) -> Result<bool, Memory>
         ensures rows { IfOk result (λ there. there ≡ true → (w : HeldRow → ℕ) →
-            total w (rows_in self.old.shown.entries) + total w (rows_in self.old.hidden.entries)
-            ≡ total w (rows_in self.new.shown.entries) + total w (rows_in self.new.hidden.entries) + w
-            (record { cells = cells.now; start = start })) }
-        ensures lost { OnOk result ((w : List Datum → ℕ) → total w (bare (rows_in self.new.shown.entries)) + total w lost.new.items
-            ≡ total w (bare (rows_in self.old.shown.entries)) + total w lost.old.items) }
-        ensures ranked { OnOk result ((rank_of : List Datum → ℕ → Bool) →
-            AreRanked rank_of self.old.shown.entries → AreRanked rank_of self.old.hidden.entries →
-            AreRanked rank_of self.new.shown.entries × AreRanked rank_of self.new.hidden.entries) }
+            weight_of w self.old ≡ weight_of w self.new + w (record { cells = cells.now; start = start })) }
+        ensures lost { OnOk result ((w : List Datum → ℕ) → total w (shown_of self.new) + total w lost.new.items
+            ≡ total w (shown_of self.old) + total w lost.old.items) }
+        ensures ranked { OnOk result (KeepsRanks self.old self.new) }
         ensures missing { IfOk result (λ there. there ≡ false → (rank_of : List Datum → ℕ → Bool) → IsOnlyRank rank_of cells.now rank →
             AreRanked rank_of self.old.shown.entries → AreRanked rank_of self.old.hidden.entries →
             many (is_held cells.now start) (rows_in self.old.shown.entries) + many (is_held cells.now start) (rows_in self.old.hidden.entries) ≡ 0) }
@@ -155,13 +150,10 @@ impl Ranked {
     // Hides the group of the least rank that is shown, if so many rows are shown above it. Tells whether it did.
     fn hide_one(&mut self, most: usize, lost: &mut Vec<Cells>) -> Result<bool, Memory>
         requires { 1 ≤ most }
-        ensures rows { OnOk result ((w : HeldRow → ℕ) → total w (rows_in self.new.shown.entries) + total w (rows_in self.new.hidden.entries)
-            ≡ total w (rows_in self.old.shown.entries) + total w (rows_in self.old.hidden.entries)) }
-        ensures lost { OnOk result ((w : List Datum → ℕ) → total w (bare (rows_in self.new.shown.entries)) + total w lost.new.items
-            ≡ total w (bare (rows_in self.old.shown.entries)) + total w lost.old.items) }
-        ensures ranked { OnOk result ((rank_of : List Datum → ℕ → Bool) →
-            AreRanked rank_of self.old.shown.entries → AreRanked rank_of self.old.hidden.entries →
-            AreRanked rank_of self.new.shown.entries × AreRanked rank_of self.new.hidden.entries) }
+        ensures rows { OnOk result ((w : HeldRow → ℕ) → weight_of w self.new ≡ weight_of w self.old) }
+        ensures lost { OnOk result ((w : List Datum → ℕ) → total w (shown_of self.new) + total w lost.new.items
+            ≡ total w (shown_of self.old) + total w lost.old.items) }
+        ensures ranked { OnOk result (KeepsRanks self.old self.new) }
         ensures few { IfOk result (λ more. more ≡ false → AreFew most self.new.shown.entries) }
         ensures less { IfOk result (λ more. more ≡ true → length self.old.shown.entries ≡ length self.new.shown.entries + 1) }
     {
@@ -183,13 +175,10 @@ impl Ranked {
 
     // Shows the group of the greatest rank that is hidden, where there is one. Tells whether it did.
     fn show_one(&mut self, won: &mut Vec<Cells>) -> Result<bool, Memory>
-        ensures rows { OnOk result ((w : HeldRow → ℕ) → total w (rows_in self.new.shown.entries) + total w (rows_in self.new.hidden.entries)
-            ≡ total w (rows_in self.old.shown.entries) + total w (rows_in self.old.hidden.entries)) }
-        ensures won { OnOk result ((w : List Datum → ℕ) → total w (bare (rows_in self.new.shown.entries)) + total w won.old.items
-            ≡ total w (bare (rows_in self.old.shown.entries)) + total w won.new.items) }
-        ensures ranked { OnOk result ((rank_of : List Datum → ℕ → Bool) →
-            AreRanked rank_of self.old.shown.entries → AreRanked rank_of self.old.hidden.entries →
-            AreRanked rank_of self.new.shown.entries × AreRanked rank_of self.new.hidden.entries) }
+        ensures rows { OnOk result ((w : HeldRow → ℕ) → weight_of w self.new ≡ weight_of w self.old) }
+        ensures won { OnOk result ((w : List Datum → ℕ) → total w (shown_of self.new) + total w won.old.items
+            ≡ total w (shown_of self.old) + total w won.new.items) }
+        ensures ranked { OnOk result (KeepsRanks self.old self.new) }
         ensures few { OnOk result ((most : ℕ) → self.old.count < most → AreFew most self.old.shown.entries → AreFew most self.new.shown.entries) }
         ensures none { IfOk result (λ more. more ≡ false → self.new.hidden.entries ≡ []) }
         ensures less { IfOk result (λ more. more ≡ true → length self.old.hidden.entries ≡ length self.new.hidden.entries + 1) }
@@ -273,15 +262,12 @@ impl Ranked {
         won: &mut Vec<Cells>,
     ) -> Result<(), Memory>
         requires { 1 ≤ most }
-        ensures rows { OnOk result ((w : HeldRow → ℕ) → total w (rows_in self.new.shown.entries) + total w (rows_in self.new.hidden.entries)
-            ≡ total w (rows_in self.old.shown.entries) + total w (rows_in self.old.hidden.entries)) }
+        ensures rows { OnOk result ((w : HeldRow → ℕ) → weight_of w self.new ≡ weight_of w self.old) }
         ensures moved { OnOk result ((w : List Datum → ℕ) →
-            total w (bare (rows_in self.new.shown.entries)) + total w lost.new.items + total w won.old.items
-            ≡ total w (bare (rows_in self.old.shown.entries)) + total w lost.old.items + total w won.new.items) }
-        ensures ranked { OnOk result ((rank_of : List Datum → ℕ → Bool) →
-            AreRanked rank_of self.old.shown.entries → AreRanked rank_of self.old.hidden.entries →
-            AreRanked rank_of self.new.shown.entries × AreRanked rank_of self.new.hidden.entries) }
-        ensures fits { OnOk result ((p : List Datum → Bool) → failing p (bare (rows_in self.old.shown.entries)) ≡ 0 →
+            total w (shown_of self.new) + total w lost.new.items + total w won.old.items
+            ≡ total w (shown_of self.old) + total w lost.old.items + total w won.new.items) }
+        ensures ranked { OnOk result (KeepsRanks self.old self.new) }
+        ensures fits { OnOk result ((p : List Datum → Bool) → failing p (shown_of self.old) ≡ 0 →
             failing p (bare (rows_in self.old.hidden.entries)) ≡ 0 → failing p won.old.items ≡ 0 → failing p won.new.items ≡ 0) }
         ensures few { OnOk result (AreFew most self.new.shown.entries) }
         ensures enough { OnOk result (AreEnough most self.new.shown.entries self.new.hidden.entries) }
@@ -303,6 +289,6 @@ impl Ranked {
             AreFew most self.now.shown.entries → AreEnough most self.now.shown.entries self.now.hidden.entries →
             SameBag (top_rows (λ a b. true) value most
             (bare (rows_in self.now.shown.entries ++ rows_in self.now.hidden.entries)))
-            (bare (rows_in self.now.shown.entries)) }
+            (shown_of self.now) }
     {}
 }
