@@ -12,7 +12,6 @@ use Rattle.tw_rows.specs.declared.row.Value.TheVariants.{Text}
 use Rattle.tw_rows.specs.declared.cells.Datum.{Datum}
 use Rattle.tw_rows.specs.declared.cells.Datum.TheVariants.{Int as IntDatum, Bool as FlagDatum, Text as PlaceDatum}
 use Rattle.tw_rows.specs.Cells.{IsPlaced, ArePlaced, read_datum, read_cells}
-use Rattle.plan_model.specs.declared.expr.ExprNode.{ExprNode}
 use Rattle.plan_model.specs.declared.node.Node.{Node}
 use Rattle.plan_model.specs.Keys.{rows_equal}
 use Rattle.plan_model.specs.Meaning.{node_events}
@@ -26,6 +25,7 @@ use Rattle.plan_model.specs.CellOps.{cell_ops, datum_int}
 use Rattle.node_laws.specs.Readings.{has_expressions, IsReading, value_by, AreApart}
 use Rattle.node_laws.specs.Places.{AreDistinct, read_events, EventsArePlaced}
 use Rattle.node_laws.proofs.Reading.{node_read}
+use Rattle.node_laws.specs.CellTests.{CellTest, CellSelect}
 
 -- a text for each place: those of the table at their places, and for each place past it a text longer than any of the table,
 -- another one for each
@@ -143,7 +143,7 @@ shifted_int n (IntDatum x) = refl
 shifted_int n (FlagDatum x) = refl
 shifted_int n (PlaceDatum x) = refl
 
-module _ (test : List ExprNode → List Datum → Bool) (select : List (List ExprNode) → List Datum → List Datum) where
+module _ (test : CellTest) (select : CellSelect) where
   pub value_by_reads : (text : ℕ → List ℕ) → AreApart text → IsReading (value_by text) (cell_ops test select) value_ops
   value_by_reads text apart = record {
     zero = refl;
@@ -219,7 +219,7 @@ events_placed texts (e ∷ es) h =
     let b : events_to (map (shifted (length texts))) es ≡ es = cc in
     All-cons (λ e. ArePlaced texts e.row) e es (cells_placed texts e.row (ap (λ x. x.row) a)) (events_placed texts es b)
 
-module _ (test : List ExprNode → List Datum → Bool) (select : List (List ExprNode) → List Datum → List Datum) where
+module _ (test : CellTest) (select : CellSelect) where
   -- a node of placed events has placed events
   pub node_placed : (texts : List (List ℕ)) (n : Node) (a b : List CellEvent) → has_expressions n ≡ false → EventsArePlaced texts a → EventsArePlaced texts b →
       EventsArePlaced texts (node_in (cell_ops test select) n a b)

@@ -20,7 +20,6 @@ use Rattle.plan_model.specs.CellOps.{cell_ops}
 use Rattle.plan_model.specs.RowOps.{key_in}
 use Rattle.plan_model.specs.Nodes.{node_in}
 use Rattle.plan_model.specs.Meaning.{node_closes}
-use Rattle.plan_model.specs.declared.expr.ExprNode.{ExprNode}
 use Rattle.plan_model.specs.declared.node.Node.{Node}
 use Rattle.plan_model.proofs.Causal.{node_in_known, AreEvents-filter}
 use Rattle.node_laws.specs.Places.{EdgesArePlaced}
@@ -28,6 +27,7 @@ use Rattle.node_laws.specs.Keeping.{Keeps}
 use Rattle.node_laws.specs.Shards.{is_keyed, left_key_of, right_key_of, edges_of_shard}
 use Rattle.node_laws.proofs.Keys.{node_shards}
 use Rattle.node_laws.proofs.Standing.{of_valid}
+use Rattle.node_laws.specs.CellTests.{CellTest, CellSelect}
 
 -- edges of two lists stand for the events of both
 stand_both : (c : ℕ) (h k : List Edge) (a b : List CellEvent) → StandsFor c h a → StandsFor c k b → StandsFor c (h ++ k) (a ++ b)
@@ -80,7 +80,7 @@ shard_known x shard s h low whole part = record {
     AreEvents-test : (p : List Datum → Bool) (es : List CellEvent) → AreEvents es → AreEvents (filter (λ e. p e.row) es)
     AreEvents-test p es v = AreEvents-filter (cell_ops (λ test row. true) (λ items row. row)) p es v
 
-module _ (test : List ExprNode → List Datum → Bool) (select : List (List ExprNode) → List Datum → List Datum) (n : Node) (keyed : is_keyed n ≡ true)
+module _ (test : CellTest) (select : CellSelect) (n : Node) (keyed : is_keyed n ≡ true)
     (shard : List Datum → ℕ) (count : ℕ) (low : (key : List Datum) → shard key < count) where
   abbrev by_left : List Datum → ℕ
   by_left cells = shard (key_in (cell_ops test select) (left_key_of n) cells)

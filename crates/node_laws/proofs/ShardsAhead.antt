@@ -1,6 +1,6 @@
 -- What the shards of a node keep together, where they may tell ends ahead.
-use Rattle.std.specs.Prelude.{◌≡◌, ℕ, zero, suc, ◌+◌, ◌<◌, ◌≤◌, cond, Bool, true, List, flat_map, filter, refl}
-use Rattle.std.proofs.Common.{sym, ◌∙◌, ap, subst, arith}
+use Rattle.std.specs.Prelude.{◌≡◌, ℕ, zero, suc, ◌<◌, ◌≤◌, cond, Bool, true, List, filter, refl}
+use Rattle.std.proofs.Common.{sym, ◌∙◌, subst, arith}
 use Rattle.tw_rows.specs.Instant.{inf}
 use Rattle.tw_rows.specs.Bag.{total, SameBag}
 use Rattle.tw_rows.specs.Event.{Known}
@@ -20,7 +20,6 @@ use Rattle.plan_model.specs.CellOps.{cell_ops}
 use Rattle.plan_model.specs.RowOps.{key_in}
 use Rattle.plan_model.specs.Nodes.{node_in}
 use Rattle.plan_model.specs.Meaning.{node_closes}
-use Rattle.plan_model.specs.declared.expr.ExprNode.{ExprNode}
 use Rattle.plan_model.specs.declared.node.Node.{Node}
 use Rattle.plan_model.proofs.Causal.{node_in_known}
 use Rattle.plan_model.proofs.Closings.{node_ends}
@@ -30,6 +29,7 @@ use Rattle.node_laws.specs.Shards.{is_keyed, left_key_of, right_key_of, edges_of
 use Rattle.node_laws.proofs.Keys.{node_shards}
 use Rattle.node_laws.proofs.ShardSteps.{none_fail, shard_known}
 use Rattle.node_laws.proofs.Steps.{node_low}
+use Rattle.node_laws.specs.CellTests.{CellTest, CellSelect}
 
 -- the weights of single edges by the edges, and of news by the events
 abbrev single_weight : (Edge → Bool) → (Edge → ℕ) → Edge → ℕ
@@ -62,7 +62,7 @@ less_over f g (suc n) outs parts h =
     let last = h n (omega arith) in
     omega (arith, a, b, first, last)
 
-module _ (test : List ExprNode → List Datum → Bool) (select : List (List ExprNode) → List Datum → List Datum) (n : Node) (keyed : is_keyed n ≡ true)
+module _ (test : CellTest) (select : CellSelect) (n : Node) (keyed : is_keyed n ≡ true)
     (shard : List Datum → ℕ) (count : ℕ) (low : (key : List Datum) → shard key < count) where
   abbrev by_left : List Datum → ℕ
   by_left cells = shard (key_in (cell_ops test select) (left_key_of n) cells)

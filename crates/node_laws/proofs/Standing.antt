@@ -38,6 +38,7 @@ use Rattle.plan_model.specs.Expr.{holds, selected_row}
 use Rattle.node_laws.proofs.Agreeing.{where_read, select_read}
 use Rattle.node_laws.proofs.Answers.{answer_placed}
 use Rattle.node_laws.proofs.Places.{read_wide, place_law, node_placed, events_wide, wide_reads}
+use Rattle.node_laws.specs.CellTests.{CellTest, CellSelect}
 
 -- what holds of the cells of edges holds of the rows of their events
 module _ (P : List Datum → Type 0) where
@@ -171,7 +172,7 @@ rows_standing texts c t h rows low s = alive_known c t (read_of texts h) rows lo
 pub cells_standing : (texts : List (List ℕ)) (c t : ℕ) (h : List Edge) (rows : List (Event Row)) → t < c → StandsRead texts c h rows → SameBag (map (read_cells texts) (alive (of h) t)) (alive rows t)
 cells_standing texts c t h rows low s = subst (λ l. SameBag l (alive rows t)) (alive_to (read_cells texts) (of h) t) (rows_standing texts c t h rows low s)
 
-module _ (test : List ExprNode → List Datum → Bool) (select : List (List ExprNode) → List Datum → List Datum) where
+module _ (test : CellTest) (select : CellSelect) where
   -- what stands for a node's answer over cells stands, read, for the node of what was read
   pub stands_read : (texts : List (List ℕ)) → AreDistinct texts → (n : Node) → has_expressions n ≡ false → (c : ℕ) (hl hr out : List Edge) → c ≤ inf →
       IsHistory hl → IsHistory hr → EdgesArePlaced texts hl → EdgesArePlaced texts hr →

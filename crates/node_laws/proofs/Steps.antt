@@ -11,7 +11,6 @@ use Rattle.tw_rows.specs.declared.cells.Datum.{Datum}
 use Rattle.tw_rows.specs.declared.edge.Edge.{Edge}
 use Rattle.tw_rows.proofs.Bags.{SameBag-refl}
 use Rattle.tw_rows.proofs.Knowing.{Known-refl}
-use Rattle.plan_model.specs.declared.expr.ExprNode.{ExprNode}
 use Rattle.plan_model.specs.declared.node.Node.{Node}
 use Rattle.plan_model.specs.declared.node.Node.TheVariants.{Source, Where, Select, Union, Delay, Hop, Duration, Extend, Session, Clip, Group, Join, Anti, Coalesce, Mean, Top, Follow}
 use Rattle.plan_model.specs.Meaning.{node_events, node_closes}
@@ -38,6 +37,7 @@ use Rattle.plan_model.proofs.Causal.{node_in_known}
 use Rattle.node_laws.proofs.Places.{node_placed}
 use Rattle.node_laws.proofs.Answers.{answer_placed}
 use Rattle.node_laws.proofs.Standing.{of_valid, placed_of, placed_longer, no_history, stands_read}
+use Rattle.node_laws.specs.CellTests.{CellTest, CellSelect}
 
 -- closings rise with those of the children
 pub node_rises : (n : Node) (x y u v : ℕ) → x ≤ u → y ≤ v → u ≤ inf → node_closes n x y ≤ node_closes n u v
@@ -121,7 +121,7 @@ keeps_longer ops n new old x y hl hr out b k = record {
   told = k.told;
 }
 
-module _ (test : List ExprNode → List Datum → Bool) (select : List (List ExprNode) → List Datum → List Datum) where
+module _ (test : CellTest) (select : CellSelect) where
   abbrev pub answer : Node → List Edge → List Edge → List CellEvent
   answer n hl hr = node_in (cell_ops test select) n (of hl) (of hr)
 

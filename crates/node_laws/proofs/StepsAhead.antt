@@ -1,5 +1,5 @@
 -- What an operator keeps that may tell ends ahead.
-use Rattle.std.specs.Prelude.{◌≡◌, ℕ, ◌+◌, ◌≤◌, Bool, false, List, [], ◌++◌, filter, refl}
+use Rattle.std.specs.Prelude.{◌≡◌, ℕ, ◌+◌, ◌≤◌, false, List, [], ◌++◌, filter, refl}
 use Rattle.std.proofs.Common.{arith}
 use Rattle.std.proofs.lemmas.List.Elements.{All-nil}
 use Rattle.tw_rows.specs.Instant.{inf}
@@ -24,7 +24,6 @@ use Rattle.plan_model.specs.CellOps.{cell_ops}
 use Rattle.plan_model.specs.RowOps.{RowOps}
 use Rattle.plan_model.specs.Nodes.{node_in}
 use Rattle.plan_model.specs.Meaning.{node_events, node_closes}
-use Rattle.plan_model.specs.declared.expr.ExprNode.{ExprNode}
 use Rattle.plan_model.specs.declared.node.Node.{Node}
 use Rattle.plan_model.proofs.Causal.{node_in_known}
 use Rattle.node_laws.specs.Readings.{has_expressions}
@@ -33,6 +32,7 @@ use Rattle.node_laws.specs.Standing.{StandsRead}
 use Rattle.node_laws.specs.Keeping.{KeepsAhead}
 use Rattle.node_laws.proofs.Standing.{of_valid, placed_longer, no_history}
 use Rattle.node_laws.proofs.Steps.{node_rises, node_of_none, side_known, node_low, answer_read, answer_has_places}
+use Rattle.node_laws.specs.CellTests.{CellTest, CellSelect}
 
 nothing_ahead : (c : ℕ) → ToldAhead c [] []
 nothing_ahead c = record { order = tt; real = refl; below = refl; told = SameBag-refl []; ahead = λ w. omega arith }
@@ -74,7 +74,7 @@ ahead_same c d out more a b low high told known due later = record {
       omega (arith, parts, first, last, whole, split);
 }
 
-module _ (test : List ExprNode → List Datum → Bool) (select : List (List ExprNode) → List Datum → List Datum) where
+module _ (test : CellTest) (select : CellSelect) where
   pub ahead_stand : (n : Node) (texts : List (List ℕ)) (x y : ℕ) (hl hr out : List Edge) → x ≤ inf → y ≤ inf →
       KeepsAhead (cell_ops test select) n texts x y hl hr out → StandsBelow (node_closes n x y) out (node_in (cell_ops test select) n (of hl) (of hr))
   ahead_stand n texts x y hl hr out lx ly k =

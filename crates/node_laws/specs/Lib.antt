@@ -6,3 +6,4 @@ pub mod Keeping
 pub mod Selected
 pub mod Shards
 pub mod RowCells
+pub mod CellTests

@@ -1,5 +1,5 @@
 // The laws of shards of a node with a key, over rows of any kind.
-ghost use Rattle.std.specs.Prelude.{◌≡◌, ℕ, ◌<◌, ◌≤◌, Bool, true, List};
+ghost use Rattle.std.specs.Prelude.{◌≡◌, ℕ, ◌<◌, ◌≤◌, true, List};
 ghost use Rattle.tw_rows.specs.Instant.{inf};
 ghost use Rattle.tw_rows.specs.Bag.{SameBag};
 ghost use Rattle.tw_rows.specs.declared.cells.Datum.{Datum};
@@ -10,10 +10,10 @@ ghost use Rattle.key_nodes.specs.Shards.{of_shard, over_shards};
 ghost use Rattle.edge_history.specs.Order.{Rises, IsHistory};
 ghost use Rattle.plan_model.specs.CellOps.{cell_ops};
 ghost use Rattle.plan_model.specs.declared.agg.Agg.{Agg};
-ghost use Rattle.plan_model.specs.declared.expr.ExprNode.{ExprNode};
 ghost use Rattle.plan_model.specs.declared.node.Node.{Node};
 ghost use Rattle.plan_model.specs.RowOps.{RowOps, key_in, is_undefined_in};
 ghost use Rattle.plan_model.specs.Nodes.{node_in};
+ghost use Rattle.node_laws.specs.CellTests.{CellTest, CellSelect};
 ghost use Rattle.node_laws.specs.Places.{EdgesArePlaced};
 ghost use Rattle.node_laws.specs.Keeping.{Keeps, KeepsAhead};
 ghost use Rattle.node_laws.specs.Shards.{is_keyed, left_key_of, right_key_of, any_shard, rows_of_shard, edges_of_shard};
@@ -42,8 +42,7 @@ pub fn nodes_by_shards<X>()
 /// However keys are given shards, what the shards of a node keep, each of the edges of its own rows, the node keeps of all
 /// edges, where the answer is that of all shards together, in order; and so where they may tell ends ahead.
 pub fn shards_keep_what_the_node_keeps()
-    ensures kept { (test : List ExprNode → List Datum → Bool)
-        (select : List (List ExprNode) → List Datum → List Datum) (n : Node) → is_keyed n ≡ true →
+    ensures kept { (test : CellTest) (select : CellSelect) (n : Node) → is_keyed n ≡ true →
         (shard : List Datum → ℕ) (count : ℕ) → ((key : List Datum) → shard key < count) →
         (texts : List (List ℕ)) (x y : ℕ) (left right out : List Edge) (outs : ℕ → List Edge) → x ≤ inf → y ≤ inf →
         IsHistory left → IsHistory right → EdgesArePlaced texts left → EdgesArePlaced texts right →
@@ -51,8 +50,7 @@ pub fn shards_keep_what_the_node_keeps()
         (edges_of_shard (λ cells. shard (key_in (cell_ops test select) (left_key_of n) cells)) s left)
         (edges_of_shard (λ cells. shard (key_in (cell_ops test select) (right_key_of n) cells)) s right) (outs s)) →
         Rises 0 out → SameBag out (over_shards outs count) → Keeps (cell_ops test select) n texts x y left right out }
-    ensures ahead { (test : List ExprNode → List Datum → Bool)
-        (select : List (List ExprNode) → List Datum → List Datum) (n : Node) → is_keyed n ≡ true →
+    ensures ahead { (test : CellTest) (select : CellSelect) (n : Node) → is_keyed n ≡ true →
         (shard : List Datum → ℕ) (count : ℕ) → ((key : List Datum) → shard key < count) →
         (texts : List (List ℕ)) (x y : ℕ) (left right out : List Edge) (outs : ℕ → List Edge) → x ≤ inf → y ≤ inf →
         IsHistory left → IsHistory right → EdgesArePlaced texts left → EdgesArePlaced texts right →

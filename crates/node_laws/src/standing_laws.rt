@@ -20,6 +20,7 @@ ghost use Rattle.plan_model.specs.Expr.{holds, selected_row};
 ghost use Rattle.plan_model.specs.Meaning.{node_events, node_closes};
 ghost use Rattle.plan_model.specs.Nodes.{node_in};
 ghost use Rattle.plan_model.specs.CellOps.{cell_ops};
+ghost use Rattle.node_laws.specs.CellTests.{CellTest, CellSelect};
 ghost use Rattle.node_laws.specs.Readings.{has_expressions};
 ghost use Rattle.node_laws.specs.Places.{AreDistinct, read_events, read_of, EventsArePlaced, EdgesArePlaced};
 ghost use Rattle.node_laws.specs.Standing.{StandsRead};
@@ -42,8 +43,7 @@ pub fn standing_edges_stand_read()
 /// What stands for the events of a node over cells stands, read, for those of the node over what is read; of a Where
 /// and of a Select, for a test and a function of cells that agree with those of the rows.
 pub fn answers_stand_read()
-    ensures node { (test : List ExprNode → List Datum → Bool)
-        (select : List (List ExprNode) → List Datum → List Datum) (texts : List (List ℕ)) → AreDistinct texts →
+    ensures node { (test : CellTest) (select : CellSelect) (texts : List (List ℕ)) → AreDistinct texts →
         (n : Node) → has_expressions n ≡ false → (c : ℕ) (left right out : List Edge) → c ≤ inf →
         IsHistory left → IsHistory right → EdgesArePlaced texts left → EdgesArePlaced texts right →
         StandsBelow c out (node_in (cell_ops test select) n (of left) (of right)) →
@@ -89,8 +89,7 @@ pub fn standing_edges_show_the_rows()
         StandsRead texts c h events → SameBag (alive (read_of texts h) t) (alive events t) }
     ensures cells { (texts : List (List ℕ)) (c t : ℕ) (h : List Edge) (events : List (Event Row)) → t < c →
         StandsRead texts c h events → SameBag (map (read_cells texts) (alive (of h) t)) (alive events t) }
-    ensures undefined { (test : List ExprNode → List Datum → Bool)
-        (select : List (List ExprNode) → List Datum → List Datum) (texts : List (List ℕ)) → AreDistinct texts →
+    ensures undefined { (test : CellTest) (select : CellSelect) (texts : List (List ℕ)) → AreDistinct texts →
         (key : List ℕ) (aggs : List Agg) (c t : ℕ) (h : List Edge) (events : List (Event Row)) → t < c →
         StandsRead texts c h events →
         is_undefined key aggs (alive events t) ≡ is_undefined_in (cell_ops test select) key aggs (alive (of h) t) }

@@ -1,5 +1,5 @@
 // The laws of what operators keep of their nodes, step by step.
-ghost use Rattle.std.specs.Prelude.{◌≡◌, ℕ, ◌+◌, ◌≤◌, Bool, false, List, [], ◌++◌, filter};
+ghost use Rattle.std.specs.Prelude.{◌≡◌, ℕ, ◌+◌, ◌≤◌, false, List, [], ◌++◌, filter};
 ghost use Rattle.tw_rows.specs.Instant.{inf};
 ghost use Rattle.tw_rows.specs.Bag.{SameBag, total};
 ghost use Rattle.tw_rows.specs.Texts.{BeginsWith};
@@ -9,12 +9,12 @@ ghost use Rattle.edge_history.specs.Order.{is_from, is_below, is_real, failing, 
 ghost use Rattle.edge_history.specs.History.{of, StandsBelow};
 ghost use Rattle.edge_history.specs.Balance.{news};
 ghost use Rattle.edge_history.specs.Opens.{singles};
-ghost use Rattle.plan_model.specs.declared.expr.ExprNode.{ExprNode};
 ghost use Rattle.plan_model.specs.declared.node.Node.{Node};
 ghost use Rattle.plan_model.specs.Meaning.{node_events, node_closes};
 ghost use Rattle.plan_model.specs.RowOps.{RowOps};
 ghost use Rattle.plan_model.specs.Nodes.{node_in};
 ghost use Rattle.plan_model.specs.CellOps.{cell_ops};
+ghost use Rattle.node_laws.specs.CellTests.{CellTest, CellSelect};
 ghost use Rattle.node_laws.specs.Readings.{has_expressions};
 ghost use Rattle.node_laws.specs.Places.{AreDistinct, read_of, EdgesArePlaced};
 ghost use Rattle.node_laws.specs.Standing.{StandsRead};
@@ -36,8 +36,7 @@ pub fn what_is_kept_stays_in_longer_tables()
 /// show of its code that the answer is this news, in order. The answer comes at the node's last closing or later, and
 /// below the new one; closings do not fall while those of the sides rise.
 pub fn steps_keep_what_they_tell()
-    ensures kept { (test : List ExprNode → List Datum → Bool)
-        (select : List (List ExprNode) → List Datum → List Datum) (n : Node) (texts : List (List ℕ))
+    ensures kept { (test : CellTest) (select : CellSelect) (n : Node) (texts : List (List ℕ))
         (x y u v : ℕ) (left right out l r more : List Edge) → x ≤ u → u ≤ inf → y ≤ v → v ≤ inf →
         Keeps (cell_ops test select) n texts x y left right out →
         IsHistory (left ++ l) → IsHistory (right ++ r) →
@@ -58,17 +57,14 @@ pub fn steps_keep_what_they_tell()
 /// What is told is a history below the closing, with its places in the table, and stands for the node's events: of
 /// cells, and of the rows that are read of what came in.
 pub fn what_is_told_stands_for_the_node()
-    ensures cells { (test : List ExprNode → List Datum → Bool)
-        (select : List (List ExprNode) → List Datum → List Datum) (n : Node) (texts : List (List ℕ))
+    ensures cells { (test : CellTest) (select : CellSelect) (n : Node) (texts : List (List ℕ))
         (x y : ℕ) (left right out : List Edge) → x ≤ inf → y ≤ inf →
         Keeps (cell_ops test select) n texts x y left right out →
         StandsBelow (node_closes n x y) out (node_in (cell_ops test select) n (of left) (of right)) }
-    ensures placed { (test : List ExprNode → List Datum → Bool)
-        (select : List (List ExprNode) → List Datum → List Datum) (n : Node) (texts : List (List ℕ))
+    ensures placed { (test : CellTest) (select : CellSelect) (n : Node) (texts : List (List ℕ))
         (x y : ℕ) (left right out : List Edge) → has_expressions n ≡ false → x ≤ inf → y ≤ inf →
         Keeps (cell_ops test select) n texts x y left right out → EdgesArePlaced texts out }
-    ensures rows { (test : List ExprNode → List Datum → Bool)
-        (select : List (List ExprNode) → List Datum → List Datum) (n : Node) (texts : List (List ℕ))
+    ensures rows { (test : CellTest) (select : CellSelect) (n : Node) (texts : List (List ℕ))
         (x y : ℕ) (left right out : List Edge) → has_expressions n ≡ false → AreDistinct texts → x ≤ inf → y ≤ inf →
         Keeps (cell_ops test select) n texts x y left right out →
         StandsRead texts (node_closes n x y) out (node_events n (read_of texts left) (read_of texts right)) }
@@ -82,8 +78,7 @@ pub fn steps_may_tell_ends_ahead()
         KeepsAhead ops n texts x y [] [] [] }
     ensures longer { (ops : RowOps Datum) (n : Node) (new old : List (List ℕ)) (x y : ℕ) (left right out : List Edge) →
         BeginsWith new old → KeepsAhead ops n old x y left right out → KeepsAhead ops n new x y left right out }
-    ensures kept { (test : List ExprNode → List Datum → Bool)
-        (select : List (List ExprNode) → List Datum → List Datum) (n : Node) (texts : List (List ℕ))
+    ensures kept { (test : CellTest) (select : CellSelect) (n : Node) (texts : List (List ℕ))
         (x y u v : ℕ) (left right out l r more : List Edge) → x ≤ u → u ≤ inf → y ≤ v → v ≤ inf →
         KeepsAhead (cell_ops test select) n texts x y left right out →
         IsHistory (left ++ l) → IsHistory (right ++ r) →
@@ -100,17 +95,14 @@ pub fn steps_may_tell_ends_ahead()
         ≤ total w (news (node_closes n u v) inf
         (node_in (cell_ops test select) n (of (left ++ l)) (of (right ++ r))))) →
         KeepsAhead (cell_ops test select) n texts u v (left ++ l) (right ++ r) (out ++ more) }
-    ensures cells { (test : List ExprNode → List Datum → Bool)
-        (select : List (List ExprNode) → List Datum → List Datum) (n : Node) (texts : List (List ℕ))
+    ensures cells { (test : CellTest) (select : CellSelect) (n : Node) (texts : List (List ℕ))
         (x y : ℕ) (left right out : List Edge) → x ≤ inf → y ≤ inf →
         KeepsAhead (cell_ops test select) n texts x y left right out →
         StandsBelow (node_closes n x y) out (node_in (cell_ops test select) n (of left) (of right)) }
-    ensures placed { (test : List ExprNode → List Datum → Bool)
-        (select : List (List ExprNode) → List Datum → List Datum) (n : Node) (texts : List (List ℕ))
+    ensures placed { (test : CellTest) (select : CellSelect) (n : Node) (texts : List (List ℕ))
         (x y : ℕ) (left right out : List Edge) → has_expressions n ≡ false → x ≤ inf → y ≤ inf →
         KeepsAhead (cell_ops test select) n texts x y left right out → EdgesArePlaced texts out }
-    ensures rows { (test : List ExprNode → List Datum → Bool)
-        (select : List (List ExprNode) → List Datum → List Datum) (n : Node) (texts : List (List ℕ))
+    ensures rows { (test : CellTest) (select : CellSelect) (n : Node) (texts : List (List ℕ))
         (x y : ℕ) (left right out : List Edge) → has_expressions n ≡ false → AreDistinct texts → x ≤ inf → y ≤ inf →
         KeepsAhead (cell_ops test select) n texts x y left right out →
         StandsRead texts (node_closes n x y) out (node_events n (read_of texts left) (read_of texts right)) }
