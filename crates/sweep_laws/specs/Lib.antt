@@ -6,6 +6,7 @@ pub mod Pairs
 pub mod Joining
 pub mod Running
 pub mod Grouping
+pub mod AnyGroup
 pub mod Sessioning
 pub mod Clipping
 pub mod Antijoining

@@ -1,7 +1,7 @@
 // The laws of a group that goes from instant to instant. `key` gives the key of a row, `same` tells whether keys are equal,
 // `tell` makes the row of a key from the rows that are alive, and `bad` says of which rows a key's group is undefined.
 ghost use Rattle.std.specs.Prelude.{◌≡◌, ℕ, suc, ◌+◌, ◌*◌, ◌<◌, ◌≤◌, Bool, true, false, Option};
-ghost use Rattle.std.specs.Prelude.{List, [], ◌∷◌, ◌++◌, take, drop, filter, length, get_or, cond};
+ghost use Rattle.std.specs.Prelude.{List, [], ◌++◌, take, drop, length, get_or, cond};
 ghost use Rattle.std.specs.List.{list_any};
 ghost use Rattle.tw_rows.specs.Instant.{inf};
 ghost use Rattle.tw_rows.specs.Bag.{SameBag, total};
@@ -13,14 +13,15 @@ ghost use Rattle.tw_rows.specs.declared.edge.HeldRow.{HeldRow};
 ghost use Rattle.edge_history.specs.Order.{failing, is_from, is_below, Rises, IsHistory};
 ghost use Rattle.edge_history.specs.History.{CellEvent, of};
 ghost use Rattle.edge_history.specs.Balance.{news};
-ghost use Rattle.edge_history.specs.Opens.{singles, ended_rows, started_rows, bare};
+ghost use Rattle.edge_history.specs.Opens.{singles, bare};
 ghost use Rattle.key_nodes.specs.Runs.{Tells as KeyTells, runs};
-ghost use Rattle.key_nodes.specs.Groups.{distinct, IsGroupRow, grouped};
+ghost use Rattle.key_nodes.specs.Groups.{distinct, grouped};
 ghost use Rattle.sweep_laws.specs.Sweeps.{is_at, IsPast, StartsAt, IsDue, InOrder, Tells};
 ghost use Rattle.sweep_laws.specs.Running.{Run, open_at, tells, goes, end_part, kept, start_part, begun_at};
-ghost use Rattle.sweep_laws.specs.Grouping.{keys_of, EndsTold, StartsTold, IsEarly, DependsOnKey};
+ghost use Rattle.sweep_laws.specs.Grouping.{keys_of, EndsTold, StartsTold, IsEarly};
 ghost use Rattle.sweep_laws.specs.Grouping.{GroupSweeping, IsDefined, IsFirstUndefined};
 ghost use Rattle.sweep_laws.specs.Grouping.{GroupReached, GroupKeeps};
+ghost use Rattle.sweep_laws.specs.AnyGroup.{OfAnyGroup, MovesOn};
 
 /// Over a stretch of instants at which the row is the same, the runs of a row tell at its beginning what leads from the run
 /// that is open there to the row, and nothing else; and the run that is open then goes on. It began before.
@@ -79,43 +80,31 @@ pub fn keys_are_told_in_order<K>()
 /// undefined, and the ends and then the starts of these keys were told. Then all that happens to the groups was told. Where a
 /// key is undefined after the edges, the instant is the first at which a group is.
 pub fn a_group_tells_an_instant<K>()
-    ensures told { (key : List Datum → K) (same : K → K → Bool) → KeyTells same →
-        (tell : K → List (List Datum) → Option (List Datum)) → IsGroupRow key same tell →
-        (bad : K → List (List Datum) → Bool) → DependsOnKey key same bad →
+    ensures told { OfAnyGroup K (λ key same tell bad.
         (a : List CellEvent) (t : ℕ) (now : List Edge) (rows later : List HeldRow) (o : K → Option (List Datum))
         (run0 run1 run2 : K → Option Run) (answer0 answer1 answer2 : List Edge) → t < inf → AreEvents a →
-        SameBag now (news t (suc t) a) → GroupSweeping tell bad a t rows run0 →
-        (((w : HeldRow → ℕ) → total w (ended_rows now) ≤ total w rows) →
-        (w : HeldRow → ℕ) → total w later + total w (ended_rows now) ≡ total w rows + total w (started_rows now)) →
+        SameBag now (news t (suc t) a) → GroupSweeping tell bad a t rows run0 → MovesOn now rows later →
         ((k : K) → o k ≡ tell k (bare later)) →
         ((k : K) → list_any (same k) (keys_of key now) ≡ true → bad k (bare later) ≡ false) →
         EndsTold key same t now o run0 run1 answer0 answer1 → StartsTold key same t now o run1 run2 answer1 answer2 →
         (((k : K) → IsEarly t (run0 k)) → InOrder (2 * t) answer0 → InOrder (2 * t) answer1) →
         (t < inf → InOrder (suc (2 * t)) answer1 → InOrder (suc (2 * t)) answer2) →
         GroupSweeping tell bad a (suc t) later run2
-        × Tells (grouped key same same_cells tell a) t (suc t) answer0 answer2 }
-    ensures undefined { (key : List Datum → K) (same : K → K → Bool) → KeyTells same →
-        (tell : K → List (List Datum) → Option (List Datum)) → IsGroupRow key same tell →
-        (bad : K → List (List Datum) → Bool) → DependsOnKey key same bad →
+        × Tells (grouped key same same_cells tell a) t (suc t) answer0 answer2) }
+    ensures undefined { OfAnyGroup K (λ key same tell bad.
         (a : List CellEvent) (t : ℕ) (now : List Edge) (rows later : List HeldRow) (run0 : K → Option Run) → AreEvents a →
-        SameBag now (news t (suc t) a) → GroupSweeping tell bad a t rows run0 →
-        (((w : HeldRow → ℕ) → total w (ended_rows now) ≤ total w rows) →
-        (w : HeldRow → ℕ) → total w later + total w (ended_rows now) ≡ total w rows + total w (started_rows now)) →
-        ((k : K) × (bad k (bare later) ≡ true)) → IsFirstUndefined bad a t (suc t) t }
+        SameBag now (news t (suc t) a) → GroupSweeping tell bad a t rows run0 → MovesOn now rows later →
+        ((k : K) × (bad k (bare later) ≡ true)) → IsFirstUndefined bad a t (suc t) t) }
 {}
 
 /// A group goes from instant to instant: it begins with what is due, takes the edges of the next instant, stops at the first
 /// instant at which a group is undefined, and has reached the end where no edge is left.
 pub fn a_group_goes_from_instant_to_instant<K>()
-    ensures start { (key : List Datum → K) (same : K → K → Bool) → KeyTells same →
-        (tell : K → List (List Datum) → Option (List Datum)) → IsGroupRow key same tell →
-        (bad : K → List (List Datum) → Bool) → DependsOnKey key same bad →
+    ensures start { OfAnyGroup K (λ key same tell bad.
         (a : List CellEvent) (from to : ℕ) (due : List Edge) (rows : List HeldRow) (run : K → Option Run) (answer : List Edge) →
         IsDue a from to due → GroupSweeping tell bad a from rows run →
-        GroupReached key same tell bad a from from to due rows run answer answer }
-    ensures step { (key : List Datum → K) (same : K → K → Bool) → KeyTells same →
-        (tell : K → List (List Datum) → Option (List Datum)) → IsGroupRow key same tell →
-        (bad : K → List (List Datum) → Bool) → DependsOnKey key same bad →
+        GroupReached key same tell bad a from from to due rows run answer answer) }
+    ensures step { OfAnyGroup K (λ key same tell bad.
         (a : List CellEvent) (from u t to n : ℕ) (rest : List Edge) (rows : List HeldRow) (run : K → Option Run)
         (answer0 answer1 : List Edge) → GroupReached key same tell bad a from u to rest rows run answer0 answer1 →
         StartsAt t rest → failing (is_at t) (take n rest) ≡ 0 → IsPast t (drop n rest) →
@@ -123,31 +112,25 @@ pub fn a_group_goes_from_instant_to_instant<K>()
         (t < inf → AreEvents a → SameBag (take n rest) (news t (suc t) a) → GroupSweeping tell bad a t rows run →
         GroupSweeping tell bad a (suc t) later run2
         × Tells (grouped key same same_cells tell a) t (suc t) answer1 answer2) →
-        GroupReached key same tell bad a from (suc t) to (drop n rest) later run2 answer0 answer2 }
-    ensures undefined { (key : List Datum → K) (same : K → K → Bool) → KeyTells same →
-        (tell : K → List (List Datum) → Option (List Datum)) → IsGroupRow key same tell →
-        (bad : K → List (List Datum) → Bool) → DependsOnKey key same bad →
+        GroupReached key same tell bad a from (suc t) to (drop n rest) later run2 answer0 answer2) }
+    ensures undefined { OfAnyGroup K (λ key same tell bad.
         (a : List CellEvent) (from u t to n : ℕ) (rest : List Edge) (rows : List HeldRow) (run : K → Option Run)
         (answer0 answer1 : List Edge) → GroupReached key same tell bad a from u to rest rows run answer0 answer1 →
         StartsAt t rest → failing (is_at t) (take n rest) ≡ 0 → IsPast t (drop n rest) →
         (t < inf → AreEvents a → SameBag (take n rest) (news t (suc t) a) → GroupSweeping tell bad a t rows run →
         IsFirstUndefined bad a t (suc t) t) →
-        IsFirstUndefined bad a from to t }
-    ensures end { (key : List Datum → K) (same : K → K → Bool) → KeyTells same →
-        (tell : K → List (List Datum) → Option (List Datum)) → IsGroupRow key same tell →
-        (bad : K → List (List Datum) → Bool) → DependsOnKey key same bad →
+        IsFirstUndefined bad a from to t) }
+    ensures end { OfAnyGroup K (λ key same tell bad.
         (a : List CellEvent) (from u to : ℕ) (rest : List Edge) (rows : List HeldRow) (run : K → Option Run)
         (answer0 answer1 : List Edge) → rest ≡ [] → GroupReached key same tell bad a from u to rest rows run answer0 answer1 →
         GroupSweeping tell bad a to rows run × Tells (grouped key same same_cells tell a) from to answer0 answer1
-        × IsDefined bad a from to }
+        × IsDefined bad a from to) }
 {}
 
 /// A whole step of a group keeps what a group keeps, or finds the least instant of all at which a group is undefined. The new
 /// edges are put to those that wait, the due ones are taken out, in order, and the rest waits on.
 pub fn a_group_keeps_its_rows<K>()
-    ensures keeps { (key : List Datum → K) (same : K → K → Bool) → KeyTells same →
-        (tell : K → List (List Datum) → Option (List Datum)) → IsGroupRow key same tell →
-        (bad : K → List (List Datum) → Bool) → DependsOnKey key same bad →
+    ensures keeps { OfAnyGroup K (λ key same tell bad.
         (came new waiting put due rest : List Edge) (c d : ℕ) → c ≤ d → d ≤ inf → IsHistory (came ++ new) →
         failing (is_from c) new ≡ 0 → ((w : Edge → ℕ) → total w put ≡ total w waiting + total w (singles new)) →
         ((w : Edge → ℕ) → total w due + total w rest ≡ total w put) →
@@ -159,10 +142,8 @@ pub fn a_group_keeps_its_rows<K>()
         GroupSweeping tell bad (of (came ++ new)) d later run2
         × Tells (grouped key same same_cells tell (of (came ++ new))) c d answer0 answer
         × IsDefined bad (of (came ++ new)) c d) →
-        GroupKeeps key same tell bad later run2 rest d (came ++ new) (out ++ answer) }
-    ensures undefined { (key : List Datum → K) (same : K → K → Bool) → KeyTells same →
-        (tell : K → List (List Datum) → Option (List Datum)) → IsGroupRow key same tell →
-        (bad : K → List (List Datum) → Bool) → DependsOnKey key same bad →
+        GroupKeeps key same tell bad later run2 rest d (came ++ new) (out ++ answer)) }
+    ensures undefined { OfAnyGroup K (λ key same tell bad.
         (came new waiting put due rest : List Edge) (c d : ℕ) → c ≤ d → d ≤ inf → IsHistory (came ++ new) →
         failing (is_from c) new ≡ 0 → ((w : Edge → ℕ) → total w put ≡ total w waiting + total w (singles new)) →
         ((w : Edge → ℕ) → total w due + total w rest ≡ total w put) →
@@ -171,5 +152,5 @@ pub fn a_group_keeps_its_rows<K>()
         GroupKeeps key same tell bad rows run waiting c came out → (t : ℕ) →
         (IsDue (of (came ++ new)) c d due → GroupSweeping tell bad (of (came ++ new)) c rows run →
         IsFirstUndefined bad (of (came ++ new)) c d t) →
-        IsFirstUndefined bad (of (came ++ new)) 0 d t }
+        IsFirstUndefined bad (of (came ++ new)) 0 d t) }
 {}
