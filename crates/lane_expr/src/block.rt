@@ -1,5 +1,5 @@
 // The running of steps over a block of 64 rows.
-ghost use Rattle.std.specs.Prelude.{◌≡◌, ◌+◌, ◌*◌, ◌-◌, ◌<◌, ◌≤◌, ◌≢◌, ℕ, [], pos, true, length, map, take, slice_index_or};
+ghost use Rattle.std.specs.Prelude.{◌≡◌, ◌+◌, ◌*◌, ◌-◌, ◌<◌, ◌≢◌, ℕ, [], true, length, map, take, slice_index_or};
 ghost use Rattle.lanes.specs.Lanes.{number};
 ghost use Rattle.tw_rows.specs.Cells.{read_datum, read_cells, IsPlaced, ArePlaced};
 ghost use Rattle.plan_model.specs.IsExpr.{IsExprNode};
@@ -7,7 +7,7 @@ ghost use Rattle.plan_model.specs.Expr.{node_value, value, arith_value};
 ghost use Rattle.plan_model.specs.Typed.{IsTypedNode};
 ghost use Rattle.lane_expr.specs.Steps.{node_of, expr_of, step_kind, IsStepPlaced, AreStepsPlaced, IsStepWithin, AreSteps};
 ghost use Rattle.lane_expr.specs.Running.{operand, no_row, cells_of};
-ghost use Rattle.lane_expr.specs.Registers.{datum_of, datum_at, IsOccupied, is_constant, AreFilled};
+ghost use Rattle.lane_expr.specs.Registers.{datum_of, datum_at, datum_in, kinds_in, IsOccupied, is_constant, AreFilled};
 ghost use Rattle.lane_expr.specs.Kernels.{HoldsPlaces, IsResult};
 
 use crate::compare::compare;
@@ -28,15 +28,15 @@ pub(crate) fn run(
     block: usize,
 )
     requires steps { AreSteps batch.now.kinds steps.now }
-    requires kinds { map (λ r. r.kind) registers.old ≡ map (step_kind batch.now.kinds) steps.now }
+    requires kinds { kinds_in registers.old ≡ map (step_kind batch.now.kinds) steps.now }
     requires placed { AreStepsPlaced texts.now steps.now }
     requires block { 64 * block < length batch.now.rows }
     requires cells { HoldsPlaces texts.now batch.now.rows }
     requires filled { AreFilled steps.now registers.old }
-    ensures kinds { map (λ r. r.kind) registers.new ≡ map (λ r. r.kind) registers.old }
+    ensures kinds { kinds_in registers.new ≡ kinds_in registers.old }
     ensures filled { AreFilled steps.now registers.new }
     ensures results { (j : ℕ) → j < 64 → IsResult texts.now (expr_of texts.now steps.now) (slice_index_or batch.now.rows (64 * block + j) no_row)
-        (slice_index_or (map (datum_at j) registers.new) (length steps.now - 1) (Datum.Int (pos 0))) }
+        (datum_in registers.new (length steps.now - 1) j) }
 {
     if batch.occupancy().word(block) == 0 {
         return;
@@ -58,29 +58,23 @@ fn run_at(
     requires place { to < length registers.old }
     requires operands { IsExprNode to (node_of [] step.now) }
     requires within { IsStepWithin batch.now.kinds step.now }
-    requires kind { slice_index_or (map (λ r. r.kind) registers.old) to CellKind.Whole ≡ step_kind batch.now.kinds step.now }
-    requires typed { IsTypedNode batch.now.kinds (take to (map (λ r. r.kind) registers.old)) (node_of [] step.now) }
+    requires kind { slice_index_or (kinds_in registers.old) to CellKind.Whole ≡ step_kind batch.now.kinds step.now }
+    requires typed { IsTypedNode batch.now.kinds (take to (kinds_in registers.old)) (node_of [] step.now) }
     requires step { IsStepPlaced texts.now step.now }
     requires block { 64 * block < length batch.now.rows }
     requires cells { HoldsPlaces texts.now batch.now.rows }
     requires placed { (j : ℕ) → j < 64 → IsOccupied batch.now.rows (64 * block + j) → ArePlaced texts.now (take to (map (datum_at j) registers.old)) }
-    requires constant { (d : Datum) → step.now ≡ Step.Constant d → (j : ℕ) → j < 64 →
-        slice_index_or (map (datum_at j) registers.old) to (Datum.Int (pos 0)) ≡ d }
-    ensures kinds { map (λ r. r.kind) registers.new ≡ map (λ r. r.kind) registers.old }
-    ensures others { (i j : ℕ) → i ≢ to →
-        slice_index_or (map (datum_at j) registers.new) i (Datum.Int (pos 0))
-        ≡ slice_index_or (map (datum_at j) registers.old) i (Datum.Int (pos 0)) }
-    ensures constant { (j : ℕ) → is_constant step.now ≡ true →
-        slice_index_or (map (datum_at j) registers.new) to (Datum.Int (pos 0))
-        ≡ slice_index_or (map (datum_at j) registers.old) to (Datum.Int (pos 0)) }
+    requires constant { (d : Datum) → step.now ≡ Step.Constant d → (j : ℕ) → j < 64 → datum_in registers.old to j ≡ d }
+    ensures kinds { kinds_in registers.new ≡ kinds_in registers.old }
+    ensures others { (i j : ℕ) → i ≢ to → datum_in registers.new i j ≡ datum_in registers.old i j }
+    ensures constant { (j : ℕ) → is_constant step.now ≡ true → datum_in registers.new to j ≡ datum_in registers.old to j }
     ensures before { (j : ℕ) → take to (map (datum_at j) registers.new) ≡ take to (map (datum_at j) registers.old) }
     ensures value { (j : ℕ) → j < 64 → IsOccupied batch.now.rows (64 * block + j) →
-        read_datum texts.now (slice_index_or (map (datum_at j) registers.new) to (Datum.Int (pos 0)))
+        read_datum texts.now (datum_in registers.new to j)
         ≡ node_value (read_cells texts.now (cells_of batch.now.rows (64 * block + j)))
         (node_of texts.now step.now) (operand texts.now (take to (map (datum_at j) registers.old))) }
     ensures placed { (j : ℕ) → j < 64 → IsOccupied batch.now.rows (64 * block + j) →
-        IsPlaced texts.now (slice_index_or (map (datum_at j) registers.new) to
-        (Datum.Int (pos 0))) }
+        IsPlaced texts.now (datum_in registers.new to j) }
 {
     let (before, rest) = registers.split_at_mut(to);
     run_step(&mut rest[0], step, before, batch, texts, block);
@@ -98,7 +92,7 @@ fn run_step(
     requires operands { IsExprNode (length before.now) (node_of [] step.now) }
     requires within { IsStepWithin batch.now.kinds step.now }
     requires kind { into.old.kind ≡ step_kind batch.now.kinds step.now }
-    requires typed { IsTypedNode batch.now.kinds (map (λ r. r.kind) before.now) (node_of [] step.now) }
+    requires typed { IsTypedNode batch.now.kinds (kinds_in before.now) (node_of [] step.now) }
     requires step { IsStepPlaced texts.now step.now }
     requires block { 64 * block < length batch.now.rows }
     requires cells { HoldsPlaces texts.now batch.now.rows }

@@ -1,13 +1,12 @@
 // How the results of two steps compare, for the rows of a block.
-ghost use Rattle.std.specs.Prelude.{◌≡◌, ◌<◌, ℕ, [], true, false, length, slice_index_or};
-ghost use Rattle.std.specs.Ordering.{nat_cmp, int_cmp, bool_cmp};
-ghost use Rattle.std.specs.Cmp.Lexicographic.{slice_cmp};
+ghost use Rattle.std.specs.Prelude.{◌≡◌, ◌<◌, ℕ, true, false, length};
+ghost use Rattle.std.specs.Ordering.{int_cmp, bool_cmp};
 ghost use Rattle.occupancy.specs.Bits.{test};
-ghost use Rattle.lanes.specs.Lanes.{number, place};
+ghost use Rattle.lanes.specs.Lanes.{number};
 ghost use Rattle.tw_rows.specs.Cells.{read_datum, IsPlaced};
 ghost use Rattle.tw_rows.specs.Rows.{value_cmp};
 ghost use Rattle.plan_model.specs.Expr.{is_met};
-ghost use Rattle.lane_expr.specs.Registers.{datum_at};
+ghost use Rattle.lane_expr.specs.Registers.{datum_at, AreTexts, text_order};
 
 use crate::registers::Register;
 use crate::words::{is_marked, with_mark};
@@ -73,12 +72,10 @@ fn compare_texts(
     texts: &TextTable,
     occupied: u64,
 ) -> u64
-    requires left { (j : ℕ) → j < 64 → test occupied j ≡ true → place left.now.lanes j < length texts.now }
-    requires right { (j : ℕ) → j < 64 → test occupied j ≡ true → place right.now.lanes j < length texts.now }
+    requires left { AreTexts texts.now occupied left.now.lanes }
+    requires right { AreTexts texts.now occupied right.now.lanes }
     ensures { (j : ℕ) → j < 64 → test occupied j ≡ true →
-        test result j ≡ is_met op (slice_cmp nat_cmp
-        (slice_index_or texts.now (place left.now.lanes j) [])
-        (slice_index_or texts.now (place right.now.lanes j) [])) }
+        test result j ≡ is_met op (text_order texts.now left.now.lanes right.now.lanes j) }
 {
     match op {
         CompareOp::Eq => same_texts(left, right, texts, occupied),
@@ -89,12 +86,10 @@ fn compare_texts(
 
 // At which rows the texts are the same. The table's length has the clause that its texts are distinct.
 fn same_texts(left: &Places, right: &Places, texts: &TextTable, occupied: u64) -> u64
-    requires left { (j : ℕ) → j < 64 → test occupied j ≡ true → place left.now.lanes j < length texts.now }
-    requires right { (j : ℕ) → j < 64 → test occupied j ≡ true → place right.now.lanes j < length texts.now }
+    requires left { AreTexts texts.now occupied left.now.lanes }
+    requires right { AreTexts texts.now occupied right.now.lanes }
     ensures { (j : ℕ) → j < 64 → test occupied j ≡ true →
-        test result j ≡ is_met CompareOp.Eq (slice_cmp nat_cmp
-        (slice_index_or texts.now (place left.now.lanes j) [])
-        (slice_index_or texts.now (place right.now.lanes j) [])) }
+        test result j ≡ is_met CompareOp.Eq (text_order texts.now left.now.lanes right.now.lanes j) }
 {
     let _distinct = texts.len();
     marks_same_places(left, right)
@@ -108,12 +103,10 @@ fn order_texts(
     texts: &TextTable,
     occupied: u64,
 ) -> u64
-    requires left { (j : ℕ) → j < 64 → test occupied j ≡ true → place left.now.lanes j < length texts.now }
-    requires right { (j : ℕ) → j < 64 → test occupied j ≡ true → place right.now.lanes j < length texts.now }
+    requires left { AreTexts texts.now occupied left.now.lanes }
+    requires right { AreTexts texts.now occupied right.now.lanes }
     ensures { (j : ℕ) → j < 64 → test occupied j ≡ true →
-        test result j ≡ is_met op (slice_cmp nat_cmp
-        (slice_index_or texts.now (place left.now.lanes j) [])
-        (slice_index_or texts.now (place right.now.lanes j) [])) }
+        test result j ≡ is_met op (text_order texts.now left.now.lanes right.now.lanes j) }
 {
     let mut word = 0;
     for j in 0..BLOCK {

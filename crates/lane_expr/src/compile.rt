@@ -7,7 +7,7 @@ ghost use Rattle.plan_model.specs.Typed.{IsTyped, kind_of};
 ghost use Rattle.lane_expr.specs.Steps.{node_of, expr_of, IsStepPlaced, AreStepsPlaced, AreSteps, step_kind, with_node, with_texts};
 ghost use Rattle.lane_expr.specs.Kernels.{IsKernelOf, result_kind};
 ghost use Rattle.tw_rows.specs.Cells.{datum_kind};
-ghost use Rattle.lane_expr.specs.Registers.{datum_of, AreFilled};
+ghost use Rattle.lane_expr.specs.Registers.{kinds_in, datum_of, AreFilled};
 
 use crate::kernel::Kernel;
 use crate::registers::Register;
@@ -144,7 +144,7 @@ fn registers_of(
     columns: &[CellKind],
 ) -> Result<Vec<Register>, Memory>
     requires { AreSteps columns.now steps.now }
-    ensures kinds { IfOk result (λ v. map (λ r. r.kind) v.items ≡ map (step_kind columns.now) steps.now) }
+    ensures kinds { IfOk result (λ v. kinds_in v.items ≡ map (step_kind columns.now) steps.now) }
     ensures filled { IfOk result (λ v. AreFilled steps.now v.items) }
 {
     let mut registers = Vec::new(alloc);

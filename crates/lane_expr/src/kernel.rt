@@ -1,11 +1,10 @@
 // Kernels, and the masks that they compute.
 ghost use Rattle.std.specs.Prelude.{◌≡◌, ◌+◌, ◌*◌, ◌<◌, ◌≤◌, ℕ, [], length, map};
 ghost use Rattle.tw_rows.specs.Kinds.{cell_kind_of};
-ghost use Rattle.batch.specs.Rows.{Table};
 ghost use Rattle.occupancy.specs.Bits.{test};
 ghost use Rattle.plan_model.specs.Typed.{kind_of};
 ghost use Rattle.lane_expr.specs.Steps.{expr_of, step_kind, AreSteps, AreStepsPlaced};
-ghost use Rattle.lane_expr.specs.Registers.{is_met_at, AreFilled};
+ghost use Rattle.lane_expr.specs.Registers.{kinds_in, is_met_at, AreFilled};
 ghost use Rattle.lane_expr.specs.Kernels.{result_kind, kind_for, CanRead, HoldsPlaces, mask_of};
 
 use crate::block::run;
@@ -31,7 +30,7 @@ pub struct Kernel {
 impl Model for Kernel {
     ghost use Rattle.std.specs.Prelude.{◌≡◌, map};
     ghost use Rattle.lane_expr.specs.Steps.{AreSteps, step_kind};
-    ghost use Rattle.lane_expr.specs.Registers.{AreFilled};
+    ghost use Rattle.lane_expr.specs.Registers.{kinds_in, AreFilled};
     ghost use Rattle.lane_expr.specs.Kernels.{Program};
 
     ghost Value = { Program };
@@ -39,7 +38,7 @@ impl Model for Kernel {
     ghost view = { λ k. record { steps = k.steps.items; kinds = k.kinds.items; capacity = k.capacity } };
 
     ghost invariant = { λ k. AreSteps k.kinds.items k.steps.items
-        × (map (λ r. r.kind) k.registers.items ≡ map (step_kind k.kinds.items) k.steps.items)
+        × (kinds_in k.registers.items ≡ map (step_kind k.kinds.items) k.steps.items)
         × AreFilled k.steps.items k.registers.items };
 }
 
@@ -79,14 +78,14 @@ fn fill_mask(
 )
     requires steps { AreSteps batch.now.kinds steps.now }
     requires bit { kind_of (expr_of [] steps.now) batch.now.kinds ≡ CellKind.Bit }
-    requires kinds { map (λ r. r.kind) registers.old ≡ map (step_kind batch.now.kinds) steps.now }
+    requires kinds { kinds_in registers.old ≡ map (step_kind batch.now.kinds) steps.now }
     requires filled { AreFilled steps.now registers.old }
     requires placed { AreStepsPlaced texts.now steps.now }
     requires cells { HoldsPlaces texts.now batch.now.rows }
     requires empty { out.old.items ≡ [] }
     requires room { length batch.now.rows ≤ out.old.capacity }
     ensures mask { out.new ≡ record out.old { items = mask_of texts.now (expr_of texts.now steps.now) batch.now.rows } }
-    ensures kinds { map (λ r. r.kind) registers.new ≡ map (λ r. r.kind) registers.old }
+    ensures kinds { kinds_in registers.new ≡ kinds_in registers.old }
     ensures filled { AreFilled steps.now registers.new }
 {
     let rows = batch.rows();
@@ -106,13 +105,13 @@ fn test_block(
 ) -> u64
     requires steps { AreSteps batch.now.kinds steps.now }
     requires bit { kind_of (expr_of [] steps.now) batch.now.kinds ≡ CellKind.Bit }
-    requires kinds { map (λ r. r.kind) registers.old ≡ map (step_kind batch.now.kinds) steps.now }
+    requires kinds { kinds_in registers.old ≡ map (step_kind batch.now.kinds) steps.now }
     requires filled { AreFilled steps.now registers.old }
     requires placed { AreStepsPlaced texts.now steps.now }
     requires block { 64 * block < length batch.now.rows }
     requires cells { HoldsPlaces texts.now batch.now.rows }
     ensures bits { (j : ℕ) → j < 64 → test result j ≡ is_met_at texts.now (expr_of texts.now steps.now) batch.now.rows (64 * block + j) }
-    ensures kinds { map (λ r. r.kind) registers.new ≡ map (λ r. r.kind) registers.old }
+    ensures kinds { kinds_in registers.new ≡ kinds_in registers.old }
     ensures filled { AreFilled steps.now registers.new }
 {
     run(registers, steps, batch, texts, block);

@@ -2,7 +2,7 @@
 ghost use Rattle.std.specs.Prelude.{◌≡◌, ◌+◌, ◌<◌, ◌≤◌, ℕ, [], length, map, slice_index_or};
 ghost use Rattle.plan_model.specs.Typed.{kind_of};
 ghost use Rattle.lane_expr.specs.Steps.{expr_of, step_kind, AreSteps, AreStepsPlaced};
-ghost use Rattle.lane_expr.specs.Registers.{AreFilled};
+ghost use Rattle.lane_expr.specs.Registers.{kinds_in, AreFilled};
 ghost use Rattle.lane_expr.specs.Kernels.{result_kind, CanRead, HoldsPlaces, AreResults};
 
 use crate::block::run;
@@ -68,7 +68,7 @@ fn fill<C: Lane>(
 )
     requires steps { AreSteps batch.now.kinds steps.now }
     requires kind { kind_of (expr_of [] steps.now) batch.now.kinds ≡ C.kind }
-    requires kinds { map (λ r. r.kind) registers.old ≡ map (step_kind batch.now.kinds) steps.now }
+    requires kinds { kinds_in registers.old ≡ map (step_kind batch.now.kinds) steps.now }
     requires filled { AreFilled steps.now registers.old }
     requires placed { AreStepsPlaced texts.now steps.now }
     requires cells { HoldsPlaces texts.now batch.now.rows }
@@ -76,7 +76,7 @@ fn fill<C: Lane>(
     requires room { length batch.now.rows ≤ out.old.capacity }
     ensures results { AreResults texts.now (expr_of texts.now steps.now) batch.now.rows (map C.datum out.new.items) }
     ensures room { out.new.capacity ≡ out.old.capacity }
-    ensures kinds { map (λ r. r.kind) registers.new ≡ map (λ r. r.kind) registers.old }
+    ensures kinds { kinds_in registers.new ≡ kinds_in registers.old }
     ensures filled { AreFilled steps.now registers.new }
 {
     let rows = batch.rows();
