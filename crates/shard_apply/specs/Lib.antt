@@ -3,3 +3,4 @@ pub mod Stepping
 pub mod Rounds
 pub mod Whole
 pub mod Saving
+pub mod Shards

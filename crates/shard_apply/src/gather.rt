@@ -1,6 +1,6 @@
 // What all shards answered, put together.
 ghost use Rattle.std.specs.Prelude.{◌≡◌, ℕ, ◌+◌, ◌<◌, [], ◌∷◌, ◌++◌, vec_len, vec_capacity, ◌≤◌};
-ghost use Rattle.std.specs.Prelude.{◌↔◌, min, Some, Ok, Err, List, length, map, flat_map};
+ghost use Rattle.std.specs.Prelude.{min, Some, Ok, Err, length, map, flat_map};
 ghost use Rattle.std.specs.Prelude.{slice_index_or};
 ghost use Rattle.std.specs.Prelude.{All, IsOk, IfNone, IfSome, IfOk, IfErr, OnOk};
 ghost use Rattle.tw_rows.specs.Bag.{SameBag};
@@ -8,6 +8,7 @@ ghost use Rattle.edge_history.specs.Order.{KeepsOrder};
 ghost use Rattle.edge_stream.specs.Listing.{EdgeListView, cells_of};
 ghost use Rattle.shard_apply.specs.Stepping.{edges_answered, first_list, worse_of, worst_of, IsLeastOverflow};
 ghost use Rattle.shard_apply.specs.Rounds.{answer_at, told, IsGathered};
+ghost use Rattle.shard_apply.specs.Shards.{operators_of, rooms_of};
 
 use crate::round::Steps;
 use crate::shard::Shard;
@@ -83,8 +84,8 @@ fn take_answers<O: Operator>(
 ) -> Result<Vec<EdgeList>, Memory>
     requires { All (λ s. IsOk s.answer) shards.old }
     ensures lists { IfOk result (λ lists. map Ok lists.items ≡ map (λ s. s.answer) shards.old) }
-    ensures operators { map (λ s. s.operator) shards.new ≡ map (λ s. s.operator) shards.old }
-    ensures capacities { map (λ s. s.pools.capacity) shards.new ≡ map (λ s. s.pools.capacity) shards.old }
+    ensures operators { operators_of shards.new ≡ operators_of shards.old }
+    ensures capacities { rooms_of shards.new ≡ rooms_of shards.old }
     ensures answers { map (λ s. s.answers) shards.new ≡ map (λ s. s.answers) shards.old }
 {
     let mut lists = Vec::with_capacity(alloc, shards.len())?;
@@ -100,8 +101,8 @@ fn give_back<O: Operator>(mut lists: Vec<EdgeList>, shards: &mut [Shard<O>])
     requires many { length lists.items ≡ length shards.old }
     requires capacities { (i : ℕ) (d : EdgeListView) (e : Shard O) → i < length lists.items →
         (slice_index_or lists.items i d).capacity ≡ (slice_index_or shards.old i e).pools.capacity }
-    ensures operators { map (λ s. s.operator) shards.new ≡ map (λ s. s.operator) shards.old }
-    ensures capacities { map (λ s. s.pools.capacity) shards.new ≡ map (λ s. s.pools.capacity) shards.old }
+    ensures operators { operators_of shards.new ≡ operators_of shards.old }
+    ensures capacities { rooms_of shards.new ≡ rooms_of shards.old }
     ensures answers { map (λ s. s.answers) shards.new ≡ map (λ s. s.answers) shards.old }
 {
     while let Some(list) = lists.pop() {
@@ -127,8 +128,8 @@ pub(crate) fn gathered<O: Operator>(
     ensures capacity { IfOk result (λ list. list.capacity ≡ pools.old.capacity) }
     ensures overflow { IfErr result (λ fault. (time : ℕ) → fault ≡ StepFault.Overflow time →
         IsLeastOverflow time (map (λ s. s.answer) shards.old)) }
-    ensures operators { map (λ s. s.operator) shards.new ≡ map (λ s. s.operator) shards.old }
-    ensures capacities { map (λ s. s.pools.capacity) shards.new ≡ map (λ s. s.pools.capacity) shards.old }
+    ensures operators { operators_of shards.new ≡ operators_of shards.old }
+    ensures capacities { rooms_of shards.new ≡ rooms_of shards.old }
     ensures answers { map (λ s. s.answers) shards.new ≡ map (λ s. s.answers) shards.old }
     ensures pools { pools.new.capacity ≡ pools.old.capacity }
     ensures limit { pools.new.limit ≡ pools.old.limit }
@@ -162,8 +163,8 @@ fn turn_all<O: Operator>(shards: &mut [Shard<O>], round: usize)
     ensures answers { map (λ s. s.answer) shards.new ≡ map (λ s. answer_at s.answers.items round) shards.old }
     ensures later { (k n : ℕ) (d : Shard O) → k < length shards.old → round < n →
         answer_at (slice_index_or shards.new k d).answers.items n ≡ answer_at (slice_index_or shards.old k d).answers.items n }
-    ensures operators { map (λ s. s.operator) shards.new ≡ map (λ s. s.operator) shards.old }
-    ensures capacities { map (λ s. s.pools.capacity) shards.new ≡ map (λ s. s.pools.capacity) shards.old }
+    ensures operators { operators_of shards.new ≡ operators_of shards.old }
+    ensures capacities { rooms_of shards.new ≡ rooms_of shards.old }
 {
     for i in 0..shards.len() {
         shards[i].turn_to(round);
@@ -189,8 +190,8 @@ pub(crate) fn gathered_rounds<O: Operator>(
         (map (λ s. answer_at s.answers.items n) shards.old) (answer_at (told result.answers.items result.fault) n) }
     ensures all { IfNone result.fault (length result.answers.items ≡ count) }
     ensures few { IfSome result.fault (λ fault. length result.answers.items < count) }
-    ensures operators { map (λ s. s.operator) shards.new ≡ map (λ s. s.operator) shards.old }
-    ensures capacities { map (λ s. s.pools.capacity) shards.new ≡ map (λ s. s.pools.capacity) shards.old }
+    ensures operators { operators_of shards.new ≡ operators_of shards.old }
+    ensures capacities { rooms_of shards.new ≡ rooms_of shards.old }
     ensures pools { pools.new.capacity ≡ pools.old.capacity }
     ensures limit { pools.new.limit ≡ pools.old.limit }
 {

@@ -6,6 +6,7 @@ ghost use Rattle.edge_stream.specs.declared.saved.SavedEntry.{SavedEntry};
 ghost use Rattle.operator.specs.Standing.{IsLike, Implies};
 ghost use Rattle.shard_apply.specs.Saving.{is_row_of, AreRowsOf, AreSound, AreOwn, ShardsResume, HasLoaded};
 ghost use Rattle.shard_apply.specs.Whole.{standing_in, AreInStep, AreNew, ShardsKeep};
+ghost use Rattle.shard_apply.specs.Shards.{rooms_of};
 
 use crate::shard::Shard;
 use crate::sharded::Sharded;
@@ -105,7 +106,7 @@ fn load_shards<O: Operator>(
         i (slice_index_or saved.now i e)) → ⊥) }
     ensures like { (i : ℕ) (d : Shard O) → i < length shards.old →
         IsLike (O.standing (slice_index_or shards.old i d).operator) (O.standing (slice_index_or shards.new i d).operator) }
-    ensures capacities { map (λ s. s.pools.capacity) shards.new ≡ map (λ s. s.pools.capacity) shards.old }
+    ensures capacities { rooms_of shards.new ≡ rooms_of shards.old }
 {
     let Ok(first) = columns_below(alloc, left_key.len()) else {
         return Err(LoadFault::Memory);

@@ -1,7 +1,8 @@
 // One node at work in shards.
-ghost use Rattle.std.specs.Prelude.{◌≡◌, ℕ, ◌+◌, ◌-◌, ◌<◌, ◌≤◌, ◌^◌, [], ◌∷◌, ◌++◌, List};
+ghost use Rattle.std.specs.Prelude.{◌≡◌, ℕ, ◌+◌, ◌-◌, ◌<◌, ◌≤◌, ◌^◌, [], ◌∷◌, ◌++◌};
 ghost use Rattle.std.specs.Prelude.{min, false, length, map, vec_len, vec_capacity, All, IfOk};
 ghost use Rattle.shard_apply.specs.Whole.{first_of, side_by_side, entries_in, AreInStep, AreNew};
+ghost use Rattle.shard_apply.specs.Shards.{operators_of};
 
 use crate::shard::Shard;
 use batch::Pools;
@@ -48,7 +49,7 @@ fn shards_of<O: Operator>(
     mut pools: Vec<Pools>,
 ) -> Result<Vec<Shard<O>>, Memory>
     requires { length pools.items ≡ length operators.items }
-    ensures operators { IfOk result (λ shards. map (λ s. s.operator) shards.items ≡ operators.items) }
+    ensures operators { IfOk result (λ shards. operators_of shards.items ≡ operators.items) }
     ensures capacities { IfOk result (λ shards. (n : ℕ) → All (λ p. p.capacity ≡ n) pools.items →
         All (λ s. s.pools.capacity ≡ n) shards.items) }
 {
@@ -69,7 +70,7 @@ fn add_shard<O: Operator>(
 )
     requires some { 0 < vec_len pools.old }
     requires room { vec_len shards.old < vec_capacity shards.old }
-    ensures operators { map (λ s. s.operator) shards.new.items ≡ map (λ s. s.operator) shards.old.items ++ operator ∷ [] }
+    ensures operators { operators_of shards.new.items ≡ operators_of shards.old.items ++ operator ∷ [] }
     ensures capacities { (n : ℕ) → All (λ p. p.capacity ≡ n) pools.old.items →
         All (λ s. s.pools.capacity ≡ n) shards.old.items → All (λ s. s.pools.capacity ≡ n) shards.new.items }
     ensures pools { (n : ℕ) → All (λ p. p.capacity ≡ n) pools.old.items → All (λ p. p.capacity ≡ n) pools.new.items }

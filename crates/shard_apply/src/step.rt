@@ -1,12 +1,13 @@
 // One step of a node in shards.
 ghost use Rattle.std.specs.Prelude.{◌≡◌, ℕ, ◌≤◌, true, false, is_err, Some, None, length, map, All, IfOk, IfErr, OnOk};
 ghost use Rattle.edge_history.specs.Order.{KeepsOrder};
-ghost use Rattle.edge_stream.specs.Listing.{EdgeListView, cells_of};
+ghost use Rattle.edge_stream.specs.Listing.{cells_of};
 ghost use Rattle.plan_laws.specs.Undefined.{is_group};
 ghost use Rattle.operator.specs.Standing.{IsLike};
 ghost use Rattle.operator.specs.Steps.{AnswersBetween, StaysKept, IsFirstUndefined};
 ghost use Rattle.shard_apply.specs.Stepping.{CanTake, HasStepped};
 ghost use Rattle.shard_apply.specs.Whole.{first_of, side_by_side, standing_in, AreInStep, ShardsKeep};
+ghost use Rattle.shard_apply.specs.Shards.{operators_of, rooms_of};
 
 use crate::fork::step_shards;
 use crate::gate::Gate;
@@ -161,26 +162,26 @@ fn step_together<R: Threads + Sync, G: Gate, O: Operator>(
     cut: &Cut<'_>,
     news: &News<'_>,
 ) -> Result<EdgeList, StepFault>
-    requires in_step { AreInStep (map O.standing (map (λ s. s.operator) shards.old))
+    requires in_step { AreInStep (map O.standing (operators_of shards.old))
         cut.now.left_key.now cut.now.right_key.now }
-    requires can { CanTake (first_of (map O.standing (map (λ s. s.operator) shards.old))) pools.old.capacity
+    requires can { CanTake (first_of (map O.standing (operators_of shards.old))) pools.old.capacity
         news.now.left.now news.now.right.now news.now.left_to news.now.right_to }
     requires capacities { All (λ s. s.pools.capacity ≡ pools.old.capacity) shards.old }
     requires count { cut.now.count ≡ length shards.old }
     ensures stepped { HasStepped
-        (standing_in O.standing (side_by_side (map (λ s. s.operator) shards.old)
+        (standing_in O.standing (side_by_side (operators_of shards.old)
         cut.now.left_key.now cut.now.right_key.now false))
-        (standing_in O.standing (side_by_side (map (λ s. s.operator) shards.new)
+        (standing_in O.standing (side_by_side (operators_of shards.new)
         cut.now.left_key.now cut.now.right_key.now (is_err result)))
-        (ShardsKeep O.standing O.keeps (side_by_side (map (λ s. s.operator) shards.old)
+        (ShardsKeep O.standing O.keeps (side_by_side (operators_of shards.old)
         cut.now.left_key.now cut.now.right_key.now false))
-        (ShardsKeep O.standing O.keeps (side_by_side (map (λ s. s.operator) shards.new)
+        (ShardsKeep O.standing O.keeps (side_by_side (operators_of shards.new)
         cut.now.left_key.now cut.now.right_key.now (is_err result)))
         news.now.left.now.edges news.now.right.now.edges news.now.left_to news.now.right_to result }
     ensures in_step { OnOk result (
-        AreInStep (map O.standing (map (λ s. s.operator) shards.new))
+        AreInStep (map O.standing (operators_of shards.new))
         cut.now.left_key.now cut.now.right_key.now) }
-    ensures capacities { map (λ s. s.pools.capacity) shards.new ≡ map (λ s. s.pools.capacity) shards.old }
+    ensures capacities { rooms_of shards.new ≡ rooms_of shards.old }
     ensures pools { pools.new.capacity ≡ pools.old.capacity }
     ensures limit { pools.new.limit ≡ pools.old.limit }
 {

@@ -3,6 +3,7 @@ ghost use Rattle.std.specs.Prelude.{◌≡◌, ◌≤◌, ◌<◌, true, false, 
 ghost use Rattle.operator.specs.Standing.{IsLike};
 ghost use Rattle.shard_apply.specs.Rounds.{CanTakeAll, GoesOver};
 ghost use Rattle.shard_apply.specs.Whole.{first_of, side_by_side, standing_in, AreInStep, ShardsKeep};
+ghost use Rattle.shard_apply.specs.Shards.{operators_of, rooms_of};
 
 use crate::fork::step_rounds;
 use crate::gate::Gate;
@@ -143,23 +144,23 @@ fn steps_together<R: Threads + Sync, G: Gate, O: Operator>(
     cut: &Cut<'_>,
     rounds: &[Round],
 ) -> Steps
-    requires in_step { AreInStep (map O.standing (map (λ s. s.operator) shards.old))
+    requires in_step { AreInStep (map O.standing (operators_of shards.old))
         cut.now.left_key.now cut.now.right_key.now }
-    requires can { CanTakeAll (first_of (map O.standing (map (λ s. s.operator) shards.old)))
+    requires can { CanTakeAll (first_of (map O.standing (operators_of shards.old)))
         pools.old.capacity rounds.now }
     requires some { 1 ≤ length rounds.now }
     requires capacities { All (λ s. s.pools.capacity ≡ pools.old.capacity) shards.old }
     requires count { cut.now.count ≡ length shards.old }
     ensures over { GoesOver (standing_in O.standing) (ShardsKeep O.standing O.keeps)
-        (side_by_side (map (λ s. s.operator) shards.old) cut.now.left_key.now cut.now.right_key.now false)
-        (side_by_side (map (λ s. s.operator) shards.new)
+        (side_by_side (operators_of shards.old) cut.now.left_key.now cut.now.right_key.now false)
+        (side_by_side (operators_of shards.new)
         cut.now.left_key.now cut.now.right_key.now (is_some result.fault))
         rounds.now result.answers.items result.fault }
-    ensures in_step { IfNone result.fault (AreInStep (map O.standing (map (λ s. s.operator) shards.new))
+    ensures in_step { IfNone result.fault (AreInStep (map O.standing (operators_of shards.new))
         cut.now.left_key.now cut.now.right_key.now) }
     ensures all { IfNone result.fault (length result.answers.items ≡ length rounds.now) }
     ensures few { IfSome result.fault (λ fault. length result.answers.items < length rounds.now) }
-    ensures capacities { map (λ s. s.pools.capacity) shards.new ≡ map (λ s. s.pools.capacity) shards.old }
+    ensures capacities { rooms_of shards.new ≡ rooms_of shards.old }
     ensures pools { pools.new.capacity ≡ pools.old.capacity }
     ensures limit { pools.new.limit ≡ pools.old.limit }
 {
