@@ -24,7 +24,8 @@ fn no_sides(alloc: Global, left_key: &[usize], right_key: &[usize]) -> Result<An
     ensures left_key { IfOk result (λ s. s.rows.left.key ≡ left_key.now) }
     ensures right_key { IfOk result (λ s. s.rows.right.key ≡ right_key.now) }
     ensures by { IfOk result (λ s. AreByKey s.rows) }
-    ensures rows { IfOk result (λ s. (s.rows.left.rows ≡ []) × (s.rows.right.rows ≡ []) × (s.rows.times.rows ≡ [])) }
+    ensures rows { IfOk result (λ s. (s.rows.left.rows ≡ []) × (s.rows.right.rows ≡ [])
+        × (s.rows.times.rows ≡ [])) }
     ensures waiting { IfOk result (λ s. (s.left_waiting ≡ []) × (s.right_waiting ≡ [])) }
 {
     Ok(AntiSides {
@@ -53,7 +54,8 @@ pub fn new_anti(
     requires width { length left_kinds.now ≤ 32 }
     requires room { 1 ≤ capacity }
     ensures stands { IfOk result (λ j. standing j
-        ≡ new_standing (AntiNode 0 1 left_key.now right_key.now) left_kinds.now right_kinds.now left_kinds.now capacity) }
+        ≡ new_standing (AntiNode 0 1 left_key.now right_key.now) left_kinds.now right_kinds.now
+        left_kinds.now capacity) }
     ensures opening { IfOk result IsNew }
 {
     let sides = no_sides(alloc, left_key, right_key)?;

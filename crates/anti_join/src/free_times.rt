@@ -38,8 +38,10 @@ impl Model for FreeTimes {
 
 // Takes out the row with this key, if there is one.
 fn take_key(rows: &mut Synopsis, key: &[Datum]) -> Result<(), Memory>
-    ensures ok { OnOk result (((values : List Datum) → many (is_of_key rows.old.key values) rows.old.rows ≤ 1) →
-        SameBag rows.new.rows (filter (λ r. not (is_of_key rows.old.key key.now r)) rows.old.rows)) }
+    ensures ok { OnOk result (((values : List Datum) →
+        many (is_of_key rows.old.key values) rows.old.rows ≤ 1) →
+        SameBag rows.new.rows (filter (λ r. not
+        (is_of_key rows.old.key key.now r)) rows.old.rows)) }
     ensures err { OnErr result (rows.new.rows ≡ rows.old.rows) }
     ensures key { rows.new.key ≡ rows.old.key }
 {
@@ -91,8 +93,9 @@ impl FreeTimes {
 
     /// The key of a row is free since that time.
     pub(crate) fn set(&mut self, cells: Cells, at: Time) -> Result<(), Memory>
-        ensures ok { OnOk result (SameBag self.new.rows (record { cells = cells; start = at } ∷ filter (λ r. not
-            (is_of_key self.old.key (key_of self.old.key cells) r)) self.old.rows)) }
+        ensures ok { OnOk result (SameBag self.new.rows
+            (record { cells = cells; start = at } ∷ filter
+            (λ r. not (is_of_key self.old.key (key_of self.old.key cells) r)) self.old.rows)) }
         ensures key { self.new.key ≡ self.old.key }
     {
         self.room.write(cells.items());
@@ -103,8 +106,10 @@ impl FreeTimes {
 
     // The key of the row that an edge starts is free since its start.
     fn set_start(&mut self, edge: &Edge) -> Result<(), Memory>
-        ensures ok { OnOk result (SameBag self.new.rows (record { cells = edge.now.cells; start = edge.now.sync }
-            ∷ filter (λ r. not (is_of_key self.old.key (key_of self.old.key edge.now.cells) r)) self.old.rows)) }
+        ensures ok { OnOk result (SameBag self.new.rows
+            (record { cells = edge.now.cells; start = edge.now.sync } ∷ filter
+            (λ r. not (is_of_key self.old.key
+            (key_of self.old.key edge.now.cells) r)) self.old.rows)) }
         ensures key { self.new.key ≡ self.old.key }
     {
         self.set(edge.cells.clone()?, edge.sync)
@@ -112,7 +117,8 @@ impl FreeTimes {
 
     // Whether no time is kept of the key of a row.
     fn has_none(&mut self, cells: &[Datum]) -> bool
-        ensures none { result ≡ nat_eq (many (is_of_key self.old.key (key_of self.old.key cells.now)) self.old.rows) 0 }
+        ensures none { result ≡ nat_eq (many (is_of_key self.old.key
+            (key_of self.old.key cells.now)) self.old.rows) 0 }
         ensures same { self.new ≡ self.old }
     {
         self.room.write(cells);
@@ -128,7 +134,8 @@ impl FreeTimes {
         ensures key { IfOk result (λ f. f.key ≡ key.now) }
         ensures rows { IfOk result (λ f. SameBag f.rows (rows_of edges.now)) }
         ensures single { OnOk result (HaveOneTime key.now edges.now) }
-        ensures refused { IfErr result (λ fault. fault ≡ LoadFault.NotState → HaveOneTime key.now edges.now → ⊥) }
+        ensures refused { IfErr result (λ fault. fault ≡ LoadFault.NotState →
+            HaveOneTime key.now edges.now → ⊥) }
     {
         let mut times = FreeTimes::new(alloc, key)?;
         for edge in edges {

@@ -58,7 +58,8 @@ fn load_times(
 // Whether saved entries can be the state of an anti-join whose sides are closed up to a time, with columns of these kinds, but
 // for keys with two times.
 fn is_stored(saved: &Saved, left_kinds: &[Kind], right_kinds: &[Kind], to: Time) -> bool
-    ensures { IsTrue result ↔ AntiStored (map cell_kind_of left_kinds.now) (map cell_kind_of right_kinds.now) to saved.now }
+    ensures { IsTrue result ↔ AntiStored (map cell_kind_of left_kinds.now)
+        (map cell_kind_of right_kinds.now) to saved.now }
 {
     if !are_of_parts(saved, 5) {
         return false;
@@ -83,15 +84,22 @@ impl AntiSides {
 
     // Takes up the rows, the edges and the times that were saved. A fault changes nothing.
     fn take_up(&mut self, saved: &Saved) -> Result<(), LoadFault>
-        ensures left { OnOk result (SameBag self.new.rows.left.rows (rows_of (part_of 0 saved.now))) }
-        ensures right { OnOk result (SameBag self.new.rows.right.rows (rows_of (part_of 1 saved.now))) }
-        ensures left_waiting { OnOk result (SameBag (queued self.new.left_waiting) (part_of 2 saved.now)) }
-        ensures right_waiting { OnOk result (SameBag (queued self.new.right_waiting) (part_of 3 saved.now)) }
-        ensures times { OnOk result (SameBag self.new.rows.times.rows (rows_of (part_of 4 saved.now))) }
+        ensures left { OnOk result (SameBag self.new.rows.left.rows
+            (rows_of (part_of 0 saved.now))) }
+        ensures right { OnOk result (SameBag self.new.rows.right.rows
+            (rows_of (part_of 1 saved.now))) }
+        ensures left_waiting { OnOk result (SameBag (queued self.new.left_waiting)
+            (part_of 2 saved.now)) }
+        ensures right_waiting { OnOk result (SameBag (queued self.new.right_waiting)
+            (part_of 3 saved.now)) }
+        ensures times { OnOk result (SameBag self.new.rows.times.rows
+            (rows_of (part_of 4 saved.now))) }
         ensures by { OnOk result (AreByKey self.new.rows) }
         ensures sides { OnOk result ((left_kinds right_kinds : List CellKind) (to : ℕ) →
-            AntiStored left_kinds right_kinds to saved.now → AreSides left_kinds right_kinds to self.new) }
-        ensures single { OnOk result (HaveOneTime self.old.rows.left_key.columns (part_of 4 saved.now)) }
+            AntiStored left_kinds right_kinds to saved.now →
+            AreSides left_kinds right_kinds to self.new) }
+        ensures single { OnOk result (HaveOneTime self.old.rows.left_key.columns
+            (part_of 4 saved.now)) }
         ensures refused { IfErr result (λ fault. fault ≡ LoadFault.NotState →
             HaveOneTime self.old.rows.left_key.columns (part_of 4 saved.now) → ⊥) }
         ensures err { OnErr result (self.new ≡ self.old) }

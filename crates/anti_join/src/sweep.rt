@@ -52,7 +52,8 @@ fn tell(
     since: Option<Time>,
     rows: &[HeldRow],
 ) -> Result<(), Memory>
-    ensures { OnOk result (answer.new.items ≡ answer.old.items ++ map (told_since since t) rows.now) }
+    ensures { OnOk result (answer.new.items ≡ answer.old.items
+        ++ map (told_since since t) rows.now) }
 {
     for row in rows {
         answer.push(Edge {
@@ -95,8 +96,9 @@ impl Rows {
 
     // Tells the end of the run of a row that ended, if its key is free.
     fn tell_ended(&self, answer: &mut Vec<Edge>, t: Time, edge: &Edge) -> Result<(), Memory>
-        ensures { OnOk result (self.now.times.key ≡ self.now.left.key → answer.new.items ≡ answer.old.items
-            ++ end_of (status self.now self.now.left_key.values) t
+        ensures { OnOk result (self.now.times.key ≡ self.now.left.key →
+            answer.new.items ≡ answer.old.items ++ end_of
+            (status self.now self.now.left_key.values) t
             (record { cells = edge.now.cells; start = edge.now.other })) }
     {
         match self.status(self.left_key.values()) {
@@ -116,7 +118,8 @@ impl Rows {
     fn end_left_one(&mut self, answer: &mut Vec<Edge>, t: Time, edge: &Edge) -> Result<(), Memory>
         ensures ended { OnOk result (HoldsEnded edge.now self.old.left.rows → (w : HeldRow → ℕ) →
             total w self.old.left.rows ≡ total w self.new.left.rows + total w (ended_of edge.now)) }
-        ensures fewer { OnOk result ((w : HeldRow → ℕ) → total w self.new.left.rows ≤ total w self.old.left.rows) }
+        ensures fewer { OnOk result ((w : HeldRow → ℕ) →
+            total w self.new.left.rows ≤ total w self.old.left.rows) }
         ensures told { OnOk result (AreByKey self.old → HoldsEnded edge.now self.old.left.rows →
             Adds answer.old.items answer.new.items (flat_map (λ r. end_of (status self.old
             (left_key_of self.old r)) t r) (ended_of edge.now))) }
@@ -137,13 +140,16 @@ impl Rows {
 
     // Takes out the left rows that end, and tells the ends of their runs.
     fn end_left(&mut self, answer: &mut Vec<Edge>, t: Time, now: &[Edge]) -> Result<(), Memory>
-        ensures ended { OnOk result (((w : HeldRow → ℕ) → total w (ended_rows now.now) ≤ total w self.old.left.rows) →
-            (w : HeldRow → ℕ) → total w self.old.left.rows ≡ total w self.new.left.rows
-            + total w (ended_rows now.now)) }
-        ensures fewer { OnOk result ((w : HeldRow → ℕ) → total w self.new.left.rows ≤ total w self.old.left.rows) }
-        ensures told { OnOk result (AreByKey self.old → ((w : HeldRow → ℕ) → total w (ended_rows now.now)
-            ≤ total w self.old.left.rows) → Adds answer.old.items answer.new.items
-            (flat_map (λ r. end_of (status self.old (left_key_of self.old r)) t r) (ended_rows now.now))) }
+        ensures ended { OnOk result (((w : HeldRow → ℕ) →
+            total w (ended_rows now.now) ≤ total w self.old.left.rows) → (w : HeldRow → ℕ) →
+            total w self.old.left.rows ≡ total w self.new.left.rows + total w
+            (ended_rows now.now)) }
+        ensures fewer { OnOk result ((w : HeldRow → ℕ) →
+            total w self.new.left.rows ≤ total w self.old.left.rows) }
+        ensures told { OnOk result (AreByKey self.old →
+            ((w : HeldRow → ℕ) → total w (ended_rows now.now) ≤ total w self.old.left.rows) →
+            Adds answer.old.items answer.new.items (flat_map
+            (λ r. end_of (status self.old (left_key_of self.old r)) t r) (ended_rows now.now))) }
         ensures right { self.new.right ≡ self.old.right }
         ensures times { self.new.times ≡ self.old.times }
         ensures keys { SameKeys self.old self.new }
@@ -156,11 +162,14 @@ impl Rows {
 
     // Tells the ends of the runs of the key of a right row that comes, if it was free.
     fn tell_blocked(&self, answer: &mut Vec<Edge>, t: Time) -> Result<(), Memory>
-        ensures free { OnOk result (self.now.times.key ≡ self.now.left.key → free self.now self.now.right_key.values
-            ≡ true → answer.new.items ≡ answer.old.items
-            ++ map (told_since (Some (free_since self.now.left.key self.now.times.rows self.now.right_key.values)) t)
-            (filter (is_of_key self.now.left.key self.now.right_key.values) self.now.left.rows)) }
-        ensures blocked { OnOk result (free self.now self.now.right_key.values ≡ false → answer.new.items ≡ answer.old.items) }
+        ensures free { OnOk result (self.now.times.key ≡ self.now.left.key →
+            free self.now self.now.right_key.values ≡ true →
+            answer.new.items ≡ answer.old.items ++ map
+            (told_since (Some (free_since self.now.left.key self.now.times.rows
+            self.now.right_key.values)) t) (filter (is_of_key self.now.left.key
+            self.now.right_key.values) self.now.left.rows)) }
+        ensures blocked { OnOk result (free self.now self.now.right_key.values ≡ false →
+            answer.new.items ≡ answer.old.items) }
     {
         let key = self.right_key.values();
         if !self.is_free(key) {
@@ -182,8 +191,9 @@ impl Rows {
         t: Time,
         edge: &Edge,
     ) -> Result<(), Memory>
-        ensures started { OnOk result ((w : HeldRow → ℕ) → total w self.new.right.rows ≡ total w self.old.right.rows
-            + total w (started_of edge.now)) }
+        ensures started { OnOk result ((w : HeldRow → ℕ) →
+            total w self.new.right.rows ≡ total w self.old.right.rows + total w
+            (started_of edge.now)) }
         ensures told { OnOk result (AreByKey self.old → Adds answer.old.items answer.new.items
             (flat_map (ends_told t self.old self.new) self.old.left.rows)) }
         ensures left { self.new.left ≡ self.old.left }
@@ -201,8 +211,9 @@ impl Rows {
 
     // Puts in the right rows that start, and tells the ends of the runs of the keys that are free no more.
     fn start_right(&mut self, answer: &mut Vec<Edge>, t: Time, now: &[Edge]) -> Result<(), Memory>
-        ensures started { OnOk result ((w : HeldRow → ℕ) → total w self.new.right.rows ≡ total w self.old.right.rows
-            + total w (started_rows now.now)) }
+        ensures started { OnOk result ((w : HeldRow → ℕ) →
+            total w self.new.right.rows ≡ total w self.old.right.rows + total w
+            (started_rows now.now)) }
         ensures told { OnOk result (AreByKey self.old → Adds answer.old.items answer.new.items
             (flat_map (ends_told t self.old self.new) self.old.left.rows)) }
         ensures left { self.new.left ≡ self.old.left }
@@ -238,8 +249,10 @@ impl Rows {
     // Takes out the right row that an end edge ends. Where its key is free then, the starts of the key's runs are told.
     fn end_right_one(&mut self, answer: &mut Vec<Edge>, t: Time, edge: &Edge) -> Result<(), Memory>
         ensures ended { OnOk result (HoldsEnded edge.now self.old.right.rows → (w : HeldRow → ℕ) →
-            total w self.old.right.rows ≡ total w self.new.right.rows + total w (ended_of edge.now)) }
-        ensures fewer { OnOk result ((w : HeldRow → ℕ) → total w self.new.right.rows ≤ total w self.old.right.rows) }
+            total w self.old.right.rows ≡ total w self.new.right.rows + total w
+            (ended_of edge.now)) }
+        ensures fewer { OnOk result ((w : HeldRow → ℕ) →
+            total w self.new.right.rows ≤ total w self.old.right.rows) }
         ensures told { OnOk result (AreByKey self.old → Adds answer.old.items answer.new.items
             (flat_map (starts_told t self.old self.new) self.old.left.rows)) }
         ensures times { OnOk result (AreByKey self.old → SetsTimes t self.old self.new) }
@@ -266,7 +279,8 @@ impl Rows {
         ensures ended { OnOk result (((w : HeldRow → ℕ) → total w (ended_rows now.now)
             ≤ total w self.old.right.rows) → (w : HeldRow → ℕ) → total w self.old.right.rows
             ≡ total w self.new.right.rows + total w (ended_rows now.now)) }
-        ensures fewer { OnOk result ((w : HeldRow → ℕ) → total w self.new.right.rows ≤ total w self.old.right.rows) }
+        ensures fewer { OnOk result ((w : HeldRow → ℕ) →
+            total w self.new.right.rows ≤ total w self.old.right.rows) }
         ensures told { OnOk result (AreByKey self.old → Adds answer.old.items answer.new.items
             (flat_map (starts_told t self.old self.new) self.old.left.rows)) }
         ensures times { OnOk result (AreByKey self.old → SetsTimes t self.old self.new) }
@@ -299,10 +313,12 @@ impl Rows {
 
     // Puts in the left row that a start edge starts, and tells its start if its key is free.
     fn start_left_one(&mut self, answer: &mut Vec<Edge>, t: Time, edge: &Edge) -> Result<(), Memory>
-        ensures started { OnOk result ((w : HeldRow → ℕ) → total w self.new.left.rows ≡ total w self.old.left.rows
-            + total w (started_of edge.now)) }
-        ensures told { OnOk result (AreByKey self.old → Adds answer.old.items answer.new.items
-            (flat_map (λ r. begin_of (free self.old (left_key_of self.old r)) t r) (started_of edge.now))) }
+        ensures started { OnOk result ((w : HeldRow → ℕ) →
+            total w self.new.left.rows ≡ total w self.old.left.rows + total w
+            (started_of edge.now)) }
+        ensures told { OnOk result (AreByKey self.old →
+            Adds answer.old.items answer.new.items (flat_map
+            (λ r. begin_of (free self.old (left_key_of self.old r)) t r) (started_of edge.now))) }
         ensures right { self.new.right ≡ self.old.right }
         ensures times { self.new.times ≡ self.old.times }
         ensures keys { SameKeys self.old self.new }
@@ -318,10 +334,12 @@ impl Rows {
 
     // Puts in the left rows that start, and tells the starts of those whose key is free.
     fn start_left(&mut self, answer: &mut Vec<Edge>, t: Time, now: &[Edge]) -> Result<(), Memory>
-        ensures started { OnOk result ((w : HeldRow → ℕ) → total w self.new.left.rows ≡ total w self.old.left.rows
-            + total w (started_rows now.now)) }
-        ensures told { OnOk result (AreByKey self.old → Adds answer.old.items answer.new.items
-            (flat_map (λ r. begin_of (free self.old (left_key_of self.old r)) t r) (started_rows now.now))) }
+        ensures started { OnOk result ((w : HeldRow → ℕ) →
+            total w self.new.left.rows ≡ total w self.old.left.rows + total w
+            (started_rows now.now)) }
+        ensures told { OnOk result (AreByKey self.old →
+            Adds answer.old.items answer.new.items (flat_map
+            (λ r. begin_of (free self.old (left_key_of self.old r)) t r) (started_rows now.now))) }
         ensures right { self.new.right ≡ self.old.right }
         ensures times { self.new.times ≡ self.old.times }
         ensures keys { SameKeys self.old self.new }
@@ -335,9 +353,11 @@ impl Rows {
     // Forgets the time of a key of which an end edge took the last left row.
     fn forget_one(&mut self, edge: &Edge) -> Result<(), Memory>
         ensures times { OnOk result (AreByKey self.old → ForgetsTimes self.old self.new) }
-        ensures gone { OnOk result (AreByKey self.old → (k : List Datum) → lefts_of self.old k ≡ 0 → 1
-            ≤ many (is_of_key self.old.left.key k) (ended_of edge.now) → times_of self.old self.new k ≡ 0) }
-        ensures fewer { OnOk result ((w : HeldRow → ℕ) → total w self.new.times.rows ≤ total w self.old.times.rows) }
+        ensures gone { OnOk result (AreByKey self.old → (k : List Datum) → lefts_of self.old k ≡ 0 →
+            1 ≤ many (is_of_key self.old.left.key k) (ended_of edge.now) →
+            times_of self.old self.new k ≡ 0) }
+        ensures fewer { OnOk result ((w : HeldRow → ℕ) →
+            total w self.new.times.rows ≤ total w self.old.times.rows) }
         ensures left { self.new.left ≡ self.old.left }
         ensures right { self.new.right ≡ self.old.right }
         ensures keys { SameKeys self.old self.new }
@@ -356,9 +376,11 @@ impl Rows {
     // Forgets the times of keys that have no left row any more.
     fn forget(&mut self, now: &[Edge]) -> Result<(), Memory>
         ensures times { OnOk result (AreByKey self.old → ForgetsTimes self.old self.new) }
-        ensures gone { OnOk result (AreByKey self.old → (k : List Datum) → lefts_of self.old k ≡ 0 → 1
-            ≤ many (is_of_key self.old.left.key k) (ended_rows now.now) → times_of self.old self.new k ≡ 0) }
-        ensures fewer { OnOk result ((w : HeldRow → ℕ) → total w self.new.times.rows ≤ total w self.old.times.rows) }
+        ensures gone { OnOk result (AreByKey self.old → (k : List Datum) → lefts_of self.old k ≡ 0 →
+            1 ≤ many (is_of_key self.old.left.key k) (ended_rows now.now) →
+            times_of self.old self.new k ≡ 0) }
+        ensures fewer { OnOk result ((w : HeldRow → ℕ) →
+            total w self.new.times.rows ≤ total w self.old.times.rows) }
         ensures left { self.new.left ≡ self.old.left }
         ensures right { self.new.right ≡ self.old.right }
         ensures keys { SameKeys self.old self.new }
@@ -379,14 +401,18 @@ impl Rows {
         now_left: &[Edge],
         now_right: &[Edge],
     ) -> Result<(), Memory>
-        ensures swept { OnOk result ((a b : List CellEvent) → AreByKey self.old → t < inf → AreEvents a →
-            AreEvents b → SameBag now_left.now (news t (suc t) a) → SameBag now_right.now (news t (suc t) b) →
-            AntiHeld self.old.left.key self.old.right.key a b t self.old.left.rows self.old.right.rows
-            self.old.times.rows → AntiHeld self.old.left.key self.old.right.key a b
-            (suc t) self.new.left.rows self.new.right.rows self.new.times.rows
-            × Tells (antis self.old.left.key self.old.right.key a b) t (suc t) answer.old.items answer.new.items) }
-        ensures left_rows { OnOk result ((w : HeldRow → ℕ) → total w self.new.left.rows ≤ total w self.old.left.rows
-            + total w (started_rows now_left.now)) }
+        ensures swept { OnOk result ((a b : List CellEvent) → AreByKey self.old → t < inf →
+            AreEvents a → AreEvents b → SameBag now_left.now (news t (suc t) a) →
+            SameBag now_right.now (news t (suc t) b) →
+            AntiHeld self.old.left.key self.old.right.key a b t self.old.left.rows
+            self.old.right.rows self.old.times.rows →
+            AntiHeld self.old.left.key self.old.right.key a b (suc t) self.new.left.rows
+            self.new.right.rows self.new.times.rows
+            × Tells (antis self.old.left.key self.old.right.key a b) t (suc t) answer.old.items
+            answer.new.items) }
+        ensures left_rows { OnOk result ((w : HeldRow → ℕ) →
+            total w self.new.left.rows ≤ total w self.old.left.rows + total w
+            (started_rows now_left.now)) }
         ensures right_rows { OnOk result ((w : HeldRow → ℕ) → total w self.new.right.rows
             ≤ total w self.old.right.rows + total w (started_rows now_right.now)) }
         ensures begun { OnOk result (TimesBegin t self.old self.new) }
@@ -409,13 +435,15 @@ impl Rows {
     ) -> Result<(), Memory>
         ensures swept { OnOk result ((a b : List CellEvent) (from to : ℕ) → AreByKey self.old →
             IsDue a from to left_due.now → IsDue b from to right_due.now →
-            AntiHeld self.old.left.key self.old.right.key a b from self.old.left.rows self.old.right.rows
-            self.old.times.rows →
-            AntiHeld self.old.left.key self.old.right.key a b to self.new.left.rows self.new.right.rows
-            self.new.times.rows × Tells
-            (antis self.old.left.key self.old.right.key a b) from to answer.old.items answer.new.items) }
-        ensures left_rows { OnOk result ((w : HeldRow → ℕ) → total w self.new.left.rows ≤ total w self.old.left.rows
-            + total w (started_rows left_due.now)) }
+            AntiHeld self.old.left.key self.old.right.key a b from self.old.left.rows
+            self.old.right.rows self.old.times.rows →
+            AntiHeld self.old.left.key self.old.right.key a b to self.new.left.rows
+            self.new.right.rows self.new.times.rows
+            × Tells (antis self.old.left.key self.old.right.key a b) from to answer.old.items
+            answer.new.items) }
+        ensures left_rows { OnOk result ((w : HeldRow → ℕ) →
+            total w self.new.left.rows ≤ total w self.old.left.rows + total w
+            (started_rows left_due.now)) }
         ensures right_rows { OnOk result ((w : HeldRow → ℕ) → total w self.new.right.rows
             ≤ total w self.old.right.rows + total w (started_rows right_due.now)) }
         ensures begun { OnOk result ((kinds : List CellKind) (to : ℕ) →

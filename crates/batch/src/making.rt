@@ -17,8 +17,10 @@ impl Batch {
     /// that the pools lack are made. Where memory is wanting, those that were taken by then are dropped.
     pub fn new(alloc: Global, pools: &mut Pools, kinds: &[Kind]) -> Result<Batch, Memory>
         requires { length kinds.now ≤ 32 }
-        ensures ok { IfOk result (λ b. b ≡ record { rows = []; capacity = pools.old.capacity; kinds = map cell_kind_of kinds.now }) }
-        ensures taken { OnOk result (pools.new ≡ batch_taken pools.old (map cell_kind_of kinds.now)) }
+        ensures ok { IfOk result (λ b. b ≡ record
+            { rows = []; capacity = pools.old.capacity; kinds = map cell_kind_of kinds.now }) }
+        ensures taken { OnOk result (pools.new ≡ batch_taken pools.old
+            (map cell_kind_of kinds.now)) }
         ensures err { OnErr result (IsPartTaken pools.old pools.new (map cell_kind_of kinds.now)) }
     {
         let sync = pools.words_column()?;

@@ -23,7 +23,8 @@ impl Batch {
     /// Whether each text in the occupied rows has its place in the table. It goes through the columns
     /// of texts alone.
     pub fn are_placed(&self, texts: &TextTable) -> bool
-        ensures { IsTrue result ↔ All (λ r. r.occupied ≡ true → ArePlaced texts.now r.cells) self.now.rows }
+        ensures { IsTrue result ↔ All (λ r. r.occupied ≡ true →
+            ArePlaced texts.now r.cells) self.now.rows }
     {
         for column in self.payload.as_slice() {
             if !is_column_placed(column, &self.occupied, texts) {
@@ -37,7 +38,8 @@ impl Batch {
 // Whether the column holds no texts, or the places of texts of the table wherever a row is occupied.
 fn is_column_placed(column: &Payload, occupied: &Occupancy, texts: &TextTable) -> bool
     requires { length (payload_data column.now) ≡ length occupied.now.items }
-    ensures { IsTrue result ↔ IsColumnPlaced texts.now occupied.now.items (payload_data column.now) }
+    ensures { IsTrue result ↔ IsColumnPlaced texts.now occupied.now.items
+        (payload_data column.now) }
 {
     match column {
         Payload::Ints(_) => true,
@@ -49,7 +51,8 @@ fn is_column_placed(column: &Payload, occupied: &Occupancy, texts: &TextTable) -
 // Whether the places are those of texts of the table wherever a row is occupied.
 fn are_in_table(places: &Column<u64>, occupied: &Occupancy, texts: &TextTable) -> bool
     requires { length places.now.items ≡ length occupied.now.items }
-    ensures { IsTrue result ↔ IsColumnPlaced texts.now occupied.now.items (map Datum.Text places.now.items) }
+    ensures { IsTrue result ↔ IsColumnPlaced texts.now occupied.now.items
+        (map Datum.Text places.now.items) }
 {
     for i in 0..places.len() {
         if occupied.is_set(i) && texts.len() <= places.get(i) {

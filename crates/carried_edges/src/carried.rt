@@ -76,7 +76,8 @@ fn joined(pools: &mut Pools, list: EdgeList, later: EdgeList) -> Result<EdgeList
     requires pools { pools.old.capacity ≡ list.capacity }
     requires order { KeepsOrder (list.edges ++ later.edges) }
     ensures edges { IfOk result (λ all. all.edges ≡ list.edges ++ later.edges) }
-    ensures stay { IfOk result (λ all. may_stay list later ≡ true → all.batches ≡ list.batches + later.batches) }
+    ensures stay { IfOk result (λ all. may_stay list later ≡ true →
+        all.batches ≡ list.batches + later.batches) }
     ensures shape { IfOk result (λ all. SameShape list all) }
     ensures pools { pools.new.capacity ≡ pools.old.capacity }
     ensures limit { pools.new.limit ≡ pools.old.limit }
@@ -160,8 +161,10 @@ pub fn take_below(
     requires kinds { cells_of carried.old ≡ cells_of new }
     requires capacity { carried.old.capacity ≡ new.capacity }
     requires pools { pools.old.capacity ≡ carried.old.capacity }
-    ensures edges { IfOk result (λ due. (all : List Edge) × SameBag all (carried.old.edges ++ new.edges) × KeepsOrder all
-        × (due.edges ≡ filter (is_below below) all) × (carried.new.edges ≡ filter (is_from below) all)) }
+    ensures edges { IfOk result (λ due. (all : List Edge)
+        × SameBag all (carried.old.edges ++ new.edges) × KeepsOrder all
+        × (due.edges ≡ filter (is_below below) all)
+        × (carried.new.edges ≡ filter (is_from below) all)) }
     ensures due_kinds { IfOk result (λ due. cells_of due ≡ cells_of carried.old) }
     ensures due_capacity { IfOk result (λ due. due.capacity ≡ carried.old.capacity) }
     ensures kinds { cells_of carried.new ≡ cells_of carried.old }

@@ -31,7 +31,8 @@ pub fn save_edges(saved: &mut Saved, part: u64, edges: &[Edge]) -> Result<(), Me
 pub fn save_part(saved: &mut Saved, part: u64, list: &EdgeList) -> Result<(), Memory>
     ensures entries { OnOk result (saved.new ≡ saved.old ++ entries_of part list.now.edges) }
     ensures order { KeepsOrder list.now.edges }
-    ensures cells { OnOk result (All (λ e. map datum_kind e.cells ≡ cells_of list.now) list.now.edges) }
+    ensures cells { OnOk result (All (λ e. map datum_kind e.cells
+        ≡ cells_of list.now) list.now.edges) }
 {
     // Its call tells the proof that the edges keep the order.
     let _ = list.cursor();
@@ -117,7 +118,8 @@ fn is_real(entry: &SavedEntry) -> bool
 
 // Whether a list with columns of these kinds may hold the edge of the entry, which does not come before the time.
 fn may_be_carried(entry: &SavedEntry, kinds: &[Kind], from: Time) -> bool
-    ensures { IsTrue result ↔ MayBeCarried (map cell_kind_of kinds.now) from (saved_edge entry.now) }
+    ensures { IsTrue result ↔ MayBeCarried (map cell_kind_of kinds.now) from
+        (saved_edge entry.now) }
 {
     is_real(entry) && is_stored_as(entry.cells.items(), kinds) && from <= entry.sync
 }
@@ -152,7 +154,8 @@ fn rank_behind(
 /// Whether a list with columns of these kinds may hold the edges of the entries of that part, and none of them comes before
 /// the time. It takes no memory.
 pub fn is_edge_part(saved: &Saved, part: u64, kinds: &[Kind], from: Time) -> bool
-    ensures { IsTrue result ↔ IsEdgePart (map cell_kind_of kinds.now) from (part_of part saved.now) }
+    ensures { IsTrue result ↔ IsEdgePart (map cell_kind_of kinds.now) from
+        (part_of part saved.now) }
 {
     let entries = saved.entries();
     let mut least = 0;
@@ -173,7 +176,8 @@ pub fn load_part(
     like: &EdgeList,
 ) -> Result<EdgeList, Memory>
     requires order { KeepsOrder (part_of part saved.now) }
-    requires cells { All (λ e. map datum_kind e.cells ≡ cells_of like.now) (part_of part saved.now) }
+    requires cells { All (λ e. map datum_kind e.cells ≡ cells_of like.now)
+        (part_of part saved.now) }
     ensures edges { IfOk result (λ list. list.edges ≡ part_of part saved.now) }
     ensures shape { IfOk result (λ list. SameShape like.now list) }
 {

@@ -35,7 +35,8 @@ fn push_datum(out: &mut Vec<u8>, datum: Datum) -> Result<(), Memory>
 
 // Appends the cells, each behind a comma.
 fn push_cells(out: &mut Vec<u8>, cells: &[Datum]) -> Result<(), Memory>
-    ensures { OnOk result (out.new.items ≡ out.old.items ++ flat_map (λ d. 44 ∷ datum_text d) cells.now) }
+    ensures { OnOk result (out.new.items ≡ out.old.items ++ flat_map
+        (λ d. 44 ∷ datum_text d) cells.now) }
 {
     for datum in cells {
         out.push(b',')?;

@@ -16,8 +16,10 @@ pub fn lines_say_what_was_written()
     ensures times { (line : List ℕ) (lines last : ℕ) →
         (time_of line ≡ Some (lines, last)) ↔ (IsTimes lines last × (line ≡ time_line lines last)) }
     ensures bounds { (line : List ℕ) (bound mark : ℕ) →
-        (bound_of line ≡ Some (bound, mark)) ↔ (IsBound bound mark × (line ≡ bound_line bound mark)) }
-    ensures texts { (line text : List ℕ) → (text_of line ≡ Some text) ↔ (IsText text × (line ≡ text_line text)) }
+        (bound_of line ≡ Some (bound, mark)) ↔ (IsBound bound mark
+        × (line ≡ bound_line bound mark)) }
+    ensures texts { (line text : List ℕ) → (text_of line ≡ Some text) ↔
+        (IsText text × (line ≡ text_line text)) }
     ensures entries { (kinds : List CellKind) (line : List ℕ) (x : EntryLine) →
         (entry_of kinds line ≡ Some x) ↔ (IsEntry kinds x × (line ≡ line_of_entry x)) }
     ensures parts { (kinds : List CellKind) (x : EntryLine) → IsEntry kinds x →
@@ -28,11 +30,12 @@ pub fn lines_say_what_was_written()
 /// at most, a text comes from a line or from the query, and no row has 3,000 columns.
 pub fn lines_are_short()
     ensures query { (bytes : List ℕ) → length bytes ≤ 30000 → length (query_line bytes) ≤ 65536 }
-    ensures options { (workers : ℕ) (policy : Policy) → workers < 2 ^ 64 → policy.lateness < 2 ^ 64 → policy.period < 2 ^ 64 →
+    ensures options { (workers : ℕ) (policy : Policy) → workers < 2 ^ 64 →
+        policy.lateness < 2 ^ 64 → policy.period < 2 ^ 64 →
         length (options_line workers policy) ≤ 65536 }
     ensures times { (lines last : ℕ) → IsTimes lines last → length (time_line lines last) ≤ 65536 }
     ensures bounds { (bound mark : ℕ) → length (bound_line bound mark) ≤ 65536 }
     ensures texts { (text : List ℕ) → length text ≤ 65530 → length (text_line text) ≤ 65536 }
-    ensures entries { (kinds : List CellKind) (x : EntryLine) → IsEntry kinds x → length kinds ≤ 3000 →
-        length (line_of_entry x) ≤ 65536 }
+    ensures entries { (kinds : List CellKind) (x : EntryLine) → IsEntry kinds x →
+        length kinds ≤ 3000 → length (line_of_entry x) ≤ 65536 }
 {}

@@ -31,7 +31,8 @@ fn has_break(bytes: &[u8]) -> bool
 
 // What stands behind the word of the line.
 fn behind_word(line: &[u8]) -> Option<&[u8]>
-    ensures some { IfSome result (λ text. (same_text (take 6 line.now) (codes "#text,") ≡ true) × (text.now ≡ drop 6 line.now)) }
+    ensures some { IfSome result (λ text. (same_text (take 6 line.now) (codes "#text,") ≡ true)
+        × (text.now ≡ drop 6 line.now)) }
     ensures none { IfNone result (same_text (take 6 line.now) (codes "#text,") ≡ false) }
 {
     line.strip_prefix(b"#text,".as_slice())

@@ -50,7 +50,8 @@ pub fn new_clip(
     requires width { length left_kinds.now ≤ 32 }
     requires room { 1 ≤ capacity }
     ensures stands { IfOk result (λ c. standing c
-        ≡ new_standing (ClipNode 0 1 left_key.now right_key.now) left_kinds.now right_kinds.now left_kinds.now capacity) }
+        ≡ new_standing (ClipNode 0 1 left_key.now right_key.now) left_kinds.now right_kinds.now
+        left_kinds.now capacity) }
     ensures opening { IfOk result IsNew }
 {
     let sides = no_sides(alloc, left_key, right_key)?;

@@ -42,11 +42,15 @@ impl ClipSides {
 
     // Takes up the rows and the edges that were saved. Out of memory nothing changes.
     fn take_up(&mut self, saved: &Saved) -> Result<(), Memory>
-        ensures rows { OnOk result (SameBag self.new.rows.left.rows (rows_of (part_of 0 saved.now))) }
-        ensures left_waiting { OnOk result (SameBag (queued self.new.left_waiting) (part_of 1 saved.now)) }
-        ensures right_waiting { OnOk result (SameBag (queued self.new.right_waiting) (part_of 2 saved.now)) }
+        ensures rows { OnOk result (SameBag self.new.rows.left.rows
+            (rows_of (part_of 0 saved.now))) }
+        ensures left_waiting { OnOk result (SameBag (queued self.new.left_waiting)
+            (part_of 1 saved.now)) }
+        ensures right_waiting { OnOk result (SameBag (queued self.new.right_waiting)
+            (part_of 2 saved.now)) }
         ensures sides { OnOk result ((left_kinds right_kinds : List CellKind) (to : ℕ) →
-            ClipSound left_kinds right_kinds to saved.now → AreSides left_kinds right_kinds to self.new) }
+            ClipSound left_kinds right_kinds to saved.now →
+            AreSides left_kinds right_kinds to self.new) }
         ensures err { OnErr result (self.new ≡ self.old) }
         ensures left_key { OnOk result (self.new.rows.left.key ≡ self.old.left_key.items) }
         ensures right_key { self.new.rows.right_key ≡ self.old.rows.right_key }
@@ -64,7 +68,8 @@ impl ClipSides {
 
 // Whether saved entries can be the state of a clip whose sides are closed up to a time, with columns of these kinds.
 fn is_sound(saved: &Saved, left_kinds: &[Kind], right_kinds: &[Kind], to: Time) -> bool
-    ensures { IsTrue result ↔ ClipSound (map cell_kind_of left_kinds.now) (map cell_kind_of right_kinds.now) to saved.now }
+    ensures { IsTrue result ↔ ClipSound (map cell_kind_of left_kinds.now)
+        (map cell_kind_of right_kinds.now) to saved.now }
 {
     if !are_of_parts(saved, 3) {
         return false;

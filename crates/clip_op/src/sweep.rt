@@ -45,7 +45,8 @@ fn tell_ends(answer: &mut Vec<Edge>, t: Time, rows: &[HeldRow]) -> Result<(), Me
 // Takes out the rows that end edges name.
 fn take_out(rows: &mut Synopsis, ends: &[Edge])
     ensures taken { ((w : HeldRow → ℕ) → total w (map row_named ends.now) ≤ total w rows.old.rows) →
-        (w : HeldRow → ℕ) → total w rows.old.rows ≡ total w rows.new.rows + total w (map row_named ends.now) }
+        (w : HeldRow → ℕ) → total w rows.old.rows ≡ total w rows.new.rows
+        + total w (map row_named ends.now) }
     ensures key { rows.new.key ≡ rows.old.key }
 {
     for end in ends {
@@ -59,8 +60,8 @@ impl Rows {
     // Takes out all left rows of the key that the room holds, and tells their ends.
     fn clip_key(&mut self, answer: &mut Vec<Edge>, t: Time) -> Result<(), Memory>
         ensures left { OnOk result (Leave (filter
-            (is_of_key self.old.left.key self.old.right_key.values) self.old.left.rows) t self.old.left.rows
-            self.new.left.rows answer.old.items answer.new.items) }
+            (is_of_key self.old.left.key self.old.right_key.values) self.old.left.rows) t
+            self.old.left.rows self.new.left.rows answer.old.items answer.new.items) }
         ensures keys { SameKeys self.old self.new }
     {
         let told = answer.len();
@@ -72,8 +73,8 @@ impl Rows {
     // Takes out the left rows that right starts meet, and tells their ends.
     fn clip_rows(&mut self, answer: &mut Vec<Edge>, t: Time, now: &[Edge]) -> Result<(), Memory>
         ensures left { OnOk result (Leave (filter
-            (is_met self.old.left.key self.old.right_key.columns now.now) self.old.left.rows) t self.old.left.rows
-            self.new.left.rows answer.old.items answer.new.items) }
+            (is_met self.old.left.key self.old.right_key.columns now.now) self.old.left.rows) t
+            self.old.left.rows self.new.left.rows answer.old.items answer.new.items) }
         ensures keys { SameKeys self.old self.new }
     {
         for edge in now {
@@ -86,10 +87,11 @@ impl Rows {
     // Takes out the left row that an end edge ends, and tells its end. A row that was clipped is not there any more.
     fn end_one(&mut self, answer: &mut Vec<Edge>, t: Time, edge: &Edge) -> Result<(), Memory>
         ensures ended { OnOk result ((clipped : HeldRow → Bool) →
-            EndsHeld clipped (ended_of edge.now) self.old.left.rows → Leave
-            (filter (λ r. not (clipped r))
-            (ended_of edge.now)) t self.old.left.rows self.new.left.rows answer.old.items answer.new.items) }
-        ensures fewer { OnOk result ((w : HeldRow → ℕ) → total w self.new.left.rows ≤ total w self.old.left.rows) }
+            EndsHeld clipped (ended_of edge.now) self.old.left.rows →
+            Leave (filter (λ r. not (clipped r)) (ended_of edge.now)) t self.old.left.rows
+            self.new.left.rows answer.old.items answer.new.items) }
+        ensures fewer { OnOk result ((w : HeldRow → ℕ) →
+            total w self.new.left.rows ≤ total w self.old.left.rows) }
         ensures keys { SameKeys self.old self.new }
     {
         if !edge.is_end() {
@@ -109,10 +111,11 @@ impl Rows {
     // Takes out the left rows that end, and tells their ends.
     fn end_rows(&mut self, answer: &mut Vec<Edge>, t: Time, now: &[Edge]) -> Result<(), Memory>
         ensures ended { OnOk result ((clipped : HeldRow → Bool) →
-            EndsHeld clipped (ended_rows now.now) self.old.left.rows → Leave
-            (filter (λ r. not (clipped r))
-            (ended_rows now.now)) t self.old.left.rows self.new.left.rows answer.old.items answer.new.items) }
-        ensures fewer { OnOk result ((w : HeldRow → ℕ) → total w self.new.left.rows ≤ total w self.old.left.rows) }
+            EndsHeld clipped (ended_rows now.now) self.old.left.rows →
+            Leave (filter (λ r. not (clipped r)) (ended_rows now.now)) t self.old.left.rows
+            self.new.left.rows answer.old.items answer.new.items) }
+        ensures fewer { OnOk result ((w : HeldRow → ℕ) →
+            total w self.new.left.rows ≤ total w self.old.left.rows) }
         ensures keys { SameKeys self.old self.new }
     {
         for edge in now {
@@ -123,9 +126,11 @@ impl Rows {
 
     // Puts in the left row that a start edge starts, and tells its start.
     fn start_one(&mut self, answer: &mut Vec<Edge>, t: Time, edge: &Edge) -> Result<(), Memory>
-        ensures started { OnOk result ((w : HeldRow → ℕ) → total w self.new.left.rows ≡ total w self.old.left.rows
-            + total w (started_of edge.now)) }
-        ensures told { OnOk result (Adds answer.old.items answer.new.items (map (told_at true t) (started_of edge.now))) }
+        ensures started { OnOk result ((w : HeldRow → ℕ) →
+            total w self.new.left.rows ≡ total w self.old.left.rows + total w
+            (started_of edge.now)) }
+        ensures told { OnOk result (Adds answer.old.items answer.new.items
+            (map (told_at true t) (started_of edge.now))) }
         ensures keys { SameKeys self.old self.new }
     {
         if edge.is_end() {
@@ -142,9 +147,11 @@ impl Rows {
 
     // Puts in the left rows that start, and tells their starts.
     fn start_rows(&mut self, answer: &mut Vec<Edge>, t: Time, now: &[Edge]) -> Result<(), Memory>
-        ensures started { OnOk result ((w : HeldRow → ℕ) → total w self.new.left.rows ≡ total w self.old.left.rows
-            + total w (started_rows now.now)) }
-        ensures told { OnOk result (Adds answer.old.items answer.new.items (map (told_at true t) (started_rows now.now))) }
+        ensures started { OnOk result ((w : HeldRow → ℕ) →
+            total w self.new.left.rows ≡ total w self.old.left.rows + total w
+            (started_rows now.now)) }
+        ensures told { OnOk result (Adds answer.old.items answer.new.items
+            (map (told_at true t) (started_rows now.now))) }
         ensures keys { SameKeys self.old self.new }
     {
         for edge in now {
@@ -163,13 +170,16 @@ impl Rows {
         now_right: &[Edge],
     ) -> Result<(), Memory>
         ensures swept { OnOk result ((a b : List CellEvent) → t < inf → AreEvents a →
-            SameBag now_left.now (news t (suc t) a) → SameBag now_right.now (news t (suc t) (map unending b)) →
-            ClipHeld self.old.left.key self.old.right_key.columns a (map unending b) t self.old.left.rows →
-            ClipHeld self.old.left.key self.old.right_key.columns a (map unending b) (suc t) self.new.left.rows
-            × Tells (clips self.old.left.key self.old.right_key.columns a
+            SameBag now_left.now (news t (suc t) a) →
+            SameBag now_right.now (news t (suc t) (map unending b)) →
+            ClipHeld self.old.left.key self.old.right_key.columns a
+            (map unending b) t self.old.left.rows →
+            ClipHeld self.old.left.key self.old.right_key.columns a (map unending b)
+            (suc t) self.new.left.rows × Tells (clips self.old.left.key self.old.right_key.columns a
             (map unending b)) t (suc t) answer.old.items answer.new.items) }
-        ensures rows { OnOk result ((w : HeldRow → ℕ) → total w self.new.left.rows ≤ total w self.old.left.rows
-            + total w (started_rows now_left.now)) }
+        ensures rows { OnOk result ((w : HeldRow → ℕ) →
+            total w self.new.left.rows ≤ total w self.old.left.rows + total w
+            (started_rows now_left.now)) }
         ensures keys { SameKeys self.old self.new }
     {
         self.clip_rows(answer, t, now_right)?;
@@ -185,13 +195,17 @@ impl Rows {
         left_due: &[Edge],
         right_due: &[Edge],
     ) -> Result<(), Memory>
-        ensures swept { OnOk result ((a b : List CellEvent) (from to : ℕ) → IsDue a from to left_due.now → IsDue
-            (map unending b) from to right_due.now → ClipHeld self.old.left.key self.old.right_key.columns a
-            (map unending b) from self.old.left.rows → ClipHeld self.old.left.key self.old.right_key.columns a
-            (map unending b) to self.new.left.rows × Tells (clips self.old.left.key self.old.right_key.columns a
+        ensures swept { OnOk result ((a b : List CellEvent) (from to : ℕ) →
+            IsDue a from to left_due.now → IsDue (map unending b) from to right_due.now →
+            ClipHeld self.old.left.key self.old.right_key.columns a
+            (map unending b) from self.old.left.rows →
+            ClipHeld self.old.left.key self.old.right_key.columns a
+            (map unending b) to self.new.left.rows × Tells
+            (clips self.old.left.key self.old.right_key.columns a
             (map unending b)) from to answer.old.items answer.new.items) }
-        ensures rows { OnOk result ((w : HeldRow → ℕ) → total w self.new.left.rows ≤ total w self.old.left.rows
-            + total w (started_rows left_due.now)) }
+        ensures rows { OnOk result ((w : HeldRow → ℕ) →
+            total w self.new.left.rows ≤ total w self.old.left.rows + total w
+            (started_rows left_due.now)) }
         ensures keys { SameKeys self.old self.new }
     {
         let mut i = 0;

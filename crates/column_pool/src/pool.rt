@@ -61,7 +61,8 @@ impl<T: Cell> Pool<T> {
     /// Takes out a free column, which is empty.
     pub fn take(&mut self) -> Option<Column<T>>
         ensures none { IsNone result ↔ (self.old.free ≡ 0) }
-        ensures empty { IfSome result (λ c. c ≡ record { items = []; capacity = self.old.capacity }) }
+        ensures empty { IfSome result
+            (λ c. c ≡ record { items = []; capacity = self.old.capacity }) }
         ensures left { self.new ≡ record self.old { free = self.old.free - 1 } }
     {
         self.columns.pop()

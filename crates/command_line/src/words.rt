@@ -59,19 +59,22 @@ pub enum WordsFault {
 }
 
 fn query_of<'a>(matches: &ArgMatches<'a>) -> &'a str
-    ensures { (q : Text) → first_value (found_of matches.now) (codes "query") ≡ Some q → result.now ≡ q }
+    ensures { (q : Text) → first_value (found_of matches.now) (codes "query") ≡ Some q →
+        result.now ≡ q }
 {
     matches.get_str("query").unwrap_or("")
 }
 
 fn header_of(matches: &ArgMatches<'_>) -> bool
-    ensures { (b : Bool) → one_text (found_of matches.now) (codes "header") ≡ Some (bool_text b) → result ≡ b }
+    ensures { (b : Bool) → one_text (found_of matches.now) (codes "header") ≡ Some (bool_text b) →
+        result ≡ b }
 {
     matches.get_flag("header")
 }
 
 fn mode_of(matches: &ArgMatches<'_>) -> Mode
-    ensures { (m : Mode) → first_value (found_of matches.now) (codes "mode") ≡ Some (mode_text m) → result ≡ m }
+    ensures { (m : Mode) → first_value (found_of matches.now) (codes "mode") ≡ Some (mode_text m) →
+        result ≡ m }
 {
     match matches.get_str("mode") {
         Some("freeze") => Mode::Freeze,
@@ -83,13 +86,15 @@ fn mode_of(matches: &ArgMatches<'_>) -> Mode
 }
 
 fn size_of(matches: &ArgMatches<'_>, name: &str) -> usize
-    ensures { (least most n : ℕ) → ShowsNumber (found_of matches.now) name.now least most n → result ≡ n }
+    ensures { (least most n : ℕ) → ShowsNumber (found_of matches.now) name.now least most n →
+        result ≡ n }
 {
     matches.get_one::<usize>(name).unwrap_or(0)
 }
 
 fn late_of(matches: &ArgMatches<'_>) -> Lateness
-    ensures { (l : SomeLateness) → first_value (found_of matches.now) (codes "late") ≡ Some (late_text l) → result ≡ l }
+    ensures { (l : SomeLateness) → first_value (found_of matches.now) (codes "late")
+        ≡ Some (late_text l) → result ≡ l }
 {
     match matches.get_str("late") {
         Some("drop") => Lateness::Drop,
@@ -99,7 +104,8 @@ fn late_of(matches: &ArgMatches<'_>) -> Lateness
 }
 
 fn number_of(matches: &ArgMatches<'_>, name: &str) -> u64
-    ensures { (least most n : ℕ) → ShowsNumber (found_of matches.now) name.now least most n → result ≡ n }
+    ensures { (least most n : ℕ) → ShowsNumber (found_of matches.now) name.now least most n →
+        result ≡ n }
 {
     matches.get_one::<u64>(name).unwrap_or(0)
 }
@@ -132,8 +138,10 @@ fn command_of<'a>(matches: &ArgMatches<'a>) -> CommandLine<'a>
 
 fn match_words<'a>(alloc: Global, words: &'a [&'a str]) -> Result<ArgMatches<'a>, Error>
     ensures taken { IfOk result (λ _. are_taken (map (λ w. w.now) words.now) ≡ true) }
-    ensures matches { IfOk result (λ m. rows_of (found_of m) ≡ matches_of tempo_app (map (λ w. w.now) words.now)) }
-    ensures refused { IfErr result (λ e. are_taken (map (λ w. w.now) words.now) ≡ true → kind_of e ≡ ErrorKind.OutOfMemory) }
+    ensures matches { IfOk result (λ m. rows_of (found_of m)
+        ≡ matches_of tempo_app (map (λ w. w.now) words.now)) }
+    ensures refused { IfErr result (λ e. are_taken (map (λ w. w.now) words.now) ≡ true →
+        kind_of e ≡ ErrorKind.OutOfMemory) }
 {
     let command = tempo_command(alloc)?;
     command.try_get_matches_from(words)
@@ -141,7 +149,8 @@ fn match_words<'a>(alloc: Global, words: &'a [&'a str]) -> Result<ArgMatches<'a>
 
 // What is told of an error of clap.
 fn fault_of(alloc: Global, error: &Error) -> WordsFault
-    ensures { (words : List Text) → (are_taken words ≡ true → kind_of error.now ≡ ErrorKind.OutOfMemory) → HasCause words result }
+    ensures { (words : List Text) → (are_taken words ≡ true →
+        kind_of error.now ≡ ErrorKind.OutOfMemory) → HasCause words result }
 {
     if error.kind() == ErrorKind::OutOfMemory {
         return WordsFault::Memory;

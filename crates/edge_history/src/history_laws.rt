@@ -11,7 +11,8 @@ ghost use Rattle.edge_history.specs.Balance.{AreEventsOf};
 
 /// None of the items fails a test exactly where all pass it.
 pub fn none_fails_where_all_pass()
-    ensures { (test : Edge → Bool) (h : List Edge) → (failing test h ≡ 0) ↔ All (λ e. IsTrue (test e)) h }
+    ensures { (test : Edge → Bool) (h : List Edge) →
+        (failing test h ≡ 0) ↔ All (λ e. IsTrue (test e)) h }
 {}
 
 /// A list is in order exactly where no edge has a greater rank than a later one.
@@ -32,13 +33,15 @@ pub fn histories_have_their_events()
 
 /// A list of edges has one multiset of events by balance.
 pub fn events_are_unique()
-    ensures { (h : List Edge) (a b : List CellEvent) → AreEventsOf h a → AreEventsOf h b → SameBag a b }
+    ensures { (h : List Edge) (a b : List CellEvent) → AreEventsOf h a → AreEventsOf h b →
+        SameBag a b }
 {}
 
 /// The events of a history have lives that begin before they end.
 pub fn events_have_lives()
     ensures plain { (h : List Edge) → IsHistory h → AreEvents (of h) }
-    ensures balance { (h : List Edge) (a : List CellEvent) → IsHistory h → AreEventsOf h a → AreEvents a }
+    ensures balance { (h : List Edge) (a : List CellEvent) → IsHistory h → AreEventsOf h a →
+        AreEvents a }
 {}
 
 /// The events of a longer history are those of its first edges and those that the new edges begin, once the new ends
@@ -69,7 +72,8 @@ pub fn first_edges_are_a_history()
 /// The edges of a history below a time are its first edges and a history, of whose events the same is known below that
 /// time.
 pub fn edges_below_are_a_history()
-    ensures first { (t : ℕ) (h : List Edge) → IsHistory h → h ≡ filter (is_below t) h ++ filter (is_from t) h }
+    ensures first { (t : ℕ) (h : List Edge) → IsHistory h →
+        h ≡ filter (is_below t) h ++ filter (is_from t) h }
     ensures history { (t : ℕ) (h : List Edge) → IsHistory h → IsHistory (filter (is_below t) h) }
     ensures known { (t : ℕ) (h : List Edge) → t ≤ inf → IsHistory h →
         SameBag (cut t (of (filter (is_below t) h))) (cut t (of h)) }

@@ -22,11 +22,11 @@ pub fn forms_of_standing_agree()
 /// The edges of a history below a time stand for its events below it. Those of a list in any order do so once they are
 /// put in order.
 pub fn edges_stand_for_their_own_events()
-    ensures history { (c : ℕ) (h : List Edge) (own : List CellEvent) → c ≤ inf → IsHistory h → AreEventsOf h own →
-        StandsBelow c (filter (is_below c) h) own }
+    ensures history { (c : ℕ) (h : List Edge) (own : List CellEvent) → c ≤ inf → IsHistory h →
+        AreEventsOf h own → StandsBelow c (filter (is_below c) h) own }
     ensures any_order { (c : ℕ) (h sorted : List Edge) (own : List CellEvent) → c ≤ inf →
-        failing is_real h ≡ 0 → AreEventsOf h own → Rises 0 sorted → SameBag sorted (filter (is_below c) h) →
-        StandsBelow c sorted own }
+        failing is_real h ≡ 0 → AreEventsOf h own → Rises 0 sorted →
+        SameBag sorted (filter (is_below c) h) → StandsBelow c sorted own }
 {}
 
 /// Where edges stand for events below a time, those below an earlier time stand for them below that. They are told so
@@ -48,13 +48,14 @@ pub fn standing_depends_on_known_events()
     ensures told { (c : ℕ) (h : List Edge) (a b : List CellEvent) → SameBag (cut c a) (cut c b) →
         Told c h a → Told c h b }
     ensures known { (c : ℕ) (h other : List Edge) (events : List CellEvent) →
-        StandsBelow c h events → StandsBelow c other events → SameBag (cut c (of h)) (cut c (of other)) }
+        StandsBelow c h events → StandsBelow c other events →
+        SameBag (cut c (of h)) (cut c (of other)) }
     ensures each { (c : ℕ) (h other : List Edge) (events : List CellEvent) →
         StandsBelow c h events → StandsBelow c other events → StandsBelow c h (of other) }
 {}
 
 /// Where edges stand for events below a time, at each instant below it the same rows are alive.
 pub fn standing_edges_have_the_rows()
-    ensures { (c t : ℕ) (h : List Edge) (events : List CellEvent) → t < c → c ≤ inf → StandsBelow c h events →
-        SameBag (alive (of h) t) (alive events t) }
+    ensures { (c t : ℕ) (h : List Edge) (events : List CellEvent) → t < c → c ≤ inf →
+        StandsBelow c h events → SameBag (alive (of h) t) (alive events t) }
 {}

@@ -23,7 +23,8 @@ pub fn news_is_told()
 
 /// What is told is a history: that it stands for events makes it paired.
 pub fn told_edges_are_a_history()
-    ensures { (c : ℕ) (told : List Edge) (events : List CellEvent) → c ≤ inf → Told c told events → IsHistory told }
+    ensures { (c : ℕ) (told : List Edge) (events : List CellEvent) → c ≤ inf → Told c told events →
+        IsHistory told }
 {}
 
 /// News from c to d comes at c or later and below d; each of its edges is real, and tells of a start or of an end.
@@ -32,8 +33,8 @@ pub fn news_comes_between()
         SameBag answer (news c d events) → failing (is_from c) answer ≡ 0 }
     ensures below { (c d : ℕ) (answer : List Edge) (events : List CellEvent) →
         SameBag answer (news c d events) → failing (is_below d) answer ≡ 0 }
-    ensures real { (c d : ℕ) (answer : List Edge) (events : List CellEvent) → d ≤ inf → AreEvents events →
-        SameBag answer (news c d events) → failing is_real answer ≡ 0 }
+    ensures real { (c d : ℕ) (answer : List Edge) (events : List CellEvent) → d ≤ inf →
+        AreEvents events → SameBag answer (news c d events) → failing is_real answer ≡ 0 }
     ensures single { (c d : ℕ) (answer : List Edge) (events : List CellEvent) → AreEvents events →
         SameBag answer (news c d events) → failing is_single answer ≡ 0 }
 {}

@@ -47,7 +47,8 @@ impl<'a> Model for Cursor<'a> {
 // The first place at this one or later where an occupied row stands, and the place past the last
 // batch where there is none.
 fn next_place(batches: &VecDeque<Batch>, from_place: usize, from_row: usize) -> (usize, usize)
-    ensures same { edges_from result.1 (drop result.0 batches.now.items) ≡ edges_from from_row (drop from_place batches.now.items) }
+    ensures same { edges_from result.1 (drop result.0 batches.now.items)
+        ≡ edges_from from_row (drop from_place batches.now.items) }
     ensures at { IsAtEdge batches.now.items result.0 result.1 }
 {
     let mut place = from_place;
@@ -68,7 +69,8 @@ impl<'a> Cursor<'a> {
     /// A cursor before the first edge of the batches.
     pub(crate) fn new(batches: &'a VecDeque<Batch>, kinds: &'a [Kind]) -> Cursor<'a>
         requires { AreOfKinds (map cell_kind_of kinds.now) batches.now.items }
-        ensures { result ≡ record { edges = edges_in batches.now.items; kinds = map cell_kind_of kinds.now } }
+        ensures { result ≡ record { edges = edges_in batches.now.items; kinds = map cell_kind_of
+            kinds.now } }
     {
         let (place, row) = next_place(batches, 0, 0);
         Cursor {
@@ -81,7 +83,8 @@ impl<'a> Cursor<'a> {
 
     /// Goes past the next edge.
     pub(crate) fn advance(&mut self)
-        ensures edges { (e : Edge) (rest : List Edge) → self.old.edges ≡ e ∷ rest → self.new.edges ≡ rest }
+        ensures edges { (e : Edge) (rest : List Edge) → self.old.edges ≡ e ∷ rest →
+            self.new.edges ≡ rest }
         ensures kinds { self.new.kinds ≡ self.old.kinds }
     {
         if self.place < self.batches.len() {
@@ -95,9 +98,11 @@ impl<'a> Cursor<'a> {
 
     /// The next edge. Memory is taken only for more than 4 cells; want of it leaves the cursor where it was.
     pub fn next(&mut self) -> Result<Option<Edge>, Memory>
-        ensures edges { IfOk result (λ item. self.old.edges ≡ option_to_list item ++ self.new.edges) }
+        ensures edges { IfOk result (λ item. self.old.edges ≡ option_to_list item
+            ++ self.new.edges) }
         ensures end { IfOk result (λ item. IsNone item ↔ (self.old.edges ≡ [])) }
-        ensures cells { IfOk result (λ item. IfSome item (λ e. map datum_kind e.cells ≡ self.old.kinds)) }
+        ensures cells { IfOk result (λ item. IfSome item
+            (λ e. map datum_kind e.cells ≡ self.old.kinds)) }
         ensures err { OnErr result (self.new.edges ≡ self.old.edges) }
         ensures kinds { self.new.kinds ≡ self.old.kinds }
     {
@@ -112,8 +117,10 @@ impl<'a> Cursor<'a> {
     /// The sync and the other time of the next edge, whose cells are left where they are.
     pub fn times(&self) -> Option<(Time, Time)>
         ensures none { IsNone result ↔ (self.now.edges ≡ []) }
-        ensures sync { IfSome result (λ times. (e : Edge) (rest : List Edge) → self.now.edges ≡ e ∷ rest → times.0 ≡ e.sync) }
-        ensures other { IfSome result (λ times. (e : Edge) (rest : List Edge) → self.now.edges ≡ e ∷ rest → times.1 ≡ e.other) }
+        ensures sync { IfSome result (λ times. (e : Edge) (rest : List Edge) →
+            self.now.edges ≡ e ∷ rest → times.0 ≡ e.sync) }
+        ensures other { IfSome result (λ times. (e : Edge) (rest : List Edge) →
+            self.now.edges ≡ e ∷ rest → times.1 ≡ e.other) }
     {
         if self.place >= self.batches.len() {
             return None;
@@ -126,7 +133,8 @@ impl<'a> Cursor<'a> {
     /// in the order of a list.
     pub fn rank(&self) -> Option<u64>
         ensures none { IsNone result ↔ (self.now.edges ≡ []) }
-        ensures rank { IfSome result (λ r. (e : Edge) (rest : List Edge) → self.now.edges ≡ e ∷ rest → r ≡ rank e) }
+        ensures rank { IfSome result (λ r. (e : Edge) (rest : List Edge) →
+            self.now.edges ≡ e ∷ rest → r ≡ rank e) }
     {
         let (sync, other) = self.times()?;
         let twice = 2 * sync.word();
@@ -138,8 +146,8 @@ impl<'a> Cursor<'a> {
         requires count { 1 ≤ count }
         requires key { All (λ column. column < length self.now.kinds) key.now }
         ensures none { IsNone result ↔ (self.now.edges ≡ []) }
-        ensures shard { IfSome result (λ number. (e : Edge) (rest : List Edge) → self.now.edges ≡ e ∷ rest →
-            number ≡ shard_by count key.now e.cells) }
+        ensures shard { IfSome result (λ number. (e : Edge) (rest : List Edge) →
+            self.now.edges ≡ e ∷ rest → number ≡ shard_by count key.now e.cells) }
     {
         if self.place >= self.batches.len() {
             return None;
@@ -153,14 +161,19 @@ impl<'a> Cursor<'a> {
     pub fn copy_next(&mut self, pools: &mut Pools, to: &mut EdgeList) -> Result<(), Memory>
         requires kinds { self.old.kinds ≡ cells_of to.old }
         requires capacity { pools.old.capacity ≡ to.old.capacity }
-        requires order { (e : Edge) (rest : List Edge) → self.old.edges ≡ e ∷ rest → KeepsOrder (to.old.edges ++ e ∷ []) }
-        ensures ok { OnOk result ((e : Edge) (rest : List Edge) → self.old.edges ≡ e ∷ rest → to.new ≡ appended to.old e) }
-        ensures rest { OnOk result ((e : Edge) (rest : List Edge) → self.old.edges ≡ e ∷ rest → self.new.edges ≡ rest) }
-        ensures pools { OnOk result ((e : Edge) (rest : List Edge) → self.old.edges ≡ e ∷ rest → pools.new ≡ room_taken to.old pools.old) }
+        requires order { (e : Edge) (rest : List Edge) → self.old.edges ≡ e ∷ rest →
+            KeepsOrder (to.old.edges ++ e ∷ []) }
+        ensures ok { OnOk result ((e : Edge) (rest : List Edge) → self.old.edges ≡ e ∷ rest →
+            to.new ≡ appended to.old e) }
+        ensures rest { OnOk result ((e : Edge) (rest : List Edge) → self.old.edges ≡ e ∷ rest →
+            self.new.edges ≡ rest) }
+        ensures pools { OnOk result ((e : Edge) (rest : List Edge) → self.old.edges ≡ e ∷ rest →
+            pools.new ≡ room_taken to.old pools.old) }
         ensures err { OnErr result ((to.new ≡ to.old) × (self.new.edges ≡ self.old.edges)) }
         ensures err_pools { OnErr result (IsPartTaken pools.old pools.new (cells_of to.old)) }
         ensures kinds { self.new.kinds ≡ self.old.kinds }
-        ensures end { self.old.edges ≡ [] → OnOk result ((to.new ≡ to.old) × (pools.new ≡ pools.old) × (self.new.edges ≡ [])) }
+        ensures end { self.old.edges ≡ [] → OnOk result
+            ((to.new ≡ to.old) × (pools.new ≡ pools.old) × (self.new.edges ≡ [])) }
     {
         if self.times().is_none() {
             return Ok(());
@@ -172,10 +185,14 @@ impl<'a> Cursor<'a> {
     fn copy_row_next(&mut self, pools: &mut Pools, to: &mut EdgeList) -> Result<(), Memory>
         requires kinds { self.old.kinds ≡ cells_of to.old }
         requires capacity { pools.old.capacity ≡ to.old.capacity }
-        requires order { (e : Edge) (rest : List Edge) → self.old.edges ≡ e ∷ rest → KeepsOrder (to.old.edges ++ e ∷ []) }
-        ensures ok { OnOk result ((e : Edge) (rest : List Edge) → self.old.edges ≡ e ∷ rest → to.new ≡ appended to.old e) }
-        ensures rest { OnOk result ((e : Edge) (rest : List Edge) → self.old.edges ≡ e ∷ rest → self.new.edges ≡ rest) }
-        ensures pools { OnOk result ((e : Edge) (rest : List Edge) → self.old.edges ≡ e ∷ rest → pools.new ≡ room_taken to.old pools.old) }
+        requires order { (e : Edge) (rest : List Edge) → self.old.edges ≡ e ∷ rest →
+            KeepsOrder (to.old.edges ++ e ∷ []) }
+        ensures ok { OnOk result ((e : Edge) (rest : List Edge) → self.old.edges ≡ e ∷ rest →
+            to.new ≡ appended to.old e) }
+        ensures rest { OnOk result ((e : Edge) (rest : List Edge) → self.old.edges ≡ e ∷ rest →
+            self.new.edges ≡ rest) }
+        ensures pools { OnOk result ((e : Edge) (rest : List Edge) → self.old.edges ≡ e ∷ rest →
+            pools.new ≡ room_taken to.old pools.old) }
         ensures err { OnErr result ((to.new ≡ to.old) × (self.new.edges ≡ self.old.edges)) }
         ensures err_pools { OnErr result (IsPartTaken pools.old pools.new (cells_of to.old)) }
         ensures kinds { self.new.kinds ≡ self.old.kinds }

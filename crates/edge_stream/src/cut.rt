@@ -75,10 +75,12 @@ fn later_part(
     requires kinds { batch.now.kinds ≡ map cell_kind_of kinds.now }
     requires capacity { batch.now.capacity ≡ pools.old.capacity }
     requires within { length batch.now.rows ≤ batch.now.capacity }
-    ensures edges { IfOk result (λ part. edges_of part.rows ≡ filter (is_from t) (edges_of batch.now.rows)) }
+    ensures edges { IfOk result (λ part. edges_of part.rows
+        ≡ filter (is_from t) (edges_of batch.now.rows)) }
     ensures alike { IfOk result (IsOf (map cell_kind_of kinds.now) pools.old.capacity) }
     ensures pools { OnOk result (pools.new ≡ batch_taken pools.old (map cell_kind_of kinds.now)) }
-    ensures err_pools { OnErr result (IsPartTaken pools.old pools.new (map cell_kind_of kinds.now)) }
+    ensures err_pools { OnErr result (IsPartTaken pools.old pools.new
+        (map cell_kind_of kinds.now)) }
 {
     let mask = rows_on(alloc, batch, Side::From, t)?;
     let mut part = Batch::new(alloc, pools, kinds)?;
@@ -90,7 +92,8 @@ fn later_part(
 pub(crate) fn batches_below(batches: &VecDeque<Batch>, t: Time) -> usize
     ensures within { result ≤ length batches.now.items }
     ensures below { list_all (is_below t) (edges_in (take result batches.now.items)) ≡ true }
-    ensures next { (b : Table) → slice_get batches.now.items result ≡ Some b → list_all (is_below t) (edges_of b.rows) ≡ false }
+    ensures next { (b : Table) → slice_get batches.now.items result ≡ Some b →
+        list_all (is_below t) (edges_of b.rows) ≡ false }
 {
     for place in 0..batches.len() {
         if !all_on_side(&batches[place], Side::Below, t) {
@@ -115,17 +118,22 @@ pub(crate) fn part_at(
     requires alike { All (IsOf (map cell_kind_of kinds.now) pools.old.capacity) batches.old.items }
     requires rises { Rises 0 (edges_in batches.old.items) }
     requires below { list_all (is_below t) (edges_in (take place batches.old.items)) ≡ true }
-    requires next { (b : Table) → slice_get batches.old.items place ≡ Some b → list_all (is_below t) (edges_of b.rows) ≡ false }
+    requires next { (b : Table) → slice_get batches.old.items place ≡ Some b →
+        list_all (is_below t) (edges_of b.rows) ≡ false }
     ensures len { length batches.new.items ≡ length batches.old.items }
     ensures lower { IfOk result (λ part.
         edges_in (take place batches.new.items ++ option_to_list part)
         ≡ filter (is_below t) (edges_in batches.old.items)) }
-    ensures upper { OnOk result (edges_in (drop place batches.new.items) ≡ filter (is_from t) (edges_in batches.old.items)) }
+    ensures upper { OnOk result (edges_in (drop place batches.new.items)
+        ≡ filter (is_from t) (edges_in batches.old.items)) }
     ensures alike { All (IsOf (map cell_kind_of kinds.now) pools.old.capacity) batches.new.items }
-    ensures part { IfOk result (λ part. All (IsOf (map cell_kind_of kinds.now) pools.old.capacity) (option_to_list part)) }
-    ensures pools { IfOk result (λ part. pools.new ≡ batches_taken (length (option_to_list part)) pools.old (map cell_kind_of kinds.now)) }
+    ensures part { IfOk result (λ part. All (IsOf (map cell_kind_of kinds.now) pools.old.capacity)
+        (option_to_list part)) }
+    ensures pools { IfOk result (λ part. pools.new
+        ≡ batches_taken (length (option_to_list part)) pools.old (map cell_kind_of kinds.now)) }
     ensures err { OnErr result (batches.new.items ≡ batches.old.items) }
-    ensures err_pools { OnErr result (IsPartTaken pools.old pools.new (map cell_kind_of kinds.now)) }
+    ensures err_pools { OnErr result (IsPartTaken pools.old pools.new
+        (map cell_kind_of kinds.now)) }
 {
     if place == batches.len() || all_on_side(&batches[place], Side::From, t) {
         return Ok(None);

@@ -41,7 +41,8 @@ pub(crate) fn copy_last(batches: &mut VecDeque<Batch>, batch: &Batch, i: usize)
     requires kinds { All (λ b. b.kinds ≡ batch.now.kinds) batches.old.items }
     requires place { i < length batch.now.rows }
     requires occupied { (r : Row) → slice_get batch.now.rows i ≡ Some r → r.occupied ≡ true }
-    ensures edges { (r : Row) → slice_get batch.now.rows i ≡ Some r → edges_in batches.new.items ≡ edges_in batches.old.items ++ edge_of r ∷ [] }
+    ensures edges { (r : Row) → slice_get batch.now.rows i ≡ Some r →
+        edges_in batches.new.items ≡ edges_in batches.old.items ++ edge_of r ∷ [] }
     ensures room { last_room batches.new.items + 1 ≡ last_room batches.old.items }
     ensures len { length batches.new.items ≡ length batches.old.items }
     ensures alike { (kinds : List CellKind) (capacity : ℕ) →

@@ -98,7 +98,8 @@ impl EdgeList {
     pub fn new(alloc: Global, kinds: &[Kind], capacity: usize) -> Result<EdgeList, Memory>
         requires width { length kinds.now ≤ 32 }
         requires room { 1 ≤ capacity }
-        ensures { IfOk result (λ list. list ≡ record { edges = []; kinds = kinds.now; capacity = capacity; batches = 0; room = 0 }) }
+        ensures { IfOk result (λ list. list ≡ record
+            { edges = []; kinds = kinds.now; capacity = capacity; batches = 0; room = 0 }) }
     {
         Ok(EdgeList {
             batches: VecDeque::new(alloc),
@@ -201,8 +202,10 @@ impl EdgeList {
         requires kinds { batch.now.kinds ≡ cells_of self.old }
         requires place { i < length batch.now.rows }
         requires occupied { (r : Row) → slice_get batch.now.rows i ≡ Some r → r.occupied ≡ true }
-        requires order { (r : Row) → slice_get batch.now.rows i ≡ Some r → KeepsOrder (self.old.edges ++ edge_of r ∷ []) }
-        ensures ok { OnOk result ((r : Row) → slice_get batch.now.rows i ≡ Some r → self.new ≡ appended self.old (edge_of r)) }
+        requires order { (r : Row) → slice_get batch.now.rows i ≡ Some r →
+            KeepsOrder (self.old.edges ++ edge_of r ∷ []) }
+        ensures ok { OnOk result ((r : Row) → slice_get batch.now.rows i ≡ Some r →
+            self.new ≡ appended self.old (edge_of r)) }
         ensures pools { OnOk result (pools.new ≡ room_taken self.old pools.old) }
         ensures err { OnErr result (self.new ≡ self.old) }
         ensures err_pools { OnErr result (IsPartTaken pools.old pools.new (cells_of self.old)) }
@@ -251,7 +254,8 @@ impl EdgeList {
         ensures none { IsNone result ↔ (self.old.batches ≡ 0) }
         ensures empty { IfNone result (self.old.edges ≡ []) }
         ensures unchanged { IfNone result (self.new ≡ self.old) }
-        ensures edges { IfSome result (λ batch. self.old.edges ≡ edges_of batch.rows ++ self.new.edges) }
+        ensures edges { IfSome result (λ batch.
+            self.old.edges ≡ edges_of batch.rows ++ self.new.edges) }
         ensures batches { IfSome result (λ batch. self.new.batches + 1 ≡ self.old.batches) }
         ensures kinds { IfSome result (λ batch. batch.kinds ≡ cells_of self.old) }
         ensures capacity { IfSome result (λ batch. batch.capacity ≡ self.old.capacity) }

@@ -28,7 +28,8 @@ const HALF: u64 = 4294967296;
 fn hash_at(batch: &Batch, row: usize, key: &[usize]) -> u64
     requires row { row < length batch.now.rows }
     requires key { All (λ column. column < length batch.now.kinds) key.now }
-    ensures { (r : Row) → slice_get batch.now.rows row ≡ Some r → result ≡ hash_of_key (key_cells key.now r.cells) }
+    ensures { (r : Row) → slice_get batch.now.rows row ≡ Some r →
+        result ≡ hash_of_key (key_cells key.now r.cells) }
 {
     let mut hash = FIRST;
     for column in key {
@@ -50,7 +51,8 @@ pub(crate) fn shard_at(batch: &Batch, row: usize, count: usize, key: &[usize]) -
     requires row { row < length batch.now.rows }
     requires count { 1 ≤ count }
     requires key { All (λ column. column < length batch.now.kinds) key.now }
-    ensures { (r : Row) → slice_get batch.now.rows row ≡ Some r → result ≡ shard_by count key.now r.cells }
+    ensures { (r : Row) → slice_get batch.now.rows row ≡ Some r →
+        result ≡ shard_by count key.now r.cells }
 {
     number_of(hash_at(batch, row, key), count)
 }
@@ -90,7 +92,8 @@ impl EdgeList {
         requires pools { pools.old.capacity ≡ self.now.capacity }
         requires count { 1 ≤ count }
         requires key { All (λ column. column < length self.now.kinds) key.now }
-        ensures edges { IfOk result (λ part. part.edges ≡ edges_in_shard count key.now number self.now.edges) }
+        ensures edges { IfOk result (λ part. part.edges
+            ≡ edges_in_shard count key.now number self.now.edges) }
         ensures shape { IfOk result (λ part. SameShape self.now part) }
         ensures filled { IfOk result IsFilled }
         ensures pools { IfOk result (λ part.
@@ -120,13 +123,16 @@ impl EdgeList {
         requires width { length kinds.now ≤ 32 }
         requires room { 1 ≤ pools.old.capacity }
         requires kinds { All (λ l. cells_of l ≡ map cell_kind_of kinds.now) lists.now }
-        ensures edges { IfOk result (λ list. SameBag list.edges (flat_map (λ l. l.edges) lists.now)) }
+        ensures edges { IfOk result (λ list. SameBag list.edges
+            (flat_map (λ l. l.edges) lists.now)) }
         ensures order { IfOk result (λ list. KeepsOrder list.edges) }
         ensures kinds { IfOk result (λ list. list.kinds ≡ kinds.now) }
         ensures capacity { IfOk result (λ list. list.capacity ≡ pools.old.capacity) }
         ensures filled { IfOk result IsFilled }
-        ensures pools { IfOk result (λ list. pools.new ≡ batches_taken list.batches pools.old (cells_of list)) }
-        ensures err_pools { OnErr result (AreBatchesTaken pools.old pools.new (map cell_kind_of kinds.now)) }
+        ensures pools { IfOk result (λ list. pools.new
+            ≡ batches_taken list.batches pools.old (cells_of list)) }
+        ensures err_pools { OnErr result (AreBatchesTaken pools.old pools.new
+            (map cell_kind_of kinds.now)) }
     {
         let mut cursors = Vec::with_capacity(alloc, lists.len())?;
         for list in lists {
@@ -155,7 +161,8 @@ fn is_earlier(rank: Option<u64>, than: Option<u64>) -> bool
 fn first_of(cursors: &[Cursor<'_>]) -> Option<usize>
     ensures none { IfNone result (All (λ c. c.edges ≡ []) cursors.now) }
     ensures within { IfSome result (λ i. i < length cursors.now) }
-    ensures least { IfSome result (λ i. (c : Unread) → slice_get cursors.now i ≡ Some c → IsFirst c cursors.now) }
+    ensures least { IfSome result (λ i. (c : Unread) → slice_get cursors.now i ≡ Some c →
+        IsFirst c cursors.now) }
 {
     let mut first = None;
     let mut least = None;

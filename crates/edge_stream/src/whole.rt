@@ -29,8 +29,10 @@ impl EdgeList {
         ensures kinds { IfOk result (λ list. list.kinds ≡ kinds.now) }
         ensures capacity { IfOk result (λ list. list.capacity ≡ pools.old.capacity) }
         ensures filled { IfOk result IsFilled }
-        ensures pools { IfOk result (λ list. pools.new ≡ batches_taken list.batches pools.old (cells_of list)) }
-        ensures err_pools { OnErr result (AreBatchesTaken pools.old pools.new (map cell_kind_of kinds.now)) }
+        ensures pools { IfOk result (λ list. pools.new
+            ≡ batches_taken list.batches pools.old (cells_of list)) }
+        ensures err_pools { OnErr result (AreBatchesTaken pools.old pools.new
+            (map cell_kind_of kinds.now)) }
     {
         let mut list = EdgeList::new(alloc, kinds, pools.capacity())?;
         for edge in edges {
@@ -42,7 +44,8 @@ impl EdgeList {
     /// The edges in order.
     pub fn to_vec(&self) -> Result<Vec<Edge>, Memory>
         ensures edges { IfOk result (λ edges. edges.items ≡ self.now.edges) }
-        ensures cells { IfOk result (λ edges. All (λ e. map datum_kind e.cells ≡ cells_of self.now) edges.items) }
+        ensures cells { IfOk result (λ edges. All
+            (λ e. map datum_kind e.cells ≡ cells_of self.now) edges.items) }
     {
         let mut edges = Vec::new(self.alloc);
         let mut cursor = self.cursor();
@@ -58,7 +61,8 @@ impl EdgeList {
         ensures edges { IfOk result (λ copy. copy.edges ≡ self.now.edges) }
         ensures shape { IfOk result (λ copy. SameShape self.now copy) }
         ensures filled { IfOk result IsFilled }
-        ensures pools { IfOk result (λ copy. pools.new ≡ batches_taken copy.batches pools.old (cells_of self.now)) }
+        ensures pools { IfOk result (λ copy. pools.new
+            ≡ batches_taken copy.batches pools.old (cells_of self.now)) }
         ensures err_pools { OnErr result (AreBatchesTaken pools.old pools.new (cells_of self.now)) }
     {
         let mut copy = EdgeList::new(self.alloc, &self.kinds, self.capacity)?;
@@ -95,8 +99,10 @@ impl EdgeList {
 // neither.
 fn left_first(left: Option<u64>, right: Option<u64>) -> Option<bool>
     ensures none { IsNone result ↔ ((left ≡ None) × (right ≡ None)) }
-    ensures left { result ≡ Some true → IsSome left × ((r s : ℕ) → left ≡ Some r → right ≡ Some s → r ≤ s) }
-    ensures right { result ≡ Some false → IsSome right × ((r s : ℕ) → left ≡ Some r → right ≡ Some s → s ≤ r) }
+    ensures left { result ≡ Some true → IsSome left
+        × ((r s : ℕ) → left ≡ Some r → right ≡ Some s → r ≤ s) }
+    ensures right { result ≡ Some false → IsSome right
+        × ((r s : ℕ) → left ≡ Some r → right ≡ Some s → s ≤ r) }
 {
     match (left, right) {
         (Some(r), Some(s)) => Some(r <= s),
@@ -114,7 +120,8 @@ fn merged(pools: &mut Pools, a: &EdgeList, b: &EdgeList) -> Result<EdgeList, Mem
     ensures order { IfOk result (λ list. KeepsOrder list.edges) }
     ensures shape { IfOk result (λ list. SameShape a.now list) }
     ensures filled { IfOk result IsFilled }
-    ensures pools { IfOk result (λ list. pools.new ≡ batches_taken list.batches pools.old (cells_of a.now)) }
+    ensures pools { IfOk result (λ list. pools.new
+        ≡ batches_taken list.batches pools.old (cells_of a.now)) }
     ensures err_pools { OnErr result (AreBatchesTaken pools.old pools.new (cells_of a.now)) }
 {
     let mut list = EdgeList::new(a.alloc, &a.kinds, a.capacity)?;

@@ -14,7 +14,8 @@ impl OpenRows {
     // Adds the line of an instant with one edge: its row ends once, or starts once.
     fn show_edge(&mut self, at: Time, edge: &Edge, texts: &TextTable) -> Result<(), Memory>
         requires { ArePlaced texts.now edge.now.cells }
-        ensures instant { OnOk result (ShowsInstant texts.now (edge.now ∷ []) at self.old self.new) }
+        ensures instant { OnOk result (ShowsInstant texts.now
+            (edge.now ∷ []) at self.old self.new) }
         ensures kinds { self.new.kinds ≡ self.old.kinds }
     {
         // Its call tells the proof that the texts are distinct.

@@ -130,7 +130,8 @@ impl Egress {
         ensures holds { OnOk result (GoesOn texts.now edges.edges to self.old self.new) }
         ensures placed { OnOk result (IsPlacedIn texts.now self.new) }
         ensures kinds { self.new.rows.kinds.items ≡ self.old.rows.kinds.items }
-        ensures given { OnOk result (pools.new ≡ batches_given edges.batches pools.old (cells_of edges)) }
+        ensures given { OnOk result (pools.new ≡ batches_given edges.batches pools.old
+            (cells_of edges)) }
         ensures pools { OnErr result (pools.new ≡ pools.old) }
         ensures capacity { pools.new.capacity ≡ pools.old.capacity }
         ensures limit { pools.new.limit ≡ pools.old.limit }
@@ -149,7 +150,8 @@ impl Egress {
         requires ready { self.old.failed ≡ false }
         ensures text { IfOk result (λ bytes. IsText self.old punctuation bytes.items) }
         ensures holds { OnOk result (IsRendered self.old self.new) }
-        ensures placed { (texts : List (List ℕ)) → IsPlacedIn texts self.old → IsPlacedIn texts self.new }
+        ensures placed { (texts : List (List ℕ)) → IsPlacedIn texts self.old →
+            IsPlacedIn texts self.new }
         ensures kinds { self.new.rows.kinds.items ≡ self.old.rows.kinds.items }
         ensures failed { self.new.failed ≡ is_err result }
     {
@@ -181,9 +183,11 @@ impl Egress {
     pub fn load(&mut self, saved: &Saved, closed: Time) -> Result<(), LoadFault>
         requires { IsOpening self.old }
         ensures holds { OnOk result (LoadsAs self.old saved.now closed self.new) }
-        ensures placed { OnOk result ((texts : List (List ℕ)) → EntriesArePlaced texts saved.now → IsPlacedIn texts self.new) }
+        ensures placed { OnOk result ((texts : List (List ℕ)) → EntriesArePlaced texts saved.now →
+            IsPlacedIn texts self.new) }
         ensures sound { OnOk result (IsSound self.old.rows.kinds.items saved.now closed) }
-        ensures refused { IfErr result (λ fault. fault ≡ LoadFault.NotState → IsSound self.old.rows.kinds.items saved.now closed → ⊥) }
+        ensures refused { IfErr result (λ fault. fault ≡ LoadFault.NotState →
+            IsSound self.old.rows.kinds.items saved.now closed → ⊥) }
         ensures opening { OnErr result (IsOpening self.new) }
         ensures ready { OnOk result (self.new.failed ≡ false) }
         ensures kinds { self.new.rows.kinds.items ≡ self.old.rows.kinds.items }

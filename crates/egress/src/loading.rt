@@ -86,7 +86,8 @@ fn put_end(
     alloc: Global,
     entry: &SavedEntry,
 ) -> Result<(), Memory>
-    ensures { OnOk result (ArePut (waiting_in waiting.old) (waiting_in waiting.new) (end_of entry.now)) }
+    ensures { OnOk result (ArePut (waiting_in waiting.old) (waiting_in waiting.new)
+        (end_of entry.now)) }
 {
     let known = is_instant(entry.other);
     if !known {
@@ -104,10 +105,13 @@ fn put_end(
 
 // Keeps what one more entry tells.
 fn keep_entry(loaded: &mut Loaded, alloc: Global, entry: &SavedEntry) -> Result<(), Memory>
-    ensures starts { OnOk result (HasAdded entry.now.cells entry.now.sync 1 loaded.old.starts loaded.new.starts) }
-    ensures ends { OnOk result (HasAdded entry.now.cells entry.now.other 1 loaded.old.ends loaded.new.ends) }
+    ensures starts { OnOk result
+        (HasAdded entry.now.cells entry.now.sync 1 loaded.old.starts loaded.new.starts) }
+    ensures ends { OnOk result
+        (HasAdded entry.now.cells entry.now.other 1 loaded.old.ends loaded.new.ends) }
     ensures open { OnOk result (EachIsOpen loaded.old.starts → EachIsOpen loaded.new.starts) }
-    ensures waiting { OnOk result (ArePut (waiting_in loaded.old.waiting) (waiting_in loaded.new.waiting) (end_of entry.now)) }
+    ensures waiting { OnOk result (ArePut (waiting_in loaded.old.waiting)
+        (waiting_in loaded.new.waiting) (end_of entry.now)) }
 {
     open_row(&mut loaded.starts, alloc, &entry.cells, entry.sync, 1)?;
     open_row(&mut loaded.ends, alloc, &entry.cells, entry.other, 1)?;
@@ -125,11 +129,15 @@ fn load_entry(
 ) -> Result<(), LoadFault>
     requires starts_rise { (c : List DatumOf) → IsNonDecreasing (since_at loaded.old.starts c) }
     requires ends_rise { (c : List DatumOf) → IsNonDecreasing (since_at loaded.old.ends c) }
-    ensures starts { OnOk result (HasAdded entry.now.cells entry.now.sync 1 loaded.old.starts loaded.new.starts) }
-    ensures ends { OnOk result (HasAdded entry.now.cells entry.now.other 1 loaded.old.ends loaded.new.ends) }
+    ensures starts { OnOk result
+        (HasAdded entry.now.cells entry.now.sync 1 loaded.old.starts loaded.new.starts) }
+    ensures ends { OnOk result
+        (HasAdded entry.now.cells entry.now.other 1 loaded.old.ends loaded.new.ends) }
     ensures open { OnOk result (EachIsOpen loaded.old.starts → EachIsOpen loaded.new.starts) }
-    ensures waiting { OnOk result (ArePut (waiting_in loaded.old.waiting) (waiting_in loaded.new.waiting) (end_of entry.now)) }
-    ensures follows { OnOk result (MayFollow kinds.now closed loaded.old.starts loaded.old.ends entry.now) }
+    ensures waiting { OnOk result (ArePut (waiting_in loaded.old.waiting)
+        (waiting_in loaded.new.waiting) (end_of entry.now)) }
+    ensures follows { OnOk result
+        (MayFollow kinds.now closed loaded.old.starts loaded.old.ends entry.now) }
     ensures refused { IfErr result (λ fault. fault ≡ LoadFault.NotState →
         MayFollow kinds.now closed loaded.old.starts loaded.old.ends entry.now → ⊥) }
 {
@@ -153,11 +161,14 @@ pub(crate) fn load_entries(
     kinds: &[Kind],
     closed: Time,
 ) -> Result<Loaded, LoadFault>
-    ensures starts { IfOk result (λ loaded. (c : List DatumOf) → since_at loaded.starts c ≡ starts_of entries.now c) }
+    ensures starts { IfOk result (λ loaded. (c : List DatumOf) →
+        since_at loaded.starts c ≡ starts_of entries.now c) }
     ensures open { IfOk result (λ loaded. EachIsOpen loaded.starts) }
-    ensures waiting { IfOk result (λ loaded. ArePut (λ t. None) (waiting_in loaded.waiting) (ends_of entries.now)) }
+    ensures waiting { IfOk result (λ loaded.
+        ArePut (λ t. None) (waiting_in loaded.waiting) (ends_of entries.now)) }
     ensures sound { OnOk result (IsSound kinds.now entries.now closed) }
-    ensures refused { IfErr result (λ fault. fault ≡ LoadFault.NotState → IsSound kinds.now entries.now closed → ⊥) }
+    ensures refused { IfErr result (λ fault. fault ≡ LoadFault.NotState →
+        IsSound kinds.now entries.now closed → ⊥) }
 {
     // Its call tells the proof that it is a time.
     let _ = closed.word();

@@ -53,7 +53,8 @@ fn more_moves(moves: Moves, counts: Counts) -> Result<Moves, Memory>
 
 // Adds the moves of a row.
 fn push_moves(touched: &mut Vec<Moves>, edge: &Edge, counts: Counts) -> Result<(), Memory>
-    ensures { OnOk result (touched.new.items ≡ touched.old.items ++ with_counts edge.now counts.ends counts.starts ∷ []) }
+    ensures { OnOk result (touched.new.items ≡ touched.old.items
+        ++ with_counts edge.now counts.ends counts.starts ∷ []) }
 {
     let cells = edge.cells.clone()?;
     touched.push(Moves {
@@ -67,7 +68,8 @@ fn push_moves(touched: &mut Vec<Moves>, edge: &Edge, counts: Counts) -> Result<(
 // Whether there are moves, and the last are of the row of these cells.
 fn is_last(touched: &[Moves], cells: &Cells) -> bool
     ensures some { IsTrue result → touched.now ≡ [] → ⊥ }
-    ensures same { (rest : List Moves) (last : Moves) → touched.now ≡ rest ++ last ∷ [] → IsTrue result ↔ (last.cells ≡ cells.now) }
+    ensures same { (rest : List Moves) (last : Moves) → touched.now ≡ rest ++ last ∷ [] →
+        IsTrue result ↔ (last.cells ≡ cells.now) }
 {
     let Some(last) = touched.last() else {
         return false;
@@ -77,9 +79,12 @@ fn is_last(touched: &[Moves], cells: &Cells) -> bool
 
 // Counts an end of the row of an end edge, and a start of that of any other, with the last row where it is the same.
 fn count_edge(touched: &mut Vec<Moves>, edge: &Edge) -> Result<(), Memory>
-    ensures ends { OnOk result ((texts : List (List ℕ)) → CountsEnds texts edge.now touched.old.items touched.new.items) }
-    ensures starts { OnOk result ((texts : List (List ℕ)) → CountsStarts texts edge.now touched.old.items touched.new.items) }
-    ensures rows { OnOk result ((texts : List (List ℕ)) → AreDistinct texts → TouchesRow texts edge.now touched.old.items touched.new.items) }
+    ensures ends { OnOk result ((texts : List (List ℕ)) →
+        CountsEnds texts edge.now touched.old.items touched.new.items) }
+    ensures starts { OnOk result ((texts : List (List ℕ)) →
+        CountsStarts texts edge.now touched.old.items touched.new.items) }
+    ensures rows { OnOk result ((texts : List (List ℕ)) → AreDistinct texts →
+        TouchesRow texts edge.now touched.old.items touched.new.items) }
     ensures cells { OnOk result (AddsCells edge.now touched.old.items touched.new.items) }
 {
     let counts = counts_of(edge);
@@ -97,10 +102,14 @@ fn count_edge(touched: &mut Vec<Moves>, edge: &Edge) -> Result<(), Memory>
 
 // What edges of one instant end and start, row by row. Edges of one row stand beside each other.
 pub(crate) fn gather(alloc: Global, edges: &[Edge]) -> Result<Vec<Moves>, Memory>
-    ensures ends { IfOk result (λ touched. (texts : List (List ℕ)) → AreEndsOf texts edges.now touched.items) }
-    ensures starts { IfOk result (λ touched. (texts : List (List ℕ)) → AreStartsOf texts edges.now touched.items) }
-    ensures rows { IfOk result (λ touched. (texts : List (List ℕ)) → AreDistinct texts → AreRowsOf texts edges.now touched.items) }
-    ensures cells { IfOk result (λ touched. (p : List Datum → Bool) → failing (λ e. p e.cells) edges.now ≡ 0 → KeepCells p touched.items) }
+    ensures ends { IfOk result (λ touched. (texts : List (List ℕ)) →
+        AreEndsOf texts edges.now touched.items) }
+    ensures starts { IfOk result (λ touched. (texts : List (List ℕ)) →
+        AreStartsOf texts edges.now touched.items) }
+    ensures rows { IfOk result (λ touched. (texts : List (List ℕ)) → AreDistinct texts →
+        AreRowsOf texts edges.now touched.items) }
+    ensures cells { IfOk result (λ touched. (p : List Datum → Bool) →
+        failing (λ e. p e.cells) edges.now ≡ 0 → KeepCells p touched.items) }
 {
     let mut touched = Vec::with_capacity(alloc, edges.len())?;
     for edge in edges {

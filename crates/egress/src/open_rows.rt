@@ -31,7 +31,8 @@ fn push_start(
     texts: &TextTable,
 ) -> Result<(), Memory>
     requires { ArePlaced texts.now cells.now }
-    ensures { OnOk result (lines.new.items ≡ lines.old.items ++ line_text kinds.now (Started at (read_cells texts.now cells.now))) }
+    ensures { OnOk result (lines.new.items ≡ lines.old.items ++ line_text kinds.now
+        (Started at (read_cells texts.now cells.now))) }
 {
     let cells = cells.items();
     push_event(
@@ -55,7 +56,8 @@ fn push_end(
     texts: &TextTable,
 ) -> Result<(), Memory>
     requires { ArePlaced texts.now cells.now }
-    ensures { OnOk result (lines.new.items ≡ lines.old.items ++ line_text kinds.now (Ended at start (read_cells texts.now cells.now))) }
+    ensures { OnOk result (lines.new.items ≡ lines.old.items ++ line_text kinds.now
+        (Ended at start (read_cells texts.now cells.now))) }
 {
     let cells = cells.items();
     push_event(lines, "out", Form::End, at, start, kinds, cells, texts)
@@ -74,7 +76,8 @@ fn end_first(
     requires { ArePlaced texts.now cells.now }
     ensures since { OnOk result (since.new.items ≡ drop count since.old.items) }
     ensures lines { OnOk result (lines.new.items ≡ lines.old.items
-        ++ print kinds.now (map (λ s. Ended at s (read_cells texts.now cells.now)) (take count since.old.items))) }
+        ++ print kinds.now (map (λ s. Ended at s (read_cells texts.now cells.now))
+        (take count since.old.items))) }
 {
     for _ in 0..count {
         match since.pop_front() {
@@ -95,7 +98,8 @@ fn push_starts(
     count: usize,
 ) -> Result<(), Memory>
     requires { ArePlaced texts.now cells.now }
-    ensures { OnOk result (lines.new.items ≡ lines.old.items ++ print kinds.now (replicate count (Started at (read_cells texts.now cells.now)))) }
+    ensures { OnOk result (lines.new.items ≡ lines.old.items ++ print kinds.now
+        (replicate count (Started at (read_cells texts.now cells.now)))) }
 {
     for _ in 0..count {
         push_start(lines, kinds, at, cells, texts)?;

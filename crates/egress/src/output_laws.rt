@@ -8,7 +8,9 @@ ghost use Rattle.egress.specs.Output.{Holds, IsPlacedIn};
 
 /// A table that grows changes nothing of an output whose places are in it.
 pub fn outputs_read_longer_tables()
-    ensures holds { (new old : List (List ℕ)) → BeginsWith new old → (h : List Edge) (a c : ℕ) (o : Egress) →
-        EdgesArePlaced old h → Holds old h a c o → Holds new h a c o }
-    ensures placed { (new old : List (List ℕ)) → BeginsWith new old → (o : Egress) → IsPlacedIn old o → IsPlacedIn new o }
+    ensures holds { (new old : List (List ℕ)) → BeginsWith new old →
+        (h : List Edge) (a c : ℕ) (o : Egress) → EdgesArePlaced old h → Holds old h a c o →
+        Holds new h a c o }
+    ensures placed { (new old : List (List ℕ)) → BeginsWith new old → (o : Egress) →
+        IsPlacedIn old o → IsPlacedIn new o }
 {}

@@ -44,7 +44,8 @@ fn take_first(starts: &mut Starts, cells: &Cells) -> Option<Time>
 
 // Adds an entry of the row of an edge that ends at the time, with the first open start of the row, which is taken out.
 fn save_end(saved: &mut Saved, starts: &mut Starts, edge: &Edge, at: Time) -> Result<(), Memory>
-    ensures entries { OnOk result (saved.new ≡ saved.old ++ map (entry_at at edge.now.cells) (take 1 (since_at starts.old edge.now.cells))) }
+    ensures entries { OnOk result (saved.new ≡ saved.old
+        ++ map (entry_at at edge.now.cells) (take 1 (since_at starts.old edge.now.cells))) }
     ensures since { OnOk result (HasDropped edge.now.cells starts.old starts.new) }
 {
     let Some(sync) = take_first(starts, &edge.cells) else {
@@ -62,7 +63,8 @@ fn save_end(saved: &mut Saved, starts: &mut Starts, edge: &Edge, at: Time) -> Re
 
 // Adds an entry for each of the edges, which end at the time.
 fn save_ends(saved: &mut Saved, starts: &mut Starts, edges: &[Edge], at: Time) -> Result<(), Memory>
-    ensures { OnOk result (Taken at edges.now saved.old saved.new (since_at starts.old) (since_at starts.new)) }
+    ensures { OnOk result (Taken at edges.now saved.old saved.new (since_at starts.old)
+        (since_at starts.new)) }
 {
     for edge in edges {
         save_end(saved, starts, edge, at)?;
@@ -79,7 +81,8 @@ pub(crate) fn save_waiting(
     last: Time,
 ) -> Result<(), Memory>
     requires { last ≡ inf }
-    ensures { OnOk result (TakesWaiting starts.old (waiting_in waiting.old) saved.old saved.new (since_at starts.new)) }
+    ensures { OnOk result (TakesWaiting starts.old (waiting_in waiting.old) saved.old saved.new
+        (since_at starts.new)) }
 {
     'instants: while let Some(due) = pop_due(waiting, last) {
         save_ends(saved, starts, &due.edges, due.at)?;

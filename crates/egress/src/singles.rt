@@ -16,7 +16,8 @@ use tw_rows::{Edge, Memory, TextTable, Time, same_cells};
 
 // Whether no two edges beside each other are of one row. Of edges in the order of their rows no two are then.
 pub(crate) fn are_single(edges: &[Edge]) -> bool
-    ensures { IsTrue result → (texts : List (List ℕ)) → AreDistinct texts → EdgesArePlaced texts edges.now → StandOnce texts edges.now }
+    ensures { IsTrue result → (texts : List (List ℕ)) → AreDistinct texts →
+        EdgesArePlaced texts edges.now → StandOnce texts edges.now }
 {
     for i in 1..edges.len() {
         let before = &edges[i - 1];
@@ -32,7 +33,8 @@ impl OpenRows {
     fn end_edges(&mut self, at: Time, edges: &[Edge], texts: &TextTable) -> Result<(), Memory>
         requires placed { EdgesArePlaced texts.now edges.now }
         requires ordered { IsStrictlySortedBy row_cmp (rows_of texts.now (map moves_of edges.now)) }
-        ensures rows { OnOk result (EndsRows texts.now (map moves_of edges.now) at self.old self.new) }
+        ensures rows { OnOk result (EndsRows texts.now
+            (map moves_of edges.now) at self.old self.new) }
         ensures kinds { self.new.kinds ≡ self.old.kinds }
     {
         // Its call tells the proof that the texts are distinct.
@@ -48,7 +50,8 @@ impl OpenRows {
     fn start_edges(&mut self, at: Time, edges: &[Edge], texts: &TextTable) -> Result<(), Memory>
         requires placed { EdgesArePlaced texts.now edges.now }
         requires ordered { IsStrictlySortedBy row_cmp (rows_of texts.now (map moves_of edges.now)) }
-        ensures rows { OnOk result (StartsRows texts.now (map moves_of edges.now) at self.old self.new) }
+        ensures rows { OnOk result (StartsRows texts.now
+            (map moves_of edges.now) at self.old self.new) }
         ensures kinds { self.new.kinds ≡ self.old.kinds }
     {
         // Its call tells the proof that the texts are distinct.
@@ -70,7 +73,8 @@ impl OpenRows {
     ) -> Result<(), Memory>
         requires placed { EdgesArePlaced texts.now edges.now }
         requires ordered { IsStrictlySortedBy row_cmp (rows_of texts.now (map moves_of edges.now)) }
-        ensures instant { OnOk result (ShowsMoves texts.now (map moves_of edges.now) at self.old self.new) }
+        ensures instant { OnOk result (ShowsMoves texts.now
+            (map moves_of edges.now) at self.old self.new) }
         ensures kinds { self.new.kinds ≡ self.old.kinds }
     {
         self.end_edges(at, edges, texts)?;

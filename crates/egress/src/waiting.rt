@@ -88,7 +88,8 @@ pub(crate) fn put_singles(
     edge: Edge,
     room: usize,
 ) -> Result<(), Memory>
-    ensures { OnOk result (ArePut (waiting_in waiting.old) (waiting_in waiting.new) (singles_of edge)) }
+    ensures { OnOk result (ArePut (waiting_in waiting.old) (waiting_in waiting.new)
+        (singles_of edge)) }
 {
     if edge.is_end() || edge.other == Time::INF {
         return put(waiting, alloc, edge, room);
@@ -121,11 +122,13 @@ fn first_instant(waiting: &BTreeMap<u64, Vec<Edge>>) -> Option<u64>
 // Takes out the edges of the first instant for which some wait, if it is below `to`.
 pub(crate) fn pop_due(waiting: &mut BTreeMap<u64, Vec<Edge>>, to: Time) -> Option<Due>
     ensures within { to ≤ inf }
-    ensures some { IfSome result (λ due. ArePopped (waiting_in waiting.old) (waiting_in waiting.new) due.at due.edges.items) }
+    ensures some { IfSome result (λ due. ArePopped (waiting_in waiting.old)
+        (waiting_in waiting.new) due.at due.edges.items) }
     ensures below { IfSome result (λ due. due.at < to) }
     ensures none { IfNone result ((t : ℕ) → t < to → waiting_in waiting.new t ≡ None) }
     ensures same { IfNone result ((t : ℕ) → waiting_in waiting.new t ≡ waiting_in waiting.old t) }
-    ensures len { btree_map_len waiting.new + (if is_some result then 1 else 0) ≡ btree_map_len waiting.old }
+    ensures len { btree_map_len waiting.new + (if is_some result then 1 else 0)
+        ≡ btree_map_len waiting.old }
 {
     let limit = to.word();
     let instant = first_instant(waiting)?;

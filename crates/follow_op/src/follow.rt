@@ -89,7 +89,8 @@ impl Follow {
         ensures within { IfOk result (λ f. f.sides.rows.within ≡ within) }
         ensures left_kinds { IfOk result (λ f. f.left_kinds.items ≡ left_kinds.now) }
         ensures right_kinds { IfOk result (λ f. f.right_kinds.items ≡ right_kinds.now) }
-        ensures own_kinds { IfOk result (λ f. f.own_kinds.items ≡ paired_row right_key.now left_kinds.now right_kinds.now) }
+        ensures own_kinds { IfOk result (λ f. f.own_kinds.items
+            ≡ paired_row right_key.now left_kinds.now right_kinds.now) }
         ensures capacity { IfOk result (λ f. f.capacity ≡ capacity) }
         ensures opening { IfOk result IsNew }
     {
@@ -127,8 +128,10 @@ impl Follow {
         ensures kept { IfOk result (λ answer. StaysKept (standing self.old)
             (IsKept self.old) (IsKept self.new) left.edges right.edges answer.edges) }
         ensures between { IfOk result (λ answer.
-            ComeBetween (min self.old.left_to self.old.right_to) (min left_to right_to) answer.edges) }
-        ensures kinds { IfOk result (λ answer. cells_of answer ≡ map cell_kind_of self.old.own_kinds.items) }
+            ComeBetween (min self.old.left_to self.old.right_to)
+            (min left_to right_to) answer.edges) }
+        ensures kinds { IfOk result (λ answer. cells_of answer
+            ≡ map cell_kind_of self.old.own_kinds.items) }
         ensures capacity { IfOk result (λ answer. answer.capacity ≡ self.old.capacity) }
         ensures pools { pools.new.capacity ≡ pools.old.capacity }
         ensures limit { pools.new.limit ≡ pools.old.limit }

@@ -66,7 +66,8 @@ fn tell_matches(
     left: &Synopsis,
     now: &[Edge],
 ) -> Result<(), Memory>
-    ensures told { OnOk result ((w : Told → ℕ) → total w answer.new.items ≡ total w answer.old.items + total
+    ensures told { OnOk result ((w : Told → ℕ) →
+        total w answer.new.items ≡ total w answer.old.items + total
         (λ x. total (λ r. cond (is_met left.now.key room.old.columns x r)
         (w (match_told room.old.columns within t x.cells r)) 0) left.now.rows) now.now) }
     ensures order { OnOk result (failing (still_waits within t) left.now.rows ≡ 0 →
@@ -90,9 +91,11 @@ fn tell_matches(
 
 // A copy of the last of the rows of a key.
 fn last_of(left: &Synopsis, key: &[Datum]) -> Result<Option<HeldRow>, Memory>
-    ensures some { IfOk result (λ found. IfSome found (λ r.
-        (is_of_key left.now.key key.now r ≡ true) × (1 ≤ many (is_held r.cells r.start) left.now.rows))) }
-    ensures none { IfOk result (λ found. IfNone found (filter (is_of_key left.now.key key.now) left.now.rows ≡ [])) }
+    ensures some { IfOk result (λ found. IfSome found
+        (λ r. (is_of_key left.now.key key.now r ≡ true)
+        × (1 ≤ many (is_held r.cells r.start) left.now.rows))) }
+    ensures none { IfOk result (λ found. IfNone found
+        (filter (is_of_key left.now.key key.now) left.now.rows ≡ [])) }
 {
     let Some(row) = left.rows_of(key).last() else {
         return Ok(None);
@@ -117,8 +120,9 @@ fn drop_key(left: &mut Synopsis, key: &[Datum]) -> Result<(), Memory>
 
 // Takes out the rows that right rows followed.
 fn drop_matched(left: &mut Synopsis, room: &mut KeyRoom, now: &[Edge]) -> Result<(), Memory>
-    ensures rows { OnOk result ((w : Held → ℕ) → total w left.new.rows
-        ≡ total (λ r. cond (is_followed left.old.key room.old.columns now.now r) 0 (w r)) left.old.rows) }
+    ensures rows { OnOk result ((w : Held → ℕ) →
+        total w left.new.rows ≡ total (λ r. cond
+        (is_followed left.old.key room.old.columns now.now r) 0 (w r)) left.old.rows) }
     ensures key { left.new.key ≡ left.old.key }
     ensures columns { room.new.columns ≡ room.old.columns }
 {
@@ -131,7 +135,8 @@ fn drop_matched(left: &mut Synopsis, room: &mut KeyRoom, now: &[Edge]) -> Result
 
 // Puts in the row that a start edge starts.
 fn start_one(left: &mut Synopsis, queue: &mut VecDeque<HeldRow>, edge: &Edge) -> Result<(), Memory>
-    ensures rows { OnOk result ((w : Held → ℕ) → total w left.new.rows ≡ total w left.old.rows + total w (started_of edge.now)) }
+    ensures rows { OnOk result ((w : Held → ℕ) →
+        total w left.new.rows ≡ total w left.old.rows + total w (started_of edge.now)) }
     ensures queue { OnOk result (queue.new.items ≡ queue.old.items ++ started_of edge.now) }
     ensures key { left.new.key ≡ left.old.key }
 {
@@ -152,7 +157,8 @@ fn start_rows(
     queue: &mut VecDeque<HeldRow>,
     now: &[Edge],
 ) -> Result<(), Memory>
-    ensures rows { OnOk result ((w : Held → ℕ) → total w left.new.rows ≡ total w left.old.rows + total w (started_rows now.now)) }
+    ensures rows { OnOk result ((w : Held → ℕ) →
+        total w left.new.rows ≡ total w left.old.rows + total w (started_rows now.now)) }
     ensures queue { OnOk result (queue.new.items ≡ queue.old.items ++ started_rows now.now) }
     ensures key { left.new.key ≡ left.old.key }
 {
@@ -164,8 +170,10 @@ fn start_rows(
 
 // Takes out the first row, if its time is over.
 fn pop_over(queue: &mut VecDeque<HeldRow>, within: u64, t: Time) -> Option<HeldRow>
-    ensures some { IfSome result (λ r. (queue.old.items ≡ r ∷ queue.new.items) × (later within r.start ≤ t)) }
-    ensures none { IfNone result ((queue.new.items ≡ queue.old.items) × FirstWaits within t queue.old.items) }
+    ensures some { IfSome result (λ r. (queue.old.items ≡ r ∷ queue.new.items)
+        × (later within r.start ≤ t)) }
+    ensures none { IfNone result ((queue.new.items ≡ queue.old.items)
+        × FirstWaits within t queue.old.items) }
 {
     if t < queue.front()?.start.plus(within) {
         return None;
@@ -198,17 +206,19 @@ impl Rows {
         now_left: &[Edge],
         now_right: &[Edge],
     ) -> Result<(), Memory>
-        ensures swept { OnOk result ((a b : List CellEvent) (v : ℕ) → v ≤ t → t < inf → 1 ≤ self.old.within →
-            AreEvents a → AreEvents b → SameBag now_left.now (news t (suc t) (map unending a)) →
+        ensures swept { OnOk result ((a b : List CellEvent) (v : ℕ) → v ≤ t → t < inf →
+            1 ≤ self.old.within → AreEvents a → AreEvents b →
+            SameBag now_left.now (news t (suc t) (map unending a)) →
             SameBag now_right.now (news t (suc t) (map unending b)) →
             FollowHeld self.old.left.key self.old.right_key.columns self.old.within a b v t
             self.old.left.rows self.old.queue.items →
             FollowHeld self.old.left.key self.old.right_key.columns self.old.within a b t (suc t)
             self.new.left.rows self.new.queue.items
-            × TellsAhead (follows self.old.left.key self.old.right_key.columns self.old.within a b) t (suc t)
-            answer.old.items answer.new.items) }
-        ensures rows { OnOk result ((w : Held → ℕ) → total w self.new.left.rows ≤ total w self.old.left.rows
-            + total w (started_rows now_left.now)) }
+            × TellsAhead (follows self.old.left.key self.old.right_key.columns self.old.within a b)
+            t (suc t) answer.old.items answer.new.items) }
+        ensures rows { OnOk result ((w : Held → ℕ) →
+            total w self.new.left.rows ≤ total w self.old.left.rows + total w
+            (started_rows now_left.now)) }
         ensures keys { SameKeys self.old self.new }
     {
         drop_over(&mut self.left, &mut self.queue, self.within, t);
@@ -234,16 +244,18 @@ impl Rows {
         right_due: &[Edge],
         to: Time,
     ) -> Result<(), Memory>
-        ensures swept { OnOk result ((a b : List CellEvent) (from : ℕ) → 1 ≤ self.old.within → AreEvents a → AreEvents b →
-            IsDue (map unending a) from to left_due.now → IsDue (map unending b) from to right_due.now →
+        ensures swept { OnOk result ((a b : List CellEvent) (from : ℕ) → 1 ≤ self.old.within →
+            AreEvents a → AreEvents b → IsDue (map unending a) from to left_due.now →
+            IsDue (map unending b) from to right_due.now →
             FollowHeld self.old.left.key self.old.right_key.columns self.old.within a b from from
             self.old.left.rows self.old.queue.items →
             FollowHeld self.old.left.key self.old.right_key.columns self.old.within a b to to
             self.new.left.rows self.new.queue.items
-            × TellsAhead (follows self.old.left.key self.old.right_key.columns self.old.within a b) from to
-            answer.old.items answer.new.items) }
-        ensures rows { OnOk result ((w : Held → ℕ) → total w self.new.left.rows ≤ total w self.old.left.rows
-            + total w (started_rows left_due.now)) }
+            × TellsAhead (follows self.old.left.key self.old.right_key.columns self.old.within a b)
+            from to answer.old.items answer.new.items) }
+        ensures rows { OnOk result ((w : Held → ℕ) →
+            total w self.new.left.rows ≤ total w self.old.left.rows + total w
+            (started_rows left_due.now)) }
         ensures keys { SameKeys self.old self.new }
     {
         let mut i = 0;

@@ -78,17 +78,21 @@ impl Sides {
         to: Time,
     ) -> Result<Vec<Edge>, Memory>
         requires { to ≤ inf }
-        ensures kept { IfOk result (λ answer. (from : ℕ) (hl hr : List Edge) → from ≤ to → 1 ≤ self.old.rows.within →
-            SidesKeep self.old from hl hr → IsHistory (hl ++ left.now.edges) → IsHistory (hr ++ right.now.edges) →
+        ensures kept { IfOk result (λ answer. (from : ℕ) (hl hr : List Edge) → from ≤ to →
+            1 ≤ self.old.rows.within → SidesKeep self.old from hl hr →
+            IsHistory (hl ++ left.now.edges) → IsHistory (hr ++ right.now.edges) →
             failing (is_from from) left.now.edges ≡ 0 → failing (is_from from) right.now.edges ≡ 0 →
             SidesKeep self.new to (hl ++ left.now.edges) (hr ++ right.now.edges)
-            × TellsAhead (follows self.old.rows.left.key self.old.rows.right_key.columns self.old.rows.within
-            (of (hl ++ left.now.edges)) (of (hr ++ right.now.edges))) from to [] answer.items) }
+            × TellsAhead (follows self.old.rows.left.key self.old.rows.right_key.columns
+            self.old.rows.within (of (hl ++ left.now.edges)) (of (hr ++ right.now.edges))) from to
+            [] answer.items) }
         ensures sides { OnOk result ((from : ℕ) → from ≤ to →
             AreSides (cells_of left.now) (cells_of right.now) from self.old →
             AreSides (cells_of left.now) (cells_of right.now) to self.new) }
-        ensures left_cells { OnOk result (All (λ e. map datum_kind e.cells ≡ cells_of left.now) left.now.edges) }
-        ensures right_cells { OnOk result (All (λ e. map datum_kind e.cells ≡ cells_of right.now) right.now.edges) }
+        ensures left_cells { OnOk result (All (λ e.
+            map datum_kind e.cells ≡ cells_of left.now) left.now.edges) }
+        ensures right_cells { OnOk result (All (λ e.
+            map datum_kind e.cells ≡ cells_of right.now) right.now.edges) }
         ensures keys { SameKeys self.old.rows self.new.rows }
     {
         put_starts(&mut self.left_waiting, left)?;
@@ -103,13 +107,18 @@ impl Sides {
 
     /// Takes up the rows, by these key columns, and the starts that were saved. Where there is no memory nothing changes.
     pub(crate) fn take_up(&mut self, saved: &Saved, left_key: &[usize]) -> Result<(), Memory>
-        ensures rows { OnOk result (SameBag self.new.rows.left.rows (rows_of (part_of 0 saved.now))) }
-        ensures queue { OnOk result (SameBag self.new.rows.queue.items (rows_of (part_of 0 saved.now))) }
+        ensures rows { OnOk result (SameBag self.new.rows.left.rows
+            (rows_of (part_of 0 saved.now))) }
+        ensures queue { OnOk result (SameBag self.new.rows.queue.items
+            (rows_of (part_of 0 saved.now))) }
         ensures order { OnOk result (StartsRise 0 self.new.rows.queue.items) }
-        ensures left_waiting { OnOk result (SameBag (queued self.new.left_waiting) (part_of 1 saved.now)) }
-        ensures right_waiting { OnOk result (SameBag (queued self.new.right_waiting) (part_of 2 saved.now)) }
+        ensures left_waiting { OnOk result (SameBag (queued self.new.left_waiting)
+            (part_of 1 saved.now)) }
+        ensures right_waiting { OnOk result (SameBag (queued self.new.right_waiting)
+            (part_of 2 saved.now)) }
         ensures sides { OnOk result ((left_kinds right_kinds : List CellKind) (to : ℕ) →
-            FollowSound left_kinds right_kinds to saved.now → AreSides left_kinds right_kinds to self.new) }
+            FollowSound left_kinds right_kinds to saved.now →
+            AreSides left_kinds right_kinds to self.new) }
         ensures err { OnErr result (self.new ≡ self.old) }
         ensures left_key { OnOk result (self.new.rows.left.key ≡ left_key.now) }
         ensures right_key { self.new.rows.right_key ≡ self.old.rows.right_key }
@@ -130,7 +139,8 @@ impl Sides {
 
 /// Whether saved entries can be the state of a Follow whose sides are closed up to a time, with columns of these kinds.
 pub(crate) fn is_sound(saved: &Saved, left_kinds: &[Kind], right_kinds: &[Kind], to: Time) -> bool
-    ensures { IsTrue result ↔ FollowSound (map cell_kind_of left_kinds.now) (map cell_kind_of right_kinds.now) to saved.now }
+    ensures { IsTrue result ↔ FollowSound (map cell_kind_of left_kinds.now)
+        (map cell_kind_of right_kinds.now) to saved.now }
 {
     if !are_of_parts(saved, 3) {
         return false;

@@ -65,8 +65,10 @@ fn shards_saved(
     parts: &mut IntoIter<FrozenPart>,
     count: u64,
 ) -> Result<Vec<Saved>, Memory>
-    ensures saved { IfOk result (λ saved. saved.items ≡ map (λ p. p.saved) (take count (into_iter_items parts.old))) }
-    ensures rest { OnOk result (into_iter_items parts.new ≡ drop count (into_iter_items parts.old)) }
+    ensures saved { IfOk result (λ saved. saved.items ≡ map
+        (λ p. p.saved) (take count (into_iter_items parts.old))) }
+    ensures rest { OnOk result (into_iter_items parts.new
+        ≡ drop count (into_iter_items parts.old)) }
 {
     let mut saved = Vec::new(alloc);
     for _shard in 0..count {
@@ -120,7 +122,8 @@ fn push_node(row: &mut Vec<FrozenPart>, node: u64, shards: Vec<Saved>) -> Result
 
 // Puts the parts of all nodes behind those in the row.
 fn push_nodes(row: &mut Vec<FrozenPart>, nodes: Vec<Vec<Saved>>) -> Result<(), Memory>
-    ensures { OnOk result (row.new.items ≡ row.old.items ++ node_row 0 (map (λ shards. shards.items) nodes.items)) }
+    ensures { OnOk result (row.new.items ≡ row.old.items ++ node_row 0
+        (map (λ shards. shards.items) nodes.items)) }
 {
     let mut node = 0;
     let mut rest = nodes.into_iter();

@@ -19,7 +19,8 @@ pub fn labels_of(alloc: Global, texts: &TextTable) -> Result<Vec<Label>, Memory>
 /// A table of these texts, by place. There is none where two are equal.
 pub fn table_of(alloc: Global, labels: &[Label]) -> Result<Option<TextTable>, Memory>
     ensures some { IfOk result (λ found. IfSome found (λ texts. texts ≡ labels.now)) }
-    ensures distinct { IfOk result (λ found. IfSome found (λ texts. AllPairs (λ a b. a ≢ b) labels.now)) }
+    ensures distinct { IfOk result (λ found.
+        IfSome found (λ texts. AllPairs (λ a b. a ≢ b) labels.now)) }
     ensures none { IfOk result (λ found. found ≡ None → AllPairs (λ a b. a ≢ b) labels.now → ⊥) }
 {
     let mut texts = TextTable::new(alloc);

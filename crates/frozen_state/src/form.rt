@@ -173,7 +173,8 @@ fn rows_of_node(
     number: usize,
     node: &Node,
 ) -> Result<Vec<Vec<CellKind>>, Memory>
-    ensures { IfOk result (λ rows. map (λ row. row.items) rows.items ≡ node_rows plan.now number node.now) }
+    ensures { IfOk result (λ rows. map (λ row. row.items) rows.items
+        ≡ node_rows plan.now number node.now) }
 {
     let mut rows = Vec::new(alloc);
     for row in part_rows(node) {
@@ -206,7 +207,8 @@ fn push_node(
 ) -> Result<(), Memory>
     requires { number < length plan.now.nodes }
     ensures { OnOk result ((n : PlanNode) → slice_get plan.now.nodes number ≡ Some n →
-        forms.new.items ≡ forms.old.items ++ shard_forms (Owner.Node number) (node_rows plan.now number n) 0 shards) }
+        forms.new.items ≡ forms.old.items ++ shard_forms (Owner.Node number)
+        (node_rows plan.now number n) 0 shards) }
 {
     let nodes = plan.nodes();
     for shard in 0..shards {
@@ -226,7 +228,8 @@ fn push_nodes(
     plan: &Plan,
     workers: u64,
 ) -> Result<(), Memory>
-    ensures { OnOk result (forms.new.items ≡ forms.old.items ++ node_forms workers plan.now 0 plan.now.nodes) }
+    ensures { OnOk result (forms.new.items ≡ forms.old.items
+        ++ node_forms workers plan.now 0 plan.now.nodes) }
 {
     let nodes = plan.nodes();
     for number in 0..nodes.len() {

@@ -160,7 +160,8 @@ impl Frozen {
 
     /// Adds a text last. Out of memory it stays as it was.
     pub fn push_text(&mut self, text: Label) -> Result<(), Memory>
-        ensures ok { OnOk result (self.new ≡ record self.old { texts = self.old.texts ++ text ∷ [] }) }
+        ensures ok { OnOk result (self.new ≡ record self.old { texts = self.old.texts
+            ++ text ∷ [] }) }
         ensures err { OnErr result (self.new ≡ self.old) }
     {
         self.texts.push(text)?;
@@ -170,7 +171,8 @@ impl Frozen {
     /// Adds an entry last to the part of that number. Out of memory it stays as it was.
     pub fn push_entry(&mut self, at: usize, entry: SavedEntry) -> Result<(), Memory>
         requires { at < length self.old.parts }
-        ensures ok { OnOk result (self.new ≡ record self.old { parts = with_entry at entry self.old.parts }) }
+        ensures ok { OnOk result
+            (self.new ≡ record self.old { parts = with_entry at entry self.old.parts }) }
         ensures err { OnErr result (self.new ≡ self.old) }
     {
         self.parts[at].saved.push(entry)?;

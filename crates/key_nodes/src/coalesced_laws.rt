@@ -24,8 +24,8 @@ pub fn coalesced_events_are_causal<R>()
     ensures rows { (same : R → R → Bool) (rows rows2 : ℕ → List R) (c : ℕ) → Tells same → c ≤ inf →
         ((t : ℕ) → t < c → SameBag (rows t) (rows2 t)) →
         Known c (coalesced same rows) (coalesced same rows2) }
-    ensures events { (same : R → R → Bool) (c : ℕ) (a b : List (Event R)) → Tells same → Known c a b →
-        Known c (coalesced same (alive a)) (coalesced same (alive b)) }
+    ensures events { (same : R → R → Bool) (c : ℕ) (a b : List (Event R)) → Tells same →
+        Known c a b → Known c (coalesced same (alive a)) (coalesced same (alive b)) }
 {}
 
 /// Coalesced events have lives that begin before they end, and end at infinity at the latest.
@@ -39,9 +39,10 @@ pub fn coalesced_events_have_lives<R>()
 pub fn tops_have_the_rows<R>()
     ensures alive { (same : R → R → Bool) (meets : R → R → Bool) (value : R → ℤ) (count : ℕ)
         (events : List (Event R)) (t : ℕ) → Tells same → t < inf →
-        SameBag (alive (top same meets value count events) t) (top_rows meets value count (alive events t)) }
-    ensures order { (meets : R → R → Bool) (value : R → ℤ) (count : ℕ) (xs ys : List R) → SameBag xs ys →
-        SameBag (top_rows meets value count xs) (top_rows meets value count ys) }
+        SameBag (alive (top same meets value count events) t)
+        (top_rows meets value count (alive events t)) }
+    ensures order { (meets : R → R → Bool) (value : R → ℤ) (count : ℕ) (xs ys : List R) →
+        SameBag xs ys → SameBag (top_rows meets value count xs) (top_rows meets value count ys) }
 {}
 
 /// Causality: what is known of the events of a top below `c` depends only on what is known of the events below `c`.
@@ -54,9 +55,9 @@ pub fn tops_are_causal<R>()
 /// A right event starts next after a left one exactly where the two meet, it starts strictly after the left one and
 /// before the time within which it may is over, and no right event that the left one meets starts between the two.
 pub fn followed_events_are_next<L, R>()
-    ensures { (meets : L → R → Bool) (within : ℕ) (right : List (Event R)) (a : Event L) (b : Event R) →
-        IsTrue (starts_next meets within right a b)
-        ↔ (IsTrue (meets a.row b.row) × (a.start < b.start) × (b.start < a.start + within)
+    ensures { (meets : L → R → Bool) (within : ℕ) (right : List (Event R)) (a : Event L)
+        (b : Event R) → IsTrue (starts_next meets within right a b) ↔
+        (IsTrue (meets a.row b.row) × (a.start < b.start) × (b.start < a.start + within)
         × All (λ c. IsTrue (meets a.row c.row) → a.start < c.start → b.start ≤ c.start) right) }
 {}
 

@@ -35,7 +35,8 @@ pub(crate) fn run(
     requires filled { AreFilled steps.now registers.old }
     ensures kinds { kinds_in registers.new ≡ kinds_in registers.old }
     ensures filled { AreFilled steps.now registers.new }
-    ensures results { (j : ℕ) → j < 64 → IsResult texts.now (expr_of texts.now steps.now) (slice_index_or batch.now.rows (64 * block + j) no_row)
+    ensures results { (j : ℕ) → j < 64 → IsResult texts.now (expr_of texts.now steps.now)
+        (slice_index_or batch.now.rows (64 * block + j) no_row)
         (datum_in registers.new (length steps.now - 1) j) }
 {
     if batch.occupancy().word(block) == 0 {
@@ -58,21 +59,28 @@ fn run_at(
     requires place { to < length registers.old }
     requires operands { IsExprNode to (node_of [] step.now) }
     requires within { IsStepWithin batch.now.kinds step.now }
-    requires kind { slice_index_or (kinds_in registers.old) to CellKind.Whole ≡ step_kind batch.now.kinds step.now }
-    requires typed { IsTypedNode batch.now.kinds (take to (kinds_in registers.old)) (node_of [] step.now) }
+    requires kind { slice_index_or (kinds_in registers.old) to CellKind.Whole
+        ≡ step_kind batch.now.kinds step.now }
+    requires typed { IsTypedNode batch.now.kinds (take to (kinds_in registers.old))
+        (node_of [] step.now) }
     requires step { IsStepPlaced texts.now step.now }
     requires block { 64 * block < length batch.now.rows }
     requires cells { HoldsPlaces texts.now batch.now.rows }
-    requires placed { (j : ℕ) → j < 64 → IsOccupied batch.now.rows (64 * block + j) → ArePlaced texts.now (take to (map (datum_at j) registers.old)) }
-    requires constant { (d : Datum) → step.now ≡ Step.Constant d → (j : ℕ) → j < 64 → datum_in registers.old to j ≡ d }
+    requires placed { (j : ℕ) → j < 64 → IsOccupied batch.now.rows (64 * block + j) →
+        ArePlaced texts.now (take to (map (datum_at j) registers.old)) }
+    requires constant { (d : Datum) → step.now ≡ Step.Constant d → (j : ℕ) → j < 64 →
+        datum_in registers.old to j ≡ d }
     ensures kinds { kinds_in registers.new ≡ kinds_in registers.old }
     ensures others { (i j : ℕ) → i ≢ to → datum_in registers.new i j ≡ datum_in registers.old i j }
-    ensures constant { (j : ℕ) → is_constant step.now ≡ true → datum_in registers.new to j ≡ datum_in registers.old to j }
-    ensures before { (j : ℕ) → take to (map (datum_at j) registers.new) ≡ take to (map (datum_at j) registers.old) }
+    ensures constant { (j : ℕ) → is_constant step.now ≡ true →
+        datum_in registers.new to j ≡ datum_in registers.old to j }
+    ensures before { (j : ℕ) → take to (map (datum_at j) registers.new)
+        ≡ take to (map (datum_at j) registers.old) }
     ensures value { (j : ℕ) → j < 64 → IsOccupied batch.now.rows (64 * block + j) →
         read_datum texts.now (datum_in registers.new to j)
         ≡ node_value (read_cells texts.now (cells_of batch.now.rows (64 * block + j)))
-        (node_of texts.now step.now) (operand texts.now (take to (map (datum_at j) registers.old))) }
+        (node_of texts.now step.now) (operand texts.now
+        (take to (map (datum_at j) registers.old))) }
     ensures placed { (j : ℕ) → j < 64 → IsOccupied batch.now.rows (64 * block + j) →
         IsPlaced texts.now (datum_in registers.new to j) }
 {
@@ -96,8 +104,10 @@ fn run_step(
     requires step { IsStepPlaced texts.now step.now }
     requires block { 64 * block < length batch.now.rows }
     requires cells { HoldsPlaces texts.now batch.now.rows }
-    requires placed { (j : ℕ) → j < 64 → IsOccupied batch.now.rows (64 * block + j) → ArePlaced texts.now (map (datum_at j) before.now) }
-    requires constant { (d : Datum) → step.now ≡ Step.Constant d → (j : ℕ) → j < 64 → datum_at j into.old ≡ d }
+    requires placed { (j : ℕ) → j < 64 → IsOccupied batch.now.rows (64 * block + j) →
+        ArePlaced texts.now (map (datum_at j) before.now) }
+    requires constant { (d : Datum) → step.now ≡ Step.Constant d → (j : ℕ) → j < 64 →
+        datum_at j into.old ≡ d }
     ensures kind { into.new.kind ≡ into.old.kind }
     ensures constant { is_constant step.now ≡ true → into.new ≡ into.old }
     ensures value { (j : ℕ) → j < 64 → IsOccupied batch.now.rows (64 * block + j) →
@@ -134,7 +144,8 @@ fn run_step(
 
 // Writes the sums, differences or products, which wrap.
 fn arith(into: &mut Numbers, op: ArithOp, left: &Numbers, right: &Numbers)
-    ensures { (j : ℕ) → j < 64 → number into.new.lanes j ≡ arith_value op (number left.now.lanes j) (number right.now.lanes j) }
+    ensures { (j : ℕ) → j < 64 → number into.new.lanes j
+        ≡ arith_value op (number left.now.lanes j) (number right.now.lanes j) }
 {
     match op {
         ArithOp::Add => sums(into, left, right),

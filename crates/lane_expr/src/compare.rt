@@ -24,10 +24,13 @@ pub(crate) fn compare(
     occupied: u64,
 ) -> u64
     requires kinds { left.now.kind ≡ right.now.kind }
-    requires left { (j : ℕ) → j < 64 → test occupied j ≡ true → IsPlaced texts.now (datum_at j left.now) }
-    requires right { (j : ℕ) → j < 64 → test occupied j ≡ true → IsPlaced texts.now (datum_at j right.now) }
+    requires left { (j : ℕ) → j < 64 → test occupied j ≡ true →
+        IsPlaced texts.now (datum_at j left.now) }
+    requires right { (j : ℕ) → j < 64 → test occupied j ≡ true →
+        IsPlaced texts.now (datum_at j right.now) }
     ensures { (j : ℕ) → j < 64 → test occupied j ≡ true →
-        test result j ≡ is_met op (value_cmp (read_datum texts.now (datum_at j left.now)) (read_datum texts.now (datum_at j right.now))) }
+        test result j ≡ is_met op (value_cmp (read_datum texts.now (datum_at j left.now))
+        (read_datum texts.now (datum_at j right.now))) }
 {
     match left.kind {
         CellKind::Whole => compare_numbers(op, &left.numbers, &right.numbers),
@@ -38,7 +41,8 @@ pub(crate) fn compare(
 
 // The same of numbers.
 fn compare_numbers(op: CompareOp, left: &Numbers, right: &Numbers) -> u64
-    ensures { (j : ℕ) → j < 64 → test result j ≡ is_met op (int_cmp (number left.now.lanes j) (number right.now.lanes j)) }
+    ensures { (j : ℕ) → j < 64 → test result j
+        ≡ is_met op (int_cmp (number left.now.lanes j) (number right.now.lanes j)) }
 {
     match op {
         CompareOp::Eq => marks_same(left, right),
@@ -89,7 +93,8 @@ fn same_texts(left: &Places, right: &Places, texts: &TextTable, occupied: u64) -
     requires left { AreTexts texts.now occupied left.now.lanes }
     requires right { AreTexts texts.now occupied right.now.lanes }
     ensures { (j : ℕ) → j < 64 → test occupied j ≡ true →
-        test result j ≡ is_met CompareOp.Eq (text_order texts.now left.now.lanes right.now.lanes j) }
+        test result j ≡ is_met CompareOp.Eq
+        (text_order texts.now left.now.lanes right.now.lanes j) }
 {
     let _distinct = texts.len();
     marks_same_places(left, right)

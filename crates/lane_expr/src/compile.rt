@@ -31,9 +31,11 @@ impl Kernel {
         ensures kernel { IfOk result (λ k. IsKernelOf texts.new expr.now k) }
         ensures kinds { IfOk result (λ k. k.kinds ≡ map cell_kind_of kinds.now) }
         ensures capacity { IfOk result (λ k. k.capacity ≡ capacity) }
-        ensures result { IfOk result (λ k. result_kind k ≡ kind_of expr.now (map cell_kind_of kinds.now)) }
+        ensures result { IfOk result (λ k. result_kind k
+            ≡ kind_of expr.now (map cell_kind_of kinds.now)) }
         ensures table { OnOk result (texts.new ≡ with_texts texts.old expr.now) }
-        ensures err { OnErr result ((n : ℕ) × (texts.new ≡ with_texts texts.old (take n expr.now))) }
+        ensures err { OnErr result ((n : ℕ) × (texts.new
+            ≡ with_texts texts.old (take n expr.now))) }
         ensures begins { BeginsWith texts.new texts.old }
     {
         let steps = compile_nodes(alloc, expr.items(), texts)?;
@@ -128,7 +130,8 @@ fn cell_kinds(alloc: Global, kinds: &[Kind]) -> Result<Vec<CellKind>, Memory>
 fn register_of(step: &Step, kind: CellKind) -> Register
     requires { (d : Datum) → step.now ≡ Step.Constant d → datum_kind d ≡ kind }
     ensures kind { result.kind ≡ kind }
-    ensures constant { (d : Datum) → step.now ≡ Step.Constant d → (j : ℕ) → j < 64 → datum_of kind result j ≡ d }
+    ensures constant { (d : Datum) → step.now ≡ Step.Constant d → (j : ℕ) → j < 64 →
+        datum_of kind result j ≡ d }
 {
     let mut register = Register::new(kind);
     if let Step::Constant(datum) = step {

@@ -61,7 +61,8 @@ impl Kernel {
         requires reads { CanRead texts.now self.old batch.now }
         requires empty { out.old.items ≡ [] }
         requires room { length batch.now.rows ≤ out.old.capacity }
-        ensures mask { out.new ≡ record out.old { items = mask_of texts.now (expr_of texts.now self.old.steps) batch.now.rows } }
+        ensures mask { out.new ≡ record out.old { items = mask_of texts.now
+            (expr_of texts.now self.old.steps) batch.now.rows } }
         ensures same { self.new ≡ self.old }
     {
         fill_mask(&mut self.registers, &self.steps, batch, texts, out);
@@ -84,7 +85,8 @@ fn fill_mask(
     requires cells { HoldsPlaces texts.now batch.now.rows }
     requires empty { out.old.items ≡ [] }
     requires room { length batch.now.rows ≤ out.old.capacity }
-    ensures mask { out.new ≡ record out.old { items = mask_of texts.now (expr_of texts.now steps.now) batch.now.rows } }
+    ensures mask { out.new ≡ record out.old { items = mask_of texts.now
+        (expr_of texts.now steps.now) batch.now.rows } }
     ensures kinds { kinds_in registers.new ≡ kinds_in registers.old }
     ensures filled { AreFilled steps.now registers.new }
 {
@@ -110,7 +112,8 @@ fn test_block(
     requires placed { AreStepsPlaced texts.now steps.now }
     requires block { 64 * block < length batch.now.rows }
     requires cells { HoldsPlaces texts.now batch.now.rows }
-    ensures bits { (j : ℕ) → j < 64 → test result j ≡ is_met_at texts.now (expr_of texts.now steps.now) batch.now.rows (64 * block + j) }
+    ensures bits { (j : ℕ) → j < 64 → test result j
+        ≡ is_met_at texts.now (expr_of texts.now steps.now) batch.now.rows (64 * block + j) }
     ensures kinds { kinds_in registers.new ≡ kinds_in registers.old }
     ensures filled { AreFilled steps.now registers.new }
 {

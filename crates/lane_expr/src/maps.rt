@@ -24,7 +24,8 @@ impl Kernel {
         requires reads { CanRead texts.now self.old batch.now }
         requires empty { out.old.items ≡ [] }
         requires room { length batch.now.rows ≤ out.old.capacity }
-        ensures results { AreResults texts.now (expr_of texts.now self.old.steps) batch.now.rows (map Datum.Int out.new.items) }
+        ensures results { AreResults texts.now (expr_of texts.now self.old.steps) batch.now.rows
+            (map Datum.Int out.new.items) }
         ensures room { out.new.capacity ≡ out.old.capacity }
         ensures same { self.new ≡ self.old }
     {
@@ -37,7 +38,8 @@ impl Kernel {
         requires reads { CanRead texts.now self.old batch.now }
         requires empty { out.old.items ≡ [] }
         requires room { length batch.now.rows ≤ out.old.capacity }
-        ensures results { AreResults texts.now (expr_of texts.now self.old.steps) batch.now.rows (map Datum.Bool out.new.items) }
+        ensures results { AreResults texts.now (expr_of texts.now self.old.steps) batch.now.rows
+            (map Datum.Bool out.new.items) }
         ensures room { out.new.capacity ≡ out.old.capacity }
         ensures same { self.new ≡ self.old }
     {
@@ -50,7 +52,8 @@ impl Kernel {
         requires reads { CanRead texts.now self.old batch.now }
         requires empty { out.old.items ≡ [] }
         requires room { length batch.now.rows ≤ out.old.capacity }
-        ensures results { AreResults texts.now (expr_of texts.now self.old.steps) batch.now.rows (map Datum.Text out.new.items) }
+        ensures results { AreResults texts.now (expr_of texts.now self.old.steps) batch.now.rows
+            (map Datum.Text out.new.items) }
         ensures room { out.new.capacity ≡ out.old.capacity }
         ensures same { self.new ≡ self.old }
     {
@@ -74,7 +77,8 @@ fn fill<C: Lane>(
     requires cells { HoldsPlaces texts.now batch.now.rows }
     requires empty { out.old.items ≡ [] }
     requires room { length batch.now.rows ≤ out.old.capacity }
-    ensures results { AreResults texts.now (expr_of texts.now steps.now) batch.now.rows (map C.datum out.new.items) }
+    ensures results { AreResults texts.now (expr_of texts.now steps.now) batch.now.rows
+        (map C.datum out.new.items) }
     ensures room { out.new.capacity ≡ out.old.capacity }
     ensures kinds { kinds_in registers.new ≡ kinds_in registers.old }
     ensures filled { AreFilled steps.now registers.new }

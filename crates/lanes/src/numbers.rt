@@ -68,7 +68,8 @@ fn tell_whole(numbers: &[i64])
 
 /// Writes the sums, which wrap.
 pub fn sums(into: &mut Numbers, left: &Numbers, right: &Numbers)
-    ensures { (k : ℕ) → k < 64 → number into.new.lanes k ≡ int_wrap w64 (number left.now.lanes k +ℤ number right.now.lanes k) }
+    ensures { (k : ℕ) → k < 64 → number into.new.lanes k
+        ≡ int_wrap w64 (number left.now.lanes k +ℤ number right.now.lanes k) }
 {
     let left = i64x64::from_array(left.lanes);
     let right = i64x64::from_array(right.lanes);
@@ -77,7 +78,8 @@ pub fn sums(into: &mut Numbers, left: &Numbers, right: &Numbers)
 
 /// Writes the differences, which wrap.
 pub fn differences(into: &mut Numbers, left: &Numbers, right: &Numbers)
-    ensures { (k : ℕ) → k < 64 → number into.new.lanes k ≡ int_wrap w64 (number left.now.lanes k -ℤ number right.now.lanes k) }
+    ensures { (k : ℕ) → k < 64 → number into.new.lanes k
+        ≡ int_wrap w64 (number left.now.lanes k -ℤ number right.now.lanes k) }
 {
     let left = i64x64::from_array(left.lanes);
     let right = i64x64::from_array(right.lanes);
@@ -86,7 +88,8 @@ pub fn differences(into: &mut Numbers, left: &Numbers, right: &Numbers)
 
 /// Writes the products, which wrap.
 pub fn products(into: &mut Numbers, left: &Numbers, right: &Numbers)
-    ensures { (k : ℕ) → k < 64 → number into.new.lanes k ≡ int_wrap w64 (number left.now.lanes k *ℤ number right.now.lanes k) }
+    ensures { (k : ℕ) → k < 64 → number into.new.lanes k
+        ≡ int_wrap w64 (number left.now.lanes k *ℤ number right.now.lanes k) }
 {
     let left = i64x64::from_array(left.lanes);
     let right = i64x64::from_array(right.lanes);
@@ -95,14 +98,16 @@ pub fn products(into: &mut Numbers, left: &Numbers, right: &Numbers)
 
 /// Writes the numbers with their signs turned, which wrap.
 pub fn negations(into: &mut Numbers, of: &Numbers)
-    ensures { (k : ℕ) → k < 64 → number into.new.lanes k ≡ int_wrap w64 (neg_ℤ (number of.now.lanes k)) }
+    ensures { (k : ℕ) → k < 64 → number into.new.lanes k
+        ≡ int_wrap w64 (neg_ℤ (number of.now.lanes k)) }
 {
     differences(into, &Numbers::filled(0), of);
 }
 
 /// Writes the quotients whose rests are not negative.
 pub fn quotients(into: &mut Numbers, of: &Numbers, by: &Divisor)
-    ensures { (k : ℕ) → k < 64 → number into.new.lanes k ≡ int_div_euclid (number of.now.lanes k) (pos by.now.by) }
+    ensures { (k : ℕ) → k < 64 → number into.new.lanes k
+        ≡ int_div_euclid (number of.now.lanes k) (pos by.now.by) }
 {
     for k in 0..BLOCK {
         into.lanes[k] = by.quotient(of.lanes[k]);
@@ -111,7 +116,8 @@ pub fn quotients(into: &mut Numbers, of: &Numbers, by: &Divisor)
 
 /// Writes the rests, which are not negative.
 pub fn rests(into: &mut Numbers, of: &Numbers, by: &Divisor)
-    ensures { (k : ℕ) → k < 64 → number into.new.lanes k ≡ int_rem_euclid (number of.now.lanes k) (pos by.now.by) }
+    ensures { (k : ℕ) → k < 64 → number into.new.lanes k
+        ≡ int_rem_euclid (number of.now.lanes k) (pos by.now.by) }
 {
     for k in 0..BLOCK {
         into.lanes[k] = by.rest(of.lanes[k]);
@@ -120,7 +126,8 @@ pub fn rests(into: &mut Numbers, of: &Numbers, by: &Divisor)
 
 /// Tells by bit k of a word whether the left number of lane k is below the right one.
 pub fn marks_below(left: &Numbers, right: &Numbers) -> u64
-    ensures { (k : ℕ) → k < 64 → test result k ≡ int_lt (number left.now.lanes k) (number right.now.lanes k) }
+    ensures { (k : ℕ) → k < 64 → test result k
+        ≡ int_lt (number left.now.lanes k) (number right.now.lanes k) }
 {
     let mut word = 0;
     for part in 0..BLOCK / ORDERED {
@@ -131,7 +138,8 @@ pub fn marks_below(left: &Numbers, right: &Numbers) -> u64
 
 /// Tells by bit k of a word whether the numbers of lane k are the same.
 pub fn marks_same(left: &Numbers, right: &Numbers) -> u64
-    ensures { (k : ℕ) → k < 64 → test result k ≡ int_eq (number left.now.lanes k) (number right.now.lanes k) }
+    ensures { (k : ℕ) → k < 64 → test result k
+        ≡ int_eq (number left.now.lanes k) (number right.now.lanes k) }
 {
     let mut word = 0;
     for part in 0..BLOCK / EQUAL {
@@ -145,7 +153,8 @@ pub fn marks_same(left: &Numbers, right: &Numbers) -> u64
 fn part_below(left: &Numbers, right: &Numbers, at: usize) -> u64
     requires { at + 4 ≤ 64 }
     ensures few { result < 2 ^ 4 }
-    ensures marks { (k : ℕ) → k < 4 → test result k ≡ int_lt (number left.now.lanes (at + k)) (number right.now.lanes (at + k)) }
+    ensures marks { (k : ℕ) → k < 4 → test result k
+        ≡ int_lt (number left.now.lanes (at + k)) (number right.now.lanes (at + k)) }
 {
     let left = i64x4::from_slice(&left.lanes[at..]);
     let right = i64x4::from_slice(&right.lanes[at..]);
@@ -157,7 +166,8 @@ fn part_below(left: &Numbers, right: &Numbers, at: usize) -> u64
 fn part_same(left: &Numbers, right: &Numbers, at: usize) -> u64
     requires { at + 16 ≤ 64 }
     ensures few { result < 2 ^ 16 }
-    ensures marks { (k : ℕ) → k < 16 → test result k ≡ int_eq (number left.now.lanes (at + k)) (number right.now.lanes (at + k)) }
+    ensures marks { (k : ℕ) → k < 16 → test result k
+        ≡ int_eq (number left.now.lanes (at + k)) (number right.now.lanes (at + k)) }
 {
     let left = i64x16::from_slice(&left.lanes[at..]);
     let right = i64x16::from_slice(&right.lanes[at..]);

@@ -51,7 +51,8 @@ pub fn load_places(into: &mut Places, column: &[u64], first: usize, count: usize
 
 /// Tells by bit k of a word whether the places of lane k are the same.
 pub fn marks_same_places(left: &Places, right: &Places) -> u64
-    ensures { (k : ℕ) → k < 64 → test result k ≡ (place left.now.lanes k == place right.now.lanes k) }
+    ensures { (k : ℕ) → k < 64 → test result k
+        ≡ (place left.now.lanes k == place right.now.lanes k) }
 {
     let mut word = 0;
     for part in 0..BLOCK / EQUAL {
@@ -65,7 +66,8 @@ pub fn marks_same_places(left: &Places, right: &Places) -> u64
 fn part_same(left: &Places, right: &Places, at: usize) -> u64
     requires { at + 16 ≤ 64 }
     ensures few { result < 2 ^ 16 }
-    ensures marks { (k : ℕ) → k < 16 → test result k ≡ (place left.now.lanes (at + k) == place right.now.lanes (at + k)) }
+    ensures marks { (k : ℕ) → k < 16 → test result k
+        ≡ (place left.now.lanes (at + k) == place right.now.lanes (at + k)) }
 {
     let left = u64x16::from_slice(&left.lanes[at..]);
     let right = u64x16::from_slice(&right.lanes[at..]);

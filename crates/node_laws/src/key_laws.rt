@@ -22,21 +22,22 @@ ghost use Rattle.node_laws.specs.Shards.{is_keyed, left_key_of, right_key_of, an
 /// together: each side is cut by the shard of its key. A Group is undefined at an instant where it is so in one of its
 /// shards.
 pub fn nodes_by_shards<X>()
-    ensures events { (ops : RowOps X) → Tells ops.same → (shard : List X → ℕ) (n : ℕ) → ((k : List X) → shard k < n) →
-        (node : Node) (a b : List (Event (List X))) → is_keyed node ≡ true →
-        SameBag (node_in ops node a b)
-        (over_shards (λ s. node_in ops node
-        (of_shard (λ r. shard (key_in ops (left_key_of node) r)) s a)
+    ensures events { (ops : RowOps X) → Tells ops.same → (shard : List X → ℕ) (n : ℕ) →
+        ((k : List X) → shard k < n) → (node : Node) (a b : List (Event (List X))) →
+        is_keyed node ≡ true → SameBag (node_in ops node a b)
+        (over_shards (λ s. node_in ops node (of_shard
+        (λ r. shard (key_in ops (left_key_of node) r)) s a)
         (of_shard (λ r. shard (key_in ops (right_key_of node) r)) s b)) n) }
     ensures undefined { (ops : RowOps X) → Tells ops.same → (shard : List X → ℕ) (n : ℕ) →
-        ((k : List X) → shard k < n) →
-        (key : List ℕ) (aggs : List Agg) (rows : List (List X)) →
-        is_undefined_in ops key aggs rows
-        ≡ any_shard (λ s. is_undefined_in ops key aggs (rows_of_shard (λ r. shard (key_in ops key r)) s rows)) n }
-    ensures instants { (ops : RowOps X) → Tells ops.same → (shard : List X → ℕ) (n : ℕ) → ((k : List X) → shard k < n) →
-        (key : List ℕ) (aggs : List Agg) (a : List (Event (List X))) (t : ℕ) →
-        is_undefined_in ops key aggs (alive a t)
-        ≡ any_shard (λ s. is_undefined_in ops key aggs (alive (of_shard (λ r. shard (key_in ops key r)) s a) t)) n }
+        ((k : List X) → shard k < n) → (key : List ℕ) (aggs : List Agg) (rows : List (List X)) →
+        is_undefined_in ops key aggs rows ≡ any_shard
+        (λ s. is_undefined_in ops key aggs (rows_of_shard
+        (λ r. shard (key_in ops key r)) s rows)) n }
+    ensures instants { (ops : RowOps X) → Tells ops.same → (shard : List X → ℕ) (n : ℕ) →
+        ((k : List X) → shard k < n) → (key : List ℕ) (aggs : List Agg) (a : List (Event (List X)))
+        (t : ℕ) → is_undefined_in ops key aggs (alive a t) ≡ any_shard
+        (λ s. is_undefined_in ops key aggs (alive
+        (of_shard (λ r. shard (key_in ops key r)) s a) t)) n }
 {}
 
 /// However keys are given shards, what the shards of a node keep, each of the edges of its own rows, the node keeps of all
@@ -44,18 +45,24 @@ pub fn nodes_by_shards<X>()
 pub fn shards_keep_what_the_node_keeps()
     ensures kept { (test : CellTest) (select : CellSelect) (n : Node) → is_keyed n ≡ true →
         (shard : List Datum → ℕ) (count : ℕ) → ((key : List Datum) → shard key < count) →
-        (texts : List (List ℕ)) (x y : ℕ) (left right out : List Edge) (outs : ℕ → List Edge) → x ≤ inf → y ≤ inf →
-        IsHistory left → IsHistory right → EdgesArePlaced texts left → EdgesArePlaced texts right →
-        ((s : ℕ) → s < count → Keeps (cell_ops test select) n texts x y
-        (edges_of_shard (λ cells. shard (key_in (cell_ops test select) (left_key_of n) cells)) s left)
-        (edges_of_shard (λ cells. shard (key_in (cell_ops test select) (right_key_of n) cells)) s right) (outs s)) →
-        Rises 0 out → SameBag out (over_shards outs count) → Keeps (cell_ops test select) n texts x y left right out }
+        (texts : List (List ℕ)) (x y : ℕ) (left right out : List Edge) (outs : ℕ → List Edge) →
+        x ≤ inf → y ≤ inf → IsHistory left → IsHistory right → EdgesArePlaced texts left →
+        EdgesArePlaced texts right → ((s : ℕ) → s < count →
+        Keeps (cell_ops test select) n texts x y
+        (edges_of_shard (λ cells. shard (key_in (cell_ops test select)
+        (left_key_of n) cells)) s left) (edges_of_shard
+        (λ cells. shard (key_in (cell_ops test select) (right_key_of n) cells)) s right) (outs s)) →
+        Rises 0 out → SameBag out (over_shards outs count) →
+        Keeps (cell_ops test select) n texts x y left right out }
     ensures ahead { (test : CellTest) (select : CellSelect) (n : Node) → is_keyed n ≡ true →
         (shard : List Datum → ℕ) (count : ℕ) → ((key : List Datum) → shard key < count) →
-        (texts : List (List ℕ)) (x y : ℕ) (left right out : List Edge) (outs : ℕ → List Edge) → x ≤ inf → y ≤ inf →
-        IsHistory left → IsHistory right → EdgesArePlaced texts left → EdgesArePlaced texts right →
-        ((s : ℕ) → s < count → KeepsAhead (cell_ops test select) n texts x y
-        (edges_of_shard (λ cells. shard (key_in (cell_ops test select) (left_key_of n) cells)) s left)
-        (edges_of_shard (λ cells. shard (key_in (cell_ops test select) (right_key_of n) cells)) s right) (outs s)) →
-        Rises 0 out → SameBag out (over_shards outs count) → KeepsAhead (cell_ops test select) n texts x y left right out }
+        (texts : List (List ℕ)) (x y : ℕ) (left right out : List Edge) (outs : ℕ → List Edge) →
+        x ≤ inf → y ≤ inf → IsHistory left → IsHistory right → EdgesArePlaced texts left →
+        EdgesArePlaced texts right → ((s : ℕ) → s < count →
+        KeepsAhead (cell_ops test select) n texts x y
+        (edges_of_shard (λ cells. shard (key_in (cell_ops test select)
+        (left_key_of n) cells)) s left) (edges_of_shard
+        (λ cells. shard (key_in (cell_ops test select) (right_key_of n) cells)) s right) (outs s)) →
+        Rises 0 out → SameBag out (over_shards outs count) →
+        KeepsAhead (cell_ops test select) n texts x y left right out }
 {}

@@ -20,9 +20,10 @@ ghost use Rattle.node_laws.specs.Places.{AreDistinct, read_events, read_of, Even
 pub fn nodes_commute_with_readings<X, Y>()
     ensures events { (f : X → Y) (before : RowOps X) (after : RowOps Y) → IsReading f before after →
         (n : Node) (a b : List (Event (List X))) → has_expressions n ≡ false →
-        node_in after n (events_to (map f) a) (events_to (map f) b) ≡ events_to (map f) (node_in before n a b) }
-    ensures undefined { (f : X → Y) (before : RowOps X) (after : RowOps Y) → IsReading f before after →
-        (key : List ℕ) (aggs : List Agg) (rows : List (List X)) →
+        node_in after n (events_to (map f) a) (events_to (map f) b)
+        ≡ events_to (map f) (node_in before n a b) }
+    ensures undefined { (f : X → Y) (before : RowOps X) (after : RowOps Y) →
+        IsReading f before after → (key : List ℕ) (aggs : List Agg) (rows : List (List X)) →
         is_undefined_in after key aggs (map (map f) rows) ≡ is_undefined_in before key aggs rows }
 {}
 
@@ -33,9 +34,10 @@ pub fn nodes_commute_with_texts_of_places()
         (n : Node) (a b : List CellEvent) → has_expressions n ≡ false →
         node_events n (events_to (map (value_by text)) a) (events_to (map (value_by text)) b)
         ≡ events_to (map (value_by text)) (node_in (cell_ops test select) n a b) }
-    ensures undefined { (test : CellTest) (select : CellSelect) (text : ℕ → List ℕ) → AreApart text →
-        (key : List ℕ) (aggs : List Agg) (rows : List (List Datum)) →
-        is_undefined key aggs (map (map (value_by text)) rows) ≡ is_undefined_in (cell_ops test select) key aggs rows }
+    ensures undefined { (test : CellTest) (select : CellSelect) (text : ℕ → List ℕ) →
+        AreApart text → (key : List ℕ) (aggs : List Agg) (rows : List (List Datum)) →
+        is_undefined key aggs (map (map (value_by text)) rows)
+        ≡ is_undefined_in (cell_ops test select) key aggs rows }
     ensures instants { (test : CellTest) (select : CellSelect) (text : ℕ → List ℕ) → AreApart text →
         (key : List ℕ) (aggs : List Agg) (a : List CellEvent) (t : ℕ) →
         is_undefined key aggs (alive (events_to (map (value_by text)) a) t)
@@ -45,8 +47,8 @@ pub fn nodes_commute_with_texts_of_places()
 /// Cells that are read through a table of distinct texts, which has the text of each of their places: the same, and the
 /// places in the events of the node are places of the table too, whatever texts it has.
 pub fn nodes_commute_with_tables()
-    ensures events { (test : CellTest) (select : CellSelect) (texts : List (List ℕ)) → AreDistinct texts →
-        (n : Node) (a b : List CellEvent) → has_expressions n ≡ false →
+    ensures events { (test : CellTest) (select : CellSelect) (texts : List (List ℕ)) →
+        AreDistinct texts → (n : Node) (a b : List CellEvent) → has_expressions n ≡ false →
         EventsArePlaced texts a → EventsArePlaced texts b →
         node_events n (read_events texts a) (read_events texts b)
         ≡ read_events texts (node_in (cell_ops test select) n a b) }
@@ -54,12 +56,12 @@ pub fn nodes_commute_with_tables()
         (n : Node) (a b : List CellEvent) → has_expressions n ≡ false →
         EventsArePlaced texts a → EventsArePlaced texts b →
         EventsArePlaced texts (node_in (cell_ops test select) n a b) }
-    ensures undefined { (test : CellTest) (select : CellSelect) (texts : List (List ℕ)) → AreDistinct texts →
-        (key : List ℕ) (aggs : List Agg) (a : List CellEvent) (t : ℕ) → EventsArePlaced texts a →
-        is_undefined key aggs (alive (read_events texts a) t)
+    ensures undefined { (test : CellTest) (select : CellSelect) (texts : List (List ℕ)) →
+        AreDistinct texts → (key : List ℕ) (aggs : List Agg) (a : List CellEvent) (t : ℕ) →
+        EventsArePlaced texts a → is_undefined key aggs (alive (read_events texts a) t)
         ≡ is_undefined_in (cell_ops test select) key aggs (alive a t) }
-    ensures undefined_edges { (test : CellTest) (select : CellSelect) (texts : List (List ℕ)) → AreDistinct texts →
-        (key : List ℕ) (aggs : List Agg) (h : List Edge) (t : ℕ) → EdgesArePlaced texts h →
-        is_undefined key aggs (alive (read_of texts h) t)
+    ensures undefined_edges { (test : CellTest) (select : CellSelect) (texts : List (List ℕ)) →
+        AreDistinct texts → (key : List ℕ) (aggs : List Agg) (h : List Edge) (t : ℕ) →
+        EdgesArePlaced texts h → is_undefined key aggs (alive (read_of texts h) t)
         ≡ is_undefined_in (cell_ops test select) key aggs (alive (of h) t) }
 {}

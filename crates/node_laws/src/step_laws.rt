@@ -22,13 +22,15 @@ ghost use Rattle.node_laws.specs.Keeping.{Keeps, KeepsAhead};
 
 /// Where nothing came in, nothing is told, whatever the times up to which the sides are closed.
 pub fn nothing_is_kept_at_first()
-    ensures { (ops : RowOps Datum) (n : Node) (texts : List (List ℕ)) (x y : ℕ) → Keeps ops n texts x y [] [] [] }
+    ensures { (ops : RowOps Datum) (n : Node) (texts : List (List ℕ)) (x y : ℕ) →
+        Keeps ops n texts x y [] [] [] }
 {}
 
 /// A table that grows changes nothing of what is kept.
 pub fn what_is_kept_stays_in_longer_tables()
-    ensures { (ops : RowOps Datum) (n : Node) (new old : List (List ℕ)) (x y : ℕ) (left right out : List Edge) →
-        BeginsWith new old → Keeps ops n old x y left right out → Keeps ops n new x y left right out }
+    ensures { (ops : RowOps Datum) (n : Node) (new old : List (List ℕ)) (x y : ℕ)
+        (left right out : List Edge) → BeginsWith new old → Keeps ops n old x y left right out →
+        Keeps ops n new x y left right out }
 {}
 
 /// A step: new edges come at the time up to which their side was closed or later, each side is closed up to a later
@@ -46,12 +48,13 @@ pub fn steps_keep_what_they_tell()
         (node_in (cell_ops test select) n (of (left ++ l)) (of (right ++ r)))) →
         Keeps (cell_ops test select) n texts u v (left ++ l) (right ++ r) (out ++ more) }
     ensures later { (ops : RowOps Datum) (n : Node) (x y u v : ℕ) (left right more : List Edge) →
-        SameBag more (news (node_closes n x y) (node_closes n u v) (node_in ops n (of left) (of right))) →
-        failing (is_from (node_closes n x y)) more ≡ 0 }
+        SameBag more (news (node_closes n x y) (node_closes n u v)
+        (node_in ops n (of left) (of right))) → failing (is_from (node_closes n x y)) more ≡ 0 }
     ensures below { (ops : RowOps Datum) (n : Node) (x y u v : ℕ) (left right more : List Edge) →
-        SameBag more (news (node_closes n x y) (node_closes n u v) (node_in ops n (of left) (of right))) →
-        failing (is_below (node_closes n u v)) more ≡ 0 }
-    ensures closings { (n : Node) (x y u v : ℕ) → x ≤ u → y ≤ v → u ≤ inf → node_closes n x y ≤ node_closes n u v }
+        SameBag more (news (node_closes n x y) (node_closes n u v)
+        (node_in ops n (of left) (of right))) → failing (is_below (node_closes n u v)) more ≡ 0 }
+    ensures closings { (n : Node) (x y u v : ℕ) → x ≤ u → y ≤ v → u ≤ inf →
+        node_closes n x y ≤ node_closes n u v }
 {}
 
 /// What is told is a history below the closing, with its places in the table, and stands for the node's events: of
@@ -60,14 +63,16 @@ pub fn what_is_told_stands_for_the_node()
     ensures cells { (test : CellTest) (select : CellSelect) (n : Node) (texts : List (List ℕ))
         (x y : ℕ) (left right out : List Edge) → x ≤ inf → y ≤ inf →
         Keeps (cell_ops test select) n texts x y left right out →
-        StandsBelow (node_closes n x y) out (node_in (cell_ops test select) n (of left) (of right)) }
+        StandsBelow (node_closes n x y) out (node_in (cell_ops test select) n (of left)
+        (of right)) }
     ensures placed { (test : CellTest) (select : CellSelect) (n : Node) (texts : List (List ℕ))
         (x y : ℕ) (left right out : List Edge) → has_expressions n ≡ false → x ≤ inf → y ≤ inf →
         Keeps (cell_ops test select) n texts x y left right out → EdgesArePlaced texts out }
     ensures rows { (test : CellTest) (select : CellSelect) (n : Node) (texts : List (List ℕ))
-        (x y : ℕ) (left right out : List Edge) → has_expressions n ≡ false → AreDistinct texts → x ≤ inf → y ≤ inf →
-        Keeps (cell_ops test select) n texts x y left right out →
-        StandsRead texts (node_closes n x y) out (node_events n (read_of texts left) (read_of texts right)) }
+        (x y : ℕ) (left right out : List Edge) → has_expressions n ≡ false → AreDistinct texts →
+        x ≤ inf → y ≤ inf → Keeps (cell_ops test select) n texts x y left right out →
+        StandsRead texts (node_closes n x y) out
+        (node_events n (read_of texts left) (read_of texts right)) }
 {}
 
 /// An operator may tell ends ahead, by interval edges with the ends that it knows. Its step then shows that the single
@@ -76,34 +81,36 @@ pub fn what_is_told_stands_for_the_node()
 pub fn steps_may_tell_ends_ahead()
     ensures first { (ops : RowOps Datum) (n : Node) (texts : List (List ℕ)) (x y : ℕ) →
         KeepsAhead ops n texts x y [] [] [] }
-    ensures longer { (ops : RowOps Datum) (n : Node) (new old : List (List ℕ)) (x y : ℕ) (left right out : List Edge) →
-        BeginsWith new old → KeepsAhead ops n old x y left right out → KeepsAhead ops n new x y left right out }
+    ensures longer { (ops : RowOps Datum) (n : Node) (new old : List (List ℕ)) (x y : ℕ)
+        (left right out : List Edge) → BeginsWith new old →
+        KeepsAhead ops n old x y left right out → KeepsAhead ops n new x y left right out }
     ensures kept { (test : CellTest) (select : CellSelect) (n : Node) (texts : List (List ℕ))
         (x y u v : ℕ) (left right out l r more : List Edge) → x ≤ u → u ≤ inf → y ≤ v → v ≤ inf →
-        KeepsAhead (cell_ops test select) n texts x y left right out →
-        IsHistory (left ++ l) → IsHistory (right ++ r) →
-        EdgesArePlaced texts (left ++ l) → EdgesArePlaced texts (right ++ r) →
-        failing (is_from x) l ≡ 0 → failing (is_from y) r ≡ 0 →
-        Rises 0 more → failing is_real more ≡ 0 →
-        failing (is_from (node_closes n x y)) more ≡ 0 → failing (is_below (node_closes n u v)) more ≡ 0 →
-        ((w : Edge → ℕ) → total w (filter (is_below (node_closes n u v)) (singles more))
-        + total w (filter (is_below (node_closes n u v)) (filter (is_from (node_closes n x y)) (singles out)))
+        KeepsAhead (cell_ops test select) n texts x y left right out → IsHistory (left ++ l) →
+        IsHistory (right ++ r) → EdgesArePlaced texts (left ++ l) →
+        EdgesArePlaced texts (right ++ r) → failing (is_from x) l ≡ 0 → failing (is_from y) r ≡ 0 →
+        Rises 0 more → failing is_real more ≡ 0 → failing (is_from (node_closes n x y)) more ≡ 0 →
+        failing (is_below (node_closes n u v)) more ≡ 0 →
+        ((w : Edge → ℕ) → total w (filter (is_below (node_closes n u v)) (singles more)) + total w
+        (filter (is_below (node_closes n u v)) (filter (is_from (node_closes n x y)) (singles out)))
         ≡ total w (news (node_closes n x y) (node_closes n u v)
         (node_in (cell_ops test select) n (of (left ++ l)) (of (right ++ r))))) →
-        ((w : Edge → ℕ) → total w (filter (is_from (node_closes n u v)) (singles more))
-        + total w (filter (is_from (node_closes n u v)) (filter (is_from (node_closes n x y)) (singles out)))
-        ≤ total w (news (node_closes n u v) inf
+        ((w : Edge → ℕ) → total w (filter (is_from (node_closes n u v)) (singles more)) + total w
+        (filter (is_from (node_closes n u v)) (filter (is_from (node_closes n x y))
+        (singles out))) ≤ total w (news (node_closes n u v) inf
         (node_in (cell_ops test select) n (of (left ++ l)) (of (right ++ r))))) →
         KeepsAhead (cell_ops test select) n texts u v (left ++ l) (right ++ r) (out ++ more) }
     ensures cells { (test : CellTest) (select : CellSelect) (n : Node) (texts : List (List ℕ))
         (x y : ℕ) (left right out : List Edge) → x ≤ inf → y ≤ inf →
         KeepsAhead (cell_ops test select) n texts x y left right out →
-        StandsBelow (node_closes n x y) out (node_in (cell_ops test select) n (of left) (of right)) }
+        StandsBelow (node_closes n x y) out (node_in (cell_ops test select) n (of left)
+        (of right)) }
     ensures placed { (test : CellTest) (select : CellSelect) (n : Node) (texts : List (List ℕ))
         (x y : ℕ) (left right out : List Edge) → has_expressions n ≡ false → x ≤ inf → y ≤ inf →
         KeepsAhead (cell_ops test select) n texts x y left right out → EdgesArePlaced texts out }
     ensures rows { (test : CellTest) (select : CellSelect) (n : Node) (texts : List (List ℕ))
-        (x y : ℕ) (left right out : List Edge) → has_expressions n ≡ false → AreDistinct texts → x ≤ inf → y ≤ inf →
-        KeepsAhead (cell_ops test select) n texts x y left right out →
-        StandsRead texts (node_closes n x y) out (node_events n (read_of texts left) (read_of texts right)) }
+        (x y : ℕ) (left right out : List Edge) → has_expressions n ≡ false → AreDistinct texts →
+        x ≤ inf → y ≤ inf → KeepsAhead (cell_ops test select) n texts x y left right out →
+        StandsRead texts (node_closes n x y) out
+        (node_events n (read_of texts left) (read_of texts right)) }
 {}

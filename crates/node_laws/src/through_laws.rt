@@ -12,23 +12,26 @@ ghost use Rattle.node_laws.specs.Standing.{StandsRead, SourcesStandRead, AllStan
 /// that the node reads; and so does its own list, if it stands for the node over what is read of these two. Node by
 /// node all lists stand for the events of their nodes below their closings.
 pub fn nodes_stand_read_after_their_children()
-    ensures left { (texts : List (List ℕ)) (nodes : List Node) → IsOrdered nodes → (p : ℕ) (source : Sources)
-        (given lists : ℕ → List Edge) → SourcesStandRead texts p source given →
-        (i : ℕ) (n : Node) → slice_get nodes i ≡ Some n → AllStandRead texts nodes p source lists i →
+    ensures left { (texts : List (List ℕ)) (nodes : List Node) → IsOrdered nodes →
+        (p : ℕ) (source : Sources) (given lists : ℕ → List Edge) →
+        SourcesStandRead texts p source given → (i : ℕ) (n : Node) → slice_get nodes i ≡ Some n →
+        AllStandRead texts nodes p source lists i →
         StandsRead texts (left_of inf (λ k. p) (λ k. closes nodes k p) n) (left_of [] given lists n)
         (left_of [] source (events source nodes) n) }
-    ensures right { (texts : List (List ℕ)) (nodes : List Node) → IsOrdered nodes → (p : ℕ) (source : Sources)
-        (given lists : ℕ → List Edge) → SourcesStandRead texts p source given →
-        (i : ℕ) (n : Node) → slice_get nodes i ≡ Some n → AllStandRead texts nodes p source lists i →
+    ensures right { (texts : List (List ℕ)) (nodes : List Node) → IsOrdered nodes →
+        (p : ℕ) (source : Sources) (given lists : ℕ → List Edge) →
+        SourcesStandRead texts p source given → (i : ℕ) (n : Node) → slice_get nodes i ≡ Some n →
+        AllStandRead texts nodes p source lists i →
         StandsRead texts (right_of inf (λ k. closes nodes k p) n) (right_of [] lists n)
         (right_of [] (events source nodes) n) }
-    ensures node { (texts : List (List ℕ)) (nodes : List Node) → IsOrdered nodes → (p : ℕ) (source : Sources)
-        (given lists : ℕ → List Edge) → SourcesStandRead texts p source given →
-        (i : ℕ) (n : Node) → slice_get nodes i ≡ Some n → AllStandRead texts nodes p source lists i →
-        StandsRead texts
-        (node_closes n (left_of inf (λ k. p) (λ k. closes nodes k p) n) (right_of inf (λ k. closes nodes k p) n))
-        (lists i)
-        (node_events n (read_of texts (left_of [] given lists n)) (read_of texts (right_of [] lists n))) →
+    ensures node { (texts : List (List ℕ)) (nodes : List Node) → IsOrdered nodes →
+        (p : ℕ) (source : Sources) (given lists : ℕ → List Edge) →
+        SourcesStandRead texts p source given → (i : ℕ) (n : Node) → slice_get nodes i ≡ Some n →
+        AllStandRead texts nodes p source lists i →
+        StandsRead texts (node_closes n (left_of inf (λ k. p) (λ k. closes nodes k p) n)
+        (right_of inf (λ k. closes nodes k p) n)) (lists i)
+        (node_events n (read_of texts (left_of [] given lists n))
+        (read_of texts (right_of [] lists n))) →
         StandsRead texts (closes nodes i p) (lists i) (events source nodes i) }
     ensures next { (texts : List (List ℕ)) (nodes : List Node) (p : ℕ) (source : Sources)
         (lists : ℕ → List Edge) (i : ℕ) →

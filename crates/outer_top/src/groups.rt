@@ -21,7 +21,8 @@ pub(crate) type Groups = BTreeMap<u64, Bucket>;
 
 /// Adds the cells of rows to a list.
 pub(crate) fn push_cells(list: &mut Vec<Cells>, rows: &[HeldRow]) -> Result<(), Memory>
-    ensures { OnOk result ((w : List Item → ℕ) → total w list.new.items ≡ total w list.old.items + total w (bare rows.now)) }
+    ensures { OnOk result ((w : List Item → ℕ) →
+        total w list.new.items ≡ total w list.old.items + total w (bare rows.now)) }
 {
     for row in rows {
         list.push(row.cells.clone()?)?;
@@ -36,7 +37,8 @@ pub(crate) fn put_row(
     rank: u64,
     row: HeldRow,
 ) -> Result<(), Memory>
-    ensures weighs { OnOk result ((w : HeldRow → ℕ) → total w (rows_in groups.new.entries) ≡ total w (rows_in groups.old.entries) + w row) }
+    ensures weighs { OnOk result ((w : HeldRow → ℕ) →
+        total w (rows_in groups.new.entries) ≡ total w (rows_in groups.old.entries) + w row) }
     ensures ranked { OnOk result ((rank_of : List Item → ℕ → Bool) → rank_of row.cells rank ≡ true →
         AreRanked rank_of groups.old.entries → AreRanked rank_of groups.new.entries) }
     ensures keys { OnOk result ((p : ℕ → Bool) → p rank ≡ true →
@@ -56,9 +58,12 @@ pub(crate) fn take_row(groups: &mut Groups, rank: u64, cells: &[Datum], start: T
     ensures taken { result ≡ true → (w : HeldRow → ℕ) → total w (rows_in groups.old.entries)
         ≡ total w (rows_in groups.new.entries) + w (record { cells = cells.now; start = start }) }
     ensures none { result ≡ false → groups.new.entries ≡ groups.old.entries }
-    ensures ranked { (rank_of : List Item → ℕ → Bool) → AreRanked rank_of groups.old.entries → AreRanked rank_of groups.new.entries }
-    ensures keys { (p : ℕ → Bool) → failing (λ g. p g.0) groups.old.entries ≡ 0 → failing (λ g. p g.0) groups.new.entries ≡ 0 }
-    ensures missing { result ≡ false → (rank_of : List Item → ℕ → Bool) → IsOnlyRank rank_of cells.now rank → AreRanked rank_of groups.old.entries →
+    ensures ranked { (rank_of : List Item → ℕ → Bool) → AreRanked rank_of groups.old.entries →
+        AreRanked rank_of groups.new.entries }
+    ensures keys { (p : ℕ → Bool) → failing (λ g. p g.0) groups.old.entries ≡ 0 →
+        failing (λ g. p g.0) groups.new.entries ≡ 0 }
+    ensures missing { result ≡ false → (rank_of : List Item → ℕ → Bool) →
+        IsOnlyRank rank_of cells.now rank → AreRanked rank_of groups.old.entries →
         many (is_held cells.now start) (rows_in groups.old.entries) ≡ 0 }
 {
     let Some(group) = groups.get_mut(&rank) else {
@@ -86,7 +91,8 @@ pub(crate) fn row_count(groups: &Groups) -> u64
 
 /// Adds the starts of the rows as entries of that part.
 pub(crate) fn save_groups(saved: &mut Saved, part: u64, groups: &Groups) -> Result<(), Memory>
-    ensures { OnOk result (saved.new ≡ saved.old ++ entries_of part (starts_of (rows_in groups.now.entries))) }
+    ensures { OnOk result (saved.new ≡ saved.old ++ entries_of part
+        (starts_of (rows_in groups.now.entries))) }
 {
     for (_, group) in groups.iter() {
         save_block(saved, part, group.rows())?;

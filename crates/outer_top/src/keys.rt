@@ -26,8 +26,8 @@ pub(crate) fn change(
     lost: &mut Vec<Cells>,
     won: &mut Vec<Cells>,
 ) -> Result<(), Memory>
-    ensures { OnOk result
-        (ChangesKey key rank edge.now lost.old.items lost.new.items won.old.items won.new.items keys.old.entries keys.new.entries) }
+    ensures { OnOk result (ChangesKey key rank edge.now lost.old.items lost.new.items won.old.items
+        won.new.items keys.old.entries keys.new.entries) }
 {
     if let Some(ranked) = keys.get_mut(&key) {
         ranked.change(alloc, rank, edge, lost, won)?;
@@ -41,7 +41,8 @@ pub(crate) fn change(
 
 // Lets a key go that has no rows.
 fn let_go(keys: &mut Keys, key: &Cells)
-    ensures { (r : RankedRows) → lookup (same key.now) keys.old.entries ≡ Some r → IsBare r → Gone keys.old.entries keys.new.entries }
+    ensures { (r : RankedRows) → lookup (same key.now) keys.old.entries ≡ Some r → IsBare r →
+        Gone keys.old.entries keys.new.entries }
 {
     if let Some(place) = keys.get_index_of(key) {
         let _ = keys.swap_remove_index(place);
@@ -57,8 +58,8 @@ pub(crate) fn settle(
     won: &mut Vec<Cells>,
 ) -> Result<(), Memory>
     requires { 1 ≤ most }
-    ensures { OnOk result
-        (SettlesKey key.now most lost.old.items lost.new.items won.old.items won.new.items keys.old.entries keys.new.entries) }
+    ensures { OnOk result (SettlesKey key.now most lost.old.items lost.new.items won.old.items
+        won.new.items keys.old.entries keys.new.entries) }
 {
     let Some(ranked) = keys.get_mut(key) else {
         return Ok(());

@@ -32,13 +32,15 @@ pub struct Ranked {
 pub fn tops_are_found_key_by_key<R, K>()
     ensures { (key : R → K) (same : K → K → Bool) → Tells same →
         (value : R → ℤ) (most : ℕ) (blocks : List (Block R K)) → AreOfKeys key same blocks →
-        AreOtherKeys same blocks →
-        SameBag (top_rows (λ r x. same (key r) (key x)) value most (flat_map (λ e. e.1) blocks)) (tops_of_blocks value most blocks) }
+        AreOtherKeys same blocks → SameBag (top_rows
+        (λ r x. same (key r) (key x)) value most (flat_map (λ e. e.1) blocks))
+        (tops_of_blocks value most blocks) }
 {}
 
 // Whether a group has a rank as great or greater.
 fn is_low(groups: &Groups, rank: u64) -> bool
-    ensures low { result ≡ true → (shown : List Group) → AreApart shown groups.now.entries → AreFrom (suc rank) shown }
+    ensures low { result ≡ true → (shown : List Group) → AreApart shown groups.now.entries →
+        AreFrom (suc rank) shown }
     ensures high { result ≡ false → AreBelow rank groups.now.entries }
 {
     match groups.last_key_value() {
@@ -80,9 +82,11 @@ impl Ranked {
         row: HeldRow,
         won: &mut Vec<Cells>,
     ) -> Result<(), Memory>
-        ensures rows { OnOk result ((w : HeldRow → ℕ) → weight_of w self.new ≡ weight_of w self.old + w row) }
-        ensures won { OnOk result ((w : List Datum → ℕ) → total w (shown_of self.new) + total w won.old.items
-            ≡ total w (shown_of self.old) + total w won.new.items) }
+        ensures rows { OnOk result ((w : HeldRow → ℕ) →
+            weight_of w self.new ≡ weight_of w self.old + w row) }
+        ensures won { OnOk result ((w : List Datum → ℕ) →
+            total w (shown_of self.new) + total w won.old.items ≡ total w (shown_of self.old)
+            + total w won.new.items) }
         ensures ranked { OnOk result ((rank_of : List Datum → ℕ → Bool) → rank_of row.cells rank
             ≡ true → AreRanked rank_of self.old.shown.entries →
             AreRanked rank_of self.old.hidden.entries →
@@ -108,13 +112,17 @@ impl Ranked {
         lost: &mut Vec<Cells>,
     ) -> Result<bool, Memory>
         ensures rows { IfOk result (λ there. there ≡ true → (w : HeldRow → ℕ) →
-            weight_of w self.old ≡ weight_of w self.new + w (record { cells = cells.now; start = start })) }
-        ensures lost { OnOk result ((w : List Datum → ℕ) → total w (shown_of self.new) + total w lost.new.items
-            ≡ total w (shown_of self.old) + total w lost.old.items) }
+            weight_of w self.old ≡ weight_of w self.new + w
+            (record { cells = cells.now; start = start })) }
+        ensures lost { OnOk result ((w : List Datum → ℕ) →
+            total w (shown_of self.new) + total w lost.new.items ≡ total w (shown_of self.old)
+            + total w lost.old.items) }
         ensures ranked { OnOk result (KeepsRanks self.old self.new) }
-        ensures missing { IfOk result (λ there. there ≡ false → (rank_of : List Datum → ℕ → Bool) → IsOnlyRank rank_of cells.now rank →
-            AreRanked rank_of self.old.shown.entries → AreRanked rank_of self.old.hidden.entries →
-            many (is_held cells.now start) (rows_in self.old.shown.entries) + many (is_held cells.now start) (rows_in self.old.hidden.entries) ≡ 0) }
+        ensures missing { IfOk result (λ there. there ≡ false → (rank_of : List Datum → ℕ → Bool) →
+            IsOnlyRank rank_of cells.now rank → AreRanked rank_of self.old.shown.entries →
+            AreRanked rank_of self.old.hidden.entries →
+            many (is_held cells.now start) (rows_in self.old.shown.entries) + many
+            (is_held cells.now start) (rows_in self.old.hidden.entries) ≡ 0) }
         ensures none { IfOk result (λ there. there ≡ false →
             (self.new.shown.entries ≡ self.old.shown.entries)
             × (self.new.hidden.entries ≡ self.old.hidden.entries)) }
@@ -135,9 +143,11 @@ impl Ranked {
             ≡ total w (rows_in self.new.shown.entries) + w
             (record { cells = cells.now; start = start }) }
         ensures none { result ≡ false → self.new.shown.entries ≡ self.old.shown.entries }
-        ensures missing { result ≡ false → (rank_of : List Datum → ℕ → Bool) → IsOnlyRank rank_of cells.now rank →
-            AreRanked rank_of self.old.shown.entries → many (is_held cells.now start) (rows_in self.old.shown.entries) ≡ 0 }
-        ensures ranked { (rank_of : List Datum → ℕ → Bool) → AreRanked rank_of self.old.shown.entries → AreRanked rank_of self.new.shown.entries }
+        ensures missing { result ≡ false → (rank_of : List Datum → ℕ → Bool) →
+            IsOnlyRank rank_of cells.now rank → AreRanked rank_of self.old.shown.entries →
+            many (is_held cells.now start) (rows_in self.old.shown.entries) ≡ 0 }
+        ensures ranked { (rank_of : List Datum → ℕ → Bool) →
+            AreRanked rank_of self.old.shown.entries → AreRanked rank_of self.new.shown.entries }
         ensures hidden { self.new.hidden.entries ≡ self.old.hidden.entries }
     {
         let gone = take_row(&mut self.shown, rank, cells.items(), start);
@@ -150,12 +160,15 @@ impl Ranked {
     // Hides the group of the least rank that is shown, if so many rows are shown above it. Tells whether it did.
     fn hide_one(&mut self, most: usize, lost: &mut Vec<Cells>) -> Result<bool, Memory>
         requires { 1 ≤ most }
-        ensures rows { OnOk result ((w : HeldRow → ℕ) → weight_of w self.new ≡ weight_of w self.old) }
-        ensures lost { OnOk result ((w : List Datum → ℕ) → total w (shown_of self.new) + total w lost.new.items
-            ≡ total w (shown_of self.old) + total w lost.old.items) }
+        ensures rows { OnOk result ((w : HeldRow → ℕ) →
+            weight_of w self.new ≡ weight_of w self.old) }
+        ensures lost { OnOk result ((w : List Datum → ℕ) →
+            total w (shown_of self.new) + total w lost.new.items ≡ total w (shown_of self.old)
+            + total w lost.old.items) }
         ensures ranked { OnOk result (KeepsRanks self.old self.new) }
         ensures few { IfOk result (λ more. more ≡ false → AreFew most self.new.shown.entries) }
-        ensures less { IfOk result (λ more. more ≡ true → length self.old.shown.entries ≡ length self.new.shown.entries + 1) }
+        ensures less { IfOk result (λ more. more ≡ true →
+            length self.old.shown.entries ≡ length self.new.shown.entries + 1) }
     {
         let over = match self.shown.first_key_value() {
             Some((_, group)) => self.count - group.rows().len() >= most,
@@ -175,13 +188,17 @@ impl Ranked {
 
     // Shows the group of the greatest rank that is hidden, where there is one. Tells whether it did.
     fn show_one(&mut self, won: &mut Vec<Cells>) -> Result<bool, Memory>
-        ensures rows { OnOk result ((w : HeldRow → ℕ) → weight_of w self.new ≡ weight_of w self.old) }
-        ensures won { OnOk result ((w : List Datum → ℕ) → total w (shown_of self.new) + total w won.old.items
-            ≡ total w (shown_of self.old) + total w won.new.items) }
+        ensures rows { OnOk result ((w : HeldRow → ℕ) →
+            weight_of w self.new ≡ weight_of w self.old) }
+        ensures won { OnOk result ((w : List Datum → ℕ) →
+            total w (shown_of self.new) + total w won.old.items ≡ total w (shown_of self.old)
+            + total w won.new.items) }
         ensures ranked { OnOk result (KeepsRanks self.old self.new) }
-        ensures few { OnOk result ((most : ℕ) → self.old.count < most → AreFew most self.old.shown.entries → AreFew most self.new.shown.entries) }
+        ensures few { OnOk result ((most : ℕ) → self.old.count < most →
+            AreFew most self.old.shown.entries → AreFew most self.new.shown.entries) }
         ensures none { IfOk result (λ more. more ≡ false → self.new.hidden.entries ≡ []) }
-        ensures less { IfOk result (λ more. more ≡ true → length self.old.hidden.entries ≡ length self.new.hidden.entries + 1) }
+        ensures less { IfOk result (λ more. more ≡ true →
+            length self.old.hidden.entries ≡ length self.new.hidden.entries + 1) }
     {
         let Some((rank, group)) = self.hidden.pop_last() else {
             return Ok(false);
@@ -202,7 +219,8 @@ impl Ranked {
         lost: &mut Vec<Cells>,
         won: &mut Vec<Cells>,
     ) -> Result<(), Memory>
-        ensures { OnOk result (HasChanged rank edge.now lost.old.items lost.new.items won.old.items won.new.items self.old self.new) }
+        ensures { OnOk result (HasChanged rank edge.now lost.old.items lost.new.items won.old.items
+            won.new.items self.old self.new) }
     {
         if edge.is_end() {
             self.take(rank, &edge.cells, edge.other, lost)?;
@@ -224,7 +242,8 @@ impl Ranked {
         won: &mut Vec<Cells>,
     ) -> Result<(), Memory>
         requires { 1 ≤ most }
-        ensures { OnOk result (HasSettled most lost.old.items lost.new.items won.old.items won.new.items self.old self.new) }
+        ensures { OnOk result (HasSettled most lost.old.items lost.new.items won.old.items
+            won.new.items self.old self.new) }
     {
         self.settle(most, lost, won)?;
         Ok(())
@@ -239,7 +258,8 @@ impl Ranked {
 
     /// Adds the starts of the rows as entries of that part.
     pub(crate) fn save(&self, saved: &mut Saved, part: u64) -> Result<(), Memory>
-        ensures { OnOk result (saved.new ≡ saved.old ++ entries_of part (starts_of (rows_of self.now))) }
+        ensures { OnOk result (saved.new ≡ saved.old ++ entries_of part
+            (starts_of (rows_of self.now))) }
     {
         save_groups(saved, part, &self.shown)?;
         save_groups(saved, part, &self.hidden)?;
@@ -262,15 +282,18 @@ impl Ranked {
         won: &mut Vec<Cells>,
     ) -> Result<(), Memory>
         requires { 1 ≤ most }
-        ensures rows { OnOk result ((w : HeldRow → ℕ) → weight_of w self.new ≡ weight_of w self.old) }
+        ensures rows { OnOk result ((w : HeldRow → ℕ) →
+            weight_of w self.new ≡ weight_of w self.old) }
         ensures moved { OnOk result ((w : List Datum → ℕ) →
             total w (shown_of self.new) + total w lost.new.items + total w won.old.items
             ≡ total w (shown_of self.old) + total w lost.old.items + total w won.new.items) }
         ensures ranked { OnOk result (KeepsRanks self.old self.new) }
         ensures fits { OnOk result ((p : List Datum → Bool) → failing p (shown_of self.old) ≡ 0 →
-            failing p (bare (rows_in self.old.hidden.entries)) ≡ 0 → failing p won.old.items ≡ 0 → failing p won.new.items ≡ 0) }
+            failing p (bare (rows_in self.old.hidden.entries)) ≡ 0 → failing p won.old.items ≡ 0 →
+            failing p won.new.items ≡ 0) }
         ensures few { OnOk result (AreFew most self.new.shown.entries) }
-        ensures enough { OnOk result (AreEnough most self.new.shown.entries self.new.hidden.entries) }
+        ensures enough { OnOk result
+            (AreEnough most self.new.shown.entries self.new.hidden.entries) }
     {
         'hide: while self.hide_one(most, lost)? {}
         'show: while self.count < most {
@@ -284,9 +307,10 @@ impl Ranked {
     /// What is shown of settled rows: the top rows of the key, by the column whose values their ranks stand for. A call does nothing
     /// but tell a proof of this.
     pub fn are_top(&self, most: usize)
-        ensures { (value : List Datum → ℤ) →
-            AreRanked (has_rank value) self.now.shown.entries → AreRanked (has_rank value) self.now.hidden.entries →
-            AreFew most self.now.shown.entries → AreEnough most self.now.shown.entries self.now.hidden.entries →
+        ensures { (value : List Datum → ℤ) → AreRanked (has_rank value) self.now.shown.entries →
+            AreRanked (has_rank value) self.now.hidden.entries →
+            AreFew most self.now.shown.entries →
+            AreEnough most self.now.shown.entries self.now.hidden.entries →
             SameBag (top_rows (λ a b. true) value most
             (bare (rows_in self.now.shown.entries ++ rows_in self.now.hidden.entries)))
             (shown_of self.now) }

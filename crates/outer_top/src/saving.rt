@@ -21,7 +21,8 @@ pub(crate) fn row_count(keys: &Keys) -> u64
 
 /// Adds the starts of the rows as entries of that part.
 pub(crate) fn save_keys(saved: &mut Saved, part: u64, keys: &Keys) -> Result<(), Memory>
-    ensures { OnOk result (saved.new ≡ saved.old ++ entries_of part (starts_of (kept_rows keys.now.entries))) }
+    ensures { OnOk result (saved.new ≡ saved.old ++ entries_of part
+        (starts_of (kept_rows keys.now.entries))) }
 {
     for (_, ranked) in keys.iter() {
         ranked.save(saved, part)?;

@@ -48,21 +48,27 @@ impl Side {
         requires some { 1 ≤ self.old.tops.most }
         requires high { to ≤ inf }
         ensures kept { IfOk result (λ answer. (from : ℕ) (hl : List Edge) → from ≤ to →
-            SideKeeps self.old.tops.key.columns self.old.tops.by self.old.tops.most self.old from hl →
-            IsHistory (hl ++ left.now.edges) → failing (is_from from) left.now.edges ≡ 0 →
-            SideKeeps self.old.tops.key.columns self.old.tops.by self.old.tops.most self.new to (hl ++ left.now.edges)
-            × Tells (tops_of_events self.old.tops.key.columns self.old.tops.by self.old.tops.most (of (hl ++ left.now.edges)))
-            from to [] answer.items) }
+            SideKeeps self.old.tops.key.columns self.old.tops.by self.old.tops.most self.old from
+            hl → IsHistory (hl ++ left.now.edges) → failing (is_from from) left.now.edges ≡ 0 →
+            SideKeeps self.old.tops.key.columns self.old.tops.by self.old.tops.most self.new to
+            (hl ++ left.now.edges) × Tells (tops_of_events self.old.tops.key.columns
+            self.old.tops.by self.old.tops.most (of (hl ++ left.now.edges))) from to []
+            answer.items) }
         ensures side { OnOk result ((from : ℕ) → from ≤ to →
-            IsSide (cells_of left.now) from (kept_rows self.old.tops.keys.entries) self.old.waiting →
+            IsSide (cells_of left.now) from
+            (kept_rows self.old.tops.keys.entries) self.old.waiting →
             IsSide (cells_of left.now) to (kept_rows self.new.tops.keys.entries) self.new.waiting) }
         ensures shown { OnOk result ((from : ℕ) → from ≤ to →
-            IsSide (cells_of left.now) from (kept_rows self.old.tops.keys.entries) self.old.waiting →
-            HaveBegun (cells_of left.now) from self.old.queues → HaveBegun (cells_of left.now) to self.new.queues) }
-        ensures settled { OnOk result (
-            AreSettled self.old.tops.key.columns self.old.tops.by self.old.tops.most self.old.tops.keys.entries →
-            AreSettled self.old.tops.key.columns self.old.tops.by self.old.tops.most self.new.tops.keys.entries) }
-        ensures cells { OnOk result (All (λ e. map datum_kind e.cells ≡ cells_of left.now) left.now.edges) }
+            IsSide (cells_of left.now) from
+            (kept_rows self.old.tops.keys.entries) self.old.waiting →
+            HaveBegun (cells_of left.now) from self.old.queues →
+            HaveBegun (cells_of left.now) to self.new.queues) }
+        ensures settled { OnOk result (AreSettled self.old.tops.key.columns self.old.tops.by
+            self.old.tops.most self.old.tops.keys.entries →
+            AreSettled self.old.tops.key.columns self.old.tops.by self.old.tops.most
+            self.new.tops.keys.entries) }
+        ensures cells { OnOk result (All (λ e. map datum_kind e.cells
+            ≡ cells_of left.now) left.now.edges) }
         ensures like { IsLike self.old.tops self.new.tops }
     {
         let due = take_in(&mut self.waiting, self.alloc, left, to)?;
@@ -107,7 +113,8 @@ fn tops_of(
     ensures most { IfOk result (λ t. t.most ≡ most) }
     ensures settled { IfOk result (λ t. AreSettled key.now by most t.keys.entries) }
     ensures rows { IfOk result (λ t. (kinds : List CellKind) (to : ℕ) → to ≤ inf →
-        are_row_starts kinds to starts.now ≡ true → SameBag (kept_rows t.keys.entries) (rows_of starts.now)) }
+        are_row_starts kinds to starts.now ≡ true →
+        SameBag (kept_rows t.keys.entries) (rows_of starts.now)) }
 {
     let mut tops = Tops::new(alloc, key, by, most)?;
     let mut lost = Vec::new(alloc);
@@ -129,13 +136,16 @@ pub(crate) fn load_side(
     ensures by { IfOk result (λ s. s.tops.by ≡ by) }
     ensures most { IfOk result (λ s. s.tops.most ≡ most) }
     ensures settled { IfOk result (λ s. AreSettled key.now by most s.tops.keys.entries) }
-    ensures rows { IfOk result (λ s. (kinds : List CellKind) (to : ℕ) → to ≤ inf → TopSound kinds to saved.now →
-        SameBag (kept_rows s.tops.keys.entries) (rows_of (part_of 0 saved.now))) }
+    ensures rows { IfOk result (λ s. (kinds : List CellKind) (to : ℕ) → to ≤ inf →
+        TopSound kinds to saved.now → SameBag (kept_rows s.tops.keys.entries)
+        (rows_of (part_of 0 saved.now))) }
     ensures waiting { IfOk result (λ s. SameBag (queued s.waiting) (part_of 1 saved.now)) }
-    ensures queues { IfOk result (λ s. (c : List Datum) → queue_of s.queues c ≡ queue_of (rows_of (part_of 2 saved.now)) c) }
-    ensures side { IfOk result (λ s. (kinds : List CellKind) (to : ℕ) → to ≤ inf → TopSound kinds to saved.now →
-        IsSide kinds to (kept_rows s.tops.keys.entries) s.waiting) }
-    ensures shown { IfOk result (λ s. (kinds : List CellKind) (to : ℕ) → TopSound kinds to saved.now → HaveBegun kinds to s.queues) }
+    ensures queues { IfOk result (λ s. (c : List Datum) →
+        queue_of s.queues c ≡ queue_of (rows_of (part_of 2 saved.now)) c) }
+    ensures side { IfOk result (λ s. (kinds : List CellKind) (to : ℕ) → to ≤ inf →
+        TopSound kinds to saved.now → IsSide kinds to (kept_rows s.tops.keys.entries) s.waiting) }
+    ensures shown { IfOk result (λ s. (kinds : List CellKind) (to : ℕ) →
+        TopSound kinds to saved.now → HaveBegun kinds to s.queues) }
 {
     let starts = edges_of_part(alloc, saved, 0)?;
     Ok(Side {

@@ -29,14 +29,19 @@ fn pass(
     now: &[Edge],
 ) -> Result<(), Memory>
     requires { 1 ≤ tops.old.most }
-    ensures swept { OnOk result ((a : List CellEvent) → t < inf → AreEvents a → SameBag now.now (news t (suc t) a) →
-        TopHeld tops.old.key.columns tops.old.by tops.old.most a t tops.old.keys.entries queues.old →
-        TopHeld tops.old.key.columns tops.old.by tops.old.most a (suc t) tops.new.keys.entries queues.new
-        × Tells (tops_of_events tops.old.key.columns tops.old.by tops.old.most a) t (suc t) answer.old.items answer.new.items) }
+    ensures swept { OnOk result ((a : List CellEvent) → t < inf → AreEvents a →
+        SameBag now.now (news t (suc t) a) → TopHeld tops.old.key.columns tops.old.by tops.old.most
+        a t tops.old.keys.entries queues.old → TopHeld tops.old.key.columns tops.old.by
+        tops.old.most a (suc t) tops.new.keys.entries queues.new
+        × Tells (tops_of_events tops.old.key.columns tops.old.by tops.old.most a) t (suc t)
+        answer.old.items answer.new.items) }
     ensures rows { OnOk result ((w : HeldRow → ℕ) →
-        total w (kept_rows tops.new.keys.entries) ≤ total w (kept_rows tops.old.keys.entries) + total w (started_rows now.now)) }
-    ensures queues { OnOk result (QueuesFit t (kept_rows tops.old.keys.entries) now.now queues.old queues.new) }
-    ensures settled { OnOk result (AreSettled tops.old.key.columns tops.old.by tops.old.most tops.old.keys.entries →
+        total w (kept_rows tops.new.keys.entries) ≤ total w (kept_rows tops.old.keys.entries)
+        + total w (started_rows now.now)) }
+    ensures queues { OnOk result (QueuesFit t
+        (kept_rows tops.old.keys.entries) now.now queues.old queues.new) }
+    ensures settled { OnOk result
+        (AreSettled tops.old.key.columns tops.old.by tops.old.most tops.old.keys.entries →
         AreSettled tops.old.key.columns tops.old.by tops.old.most tops.new.keys.entries) }
     ensures like { IsLike tops.old tops.new }
 {
@@ -56,15 +61,20 @@ pub(crate) fn sweep(
 ) -> Result<(), Memory>
     requires { 1 ≤ tops.old.most }
     ensures swept { OnOk result ((a : List CellEvent) (from to : ℕ) → IsDue a from to due.now →
-        TopHeld tops.old.key.columns tops.old.by tops.old.most a from tops.old.keys.entries queues.old →
-        TopHeld tops.old.key.columns tops.old.by tops.old.most a to tops.new.keys.entries queues.new
-        × Tells (tops_of_events tops.old.key.columns tops.old.by tops.old.most a) from to answer.old.items answer.new.items) }
+        TopHeld tops.old.key.columns tops.old.by tops.old.most a from tops.old.keys.entries
+        queues.old → TopHeld tops.old.key.columns tops.old.by tops.old.most a to
+        tops.new.keys.entries queues.new × Tells
+        (tops_of_events tops.old.key.columns tops.old.by tops.old.most a) from to answer.old.items
+        answer.new.items) }
     ensures rows { OnOk result ((w : HeldRow → ℕ) →
-        total w (kept_rows tops.new.keys.entries) ≤ total w (kept_rows tops.old.keys.entries) + total w (started_rows due.now)) }
-    ensures queues { OnOk result ((to : ℕ) (p : List Datum → Bool) → failing (is_below to) due.now ≡ 0 →
-        failing (λ x. p x.cells) due.now ≡ 0 → failing (λ r. p r.cells) (kept_rows tops.old.keys.entries) ≡ 0 →
+        total w (kept_rows tops.new.keys.entries) ≤ total w (kept_rows tops.old.keys.entries)
+        + total w (started_rows due.now)) }
+    ensures queues { OnOk result ((to : ℕ) (p : List Datum → Bool) →
+        failing (is_below to) due.now ≡ 0 → failing (λ x. p x.cells) due.now ≡ 0 →
+        failing (λ r. p r.cells) (kept_rows tops.old.keys.entries) ≡ 0 →
         failing (has_begun to p) queues.old ≡ 0 → failing (has_begun to p) queues.new ≡ 0) }
-    ensures settled { OnOk result (AreSettled tops.old.key.columns tops.old.by tops.old.most tops.old.keys.entries →
+    ensures settled { OnOk result
+        (AreSettled tops.old.key.columns tops.old.by tops.old.most tops.old.keys.entries →
         AreSettled tops.old.key.columns tops.old.by tops.old.most tops.new.keys.entries) }
     ensures like { IsLike tops.old tops.new }
 {

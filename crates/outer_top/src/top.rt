@@ -89,8 +89,10 @@ impl Top {
         requires capacity { pools.old.capacity ≡ self.old.capacity }
         ensures kept { IfOk result (λ answer. StaysKept (standing self.old)
             (IsKept self.old) (IsKept self.new) left.edges right.edges answer.edges) }
-        ensures between { IfOk result (λ answer. ComeBetween self.old.left_to left_to answer.edges) }
-        ensures kinds { IfOk result (λ answer. cells_of answer ≡ map cell_kind_of self.old.kinds.items) }
+        ensures between { IfOk result (λ answer.
+            ComeBetween self.old.left_to left_to answer.edges) }
+        ensures kinds { IfOk result (λ answer. cells_of answer
+            ≡ map cell_kind_of self.old.kinds.items) }
         ensures capacity { IfOk result (λ answer. answer.capacity ≡ self.old.capacity) }
         ensures pools { pools.new.capacity ≡ pools.old.capacity }
         ensures limit { pools.new.limit ≡ pools.old.limit }

@@ -75,9 +75,11 @@ impl Tops {
         lost: &mut Vec<Cells>,
         won: &mut Vec<Cells>,
     ) -> Result<(), Memory>
-        ensures changes { OnOk result ((rank : ℕ) × (has_rank (value_of self.old.by) edge.now.cells rank ≡ true) ×
-            ChangesKey (key_of self.old.key.columns edge.now.cells) rank edge.now
-            lost.old.items lost.new.items won.old.items won.new.items self.old.keys.entries self.new.keys.entries) }
+        ensures changes { OnOk result ((rank : ℕ)
+            × (has_rank (value_of self.old.by) edge.now.cells rank ≡ true)
+            × ChangesKey (key_of self.old.key.columns edge.now.cells) rank edge.now lost.old.items
+            lost.new.items won.old.items won.new.items self.old.keys.entries self.new.keys.entries)
+            }
         ensures like { IsLike self.old self.new }
     {
         let key = self.key_of(&edge.cells)?;
@@ -94,8 +96,9 @@ impl Tops {
         won: &mut Vec<Cells>,
     ) -> Result<(), Memory>
         requires { 1 ≤ self.old.most }
-        ensures settles { OnOk result (SettlesKey (key_of self.old.key.columns edge.now.cells) self.old.most
-            lost.old.items lost.new.items won.old.items won.new.items self.old.keys.entries self.new.keys.entries) }
+        ensures settles { OnOk result (SettlesKey (key_of self.old.key.columns edge.now.cells)
+            self.old.most lost.old.items lost.new.items won.old.items won.new.items
+            self.old.keys.entries self.new.keys.entries) }
         ensures like { IsLike self.old self.new }
     {
         let key = self.key_of(&edge.cells)?;
@@ -111,8 +114,9 @@ impl Tops {
         won: &mut Vec<Cells>,
     ) -> Result<(), Memory>
         requires { 1 ≤ self.old.most }
-        ensures passed { OnOk result (HasPassed self.old.key.columns self.old.by self.old.most now.now
-            lost.old.items lost.new.items won.old.items won.new.items self.old.keys.entries self.new.keys.entries) }
+        ensures passed { OnOk result (HasPassed self.old.key.columns self.old.by self.old.most
+            now.now lost.old.items lost.new.items won.old.items won.new.items self.old.keys.entries
+            self.new.keys.entries) }
         ensures like { IsLike self.old self.new }
     {
         'changes: for edge in now {

@@ -11,5 +11,6 @@ pub fn reaching_counts<R>()
     ensures later { (m n : ℕ) (es : List (Event R)) → m ≤ n → reaching n es ≤ reaching m es }
     ensures alive { (t : ℕ) (es : List (Event R)) → length (alive es t) ≤ reaching t es }
     ensures order { (m : ℕ) (a b : List (Event R)) → SameBag a b → reaching m a ≡ reaching m b }
-    ensures both { (m : ℕ) (a b : List (Event R)) → reaching m (a ++ b) ≡ reaching m a + reaching m b }
+    ensures both { (m : ℕ) (a b : List (Event R)) →
+        reaching m (a ++ b) ≡ reaching m a + reaching m b }
 {}

@@ -34,16 +34,17 @@ pub fn groups_of_keys_have_one_a_key<X>()
 pub fn one_a_key_is_read_back<X, Y>()
     ensures order { (ops : RowOps X) (key : List ℕ) (xs ys : List (List X)) → SameBag xs ys →
         HasOneAKey ops key xs → HasOneAKey ops key ys }
-    ensures reading { (f : X → Y) (before : RowOps X) (after : RowOps Y) → f before.zero ≡ after.zero →
-        Tells before.same → Tells after.same → (key : List ℕ) (rows : List (List X)) →
-        HasOneAKey after key (map (map f) rows) → HasOneAKey before key rows }
+    ensures reading { (f : X → Y) (before : RowOps X) (after : RowOps Y) →
+        f before.zero ≡ after.zero → Tells before.same → Tells after.same →
+        (key : List ℕ) (rows : List (List X)) → HasOneAKey after key (map (map f) rows) →
+        HasOneAKey before key rows }
 {}
 
 /// At each instant at most one right row a key is alive of what an anti-join of a plan reads.
 pub fn antis_meet_one_row_a_key()
-    ensures { (plan : PlanParts) → IsPlan plan → (source : Sources) (i left right t : ℕ)
-        (left_key right_key : List ℕ) → slice_get plan.nodes i ≡ Some (Node.Anti left right left_key right_key) →
-        t < inf →
+    ensures { (plan : PlanParts) → IsPlan plan →
+        (source : Sources) (i left right t : ℕ) (left_key right_key : List ℕ) →
+        slice_get plan.nodes i ≡ Some (Node.Anti left right left_key right_key) → t < inf →
         HasOneAKey value_ops right_key (alive (events source plan.nodes right) t) }
 {}
 
@@ -51,32 +52,29 @@ pub fn antis_meet_one_row_a_key()
 /// make it: where these are the columns of rows that wide and then some values, the row followed by the values. The left
 /// rows of a plan are as wide as their schema.
 pub fn left_joins_have_the_rows()
-    ensures items { (source : Sources) (nodes : List Node) → IsOrdered nodes → (left right : ℕ)
-        (left_key right_key : List ℕ) (items : List (List ExprNode)) (root : ℕ) →
+    ensures items { (source : Sources) (nodes : List Node) → IsOrdered nodes →
+        (left right : ℕ) (left_key right_key : List ℕ) (items : List (List ExprNode)) (root : ℕ) →
         IsLeftJoin nodes left right left_key right_key items root → (t : ℕ) →
-        snapshots source nodes root t
-        ≡ joined_rows (keys_equal left_key right_key) (paired_row right_key)
-        (snapshots source nodes left t) (snapshots source nodes right t)
-        ++ map (selected_row items)
-        (alone_rows (keys_equal left_key right_key) (snapshots source nodes left t) (snapshots source nodes right t)) }
-    ensures filled { (source : Sources) (nodes : List Node) → IsOrdered nodes → (left right : ℕ)
-        (left_key right_key : List ℕ) (width : ℕ) (fills : Row) (root t : ℕ) →
+        snapshots source nodes root t ≡ joined_rows (keys_equal left_key right_key)
+        (paired_row right_key) (snapshots source nodes left t) (snapshots source nodes right t)
+        ++ map (selected_row items) (alone_rows (keys_equal left_key right_key)
+        (snapshots source nodes left t) (snapshots source nodes right t)) }
+    ensures filled { (source : Sources) (nodes : List Node) → IsOrdered nodes →
+        (left right : ℕ) (left_key right_key : List ℕ) (width : ℕ) (fills : Row) (root t : ℕ) →
         IsLeftJoin nodes left right left_key right_key (filling_items width fills) root →
         All (λ l. length l ≡ width) (snapshots source nodes left t) →
-        snapshots source nodes root t
-        ≡ joined_rows (keys_equal left_key right_key) (paired_row right_key)
-        (snapshots source nodes left t) (snapshots source nodes right t)
-        ++ map (λ l. l ++ fills)
-        (alone_rows (keys_equal left_key right_key) (snapshots source nodes left t) (snapshots source nodes right t)) }
-    ensures plan { (plan : PlanParts) → IsPlan plan → (source : Sources) → FitStreams plan.streams source →
-        (left right : ℕ) (left_key right_key : List ℕ) (fills : Row) (root t : ℕ) →
-        left < length plan.nodes → t < inf →
+        snapshots source nodes root t ≡ joined_rows (keys_equal left_key right_key)
+        (paired_row right_key) (snapshots source nodes left t) (snapshots source nodes right t)
+        ++ map (λ l. l ++ fills) (alone_rows (keys_equal left_key right_key)
+        (snapshots source nodes left t) (snapshots source nodes right t)) }
+    ensures plan { (plan : PlanParts) → IsPlan plan → (source : Sources) →
+        FitStreams plan.streams source → (left right : ℕ) (left_key right_key : List ℕ)
+        (fills : Row) (root t : ℕ) → left < length plan.nodes → t < inf →
         IsLeftJoin plan.nodes left right left_key right_key
         (filling_items (length (slice_index_or plan.schemas left [])) fills) root →
-        snapshots source plan.nodes root t
-        ≡ joined_rows (keys_equal left_key right_key) (paired_row right_key)
-        (snapshots source plan.nodes left t) (snapshots source plan.nodes right t)
-        ++ map (λ l. l ++ fills)
-        (alone_rows (keys_equal left_key right_key)
+        snapshots source plan.nodes root t ≡ joined_rows (keys_equal left_key right_key)
+        (paired_row right_key) (snapshots source plan.nodes left t)
+        (snapshots source plan.nodes right t) ++ map
+        (λ l. l ++ fills) (alone_rows (keys_equal left_key right_key)
         (snapshots source plan.nodes left t) (snapshots source plan.nodes right t)) }
 {}

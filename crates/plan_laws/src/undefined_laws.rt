@@ -16,8 +16,8 @@ ghost use Rattle.plan_laws.specs.Undefined.{overflow};
 /// least -2^63 and at most 2^63 - 1. A node that is no group is never undefined.
 pub fn groups_are_undefined<X>()
     ensures groups { (ops : RowOps X) (key : List ℕ) (aggs : List Agg) (rows : List (List X)) →
-        (is_undefined_in ops key aggs rows ≡ false)
-        ↔ All (λ row. IsDefinedGroup ops aggs (rows_of_key_in ops key (key_in ops key row) rows)) rows }
+        (is_undefined_in ops key aggs rows ≡ false) ↔ All
+        (λ row. IsDefinedGroup ops aggs (rows_of_key_in ops key (key_in ops key row) rows)) rows }
     ensures others { (ops : RowOps X) (n : Node) (rows : List (List X)) → is_group n ≡ false →
         undefined_over ops n rows ≡ false }
 {}
@@ -25,10 +25,11 @@ pub fn groups_are_undefined<X>()
 /// A node of a plan is undefined at an instant where it is so over the rows that it then reads: a group over those of
 /// its child, and no other node. A number past the nodes is no node's.
 pub fn undefined_at_is()
-    ensures node { (source : Sources) (nodes : List Node) (i t : ℕ) (n : Node) → slice_get nodes i ≡ Some n →
-        undefined_at source nodes i t ≡ undefined_over value_ops n (left_rows source nodes t n) }
-    ensures group { (source : Sources) (nodes : List Node) (i child t : ℕ) (key : List ℕ) (aggs : List Agg) →
-        slice_get nodes i ≡ Some (Node.Group child key aggs) →
+    ensures node { (source : Sources) (nodes : List Node) (i t : ℕ) (n : Node) →
+        slice_get nodes i ≡ Some n → undefined_at source nodes i t
+        ≡ undefined_over value_ops n (left_rows source nodes t n) }
+    ensures group { (source : Sources) (nodes : List Node) (i child t : ℕ) (key : List ℕ)
+        (aggs : List Agg) → slice_get nodes i ≡ Some (Node.Group child key aggs) →
         undefined_at source nodes i t ≡ is_undefined key aggs (snapshots source nodes child t) }
     ensures none { (source : Sources) (nodes : List Node) (i t : ℕ) → slice_get nodes i ≡ None →
         undefined_at source nodes i t ≡ false }
@@ -48,8 +49,8 @@ pub fn first_undefined_is()
 pub fn undefined_nodes_are_alike<X>()
     ensures rows { (ops : RowOps X) (n : Node) (xs ys : List (List X)) → SameBag xs ys →
         undefined_over ops n xs ≡ undefined_over ops n ys }
-    ensures events { (ops : RowOps X) (n : Node) (c t : ℕ) (a b : List (Event (List X))) → Known c a b → t < c →
-        undefined_over ops n (alive a t) ≡ undefined_over ops n (alive b t) }
+    ensures events { (ops : RowOps X) (n : Node) (c t : ℕ) (a b : List (Event (List X))) →
+        Known c a b → t < c → undefined_over ops n (alive a t) ≡ undefined_over ops n (alive b t) }
 {}
 
 /// Finality: where later lines leave what is known of the sources below the punctuation `p`, they leave whether a node
@@ -68,8 +69,8 @@ pub fn undefined_is_final()
 /// At a punctuation the lowest node is found that is undefined at an instant below its closing, with its least such
 /// instant; and none exactly where no node is. Later lines leave it as it is.
 pub fn overflow_is()
-    ensures some { (source : Sources) (nodes : List Node) (p : ℕ) (o : Overflow) → overflow source nodes p ≡ Some o →
-        (o.node < length nodes)
+    ensures some { (source : Sources) (nodes : List Node) (p : ℕ) (o : Overflow) →
+        overflow source nodes p ≡ Some o → (o.node < length nodes)
         × (first_undefined source nodes o.node (closes nodes o.node p) ≡ Some o.time)
         × ((j : ℕ) → j < o.node → first_undefined source nodes j (closes nodes j p) ≡ None) }
     ensures none { (source : Sources) (nodes : List Node) (p : ℕ) → overflow source nodes p ≡ None →

@@ -37,15 +37,18 @@ pub fn ends_name_first_open_start()
 
 /// What is written is final: where the rows below an instant are the same as multisets, the changes below it are the same, line by line.
 pub fn same_rows_same_changes()
-    ensures { (f g : ℕ → List Row) (c : ℕ) → ((t : ℕ) → t < c → SameBag (f t) (g t)) → (a n : ℕ) → a + n ≤ c → changes f a n ≡ changes g a n }
+    ensures { (f g : ℕ → List Row) (c : ℕ) → ((t : ℕ) → t < c → SameBag (f t) (g t)) → (a n : ℕ) →
+        a + n ≤ c → changes f a n ≡ changes g a n }
 {}
 
 /// The changes of some instants are those of the first of them, followed by those of the others.
 pub fn changes_come_in_parts()
-    ensures { (rows : ℕ → List Row) (a n m : ℕ) → changes rows a (n + m) ≡ changes rows a n ++ changes rows (a + n) m }
+    ensures { (rows : ℕ → List Row) (a n m : ℕ) →
+        changes rows a (n + m) ≡ changes rows a n ++ changes rows (a + n) m }
 {}
 
 /// Instants at which the rows are those of the instant before, as multisets, have no lines.
 pub fn quiet_instants_change_nothing()
-    ensures { (rows : ℕ → List Row) (a n : ℕ) → ((t : ℕ) → a ≤ t → t < a + n → SameBag (before rows t) (rows t)) → changes rows a n ≡ [] }
+    ensures { (rows : ℕ → List Row) (a n : ℕ) →
+        ((t : ℕ) → a ≤ t → t < a + n → SameBag (before rows t) (rows t)) → changes rows a n ≡ [] }
 {}

@@ -10,11 +10,13 @@ ghost use Rattle.plan_model.specs.Meaning.{Sources, events, closes, left_of, rig
 pub fn closings_rise()
     ensures rise { (nodes : List Node) (p q n : ℕ) → IsOrdered nodes → p ≤ q → q ≤ inf →
         closes nodes n p ≤ closes nodes n q }
-    ensures within { (nodes : List Node) (p n : ℕ) → IsOrdered nodes → p ≤ inf → closes nodes n p ≤ inf }
+    ensures within { (nodes : List Node) (p n : ℕ) → IsOrdered nodes → p ≤ inf →
+        closes nodes n p ≤ inf }
     ensures end { (nodes : List Node) (n : ℕ) → IsOrdered nodes → closes nodes n inf ≡ inf }
     ensures left { (nodes : List Node) (p q i : ℕ) (n : Node) → IsOrdered nodes →
         slice_get nodes i ≡ Some n → p ≤ q → q ≤ inf →
-        left_of inf (λ s. p) (λ j. closes nodes j p) n ≤ left_of inf (λ s. q) (λ j. closes nodes j q) n }
+        left_of inf (λ s. p) (λ j. closes nodes j p) n ≤ left_of inf (λ s. q)
+        (λ j. closes nodes j q) n }
     ensures right { (nodes : List Node) (p q i : ℕ) (n : Node) → IsOrdered nodes →
         slice_get nodes i ≡ Some n → p ≤ q → q ≤ inf →
         right_of inf (λ j. closes nodes j p) n ≤ right_of inf (λ j. closes nodes j q) n }
@@ -27,15 +29,14 @@ pub fn events_are_final()
         ((s : ℕ) → Known p (source s) (later_source s)) → (n : ℕ) →
         Known (closes nodes n p) (events source nodes n) (events later_source nodes n) }
     ensures left { (p : ℕ) (source later_source : Sources) (nodes : List Node) → IsOrdered nodes →
-        ((s : ℕ) → Known p (source s) (later_source s)) → (i : ℕ) (n : Node) → slice_get nodes i ≡ Some n →
-        Known (left_of inf (λ s. p) (λ j. closes nodes j p) n)
+        ((s : ℕ) → Known p (source s) (later_source s)) → (i : ℕ) (n : Node) →
+        slice_get nodes i ≡ Some n → Known (left_of inf (λ s. p) (λ j. closes nodes j p) n)
         (left_of [] source (events source nodes) n)
         (left_of [] later_source (events later_source nodes) n) }
     ensures right { (p : ℕ) (source later_source : Sources) (nodes : List Node) → IsOrdered nodes →
-        ((s : ℕ) → Known p (source s) (later_source s)) → (i : ℕ) (n : Node) → slice_get nodes i ≡ Some n →
-        Known (right_of inf (λ j. closes nodes j p) n)
-        (right_of [] (events source nodes) n)
-        (right_of [] (events later_source nodes) n) }
+        ((s : ℕ) → Known p (source s) (later_source s)) → (i : ℕ) (n : Node) →
+        slice_get nodes i ≡ Some n → Known (right_of inf (λ j. closes nodes j p) n)
+        (right_of [] (events source nodes) n) (right_of [] (events later_source nodes) n) }
 {}
 
 /// Of longer lists a node reads what it read, followed by what it reads of the parts that are new.

@@ -39,7 +39,8 @@ pub fn value_is()
     ensures node { (expr : List ExprNode) (row : Row) (i : ℕ) (n : ExprNode) →
         IsExpr expr → slice_get expr i ≡ Some n →
         value_at expr row i ≡ node_value row n (value_at expr row) }
-    ensures root { (expr : List ExprNode) (row : Row) → value expr row ≡ value_at expr row (length expr - 1) }
+    ensures root { (expr : List ExprNode) (row : Row) →
+        value expr row ≡ value_at expr row (length expr - 1) }
 {}
 
 /// A Source has the events of its stream, its rows are those that are alive, and it is closed up to the punctuation `p`.
@@ -72,11 +73,13 @@ pub fn where_is()
 /// A Select has the events and, at each instant, the rows of its child with each row replaced by the items' values, and is
 /// closed where the child is.
 pub fn select_is()
-    ensures events { (source : Sources) (nodes : List Node) (i child : ℕ) (items : List (List ExprNode)) →
-        IsOrdered nodes → slice_get nodes i ≡ Some (Node.Select child items) →
+    ensures events { (source : Sources) (nodes : List Node) (i child : ℕ)
+        (items : List (List ExprNode)) → IsOrdered nodes →
+        slice_get nodes i ≡ Some (Node.Select child items) →
         events source nodes i ≡ events_to (selected_row items) (events source nodes child) }
-    ensures rows { (source : Sources) (nodes : List Node) (i child t : ℕ) (items : List (List ExprNode)) →
-        IsOrdered nodes → slice_get nodes i ≡ Some (Node.Select child items) →
+    ensures rows { (source : Sources) (nodes : List Node) (i child t : ℕ)
+        (items : List (List ExprNode)) → IsOrdered nodes →
+        slice_get nodes i ≡ Some (Node.Select child items) →
         snapshots source nodes i t ≡ map (selected_row items) (snapshots source nodes child t) }
     ensures closing { (nodes : List Node) (i child p : ℕ) (items : List (List ExprNode)) →
         IsOrdered nodes → slice_get nodes i ≡ Some (Node.Select child items) →
@@ -89,9 +92,10 @@ pub fn union_is()
     ensures events { (source : Sources) (nodes : List Node) (i left right : ℕ) →
         IsOrdered nodes → slice_get nodes i ≡ Some (Node.Union left right) →
         events source nodes i ≡ events source nodes left ++ events source nodes right }
-    ensures rows { (source : Sources) (nodes : List Node) (i left right t : ℕ) →
-        IsOrdered nodes → slice_get nodes i ≡ Some (Node.Union left right) →
-        snapshots source nodes i t ≡ snapshots source nodes left t ++ snapshots source nodes right t }
+    ensures rows { (source : Sources) (nodes : List Node) (i left right t : ℕ) → IsOrdered nodes →
+        slice_get nodes i ≡ Some (Node.Union left right) →
+        snapshots source nodes i t ≡ snapshots source nodes left t
+        ++ snapshots source nodes right t }
     ensures closing { (nodes : List Node) (i left right p : ℕ) →
         IsOrdered nodes → slice_get nodes i ≡ Some (Node.Union left right) →
         closes nodes i p ≡ min (closes nodes left p) (closes nodes right p) }
@@ -122,7 +126,8 @@ pub fn hop_is()
         events source nodes i ≡ hopped size period (events source nodes child) }
     ensures rows { (source : Sources) (nodes : List Node) (i child size period t : ℕ) →
         IsOrdered nodes → IsLevelled nodes → slice_get nodes i ≡ Some (Node.Hop child size period) →
-        SameBag (snapshots source nodes i t) (alive (hopped size period (events source nodes child)) t) }
+        SameBag (snapshots source nodes i t) (alive
+        (hopped size period (events source nodes child)) t) }
     ensures closing { (nodes : List Node) (i child size period p : ℕ) →
         IsOrdered nodes → slice_get nodes i ≡ Some (Node.Hop child size period) →
         closes nodes i p ≡ floor_to period (closes nodes child p) }
@@ -161,15 +166,16 @@ pub fn extend_is()
 pub fn session_is()
     ensures events { (source : Sources) (nodes : List Node) (i child timeout : ℕ) (key : List ℕ) →
         IsOrdered nodes → slice_get nodes i ≡ Some (Node.Session child timeout key) → 1 ≤ timeout →
-        events source nodes i ≡ sessions (key_values key) rows_equal timeout (events source nodes child) }
+        events source nodes i ≡ sessions (key_values key) rows_equal timeout
+        (events source nodes child) }
     ensures no_timeout { (source : Sources) (nodes : List Node) (i child : ℕ) (key : List ℕ) →
         IsOrdered nodes → slice_get nodes i ≡ Some (Node.Session child 0 key) →
         events source nodes i ≡ [] }
     ensures rows { (source : Sources) (nodes : List Node) (i child timeout t : ℕ) (key : List ℕ) →
-        IsOrdered nodes → IsLevelled nodes → slice_get nodes i ≡ Some (Node.Session child timeout key) →
-        1 ≤ timeout →
-        SameBag (snapshots source nodes i t)
-        (alive (sessions (key_values key) rows_equal timeout (events source nodes child)) t) }
+        IsOrdered nodes → IsLevelled nodes → slice_get nodes i
+        ≡ Some (Node.Session child timeout key) → 1 ≤ timeout →
+        SameBag (snapshots source nodes i t) (alive
+        (sessions (key_values key) rows_equal timeout (events source nodes child)) t) }
     ensures closing { (nodes : List Node) (i child timeout p : ℕ) (key : List ℕ) →
         IsOrdered nodes → slice_get nodes i ≡ Some (Node.Session child timeout key) →
         closes nodes i p ≡ closes nodes child p }
@@ -179,14 +185,17 @@ pub fn session_is()
 /// A Clip has the events of its left child, each up to the least of its end and the later starts of right events with an
 /// equal key; its rows are those that are alive; and it is closed up to the lesser of its children's closings.
 pub fn clip_is()
-    ensures events { (source : Sources) (nodes : List Node) (i left right : ℕ) (left_key right_key : List ℕ) →
-        IsOrdered nodes → slice_get nodes i ≡ Some (Node.Clip left right left_key right_key) →
-        events source nodes i
-        ≡ clipped (keys_equal left_key right_key) (events source nodes left) (events source nodes right) }
-    ensures rows { (source : Sources) (nodes : List Node) (i left right t : ℕ) (left_key right_key : List ℕ) →
-        IsOrdered nodes → IsLevelled nodes → slice_get nodes i ≡ Some (Node.Clip left right left_key right_key) →
-        SameBag (snapshots source nodes i t)
-        (alive (clipped (keys_equal left_key right_key) (events source nodes left) (events source nodes right)) t) }
+    ensures events { (source : Sources) (nodes : List Node) (i left right : ℕ)
+        (left_key right_key : List ℕ) → IsOrdered nodes →
+        slice_get nodes i ≡ Some (Node.Clip left right left_key right_key) →
+        events source nodes i ≡ clipped (keys_equal left_key right_key) (events source nodes left)
+        (events source nodes right) }
+    ensures rows { (source : Sources) (nodes : List Node) (i left right t : ℕ)
+        (left_key right_key : List ℕ) → IsOrdered nodes → IsLevelled nodes →
+        slice_get nodes i ≡ Some (Node.Clip left right left_key right_key) →
+        SameBag (snapshots source nodes i t) (alive
+        (clipped (keys_equal left_key right_key) (events source nodes left)
+        (events source nodes right)) t) }
     ensures closing { (nodes : List Node) (i left right p : ℕ) (left_key right_key : List ℕ) →
         IsOrdered nodes → slice_get nodes i ≡ Some (Node.Clip left right left_key right_key) →
         closes nodes i p ≡ min (closes nodes left p) (closes nodes right p) }
@@ -196,14 +205,14 @@ pub fn clip_is()
 /// it has one row for each key that a row has; and it is closed where its child is. The rows of a group are those whose
 /// values in the key are its own, and their order is free.
 pub fn group_is()
-    ensures events { (source : Sources) (nodes : List Node) (i child : ℕ) (key : List ℕ) (aggs : List Agg) →
-        IsOrdered nodes → slice_get nodes i ≡ Some (Node.Group child key aggs) →
-        events source nodes i
-        ≡ grouped (key_values key) rows_equal rows_equal (row_of_group key aggs) (events source nodes child) }
-    ensures rows { (source : Sources) (nodes : List Node) (i child t : ℕ) (key : List ℕ) (aggs : List Agg) →
-        IsOrdered nodes → slice_get nodes i ≡ Some (Node.Group child key aggs) →
-        snapshots source nodes i t
-        ≡ grouped_rows (key_values key) rows_equal (row_of_group key aggs) (snapshots source nodes child t) }
+    ensures events { (source : Sources) (nodes : List Node) (i child : ℕ) (key : List ℕ)
+        (aggs : List Agg) → IsOrdered nodes → slice_get nodes i ≡ Some (Node.Group child key aggs) →
+        events source nodes i ≡ grouped (key_values key) rows_equal rows_equal
+        (row_of_group key aggs) (events source nodes child) }
+    ensures rows { (source : Sources) (nodes : List Node) (i child t : ℕ) (key : List ℕ)
+        (aggs : List Agg) → IsOrdered nodes → slice_get nodes i ≡ Some (Node.Group child key aggs) →
+        snapshots source nodes i t ≡ grouped_rows (key_values key) rows_equal
+        (row_of_group key aggs) (snapshots source nodes child t) }
     ensures closing { (nodes : List Node) (i child p : ℕ) (key : List ℕ) (aggs : List Agg) →
         IsOrdered nodes → slice_get nodes i ≡ Some (Node.Group child key aggs) →
         closes nodes i p ≡ closes nodes child p }
@@ -233,35 +242,38 @@ pub fn undefined_groups_have_no_order()
 /// such instants; at each instant it has the pairs of its children's rows; and it is closed up to the lesser of their
 /// closings. Keys are equal where their values are.
 pub fn join_is()
-    ensures events { (source : Sources) (nodes : List Node) (i left right : ℕ) (left_key right_key : List ℕ) →
-        IsOrdered nodes → slice_get nodes i ≡ Some (Node.Join left right left_key right_key) →
-        events source nodes i
-        ≡ joined (keys_equal left_key right_key) (paired_row right_key)
+    ensures events { (source : Sources) (nodes : List Node) (i left right : ℕ)
+        (left_key right_key : List ℕ) → IsOrdered nodes →
+        slice_get nodes i ≡ Some (Node.Join left right left_key right_key) →
+        events source nodes i ≡ joined (keys_equal left_key right_key) (paired_row right_key)
         (events source nodes left) (events source nodes right) }
-    ensures rows { (source : Sources) (nodes : List Node) (i left right t : ℕ) (left_key right_key : List ℕ) →
-        IsOrdered nodes → slice_get nodes i ≡ Some (Node.Join left right left_key right_key) →
-        snapshots source nodes i t
-        ≡ joined_rows (keys_equal left_key right_key) (paired_row right_key)
-        (snapshots source nodes left t) (snapshots source nodes right t) }
+    ensures rows { (source : Sources) (nodes : List Node) (i left right t : ℕ)
+        (left_key right_key : List ℕ) → IsOrdered nodes →
+        slice_get nodes i ≡ Some (Node.Join left right left_key right_key) →
+        snapshots source nodes i t ≡ joined_rows (keys_equal left_key right_key)
+        (paired_row right_key) (snapshots source nodes left t) (snapshots source nodes right t) }
     ensures closing { (nodes : List Node) (i left right p : ℕ) (left_key right_key : List ℕ) →
         IsOrdered nodes → slice_get nodes i ≡ Some (Node.Join left right left_key right_key) →
         closes nodes i p ≡ min (closes nodes left p) (closes nodes right p) }
     ensures keys { (left_key right_key : List ℕ) (a b : Row) →
-        IsTrue (keys_equal left_key right_key a b) ↔ (key_values left_key a ≡ key_values right_key b) }
+        IsTrue (keys_equal left_key right_key a b) ↔
+        (key_values left_key a ≡ key_values right_key b) }
 {}
 
 /// An Anti has for each left event an event for each maximal run of instants of its life at which no right event with an
 /// equal key is alive; at each instant it has the left rows to whose key no right row is there; and it is closed up to the
 /// lesser of its children's closings.
 pub fn anti_is()
-    ensures events { (source : Sources) (nodes : List Node) (i left right : ℕ) (left_key right_key : List ℕ) →
-        IsOrdered nodes → slice_get nodes i ≡ Some (Node.Anti left right left_key right_key) →
-        events source nodes i
-        ≡ alone rows_equal (keys_equal left_key right_key) (events source nodes left) (events source nodes right) }
-    ensures rows { (source : Sources) (nodes : List Node) (i left right t : ℕ) (left_key right_key : List ℕ) →
-        IsOrdered nodes → slice_get nodes i ≡ Some (Node.Anti left right left_key right_key) →
-        snapshots source nodes i t
-        ≡ alone_rows (keys_equal left_key right_key) (snapshots source nodes left t) (snapshots source nodes right t) }
+    ensures events { (source : Sources) (nodes : List Node) (i left right : ℕ)
+        (left_key right_key : List ℕ) → IsOrdered nodes →
+        slice_get nodes i ≡ Some (Node.Anti left right left_key right_key) →
+        events source nodes i ≡ alone rows_equal (keys_equal left_key right_key)
+        (events source nodes left) (events source nodes right) }
+    ensures rows { (source : Sources) (nodes : List Node) (i left right t : ℕ)
+        (left_key right_key : List ℕ) → IsOrdered nodes →
+        slice_get nodes i ≡ Some (Node.Anti left right left_key right_key) →
+        snapshots source nodes i t ≡ alone_rows (keys_equal left_key right_key)
+        (snapshots source nodes left t) (snapshots source nodes right t) }
     ensures closing { (nodes : List Node) (i left right p : ℕ) (left_key right_key : List ℕ) →
         IsOrdered nodes → slice_get nodes i ≡ Some (Node.Anti left right left_key right_key) →
         closes nodes i p ≡ min (closes nodes left p) (closes nodes right p) }
@@ -299,14 +311,16 @@ pub fn mean_is()
 /// A row with averages has all columns but the last, and in each of the columns `at` the quotient by the last one. Where
 /// that is at least 1, the quotient is the Euclidean one; else the column stays.
 pub fn means_are<X>()
-    ensures length { (ops : RowOps X) (at : List ℕ) (row : List X) → length (mean_row ops at row) ≡ length row - 1 }
+    ensures length { (ops : RowOps X) (at : List ℕ) (row : List X) →
+        length (mean_row ops at row) ≡ length row - 1 }
     ensures column { (ops : RowOps X) (at : List ℕ) (row : List X) (i : ℕ) (x : X) →
         slice_get row i ≡ Some x → i + 1 < length row →
         slice_get (mean_row ops at row) i
         ≡ Some (cond (list_any (nat_eq i) at) (mean_of ops (int_in ops (length row - 1) row) x) x) }
     ensures divided { (ops : RowOps X) (count : ℕ) (x : X) → 1 ≤ count →
         mean_of ops (pos count) x ≡ ops.of_int (int_div_euclid (ops.int_of x) (pos count)) }
-    ensures not_divided { (ops : RowOps X) (count : ℤ) (x : X) → count ≤ℤ pos 0 → mean_of ops count x ≡ x }
+    ensures not_divided { (ops : RowOps X) (count : ℤ) (x : X) → count ≤ℤ pos 0 →
+        mean_of ops count x ≡ x }
 {}
 
 /// A Top has at each instant the rows of its child of whose key fewer than `count` rows have a greater int in the column
@@ -314,13 +328,13 @@ pub fn means_are<X>()
 pub fn top_is()
     ensures events { (source : Sources) (nodes : List Node) (i child by count : ℕ) (key : List ℕ) →
         IsOrdered nodes → slice_get nodes i ≡ Some (Node.Top child key by count) →
-        events source nodes i
-        ≡ coalesced rows_equal
-        (λ t. top_rows (keys_equal key key) (int_in value_ops by) count (alive (events source nodes child) t)) }
+        events source nodes i ≡ coalesced rows_equal
+        (λ t. top_rows (keys_equal key key) (int_in value_ops by) count
+        (alive (events source nodes child) t)) }
     ensures rows { (source : Sources) (nodes : List Node) (i child t by count : ℕ) (key : List ℕ) →
         IsOrdered nodes → slice_get nodes i ≡ Some (Node.Top child key by count) →
-        snapshots source nodes i t
-        ≡ top_rows (keys_equal key key) (int_in value_ops by) count (snapshots source nodes child t) }
+        snapshots source nodes i t ≡ top_rows (keys_equal key key) (int_in value_ops by) count
+        (snapshots source nodes child t) }
     ensures closing { (nodes : List Node) (i child p by count : ℕ) (key : List ℕ) →
         IsOrdered nodes → slice_get nodes i ≡ Some (Node.Top child key by count) →
         closes nodes i p ≡ closes nodes child p }
@@ -329,19 +343,20 @@ pub fn top_is()
 /// A Follow has for each left event an event for each right event of its key that starts next after it and within the time;
 /// its rows are those that are alive; and it is closed up to the lesser of its children's closings.
 pub fn follow_is()
-    ensures events { (source : Sources) (nodes : List Node) (i left right within : ℕ) (left_key right_key : List ℕ) →
-        IsOrdered nodes → slice_get nodes i ≡ Some (Node.Follow left right left_key right_key within) →
-        events source nodes i
-        ≡ followed (keys_equal left_key right_key) (paired_row right_key) within
-        (events source nodes left) (events source nodes right) }
-    ensures rows { (source : Sources) (nodes : List Node) (i left right t within : ℕ) (left_key right_key : List ℕ) →
-        IsOrdered nodes → IsLevelled nodes →
+    ensures events { (source : Sources) (nodes : List Node) (i left right within : ℕ)
+        (left_key right_key : List ℕ) → IsOrdered nodes →
         slice_get nodes i ≡ Some (Node.Follow left right left_key right_key within) →
-        SameBag (snapshots source nodes i t)
-        (alive (followed (keys_equal left_key right_key) (paired_row right_key) within
+        events source nodes i ≡ followed (keys_equal left_key right_key)
+        (paired_row right_key) within (events source nodes left) (events source nodes right) }
+    ensures rows { (source : Sources) (nodes : List Node) (i left right t within : ℕ)
+        (left_key right_key : List ℕ) → IsOrdered nodes → IsLevelled nodes →
+        slice_get nodes i ≡ Some (Node.Follow left right left_key right_key within) →
+        SameBag (snapshots source nodes i t) (alive
+        (followed (keys_equal left_key right_key) (paired_row right_key) within
         (events source nodes left) (events source nodes right)) t) }
-    ensures closing { (nodes : List Node) (i left right p within : ℕ) (left_key right_key : List ℕ) →
-        IsOrdered nodes → slice_get nodes i ≡ Some (Node.Follow left right left_key right_key within) →
+    ensures closing { (nodes : List Node) (i left right p within : ℕ)
+        (left_key right_key : List ℕ) → IsOrdered nodes →
+        slice_get nodes i ≡ Some (Node.Follow left right left_key right_key within) →
         closes nodes i p ≡ min (closes nodes left p) (closes nodes right p) }
 {}
 
@@ -353,9 +368,11 @@ pub fn lives_change()
     ensures moved_past { (by : ℕ) (e : Event Row) → inf ≤ e.start + by → moved_one by e ≡ [] }
     ensures hopped { (size period : ℕ) (e : Event Row) → 1 ≤ size → e.start < inf →
         hopped_one size period e
-        ≡ record { row = e.row; start = floor_to period e.start; end = later size (floor_to period e.start) } ∷ [] }
-    ensures multiple { (period t : ℕ) → 1 ≤ period → t < inf →
-        (k : ℕ) × (floor_to period t ≡ period * k) × (floor_to period t ≤ t) × (t < floor_to period t + period) }
+        ≡ record { row = e.row; start = floor_to period e.start; end = later size
+        (floor_to period e.start) } ∷ [] }
+    ensures multiple { (period t : ℕ) → 1 ≤ period → t < inf → (k : ℕ)
+        × (floor_to period t ≡ period * k) × (floor_to period t ≤ t)
+        × (t < floor_to period t + period) }
     ensures lasting { (by : ℕ) (e : Event Row) → 1 ≤ by → e.start < inf →
         lasting_one by e ≡ record { row = e.row; start = e.start; end = later by e.start } ∷ [] }
     ensures extended { (by : ℕ) (e : Event Row) → e.start < e.end → e.end ≤ inf →
@@ -416,9 +433,9 @@ pub fn nodes_are_causal_over<X>()
 
 /// Over rows of any kind a node of the same multisets of events has the same multiset of events.
 pub fn nodes_have_no_order<X>()
-    ensures { (ops : RowOps X) → Tells ops.same →
-        (n : Node) (a b c d : List (Event (List X))) → AreEvents a → AreEvents b → AreEvents c → AreEvents d →
-        SameBag a c → SameBag b d → SameBag (node_in ops n a b) (node_in ops n c d) }
+    ensures { (ops : RowOps X) → Tells ops.same → (n : Node) (a b c d : List (Event (List X))) →
+        AreEvents a → AreEvents b → AreEvents c → AreEvents d → SameBag a c → SameBag b d →
+        SameBag (node_in ops n a b) (node_in ops n c d) }
 {}
 
 /// Finality: where later lines leave what is known of the sources below the punctuation `p`, they leave the rows of each

@@ -18,8 +18,9 @@ pub fn joins_have_the_rows<L, R, P>()
 /// Causality: what is known of joined events below the lesser of `x` and `y` hangs only on what is known of the left events
 /// below `x` and of the right ones below `y`.
 pub fn joins_are_causal<L, R, P>()
-    ensures { (meets : L → R → Bool) (pair : L → R → P) (x y : ℕ) (a c : List (Event L)) (b d : List (Event R)) →
-        Known x a c → Known y b d → Known (min x y) (joined meets pair a b) (joined meets pair c d) }
+    ensures { (meets : L → R → Bool) (pair : L → R → P) (x y : ℕ) (a c : List (Event L))
+        (b d : List (Event R)) → Known x a c → Known y b d →
+        Known (min x y) (joined meets pair a b) (joined meets pair c d) }
 {}
 
 /// Snapshots: the rows of moved events at an instant are those that are alive so much earlier, and none before.
@@ -32,11 +33,15 @@ pub fn moved_events_have_the_rows<R>()
 /// Causality of each change of lives: what is known of the changed events below a time hangs only on what is known of the
 /// events below theirs.
 pub fn lives_are_causal<R, K>()
-    ensures moved { (by c : ℕ) (a b : List (Event R)) → Known c a b → Known (later by c) (moved by a) (moved by b) }
+    ensures moved { (by c : ℕ) (a b : List (Event R)) → Known c a b →
+        Known (later by c) (moved by a) (moved by b) }
     ensures hopped { (size period c : ℕ) (a b : List (Event R)) → Known c a b →
         Known (floor_to period c) (hopped size period a) (hopped size period b) }
-    ensures lasting { (by c : ℕ) (a b : List (Event R)) → Known c a b → Known c (lasting by a) (lasting by b) }
-    ensures extended { (by c : ℕ) (a b : List (Event R)) → Known c a b → Known c (extended by a) (extended by b) }
-    ensures in_sessions { (key : R → K) (same : K → K → Bool) (timeout c : ℕ) (a b : List (Event R)) → Known c a b →
-        Known c (in_sessions key same timeout a) (in_sessions key same timeout b) }
+    ensures lasting { (by c : ℕ) (a b : List (Event R)) → Known c a b →
+        Known c (lasting by a) (lasting by b) }
+    ensures extended { (by c : ℕ) (a b : List (Event R)) → Known c a b →
+        Known c (extended by a) (extended by b) }
+    ensures in_sessions { (key : R → K) (same : K → K → Bool) (timeout c : ℕ)
+        (a b : List (Event R)) → Known c a b → Known c (in_sessions key same timeout a)
+        (in_sessions key same timeout b) }
 {}

@@ -42,7 +42,8 @@ pub fn level_over(node: &Node, left: bool, right: bool) -> bool
 /// is not there 0 is to be said.
 #[tactic(auto, unfolding(crate::specs::IsPlan::most_reach))]
 pub fn reach_over(node: &Node, left: u64, right: u64) -> Option<u64>
-    ensures { result ≡ cond (nat_lt most_reach (node_reach node.now left right)) None (Some (node_reach node.now left right)) }
+    ensures { result ≡ cond (nat_lt most_reach (node_reach node.now left right)) None
+        (Some (node_reach node.now left right)) }
 {
     let children = left.max(right);
     let own = node.own_duration();

@@ -48,7 +48,8 @@ impl Plan {
     ) -> Plan
         requires nodes { AreNodes streams nodes schemas }
         requires root { root < length nodes }
-        ensures { result ≡ record { streams = streams; nodes = nodes; schemas = schemas; root = root } }
+        ensures { result ≡ record { streams = streams; nodes = nodes; schemas = schemas; root = root
+            } }
     {
         Plan {
             streams,

@@ -14,5 +14,6 @@ pub fn plans_are_sound()
 
 /// The level of a node tells whether it has events of its own.
 pub fn levels_tell_events()
-    ensures { (source : Sources) (nodes : List Node) → IsOrdered nodes → (n : ℕ) → event_level nodes n ≡ (meaning source nodes n).has_events }
+    ensures { (source : Sources) (nodes : List Node) → IsOrdered nodes → (n : ℕ) →
+        event_level nodes n ≡ (meaning source nodes n).has_events }
 {}

@@ -82,7 +82,8 @@ pub fn counted_schema(
     aggs: &[QueryAgg],
     computed: &[Agg],
 ) -> Result<Schema, Memory>
-    ensures { IfOk result (λ s. s ≡ group_schema schema.now key.now aggs.now computed.now ++ count_column ∷ []) }
+    ensures { IfOk result (λ s. s ≡ group_schema schema.now key.now aggs.now computed.now
+        ++ count_column ∷ []) }
 {
     let mut columns = group_columns(alloc, schema, key, aggs, computed)?;
     let count = ColumnDef {
@@ -131,7 +132,8 @@ fn push_aggs(
     computed: &[Agg],
     all: &mut Vec<ColumnDef>,
 ) -> Result<(), Memory>
-    ensures { OnOk result (all.new.items ≡ all.old.items ++ agg_columns schema.now aggs.now computed.now) }
+    ensures { OnOk result (all.new.items ≡ all.old.items
+        ++ agg_columns schema.now aggs.now computed.now) }
 {
     for (i, agg) in aggs.iter().enumerate() {
         match nth_agg_kind(schema, computed, i) {

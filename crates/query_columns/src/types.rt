@@ -198,7 +198,8 @@ fn if_kind(wanted: Kind, operand: Option<Kind>, given: Option<Kind>) -> Option<K
 
 // The kind, where both operands are of it.
 fn if_both(wanted: Kind, before: &[Kind], left: usize, right: usize) -> Option<Kind>
-    ensures { result ≡ if_kind wanted (slice_get before.now left) (if_kind wanted (slice_get before.now right) (Some wanted)) }
+    ensures { result ≡ if_kind wanted (slice_get before.now left)
+        (if_kind wanted (slice_get before.now right) (Some wanted)) }
 {
     let right = if_kind(wanted, nth_kind(before, right), Some(wanted));
     if_kind(wanted, nth_kind(before, left), right)

@@ -172,8 +172,10 @@ fn put_all(
     levels: &mut Vec<bool>,
 ) -> Result<(), Memory>
     requires { levels.old.items ≡ levels_of nodes.old.items }
-    ensures nodes { OnOk result (nodes.new.items ≡ nodes.old.items ++ map (λ p. p.node) planned.items) }
-    ensures schemas { OnOk result (schemas.new.items ≡ schemas.old.items ++ map (λ p. p.schema) planned.items) }
+    ensures nodes { OnOk result (nodes.new.items ≡ nodes.old.items ++ map
+        (λ p. p.node) planned.items) }
+    ensures schemas { OnOk result (schemas.new.items ≡ schemas.old.items ++ map
+        (λ p. p.schema) planned.items) }
     ensures levels { OnOk result (levels.new.items ≡ levels_of nodes.new.items) }
 {
     for next in planned {

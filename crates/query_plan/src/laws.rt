@@ -19,6 +19,8 @@ pub fn plans_keep_their_rules()
 /// itself, of names, kinds, levels and windows; where none does, its nodes have that of the first row that holds of them, of
 /// reach, number, columns and names. Where no row holds there is no fault.
 pub fn faults_are_told_in_order()
-    ensures steps { (item : ℕ) (d : Draft) (at : ℕ) (s : QueryStep) → fault_of (step_nodes item d at s) ≡ first_fault (step_rows item d at s) }
-    ensures nodes { (item : ℕ) (d : Draft) (ps : List Planned) → fault_of (admitted item d ps) ≡ first_fault (node_rows item d ps) }
+    ensures steps { (item : ℕ) (d : Draft) (at : ℕ) (s : QueryStep) →
+        fault_of (step_nodes item d at s) ≡ first_fault (step_rows item d at s) }
+    ensures nodes { (item : ℕ) (d : Draft) (ps : List Planned) →
+        fault_of (admitted item d ps) ≡ first_fault (node_rows item d ps) }
 {}

@@ -25,7 +25,8 @@ fn fill_exprs(
     schema: &[ColumnDef],
     fills: &TreeList,
 ) -> Result<Vec<Expr>, QueryError>
-    ensures { Is (λ v. v.items) result (ok_or (tree_exprs schema.now fills.now) (F.UnknownName item)) }
+    ensures { Is (λ v. v.items) result (ok_or (tree_exprs schema.now fills.now)
+        (F.UnknownName item)) }
 {
     match tree_exprs(alloc, schema, fills.items())? {
         Some(exprs) => Ok(exprs),
@@ -40,7 +41,8 @@ fn fill_kinds(
     schema: &[ColumnDef],
     fills: &TreeList,
 ) -> Result<Vec<Kind>, QueryError>
-    ensures { Is (λ v. v.items) result (ok_or (tree_types schema.now fills.now) (F.TypeClash item)) }
+    ensures { Is (λ v. v.items) result (ok_or (tree_types schema.now fills.now)
+        (F.TypeClash item)) }
 {
     match tree_types(alloc, schema, fills.items())? {
         Some(kinds) => Ok(kinds),
@@ -91,7 +93,8 @@ fn left_union(
     first: usize,
 ) -> Result<PlannedNode, Memory>
     requires { first < 2 ^ 63 }
-    ensures { IfOk result (λ p. p ≡ record { node = Node.Union first (first + 3); schema = joined draft.now at sides.now }) }
+    ensures { IfOk result (λ p. p ≡ record { node = Node.Union first
+        (first + 3); schema = joined draft.now at sides.now }) }
 {
     let schema = joined_schema(alloc, draft, at, sides)?;
     let node = Node::Union {
@@ -109,7 +112,8 @@ fn push_pairs(
     at: usize,
     sides: &Sides,
 ) -> Result<(), Memory>
-    ensures { OnOk result (nodes.new.items ≡ nodes.old.items ++ join_node draft.now at sides.now ∷ key_group draft.now sides.now ∷ []) }
+    ensures { OnOk result (nodes.new.items ≡ nodes.old.items
+        ++ join_node draft.now at sides.now ∷ key_group draft.now sides.now ∷ []) }
 {
     nodes.push(join_node(alloc, draft, at, sides)?)?;
     nodes.push(key_group(alloc, draft, sides)?)?;

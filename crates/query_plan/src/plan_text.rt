@@ -65,7 +65,8 @@ fn put_number(out: &mut Vec<u8>, number: u64) -> Result<(), Memory>
 }
 
 fn put_children(out: &mut Vec<u8>, node: &Node) -> Result<(), Memory>
-    ensures { OnOk result (out.new.items ≡ out.old.items ++ listed (map decimal (children node.now))) }
+    ensures { OnOk result (out.new.items ≡ out.old.items ++ listed
+        (map decimal (children node.now))) }
 {
     match (node.left_child(), node.right_child()) {
         (Some(left), Some(right)) => {
@@ -90,7 +91,8 @@ fn put_column(out: &mut Vec<u8>, column: &ColumnDef) -> Result<(), Memory>
 
 /// The columns after the first, each behind a comma.
 fn put_more_columns(out: &mut Vec<u8>, columns: &[ColumnDef]) -> Result<(), Memory>
-    ensures { OnOk result (out.new.items ≡ out.old.items ++ flat_map (λ y. codes "," ++ y) (map column_text columns.now)) }
+    ensures { OnOk result (out.new.items ≡ out.old.items ++ flat_map
+        (λ y. codes "," ++ y) (map column_text columns.now)) }
 {
     for column in columns {
         out.extend_from_slice(b",")?;

@@ -29,7 +29,8 @@ impl<'a> Parser<'a> {
     /// A number above 0, and no other word.
     fn divisor(&mut self) -> Result<u64, Stop>
         ensures reads { IfOk result (λ by. TakesPos (Some by) self.old.cursor self.new.cursor) }
-        ensures stuck { IfErr result (λ stop. (stop ≡ Stop.Stuck) × TakesPos None self.old.cursor self.new.cursor) }
+        ensures stuck { IfErr result (λ stop. (stop ≡ Stop.Stuck)
+            × TakesPos None self.old.cursor self.new.cursor) }
         ensures kept { self.new.nodes ≡ self.old.nodes }
     {
         match self.cursor.takes_pos() {
@@ -40,7 +41,8 @@ impl<'a> Parser<'a> {
 
     #[cycle(expression)]
     fn atom(&mut self) -> Result<usize, Stop>
-        ensures reads { Reads result atom_then (λ _. Unit {0}) (λ a _. self.new.nodes ≡ atom_onto a self.old.nodes) self.old.cursor self.new.cursor }
+        ensures reads { Reads result atom_then (λ _. Unit {0})
+            (λ a _. self.new.nodes ≡ atom_onto a self.old.nodes) self.old.cursor self.new.cursor }
         ensures grows { IfOk result (λ _. length self.old.nodes < length self.new.nodes) }
         ensures root { IfOk result (λ root. root ≡ length self.new.nodes - 1) }
         ensures shrinks { IfOk result (λ _. length self.new.cursor ≤ length self.old.cursor) }
@@ -80,7 +82,9 @@ impl<'a> Parser<'a> {
     #[cycle(expression)]
     fn factor(&mut self) -> Result<bool, Stop>
         requires { 0 < length self.old.nodes }
-        ensures reads { ReadsOne result factors_then (λ z. rank z < 5) factors_onto self.old.cursor self.new.cursor self.old.nodes self.new.nodes }
+        ensures reads { ReadsOne result factors_then
+            (λ z. rank z < 5) factors_onto self.old.cursor self.new.cursor self.old.nodes
+            self.new.nodes }
         ensures grows { IfOk result (λ _. length self.old.nodes ≤ length self.new.nodes) }
         ensures shrinks { IfOk result (λ more. Shrinks more self.old.cursor self.new.cursor) }
     {
@@ -123,7 +127,9 @@ impl<'a> Parser<'a> {
     #[cycle(expression)]
     fn term(&mut self) -> Result<bool, Stop>
         requires { 0 < length self.old.nodes }
-        ensures reads { ReadsOne result terms_then (λ z. rank z < 4) terms_onto self.old.cursor self.new.cursor self.old.nodes self.new.nodes }
+        ensures reads { ReadsOne result terms_then
+            (λ z. rank z < 4) terms_onto self.old.cursor self.new.cursor self.old.nodes
+            self.new.nodes }
         ensures grows { IfOk result (λ _. length self.old.nodes ≤ length self.new.nodes) }
         ensures shrinks { IfOk result (λ more. Shrinks more self.old.cursor self.new.cursor) }
     {
@@ -138,7 +144,8 @@ impl<'a> Parser<'a> {
 
     #[cycle(expression)]
     fn sum(&mut self) -> Result<usize, Stop>
-        ensures reads { Reads result sum_then (λ z. rank z < 4) (λ a _. self.new.nodes ≡ sum_onto a self.old.nodes) self.old.cursor self.new.cursor }
+        ensures reads { Reads result sum_then (λ z. rank z < 4)
+            (λ a _. self.new.nodes ≡ sum_onto a self.old.nodes) self.old.cursor self.new.cursor }
         ensures grows { IfOk result (λ _. length self.old.nodes < length self.new.nodes) }
         ensures root { IfOk result (λ root. root ≡ length self.new.nodes - 1) }
         ensures shrinks { IfOk result (λ _. length self.new.cursor ≤ length self.old.cursor) }
@@ -169,7 +176,8 @@ impl<'a> Parser<'a> {
 
     #[cycle(expression)]
     fn neg(&mut self) -> Result<usize, Stop>
-        ensures reads { Reads result neg_then (λ z. rank z < 3) (λ a _. self.new.nodes ≡ neg_onto a self.old.nodes) self.old.cursor self.new.cursor }
+        ensures reads { Reads result neg_then (λ z. rank z < 3)
+            (λ a _. self.new.nodes ≡ neg_onto a self.old.nodes) self.old.cursor self.new.cursor }
         ensures grows { IfOk result (λ _. length self.old.nodes < length self.new.nodes) }
         ensures root { IfOk result (λ root. root ≡ length self.new.nodes - 1) }
         ensures shrinks { IfOk result (λ _. length self.new.cursor ≤ length self.old.cursor) }
@@ -187,7 +195,9 @@ impl<'a> Parser<'a> {
     #[cycle(expression)]
     fn and(&mut self) -> Result<bool, Stop>
         requires { 0 < length self.old.nodes }
-        ensures reads { ReadsOne result ands_then (λ z. rank z < 2) ands_onto self.old.cursor self.new.cursor self.old.nodes self.new.nodes }
+        ensures reads { ReadsOne result ands_then
+            (λ z. rank z < 2) ands_onto self.old.cursor self.new.cursor self.old.nodes
+            self.new.nodes }
         ensures grows { IfOk result (λ _. length self.old.nodes ≤ length self.new.nodes) }
         ensures shrinks { IfOk result (λ more. Shrinks more self.old.cursor self.new.cursor) }
     {
@@ -217,7 +227,9 @@ impl<'a> Parser<'a> {
     #[cycle(expression)]
     fn or(&mut self) -> Result<bool, Stop>
         requires { 0 < length self.old.nodes }
-        ensures reads { ReadsOne result ors_then (λ z. rank z < 1) ors_onto self.old.cursor self.new.cursor self.old.nodes self.new.nodes }
+        ensures reads { ReadsOne result ors_then
+            (λ z. rank z < 1) ors_onto self.old.cursor self.new.cursor self.old.nodes self.new.nodes
+            }
         ensures grows { IfOk result (λ _. length self.old.nodes ≤ length self.new.nodes) }
         ensures shrinks { IfOk result (λ more. Shrinks more self.old.cursor self.new.cursor) }
     {

@@ -12,9 +12,10 @@ pub fn texts_spell_one_query()
 /// A text spells a query or has a fault. One that is not too large and spells a query has no fault, and no text has
 /// two.
 pub fn texts_have_one_fault()
-    ensures some { (text : List ℕ) →
-        (IsSmallText text × (q : Query) × Spells text q) ⊎ ((fault : QueryFault) × IsTextFault text fault) }
-    ensures spelled { (text : List ℕ) (q : Query) (fault : QueryFault) → IsSmallText text → Spells text q →
-        ¬ (IsTextFault text fault) }
-    ensures one { (text : List ℕ) (f g : QueryFault) → IsTextFault text f → IsTextFault text g → f ≡ g }
+    ensures some { (text : List ℕ) → (IsSmallText text × (q : Query) × Spells text q) ⊎
+        ((fault : QueryFault) × IsTextFault text fault) }
+    ensures spelled { (text : List ℕ) (q : Query) (fault : QueryFault) → IsSmallText text →
+        Spells text q → ¬ (IsTextFault text fault) }
+    ensures one { (text : List ℕ) (f g : QueryFault) → IsTextFault text f → IsTextFault text g →
+        f ≡ g }
 {}

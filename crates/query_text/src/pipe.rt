@@ -28,7 +28,8 @@ use tw_rows::Label;
 impl<'a> Parser<'a> {
     /// A sign or a reserved word, and no other word.
     pub(crate) fn needs(&mut self, sign: Sign) -> Result<(), Stop>
-        ensures reads { Reads result (sign_then sign) Any (λ _ _. Unit {0}) self.old.cursor self.new.cursor }
+        ensures reads { Reads result (sign_then sign) Any
+            (λ _ _. Unit {0}) self.old.cursor self.new.cursor }
         ensures fewer { IfOk result (λ _. length self.new.cursor ≤ length self.old.cursor) }
     {
         if self.cursor.takes(sign) {
@@ -62,7 +63,8 @@ impl<'a> Parser<'a> {
 
     /// A number above 0, and no other word.
     fn positive(&mut self) -> Result<u64, Stop>
-        ensures reads { Reads result pos_then Any (λ n v. v ≡ suc n) self.old.cursor self.new.cursor }
+        ensures reads { Reads result pos_then Any
+            (λ n v. v ≡ suc n) self.old.cursor self.new.cursor }
         ensures fewer { IfOk result (λ _. length self.new.cursor ≤ length self.old.cursor) }
     {
         match self.cursor.takes_pos() {
@@ -73,7 +75,8 @@ impl<'a> Parser<'a> {
 
     /// Names with commas between them.
     fn names(&mut self) -> Result<NameList, Stop>
-        ensures reads { Reads result names_then (Lacks (fixed S.Comma)) (λ ns v. v ≡ names_of ns) self.old.cursor self.new.cursor }
+        ensures reads { Reads result names_then (Lacks (fixed S.Comma))
+            (λ ns v. v ≡ names_of ns) self.old.cursor self.new.cursor }
         ensures fewer { IfOk result (λ _. length self.new.cursor ≤ length self.old.cursor) }
     {
         let mut items = Vec::new(self.alloc);
@@ -136,7 +139,8 @@ impl<'a> Parser<'a> {
 
     /// An expression, as a tree.
     fn tree(&mut self) -> Result<Tree, Stop>
-        ensures reads { Reads result expr_then (λ z. rank z < 1) (λ e v. v ≡ tree_of e) self.old.cursor self.new.cursor }
+        ensures reads { Reads result expr_then (λ z. rank z < 1)
+            (λ e v. v ≡ tree_of e) self.old.cursor self.new.cursor }
         ensures fewer { IfOk result (λ _. length self.new.cursor ≤ length self.old.cursor) }
     {
         self.nodes = Nodes::new(self.alloc);
@@ -147,7 +151,8 @@ impl<'a> Parser<'a> {
 
     /// An item of a select: an expression with its name, or a name alone, which is itself the expression.
     fn item(&mut self) -> Result<Item, Stop>
-        ensures reads { Reads result item_then (λ z. ends_item z ≡ true) (λ i v. v ≡ item_of i) self.old.cursor self.new.cursor }
+        ensures reads { Reads result item_then (λ z. ends_item z ≡ true)
+            (λ i v. v ≡ item_of i) self.old.cursor self.new.cursor }
         ensures fewer { IfOk result (λ _. length self.new.cursor ≤ length self.old.cursor) }
     {
         let ahead = self.cursor.name_ahead()?;
@@ -181,7 +186,8 @@ impl<'a> Parser<'a> {
     /// An aggregate of a column, behind the word of what it does.
     fn computed(&mut self, fun: AggFun) -> Result<QueryAgg, Stop>
         ensures reads { Reads result computed_then Any
-            (λ p v. v ≡ record { fun = fun; column = Some p.0; name = p.1 }) self.old.cursor self.new.cursor }
+            (λ p v. v ≡ record { fun = fun; column = Some p.0; name = p.1 }) self.old.cursor
+            self.new.cursor }
         ensures fewer { IfOk result (λ _. length self.new.cursor ≤ length self.old.cursor) }
     {
         let column = self.name()?;
@@ -192,7 +198,9 @@ impl<'a> Parser<'a> {
 
     /// A count, behind its word.
     fn counted(&mut self) -> Result<QueryAgg, Stop>
-        ensures reads { Reads result as_then Any (λ n v. v ≡ record { fun = F.Count; column = None; name = n }) self.old.cursor self.new.cursor }
+        ensures reads { Reads result as_then Any
+            (λ n v. v ≡ record { fun = F.Count; column = None; name = n }) self.old.cursor
+            self.new.cursor }
         ensures fewer { IfOk result (λ _. length self.new.cursor ≤ length self.old.cursor) }
     {
         let name = self.named()?;
@@ -204,7 +212,8 @@ impl<'a> Parser<'a> {
     }
 
     fn agg(&mut self) -> Result<QueryAgg, Stop>
-        ensures reads { Reads result agg_then Any (λ a v. v ≡ agg_of a) self.old.cursor self.new.cursor }
+        ensures reads { Reads result agg_then Any
+            (λ a v. v ≡ agg_of a) self.old.cursor self.new.cursor }
         ensures fewer { IfOk result (λ _. length self.new.cursor ≤ length self.old.cursor) }
     {
         match self.cursor.takes_sign() {
@@ -219,7 +228,8 @@ impl<'a> Parser<'a> {
 
     /// The aggregates of a group.
     fn aggs(&mut self) -> Result<AggList, Stop>
-        ensures reads { Reads result agg_list_then (Lacks (fixed S.Comma)) (λ p v. v ≡ agg_of p.0 ∷ map agg_of p.1) self.old.cursor self.new.cursor }
+        ensures reads { Reads result agg_list_then (Lacks (fixed S.Comma))
+            (λ p v. v ≡ agg_of p.0 ∷ map agg_of p.1) self.old.cursor self.new.cursor }
         ensures fewer { IfOk result (λ _. length self.new.cursor ≤ length self.old.cursor) }
     {
         let mut items = Vec::new(self.alloc);
@@ -234,7 +244,8 @@ impl<'a> Parser<'a> {
 
     /// A hop, behind its word.
     fn hop(&mut self) -> Result<QueryStep, Stop>
-        ensures reads { Reads result hop_then Any (λ p v. v ≡ T.Hop p.0 p.1) self.old.cursor self.new.cursor }
+        ensures reads { Reads result hop_then Any
+            (λ p v. v ≡ T.Hop p.0 p.1) self.old.cursor self.new.cursor }
         ensures fewer { IfOk result (λ _. length self.new.cursor ≤ length self.old.cursor) }
     {
         let size = self.number()?;
@@ -244,7 +255,8 @@ impl<'a> Parser<'a> {
 
     /// A session, behind its word.
     fn session(&mut self) -> Result<QueryStep, Stop>
-        ensures reads { Reads result session_then (λ z. ends_step z ≡ true) (λ p v. v ≡ T.Session p.0 (by_of p.1)) self.old.cursor self.new.cursor }
+        ensures reads { Reads result session_then (λ z. ends_step z ≡ true)
+            (λ p v. v ≡ T.Session p.0 (by_of p.1)) self.old.cursor self.new.cursor }
         ensures fewer { IfOk result (λ _. length self.new.cursor ≤ length self.old.cursor) }
     {
         let timeout = self.number()?;
@@ -254,7 +266,8 @@ impl<'a> Parser<'a> {
 
     /// The right side of a step, and its key.
     fn operand(&mut self) -> Result<(Label, NameList), Stop>
-        ensures reads { Reads result operand_then (λ z. ends_step z ≡ true) (λ p v. (v.0 ≡ p.0) × (v.1 ≡ on_of p.1)) self.old.cursor self.new.cursor }
+        ensures reads { Reads result operand_then (λ z. ends_step z ≡ true)
+            (λ p v. (v.0 ≡ p.0) × (v.1 ≡ on_of p.1)) self.old.cursor self.new.cursor }
         ensures fewer { IfOk result (λ _. length self.new.cursor ≤ length self.old.cursor) }
     {
         let right = self.name()?;
@@ -277,7 +290,8 @@ impl<'a> Parser<'a> {
 
     /// A literal, which is spelled as an operand of a product is.
     fn literal(&mut self) -> Result<Tree, Stop>
-        ensures reads { Reads result unary_then Any (λ u v. v ≡ unary_onto u []) self.old.cursor self.new.cursor }
+        ensures reads { Reads result unary_then Any
+            (λ u v. v ≡ unary_onto u []) self.old.cursor self.new.cursor }
         ensures fewer { IfOk result (λ _. length self.new.cursor ≤ length self.old.cursor) }
     {
         self.nodes = Nodes::new(self.alloc);
@@ -288,7 +302,8 @@ impl<'a> Parser<'a> {
 
     /// Literals with commas between them.
     fn literals(&mut self) -> Result<TreeList, Stop>
-        ensures reads { Reads result lit_list_then (Lacks (fixed S.Comma)) (λ p v. v ≡ lit_of p.0 ∷ map lit_of p.1) self.old.cursor self.new.cursor }
+        ensures reads { Reads result lit_list_then (Lacks (fixed S.Comma))
+            (λ p v. v ≡ lit_of p.0 ∷ map lit_of p.1) self.old.cursor self.new.cursor }
         ensures fewer { IfOk result (λ _. length self.new.cursor ≤ length self.old.cursor) }
     {
         let mut items = Vec::new(self.alloc);
@@ -328,7 +343,8 @@ impl<'a> Parser<'a> {
 
     /// The step `top`, behind its word.
     fn top(&mut self) -> Result<QueryStep, Stop>
-        ensures reads { Reads result top_then Any (λ p v. v ≡ T.Top (suc p.0) (per_of p.1) p.2) self.old.cursor self.new.cursor }
+        ensures reads { Reads result top_then Any
+            (λ p v. v ≡ T.Top (suc p.0) (per_of p.1) p.2) self.old.cursor self.new.cursor }
         ensures fewer { IfOk result (λ _. length self.new.cursor ≤ length self.old.cursor) }
     {
         let count = self.positive()?;
@@ -340,7 +356,8 @@ impl<'a> Parser<'a> {
 
     /// The step `follow`, behind its word.
     fn follow(&mut self) -> Result<QueryStep, Stop>
-        ensures reads { Reads result follow_then Any (λ p v. v ≡ T.Follow p.0 (on_of p.1) (suc p.2)) self.old.cursor self.new.cursor }
+        ensures reads { Reads result follow_then Any
+            (λ p v. v ≡ T.Follow p.0 (on_of p.1) (suc p.2)) self.old.cursor self.new.cursor }
         ensures fewer { IfOk result (λ _. length self.new.cursor ≤ length self.old.cursor) }
     {
         let right = self.name()?;
@@ -351,7 +368,8 @@ impl<'a> Parser<'a> {
     }
 
     fn step(&mut self) -> Result<QueryStep, Stop>
-        ensures reads { Reads result step_then (λ z. ends_step z ≡ true) (λ s v. v ≡ step_of s) self.old.cursor self.new.cursor }
+        ensures reads { Reads result step_then (λ z. ends_step z ≡ true)
+            (λ s v. v ≡ step_of s) self.old.cursor self.new.cursor }
         ensures fewer { IfOk result (λ _. length self.new.cursor ≤ length self.old.cursor) }
     {
         match self.cursor.takes_sign() {
@@ -391,7 +409,8 @@ impl<'a> Parser<'a> {
 
     /// A base, and the steps behind it.
     pub(crate) fn pipe(&mut self) -> Result<Pipe, Stop>
-        ensures reads { Reads result pipe_then (λ z. ends_pipe z ≡ true) (λ p v. v ≡ pipe_of p) self.old.cursor self.new.cursor }
+        ensures reads { Reads result pipe_then (λ z. ends_pipe z ≡ true)
+            (λ p v. v ≡ pipe_of p) self.old.cursor self.new.cursor }
         ensures fewer { IfOk result (λ _. length self.new.cursor ≤ length self.old.cursor) }
     {
         let base = self.name()?;

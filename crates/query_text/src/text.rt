@@ -26,7 +26,8 @@ const LARGEST: usize = 65_536;
 impl<'a> Parser<'a> {
     /// The number of places of a decimal, in its brackets.
     fn places(&mut self) -> Result<u8, Stop>
-        ensures reads { Reads result places_then Any (λ p v. v ≡ p.number) self.old.cursor self.new.cursor }
+        ensures reads { Reads result places_then Any
+            (λ p v. v ≡ p.number) self.old.cursor self.new.cursor }
         ensures fewer { IfOk result (λ _. length self.new.cursor ≤ length self.old.cursor) }
     {
         self.needs(Sign::Open)?;
@@ -40,7 +41,8 @@ impl<'a> Parser<'a> {
 
     /// A column of a stream.
     fn col(&mut self) -> Result<ColumnDef, Stop>
-        ensures reads { Reads result col_then Any (λ c v. v ≡ col_of c) self.old.cursor self.new.cursor }
+        ensures reads { Reads result col_then Any
+            (λ c v. v ≡ col_of c) self.old.cursor self.new.cursor }
         ensures fewer { IfOk result (λ _. length self.new.cursor ≤ length self.old.cursor) }
     {
         let name = self.name()?;
@@ -68,7 +70,8 @@ impl<'a> Parser<'a> {
 
     /// The columns of a stream.
     fn cols(&mut self) -> Result<Schema, Stop>
-        ensures reads { Reads result col_list_then (Lacks (fixed S.Comma)) (λ p v. v ≡ col_of p.0 ∷ map col_of p.1) self.old.cursor self.new.cursor }
+        ensures reads { Reads result col_list_then (Lacks (fixed S.Comma))
+            (λ p v. v ≡ col_of p.0 ∷ map col_of p.1) self.old.cursor self.new.cursor }
         ensures fewer { IfOk result (λ _. length self.new.cursor ≤ length self.old.cursor) }
     {
         let mut items = Vec::new(self.alloc);
@@ -83,7 +86,8 @@ impl<'a> Parser<'a> {
 
     /// A stream, behind its word.
     fn stream(&mut self) -> Result<StreamDef, Stop>
-        ensures reads { Reads result stream_rest_then Any (λ s v. v ≡ stream_of s) self.old.cursor self.new.cursor }
+        ensures reads { Reads result stream_rest_then Any
+            (λ s v. v ≡ stream_of s) self.old.cursor self.new.cursor }
         ensures fewer { IfOk result (λ _. length self.new.cursor ≤ length self.old.cursor) }
     {
         let name = self.name()?;
@@ -113,7 +117,8 @@ impl<'a> Parser<'a> {
 
     /// A let, behind its word.
     fn one_let(&mut self) -> Result<Let, Stop>
-        ensures reads { Reads result let_rest_then Any (λ l v. v ≡ let_of l) self.old.cursor self.new.cursor }
+        ensures reads { Reads result let_rest_then Any
+            (λ l v. v ≡ let_of l) self.old.cursor self.new.cursor }
         ensures fewer { IfOk result (λ _. length self.new.cursor ≤ length self.old.cursor) }
     {
         let name = self.name()?;
@@ -125,7 +130,8 @@ impl<'a> Parser<'a> {
 
     /// The lets of a query.
     fn lets(&mut self) -> Result<LetList, Stop>
-        ensures reads { Reads result lets_list_then (Lacks (fixed S.Let)) (λ ls v. v ≡ map let_of ls) self.old.cursor self.new.cursor }
+        ensures reads { Reads result lets_list_then (Lacks (fixed S.Let))
+            (λ ls v. v ≡ map let_of ls) self.old.cursor self.new.cursor }
         ensures fewer { IfOk result (λ _. length self.new.cursor ≤ length self.old.cursor) }
     {
         let mut items = Vec::new(self.alloc);
@@ -138,7 +144,8 @@ impl<'a> Parser<'a> {
 
     /// A query, up to the end of the text.
     fn query(&mut self) -> Result<Query, Stop>
-        ensures { Reads result query_then (λ z. ends_pipe z ≡ true) (λ q v. v ≡ query_of q) self.old.cursor self.new.cursor }
+        ensures { Reads result query_then (λ z. ends_pipe z ≡ true)
+            (λ q v. v ≡ query_of q) self.old.cursor self.new.cursor }
     {
         let streams = self.streams()?;
         let lets = self.lets()?;

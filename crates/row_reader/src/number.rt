@@ -30,7 +30,8 @@ fn read_short(bytes: &[u8]) -> Option<u64>
     ensures digits { IfSome result (λ n. AllDigits 10 bytes.now) }
     ensures value { IfSome result (λ n. n ≡ digits_value_after 10 0 bytes.now) }
     ensures small { IfSome result (λ n. n < 2 ^ 64) }
-    ensures none { IfNone result (AllDigits 10 bytes.now → digits_value_after 10 0 bytes.now < 2 ^ 64 → ⊥) }
+    ensures none { IfNone result (AllDigits 10 bytes.now →
+        digits_value_after 10 0 bytes.now < 2 ^ 64 → ⊥) }
 {
     let mut number: u64 = 0;
     for byte in bytes {
@@ -48,7 +49,8 @@ fn read_digits(start: u64, bytes: &[u8]) -> Option<u64>
     ensures digits { IfSome result (λ n. AllDigits 10 bytes.now) }
     ensures value { IfSome result (λ n. n ≡ digits_value_after 10 start bytes.now) }
     ensures small { IfSome result (λ n. n < 2 ^ 64) }
-    ensures none { IfNone result (AllDigits 10 bytes.now → digits_value_after 10 start bytes.now < 2 ^ 64 → ⊥) }
+    ensures none { IfNone result (AllDigits 10 bytes.now →
+        digits_value_after 10 start bytes.now < 2 ^ 64 → ⊥) }
 {
     let mut number = start;
     for byte in bytes {
@@ -66,7 +68,8 @@ fn number_of_digits(bytes: &[u8]) -> Option<u64>
     ensures digits { IfSome result (λ n. AllDigits 10 bytes.now) }
     ensures value { IfSome result (λ n. n ≡ digits_value_after 10 0 bytes.now) }
     ensures small { IfSome result (λ n. n < 2 ^ 64) }
-    ensures none { IfNone result (AllDigits 10 bytes.now → digits_value_after 10 0 bytes.now < 2 ^ 64 → ⊥) }
+    ensures none { IfNone result (AllDigits 10 bytes.now →
+        digits_value_after 10 0 bytes.now < 2 ^ 64 → ⊥) }
 {
     if bytes.len() <= SHORT {
         read_short(bytes)
@@ -109,8 +112,10 @@ pub fn read_number(bytes: &[u8], limit: u64) -> Option<u64>
 
 // What stands before and behind a point that has so many bytes behind it.
 fn split_at_point(bytes: &[u8], places: usize) -> Option<(&[u8], &[u8])>
-    ensures some { IfSome result (λ p. (bytes.now ≡ p.0.now ++ 46 ∷ p.1.now) × (length p.1.now ≡ places)) }
-    ensures none { IfNone result ((a b : List ℕ) → bytes.now ≡ a ++ 46 ∷ b → length b ≡ places → ⊥) }
+    ensures some { IfSome result (λ p. (bytes.now ≡ p.0.now ++ 46 ∷ p.1.now)
+        × (length p.1.now ≡ places)) }
+    ensures none { IfNone result ((a b : List ℕ) → bytes.now ≡ a ++ 46 ∷ b → length b ≡ places →
+        ⊥) }
 {
     if bytes.len() <= places {
         return None;

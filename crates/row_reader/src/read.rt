@@ -42,7 +42,8 @@ fn read_values<'a>(
     fields: &mut Fields<'a>,
 ) -> Result<SmallVec<FieldValue<'a>, SHORT_ROW>, RowFault>
     requires { AllText (left fields.old) }
-    ensures values { IfOk result (λ values. values_of schema.now (left fields.old) ≡ Ok (map field_value values.items)) }
+    ensures values { IfOk result (λ values.
+        values_of schema.now (left fields.old) ≡ Ok (map field_value values.items)) }
     ensures cause { IfErr result (λ fault. IsCause fault (values_of schema.now (left fields.old))) }
 {
     let columns = schema.items();
@@ -69,7 +70,8 @@ fn read_values<'a>(
 // The punctuation of a stream, or of all, whose fields behind `punct` these are.
 #[tactic(auto, unfolding(crate::specs::Entry::punctuation))]
 fn read_punctuation(stream: Option<usize>, mut fields: Fields) -> Result<CellEntry, RowFault>
-    ensures { (table all : List (List ℕ)) → left fields.entry ≡ drop 1 all → IsReadIn table table result (punctuation stream all) }
+    ensures { (table all : List (List ℕ)) → left fields.entry ≡ drop 1 all →
+        IsReadIn table table result (punctuation stream all) }
 {
     if fields.count() != 1 {
         return Err(RowFault::Bad(BadLine::WrongFields));
@@ -91,8 +93,9 @@ fn read_event(
     texts: &mut TextTable,
 ) -> Result<CellEntry, RowFault>
     requires { AllText (left fields) }
-    ensures entry { (all : List (List ℕ)) → word.now ≡ field_of all 0 → left fields.entry ≡ drop 1 all →
-        IsReadIn texts.old texts.new result (event stream schema.now all) }
+    ensures entry { (all : List (List ℕ)) → word.now ≡ field_of all 0 →
+        left fields.entry ≡ drop 1 all → IsReadIn texts.old texts.new result
+        (event stream schema.now all) }
     ensures begins { BeginsWith texts.new texts.old }
 {
     let Some(form) = read_form(word) else {
@@ -167,7 +170,8 @@ fn read_of_stream(
     texts: &mut TextTable,
 ) -> Result<CellEntry, RowFault>
     requires { AllText (left fields) }
-    ensures entry { IsReadIn texts.old texts.new result (of_stream number stream.now.schema (left fields.entry)) }
+    ensures entry { IsReadIn texts.old texts.new result
+        (of_stream number stream.now.schema (left fields.entry)) }
     ensures begins { BeginsWith texts.new texts.old }
 {
     let word = fields.take_field();
@@ -186,7 +190,8 @@ fn read_entry(
     texts: &mut TextTable,
 ) -> Result<CellEntry, RowFault>
     requires { AllText (left fields) }
-    ensures entry { IsReadIn texts.old texts.new result (record_entry streams.now (left fields.entry)) }
+    ensures entry { IsReadIn texts.old texts.new result
+        (record_entry streams.now (left fields.entry)) }
     ensures begins { BeginsWith texts.new texts.old }
 {
     let name = fields.take_field();
@@ -214,7 +219,8 @@ fn read_plain(
     requires no_feed { All (λ b. b ≢ 10) text.now }
     ensures entry { IsReadIn texts.old texts.new result (text_entry streams.now text.now) }
     ensures begins { BeginsWith texts.new texts.old }
-    ensures memory { result ≡ Err RowFault.Memory → (odd_quotes text.now ≡ false) × (has_mark text.now ≡ false) }
+    ensures memory { result ≡ Err RowFault.Memory → (odd_quotes text.now ≡ false)
+        × (has_mark text.now ≡ false) }
 {
     if has_byte_order_mark(text) {
         return Err(RowFault::Bad(BadLine::UnknownStream));
@@ -236,7 +242,8 @@ fn read_quoted(
     requires no_feed { All (λ b. b ≢ 10) text.now }
     ensures entry { IsReadIn texts.old texts.new result (text_entry streams.now text.now) }
     ensures begins { BeginsWith texts.new texts.old }
-    ensures memory { result ≡ Err RowFault.Memory → (odd_quotes text.now ≡ false) × (has_mark text.now ≡ false) }
+    ensures memory { result ≡ Err RowFault.Memory → (odd_quotes text.now ≡ false)
+        × (has_mark text.now ≡ false) }
 {
     if has_odd_quotes(text) {
         return Err(RowFault::Bad(BadLine::OddQuotes));

@@ -16,8 +16,8 @@ fn take_plain(byte: u8, field: &mut Vec<u8>, fields: &mut ByteRecord) -> Result<
     requires no_feed { byte ≢ 10 }
     requires partial { partial_of fields.old ≡ [] }
     ensures partial { OnOk result (partial_of fields.new ≡ []) }
-    ensures step { IfOk result (λ after.
-        ReadsOn Place.Plain byte (fields_of fields.old) field.old.items after (fields_of fields.new) field.new.items) }
+    ensures step { IfOk result (λ after. ReadsOn Place.Plain byte
+        (fields_of fields.old) field.old.items after (fields_of fields.new) field.new.items) }
 {
     if byte == b',' {
         fields.push_field(field.as_slice())?;
@@ -41,7 +41,8 @@ fn take_byte(
     requires no_feed { byte ≢ 10 }
     requires partial { partial_of fields.old ≡ [] }
     ensures partial { OnOk result (partial_of fields.new ≡ []) }
-    ensures step { IfOk result (λ after. ReadsOn place byte (fields_of fields.old) field.old.items after (fields_of fields.new) field.new.items) }
+    ensures step { IfOk result (λ after. ReadsOn place byte
+        (fields_of fields.old) field.old.items after (fields_of fields.new) field.new.items) }
 {
     match place {
         Place::Start => {

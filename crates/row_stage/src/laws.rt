@@ -15,24 +15,28 @@ ghost use Rattle.row_stage.specs.Stages.{IsStageOf};
 
 /// A stage computes its node with every table of texts that begins with one with which it does.
 pub fn stages_keep_their_node()
-    ensures { (texts more : List (List ℕ)) (capacity : ℕ) (kinds : List CellKind) (n : Node) (s : RowStage) →
-        BeginsWith more texts → IsStageOf texts capacity kinds n s → IsStageOf more capacity kinds n s }
+    ensures { (texts more : List (List ℕ)) (capacity : ℕ) (kinds : List CellKind) (n : Node)
+        (s : RowStage) → BeginsWith more texts → IsStageOf texts capacity kinds n s →
+        IsStageOf more capacity kinds n s }
 {}
 
 /// The edges that the node of a stage made of all that came in, step by step. At first there are none; those of a step
 /// more are put last; a table that grows leaves them. Where what came in stands, read, for events, they stand for the
 /// node's events below its closing.
 pub fn made_edges_stand_read()
-    ensures first { (texts : List (List ℕ)) (capacity : ℕ) (kinds : List CellKind) (n : Node) (s : RowStage) →
-        IsStageOf texts capacity kinds n s → IsMade texts n [] [] }
-    ensures more { (texts : List (List ℕ)) (capacity : ℕ) (kinds : List CellKind) (n : Node) (s : RowStage) →
-        IsStageOf texts capacity kinds n s → (left out new more : List Edge) →
-        IsMade texts n left out → IsMade texts n new more → IsMade texts n (left ++ new) (out ++ more) }
-    ensures longer { (texts : List (List ℕ)) (capacity : ℕ) (kinds : List CellKind) (n : Node) (s : RowStage) →
-        IsStageOf texts capacity kinds n s → (longer : List (List ℕ)) → BeginsWith longer texts →
-        (left out : List Edge) → EdgesArePlaced texts left → IsMade texts n left out → IsMade longer n left out }
-    ensures stands { (texts : List (List ℕ)) (capacity : ℕ) (kinds : List CellKind) (n : Node) (s : RowStage) →
-        IsStageOf texts capacity kinds n s → AreDistinct texts → (x y : ℕ) (left out : List Edge)
-        (rows right : List (Event Row)) → IsMade texts n left out → StandsRead texts x left rows →
-        StandsRead texts (node_closes n x y) out (node_events n rows right) }
+    ensures first { (texts : List (List ℕ)) (capacity : ℕ) (kinds : List CellKind) (n : Node)
+        (s : RowStage) → IsStageOf texts capacity kinds n s → IsMade texts n [] [] }
+    ensures more { (texts : List (List ℕ)) (capacity : ℕ) (kinds : List CellKind) (n : Node)
+        (s : RowStage) → IsStageOf texts capacity kinds n s → (left out new more : List Edge) →
+        IsMade texts n left out → IsMade texts n new more →
+        IsMade texts n (left ++ new) (out ++ more) }
+    ensures longer { (texts : List (List ℕ)) (capacity : ℕ) (kinds : List CellKind) (n : Node)
+        (s : RowStage) → IsStageOf texts capacity kinds n s → (longer : List (List ℕ)) →
+        BeginsWith longer texts → (left out : List Edge) → EdgesArePlaced texts left →
+        IsMade texts n left out → IsMade longer n left out }
+    ensures stands { (texts : List (List ℕ)) (capacity : ℕ) (kinds : List CellKind) (n : Node)
+        (s : RowStage) → IsStageOf texts capacity kinds n s → AreDistinct texts →
+        (x y : ℕ) (left out : List Edge) (rows right : List (Event Row)) → IsMade texts n left out →
+        StandsRead texts x left rows → StandsRead texts (node_closes n x y) out
+        (node_events n rows right) }
 {}

@@ -57,7 +57,8 @@ impl RowStage {
 /// The kinds of the columns that a node of the plan reads: its child's, or those of its stream where it is a Source.
 pub fn read_kinds(alloc: Global, plan: &Plan, node: usize) -> Result<Vec<Kind>, Memory>
     requires { node < length plan.now.nodes }
-    ensures { IfOk result (λ v. (n : Node) → slice_get plan.now.nodes node ≡ Some n → map cell_kind_of v.items ≡ kinds_read plan.now n) }
+    ensures { IfOk result (λ v. (n : Node) → slice_get plan.now.nodes node ≡ Some n →
+        map cell_kind_of v.items ≡ kinds_read plan.now n) }
 {
     let nodes = plan.nodes();
     let streams = plan.streams();
@@ -104,7 +105,8 @@ fn filter_of(
 ) -> Result<Filter, Memory>
     requires typed { IsTyped (map cell_kind_of kinds.now) test.now }
     requires bit { kind_of test.now (map cell_kind_of kinds.now) ≡ CellKind.Bit }
-    ensures filter { IfOk result (λ f. IsFilterOf texts.new capacity (map cell_kind_of kinds.now) test.now f) }
+    ensures filter { IfOk result (λ f. IsFilterOf texts.new capacity
+        (map cell_kind_of kinds.now) test.now f) }
     ensures table { OnOk result (texts.new ≡ with_texts texts.old test.now) }
     ensures err { OnErr result (HasFirstTexts texts.new texts.old test.now) }
     ensures begins { BeginsWith texts.new texts.old }
@@ -123,7 +125,8 @@ fn project_of(
 ) -> Result<Project, Memory>
     requires typed { All (IsTyped (map cell_kind_of kinds.now)) items.now }
     requires few { length items.now ≤ 32 }
-    ensures project { IfOk result (λ ks. IsProjectOf texts.new capacity (map cell_kind_of kinds.now) items.now ks) }
+    ensures project { IfOk result (λ ks. IsProjectOf texts.new capacity
+        (map cell_kind_of kinds.now) items.now ks) }
     ensures table { OnOk result (texts.new ≡ with_texts texts.old (nodes_of_items items.now)) }
     ensures err { OnErr result (HasFirstTexts texts.new texts.old (nodes_of_items items.now)) }
     ensures begins { BeginsWith texts.new texts.old }
@@ -143,7 +146,8 @@ fn kernels_of(
     requires { All (IsTyped (map cell_kind_of kinds.now)) items.now }
     ensures same { IfOk result (λ ks. exprs_of texts.new ks.items ≡ items.now) }
     ensures placed { IfOk result (λ ks. All (λ k. AreStepsPlaced texts.new k.steps) ks.items) }
-    ensures suited { IfOk result (λ ks. All (IsFor capacity (map cell_kind_of kinds.now)) ks.items) }
+    ensures suited { IfOk result (λ ks. All
+        (IsFor capacity (map cell_kind_of kinds.now)) ks.items) }
     ensures table { OnOk result (texts.new ≡ with_texts texts.old (nodes_of_items items.now)) }
     ensures err { OnErr result (HasFirstTexts texts.new texts.old (nodes_of_items items.now)) }
     ensures begins { BeginsWith texts.new texts.old }

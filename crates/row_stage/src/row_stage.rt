@@ -48,7 +48,8 @@ impl RowStage {
             ≡ node_kinds n (cells_of left) []) }
         ensures plain { IfOk result (λ out. ArePlain left.kinds → ArePlain out.kinds) }
         ensures placed { IfOk result (λ out. EdgesArePlaced texts.now out.edges) }
-        ensures later { IfOk result (λ out. (x : ℕ) → failing (is_from x) left.edges ≡ 0 → failing (is_from x) out.edges ≡ 0) }
+        ensures later { IfOk result (λ out. (x : ℕ) → failing (is_from x) left.edges ≡ 0 →
+            failing (is_from x) out.edges ≡ 0) }
         ensures capacity { IfOk result (λ out. out.capacity ≡ left.capacity) }
         ensures pools { pools.new.capacity ≡ pools.old.capacity }
         ensures limit { pools.new.limit ≡ pools.old.limit }
@@ -96,7 +97,8 @@ impl RowStage {
 
     // A list with no edge, of the kinds of the node.
     fn empty_list(&self, alloc: Global, left: &EdgeList) -> Result<EdgeList, Memory>
-        requires stage { (texts : List (List ℕ)) × IsStage texts left.now.capacity (cells_of left.now) self.now }
+        requires stage { (texts : List (List ℕ))
+            × IsStage texts left.now.capacity (cells_of left.now) self.now }
         ensures kinds { IfOk result (λ list. (n : Node) (texts : List (List ℕ)) →
             IsStageOf texts left.now.capacity (cells_of left.now) n self.now → cells_of list
             ≡ node_kinds n (cells_of left.now) []) }

@@ -37,7 +37,8 @@ impl OneSession {
 
     /// Puts in a row, as the last.
     pub(crate) fn add(&mut self, cells: Cells, start: Time) -> Result<(), Memory>
-        ensures ok { OnOk result (self.new ≡ self.old ++ record { cells = cells; start = start } ∷ []) }
+        ensures ok { OnOk result (self.new ≡ self.old
+            ++ record { cells = cells; start = start } ∷ []) }
         ensures err { OnErr result (self.new ≡ self.old) }
     {
         self.rows.push(HeldRow { cells, start })?;

@@ -27,8 +27,9 @@ fn put_row(
         ≡ total w (rows_in sessions.old.entries) + w (record { cells = cells; start = start })) }
     ensures keyed { OnOk result ((columns : List ℕ) → key.now ≡ key_of columns cells →
         AreKeyed columns sessions.old.entries → AreKeyed columns sessions.new.entries) }
-    ensures first { IfOk result (λ first. (columns : List ℕ) → AreKeyed columns sessions.old.entries → first
-        ≡ nat_eq (many (is_of_key columns key.now) (rows_in sessions.old.entries)) 0) }
+    ensures first { IfOk result (λ first. (columns : List ℕ) →
+        AreKeyed columns sessions.old.entries →
+        first ≡ nat_eq (many (is_of_key columns key.now) (rows_in sessions.old.entries)) 0) }
     ensures err { OnErr result (sessions.new.entries ≡ sessions.old.entries) }
 {
     if let Some(session) = sessions.get_mut(key) {
@@ -43,7 +44,8 @@ fn put_row(
 
 // The last start of the rows of a key.
 fn last_of(sessions: &IndexMap<Vec<Datum>, OneSession>, key: &[Datum]) -> Option<Time>
-    ensures some { IfSome result (λ last. (columns : List ℕ) → AreKeyed columns sessions.now.entries →
+    ensures some { IfSome result (λ last. (columns : List ℕ) →
+        AreKeyed columns sessions.now.entries →
         IsLastStart last (filter (is_of_key columns key.now) (rows_in sessions.now.entries))) }
     ensures none { IfNone result ((columns : List ℕ) → AreKeyed columns sessions.now.entries →
         filter (is_of_key columns key.now) (rows_in sessions.now.entries) ≡ []) }
@@ -66,7 +68,8 @@ fn take_rows(
         ≡ total w (rows_in sessions.new.entries) + total w result.items }
     ensures own { (columns : List ℕ) → AreKeyed columns sessions.old.entries →
         result.items ≡ filter (is_of_key columns key.now) (rows_in sessions.old.entries) }
-    ensures keyed { (columns : List ℕ) → AreKeyed columns sessions.old.entries → AreKeyed columns sessions.new.entries }
+    ensures keyed { (columns : List ℕ) → AreKeyed columns sessions.old.entries →
+        AreKeyed columns sessions.new.entries }
 {
     // Its call tells the proof that no key stands twice.
     let _ = sessions.len();
@@ -163,7 +166,8 @@ impl OpenRows {
 
     /// The last start of the rows of a key, if there are any.
     pub(crate) fn last_of(&self, key: &[Datum]) -> Option<Time>
-        ensures some { IfSome result (λ last. IsLastStart last (filter (is_of_key self.now.key key.now) self.now.rows)) }
+        ensures some { IfSome result (λ last. IsLastStart last
+            (filter (is_of_key self.now.key key.now) self.now.rows)) }
         ensures none { IfNone result (filter (is_of_key self.now.key key.now) self.now.rows ≡ []) }
     {
         let _ = &self.count;
@@ -172,7 +176,8 @@ impl OpenRows {
 
     /// Takes out the rows of a key. It takes no memory.
     pub(crate) fn take(&mut self, key: &[Datum]) -> Vec<HeldRow>
-        ensures taken { (w : HeldRow → ℕ) → total w self.old.rows ≡ total w self.new.rows + total w result.items }
+        ensures taken { (w : HeldRow → ℕ) → total w self.old.rows ≡ total w self.new.rows
+            + total w result.items }
         ensures own { result.items ≡ filter (is_of_key self.old.key key.now) self.old.rows }
         ensures key { self.new.key ≡ self.old.key }
     {

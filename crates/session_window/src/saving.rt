@@ -37,11 +37,13 @@ pub(crate) fn save_open(saved: &mut Saved, part: u64, rows: &OpenRows) -> Result
 
 // Puts in rows; the end of the session of each key that comes with them is looked at then.
 fn put_block(sessions: &mut Sessions, rows: &[HeldRow], at: Time) -> Result<(), Memory>
-    ensures rows { OnOk result ((w : HeldRow → ℕ) → total w sessions.new.rows.rows ≡ total w sessions.old.rows.rows
-        + total w rows.now) }
-    ensures one { OnOk result (HasOne sessions.old.rows.key sessions.old.rows.rows sessions.old.ends →
+    ensures rows { OnOk result ((w : HeldRow → ℕ) →
+        total w sessions.new.rows.rows ≡ total w sessions.old.rows.rows + total w rows.now) }
+    ensures one { OnOk result
+        (HasOne sessions.old.rows.key sessions.old.rows.rows sessions.old.ends →
         HasOne sessions.old.rows.key sessions.new.rows.rows sessions.new.ends) }
-    ensures at { OnOk result (failing (is_placed_at at) sessions.old.ends ≡ 0 → failing (is_placed_at at) sessions.new.ends ≡ 0) }
+    ensures at { OnOk result (failing (is_placed_at at) sessions.old.ends ≡ 0 →
+        failing (is_placed_at at) sessions.new.ends ≡ 0) }
     ensures like { IsLike sessions.old sessions.new }
 {
     for row in rows {
@@ -51,11 +53,13 @@ fn put_block(sessions: &mut Sessions, rows: &[HeldRow], at: Time) -> Result<(), 
 }
 
 fn put_rows(sessions: &mut Sessions, rows: &Synopsis, at: Time) -> Result<(), Memory>
-    ensures rows { OnOk result ((w : HeldRow → ℕ) → total w sessions.new.rows.rows ≡ total w sessions.old.rows.rows
-        + total w rows.now.rows) }
-    ensures one { OnOk result (HasOne sessions.old.rows.key sessions.old.rows.rows sessions.old.ends →
+    ensures rows { OnOk result ((w : HeldRow → ℕ) →
+        total w sessions.new.rows.rows ≡ total w sessions.old.rows.rows + total w rows.now.rows) }
+    ensures one { OnOk result
+        (HasOne sessions.old.rows.key sessions.old.rows.rows sessions.old.ends →
         HasOne sessions.old.rows.key sessions.new.rows.rows sessions.new.ends) }
-    ensures at { OnOk result (failing (is_placed_at at) sessions.old.ends ≡ 0 → failing (is_placed_at at) sessions.new.ends ≡ 0) }
+    ensures at { OnOk result (failing (is_placed_at at) sessions.old.ends ≡ 0 →
+        failing (is_placed_at at) sessions.new.ends ≡ 0) }
     ensures like { IsLike sessions.old sessions.new }
 {
     for k in 0..rows.block_count() {

@@ -45,7 +45,8 @@ fn entry_of(alloc: Global, key: &[Datum], at: Time) -> Result<Edge, Memory>
 
 // Tells that rows end at t.
 fn tell_ends(answer: &mut Vec<Edge>, t: Time, rows: &[HeldRow]) -> Result<(), Memory>
-    ensures { OnOk result (Adds answer.old.items answer.new.items (map (told_at false t) rows.now)) }
+    ensures { OnOk result (Adds answer.old.items answer.new.items
+        (map (told_at false t) rows.now)) }
 {
     for row in rows {
         answer.push(Edge {
@@ -73,11 +74,14 @@ impl Sessions {
 
     /// Puts in a row. Where it is the first of its key, an entry for the time comes with it.
     pub(crate) fn put_in(&mut self, cells: Cells, start: Time, at: Time) -> Result<(), Memory>
-        ensures rows { OnOk result ((w : HeldRow → ℕ) → total w self.new.rows.rows ≡ total w self.old.rows.rows
-            + w (record { cells = cells; start = start })) }
-        ensures ends { OnOk result ((w : Pending → ℕ) → total w self.new.ends ≡ total w self.old.ends
-            + cond (nat_eq (many (is_of_key self.old.rows.key (key_of self.old.rows.key cells)) self.old.rows.rows) 0)
-            (w (record { at = at; edge = record { sync = at; other = at; cells = key_of self.old.rows.key cells } })) 0) }
+        ensures rows { OnOk result ((w : HeldRow → ℕ) →
+            total w self.new.rows.rows ≡ total w self.old.rows.rows + w
+            (record { cells = cells; start = start })) }
+        ensures ends { OnOk result ((w : Pending → ℕ) →
+            total w self.new.ends ≡ total w self.old.ends + cond
+            (nat_eq (many (is_of_key self.old.rows.key (key_of self.old.rows.key cells))
+            self.old.rows.rows) 0) (w (record { at = at; edge = record
+            { sync = at; other = at; cells = key_of self.old.rows.key cells } })) 0) }
         ensures like { IsLike self.old self.new }
     {
         let first = self.rows.add(cells, start)?;
@@ -91,10 +95,13 @@ impl Sessions {
 
     // Puts in the row that an edge starts, and tells its start at t.
     fn start_one(&mut self, answer: &mut Vec<Edge>, t: Time, edge: &Edge) -> Result<(), Memory>
-        ensures rows { OnOk result ((w : HeldRow → ℕ) → total w self.new.rows.rows ≡ total w self.old.rows.rows
-            + total w (started_of edge.now)) }
-        ensures told { OnOk result (Adds answer.old.items answer.new.items (map (told_at true t) (started_of edge.now))) }
-        ensures awaits { OnOk result (Await self.old.timeout self.old.rows.key self.old.rows.rows self.old.ends →
+        ensures rows { OnOk result ((w : HeldRow → ℕ) →
+            total w self.new.rows.rows ≡ total w self.old.rows.rows + total w
+            (started_of edge.now)) }
+        ensures told { OnOk result (Adds answer.old.items answer.new.items
+            (map (told_at true t) (started_of edge.now))) }
+        ensures awaits { OnOk result
+            (Await self.old.timeout self.old.rows.key self.old.rows.rows self.old.ends →
             Await self.old.timeout self.old.rows.key self.new.rows.rows self.new.ends) }
         ensures later { OnOk result ((u : ℕ) → u ≤ later self.old.timeout edge.now.sync →
             failing (waits_from u) self.old.ends ≡ 0 → failing (waits_from u) self.new.ends ≡ 0) }
@@ -115,12 +122,16 @@ impl Sessions {
 
     // Puts in the rows that start at t, and tells their starts.
     fn start_all(&mut self, answer: &mut Vec<Edge>, t: Time, now: &[Edge]) -> Result<(), Memory>
-        ensures rows { OnOk result ((w : HeldRow → ℕ) → total w self.new.rows.rows ≡ total w self.old.rows.rows
-            + total w (started_rows now.now)) }
-        ensures told { OnOk result (Adds answer.old.items answer.new.items (map (told_at true t) (started_rows now.now))) }
-        ensures awaits { OnOk result (Await self.old.timeout self.old.rows.key self.old.rows.rows self.old.ends →
+        ensures rows { OnOk result ((w : HeldRow → ℕ) →
+            total w self.new.rows.rows ≡ total w self.old.rows.rows + total w
+            (started_rows now.now)) }
+        ensures told { OnOk result (Adds answer.old.items answer.new.items
+            (map (told_at true t) (started_rows now.now))) }
+        ensures awaits { OnOk result
+            (Await self.old.timeout self.old.rows.key self.old.rows.rows self.old.ends →
             Await self.old.timeout self.old.rows.key self.new.rows.rows self.new.ends) }
-        ensures later { OnOk result ((u : ℕ) → failing (λ e. nat_le u (later self.old.timeout e.sync)) now.now ≡ 0 →
+        ensures later { OnOk result ((u : ℕ) → failing
+            (λ e. nat_le u (later self.old.timeout e.sync)) now.now ≡ 0 →
             failing (waits_from u) self.old.ends ≡ 0 → failing (waits_from u) self.new.ends ≡ 0) }
         ensures like { IsLike self.old self.new }
     {
@@ -133,9 +144,8 @@ impl Sessions {
     // Ends the session of the key of an entry, where its timeout has passed by t. Where it has not, the entry waits on until
     // it may have.
     fn end_one(&mut self, answer: &mut Vec<Edge>, t: Time, entry: Edge) -> Result<(), Memory>
-        ensures ended { OnOk result
-            (Ends self.old.timeout self.old.rows.key t self.old.rows.rows self.new.rows.rows answer.old.items
-            answer.new.items) }
+        ensures ended { OnOk result (Ends self.old.timeout self.old.rows.key t self.old.rows.rows
+            self.new.rows.rows answer.old.items answer.new.items) }
         ensures awaits { OnOk result ((p : Pending) (ends : List Pending) → p.edge ≡ entry → ends
             ≡ p ∷ self.old.ends → Await self.old.timeout self.old.rows.key self.old.rows.rows ends →
             Await self.old.timeout self.old.rows.key self.new.rows.rows self.new.ends) }
@@ -158,10 +168,10 @@ impl Sessions {
 
     // Ends the sessions whose timeout has passed by t.
     fn end_due(&mut self, answer: &mut Vec<Edge>, t: Time) -> Result<(), Memory>
-        ensures ended { OnOk result
-            (Ends self.old.timeout self.old.rows.key t self.old.rows.rows self.new.rows.rows answer.old.items
-            answer.new.items) }
-        ensures awaits { OnOk result (Await self.old.timeout self.old.rows.key self.old.rows.rows self.old.ends →
+        ensures ended { OnOk result (Ends self.old.timeout self.old.rows.key t self.old.rows.rows
+            self.new.rows.rows answer.old.items answer.new.items) }
+        ensures awaits { OnOk result
+            (Await self.old.timeout self.old.rows.key self.old.rows.rows self.old.ends →
             Await self.old.timeout self.old.rows.key self.new.rows.rows self.new.ends) }
         ensures later { OnOk result (failing (waits_from (later 1 t)) self.new.ends ≡ 0) }
         ensures like { IsLike self.old self.new }
@@ -175,13 +185,16 @@ impl Sessions {
 
     // Goes on past one instant: the sessions whose timeout has passed end before a row starts, so that it opens another one.
     fn pass(&mut self, answer: &mut Vec<Edge>, t: Time, now: &[Edge]) -> Result<(), Memory>
-        ensures swept { OnOk result ((a : List CellEvent) → 1 ≤ self.old.timeout → t + 1 ≤ inf → AreEvents a →
-            SameBag now.now (news t (suc t) a) →
+        ensures swept { OnOk result ((a : List CellEvent) → 1 ≤ self.old.timeout → t + 1 ≤ inf →
+            AreEvents a → SameBag now.now (news t (suc t) a) →
             SessionHeld self.old.rows.key self.old.timeout a t self.old.rows.rows self.old.ends →
-            SessionHeld self.old.rows.key self.old.timeout a (suc t) self.new.rows.rows self.new.ends
-            × Tells (windows self.old.rows.key self.old.timeout a) t (suc t) answer.old.items answer.new.items) }
-        ensures rows { OnOk result ((w : HeldRow → ℕ) → total w self.new.rows.rows ≤ total w self.old.rows.rows
-            + total w (started_rows now.now)) }
+            SessionHeld self.old.rows.key self.old.timeout a
+            (suc t) self.new.rows.rows self.new.ends
+            × Tells (windows self.old.rows.key self.old.timeout a) t
+            (suc t) answer.old.items answer.new.items) }
+        ensures rows { OnOk result ((w : HeldRow → ℕ) →
+            total w self.new.rows.rows ≤ total w self.old.rows.rows + total w
+            (started_rows now.now)) }
         ensures like { IsLike self.old self.new }
     {
         self.end_due(answer, t)?;
@@ -208,12 +221,14 @@ impl Sessions {
         from: Time,
         to: Time,
     ) -> Result<(), Memory>
-        ensures swept { OnOk result ((a : List CellEvent) → 1 ≤ self.old.timeout → IsDue a from to due.now →
-            SessionHeld self.old.rows.key self.old.timeout a from self.old.rows.rows self.old.ends →
-            SessionHeld self.old.rows.key self.old.timeout a to self.new.rows.rows self.new.ends
-            × Tells (windows self.old.rows.key self.old.timeout a) from to answer.old.items answer.new.items) }
-        ensures rows { OnOk result ((w : HeldRow → ℕ) → total w self.new.rows.rows ≤ total w self.old.rows.rows
-            + total w (started_rows due.now)) }
+        ensures swept { OnOk result ((a : List CellEvent) → 1 ≤ self.old.timeout →
+            IsDue a from to due.now → SessionHeld self.old.rows.key self.old.timeout a from
+            self.old.rows.rows self.old.ends → SessionHeld self.old.rows.key self.old.timeout a to
+            self.new.rows.rows self.new.ends × Tells (windows self.old.rows.key self.old.timeout a)
+            from to answer.old.items answer.new.items) }
+        ensures rows { OnOk result ((w : HeldRow → ℕ) →
+            total w self.new.rows.rows ≤ total w self.old.rows.rows + total w
+            (started_rows due.now)) }
         ensures like { IsLike self.old self.new }
     {
         // Its call tells the proof that it is a time.

@@ -26,12 +26,14 @@ pub(crate) fn step_shards<R: Threads + Sync, G: Gate, O: Operator>(
     ensures stepped { (i : ℕ) (d : Shard O) → i < length shards.old →
         HasStepped (O.standing (slice_index_or shards.old i d).operator)
         (O.standing (slice_index_or shards.new i d).operator)
-        (O.keeps (slice_index_or shards.old i d).operator) (O.keeps (slice_index_or shards.new i d).operator)
+        (O.keeps (slice_index_or shards.old i d).operator)
+        (O.keeps (slice_index_or shards.new i d).operator)
         (edges_in_shard cut.now.count cut.now.left_key.now i news.now.left.now.edges)
         (edges_in_shard cut.now.count cut.now.right_key.now i news.now.right.now.edges)
         news.now.left_to news.now.right_to (slice_index_or shards.new i d).answer }
     ensures pools { (i : ℕ) (d : Shard O) → i < length shards.old →
-        (slice_index_or shards.new i d).pools.capacity ≡ (slice_index_or shards.old i d).pools.capacity }
+        (slice_index_or shards.new i d).pools.capacity
+        ≡ (slice_index_or shards.old i d).pools.capacity }
 {
     thread::for_each_mut(
         rt,
@@ -41,11 +43,13 @@ pub(crate) fn step_shards<R: Threads + Sync, G: Gate, O: Operator>(
             requires { CanStep (O.standing shard.old.operator) shard.old.pools.capacity
                 cut.now.count cut.now.left_key.now cut.now.right_key.now
                 news.now.left.now news.now.right.now news.now.left_to news.now.right_to }
-            ensures stepped { HasStepped (O.standing shard.old.operator) (O.standing shard.new.operator)
-                (O.keeps shard.old.operator) (O.keeps shard.new.operator)
-                (edges_in_shard cut.entry.now.count cut.entry.now.left_key.now i news.entry.now.left.now.edges)
-                (edges_in_shard cut.entry.now.count cut.entry.now.right_key.now i news.entry.now.right.now.edges)
-                news.entry.now.left_to news.entry.now.right_to shard.new.answer }
+            ensures stepped { HasStepped (O.standing shard.old.operator)
+                (O.standing shard.new.operator) (O.keeps shard.old.operator)
+                (O.keeps shard.new.operator) (edges_in_shard cut.entry.now.count
+                cut.entry.now.left_key.now i news.entry.now.left.now.edges)
+                (edges_in_shard cut.entry.now.count cut.entry.now.right_key.now i
+                news.entry.now.right.now.edges) news.entry.now.left_to news.entry.now.right_to
+                shard.new.answer }
             ensures pools { shard.new.pools.capacity ≡ shard.old.pools.capacity }
         {
             gate.enter(i);
@@ -70,7 +74,8 @@ pub(crate) fn step_rounds<R: Threads + Sync, G: Gate, O: Operator>(
         (slice_index_or shards.old i d).operator (slice_index_or shards.new i d).operator
         rounds.now (slice_index_or shards.new i d).answers.items }
     ensures pools { (i : ℕ) (d : Shard O) → i < length shards.old →
-        (slice_index_or shards.new i d).pools.capacity ≡ (slice_index_or shards.old i d).pools.capacity }
+        (slice_index_or shards.new i d).pools.capacity
+        ≡ (slice_index_or shards.old i d).pools.capacity }
 {
     thread::for_each_mut(
         rt,

@@ -119,12 +119,15 @@ pub(crate) fn gathered<O: Operator>(
     requires some { 1 ≤ length shards.old }
     requires room { 1 ≤ pools.old.capacity }
     requires alike { (i j : ℕ) (d : Shard O) → i < length shards.old → j < length shards.old →
-        IfOk (slice_index_or shards.old i d).answer (λ a. IfOk (slice_index_or shards.old j d).answer (λ b. cells_of a ≡ cells_of b)) }
+        IfOk (slice_index_or shards.old i d).answer
+        (λ a. IfOk (slice_index_or shards.old j d).answer (λ b. cells_of a ≡ cells_of b)) }
     requires capacities { All (λ s. IfOk s.answer (λ a. a.capacity ≡ s.pools.capacity)) shards.old }
     ensures ok { OnOk result (All (λ s. IsOk s.answer) shards.old) }
-    ensures edges { IfOk result (λ list. SameBag list.edges (flat_map (λ s. edges_answered s.answer) shards.old)) }
+    ensures edges { IfOk result (λ list. SameBag list.edges
+        (flat_map (λ s. edges_answered s.answer) shards.old)) }
     ensures order { IfOk result (λ list. KeepsOrder list.edges) }
-    ensures kinds { IfOk result (λ list. All (λ s. IfOk s.answer (λ a. cells_of list ≡ cells_of a)) shards.old) }
+    ensures kinds { IfOk result (λ list. All
+        (λ s. IfOk s.answer (λ a. cells_of list ≡ cells_of a)) shards.old) }
     ensures capacity { IfOk result (λ list. list.capacity ≡ pools.old.capacity) }
     ensures overflow { IfErr result (λ fault. (time : ℕ) → fault ≡ StepFault.Overflow time →
         IsLeastOverflow time (map (λ s. s.answer) shards.old)) }
@@ -160,9 +163,11 @@ fn merged(alloc: Global, pools: &mut Pools, lists: &[EdgeList]) -> Result<EdgeLi
 
 // Each shard takes for its answer what it answered of the round of that number.
 fn turn_all<O: Operator>(shards: &mut [Shard<O>], round: usize)
-    ensures answers { map (λ s. s.answer) shards.new ≡ map (λ s. answer_at s.answers.items round) shards.old }
+    ensures answers { map (λ s. s.answer) shards.new ≡ map
+        (λ s. answer_at s.answers.items round) shards.old }
     ensures later { (k n : ℕ) (d : Shard O) → k < length shards.old → round < n →
-        answer_at (slice_index_or shards.new k d).answers.items n ≡ answer_at (slice_index_or shards.old k d).answers.items n }
+        answer_at (slice_index_or shards.new k d).answers.items n
+        ≡ answer_at (slice_index_or shards.old k d).answers.items n }
     ensures operators { operators_of shards.new ≡ operators_of shards.old }
     ensures capacities { rooms_of shards.new ≡ rooms_of shards.old }
 {
@@ -181,13 +186,16 @@ pub(crate) fn gathered_rounds<O: Operator>(
     requires some { 1 ≤ length shards.old }
     requires rounds { 1 ≤ count }
     requires room { 1 ≤ pools.old.capacity }
-    requires alike { (n i j : ℕ) (d : Shard O) → n < count → i < length shards.old → j < length shards.old →
-        IfOk (answer_at (slice_index_or shards.old i d).answers.items n) (λ a.
-        IfOk (answer_at (slice_index_or shards.old j d).answers.items n) (λ b. cells_of a ≡ cells_of b)) }
+    requires alike { (n i j : ℕ) (d : Shard O) → n < count → i < length shards.old →
+        j < length shards.old → IfOk (answer_at (slice_index_or shards.old i d).answers.items n)
+        (λ a. IfOk (answer_at (slice_index_or shards.old j d).answers.items n)
+        (λ b. cells_of a ≡ cells_of b)) }
     requires capacities { (n : ℕ) → n < count →
-        All (λ s. IfOk (answer_at s.answers.items n) (λ a. a.capacity ≡ s.pools.capacity)) shards.old }
-    ensures gathered { (n : ℕ) → n < length (told result.answers.items result.fault) → IsGathered pools.old.capacity
-        (map (λ s. answer_at s.answers.items n) shards.old) (answer_at (told result.answers.items result.fault) n) }
+        All (λ s. IfOk (answer_at s.answers.items n)
+        (λ a. a.capacity ≡ s.pools.capacity)) shards.old }
+    ensures gathered { (n : ℕ) → n < length (told result.answers.items result.fault) →
+        IsGathered pools.old.capacity (map (λ s. answer_at s.answers.items n) shards.old)
+        (answer_at (told result.answers.items result.fault) n) }
     ensures all { IfNone result.fault (length result.answers.items ≡ count) }
     ensures few { IfSome result.fault (λ fault. length result.answers.items < count) }
     ensures operators { operators_of shards.new ≡ operators_of shards.old }

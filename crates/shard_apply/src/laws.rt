@@ -14,14 +14,16 @@ impl<O: Operator> Sharded<O> {
     /// stands, read, for the events of its node. A table that grows changes nothing of what it keeps. It keeps no more entries
     /// than its node may. A call does nothing but tell a proof of this.
     pub fn laws()
-        ensures fresh { (w : Whole O) → AreNew O.is_opening O.standing w → IsFresh (standing_in O.standing w) }
+        ensures fresh { (w : Whole O) → AreNew O.is_opening O.standing w →
+            IsFresh (standing_in O.standing w) }
         ensures opens { (w : Whole O) (texts : List (List ℕ)) → AreNew O.is_opening O.standing w →
             ShardsKeep O.standing O.keeps w texts [] [] [] }
         ensures stands { (w : Whole O) (texts : List (List ℕ)) (hl hr out : List Edge) →
             AreDistinct texts → ShardsKeep O.standing O.keeps w texts hl hr out →
             StandsFor (standing_in O.standing w) texts hl hr out }
-        ensures grows { (w : Whole O) (new old : List (List ℕ)) (hl hr out : List Edge) → BeginsWith new old →
-            ShardsKeep O.standing O.keeps w old hl hr out → ShardsKeep O.standing O.keeps w new hl hr out }
+        ensures grows { (w : Whole O) (new old : List (List ℕ)) (hl hr out : List Edge) →
+            BeginsWith new old → ShardsKeep O.standing O.keeps w old hl hr out →
+            ShardsKeep O.standing O.keeps w new hl hr out }
         ensures bounded { (w : Whole O) (texts : List (List ℕ)) (hl hr out : List Edge) →
             ShardsKeep O.standing O.keeps w texts hl hr out →
             entries_in O.entries w ≤ most_entries (standing_in O.standing w) hl hr }

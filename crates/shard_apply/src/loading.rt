@@ -31,12 +31,14 @@ impl<O: Operator> Sharded<O> {
     pub fn load(&mut self, saved: &[Saved], left_to: Time, right_to: Time) -> Result<(), LoadFault>
         requires opening { AreNew O.is_opening O.standing self.old }
         requires many { length saved.now ≡ length self.old.operators }
-        ensures resumed { OnOk result (Implies (ShardsResume O.standing O.resumes self.old saved.now left_to right_to)
+        ensures resumed { OnOk result
+            (Implies (ShardsResume O.standing O.resumes self.old saved.now left_to right_to)
             (ShardsKeep O.standing O.keeps self.new)) }
         ensures sound { OnOk result (AreSound O.sound self.old saved.now left_to right_to) }
         ensures own { OnOk result (AreOwn O.row_of_part self.old saved.now) }
         ensures refused { IfErr result (λ fault. fault ≡ LoadFault.NotState →
-            AreSound O.sound self.old saved.now left_to right_to → AreOwn O.row_of_part self.old saved.now → ⊥) }
+            AreSound O.sound self.old saved.now left_to right_to →
+            AreOwn O.row_of_part self.old saved.now → ⊥) }
         ensures left_to { OnOk result ((standing_in O.standing self.new).left_closed ≡ left_to) }
         ensures right_to { OnOk result ((standing_in O.standing self.new).right_closed ≡ right_to) }
         ensures failed { (standing_in O.standing self.new).has_failed ≡ is_err result }
@@ -60,7 +62,8 @@ impl<O: Operator> Sharded<O> {
     pub fn are_own(&self, saved: &[Saved]) -> Result<bool, Memory>
         requires works { self.now.failed ≡ false }
         requires many { length saved.now ≡ length self.now.operators }
-        ensures in_step { AreInStep (map O.standing self.now.operators) self.now.left_key self.now.right_key }
+        ensures in_step { AreInStep
+            (map O.standing self.now.operators) self.now.left_key self.now.right_key }
         ensures own { IfOk result (λ own. IsTrue own ↔ AreOwn O.row_of_part self.now saved.now) }
     {
         let first = columns_below(self.alloc, self.left_key.len())?;
@@ -92,20 +95,25 @@ fn load_shards<O: Operator>(
     requires some { 1 ≤ length shards.old }
     requires opening { All (λ s. O.is_opening s.operator) shards.old }
     requires many { length saved.now ≡ length shards.old }
-    ensures loaded { OnOk result ((i : ℕ) (d : Shard O) (e : List SavedEntry) → i < length shards.old →
-        HasLoaded (O.resumes (slice_index_or shards.old i d).operator (slice_index_or saved.now i e) left_to right_to)
+    ensures loaded { OnOk result ((i : ℕ) (d : Shard O) (e : List SavedEntry) →
+        i < length shards.old → HasLoaded (O.resumes (slice_index_or shards.old i d).operator
+        (slice_index_or saved.now i e) left_to right_to)
         (O.keeps (slice_index_or shards.new i d).operator)
-        (O.sound (slice_index_or shards.old i d).operator (slice_index_or saved.now i e) left_to right_to)
-        (AreRowsOf O.row_of_part (length shards.old) left_key.now right_key.now (range_with_len 0 (length left_key.now))
-        i (slice_index_or saved.now i e)) (O.standing (slice_index_or shards.new i d).operator) left_to right_to) }
+        (O.sound (slice_index_or shards.old i d).operator
+        (slice_index_or saved.now i e) left_to right_to)
+        (AreRowsOf O.row_of_part (length shards.old) left_key.now right_key.now
+        (range_with_len 0 (length left_key.now)) i (slice_index_or saved.now i e))
+        (O.standing (slice_index_or shards.new i d).operator) left_to right_to) }
     ensures refused { IfErr result (λ fault. fault ≡ LoadFault.NotState →
         ((i : ℕ) (d : Shard O) (e : List SavedEntry) → i < length shards.old →
-        O.sound (slice_index_or shards.old i d).operator (slice_index_or saved.now i e) left_to right_to) →
+        O.sound (slice_index_or shards.old i d).operator
+        (slice_index_or saved.now i e) left_to right_to) →
         ((i : ℕ) (e : List SavedEntry) → i < length shards.old →
-        AreRowsOf O.row_of_part (length shards.old) left_key.now right_key.now (range_with_len 0 (length left_key.now))
-        i (slice_index_or saved.now i e)) → ⊥) }
+        AreRowsOf O.row_of_part (length shards.old) left_key.now right_key.now
+        (range_with_len 0 (length left_key.now)) i (slice_index_or saved.now i e)) → ⊥) }
     ensures like { (i : ℕ) (d : Shard O) → i < length shards.old →
-        IsLike (O.standing (slice_index_or shards.old i d).operator) (O.standing (slice_index_or shards.new i d).operator) }
+        IsLike (O.standing (slice_index_or shards.old i d).operator)
+        (O.standing (slice_index_or shards.new i d).operator) }
     ensures capacities { rooms_of shards.new ≡ rooms_of shards.old }
 {
     let Ok(first) = columns_below(alloc, left_key.len()) else {
@@ -147,13 +155,15 @@ fn load_shard<O: Operator>(
 ) -> Result<(), LoadFault>
     requires opening { O.is_opening shard.old.operator }
     requires count { 1 ≤ keys.now.count }
-    ensures loaded { OnOk result (HasLoaded (O.resumes shard.old.operator saved.now left_to right_to)
-        (O.keeps shard.new.operator) (O.sound shard.old.operator saved.now left_to right_to)
-        (AreRowsOf O.row_of_part keys.now.count keys.now.left.now keys.now.right.now keys.now.first.now number saved.now)
-        (O.standing shard.new.operator) left_to right_to) }
+    ensures loaded { OnOk result (HasLoaded
+        (O.resumes shard.old.operator saved.now left_to right_to) (O.keeps shard.new.operator)
+        (O.sound shard.old.operator saved.now left_to right_to)
+        (AreRowsOf O.row_of_part keys.now.count keys.now.left.now keys.now.right.now
+        keys.now.first.now number saved.now) (O.standing shard.new.operator) left_to right_to) }
     ensures refused { IfErr result (λ fault. fault ≡ LoadFault.NotState →
         O.sound shard.old.operator saved.now left_to right_to →
-        AreRowsOf O.row_of_part keys.now.count keys.now.left.now keys.now.right.now keys.now.first.now number saved.now → ⊥) }
+        AreRowsOf O.row_of_part keys.now.count keys.now.left.now keys.now.right.now
+        keys.now.first.now number saved.now → ⊥) }
     ensures like { IsLike (O.standing shard.old.operator) (O.standing shard.new.operator) }
     ensures capacity { shard.new.pools.capacity ≡ shard.old.pools.capacity }
 {
@@ -166,7 +176,8 @@ fn load_shard<O: Operator>(
 // Whether all entries are of rows of the shard of that number.
 fn are_rows_of<O: Operator>(saved: &Saved, number: usize, keys: &RowKeys<'_>) -> bool
     requires { 1 ≤ keys.now.count }
-    ensures { IsTrue result ↔ AreRowsOf O.row_of_part keys.now.count keys.now.left.now keys.now.right.now keys.now.first.now number saved.now }
+    ensures { IsTrue result ↔ AreRowsOf O.row_of_part keys.now.count keys.now.left.now
+        keys.now.right.now keys.now.first.now number saved.now }
 {
     for entry in saved.entries() {
         if !is_row_of_shard::<O>(entry, number, keys) {
@@ -179,8 +190,8 @@ fn are_rows_of<O: Operator>(saved: &Saved, number: usize, keys: &RowKeys<'_>) ->
 // Whether the entry is of a row of the shard of that number.
 fn is_row_of_shard<O: Operator>(entry: &SavedEntry, number: usize, keys: &RowKeys<'_>) -> bool
     requires { 1 ≤ keys.now.count }
-    ensures { result ≡ is_row_of keys.now.count keys.now.left.now keys.now.right.now keys.now.first.now number
-        entry.now.cells (O.row_of_part entry.now.part) }
+    ensures { result ≡ is_row_of keys.now.count keys.now.left.now keys.now.right.now
+        keys.now.first.now number entry.now.cells (O.row_of_part entry.now.part) }
 {
     match O::part_row(entry.part) {
         None => false,

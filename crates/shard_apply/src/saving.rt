@@ -15,12 +15,16 @@ impl<O: Operator> Sharded<O> {
     pub fn save(&self) -> Result<Vec<Saved>, Memory>
         requires { (standing_in O.standing self.now).has_failed ≡ false }
         ensures many { IfOk result (λ saved. length saved.items ≡ length self.now.operators) }
-        ensures few { IfOk result (λ saved. total length saved.items ≤ entries_in O.entries self.now) }
+        ensures few { IfOk result
+            (λ saved. total length saved.items ≤ entries_in O.entries self.now) }
         ensures sound { IfOk result (λ saved. AreSound O.sound self.now saved.items
-            (standing_in O.standing self.now).left_closed (standing_in O.standing self.now).right_closed) }
-        ensures resumes { IfOk result (λ saved. Implies (ShardsKeep O.standing O.keeps self.now)
+            (standing_in O.standing self.now).left_closed
+            (standing_in O.standing self.now).right_closed) }
+        ensures resumes { IfOk result (λ saved.
+            Implies (ShardsKeep O.standing O.keeps self.now)
             (ShardsResume O.standing O.resumes self.now saved.items
-            (standing_in O.standing self.now).left_closed (standing_in O.standing self.now).right_closed)) }
+            (standing_in O.standing self.now).left_closed
+            (standing_in O.standing self.now).right_closed)) }
     {
         let mut saved = Vec::with_capacity(self.alloc, self.shards.len())?;
         for shard in &self.shards {

@@ -49,7 +49,8 @@ fn part_of(
     requires pools { pools.old.capacity ≡ list.now.capacity }
     requires count { 1 ≤ count }
     requires key { All (λ column. column < length list.now.kinds) key.now }
-    ensures edges { IfOk result (λ part. part.edges ≡ edges_in_shard count key.now number list.now.edges) }
+    ensures edges { IfOk result (λ part. part.edges
+        ≡ edges_in_shard count key.now number list.now.edges) }
     ensures kinds { IfOk result (λ part. part.kinds ≡ list.now.kinds) }
     ensures capacity { IfOk result (λ part. part.capacity ≡ list.now.capacity) }
     ensures pools { pools.new.capacity ≡ pools.old.capacity }
@@ -127,9 +128,9 @@ impl<O: Operator> Shard<O> {
     ) -> Vec<Result<EdgeList, StepFault>>
         requires can { CanStepAll (O.standing self.old.operator) self.old.pools.capacity
             cut.now.count cut.now.left_key.now cut.now.right_key.now rounds.now }
-        ensures leads { LeadsOver
-            (TakesPart O.standing O.keeps cut.now.count cut.now.left_key.now cut.now.right_key.now number)
-            self.old.operator self.new.operator rounds.now result.items }
+        ensures leads { LeadsOver (TakesPart O.standing O.keeps cut.now.count cut.now.left_key.now
+            cut.now.right_key.now number) self.old.operator self.new.operator rounds.now
+            result.items }
         ensures pools { self.new.pools.capacity ≡ self.old.pools.capacity }
     {
         let Ok(mut answers) = Vec::with_capacity(alloc, rounds.len()) else {
@@ -155,7 +156,8 @@ impl<O: Operator> Shard<O> {
     /// Takes for its answer what it answered of the round of that number; where it answered nothing of it, it wants memory.
     pub(crate) fn turn_to(&mut self, round: usize)
         ensures answer { self.new.answer ≡ answer_at self.old.answers.items round }
-        ensures later { (n : ℕ) → round < n → answer_at self.new.answers.items n ≡ answer_at self.old.answers.items n }
+        ensures later { (n : ℕ) → round < n → answer_at self.new.answers.items n
+            ≡ answer_at self.old.answers.items n }
         ensures operator { self.new.operator ≡ self.old.operator }
         ensures pools { self.new.pools ≡ self.old.pools }
     {

@@ -70,10 +70,13 @@ fn add_shard<O: Operator>(
 )
     requires some { 0 < vec_len pools.old }
     requires room { vec_len shards.old < vec_capacity shards.old }
-    ensures operators { operators_of shards.new.items ≡ operators_of shards.old.items ++ operator ∷ [] }
+    ensures operators { operators_of shards.new.items ≡ operators_of shards.old.items
+        ++ operator ∷ [] }
     ensures capacities { (n : ℕ) → All (λ p. p.capacity ≡ n) pools.old.items →
-        All (λ s. s.pools.capacity ≡ n) shards.old.items → All (λ s. s.pools.capacity ≡ n) shards.new.items }
-    ensures pools { (n : ℕ) → All (λ p. p.capacity ≡ n) pools.old.items → All (λ p. p.capacity ≡ n) pools.new.items }
+        All (λ s. s.pools.capacity ≡ n) shards.old.items →
+        All (λ s. s.pools.capacity ≡ n) shards.new.items }
+    ensures pools { (n : ℕ) → All (λ p. p.capacity ≡ n) pools.old.items →
+        All (λ p. p.capacity ≡ n) pools.new.items }
     ensures fewer { vec_len pools.new + 1 ≡ vec_len pools.old }
     ensures more { vec_len shards.new ≡ vec_len shards.old + 1 }
     ensures capacity { vec_capacity shards.new ≡ vec_capacity shards.old }
@@ -102,8 +105,10 @@ impl<O: Operator> Sharded<O> {
         requires opening { All O.is_opening shards.items }
         requires in_step { AreInStep (map O.standing shards.items) left_key.now right_key.now }
         requires many { length pools.items ≡ length shards.items }
-        requires capacities { All (λ p. p.capacity ≡ (first_of (map O.standing shards.items)).batch_rows) pools.items }
-        ensures whole { IfOk result (λ w. w ≡ side_by_side shards.items left_key.now right_key.now false) }
+        requires capacities { All (λ p. p.capacity
+            ≡ (first_of (map O.standing shards.items)).batch_rows) pools.items }
+        ensures whole { IfOk result
+            (λ w. w ≡ side_by_side shards.items left_key.now right_key.now false) }
         ensures opening { IfOk result (AreNew O.is_opening O.standing) }
     {
         Ok(Sharded {

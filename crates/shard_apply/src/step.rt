@@ -56,7 +56,8 @@ impl<O: Operator> Sharded<O> {
             (ShardsKeep O.standing O.keeps self.old) left.edges left_to right_to (Some time)) }
         ensures group { IfErr result (λ fault. (time : ℕ) → fault ≡ StepFault.Overflow time →
             is_group (standing_in O.standing self.old).node ≡ true) }
-        ensures kinds { IfOk result (λ answer. cells_of answer ≡ (standing_in O.standing self.old).own_kinds) }
+        ensures kinds { IfOk result (λ answer. cells_of answer
+            ≡ (standing_in O.standing self.old).own_kinds) }
         ensures capacity { IfOk result (λ answer.
             answer.capacity ≡ (standing_in O.standing self.old).batch_rows) }
         ensures pools { pools.new.capacity ≡ pools.old.capacity }
@@ -85,11 +86,13 @@ impl<O: Operator> Sharded<O> {
         left_to: Time,
         right_to: Time,
     ) -> Result<EdgeList, StepFault>
-        requires can { CanTake (standing_in O.standing self.old) pools.old.capacity left right left_to right_to }
+        requires can { CanTake
+            (standing_in O.standing self.old) pools.old.capacity left right left_to right_to }
         requires one { length self.old.operators ≡ 1 }
-        ensures stepped { HasStepped (standing_in O.standing self.old) (standing_in O.standing self.new)
-            (ShardsKeep O.standing O.keeps self.old) (ShardsKeep O.standing O.keeps self.new)
-            left.edges right.edges left_to right_to result }
+        ensures stepped { HasStepped (standing_in O.standing self.old)
+            (standing_in O.standing self.new) (ShardsKeep O.standing O.keeps self.old)
+            (ShardsKeep O.standing O.keeps self.new) left.edges right.edges left_to right_to result
+            }
         ensures failed { (standing_in O.standing self.new).has_failed ≡ is_err result }
         ensures pools { pools.new.capacity ≡ pools.old.capacity }
         ensures limit { pools.new.limit ≡ pools.old.limit }
@@ -115,10 +118,12 @@ impl<O: Operator> Sharded<O> {
         left_to: Time,
         right_to: Time,
     ) -> Result<EdgeList, StepFault>
-        requires can { CanTake (standing_in O.standing self.old) pools.old.capacity left.now right.now left_to right_to }
-        ensures stepped { HasStepped (standing_in O.standing self.old) (standing_in O.standing self.new)
-            (ShardsKeep O.standing O.keeps self.old) (ShardsKeep O.standing O.keeps self.new)
-            left.now.edges right.now.edges left_to right_to result }
+        requires can { CanTake (standing_in O.standing self.old) pools.old.capacity left.now
+            right.now left_to right_to }
+        ensures stepped { HasStepped (standing_in O.standing self.old)
+            (standing_in O.standing self.new) (ShardsKeep O.standing O.keeps self.old)
+            (ShardsKeep O.standing O.keeps self.new) left.now.edges right.now.edges left_to right_to
+            result }
         ensures failed { (standing_in O.standing self.new).has_failed ≡ is_err result }
         ensures pools { pools.new.capacity ≡ pools.old.capacity }
         ensures limit { pools.new.limit ≡ pools.old.limit }

@@ -30,11 +30,13 @@ impl<O: Operator> Sharded<O> {
         rounds: Vec<Round>,
     ) -> Steps
         requires works { (standing_in O.standing self.old).has_failed ≡ false }
-        requires can { CanTakeAll (standing_in O.standing self.old) pools.old.capacity rounds.items }
-        ensures over { GoesOver (standing_in O.standing) (ShardsKeep O.standing O.keeps) self.old self.new
-            rounds.items result.answers.items result.fault }
+        requires can { CanTakeAll
+            (standing_in O.standing self.old) pools.old.capacity rounds.items }
+        ensures over { GoesOver (standing_in O.standing) (ShardsKeep O.standing O.keeps) self.old
+            self.new rounds.items result.answers.items result.fault }
         ensures all { IfNone result.fault (length result.answers.items ≡ length rounds.items) }
-        ensures few { IfSome result.fault (λ fault. length result.answers.items < length rounds.items) }
+        ensures few { IfSome result.fault (λ fault.
+            length result.answers.items < length rounds.items) }
         ensures pools { pools.new.capacity ≡ pools.old.capacity }
         ensures limit { pools.new.limit ≡ pools.old.limit }
         ensures failed { (standing_in O.standing self.new).has_failed ≡ is_some result.fault }
@@ -59,13 +61,15 @@ impl<O: Operator> Sharded<O> {
     // The rounds of a node in one shard, which takes all edges.
     fn steps_alone(&mut self, pools: &mut Pools, rounds: Vec<Round>) -> Steps
         requires works { (standing_in O.standing self.old).has_failed ≡ false }
-        requires can { CanTakeAll (standing_in O.standing self.old) pools.old.capacity rounds.items }
+        requires can { CanTakeAll
+            (standing_in O.standing self.old) pools.old.capacity rounds.items }
         requires some { 1 ≤ length rounds.items }
         requires one { length self.old.operators ≡ 1 }
-        ensures over { GoesOver (standing_in O.standing) (ShardsKeep O.standing O.keeps) self.old self.new
-            rounds.items result.answers.items result.fault }
+        ensures over { GoesOver (standing_in O.standing) (ShardsKeep O.standing O.keeps) self.old
+            self.new rounds.items result.answers.items result.fault }
         ensures all { IfNone result.fault (length result.answers.items ≡ length rounds.items) }
-        ensures few { IfSome result.fault (λ fault. length result.answers.items < length rounds.items) }
+        ensures few { IfSome result.fault (λ fault.
+            length result.answers.items < length rounds.items) }
         ensures pools { pools.new.capacity ≡ pools.old.capacity }
         ensures limit { pools.new.limit ≡ pools.old.limit }
         ensures failed { (standing_in O.standing self.new).has_failed ≡ is_some result.fault }
@@ -113,10 +117,11 @@ impl<O: Operator> Sharded<O> {
         requires works { (standing_in O.standing self.old).has_failed ≡ false }
         requires can { CanTakeAll (standing_in O.standing self.old) pools.old.capacity rounds.now }
         requires some { 1 ≤ length rounds.now }
-        ensures over { GoesOver (standing_in O.standing) (ShardsKeep O.standing O.keeps) self.old self.new
-            rounds.now result.answers.items result.fault }
+        ensures over { GoesOver (standing_in O.standing) (ShardsKeep O.standing O.keeps) self.old
+            self.new rounds.now result.answers.items result.fault }
         ensures all { IfNone result.fault (length result.answers.items ≡ length rounds.now) }
-        ensures few { IfSome result.fault (λ fault. length result.answers.items < length rounds.now) }
+        ensures few { IfSome result.fault (λ fault.
+            length result.answers.items < length rounds.now) }
         ensures pools { pools.new.capacity ≡ pools.old.capacity }
         ensures limit { pools.new.limit ≡ pools.old.limit }
         ensures failed { (standing_in O.standing self.new).has_failed ≡ is_some result.fault }

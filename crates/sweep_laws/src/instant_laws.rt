@@ -10,15 +10,16 @@ ghost use Rattle.sweep_laws.specs.Sweeps.{is_at, IsPast, SyncsRise, IsDue, HeadF
 /// Where the news of events are a list whose first edges are those of one instant and whose others come later, the first
 /// are the news of that instant, there are none before it, and the others are the news after it.
 pub fn edges_of_one_instant_come_first()
-    ensures now { (events : List CellEvent) (from t to : ℕ) (now rest : List Edge) → from ≤ t → t < to →
-        failing (is_at t) now ≡ 0 → failing (is_from (suc t)) rest ≡ 0 → SameBag (now ++ rest) (news from to events) →
-        SameBag now (news t (suc t) events) }
-    ensures before { (events : List CellEvent) (from t to : ℕ) (now rest : List Edge) → from ≤ t → t < to →
-        failing (is_at t) now ≡ 0 → failing (is_from (suc t)) rest ≡ 0 → SameBag (now ++ rest) (news from to events) →
-        (w : Edge → ℕ) → total w (news from t events) ≡ 0 }
-    ensures rest { (events : List CellEvent) (from t to : ℕ) (now rest : List Edge) → from ≤ t → t < to →
-        failing (is_at t) now ≡ 0 → failing (is_from (suc t)) rest ≡ 0 → SameBag (now ++ rest) (news from to events) →
-        SameBag rest (news (suc t) to events) }
+    ensures now { (events : List CellEvent) (from t to : ℕ) (now rest : List Edge) → from ≤ t →
+        t < to → failing (is_at t) now ≡ 0 → failing (is_from (suc t)) rest ≡ 0 →
+        SameBag (now ++ rest) (news from to events) → SameBag now (news t (suc t) events) }
+    ensures before { (events : List CellEvent) (from t to : ℕ) (now rest : List Edge) → from ≤ t →
+        t < to → failing (is_at t) now ≡ 0 → failing (is_from (suc t)) rest ≡ 0 →
+        SameBag (now ++ rest) (news from to events) → (w : Edge → ℕ) →
+        total w (news from t events) ≡ 0 }
+    ensures rest { (events : List CellEvent) (from t to : ℕ) (now rest : List Edge) → from ≤ t →
+        t < to → failing (is_at t) now ≡ 0 → failing (is_from (suc t)) rest ≡ 0 →
+        SameBag (now ++ rest) (news from to events) → SameBag rest (news (suc t) to events) }
     ensures order { (es : List Edge) → Rises 0 es → SyncsRise 0 es }
 {}
 
@@ -29,13 +30,16 @@ pub fn sides_go_on_to_the_next_instant()
         IsDue a from to left → IsDue b from to right → IsNext t left right → (from ≤ t) × (t < to) }
     ensures some { (t n m : ℕ) (left right : List Edge) → IsNext t left right →
         IsPast t (drop n left) → IsPast t (drop m right) → 1 ≤ n + m }
-    ensures now { (events : List CellEvent) (from t to n : ℕ) (rest : List Edge) → IsDue events from to rest →
-        from ≤ t → t < to → HeadFrom t rest → failing (is_at t) (take n rest) ≡ 0 → IsPast t (drop n rest) →
+    ensures now { (events : List CellEvent) (from t to n : ℕ) (rest : List Edge) →
+        IsDue events from to rest → from ≤ t → t < to → HeadFrom t rest →
+        failing (is_at t) (take n rest) ≡ 0 → IsPast t (drop n rest) →
         SameBag (take n rest) (news t (suc t) events) }
-    ensures before { (events : List CellEvent) (from t to n : ℕ) (rest : List Edge) → IsDue events from to rest →
-        from ≤ t → t < to → HeadFrom t rest → failing (is_at t) (take n rest) ≡ 0 → IsPast t (drop n rest) →
-        (w : Edge → ℕ) → total w (news from t events) ≡ 0 }
-    ensures rest { (events : List CellEvent) (from t to n : ℕ) (rest : List Edge) → IsDue events from to rest →
-        from ≤ t → t < to → HeadFrom t rest → failing (is_at t) (take n rest) ≡ 0 → IsPast t (drop n rest) →
+    ensures before { (events : List CellEvent) (from t to n : ℕ) (rest : List Edge) →
+        IsDue events from to rest → from ≤ t → t < to → HeadFrom t rest →
+        failing (is_at t) (take n rest) ≡ 0 → IsPast t (drop n rest) → (w : Edge → ℕ) →
+        total w (news from t events) ≡ 0 }
+    ensures rest { (events : List CellEvent) (from t to n : ℕ) (rest : List Edge) →
+        IsDue events from to rest → from ≤ t → t < to → HeadFrom t rest →
+        failing (is_at t) (take n rest) ≡ 0 → IsPast t (drop n rest) →
         IsDue events (suc t) to (drop n rest) }
 {}

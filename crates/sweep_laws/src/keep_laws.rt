@@ -13,13 +13,15 @@ ghost use Rattle.sweep_laws.specs.Antijoining.{Judging};
 /// What is kept of sessions, clips and anti-joins at a time is right for all events of which the same is known below it: the
 /// edges that come later do not touch it.
 pub fn kept_rows_stay_right<K>()
-    ensures sessions { (key : List Datum → K) (same : K → K → Bool) (timeout c : ℕ) (a b : List CellEvent)
-        (rows : List HeldRow) (last : K → Option ℕ) → 1 ≤ timeout → Known c a b →
-        Sessioning key same timeout a c rows last → Sessioning key same timeout b c rows last }
-    ensures clips { (meets : List Datum → List Datum → Bool) (c : ℕ) (a a2 b b2 : List CellEvent) (rows : List HeldRow) →
-        Known c a a2 → Known c b b2 →
+    ensures sessions { (key : List Datum → K) (same : K → K → Bool) (timeout c : ℕ)
+        (a b : List CellEvent) (rows : List HeldRow) (last : K → Option ℕ) → 1 ≤ timeout →
+        Known c a b → Sessioning key same timeout a c rows last →
+        Sessioning key same timeout b c rows last }
+    ensures clips { (meets : List Datum → List Datum → Bool) (c : ℕ) (a a2 b b2 : List CellEvent)
+        (rows : List HeldRow) → Known c a a2 → Known c b b2 →
         SameBag rows (opens c (clipped meets a b)) → SameBag rows (opens c (clipped meets a2 b2)) }
-    ensures antis { (key : List Datum → K) (meets : List Datum → List Datum → Bool) (c : ℕ) (a a2 b b2 : List CellEvent)
-        (left right : List HeldRow) (status : K → Option ℕ) → Known c a a2 → Known c b b2 →
-        Judging key meets a b c left right status → Judging key meets a2 b2 c left right status }
+    ensures antis { (key : List Datum → K) (meets : List Datum → List Datum → Bool) (c : ℕ)
+        (a a2 b b2 : List CellEvent) (left right : List HeldRow) (status : K → Option ℕ) →
+        Known c a a2 → Known c b b2 → Judging key meets a b c left right status →
+        Judging key meets a2 b2 c left right status }
 {}

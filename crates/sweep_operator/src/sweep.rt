@@ -67,10 +67,11 @@ pub trait Sweep: Drop {
     ) -> Result<Vec<Edge>, Memory>
         requires rises { from ≤ to }
         requires low { to ≤ inf }
-        ensures kept { IfOk result (λ told. (x y : ℕ) (hl hr out : List Edge) → from ≡ node_closes (node self.old) x y →
-            keeps self.old from hl hr out → ComeOn x y hl hr left.now.edges right.now.edges →
-            HasSwept (node self.old) (keeps self.new) from to
-            (hl ++ left.now.edges) (hr ++ right.now.edges) out told.items) }
+        ensures kept { IfOk result (λ told. (x y : ℕ) (hl hr out : List Edge) →
+            from ≡ node_closes (node self.old) x y → keeps self.old from hl hr out →
+            ComeOn x y hl hr left.now.edges right.now.edges →
+            HasSwept (node self.old) (keeps self.new) from to (hl ++ left.now.edges)
+            (hr ++ right.now.edges) out told.items) }
         ensures fits { OnOk result (fits (cells_of left.now) (cells_of right.now) from self.old →
             fits (cells_of left.now) (cells_of right.now) to self.new) }
         ensures node { node self.new ≡ node self.old };
@@ -98,14 +99,16 @@ pub trait Sweep: Drop {
         requires { is_empty self.old }
         ensures resumed { OnOk result ((hl hr out : List Edge) →
             resumes self.old saved.now to hl hr out → keeps self.new to hl hr out) }
-        ensures sound { OnOk result (
-            sound self.old (map cell_kind_of left_kinds.now) (map cell_kind_of right_kinds.now) to saved.now) }
+        ensures sound { OnOk result (sound self.old (map cell_kind_of left_kinds.now)
+            (map cell_kind_of right_kinds.now) to saved.now) }
         ensures fits { OnOk result (
             fits (map cell_kind_of left_kinds.now) (map cell_kind_of right_kinds.now) to self.new) }
         ensures refused { IfErr result (λ fault. fault ≡ LoadFault.NotState →
-            sound self.old (map cell_kind_of left_kinds.now) (map cell_kind_of right_kinds.now) to saved.now → ⊥) }
+            sound self.old (map cell_kind_of left_kinds.now)
+            (map cell_kind_of right_kinds.now) to saved.now → ⊥) }
         ensures memory { IfErr result (λ fault. fault ≡ LoadFault.Memory →
-            stored self.old (map cell_kind_of left_kinds.now) (map cell_kind_of right_kinds.now) to saved.now) }
+            stored self.old (map cell_kind_of left_kinds.now)
+            (map cell_kind_of right_kinds.now) to saved.now) }
         ensures empty { OnErr result (is_empty self.new) }
         ensures node { node self.new ≡ node self.old };
 
@@ -122,12 +125,13 @@ pub trait Sweep: Drop {
         ensures empty { (s : Self) (l r : List CellKind) (to : ℕ) → is_empty s → fits l r to s }
         ensures tells { (s : Self) (to : ℕ) (hl hr out : List Edge) → keeps s to hl hr out →
             Told to out (told_events (node s) hl hr) }
-        ensures cells { (s : Self) (l r : List CellKind) (a b : List CellEvent) → AreStored l a → AreStored r b →
-            AreStored (node_kinds (node s) l r) (node_in plain_cells (node s) a b) }
+        ensures cells { (s : Self) (l r : List CellKind) (a b : List CellEvent) → AreStored l a →
+            AreStored r b → AreStored (node_kinds (node s) l r) (node_in plain_cells (node s) a b) }
         ensures plain { (s : Self) → has_expressions (node s) ≡ false }
         ensures defined { (s : Self) → is_group (node s) ≡ false }
-        ensures bounded { (s : Self) (x y : ℕ) (hl hr out : List Edge) → IsHistory hl → IsHistory hr →
-            keeps s (node_closes (node s) x y) hl hr out → entries s ≤ may_keep (node s) x y hl hr }
+        ensures bounded { (s : Self) (x y : ℕ) (hl hr out : List Edge) → IsHistory hl →
+            IsHistory hr → keeps s (node_closes (node s) x y) hl hr out →
+            entries s ≤ may_keep (node s) x y hl hr }
         ensures rows { (s : Self) (st : Standing) (saved : List SavedEntry) (to : ℕ) →
             sound s st.left_kinds st.right_kinds to saved → AreStoredAs row_of_part st saved };
 }

@@ -48,7 +48,8 @@ impl<S: Sweep> Swept<S> {
     ) -> Result<Swept<S>, Memory>
         requires empty { S.is_empty sweep }
         requires kinds { map cell_kind_of own_kinds.now
-            ≡ node_kinds (S.node sweep) (map cell_kind_of left_kinds.now) (map cell_kind_of right_kinds.now) }
+            ≡ node_kinds (S.node sweep) (map cell_kind_of left_kinds.now)
+            (map cell_kind_of right_kinds.now) }
         requires width { length own_kinds.now ≤ 32 }
         requires room { 1 ≤ capacity }
         ensures stands { IfOk result (λ o. standing o
@@ -89,8 +90,10 @@ impl<S: Sweep> Swept<S> {
         ensures kept { IfOk result (λ answer. StaysKept (standing self.old)
             (IsKept self.old) (IsKept self.new) left.edges right.edges answer.edges) }
         ensures between { IfOk result (λ answer.
-            AnswersBetween (standing self.old) left.edges right.edges left_to right_to answer.edges) }
-        ensures kinds { IfOk result (λ answer. cells_of answer ≡ map cell_kind_of self.old.own_kinds.items) }
+            AnswersBetween (standing self.old) left.edges right.edges left_to right_to answer.edges)
+            }
+        ensures kinds { IfOk result (λ answer. cells_of answer
+            ≡ map cell_kind_of self.old.own_kinds.items) }
         ensures capacity { IfOk result (λ answer. answer.capacity ≡ self.old.capacity) }
         ensures given { IfOk result (λ answer. pools.new ≡ batches_taken answer.batches
             (both_given left right pools.old) (map cell_kind_of self.old.own_kinds.items)) }

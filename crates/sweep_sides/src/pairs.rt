@@ -25,7 +25,8 @@ fn push_outside(
     column: usize,
     datum: Datum,
 ) -> Result<(), Memory>
-    ensures { OnOk result (row.new.items ≡ row.old.items ++ cond (list_any (nat_eq column) key.now) [] (datum ∷ [])) }
+    ensures { OnOk result (row.new.items ≡ row.old.items ++ cond
+        (list_any (nat_eq column) key.now) [] (datum ∷ [])) }
 {
     if is_among(key, column) {
         return Ok(());
@@ -53,7 +54,8 @@ pub fn pair_cells(
 
 // Puts the kind of a column last, where the column stands in no key.
 fn push_kind(kinds: &mut Vec<Kind>, key: &[usize], column: usize, kind: Kind) -> Result<(), Memory>
-    ensures { OnOk result (kinds.new.items ≡ kinds.old.items ++ cond (list_any (nat_eq column) key.now) [] (kind ∷ [])) }
+    ensures { OnOk result (kinds.new.items ≡ kinds.old.items ++ cond
+        (list_any (nat_eq column) key.now) [] (kind ∷ [])) }
 {
     if is_among(key, column) {
         return Ok(());

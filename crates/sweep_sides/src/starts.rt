@@ -15,7 +15,8 @@ use tw_rows::{Edge, Memory, Time};
 
 // Puts the start that an edge tells of.
 fn put_start(queue: &mut EndQueue, edge: Edge) -> Result<(), Memory>
-    ensures put { OnOk result ((w : Edge → ℕ) → total w (queued queue.new) ≡ total w (queued queue.old) + total w (start_in edge)) }
+    ensures put { OnOk result ((w : Edge → ℕ) →
+        total w (queued queue.new) ≡ total w (queued queue.old) + total w (start_in edge)) }
     ensures timed { OnOk result (AreTimed queue.old → AreTimed queue.new) }
 {
     if edge.is_end() {
@@ -32,10 +33,13 @@ fn put_start(queue: &mut EndQueue, edge: Edge) -> Result<(), Memory>
 
 /// Puts the starts that the edges of a list tell of to those that wait, each for its sync. Ends are let go.
 pub fn put_starts(queue: &mut EndQueue, edges: &EdgeList) -> Result<(), Memory>
-    ensures put { OnOk result ((w : Edge → ℕ) → total w (queued queue.new) ≡ total w (queued queue.old) + total w (starts_in edges.now.edges)) }
+    ensures put { OnOk result ((w : Edge → ℕ) →
+        total w (queued queue.new) ≡ total w (queued queue.old) + total w
+        (starts_in edges.now.edges)) }
     ensures timed { OnOk result (AreTimed queue.old → AreTimed queue.new) }
     ensures order { KeepsOrder edges.now.edges }
-    ensures cells { OnOk result (All (λ e. map datum_kind e.cells ≡ cells_of edges.now) edges.now.edges) }
+    ensures cells { OnOk result (All (λ e. map datum_kind e.cells
+        ≡ cells_of edges.now) edges.now.edges) }
 {
     let mut cursor = edges.cursor();
     while let Some(edge) = cursor.next()? {

@@ -24,7 +24,8 @@ fn pop_before(queue: &mut EndQueue, due: &mut Vec<Edge>, below: Time) -> Result<
         ≡ total w due.old.items + total w (queued queue.old)) }
     ensures early { OnOk result ((to : ℕ) → below ≤ to → AreTimed queue.old →
         failing (is_below to) due.old.items ≡ 0 → failing (is_below to) due.new.items ≡ 0) }
-    ensures rest { OnOk result (AreTimed queue.old → failing (is_from below) (queued queue.new) ≡ 0) }
+    ensures rest { OnOk result (AreTimed queue.old →
+        failing (is_from below) (queued queue.new) ≡ 0) }
     ensures timed { OnOk result (AreTimed queue.old → AreTimed queue.new) }
 {
     queue.pop_all(below, due)?;
@@ -48,7 +49,8 @@ fn end_edge(due: &[Edge], end: Ending) -> Result<Edge, Memory>
 #[inline(never)]
 fn put_end(queue: &mut EndQueue, due: &[Edge], end: Ending) -> Result<(), Memory>
     requires { end.start < length due.now }
-    ensures put { OnOk result ((w : Edge → ℕ) → total w (queued queue.new) ≡ total w (queued queue.old) + w (end_of due.now end)) }
+    ensures put { OnOk result ((w : Edge → ℕ) →
+        total w (queued queue.new) ≡ total w (queued queue.old) + w (end_of due.now end)) }
     ensures timed { OnOk result (AreTimed queue.old → AreTimed queue.new) }
 {
     let edge = end_edge(due, end)?;
@@ -72,7 +74,8 @@ fn place_end(
         total w (ends_of due.now ends.new) + total w (queued queue.new)
         ≡ (total w (ends_of due.now ends.old) + total w (queued queue.old)) + w
         (end_of due.now end)) }
-    ensures early { OnOk result (failing (is_below to) (ends_of due.now ends.old) ≡ 0 → failing (is_below to) (ends_of due.now ends.new) ≡ 0) }
+    ensures early { OnOk result (failing (is_below to) (ends_of due.now ends.old) ≡ 0 →
+        failing (is_below to) (ends_of due.now ends.new) ≡ 0) }
     ensures timed { OnOk result (AreTimed queue.old → AreTimed queue.new) }
 {
     if end.sync < to && ends.is_near(end.sync) {
@@ -160,7 +163,8 @@ fn release_all(
     due: &mut Vec<Edge>,
 ) -> Result<(), Memory>
     requires { HaveStarts due.old.items ends }
-    ensures { OnOk result ((w : Edge → ℕ) → total w due.new.items ≡ weight w due.old.items ends waited.items) }
+    ensures { OnOk result ((w : Edge → ℕ) →
+        total w due.new.items ≡ weight w due.old.items ends waited.items) }
 {
     while let Some(end) = ends.pop() {
         push_end(&mut waited, due, end)?;
@@ -179,9 +183,12 @@ fn push_due(
 ) -> Result<(), Memory>
     requires { HaveStarts due.old.items ends.old }
     ensures starts { OnOk result (HaveStarts due.new.items ends.new) }
-    ensures parts { OnOk result ((w : Edge → ℕ) → (total w due.new.items + total w (ends_of due.new.items ends.new)) + total w (queued queue.new)
-        ≡ ((total w due.old.items + total w (ends_of due.old.items ends.old)) + total w (queued queue.old)) + total w (singles_of edge)) }
-    ensures early { OnOk result (edge.sync < to → failing (is_below to) due.old.items ≡ 0 → failing (is_below to) due.new.items ≡ 0) }
+    ensures parts { OnOk result ((w : Edge → ℕ) →
+        (total w due.new.items + total w (ends_of due.new.items ends.new)) + total w
+        (queued queue.new) ≡ ((total w due.old.items + total w (ends_of due.old.items ends.old))
+        + total w (queued queue.old)) + total w (singles_of edge)) }
+    ensures early { OnOk result (edge.sync < to → failing (is_below to) due.old.items ≡ 0 →
+        failing (is_below to) due.new.items ≡ 0) }
     ensures ends_early { OnOk result (failing (is_below to) (ends_of due.old.items ends.old) ≡ 0 →
         failing (is_below to) (ends_of due.new.items ends.new) ≡ 0) }
     ensures timed { OnOk result (AreTimed queue.old → AreTimed queue.new) }
@@ -222,8 +229,10 @@ fn take_edge(
 ) -> Result<(), Memory>
     requires { HaveStarts due.old.items ends.old }
     ensures starts { OnOk result (HaveStarts due.new.items ends.new) }
-    ensures parts { OnOk result ((w : Edge → ℕ) → weight w due.new.items ends.new waited.new.items + total w (queued queue.new)
-        ≡ (weight w due.old.items ends.old waited.old.items + total w (queued queue.old)) + total w (singles_of edge)) }
+    ensures parts { OnOk result ((w : Edge → ℕ) →
+        weight w due.new.items ends.new waited.new.items + total w (queued queue.new)
+        ≡ (weight w due.old.items ends.old waited.old.items + total w (queued queue.old)) + total w
+        (singles_of edge)) }
     ensures early { OnOk result (weight
         (λ e. cond (is_below to e) 0 1) due.old.items ends.old waited.old.items ≡ 0 → weight
         (λ e. cond (is_below to e) 0 1) due.new.items ends.new waited.new.items ≡ 0) }
@@ -272,8 +281,10 @@ fn by_sync(edges: &mut Vec<Edge>) -> Result<(), Memory>
 
 // The edges that are due before a time.
 fn popped(queue: &mut EndQueue, alloc: Global, to: Time) -> Result<VecDeque<Edge>, Memory>
-    ensures parts { IfOk result (λ ends. (w : Edge → ℕ) → total w ends.items + total w (queued queue.new) ≡ total w (queued queue.old)) }
-    ensures early { IfOk result (λ ends. AreTimed queue.old → failing (is_below to) ends.items ≡ 0) }
+    ensures parts { IfOk result (λ ends. (w : Edge → ℕ) →
+        total w ends.items + total w (queued queue.new) ≡ total w (queued queue.old)) }
+    ensures early { IfOk result (λ ends. AreTimed queue.old →
+        failing (is_below to) ends.items ≡ 0) }
     ensures timed { OnOk result (AreTimed queue.old → AreTimed queue.new) }
 {
     let mut due = Vec::new(alloc);
@@ -306,7 +317,8 @@ pub fn take_in(
     ensures rest { OnOk result (AreTimed queue.old → failing (is_from to) (queued queue.new) ≡ 0) }
     ensures timed { OnOk result (AreTimed queue.old → AreTimed queue.new) }
     ensures list { KeepsOrder edges.now.edges }
-    ensures cells { OnOk result (All (λ e. map datum_kind e.cells ≡ cells_of edges.now) edges.now.edges) }
+    ensures cells { OnOk result (All (λ e. map datum_kind e.cells
+        ≡ cells_of edges.now) edges.now.edges) }
 {
     let mut cursor = edges.cursor();
     // What waited comes in order, and so do the edges of the list. So each end goes to its place, mostly near the back.

@@ -24,7 +24,8 @@ pub(crate) fn is_single(edge: &Edge) -> bool
 }
 
 pub(crate) fn put(queue: &mut EndQueue, edge: Edge) -> Result<(), Memory>
-    ensures put { OnOk result ((w : Edge → ℕ) → total w (queued queue.new) ≡ total w (queued queue.old) + w edge) }
+    ensures put { OnOk result ((w : Edge → ℕ) →
+        total w (queued queue.new) ≡ total w (queued queue.old) + w edge) }
     ensures timed { OnOk result (AreTimed queue.old → AreTimed queue.new) }
 {
     queue.put(edge.sync, edge)?;
@@ -34,7 +35,8 @@ pub(crate) fn put(queue: &mut EndQueue, edge: Edge) -> Result<(), Memory>
 // Puts an edge: of an interval its start and its end.
 #[inline(never)]
 pub(crate) fn put_singles(queue: &mut EndQueue, edge: Edge) -> Result<(), Memory>
-    ensures put { OnOk result ((w : Edge → ℕ) → total w (queued queue.new) ≡ total w (queued queue.old) + total w (singles_of edge)) }
+    ensures put { OnOk result ((w : Edge → ℕ) →
+        total w (queued queue.new) ≡ total w (queued queue.old) + total w (singles_of edge)) }
     ensures timed { OnOk result (AreTimed queue.old → AreTimed queue.new) }
 {
     if is_single(&edge) {
@@ -58,10 +60,13 @@ pub(crate) fn put_singles(queue: &mut EndQueue, edge: Edge) -> Result<(), Memory
 
 /// Puts the edges of a list to those that wait, each for its sync.
 pub fn put_all(queue: &mut EndQueue, edges: &EdgeList) -> Result<(), Memory>
-    ensures put { OnOk result ((w : Edge → ℕ) → total w (queued queue.new) ≡ total w (queued queue.old) + total w (singles edges.now.edges)) }
+    ensures put { OnOk result ((w : Edge → ℕ) →
+        total w (queued queue.new) ≡ total w (queued queue.old) + total w
+        (singles edges.now.edges)) }
     ensures timed { OnOk result (AreTimed queue.old → AreTimed queue.new) }
     ensures order { KeepsOrder edges.now.edges }
-    ensures cells { OnOk result (All (λ e. map datum_kind e.cells ≡ cells_of edges.now) edges.now.edges) }
+    ensures cells { OnOk result (All (λ e. map datum_kind e.cells
+        ≡ cells_of edges.now) edges.now.edges) }
 {
     let mut cursor = edges.cursor();
     while let Some(edge) = cursor.next()? {
@@ -72,7 +77,8 @@ pub fn put_all(queue: &mut EndQueue, edges: &EdgeList) -> Result<(), Memory>
 
 /// Takes out the edges that are due before a time, in the order of their syncs.
 pub fn take_due(queue: &mut EndQueue, alloc: Global, to: Time) -> Result<Vec<Edge>, Memory>
-    ensures parts { IfOk result (λ due. (w : Edge → ℕ) → total w due.items + total w (queued queue.new) ≡ total w (queued queue.old)) }
+    ensures parts { IfOk result (λ due. (w : Edge → ℕ) →
+        total w due.items + total w (queued queue.new) ≡ total w (queued queue.old)) }
     ensures below { IfOk result (λ due. AreTimed queue.old → failing (is_below to) due.items ≡ 0) }
     ensures order { IfOk result (λ due. AreTimed queue.old → SyncsRise 0 due.items) }
     ensures rest { OnOk result (AreTimed queue.old → failing (is_from to) (queued queue.new) ≡ 0) }

@@ -22,7 +22,8 @@ pub type Join = Swept<JoinSides>;
 fn no_sides(alloc: Global, left_key: &[usize], right_key: &[usize]) -> Result<JoinSides, Memory>
     ensures left_key { IfOk result (λ s. s.rows.left_key.items ≡ left_key.now) }
     ensures right_key { IfOk result (λ s. s.rows.right_key.items ≡ right_key.now) }
-    ensures by { IfOk result (λ s. (s.rows.left.key ≡ left_key.now) × (s.rows.right.key ≡ right_key.now)) }
+    ensures by { IfOk result (λ s. (s.rows.left.key ≡ left_key.now)
+        × (s.rows.right.key ≡ right_key.now)) }
     ensures rows { IfOk result (λ s. (s.rows.left.rows ≡ []) × (s.rows.right.rows ≡ [])) }
     ensures waiting { IfOk result (λ s. (s.left_waiting ≡ []) × (s.right_waiting ≡ [])) }
 {
@@ -50,8 +51,9 @@ pub fn new_join(
 ) -> Result<Join, Memory>
     requires width { length (paired_row right_key.now left_kinds.now right_kinds.now) ≤ 32 }
     requires room { 1 ≤ capacity }
-    ensures stands { IfOk result (λ j. standing j ≡ new_standing (JoinNode 0 1 left_key.now right_key.now)
-        left_kinds.now right_kinds.now (paired_row right_key.now left_kinds.now right_kinds.now) capacity) }
+    ensures stands { IfOk result (λ j. standing j
+        ≡ new_standing (JoinNode 0 1 left_key.now right_key.now) left_kinds.now right_kinds.now
+        (paired_row right_key.now left_kinds.now right_kinds.now) capacity) }
     ensures opening { IfOk result IsNew }
 {
     let sides = no_sides(alloc, left_key, right_key)?;

@@ -78,8 +78,9 @@ impl<'a> Pairing<'a> {
         start: Time,
         others: &[HeldRow],
     ) -> Result<(), Memory>
-        ensures { OnOk result (answer.new.items ≡ answer.old.items ++ map (λ y. told_at starts self.now.at
-            (pair_with self.now (record { cells = cells.now; start = start }) y)) others.now) }
+        ensures { OnOk result (answer.new.items ≡ answer.old.items ++ map
+            (λ y. told_at starts self.now.at (pair_with self.now
+            (record { cells = cells.now; start = start }) y)) others.now) }
     {
         for other in others {
             answer.push(Edge {
@@ -156,11 +157,13 @@ impl<'a> Pairing<'a> {
         answer: &mut Vec<Edge>,
         edge: &Edge,
     ) -> Result<(), Memory>
-        ensures ended { OnOk result (HoldsEnded edge.now rows.old.rows → (w : HeldRow → ℕ) → total w rows.old.rows
-            ≡ total w rows.new.rows + total w (ended_of edge.now)) }
-        ensures fewer { OnOk result ((w : HeldRow → ℕ) → total w rows.new.rows ≤ total w rows.old.rows) }
-        ensures told { OnOk result (others.now.key ≡ other_key self.now → HoldsEnded edge.now rows.old.rows →
-            Adds answer.old.items answer.new.items (told_pairs self.now false (ended_of edge.now) others.now.rows)) }
+        ensures ended { OnOk result (HoldsEnded edge.now rows.old.rows → (w : HeldRow → ℕ) →
+            total w rows.old.rows ≡ total w rows.new.rows + total w (ended_of edge.now)) }
+        ensures fewer { OnOk result ((w : HeldRow → ℕ) →
+            total w rows.new.rows ≤ total w rows.old.rows) }
+        ensures told { OnOk result (others.now.key ≡ other_key self.now →
+            HoldsEnded edge.now rows.old.rows → Adds answer.old.items answer.new.items
+            (told_pairs self.now false (ended_of edge.now) others.now.rows)) }
         ensures key { rows.new.key ≡ rows.old.key }
     {
         if !edge.is_end() {
@@ -183,12 +186,15 @@ impl<'a> Pairing<'a> {
         answer: &mut Vec<Edge>,
         now: &[Edge],
     ) -> Result<(), Memory>
-        ensures ended { OnOk result (((w : HeldRow → ℕ) → total w (ended_rows now.now) ≤ total w rows.old.rows) →
-            (w : HeldRow → ℕ) → total w rows.old.rows ≡ total w rows.new.rows + total w (ended_rows now.now)) }
-        ensures fewer { OnOk result ((w : HeldRow → ℕ) → total w rows.new.rows ≤ total w rows.old.rows) }
-        ensures told { OnOk result (others.now.key ≡ other_key self.now → ((w : HeldRow → ℕ) →
-            total w (ended_rows now.now) ≤ total w rows.old.rows) →
-            Adds answer.old.items answer.new.items (told_pairs self.now false (ended_rows now.now) others.now.rows)) }
+        ensures ended { OnOk result (((w : HeldRow → ℕ) →
+            total w (ended_rows now.now) ≤ total w rows.old.rows) → (w : HeldRow → ℕ) →
+            total w rows.old.rows ≡ total w rows.new.rows + total w (ended_rows now.now)) }
+        ensures fewer { OnOk result ((w : HeldRow → ℕ) →
+            total w rows.new.rows ≤ total w rows.old.rows) }
+        ensures told { OnOk result (others.now.key ≡ other_key self.now →
+            ((w : HeldRow → ℕ) → total w (ended_rows now.now) ≤ total w rows.old.rows) →
+            Adds answer.old.items answer.new.items (told_pairs self.now false
+            (ended_rows now.now) others.now.rows)) }
         ensures key { rows.new.key ≡ rows.old.key }
     {
         for edge in now {
@@ -206,10 +212,11 @@ impl<'a> Pairing<'a> {
         answer: &mut Vec<Edge>,
         edge: &mut Edge,
     ) -> Result<(), Memory>
-        ensures started { OnOk result ((w : HeldRow → ℕ) → total w rows.new.rows ≡ total w rows.old.rows
-            + total w (started_of edge.old)) }
+        ensures started { OnOk result ((w : HeldRow → ℕ) →
+            total w rows.new.rows ≡ total w rows.old.rows + total w (started_of edge.old)) }
         ensures told { OnOk result (others.now.key ≡ other_key self.now →
-            Adds answer.old.items answer.new.items (told_pairs self.now true (started_of edge.old) others.now.rows)) }
+            Adds answer.old.items answer.new.items (told_pairs self.now true
+            (started_of edge.old) others.now.rows)) }
         ensures key { rows.new.key ≡ rows.old.key }
     {
         if edge.is_end() {
@@ -230,10 +237,11 @@ impl<'a> Pairing<'a> {
         answer: &mut Vec<Edge>,
         now: &mut [Edge],
     ) -> Result<(), Memory>
-        ensures started { OnOk result ((w : HeldRow → ℕ) → total w rows.new.rows ≡ total w rows.old.rows
-            + total w (started_rows now.old)) }
+        ensures started { OnOk result ((w : HeldRow → ℕ) →
+            total w rows.new.rows ≡ total w rows.old.rows + total w (started_rows now.old)) }
         ensures told { OnOk result (others.now.key ≡ other_key self.now →
-            Adds answer.old.items answer.new.items (told_pairs self.now true (started_rows now.old) others.now.rows)) }
+            Adds answer.old.items answer.new.items (told_pairs self.now true
+            (started_rows now.old) others.now.rows)) }
         ensures key { rows.new.key ≡ rows.old.key }
     {
         for edge in now.iter_mut() {

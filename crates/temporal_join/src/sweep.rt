@@ -38,14 +38,16 @@ impl Rows {
         now_left: &mut [Edge],
         now_right: &mut [Edge],
     ) -> Result<(), Memory>
-        ensures swept { OnOk result ((a b : List CellEvent) → AreByKey self.old → t < inf → AreEvents a →
-            AreEvents b → SameBag now_left.old (news t (suc t) a) → SameBag now_right.old (news t (suc t) b) →
+        ensures swept { OnOk result ((a b : List CellEvent) → AreByKey self.old → t < inf →
+            AreEvents a → AreEvents b → SameBag now_left.old (news t (suc t) a) →
+            SameBag now_right.old (news t (suc t) b) →
             Held a b t self.old.left.rows self.old.right.rows →
             Held a b (suc t) self.new.left.rows self.new.right.rows
             × Tells (joins self.old.left_key.items self.old.right_key.items a b) t
             (suc t) answer.old.items answer.new.items) }
-        ensures left_rows { OnOk result ((w : HeldRow → ℕ) → total w self.new.left.rows ≤ total w self.old.left.rows
-            + total w (started_rows now_left.old)) }
+        ensures left_rows { OnOk result ((w : HeldRow → ℕ) →
+            total w self.new.left.rows ≤ total w self.old.left.rows + total w
+            (started_rows now_left.old)) }
         ensures right_rows { OnOk result ((w : HeldRow → ℕ) → total w self.new.right.rows
             ≤ total w self.old.right.rows + total w (started_rows now_right.old)) }
         ensures keys { SameKeys self.old self.new }
@@ -80,11 +82,13 @@ impl Rows {
     ) -> Result<(), Memory>
         ensures swept { OnOk result ((a b : List CellEvent) (from to : ℕ) → AreByKey self.old →
             IsDue a from to left_due.old → IsDue b from to right_due.old →
-            Held a b from self.old.left.rows self.old.right.rows → Held a b to self.new.left.rows self.new.right.rows
-            × Tells
-            (joins self.old.left_key.items self.old.right_key.items a b) from to answer.old.items answer.new.items) }
-        ensures left_rows { OnOk result ((w : HeldRow → ℕ) → total w self.new.left.rows ≤ total w self.old.left.rows
-            + total w (started_rows left_due.old)) }
+            Held a b from self.old.left.rows self.old.right.rows →
+            Held a b to self.new.left.rows self.new.right.rows
+            × Tells (joins self.old.left_key.items self.old.right_key.items a b) from to
+            answer.old.items answer.new.items) }
+        ensures left_rows { OnOk result ((w : HeldRow → ℕ) →
+            total w self.new.left.rows ≤ total w self.old.left.rows + total w
+            (started_rows left_due.old)) }
         ensures right_rows { OnOk result ((w : HeldRow → ℕ) → total w self.new.right.rows
             ≤ total w self.old.right.rows + total w (started_rows right_due.old)) }
         ensures keys { SameKeys self.old self.new }

@@ -221,10 +221,12 @@ pub fn to_cells(alloc: Global, row: &Row, texts: &mut TextTable) -> Result<Cells
 /// Cells stand for the same row for good: where texts come after those of a table, each datum keeps its place and its value.
 /// A datum is stored as values of its kind are.
 pub fn cells_keep_their_row()
-    ensures placed { (texts more : List (List ℕ)) (cells : List Datum) → ArePlaced texts cells → ArePlaced (texts ++ more) cells }
+    ensures placed { (texts more : List (List ℕ)) (cells : List Datum) → ArePlaced texts cells →
+        ArePlaced (texts ++ more) cells }
     ensures read { (texts more : List (List ℕ)) (cells : List Datum) → ArePlaced texts cells →
         read_cells (texts ++ more) cells ≡ read_cells texts cells }
-    ensures stored { (texts : List (List ℕ)) (datum : Datum) → datum_kind datum ≡ cell_kind_of (value_kind (read_datum texts datum)) }
+    ensures stored { (texts : List (List ℕ)) (datum : Datum) →
+        datum_kind datum ≡ cell_kind_of (value_kind (read_datum texts datum)) }
 {}
 
 /// The test of cells is true exactly where they are the same.

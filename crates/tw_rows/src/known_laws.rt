@@ -22,5 +22,6 @@ pub fn totals_grow_item_by_item<X, Y>()
     ensures part { (w : X → ℕ) (xs : List X) (i : ℕ) (d : X) → i < length xs →
         total w (take i xs) + w (get_or xs i d) ≤ total w xs }
     ensures flat { (w : Y → ℕ) (f : X → List Y) (xs : List X) (i : ℕ) (d : X) → i < length xs →
-        total w (flat_map f (take (i + 1) xs)) ≡ total w (flat_map f (take i xs)) + total w (f (get_or xs i d)) }
+        total w (flat_map f (take (i + 1) xs)) ≡ total w (flat_map f (take i xs)) + total w
+        (f (get_or xs i d)) }
 {}

@@ -26,11 +26,13 @@ pub fn projected_edges_are()
 
 /// The edges that pass a test keep the order of the list.
 pub fn filtered_edges_keep_order()
-    ensures { (passes : Edge → Bool) (edges : List Edge) → KeepsOrder edges → KeepsOrder (filter passes edges) }
+    ensures { (passes : Edge → Bool) (edges : List Edge) → KeepsOrder edges →
+        KeepsOrder (filter passes edges) }
 {}
 
 /// Edges that are projected from others, one for each, keep their order.
 pub fn projected_edges_keep_order()
     ensures { (texts : List (List ℕ)) (exprs : List (List ExprNode)) (old new : List Edge) →
-        map (read_edge texts) new ≡ map (projected_edge texts exprs) old → KeepsOrder old → KeepsOrder new }
+        map (read_edge texts) new ≡ map (projected_edge texts exprs) old → KeepsOrder old →
+        KeepsOrder new }
 {}

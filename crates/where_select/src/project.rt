@@ -94,8 +94,10 @@ impl Project {
         ensures lacking { IsErr result ↔ Lacks pools.old (map result_kind self.old) }
         ensures kinds { IfOk result (λ b. b.kinds ≡ map result_kind self.old) }
         ensures capacity { IfOk result (λ b. b.capacity ≡ batch.capacity) }
-        ensures rows { IfOk result (λ b. AreProjected texts.now (exprs_of texts.now self.old) batch.rows b.rows) }
-        ensures given { OnOk result (pools.new ≡ all_given (all_taken pools.old (map result_kind self.old)) batch.kinds) }
+        ensures rows { IfOk result (λ b. AreProjected texts.now
+            (exprs_of texts.now self.old) batch.rows b.rows) }
+        ensures given { OnOk result (pools.new ≡ all_given
+            (all_taken pools.old (map result_kind self.old)) batch.kinds) }
         ensures err { IfErr result (λ n. n.batch ≡ batch) }
         ensures kept { OnErr result (pools.new ≡ pools.old) }
         ensures same { self.new ≡ self.old }
@@ -169,7 +171,8 @@ fn item_column(item: &mut Kernel, batch: &Batch, pools: &mut Pools, texts: &Text
     requires reads { CanRead texts.now item.old batch.now }
     requires pools { pools.old.capacity ≡ batch.now.capacity }
     requires free { 0 < free_of pools.old (result_kind item.old) }
-    ensures results { AreResults texts.now (expr_of texts.now item.old.steps) batch.now.rows (payload_data result) }
+    ensures results { AreResults texts.now (expr_of texts.now item.old.steps) batch.now.rows
+        (payload_data result) }
     ensures kind { payload_kind result ≡ result_kind item.old }
     ensures room { payload_capacity result ≡ batch.now.capacity }
     ensures taken { pools.new ≡ taken pools.old (result_kind item.old) }
@@ -201,7 +204,8 @@ fn fill(item: &mut Kernel, batch: &Batch, texts: &TextTable, column: &mut Payloa
     requires kind { payload_kind column.old ≡ result_kind item.old }
     requires empty { payload_data column.old ≡ [] }
     requires room { length batch.now.rows ≤ payload_capacity column.old }
-    ensures results { AreResults texts.now (expr_of texts.now item.old.steps) batch.now.rows (payload_data column.new) }
+    ensures results { AreResults texts.now (expr_of texts.now item.old.steps) batch.now.rows
+        (payload_data column.new) }
     ensures kind { payload_kind column.new ≡ payload_kind column.old }
     ensures room { payload_capacity column.new ≡ payload_capacity column.old }
     ensures same { item.new ≡ item.old }

@@ -123,7 +123,8 @@ fn move_to_front(buffer: &mut Vec<u8>, from: usize, to: usize) -> usize
 // Puts a piece into the buffer, from that place on.
 fn put_at(buffer: &mut Vec<u8>, at: usize, piece: &[u8])
     requires { at + length piece.now ≤ length buffer.old.items }
-    ensures put { take (at + length piece.now) buffer.new.items ≡ take at buffer.old.items ++ piece.now }
+    ensures put { take (at + length piece.now) buffer.new.items ≡ take at buffer.old.items
+        ++ piece.now }
     ensures len { length buffer.new.items ≡ length buffer.old.items }
 {
     buffer[at..at + piece.len()].copy_from_slice(piece);
@@ -139,8 +140,9 @@ fn read_at<W: Wire>(
     requires some { 0 < most }
     requires room { at + most ≤ length buffer.old.items }
     ensures bound { IfOk result (λ n. n ≤ most) }
-    ensures told { MatchResult result
-        (λ n. Adds (W.journal wire.old) (W.journal wire.new) (In (slice_range buffer.new.items at (at + n)) ∷ []))
+    ensures told { MatchResult result (λ n.
+        Adds (W.journal wire.old) (W.journal wire.new)
+        (In (slice_range buffer.new.items at (at + n)) ∷ []))
         (λ _. Adds (W.journal wire.old) (W.journal wire.new) []) }
     ensures kept { take at buffer.new.items ≡ take at buffer.old.items }
     ensures len { length buffer.new.items ≡ length buffer.old.items }
