@@ -118,8 +118,10 @@ impl Batch {
 
     /// Which rows are occupied.
     pub fn occupancy(&self) -> &Occupancy
-        ensures { result.now ≡ record { items = map
-            (λ r. r.occupied) self.now.rows; capacity = self.now.capacity } }
+        ensures { result.now ≡ record {
+          items = map (λ r. r.occupied) self.now.rows;
+          capacity = self.now.capacity;
+        } }
     {
         &self.occupied
     }
@@ -162,8 +164,10 @@ impl Batch {
     pub fn mark(&mut self, i: usize, key: u64, hash: u64)
         requires { i < length self.old.rows }
         ensures { (r : Row) → slice_get self.old.rows i ≡ Some r →
-            self.new ≡ record self.old { rows = slice_set self.old.rows i
-            (record r { key = key; hash = hash }) } }
+            self.new ≡ record self.old {
+              rows = slice_set self.old.rows i
+                  (record r { key = key; hash = hash });
+            } }
     {
         self.key.set(i, key);
         self.hash.set(i, hash);
@@ -173,8 +177,10 @@ impl Batch {
     pub fn set_times(&mut self, i: usize, sync: Time, other: Time)
         requires { i < length self.old.rows }
         ensures { (r : Row) → slice_get self.old.rows i ≡ Some r →
-            self.new ≡ record self.old { rows = slice_set self.old.rows i
-            (record r { sync = sync; other = other }) } }
+            self.new ≡ record self.old {
+              rows = slice_set self.old.rows i
+                  (record r { sync = sync; other = other });
+            } }
     {
         self.sync.set(i, sync.word());
         self.other.set(i, other.word());
@@ -184,8 +190,9 @@ impl Batch {
     pub fn push_edge(&mut self, edge: &Edge) -> Result<(), Full>
         requires { map datum_kind edge.now.cells ≡ self.old.kinds }
         ensures full { IsErr result ↔ (length self.old.rows ≡ self.old.capacity) }
-        ensures ok { OnOk result (self.new ≡ record self.old { rows = self.old.rows
-            ++ row_of edge.now ∷ [] }) }
+        ensures ok { OnOk result (self.new ≡ record self.old {
+          rows = self.old.rows ++ row_of edge.now ∷ [];
+        }) }
         ensures err { OnErr result (self.new ≡ self.old) }
     {
         if self.sync.len() == self.sync.capacity() {
@@ -226,8 +233,10 @@ impl Batch {
         payload: SmallVec<Payload, WIDTH>,
     ) -> (Batch, SmallVec<Payload, WIDTH>)
         requires { All (IsColumn (length self.rows) self.capacity) payload.items }
-        ensures batch { result.0 ≡ record self { rows = with_cells payload.items 0 self.rows; kinds
-            = map payload_kind payload.items } }
+        ensures batch { result.0 ≡ record self {
+          rows = with_cells payload.items 0 self.rows;
+          kinds = map payload_kind payload.items;
+        } }
         ensures kinds { map payload_kind result.1.items ≡ self.kinds }
         ensures whole { All (IsColumn (length self.rows) self.capacity) result.1.items }
         ensures cells { with_cells result.1.items 0 self.rows ≡ self.rows }
@@ -302,8 +311,9 @@ impl Batch {
         requires mask { length mask.now.items ≡ length self.now.rows }
         requires room { length to.old.rows + length
             (occupied_rows (kept self.now.rows mask.now.items)) ≤ to.old.capacity }
-        ensures { to.new ≡ record to.old { rows = to.old.rows ++ occupied_rows
-            (kept self.now.rows mask.now.items) } }
+        ensures { to.new ≡ record to.old {
+          rows = to.old.rows ++ occupied_rows (kept self.now.rows mask.now.items);
+        } }
     {
         for i in 0..self.rows() {
             if self.is_kept(mask, i) {

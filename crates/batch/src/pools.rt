@@ -59,8 +59,14 @@ impl Pools {
     /// Pools with nothing free, for at most `limit` columns of each sort with room for `capacity`
     /// cells each.
     pub fn new(alloc: Global, limit: usize, capacity: usize) -> Result<Pools, Memory>
-        ensures { IfOk result (λ p. p ≡ record { words = 0; ints = 0; bits = 0; occupancies = 0;
-            limit = limit; capacity = capacity }) }
+        ensures { IfOk result (λ p. p ≡ record {
+          words = 0;
+          ints = 0;
+          bits = 0;
+          occupancies = 0;
+          limit = limit;
+          capacity = capacity;
+        }) }
     {
         Ok(Pools {
             words: Pool::new(alloc, limit, capacity)?,
@@ -121,8 +127,9 @@ impl Pools {
     // Makes one more bit vector.
     fn make_occupancy(&mut self) -> Result<(), Memory>
         requires { self.old.occupancies < self.old.limit }
-        ensures ok { OnOk result (self.new ≡ record self.old { occupancies = self.old.occupancies
-            + 1 }) }
+        ensures ok { OnOk result (self.new ≡ record self.old {
+          occupancies = self.old.occupancies + 1;
+        }) }
         ensures err { OnErr result (self.new ≡ self.old) }
     {
         let occupancy = Occupancy::new(self.alloc, self.words.capacity())?;
@@ -195,8 +202,9 @@ impl Pools {
     // Takes the bit vector back, whatever it holds. Where the limit is reached it is dropped.
     pub(crate) fn give_occupancy(&mut self, mut occupancy: Occupancy)
         requires { occupancy.capacity ≡ self.old.capacity }
-        ensures { self.new ≡ record self.old { occupancies = min
-            (self.old.occupancies + 1) self.old.limit } }
+        ensures { self.new ≡ record self.old {
+          occupancies = min (self.old.occupancies + 1) self.old.limit;
+        } }
     {
         if self.occupancies.len() < self.words.limit() {
             occupancy.reset();

@@ -69,8 +69,10 @@ impl<'a> Cursor<'a> {
     /// A cursor before the first edge of the batches.
     pub(crate) fn new(batches: &'a VecDeque<Batch>, kinds: &'a [Kind]) -> Cursor<'a>
         requires { AreOfKinds (map cell_kind_of kinds.now) batches.now.items }
-        ensures { result ≡ record { edges = edges_in batches.now.items; kinds = map cell_kind_of
-            kinds.now } }
+        ensures { result ≡ record {
+          edges = edges_in batches.now.items;
+          kinds = map cell_kind_of kinds.now;
+        } }
     {
         let (place, row) = next_place(batches, 0, 0);
         Cursor {

@@ -160,8 +160,9 @@ impl Frozen {
 
     /// Adds a text last. Out of memory it stays as it was.
     pub fn push_text(&mut self, text: Label) -> Result<(), Memory>
-        ensures ok { OnOk result (self.new ≡ record self.old { texts = self.old.texts
-            ++ text ∷ [] }) }
+        ensures ok { OnOk result (self.new ≡ record self.old {
+          texts = self.old.texts ++ text ∷ [];
+        }) }
         ensures err { OnErr result (self.new ≡ self.old) }
     {
         self.texts.push(text)?;

@@ -61,8 +61,9 @@ impl Kernel {
         requires reads { CanRead texts.now self.old batch.now }
         requires empty { out.old.items ≡ [] }
         requires room { length batch.now.rows ≤ out.old.capacity }
-        ensures mask { out.new ≡ record out.old { items = mask_of texts.now
-            (expr_of texts.now self.old.steps) batch.now.rows } }
+        ensures mask { out.new ≡ record out.old {
+          items = mask_of texts.now (expr_of texts.now self.old.steps) batch.now.rows;
+        } }
         ensures same { self.new ≡ self.old }
     {
         fill_mask(&mut self.registers, &self.steps, batch, texts, out);
@@ -85,8 +86,9 @@ fn fill_mask(
     requires cells { HoldsPlaces texts.now batch.now.rows }
     requires empty { out.old.items ≡ [] }
     requires room { length batch.now.rows ≤ out.old.capacity }
-    ensures mask { out.new ≡ record out.old { items = mask_of texts.now
-        (expr_of texts.now steps.now) batch.now.rows } }
+    ensures mask { out.new ≡ record out.old {
+      items = mask_of texts.now (expr_of texts.now steps.now) batch.now.rows;
+    } }
     ensures kinds { kinds_in registers.new ≡ kinds_in registers.old }
     ensures filled { AreFilled steps.now registers.new }
 {

@@ -368,8 +368,11 @@ pub fn lives_change()
     ensures moved_past { (by : ℕ) (e : Event Row) → inf ≤ e.start + by → moved_one by e ≡ [] }
     ensures hopped { (size period : ℕ) (e : Event Row) → 1 ≤ size → e.start < inf →
         hopped_one size period e
-        ≡ record { row = e.row; start = floor_to period e.start; end = later size
-        (floor_to period e.start) } ∷ [] }
+        ≡ record {
+          row = e.row;
+          start = floor_to period e.start;
+          end = later size (floor_to period e.start);
+        } ∷ [] }
     ensures multiple { (period t : ℕ) → 1 ≤ period → t < inf → (k : ℕ)
         × (floor_to period t ≡ period * k) × (floor_to period t ≤ t)
         × (t < floor_to period t + period) }

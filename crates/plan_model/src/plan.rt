@@ -48,8 +48,12 @@ impl Plan {
     ) -> Plan
         requires nodes { AreNodes streams nodes schemas }
         requires root { root < length nodes }
-        ensures { result ≡ record { streams = streams; nodes = nodes; schemas = schemas; root = root
-            } }
+        ensures { result ≡ record {
+          streams = streams;
+          nodes = nodes;
+          schemas = schemas;
+          root = root;
+        } }
     {
         Plan {
             streams,

@@ -93,8 +93,10 @@ fn left_union(
     first: usize,
 ) -> Result<PlannedNode, Memory>
     requires { first < 2 ^ 63 }
-    ensures { IfOk result (λ p. p ≡ record { node = Node.Union first
-        (first + 3); schema = joined draft.now at sides.now }) }
+    ensures { IfOk result (λ p. p ≡ record {
+      node = Node.Union first (first + 3);
+      schema = joined draft.now at sides.now;
+    }) }
 {
     let schema = joined_schema(alloc, draft, at, sides)?;
     let node = Node::Union {

@@ -80,8 +80,11 @@ impl Sessions {
         ensures ends { OnOk result ((w : Pending → ℕ) →
             total w self.new.ends ≡ total w self.old.ends + cond
             (nat_eq (many (is_of_key self.old.rows.key (key_of self.old.rows.key cells))
-            self.old.rows.rows) 0) (w (record { at = at; edge = record
-            { sync = at; other = at; cells = key_of self.old.rows.key cells } })) 0) }
+            self.old.rows.rows) 0) (w (record {
+              at = at;
+              edge = record
+                  { sync = at; other = at; cells = key_of self.old.rows.key cells };
+            })) 0) }
         ensures like { IsLike self.old self.new }
     {
         let first = self.rows.add(cells, start)?;

@@ -90,8 +90,7 @@ impl<S: Sweep> Swept<S> {
         ensures kept { IfOk result (λ answer. StaysKept (standing self.old)
             (IsKept self.old) (IsKept self.new) left.edges right.edges answer.edges) }
         ensures between { IfOk result (λ answer.
-            AnswersBetween (standing self.old) left.edges right.edges left_to right_to answer.edges)
-            }
+            AnswersBetween (standing self.old) left.edges right.edges left_to right_to answer.edges) }
         ensures kinds { IfOk result (λ answer. cells_of answer
             ≡ map cell_kind_of self.old.own_kinds.items) }
         ensures capacity { IfOk result (λ answer. answer.capacity ≡ self.old.capacity) }

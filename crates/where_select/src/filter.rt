@@ -49,8 +49,9 @@ impl Filter {
     pub fn apply(&mut self, batch: &mut Batch, texts: &TextTable)
         requires reads { CanRead texts.now self.old.test batch.old }
         requires room { length batch.old.rows ≤ self.old.capacity }
-        ensures batch { batch.new ≡ record batch.old { rows = filtered texts.now
-            (expr_of texts.now self.old.test.steps) batch.old.rows } }
+        ensures batch { batch.new ≡ record batch.old {
+          rows = filtered texts.now (expr_of texts.now self.old.test.steps) batch.old.rows;
+        } }
         ensures same { self.new ≡ self.old }
     {
         self.mask.reset();
