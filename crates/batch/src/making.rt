@@ -14,7 +14,7 @@ use tw_rows::{Kind, Memory, cell_of};
 
 impl Batch {
     /// A batch with no row, of the pools' capacity. Its columns are taken from the pools, and those
-    /// that the pools lack are made. Where memory is wanting, those that were taken by then are dropped.
+    /// that the pools lack are made. Out of memory, those that were taken by then are dropped.
     pub fn new(alloc: Global, pools: &mut Pools, kinds: &[Kind]) -> Result<Batch, Memory>
         requires { length kinds.now ≤ 32 }
         ensures ok { IfOk result (λ b. b ≡ record

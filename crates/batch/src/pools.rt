@@ -102,7 +102,7 @@ impl Pools {
         }
     }
 
-    /// Makes columns until `n` of each sort are free. Where memory is wanting, those that were made
+    /// Makes columns until `n` of each sort are free. Out of memory, those that were made
     /// stay.
     pub fn refill(&mut self, n: usize) -> Result<(), Memory>
         requires { n ≤ self.old.limit }

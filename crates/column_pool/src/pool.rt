@@ -43,7 +43,7 @@ impl<T: Cell> Pool<T> {
         })
     }
 
-    /// Makes columns until `n` are free. Where memory is wanting, those that were made stay.
+    /// Makes columns until `n` are free. Out of memory, those that were made stay.
     pub fn refill(&mut self, n: usize) -> Result<(), AllocError>
         requires { n ≤ self.old.limit }
         ensures ok { OnOk result (self.new ≡ record self.old { free = max self.old.free n }) }

@@ -52,9 +52,9 @@ pub struct CommandLine<'a> {
 #[derive(Debug, Drop)]
 pub enum WordsFault {
     /// The words are not those of the command. The text is for standard error: what is wrong with them, or the help that they
-    /// ask for. There is none where memory for it was wanting.
+    /// ask for. There is none where there was no memory for it.
     Refused { text: Option<String> },
-    /// Memory was wanting.
+    /// Out of memory.
     Memory,
 }
 

@@ -62,7 +62,7 @@ impl Model for EdgeList {
     ghost invariant = { λ l. IsListing (map cell_kind_of l.kinds.items) l.capacity l.batches.items };
 }
 
-/// Memory was wanting for one batch more, which comes back as it was.
+/// Out of memory for one batch more, which comes back as it was.
 #[derive(Drop)]
 pub struct Refused {
     pub batch: Batch,

@@ -39,7 +39,7 @@ pub enum QueryFault {
 #[derive(Clone, Copy, Debug, PartialEq, Eq)]
 pub enum QueryError {
     Fault(QueryFault),
-    /// Memory was wanting.
+    /// Out of memory.
     Memory,
 }
 

@@ -51,7 +51,7 @@ const AFTER_FACTORS: [Symbol; 6] = [
     Symbol::Named,
 ];
 
-/// Whether a decimal may have so many places.
+// Whether a decimal may have so many places.
 fn is_places(n: u64) -> bool
     ensures { result ≡ is_places n }
 {
@@ -95,7 +95,7 @@ impl Stack {
         self.prod(kind)
     }
 
-    /// A comparison, or a sum alone.
+    // A comparison, or a sum alone.
     fn cmp(&mut self, kind: Kind) -> Result<Taken, Memory>
         ensures { IfOk result (λ r. Did (before (at_sum kind) (Symbol.Test ∷ [])) r self.old self.new) }
     {
@@ -230,7 +230,7 @@ impl Stack {
         }
     }
 
-    /// Just this word.
+    // Just this word.
     #[tactic(auto, unfolding(crate::specs::Machine::at_word))]
     fn word(&mut self, word: Sign, kind: Kind) -> Result<Taken, Memory>
         ensures { IfOk result (λ r. Did (at_word word kind) r self.old self.new) }
@@ -361,7 +361,7 @@ impl Stack {
         }
     }
 
-    /// What goes on with an expression after a name, or the end of an item that is the name alone.
+    // What goes on with an expression after a name, or the end of an item that is the name alone.
     #[tactic(auto, unfolding(crate::specs::Machine::at_item_rest, crate::specs::Machine::at_factors, crate::specs::Machine::at_terms, crate::specs::Machine::at_test, crate::specs::Machine::at_ands, crate::specs::Machine::at_ors, crate::specs::Machine::at_word))]
     fn item_rest(&mut self, kind: Kind) -> Result<Taken, Memory>
         ensures { IfOk result (λ r. Did (at_item_rest kind) r self.old self.new) }
@@ -392,7 +392,7 @@ impl Stack {
         }
     }
 
-    /// An expression and its name.
+    // An expression and its name.
     fn named_item(&mut self, kind: Kind) -> Result<Taken, Memory>
         ensures { IfOk result (λ r. Did (before (at_expr kind) (Symbol.Word Sign.As ∷ Symbol.Named ∷ [])) r self.old self.new) }
     {

@@ -24,7 +24,7 @@ pub enum Fault {
     LongExpr { at: usize },
 }
 
-/// How many words come before the first that can't come; none where the words are a query's.
+// How many words come before the first that can't come; none where the words are a query's.
 fn stop(alloc: Global, words: &[Spot]) -> Result<Option<usize>, Memory>
     ensures { IfOk result (λ r. r ≡ place start (map spot_kind words.now)) }
 {
@@ -44,7 +44,7 @@ fn stop(alloc: Global, words: &[Spot]) -> Result<Option<usize>, Memory>
     Ok(Some(at))
 }
 
-/// How many words of expressions stand together up to this one, `run` of them before it.
+// How many words of expressions stand together up to this one, `run` of them before it.
 fn run_after(run: usize, kind: Kind) -> usize
     requires { run ≤ 200 }
     ensures { result ≡ run_after run kind }
@@ -52,8 +52,8 @@ fn run_after(run: usize, kind: Kind) -> usize
     if kind.is_in_expressions() { run + 1 } else { 0 }
 }
 
-/// The first word up to which more words of expressions stand together than an expression may have. Elsewhere than in
-/// an expression at most four stand together, so this is the first word past the limit of an expression.
+// The first word up to which more words of expressions stand together than an expression may have. Elsewhere than in
+// an expression at most four stand together, so this is the first word past the limit of an expression.
 fn long_at(words: &[Spot]) -> Option<usize>
     ensures { result ≡ first_long 0 (map spot_kind words.now) }
 {
@@ -69,7 +69,7 @@ fn long_at(words: &[Spot]) -> Option<usize>
     None
 }
 
-/// The offset of a word, or `end` behind the last.
+// The offset of a word, or `end` behind the last.
 fn offset_of(words: &[Spot], index: usize, end: usize) -> usize
     ensures { result ≡ offset_of end words.now index }
 {
@@ -80,7 +80,7 @@ fn offset_of(words: &[Spot], index: usize, end: usize) -> usize
     }
 }
 
-/// The first fault of a text whose expressions are short.
+// The first fault of a text whose expressions are short.
 fn short_fault(alloc: Global, text: &str, words: &[Spot]) -> Result<Option<Fault>, Memory>
     requires words { words.now ≡ words_of text.now }
     requires short { first_long 0 (map spot_kind words.now) ≡ None }
@@ -93,7 +93,7 @@ fn short_fault(alloc: Global, text: &str, words: &[Spot]) -> Result<Option<Fault
     Ok(Some(Fault::Syntax { at }))
 }
 
-/// The first fault of a text with too long an expression, whose first word past the limit has this index.
+// The first fault of a text with too long an expression, whose first word past the limit has this index.
 fn long_fault(alloc: Global, text: &str, words: &[Spot], index: usize) -> Result<Fault, Memory>
     requires words { words.now ≡ words_of text.now }
     requires long { first_long 0 (map spot_kind words.now) ≡ Some index }

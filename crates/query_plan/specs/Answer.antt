@@ -4,7 +4,7 @@ use Rattle.plan_model.specs.declared.fault.QueryError.{QueryError}
 use Rattle.plan_model.specs.declared.fault.QueryError.TheVariants as E
 use Rattle.plan_model.specs.declared.fault.QueryFault.{QueryFault}
 
--- the answer is what a definition says, seen by `view`: its value, or its fault. Where memory is wanting, nothing is said
+-- the answer is what a definition says, seen by `view`: its value, or its fault. Out of memory, nothing is said
 abbrev pub Is : {X Y : Type 0} → (X → Y) → Result X QueryError → Result Y QueryFault → Type 0
 Is view (Ok x) r = r ≡ Ok (view x)
 Is view (Err (E.Fault fault)) r = r ≡ Err fault

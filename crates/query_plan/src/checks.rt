@@ -21,7 +21,7 @@ pub(crate) fn needs(test: bool, fault: QueryFault) -> Result<(), QueryError>
     }
 }
 
-/// Whether the rows of the child are events, and true where there is no child.
+// Whether the rows of the child are events, and true where there is no child.
 fn level_at(levels: &[bool], child: Option<usize>) -> bool
     ensures { result ≡ at_child true (λ i. slice_index_or levels.now i true) child }
 {
@@ -50,7 +50,7 @@ pub(crate) fn next_level(node: &Node, levels: &[bool]) -> bool
     level_over(node, left, right)
 }
 
-/// How far the child looks back, and 0 where there is no child.
+// How far the child looks back, and 0 where there is no child.
 fn reach_at(reaches: &[u64], child: Option<usize>) -> u64
     ensures { result ≡ at_child 0 (λ i. slice_index_or reaches.now i 0) child }
 {
@@ -60,7 +60,7 @@ fn reach_at(reaches: &[u64], child: Option<usize>) -> u64
     }
 }
 
-/// How far the node of that number looks back, and 0 where there is no node.
+// How far the node of that number looks back, and 0 where there is no node.
 fn reach_of_number(reaches: &[u64], i: usize) -> u64
     ensures { result ≡ slice_index_or reaches.now i 0 }
 {
@@ -70,7 +70,7 @@ fn reach_of_number(reaches: &[u64], i: usize) -> u64
     }
 }
 
-/// How far the next node looks back, where `reaches` tells that of the nodes before it; or the fault where that is too far.
+// How far the next node looks back, where `reaches` tells that of the nodes before it; or the fault where that is too far.
 fn near_reach(item: usize, node: &Node, reaches: &[u64]) -> Result<u64, QueryError>
     ensures { Is (λ r. r) result (near_reach item node.now reaches.now) }
 {
@@ -98,7 +98,7 @@ pub(crate) fn reaches_with(
     Ok(reaches)
 }
 
-/// Whether one of the nodes has more columns than a node may have.
+// Whether one of the nodes has more columns than a node may have.
 fn is_wide(planned: &[PlannedNode]) -> bool
     ensures { result ≡ is_wide planned.now }
 {
@@ -107,7 +107,7 @@ fn is_wide(planned: &[PlannedNode]) -> bool
         .any(|next| next.schema.items().len() > MOST_COLUMNS)
 }
 
-/// Whether the node names a column twice in its key.
+// Whether the node names a column twice in its key.
 fn has_key_twice(node: &Node) -> bool
     ensures { result ≡ has_key_twice node.now }
 {
@@ -123,7 +123,7 @@ fn has_key_twice(node: &Node) -> bool
     }
 }
 
-/// Whether one of the nodes has two columns of one name, or names a column twice in its key.
+// Whether one of the nodes has two columns of one name, or names a column twice in its key.
 fn has_twice(planned: &[PlannedNode]) -> bool
     ensures { result ≡ has_twice planned.now }
 {

@@ -164,7 +164,7 @@ impl Draft {
     }
 }
 
-/// Puts the nodes and their schemas behind the others, and whether their rows are events.
+// Puts the nodes and their schemas behind the others, and whether their rows are events.
 fn put_all(
     planned: Vec<PlannedNode>,
     nodes: &mut Vec<Node>,

@@ -19,7 +19,7 @@ use query_text::{AggFun, NameList, QueryAgg};
 use std::alloc::Global;
 use tw_rows::{ColumnDef, Kind, Label, Memory};
 
-/// The aggregates over the columns that they name.
+// The aggregates over the columns that they name.
 fn computed(
     alloc: Global,
     item: usize,
@@ -32,14 +32,14 @@ fn computed(
     found(told, QueryFault::UnknownName { item })
 }
 
-/// Whether one of the aggregates is an average.
+// Whether one of the aggregates is an average.
 fn has_average(aggs: &[QueryAgg]) -> bool
     ensures { result ≡ has_average aggs.now }
 {
     aggs.iter().any(|agg| matches!(agg.fun, AggFun::Avg))
 }
 
-/// The aggregates, and a count behind them.
+// The aggregates, and a count behind them.
 fn with_count(alloc: Global, aggs: &[Agg]) -> Result<AggList, Memory>
     ensures { IfOk result (λ list. list ≡ aggs.now ++ A.Count ∷ []) }
 {
@@ -49,7 +49,7 @@ fn with_count(alloc: Global, aggs: &[Agg]) -> Result<AggList, Memory>
     Ok(AggList::from_vec(counted))
 }
 
-/// The nodes of a group over the node of number `at`: one, or two where there are averages.
+// The nodes of a group over the node of number `at`: one, or two where there are averages.
 fn grouped(
     alloc: Global,
     draft: &Draft,
@@ -111,7 +111,7 @@ pub(crate) fn group_step(
     Ok(nodes)
 }
 
-/// The column of that name.
+// The column of that name.
 fn column_named(item: usize, schema: &[ColumnDef], name: &Label) -> Result<usize, QueryError>
     ensures { Is (λ n. n) result (ok_or (column_named schema.now name.now) (F.UnknownName item)) }
 {
@@ -121,7 +121,7 @@ fn column_named(item: usize, schema: &[ColumnDef], name: &Label) -> Result<usize
     )
 }
 
-/// Whether the column of that number holds numbers. A number that is no column's counts as one of ints.
+// Whether the column of that number holds numbers. A number that is no column's counts as one of ints.
 fn is_numeric(schema: &[ColumnDef], column: usize) -> bool
     ensures { result ≡ is_number (column_at schema.now column).kind }
 {
@@ -131,7 +131,7 @@ fn is_numeric(schema: &[ColumnDef], column: usize) -> bool
     }
 }
 
-/// Whether a `top` may ask for so many values.
+// Whether a `top` may ask for so many values.
 fn is_top_count(count: u64) -> bool
     ensures { result ≡ is_top_count count }
 {

@@ -18,7 +18,7 @@ use query_text::{NameList, TreeList};
 use std::alloc::Global;
 use tw_rows::{ColumnDef, Kind, Label, Memory};
 
-/// The expressions of the literals.
+// The expressions of the literals.
 fn fill_exprs(
     alloc: Global,
     item: usize,
@@ -34,7 +34,7 @@ fn fill_exprs(
     }
 }
 
-/// The kinds of the literals.
+// The kinds of the literals.
 fn fill_kinds(
     alloc: Global,
     item: usize,
@@ -50,7 +50,7 @@ fn fill_kinds(
     }
 }
 
-/// An expression for each of the first columns: its value.
+// An expression for each of the first columns: its value.
 #[tactic(auto, using(crate::proofs::StepLemmas::items_more))]
 fn columns_alone(alloc: Global, count: usize) -> Result<Vec<Expr>, Memory>
     ensures { IfOk result (λ v. v.items ≡ columns_alone count) }
@@ -62,7 +62,7 @@ fn columns_alone(alloc: Global, count: usize) -> Result<Vec<Expr>, Memory>
     Ok(exprs)
 }
 
-/// The left rows without a partner, which has number `of`, with the literals in place of the right columns.
+// The left rows without a partner, which has number `of`, with the literals in place of the right columns.
 fn filled_node(
     alloc: Global,
     draft: &Draft,
@@ -84,7 +84,7 @@ fn filled_node(
     Ok(PlannedNode { node, schema })
 }
 
-/// The union of the pairs, which have number `first`, and the filled rows three nodes behind them.
+// The union of the pairs, which have number `first`, and the filled rows three nodes behind them.
 fn left_union(
     alloc: Global,
     draft: &Draft,
@@ -106,7 +106,7 @@ fn left_union(
     Ok(PlannedNode { node, schema })
 }
 
-/// Puts the pairs of a left join last, and the keys of its right rows behind them.
+// Puts the pairs of a left join last, and the keys of its right rows behind them.
 fn push_pairs(
     nodes: &mut Vec<PlannedNode>,
     alloc: Global,
@@ -122,8 +122,8 @@ fn push_pairs(
     Ok(())
 }
 
-/// Puts the left rows without a partner last, and the union of the pairs, which have number `first`, and these rows with
-/// the literals.
+// Puts the left rows without a partner last, and the union of the pairs, which have number `first`, and these rows with
+// the literals.
 fn push_rest(
     nodes: &mut Vec<PlannedNode>,
     alloc: Global,
@@ -145,7 +145,7 @@ fn push_rest(
     Ok(())
 }
 
-/// The five nodes of a left join behind `first` nodes.
+// The five nodes of a left join behind `first` nodes.
 fn left_nodes(
     alloc: Global,
     draft: &Draft,

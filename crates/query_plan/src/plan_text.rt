@@ -89,7 +89,7 @@ fn put_column(out: &mut Vec<u8>, column: &ColumnDef) -> Result<(), Memory>
     Ok(())
 }
 
-/// The columns after the first, each behind a comma.
+// The columns after the first, each behind a comma.
 fn put_more_columns(out: &mut Vec<u8>, columns: &[ColumnDef]) -> Result<(), Memory>
     ensures { OnOk result (out.new.items ≡ out.old.items ++ flat_map
         (λ y. codes "," ++ y) (map column_text columns.now)) }
@@ -114,7 +114,7 @@ fn put_columns(out: &mut Vec<u8>, columns: &[ColumnDef]) -> Result<(), Memory>
     Ok(())
 }
 
-/// The columns of the node of that number.
+// The columns of the node of that number.
 fn columns_of(plan: &Plan, number: usize) -> &[ColumnDef]
     requires { number < length plan.now.nodes }
     ensures { result.now ≡ slice_index_or plan.now.schemas number [] }
@@ -122,7 +122,7 @@ fn columns_of(plan: &Plan, number: usize) -> &[ColumnDef]
     plan.schemas()[number].items()
 }
 
-/// The word of a node between its number and its children.
+// The word of a node between its number and its children.
 fn put_head(out: &mut Vec<u8>, number: usize, node: &Node) -> Result<(), Memory>
     ensures { OnOk result (out.new.items ≡ out.old.items ++ decimal number ++ codes " "
         ++ word_of_node node.now ++ codes " " ++ listed (map decimal (children node.now))) }
@@ -135,7 +135,7 @@ fn put_head(out: &mut Vec<u8>, number: usize, node: &Node) -> Result<(), Memory>
     Ok(())
 }
 
-/// The level and the reach of a node, each behind a space.
+// The level and the reach of a node, each behind a space.
 fn put_level(out: &mut Vec<u8>, plan: &Plan, number: usize) -> Result<(), Memory>
     requires { number < length plan.now.nodes }
     ensures { OnOk result (out.new.items ≡ out.old.items ++ codes " "
@@ -149,7 +149,7 @@ fn put_level(out: &mut Vec<u8>, plan: &Plan, number: usize) -> Result<(), Memory
     Ok(())
 }
 
-/// The line of the node, which has that number in the plan.
+// The line of the node, which has that number in the plan.
 fn put_node(out: &mut Vec<u8>, plan: &Plan, number: usize, node: &Node) -> Result<(), Memory>
     requires { number < length plan.now.nodes }
     ensures { OnOk result (out.new.items ≡ out.old.items ++ node_line plan.now number node.now) }

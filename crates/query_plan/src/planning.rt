@@ -29,7 +29,7 @@ impl Model for Reached {
     ghost view = { λ r. record { draft = r.draft; at = r.at } };
 }
 
-/// The number of the item that is so many behind. A query that is in memory has no item whose number is too large.
+// The number of the item that is so many behind. A query that is in memory has no item whose number is too large.
 fn item_after(item: usize, count: usize) -> Result<usize, Memory>
     ensures { IfOk result (λ after. after ≡ item + count) }
 {
@@ -39,7 +39,7 @@ fn item_after(item: usize, count: usize) -> Result<usize, Memory>
     }
 }
 
-/// A stream, which is the item of its own number: its source, and its name, which is to be new.
+// A stream, which is the item of its own number: its source, and its name, which is to be new.
 fn stream_planned(
     alloc: Global,
     item: usize,
@@ -58,7 +58,7 @@ fn stream_planned(
     Ok(draft)
 }
 
-/// The streams of a query.
+// The streams of a query.
 fn streams_planned(alloc: Global, streams: &[StreamDef]) -> Result<Draft, QueryError>
     ensures { Is (λ d. d) result (streams_planned 0 no_draft streams.now) }
 {
@@ -69,7 +69,7 @@ fn streams_planned(alloc: Global, streams: &[StreamDef]) -> Result<Draft, QueryE
     Ok(draft)
 }
 
-/// A step. The next one works on the last node that it makes.
+// A step. The next one works on the last node that it makes.
 fn step_planned(
     alloc: Global,
     item: usize,
@@ -85,7 +85,7 @@ fn step_planned(
     Ok(Reached { draft, at })
 }
 
-/// The steps of a pipe, of which the first has the number `item`.
+// The steps of a pipe, of which the first has the number `item`.
 fn steps_planned(
     alloc: Global,
     item: usize,
@@ -103,7 +103,7 @@ fn steps_planned(
     Ok(reached)
 }
 
-/// A let, which is known after its own pipe.
+// A let, which is known after its own pipe.
 fn let_planned(alloc: Global, item: usize, draft: Draft, part: &Let) -> Result<Draft, QueryError>
     ensures { Is (λ d. d) result (let_planned item draft part.now) }
 {
@@ -119,7 +119,7 @@ fn let_planned(alloc: Global, item: usize, draft: Draft, part: &Let) -> Result<D
     Ok(draft)
 }
 
-/// The body of a query.
+// The body of a query.
 fn body_planned(
     alloc: Global,
     item: usize,
@@ -133,7 +133,7 @@ fn body_planned(
     steps_planned(alloc, first, Reached { draft, at }, body.steps.items())
 }
 
-/// The lets of a query, and its body behind them.
+// The lets of a query, and its body behind them.
 fn lets_planned(
     alloc: Global,
     item: usize,
@@ -153,7 +153,7 @@ fn lets_planned(
     body_planned(alloc, item, draft, body)
 }
 
-/// A copy of the streams.
+// A copy of the streams.
 fn streams_copy(alloc: Global, streams: &[StreamDef]) -> Result<StreamList, Memory>
     ensures { IfOk result (λ list. list ≡ streams.now) }
 {

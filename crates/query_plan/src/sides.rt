@@ -105,7 +105,7 @@ pub(crate) fn key_copy(alloc: Global, key: &Key) -> Result<Key, Memory>
     Ok(Key::from_vec(columns))
 }
 
-/// The first columns, as many as are told.
+// The first columns, as many as are told.
 #[tactic(auto, using(crate::proofs::StepLemmas::columns_more))]
 fn first_columns(alloc: Global, count: usize) -> Result<Key, Memory>
     ensures { IfOk result (λ key. key ≡ instants 0 count) }

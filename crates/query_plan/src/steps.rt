@@ -89,7 +89,7 @@ fn is_bool(kind: Kind) -> bool
     matches!(kind, Kind::Bool)
 }
 
-/// A filter by a test.
+// A filter by a test.
 fn where_step(
     alloc: Global,
     item: usize,
@@ -108,7 +108,7 @@ fn where_step(
     alone(alloc, draft, at, Node::Where { of: at, test })
 }
 
-/// The kinds of the items of a select.
+// The kinds of the items of a select.
 fn kinds_of(
     alloc: Global,
     item: usize,
@@ -123,7 +123,7 @@ fn kinds_of(
     }
 }
 
-/// A column for each item.
+// A column for each item.
 fn select_step(
     alloc: Global,
     item: usize,
@@ -148,7 +148,7 @@ fn select_step(
     )
 }
 
-/// The rows of both sides, whose columns have the same kinds.
+// The rows of both sides, whose columns have the same kinds.
 fn union_step(
     alloc: Global,
     item: usize,
@@ -164,7 +164,7 @@ fn union_step(
     alone(alloc, draft, at, Node::Union { left: at, right })
 }
 
-/// A duration of at least 1.
+// A duration of at least 1.
 fn duration_step(
     alloc: Global,
     item: usize,
@@ -192,7 +192,7 @@ fn extend_step(
     alone(alloc, draft, at, Node::Extend { of: at, by })
 }
 
-/// The size and the period are at least 1, and the period divides the size.
+// The size and the period are at least 1, and the period divides the size.
 fn is_window(size: u64, period: u64) -> bool
     ensures { result ≡ is_window size period }
 {
@@ -223,7 +223,7 @@ fn hop_step(
     )
 }
 
-/// A timeout of at least 1, and a key.
+// A timeout of at least 1, and a key.
 fn session_step(
     alloc: Global,
     item: usize,

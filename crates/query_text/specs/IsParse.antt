@@ -33,7 +33,7 @@ IsTextFault text (Syntax at) = IsSmallText text × IsAnswer text (Some (F.Syntax
 IsTextFault text (LongExpr at) = IsSmallText text × IsAnswer text (Some (F.LongExpr at))
 IsTextFault text _ = ⊥
 
--- the answer for a text: the query that it spells, or its fault; or memory was wanting
+-- the answer for a text: the query that it spells, or its fault; or out of memory
 abbrev pub IsParse : List ℕ → Result Query QueryError → Type 0
 IsParse text (Ok q) = IsSmallText text × Spells text q
 IsParse text (Err (E.Fault fault)) = IsTextFault text fault

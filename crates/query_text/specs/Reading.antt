@@ -69,7 +69,7 @@ abbrev pub TakesLeaf : Option TreeNode → List Token → List Token → Type 0
 TakesLeaf (Some node) old new = (a : G.Atom) (z : List Token) → old ≡ atom_then a z → (new ≡ z) × ((nodes : List TreeNode) → nodes ++ node ∷ [] ≡ atom_onto a nodes)
 TakesLeaf None old new = (new ≡ old) × ((a : G.Atom) (z : List Token) → old ≡ atom_then a z → IsParens a)
 
--- P holds of what was read. `Stuck` does not come; where memory is wanting nothing is owed.
+-- P holds of what was read. `Stuck` does not come; out of memory nothing is owed.
 abbrev pub Outcome : {V : Type 0} → Result V Stop → (V → Type 0) → Type 0
 Outcome (Ok v) P = P v
 Outcome (Err Stuck) P = ⊥

@@ -15,7 +15,7 @@ use std::marker::Model;
 use std::str::from_utf8;
 use tw_rows::{Label, Memory};
 
-/// The text without its outer quotes, with each quote in it once where it has two.
+// The text without its outer quotes, with each quote in it once where it has two.
 fn unquoted(alloc: Global, text: &str) -> Result<Label, Memory>
     requires { IsUtf8 (unquoted text.now) }
     ensures { IfOk result (λ label. label ≡ unquoted text.now) }

@@ -26,7 +26,7 @@ pub(crate) struct Parser<'a> {
 }
 
 impl<'a> Parser<'a> {
-    /// A number above 0, and no other word.
+    // A number above 0, and no other word.
     fn divisor(&mut self) -> Result<u64, Stop>
         ensures reads { IfOk result (λ by. TakesPos (Some by) self.old.cursor self.new.cursor) }
         ensures stuck { IfErr result (λ stop. (stop ≡ Stop.Stuck)
@@ -78,7 +78,7 @@ impl<'a> Parser<'a> {
         Ok(self.nodes.last())
     }
 
-    /// One more factor, if there is one.
+    // One more factor, if there is one.
     #[cycle(expression)]
     fn factor(&mut self) -> Result<bool, Stop>
         requires { 0 < length self.old.nodes }
@@ -123,7 +123,7 @@ impl<'a> Parser<'a> {
         Ok(self.nodes.last())
     }
 
-    /// One more term, if there is one.
+    // One more term, if there is one.
     #[cycle(expression)]
     fn term(&mut self) -> Result<bool, Stop>
         requires { 0 < length self.old.nodes }
@@ -155,7 +155,7 @@ impl<'a> Parser<'a> {
         Ok(self.nodes.last())
     }
 
-    /// A comparison, if there is one, whose left side was read.
+    // A comparison, if there is one, whose left side was read.
     #[cycle(expression)]
     fn test(&mut self) -> Result<usize, Stop>
         requires { 0 < length self.old.nodes }
@@ -191,7 +191,7 @@ impl<'a> Parser<'a> {
         Ok(self.nodes.last())
     }
 
-    /// One more operand of `and`, if there is one.
+    // One more operand of `and`, if there is one.
     #[cycle(expression)]
     fn and(&mut self) -> Result<bool, Stop>
         requires { 0 < length self.old.nodes }
@@ -223,7 +223,7 @@ impl<'a> Parser<'a> {
         Ok(self.nodes.last())
     }
 
-    /// One more operand of `or`, if there is one.
+    // One more operand of `or`, if there is one.
     #[cycle(expression)]
     fn or(&mut self) -> Result<bool, Stop>
         requires { 0 < length self.old.nodes }

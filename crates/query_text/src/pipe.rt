@@ -61,7 +61,7 @@ impl<'a> Parser<'a> {
         }
     }
 
-    /// A number above 0, and no other word.
+    // A number above 0, and no other word.
     fn positive(&mut self) -> Result<u64, Stop>
         ensures reads { Reads result pos_then Any
             (λ n v. v ≡ suc n) self.old.cursor self.new.cursor }
@@ -73,7 +73,7 @@ impl<'a> Parser<'a> {
         }
     }
 
-    /// Names with commas between them.
+    // Names with commas between them.
     fn names(&mut self) -> Result<NameList, Stop>
         ensures reads { Reads result names_then (Lacks (fixed S.Comma))
             (λ ns v. v ≡ names_of ns) self.old.cursor self.new.cursor }
@@ -89,7 +89,7 @@ impl<'a> Parser<'a> {
         Ok(NameList::from_vec(items))
     }
 
-    /// The key behind `by`, or none.
+    // The key behind `by`, or none.
     fn by(&mut self) -> Result<NameList, Stop>
         ensures reads { Reads result by_then (λ z. Lacks (fixed S.By) z × Lacks (fixed S.Comma) z)
             (λ b v. v ≡ by_of b) self.old.cursor self.new.cursor }
@@ -102,7 +102,7 @@ impl<'a> Parser<'a> {
         }
     }
 
-    /// The key behind `on`, or none.
+    // The key behind `on`, or none.
     fn on(&mut self) -> Result<NameList, Stop>
         ensures reads { Reads result on_then (λ z. Lacks (fixed S.On) z × Lacks (fixed S.Comma) z)
             (λ o v. v ≡ on_of o) self.old.cursor self.new.cursor }
@@ -115,7 +115,7 @@ impl<'a> Parser<'a> {
         }
     }
 
-    /// The key behind `per`, or none.
+    // The key behind `per`, or none.
     fn per(&mut self) -> Result<NameList, Stop>
         ensures reads { Reads result per_then (λ z. Lacks (fixed S.Per) z × Lacks (fixed S.Comma) z)
             (λ p v. v ≡ per_of p) self.old.cursor self.new.cursor }
@@ -128,7 +128,7 @@ impl<'a> Parser<'a> {
         }
     }
 
-    /// The name behind `as`.
+    // The name behind `as`.
     fn named(&mut self) -> Result<Label, Stop>
         ensures reads { Reads result as_then Any (λ n v. v ≡ n) self.old.cursor self.new.cursor }
         ensures fewer { IfOk result (λ _. length self.new.cursor ≤ length self.old.cursor) }
@@ -137,7 +137,7 @@ impl<'a> Parser<'a> {
         self.name()
     }
 
-    /// An expression, as a tree.
+    // An expression, as a tree.
     fn tree(&mut self) -> Result<Tree, Stop>
         ensures reads { Reads result expr_then (λ z. rank z < 1)
             (λ e v. v ≡ tree_of e) self.old.cursor self.new.cursor }
@@ -149,7 +149,7 @@ impl<'a> Parser<'a> {
         Ok(nodes.into_tree())
     }
 
-    /// An item of a select: an expression with its name, or a name alone, which is itself the expression.
+    // An item of a select: an expression with its name, or a name alone, which is itself the expression.
     fn item(&mut self) -> Result<Item, Stop>
         ensures reads { Reads result item_then (λ z. ends_item z ≡ true)
             (λ i v. v ≡ item_of i) self.old.cursor self.new.cursor }
@@ -167,7 +167,7 @@ impl<'a> Parser<'a> {
         }
     }
 
-    /// The items of a select.
+    // The items of a select.
     fn items(&mut self) -> Result<ItemList, Stop>
         ensures reads { Reads result select_then (λ z. ends_step z ≡ true)
             (λ p v. v ≡ item_of p.0 ∷ map item_of p.1) self.old.cursor self.new.cursor }
@@ -183,7 +183,7 @@ impl<'a> Parser<'a> {
         Ok(ItemList::from_vec(items))
     }
 
-    /// An aggregate of a column, behind the word of what it does.
+    // An aggregate of a column, behind the word of what it does.
     fn computed(&mut self, fun: AggFun) -> Result<QueryAgg, Stop>
         ensures reads { Reads result computed_then Any
             (λ p v. v ≡ record { fun = fun; column = Some p.0; name = p.1 }) self.old.cursor
@@ -196,7 +196,7 @@ impl<'a> Parser<'a> {
         Ok(QueryAgg { fun, column, name })
     }
 
-    /// A count, behind its word.
+    // A count, behind its word.
     fn counted(&mut self) -> Result<QueryAgg, Stop>
         ensures reads { Reads result as_then Any
             (λ n v. v ≡ record { fun = F.Count; column = None; name = n }) self.old.cursor
@@ -226,7 +226,7 @@ impl<'a> Parser<'a> {
         }
     }
 
-    /// The aggregates of a group.
+    // The aggregates of a group.
     fn aggs(&mut self) -> Result<AggList, Stop>
         ensures reads { Reads result agg_list_then (Lacks (fixed S.Comma))
             (λ p v. v ≡ agg_of p.0 ∷ map agg_of p.1) self.old.cursor self.new.cursor }
@@ -242,7 +242,7 @@ impl<'a> Parser<'a> {
         Ok(AggList::from_vec(items))
     }
 
-    /// A hop, behind its word.
+    // A hop, behind its word.
     fn hop(&mut self) -> Result<QueryStep, Stop>
         ensures reads { Reads result hop_then Any
             (λ p v. v ≡ T.Hop p.0 p.1) self.old.cursor self.new.cursor }
@@ -253,7 +253,7 @@ impl<'a> Parser<'a> {
         Ok(QueryStep::Hop { size, period })
     }
 
-    /// A session, behind its word.
+    // A session, behind its word.
     fn session(&mut self) -> Result<QueryStep, Stop>
         ensures reads { Reads result session_then (λ z. ends_step z ≡ true)
             (λ p v. v ≡ T.Session p.0 (by_of p.1)) self.old.cursor self.new.cursor }
@@ -264,7 +264,7 @@ impl<'a> Parser<'a> {
         Ok(QueryStep::Session { timeout, key })
     }
 
-    /// The right side of a step, and its key.
+    // The right side of a step, and its key.
     fn operand(&mut self) -> Result<(Label, NameList), Stop>
         ensures reads { Reads result operand_then (λ z. ends_step z ≡ true)
             (λ p v. (v.0 ≡ p.0) × (v.1 ≡ on_of p.1)) self.old.cursor self.new.cursor }
@@ -275,7 +275,7 @@ impl<'a> Parser<'a> {
         Ok((right, key))
     }
 
-    /// A group, behind its word.
+    // A group, behind its word.
     fn group(&mut self) -> Result<QueryStep, Stop>
         ensures reads { Reads result group_then (λ z. ends_step z ≡ true)
             (λ p v. v ≡ T.Group (by_of p.0) (agg_of p.1
@@ -288,7 +288,7 @@ impl<'a> Parser<'a> {
         Ok(QueryStep::Group { key, aggs })
     }
 
-    /// A literal, which is spelled as an operand of a product is.
+    // A literal, which is spelled as an operand of a product is.
     fn literal(&mut self) -> Result<Tree, Stop>
         ensures reads { Reads result unary_then Any
             (λ u v. v ≡ unary_onto u []) self.old.cursor self.new.cursor }
@@ -300,7 +300,7 @@ impl<'a> Parser<'a> {
         Ok(nodes.into_tree())
     }
 
-    /// Literals with commas between them.
+    // Literals with commas between them.
     fn literals(&mut self) -> Result<TreeList, Stop>
         ensures reads { Reads result lit_list_then (Lacks (fixed S.Comma))
             (λ p v. v ≡ lit_of p.0 ∷ map lit_of p.1) self.old.cursor self.new.cursor }
@@ -316,7 +316,7 @@ impl<'a> Parser<'a> {
         Ok(TreeList::from_vec(items))
     }
 
-    /// The literals behind `else`, or none.
+    // The literals behind `else`, or none.
     fn fills(&mut self) -> Result<TreeList, Stop>
         ensures reads { Reads result else_then (λ z. Lacks (fixed S.Else) z
             × Lacks (fixed S.Comma) z) (λ x v. v ≡ fills_of x) self.old.cursor self.new.cursor }
@@ -329,7 +329,7 @@ impl<'a> Parser<'a> {
         }
     }
 
-    /// A left join, behind its word.
+    // A left join, behind its word.
     fn left(&mut self) -> Result<QueryStep, Stop>
         ensures reads { Reads result left_then (λ z. ends_step z ≡ true)
             (λ p v. v ≡ T.Left p.0 (on_of p.1) (fills_of p.2)) self.old.cursor self.new.cursor }
@@ -341,7 +341,7 @@ impl<'a> Parser<'a> {
         Ok(QueryStep::Left { right, key, fills })
     }
 
-    /// The step `top`, behind its word.
+    // The step `top`, behind its word.
     fn top(&mut self) -> Result<QueryStep, Stop>
         ensures reads { Reads result top_then Any
             (λ p v. v ≡ T.Top (suc p.0) (per_of p.1) p.2) self.old.cursor self.new.cursor }
@@ -354,7 +354,7 @@ impl<'a> Parser<'a> {
         Ok(QueryStep::Top { count, key, by })
     }
 
-    /// The step `follow`, behind its word.
+    // The step `follow`, behind its word.
     fn follow(&mut self) -> Result<QueryStep, Stop>
         ensures reads { Reads result follow_then Any
             (λ p v. v ≡ T.Follow p.0 (on_of p.1) (suc p.2)) self.old.cursor self.new.cursor }

@@ -5,7 +5,7 @@ ghost use Rattle.query_text.specs.declared.stop.Stop.TheVariants as stops;
 use std::alloc::{AllocError, AllocFailed};
 use tw_rows::Memory;
 
-/// Why a part of a query was not read: no such part begins so, or memory was wanting.
+/// Why a part of a query was not read: no such part begins so, or it is out of memory.
 #[derive(Clone, Copy, Debug, PartialEq, Eq)]
 pub(crate) enum Stop {
     Stuck,

@@ -24,7 +24,7 @@ use tw_rows::{ColumnDef, Kind, Schema, StreamDef};
 const LARGEST: usize = 65_536;
 
 impl<'a> Parser<'a> {
-    /// The number of places of a decimal, in its brackets.
+    // The number of places of a decimal, in its brackets.
     fn places(&mut self) -> Result<u8, Stop>
         ensures reads { Reads result places_then Any
             (λ p v. v ≡ p.number) self.old.cursor self.new.cursor }
@@ -39,7 +39,7 @@ impl<'a> Parser<'a> {
         Ok(number as u8)
     }
 
-    /// A column of a stream.
+    // A column of a stream.
     fn col(&mut self) -> Result<ColumnDef, Stop>
         ensures reads { Reads result col_then Any
             (λ c v. v ≡ col_of c) self.old.cursor self.new.cursor }
@@ -68,7 +68,7 @@ impl<'a> Parser<'a> {
         }
     }
 
-    /// The columns of a stream.
+    // The columns of a stream.
     fn cols(&mut self) -> Result<Schema, Stop>
         ensures reads { Reads result col_list_then (Lacks (fixed S.Comma))
             (λ p v. v ≡ col_of p.0 ∷ map col_of p.1) self.old.cursor self.new.cursor }
@@ -84,7 +84,7 @@ impl<'a> Parser<'a> {
         Ok(Schema::from_vec(items))
     }
 
-    /// A stream, behind its word.
+    // A stream, behind its word.
     fn stream(&mut self) -> Result<StreamDef, Stop>
         ensures reads { Reads result stream_rest_then Any
             (λ s v. v ≡ stream_of s) self.old.cursor self.new.cursor }
@@ -98,7 +98,7 @@ impl<'a> Parser<'a> {
         Ok(StreamDef { name, schema })
     }
 
-    /// The streams of a query.
+    // The streams of a query.
     fn streams(&mut self) -> Result<StreamList, Stop>
         ensures reads { Reads result stream_list_then (Lacks (fixed S.Stream))
             (λ p v. v ≡ stream_of p.0 ∷ map stream_of p.1) self.old.cursor self.new.cursor }
@@ -115,7 +115,7 @@ impl<'a> Parser<'a> {
         Ok(StreamList::from_vec(items))
     }
 
-    /// A let, behind its word.
+    // A let, behind its word.
     fn one_let(&mut self) -> Result<Let, Stop>
         ensures reads { Reads result let_rest_then Any
             (λ l v. v ≡ let_of l) self.old.cursor self.new.cursor }
@@ -128,7 +128,7 @@ impl<'a> Parser<'a> {
         Ok(Let { name, pipe })
     }
 
-    /// The lets of a query.
+    // The lets of a query.
     fn lets(&mut self) -> Result<LetList, Stop>
         ensures reads { Reads result lets_list_then (Lacks (fixed S.Let))
             (λ ls v. v ≡ map let_of ls) self.old.cursor self.new.cursor }
@@ -142,7 +142,7 @@ impl<'a> Parser<'a> {
         Ok(LetList::from_vec(items))
     }
 
-    /// A query, up to the end of the text.
+    // A query, up to the end of the text.
     fn query(&mut self) -> Result<Query, Stop>
         ensures { Reads result query_then (λ z. ends_pipe z ≡ true)
             (λ q v. v ≡ query_of q) self.old.cursor self.new.cursor }
@@ -158,7 +158,7 @@ impl<'a> Parser<'a> {
     }
 }
 
-/// The fault that the grammar found.
+// The fault that the grammar found.
 fn fault_of(fault: Fault) -> QueryFault
     ensures { result ≡ fault_of fault }
 {

@@ -51,7 +51,7 @@ fn same_bytes(a: &[u8], b: &[u8]) -> bool
     a == b
 }
 
-/// What the table has for exactly this word.
+// What the table has for exactly this word.
 fn look_up(mut table: &[(&[u8], Sign)], word: &[u8]) -> Option<Sign>
     ensures { result ≡ look_up (map (λ k. (k.0.now, k.1)) table.entry.now) word.now }
 {
@@ -64,14 +64,14 @@ fn look_up(mut table: &[(&[u8], Sign)], word: &[u8]) -> Option<Sign>
     None
 }
 
-/// The reserved word that these bytes are.
+// The reserved word that these bytes are.
 fn reserved(word: &[u8]) -> Option<Sign>
     ensures { result ≡ look_up reserved word.now }
 {
     look_up(&RESERVED, word)
 }
 
-/// The first of the table that the bytes begin with, and its length.
+// The first of the table that the bytes begin with, and its length.
 fn first_of_table(mut table: &[(&[u8], Sign)], bytes: &[u8]) -> (Word, usize)
     ensures which { result ≡ first_of_table (map (λ k. (k.0.now, k.1)) table.entry.now) bytes.now }
 {
@@ -84,14 +84,14 @@ fn first_of_table(mut table: &[(&[u8], Sign)], bytes: &[u8]) -> (Word, usize)
     (Word::Bad, 1)
 }
 
-/// The sign that stands first, and its length.
+// The sign that stands first, and its length.
 fn sign_word(bytes: &[u8]) -> (Word, usize)
     ensures which { result ≡ first_of_table signs bytes.now }
 {
     first_of_table(&SIGNS, bytes)
 }
 
-/// The word that a run of letters and digits is.
+// The word that a run of letters and digits is.
 fn name_word(run: &[u8]) -> Word
     ensures { result ≡ name_word run.now }
 {
@@ -102,7 +102,7 @@ fn name_word(run: &[u8]) -> Word
     }
 }
 
-/// The number that these digits spell behind those that spell `value`, where it is not past the greatest.
+// The number that these digits spell behind those that spell `value`, where it is not past the greatest.
 fn number_from(mut value: u64, mut digits: &[u8]) -> Option<u64>
     requires fits { value ≤ 9223372036854775807 }
     ensures { result ≡ within_greatest (decimal_from value digits.entry.now) }
@@ -118,7 +118,7 @@ fn number_from(mut value: u64, mut digits: &[u8]) -> Option<u64>
     Some(value)
 }
 
-/// The word that these digits are.
+// The word that these digits are.
 fn number_word(digits: &[u8]) -> Word
     ensures { result ≡ number_word digits.now }
 {
@@ -128,7 +128,7 @@ fn number_word(digits: &[u8]) -> Word
     }
 }
 
-/// The word that these digits are, with a point before the fraction.
+// The word that these digits are, with a point before the fraction.
 fn decimal_word(whole: &[u8], fraction: &[u8]) -> Word
     ensures { result ≡ decimal_word whole.now fraction.now }
 {
@@ -147,21 +147,21 @@ fn decimal_word(whole: &[u8], fraction: &[u8]) -> Word
     }
 }
 
-/// How many bytes of a name stand first.
+// How many bytes of a name stand first.
 fn name_length(bytes: &[u8]) -> usize
     ensures { result ≡ name_length bytes.now }
 {
     bytes.iter().take_while(|b| is_name_byte(**b)).count()
 }
 
-/// How many digits stand first.
+// How many digits stand first.
 fn digits_length(bytes: &[u8]) -> usize
     ensures { result ≡ length (take_while is_digit bytes.now) }
 {
     bytes.iter().take_while(|b| is_digit(**b)).count()
 }
 
-/// How many bytes the number has that stands first: a 0 stands alone.
+// How many bytes the number has that stands first: a 0 stands alone.
 #[tactic(auto, unfolding(crate::specs::Words::number_length))]
 fn number_length(bytes: &[u8]) -> usize
     requires some { 0 < length bytes.now }
@@ -176,7 +176,7 @@ fn number_length(bytes: &[u8]) -> usize
     }
 }
 
-/// How many digits follow a point that stands first.
+// How many digits follow a point that stands first.
 fn fraction_length(bytes: &[u8]) -> usize
     ensures which { result ≡ fraction_length bytes.now }
 {
@@ -186,7 +186,7 @@ fn fraction_length(bytes: &[u8]) -> usize
     }
 }
 
-/// The number or the decimal that stands first, and its length.
+// The number or the decimal that stands first, and its length.
 fn numeric_front(bytes: &[u8]) -> (Word, usize)
     requires some { 0 < length bytes.now }
     requires digit { is_digit (get_or bytes.now 0 0) ≡ true }
@@ -202,8 +202,8 @@ fn numeric_front(bytes: &[u8]) -> (Word, usize)
     (decimal_word(&bytes[..n], &bytes[n + 1..end]), end)
 }
 
-/// Behind an opening quote: whether a quote closes the text, and how many bytes there are up to its end, or up to
-/// where the line ends.
+// Behind an opening quote: whether a quote closes the text, and how many bytes there are up to its end, or up to
+// where the line ends.
 fn quoted_rest(bytes: &[u8]) -> (bool, usize)
     ensures which { result ≡ quoted_rest bytes.now }
     ensures fits { result.1 ≤ length bytes.now }
@@ -232,7 +232,7 @@ fn quoted_rest(bytes: &[u8]) -> (bool, usize)
     (false, at)
 }
 
-/// The longest word that stands first, and its length.
+// The longest word that stands first, and its length.
 #[tactic(auto, unfolding(crate::specs::Words::front_of))]
 fn front(bytes: &[u8]) -> (Word, usize)
     requires { 0 < length bytes.now }

@@ -21,7 +21,7 @@ pub struct LineCounts {
     first: Vec<u8>,
 }
 
-/// The count of lines that begin with `front`, with one more line, whose first bytes are these.
+// The count of lines that begin with `front`, with one more line, whose first bytes are these.
 fn with_line(count: u64, first: &[u8], front: &[u8]) -> Result<u64, Memory>
     ensures { IfOk result (λ n. n ≡ count + (if starts_with nat_eq first.now front.now then 1 else 0)) }
 {

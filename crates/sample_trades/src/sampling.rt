@@ -50,7 +50,7 @@ impl Sample {
         }
     }
 
-    /// Four words are drawn for a trade: how much later it starts, how long it lasts, its symbol, and its price and quantity.
+    // Four words are drawn for a trade: how much later it starts, how long it lasts, its symbol, and its price and quantity.
     fn draw_trade(&mut self) -> Trade
         requires { 0 < self.old.left }
         ensures trade { result ≡ trade_of (draws self.old) }
