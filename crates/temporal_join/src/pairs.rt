@@ -54,7 +54,7 @@ fn other_time(starts: bool, a: Time, b: Time) -> Time
 }
 
 impl<'a> Pairing<'a> {
-    ghost use Rattle.temporal_join.specs.Pairing.{own_key, other_key, pair_with, told_pairs};
+    ghost use Rattle.temporal_join.specs.Pairing.{own_key, other_key, pair_with, told_pairs, TellsPairs};
 
     // The row of a pair.
     fn cells(&self, cells: &[Datum], other: &[Datum]) -> Result<Cells, Memory>
@@ -111,9 +111,8 @@ impl<'a> Pairing<'a> {
         start: Time,
         others: &Synopsis,
     ) -> Result<(), Memory>
-        ensures { OnOk result (others.now.key ≡ other_key self.now →
-            Adds answer.old.items answer.new.items (told_pairs self.now starts
-            (record { cells = cells.now; start = start } ∷ []) others.now.rows)) }
+        ensures { OnOk result (TellsPairs self.now others.now starts
+            (record { cells = cells.now; start = start } ∷ []) answer.old.items answer.new.items) }
     {
         let key = key_of(self.alloc, self.key(), cells)?;
         self.tell(answer, starts, cells, start, others.rows_of(key.as_slice()))?;
@@ -130,9 +129,8 @@ impl<'a> Pairing<'a> {
         start: Time,
         others: &Synopsis,
     ) -> Result<(), Memory>
-        ensures { OnOk result (others.now.key ≡ other_key self.now →
-            Adds answer.old.items answer.new.items (told_pairs self.now starts
-            (record { cells = cells.now; start = start } ∷ []) others.now.rows)) }
+        ensures { OnOk result (TellsPairs self.now others.now starts
+            (record { cells = cells.now; start = start } ∷ []) answer.old.items answer.new.items) }
     {
         // A key of one column needs no copy.
         let Some(key) = lone_key(self.key(), cells) else {
@@ -214,9 +212,8 @@ impl<'a> Pairing<'a> {
     ) -> Result<(), Memory>
         ensures started { OnOk result ((w : HeldRow → ℕ) →
             total w rows.new.rows ≡ total w rows.old.rows + total w (started_of edge.old)) }
-        ensures told { OnOk result (others.now.key ≡ other_key self.now →
-            Adds answer.old.items answer.new.items (told_pairs self.now true
-            (started_of edge.old) others.now.rows)) }
+        ensures told { OnOk result (TellsPairs self.now others.now true
+            (started_of edge.old) answer.old.items answer.new.items) }
         ensures key { rows.new.key ≡ rows.old.key }
     {
         if edge.is_end() {
@@ -239,9 +236,8 @@ impl<'a> Pairing<'a> {
     ) -> Result<(), Memory>
         ensures started { OnOk result ((w : HeldRow → ℕ) →
             total w rows.new.rows ≡ total w rows.old.rows + total w (started_rows now.old)) }
-        ensures told { OnOk result (others.now.key ≡ other_key self.now →
-            Adds answer.old.items answer.new.items (told_pairs self.now true
-            (started_rows now.old) others.now.rows)) }
+        ensures told { OnOk result (TellsPairs self.now others.now true
+            (started_rows now.old) answer.old.items answer.new.items) }
         ensures key { rows.new.key ≡ rows.old.key }
     {
         for edge in now.iter_mut() {
