@@ -3,6 +3,7 @@
 pub mod Sweeps
 pub mod Moves
 pub mod Pairs
+pub mod Meeting
 pub mod Joining
 pub mod Running
 pub mod Grouping

@@ -1,5 +1,5 @@
 // The laws of answers that grow at their end, and of what they tell.
-ghost use Rattle.std.specs.Prelude.{◌≡◌, ℕ, suc, ◌+◌, ◌*◌, ◌<◌, ◌≤◌, nat_eq, Bool, true, false, List, [], ◌∷◌, ◌++◌, length, get_or, take, map};
+ghost use Rattle.std.specs.Prelude.{◌≡◌, ℕ, suc, ◌+◌, ◌*◌, ◌<◌, ◌≤◌, nat_eq, true, false, List, [], ◌∷◌, ◌++◌, length, get_or, take, map};
 ghost use Rattle.tw_rows.specs.Bag.{SameBag, total};
 ghost use Rattle.tw_rows.specs.Event.{AreEvents, Known};
 ghost use Rattle.tw_rows.specs.Instant.{inf};

@@ -7,6 +7,7 @@ ghost use Rattle.tw_rows.specs.declared.edge.HeldRow.{HeldRow};
 ghost use Rattle.edge_history.specs.History.{CellEvent};
 ghost use Rattle.edge_history.specs.Opens.{opens};
 ghost use Rattle.key_nodes.specs.Clips.{clipped};
+ghost use Rattle.sweep_laws.specs.Meeting.{RowTest};
 ghost use Rattle.sweep_laws.specs.Sessioning.{Sessioning};
 ghost use Rattle.sweep_laws.specs.Antijoining.{Judging};
 
@@ -17,11 +18,10 @@ pub fn kept_rows_stay_right<K>()
         (a b : List CellEvent) (rows : List HeldRow) (last : K → Option ℕ) → 1 ≤ timeout →
         Known c a b → Sessioning key same timeout a c rows last →
         Sessioning key same timeout b c rows last }
-    ensures clips { (meets : List Datum → List Datum → Bool) (c : ℕ) (a a2 b b2 : List CellEvent)
-        (rows : List HeldRow) → Known c a a2 → Known c b b2 →
-        SameBag rows (opens c (clipped meets a b)) → SameBag rows (opens c (clipped meets a2 b2)) }
-    ensures antis { (key : List Datum → K) (meets : List Datum → List Datum → Bool) (c : ℕ)
-        (a a2 b b2 : List CellEvent) (left right : List HeldRow) (status : K → Option ℕ) →
-        Known c a a2 → Known c b b2 → Judging key meets a b c left right status →
-        Judging key meets a2 b2 c left right status }
+    ensures clips { (meets : RowTest) (c : ℕ) (a a2 b b2 : List CellEvent) (rows : List HeldRow) →
+        Known c a a2 → Known c b b2 → SameBag rows (opens c (clipped meets a b)) →
+        SameBag rows (opens c (clipped meets a2 b2)) }
+    ensures antis { (key : List Datum → K) (meets : RowTest) (c : ℕ) (a a2 b b2 : List CellEvent)
+        (left right : List HeldRow) (status : K → Option ℕ) → Known c a a2 → Known c b b2 →
+        Judging key meets a b c left right status → Judging key meets a2 b2 c left right status }
 {}

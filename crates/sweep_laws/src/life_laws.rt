@@ -18,6 +18,7 @@ ghost use Rattle.key_nodes.specs.Runs.{Tells};
 ghost use Rattle.key_nodes.specs.Sessions.{least, session_end, key_starts, sessions};
 ghost use Rattle.key_nodes.specs.Clips.{later_starts, clipped};
 ghost use Rattle.key_nodes.specs.Antis.{alone_at, alone, meets_none};
+ghost use Rattle.sweep_laws.specs.Meeting.{RowTest};
 ghost use Rattle.sweep_laws.specs.Sweeps.{Tells as TellsNews};
 ghost use Rattle.sweep_laws.specs.Moves.{Adds, told_at};
 ghost use Rattle.sweep_laws.specs.Running.{open_at};
@@ -98,15 +99,15 @@ pub fn open_sessions_follow<K>()
 /// What is open of clipped events are the open left rows that no right start has clipped, and one instant takes out the rows
 /// that a right start meets, then each end that is not clipped, and puts the starts in.
 pub fn clips_tell_an_instant()
-    ensures step { (meets : List Datum → List Datum → Bool) (right : List CellEvent) (e : CellEvent)
-        (t : ℕ) → e.start < t → nat_le (suc t) (least e.end (later_starts meets right e))
+    ensures step { (meets : RowTest) (right : List CellEvent) (e : CellEvent) (t : ℕ) →
+        e.start < t → nat_le (suc t) (least e.end (later_starts meets right e))
         ≡ (nat_le t (least e.end (later_starts meets right e)) && not
         (nat_eq e.end t || starts_at meets right e.row t)) }
-    ensures opens { (meets : List Datum → List Datum → Bool) (w : HeldRow → ℕ) (t : ℕ)
-        (a b : List CellEvent) → total w (opens t (clipped meets a b)) ≡ total
+    ensures opens { (meets : RowTest) (w : HeldRow → ℕ) (t : ℕ) (a b : List CellEvent) →
+        total w (opens t (clipped meets a b)) ≡ total
         (λ r. cond (is_clipped meets b t r) 0 (w r)) (opens t a) }
-    ensures instant { (meets : List Datum → List Datum → Bool) (w : HeldRow → ℕ) (t : ℕ)
-        (a b : List CellEvent) → AreEvents a → total w (opens (suc t) (clipped meets a b)) + total
+    ensures instant { (meets : RowTest) (w : HeldRow → ℕ) (t : ℕ) (a b : List CellEvent) →
+        AreEvents a → total w (opens (suc t) (clipped meets a b)) + total
         (λ r. cond (is_clipped meets b (suc t) r) 0 (w r)) (ended_rows (news t (suc t) a)) ≡ total
         (λ r. cond (starts_at meets b r.cells t) 0 (w r)) (opens t (clipped meets a b)) + total w
         (started_rows (news t (suc t) a)) }
@@ -117,19 +118,18 @@ pub fn clips_tell_an_instant()
 /// run of a left event then goes on by its key's status, judged after all edges of the instant. The rows that stay are those
 /// that are left once the ends left.
 pub fn antis_tell_an_instant<K>()
-    ensures run { (meets : List Datum → List Datum → Bool) (b : List CellEvent) (e : CellEvent)
-        (t : ℕ) (st : Option ℕ) → t < inf → IsSince t st →
-        open_at (alone_at meets b e) t ≡ run_of st t e →
+    ensures run { (meets : RowTest) (b : List CellEvent) (e : CellEvent) (t : ℕ) (st : Option ℕ) →
+        t < inf → IsSince t st → open_at (alone_at meets b e) t ≡ run_of st t e →
         open_at (alone_at meets b e) (suc t) ≡ run_of (judged (is_free meets b t e.row) t st)
         (suc t) e }
     ensures stay { (t : ℕ) (a : List CellEvent) (rows stay : List HeldRow) (now : List Edge) →
         AreEvents a → SameBag now (news t (suc t) a) → SameBag rows (opens t a) →
         ((w : HeldRow → ℕ) → total w rows ≡ total w stay + total w (ended_rows now)) →
         SameBag stay (flat_map (stays_of t) a) }
-    ensures told { (key : List Datum → K) (meets : List Datum → List Datum → Bool)
-        (a b : List CellEvent) (t : ℕ) (status : K → Option ℕ) (free : K → Bool) → t < inf →
-        AreEvents a → ((k : K) → IsSince t (status k)) →
-        ((e : CellEvent) → is_free meets b t e.row ≡ free (key e.row)) →
+    ensures told { (key : List Datum → K) (meets : RowTest) (a b : List CellEvent) (t : ℕ)
+        (status : K → Option ℕ) (free : K → Bool) → t < inf → AreEvents a →
+        ((k : K) → IsSince t (status k)) → ((e : CellEvent) →
+        is_free meets b t e.row ≡ free (key e.row)) →
         ((e : CellEvent) → open_at (alone_at meets b e) t ≡ run_of (status (key e.row)) t e) →
         (w : Edge → ℕ) → total w (news t (suc t) (alone same_cells meets a b)) ≡ total
         (λ r. total w (end_of (status (key r.cells)) t r)) (ended_rows (news t (suc t) a)) + total
@@ -142,7 +142,7 @@ pub fn antis_tell_an_instant<K>()
 /// left end takes out its row and is told, if the row is there, which is so exactly where it is not clipped; then the starts
 /// are put in and told. Between instants at which a side has news the rows stay, and nothing is told.
 pub fn a_clip_tells_an_instant()
-    ensures told { (meets : List Datum → List Datum → Bool) (t : ℕ) (a b : List CellEvent)
+    ensures told { (meets : RowTest) (t : ℕ) (a b : List CellEvent)
         (rows stay gone : List HeldRow) → SameBag rows (opens t (clipped meets a b)) →
         ((w : HeldRow → ℕ) → total w rows ≡ total w stay + total w gone) →
         ((w : HeldRow → ℕ) → total w gone ≡ total
@@ -159,7 +159,7 @@ pub fn a_clip_tells_an_instant()
         Adds answer2 answer3 (map (told_at true t) (started_rows now)) →
         SameBag later (opens (suc t) (clipped meets a b))
         × TellsNews (clipped meets a b) t (suc t) answer0 answer3 }
-    ensures clipped { (meets : List Datum → List Datum → Bool) (t : ℕ) (a b : List CellEvent)
+    ensures clipped { (meets : RowTest) (t : ℕ) (a b : List CellEvent)
         (rows stay gone : List HeldRow) → SameBag rows (opens t (clipped meets a b)) →
         ((w : HeldRow → ℕ) → total w rows ≡ total w stay + total w gone) →
         ((w : HeldRow → ℕ) → total w gone ≡ total
@@ -170,7 +170,7 @@ pub fn a_clip_tells_an_instant()
         (λ r. cond (is_clipped meets b (suc t) r) 0 (w r)) (ended_rows (take i now))) →
         is_clipped meets b (suc t) (record { cells = x.cells; start = x.other }) ≡ true →
         many (is_held x.cells x.other) mid ≡ 0 }
-    ensures held { (meets : List Datum → List Datum → Bool) (t : ℕ) (a b : List CellEvent)
+    ensures held { (meets : RowTest) (t : ℕ) (a b : List CellEvent)
         (rows stay gone : List HeldRow) → SameBag rows (opens t (clipped meets a b)) →
         ((w : HeldRow → ℕ) → total w rows ≡ total w stay + total w gone) →
         ((w : HeldRow → ℕ) → total w gone ≡ total
@@ -181,10 +181,10 @@ pub fn a_clip_tells_an_instant()
         (λ r. cond (is_clipped meets b (suc t) r) 0 (w r)) (ended_rows (take i now))) →
         is_clipped meets b (suc t) (record { cells = x.cells; start = x.other }) ≡ false →
         1 ≤ many (is_held x.cells x.other) mid }
-    ensures between { (meets : List Datum → List Datum → Bool) (u t : ℕ) (a b : List CellEvent)
-        (rows : List HeldRow) → u ≤ t → AreEvents a → AreEvents b →
-        ((w : Edge → ℕ) → total w (news u t a) ≡ 0) → ((w : Edge → ℕ) → total w (news u t b) ≡ 0) →
-        SameBag rows (opens u (clipped meets a b)) → SameBag rows (opens t (clipped meets a b))
+    ensures between { (meets : RowTest) (u t : ℕ) (a b : List CellEvent) (rows : List HeldRow) →
+        u ≤ t → AreEvents a → AreEvents b → ((w : Edge → ℕ) → total w (news u t a) ≡ 0) →
+        ((w : Edge → ℕ) → total w (news u t b) ≡ 0) → SameBag rows (opens u (clipped meets a b)) →
+        SameBag rows (opens t (clipped meets a b))
         × ((w : Edge → ℕ) → total w (news u t (clipped meets a b)) ≡ 0) }
 {}
 
@@ -194,12 +194,11 @@ pub fn a_clip_tells_an_instant()
 /// in order, and the rows and statuses are those after the instant. Between instants at which a side has news they stay, and
 /// nothing is told.
 pub fn an_anti_join_tells_an_instant<K>()
-    ensures told { (key : List Datum → K) (meets : List Datum → List Datum → Bool)
-        (a b : List CellEvent) (t : ℕ) (now_left now_right : List Edge)
-        (left stay left2 right right2 : List HeldRow) (status : K → Option ℕ) (free : K → Bool)
-        (answer0 answer1 answer2 answer3 answer4 : List Edge) → t < inf → AreEvents a →
-        AreEvents b → SameBag now_left (news t (suc t) a) → SameBag now_right (news t (suc t) b) →
-        Judging key meets a b t left right status →
+    ensures told { (key : List Datum → K) (meets : RowTest) (a b : List CellEvent) (t : ℕ)
+        (now_left now_right : List Edge) (left stay left2 right right2 : List HeldRow) (status : K →
+        Option ℕ) (free : K → Bool) (answer0 answer1 answer2 answer3 answer4 : List Edge) →
+        t < inf → AreEvents a → AreEvents b → SameBag now_left (news t (suc t) a) →
+        SameBag now_right (news t (suc t) b) → Judging key meets a b t left right status →
         (((w : HeldRow → ℕ) → total w (ended_rows now_left) ≤ total w left) → (w : HeldRow → ℕ) →
         total w left ≡ total w stay + total w (ended_rows now_left)) →
         ((w : HeldRow → ℕ) → total w left2 ≡ total w stay + total w (started_rows now_left)) →
@@ -210,14 +209,14 @@ pub fn an_anti_join_tells_an_instant<K>()
         Adds answer0 answer1 (flat_map (λ r. end_of (status (key r.cells)) t r)
         (ended_rows now_left)) → Adds answer1 answer2
         (flat_map (λ r. flip_end (free (key r.cells)) (status (key r.cells)) t r) stay) →
-        Adds answer2 answer3 (flat_map (λ r. flip_start (free (key r.cells))
-        (status (key r.cells)) t r) stay) → Adds answer3 answer4
-        (flat_map (λ r. begin_of (free (key r.cells)) t r) (started_rows now_left)) →
+        Adds answer2 answer3 (flat_map (λ r. flip_start (free (key r.cells)) (status (key r.cells))
+        t r) stay) → Adds answer3 answer4 (flat_map
+        (λ r. begin_of (free (key r.cells)) t r) (started_rows now_left)) →
         Judging key meets a b (suc t) left2 right2 (λ k. judged (free k) t (status k))
         × TellsNews (alone same_cells meets a b) t (suc t) answer0 answer4 }
-    ensures between { (key : List Datum → K) (meets : List Datum → List Datum → Bool)
-        (a b : List CellEvent) (u t : ℕ) (left right : List HeldRow) (status : K → Option ℕ) →
-        u ≤ t → t ≤ inf → AreEvents a → AreEvents b → ((w : Edge → ℕ) → total w (news u t a) ≡ 0) →
+    ensures between { (key : List Datum → K) (meets : RowTest) (a b : List CellEvent) (u t : ℕ)
+        (left right : List HeldRow) (status : K → Option ℕ) → u ≤ t → t ≤ inf → AreEvents a →
+        AreEvents b → ((w : Edge → ℕ) → total w (news u t a) ≡ 0) →
         ((w : Edge → ℕ) → total w (news u t b) ≡ 0) → Judging key meets a b u left right status →
         Judging key meets a b t left right status
         × ((w : Edge → ℕ) → total w (news u t (alone same_cells meets a b)) ≡ 0) }
@@ -233,6 +232,6 @@ pub fn starts_alone_are_enough<K>()
     ensures sessions { (key : List Datum → K) (same : K → K → Bool) (timeout : ℕ)
         (events : List CellEvent) → sessions key same timeout (map unending events)
         ≡ sessions key same timeout events }
-    ensures clips { (meets : List Datum → List Datum → Bool) (a b : List CellEvent) →
+    ensures clips { (meets : RowTest) (a b : List CellEvent) →
         clipped meets a (map unending b) ≡ clipped meets a b }
 {}
