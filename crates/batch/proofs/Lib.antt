@@ -1,6 +1,6 @@
 pub mod Pushing
 pub mod Tables
 pub mod Views
-pub mod Stocks
+pub mod PoolLaws
 pub mod Keeping
 pub mod Placing

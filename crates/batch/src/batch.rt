@@ -6,7 +6,7 @@ ghost use Rattle.tw_rows.specs.Cells.{datum_kind};
 ghost use Rattle.batch.specs.Rows.{Row, Table, edge_of, edges_of, occupied_rows, row_of, kept, cell_column};
 ghost use Rattle.batch.specs.Payloads.{payload_kind, payload_data, payload_capacity};
 ghost use Rattle.batch.specs.Columns.{IsColumn, with_cells};
-ghost use Rattle.batch.specs.Shelves.{batch_given};
+ghost use Rattle.batch.specs.PoolsView.{batch_given};
 
 use crate::columns::{clear_columns, copy_cells, push_cells};
 use crate::making::give_columns;

@@ -3,7 +3,7 @@ ghost use Rattle.std.specs.Prelude.{◌≡◌, ◌≤◌, [], length, map, All, 
 ghost use Rattle.tw_rows.specs.Kinds.{cell_kind_of};
 ghost use Rattle.batch.specs.Payloads.{payload_kind, payload_capacity};
 ghost use Rattle.batch.specs.Columns.{IsColumn};
-ghost use Rattle.batch.specs.Shelves.{all_taken, all_given, batch_taken, IsPartTaken, AreSomeTaken};
+ghost use Rattle.batch.specs.PoolsView.{all_taken, all_given, batch_taken, IsPartTaken, AreSomeTaken};
 
 use crate::batch::{Batch, WIDTH};
 use crate::payload::Payload;

@@ -1,7 +1,7 @@
 // Columns that are made ahead of their use, of each sort.
 ghost use Rattle.std.specs.Prelude.{◌≡◌, ◌+◌, ◌-◌, ◌<◌, ◌≤◌, ◌↔◌, [], max, min, length, IsNone, IfSome, IfOk, OnOk, OnErr};
 ghost use Rattle.batch.specs.Payloads.{payload_kind, payload_data, payload_capacity};
-ghost use Rattle.batch.specs.Shelves.{Shelves, free_of, with_free, taken, given, NoMore};
+ghost use Rattle.batch.specs.PoolsView.{PoolsView, free_of, with_free, taken, given, NoMore};
 
 use crate::payload::Payload;
 use column_pool::{Bit, Cell, Column, Pool};
@@ -36,9 +36,9 @@ impl Drop for Pools {
 
 impl Model for Pools {
     ghost use Rattle.std.specs.Prelude.{◌≡◌, ◌≤◌, [], All, vec_len, vec_capacity};
-    ghost use Rattle.batch.specs.Shelves.{Shelves};
+    ghost use Rattle.batch.specs.PoolsView.{PoolsView};
 
-    ghost Value = { Shelves };
+    ghost Value = { PoolsView };
 
     ghost view = { λ p. record {
       words = p.words.free;

@@ -9,8 +9,8 @@ use Rattle.std.proofs.lemmas.Option.{slice_get-get_or}
 use Rattle.tw_rows.specs.declared.edge.Edge.{Edge}
 use Rattle.tw_rows.specs.declared.kind.CellKind.{CellKind}
 use Rattle.tw_rows.specs.Kinds.{cell_kind_of}
-use Rattle.batch.specs.Shelves.{Shelves}
-use Rattle.batch.proofs.Stocks.{NoMore-all}
+use Rattle.batch.specs.PoolsView.{PoolsView}
+use Rattle.batch.proofs.PoolLaws.{NoMore-all}
 use Rattle.edge_stream.specs.Listing.{EdgeListView, cells_of}
 use Rattle.edge_stream.specs.Taking.{batches_taken, AreBatchesTaken}
 use Rattle.edge_stream.proofs.Filling.{batches_taken-capacity}
@@ -225,10 +225,10 @@ module _ (texts : List (List ℕ)) (capacity : ℕ) (plan : PlanParts) (i : ℕ)
       })))
 
 -- columns that are taken leave the limit of the pools
-pub taken_limit : (n : ℕ) (s : Shelves) (ks : List CellKind) → (batches_taken n s ks).limit ≡ s.limit
+pub taken_limit : (n : ℕ) (s : PoolsView) (ks : List CellKind) → (batches_taken n s ks).limit ≡ s.limit
 taken_limit zero s ks = refl
 taken_limit (suc n) s ks =
-    let before : Shelves = batches_taken n s ks in
+    let before : PoolsView = batches_taken n s ks in
     (NoMore-all (record before { words = before.words - 4; occupancies = before.occupancies - 1 }) ks).limit ∙ taken_limit n s ks
 
 -- three facts of a result together
@@ -237,7 +237,7 @@ IfOk-three (Ok x) P Q R S f a b c = f x a b c
 IfOk-three (Err e) P Q R S f a b c = tt
 
 -- and so the pools stay alike whether a copy was made or memory was wanting
-pub copy_leaves : {E : Type 0} (r : Result EdgeListView E) (old new : Shelves) (kinds : List CellKind) → IfOk r (λ copy. new ≡ batches_taken copy.batches old kinds) → OnErr r (AreBatchesTaken old new kinds) →
+pub copy_leaves : {E : Type 0} (r : Result EdgeListView E) (old new : PoolsView) (kinds : List CellKind) → IfOk r (λ copy. new ≡ batches_taken copy.batches old kinds) → OnErr r (AreBatchesTaken old new kinds) →
     (new.capacity ≡ old.capacity) × (new.limit ≡ old.limit)
 copy_leaves (Ok copy) old new kinds told failed = (
   ap (λ s. s.capacity) told ∙ batches_taken-capacity copy.batches old kinds,

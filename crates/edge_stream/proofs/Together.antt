@@ -6,7 +6,7 @@ use Rattle.std.proofs.lemmas.Bool.Decides.{nat_tests}
 use Rattle.tw_rows.specs.Bag.{total}
 use Rattle.tw_rows.specs.declared.edge.Edge.{Edge}
 use Rattle.tw_rows.specs.declared.kind.CellKind.{CellKind}
-use Rattle.batch.specs.Shelves.{Shelves, IsPartTaken}
+use Rattle.batch.specs.PoolsView.{PoolsView, IsPartTaken}
 use Rattle.edge_history.specs.Order.{rank, KeepsOrder}
 use Rattle.edge_stream.specs.Listing.{EdgeListView, cells_of}
 use Rattle.edge_stream.specs.Reading.{Unread, rank_ahead, is_below_rank}
@@ -60,6 +60,6 @@ total_none w (c ∷ cs) h =
     omega (arith, rest, here)
 
 -- some batches are taken, and then some first part of one more
-pub part_taken : (old s new : Shelves) (n : ℕ) (own kinds : List CellKind) → s ≡ batches_taken n old kinds → own ≡ kinds → IsPartTaken s new own →
+pub part_taken : (old s new : PoolsView) (n : ℕ) (own kinds : List CellKind) → s ≡ batches_taken n old kinds → own ≡ kinds → IsPartTaken s new own →
     AreBatchesTaken old new kinds
 part_taken old s new n own kinds is same part = record { whole = n; part = subst (λ x. IsPartTaken x new kinds) is (subst (IsPartTaken s new) same part) }

@@ -4,7 +4,7 @@ ghost use Rattle.std.specs.Option.{option_to_list};
 ghost use Rattle.tw_rows.specs.Cells.{datum_kind};
 ghost use Rattle.tw_rows.specs.declared.edge.Edge.{Edge};
 ghost use Rattle.tw_rows.specs.Kinds.{cell_kind_of};
-ghost use Rattle.batch.specs.Shelves.{IsPartTaken};
+ghost use Rattle.batch.specs.PoolsView.{IsPartTaken};
 ghost use Rattle.edge_history.specs.Order.{rank, KeepsOrder};
 ghost use Rattle.edge_stream.specs.Listing.{edges_in, cells_of, appended};
 ghost use Rattle.edge_stream.specs.Taking.{room_taken};

@@ -8,7 +8,7 @@ ghost use Rattle.std.specs.List.{list_all};
 ghost use Rattle.tw_rows.specs.Kinds.{cell_kind_of};
 ghost use Rattle.tw_rows.specs.declared.edge.Edge.{Edge};
 ghost use Rattle.batch.specs.Rows.{Table, edges_of};
-ghost use Rattle.batch.specs.Shelves.{batch_taken, IsPartTaken};
+ghost use Rattle.batch.specs.PoolsView.{batch_taken, IsPartTaken};
 ghost use Rattle.edge_history.specs.Order.{Rises, is_below, is_from};
 ghost use Rattle.edge_stream.specs.Sides.{is_on_side, side_bits};
 ghost use Rattle.edge_stream.specs.Listing.{IsOf, edges_in};

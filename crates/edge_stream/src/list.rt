@@ -5,7 +5,7 @@ ghost use Rattle.std.specs.Prelude.{IsErr, IfErr, IfOk, OnOk, OnErr};
 ghost use Rattle.tw_rows.specs.Kinds.{cell_kind_of};
 ghost use Rattle.tw_rows.specs.Cells.{datum_kind};
 ghost use Rattle.batch.specs.Rows.{Row, edge_of, edges_of};
-ghost use Rattle.batch.specs.Shelves.{IsPartTaken};
+ghost use Rattle.batch.specs.PoolsView.{IsPartTaken};
 ghost use Rattle.edge_history.specs.Order.{is_below, is_from, KeepsOrder};
 ghost use Rattle.edge_stream.specs.Listing.{cells_of, edges_in, with_room, appended, SameShape};
 ghost use Rattle.edge_stream.specs.Taking.{room_taken, batches_taken, batches_given};

@@ -12,8 +12,8 @@ use Rattle.tw_rows.specs.declared.edge.Edge.{Edge}
 use Rattle.tw_rows.specs.declared.kind.CellKind.{CellKind}
 use Rattle.tw_rows.specs.declared.kind.CellKind.TheVariants.{Whole, Bit, Place}
 use Rattle.tw_rows.specs.Bag.{SameBag}
-use Rattle.batch.specs.Shelves.{Shelves, batch_taken, IsPartTaken}
-use Rattle.batch.proofs.Stocks.{NoMore-all}
+use Rattle.batch.specs.PoolsView.{PoolsView, batch_taken, IsPartTaken}
+use Rattle.batch.proofs.PoolLaws.{NoMore-all}
 use Rattle.edge_history.specs.Order.{rank, failing, is_real, is_from, Rises, KeepsOrder}
 use Rattle.edge_history.proofs.Keeping.{KeepsOrder-front}
 use Rattle.edge_history.proofs.Rising.{Rises-less}
@@ -115,26 +115,26 @@ next_edges xs now after es i d e is low so_far one =
     one ∙ ap (λ l. l ++ e ∷ []) so_far ∙ append_assoc xs (take i es) (e ∷ [])
     ∙ ap (λ l. xs ++ l) (ap (λ x. take i es ++ x ∷ []) is ∙ sym (take_more es i d low))
 
-room_taken-limit : (l : EdgeListView) (s : Shelves) → (room_taken l s).limit ≡ s.limit
+room_taken-limit : (l : EdgeListView) (s : PoolsView) → (room_taken l s).limit ≡ s.limit
 room_taken-limit l s = pick l.room
   where
     pick : (r : ℕ) → (where_full r (batch_taken s (cells_of l)) s).limit ≡ s.limit
     pick zero = (NoMore-all (record s { words = s.words - 4; occupancies = s.occupancies - 1 }) (cells_of l)).limit
     pick (suc r) = refl
 
-pub pools_again : (a b c : Shelves) → SamePools a b → SamePools b c → SamePools a c
+pub pools_again : (a b c : PoolsView) → SamePools a b → SamePools b c → SamePools a c
 pools_again a b c p q = record { capacity = q.capacity ∙ p.capacity; limit = q.limit ∙ p.limit }
 
-pub pools_same : (a : Shelves) → SamePools a a
+pub pools_same : (a : PoolsView) → SamePools a a
 pools_same a = record { capacity = refl; limit = refl }
 
-pub pools_next : (first before after : Shelves) (l : EdgeListView) → SamePools first before → after ≡ room_taken l before → SamePools first after
+pub pools_next : (first before after : PoolsView) (l : EdgeListView) → SamePools first before → after ≡ room_taken l before → SamePools first after
 pools_next first before after l so_far one = record {
   capacity = ap (λ s. s.capacity) one ∙ room_taken-capacity l before ∙ so_far.capacity;
   limit = ap (λ s. s.limit) one ∙ room_taken-limit l before ∙ so_far.limit;
 }
 
-pub pools_part : (first before after : Shelves) (ks : List CellKind) → SamePools first before → IsPartTaken before after ks → SamePools first after
+pub pools_part : (first before after : PoolsView) (ks : List CellKind) → SamePools first before → IsPartTaken before after ks → SamePools first after
 pools_part first before after ks so_far part =
     let s = before in
     let n = part.count in

@@ -2,7 +2,7 @@
 use Rattle.std.specs.Prelude.{◌≡◌, ℕ, suc, ◌<◌, ◌≤◌, nat_eq, nat_lt, nat_le, ◌&&◌, Bool, List, [], ◌∷◌, flat_map, Vec}
 use Rattle.tw_rows.specs.declared.edge.Edge.{Edge}
 use Rattle.tw_rows.specs.declared.kind.CellKind.{CellKind}
-use Rattle.batch.specs.Shelves.{Shelves}
+use Rattle.batch.specs.PoolsView.{PoolsView}
 use Rattle.edge_stream.specs.Listing.{EdgeListView, cells_of}
 use Rattle.edge_stream.specs.Taking.{batches_taken}
 use Rattle.edge_history.specs.Order.{rank, failing}
@@ -43,16 +43,16 @@ pub record IsShorterBelow {S : Type 0} (end : ℕ) (old new : List (ℕ × Vec E
   pub below : first.0 < end
 
 -- from one list and pools to others: the pools are what the batches of the list leave, as they were before
-abbrev pub TakesBatches : EdgeListView → Shelves → EdgeListView → Shelves → Type 0
-TakesBatches old before new after = (first : Shelves) (kinds : List CellKind) → cells_of old ≡ kinds →
+abbrev pub TakesBatches : EdgeListView → PoolsView → EdgeListView → PoolsView → Type 0
+TakesBatches old before new after = (first : PoolsView) (kinds : List CellKind) → cells_of old ≡ kinds →
     before ≡ batches_taken old.batches first kinds → after ≡ batches_taken new.batches first kinds
 
 -- what the batches of lists leave of the pools, list by list
-abbrev pub lists_taken : Shelves → List EdgeListView → Shelves
+abbrev pub lists_taken : PoolsView → List EdgeListView → PoolsView
 lists_taken s [] = s
 lists_taken s (l ∷ ls) = lists_taken (batches_taken l.batches s (cells_of l)) ls
 
 -- the pools lend columns of the same capacity, and keep as many at most
-pub record SamePools (old new : Shelves) : Type 0 where
+pub record SamePools (old new : PoolsView) : Type 0 where
   pub capacity : new.capacity ≡ old.capacity
   pub limit : new.limit ≡ old.limit

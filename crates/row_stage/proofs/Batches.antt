@@ -8,8 +8,8 @@ use Rattle.tw_rows.specs.declared.edge.Edge.{Edge}
 use Rattle.tw_rows.specs.declared.kind.CellKind.{CellKind}
 use Rattle.tw_rows.specs.declared.kind.CellKind.TheVariants.{Whole, Bit, Place}
 use Rattle.batch.specs.Rows.{Row, Table, edge_of, edges_of, occupied_rows}
-use Rattle.batch.specs.Shelves.{Shelves, free_of, given, all_taken, all_given}
-use Rattle.batch.proofs.Stocks.{NoMore-all}
+use Rattle.batch.specs.PoolsView.{PoolsView, free_of, given, all_taken, all_given}
+use Rattle.batch.proofs.PoolLaws.{NoMore-all}
 use Rattle.edge_stream.proofs.Filling.{all_given-capacity, all_given-limit}
 use Rattle.plan_model.specs.declared.expr.ExprNode.{ExprNode}
 use Rattle.plan_model.specs.declared.node.Node.{Node}
@@ -134,10 +134,10 @@ stage_same texts c d kinds others n s t e f g is =
     subst (λ x. IsStageOf texts d others n x) g (subst (λ x. IsStageOf texts d x n s) f (subst (λ x. IsStageOf texts x kinds n s) e is))
 
 -- the pools keep their capacity
-pub pools_kept : (old new : Shelves) (ks ls : List CellKind) → new ≡ all_given (all_taken old ks) ls → new.capacity ≡ old.capacity
+pub pools_kept : (old new : PoolsView) (ks ls : List CellKind) → new ≡ all_given (all_taken old ks) ls → new.capacity ≡ old.capacity
 pools_kept old new ks ls given = ap (λ s. s.capacity) given ∙ all_given-capacity (all_taken old ks) ls ∙ (NoMore-all old ks).capacity
 
-pub limit_kept : (old new : Shelves) (ks ls : List CellKind) → new ≡ all_given (all_taken old ks) ls → new.limit ≡ old.limit
+pub limit_kept : (old new : PoolsView) (ks ls : List CellKind) → new ≡ all_given (all_taken old ks) ls → new.limit ≡ old.limit
 limit_kept old new ks ls given = ap (λ s. s.limit) given ∙ all_given-limit (all_taken old ks) ls ∙ (NoMore-all old ks).limit
 
 at_most_one : (b : Bool) → cond b 1 0 ≤ 1
@@ -152,15 +152,15 @@ few_of kind (k ∷ ks) =
     omega (arith, rest, one)
 
 -- pools that were refilled lack no column
-abbrev refilled : Shelves → ℕ → Shelves
+abbrev refilled : PoolsView → ℕ → PoolsView
 refilled s n = record s { words = max s.words n; ints = max s.ints n; bits = max s.bits n; occupancies = max s.occupancies n }
 
-free_then : (s : Shelves) (n : ℕ) (kind : CellKind) → n ≤ free_of (refilled s n) kind
+free_then : (s : PoolsView) (n : ℕ) (kind : CellKind) → n ≤ free_of (refilled s n) kind
 free_then s n Whole = omega arith
 free_then s n Bit = omega arith
 free_then s n Place = omega arith
 
-pub no_lack : (s new : Shelves) (n : ℕ) (ks : List CellKind) → n ≡ length ks → new ≡ refilled s n → Lacks new ks → ⊥
+pub no_lack : (s new : PoolsView) (n : ℕ) (ks : List CellKind) → n ≡ length ks → new ≡ refilled s n → Lacks new ks → ⊥
 no_lack s new n ks count is lacks =
     let few = few_of lacks.0 ks in
     let free = subst (λ t. n ≤ free_of t lacks.0) (sym is) (free_then s n lacks.0) in

@@ -2,7 +2,7 @@
 use Rattle.std.specs.Prelude.{ℕ, ◌+◌, ◌*◌, nat_eq, cond, Option, Some, None, List, [], map, length}
 use Rattle.tw_rows.specs.Kinds.{cell_kind_of}
 use Rattle.tw_rows.specs.declared.edge.Edge.{Edge}
-use Rattle.batch.specs.Shelves.{Shelves}
+use Rattle.batch.specs.PoolsView.{PoolsView}
 use Rattle.edge_stream.specs.Listing.{EdgeListView, cells_of}
 use Rattle.edge_stream.specs.declared.saved.PartRow.{PartRow}
 use Rattle.edge_stream.specs.declared.saved.PartRow.TheVariants.{Left, KeyFirst}
@@ -42,6 +42,6 @@ IsKept o texts hl hr out =
     KeepsGrouped o.groups.key.items o.groups.aggs.items (map cell_kind_of o.left_kinds.items) texts o.groups.rows.rows o.running o.waiting o.left_to hl hr out
 
 -- the pools once both lists were given back to them, and the answer was made of their columns
-abbrev pub pools_after : Shelves → EdgeListView → EdgeListView → EdgeListView → Shelves
+abbrev pub pools_after : PoolsView → EdgeListView → EdgeListView → EdgeListView → PoolsView
 pools_after pools left right answer =
     batches_taken answer.batches (batches_given left.batches (batches_given right.batches pools (cells_of right)) (cells_of left)) (cells_of answer)

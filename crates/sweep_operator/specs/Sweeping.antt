@@ -3,7 +3,7 @@ use Rattle.std.specs.Prelude.{◌≡◌, ℕ, List, ◌++◌}
 use Rattle.tw_rows.specs.Bag.{SameBag}
 use Rattle.tw_rows.specs.declared.edge.Edge.{Edge}
 use Rattle.tw_rows.specs.declared.kind.CellKind.{CellKind}
-use Rattle.batch.specs.Shelves.{Shelves}
+use Rattle.batch.specs.PoolsView.{PoolsView}
 use Rattle.edge_history.specs.Balance.{news}
 use Rattle.edge_history.specs.History.{CellEvent, of}
 use Rattle.edge_history.specs.Order.{failing, is_from, IsHistory}
@@ -40,5 +40,5 @@ pub record HasSwept (n : Node) (keeps : Keeping) (from to : ℕ) (hl hr out told
   pub tells : SameBag told (news from to (told_events n hl hr))
 
 -- once the columns of both lists are given back to the pools
-abbrev pub both_given : EdgeListView → EdgeListView → Shelves → Shelves
+abbrev pub both_given : EdgeListView → EdgeListView → PoolsView → PoolsView
 both_given left right pools = batches_given right.batches (batches_given left.batches pools (cells_of left)) (cells_of right)

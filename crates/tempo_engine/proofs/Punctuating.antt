@@ -33,7 +33,7 @@ use Rattle.egress.proofs.Taking.{holds_longer}
 use Rattle.ingress.specs.Admits.{IsFor, SameFixed, Follows, Admits}
 use Rattle.ingress.specs.Times.{IsTimed}
 use Rattle.ingress.specs.declared.ingress.Ingress.{Ingress}
-use Rattle.batch.specs.Shelves.{Shelves}
+use Rattle.batch.specs.PoolsView.{PoolsView}
 use Rattle.dataflow.specs.Flows.{DataflowView, CanStep, StepsOn, Flows, HasFlowed}
 use Rattle.dataflow.specs.Below.{CanStepBelow, FlowsBelow}
 use Rattle.dataflow.specs.Lists.{longer}
@@ -101,7 +101,7 @@ fixed_still e run i d same plan room =
     (subst (λ r. IsFor e.dataflow.plan.streams r e.dataflow.capacity i) (sym same.policy) (still_for e.dataflow.plan e.ingress.policy e.dataflow.capacity e.ingress i run.fixed same)))
 
 -- so they can behind a slice
-pub sliced_run : (p : ℕ) (e : Parts) → CanRun e → e.ingress.released < p → p ≤ inf → (i : Ingress) (pools : Shelves) (d : DataflowView) (g : Egress) → SameFixed e.ingress i → i.released ≡ p →
+pub sliced_run : (p : ℕ) (e : Parts) → CanRun e → e.ingress.released < p → p ≤ inf → (i : Ingress) (pools : PoolsView) (d : DataflowView) (g : Egress) → SameFixed e.ingress i → i.released ≡ p →
     pools.capacity ≡ e.pools.capacity → pools.limit ≡ e.pools.limit → d.plan ≡ e.dataflow.plan → d.capacity ≡ e.dataflow.capacity → StepsOn e.texts p e.dataflow d → IsPlacedIn e.texts g → g.failed ≡ false →
     CanRun (record e { ingress = i; pools = pools; dataflow = d; egress = g })
 sliced_run p e run above low i pools d g same released pooled wide plan room steps waits able = record {
@@ -200,7 +200,7 @@ module _ (plan : PlanParts) (policy : Policy) (w : Progress) (given lists : ℕ 
     sliced g takes = takes (lists plan.root) e.closed from way.holds root_stands.history out_from from_low
 
     -- it is under way up to there
-    pub further_underway : (i : Ingress) (pools : Shelves) (g : Egress) → SameFixed e.ingress i → Follows e.texts w.after (longer given fresh) i → i.released ≡ y → d.capacity ≡ e.dataflow.capacity →
+    pub further_underway : (i : Ingress) (pools : PoolsView) (g : Egress) → SameFixed e.ingress i → Follows e.texts w.after (longer given fresh) i → i.released ≡ y → d.capacity ≡ e.dataflow.capacity →
         Holds e.texts (lists plan.root ++ out) e.closed to g → g.rows.kinds.items ≡ e.egress.rows.kinds.items → All (λ edge. map datum_kind edge.cells ≡ map cell_kind_of (result_kinds plan)) out →
         Further given lists (λ more_given more_lists. IsUnderway plan policy w more_given more_lists (record e { ingress = i; pools = pools; dataflow = d; egress = g }))
     further_underway i pools g same follows released room holds kinds typed = record {
@@ -332,7 +332,7 @@ module _ (p : ℕ) (plan : PlanParts) (policy : Policy) (w : Progress) (given li
   }
 
 -- a step failed at the end y of a slice
-module _ (e : Parts) (y : ℕ) (i : Ingress) (pools : Shelves) (d : DataflowView) (released : i.released ≡ y) (plan : d.plan ≡ e.dataflow.plan) where
+module _ (e : Parts) (y : ℕ) (i : Ingress) (pools : PoolsView) (d : DataflowView) (released : i.released ≡ y) (plan : d.plan ≡ e.dataflow.plan) where
   pub can_rest : CanRun e → SameFixed e.ingress i → pools.capacity ≡ e.pools.capacity → pools.limit ≡ e.pools.limit → d.capacity ≡ e.dataflow.capacity → (node : ℕ) → d.fault ≢ None → node < length e.dataflow.plan.nodes →
       CanStepBelow e.texts y node d → CanStepRest node (record e { ingress = i; pools = pools; dataflow = d })
   can_rest run same pooled wide room node failed low can = record {

@@ -7,7 +7,7 @@ use Rattle.tw_rows.specs.Kinds.{cell_kind_of}
 use Rattle.tw_rows.specs.declared.kind.Kind.{Kind}
 use Rattle.tw_rows.specs.declared.kind.CellKind.{CellKind}
 use Rattle.tw_rows.specs.declared.kind.CellKind.TheVariants.{Whole, Bit, Place}
-use Rattle.batch.specs.Shelves.{Shelves, free_of, taken, all_taken}
+use Rattle.batch.specs.PoolsView.{PoolsView, free_of, taken, all_taken}
 use Rattle.lane_expr.specs.Kernels.{Program, kind_for, result_kind}
 use Rattle.where_select.specs.Projects.{is_same_kind, many, Lacks}
 
@@ -20,7 +20,7 @@ abbrev pub one : CellKind → CellKind → ℕ
 one k j = cond (is_same_kind k j) 1 0
 
 -- what is free once a column is taken
-free-taken : (s : Shelves) (j k : CellKind) → free_of s k ≤ free_of (taken s j) k + one k j
+free-taken : (s : PoolsView) (j k : CellKind) → free_of s k ≤ free_of (taken s j) k + one k j
 free-taken s Whole Whole = omega arith
 free-taken s Whole Bit = omega arith
 free-taken s Whole Place = omega arith
@@ -31,7 +31,7 @@ free-taken s Place Whole = omega arith
 free-taken s Place Bit = omega arith
 free-taken s Place Place = omega arith
 
-free-all : (s : Shelves) (ks : List CellKind) (k : CellKind) → free_of s k ≤ free_of (all_taken s ks) k + many k ks
+free-all : (s : PoolsView) (ks : List CellKind) (k : CellKind) → free_of s k ≤ free_of (all_taken s ks) k + many k ks
 free-all s [] k = omega arith
 free-all s (j ∷ ks) k = omega (arith, free-taken s j k, free-all (taken s j) ks k)
 
@@ -44,7 +44,7 @@ many-take (j ∷ ks) zero d k lt e =
 many-take (j ∷ ks) (suc i) d k lt e = let h = many-take ks i d k (omega arith) e in omega (arith, h)
 
 -- where no pool lacks columns, there is one for the kind of number i once those before it are taken
-pub free-left : (s : Shelves) (ks : List CellKind) (i : ℕ) (d : CellKind) → ¬ (Lacks s ks) → i < length ks → 0 < free_of (all_taken s (take i ks)) (get_or ks i d)
+pub free-left : (s : PoolsView) (ks : List CellKind) (i : ℕ) (d : CellKind) → ¬ (Lacks s ks) → i < length ks → 0 < free_of (all_taken s (take i ks)) (get_or ks i d)
 free-left s ks i d enough lt =
     let k = get_or ks i d in
     let a = free-all s (take i ks) k in

@@ -8,7 +8,7 @@ use Rattle.plan_model.specs.Expr.{value}
 use Rattle.batch.specs.declared.payload.Payload.{Payload}
 use Rattle.batch.specs.Payloads.{payload_data, payload_capacity}
 use Rattle.batch.specs.Rows.{Row, Table}
-use Rattle.batch.specs.Shelves.{Shelves, free_of}
+use Rattle.batch.specs.PoolsView.{PoolsView, free_of}
 use Rattle.tw_rows.specs.declared.kind.CellKind.{CellKind}
 use Rattle.tw_rows.specs.declared.kind.CellKind.TheVariants.{Whole, Bit, Place}
 use Rattle.lane_expr.specs.Kernels.{Program, AreResults}
@@ -44,7 +44,7 @@ many kind [] = 0
 many kind (k ∷ ks) = cond (is_same_kind kind k) 1 0 + many kind ks
 
 -- for cells that are stored in one of the ways fewer columns are free than there are kinds: one free column of ints is too few for Whole, Bit, Whole
-abbrev pub Lacks : Shelves → List CellKind → Type 0
+abbrev pub Lacks : PoolsView → List CellKind → Type 0
 Lacks pools kinds = (kind : CellKind) × (free_of pools kind < many kind kinds)
 
 -- a column of the batch's capacity for each expression, with its results at the batch's rows

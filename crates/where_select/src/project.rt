@@ -2,7 +2,7 @@
 ghost use Rattle.std.specs.Prelude.{◌≡◌, ◌<◌, ◌≤◌, ◌↔◌, [], length, map, All, IsTrue, IsErr, IfOk, IfErr, OnOk, OnErr};
 ghost use Rattle.tw_rows.specs.Kinds.{cell_kind_of};
 ghost use Rattle.batch.specs.Payloads.{payload_kind, payload_data, payload_capacity};
-ghost use Rattle.batch.specs.Shelves.{free_of, taken, all_taken, all_given};
+ghost use Rattle.batch.specs.PoolsView.{free_of, taken, all_taken, all_given};
 ghost use Rattle.lane_expr.specs.Steps.{expr_of};
 ghost use Rattle.lane_expr.specs.Kernels.{CanRead, AreResults, result_kind, kind_for};
 ghost use Rattle.where_select.specs.Projects.{exprs_of, AreColumns, AreProjected, is_same_kind, many, Lacks};

@@ -3,8 +3,8 @@ use Rattle.std.specs.Prelude.{All}
 use Rattle.std.proofs.lemmas.List.Elements.{All-push}
 use Rattle.tw_rows.specs.Kinds.{cell_kind_of}
 use Rattle.batch.specs.Columns.{IsColumn}
-use Rattle.batch.specs.Shelves.{all_taken, taken}
-use Rattle.batch.proofs.Stocks.{some_told, NoMore-all, always, kinds_next, columns_next, all_taken-push}
+use Rattle.batch.specs.PoolsView.{all_taken, taken}
+use Rattle.batch.proofs.PoolLaws.{some_told, NoMore-all, always, kinds_next, columns_next, all_taken-push}
 use Rattle.batch.proofs.making.payload_columns.Goals as goal
 
 pub returns-in_err-payload_column-clause-err : goal.returns-in_err-payload_column-clause-err

@@ -4,7 +4,7 @@ use Rattle.std.specs.Prelude.{All}
 use Rattle.tw_rows.specs.Kinds.{cell_kind_of}
 use Rattle.batch.specs.Payloads.{payload_kind}
 use Rattle.batch.specs.Columns.{IsColumn}
-use Rattle.batch.specs.Shelves.{all_taken}
+use Rattle.batch.specs.PoolsView.{all_taken}
 use Rattle.batch.proofs.making.payload_columns.Given as goal
 
 abbrev pub invariant-loop-kind : goal.invariant-loop-kind

@@ -1,8 +1,8 @@
 use Rattle.std.proofs.Common.{◌∙◌, [], ◌∷◌, ap, sym, map}
 use Rattle.std.proofs.lemmas.List.{map-append}
 use Rattle.batch.specs.Payloads.{payload_kind}
-use Rattle.batch.specs.Shelves.{all_given}
-use Rattle.batch.proofs.Stocks.{all_given-push, given-capacity, room_left}
+use Rattle.batch.specs.PoolsView.{all_given}
+use Rattle.batch.proofs.PoolLaws.{all_given-push, given-capacity, room_left}
 use Rattle.where_select.proofs.project.give_columns.Goals as goal
 
 pub loop-column-preserved : goal.loop-column-preserved

@@ -2,7 +2,7 @@
 use Rattle.std.proofs.Common.{◌≡◌, map, length}
 use Rattle.std.specs.Prelude.{All}
 use Rattle.batch.specs.Payloads.{payload_kind, payload_capacity}
-use Rattle.batch.specs.Shelves.{all_given}
+use Rattle.batch.specs.PoolsView.{all_given}
 use Rattle.where_select.proofs.project.give_columns.Given as goal
 
 abbrev pub invariant-loop-column : goal.invariant-loop-column

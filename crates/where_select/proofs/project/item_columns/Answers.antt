@@ -2,8 +2,8 @@ use Rattle.std.proofs.Common.{◌≡◌, ◌<◌, ◌+◌, ◌∙◌, ◌++◌, 
 use Rattle.std.proofs.lemmas.List.{take_more, take-map, map-append, length-map, length-take, get_or-map}
 use Rattle.tw_rows.specs.declared.kind.CellKind.TheVariants.{Whole}
 use Rattle.batch.specs.Payloads.{payload_kind}
-use Rattle.batch.specs.Shelves.{all_taken, taken, free_of}
-use Rattle.batch.proofs.Stocks.{NoMore-all, all_taken-push}
+use Rattle.batch.specs.PoolsView.{all_taken, taken, free_of}
+use Rattle.batch.proofs.PoolLaws.{NoMore-all, all_taken-push}
 use Rattle.lane_expr.specs.Steps.{expr_of}
 use Rattle.lane_expr.specs.Kernels.{result_kind}
 use Rattle.where_select.specs.Projects.{exprs_of, AreColumns}

@@ -1,7 +1,7 @@
 -- There is a column for each item so far.
 use Rattle.std.proofs.Common.{◌≡◌, map, take}
 use Rattle.batch.specs.Payloads.{payload_kind}
-use Rattle.batch.specs.Shelves.{all_taken}
+use Rattle.batch.specs.PoolsView.{all_taken}
 use Rattle.lane_expr.specs.Kernels.{result_kind}
 use Rattle.where_select.specs.Projects.{exprs_of, AreColumns}
 use Rattle.where_select.proofs.project.item_columns.Given as goal

@@ -6,7 +6,7 @@ use Rattle.std.proofs.lemmas.Option.{slice_get-get_or}
 use Rattle.tw_rows.specs.Bag.{total}
 use Rattle.tw_rows.specs.Kinds.{cell_kind_of}
 use Rattle.tw_rows.proofs.Bags.{total-append, total-map, total-flat_map}
-use Rattle.batch.proofs.Stocks.{always}
+use Rattle.batch.proofs.PoolLaws.{always}
 use Rattle.edge_history.specs.Order.{KeepsOrder}
 use Rattle.edge_history.proofs.Keeping.{KeepsOrder-nil}
 use Rattle.edge_stream.specs.Listing.{EdgeListView}

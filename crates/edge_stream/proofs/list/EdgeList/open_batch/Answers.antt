@@ -2,8 +2,8 @@ use Rattle.std.proofs.Common.{◌≡◌, ◌∙◌, ◌+◌, ◌-◌, ◌++◌, 
 use Rattle.std.proofs.lemmas.List.{length_push}
 use Rattle.tw_rows.specs.Kinds.{cell_kind_of}
 use Rattle.batch.specs.Rows.{edges_of}
-use Rattle.batch.specs.Shelves.{IsPartTaken}
-use Rattle.batch.proofs.Stocks.{always}
+use Rattle.batch.specs.PoolsView.{IsPartTaken}
+use Rattle.batch.proofs.PoolLaws.{always}
 use Rattle.edge_history.specs.Order.{KeepsOrder}
 use Rattle.edge_stream.specs.Listing.{edges_in, last_room}
 use Rattle.edge_stream.proofs.Cutting.{edges_in-push}

@@ -1,7 +1,7 @@
 use Rattle.std.specs.Prelude.{◌≡◌, ◌<◌, List, [], ◌∷◌, ◌++◌, length}
 use Rattle.std.proofs.Common.{◌∙◌, ap, refl, sym, subst, arith}
 use Rattle.std.proofs.lemmas.List.{length-map, take_all}
-use Rattle.batch.specs.Shelves.{Shelves}
+use Rattle.batch.specs.PoolsView.{PoolsView}
 use Rattle.edge_stream.specs.Listing.{EdgeListView, cells_of}
 use Rattle.edge_stream.specs.Taking.{batches_taken}
 use Rattle.ingress.specs.Ranks.{lists_taken}
@@ -11,7 +11,7 @@ use Rattle.ingress.proofs.Leaving.{ReleasedTo, released_first, released_next, re
 use Rattle.ingress.proofs.ingress.Ingress.copy_below.Goals as goal
 
 -- one list more
-lists_next : (s : Shelves) (ls : List EdgeListView) (l : EdgeListView) → lists_taken s (ls ++ l ∷ []) ≡ batches_taken l.batches (lists_taken s ls) (cells_of l)
+lists_next : (s : PoolsView) (ls : List EdgeListView) (l : EdgeListView) → lists_taken s (ls ++ l ∷ []) ≡ batches_taken l.batches (lists_taken s ls) (cells_of l)
 lists_next s [] l = refl
 lists_next s (x ∷ ls) l = lists_next (batches_taken x.batches s (cells_of x)) ls l
 

@@ -1,7 +1,7 @@
 use Rattle.std.proofs.Common.{◌≡◌, ◌∙◌, map, ap, sym, subst, refl, true, false}
 use Rattle.tw_rows.specs.Kinds.{cell_kind_of}
-use Rattle.batch.specs.Shelves.{Shelves}
-use Rattle.batch.proofs.Stocks.{NoMore-all}
+use Rattle.batch.specs.PoolsView.{PoolsView}
+use Rattle.batch.proofs.PoolLaws.{NoMore-all}
 use Rattle.lane_expr.specs.Kernels.{result_kind}
 use Rattle.where_select.specs.Projects.{exprs_of, AreColumns, AreProjected, Lacks}
 use Rattle.where_select.proofs.Lacking.{stored-as}
