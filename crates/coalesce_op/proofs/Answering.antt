@@ -1,13 +1,12 @@
 -- What a step of a Coalesce answers: a list in order, with the columns of its rows.
-use Rattle.std.specs.Prelude.{◌≡◌, ℕ, ◌≤◌, Bool, true, false, cond, IsTrue, List, [], ◌∷◌, ◌++◌, filter, map, All, refl}
-use Rattle.std.proofs.Common.{sym, ap, subst, arith}
-use Rattle.std.proofs.lemmas.List.Elements.{All-weaker, All-append}
+use Rattle.std.specs.Prelude.{◌≡◌, ℕ, ◌≤◌, false, List, [], ◌++◌, filter, map, All, refl}
+use Rattle.std.proofs.Common.{sym, subst, arith}
+use Rattle.std.proofs.lemmas.List.Elements.{All-append}
 use Rattle.tw_rows.specs.Bag.{SameBag}
 use Rattle.tw_rows.specs.Cells.{datum_kind}
 use Rattle.tw_rows.specs.Event.{alive}
 use Rattle.tw_rows.specs.Instant.{inf}
 use Rattle.tw_rows.specs.SameCells.{same_cells}
-use Rattle.tw_rows.specs.declared.cells.Datum.{Datum}
 use Rattle.tw_rows.specs.declared.edge.Edge.{Edge}
 use Rattle.tw_rows.specs.declared.edge.HeldRow.{HeldRow}
 use Rattle.tw_rows.specs.declared.kind.CellKind.{CellKind}
@@ -17,49 +16,23 @@ use Rattle.edge_history.specs.Opens.{singles}
 use Rattle.edge_history.specs.Order.{failing, is_from}
 use Rattle.edge_history.proofs.Agreeing.{same_order}
 use Rattle.edge_history.proofs.Retaining.{AreEvents-none_fails}
-use Rattle.edge_history.proofs.Sums.{failing-All}
 use Rattle.edge_history.proofs.Telling.{answer_from, answer_below, answer_real}
 use Rattle.key_nodes.proofs.CoalescedRows.{coalesced_valid}
-use Rattle.node_laws.proofs.Standing.{all_of}
 use Rattle.node_laws.proofs.Steps.{keeps_more}
 use Rattle.operator.specs.Steps.{MayCome}
-use Rattle.plan_laws.proofs.RowsOf.{Rows, rows_alive, coalesced_rows_hold}
+use Rattle.plan_laws.proofs.RowsOf.{rows_alive, coalesced_rows_hold}
 use Rattle.plan_model.specs.declared.node.Node.TheVariants.{Coalesce as CoalesceNode}
 use Rattle.row_queues.proofs.Once.{cells_tell}
 use Rattle.row_queues.specs.Queued.{AreQueues}
 use Rattle.sweep_laws.specs.Saving.{store_all}
 use Rattle.sweep_laws.specs.Sweeps.{Tells}
-use Rattle.sweep_laws.proofs.Stored.{kinds_stored}
+use Rattle.sweep_sides.proofs.StoredRows.{Stored, rows_stored, stored_rows, events_stored}
 use Rattle.sweep_sides.proofs.Telling.{told_stored, between_both}
 use Rattle.sweep_sides.specs.Answers.{FitsList}
 use Rattle.coalesce_op.specs.Coalesces.{coalesces}
 use Rattle.coalesce_op.specs.States.{KeepsCoalesce}
 
 -- THE COLUMNS OF THE ANSWER
-abbrev Stored : List CellKind → List Datum → Type 0
-Stored kinds cells = store_all kinds cells ≡ true
-
-rows_stored : (kinds : List CellKind) (es : List CellEvent) → failing (λ e. store_all kinds e.row) es ≡ 0 → Rows (Stored kinds) es
-rows_stored kinds [] h = tt
-rows_stored kinds (e ∷ es) h = (one (store_all kinds e.row) (omega (arith, h)), rows_stored kinds es (omega (arith, h)))
-  where
-    one : (b : Bool) → cond {A = ℕ} b 0 1 ≡ 0 → b ≡ true
-    one true z = refl
-    one false z = absurd (omega (arith, z))
-
-stored_rows : (kinds : List CellKind) (es : List CellEvent) → Rows (Stored kinds) es → failing (λ e. store_all kinds e.row) es ≡ 0
-stored_rows kinds [] h = refl
-stored_rows kinds (e ∷ es) h =
-    let a = ap (λ b. cond {A = ℕ} b 0 1) h.0 in
-    let b = stored_rows kinds es h.1 in
-    omega (arith, a, b)
-
--- the events of edges have the columns of the edges, and so have those that are put together
-events_stored : (kinds : List CellKind) (h : List Edge) → All (λ e. map datum_kind e.cells ≡ kinds) h → failing (λ e. store_all kinds e.row) (of h) ≡ 0
-events_stored kinds h cells =
-    (failing-All (λ (e : CellEvent). store_all kinds e.row) (of h)).1 (all_of (λ cells. IsTrue (store_all kinds cells)) h
-    (All-weaker (λ (e : Edge). map datum_kind e.cells ≡ kinds) (λ (e : Edge). IsTrue (store_all kinds e.cells)) (λ e k. kinds_stored kinds e.cells k) h cells))
-
 coalesces_stored : (kinds : List CellKind) (a : List CellEvent) → failing (λ e. store_all kinds e.row) a ≡ 0 → failing (λ e. store_all kinds e.row) (coalesces a) ≡ 0
 coalesces_stored kinds a h =
     let r = rows_stored kinds a h in
