@@ -1,5 +1,5 @@
 -- Edges of one instant that are apart.
-use Rattle.std.specs.Prelude.{◌≡◌, ℕ, zero, suc, ◌+◌, ◌<◌, Bool, true, false, cond, not, ◌&&◌, ◌||◌, List, [], ◌∷◌, ◌++◌, flat_map, take, drop, replicate, length, get_or, refl}
+use Rattle.std.specs.Prelude.{◌≡◌, ◌↔◌, ℕ, zero, suc, ◌+◌, ◌<◌, Bool, true, false, cond, not, ◌&&◌, ◌||◌, List, [], ◌∷◌, ◌++◌, flat_map, take, drop, replicate, length, get_or, refl}
 use Rattle.std.specs.List.{list_all}
 use Rattle.std.proofs.Common.{sym, ◌∙◌, ap, subst, arith}
 use Rattle.std.proofs.lemmas.List.{append-nil, map-append, take_more}
@@ -24,11 +24,20 @@ apart_more [] i x d low is follow apart = absurd (omega (arith, low))
 apart_more (e ∷ es) zero x d low is follow apart = (subst (λ y. list_all (may_follow y) es ≡ true) is follow, apart)
 apart_more (e ∷ es) (suc i) x d low is follow apart = apart_more es i x d (omega (arith, low)) is follow apart
 
-pub apart_next : (es : List Edge) (i : ℕ) (x d : Edge) → i < length es → x ≡ get_or es i d →
-    list_all (may_follow x) (drop (i + 1) es) ≡ true → AreApart (drop (i + 1) es) → AreApart (drop i es)
-apart_next es i x d low is follow apart =
-    let z : i + 1 ≡ suc i = omega arith in
-    apart_more es i x d low is (ap (λ k. list_all (may_follow x) (drop k es)) (sym z) ∙ follow) (subst (λ k. AreApart (drop k es)) z apart)
+-- where the edges from one on are apart, those behind it are, and may follow it
+apart_back : (es : List Edge) (i : ℕ) (x d : Edge) → i < length es → x ≡ get_or es i d → AreApart (drop i es) →
+    (list_all (may_follow x) (drop (suc i) es) ≡ true) × AreApart (drop (suc i) es)
+apart_back [] i x d low is apart = absurd (omega (arith, low))
+apart_back (e ∷ es) zero x d low is apart = (subst (λ y. list_all (may_follow y) es ≡ true) (sym is) apart.0, apart.1)
+apart_back (e ∷ es) (suc i) x d low is apart = apart_back es i x d (omega (arith, low)) is apart
+
+-- whether the edges from one on are apart, by whether those behind it are and may follow it
+pub apart_by : (es : List Edge) (i : ℕ) (x d : Edge) → i < length es → x ≡ get_or es i d →
+    AreApart (drop i es) ↔ ((list_all (may_follow x) (drop (i + 1) es) ≡ true) × AreApart (drop (i + 1) es))
+apart_by es i x d low is =
+    let z : suc i ≡ i + 1 = omega arith in
+    subst (λ k. AreApart (drop i es) ↔ ((list_all (may_follow x) (drop k es) ≡ true) × AreApart (drop k es))) z
+    (apart_back es i x d low is, λ h. apart_more es i x d low is h.0 h.1)
 
 both : (a b : Bool) → (a && b) ≡ true → (a ≡ true) × (b ≡ true)
 both true b h = (refl, h)

@@ -1,5 +1,5 @@
 // The edges of one instant.
-ghost use Rattle.std.specs.Prelude.{◌≡◌, ◌<◌, ◌≤◌, ◌+◌, ◌*◌, ◌++◌, ℕ, suc, IsTrue, List, length, drop, flat_map, OnOk};
+ghost use Rattle.std.specs.Prelude.{◌≡◌, ◌↔◌, ◌<◌, ◌≤◌, ◌+◌, ◌*◌, ◌++◌, ℕ, suc, IsTrue, List, length, drop, flat_map, OnOk};
 ghost use Rattle.std.specs.List.{list_all};
 ghost use Rattle.tw_rows.specs.Bag.{total};
 ghost use Rattle.tw_rows.specs.Instant.{inf};
@@ -54,7 +54,7 @@ fn rest(edges: &[Edge], done: usize) -> &[Edge]
 
 // Whether the edges are of different rows, and their ends stand first.
 fn are_apart(edges: &[Edge]) -> bool
-    ensures { IsTrue result → AreApart edges.now }
+    ensures { IsTrue result ↔ AreApart edges.now }
 {
     for i in 0..edges.len() {
         if !all_follow(&edges[i], rest(edges, i + 1)) {
@@ -66,7 +66,7 @@ fn are_apart(edges: &[Edge]) -> bool
 
 /// Whether the edges are few, of different rows, and their ends stand first. More are not compared with each other.
 pub fn is_few_apart(edges: &[Edge]) -> bool
-    ensures { IsTrue result → AreApart edges.now }
+    ensures { IsTrue result ↔ ((length edges.now ≤ 8) × AreApart edges.now) }
 {
     if edges.len() > FEW {
         return false;

@@ -23,7 +23,7 @@ loop-done-init c = record {
 
 pub pass_in_place-requires : goal.pass_in_place-requires
 pass_in_place-requires c =
-    subst AreApart (sym (part_is c.loop-done.due c.rest-left.result.now c.loop-done.done c.first_instant-n.result c.rest-left.ensures)) (c.is_few_apart.ensures c.if-not-is_few_apart.false)
+    subst AreApart (sym (part_is c.loop-done.due c.rest-left.result.now c.loop-done.done c.first_instant-n.result c.rest-left.ensures)) (c.is_few_apart.ensures.0 c.if-not-is_few_apart.false).1
 
 pub loop-done-preserved : goal.loop-done-preserved
 loop-done-preserved c =
