@@ -4,7 +4,7 @@ ghost use Rattle.edge_stream.specs.Listing.{cells_of};
 
 use crate::union::Union;
 use batch::Pools;
-use carried_edges::{are_of_parts, is_edge_part, load_part, save_part};
+use carried_edges::{are_of_parts, is_edge_part, load_part, save_part, take_below};
 use edge_stream::{EdgeList, LoadFault, PartRow, Saved, StepFault};
 use operator::Operator;
 use tw_rows::{Memory, Time};
@@ -19,11 +19,11 @@ impl Union {
     fn is_state(&self, saved: &Saved, left_to: Time, right_to: Time) -> bool
         ensures { IsTrue result ↔ IsState self.now saved.now left_to right_to }
     {
-        let to = left_to.min(right_to);
         let kinds = self.left.kinds();
+        let from = left_to.min(right_to);
         are_of_parts(saved, 2)
-            && is_edge_part(saved, 0, kinds, to)
-            && is_edge_part(saved, 1, kinds, to)
+            && is_edge_part(saved, 0, kinds, from)
+            && is_edge_part(saved, 1, kinds, from)
     }
 
     // The edges of both sides that the entries are. What is no state is told as such, whatever memory there is.
@@ -77,7 +77,16 @@ impl Operator for Union {
         left_to: Time,
         right_to: Time,
     ) -> Result<EdgeList, StepFault> {
-        let answer = self.advance(pools, left, right, left_to, right_to)?;
+        self.failed = true;
+        // These calls tell the proof that both are times.
+        let _ = (left_to.word(), right_to.word());
+        let to = left_to.min(right_to);
+        let left_due = take_below(self.alloc, pools, &mut self.left, left, to)?;
+        let right_due = take_below(self.alloc, pools, &mut self.right, right, to)?;
+        let answer = EdgeList::merge(pools, left_due, right_due)?;
+        self.left_to = left_to;
+        self.right_to = right_to;
+        self.failed = false;
         Ok(answer)
     }
 

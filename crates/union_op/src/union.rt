@@ -1,10 +1,8 @@
 // The operator of a Union.
-ghost use Rattle.std.specs.Prelude.{◌≡◌, ◌≤◌, min, false, is_err, [], length, IfOk, OnOk};
+ghost use Rattle.std.specs.Prelude.{◌≡◌, ◌≤◌, min, false, [], length, IfOk};
 ghost use Rattle.edge_history.specs.Order.{failing, is_from};
 ghost use Rattle.edge_stream.specs.Listing.{cells_of};
 
-use batch::Pools;
-use carried_edges::take_below;
 use edge_stream::EdgeList;
 use std::alloc::Global;
 use tw_rows::{Kind, Memory, Time};
@@ -26,10 +24,6 @@ pub struct Union {
 }
 
 impl Union {
-    ghost use Rattle.operator.specs.Standing.{IsLike};
-    ghost use Rattle.operator.specs.Steps.{StaysKept, AnswersBetween};
-    ghost use Rattle.union_op.specs.Operating.{standing as union_standing, IsKept};
-
     /// The operator of a Union of rows with columns of these kinds, in batches of that capacity.
     pub fn new(alloc: Global, kinds: &[Kind], capacity: usize) -> Result<Union, Memory>
         requires width { length kinds.now ≤ 32 }
@@ -47,48 +41,5 @@ impl Union {
             right_to: Time::bounds().0,
             failed: false,
         })
-    }
-
-    /// Answers the edges below the lesser time of both sides in one list, and carries the others.
-    pub(crate) fn advance(
-        &mut self,
-        pools: &mut Pools,
-        left: EdgeList,
-        right: EdgeList,
-        left_to: Time,
-        right_to: Time,
-    ) -> Result<EdgeList, Memory>
-        requires works { self.old.failed ≡ false }
-        requires left_rises { self.old.left_to ≤ left_to }
-        requires right_rises { self.old.right_to ≤ right_to }
-        requires left_kinds { cells_of left ≡ cells_of self.old.left }
-        requires right_kinds { cells_of right ≡ cells_of self.old.left }
-        requires left_capacity { left.capacity ≡ self.old.left.capacity }
-        requires right_capacity { right.capacity ≡ self.old.left.capacity }
-        requires capacity { pools.old.capacity ≡ self.old.left.capacity }
-        ensures kept { IfOk result (λ answer.
-            StaysKept (union_standing self.old) (IsKept self.old) (IsKept self.new) left.edges right.edges answer.edges) }
-        ensures between { IfOk result (λ answer.
-            AnswersBetween (union_standing self.old) left.edges right.edges left_to right_to answer.edges) }
-        ensures kinds { IfOk result (λ answer. cells_of answer ≡ cells_of self.old.left) }
-        ensures capacity { IfOk result (λ answer. answer.capacity ≡ self.old.left.capacity) }
-        ensures pools { pools.new.capacity ≡ pools.old.capacity }
-        ensures limit { pools.new.limit ≡ pools.old.limit }
-        ensures left_to { OnOk result (self.new.left_to ≡ left_to) }
-        ensures right_to { OnOk result (self.new.right_to ≡ right_to) }
-        ensures failed { self.new.failed ≡ is_err result }
-        ensures like { IsLike (union_standing self.old) (union_standing self.new) }
-    {
-        self.failed = true;
-        // These calls tell the proof that both are times.
-        let _ = (left_to.word(), right_to.word());
-        let to = left_to.min(right_to);
-        let left_due = take_below(self.alloc, pools, &mut self.left, left, to)?;
-        let right_due = take_below(self.alloc, pools, &mut self.right, right, to)?;
-        let answer = EdgeList::merge(pools, left_due, right_due)?;
-        self.left_to = left_to;
-        self.right_to = right_to;
-        self.failed = false;
-        Ok(answer)
     }
 }
