@@ -9,7 +9,7 @@ use Rattle.tw_rows.specs.declared.edge.Edge.{Edge}
 use Rattle.tw_rows.specs.declared.edge.HeldRow.{HeldRow}
 use Rattle.tw_rows.proofs.Bags.{total_same, total-filter}
 use Rattle.edge_history.specs.Order.{failing}
-use Rattle.edge_history.specs.History.{CellEvent, of}
+use Rattle.edge_history.specs.History.{CellEvent}
 use Rattle.edge_history.specs.Balance.{news}
 use Rattle.sweep_laws.specs.Sweeps.{is_at, IsPast, IsDue, IsNext}
 use Rattle.sweep_laws.specs.Unending.{unending}

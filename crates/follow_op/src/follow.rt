@@ -1,19 +1,14 @@
 // The operator of a Follow.
-ghost use Rattle.std.specs.Prelude.{◌≡◌, ◌≤◌, min, map, length, false, is_err, [], IfOk, OnOk};
-ghost use Rattle.tw_rows.specs.Kinds.{cell_kind_of};
-ghost use Rattle.edge_stream.specs.Listing.{cells_of};
+ghost use Rattle.std.specs.Prelude.{◌≡◌, ◌≤◌, min, length, false, [], IfOk};
 ghost use Rattle.plan_model.specs.Keys.{paired_row};
-ghost use Rattle.follow_op.specs.Keys.{SameKeys};
 ghost use Rattle.follow_op.specs.States.{IsWorking};
 
 use crate::rows::Rows;
 use crate::sides::Sides;
-use batch::Pools;
-use edge_stream::EdgeList;
 use end_queue::EndQueue;
 use std::alloc::Global;
 use std::collections::VecDeque;
-use sweep_sides::{list_of, pair_kinds};
+use sweep_sides::pair_kinds;
 use synopsis::{KeyRoom, Synopsis};
 use tw_rows::{Kind, Memory, Time};
 
@@ -67,8 +62,7 @@ fn no_sides(
 }
 
 impl Follow {
-    ghost use Rattle.operator.specs.Steps.{StaysKept, ComeBetween};
-    ghost use Rattle.follow_op.specs.Operating.{standing, IsNew, IsKept};
+    ghost use Rattle.follow_op.specs.Operating.{IsNew};
 
     /// A Follow of nothing yet, by these key columns, within this time, of rows with columns of these kinds, in batches of that
     /// capacity.
@@ -105,65 +99,5 @@ impl Follow {
             right_to: Time::bounds().0,
             failed: false,
         })
-    }
-
-    /// Takes the new edges of both sides, which are closed up to the two times, and answers the events that start up to the
-    /// lesser of them.
-    pub(crate) fn advance(
-        &mut self,
-        pools: &mut Pools,
-        left: EdgeList,
-        right: EdgeList,
-        left_to: Time,
-        right_to: Time,
-    ) -> Result<EdgeList, Memory>
-        requires works { self.old.failed ≡ false }
-        requires left_rises { self.old.left_to ≤ left_to }
-        requires right_rises { self.old.right_to ≤ right_to }
-        requires left_kinds { cells_of left ≡ map cell_kind_of self.old.left_kinds.items }
-        requires right_kinds { cells_of right ≡ map cell_kind_of self.old.right_kinds.items }
-        requires left_capacity { left.capacity ≡ self.old.capacity }
-        requires right_capacity { right.capacity ≡ self.old.capacity }
-        requires capacity { pools.old.capacity ≡ self.old.capacity }
-        ensures kept { IfOk result (λ answer. StaysKept (standing self.old)
-            (IsKept self.old) (IsKept self.new) left.edges right.edges answer.edges) }
-        ensures between { IfOk result (λ answer.
-            ComeBetween (min self.old.left_to self.old.right_to)
-            (min left_to right_to) answer.edges) }
-        ensures kinds { IfOk result (λ answer. cells_of answer
-            ≡ map cell_kind_of self.old.own_kinds.items) }
-        ensures capacity { IfOk result (λ answer. answer.capacity ≡ self.old.capacity) }
-        ensures pools { pools.new.capacity ≡ pools.old.capacity }
-        ensures limit { pools.new.limit ≡ pools.old.limit }
-        ensures left_to { OnOk result (self.new.left_to ≡ left_to) }
-        ensures right_to { OnOk result (self.new.right_to ≡ right_to) }
-        ensures failed { self.new.failed ≡ is_err result }
-        ensures keys { SameKeys self.old.sides.rows self.new.sides.rows }
-        ensures left_like { self.new.left_kinds.items ≡ self.old.left_kinds.items }
-        ensures right_like { self.new.right_kinds.items ≡ self.old.right_kinds.items }
-        ensures own_like { self.new.own_kinds.items ≡ self.old.own_kinds.items }
-        ensures rows_like { self.new.capacity ≡ self.old.capacity }
-    {
-        self.failed = true;
-        // Their calls tell the proof that both are times.
-        let _ = (left_to.word(), right_to.word());
-        let from = self.left_to.min(self.right_to);
-        let to = left_to.min(right_to);
-        let told = self.sides.advance(&left, &right, to)?;
-        left.give_back(pools);
-        right.give_back(pools);
-        let answer = list_of(
-            self.sides.rows.alloc,
-            pools,
-            self.own_kinds.as_slice(),
-            self.capacity,
-            from,
-            to,
-            told.as_slice(),
-        )?;
-        self.left_to = left_to;
-        self.right_to = right_to;
-        self.failed = false;
-        Ok(answer)
     }
 }

@@ -6,7 +6,7 @@ use crate::sides::is_sound;
 use batch::Pools;
 use edge_stream::{EdgeList, LoadFault, PartRow, Saved, StepFault};
 use operator::Operator;
-use sweep_sides::{kept_count, save_rows, save_waiting};
+use sweep_sides::{kept_count, list_of, save_rows, save_waiting};
 use tw_rows::{Memory, Time};
 
 impl Operator for Follow {
@@ -37,7 +37,26 @@ impl Operator for Follow {
         left_to: Time,
         right_to: Time,
     ) -> Result<EdgeList, StepFault> {
-        let answer = self.advance(pools, left, right, left_to, right_to)?;
+        self.failed = true;
+        // Their calls tell the proof that both are times.
+        let _ = (left_to.word(), right_to.word());
+        let from = self.left_to.min(self.right_to);
+        let to = left_to.min(right_to);
+        let told = self.sides.advance(&left, &right, to)?;
+        left.give_back(pools);
+        right.give_back(pools);
+        let answer = list_of(
+            self.sides.rows.alloc,
+            pools,
+            self.own_kinds.as_slice(),
+            self.capacity,
+            from,
+            to,
+            told.as_slice(),
+        )?;
+        self.left_to = left_to;
+        self.right_to = right_to;
+        self.failed = false;
         Ok(answer)
     }
 

@@ -1,5 +1,5 @@
 // The operator of a node that changes lives.
-ghost use Rattle.std.specs.Prelude.{◌≡◌, ◌≤◌, true, false, is_err, map, [], ◌++◌, length, IfOk, OnOk};
+ghost use Rattle.std.specs.Prelude.{◌≡◌, ◌≤◌, true, false, map, [], length, IfOk};
 ghost use Rattle.edge_history.specs.Order.{failing, is_from};
 ghost use Rattle.edge_stream.specs.Listing.{SameShape, cells_of};
 ghost use Rattle.life_laws.specs.Answers.{answered, answered_below};
@@ -10,7 +10,7 @@ ghost use Rattle.lifetime_ops.specs.Times.{retimed};
 use crate::change::Change;
 use crate::mean::means_of;
 use batch::Pools;
-use carried_edges::{put_last, take_below};
+use carried_edges::put_last;
 use edge_stream::EdgeList;
 use std::alloc::Global;
 use tw_rows::{Kind, Memory, Time};
@@ -47,7 +47,7 @@ fn retime(change: &Change, alloc: Global, due: EdgeList) -> Result<EdgeList, Mem
 }
 
 // The edges that are answered of those of a list.
-fn answer_of(
+pub(crate) fn answer_of(
     change: &Change,
     alloc: Global,
     pools: &mut Pools,
@@ -68,10 +68,6 @@ fn answer_of(
 }
 
 impl AlterLifetime {
-    ghost use Rattle.operator.specs.Standing.{IsLike};
-    ghost use Rattle.operator.specs.Steps.{StaysKept, AnswersBetween};
-    ghost use Rattle.lifetime_ops.specs.Operating.{standing as alter_standing, IsKept};
-
     /// The operator of a node that makes this change, of rows with columns of these kinds, in batches of that capacity.
     pub fn new(
         alloc: Global,
@@ -95,47 +91,5 @@ impl AlterLifetime {
             right_to: Time::bounds().0,
             failed: false,
         })
-    }
-
-    /// Answers the edges that came early enough, changed, and carries the others.
-    pub(crate) fn advance(
-        &mut self,
-        pools: &mut Pools,
-        left: EdgeList,
-        right: EdgeList,
-        left_to: Time,
-        right_to: Time,
-    ) -> Result<EdgeList, Memory>
-        requires works { self.old.failed ≡ false }
-        requires left_rises { self.old.left_to ≤ left_to }
-        requires right_rises { self.old.right_to ≤ right_to }
-        requires left_kinds { cells_of left ≡ cells_of self.old.carried }
-        requires left_capacity { left.capacity ≡ self.old.carried.capacity }
-        requires right_capacity { right.capacity ≡ self.old.carried.capacity }
-        requires capacity { pools.old.capacity ≡ self.old.carried.capacity }
-        ensures kept { IfOk result (λ answer.
-            StaysKept (alter_standing self.old) (IsKept self.old) (IsKept self.new) left.edges right.edges answer.edges) }
-        ensures between { IfOk result (λ answer.
-            AnswersBetween (alter_standing self.old) left.edges right.edges left_to right_to answer.edges) }
-        ensures kinds { IfOk result (λ answer. cells_of answer ≡ answer_kinds self.old.change (cells_of self.old.carried)) }
-        ensures capacity { IfOk result (λ answer. answer.capacity ≡ self.old.carried.capacity) }
-        ensures pools { pools.new.capacity ≡ pools.old.capacity }
-        ensures limit { pools.new.limit ≡ pools.old.limit }
-        ensures left_to { OnOk result (self.new.left_to ≡ left_to) }
-        ensures right_to { OnOk result (self.new.right_to ≡ right_to) }
-        ensures failed { self.new.failed ≡ is_err result }
-        ensures like { IsLike (alter_standing self.old) (alter_standing self.new) }
-    {
-        self.failed = true;
-        // These calls tell the proof that both are times.
-        let _ = (left_to.word(), right_to.word());
-        right.give_back(pools);
-        let below = self.change.answered_below(left_to);
-        let due = take_below(self.alloc, pools, &mut self.carried, left, below)?;
-        let answer = answer_of(&self.change, self.alloc, pools, due)?;
-        self.left_to = left_to;
-        self.right_to = right_to;
-        self.failed = false;
-        Ok(answer)
     }
 }

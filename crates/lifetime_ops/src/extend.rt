@@ -1,17 +1,15 @@
 // The operator of a node that moves the ends of lives.
-ghost use Rattle.std.specs.Prelude.{◌≡◌, ◌≤◌, ◌+◌, nat_lt, ℕ, true, false, is_err, List, [], ◌∷◌, ◌++◌, map, length, All, IfOk, OnOk};
-ghost use Rattle.tw_rows.specs.Bag.{total};
+ghost use Rattle.std.specs.Prelude.{◌≡◌, ◌≤◌, ◌+◌, nat_lt, true, false, List, [], ◌∷◌, ◌++◌, map, length, All, IfOk, OnOk};
 ghost use Rattle.tw_rows.specs.Instant.{inf};
 ghost use Rattle.tw_rows.specs.Cells.{datum_kind};
 ghost use Rattle.tw_rows.specs.declared.edge.Edge.{Edge};
 ghost use Rattle.tw_rows.specs.declared.kind.CellKind.{CellKind};
-ghost use Rattle.edge_history.specs.Order.{failing, is_end, is_below, is_from, IsReal, KeepsOrder};
+ghost use Rattle.edge_history.specs.Order.{failing, is_end, is_below, is_from, IsReal};
 ghost use Rattle.edge_stream.specs.Listing.{cells_of};
 ghost use Rattle.life_laws.specs.Extending.{extended_starts, extended_ends};
 ghost use Rattle.lifetime_ops.specs.Waiting.{edges_of_pending, TakesIn, IsWaitingEnd};
 
 use batch::Pools;
-use carried_edges::take_below;
 use edge_stream::EdgeList;
 use end_queue::EndQueue;
 use std::alloc::Global;
@@ -62,7 +60,7 @@ fn put_end(ends: &mut EndQueue, by: u64, edge: Edge) -> Result<(), Memory>
 }
 
 // Puts the ends among the edges into the queue, and the others, with their known ends moved, into an empty list.
-fn part_due(
+pub(crate) fn part_due(
     by: u64,
     due: &EdgeList,
     ends: &mut EndQueue,
@@ -98,7 +96,7 @@ fn part_due(
 }
 
 // Takes out of the queue the ends that are due below a time, in a list like another one.
-fn take_due(
+pub(crate) fn take_due(
     alloc: Global,
     pools: &mut Pools,
     ends: &mut EndQueue,
@@ -126,10 +124,6 @@ fn take_due(
 }
 
 impl ExtendLifetime {
-    ghost use Rattle.operator.specs.Standing.{IsLike};
-    ghost use Rattle.operator.specs.Steps.{StaysKept, AnswersBetween};
-    ghost use Rattle.lifetime_ops.specs.ExtendOperating.{standing as extend_standing, IsKept};
-
     /// The operator of a node that moves ends by so much, of rows with columns of these kinds, in batches of that capacity.
     pub fn new(
         alloc: Global,
@@ -154,50 +148,5 @@ impl ExtendLifetime {
             right_to: Time::bounds().0,
             failed: false,
         })
-    }
-
-    /// Answers the starts and intervals that came early enough, and the ends that are due.
-    pub(crate) fn advance(
-        &mut self,
-        pools: &mut Pools,
-        left: EdgeList,
-        right: EdgeList,
-        left_to: Time,
-        right_to: Time,
-    ) -> Result<EdgeList, Memory>
-        requires works { self.old.failed ≡ false }
-        requires left_rises { self.old.left_to ≤ left_to }
-        requires right_rises { self.old.right_to ≤ right_to }
-        requires left_kinds { cells_of left ≡ cells_of self.old.carried }
-        requires left_capacity { left.capacity ≡ self.old.carried.capacity }
-        requires right_capacity { right.capacity ≡ self.old.carried.capacity }
-        requires capacity { pools.old.capacity ≡ self.old.carried.capacity }
-        ensures kept { IfOk result (λ answer.
-            StaysKept (extend_standing self.old) (IsKept self.old) (IsKept self.new) left.edges right.edges answer.edges) }
-        ensures between { IfOk result (λ answer.
-            AnswersBetween (extend_standing self.old) left.edges right.edges left_to right_to answer.edges) }
-        ensures kinds { IfOk result (λ answer. cells_of answer ≡ cells_of self.old.carried) }
-        ensures capacity { IfOk result (λ answer. answer.capacity ≡ self.old.carried.capacity) }
-        ensures pools { pools.new.capacity ≡ pools.old.capacity }
-        ensures limit { pools.new.limit ≡ pools.old.limit }
-        ensures left_to { OnOk result (self.new.left_to ≡ left_to) }
-        ensures right_to { OnOk result (self.new.right_to ≡ right_to) }
-        ensures failed { self.new.failed ≡ is_err result }
-        ensures like { IsLike (extend_standing self.old) (extend_standing self.new) }
-    {
-        self.failed = true;
-        // These calls tell the proof that both are times.
-        let _ = (left_to.word(), right_to.word());
-        right.give_back(pools);
-        let due = take_below(self.alloc, pools, &mut self.carried, left, left_to)?;
-        let mut starts = EdgeList::new(self.alloc, self.carried.kinds(), self.carried.capacity())?;
-        part_due(self.by, &due, &mut self.ends, pools, &mut starts)?;
-        due.give_back(pools);
-        let ends = take_due(self.alloc, pools, &mut self.ends, &self.carried, left_to)?;
-        let answer = EdgeList::merge(pools, starts, ends)?;
-        self.left_to = left_to;
-        self.right_to = right_to;
-        self.failed = false;
-        Ok(answer)
     }
 }

@@ -10,9 +10,11 @@ ghost use Rattle.carried_edges.specs.Entries.{part_of, IsEdgePart};
 ghost use Rattle.lifetime_ops.specs.ExtendSaving.{is_end_in};
 ghost use Rattle.lifetime_ops.specs.Waiting.{edges_of_pending, IsWaitingEnd};
 
-use crate::extend::ExtendLifetime;
+use crate::extend::{ExtendLifetime, part_due, take_due};
 use batch::Pools;
-use carried_edges::{are_of_parts, edges_of_part, is_edge_part, load_part, save_edges, save_part};
+use carried_edges::{
+    are_of_parts, edges_of_part, is_edge_part, load_part, save_edges, save_part, take_below,
+};
 use edge_stream::{EdgeList, LoadFault, PartRow, Saved, StepFault};
 use end_queue::EndQueue;
 use operator::Operator;
@@ -110,7 +112,19 @@ impl Operator for ExtendLifetime {
         left_to: Time,
         right_to: Time,
     ) -> Result<EdgeList, StepFault> {
-        let answer = self.advance(pools, left, right, left_to, right_to)?;
+        self.failed = true;
+        // These calls tell the proof that both are times.
+        let _ = (left_to.word(), right_to.word());
+        right.give_back(pools);
+        let due = take_below(self.alloc, pools, &mut self.carried, left, left_to)?;
+        let mut starts = EdgeList::new(self.alloc, self.carried.kinds(), self.carried.capacity())?;
+        part_due(self.by, &due, &mut self.ends, pools, &mut starts)?;
+        due.give_back(pools);
+        let ends = take_due(self.alloc, pools, &mut self.ends, &self.carried, left_to)?;
+        let answer = EdgeList::merge(pools, starts, ends)?;
+        self.left_to = left_to;
+        self.right_to = right_to;
+        self.failed = false;
         Ok(answer)
     }
 

@@ -2,9 +2,9 @@
 ghost use Rattle.std.specs.Prelude.{◌≡◌};
 ghost use Rattle.edge_stream.specs.Listing.{cells_of};
 
-use crate::alter_lifetime::AlterLifetime;
+use crate::alter_lifetime::{AlterLifetime, answer_of};
 use batch::Pools;
-use carried_edges::{are_of_parts, is_edge_part, load_part, save_part};
+use carried_edges::{are_of_parts, is_edge_part, load_part, save_part, take_below};
 use edge_stream::{EdgeList, LoadFault, PartRow, Saved, StepFault};
 use operator::Operator;
 use tw_rows::{Memory, Time};
@@ -66,7 +66,16 @@ impl Operator for AlterLifetime {
         left_to: Time,
         right_to: Time,
     ) -> Result<EdgeList, StepFault> {
-        let answer = self.advance(pools, left, right, left_to, right_to)?;
+        self.failed = true;
+        // These calls tell the proof that both are times.
+        let _ = (left_to.word(), right_to.word());
+        right.give_back(pools);
+        let below = self.change.answered_below(left_to);
+        let due = take_below(self.alloc, pools, &mut self.carried, left, below)?;
+        let answer = answer_of(&self.change, self.alloc, pools, due)?;
+        self.left_to = left_to;
+        self.right_to = right_to;
+        self.failed = false;
         Ok(answer)
     }
 

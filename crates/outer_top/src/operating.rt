@@ -7,7 +7,7 @@ use crate::top::Top;
 use batch::Pools;
 use edge_stream::{EdgeList, LoadFault, PartRow, Saved, StepFault};
 use operator::Operator;
-use sweep_sides::save_waiting;
+use sweep_sides::{list_of, save_waiting};
 use tw_rows::{Memory, Time};
 
 impl Operator for Top {
@@ -38,7 +38,24 @@ impl Operator for Top {
         left_to: Time,
         right_to: Time,
     ) -> Result<EdgeList, StepFault> {
-        let answer = self.advance(pools, left, right, left_to, right_to)?;
+        self.failed = true;
+        // Their calls tell the proof that both are times.
+        let _ = (left_to.word(), right_to.word());
+        let told = self.side.advance(&left, left_to)?;
+        left.give_back(pools);
+        right.give_back(pools);
+        let answer = list_of(
+            self.side.alloc,
+            pools,
+            self.kinds.as_slice(),
+            self.capacity,
+            self.left_to,
+            left_to,
+            told.as_slice(),
+        )?;
+        self.left_to = left_to;
+        self.right_to = right_to;
+        self.failed = false;
         Ok(answer)
     }
 
