@@ -12,11 +12,9 @@ use Rattle.edge_history.proofs.Sums.{sum_eq}
 use Rattle.key_nodes.specs.Antis.{alone_at}
 use Rattle.key_nodes.specs.Runs.{goes_on, runs}
 use Rattle.sweep_laws.specs.Saving.{store_all}
+use Rattle.sweep_sides.proofs.StoredRows.{row_stored}
 use Rattle.sweep_operator.specs.Sweeping.{AreStored}
 use Rattle.anti_join.specs.AntiJoined.{anti_meets, antis}
-
-abbrev row_stored : List CellKind → CellEvent → Bool
-row_stored kinds e = store_all kinds e.row
 
 module _ (lk rk : List ℕ) (own : List CellKind) where
   abbrev lost : CellEvent → ℕ

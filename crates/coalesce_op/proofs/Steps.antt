@@ -114,9 +114,6 @@ reach_end a from u to rest rows answer0 answer1 e r =
     let w = held_between a r.due.lives u to rows r.due.low r.due.high (λ w. sym (r.due.news_of.weigh w) ∙ ap (total w) e) r.now in
     (w.0, tells_parts (coalesces a) from u to answer0 answer1 answer1 r.low r.due.low r.told (tells_still (coalesces a) u to answer1 r.due.low w.1))
 
-pub next_done : (t n : ℕ) (rest : List Edge) → IsNext t rest [] → IsPast t (drop n rest) → 1 ≤ n
-next_done t n rest next past = let h = some_done t n 0 rest [] next past tt in omega (arith, h)
-
 -- IN PLACE
 join_rises : (q r : ℕ) (xs ys : List Edge) → q ≤ r → Rises q xs → failing (λ e. nat_le (rank e) r) xs ≡ 0 → Rises r ys → Rises q (xs ++ ys)
 join_rises q r [] ys low h b k = rises_weaker r q ys low k
@@ -150,25 +147,6 @@ pub starts_parted : (w : HeldRow → ℕ) (i : ℕ) (due : List Edge) → total 
 starts_parted w i due =
     ap (λ (l : List Edge). total w (started_rows l)) (sym (take-append-drop i due))
     ∙ (ap (total w) (flat_map-append started_of (take i due) (drop i due)) ∙ total-append w (started_rows (take i due)) (started_rows (drop i due)))
-
--- a part of n edges, and what stands behind it once it is written over
-pub part_is : {X : Type 0} (xs rest : List X) (i n : ℕ) → rest ≡ drop i xs → take ((i + n) - i) (drop i xs) ≡ take n rest
-part_is {X} xs rest i n e = ap (λ k. take k (drop i xs)) (let z : (i + n) - i ≡ n = omega arith in z) ∙ ap (λ (l : List X). take n l) (sym e)
-
-module _ {X : Type 0} (xs part : List X) (i n : ℕ) (within : i + n ≤ length xs) (same : length part ≡ length (take ((i + n) - i) (drop i xs))) where
-  part_long : length part ≡ n
-  part_long =
-      let a = length-take ((i + n) - i) (drop i xs) in
-      let b = length-drop i xs in
-      omega (arith, within, same, a, b)
-
-  pub rest_written : (ys : List X) → drop i xs ≡ drop i ys → drop (i + n) (put_mid i ((i + n) - i) xs part) ≡ drop (i + n) ys
-  rest_written ys e =
-      drop-put_mid i ((i + n) - i) xs part (i + n) (omega arith) (omega (arith, within)) (let l = part_long in omega (arith, l))
-      ∙ (sym (drop-drop n i xs) ∙ (ap (λ (l : List X). drop n l) e ∙ drop-drop n i ys))
-
-  pub part_written : take (i + n) (put_mid i ((i + n) - i) xs part) ≡ take i xs ++ part
-  part_written = take-put_mid i ((i + n) - i) xs part (i + n) (let l = part_long in omega (arith, l)) (omega (arith, within))
 
 -- THE ROWS OF AN INSTANT
 -- edges of one instant start rows there

@@ -213,9 +213,6 @@ module _ (columns : List ℕ) (by most : ℕ) where
       let w = held_between a r.due.lives u to es rows r.due.low r.due.high (λ w. sym (r.due.news_of.weigh w) ∙ ap (total w) e) r.now in
       (w.0, tells_parts (tops columns by most a) from u to answer0 answer1 answer1 r.low r.due.low r.told (tells_still (tops columns by most a) u to answer1 r.due.low w.1))
 
-pub next_done : (t n : ℕ) (rest : List Edge) → IsNext t rest [] → IsPast t (drop n rest) → 1 ≤ n
-next_done t n rest next past = let h = some_done t n 0 rest [] next past tt in omega (arith, h)
-
 -- WHAT ALL ROWS PASS
 failing_take : {X : Type 0} (q : X → Bool) (xs : List X) (n : ℕ) → failing q xs ≡ 0 → failing q (take n xs) ≡ 0
 failing_take q xs zero h = refl

@@ -15,5 +15,4 @@ pub mod Lined
 pub mod Queueing
 pub mod Reloading
 pub mod Faults
-pub mod Pooling
 pub mod Examples

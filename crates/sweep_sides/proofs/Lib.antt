@@ -8,3 +8,5 @@ pub mod Starting
 pub mod Paired
 pub mod DueStarts
 pub mod StoredRows
+pub mod GivenBack
+pub mod Overwriting

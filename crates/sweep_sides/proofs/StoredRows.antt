@@ -14,6 +14,10 @@ use Rattle.plan_laws.proofs.RowsOf.{Rows}
 use Rattle.sweep_laws.specs.Saving.{store_all}
 use Rattle.sweep_laws.proofs.Stored.{kinds_stored}
 
+-- columns of these kinds store the row of the event
+abbrev pub row_stored : List CellKind → CellEvent → Bool
+row_stored kinds e = store_all kinds e.row
+
 -- columns of these kinds store the cells
 abbrev pub Stored : List CellKind → List Datum → Type 0
 Stored kinds cells = store_all kinds cells ≡ true

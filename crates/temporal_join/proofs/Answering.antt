@@ -14,6 +14,7 @@ use Rattle.key_nodes.specs.Joins.{joined_one}
 use Rattle.plan_model.specs.Keys.{outside_from, outside_key, paired_row}
 use Rattle.sweep_laws.specs.Saving.{store_all}
 use Rattle.sweep_laws.proofs.Stored.{kinds_stored, stored_kinds}
+use Rattle.sweep_sides.proofs.StoredRows.{row_stored}
 use Rattle.sweep_operator.specs.Sweeping.{AreStored}
 use Rattle.temporal_join.specs.Joined.{join_meets, joins}
 
@@ -29,9 +30,6 @@ module _ {X Y : Type 0} (f : X → Y) where
 
   pub pair_mapped : (key : List ℕ) (a b : List X) → paired_row key (map f a) (map f b) ≡ map f (paired_row key a b)
   pair_mapped key a b = ap (λ l. map f a ++ l) (outside_mapped 0 key b) ∙ sym (map-append f a (outside_key key b))
-
-abbrev row_stored : List CellKind → CellEvent → Bool
-row_stored kinds e = store_all kinds e.row
 
 module _ (lk rk : List ℕ) (left right own : List CellKind) (follows : own ≡ paired_row rk left right) where
   pair_stored : (a b : List Datum) → store_all left a ≡ true → store_all right b ≡ true → store_all own (paired_row rk a b) ≡ true

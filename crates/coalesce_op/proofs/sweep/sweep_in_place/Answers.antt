@@ -10,7 +10,8 @@ use Rattle.sweep_laws.specs.Sweeps.{is_at}
 use Rattle.sweep_sides.proofs.Cutting.{starts_before}
 use Rattle.coalesce_op.specs.Coalesces.{coalesces}
 use Rattle.coalesce_op.specs.Holding.{CoalesceReached}
-use Rattle.coalesce_op.proofs.Steps.{reach_start, reach_step, tells_behind, part_is, rest_written, part_written}
+use Rattle.sweep_sides.proofs.Overwriting.{part_is, rest_written, part_written}
+use Rattle.coalesce_op.proofs.Steps.{reach_start, reach_step, tells_behind}
 use Rattle.coalesce_op.proofs.sweep.sweep_in_place.Goals as goal
 
 pub loop-done-init : goal.loop-done-init

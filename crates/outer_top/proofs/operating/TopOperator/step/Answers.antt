@@ -4,7 +4,7 @@ use Rattle.tw_rows.specs.Cells.{datum_kind}
 use Rattle.tw_rows.specs.Kinds.{cell_kind_of}
 use Rattle.edge_stream.specs.Listing.{cells_of}
 use Rattle.edge_stream.proofs.Filling.{batches_given-capacity}
-use Rattle.carried_edges.proofs.Pools.{batches_given-limit}
+use Rattle.sweep_sides.proofs.GivenBack.{both_given-capacity, both_given-limit}
 use Rattle.sweep_sides.specs.Waiting.{queued}
 use Rattle.sweep_sides.proofs.Telling.{list_is, between_parts}
 use Rattle.outer_top.specs.TopKeys.{kept_rows}
@@ -53,28 +53,23 @@ give_back-requires-2 c =
 
 pub list_of-requires-clause-pools : goal.list_of-requires-clause-pools
 list_of-requires-clause-pools c =
-    ap (λ s. s.capacity) c.give_back-2.ensures ∙ batches_given-capacity c.args.right.batches c.give_back.new.pools (cells_of c.args.right)
-    ∙ ap (λ s. s.capacity) c.give_back.ensures ∙ batches_given-capacity c.args.left.batches c.args.pools.now (cells_of c.args.left) ∙ c.requires.capacity
+    both_given-capacity c.args.left c.args.right c.args.pools.now c.give_back.new.pools c.give_back-2.new.pools c.give_back.ensures c.give_back-2.ensures ∙ c.requires.capacity
 
 pub returns-in_err-answer-clause-pools : goal.returns-in_err-answer-clause-pools
 returns-in_err-answer-clause-pools c =
-    c.list_of.ensures.pools ∙ ap (λ s. s.capacity) c.give_back-2.ensures ∙ batches_given-capacity c.args.right.batches c.give_back.new.pools (cells_of c.args.right)
-    ∙ ap (λ s. s.capacity) c.give_back.ensures ∙ batches_given-capacity c.args.left.batches c.args.pools.now (cells_of c.args.left)
+    c.list_of.ensures.pools ∙ both_given-capacity c.args.left c.args.right c.args.pools.now c.give_back.new.pools c.give_back-2.new.pools c.give_back.ensures c.give_back-2.ensures
 
 pub returns-clause-pools : goal.returns-clause-pools
 returns-clause-pools c =
-    c.list_of.ensures.pools ∙ ap (λ s. s.capacity) c.give_back-2.ensures ∙ batches_given-capacity c.args.right.batches c.give_back.new.pools (cells_of c.args.right)
-    ∙ ap (λ s. s.capacity) c.give_back.ensures ∙ batches_given-capacity c.args.left.batches c.args.pools.now (cells_of c.args.left)
+    c.list_of.ensures.pools ∙ both_given-capacity c.args.left c.args.right c.args.pools.now c.give_back.new.pools c.give_back-2.new.pools c.give_back.ensures c.give_back-2.ensures
 
 pub returns-in_err-answer-clause-limit : goal.returns-in_err-answer-clause-limit
 returns-in_err-answer-clause-limit c =
-    c.list_of.ensures.limit ∙ ap (λ s. s.limit) c.give_back-2.ensures ∙ batches_given-limit c.args.right.batches c.give_back.new.pools (cells_of c.args.right)
-    ∙ ap (λ s. s.limit) c.give_back.ensures ∙ batches_given-limit c.args.left.batches c.args.pools.now (cells_of c.args.left)
+    c.list_of.ensures.limit ∙ both_given-limit c.args.left c.args.right c.args.pools.now c.give_back.new.pools c.give_back-2.new.pools c.give_back.ensures c.give_back-2.ensures
 
 pub returns-clause-limit : goal.returns-clause-limit
 returns-clause-limit c =
-    c.list_of.ensures.limit ∙ ap (λ s. s.limit) c.give_back-2.ensures ∙ batches_given-limit c.args.right.batches c.give_back.new.pools (cells_of c.args.right)
-    ∙ ap (λ s. s.limit) c.give_back.ensures ∙ batches_given-limit c.args.left.batches c.args.pools.now (cells_of c.args.left)
+    c.list_of.ensures.limit ∙ both_given-limit c.args.left c.args.right c.args.pools.now c.give_back.new.pools c.give_back-2.new.pools c.give_back.ensures c.give_back-2.ensures
 
 pub invariant_of-self-2-clause-working : goal.invariant_of-self-2-clause-working
 invariant_of-self-2-clause-working c = λ works. (

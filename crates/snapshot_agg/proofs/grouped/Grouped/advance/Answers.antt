@@ -16,7 +16,7 @@ use Rattle.snapshot_agg.specs.Counting.{AreKept}
 use Rattle.snapshot_agg.specs.Operating.{standing, IsKept}
 use Rattle.snapshot_agg.specs.Totaled.{run_of}
 use Rattle.snapshot_agg.proofs.Faults.{handed_on}
-use Rattle.snapshot_agg.proofs.Pooling.{given-capacity, given-limit}
+use Rattle.sweep_sides.proofs.GivenBack.{both_given-capacity, both_given-limit}
 use Rattle.snapshot_agg.proofs.Stepping.{so_far_in, so_far_whole}
 use Rattle.snapshot_agg.proofs.grouped.Grouped.advance.Goals as goal
 
@@ -59,7 +59,7 @@ from_edges-requires-clause-cells c =
 pub from_edges-requires-clause-room : goal.from_edges-requires-clause-room
 from_edges-requires-clause-room c =
     let room = c.args.self.now.room in
-    let same = given-capacity c.args.right.batches c.args.left.batches (cells_of c.args.right) (cells_of c.args.left) c.args.pools.now c.give_back.new.pools c.give_back-2.new.pools c.give_back.ensures c.give_back-2.ensures in
+    let same = both_given-capacity c.args.right c.args.left c.args.pools.now c.give_back.new.pools c.give_back-2.new.pools c.give_back.ensures c.give_back-2.ensures in
     let own = c.requires.capacity in
     omega (arith, room, same, own)
 
@@ -98,36 +98,36 @@ invariant_of-self-2 c =
 
 pub returns-in_err-edges-clause-pools : goal.returns-in_err-edges-clause-pools
 returns-in_err-edges-clause-pools c =
-    given-capacity c.args.right.batches c.args.left.batches (cells_of c.args.right) (cells_of c.args.left) c.args.pools.now c.give_back.new.pools c.give_back-2.new.pools c.give_back.ensures c.give_back-2.ensures
+    both_given-capacity c.args.right c.args.left c.args.pools.now c.give_back.new.pools c.give_back-2.new.pools c.give_back.ensures c.give_back-2.ensures
 
 pub returns-in_err-edges-clause-limit : goal.returns-in_err-edges-clause-limit
 returns-in_err-edges-clause-limit c =
-    given-limit c.args.right.batches c.args.left.batches (cells_of c.args.right) (cells_of c.args.left) c.args.pools.now c.give_back.new.pools c.give_back-2.new.pools c.give_back.ensures c.give_back-2.ensures
+    both_given-limit c.args.right c.args.left c.args.pools.now c.give_back.new.pools c.give_back-2.new.pools c.give_back.ensures c.give_back-2.ensures
 
 pub returns-in_err-answer-clause-pools : goal.returns-in_err-answer-clause-pools
 returns-in_err-answer-clause-pools c =
     some-capacity c.give_back-2.new.pools c.from_edges.new.pools (map cell_kind_of c.deref.result.now) c.in_err-answer.ensures.err_pools
-    ∙ given-capacity c.args.right.batches c.args.left.batches (cells_of c.args.right) (cells_of c.args.left) c.args.pools.now c.give_back.new.pools c.give_back-2.new.pools c.give_back.ensures c.give_back-2.ensures
+    ∙ both_given-capacity c.args.right c.args.left c.args.pools.now c.give_back.new.pools c.give_back-2.new.pools c.give_back.ensures c.give_back-2.ensures
 
 pub returns-in_err-answer-clause-limit : goal.returns-in_err-answer-clause-limit
 returns-in_err-answer-clause-limit c =
     some-limit c.give_back-2.new.pools c.from_edges.new.pools (map cell_kind_of c.deref.result.now) c.in_err-answer.ensures.err_pools
-    ∙ given-limit c.args.right.batches c.args.left.batches (cells_of c.args.right) (cells_of c.args.left) c.args.pools.now c.give_back.new.pools c.give_back-2.new.pools c.give_back.ensures c.give_back-2.ensures
+    ∙ both_given-limit c.args.right c.args.left c.args.pools.now c.give_back.new.pools c.give_back-2.new.pools c.give_back.ensures c.give_back-2.ensures
 
 pub returns-clause-pools : goal.returns-clause-pools
 returns-clause-pools c =
     ap (λ s. s.capacity) c.in_ok-answer.ensures.pools ∙ batches_taken-capacity c.in_ok-answer.answer.batches c.give_back-2.new.pools (cells_of c.in_ok-answer.answer)
-    ∙ given-capacity c.args.right.batches c.args.left.batches (cells_of c.args.right) (cells_of c.args.left) c.args.pools.now c.give_back.new.pools c.give_back-2.new.pools c.give_back.ensures c.give_back-2.ensures
+    ∙ both_given-capacity c.args.right c.args.left c.args.pools.now c.give_back.new.pools c.give_back-2.new.pools c.give_back.ensures c.give_back-2.ensures
 
 pub returns-clause-limit : goal.returns-clause-limit
 returns-clause-limit c =
     ap (λ s. s.limit) c.in_ok-answer.ensures.pools ∙ batches_taken-limit c.in_ok-answer.answer.batches c.give_back-2.new.pools (cells_of c.in_ok-answer.answer)
-    ∙ given-limit c.args.right.batches c.args.left.batches (cells_of c.args.right) (cells_of c.args.left) c.args.pools.now c.give_back.new.pools c.give_back-2.new.pools c.give_back.ensures c.give_back-2.ensures
+    ∙ both_given-limit c.args.right c.args.left c.args.pools.now c.give_back.new.pools c.give_back-2.new.pools c.give_back.ensures c.give_back-2.ensures
 
 pub returns-clause-answer_capacity : goal.returns-clause-answer_capacity
 returns-clause-answer_capacity c =
     c.in_ok-answer.ensures.capacity
-    ∙ given-capacity c.args.right.batches c.args.left.batches (cells_of c.args.right) (cells_of c.args.left) c.args.pools.now c.give_back.new.pools c.give_back-2.new.pools c.give_back.ensures c.give_back-2.ensures
+    ∙ both_given-capacity c.args.right c.args.left c.args.pools.now c.give_back.new.pools c.give_back-2.new.pools c.give_back.ensures c.give_back-2.ensures
     ∙ c.requires.capacity
 
 pub returns-clause-kept : goal.returns-clause-kept

@@ -9,7 +9,8 @@ use Rattle.sweep_laws.proofs.Adding.{adds_none, rows_more}
 use Rattle.sweep_laws.proofs.PairsTold.{rows_told_more}
 use Rattle.temporal_join.specs.Joined.{join_meets}
 use Rattle.temporal_join.specs.Pairing.{told_pairs}
-use Rattle.temporal_join.proofs.Rowing.{rest_at, rest_past}
+use Rattle.sweep_sides.proofs.Overwriting.{rest_past}
+use Rattle.temporal_join.proofs.Rowing.{rest_at}
 use Rattle.temporal_join.proofs.pairs.Pairing.start_rows.Goals as goal
 
 pub loop-edge-init : goal.loop-edge-init

@@ -11,7 +11,8 @@ use Rattle.sweep_sides.proofs.Cutting.{drop_past}
 use Rattle.temporal_join.specs.Joined.{join_meets}
 use Rattle.temporal_join.specs.Kept.{AreByKey}
 use Rattle.temporal_join.proofs.Partners.{same_tells}
-use Rattle.temporal_join.proofs.Rowing.{rows_past, part_is, rest_written}
+use Rattle.sweep_sides.proofs.Overwriting.{part_is, rest_written}
+use Rattle.temporal_join.proofs.Rowing.{rows_past}
 use Rattle.temporal_join.proofs.sweep.Rows.sweep.Goals as goal
 
 pub loop-i-init : goal.loop-i-init
@@ -73,8 +74,8 @@ loop-i-preserved c =
     record {
       within_left = omega (arith, gl, wl, hi);
       within_right = omega (arith, gr, wr, hj);
-      rest_left = rest_written lnow ldue c.pass.new.now_left i n (omega (arith, gl, wl, hi, ll)) c.pass.auto.now_left rl;
-      rest_right = rest_written rnow rdue c.pass.new.now_right j m (omega (arith, gr, wr, hj, lr)) c.pass.auto.now_right rr;
+      rest_left = rest_written lnow c.pass.new.now_left i n (omega (arith, gl, wl, hi, ll)) c.pass.auto.now_left ldue rl;
+      rest_right = rest_written rnow c.pass.new.now_right j m (omega (arith, gr, wr, hj, lr)) c.pass.auto.now_right rdue rr;
       keys = record {
         left_key = keys2.left_key ∙ keys.left_key;
         right_key = keys2.right_key ∙ keys.right_key;
