@@ -12,15 +12,15 @@ use Rattle.tw_rows.specs.declared.edge.Edge.{Edge}
 use Rattle.tw_rows.specs.declared.kind.CellKind.{CellKind}
 use Rattle.tw_rows.specs.declared.kind.CellKind.TheVariants.{Whole, Bit, Place}
 use Rattle.tw_rows.specs.Bag.{SameBag}
-use Rattle.batch.specs.PoolsView.{PoolsView, batch_taken, IsPartTaken}
-use Rattle.batch.proofs.PoolLaws.{NoMore-all}
+use Rattle.batch.specs.PoolsView.{PoolsView, IsPartTaken}
 use Rattle.edge_history.specs.Order.{rank, failing, is_real, is_from, Rises, KeepsOrder}
 use Rattle.edge_history.proofs.Keeping.{KeepsOrder-front}
 use Rattle.edge_history.proofs.Rising.{Rises-less}
 use Rattle.edge_history.proofs.Sums.{weaker, failing-parts}
-use Rattle.edge_stream.specs.Listing.{EdgeListView, cells_of, where_full, appended, SameShape}
+use Rattle.edge_stream.specs.Listing.{EdgeListView, cells_of, appended, SameShape}
 use Rattle.edge_stream.specs.Taking.{room_taken}
 use Rattle.edge_stream.proofs.Filling.{room_taken-capacity, appended-kinds, appended-capacity}
+use Rattle.carried_edges.proofs.Pools.{part-capacity, part-limit, room_taken-limit}
 use Rattle.ingress.specs.Fits.{is_stored, are_stored, is_fit, AreFit}
 use Rattle.ingress.specs.Keeping.{Changed}
 use Rattle.ingress.proofs.Keep.{real_edge}
@@ -115,13 +115,6 @@ next_edges xs now after es i d e is low so_far one =
     one ∙ ap (λ l. l ++ e ∷ []) so_far ∙ append_assoc xs (take i es) (e ∷ [])
     ∙ ap (λ l. xs ++ l) (ap (λ x. take i es ++ x ∷ []) is ∙ sym (take_more es i d low))
 
-room_taken-limit : (l : EdgeListView) (s : PoolsView) → (room_taken l s).limit ≡ s.limit
-room_taken-limit l s = pick l.room
-  where
-    pick : (r : ℕ) → (where_full r (batch_taken s (cells_of l)) s).limit ≡ s.limit
-    pick zero = (NoMore-all (record s { words = s.words - 4; occupancies = s.occupancies - 1 }) (cells_of l)).limit
-    pick (suc r) = refl
-
 pub pools_again : (a b c : PoolsView) → SamePools a b → SamePools b c → SamePools a c
 pools_again a b c p q = record { capacity = q.capacity ∙ p.capacity; limit = q.limit ∙ p.limit }
 
@@ -135,14 +128,10 @@ pools_next first before after l so_far one = record {
 }
 
 pub pools_part : (first before after : PoolsView) (ks : List CellKind) → SamePools first before → IsPartTaken before after ks → SamePools first after
-pools_part first before after ks so_far part =
-    let s = before in
-    let n = part.count in
-    let none = NoMore-all (record s { words = s.words - min n 4; occupancies = s.occupancies - min (n - 4) 1 }) (take (n - 5) ks) in
-    record {
-      capacity = ap (λ s. s.capacity) part.is ∙ none.capacity ∙ so_far.capacity;
-      limit = ap (λ s. s.limit) part.is ∙ none.limit ∙ so_far.limit;
-    }
+pools_part first before after ks so_far part = record {
+  capacity = part-capacity before after ks part ∙ so_far.capacity;
+  limit = part-limit before after ks part ∙ so_far.limit;
+}
 
 pub shape_next : (first before after : EdgeListView) (e : Edge) → SameShape first before → after ≡ appended before e → SameShape first after
 shape_next first before after e so_far one = record {

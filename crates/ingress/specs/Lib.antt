@@ -1,5 +1,5 @@
--- Callers read Fits, Times, Saving, Slices, Admits and what it stands on (Streams, Held, Keeping, OpenKeys); Ranks, Entering, Changes and Loaded are cited by
--- contracts of this crate alone.
+-- Callers read Fits, Times, Saving, Slices, Admits and what it stands on (Streams, Held, Keeping, OpenKeys); Ranks, Entering,
+-- Changes and Loaded are cited by contracts of this crate alone.
 pub mod Streams
 pub mod Held
 pub mod Keeping

@@ -82,7 +82,8 @@ fn cells_of_entry(alloc: Global, entry: Entry, texts: &mut TextTable) -> Result<
     ensures same { IfOk result (λ cells. entry_in texts.new cells ≡ entry) }
     ensures placed { IfOk result (λ cells. IsPlacedIn texts.new cells) }
     ensures table { OnOk result (texts.new ≡ with_row texts.old (row_read (Ok entry))) }
-    ensures err { OnErr result ((n : ℕ) × (texts.new ≡ with_row texts.old (take n (row_read (Ok entry))))) }
+    ensures err { OnErr result ((n : ℕ) × (texts.new
+        ≡ with_row texts.old (take n (row_read (Ok entry))))) }
     ensures begins { BeginsWith texts.new texts.old }
 {
     match entry {
@@ -118,7 +119,8 @@ impl Ingress {
         requires capacity { 1 ≤ capacity }
         requires width { AreNarrow streams.now }
         ensures fixed { IfOk result (λ i. IsFor streams.now policy capacity i) }
-        ensures admits { IfOk result (λ i. (texts : List (List ℕ)) → Admits texts nothing (λ s. []) i) }
+        ensures admits { IfOk result (λ i. (texts : List (List ℕ)) →
+            Admits texts nothing (λ s. []) i) }
         ensures released { IfOk result (λ i. i.released ≡ 0) }
     {
         let mut kinds = Vec::new(alloc);
@@ -160,9 +162,11 @@ impl Ingress {
     pub fn admit_cells(&mut self, entry: CellEntry, texts: &TextTable) -> Result<Admitted, Refusal>
         requires placed { IsPlacedIn texts.now entry }
         requires fits { Fits (cells_of self.old) (entry_in texts.now entry) }
-        ensures ok { IfOk result (Takes texts.now texts.now (entry_in texts.now entry) self.old self.new) }
+        ensures ok { IfOk result (Takes texts.now texts.now (entry_in texts.now entry) self.old
+            self.new) }
         ensures refused { IfErr result (IsRefused texts.now (entry_in texts.now entry) self.old) }
-        ensures memory { result ≡ Err Refusal.Memory → WantsMemory texts.now (entry_in texts.now entry) self.old }
+        ensures memory { result ≡ Err Refusal.Memory →
+            WantsMemory texts.now (entry_in texts.now entry) self.old }
         ensures left { IfErr result (λ refusal. IsLeft refusal self.old self.new) }
         ensures err { OnErr result (StillAdmits texts.now texts.now self.old self.new) }
         ensures fixed { SameFixed self.old self.new }
@@ -187,8 +191,10 @@ impl Ingress {
     // A punctuation of one stream, or of all.
     fn punctuate(&mut self, stream: Option<usize>, time: Time)
         requires { IfSome stream (λ s. s < length self.old.kinds.items) }
-        ensures admits { (texts : List (List ℕ)) (a : Admission) (given : ℕ → List Edge) → Admits texts a given self.old →
-            (b : Admission) × ((admitted self.old.policy a (entries.Punct stream time) ≡ Taken b) × Admits texts b given self.new) }
+        ensures admits { (texts : List (List ℕ)) (a : Admission) (given : ℕ → List Edge) →
+            Admits texts a given self.old → (b : Admission)
+            × ((admitted self.old.policy a (entries.Punct stream time) ≡ Taken b)
+            × Admits texts b given self.new) }
         ensures fixed { SameFixed self.old self.new }
         ensures released { self.new.released ≡ self.old.released }
     {
@@ -210,7 +216,8 @@ impl Ingress {
     ) -> Result<Admitted, Refusal>
         requires placed { ArePlaced texts.now cells }
         requires stream { stream < length self.old.kinds.items }
-        requires cells { row_cells (read_cells texts.now cells) ≡ get_or (cells_of self.old) stream [] }
+        requires cells { row_cells (read_cells texts.now cells)
+            ≡ get_or (cells_of self.old) stream [] }
         ensures ok { IfOk result (Takes texts.now texts.now
             (entries.Event stream form sync other (read_cells texts.now cells)) self.old self.new) }
         ensures refused { IfErr result (IsRefused texts.now
@@ -249,10 +256,11 @@ impl Ingress {
 
     /// The punctuation that is due: the greatest that the bounds and marks allow, where it is above the last one.
     pub fn due(&self) -> Option<Time>
-        ensures allowed { MatchOption result
-            (WhateverFollowed self.now (λ texts a given. allowed self.now.policy (length self.now.kinds.items) a ≤ self.now.released))
-            (λ p. WhateverFollowed self.now (λ texts a given.
-            (allowed self.now.policy (length self.now.kinds.items) a ≡ p) × (self.now.released < p))) }
+        ensures allowed { MatchOption result (WhateverFollowed self.now
+            (λ texts a given. allowed self.now.policy (length self.now.kinds.items)
+            a ≤ self.now.released)) (λ p. WhateverFollowed self.now
+            (λ texts a given. (allowed self.now.policy (length self.now.kinds.items) a ≡ p)
+            × (self.now.released < p))) }
         ensures later { IfSome result (λ p. (self.now.released < p) × (p ≤ inf)) }
     {
         let allowed = self.watermarks.allowed(self.policy);
@@ -282,8 +290,9 @@ impl Ingress {
     /// How many edges wait and how many starts are open, dropped ones too, or the greatest number where there are more. It
     /// goes through them.
     pub fn held(&self) -> u64
-        ensures count { WhateverFollowed self.now (λ texts a given.
-            result ≡ min (length a.opens + total (λ l. length l) self.now.held.waiting.items) (2 ^ 64 - 1)) }
+        ensures count { WhateverFollowed self.now
+            (λ texts a given. result ≡ min (length a.opens + total
+            (λ l. length l) self.now.held.waiting.items) (2 ^ 64 - 1)) }
         ensures bound { WhateverFollowed self.now (λ texts a given.
             result ≤ may_hold (length self.now.kinds.items) self.now.released a) }
     {

@@ -67,7 +67,8 @@ pub(crate) fn is_start_of(edge: &Edge, cells: &Cells, start: Time) -> bool
 // The place of a start edge of these cells, if there is one.
 fn start_place(edges: &[Edge], cells: &Cells, start: Time) -> Option<usize>
     ensures within { IfSome result (λ i. i < length edges.now) }
-    ensures some { IfSome result (λ i. (d : Edge) → starts_it cells.now start (get_or edges.now i d) ≡ true) }
+    ensures some { IfSome result (λ i. (d : Edge) →
+        starts_it cells.now start (get_or edges.now i d) ≡ true) }
     ensures none { IsNone result → (many (starts_it cells.now start) edges.now ≡ 0) }
 {
     for i in 0..edges.len() {
@@ -80,7 +81,8 @@ fn start_place(edges: &[Edge], cells: &Cells, start: Time) -> Option<usize>
 
 // Takes one start edge of these cells out, if there is one.
 fn remove_start(edges: &mut Vec<Edge>, cells: &Cells, start: Time) -> bool
-    ensures taken { IsTrue result → SameBag (record { sync = start; other = inf; cells = cells.now } ∷ edges.new.items) edges.old.items }
+    ensures taken { IsTrue result → SameBag
+        (record { sync = start; other = inf; cells = cells.now } ∷ edges.new.items) edges.old.items }
     ensures kept { result ≡ false → edges.new.items ≡ edges.old.items }
     ensures none { result ≡ false → many (starts_it cells.now start) edges.old.items ≡ 0 }
 {
@@ -140,7 +142,8 @@ impl ByRank {
 
     /// Takes a start edge out, if it is there. Only the edges that start at that time are looked at.
     pub fn take_out(&mut self, cells: &Cells, start: Time) -> bool
-        ensures taken { IsTrue result → SameBag (record { sync = start; other = inf; cells = cells.now } ∷ self.new) self.old }
+        ensures taken { IsTrue result → SameBag
+            (record { sync = start; other = inf; cells = cells.now } ∷ self.new) self.old }
         ensures kept { result ≡ false → self.new ≡ self.old }
         ensures none { result ≡ false → many (starts_it cells.now start) self.old ≡ 0 }
     {
@@ -165,7 +168,8 @@ impl ByRank {
         requires order { KeepsOrder list.old.edges }
         requires low { failing (is_up_to from) list.old.edges ≡ 0 }
         requires fit { failing (is_fit (cells_of list.old)) self.now ≡ 0 }
-        ensures ok { OnOk result (list.new.edges ≡ list.old.edges ++ filter (is_between from to) self.now) }
+        ensures ok { OnOk result (list.new.edges ≡ list.old.edges
+            ++ filter (is_between from to) self.now) }
         ensures order { OnOk result (KeepsOrder list.new.edges) }
         ensures high { OnOk result (failing (is_up_to to) list.new.edges ≡ 0) }
         ensures shape { SameShape list.old list.new }
@@ -209,7 +213,8 @@ fn append_all(pools: &mut Pools, edges: &[Edge], list: &mut EdgeList) -> Result<
 // Takes the first rank out, where it is below `end`.
 fn drop_first_below(ranks: &mut BTreeMap<u64, Vec<Edge>>, end: u64) -> bool
     ensures taken { IsTrue result → IsShorterBelow end ranks.old.entries ranks.new.entries }
-    ensures none { result ≡ false → (ranks.new.entries ≡ ranks.old.entries) × StartsFrom end ranks.old.entries }
+    ensures none { result ≡ false → (ranks.new.entries ≡ ranks.old.entries)
+        × StartsFrom end ranks.old.entries }
 {
     let Some((rank, _)) = ranks.first_key_value() else {
         return false;

@@ -2,7 +2,6 @@
 ghost use Rattle.std.specs.Prelude.{◌≡◌, ◌<◌, None, length, IfOk, OnErr};
 ghost use Rattle.tw_rows.specs.Rows.{Row};
 ghost use Rattle.key_nodes.specs.Joins.{with_life};
-ghost use Rattle.line_text.specs.declared.form.Form.TheVariants as forms;
 ghost use Rattle.admission.specs.Answers.{became as became_of};
 ghost use Rattle.ingress.specs.Keeping.{kept_state};
 ghost use Rattle.ingress.specs.Changes.{SameHeld, Enters, StaysFit, NamesStart};
@@ -39,7 +38,8 @@ fn became(dropped: bool, start: Time, end: Time) -> Admitted
 
 // The open start of a start line. One that is dropped keeps the start that was given.
 fn open_state(line: &EventLine) -> OpenStart
-    ensures { result ≡ kept_state line.now.sync (record { start = line.now.at; dropped = line.now.dropped }) }
+    ensures { result ≡ kept_state line.now.sync
+        (record { start = line.now.at; dropped = line.now.dropped }) }
 {
     OpenStart {
         start: if line.dropped { line.sync } else { line.at },
@@ -60,63 +60,31 @@ impl HeldStreams {
         ensures fit { StaysFit line.now.stream cells self.old self.new }
     {
         match line.form {
-            Form::Interval => self.enter_interval(line, cells),
-            Form::Start => self.enter_start(line, cells),
-            Form::End => self.enter_end(line, cells),
+            Form::Interval if line.dropped => Ok(Some(Admitted::Dropped)),
+            Form::Interval => {
+                self.add_row(line.stream, cells, line.at, line.other)?;
+                Ok(Some(became(false, line.at, line.other)))
+            }
+            Form::Start => {
+                let key = OpenKey {
+                    stream: line.stream,
+                    given: line.sync,
+                    cells,
+                };
+                self.open_start(key, open_state(line))?;
+                Ok(Some(became(line.dropped, line.at, infinity())))
+            }
+            Form::End => {
+                let key = OpenKey {
+                    stream: line.stream,
+                    given: line.other,
+                    cells,
+                };
+                let Some(state) = self.end_start(&key, line.at)? else {
+                    return Ok(None);
+                };
+                Ok(Some(became(state.dropped, state.start, line.at)))
+            }
         }
-    }
-
-    fn enter_interval(&mut self, line: &EventLine, cells: Cells) -> Result<Option<Admitted>, Memory>
-        requires { line.now.stream < length self.old.waiting.items }
-        ensures ok { IfOk result (Enters forms.Interval line.now cells self.old self.new) }
-        ensures none { IfOk result (λ answer. answer ≡ None → self.new ≡ self.old) }
-        ensures err { OnErr result (SameHeld self.old self.new) }
-        ensures named { OnErr result (NamesStart forms.Interval line.now cells self.old) }
-        ensures len { length self.new.waiting.items ≡ length self.old.waiting.items }
-        ensures fit { StaysFit line.now.stream cells self.old self.new }
-    {
-        if line.dropped {
-            return Ok(Some(Admitted::Dropped));
-        }
-        self.add_row(line.stream, cells, line.at, line.other)?;
-        Ok(Some(became(false, line.at, line.other)))
-    }
-
-    fn enter_start(&mut self, line: &EventLine, cells: Cells) -> Result<Option<Admitted>, Memory>
-        requires { line.now.stream < length self.old.waiting.items }
-        ensures ok { IfOk result (Enters forms.Start line.now cells self.old self.new) }
-        ensures none { IfOk result (λ answer. answer ≡ None → self.new ≡ self.old) }
-        ensures err { OnErr result (SameHeld self.old self.new) }
-        ensures named { OnErr result (NamesStart forms.Start line.now cells self.old) }
-        ensures len { length self.new.waiting.items ≡ length self.old.waiting.items }
-        ensures fit { StaysFit line.now.stream cells self.old self.new }
-    {
-        let key = OpenKey {
-            stream: line.stream,
-            given: line.sync,
-            cells,
-        };
-        self.open_start(key, open_state(line))?;
-        Ok(Some(became(line.dropped, line.at, infinity())))
-    }
-
-    fn enter_end(&mut self, line: &EventLine, cells: Cells) -> Result<Option<Admitted>, Memory>
-        requires { line.now.stream < length self.old.waiting.items }
-        ensures ok { IfOk result (Enters forms.End line.now cells self.old self.new) }
-        ensures none { IfOk result (λ answer. answer ≡ None → self.new ≡ self.old) }
-        ensures err { OnErr result (SameHeld self.old self.new) }
-        ensures named { OnErr result (NamesStart forms.End line.now cells self.old) }
-        ensures len { length self.new.waiting.items ≡ length self.old.waiting.items }
-        ensures fit { StaysFit line.now.stream cells self.old self.new }
-    {
-        let key = OpenKey {
-            stream: line.stream,
-            given: line.other,
-            cells,
-        };
-        let Some(state) = self.end_start(&key, line.at)? else {
-            return Ok(None);
-        };
-        Ok(Some(became(state.dropped, state.start, line.at)))
     }
 }

@@ -19,22 +19,26 @@ pub fn given_edges_stand()
 /// start edge out again, which is there. The order of what is held is free.
 pub fn held_edges_follow_the_rows()
     ensures none { IsHeld 0 [] [] [] }
-    ensures put { (p : ℕ) (given held more : List Edge) (edge : Edge) (rows after : List CellEvent) →
-        IsHeld p given held rows → SameBag more (edge ∷ held) → is_real edge ≡ true → p ≤ edge.sync →
-        SameBag (after ++ taken edge) (rows ++ event_of edge ∷ []) → IsHeld p given more after }
-    ensures taken_out { (p : ℕ) (given held fewer : List Edge) (cells : List Datum) (start : ℕ) (rows after : List CellEvent) →
-        start < inf → IsHeld p given held rows → SameBag (start_of cells start ∷ fewer) held →
-        SameBag (open_row cells start ∷ after) rows → IsHeld p given fewer after }
-    ensures there { (p : ℕ) (given held : List Edge) (cells : List Datum) (start : ℕ) (rows others : List CellEvent) →
-        p ≤ start → IsHeld p given held rows → SameBag (open_row cells start ∷ others) rows →
-        many (starts_it cells start) held ≡ 0 → ⊥ }
+    ensures put { (p : ℕ) (given held more : List Edge) (edge : Edge)
+        (rows after : List CellEvent) → IsHeld p given held rows → SameBag more (edge ∷ held) →
+        is_real edge ≡ true → p ≤ edge.sync → SameBag (after ++ taken edge)
+        (rows ++ event_of edge ∷ []) → IsHeld p given more after }
+    ensures taken_out { (p : ℕ) (given held fewer : List Edge) (cells : List Datum) (start : ℕ)
+        (rows after : List CellEvent) → start < inf → IsHeld p given held rows →
+        SameBag (start_of cells start ∷ fewer) held → SameBag (open_row cells start ∷ after) rows →
+        IsHeld p given fewer after }
+    ensures there { (p : ℕ) (given held : List Edge) (cells : List Datum) (start : ℕ)
+        (rows others : List CellEvent) → p ≤ start → IsHeld p given held rows →
+        SameBag (open_row cells start ∷ others) rows → many (starts_it cells start) held ≡ 0 → ⊥ }
     ensures same { (p : ℕ) (given held alike : List Edge) (rows after : List CellEvent) →
-        IsHeld p given held rows → SameBag alike held → SameBag after rows → IsHeld p given alike after }
+        IsHeld p given held rows → SameBag alike held → SameBag after rows →
+        IsHeld p given alike after }
 {}
 
 /// At a punctuation q the held edges below q are given, in order, and the others stay.
 pub fn held_edges_are_given_in_order()
     ensures { (p q : ℕ) (given held out rest : List Edge) (rows : List CellEvent) → p ≤ q →
         IsHeld p given held rows → SameBag held (out ++ rest) → Rises 0 out →
-        failing (is_below q) out ≡ 0 → failing (is_from q) rest ≡ 0 → IsHeld q (given ++ out) rest rows }
+        failing (is_below q) out ≡ 0 → failing (is_from q) rest ≡ 0 →
+        IsHeld q (given ++ out) rest rows }
 {}

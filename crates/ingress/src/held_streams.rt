@@ -63,7 +63,8 @@ impl HeldStreams {
 
     /// How many edges wait and how many starts are open, or the greatest number where there are more. It goes through them.
     pub fn held(&self) -> u64
-        ensures count { result ≡ min (length (opens_in self.now.opens.starts.entries) + total (λ l. length l) self.now.waiting.items) (2 ^ 64 - 1) }
+        ensures count { result ≡ min (length (opens_in self.now.opens.starts.entries) + total
+            (λ l. length l) self.now.waiting.items) (2 ^ 64 - 1) }
         ensures unique { IsUnique same_key self.now.opens.starts }
     {
         let mut held = self.opens.len();
@@ -77,8 +78,10 @@ impl HeldStreams {
     pub(crate) fn put(&mut self, stream: usize, edge: Edge) -> Result<(), Memory>
         requires { stream < length self.old.waiting.items }
         ensures changed { Changed stream self.old.waiting.items self.new.waiting.items }
-        ensures ok { OnOk result (SameBag (get_or self.new.waiting.items stream []) (edge ∷ get_or self.old.waiting.items stream [])) }
-        ensures err { OnErr result (get_or self.new.waiting.items stream [] ≡ get_or self.old.waiting.items stream []) }
+        ensures ok { OnOk result (SameBag (get_or self.new.waiting.items stream [])
+            (edge ∷ get_or self.old.waiting.items stream [])) }
+        ensures err { OnErr result (get_or self.new.waiting.items stream []
+            ≡ get_or self.old.waiting.items stream []) }
         ensures opens { self.new.opens ≡ self.old.opens }
     {
         self.waiting[stream].put(edge)
@@ -88,8 +91,10 @@ impl HeldStreams {
     pub(crate) fn put_by_rank(&mut self, stream: usize, edge: Edge) -> Result<(), Memory>
         requires { stream < length self.old.waiting.items }
         ensures changed { Changed stream self.old.waiting.items self.new.waiting.items }
-        ensures ok { OnOk result (SameBag (get_or self.new.waiting.items stream []) (edge ∷ get_or self.old.waiting.items stream [])) }
-        ensures err { OnErr result (get_or self.new.waiting.items stream [] ≡ get_or self.old.waiting.items stream []) }
+        ensures ok { OnOk result (SameBag (get_or self.new.waiting.items stream [])
+            (edge ∷ get_or self.old.waiting.items stream [])) }
+        ensures err { OnErr result (get_or self.new.waiting.items stream []
+            ≡ get_or self.old.waiting.items stream []) }
         ensures opens { self.new.opens ≡ self.old.opens }
     {
         self.waiting[stream].put_by_rank(edge)
@@ -99,8 +104,10 @@ impl HeldStreams {
     fn put_start(&mut self, stream: usize, edge: Edge, given: Time) -> Result<(), Memory>
         requires { stream < length self.old.waiting.items }
         ensures changed { Changed stream self.old.waiting.items self.new.waiting.items }
-        ensures ok { OnOk result (SameBag (get_or self.new.waiting.items stream []) (edge ∷ get_or self.old.waiting.items stream [])) }
-        ensures err { OnErr result (get_or self.new.waiting.items stream [] ≡ get_or self.old.waiting.items stream []) }
+        ensures ok { OnOk result (SameBag (get_or self.new.waiting.items stream [])
+            (edge ∷ get_or self.old.waiting.items stream [])) }
+        ensures err { OnErr result (get_or self.new.waiting.items stream []
+            ≡ get_or self.old.waiting.items stream []) }
         ensures opens { self.new.opens ≡ self.old.opens }
     {
         if edge.sync == given {
@@ -114,11 +121,14 @@ impl HeldStreams {
     fn take_out(&mut self, stream: usize, cells: &Cells, start: Time) -> bool
         requires { stream < length self.old.waiting.items }
         ensures changed { Changed stream self.old.waiting.items self.new.waiting.items }
-        ensures taken { IsTrue result →
-            SameBag (start_of cells.now start ∷ get_or self.new.waiting.items stream []) (get_or self.old.waiting.items stream []) }
-        ensures none { result ≡ false → many (starts_it cells.now start) (get_or self.old.waiting.items stream []) ≡ 0 }
+        ensures taken { IsTrue result → SameBag
+            (start_of cells.now start ∷ get_or self.new.waiting.items stream [])
+            (get_or self.old.waiting.items stream []) }
+        ensures none { result ≡ false → many (starts_it cells.now start)
+            (get_or self.old.waiting.items stream []) ≡ 0 }
         ensures opens { self.new.opens ≡ self.old.opens }
-        ensures kept { result ≡ false → get_or self.new.waiting.items stream [] ≡ get_or self.old.waiting.items stream [] }
+        ensures kept { result ≡ false → get_or self.new.waiting.items stream []
+            ≡ get_or self.old.waiting.items stream [] }
     {
         self.waiting[stream].take_out(cells, start)
     }
@@ -182,8 +192,10 @@ impl HeldStreams {
         requires { key.now.stream < length self.old.waiting.items }
         ensures changed { Changed key.now.stream self.old.waiting.items self.new.waiting.items }
         ensures ended { OnOk result (HasEndedRow key.now at
-            (get_or self.old.waiting.items key.now.stream []) (get_or self.new.waiting.items key.now.stream []) state.now) }
-        ensures err { OnErr result (get_or self.new.waiting.items key.now.stream [] ≡ get_or self.old.waiting.items key.now.stream []) }
+            (get_or self.old.waiting.items key.now.stream [])
+            (get_or self.new.waiting.items key.now.stream []) state.now) }
+        ensures err { OnErr result (get_or self.new.waiting.items key.now.stream []
+            ≡ get_or self.old.waiting.items key.now.stream []) }
         ensures opens { self.new.opens ≡ self.old.opens }
         ensures within { at ≤ inf }
         ensures fit { StaysFit key.now.stream key.now.cells self.old self.new }
@@ -231,7 +243,8 @@ impl HeldStreams {
     fn drop_one(&mut self, stream: usize, t: Time)
         requires { stream < length self.old.waiting.items }
         ensures changed { Changed stream self.old.waiting.items self.new.waiting.items }
-        ensures dropped { get_or self.new.waiting.items stream [] ≡ filter (is_from t) (get_or self.old.waiting.items stream []) }
+        ensures dropped { get_or self.new.waiting.items stream []
+            ≡ filter (is_from t) (get_or self.old.waiting.items stream []) }
         ensures opens { self.new.opens ≡ self.old.opens }
     {
         self.waiting[stream].drop_below(t);
@@ -239,7 +252,8 @@ impl HeldStreams {
 
     /// Takes the edges of all streams before `t` out.
     pub fn drop_below(&mut self, t: Time)
-        ensures waiting { (s : ℕ) → get_or self.new.waiting.items s [] ≡ filter (is_from t) (get_or self.old.waiting.items s []) }
+        ensures waiting { (s : ℕ) → get_or self.new.waiting.items s []
+            ≡ filter (is_from t) (get_or self.old.waiting.items s []) }
         ensures len { length self.new.waiting.items ≡ length self.old.waiting.items }
         ensures opens { self.new.opens ≡ self.old.opens }
     {

@@ -23,10 +23,10 @@ pub fn released_edges_stand_read()
 
 /// A table that grows changes nothing of what is kept.
 pub fn kept_lines_stay_in_longer_tables()
-    ensures follows { (texts more : List (List ℕ)) (a : Admission) (given : ℕ → List Edge) (i : Kept) →
-        BeginsWith more texts → Follows texts a given i → Follows more a given i }
-    ensures admits { (texts more : List (List ℕ)) (a : Admission) (given : ℕ → List Edge) (i : Kept) →
-        BeginsWith more texts → Admits texts a given i → Admits more a given i }
+    ensures follows { (texts more : List (List ℕ)) (a : Admission) (given : ℕ → List Edge)
+        (i : Kept) → BeginsWith more texts → Follows texts a given i → Follows more a given i }
+    ensures admits { (texts more : List (List ℕ)) (a : Admission) (given : ℕ → List Edge)
+        (i : Kept) → BeginsWith more texts → Admits texts a given i → Admits more a given i }
 {}
 
 /// The streams, the policy and the capacity stay.
@@ -49,5 +49,6 @@ pub fn event_times_stay()
     ensures none { IsTimed nothing }
     ensures next { (policy : Policy) (a b : Admission) (e : Entry) →
         IsTimed a → HasEventTimes e → admit policy a e ≡ Taken b → IsTimed b }
-    ensures due { (policy : Policy) (streams : ℕ) (a : Admission) → IsTimed a → IsEnd (allowed policy streams a) }
+    ensures due { (policy : Policy) (streams : ℕ) (a : Admission) → IsTimed a →
+        IsEnd (allowed policy streams a) }
 {}

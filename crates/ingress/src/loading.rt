@@ -49,7 +49,8 @@ fn is_sound_edge(entry: &SavedEntry, last: Time) -> bool
 // Whether the times of an entry of that role may be there after the time.
 fn are_sound_times(entry: &SavedEntry, role: u64, last: Time) -> bool
     ensures yes { IsTrue result → IsSoundAs role last entry.now }
-    ensures no { result ≡ false → (role ≡ 0 → IsSoundEdge last entry.now) → (role ≡ 2 → IsGivenStart entry.now) → ⊥ }
+    ensures no { result ≡ false → (role ≡ 0 → IsSoundEdge last entry.now) →
+        (role ≡ 2 → IsGivenStart entry.now) → ⊥ }
 {
     if role == 0 {
         return is_sound_edge(entry, last);
@@ -192,8 +193,10 @@ impl Watermarks {
     pub(crate) fn of(alloc: Global, bounds: &[Time], marks: &[Time]) -> Result<Watermarks, Memory>
         requires { length marks.now ≡ length bounds.now }
         ensures len { IfOk result (λ w. length w.streams.items ≡ length bounds.now) }
-        ensures bounds { IfOk result (λ w. (s : ℕ) → s < length bounds.now → bound_in w.streams.items s ≡ get_or bounds.now s 0) }
-        ensures marks { IfOk result (λ w. (s : ℕ) → s < length bounds.now → mark_in w.streams.items s ≡ get_or marks.now s 0) }
+        ensures bounds { IfOk result (λ w. (s : ℕ) → s < length bounds.now →
+            bound_in w.streams.items s ≡ get_or bounds.now s 0) }
+        ensures marks { IfOk result (λ w. (s : ℕ) → s < length bounds.now →
+            mark_in w.streams.items s ≡ get_or marks.now s 0) }
     {
         let mut streams = Vec::new(alloc);
         for i in 0..bounds.len() {
@@ -218,11 +221,13 @@ impl Ingress {
     ) -> Result<(), LoadFault>
         requires bounds { length bounds.now ≡ length self.old.kinds.items }
         requires marks { length marks.now ≡ length self.old.kinds.items }
-        ensures admits { OnOk result ((texts : List (List ℕ)) (a : Admission) (given : ℕ → List EdgeOf) →
-            Resumes (cells_of self.old) saved.now (λ s. get_or bounds.now s 0) (λ s. get_or marks.now s 0) last texts a given →
-            Admits texts a given self.new) }
-        ensures sound { OnOk result (IsState (cells_of self.old) saved.now bounds.now marks.now last) }
-        ensures state { (result ≡ Err LoadFault.NotState) ↔ (¬ (IsState (cells_of self.old) saved.now bounds.now marks.now last)) }
+        ensures admits { OnOk result ((texts : List (List ℕ)) (a : Admission) (given : ℕ →
+            List EdgeOf) → Resumes (cells_of self.old) saved.now (λ s. get_or bounds.now s 0)
+            (λ s. get_or marks.now s 0) last texts a given → Admits texts a given self.new) }
+        ensures sound { OnOk result (IsState (cells_of self.old) saved.now bounds.now marks.now
+            last) }
+        ensures state { (result ≡ Err LoadFault.NotState) ↔
+            (¬ (IsState (cells_of self.old) saved.now bounds.now marks.now last)) }
         ensures released { OnOk result (self.new.released ≡ last) }
         ensures err { OnErr result (self.new ≡ self.old) }
         ensures fixed { SameFixed self.old self.new }

@@ -85,8 +85,10 @@ impl OpenStarts {
     /// Adds an open start, after those that are alike.
     pub fn open(&mut self, key: OpenKey, start: OpenStart) -> Result<(), Memory>
         ensures ok { OnOk result ((k : Key) → starts_in self.new.starts k
-            ≡ cond (same_key key k) (starts_in self.old.starts k ++ start ∷ []) (starts_in self.old.starts k)) }
-        ensures err { OnErr result ((k : Key) → starts_in self.new.starts k ≡ starts_in self.old.starts k) }
+            ≡ cond (same_key key k) (starts_in self.old.starts k ++ start ∷ [])
+            (starts_in self.old.starts k)) }
+        ensures err { OnErr result ((k : Key) →
+            starts_in self.new.starts k ≡ starts_in self.old.starts k) }
     {
         if let Some(starts) = self.starts.get_mut(&key) {
             starts.push_back(start)?;
@@ -121,7 +123,8 @@ impl OpenStarts {
     /// Takes the first of the open starts that the key names out.
     pub fn close(&mut self, key: &OpenKey)
         ensures { (k : Key) → starts_in self.new.starts k
-            ≡ cond (same_key key.now k) (drop 1 (starts_in self.old.starts k)) (starts_in self.old.starts k) }
+            ≡ cond (same_key key.now k) (drop 1 (starts_in self.old.starts k))
+            (starts_in self.old.starts k) }
     {
         let Some(starts) = self.starts.get_mut(key) else {
             return;

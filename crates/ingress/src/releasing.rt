@@ -65,9 +65,11 @@ impl Ingress {
         requires stream { stream < length self.now.kinds.items }
         ensures kinds { IfOk result (λ list. list.kinds ≡ get_or (kinds_of self.now) stream []) }
         ensures capacity { IfOk result (λ list. list.capacity ≡ self.now.capacity) }
-        ensures edges { IfOk result (λ list. SameBag list.edges (filter (is_below p) (get_or self.now.held.waiting.items stream []))) }
+        ensures edges { IfOk result (λ list. SameBag list.edges
+            (filter (is_below p) (get_or self.now.held.waiting.items stream []))) }
         ensures order { IfOk result (λ list. Rises 0 list.edges) }
-        ensures taken { IfOk result (λ list. pools.new ≡ batches_taken list.batches pools.old (list_cells list)) }
+        ensures taken { IfOk result (λ list. pools.new
+            ≡ batches_taken list.batches pools.old (list_cells list)) }
         ensures pools { SamePools pools.old pools.new }
     {
         let mut list = EdgeList::new(self.alloc, &self.kinds[stream], self.capacity)?;

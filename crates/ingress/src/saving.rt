@@ -91,7 +91,8 @@ fn role(start: &OpenStart) -> u64
 fn save_start(saved: &mut Saved, part: u64, key: &OpenKey, start: &OpenStart) -> Result<(), Memory>
     requires part { part ≡ 3 * key.now.stream }
     requires small { part + 2 < 2 ^ 64 }
-    ensures { OnOk result (saved.new ≡ saved.old ++ entry_of_open (cell_open key.now start.now) ∷ []) }
+    ensures { OnOk result (saved.new ≡ saved.old ++ entry_of_open
+        (cell_open key.now start.now) ∷ []) }
 {
     let cells = key.cells.clone()?;
     saved.push(SavedEntry {
@@ -105,7 +106,8 @@ fn save_start(saved: &mut Saved, part: u64, key: &OpenKey, start: &OpenStart) ->
 
 // Adds an entry of each open start of a key.
 fn save_starts(saved: &mut Saved, key: &OpenKey, starts: &VecDeque<OpenStart>) -> Result<(), Memory>
-    ensures { OnOk result (saved.new ≡ saved.old ++ map entry_of_open (map (cell_open key.now) starts.now.items)) }
+    ensures { OnOk result (saved.new ≡ saved.old ++ map entry_of_open
+        (map (cell_open key.now) starts.now.items)) }
 {
     let part = first_part(key.stream)?;
     for i in 0..starts.len() {
@@ -117,7 +119,8 @@ fn save_starts(saved: &mut Saved, key: &OpenKey, starts: &VecDeque<OpenStart>) -
 impl OpenStarts {
     /// Adds an entry of each open start, those of one key in order.
     pub(crate) fn save(&self, saved: &mut Saved) -> Result<(), Memory>
-        ensures entries { OnOk result (saved.new ≡ saved.old ++ map entry_of_open (opens_in self.now.starts.entries)) }
+        ensures entries { OnOk result (saved.new ≡ saved.old
+            ++ map entry_of_open (opens_in self.now.starts.entries)) }
         ensures unique { OnOk result (IsUnique same_key self.now.starts) }
     {
         for (key, starts) in self.starts.iter() {
@@ -142,7 +145,8 @@ impl HeldStreams {
     /// Adds the edges that wait, stream by stream, and the open starts.
     pub(crate) fn save(&self, saved: &mut Saved) -> Result<(), Memory>
         ensures entries { OnOk result (saved.new ≡ saved.old
-            ++ (waits_from 0 self.now.waiting.items ++ map entry_of_open (opens_in self.now.opens.starts.entries))) }
+            ++ (waits_from 0 self.now.waiting.items ++ map entry_of_open
+            (opens_in self.now.opens.starts.entries))) }
         ensures unique { OnOk result (IsUnique same_key self.now.opens.starts) }
     {
         self.save_waiting(saved)?;
@@ -155,9 +159,11 @@ impl Ingress {
     /// What is kept, as entries: the edges that wait and the open starts. Bounds, marks and the last punctuation are told by
     /// calls of their own. What is saved between two lines can be taken up again.
     pub fn save(&self) -> Result<Saved, Memory>
-        ensures resumes { IfOk result (λ saved. (texts : List (List ℕ)) (a : Admission) (given : ℕ → List Edge) (bounds marks : ℕ → ℕ) →
-            Admits texts a given self.now → IsTimed a → IsEnd self.now.released → AreMarksOf self.now a bounds marks →
-            Resumes (cells_of self.now) saved bounds marks self.now.released texts a given) }
+        ensures resumes { IfOk result (λ saved.
+            (texts : List (List ℕ)) (a : Admission) (given : ℕ → List Edge) (bounds marks : ℕ → ℕ) →
+            Admits texts a given self.now → IsTimed a → IsEnd self.now.released →
+            AreMarksOf self.now a bounds marks → Resumes (cells_of self.now) saved bounds marks
+            self.now.released texts a given) }
         ensures few { IfOk result (λ saved. WhateverFollowed self.now (λ texts a given.
             length saved ≤ may_hold (length self.now.kinds.items) self.now.released a)) }
     {

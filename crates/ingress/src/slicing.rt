@@ -16,7 +16,8 @@ impl ByRank {
     // What is left of `room` once the edges from `from` on and before `to` have taken a place each. None where they are more.
     fn room_left(&self, from: Time, to: Time, room: usize) -> Option<usize>
         requires { from ≤ to }
-        ensures some { IfSome result (λ rest. count_below to self.now + rest ≡ count_below from self.now + room) }
+        ensures some { IfSome result (λ rest. count_below to self.now + rest
+            ≡ count_below from self.now + room) }
         ensures none { IsNone result → count_below from self.now + room < count_below to self.now }
     {
         let mut rest = room;
@@ -46,7 +47,8 @@ impl Waiting {
     // What is left of `room` once the edges from `from` on and before `to` have taken a place each. None where they are more.
     fn room_left(&self, from: Time, to: Time, room: usize) -> Option<usize>
         requires { from ≤ to }
-        ensures some { IfSome result (λ rest. count_below to self.now + rest ≡ count_below from self.now + room) }
+        ensures some { IfSome result (λ rest. count_below to self.now + rest
+            ≡ count_below from self.now + room) }
         ensures none { IsNone result → count_below from self.now + room < count_below to self.now }
     {
         let count = count_below(&self.queue, to) - count_below(&self.queue, from);
@@ -94,9 +96,10 @@ impl HeldStreams {
     // What is left of `room` once the edges from `from` on and before `to` have taken a place each. None where they are more.
     fn room_left(&self, from: Time, to: Time, room: usize) -> Option<usize>
         requires { from ≤ to }
-        ensures some { IfSome result (λ rest.
-            all_below to self.now.waiting.items + rest ≡ all_below from self.now.waiting.items + room) }
-        ensures none { IsNone result → all_below from self.now.waiting.items + room < all_below to self.now.waiting.items }
+        ensures some { IfSome result (λ rest. all_below to self.now.waiting.items + rest
+            ≡ all_below from self.now.waiting.items + room) }
+        ensures none { IsNone result → all_below from self.now.waiting.items
+            + room < all_below to self.now.waiting.items }
     {
         let mut rest = room;
         for waiting in &self.waiting {
@@ -109,8 +112,10 @@ impl HeldStreams {
     fn first_between(&self, from: Time, to: Time) -> Time
         requires { from ≤ to }
         ensures within { (from ≤ result) × (result ≤ to) }
-        ensures none { all_below result self.now.waiting.items ≡ all_below from self.now.waiting.items }
-        ensures some { result < to → all_below result self.now.waiting.items < all_below (result + 1) self.now.waiting.items }
+        ensures none { all_below result self.now.waiting.items
+            ≡ all_below from self.now.waiting.items }
+        ensures some { result < to → all_below result self.now.waiting.items < all_below
+            (result + 1) self.now.waiting.items }
     {
         let mut first = to;
         for waiting in &self.waiting {
@@ -152,7 +157,8 @@ impl HeldStreams {
         ensures within { result ≤ p }
         ensures later { (t : ℕ) → t < p → all_below t self.now.waiting.items ≡ 0 → t < result }
         ensures end { (edges : List Edge) → failing (is_below p) edges ≡ 0 →
-            ((x : ℕ) → x ≤ p → count_below x edges ≡ all_below x self.now.waiting.items) → result ≡ end_of_slice batch p edges }
+            ((x : ℕ) → x ≤ p → count_below x edges ≡ all_below x self.now.waiting.items) →
+            result ≡ end_of_slice batch p edges }
     {
         if self.room_left(Time::ZERO, p, batch).is_some() {
             return p;
@@ -171,8 +177,10 @@ impl Ingress {
     pub fn slice_end(&self, p: Time, batch: usize) -> Time
         requires later { self.now.released < p }
         ensures later { (self.now.released < result) × (result ≤ p) }
-        ensures end { WhateverFollowed self.now (λ texts a given. (lists : List EdgeListView) →
-            AreReleased p self.now.held.waiting.items lists → result ≡ end_of_slice batch p (edges_of lists)) }
+        ensures end { WhateverFollowed self.now
+            (λ texts a given. (lists : List EdgeListView) →
+            AreReleased p self.now.held.waiting.items lists →
+            result ≡ end_of_slice batch p (edges_of lists)) }
     {
         let end = self.held.slice_end(p, batch);
         // no edge waits that comes before the last release

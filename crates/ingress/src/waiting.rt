@@ -42,7 +42,8 @@ impl Model for Waiting {
 
 // Whether an edge of that rank comes after those of the queue.
 fn comes_last(queue: &VecDeque<QueuedEdge>, rank: u64) -> bool
-    ensures { IsTrue result → Rises 0 queue.now.items → (edge : Edge) → edge_rank edge ≡ rank → Rises 0 (queue.now.items ++ edge ∷ []) }
+    ensures { IsTrue result → Rises 0 queue.now.items → (edge : Edge) → edge_rank edge ≡ rank →
+        Rises 0 (queue.now.items ++ edge ∷ []) }
 {
     match queue.back() {
         Some(last) => last.rank() <= rank,
@@ -53,7 +54,8 @@ fn comes_last(queue: &VecDeque<QueuedEdge>, rank: u64) -> bool
 // How many edges of a queue in order come before the time.
 pub(crate) fn count_below(queue: &VecDeque<QueuedEdge>, t: Time) -> usize
     ensures within { result ≤ length queue.now.items }
-    ensures below { Rises 0 queue.now.items → failing (is_below t) (take result queue.now.items) ≡ 0 }
+    ensures below { Rises 0 queue.now.items →
+        failing (is_below t) (take result queue.now.items) ≡ 0 }
     ensures from { Rises 0 queue.now.items → failing (is_from t) (drop result queue.now.items) ≡ 0 }
 {
     let mut low = 0;
@@ -81,7 +83,8 @@ fn drop_front(queue: &mut VecDeque<QueuedEdge>, count: usize)
 // The place of a start edge of these cells, if there is one.
 fn queue_place(queue: &VecDeque<QueuedEdge>, cells: &Cells, start: Time) -> Option<usize>
     ensures within { IfSome result (λ i. i < length queue.now.items) }
-    ensures some { IfSome result (λ i. (d : Edge) → starts_it cells.now start (get_or queue.now.items i d) ≡ true) }
+    ensures some { IfSome result (λ i. (d : Edge) →
+        starts_it cells.now start (get_or queue.now.items i d) ≡ true) }
     ensures none { IsNone result → (many (starts_it cells.now start) queue.now.items ≡ 0) }
 {
     for i in 0..queue.len() {
@@ -94,7 +97,8 @@ fn queue_place(queue: &VecDeque<QueuedEdge>, cells: &Cells, start: Time) -> Opti
 
 // Takes one start edge of these cells out, if there is one.
 fn remove_queued(queue: &mut VecDeque<QueuedEdge>, cells: &Cells, start: Time) -> bool
-    ensures taken { IsTrue result → SameBag (record { sync = start; other = inf; cells = cells.now } ∷ queue.new.items) queue.old.items }
+    ensures taken { IsTrue result → SameBag
+        (record { sync = start; other = inf; cells = cells.now } ∷ queue.new.items) queue.old.items }
     ensures kept { result ≡ false → queue.new.items ≡ queue.old.items }
     ensures none { result ≡ false → many (starts_it cells.now start) queue.old.items ≡ 0 }
     ensures order { Rises 0 queue.old.items → Rises 0 queue.new.items }
@@ -153,7 +157,8 @@ impl Waiting {
     /// Takes a start edge out, if it is there. Of those that were put by rank only the edges that start at that time are
     /// looked at.
     pub fn take_out(&mut self, cells: &Cells, start: Time) -> bool
-        ensures taken { IsTrue result → SameBag (record { sync = start; other = inf; cells = cells.now } ∷ self.new) self.old }
+        ensures taken { IsTrue result → SameBag
+            (record { sync = start; other = inf; cells = cells.now } ∷ self.new) self.old }
         ensures kept { result ≡ false → self.new ≡ self.old }
         ensures none { result ≡ false → many (starts_it cells.now start) self.old ≡ 0 }
     {

@@ -81,8 +81,10 @@ impl Watermarks {
     /// Raises the bound of a declared stream to at least `t`.
     pub fn raise_bound(&mut self, stream: usize, t: Time)
         requires { stream < length self.old.streams.items }
-        ensures bounds { (s : ℕ) → bound_in self.new.streams.items s ≡ raised stream t (bound_in self.old.streams.items) s }
-        ensures marks { (s : ℕ) → mark_in self.new.streams.items s ≡ mark_in self.old.streams.items s }
+        ensures bounds { (s : ℕ) → bound_in self.new.streams.items s
+            ≡ raised stream t (bound_in self.old.streams.items) s }
+        ensures marks { (s : ℕ) → mark_in self.new.streams.items s
+            ≡ mark_in self.old.streams.items s }
         ensures len { length self.new.streams.items ≡ length self.old.streams.items }
     {
         let old = self.streams[stream];
@@ -95,8 +97,10 @@ impl Watermarks {
     /// Raises the bound and the mark of a declared stream to at least `t`.
     pub fn raise(&mut self, stream: usize, t: Time)
         requires { stream < length self.old.streams.items }
-        ensures bounds { (s : ℕ) → bound_in self.new.streams.items s ≡ raised stream t (bound_in self.old.streams.items) s }
-        ensures marks { (s : ℕ) → mark_in self.new.streams.items s ≡ raised stream t (mark_in self.old.streams.items) s }
+        ensures bounds { (s : ℕ) → bound_in self.new.streams.items s
+            ≡ raised stream t (bound_in self.old.streams.items) s }
+        ensures marks { (s : ℕ) → mark_in self.new.streams.items s
+            ≡ raised stream t (mark_in self.old.streams.items) s }
         ensures len { length self.new.streams.items ≡ length self.old.streams.items }
     {
         let old = self.streams[stream];
