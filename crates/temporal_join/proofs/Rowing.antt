@@ -1,9 +1,7 @@
 -- Rows that are kept from instant to instant, and edges that are as they came from a place on.
-use Rattle.std.specs.Prelude.{◌≡◌, ℕ, ◌+◌, ◌-◌, ◌≤◌, List, length, get_or, take, drop}
+use Rattle.std.specs.Prelude.{◌≡◌, ℕ, ◌+◌, ◌≤◌, List, get_or, take, drop}
 use Rattle.std.proofs.Common.{◌∙◌, sym, ap, arith}
-use Rattle.std.proofs.lemmas.List.{drop-drop, get_or-drop, length-drop, length-take, take-append-drop}
-use Rattle.std.proofs.lemmas.Slice.{drop-put_mid}
-use borrow.Rule.Slice.PartMut.{put_mid}
+use Rattle.std.proofs.lemmas.List.{drop-drop, get_or-drop, take-append-drop}
 use Rattle.tw_rows.specs.Bag.{total}
 use Rattle.tw_rows.specs.declared.edge.Edge.{Edge}
 use Rattle.tw_rows.specs.declared.edge.HeldRow.{HeldRow}
@@ -33,41 +31,3 @@ pub rest_at : {X : Type 0} (xs ys : List X) (i : ℕ) (d : X) → drop i xs ≡ 
 rest_at {X} xs ys i d e =
     let z : i + 0 ≡ i = omega arith in
     sym (get_or-drop i xs 0 d ∙ ap (λ k. get_or xs k d) z) ∙ (ap (λ (l : List X). get_or l 0 d) e ∙ (get_or-drop i ys 0 d ∙ ap (λ k. get_or ys k d) z))
-
-started_cut : (w : HeldRow → ℕ) (n : ℕ) (es : List Edge) → total w (started_rows es) ≡ total w (started_rows (take n es)) + total w (started_rows (drop n es))
-started_cut w n es =
-    let f : Edge → ℕ = λ x. total w (started_of x) in
-    let a = total-flat_map w started_of es in
-    let b = total-flat_map w started_of (take n es) in
-    let c = total-flat_map w started_of (drop n es) in
-    let d = ap (total (λ x. total w (started_of x))) (sym (take-append-drop n es)) ∙ total-append (λ x. total w (started_of x)) (take n es) (drop n es) in
-    omega (arith, a, b, c, d)
-
--- the edges of an instant are done
-pub rows_past : (w : HeldRow → ℕ) (i n : ℕ) (due rest : List Edge) (first old new : ℕ) → rest ≡ drop i due → old + total w (started_rows (drop i due)) ≤ first + total w (started_rows due) →
-    new ≤ old + total w (started_rows (take n rest)) → new + total w (started_rows (drop (i + n) due)) ≤ first + total w (started_rows due)
-rows_past w i n due rest first old new is before step =
-    let a = started_cut w n rest in
-    let b = ap (λ l. total w (started_rows l)) is in
-    let c = ap (λ l. total w (started_rows l)) (ap (λ (l : List Edge). drop n l) is ∙ drop-drop n i due) in
-    omega (arith, before, step, a, b, c)
-
--- lists that are the same from a place on
-pub rest_at : {X : Type 0} (xs ys : List X) (i : ℕ) (d : X) → drop i xs ≡ drop i ys → get_or xs i d ≡ get_or ys i d
-rest_at {X} xs ys i d e =
-    let z : i + 0 ≡ i = omega arith in
-    sym (get_or-drop i xs 0 d ∙ ap (λ k. get_or xs k d) z) ∙ (ap (λ (l : List X). get_or l 0 d) e ∙ (get_or-drop i ys 0 d ∙ ap (λ k. get_or ys k d) z))
-
-pub rest_past : {X : Type 0} (xs ys : List X) (i n : ℕ) → drop i xs ≡ drop i ys → drop (i + n) xs ≡ drop (i + n) ys
-rest_past {X} xs ys i n e = sym (drop-drop n i xs) ∙ (ap (λ (l : List X). drop n l) e ∙ drop-drop n i ys)
-
--- a part of n elements, and what is left once it is written
-pub part_is : {X : Type 0} (xs rest : List X) (i n : ℕ) → rest ≡ drop i xs → take ((i + n) - i) (drop i xs) ≡ take n rest
-part_is {X} xs rest i n e = ap (λ k. take k (drop i xs)) (let z : (i + n) - i ≡ n = omega arith in z) ∙ ap (λ (l : List X). take n l) (sym e)
-
-pub rest_written : {X : Type 0} (xs ys part : List X) (i n : ℕ) → i + n ≤ length xs → length part ≡ length (take ((i + n) - i) (drop i xs)) → drop i xs ≡ drop i ys →
-    drop (i + n) (put_mid i ((i + n) - i) xs part) ≡ drop (i + n) ys
-rest_written xs ys part i n within same e =
-    let a = length-take ((i + n) - i) (drop i xs) in
-    let b = length-drop i xs in
-    drop-put_mid i ((i + n) - i) xs part (i + n) (omega arith) (omega (arith, within)) (omega (arith, within, same, a, b)) ∙ rest_past xs ys i n e
