@@ -22,4 +22,5 @@ mod KeptExamples
 pub mod SliceEnds
 pub mod Below
 pub mod EndsFound
+mod Listed
 mod SliceExamples

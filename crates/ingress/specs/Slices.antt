@@ -1,5 +1,5 @@
 -- Where slices of an epoch end: the parts into which its edges are cut at rising times.
-use Rattle.std.specs.Prelude.{ℕ, max, min, nat_lt, nat_le, cond, List, [], ◌∷◌, map, filter, flat_map}
+use Rattle.std.specs.Prelude.{ℕ, ◌+◌, ◌<◌, ◌≤◌, max, min, nat_lt, nat_le, cond, List, [], ◌∷◌, map, filter, flat_map}
 use Rattle.std.specs.List.{fold}
 use Rattle.tw_rows.specs.Bag.{total}
 use Rattle.tw_rows.specs.declared.edge.Edge.{Edge}
@@ -40,3 +40,11 @@ cuts_within batch es = filter (λ x. nat_le (count_below x es) batch) (cuts es)
 -- at p. Of syncs 1, 1, 2 and 5 and p = 9: at 2 for a batch of 1, at 5 for 3, at 9 for 4
 abbrev pub slice_end : ℕ → ℕ → List Edge → ℕ
 slice_end batch p es = cond (nat_le (count_below p es) batch) p (greatest_or (least_or p (cuts es)) (cuts_within batch es))
+
+-- the greatest time up to p before which at most so many edges come, counted from a first time on. Of syncs 1, 1, 2 and 5, up to 9:
+-- from 0 on 5 for 3 edges, and from 2 on 2 for none
+pub record IsLastWithin (batch from p : ℕ) (es : List Edge) (last : ℕ) : Type 0 where
+  pub low : from ≤ last
+  pub high : last ≤ p
+  pub few : count_below last es ≤ count_below from es + batch
+  pub more : last < p → count_below from es + batch < count_below (last + 1) es

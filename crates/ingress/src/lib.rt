@@ -10,6 +10,7 @@ mod held_laws;
 mod held_streams;
 mod ingress;
 mod ingress_laws;
+mod list_slices;
 mod loading;
 mod opens;
 mod queued_edge;
@@ -28,6 +29,7 @@ pub use ingress_laws::{
     event_times_stay, fixed_parts_stay, kept_lines_stay_in_longer_tables, lines_fit_their_streams,
     released_edges_stand_read,
 };
+pub use list_slices::slice_end;
 pub use opens::{OpenKey, OpenStart, OpenStarts};
 pub use waiting::Waiting;
 pub use watermarks::{Watermark, Watermarks};

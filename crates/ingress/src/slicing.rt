@@ -74,7 +74,7 @@ impl Waiting {
 }
 
 // A time between two others: `step` after the lower one, or halfway where that is less.
-fn between(low: Time, high: Time, step: u64) -> Time
+pub(crate) fn between(low: Time, high: Time, step: u64) -> Time
     requires apart { low + 1 < high }
     requires step { 1 ≤ step }
     ensures { (low < result) × (result < high) }
@@ -85,7 +85,7 @@ fn between(low: Time, high: Time, step: u64) -> Time
 
 // The next time, where another one comes later.
 #[tactic(auto, unfolding(tw_rows::specs::Instant::inf))]
-fn next_time(t: Time, end: Time) -> Time
+pub(crate) fn next_time(t: Time, end: Time) -> Time
     requires { t < end }
     ensures { result ≡ t + 1 }
 {
