@@ -155,7 +155,8 @@ impl ByRank {
     }
 
     /// Adds copies of the edges of the ranks from `from` on and below `to` to a list of edges up to `from`, in order. Out of
-    /// memory changes the list and the pools alone.
+    /// memory changes the list and the pools alone. It is asked between any two edges of a queue, where mostly there are none.
+    #[inline(always)]
     pub fn append_between(
         &self,
         pools: &mut Pools,

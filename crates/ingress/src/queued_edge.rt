@@ -74,6 +74,7 @@ impl QueuedEdge {
     }
 
     /// A copy of the edge. Memory is taken for more than 4 cells alone.
+    #[inline(always)]
     pub fn to_edge(&self, alloc: Global) -> Result<Edge, Memory>
         ensures { IfOk result (λ edge. edge ≡ self.now) }
     {
