@@ -1,0 +1,62 @@
+-- What the calls of a medium do to its disk.
+use Rattle.std.specs.Prelude.{◌≡◌, ◌⊎◌, ◌≤◌, ℕ, Option, Some, option_map, List, ◌++◌, All, Result, OnOk, IfOk, IsErrOf, Vec}
+use Rattle.std.specs.declared.alloc.Global.{Global}
+use Rattle.wire_lines.specs.Faults.{Rose}
+use Rattle.durable_file.specs.Disk.{Torn, Written, Disk, with_content, synced, renamed, settled, IsSeen}
+use Rattle.durable_file.specs.declared.medium.Name.{Name}
+use Rattle.durable_file.specs.declared.medium.Name.TheVariants.{File, Next}
+use Rattle.durable_file.specs.declared.medium.ReadFault.{ReadFault}
+use Rattle.durable_file.specs.declared.medium.ReadFault.TheVariants.{Failed}
+
+-- past: the disk at each moment that has passed; now: as it is
+pub record Told : Type 0 where
+  pub past : List Disk
+  pub now : Disk
+
+-- where the moments were told they still are, and R says how they went on
+pub record Goes (before now : Option Told) (R : Told → Told → Type 0) : Type 0 where
+  pub gone : (old : Told) → before ≡ Some old → (new : Told) × (now ≡ Some new) × R old new
+
+-- Moments passed. At each of them and now the disk is as May says, and after Ok it is done
+pub record Passes {T E : Type 0} (May : Disk → Type 0) (done : Disk) (result : Result T E) (old new : Told) : Type 0 where
+  pub passed : List Disk
+  pub past : new.past ≡ old.past ++ passed
+  pub each : All May passed
+  pub last : May new.now
+  pub ok : OnOk result (new.now ≡ done)
+
+-- while it reads, a medium changes nothing
+pub record HasRead (result : Result (Option (Vec ℕ Global)) ReadFault) (old new : Told) : Type 0 where
+  pub seen : IfOk result (λ bytes. IsSeen old.now.file (option_map (λ v. v.items) bytes))
+  pub passes : Passes (λ d. d ≡ old.now) old.now result old new
+
+-- the file was there or not, is written in part, or is written
+abbrev pub IsWriting : Name → List ℕ → Disk → Disk → Type 0
+IsWriting name bytes old d = (d ≡ old) ⊎ ((d ≡ with_content name Torn old) ⊎ (d ≡ with_content name (Written bytes) old))
+
+abbrev pub HasWritten : {T E : Type 0} → Name → List ℕ → Result T E → Told → Told → Type 0
+HasWritten name bytes result old new = Passes (IsWriting name bytes old.now) (with_content name (Written bytes) old.now) result old new
+
+-- the disk once the file of that name is synced
+abbrev pub with_synced : Name → Disk → Disk
+with_synced File d = record d { file = synced d.file }
+with_synced Next d = record d { next = synced d.next }
+
+-- the file is not synced yet, lost bytes, or is synced
+abbrev pub IsSyncing : Name → Disk → Disk → Type 0
+IsSyncing name old d = (d ≡ old) ⊎ ((d ≡ with_content name Torn old) ⊎ (d ≡ with_synced name old))
+
+abbrev pub HasSynced : {T E : Type 0} → Name → Result T E → Told → Told → Type 0
+HasSynced name result old new = Passes (IsSyncing name old.now) (with_synced name old.now) result old new
+
+abbrev pub HasRenamed : {T E : Type 0} → Result T E → Told → Told → Type 0
+HasRenamed result old new = Passes (λ d. (d ≡ old.now) ⊎ (d ≡ renamed old.now)) (renamed old.now) result old new
+
+abbrev pub HasSyncedFolder : {T E : Type 0} → Result T E → Told → Told → Type 0
+HasSyncedFolder result old new = Passes (λ d. (d ≡ old.now) ⊎ (d ≡ settled old.now)) (settled old.now) result old new
+
+-- Failed comes only where the count of faults rose, and at Ok it is what it was
+pub record HasReadCause {T : Type 0} (before now : ℕ) (result : Result T ReadFault) : Type 0 where
+  pub later : before ≤ now
+  pub failed : IsErrOf result Failed → Rose before now
+  pub same : OnOk result (now ≡ before)

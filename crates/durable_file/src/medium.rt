@@ -1,0 +1,69 @@
+// A medium: FILE, and FILE.new beside it in the same folder.
+ghost use Rattle.std.specs.Prelude.{ℕ, Option};
+ghost use Rattle.wire_lines.specs.Faults.{HasCause};
+ghost use Rattle.durable_file.specs.Calls.{Told, Goes, HasRead, HasReadCause};
+ghost use Rattle.durable_file.specs.Calls.{HasWritten, HasSynced, HasRenamed, HasSyncedFolder};
+
+use std::alloc::Global;
+
+/// A file of a medium.
+#[derive(Clone, Copy, Debug, PartialEq, Eq)]
+pub enum Name {
+    /// FILE, which is replaced.
+    File,
+    /// FILE.new, in which its next bytes are written.
+    Next,
+}
+
+/// A call of a medium failed.
+#[derive(Clone, Copy, Debug, PartialEq, Eq)]
+pub struct MediumFailed;
+
+/// Why FILE was not read.
+#[derive(Clone, Copy, Debug, PartialEq, Eq)]
+pub enum ReadFault {
+    Failed,
+    Memory,
+}
+
+/// Where FILE and FILE.new lie.
+///
+/// What the clauses say of its disk is what the file systems of Linux are used for: a file whose bytes were written and not
+/// synced may hold any bytes after a crash; once it was synced it holds just them. A rename takes FILE.new to FILE in one step,
+/// and may be undone by a crash until the folder is synced. A sync that failed makes no later one count: the file is written
+/// anew. That a real disk does so is a premise, which no contract can check: a medium over it tells no moments, and what is
+/// said of them then says nothing.
+///
+/// A medium counts its faults in a `u64`.
+pub trait Medium {
+    /// The disk at each moment so far, and as it is now, where the medium tells them.
+    ghost told: { Self → Option Told };
+
+    /// How often a call has failed.
+    ghost faults: { Self → ℕ };
+
+    /// The bytes of FILE, and none where there is no FILE.
+    fn read(&mut self, alloc: Global) -> Result<Option<Vec<u8>>, ReadFault>
+        ensures told { Goes (told self.old) (told self.new) (HasRead result) }
+        ensures cause { HasReadCause (faults self.old) (faults self.new) result };
+
+    /// Makes the file anew, with these bytes.
+    fn write(&mut self, name: Name, bytes: &[u8]) -> Result<(), MediumFailed>
+        ensures told { Goes (told self.old) (told self.new) (HasWritten name bytes.now result) }
+        ensures cause { HasCause (faults self.old) (faults self.new) result };
+
+    /// Brings the bytes of the file to the disk.
+    fn sync(&mut self, name: Name) -> Result<(), MediumFailed>
+        ensures told { Goes (told self.old) (told self.new) (HasSynced name result) }
+        ensures cause { HasCause (faults self.old) (faults self.new) result };
+
+    /// Makes FILE.new FILE.
+    fn rename(&mut self) -> Result<(), MediumFailed>
+        ensures told { Goes (told self.old) (told self.new) (HasRenamed result) }
+        ensures cause { HasCause (faults self.old) (faults self.new) result };
+
+    /// Brings the names of the folder to the disk.
+    fn sync_folder(&mut self) -> Result<(), MediumFailed>
+        ensures told { Goes (told self.old) (told self.new) (HasSyncedFolder result) }
+        ensures cause { HasCause (faults self.old) (faults self.new) result };
+}
