@@ -1,5 +1,5 @@
 -- What the calls of a medium do to its disk.
-use Rattle.std.specs.Prelude.{◌≡◌, ◌⊎◌, ◌≤◌, ℕ, Option, Some, option_map, List, ◌++◌, All, Result, OnOk, IfOk, IsErrOf, Vec}
+use Rattle.std.specs.Prelude.{◌≡◌, ◌⊎◌, ◌≤◌, ℕ, Option, Some, option_map, List, [], ◌∷◌, ◌++◌, All, Result, OnOk, IfOk, IsErrOf, Vec}
 use Rattle.std.specs.declared.alloc.Global.{Global}
 use Rattle.wire_lines.specs.Faults.{Rose}
 use Rattle.durable_file.specs.Disk.{Torn, Written, Disk, with_content, synced, renamed, settled, IsSeen}
@@ -12,6 +12,10 @@ use Rattle.durable_file.specs.declared.medium.ReadFault.TheVariants.{Failed}
 pub record Told : Type 0 where
   pub past : List Disk
   pub now : Disk
+
+-- one moment later, when nothing has changed
+abbrev pub moved : Told → Told
+moved t = record { past = t.past ++ t.now ∷ []; now = t.now }
 
 -- where the moments were told they still are, and R says how they went on
 pub record Goes (before now : Option Told) (R : Told → Told → Type 0) : Type 0 where

@@ -1,8 +1,15 @@
 //! A file that is replaced whole: whenever a crash comes, it leaves the file as it was or as it is to be.
 #![tactic(auto)]
 
+mod folder;
 mod medium;
+mod memory;
 mod replacing;
 
+pub use folder::FolderMedium;
 pub use medium::{Medium, MediumFailed, Name, ReadFault};
+pub use memory::MemoryMedium;
 pub use replacing::replace;
+
+#[cfg(test)]
+mod tests;

@@ -1,0 +1,143 @@
+// A medium over the files of the system.
+ghost use Rattle.wire_lines.specs.Faults.{HasCause};
+ghost use Rattle.durable_file.specs.Calls.{HasReadCause};
+
+use crate::{Medium, MediumFailed, Name, ReadFault};
+use std::alloc::{AllocError, Global};
+use std::fs::OpenFile;
+use std::io::{ErrorKind, Read, Write};
+use std::path::Path;
+use std::rt::Files;
+use std::{fs, io};
+
+/// FILE at a path, and FILE.new beside it.
+///
+/// It tells no moments, since no contract can say what a disk holds. That the calls of the system do what `Medium` says of them is
+/// a premise; each method makes the one call that it is named for.
+#[derive(Drop)]
+pub struct FolderMedium<'a, R: Files> {
+    rt: &'a R,
+    file: String,
+    next: String,
+    folder: String,
+    file_open: Option<R::File>,
+    next_open: Option<R::File>,
+    faults: u64,
+}
+
+// The folder that the file of this path lies in.
+fn folder_of(path: &str) -> &str {
+    match Path::new(path).parent() {
+        Some(folder) if !folder.as_str().is_empty() => folder.as_str(),
+        _ => ".",
+    }
+}
+
+// All bytes of a file.
+fn read_file<R: Files>(rt: &R, alloc: Global, path: &str) -> io::Result<Vec<u8>> {
+    let mut file = fs::open(rt, path)?;
+    let mut bytes = Vec::new(alloc);
+    file.read_to_end(&mut bytes)?;
+    Ok(bytes)
+}
+
+// A file with these bytes, made anew, which is still open.
+fn write_file<R: Files>(rt: &R, path: &str, bytes: &[u8]) -> io::Result<R::File> {
+    let mut file = fs::create(rt, path)?;
+    file.write_all(bytes)?;
+    Ok(file)
+}
+
+// Syncs the file that is open, and else opens the one of this path for it.
+fn sync_file<R: Files>(rt: &R, open: &Option<R::File>, path: &str) -> io::Result<()> {
+    match open {
+        Some(file) => file.sync_all(),
+        None => fs::open(rt, path)?.sync_all(),
+    }
+}
+
+// One fault more, where there is one.
+fn counted<T: Drop>(faults: &mut u64, answer: io::Result<T>) -> Result<T, MediumFailed>
+    ensures { HasCause faults.old faults.new result }
+{
+    match answer {
+        Ok(value) => Ok(value),
+        Err(_) => {
+            *faults = faults.saturating_add(1);
+            Err(MediumFailed)
+        }
+    }
+}
+
+impl<'a, R: Files> FolderMedium<'a, R> {
+    /// FILE is what this path leads to.
+    pub fn new(alloc: Global, rt: &'a R, path: &str) -> Result<FolderMedium<'a, R>, AllocError> {
+        let mut next = String::from_str(alloc, path)?;
+        next.push_str(".new")?;
+        Ok(FolderMedium {
+            rt,
+            file: String::from_str(alloc, path)?,
+            next,
+            folder: String::from_str(alloc, folder_of(path))?,
+            file_open: None,
+            next_open: None,
+            faults: 0,
+        })
+    }
+}
+
+impl<'a, R: Files> Medium for FolderMedium<'a, R> {
+    ghost use Rattle.std.specs.Prelude.{None};
+
+    ghost told = { λ _. None };
+
+    ghost faults = { λ m. m.faults };
+
+    fn read(&mut self, alloc: Global) -> Result<Option<Vec<u8>>, ReadFault> {
+        match read_file(self.rt, alloc, self.file.as_str()) {
+            Ok(bytes) => Ok(Some(bytes)),
+            Err(error) => match error.kind() {
+                ErrorKind::NotFound => Ok(None),
+                ErrorKind::OutOfMemory => Err(ReadFault::Memory),
+                _ => {
+                    self.faults = self.faults.saturating_add(1);
+                    Err(ReadFault::Failed)
+                }
+            },
+        }
+    }
+
+    fn write(&mut self, name: Name, bytes: &[u8]) -> Result<(), MediumFailed> {
+        match name {
+            Name::File => {
+                let written = write_file(self.rt, self.file.as_str(), bytes);
+                self.file_open = Some(counted(&mut self.faults, written)?);
+            }
+            Name::Next => {
+                let written = write_file(self.rt, self.next.as_str(), bytes);
+                self.next_open = Some(counted(&mut self.faults, written)?);
+            }
+        }
+        Ok(())
+    }
+
+    fn sync(&mut self, name: Name) -> Result<(), MediumFailed> {
+        let synced = match name {
+            Name::File => sync_file(self.rt, &self.file_open, self.file.as_str()),
+            Name::Next => sync_file(self.rt, &self.next_open, self.next.as_str()),
+        };
+        counted(&mut self.faults, synced)
+    }
+
+    fn rename(&mut self) -> Result<(), MediumFailed> {
+        let renamed = fs::rename(self.rt, self.next.as_str(), self.file.as_str());
+        counted(&mut self.faults, renamed)?;
+        self.file_open = self.next_open.take();
+        Ok(())
+    }
+
+    fn sync_folder(&mut self) -> Result<(), MediumFailed> {
+        let synced = sync_file(self.rt, &None, self.folder.as_str());
+        counted(&mut self.faults, synced)
+    }
+}
