@@ -1,2 +1,3 @@
 mod Earlier
+mod InARow
 mod WholeSoFar

@@ -1,20 +1,26 @@
 -- What a crash may leave of FILE while it is replaced.
-use Rattle.std.specs.Prelude.{◌≡◌, ◌⊎◌, ℕ, Option, Some, List, ◌++◌, All, Result, OnOk}
+use Rattle.std.specs.Prelude.{◌≡◌, ◌⊎◌, ℕ, Option, Some, List, [], ◌∷◌, ◌++◌, All, Result, OnOk}
 use Rattle.durable_file.specs.Disk.{Disk, MayLeave, LeavesOnly}
 use Rattle.durable_file.specs.Calls.{Told}
 
--- a crash leaves what it might have left of an earlier disk, or these bytes
-abbrev pub IsWhole : Disk → List ℕ → Disk → Type 0
-IsWhole old bytes d = (left : Option (List ℕ)) → MayLeave d left → MayLeave old left ⊎ (left ≡ Some bytes)
+-- FILE was left with one of these
+abbrev pub IsOneOf : List (List ℕ) → Option (List ℕ) → Type 0
+IsOneOf [] left = ⊥
+IsOneOf (bytes ∷ all) left = (left ≡ Some bytes) ⊎ IsOneOf all left
 
--- at each moment that passed and now
-pub record StaysWhole (bytes : List ℕ) (old new : Told) : Type 0 where
+-- a crash leaves what it might have left of an earlier disk, or one of these. Where it left `a` alone and all are `b` and `c`: one of
+-- the three
+abbrev pub IsWhole : Disk → List (List ℕ) → Disk → Type 0
+IsWhole old all d = (left : Option (List ℕ)) → MayLeave d left → MayLeave old left ⊎ IsOneOf all left
+
+-- at each moment that passed and now. All are the bytes of the replacements since
+pub record StaysWhole (all : List (List ℕ)) (old new : Told) : Type 0 where
   pub passed : List Disk
   pub past : new.past ≡ old.past ++ passed
-  pub each : All (IsWhole old.now bytes) passed
-  pub last : IsWhole old.now bytes new.now
+  pub each : All (IsWhole old.now all) passed
+  pub last : IsWhole old.now all new.now
 
 -- FILE was replaced by these bytes, or that failed. After Ok a crash leaves these bytes
 pub record HasReplaced {T E : Type 0} (bytes : List ℕ) (result : Result T E) (old new : Told) : Type 0 where
-  pub whole : StaysWhole bytes old new
+  pub whole : StaysWhole (bytes ∷ []) old new
   pub ok : OnOk result (LeavesOnly bytes new.now)

@@ -2,11 +2,13 @@
 #![tactic(auto)]
 
 mod folder;
+mod laws;
 mod medium;
 mod memory;
 mod replacing;
 
 pub use folder::FolderMedium;
+pub use laws::replacements_stay_whole;
 pub use medium::{Medium, MediumFailed, Name, ReadFault};
 pub use memory::MemoryMedium;
 pub use replacing::replace;

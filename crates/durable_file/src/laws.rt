@@ -1,0 +1,11 @@
+// Over many replacements.
+ghost use Rattle.std.specs.Prelude.{ℕ, List, ◌++◌};
+ghost use Rattle.durable_file.specs.Calls.{Told};
+ghost use Rattle.durable_file.specs.Replaced.{StaysWhole};
+
+/// Replacements in a row: at every moment of all of them a crash leaves what it might have left of FILE before the first, or the
+/// bytes of one of them. So from an Ok on it leaves the bytes of that one, or of one behind it.
+pub fn replacements_stay_whole()
+    ensures { (first later : List (List ℕ)) (old mid new : Told) →
+        StaysWhole first old mid → StaysWhole later mid new → StaysWhole (first ++ later) old new }
+{}
