@@ -8,7 +8,7 @@ use Rattle.durable_file.specs.declared.medium.Name.TheVariants.{File, Next}
 use Rattle.durable_file.specs.declared.medium.ReadFault.{ReadFault}
 use Rattle.durable_file.specs.declared.medium.ReadFault.TheVariants.{Failed}
 
--- past: the disk at each moment that has passed; now: as it is
+-- past: the disk at moments that have passed, the first of them first; now: as it is
 pub record Told : Type 0 where
   pub past : List Disk
   pub now : Disk
@@ -17,11 +17,11 @@ pub record Told : Type 0 where
 abbrev pub moved : Told → Told
 moved t = record { past = t.past ++ t.now ∷ []; now = t.now }
 
--- where the moments were told they still are, and R says how they went on
+-- where the moments were told they still are, and R holds of what was told and what is
 pub record Goes (before now : Option Told) (R : Told → Told → Type 0) : Type 0 where
   pub gone : (old : Told) → before ≡ Some old → (new : Told) × (now ≡ Some new) × R old new
 
--- Moments passed. At each of them and now the disk is as May says, and after Ok it is done
+-- moments have passed: at each of them, and now, the disk is as May says, and after Ok it is done
 pub record Passes {T E : Type 0} (May : Disk → Type 0) (done : Disk) (result : Result T E) (old new : Told) : Type 0 where
   pub passed : List Disk
   pub past : new.past ≡ old.past ++ passed
@@ -29,12 +29,12 @@ pub record Passes {T E : Type 0} (May : Disk → Type 0) (done : Disk) (result :
   pub last : May new.now
   pub ok : OnOk result (new.now ≡ done)
 
--- while it reads, a medium changes nothing
+-- FILE was read: nothing has changed, and after Ok the bytes are those of FILE
 pub record HasRead (result : Result (Option (Vec ℕ Global)) ReadFault) (old new : Told) : Type 0 where
   pub seen : IfOk result (λ bytes. IsSeen old.now.file (option_map (λ v. v.items) bytes))
   pub passes : Passes (λ d. d ≡ old.now) old.now result old new
 
--- the file was there or not, is written in part, or is written
+-- while the file is written: nothing has changed yet, or a part is written, or all of it
 abbrev pub IsWriting : Name → List ℕ → Disk → Disk → Type 0
 IsWriting name bytes old d = (d ≡ old) ⊎ ((d ≡ with_content name Torn old) ⊎ (d ≡ with_content name (Written bytes) old))
 
@@ -46,7 +46,7 @@ abbrev pub with_synced : Name → Disk → Disk
 with_synced File d = record d { file = synced d.file }
 with_synced Next d = record d { next = synced d.next }
 
--- the file is not synced yet, lost bytes, or is synced
+-- while it is synced: it is not yet, or it lost bytes, or it is
 abbrev pub IsSyncing : Name → Disk → Disk → Type 0
 IsSyncing name old d = (d ≡ old) ⊎ ((d ≡ with_content name Torn old) ⊎ (d ≡ with_synced name old))
 

@@ -3,14 +3,14 @@ use Rattle.std.specs.Prelude.{◌≡◌, ◌⊎◌, ℕ, Option, Some, None, Lis
 use Rattle.durable_file.specs.declared.medium.Name.{Name}
 use Rattle.durable_file.specs.declared.medium.Name.TheVariants.{File, Next}
 
--- a file: there is none; its bytes were written, and not synced; they are on the disk; a call failed, and they may be any
+-- a file: there is none; its bytes were written and not synced; they were synced; or a call on it failed, and they may be any
 pub data Content : Type 0 where
   Absent : Content
   Written : List ℕ → Content
   Synced : List ℕ → Content
   Torn : Content
 
--- a crash may leave the file with these bytes, or, where it is None, leave none. Of `Written` bytes it may leave a part, or other ones
+-- a crash may leave the file with these bytes, or, for None, leave no file. Of `Written` bytes `ab` it may leave `a`, `xy` or no file
 abbrev pub Leaves : Content → Option (List ℕ) → Type 0
 Leaves Absent left = left ≡ None
 Leaves (Written bytes) left = Unit {0}
@@ -24,7 +24,7 @@ pub record Disk : Type 0 where
   pub next : Content
   pub earlier : List Content
 
--- it may leave one of these files so
+-- it may leave so one of these files
 abbrev pub LeavesOneOf : List Content → Option (List ℕ) → Type 0
 LeavesOneOf [] left = ⊥
 LeavesOneOf (c ∷ cs) left = Leaves c left ⊎ LeavesOneOf cs left
@@ -37,27 +37,27 @@ MayLeave d left = LeavesOneOf (d.file ∷ d.earlier) left
 abbrev pub LeavesOnly : List ℕ → Disk → Type 0
 LeavesOnly bytes d = (left : Option (List ℕ)) → MayLeave d left → left ≡ Some bytes
 
--- the file of that name becomes this
+-- the file of that name becomes this. Where FILE was `a` and becomes `b`, `a` stands in front of the earlier ones
 abbrev pub with_content : Name → Content → Disk → Disk
 with_content File c d = record { file = c; next = d.next; earlier = d.file ∷ d.earlier }
 with_content Next c d = record d { next = c }
 
--- after a sync of the file
+-- the file once it is synced: `Written` bytes are `Synced` ones, and any other file is as it was
 abbrev pub synced : Content → Content
 synced Absent = Absent
 synced (Written bytes) = Synced bytes
 synced (Synced bytes) = Synced bytes
 synced Torn = Torn
 
--- after a rename of FILE.new to FILE
+-- the disk once FILE.new is renamed to FILE
 abbrev pub renamed : Disk → Disk
 renamed d = record { file = d.next; next = Absent; earlier = d.file ∷ d.earlier }
 
--- after a sync of the folder
+-- the disk once the folder is synced: a crash brings nothing back
 abbrev pub settled : Disk → Disk
 settled d = record d { earlier = [] }
 
--- the bytes of FILE are these for who reads it, and it is None where there is no FILE
+-- a read of the file gives these bytes, and None where there is no file
 abbrev pub IsSeen : Content → Option (List ℕ) → Type 0
 IsSeen Absent seen = seen ≡ None
 IsSeen (Written bytes) seen = seen ≡ Some bytes

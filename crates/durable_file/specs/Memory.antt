@@ -7,6 +7,7 @@ use Rattle.durable_file.specs.declared.memory.Stored.TheVariants as stored
 use Rattle.durable_file.specs.declared.memory.MemoryDisk.{MemoryDisk}
 use Rattle.durable_file.specs.declared.memory.Moments.{Moments}
 
+-- a file in memory as one of a disk
 abbrev pub content_of : Stored → Content
 content_of stored.Absent = Absent
 content_of (stored.Written v) = Written v.items
@@ -18,7 +19,7 @@ disk_of d = record { file = content_of d.file; next = content_of d.next; earlier
 abbrev pub told_of : Moments → Told
 told_of m = record { past = map (λ s. disk_of s.value) m.past.items; now = disk_of m.disk }
 
--- what contracts see of a medium in memory. calls: how many calls may still succeed
+-- what contracts see of a medium in memory. calls: how many calls may still go on
 pub record MemoryView : Type 0 where
   pub told : Told
   pub calls : ℕ

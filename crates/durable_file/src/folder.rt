@@ -1,4 +1,5 @@
 // A medium over the files of the system.
+ghost use Rattle.std.specs.Prelude.{◌≡◌, ◌++◌, IfOk, codes, string_bytes};
 ghost use Rattle.wire_lines.specs.Faults.{HasCause};
 ghost use Rattle.durable_file.specs.Calls.{HasReadCause};
 
@@ -71,7 +72,11 @@ fn counted<T: Drop>(faults: &mut u64, answer: io::Result<T>) -> Result<T, Medium
 
 impl<'a, R: Files> FolderMedium<'a, R> {
     /// FILE is what this path leads to.
-    pub fn new(alloc: Global, rt: &'a R, path: &str) -> Result<FolderMedium<'a, R>, AllocError> {
+    pub fn new(alloc: Global, rt: &'a R, path: &str) -> Result<FolderMedium<'a, R>, AllocError>
+        ensures file { IfOk result (λ m. string_bytes m.file ≡ path.now) }
+        ensures next { IfOk result (λ m. string_bytes m.next ≡ path.now ++ codes ".new") }
+        ensures unfailed { IfOk result (λ m. m.faults ≡ 0) }
+    {
         let mut next = String::from_str(alloc, path)?;
         next.push_str(".new")?;
         Ok(FolderMedium {

@@ -26,17 +26,17 @@ pub enum ReadFault {
     Memory,
 }
 
-/// Where FILE and FILE.new lie.
+/// The folder of FILE and FILE.new, and the calls by which FILE is replaced.
 ///
-/// What the clauses say of its disk is what the file systems of Linux are used for: a file whose bytes were written and not
-/// synced may hold any bytes after a crash; once it was synced it holds just them. A rename takes FILE.new to FILE in one step,
-/// and may be undone by a crash until the folder is synced. A sync that failed makes no later one count: the file is written
-/// anew. That a real disk does so is a premise, which no contract can check: a medium over it tells no moments, and what is
-/// said of them then says nothing.
+/// The clauses say of the disk what is commonly assumed of a file system that keeps POSIX, and no more: a crash may leave any
+/// bytes in a file that was written and not synced, and once it was synced just its bytes; a rename makes FILE.new FILE in one
+/// step, and until the folder is synced a crash may undo it. After a sync that failed no later sync of the same bytes counts:
+/// they have to be written anew. No contract can check that of a real disk: it is a premise. A medium over one tells no moments,
+/// and what is said of them then says nothing.
 ///
 /// A medium counts its faults in a `u64`.
 pub trait Medium {
-    /// The disk at each moment so far, and as it is now, where the medium tells them.
+    /// The disk at each moment so far, and as it is now, where the medium tells them. A crash may come at any of them.
     ghost told: { Self → Option Told };
 
     /// How often a call has failed.
@@ -47,17 +47,17 @@ pub trait Medium {
         ensures told { Goes (told self.old) (told self.new) (HasRead result) }
         ensures cause { HasReadCause (faults self.old) (faults self.new) result };
 
-    /// Makes the file anew, with these bytes.
+    /// Makes the file anew, with these bytes. What it held is gone.
     fn write(&mut self, name: Name, bytes: &[u8]) -> Result<(), MediumFailed>
         ensures told { Goes (told self.old) (told self.new) (HasWritten name bytes.now result) }
         ensures cause { HasCause (faults self.old) (faults self.new) result };
 
-    /// Brings the bytes of the file to the disk.
+    /// Brings the bytes of the file, once they are written, to the disk.
     fn sync(&mut self, name: Name) -> Result<(), MediumFailed>
         ensures told { Goes (told self.old) (told self.new) (HasSynced name result) }
         ensures cause { HasCause (faults self.old) (faults self.new) result };
 
-    /// Makes FILE.new FILE.
+    /// Makes FILE.new FILE, in the place of the one that was there.
     fn rename(&mut self) -> Result<(), MediumFailed>
         ensures told { Goes (told self.old) (told self.new) (HasRenamed result) }
         ensures cause { HasCause (faults self.old) (faults self.new) result };

@@ -1,5 +1,5 @@
 // A medium in memory, which crashes where it is told to.
-ghost use Rattle.std.specs.Prelude.{◌≡◌, ◌++◌, ◌∷◌, [], OnOk, OnErr, IfSome, option_map};
+ghost use Rattle.std.specs.Prelude.{◌≡◌, ◌<◌, length, OnOk, OnErr, IfSome, IfNone, option_map};
 ghost use Rattle.wire_lines.specs.Faults.{HasCause};
 ghost use Rattle.durable_file.specs.Disk.{Written, Leaves, MayLeave, synced, with_content, renamed};
 ghost use Rattle.durable_file.specs.Calls.{with_synced};
@@ -121,7 +121,8 @@ impl MemoryDisk {
     // FILE as it is where back is 0, and else as it was so many changes ago. None where they are more than since the folder was
     // synced.
     fn file_back(self, back: usize) -> Option<Stored>
-        ensures { IfSome result (λ stored. (left : _) → Leaves (content_of stored) left → MayLeave (disk_of self) left) }
+        ensures some { IfSome result (λ stored. (left : _) → Leaves (content_of stored) left → MayLeave (disk_of self) left) }
+        ensures none { IfNone result (length (disk_of self).earlier < back) }
     {
         let MemoryDisk {
             file,
@@ -250,7 +251,8 @@ impl MemoryMedium {
     /// What a crash leaves: FILE as it is where `back` is 0, and else as it was so many changes ago, with the bytes `torn` where
     /// they were not synced. None where FILE has not changed so often since the folder was synced.
     pub fn crash(self, back: usize, torn: Vec<u8>) -> Option<MemoryMedium>
-        ensures { IfSome result (λ m. IsLeft self.told.now m.told.now) }
+        ensures some { IfSome result (λ m. IsLeft self.told.now m.told.now) }
+        ensures none { IfNone result (length self.told.now.earlier < back) }
     {
         let MemoryMedium {
             alloc,

@@ -5,16 +5,17 @@ ghost use Rattle.durable_file.specs.Replaced.{HasReplaced};
 
 use crate::{Medium, MediumFailed, Name};
 
-/// Replaces FILE by these bytes. At every moment of the call a crash leaves what it might have left of FILE before the call, or
-/// these bytes; after Ok it leaves these bytes alone. After a failure FILE is either, and what comes next may try again.
+/// Replaces FILE by these bytes. At every moment of the call a crash leaves of FILE what it might have left before the call, or
+/// these bytes; after Ok it leaves these bytes and nothing else. So where FILE was whole before, it is whole at every moment.
+/// After a failure it is either of the two, and may be replaced again.
 pub fn replace<M: Medium>(medium: &mut M, bytes: &[u8]) -> Result<(), MediumFailed>
     ensures told { Goes (M.told medium.old) (M.told medium.new) (HasReplaced bytes.now result) }
     ensures cause { HasCause (M.faults medium.old) (M.faults medium.new) result }
 {
     medium.write(Name::Next, bytes)?;
-    // Until its bytes are on the disk a file may hold any bytes after a crash, whatever its name is.
+    // A crash may leave any bytes in a file that is not synced, also behind a rename.
     medium.sync(Name::Next)?;
     medium.rename()?;
-    // Until then a crash may bring back the FILE of before.
+    // Until the folder is synced a crash may undo the rename.
     medium.sync_folder()
 }
