@@ -1,0 +1,4 @@
+pub mod Past
+pub mod Places
+pub mod Steps
+pub mod Cutting

@@ -1,0 +1,3 @@
+-- Callers read all of these.
+pub mod Cuts
+pub mod Parts

@@ -1,0 +1,7 @@
+//! When a plan may be cut by one column of each stream, so that each part of the rows is computed by itself: the
+//! definition stands in `specs/`, and the laws say what the parts are together.
+#![tactic(auto)]
+
+mod part_laws;
+
+pub use part_laws::parts_have_their_events;
