@@ -17,7 +17,7 @@ use Rattle.plan_laws.specs.Widths.{FitStreams}
 use Rattle.plan_laws.proofs.RowsOf.{Rows}
 use Rattle.plan_laws.proofs.Widths.{events_wide}
 use Rattle.plan_cuts.specs.Cuts.{is_among, node_places, width_at, cut_places}
-use Rattle.plan_cuts.specs.Parts.{passing_events, passing_sources}
+use Rattle.plan_cuts.specs.Parts.{passing_events, passing_sources, IsCutBy}
 use Rattle.plan_cuts.proofs.Steps.{IsCut, step}
 
 -- the column of a stream is the one of the list
@@ -77,8 +77,8 @@ module _ (test : Value → Bool) (plan : PlanParts) (kept : IsPlan plan) (source
       step test (width_at plan.schemas) n _ _ _ _ _ _ _ _ is.sound (same_width (shape n))
       (left_wide i (slice_get_within plan.nodes i n there) (shape n) is.left_lower) left right)
 
-pub parts_cut : (test : Value → Bool) (plan : PlanParts) → IsPlan plan → (source : Sources) →
-    FitStreams plan.streams source → (columns : List ℕ) (i place : ℕ) → i < length plan.nodes →
-    is_among (cut_places plan columns i) place ≡ true →
+-- a node that is cut by a column
+pub parts_cut : (test : Value → Bool) (plan : PlanParts) (source : Sources) (columns : List ℕ) (i place : ℕ) →
+    IsCutBy plan source columns i place →
     events (passing_sources test columns source) plan.nodes i ≡ passing_events test place (events source plan.nodes i)
-parts_cut test plan kept source fits columns i place low h = events_cut test plan kept source fits columns i place h
+parts_cut test plan source columns i place is = events_cut test plan is.kept source is.fits columns i place is.cut

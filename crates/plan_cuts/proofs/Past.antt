@@ -261,11 +261,11 @@ module _ {R K S : Type 0} (key : R → K) (same : K → K → Bool) (same_row : 
 -- coalesced events
 module _ {R : Type 0} (same : R → R → Bool) (tells : Tells same) (q : R → Bool) (rows part : ℕ → List R)
     (each : (t : ℕ) → part t ≡ filter q (rows t)) where
-  apart : (r : R) → q r ≡ true → (x : R) → q x ≡ false → (b : Bool) → same r x ≡ b → cond {A = ℕ} b 1 0 ≡ 0
+  pub apart : (r : R) → q r ≡ true → (x : R) → q x ≡ false → (b : Bool) → same r x ≡ b → cond {A = ℕ} b 1 0 ≡ 0
   apart r pass x other true k = absurd (let z = alike_past same tells q r x k in cc)
   apart r pass x other false k = refl
 
-  often_past : (r : R) → q r ≡ true → (t : ℕ) → how_often same r (part t) ≡ how_often same r (rows t)
+  pub often_past : (r : R) → q r ≡ true → (t : ℕ) → how_often same r (part t) ≡ how_often same r (rows t)
   often_past r pass t =
       ap (how_often same r) (each t)
       ∙ weighs_all (λ x. cond (same r x) 1 0) q (rows t) (λ x other. apart r pass x other (same r x) refl)

@@ -54,7 +54,7 @@ module _ (test : Value → Bool) where
       ∙ (at.reads (λ item. value item row) ∙ ap (λ item. value item row) col.is)
 
   -- the values in a column of the key of a group, and the rows of a group
-  key_at : (key places : List ℕ) (c : ℕ) (at : PassingAt (is_among places) 0 c key) (row : Row) →
+  pub key_at : (key places : List ℕ) (c : ℕ) (at : PassingAt (is_among places) 0 c key) (row : Row) →
       slice_index_or (key_values key row) c zero_value ≡ slice_index_or row at.item zero_value
   key_at key places c at row =
       let here : c ≡ at.after = omega (arith, at.is) in

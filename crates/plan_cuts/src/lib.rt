@@ -4,4 +4,6 @@
 
 mod part_laws;
 
-pub use part_laws::parts_have_their_events;
+pub use part_laws::{
+    each_node_is_cut, parts_are_undefined_together, parts_have_their_events, parts_have_their_rows,
+};
