@@ -1,5 +1,6 @@
 pub mod Past
-pub mod Places
+pub mod Columns
 pub mod Steps
 pub mod Cutting
 pub mod Together
+pub mod Found

@@ -37,7 +37,7 @@ use Rattle.plan_laws.proofs.RowsOf.{Rows, or_else, rows_with_life}
 use Rattle.plan_cuts.specs.Cuts.{is_among, is_cut_column, node_places}
 use Rattle.plan_cuts.specs.Parts.{passes_at, passing_events}
 use Rattle.plan_cuts.proofs.Past.{kept, filter_past, map_past, alive_past, lives_past, sessions_past, clipped_past, alone_past, joined_past, followed_past, grouped_past, coalesced_past, top_past}
-use Rattle.plan_cuts.proofs.Places.{among_filter, among_has, key_has, InBoth, among_both, PassingAt, passing_at, IsCutColumn, cut_column}
+use Rattle.plan_cuts.proofs.Columns.{among_filter, among_has, key_has, InBoth, among_both, PassingAt, passing_at, IsCutColumn, cut_column}
 
 module _ (test : Value → Bool) where
   -- of the events that a node reads or makes, the part has those that pass, by each of the columns

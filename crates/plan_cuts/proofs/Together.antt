@@ -36,7 +36,7 @@ use Rattle.node_laws.proofs.Keys.{undefined_shards}
 use Rattle.plan_cuts.specs.Cuts.{is_among, node_places, width_at, cut_places, is_uncut, first_uncut, may_be_cut}
 use Rattle.plan_cuts.specs.Parts.{passes_at, passing_sources, in_part, part_of, part_at, IsCutBy}
 use Rattle.plan_cuts.proofs.Past.{alive_past, often_past}
-use Rattle.plan_cuts.proofs.Places.{PassingAt, passing_at}
+use Rattle.plan_cuts.proofs.Columns.{PassingAt, passing_at}
 use Rattle.plan_cuts.proofs.Steps.{key_at}
 use Rattle.plan_cuts.proofs.Cutting.{parts_cut}
 

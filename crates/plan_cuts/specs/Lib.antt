@@ -1,3 +1,4 @@
 -- Callers read all of these.
 pub mod Cuts
 pub mod Parts
+pub mod Choices
