@@ -2,8 +2,6 @@
 #![tactic(auto)]
 
 #[cfg(test)]
-mod checkpoints;
-#[cfg(test)]
 mod engines;
 #[cfg(test)]
 mod rows;

@@ -1,5 +1,6 @@
 // A run over trades: sums of minutes, joined with those of the minute before.
-use crate::runs::{run_over, run_past};
+use crate::rows::expect_cut;
+use crate::runs::{Given, expect, run_over, run_past};
 use shard_apply::Gate;
 use std::alloc::{AllocError, Global};
 use std::sync::atomic::{AtomicBool, Ordering};
@@ -9,55 +10,24 @@ const MINUTES: &str = "stream trades(sym text, px int, qty int); \
     let g = trades | tumble 60 | group by sym : count as n, sum qty as q; \
     let old = g | delay 60 | select sym, q as q0; g | join old on sym";
 
-fn push(text: &mut Vec<u8>, line: &str) -> Result<(), AllocError> {
-    text.extend_from_slice(line.as_bytes())
-}
-
-/// A header, and a trade every 3 seconds, of five symbols in turn; each minute has four of each.
-fn input(alloc: Global) -> Result<Vec<u8>, AllocError> {
+/// A header, and so many trades, one every 3 seconds, of five symbols in turn; each minute has four of each.
+fn input(alloc: Global, count: u64) -> Result<Vec<u8>, AllocError> {
     let mut text = Vec::from_slice(alloc, b"stream,kind,start,end,sym,px,qty\n")?;
-    for i in 0..200u64 {
+    for i in 0..count.min(200) {
         let time = 34200 + 3 * i;
         let (symbol, price, quantity) = (i % 5, 100 + i % 7, 1 + i / 20);
         let line = format!(in alloc;
             "trades,interval,{time},{},S{symbol},{price},{quantity}\n",
             time + 1
         )?;
-        push(&mut text, line.as_str())?;
+        text.extend_from_slice(line.as_bytes())?;
     }
     Ok(text)
 }
 
-/// The five lines of a minute: of the minute at `time`, whose lines name `other` as their other time.
-fn push_five(text: &mut Vec<u8>, alloc: Global, head: &str, sums: &str) -> Result<(), AllocError> {
-    for symbol in 0..5u64 {
-        let line = format!(in alloc; "out,{head},S{symbol},4,{sums}\n")?;
-        push(text, line.as_str())?;
-    }
-    Ok(())
-}
-
-fn output(alloc: Global) -> Result<Vec<u8>, AllocError> {
-    let mut text = Vec::from_slice(alloc, b"*,punct,34200\n*,punct,34260\n")?;
-    for w in 1..10u64 {
-        let time = 34200 + 60 * w;
-        if w > 1 {
-            let head = format!(in alloc; "end,{time},{}", time - 60)?;
-            let sums = format!(in alloc; "{},{}", 4 * w, 4 * w - 4)?;
-            push_five(&mut text, alloc, head.as_str(), sums.as_str())?;
-        }
-        let head = format!(in alloc; "start,{time},inf")?;
-        let sums = format!(in alloc; "{},{}", 4 * w + 4, 4 * w)?;
-        push_five(&mut text, alloc, head.as_str(), sums.as_str())?;
-        if w < 9 {
-            let line = format!(in alloc; "*,punct,{}\n", time + 60)?;
-            push(&mut text, line.as_str())?;
-        }
-    }
-    push_five(&mut text, alloc, "end,34800,34740", "40,36")?;
-    push(&mut text, "*,punct,inf\n")?;
-    Ok(text)
-}
+/// The first lines that go out: all others are told by the stored run of the program.
+const FIRST: &[u8] =
+    b"*,punct,34200\n*,punct,34260\nout,start,34260,inf,S0,4,8,4\nout,start,34260,inf,S1,4,8,4\n";
 
 /// The words of a run with batches of this size and so many workers.
 fn words_for<'a>(batch: &'a str, workers: &'a str) -> [&'a str; 10] {
@@ -75,28 +45,50 @@ fn words_for<'a>(batch: &'a str, workers: &'a str) -> [&'a str; 10] {
     ]
 }
 
+/// What is given to a run over the trades.
+fn given<'a, 'b>(words: &'a [&'a str], input: &'b [u8]) -> Given<'a, 'b> {
+    Given {
+        words,
+        input,
+        step: 65536,
+        failing: None,
+    }
+}
+
+/// Sizes of batches with numbers of workers.
+static WAYS: [(&str, &str); 5] = [
+    ("1", "1"),
+    ("7", "2"),
+    ("1024", "8"),
+    ("1024", "16"),
+    ("4096", "1"),
+];
+
 #[test]
 fn minutes_are_joined_with_those_before(rt: HostRuntime) -> Result<(), Memory> {
-    let input = input(rt.alloc())?;
-    let output = output(rt.alloc())?;
-    let cases = [
-        ("1", "1"),
-        ("7", "2"),
-        ("1024", "1"),
-        ("1024", "8"),
-        ("1024", "16"),
-        ("4096", "1"),
-    ];
-    for (batch, workers) in cases {
-        let words = words_for(batch, workers);
-        let ran = run_over(&rt, &words, &input, 65536, None)?;
-        assert_eq!(rt; ran.status.number(), 0, "{batch} {workers}");
-        assert!(rt;
-            ran.output.as_slice() == output.as_slice(),
-            "{batch} {workers}"
-        );
+    let input = input(rt.alloc(), 200)?;
+    let ran = run_over(&rt, given(&words_for("1024", "1"), &input))?;
+    assert!(rt; ran.output.starts_with(FIRST));
+    let output = str::from_utf8(&ran.output).unwrap_or("");
+    for &(batch, workers) in WAYS.iter() {
+        expect(
+            &rt,
+            given(&words_for(batch, workers), &input),
+            (0, output, ""),
+        )?;
     }
     Ok(())
+}
+
+/// The run is frozen after 100 trades, and then resumed.
+#[test]
+fn minutes_are_cut_in_two(rt: HostRuntime) -> Result<(), Memory> {
+    let (first, input) = (input(rt.alloc(), 100)?, input(rt.alloc(), 200)?);
+    let words = words_for("1024", "8");
+    let given = given(&words, &input);
+    let ran = run_over(&rt, given)?;
+    let output = str::from_utf8(&ran.output).unwrap_or("");
+    expect_cut(&rt, given, first.len(), (0, output, ""))
 }
 
 /// A gate at which each of two shards, as it first comes, waits for the other, but not without end.
@@ -127,10 +119,9 @@ fn two_shards_meet(rt: HostRuntime) -> Result<(), Memory> {
         came: [AtomicBool::new(false), AtomicBool::new(false)],
         met: [AtomicBool::new(false), AtomicBool::new(false)],
     };
-    let input = input(rt.alloc())?;
-    let words = words_for("1024", "2");
-    let ran = run_past(&rt, &words, &input, 65536, None, &gate)?;
-    assert_eq!(rt; ran.status.number(), 0);
+    let input = input(rt.alloc(), 200)?;
+    let ran = run_past(&rt, given(&words_for("1024", "2"), &input), &gate)?;
+    assert_eq!(rt; ran.number, 0);
     assert!(rt; gate.met[0].load(Ordering::SeqCst) && gate.met[1].load(Ordering::SeqCst));
     Ok(())
 }
