@@ -12,8 +12,6 @@ mod planning;
 #[cfg(test)]
 mod plans;
 #[cfg(test)]
-mod printing;
-#[cfg(test)]
 mod samples;
 #[cfg(test)]
 mod spelling;

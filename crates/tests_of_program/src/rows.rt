@@ -17,7 +17,7 @@ const UNION: &str = "stream l(k text, w int); stream r(k text, x int); l | union
 type Row = (&'static str, &'static str, &'static str, u8, &'static str);
 
 /// Runs of each kind of node and of fault, which come out so for any number of workers and any size of batches.
-static ROWS: [Row; 35] = [
+static ROWS: [Row; 36] = [
     (
         "stream s(k text, v int); s | group : count as n",
         "s,interval,1,5,a,1\ns,interval,3,8,a,1\n",
@@ -141,6 +141,13 @@ static ROWS: [Row; 35] = [
         ALL,
         "s,interval,1,2,\"a,b\",-3\n",
         "out,start,1,inf,\"a,b\",-3\nout,end,2,1,\"a,b\",-3\n*,punct,inf\n",
+        0,
+        "",
+    ),
+    (
+        "stream s(t text, i int, d dec(2), b bool, u text); s",
+        "s,interval,0,inf,\"a,b\",-5,-0.05,true,\"c\"\"d\"\n",
+        "out,start,0,inf,\"a,b\",-5,-0.05,true,\"c\"\"d\"\n*,punct,inf\n",
         0,
         "",
     ),
