@@ -1,19 +1,11 @@
-//! Tests of queries and lines: how they are spelled, read, planned and printed, through public calls alone.
+//! Tests of queries, words and wires: how they are read, through public calls alone. Lines are tested by runs of the program.
 #![tactic(auto)]
 
-#[cfg(test)]
-mod lines;
 #[cfg(test)]
 mod options;
 #[cfg(test)]
 mod parsing;
 #[cfg(test)]
-mod planning;
-#[cfg(test)]
-mod plans;
-#[cfg(test)]
 mod samples;
-#[cfg(test)]
-mod spelling;
 #[cfg(test)]
 mod wires;

@@ -1,173 +1,156 @@
 // Words against what they ask for.
-use command_line::{WordsFault, read_words};
-use std::alloc::{AllocError, Global};
+use admission::{Lateness, Policy};
+use command_line::{CommandLine, Mode, read_words};
 
-/// What the words of a text, with `|` between each two, give.
-fn told(alloc: Global, text: &str) -> Result<String, AllocError> {
-    let words: Vec<&str> = text.split('|').collect(alloc)?;
-    match read_words(alloc, words.as_slice()) {
-        Ok(asked) => format!(in alloc;
-            "[{}] {:?} {} {} {} {:?} {} {} {} {}",
-            asked.query,
-            asked.mode,
-            asked.batch,
-            asked.workers,
-            asked.header,
-            asked.policy.late,
-            asked.policy.lateness,
-            asked.policy.period,
-            asked.number,
-            asked.events
-        ),
-        Err(WordsFault::Refused { .. }) => String::from_str(alloc, "refused"),
-        Err(WordsFault::Memory) => String::from_str(alloc, "memory"),
-    }
-}
+/// What the query `q` alone asks for.
+const PLAIN: CommandLine<'static> = CommandLine {
+    query: "q",
+    mode: Mode::Run,
+    batch: 1024,
+    workers: 1,
+    header: false,
+    policy: Policy {
+        lateness: 0,
+        late: Lateness::Refuse,
+        period: 0,
+    },
+    number: 0,
+    events: 1000,
+};
 
-/// Words with what they ask for.
-static ASKED: [(&str, &str); 19] = [
-    ("tempo|--query|q", "[q] Run 1024 1 false Refuse 0 0 0 1000"),
-    ("tempo|--query|", "[] Run 1024 1 false Refuse 0 0 0 1000"),
-    ("tempo|--query=", "[] Run 1024 1 false Refuse 0 0 0 1000"),
+/// Words, with `|` between each two, with what they ask for, or nothing where they are refused.
+static WORDS: [(&str, Option<CommandLine<'static>>); 47] = [
+    ("tempo|--query|q", Some(PLAIN)),
+    ("tempo|--query|", Some(CommandLine { query: "", ..PLAIN })),
+    ("tempo|--query=", Some(CommandLine { query: "", ..PLAIN })),
     (
         "tempo|--query=-q",
-        "[-q] Run 1024 1 false Refuse 0 0 0 1000",
+        Some(CommandLine {
+            query: "-q",
+            ..PLAIN
+        }),
     ),
-    ("tempo|--query|-", "[-] Run 1024 1 false Refuse 0 0 0 1000"),
     (
-        "tempo|--query|q|--",
-        "[q] Run 1024 1 false Refuse 0 0 0 1000",
+        "tempo|--query|-",
+        Some(CommandLine {
+            query: "-",
+            ..PLAIN
+        }),
     ),
+    ("tempo|--query|q|--", Some(PLAIN)),
     (
         "tempo|--query|a b = c",
-        "[a b = c] Run 1024 1 false Refuse 0 0 0 1000",
+        Some(CommandLine {
+            query: "a b = c",
+            ..PLAIN
+        }),
     ),
     (
         "tempo|--query|q|--batch=+7",
-        "[q] Run 7 1 false Refuse 0 0 0 1000",
+        Some(CommandLine { batch: 7, ..PLAIN }),
     ),
     (
         "tempo|--batch|007|--query|q",
-        "[q] Run 7 1 false Refuse 0 0 0 1000",
+        Some(CommandLine { batch: 7, ..PLAIN }),
     ),
     (
         "tempo|--query|q|--batch|1",
-        "[q] Run 1 1 false Refuse 0 0 0 1000",
+        Some(CommandLine { batch: 1, ..PLAIN }),
     ),
     (
         "tempo|--query|q|--batch|8192",
-        "[q] Run 8192 1 false Refuse 0 0 0 1000",
+        Some(CommandLine {
+            batch: 8192,
+            ..PLAIN
+        }),
     ),
-    (
-        "tempo|--query|q|--mode|run",
-        "[q] Run 1024 1 false Refuse 0 0 0 1000",
-    ),
+    ("tempo|--query|q|--mode|run", Some(PLAIN)),
     (
         "tempo|--query|q|--mode|freeze",
-        "[q] Freeze 1024 1 false Refuse 0 0 0 1000",
+        Some(CommandLine {
+            mode: Mode::Freeze,
+            ..PLAIN
+        }),
     ),
     (
         "tempo|--query|q|--mode=resume",
-        "[q] Resume 1024 1 false Refuse 0 0 0 1000",
+        Some(CommandLine {
+            mode: Mode::Resume,
+            ..PLAIN
+        }),
     ),
     (
         "tempo|--header|--query=q|--mode|explain",
-        "[q] Explain 1024 1 true Refuse 0 0 0 1000",
+        Some(CommandLine {
+            mode: Mode::Explain,
+            header: true,
+            ..PLAIN
+        }),
     ),
     (
         "tempo|--query|q|--late|adjust|--lateness|5|--punctuate=1152921504606846975",
-        "[q] Run 1024 1 false Adjust 5 1152921504606846975 0 1000",
+        Some(CommandLine {
+            policy: Policy {
+                lateness: 5,
+                late: Lateness::Adjust,
+                period: 1152921504606846975,
+            },
+            ..PLAIN
+        }),
     ),
     (
         "tempo|--query|q|--mode=sample|--number|4294967295|--events|+1000000",
-        "[q] Sample 1024 1 false Refuse 0 0 4294967295 1000000",
+        Some(CommandLine {
+            mode: Mode::Sample,
+            number: 4294967295,
+            events: 1000000,
+            ..PLAIN
+        }),
     ),
     (
         "tempo|--query|q|--workers|16",
-        "[q] Run 1024 16 false Refuse 0 0 0 1000",
+        Some(CommandLine {
+            workers: 16,
+            ..PLAIN
+        }),
     ),
-    (
-        "--query|--query|q",
-        "[q] Run 1024 1 false Refuse 0 0 0 1000",
-    ),
+    ("--query|--query|q", Some(PLAIN)),
+    ("tempo", None),
+    ("tempo|--query", None),
+    ("tempo|--query|-q", None),
+    ("tempo|--query|q|--batch|0", None),
+    ("tempo|--query|q|--batch|8193", None),
+    ("tempo|--query|q|--batch|x", None),
+    ("tempo|--query|q|--batch|", None),
+    ("tempo|--query|q|--batch|18446744073709551617", None),
+    ("tempo|--query|q|--workers|0", None),
+    ("tempo|--query|q|--workers|17", None),
+    ("tempo|--query|q|--number|4294967296", None),
+    ("tempo|--query|q|--events|0", None),
+    ("tempo|--query|q|--events|1000001", None),
+    ("tempo|--query|q|--mode|Run", None),
+    ("tempo|--query|q|--late|late", None),
+    ("tempo|--query|q|--lateness|1152921504606846976", None),
+    ("tempo|--query|q|--punctuate|-1", None),
+    ("tempo|--query|q|--header=true", None),
+    ("tempo|--query|q|--header|--header", None),
+    ("tempo|--query|q|--query|q", None),
+    ("tempo|--query|q|--help", None),
+    ("tempo|--query|q|-h", None),
+    ("tempo|--query|q|--version", None),
+    ("tempo|--query|q|--quer|q", None),
+    ("tempo|--query|q|more", None),
+    ("tempo|--query|q|--|more", None),
+    ("tempo|--header", None),
+    ("tempo|--mode|explain|--batch|7", None),
 ];
 
 #[test]
 fn words_ask_for_their_command(rt: HostRuntime) {
-    for &(text, wanted) in ASKED.iter() {
-        let given = told(rt.alloc(), text).expect(&rt, "memory");
-        assert_eq!(rt; given.as_str(), wanted, "at {text}");
-    }
-}
-
-/// Words that are refused.
-static REFUSED: [&str; 28] = [
-    "tempo",
-    "tempo|--query",
-    "tempo|--query|-q",
-    "tempo|--query|q|--batch|0",
-    "tempo|--query|q|--batch|8193",
-    "tempo|--query|q|--batch|x",
-    "tempo|--query|q|--batch|",
-    "tempo|--query|q|--batch|18446744073709551617",
-    "tempo|--query|q|--workers|0",
-    "tempo|--query|q|--workers|17",
-    "tempo|--query|q|--number|4294967296",
-    "tempo|--query|q|--events|0",
-    "tempo|--query|q|--events|1000001",
-    "tempo|--query|q|--mode|Run",
-    "tempo|--query|q|--late|late",
-    "tempo|--query|q|--lateness|1152921504606846976",
-    "tempo|--query|q|--punctuate|-1",
-    "tempo|--query|q|--header=true",
-    "tempo|--query|q|--header|--header",
-    "tempo|--query|q|--query|q",
-    "tempo|--query|q|--help",
-    "tempo|--query|q|-h",
-    "tempo|--query|q|--version",
-    "tempo|--query|q|--quer|q",
-    "tempo|--query|q|more",
-    "tempo|--query|q|--|more",
-    "tempo|--header",
-    "tempo|--mode|explain|--batch|7",
-];
-
-#[test]
-fn other_words_are_refused(rt: HostRuntime) {
-    for &text in REFUSED.iter() {
-        let given = told(rt.alloc(), text).expect(&rt, "memory");
-        assert_eq!(rt; given.as_str(), "refused", "at {text}");
-    }
-}
-
-/// The text of a refusal, if the words are refused.
-fn refusal(alloc: Global, words: &[&str]) -> Option<String> {
-    match read_words(alloc, words) {
-        Err(WordsFault::Refused { text }) => text,
-        _ => None,
-    }
-}
-
-/// The options, which the help names.
-static OPTIONS: [&str; 10] = [
-    "--query",
-    "--mode",
-    "--batch",
-    "--workers",
-    "--header",
-    "--late",
-    "--lateness",
-    "--punctuate",
-    "--number",
-    "--events",
-];
-
-#[test]
-fn refusals_tell_what_is_wrong(rt: HostRuntime) {
-    let missing = refusal(rt.alloc(), &["tempo"]).expect(&rt, "a refusal");
-    assert!(rt; missing.as_str().contains("--query"));
-    let help = refusal(rt.alloc(), &["tempo", "--help"]).expect(&rt, "a refusal");
-    for &option in OPTIONS.iter() {
-        assert!(rt; help.as_str().contains(option), "at {option}");
+    for &(text, wanted) in WORDS.iter() {
+        let Ok(words) = text.split('|').collect::<Vec<&str>>(rt.alloc()) else {
+            panic!(rt; "no memory");
+        };
+        assert_eq!(rt; read_words(rt.alloc(), &words).ok(), wanted, "at {text}");
     }
 }

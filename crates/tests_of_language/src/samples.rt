@@ -1,5 +1,5 @@
-// A sample against the reference, and counts of a text in parts.
-use sample_trades::{LineCounts, Sample};
+// A sample against the reference.
+use sample_trades::Sample;
 use tw_rows::Memory;
 
 /// The lines of the sample of number 7.
@@ -19,23 +19,5 @@ fn a_sample_is_that_of_its_number(rt: HostRuntime) -> Result<(), Memory> {
         assert!(rt; line.as_slice() == wanted.as_bytes(), "{wanted}");
     }
     assert!(rt; sample.next_line().is_none());
-    Ok(())
-}
-
-/// A text in parts.
-static PARTS: [&str; 3] = [
-    "out,start,1,inf,a\nou",
-    "t,end,4,1,a\n*,pu",
-    "nct,inf\nout,start,",
-];
-
-#[test]
-fn lines_are_counted_in_parts(rt: HostRuntime) -> Result<(), Memory> {
-    let mut counts = LineCounts::new(rt.alloc());
-    for &part in PARTS.iter() {
-        counts.add(part.as_bytes())?;
-    }
-    let summary = counts.summary(rt.alloc())?;
-    assert!(rt; summary.as_slice() == b"starts 1\nends 1\npuncts 1\n".as_slice());
     Ok(())
 }
