@@ -1,19 +1,8 @@
-//! Tests of operators, of what they are made of, and of what lets their answers out, through public calls alone.
+//! Tests of operators and of the hashes of keys, through public calls alone. What operators answer, and how they go on from what
+//! they save, is tested by runs of the program.
 #![tactic(auto)]
 
 #[cfg(test)]
-mod groups;
-#[cfg(test)]
-mod keeping;
-#[cfg(test)]
-mod lives;
-#[cfg(test)]
-mod made;
-#[cfg(test)]
-mod outputs;
+mod hashing;
 #[cfg(test)]
 mod refusals;
-#[cfg(test)]
-mod sides;
-#[cfg(test)]
-mod stepping;

@@ -1,5 +1,4 @@
 // What is no state of an operator, or of an output, is refused where it is loaded.
-use crate::made::INF;
 use anti_join::new_anti;
 use clip_op::new_clip;
 use edge_stream::{LoadFault, Saved, SavedEntry};
@@ -13,6 +12,9 @@ use std::test::Fail;
 use tw_rows::{Cells, Datum, Kind, Time};
 
 const INT: [Kind; 1] = [Kind::Int];
+
+/// The other time of a start.
+const INF: u64 = 2305843009213693952;
 
 // An entry: its part, its two times, and the int of its row.
 type Entry = (u64, u64, u64, i64);

@@ -1,11 +1,9 @@
 // Whole runs of worked examples: each kind of node and of fault, runs that a checkpoint cuts in two, and other modes and options.
-use crate::runs::{ALL, Given, Ran, Wanted, check_ran, expect, run_over};
+use crate::runs::{ALL, FILTER, Given, HOP, Ran, Wanted, check_ran, expect, run_over};
 use std::alloc::{AllocError, AllocGlobal, Global};
 use std::process::Abort;
 use std::thread::Threads;
 use tw_rows::Memory;
-
-const FILTER: &str = "stream s(k text, v int); s | where v > 10";
 
 const SUM: &str = "stream s(k text, v int); s | group : sum v as t";
 
@@ -17,7 +15,7 @@ const UNION: &str = "stream l(k text, w int); stream r(k text, x int); l | union
 type Row = (&'static str, &'static str, &'static str, u8, &'static str);
 
 /// Runs of each kind of node and of fault, which come out so for any number of workers and any size of batches.
-static ROWS: [Row; 36] = [
+static ROWS: [Row; 51] = [
     (
         "stream s(k text, v int); s | group : count as n",
         "s,interval,1,5,a,1\ns,interval,3,8,a,1\n",
@@ -54,7 +52,7 @@ static ROWS: [Row; 36] = [
         "",
     ),
     (
-        "stream s(k text, v int); s | hop 20 10",
+        HOP,
         "s,interval,15,16,a,1\n*,punct,17\n",
         "*,punct,10\nout,start,10,inf,a,1\nout,end,30,10,a,1\n*,punct,inf\n",
         0,
@@ -273,6 +271,140 @@ static ROWS: [Row; 36] = [
         6,
         "node 1: overflow at 8, closing inf\n",
     ),
+    // Fields in quotes, an empty text, a CR at the ends of lines, the ends of the ints, and a text of other characters.
+    (
+        ALL,
+        "\r\ns,interval,0,1,,0\r\n\"s\",\"interval\",\"1\",\"2\",\"a\",\"1\"\ns,interval,7,inf,a,9223372036854775807\n\
+            s,interval,7,9,\"a\"\"b\",-9223372036854775808\ns,interval,8,9,\"\"\"\",1\ns,interval,9,11,\u{feff}\u{e9}\0 ,1\n",
+        "out,start,0,inf,,0\nout,end,1,0,,0\nout,start,1,inf,a,1\nout,end,2,1,a,1\n\
+            out,start,7,inf,a,9223372036854775807\nout,start,7,inf,\"a\"\"b\",-9223372036854775808\n\
+            out,start,8,inf,\"\"\"\",1\nout,end,9,8,\"\"\"\",1\nout,end,9,7,\"a\"\"b\",-9223372036854775808\n\
+            out,start,9,inf,\u{feff}\u{e9}\0 ,1\nout,end,11,9,\u{feff}\u{e9}\0 ,1\n*,punct,inf\n",
+        0,
+        "",
+    ),
+    // The last two times.
+    (
+        ALL,
+        "s,interval,1152921504606846974,1152921504606846975,a,1\ns,interval,1152921504606846975,inf,a,2\n",
+        "out,start,1152921504606846974,inf,a,1\nout,end,1152921504606846975,1152921504606846974,a,1\n\
+            out,start,1152921504606846975,inf,a,2\n*,punct,inf\n",
+        0,
+        "",
+    ),
+    (
+        ALL,
+        "*,punct,0\ns,start,4,inf,a,1\ns,end,5,4,a,1\n\"*\",\"punct\",\"17\"\ns,punct,18\n*,punct,1152921504606846975\n*,punct,inf\n",
+        "out,start,4,inf,a,1\nout,end,5,4,a,1\n*,punct,17\n*,punct,18\n*,punct,1152921504606846975\n*,punct,inf\n",
+        0,
+        "",
+    ),
+    (
+        "stream t(f bool, g bool, h text); t",
+        "t,interval,1,2,true,false,x y\n",
+        "out,start,1,inf,true,false,x y\nout,end,2,1,true,false,x y\n*,punct,inf\n",
+        0,
+        "",
+    ),
+    (
+        "stream d(p dec(2), q int); d",
+        "d,interval,0,5,1.50,3\nd,interval,1,5,0.00,3\nd,interval,2,6,-0.05,3\nd,interval,3,7,\"12.34\",3\n\
+            d,interval,4,8,-92233720368547758.08,3\nd,interval,5,9,92233720368547758.07,3\n",
+        "out,start,0,inf,1.50,3\nout,start,1,inf,0.00,3\nout,start,2,inf,-0.05,3\nout,start,3,inf,12.34,3\n\
+            out,start,4,inf,-92233720368547758.08,3\nout,end,5,1,0.00,3\nout,end,5,0,1.50,3\n\
+            out,start,5,inf,92233720368547758.07,3\nout,end,6,2,-0.05,3\nout,end,7,3,12.34,3\n\
+            out,end,8,4,-92233720368547758.08,3\nout,end,9,5,92233720368547758.07,3\n*,punct,inf\n",
+        0,
+        "",
+    ),
+    // Each operator, and which of two binds closer.
+    (
+        "stream s(a int, b int, c int, u bool, t text); s | select a - b - c as a, a * b div 7 mod 3 + 1 as b, \
+            (a + 1) * 2 - -3 div 4 mod 5 as c, - - 2 as d, u or u and not u as e, (u or u) and not u as f, not not u as g, \
+            t = 'it''s' as h, t <> '''' as i, false or a < b or a = b as j, a <= 10 as k, a > 10 as l, a >= b as m, \
+            not a = b as n, false <> true as o, -0.25 as p",
+        "s,interval,1,2,10,3,2,true,it's\n",
+        "out,start,1,inf,5,2,18,2,true,false,true,true,true,false,true,false,true,true,true,-0.25\n\
+            out,end,2,1,5,2,18,2,true,false,true,true,true,false,true,false,true,true,true,-0.25\n*,punct,inf\n",
+        0,
+        "",
+    ),
+    (
+        "stream l(k text); stream r(k text, x int, y dec(1)); l | left r on k else -1, 2.5",
+        "l,interval,1,3,a\n",
+        "out,start,1,inf,a,-1,2.5\nout,end,3,1,a,-1,2.5\n*,punct,inf\n",
+        0,
+        "",
+    ),
+    (
+        "stream s(k text, g int, v int); s | top 1 per k, g by v",
+        "s,interval,1,5,a,1,3\ns,interval,2,4,a,2,7\ns,interval,3,4,a,1,9\n",
+        "out,start,1,inf,a,1,3\nout,start,2,inf,a,2,7\nout,end,3,1,a,1,3\nout,start,3,inf,a,1,9\n\
+            out,end,4,3,a,1,9\nout,end,4,2,a,2,7\nout,start,4,inf,a,1,3\nout,end,5,4,a,1,3\n*,punct,inf\n",
+        0,
+        "",
+    ),
+    (
+        "stream s(k text, v int); s | group by k : sum v as a, min v as b, max v as c, count as n, avg v as m",
+        "s,interval,1,4,a,3\ns,interval,2,4,a,-6\ns,interval,2,3,b,1\n",
+        "out,start,1,inf,a,3,3,3,1,3\nout,end,2,1,a,3,3,3,1,3\nout,start,2,inf,a,-3,-6,3,2,-2\n\
+            out,start,2,inf,b,1,1,1,1,1\nout,end,3,2,b,1,1,1,1,1\nout,end,4,2,a,-3,-6,3,2,-2\n*,punct,inf\n",
+        0,
+        "",
+    ),
+    // The end of a start that is extended.
+    (
+        "stream s(k text, v int); s | extend 4",
+        "s,start,2,inf,a,2\ns,interval,3,5,a,1\ns,end,6,2,a,2\n",
+        "out,start,2,inf,a,2\nout,start,3,inf,a,1\nout,end,9,3,a,1\nout,end,10,2,a,2\n*,punct,inf\n",
+        0,
+        "",
+    ),
+    // Of two lives that end at 9 one goes on.
+    (
+        "stream s(k text, v int); s | coalesce",
+        "s,interval,1,9,a,7\ns,interval,1,9,a,7\ns,interval,2,3,a,5\ns,interval,9,12,a,7\n",
+        "out,start,1,inf,a,7\nout,start,1,inf,a,7\nout,start,2,inf,a,5\nout,end,3,2,a,5\nout,end,9,1,a,7\n\
+            out,end,12,1,a,7\n*,punct,inf\n",
+        0,
+        "",
+    ),
+    // Both rows of 5 are shown, since one row is greater; from 3 to 6 two are.
+    (
+        "stream s(k text, v int); s | top 2 by v",
+        "s,interval,1,20,a,9\ns,interval,1,10,a,5\ns,interval,1,10,a,5\ns,interval,3,6,a,9\n",
+        "out,start,1,inf,a,5\nout,start,1,inf,a,5\nout,start,1,inf,a,9\nout,end,3,1,a,5\nout,end,3,1,a,5\nout,start,3,inf,a,9\n\
+            out,end,6,1,a,9\nout,start,6,inf,a,5\nout,start,6,inf,a,5\nout,end,10,6,a,5\nout,end,10,6,a,5\n\
+            out,end,20,3,a,9\n*,punct,inf\n",
+        0,
+        "",
+    ),
+    // Sessions of two keys.
+    (
+        "stream s(k text, v int); s | session 5 by k",
+        "s,interval,1,2,g,1\ns,interval,4,5,g,2\ns,interval,8,9,e,3\ns,interval,9,10,g,4\n",
+        "out,start,1,inf,g,1\nout,start,4,inf,g,2\nout,start,8,inf,e,3\nout,end,9,1,g,1\nout,end,9,4,g,2\n\
+            out,start,9,inf,g,4\nout,end,13,8,e,3\nout,end,14,9,g,4\n*,punct,inf\n",
+        0,
+        "",
+    ),
+    // A partner is followed by another, and a row without partners.
+    (
+        "stream l(k text, w int); stream r(k text, x int); l | anti r on k",
+        "l,interval,2,9,a,7\nl,interval,3,10,b,5\nr,start,4,inf,a,1\nr,end,6,4,a,1\nr,interval,6,8,a,2\n",
+        "out,start,2,inf,a,7\nout,start,3,inf,b,5\nout,end,4,2,a,7\nout,start,8,inf,a,7\nout,end,9,8,a,7\n\
+            out,end,10,3,b,5\n*,punct,inf\n",
+        0,
+        "",
+    ),
+    // A row is clipped once, by a later start of its key.
+    (
+        "stream l(k text, w int); stream r(k text, x int); l | clip r on k",
+        "l,interval,3,99,a,7\nr,start,3,inf,a,0\nl,interval,4,99,b,5\nr,start,8,inf,a,0\n",
+        "out,start,3,inf,a,7\nout,start,4,inf,b,5\nout,end,8,3,a,7\nout,end,99,4,b,5\n*,punct,inf\n",
+        0,
+        "",
+    ),
 ];
 
 /// The sizes of the pieces in which the input comes, of batches, and the numbers of workers.
@@ -403,8 +535,8 @@ type Case = (
     &'static str,
 );
 
-/// Runs with options, in other modes, and over one bad line.
-static CASES: [Case; 27] = [
+/// Runs with options and in other modes.
+static CASES: [Case; 30] = [
     (
         UNION,
         &["--punctuate", "10"],
@@ -419,6 +551,77 @@ static CASES: [Case; 27] = [
         b"x",
         0,
         "0 source - event 0 k:text,v:int\n1 where 0 event 0 k:text,v:int\n2 select 1 event 0 k:text\nroot 2\n",
+        "",
+    ),
+    (
+        "stream trades(sym text, px int, qty int); let g = trades | tumble 60 | group by sym : count as n, sum qty as q; \
+            let old = g | delay 60 | select sym, q as q0; g | join old on sym",
+        &["--mode", "explain"],
+        b"x",
+        0,
+        "0 source - event 0 sym:text,px:int,qty:int\n1 hop 0 event 60 sym:text,px:int,qty:int\n\
+            2 group 1 snapshot 60 sym:text,n:int,q:int\n3 delay 2 snapshot 120 sym:text,n:int,q:int\n\
+            4 select 3 snapshot 120 sym:text,q0:int\n5 join 2,4 snapshot 120 sym:text,n:int,q:int,q0:int\nroot 5\n",
+        "",
+    ),
+    (
+        "stream s(k text, v int); s | duration 3 | extend 4 | session 5 by k | clip s on k | union s",
+        &["--mode", "explain"],
+        b"x",
+        0,
+        "0 source - event 0 k:text,v:int\n1 duration 0 event 3 k:text,v:int\n2 extend 1 event 7 k:text,v:int\n\
+            3 session 2 event 12 k:text,v:int\n4 clip 3,0 event 12 k:text,v:int\n5 union 4,0 event 12 k:text,v:int\nroot 5\n",
+        "",
+    ),
+    (
+        "stream m(v int); m | hop 20 10 | group : count as n | delay 5",
+        &["--mode", "explain"],
+        b"x",
+        0,
+        "0 source - event 0 v:int\n1 hop 0 event 20 v:int\n2 group 1 snapshot 20 n:int\n3 delay 2 snapshot 25 n:int\nroot 3\n",
+        "",
+    ),
+    (
+        "stream s(k text, v int); s | group : avg v as m | coalesce",
+        &["--mode", "explain"],
+        b"x",
+        0,
+        "0 source - event 0 k:text,v:int\n1 group 0 snapshot 0 m:int,count:int\n2 mean 1 snapshot 0 m:int\n3 coalesce 2 event 0 m:int\nroot 3\n",
+        "",
+    ),
+    (
+        "stream l(k text, w int); stream r(k text, x int); l | left r on k else -1",
+        &["--mode", "explain"],
+        b"x",
+        0,
+        "0 source - event 0 k:text,w:int\n1 source - event 0 k:text,x:int\n2 join 0,1 snapshot 0 k:text,w:int,x:int\n\
+            3 group 1 snapshot 0 k:text\n4 anti 0,3 snapshot 0 k:text,w:int\n5 select 4 snapshot 0 k:text,w:int,x:int\n\
+            6 union 2,5 snapshot 0 k:text,w:int,x:int\nroot 6\n",
+        "",
+    ),
+    (
+        "stream s(k text, v int); s | top 1000 per k by v",
+        &["--mode", "explain"],
+        b"x",
+        0,
+        "0 source - event 0 k:text,v:int\n1 top 0 snapshot 0 k:text,v:int\nroot 1\n",
+        "",
+    ),
+    (
+        "stream l(k text, w int); stream r(k text, x int); l | follow r on k within 5",
+        &["--mode", "explain"],
+        b"x",
+        0,
+        "0 source - event 0 k:text,w:int\n1 source - event 0 k:text,x:int\n2 follow 0,1 event 5 k:text,w:int,x:int\nroot 2\n",
+        "",
+    ),
+    (
+        "stream s(p dec(2), q int); let m = s | where p >= 1.50 | select p * q as t, q; let n = m | select q; m",
+        &["--mode", "explain"],
+        b"x",
+        0,
+        "0 source - event 0 p:dec(2),q:int\n1 where 0 event 0 p:dec(2),q:int\n2 select 1 event 0 t:dec(2),q:int\n\
+            3 select 2 event 0 q:int\nroot 2\n",
         "",
     ),
     (
@@ -444,6 +647,50 @@ static CASES: [Case; 27] = [
         3,
         "",
         "query: syntax at 30\n",
+    ),
+    (
+        ALL,
+        &["--lateness", "5", "--punctuate", "10"],
+        b"s,interval,3,20,a,1\ns,interval,12,20,a,2\ns,interval,8,20,a,3\ns,interval,6,20,a,4\n",
+        5,
+        "",
+        "line 4: late, 6 below 7\n",
+    ),
+    (
+        ALL,
+        &["--lateness", "5", "--punctuate", "10", "--late", "drop"],
+        b"s,interval,3,20,a,1\ns,interval,12,20,a,2\ns,interval,8,20,a,3\ns,interval,6,20,a,4\n",
+        0,
+        "out,start,3,inf,a,1\nout,start,8,inf,a,3\nout,start,12,inf,a,2\nout,end,20,3,a,1\nout,end,20,12,a,2\n\
+            out,end,20,8,a,3\n*,punct,inf\n",
+        "",
+    ),
+    (
+        ALL,
+        &["--late", "adjust"],
+        b"s,interval,10,12,b,2\ns,start,4,inf,a,1\ns,end,7,4,a,1\n",
+        0,
+        "out,start,10,inf,b,2\nout,end,12,10,b,2\n*,punct,inf\n",
+        "",
+    ),
+    // A byte order mark before the first line, which says nothing or something.
+    (ALL, &[], b"\xEF\xBB\xBF", 0, "*,punct,inf\n", ""),
+    (ALL, &[], b"\xEF\xBB\xBF\r", 0, "*,punct,inf\n", ""),
+    (
+        ALL,
+        &[],
+        b"\xEF\xBB\xBFs,interval,1,2,a,1",
+        0,
+        "out,start,1,inf,a,1\nout,end,2,1,a,1\n*,punct,inf\n",
+        "",
+    ),
+    (
+        ALL,
+        &[],
+        b"\xEF\xBB\xBF\"s\",interval,1,2,a,1",
+        0,
+        "out,start,1,inf,a,1\nout,end,2,1,a,1\n*,punct,inf\n",
+        "",
     ),
     (
         "stream trades(id int, sym text, px int, qty int); trades",
@@ -527,88 +774,13 @@ static CASES: [Case; 27] = [
         "",
         "line 2: not a checkpoint\n",
     ),
-    (
-        ALL,
-        &[],
-        b"t,interval,1,2,a,1",
-        4,
-        "",
-        "line 1: unknown stream\n",
-    ),
-    (ALL, &[], b"s,jump,1,2,a,1", 4, "", "line 1: unknown kind\n"),
-    (
-        ALL,
-        &[],
-        b"*,interval,1,2,a,1",
-        4,
-        "",
-        "line 1: unknown kind\n",
-    ),
-    (
-        ALL,
-        &[],
-        b"s,interval,1,2,a",
-        4,
-        "",
-        "line 1: wrong number of fields\n",
-    ),
-    (
-        ALL,
-        &[],
-        b"s,interval,01,2,a,1",
-        4,
-        "",
-        "line 1: bad time\n",
-    ),
-    (ALL, &[], b"s,start,1,5,a,1", 4, "", "line 1: bad time\n"),
-    (
-        ALL,
-        &[],
-        b"s,interval,1152921504606846976,inf,a,1",
-        4,
-        "",
-        "line 1: bad time\n",
-    ),
-    (ALL, &[], b"s,interval,2,2,a,1", 4, "", "line 1: bad life\n"),
-    (
-        ALL,
-        &[],
-        b"s,interval,1,2,a,x",
-        4,
-        "",
-        "line 1: bad value in column 2\n",
-    ),
-    (
-        ALL,
-        &[],
-        b"s,interval,1,2,\"a,1",
-        4,
-        "",
-        "line 1: odd quotes\n",
-    ),
-    (
-        ALL,
-        &[],
-        b"s,interval,1,2,a\r,1",
-        4,
-        "",
-        "line 1: stray return\n",
-    ),
-    (
-        ALL,
-        &[],
-        b"s,interval,1,2,\xff,1",
-        4,
-        "",
-        "line 1: not utf-8\n",
-    ),
 ];
 
 /// The sizes of the pieces in which the input comes.
 static STEPS: [usize; 2] = [1, 65536];
 
 #[test]
-fn other_modes_and_bad_lines_come_out(rt: HostRuntime) -> Result<(), Memory> {
+fn other_modes_come_out(rt: HostRuntime) -> Result<(), Memory> {
     for &(query, more, input, number, output, note) in CASES.iter() {
         let mut words = Vec::from_slice(rt.alloc(), &["tempo", "--query", query])?;
         words.extend_from_slice(more)?;
@@ -621,6 +793,157 @@ fn other_modes_and_bad_lines_come_out(rt: HostRuntime) -> Result<(), Memory> {
             };
             expect(&rt, given, (number, output, note))?;
         }
+    }
+    Ok(())
+}
+
+/// Streams with columns of each kind.
+const MORE: &str =
+    "stream s(k text, v int); stream b(f bool, g bool, h text); stream d(p dec(2), q int); s";
+
+/// Lines that are refused, each with its note.
+static BAD: [(&[u8], &str); 93] = [
+    (b"\n\xEF\xBB\xBF", "line 2: unknown stream\n"),
+    (
+        b"s,interval,1152921504606846976,inf,a,1",
+        "line 1: bad time\n",
+    ),
+    (
+        b"s,interval,1,1152921504606846976,a,1",
+        "line 1: bad time\n",
+    ),
+    (
+        b"s,interval,1,18446744073709551617,a,1",
+        "line 1: bad time\n",
+    ),
+    (b"s,interval,inf,inf,a,1", "line 1: bad time\n"),
+    (b"s,interval,01,2,a,1", "line 1: bad time\n"),
+    (b"s,interval,1,02,a,1", "line 1: bad time\n"),
+    (b"s,interval,+1,2,a,1", "line 1: bad time\n"),
+    (b"s,interval,1,+2,a,1", "line 1: bad time\n"),
+    (b"s,interval,-0,2,a,1", "line 1: bad time\n"),
+    (b"s,interval,-1,2,a,1", "line 1: bad time\n"),
+    (b"s,interval, 1,2,a,1", "line 1: bad time\n"),
+    (b"s,interval,1 ,2,a,1", "line 1: bad time\n"),
+    (b"s,interval,,2,a,1", "line 1: bad time\n"),
+    (b"s,interval,1,,a,1", "line 1: bad time\n"),
+    (b"s,interval,1,Inf,a,1", "line 1: bad time\n"),
+    (b"s,interval,1,infinity,a,1", "line 1: bad time\n"),
+    (b"s,interval,00,2,a,1", "line 1: bad time\n"),
+    (b"s,interval,2,2,a,1", "line 1: bad life\n"),
+    (b"s,interval,3,2,a,1", "line 1: bad life\n"),
+    (b"s,start,1,5,a,1", "line 1: bad time\n"),
+    (b"s,start,inf,inf,a,1", "line 1: bad time\n"),
+    (b"s,start,4,Inf,a,1", "line 1: bad time\n"),
+    (b"s,end,1,1,a,1", "line 1: bad life\n"),
+    (b"s,end,1,5,a,1", "line 1: bad life\n"),
+    (b"s,end,inf,1,a,1", "line 1: bad time\n"),
+    (b"s,end,5,inf,a,1", "line 1: bad time\n"),
+    (b"*,punct,1152921504606846976", "line 1: bad time\n"),
+    (b"*,punct,007", "line 1: bad time\n"),
+    (b"*,punct,", "line 1: bad time\n"),
+    (b"*,punct", "line 1: wrong number of fields\n"),
+    (b"*,punct,1,2", "line 1: wrong number of fields\n"),
+    (b"*", "line 1: unknown kind\n"),
+    (b"*,interval,1,2,a,1", "line 1: unknown kind\n"),
+    (b"*,Punct,1", "line 1: unknown kind\n"),
+    (b"S,interval,1,2,a,1", "line 1: unknown stream\n"),
+    (b"s ,interval,1,2,a,1", "line 1: unknown stream\n"),
+    (b",interval,1,2,a,1", "line 1: unknown stream\n"),
+    (
+        b"\n\xEF\xBB\xBFs,interval,1,2,a,1",
+        "line 2: unknown stream\n",
+    ),
+    (b"s", "line 1: unknown kind\n"),
+    (b"s,", "line 1: unknown kind\n"),
+    (b"s,punct,01", "line 1: bad time\n"),
+    (b"s,punct", "line 1: wrong number of fields\n"),
+    (b"s,punct,1,2,a,1", "line 1: wrong number of fields\n"),
+    (b"r,punct,1", "line 1: unknown stream\n"),
+    (b"s,jump,1,2,a,1", "line 1: unknown kind\n"),
+    (b"s,interval", "line 1: wrong number of fields\n"),
+    (b"s,interval,1,2,a", "line 1: wrong number of fields\n"),
+    (b"s,interval,1,2,a,1,", "line 1: wrong number of fields\n"),
+    (b"s,interval,x,2,a", "line 1: wrong number of fields\n"),
+    (
+        b"s,interval,1,2,a,9223372036854775808",
+        "line 1: bad value in column 2\n",
+    ),
+    (
+        b"s,interval,1,2,a,-9223372036854775809",
+        "line 1: bad value in column 2\n",
+    ),
+    (b"s,interval,1,2,a,x", "line 1: bad value in column 2\n"),
+    (b"s,interval,1,2,a,+1", "line 1: bad value in column 2\n"),
+    (b"s,interval,1,2,a,01", "line 1: bad value in column 2\n"),
+    (b"s,interval,1,2,a,-0", "line 1: bad value in column 2\n"),
+    (b"s,interval,1,2,a,inf", "line 1: bad value in column 2\n"),
+    (b"s,interval,1,2,a,", "line 1: bad value in column 2\n"),
+    (
+        b"b,interval,1,2,True,0,x",
+        "line 1: bad value in column 1\n",
+    ),
+    (
+        b"b,interval,1,2,true,0,x",
+        "line 1: bad value in column 2\n",
+    ),
+    (b"s,interval,1,2,a\"b\"c,1", "line 1: odd quotes\n"),
+    (b"s,interval,1,2,\"a,1", "line 1: odd quotes\n"),
+    (b"s,interval,1,2,\"a\"b,1", "line 1: odd quotes\n"),
+    (b"s,interval,1,2,a,1\r\r", "line 1: stray return\n"),
+    (
+        b"d,interval,0,5,92233720368547758.08,3",
+        "line 1: bad value in column 1\n",
+    ),
+    (b"d,interval,0,5,1.5,3", "line 1: bad value in column 1\n"),
+    (b"d,interval,0,5,-0.00,3", "line 1: bad value in column 1\n"),
+    (b"d,interval,0,5,1.500,3", "line 1: bad value in column 1\n"),
+    (b"d,interval,0,5,150,3", "line 1: bad value in column 1\n"),
+    (b"d,interval,0,5,.50,3", "line 1: bad value in column 1\n"),
+    (b"d,interval,0,5,01.50,3", "line 1: bad value in column 1\n"),
+    (b"d,interval,0,5,+1.50,3", "line 1: bad value in column 1\n"),
+    (
+        b"d,interval,0,5,1.50,3.00",
+        "line 1: bad value in column 2\n",
+    ),
+    (b"b,interval,1,2,a,1", "line 1: wrong number of fields\n"),
+    (b"r,interval,1,2,a,1", "line 1: unknown stream\n"),
+    (
+        b"\xEF\xBB\xBF\xEF\xBB\xBFs,interval,1,2,a,1",
+        "line 1: unknown stream\n",
+    ),
+    (b"\n\xEF\xBB\xBF\r", "line 2: unknown stream\n"),
+    (
+        b"\n\xEF\xBB\xBF\"s\",interval,1,2,a,1",
+        "line 2: odd quotes\n",
+    ),
+    (b"\xEF\xBB", "line 1: not utf-8\n"),
+    (b"\xFF", "line 1: not utf-8\n"),
+    (b"s,interval,1,2,\xFF,1", "line 1: not utf-8\n"),
+    (b"s,interval,1,2,\xED\xA0\x80,1", "line 1: not utf-8\n"),
+    (b"\xFF\r\r", "line 1: not utf-8\n"),
+    (b"s,inter\rval,1,2,a,1", "line 1: stray return\n"),
+    (b"\r\r", "line 1: stray return\n"),
+    (b"s,\r\"", "line 1: stray return\n"),
+    (b"s,interval,1,2,\"a\rb\",1", "line 1: stray return\n"),
+    (b"zz,\"", "line 1: odd quotes\n"),
+    (b"zz,jump", "line 1: unknown stream\n"),
+    (b"s,interval,9,2,a,x", "line 1: bad life\n"),
+    (b"t,interval,1,2,a,1", "line 1: unknown stream\n"),
+    (b"s,interval,1,2,a\r,1", "line 1: stray return\n"),
+    (b"s,interval,1,2,\xff,1", "line 1: not utf-8\n"),
+];
+
+#[test]
+fn bad_lines_are_told(rt: HostRuntime) -> Result<(), Memory> {
+    for &(input, note) in BAD.iter() {
+        let given = Given {
+            words: &["tempo", "--query", MORE],
+            input,
+            step: 65536,
+            failing: None,
+        };
+        expect(&rt, given, (4, "", note))?;
     }
     Ok(())
 }

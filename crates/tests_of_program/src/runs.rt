@@ -9,6 +9,14 @@ use wire_lines::MemoryWire;
 
 pub(crate) const ALL: &str = "stream s(k text, v int); s";
 
+pub(crate) const FILTER: &str = "stream s(k text, v int); s | where v > 10";
+
+const TWO_INTERVALS: &[u8] = b"s,interval,1,5,a,12\ns,interval,2,4,b,7\n";
+
+pub(crate) const HOP: &str = "stream s(k text, v int); s | hop 20 10";
+
+const CLOSING: &[u8] = b"s,interval,15,16,a,1\n*,punct,17\n";
+
 /// What a run is given: its words, and an input that comes in pieces of `step` bytes; the call of number `failing` fails.
 #[derive(Clone, Copy)]
 pub(crate) struct Given<'a, 'b> {
@@ -82,20 +90,23 @@ pub(crate) fn expect<R: Threads + Sync + AllocGlobal + Abort>(
     Ok(ran.steps)
 }
 
-/// The number of a call that fails, and what a run over a punctuation comes to then.
-static FAILING: [(u64, Wanted<'static>); 4] = [
-    (0, (8, "", "read failed\n")),
-    (1, (9, "", "write failed\n")),
-    (2, (8, "*,punct,10\n", "read failed\n")),
-    (3, (9, "*,punct,10\n", "write failed\n")),
+/// A query, its input, the number of a call that fails, and what the run comes to then.
+static FAILING: [(&str, &[u8], u64, Wanted<'static>); 7] = [
+    (FILTER, TWO_INTERVALS, 0, (8, "", "read failed\n")),
+    (FILTER, TWO_INTERVALS, 1, (8, "", "read failed\n")),
+    (FILTER, TWO_INTERVALS, 2, (9, "", "write failed\n")),
+    (HOP, CLOSING, 0, (8, "", "read failed\n")),
+    (HOP, CLOSING, 1, (9, "", "write failed\n")),
+    (HOP, CLOSING, 2, (8, "*,punct,10\n", "read failed\n")),
+    (HOP, CLOSING, 3, (9, "*,punct,10\n", "write failed\n")),
 ];
 
 #[test]
 fn a_failed_call_has_its_status(rt: HostRuntime) -> Result<(), Memory> {
-    for &(call, wanted) in FAILING.iter() {
+    for &(query, input, call, wanted) in FAILING.iter() {
         let given = Given {
-            words: &["tempo", "--query", ALL],
-            input: b"*,punct,10\n",
+            words: &["tempo", "--query", query],
+            input,
             step: 65536,
             failing: Some(call),
         };
