@@ -17,6 +17,8 @@ pub(crate) const HOP: &str = "stream s(k text, v int); s | hop 20 10";
 
 const CLOSING: &[u8] = b"s,interval,15,16,a,1\n*,punct,17\n";
 
+const CLOSED: &str = "*,punct,10\nout,start,10,inf,a,1\nout,end,30,10,a,1\n*,punct,inf\n";
+
 /// What a run is given: its words, and an input that comes in pieces of `step` bytes; the call of number `failing` fails.
 #[derive(Clone, Copy)]
 pub(crate) struct Given<'a, 'b> {
@@ -91,7 +93,7 @@ pub(crate) fn expect<R: Threads + Sync + AllocGlobal + Abort>(
 }
 
 /// A query, its input, the number of a call that fails, and what the run comes to then.
-static FAILING: [(&str, &[u8], u64, Wanted<'static>); 7] = [
+static FAILING: [(&str, &[u8], u64, Wanted<'static>); 8] = [
     (FILTER, TWO_INTERVALS, 0, (8, "", "read failed\n")),
     (FILTER, TWO_INTERVALS, 1, (8, "", "read failed\n")),
     (FILTER, TWO_INTERVALS, 2, (9, "", "write failed\n")),
@@ -99,6 +101,7 @@ static FAILING: [(&str, &[u8], u64, Wanted<'static>); 7] = [
     (HOP, CLOSING, 1, (9, "", "write failed\n")),
     (HOP, CLOSING, 2, (8, "*,punct,10\n", "read failed\n")),
     (HOP, CLOSING, 3, (9, "*,punct,10\n", "write failed\n")),
+    (HOP, CLOSING, 4, (0, CLOSED, "")),
 ];
 
 #[test]
