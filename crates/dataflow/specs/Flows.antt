@@ -30,7 +30,8 @@ parts_of plan stages capacity thawed = record { plan = plan; stages = stages; ca
 -- each stage can take a step, once the punctuation `last` was worked through
 abbrev pub AreReady : List (List ℕ) → ℕ → PlanParts → ℕ → List Stage → Type 0
 AreReady texts capacity plan last stages = (i : ℕ) (n : Node) (s : Stage) → slice_get plan.nodes i ≡ Some n → slice_get stages i ≡ Some s →
-    IsReady texts capacity (left_kinds plan n) (right_kinds plan n) n s (reached last (left_closing plan.nodes last n)) (reached last (right_closing plan.nodes last n))
+    IsReady texts capacity (left_kinds plan n) (right_kinds plan n) n s
+    (reached last (left_closing plan.nodes last n)) (reached last (right_closing plan.nodes last n))
 
 -- no step failed, and the plan can take a step with this table, once the punctuation `last` was
 -- worked through; 0 is before the first one
@@ -89,13 +90,16 @@ pub record HasFlowed (texts : List (List ℕ)) (last p : ℕ) (source : Sources)
 -- of whatever the stages took their steps before, with the edges that are given now the step at p gives this plan and this
 -- answer: where the edges come at the last punctuation or later, and with those before stand for the sources below p
 abbrev pub GivesOn : List (List ℕ) → ℕ → (ℕ → List Edge) → DataflowView → DataflowView → List Edge → Type 0
-GivesOn texts p given d after out = (last : ℕ) (old lists : ℕ → List Edge) (source : Sources) → AreDistinct texts → Flows texts last old lists d → last < p →
+GivesOn texts p given d after out = (last : ℕ) (old lists : ℕ → List Edge) (source : Sources) →
+    AreDistinct texts → Flows texts last old lists d → last < p →
     SourcesStandRead texts p source (longer old given) → AreFrom last given → HasFlowed texts last p source old given lists after out
 
 -- and so the overflow at p is that of the node of that number, at that time
 abbrev pub OverflowsAt : List (List ℕ) → ℕ → (ℕ → List Edge) → DataflowView → ℕ → ℕ → Type 0
-OverflowsAt texts p given d node time = (last : ℕ) (old lists : ℕ → List Edge) (source : Sources) → AreDistinct texts → Flows texts last old lists d → last < p →
-    SourcesStandRead texts p source (longer old given) → AreFrom last given → overflow source d.plan.nodes p ≡ Some (record { node = node; time = time })
+OverflowsAt texts p given d node time = (last : ℕ) (old lists : ℕ → List Edge) (source : Sources) →
+    AreDistinct texts → Flows texts last old lists d → last < p →
+    SourcesStandRead texts p source (longer old given) → AreFrom last given →
+    overflow source d.plan.nodes p ≡ Some (record { node = node; time = time })
 
 -- a pair for each stage, in order, from the number i on: its number, and how many entries it keeps, or the greatest number
 -- that there is room for. Of a Source, and a Delay over it that keeps 3, from 0 on: (0, 0) and (1, 3)

@@ -20,7 +20,8 @@ pub record IsListWith (texts : List (List ℕ)) (capacity : ℕ) (kinds : List C
 
 -- a node from the number `from` on reads the node of number k
 abbrev pub IsRead : PlanParts → ℕ → ℕ → Type 0
-IsRead plan from k = (j : ℕ) × ((n : Node) × ((from ≤ j) × ((slice_get plan.nodes j ≡ Some n) × ((left_child n ≡ Some k) ⊎ (right_child n ≡ Some k)))))
+IsRead plan from k =
+    (j : ℕ) × ((n : Node) × ((from ≤ j) × ((slice_get plan.nodes j ≡ Some n) × ((left_child n ≡ Some k) ⊎ (right_child n ≡ Some k)))))
 
 -- and so it is, or it is the root. Of a source 0 and a where 1 over it, the root, 0 is needed from 1 on, and 1 from 2 on
 abbrev pub IsNeeded : PlanParts → ℕ → ℕ → Type 0
@@ -44,10 +45,12 @@ pub record AreHeld (texts : List (List ℕ)) (capacity : ℕ) (plan : PlanParts)
 
 -- those that are needed from the node i on; those once it took its left list; and those once it took both
 abbrev pub HeldBefore : List (List ℕ) → ℕ → PlanParts → ℕ → (ℕ → List Edge) → (ℕ → List Edge) → List EdgeListView → List EdgeListView → Type 0
-HeldBefore texts capacity plan i given more streams made = AreHeld texts capacity plan (IsNeededStream plan i) (IsNeeded plan i) given more streams made
+HeldBefore texts capacity plan i given more streams made =
+    AreHeld texts capacity plan (IsNeededStream plan i) (IsNeeded plan i) given more streams made
 
 abbrev pub HeldBetween : List (List ℕ) → ℕ → PlanParts → ℕ → (ℕ → List Edge) → (ℕ → List Edge) → List EdgeListView → List EdgeListView → Type 0
-HeldBetween texts capacity plan i given more streams made = AreHeld texts capacity plan (IsNeededStream plan (i + 1)) (IsNeededRight plan i) given more streams made
+HeldBetween texts capacity plan i given more streams made =
+    AreHeld texts capacity plan (IsNeededStream plan (i + 1)) (IsNeededRight plan i) given more streams made
 
 -- there is a stage for each node, and each stands as it was made: nothing came in, nothing was answered
 pub record AreFresh (texts : List (List ℕ)) (capacity : ℕ) (plan : PlanParts) (stages : List Stage) : Type 0 where

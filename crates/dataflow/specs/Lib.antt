@@ -1,10 +1,11 @@
--- Callers read Faults, Lists, Stages, Shards, Flows, Slices, Below and Saving; private contracts alone cite Operating, Held,
--- Readers and Closings.
+-- Callers read Faults, Lists, Stages, Shards, Flows, Slices, Below and Saving; private contracts alone cite Operating, Making,
+-- Held, Readers and Closings.
 pub mod Faults
 pub mod Lists
 pub mod Operating
 pub mod Stages
 pub mod Shards
+pub mod Making
 pub mod Flows
 pub mod Slices
 pub mod Below

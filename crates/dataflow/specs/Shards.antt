@@ -1,5 +1,6 @@
 -- Which stage runs a node, and in how many shards.
 use Rattle.std.specs.Prelude.{◌≡◌, ℕ, Bool, true, false, Some, List, length, slice_get}
+use Rattle.plan_model.specs.IsPlan.{PlanParts}
 use Rattle.plan_model.specs.declared.node.Node.{Node}
 use Rattle.plan_model.specs.declared.node.Node.TheVariants as nodes
 use Rattle.frozen_state.specs.Forms.{shards_of}
@@ -42,6 +43,10 @@ shards_in s = 1
 pub record RunsNode (workers : ℕ) (n : Node) (s : Stage) : Type 0 where
   pub variant : is_variant_of s n ≡ true
   pub shards : shards_in s ≡ shards_of workers n
+
+-- the stage runs the node of this number in the plan so
+abbrev pub RunsAt : ℕ → PlanParts → ℕ → Stage → Type 0
+RunsAt workers plan i s = (n : Node) → slice_get plan.nodes i ≡ Some n → RunsNode workers n s
 
 -- each stage runs its node so
 abbrev pub RunAll : ℕ → List Node → List Stage → Type 0

@@ -1,5 +1,5 @@
 -- Stages by the case of their node: when one can take a step, and what it keeps of the edges that came in and were answered.
-use Rattle.std.specs.Prelude.{◌≡◌, ℕ, ◌≤◌, true, zero, suc, Option, List, [], ◌++◌}
+use Rattle.std.specs.Prelude.{◌≡◌, ℕ, ◌≤◌, true, zero, suc, Option, Some, List, [], ◌++◌, slice_get}
 use Rattle.tw_rows.specs.Instant.{inf}
 use Rattle.tw_rows.specs.declared.edge.Edge.{Edge}
 use Rattle.tw_rows.specs.declared.kind.CellKind.{CellKind}
@@ -132,7 +132,8 @@ KeepsOn texts left right old new u v answer = (n : Node) (x y : ℕ) (hl hr out 
 
 -- over what came in with the new lists the node is undefined first at that instant below its new closing, or at none
 abbrev pub IsUndefinedAt : List (List ℕ) → EdgeListView → EdgeListView → Stage → ℕ → ℕ → Option ℕ → Type 0
-IsUndefinedAt texts left right old u v found = (n : Node) (x y : ℕ) (hl hr out : List Edge) → AreDistinct texts → Takes texts left right old u v n x y hl hr out →
+IsUndefinedAt texts left right old u v found = (n : Node) (x y : ℕ) (hl hr out : List Edge) →
+    AreDistinct texts → Takes texts left right old u v n x y hl hr out →
     first_undefined_read texts n (hl ++ left.edges) (node_closes n u v) ≡ found
 
 -- the stage can take a further step of whatever node it could take one of, and the answer is of that node's columns
@@ -204,6 +205,14 @@ pub record StartsFor (texts : List (List ℕ)) (capacity : ℕ) (plan : PlanPart
   pub ready : IsReady texts capacity (left_kinds plan n) (right_kinds plan n) n s 0 0
   pub opens : StageKeeps texts n s 0 0 [] [] []
   pub made : StandsAsMade s
+
+-- so is the node of this number in the plan
+abbrev pub AtNode : PlanParts → ℕ → (Node → Type 0) → Type 0
+AtNode plan i P = (n : Node) → slice_get plan.nodes i ≡ Some n → P n
+
+-- the stage stands as it was made for the node of this number, whatever the table of texts
+abbrev pub StartsAt : PlanParts → ℕ → ℕ → Stage → Type 0
+StartsAt plan capacity i s = (texts : List (List ℕ)) → AtNode plan i (λ n. StartsFor texts capacity plan n s)
 
 -- the node that makes this change, over the child of that number
 abbrev pub changing : ℕ → Change → Node

@@ -22,14 +22,15 @@ pub(crate) fn step_operator<O: Operator>(
 ) -> Result<EdgeList, StepFault>
     requires can { CanOperateOn left right (O.standing operator.old) left_to right_to }
     requires capacity { (pools.old.capacity ≡ left.capacity) × (right.capacity ≡ left.capacity) }
-    ensures ready { OnOk result (
-        StaysOperating left right (O.standing operator.old) (O.standing operator.new) left_to right_to) }
+    ensures ready { OnOk result (StaysOperating left right (O.standing operator.old)
+        (O.standing operator.new) left_to right_to) }
     ensures kept { IfOk result (KeepsOperating left right (O.standing operator.old)
         (O.keeps operator.old) (O.keeps operator.new) left_to right_to) }
     ensures defined { OnOk result (OperatesUndefinedAt left right (O.standing operator.old)
         (O.keeps operator.old) left_to right_to None) }
     ensures overflow { IfErr result (λ fault. (time : ℕ) → fault ≡ StepFault.Overflow time →
-        OperatesUndefinedAt left right (O.standing operator.old) (O.keeps operator.old) left_to right_to (Some time)) }
+        OperatesUndefinedAt left right (O.standing operator.old) (O.keeps operator.old) left_to
+        right_to (Some time)) }
     ensures stopped { OnErr result ((O.standing operator.new).has_failed ≡ true) }
     ensures kinds { IfOk result (OperatesOver left right (O.standing operator.old)) }
     ensures capacity { IfOk result (λ answer. answer.capacity ≡ left.capacity) }
@@ -55,7 +56,8 @@ pub(crate) fn step_sharded<R: Threads + Sync, G: Gate, O: Operator>(
     ensures ready { OnOk result (StaysOperating left right
         (standing_in O.standing whole.old) (standing_in O.standing whole.new) left_to right_to) }
     ensures kept { IfOk result (KeepsOperating left right (standing_in O.standing whole.old)
-        (ShardsKeep O.standing O.keeps whole.old) (ShardsKeep O.standing O.keeps whole.new) left_to right_to) }
+        (ShardsKeep O.standing O.keeps whole.old) (ShardsKeep O.standing O.keeps whole.new) left_to
+        right_to) }
     ensures defined { OnOk result (OperatesUndefinedAt left right (standing_in O.standing whole.old)
         (ShardsKeep O.standing O.keeps whole.old) left_to right_to None) }
     ensures overflow { IfErr result (λ fault. (time : ℕ) → fault ≡ StepFault.Overflow time →

@@ -69,7 +69,8 @@ pub(crate) fn closings_at(plan: &Plan, p: Time) -> [Time; MOST_NODES]
 pub(crate) fn left_closing(plan: &Plan, closings: &[Time; MOST_NODES], i: usize, p: Time) -> Time
     requires node { i < length plan.now.nodes }
     requires closings { AreClosings plan.now p closings.now }
-    ensures { (n : Node) → slice_get plan.now.nodes i ≡ Some n → result ≡ left_closing_of plan.now.nodes p n }
+    ensures { (n : Node) → slice_get plan.now.nodes i ≡ Some n →
+        result ≡ left_closing_of plan.now.nodes p n }
 {
     let nodes = plan.nodes();
     left_before(&nodes[i], closings, p)
@@ -78,8 +79,8 @@ pub(crate) fn left_closing(plan: &Plan, closings: &[Time; MOST_NODES], i: usize,
 /// The closing of what it reads on the right: infinity where that is nothing.
 pub(crate) fn right_closing(plan: &Plan, closings: &[Time; MOST_NODES], i: usize) -> Time
     requires { i < length plan.now.nodes }
-    ensures { (p : ℕ) (n : Node) → AreClosings plan.now p closings.now → slice_get plan.now.nodes i ≡ Some n →
-        result ≡ right_closing_of plan.now.nodes p n }
+    ensures { (p : ℕ) (n : Node) → AreClosings plan.now p closings.now →
+        slice_get plan.now.nodes i ≡ Some n → result ≡ right_closing_of plan.now.nodes p n }
 {
     let nodes = plan.nodes();
     right_before(&nodes[i], closings)

@@ -155,7 +155,8 @@ impl Dataflow {
         requires some { 1 ≤ workers }
         requires few { workers ≤ 16 }
         ensures flows { IfOk result (λ d. Flows texts.new 0 (λ s. []) (λ k. []) d) }
-        ensures made { IfOk result (λ d. (i : ℕ) (s : Kept) → slice_get d.stages i ≡ Some s → StandsAsMade s) }
+        ensures made { IfOk result (λ d. (i : ℕ) (s : Kept) → slice_get d.stages i ≡ Some s →
+            StandsAsMade s) }
         ensures plan { IfOk result (λ d. d.plan ≡ plan) }
         ensures capacity { IfOk result (λ d. d.capacity ≡ capacity) }
         ensures workers { IfOk result (λ d. d.workers ≡ workers) }
@@ -220,19 +221,23 @@ impl Dataflow {
     ) -> Result<EdgeList, PlanFault>
         requires may { self.old.fault ≡ None → MayStep texts.now p (edges_at given.items) self.old }
         requires given { AreOfStreams self.old.capacity self.old.plan given.items }
-        requires placed { self.old.thawed ≡ false → (s : ℕ) → EdgesArePlaced texts.now (edges_at given.items s) }
+        requires placed { self.old.thawed ≡ false → (s : ℕ) →
+            EdgesArePlaced texts.now (edges_at given.items s) }
         requires capacity { pools.old.capacity ≡ self.old.capacity }
         requires limit { most_columns ≤ pools.old.limit }
-        ensures flowed { IfOk result (λ out. GivesOn texts.now p (edges_at given.items) self.old self.new out.edges) }
+        ensures flowed { IfOk result (λ out. GivesOn texts.now p (edges_at given.items) self.old
+            self.new out.edges) }
         ensures can { OnOk result (StepsOn texts.now p self.old self.new) }
-        ensures overflow { self.old.fault ≡ None → IfErr result (λ fault. (node time : ℕ) → fault ≡ PlanFault.Overflow node time →
+        ensures overflow { self.old.fault ≡ None →
+            IfErr result (λ fault. (node time : ℕ) → fault ≡ PlanFault.Overflow node time →
             OverflowsAt texts.now p (edges_at given.items) self.old node time) }
-        ensures stopped { self.old.fault ≡ None → IfErr result (λ fault. (node time : ℕ) → fault ≡ PlanFault.Overflow node time →
+        ensures stopped { self.old.fault ≡ None →
+            IfErr result (λ fault. (node time : ℕ) → fault ≡ PlanFault.Overflow node time →
             StopsAt texts.now p (edges_at given.items) node self.old self.new) }
         ensures kept { IfErr result (λ fault. self.new.fault ≡ Some fault) }
         ensures again { (fault : PlanFault) → self.old.fault ≡ Some fault → result ≡ Err fault }
-        ensures list { IfOk result (λ out.
-            IsListOf texts.now self.old.capacity (kinds_at self.old.plan.schemas self.old.plan.root) out) }
+        ensures list { IfOk result (λ out. IsListOf texts.now self.old.capacity
+            (kinds_at self.old.plan.schemas self.old.plan.root) out) }
         ensures plan { self.new.plan ≡ self.old.plan }
         ensures capacity { self.new.capacity ≡ self.old.capacity }
         ensures workers { self.new.workers ≡ self.old.workers }
@@ -280,11 +285,13 @@ impl Dataflow {
         requires node { node ≤ length self.old.plan.nodes }
         requires may { MayStepBelow texts.now p node (edges_at given.items) self.old }
         requires given { AreOfStreams self.old.capacity self.old.plan given.items }
-        requires placed { self.old.thawed ≡ false → (s : ℕ) → EdgesArePlaced texts.now (edges_at given.items s) }
+        requires placed { self.old.thawed ≡ false → (s : ℕ) →
+            EdgesArePlaced texts.now (edges_at given.items s) }
         requires capacity { pools.old.capacity ≡ self.old.capacity }
         requires limit { most_columns ≤ pools.old.limit }
         ensures none { OnOk result (UnderNone texts.now p node (edges_at given.items) self.old) }
-        ensures overflow { IfErr result (λ fault. (lower time : ℕ) → fault ≡ PlanFault.Overflow lower time →
+        ensures overflow { IfErr result (λ fault. (lower time : ℕ) →
+            fault ≡ PlanFault.Overflow lower time →
             OverflowsUnder texts.now p node (edges_at given.items) self.old lower time) }
         ensures kept { IfErr result (λ fault. self.new.fault ≡ Some fault) }
         ensures stays { OnOk result (self.new.fault ≡ self.old.fault) }
@@ -337,13 +344,18 @@ impl Dataflow {
     /// it keeps. No step failed.
     pub fn save(&self) -> Result<Vec<Vec<Saved>>, Memory>
         requires { (texts : List (List ℕ)) × ((last : ℕ) × CanStep texts last self.now) }
-        ensures saves { IfOk result (λ saved. SavesAll self.now.stages (map (λ v. v.items) saved.items)) }
-        ensures states { IfOk result (λ saved. (texts : List (List ℕ)) (last : ℕ) → CanStep texts last self.now →
-            AreStates self.now.workers self.now.plan last (map (λ v. v.items) saved.items)) }
-        ensures resumes { IfOk result (λ saved. (texts : List (List ℕ)) (last : ℕ) (given lists : ℕ → List Edge) →
+        ensures saves { IfOk result (λ saved. SavesAll self.now.stages
+            (map (λ v. v.items) saved.items)) }
+        ensures states { IfOk result (λ saved. (texts : List (List ℕ)) (last : ℕ) →
+            CanStep texts last self.now → AreStates self.now.workers self.now.plan last
+            (map (λ v. v.items) saved.items)) }
+        ensures resumes { IfOk result (λ saved.
+            (texts : List (List ℕ)) (last : ℕ) (given lists : ℕ → List Edge) →
             Flows texts last given lists self.now →
-            FlowsResume texts last given lists self.now.workers self.now.plan (map (λ v. v.items) saved.items)) }
-        ensures stored { IfOk result (λ saved. IsPlan self.now.plan → AreStored self.now.plan (map (λ v. v.items) saved.items)) }
+            FlowsResume texts last given lists self.now.workers self.now.plan
+            (map (λ v. v.items) saved.items)) }
+        ensures stored { IfOk result (λ saved. IsPlan self.now.plan →
+            AreStored self.now.plan (map (λ v. v.items) saved.items)) }
     {
         save_all(self.alloc, &self.stages)
     }
@@ -354,12 +366,14 @@ impl Dataflow {
     pub fn load(&mut self, saved: &[Vec<Saved>], last: Time) -> Result<(), LoadFault>
         requires made { (i : ℕ) (s : Kept) → slice_get self.old.stages i ≡ Some s → StandsAsMade s }
         requires can { (texts : List (List ℕ)) × CanStep texts 0 self.old }
-        ensures can { OnOk result ((texts : List (List ℕ)) → CanStep texts 0 self.old → CanStep texts last self.new) }
+        ensures can { OnOk result ((texts : List (List ℕ)) → CanStep texts 0 self.old →
+            CanStep texts last self.new) }
         ensures flows { OnOk result ((texts then : List (List ℕ)) (given lists : ℕ → List Edge) →
             CanStep texts 0 self.old → BeginsWith texts then →
-            FlowsResume then last given lists self.old.workers self.old.plan (map (λ v. v.items) saved.now) →
-            Flows texts last given lists self.new) }
-        ensures states { OnOk result (AreStates self.old.workers self.old.plan last (map (λ v. v.items) saved.now)) }
+            FlowsResume then last given lists self.old.workers self.old.plan
+            (map (λ v. v.items) saved.now) → Flows texts last given lists self.new) }
+        ensures states { OnOk result (AreStates self.old.workers self.old.plan last
+            (map (λ v. v.items) saved.now)) }
         ensures refused { IfErr result (λ fault. fault ≡ LoadFault.NotState →
             AreStates self.old.workers self.old.plan last (map (λ v. v.items) saved.now) → ⊥) }
         ensures stopped { OnErr result (self.new.fault ≡ Some PlanFault.Memory) }

@@ -31,10 +31,11 @@ use temporal_join::Join;
 
 /// A table that grows changes nothing of a plan at work.
 pub fn plans_flow_on_with_longer_tables()
-    ensures can { (texts more : List (List ℕ)) (last : ℕ) (d : DataflowView) → BeginsWith more texts →
-        CanStep texts last d → CanStep more last d }
-    ensures flows { (texts more : List (List ℕ)) (last : ℕ) (given lists : ℕ → List Edge) (d : DataflowView) →
-        BeginsWith more texts → Flows texts last given lists d → Flows more last given lists d }
+    ensures can { (texts more : List (List ℕ)) (last : ℕ) (d : DataflowView) →
+        BeginsWith more texts → CanStep texts last d → CanStep more last d }
+    ensures flows { (texts more : List (List ℕ)) (last : ℕ) (given lists : ℕ → List Edge)
+        (d : DataflowView) → BeginsWith more texts → Flows texts last given lists d →
+        Flows more last given lists d }
 {}
 
 /// All places in the edges that the nodes answered are in the table.
@@ -48,22 +49,25 @@ pub fn answers_have_their_places()
 /// punctuation, over the events of the sources for which the edges of the streams stand. Before the first punctuation that is
 /// nothing: a Delay by 5 has no event below 5 then.
 pub fn answers_stand()
-    ensures { (texts : List (List ℕ)) (last : ℕ) (source : Sources) (given lists : ℕ → List Edge) (d : DataflowView) →
-        IsPlan d.plan → AreDistinct texts → Flows texts last given lists d → SourcesStandRead texts last source given →
+    ensures { (texts : List (List ℕ)) (last : ℕ) (source : Sources) (given lists : ℕ → List Edge)
+        (d : DataflowView) → IsPlan d.plan → AreDistinct texts → Flows texts last given lists d →
+        SourcesStandRead texts last source given →
         AllStandRead texts d.plan.nodes last source lists (length d.plan.nodes) }
 {}
 
 /// Where a node overflows in a slice of an epoch, which ends at x, the overflow of the epoch, which ends at p, is that of the
 /// lowest node below it that overflows by p, and where there is none this one.
 pub fn overflows_stay()
-    ensures { (source : Sources) (nodes : List Node) (x p : ℕ) (o : Overflow) → IsOrdered nodes → x ≤ p → p ≤ inf →
-        overflow source nodes x ≡ Some o → overflow source nodes p ≡ Some (or_this o (overflow_under source nodes p o.node)) }
+    ensures { (source : Sources) (nodes : List Node) (x p : ℕ) (o : Overflow) → IsOrdered nodes →
+        x ≤ p → p ≤ inf → overflow source nodes x ≡ Some o →
+        overflow source nodes p ≡ Some (or_this o (overflow_under source nodes p o.node)) }
 {}
 
 /// The stage of a Source, a Where or a Select keeps nothing of one step for the next.
 pub fn row_stages_keep_nothing()
-    ensures { (texts : List (List ℕ)) (capacity : ℕ) (left right : List CellKind) (n : Node) (s : Kept) (x y : ℕ) →
-        IsReady texts capacity left right n s x y → is_of_rows n ≡ true → entries_in s ≡ 0 }
+    ensures { (texts : List (List ℕ)) (capacity : ℕ) (left right : List CellKind) (n : Node)
+        (s : Kept) (x y : ℕ) → IsReady texts capacity left right n s x y → is_of_rows n ≡ true →
+        entries_in s ≡ 0 }
 {}
 
 /// No stage keeps more entries than its node may, of the edges that came in and were answered.
@@ -86,9 +90,10 @@ pub fn stages_keep_at_most()
 /// No stage of a plan at work keeps more entries than its node may after the last punctuation, over the events of the sources
 /// for which the edges of the streams stand. Before the first punctuation it keeps none.
 pub fn plans_keep_at_most()
-    ensures { (texts : List (List ℕ)) (last : ℕ) (source : Sources) (given lists : ℕ → List Edge) (d : DataflowView) →
-        IsPlan d.plan → AreDistinct texts → Flows texts last given lists d → SourcesStandRead texts last source given →
-        (i : ℕ) (s : Kept) → slice_get d.stages i ≡ Some s → entries_in s ≤ node_may_hold source d.plan.nodes last i }
+    ensures { (texts : List (List ℕ)) (last : ℕ) (source : Sources) (given lists : ℕ → List Edge)
+        (d : DataflowView) → IsPlan d.plan → AreDistinct texts → Flows texts last given lists d →
+        SourcesStandRead texts last source given → (i : ℕ) (s : Kept) →
+        slice_get d.stages i ≡ Some s → entries_in s ≤ node_may_hold source d.plan.nodes last i }
 {
     stages_keep_at_most();
 }

@@ -44,11 +44,16 @@ fn take_list(
     again: bool,
 ) -> Result<EdgeList, Memory>
     requires at { at < length lists.old.items }
-    requires pools { (d : EdgeListView) → pools.old.capacity ≡ (get_or lists.old.items at d).capacity }
-    ensures edges { IfOk result (λ l. (d : EdgeListView) → l.edges ≡ (get_or lists.old.items at d).edges) }
-    ensures kinds { IfOk result (λ l. (d : EdgeListView) → l.kinds ≡ (get_or lists.old.items at d).kinds) }
-    ensures capacity { IfOk result (λ l. (d : EdgeListView) → l.capacity ≡ (get_or lists.old.items at d).capacity) }
-    ensures others { OnOk result ((k : ℕ) (d : EdgeListView) → (k ≢ at) ⊎ (again ≡ true) → get_or lists.new.items k d ≡ get_or lists.old.items k d) }
+    requires pools { (d : EdgeListView) → pools.old.capacity
+        ≡ (get_or lists.old.items at d).capacity }
+    ensures edges { IfOk result (λ l. (d : EdgeListView) →
+        l.edges ≡ (get_or lists.old.items at d).edges) }
+    ensures kinds { IfOk result (λ l. (d : EdgeListView) →
+        l.kinds ≡ (get_or lists.old.items at d).kinds) }
+    ensures capacity { IfOk result (λ l. (d : EdgeListView) →
+        l.capacity ≡ (get_or lists.old.items at d).capacity) }
+    ensures others { OnOk result ((k : ℕ) (d : EdgeListView) → (k ≢ at) ⊎ (again ≡ true) →
+        get_or lists.new.items k d ≡ get_or lists.old.items k d) }
     ensures count { length lists.new.items ≡ length lists.old.items }
     ensures pools { pools.new.capacity ≡ pools.old.capacity }
     ensures limit { pools.new.limit ≡ pools.old.limit }
@@ -75,13 +80,13 @@ pub(crate) fn left_list(
     requires streams { length streams.old.items ≡ length plan.now.streams }
     requires made { length made.old.items ≡ i }
     requires held { (texts : List (List ℕ))
-        × ((given : ℕ → List Edge)
-        × ((more : ℕ → List Edge)
-        × HeldBefore texts pools.old.capacity plan.now i given more streams.old.items made.old.items)) }
-    ensures list { IfOk result (λ l.
-        (texts : List (List ℕ)) (given more : ℕ → List Edge) (n : Node) →
-        HeldBefore texts pools.old.capacity plan.now i given more streams.old.items made.old.items →
-        slice_get plan.now.nodes i ≡ Some n → IsListWith texts pools.old.capacity (left_kinds plan.now n) (left_of [] given more n) l) }
+        × ((given : ℕ → List Edge) × ((more : ℕ → List Edge)
+        × HeldBefore texts pools.old.capacity plan.now i given more streams.old.items
+        made.old.items)) }
+    ensures list { IfOk result (λ l. (texts : List (List ℕ)) (given more : ℕ → List Edge)
+        (n : Node) → HeldBefore texts pools.old.capacity plan.now i given more streams.old.items
+        made.old.items → slice_get plan.now.nodes i ≡ Some n →
+        IsListWith texts pools.old.capacity (left_kinds plan.now n) (left_of [] given more n) l) }
     ensures held { OnOk result ((texts : List (List ℕ)) (given more : ℕ → List Edge) →
         HeldBefore texts pools.old.capacity plan.now i given more streams.old.items made.old.items →
         HeldBetween texts pools.old.capacity plan.now i given more streams.new.items made.new.items) }
@@ -124,10 +129,11 @@ pub(crate) fn right_list(
         × ((more : ℕ → List Edge)
         × ((streams : List EdgeListView)
         × HeldBetween texts pools.old.capacity plan.now i given more streams made.old.items))) }
-    ensures list { IfOk result (λ l.
-        (texts : List (List ℕ)) (given more : ℕ → List Edge) (streams : List EdgeListView)
-        (n : Node) → HeldBetween texts pools.old.capacity plan.now i given more streams made.old.items →
-        slice_get plan.now.nodes i ≡ Some n → IsListWith texts pools.old.capacity (right_kinds plan.now n) (right_of [] more n) l) }
+    ensures list { IfOk result (λ l. (texts : List (List ℕ)) (given more : ℕ → List Edge)
+        (streams : List EdgeListView) (n : Node) →
+        HeldBetween texts pools.old.capacity plan.now i given more streams made.old.items →
+        slice_get plan.now.nodes i ≡ Some n → IsListWith texts pools.old.capacity
+        (right_kinds plan.now n) (right_of [] more n) l) }
     ensures held { OnOk result
         ((texts : List (List ℕ)) (given more : ℕ → List Edge) (streams : List EdgeListView) →
         HeldBetween texts pools.old.capacity plan.now i given more streams made.old.items →

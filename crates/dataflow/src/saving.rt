@@ -22,9 +22,9 @@ use tw_rows::{Memory, Time};
 fn save_whole<O: Operator>(alloc: Global, operator: &O) -> Result<Vec<Saved>, Memory>
     requires works { (O.standing operator.now).has_failed ≡ false }
     ensures few { IfOk result (λ saved. total length saved.items ≤ O.entries operator.now) }
-    ensures saves { IfOk result (λ saved.
-        SavesAlone (O.standing operator.now) (O.keeps operator.now) (O.sound operator.now) (O.resumes operator.now)
-        O.row_of_part saved.items) }
+    ensures saves { IfOk result (λ saved. SavesAlone (O.standing operator.now)
+        (O.keeps operator.now) (O.sound operator.now) (O.resumes operator.now) O.row_of_part
+        saved.items) }
 {
     O::laws();
     let mut saved = Vec::new(alloc);
@@ -36,7 +36,8 @@ fn save_whole<O: Operator>(alloc: Global, operator: &O) -> Result<Vec<Saved>, Me
 // operator has that kept edges of its shard.
 fn save_shards<O: Operator>(whole: &Sharded<O>) -> Result<Vec<Saved>, Memory>
     requires works { (standing_in O.standing whole.now).has_failed ≡ false }
-    ensures few { IfOk result (λ saved. total length saved.items ≤ entries_of_shards O.entries whole.now) }
+    ensures few { IfOk result (λ saved. total length saved.items ≤ entries_of_shards O.entries
+        whole.now) }
     ensures saves { IfOk result (λ saved.
         SavesShards O.standing O.keeps O.sound O.resumes O.row_of_part whole.now saved.items) }
 {
@@ -69,8 +70,9 @@ fn load_whole<O: Operator>(
     right_to: Time,
 ) -> Result<(), LoadFault>
     requires opening { O.is_opening operator.old }
-    ensures loads { OnOk result (LoadsAlone (O.standing operator.old) (O.standing operator.new) (O.keeps operator.new)
-        (O.sound operator.old) (O.resumes operator.old) saved.now left_to right_to) }
+    ensures loads { OnOk result (LoadsAlone (O.standing operator.old) (O.standing operator.new)
+        (O.keeps operator.new) (O.sound operator.old) (O.resumes operator.old) saved.now left_to
+        right_to) }
     ensures refused { IfErr result (λ fault. fault ≡ LoadFault.NotState →
         RefusesAlone (O.sound operator.old) saved.now left_to right_to) }
 {
@@ -132,7 +134,8 @@ impl Stage {
         ensures loads { OnOk result (Loads self.old self.new saved.now left_to right_to) }
         ensures refused { IfErr result (λ fault. fault ≡ LoadFault.NotState →
             IsNoState self.old saved.now left_to right_to) }
-        ensures runs { (workers : ℕ) (n : Node) → RunsNode workers n self.old → RunsNode workers n self.new }
+        ensures runs { (workers : ℕ) (n : Node) → RunsNode workers n self.old →
+            RunsNode workers n self.new }
     {
         match self {
             Stage::Rows(_) => load_nothing(saved),
@@ -180,10 +183,12 @@ pub(crate) fn load_all(
     requires made { (i : ℕ) (s : Kept) → slice_get stages.old.items i ≡ Some s → StandsAsMade s }
     requires count { length stages.old.items ≡ length plan.now.nodes }
     requires many { length saved.now ≡ length plan.now.nodes }
-    ensures loads { OnOk result (LoadsAll plan.now last stages.old.items stages.new.items (map (λ v. v.items) saved.now)) }
+    ensures loads { OnOk result (LoadsAll plan.now last stages.old.items stages.new.items
+        (map (λ v. v.items) saved.now)) }
     ensures refused { IfErr result (λ fault. fault ≡ LoadFault.NotState →
         RefusesOne plan.now last stages.old.items (map (λ v. v.items) saved.now)) }
-    ensures runs { (workers : ℕ) → RunAll workers plan.now.nodes stages.old.items → RunAll workers plan.now.nodes stages.new.items }
+    ensures runs { (workers : ℕ) → RunAll workers plan.now.nodes stages.old.items →
+        RunAll workers plan.now.nodes stages.new.items }
 {
     let closings = closings_at(plan, last);
     for i in 0..plan.nodes().len() {

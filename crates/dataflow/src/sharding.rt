@@ -57,7 +57,8 @@ pub(crate) fn in_shards<O: Operator>(
     requires opening { All O.is_opening operators.items }
     requires in_step { AreInStep (map O.standing operators.items) left_key.now right_key.now }
     requires capacity { (first_of (map O.standing operators.items)).batch_rows ≡ capacity }
-    ensures whole { IfOk result (λ w. w ≡ side_by_side operators.items left_key.now right_key.now false) }
+    ensures whole { IfOk result (λ w. w ≡ side_by_side operators.items left_key.now right_key.now
+        false) }
     ensures opening { IfOk result (AreNew O.is_opening O.standing) }
 {
     let pools = pools_of(alloc, operators.len(), capacity)?;
@@ -73,7 +74,8 @@ pub(crate) fn new_grouped(
     own: &[Kind],
     capacity: usize,
 ) -> Result<Grouped, Memory>
-    requires like { map cell_kind_of own.now ≡ group_kinds key.now aggs.now (map cell_kind_of left.now) }
+    requires like { map cell_kind_of own.now
+        ≡ group_kinds key.now aggs.now (map cell_kind_of left.now) }
     requires width { length own.now ≤ 32 }
     requires room { 1 ≤ capacity }
     ensures stands { IfOk result (λ g. group_standing g

@@ -1,17 +1,18 @@
 // One node of a plan at work.
-ghost use Rattle.std.specs.Prelude.{◌≡◌, ◌-◌, ◌^◌, ◌<◌, ◌≤◌, ℕ, min, true, Some, None, length, slice_get, IfOk, IfErr, OnOk, OnErr};
+ghost use Rattle.std.specs.Prelude.{◌≡◌, ◌-◌, ◌^◌, ◌<◌, ◌≤◌, ℕ, min, true, Some, None, length, IfOk, IfErr, OnOk, OnErr};
 ghost use Rattle.tw_rows.specs.Texts.{BeginsWith};
 ghost use Rattle.plan_model.specs.declared.node.Node.{Node};
 ghost use Rattle.plan_model.specs.IsPlan.{most_columns};
 ghost use Rattle.node_laws.specs.Places.{EdgesArePlaced};
 ghost use Rattle.lane_expr.specs.Steps.{with_texts};
 ghost use Rattle.row_stage.specs.Texts.{nodes_in, HasFirstTexts};
-ghost use Rattle.dataflow.specs.Stages.{CanTake, StaysReady, KeepsOn, IsUndefinedAt, IsAnswerOf, HasStopped, entries_in, KeepsAtMost, StartsFor};
-ghost use Rattle.dataflow.specs.Shards.{RunsNode};
+ghost use Rattle.dataflow.specs.Stages.{CanTake, StaysReady, KeepsOn, IsUndefinedAt, IsAnswerOf, HasStopped};
+ghost use Rattle.dataflow.specs.Stages.{entries_in, KeepsAtMost, AtNode, StartsFor};
+ghost use Rattle.dataflow.specs.Shards.{RunsNode, RunsAt};
 
 use crate::any_operator::{step_operator, step_sharded};
 use crate::laws::stages_keep_at_most;
-use crate::making::{operator_stage, reads_rows_alone, rows_stage};
+use crate::making::{StageMaker, reads_rows_alone, rows_stage};
 use anti_join::Anti;
 use batch::Pools;
 use clip_op::Clip;
@@ -75,20 +76,27 @@ impl Stage {
         requires room { 1 ≤ capacity }
         requires some { 1 ≤ workers }
         requires few { workers ≤ 16 }
-        ensures starts { IfOk result (λ s. (n : Node) → slice_get plan.now.nodes node ≡ Some n →
-            StartsFor texts.new capacity plan.now n s) }
-        ensures runs { IfOk result (λ s. (n : Node) → slice_get plan.now.nodes node ≡ Some n → RunsNode workers n s) }
-        ensures table { OnOk result ((n : Node) → slice_get plan.now.nodes node ≡ Some n →
-            texts.new ≡ with_texts texts.old (nodes_in n)) }
-        ensures err { OnErr result ((n : Node) → slice_get plan.now.nodes node ≡ Some n →
-            HasFirstTexts texts.new texts.old (nodes_in n)) }
+        ensures starts { IfOk result (λ s.
+            AtNode plan.now node (λ n. StartsFor texts.new capacity plan.now n s)) }
+        ensures runs { IfOk result (RunsAt workers plan.now node) }
+        ensures table { OnOk result (
+            AtNode plan.now node (λ n. texts.new ≡ with_texts texts.old (nodes_in n))) }
+        ensures err { OnErr result (
+            AtNode plan.now node (λ n. HasFirstTexts texts.new texts.old (nodes_in n))) }
         ensures begins { BeginsWith texts.new texts.old }
     {
         let nodes = plan.nodes();
         if reads_rows_alone(&nodes[node]) {
             rows_stage(alloc, plan, node, capacity, texts)
         } else {
-            operator_stage(alloc, plan, node, capacity, workers)
+            let maker = StageMaker {
+                alloc,
+                plan,
+                node,
+                capacity,
+                workers,
+            };
+            maker.operator_stage()
         }
     }
 
@@ -108,16 +116,22 @@ impl Stage {
         right_to: Time,
     ) -> Result<EdgeList, StepFault>
         requires ready { CanTake texts.now left right self.old left_to right_to }
-        requires capacity { (pools.old.capacity ≡ left.capacity) × (right.capacity ≡ left.capacity) }
+        requires capacity { (pools.old.capacity ≡ left.capacity)
+            × (right.capacity ≡ left.capacity) }
         requires limit { most_columns ≤ pools.old.limit }
-        requires placed { EdgesArePlaced texts.now left.edges × EdgesArePlaced texts.now right.edges }
-        ensures ready { IfOk result (λ answer. StaysReady texts.now left right self.old self.new left_to right_to) }
-        ensures kept { IfOk result (λ answer. KeepsOn texts.now left right self.old self.new left_to right_to answer) }
-        ensures defined { OnOk result (IsUndefinedAt texts.now left right self.old left_to right_to None) }
+        requires placed { EdgesArePlaced texts.now left.edges
+            × EdgesArePlaced texts.now right.edges }
+        ensures ready { IfOk result (λ answer. StaysReady texts.now left right self.old self.new
+            left_to right_to) }
+        ensures kept { IfOk result (λ answer. KeepsOn texts.now left right self.old self.new left_to
+            right_to answer) }
+        ensures defined { OnOk result (IsUndefinedAt texts.now left right self.old left_to right_to
+            None) }
         ensures overflow { IfErr result (λ fault. (time : ℕ) → fault ≡ StepFault.Overflow time →
             IsUndefinedAt texts.now left right self.old left_to right_to (Some time)) }
         ensures stopped { OnErr result (HasStopped self.old self.new) }
-        ensures runs { (workers : ℕ) (n : Node) → RunsNode workers n self.old → RunsNode workers n self.new }
+        ensures runs { (workers : ℕ) (n : Node) → RunsNode workers n self.old →
+            RunsNode workers n self.new }
         ensures kinds { IfOk result (IsAnswerOf texts.now left right self.old) }
         ensures capacity { IfOk result (λ answer. answer.capacity ≡ left.capacity) }
         ensures pools { pools.new.capacity ≡ pools.old.capacity }
@@ -207,9 +221,12 @@ fn step_rows(
     requires capacity { (pools.old.capacity ≡ left.capacity) × (right.capacity ≡ left.capacity) }
     requires limit { most_columns ≤ pools.old.limit }
     requires placed { EdgesArePlaced texts.now left.edges × EdgesArePlaced texts.now right.edges }
-    ensures ready { IfOk result (λ answer. StaysReady texts.now left right (Stage.Rows stage.old) (Stage.Rows stage.new) left_to right_to) }
-    ensures kept { IfOk result (λ answer. KeepsOn texts.now left right (Stage.Rows stage.old) (Stage.Rows stage.new) left_to right_to answer) }
-    ensures defined { OnOk result (IsUndefinedAt texts.now left right (Stage.Rows stage.old) left_to right_to None) }
+    ensures ready { IfOk result (λ answer. StaysReady texts.now left right (Stage.Rows stage.old)
+        (Stage.Rows stage.new) left_to right_to) }
+    ensures kept { IfOk result (λ answer. KeepsOn texts.now left right (Stage.Rows stage.old)
+        (Stage.Rows stage.new) left_to right_to answer) }
+    ensures defined { OnOk result (IsUndefinedAt texts.now left right (Stage.Rows stage.old) left_to
+        right_to None) }
     ensures overflow { IfErr result (λ fault. (time : ℕ) → fault ≡ StepFault.Overflow time →
         IsUndefinedAt texts.now left right (Stage.Rows stage.old) left_to right_to (Some time)) }
     ensures same { stage.new ≡ stage.old }

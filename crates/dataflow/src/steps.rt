@@ -76,17 +76,21 @@ pub(crate) fn step_nodes<R: Threads + Sync, G: Gate>(
     ensures flowed { IfOk result (λ made. GivesBelow texts.now p count (edges_at given.items)
         (parts_of plan.now stages.old.items pools.old.capacity thawed)
         (parts_of plan.now stages.new.items pools.old.capacity thawed) made.items) }
-    ensures can { OnOk result (StepsBelow texts.now p count (parts_of plan.now stages.old.items pools.old.capacity thawed)
-        (parts_of plan.now stages.new.items pools.old.capacity thawed)) }
-    ensures made { IfOk result (λ made. AreMade texts.now pools.old.capacity plan.now count made.items) }
-    ensures stopped { IfErr result (λ fault. (node time : ℕ) → fault ≡ PlanFault.Overflow node time →
-        StopsUnder texts.now p count (edges_at given.items) node
+    ensures can { OnOk result (StepsBelow texts.now p count
         (parts_of plan.now stages.old.items pools.old.capacity thawed)
         (parts_of plan.now stages.new.items pools.old.capacity thawed)) }
-    ensures overflow { IfErr result (λ fault. (node time : ℕ) → fault ≡ PlanFault.Overflow node time →
-        OverflowsUnder texts.now p count (edges_at given.items)
-        (parts_of plan.now stages.old.items pools.old.capacity thawed) node time) }
-    ensures runs { (workers : ℕ) → RunAll workers plan.now.nodes stages.old.items → RunAll workers plan.now.nodes stages.new.items }
+    ensures made { IfOk result (λ made. AreMade texts.now pools.old.capacity plan.now count
+        made.items) }
+    ensures stopped { IfErr result (λ fault. (node time : ℕ) →
+        fault ≡ PlanFault.Overflow node time → StopsUnder texts.now p count (edges_at given.items)
+        node (parts_of plan.now stages.old.items pools.old.capacity thawed)
+        (parts_of plan.now stages.new.items pools.old.capacity thawed)) }
+    ensures overflow { IfErr result (λ fault. (node time : ℕ) →
+        fault ≡ PlanFault.Overflow node time → OverflowsUnder texts.now p count
+        (edges_at given.items) (parts_of plan.now stages.old.items pools.old.capacity thawed) node
+        time) }
+    ensures runs { (workers : ℕ) → RunAll workers plan.now.nodes stages.old.items →
+        RunAll workers plan.now.nodes stages.new.items }
     ensures capacity { pools.new.capacity ≡ pools.old.capacity }
     ensures limit { pools.new.limit ≡ pools.old.limit }
 {
@@ -129,22 +133,27 @@ pub(crate) fn step_all<R: Threads + Sync, G: Gate>(
     given: Vec<EdgeList>,
     p: Time,
 ) -> Result<EdgeList, PlanFault>
-    requires may { MayStep texts.now p (edges_at given.items) (parts_of plan.now stages.old.items pools.old.capacity thawed) }
+    requires may { MayStep texts.now p (edges_at given.items)
+        (parts_of plan.now stages.old.items pools.old.capacity thawed) }
     requires given { AreGiven texts.now pools.old.capacity plan.now given.items }
     requires limit { most_columns ≤ pools.old.limit }
     ensures flowed { IfOk result (λ out. GivesOn texts.now p (edges_at given.items)
         (parts_of plan.now stages.old.items pools.old.capacity thawed)
         (parts_of plan.now stages.new.items pools.old.capacity thawed) out.edges) }
-    ensures can { OnOk result (StepsOn texts.now p (parts_of plan.now stages.old.items pools.old.capacity thawed)
-        (parts_of plan.now stages.new.items pools.old.capacity thawed)) }
-    ensures stopped { IfErr result (λ fault. (node time : ℕ) → fault ≡ PlanFault.Overflow node time →
-        StopsAt texts.now p (edges_at given.items) node
+    ensures can { OnOk result (StepsOn texts.now p
         (parts_of plan.now stages.old.items pools.old.capacity thawed)
         (parts_of plan.now stages.new.items pools.old.capacity thawed)) }
-    ensures overflow { IfErr result (λ fault. (node time : ℕ) → fault ≡ PlanFault.Overflow node time →
-        OverflowsAt texts.now p (edges_at given.items) (parts_of plan.now stages.old.items pools.old.capacity thawed) node time) }
-    ensures runs { (workers : ℕ) → RunAll workers plan.now.nodes stages.old.items → RunAll workers plan.now.nodes stages.new.items }
-    ensures list { IfOk result (λ out. IsListOf texts.now pools.old.capacity (kinds_at plan.now.schemas plan.now.root) out) }
+    ensures stopped { IfErr result (λ fault. (node time : ℕ) →
+        fault ≡ PlanFault.Overflow node time → StopsAt texts.now p (edges_at given.items) node
+        (parts_of plan.now stages.old.items pools.old.capacity thawed)
+        (parts_of plan.now stages.new.items pools.old.capacity thawed)) }
+    ensures overflow { IfErr result (λ fault. (node time : ℕ) →
+        fault ≡ PlanFault.Overflow node time → OverflowsAt texts.now p (edges_at given.items)
+        (parts_of plan.now stages.old.items pools.old.capacity thawed) node time) }
+    ensures runs { (workers : ℕ) → RunAll workers plan.now.nodes stages.old.items →
+        RunAll workers plan.now.nodes stages.new.items }
+    ensures list { IfOk result (λ out. IsListOf texts.now pools.old.capacity
+        (kinds_at plan.now.schemas plan.now.root) out) }
     ensures capacity { pools.new.capacity ≡ pools.old.capacity }
     ensures limit { pools.new.limit ≡ pools.old.limit }
 {

@@ -24,10 +24,6 @@ operator_stage-requires c =
     let n = c.index-nodes-node.result in
     let at = node_at plan _ c.args.node n c.nodes-nodes.ensures.kept c.nodes-nodes.ensures.nodes c.requires.node c.index-nodes-node.is in
     record {
-      node = c.requires.node;
-      room = c.requires.room;
-      some = c.requires.some;
-      few = c.requires.few;
       other = λ m there. subst (λ k. is_of_rows k ≡ false) (one_node plan c.args.node n at m there) (sym c.reads_rows_alone.ensures ∙ c.if-reads_rows_alone.false);
     }
 

@@ -16,71 +16,71 @@ use Rattle.dataflow.specs.Stages.{left_kinds, StartsFor}
 use Rattle.dataflow.proofs.MadeShards.{AreMade, first_is, in_step, sharded_starts}
 use Rattle.dataflow.proofs.Starting.{new_can, session_lasts}
 use Rattle.dataflow.proofs.Variants.{session_variant}
-use Rattle.dataflow.proofs.making.session_stage.Goals as goal
+use Rattle.dataflow.proofs.making.StageMaker.session_stage.Goals as goal
 
 pub operators_of-requires-after_bounds : goal.operators_of-requires-after_bounds
 operators_of-requires-after_bounds c =
-    let plan = c.args.plan.now in
-    let n = get_or plan.nodes c.args.node (Source 0) in
-    let there = slice_get-get_or plan.nodes c.args.node (Source 0) c.requires.node in
+    let plan = c.args.self.now.plan.now in
+    let n = get_or plan.nodes c.args.self.now.node (Source 0) in
+    let there = slice_get-get_or plan.nodes c.args.self.now.node (Source 0) c.args.self.now.inside in
     let is = c.requires.is n there in
-    let lasts = session_lasts plan c.nodes.ensures.kept c.args.node is.0 c.args.timeout c.args.key.now (there ∙ ap Some is.1) in
+    let lasts = session_lasts plan c.nodes.ensures.kept c.args.self.now.node is.0 c.args.timeout c.args.key.now (there ∙ ap Some is.1) in
     let width : length c.as_slice-read.result.now ≤ 32 = (let same = ap length c.as_slice-read.ensures.value in let width = c.in_ok-kinds.ensures.width in omega (arith, same, width)) in
-    let room = c.requires.room in
+    let room = c.args.self.now.room in
     grind (serving, lasts, width, room)
 
 pub in_shards-requires-clause-few : goal.in_shards-requires-clause-few
-in_shards-requires-clause-few c κs = let few = c.requires.few in let count = c.in_ok-operators.ensures.count in omega (arith, few, count)
+in_shards-requires-clause-few c κs = let few = c.args.self.now.few in let count = c.in_ok-operators.ensures.count in omega (arith, few, count)
 
 pub in_shards-requires-clause-opening : goal.in_shards-requires-clause-opening
 in_shards-requires-clause-opening c κs = λ k d low. let each = c.in_ok-operators.ensures.each k d low in search rules
 
 pub in_shards-requires-clause-in_step : goal.in_shards-requires-clause-in_step
 in_shards-requires-clause-in_step c κs =
-    let plan = c.args.plan.now in
-    let n = get_or plan.nodes c.args.node (Source 0) in
-    let there = slice_get-get_or plan.nodes c.args.node (Source 0) c.requires.node in
+    let plan = c.args.self.now.plan.now in
+    let n = get_or plan.nodes c.args.self.now.node (Source 0) in
+    let there = slice_get-get_or plan.nodes c.args.self.now.node (Source 0) c.args.self.now.inside in
     let is = c.requires.is n there in
     let l = c.args.key.now in
     let read = ap (map cell_kind_of) c.as_slice-read.ensures.value ∙ c.in_ok-kinds.ensures.kinds n there ∙ ap (left_kinds plan) is.1 in
-    let keyed = (c.nodes.ensures.kept.nodes_are.each c.args.node (SessionNode is.0 c.args.timeout l) (there ∙ ap Some is.1)).sound.1 in
-    let made : AreMade swept_standing IsSweptNew c.args.workers (new_standing (SessionNode 0 c.args.timeout c.args.key.now) c.as_slice-read.result.now [] c.as_slice-read.result.now c.args.capacity) c.in_ok-operators.operators.items = record {
-      some = c.requires.some;
+    let keyed = (c.nodes.ensures.kept.nodes_are.each c.args.self.now.node (SessionNode is.0 c.args.timeout l) (there ∙ ap Some is.1)).sound.1 in
+    let made : AreMade swept_standing IsSweptNew c.args.self.now.workers (new_standing (SessionNode 0 c.args.timeout c.args.key.now) c.as_slice-read.result.now [] c.as_slice-read.result.now c.args.self.now.capacity) c.in_ok-operators.operators.items = record {
+      some = c.args.self.now.some;
       count = c.in_ok-operators.ensures.count;
       stand = λ k d low. (let each = c.in_ok-operators.ensures.each k d low in search rules);
       new = λ k d low. (let each = c.in_ok-operators.ensures.each k d low in search rules);
     } in
-    in_step swept_standing IsSweptNew c.args.workers _ c.in_ok-operators.operators.items made l [] refl refl refl refl (subst (λ ks. IsKey ks l) (sym read) keyed) (All-nil _)
+    in_step swept_standing IsSweptNew c.args.self.now.workers _ c.in_ok-operators.operators.items made l [] refl refl refl refl (subst (λ ks. IsKey ks l) (sym read) keyed) (All-nil _)
 
 pub in_shards-requires-clause-capacity : goal.in_shards-requires-clause-capacity
 in_shards-requires-clause-capacity c κs =
-    let made : AreMade swept_standing IsSweptNew c.args.workers (new_standing (SessionNode 0 c.args.timeout c.args.key.now) c.as_slice-read.result.now [] c.as_slice-read.result.now c.args.capacity) c.in_ok-operators.operators.items = record {
-      some = c.requires.some;
+    let made : AreMade swept_standing IsSweptNew c.args.self.now.workers (new_standing (SessionNode 0 c.args.timeout c.args.key.now) c.as_slice-read.result.now [] c.as_slice-read.result.now c.args.self.now.capacity) c.in_ok-operators.operators.items = record {
+      some = c.args.self.now.some;
       count = c.in_ok-operators.ensures.count;
       stand = λ k d low. (let each = c.in_ok-operators.ensures.each k d low in search rules);
       new = λ k d low. (let each = c.in_ok-operators.ensures.each k d low in search rules);
     } in
-    ap (λ s. s.batch_rows) (first_is swept_standing IsSweptNew c.args.workers _ c.in_ok-operators.operators.items made)
+    ap (λ s. s.batch_rows) (first_is swept_standing IsSweptNew c.args.self.now.workers _ c.in_ok-operators.operators.items made)
 
 pub returns-clause-starts : goal.returns-clause-starts
 returns-clause-starts c = λ texts n there.
-    let plan = c.args.plan.now in
+    let plan = c.args.self.now.plan.now in
     let is = c.requires.is n there in
     let l = c.args.key.now in
     let read = ap (map cell_kind_of) c.as_slice-read.ensures.value ∙ c.in_ok-kinds.ensures.kinds n there ∙ ap (left_kinds plan) is.1 in
-    let made : AreMade swept_standing IsSweptNew c.args.workers (new_standing (SessionNode 0 c.args.timeout l) c.as_slice-read.result.now [] c.as_slice-read.result.now c.args.capacity) c.in_ok-operators.operators.items = record {
-      some = c.requires.some;
+    let made : AreMade swept_standing IsSweptNew c.args.self.now.workers (new_standing (SessionNode 0 c.args.timeout l) c.as_slice-read.result.now [] c.as_slice-read.result.now c.args.self.now.capacity) c.in_ok-operators.operators.items = record {
+      some = c.args.self.now.some;
       count = c.in_ok-operators.ensures.count;
       stand = λ k d low. (let each = c.in_ok-operators.ensures.each k d low in search rules);
       new = λ k d low. (let each = c.in_ok-operators.ensures.each k d low in search rules);
     } in
-    subst (λ m. StartsFor texts c.args.capacity plan m (Session c.in_ok-whole.whole)) (sym is.1)
-    (sharded_starts swept_standing IsSweptNew c.args.workers _ c.in_ok-operators.operators.items made Session IsSweptKept session_variant (λ w new. new) (λ o texts new. kept_first o texts new (session_opens o.sweep new.0))
-    plan c.args.capacity texts (SessionNode is.0 c.args.timeout l) (new_can plan c.args.capacity (SessionNode is.0 c.args.timeout l) (SessionNode 0 c.args.timeout l) c.as_slice-read.result.now [] c.as_slice-read.result.now (record { events = λ a b. refl; closes = λ x y. refl; undefined = λ rows. refl; held = λ x y hl hr. refl }) refl read refl read)
+    subst (λ m. StartsFor texts c.args.self.now.capacity plan m (Session c.in_ok-whole.whole)) (sym is.1)
+    (sharded_starts swept_standing IsSweptNew c.args.self.now.workers _ c.in_ok-operators.operators.items made Session IsSweptKept session_variant (λ w new. new) (λ o texts new. kept_first o texts new (session_opens o.sweep new.0))
+    plan c.args.self.now.capacity texts (SessionNode is.0 c.args.timeout l) (new_can plan c.args.self.now.capacity (SessionNode is.0 c.args.timeout l) (SessionNode 0 c.args.timeout l) c.as_slice-read.result.now [] c.as_slice-read.result.now (record { events = λ a b. refl; closes = λ x y. refl; undefined = λ rows. refl; held = λ x y hl hr. refl }) refl read refl read)
     c.in_ok-whole.whole l [] c.in_ok-whole.ensures.whole c.in_ok-whole.ensures.opening)
 
 pub returns-clause-runs : goal.returns-clause-runs
 returns-clause-runs c = λ n there.
     let is = c.requires.is n there in
-    subst (λ m. RunsNode c.args.workers m (Session c.in_ok-whole.whole)) (sym is.1)
+    subst (λ m. RunsNode c.args.self.now.workers m (Session c.in_ok-whole.whole)) (sym is.1)
     (record { variant = refl; shards = ap (λ w. length w.operators) c.in_ok-whole.ensures.whole ∙ c.in_ok-operators.ensures.count })
