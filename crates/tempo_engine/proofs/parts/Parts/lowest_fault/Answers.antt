@@ -1,5 +1,4 @@
-use Rattle.std.proofs.Common.{◌≡◌, ◌<◌, ◌≤◌, ℕ, Some, None, ◌∙◌, refl, ap, sym, subst, arith, inl, inr}
-use Rattle.std.proofs.lemmas.Bool.{cases_lt}
+use Rattle.std.proofs.Common.{◌≡◌, ◌≤◌, Some, ◌∙◌, ap, sym, subst}
 use Rattle.plan_model.specs.IsPlan.{most_columns}
 use Rattle.plan_model.proofs.Kept.{IsPlan-ordered}
 use Rattle.plan_laws.specs.Undefined.{overflow}

@@ -1,11 +1,9 @@
-use Rattle.std.proofs.Common.{◌≡◌, ◌<◌, ◌≤◌, ℕ, List, [], cond, nat_lt, Some, None, ◌∙◌, refl, ap, sym, subst, arith, inl, inr}
-use Rattle.std.specs.Prelude.{◌↔◌, Bool, true, false, IsTrue}
-use Rattle.std.proofs.lemmas.Bool.{cases_lt}
+use Rattle.std.proofs.Common.{◌≡◌, [], cond, nat_lt, Some, None, ◌∙◌, refl, ap, sym, arith}
 use Rattle.std.proofs.lemmas.List.{append-nil}
 use Rattle.plan_model.specs.Meaning.{closes, events}
 use Rattle.admission.specs.Admission.{rows}
 use Rattle.tempo_engine.specs.Output.{result_kinds}
-use Rattle.tempo_engine.proofs.Punctuating.{begins, ends, begun, further_on, whole_holds, whole_stands, shown, next_worked, next_went, rendered_run}
+use Rattle.tempo_engine.proofs.Punctuating.{ends, begun, further_on, whole_holds, whole_stands, shown, next_worked, next_went, rendered_run}
 use Rattle.tempo_engine.proofs.parts.Parts.punctuate.Goals as goal
 
 pub slices-init : goal.slices-init

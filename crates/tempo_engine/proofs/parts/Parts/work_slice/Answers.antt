@@ -1,13 +1,11 @@
-use Rattle.std.proofs.Common.{◌≡◌, ◌≢◌, ◌<◌, ◌≤◌, ◌++◌, [], ℕ, map, Some, None, ◌∙◌, refl, ap, sym, subst, arith}
+use Rattle.std.proofs.Common.{◌≡◌, ◌≤◌, [], ℕ, map, Some, ◌∙◌, refl, ap, sym, subst, arith}
 use Rattle.std.specs.Prelude.{All, slice_index_or}
 use Rattle.tw_rows.specs.Cells.{datum_kind}
 use Rattle.tw_rows.specs.Instant.{inf}
 use Rattle.tw_rows.specs.Kinds.{cell_kind_of}
-use Rattle.tw_rows.specs.declared.edge.Edge.{Edge}
 use Rattle.edge_stream.specs.Listing.{cells_of}
 use Rattle.plan_model.specs.IsPlan.{kinds_at, most_columns}
 use Rattle.row_stage.proofs.Nodes.{stored_kinds}
-use Rattle.edge_history.specs.Order.{is_from, failing}
 use Rattle.plan_laws.specs.Undefined.{overflow}
 use Rattle.plan_model.specs.Meaning.{closes}
 use Rattle.node_laws.specs.Standing.{SourcesStandRead}
