@@ -14,13 +14,15 @@ use std::{fs, io};
 /// FILE at a path, and FILE.new beside it.
 ///
 /// It tells no moments, since no contract can say what a disk holds. That the calls of the system do what `Medium` says of them is
-/// a premise; each method makes the one call that it is named for.
+/// a premise; each method makes those calls that it is named for. FILE is a new file after each rename: it has the rights that
+/// the process gives to one, and where a link stood at the path the file stands there now.
 #[derive(Drop)]
 pub struct FolderMedium<'a, R: Files> {
     rt: &'a R,
     file: String,
     next: String,
     folder: String,
+    // A file that was written stays open up to its sync, whose answer is then of that write.
     file_open: Option<R::File>,
     next_open: Option<R::File>,
     faults: u64,
@@ -49,8 +51,8 @@ fn write_file<R: Files>(rt: &R, path: &str, bytes: &[u8]) -> io::Result<R::File>
     Ok(file)
 }
 
-// Syncs the file that is open, and else opens the one of this path for it.
-fn sync_file<R: Files>(rt: &R, open: &Option<R::File>, path: &str) -> io::Result<()> {
+// Syncs the file that is open, and closes it; where none is, opens the one of this path for that.
+fn sync_file<R: Files>(rt: &R, open: Option<R::File>, path: &str) -> io::Result<()> {
     match open {
         Some(file) => file.sync_all(),
         None => fs::open(rt, path)?.sync_all(),
@@ -128,8 +130,8 @@ impl<'a, R: Files> Medium for FolderMedium<'a, R> {
 
     fn sync(&mut self, name: Name) -> Result<(), MediumFailed> {
         let synced = match name {
-            Name::File => sync_file(self.rt, &self.file_open, self.file.as_str()),
-            Name::Next => sync_file(self.rt, &self.next_open, self.next.as_str()),
+            Name::File => sync_file(self.rt, self.file_open.take(), self.file.as_str()),
+            Name::Next => sync_file(self.rt, self.next_open.take(), self.next.as_str()),
         };
         counted(&mut self.faults, synced)
     }
@@ -142,7 +144,7 @@ impl<'a, R: Files> Medium for FolderMedium<'a, R> {
     }
 
     fn sync_folder(&mut self) -> Result<(), MediumFailed> {
-        let synced = sync_file(self.rt, &None, self.folder.as_str());
+        let synced = sync_file(self.rt, None, self.folder.as_str());
         counted(&mut self.faults, synced)
     }
 }
