@@ -4,3 +4,5 @@ pub mod Steps
 pub mod Cutting
 pub mod Together
 pub mod Found
+pub mod Numbers
+mod Examples

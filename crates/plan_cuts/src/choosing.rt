@@ -55,8 +55,8 @@ pub fn may_be_cut(alloc: Global, plan: &Plan, columns: &[usize]) -> Result<bool,
     Ok(uncut.is_none())
 }
 
-// How many columns each stream has.
-fn widths_of(alloc: Global, plan: &Plan) -> Result<Vec<usize>, Memory>
+/// How many columns each stream has.
+pub(crate) fn widths_of(alloc: Global, plan: &Plan) -> Result<Vec<usize>, Memory>
     ensures { IfOk result (λ v. v.items ≡ stream_widths plan.now) }
 {
     let mut widths = Vec::new(alloc);
@@ -66,8 +66,8 @@ fn widths_of(alloc: Global, plan: &Plan) -> Result<Vec<usize>, Memory>
     Ok(widths)
 }
 
-// How many choices there are of a number below each of these, and the greatest number where there are more than that.
-fn choice_count(widths: &[usize]) -> usize
+/// How many choices there are of a number below each of these, and the greatest number where there are more than that.
+pub(crate) fn choice_count(widths: &[usize]) -> usize
     ensures { result ≡ min (count_of widths.now) usize.MAX }
 {
     let mut count = 1_usize;
@@ -77,8 +77,8 @@ fn choice_count(widths: &[usize]) -> usize
     count
 }
 
-// The choice of that number.
-fn choice(alloc: Global, widths: &[usize], number: usize) -> Result<Vec<usize>, Memory>
+/// The choice of that number.
+pub(crate) fn choice(alloc: Global, widths: &[usize], number: usize) -> Result<Vec<usize>, Memory>
     requires { 0 < count_of widths.now }
     ensures { IfOk result (λ v. v.items ≡ choice_of widths.now number) }
 {

@@ -5,8 +5,11 @@
 mod choosing;
 mod part_laws;
 mod places;
+mod told;
 
 pub use choosing::{CutsFault, MOST_CHOICES, cuts, first_uncut, may_be_cut};
 pub use part_laws::{
-    each_node_is_cut, parts_are_undefined_together, parts_have_their_events, parts_have_their_rows,
+    choices_are_numbered, each_node_is_cut, parts_are_undefined_together, parts_have_their_events,
+    parts_have_their_rows,
 };
+pub use told::cut_text;

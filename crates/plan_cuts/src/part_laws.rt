@@ -1,5 +1,6 @@
 // What the parts of a plan are together.
 ghost use Rattle.std.specs.Prelude.{◌≡◌, ◌≢◌, ◌↔◌, ℕ, ◌<◌, Bool, true, false, List, [], length};
+ghost use Rattle.std.specs.List.{AllZip};
 ghost use Rattle.tw_rows.specs.Bag.{SameBag};
 ghost use Rattle.tw_rows.specs.Instant.{inf};
 ghost use Rattle.tw_rows.specs.Rows.{Row};
@@ -11,6 +12,7 @@ ghost use Rattle.plan_model.specs.Meaning.{Sources, events, snapshots};
 ghost use Rattle.plan_laws.specs.Undefined.{undefined_at};
 ghost use Rattle.node_laws.specs.Shards.{any_shard};
 ghost use Rattle.plan_cuts.specs.Cuts.{is_among, cut_places, may_be_cut};
+ghost use Rattle.plan_cuts.specs.Choices.{choice_count, choice, number_of};
 ghost use Rattle.plan_cuts.specs.Parts.{passing_events, passing_sources, part_of, part_at, IsCutBy};
 
 /// A plan may be cut by columns, one of each stream, where each of its nodes has a column by which its rows are cut.
@@ -18,6 +20,15 @@ pub fn each_node_is_cut()
     ensures { (plan : PlanParts) (columns : List ℕ) → (may_be_cut plan columns ≡ true) ↔
         ((i : ℕ) → i < length plan.nodes →
         (place : ℕ) × (is_among (cut_places plan columns i) place ≡ true)) }
+{}
+
+/// Each choice of a number below each of these has its own number, below their product.
+pub fn choices_are_numbered()
+    ensures each { (widths columns : List ℕ) → AllZip (λ column width. column < width) columns widths →
+        (number_of widths columns < choice_count widths)
+        × (choice widths (number_of widths columns) ≡ columns) }
+    ensures once { (widths : List ℕ) (number : ℕ) → number < choice_count widths →
+        number_of widths (choice widths number) ≡ number }
 {}
 
 /// Whatever test is asked of the values in the columns of the streams: of the rows that pass it a node makes those of its
