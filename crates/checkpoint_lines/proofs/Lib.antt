@@ -5,3 +5,4 @@ pub mod Short
 pub mod Cells
 pub mod TextOf
 pub mod Examples
+pub mod Filling

@@ -68,6 +68,10 @@ datum_text (Int x) = number_text 0 x
 datum_text (Flag b) = cond b (codes "1") (codes "0")
 datum_text (Text place) = decimal place
 
+-- cells, each behind a comma: `,5,1`
+abbrev pub cell_texts : List Datum → List ℕ
+cell_texts cells = flat_map (λ d. 44 ∷ datum_text d) cells
+
 abbrev pub entry_fields : Owner → ℕ → SavedEntry → List (List ℕ)
 entry_fields owner shard e = owner_text owner ∷ decimal shard ∷ decimal e.part ∷ time_text e.sync ∷ time_text e.other ∷ map datum_text e.cells
 

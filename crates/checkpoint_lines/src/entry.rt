@@ -1,14 +1,15 @@
 // The line of an entry.
-ghost use Rattle.std.specs.Prelude.{◌≡◌, ◌++◌, ◌∷◌, OnOk, IfOk, IfSome, drop, flat_map};
+ghost use Rattle.std.specs.Prelude.{◌≡◌, ◌≤◌, ◌++◌, ◌∷◌, OnOk, OnErr, IfOk, IfSome, drop, vec_capacity};
 ghost use Rattle.row_reader.specs.Fields.{commas, left};
-ghost use Rattle.checkpoint_lines.specs.Lines.{datum_text, entry_line};
+ghost use Rattle.line_text.specs.Number.{number_text};
+ghost use Rattle.checkpoint_lines.specs.Room.{LacksRoom};
+ghost use Rattle.checkpoint_lines.specs.Lines.{datum_text, cell_texts, entry_line};
 ghost use Rattle.checkpoint_lines.specs.Reading.{flag_of, datum_of, times_of, cells_of, entry_of};
 
 use crate::fields::{push_decimal, push_number_field, push_time_field, read_instant};
 use crate::owner::{push_owner, take_part};
 use edge_stream::SavedEntry;
 use frozen_state::Owner;
-use line_text::push_number;
 use row_reader::{Fields, read_places, read_whole};
 use smallvec::SmallVec;
 use std::alloc::Global;
@@ -22,25 +23,49 @@ pub struct EntryLine {
     pub entry: SavedEntry,
 }
 
+// Appends the number by its digits.
+fn push_int(out: &mut Vec<u8>, number: i64) -> Result<(), Memory>
+    ensures ok { OnOk result (out.new.items ≡ out.old.items ++ number_text 0 number) }
+    ensures room { vec_capacity out.old ≤ vec_capacity out.new }
+    ensures full { OnErr result (LacksRoom out.old (number_text 0 number)) }
+{
+    if number < 0 {
+        out.push(b'-')?;
+    }
+    push_decimal(out, number.unsigned_abs())
+}
+
 fn push_datum(out: &mut Vec<u8>, datum: Datum) -> Result<(), Memory>
-    ensures { OnOk result (out.new.items ≡ out.old.items ++ datum_text datum) }
+    ensures ok { OnOk result (out.new.items ≡ out.old.items ++ datum_text datum) }
+    ensures room { vec_capacity out.old ≤ vec_capacity out.new }
+    ensures full { OnErr result (LacksRoom out.old (datum_text datum)) }
 {
     match datum {
-        Datum::Int(number) => push_number(out, 0, number)?,
+        Datum::Int(number) => push_int(out, number)?,
         Datum::Bool(flag) => out.push(if flag { b'1' } else { b'0' })?,
         Datum::Text(place) => push_decimal(out, place)?,
     }
     Ok(())
 }
 
+// Appends a comma and the cell.
+fn push_cell(out: &mut Vec<u8>, datum: Datum) -> Result<(), Memory>
+    ensures ok { OnOk result (out.new.items ≡ out.old.items ++ 44 ∷ datum_text datum) }
+    ensures room { vec_capacity out.old ≤ vec_capacity out.new }
+    ensures full { OnErr result (LacksRoom out.old (44 ∷ datum_text datum)) }
+{
+    out.push(b',')?;
+    push_datum(out, datum)
+}
+
 // Appends the cells, each behind a comma.
 fn push_cells(out: &mut Vec<u8>, cells: &[Datum]) -> Result<(), Memory>
-    ensures { OnOk result (out.new.items ≡ out.old.items ++ flat_map
-        (λ d. 44 ∷ datum_text d) cells.now) }
+    ensures ok { OnOk result (out.new.items ≡ out.old.items ++ cell_texts cells.now) }
+    ensures room { vec_capacity out.old ≤ vec_capacity out.new }
+    ensures full { OnErr result (LacksRoom out.old (cell_texts cells.now)) }
 {
     for datum in cells {
-        out.push(b',')?;
-        push_datum(out, *datum)?;
+        push_cell(out, *datum)?;
     }
     Ok(())
 }
@@ -52,7 +77,9 @@ pub fn push_entry_line(
     shard: u64,
     entry: &SavedEntry,
 ) -> Result<(), Memory>
-    ensures { OnOk result (out.new.items ≡ out.old.items ++ entry_line owner shard entry.now) }
+    ensures ok { OnOk result (out.new.items ≡ out.old.items ++ entry_line owner shard entry.now) }
+    ensures room { vec_capacity out.old ≤ vec_capacity out.new }
+    ensures full { OnErr result (LacksRoom out.old (entry_line owner shard entry.now)) }
 {
     out.extend_from_slice(b"#entry,")?;
     push_owner(out, owner)?;

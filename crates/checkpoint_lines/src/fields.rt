@@ -1,17 +1,19 @@
 // Fields of lines: numbers and times.
-ghost use Rattle.std.specs.Prelude.{◌≡◌, ◌++◌, ◌∷◌, ◌^◌, decimal, OnOk};
+ghost use Rattle.std.specs.Prelude.{◌≡◌, ◌++◌, ◌∷◌, ◌^◌, decimal, OnOk, OnErr, ◌≤◌, vec_capacity};
 ghost use Rattle.row_reader.specs.Number.{number_of};
 ghost use Rattle.line_text.specs.Fields.{time_text};
 ghost use Rattle.checkpoint_lines.specs.Reading.{instant_of};
+ghost use Rattle.checkpoint_lines.specs.Room.{LacksRoom};
 
 use itoa::Buffer;
-use line_text::push_time;
 use row_reader::read_number;
 use tw_rows::{Memory, Time};
 
 /// Appends the number.
 pub fn push_decimal(out: &mut Vec<u8>, number: u64) -> Result<(), Memory>
-    ensures { OnOk result (out.new.items ≡ out.old.items ++ decimal number) }
+    ensures ok { OnOk result (out.new.items ≡ out.old.items ++ decimal number) }
+    ensures room { vec_capacity out.old ≤ vec_capacity out.new }
+    ensures full { OnErr result (LacksRoom out.old (decimal number)) }
 {
     let mut buffer = Buffer::new();
     out.extend_from_slice(buffer.format(number).as_bytes())?;
@@ -20,15 +22,34 @@ pub fn push_decimal(out: &mut Vec<u8>, number: u64) -> Result<(), Memory>
 
 /// Appends a comma and the number.
 pub fn push_number_field(out: &mut Vec<u8>, number: u64) -> Result<(), Memory>
-    ensures { OnOk result (out.new.items ≡ out.old.items ++ 44 ∷ decimal number) }
+    ensures ok { OnOk result (out.new.items ≡ out.old.items ++ 44 ∷ decimal number) }
+    ensures room { vec_capacity out.old ≤ vec_capacity out.new }
+    ensures full { OnErr result (LacksRoom out.old (44 ∷ decimal number)) }
 {
     out.push(b',')?;
     push_decimal(out, number)
 }
 
+// Appends the time as a field: what line_text does for it tells nothing of room.
+fn push_time(out: &mut Vec<u8>, time: Time) -> Result<(), Memory>
+    ensures ok { OnOk result (out.new.items ≡ out.old.items ++ time_text time) }
+    ensures room { vec_capacity out.old ≤ vec_capacity out.new }
+    ensures full { OnErr result (LacksRoom out.old (time_text time)) }
+{
+    match time.get() {
+        Some(number) => push_decimal(out, number),
+        None => {
+            out.extend_from_slice(b"inf")?;
+            Ok(())
+        }
+    }
+}
+
 /// Appends a comma and the time.
 pub fn push_time_field(out: &mut Vec<u8>, time: Time) -> Result<(), Memory>
-    ensures { OnOk result (out.new.items ≡ out.old.items ++ 44 ∷ time_text time) }
+    ensures ok { OnOk result (out.new.items ≡ out.old.items ++ 44 ∷ time_text time) }
+    ensures room { vec_capacity out.old ≤ vec_capacity out.new }
+    ensures full { OnErr result (LacksRoom out.old (44 ∷ time_text time)) }
 {
     out.push(b',')?;
     push_time(out, time)

@@ -1,5 +1,6 @@
 // The lines before what was frozen, which whoever knows the query and the options knows, and the last line.
-ghost use Rattle.std.specs.Prelude.{◌≡◌, ◌++◌, ◌∷◌, OnOk, IfOk};
+ghost use Rattle.std.specs.Prelude.{◌≡◌, ◌++◌, ◌∷◌, OnOk, OnErr, IfOk, ◌≤◌, vec_capacity};
+ghost use Rattle.checkpoint_lines.specs.Room.{LacksRoom};
 ghost use Rattle.row_reader.specs.Number.{same_text};
 ghost use Rattle.checkpoint_lines.specs.Lines.{form_line, query_line, options_line, late_text, end_line};
 
@@ -80,7 +81,9 @@ pub fn is_options_line(
 
 /// Appends the last line.
 pub fn push_end_line(out: &mut Vec<u8>) -> Result<(), Memory>
-    ensures { OnOk result (out.new.items ≡ out.old.items ++ end_line) }
+    ensures ok { OnOk result (out.new.items ≡ out.old.items ++ end_line) }
+    ensures room { vec_capacity out.old ≤ vec_capacity out.new }
+    ensures full { OnErr result (LacksRoom out.old end_line) }
 {
     out.extend_from_slice(b"#end")?;
     Ok(())

@@ -1,5 +1,6 @@
 // Whose entries a checkpoint has.
-ghost use Rattle.std.specs.Prelude.{◌≡◌, ◌++◌, ◌∷◌, OnOk, IfSome, drop};
+ghost use Rattle.std.specs.Prelude.{◌≡◌, ◌++◌, ◌∷◌, OnOk, OnErr, IfSome, drop, ◌≤◌, vec_capacity};
+ghost use Rattle.checkpoint_lines.specs.Room.{LacksRoom};
 ghost use Rattle.row_reader.specs.Fields.{commas, left};
 ghost use Rattle.checkpoint_lines.specs.Lines.{owner_text};
 ghost use Rattle.checkpoint_lines.specs.Reading.{owner_of, part_of, part_by};
@@ -20,7 +21,9 @@ pub struct EntryPart {
 
 /// Appends the owner.
 pub fn push_owner(out: &mut Vec<u8>, owner: Owner) -> Result<(), Memory>
-    ensures { OnOk result (out.new.items ≡ out.old.items ++ owner_text owner) }
+    ensures ok { OnOk result (out.new.items ≡ out.old.items ++ owner_text owner) }
+    ensures room { vec_capacity out.old ≤ vec_capacity out.new }
+    ensures full { OnErr result (LacksRoom out.old (owner_text owner)) }
 {
     match owner {
         Owner::In => out.extend_from_slice(b"in")?,

@@ -1,5 +1,6 @@
 // The lines of how far the input has come.
-ghost use Rattle.std.specs.Prelude.{◌≡◌, ◌++◌, ◌∷◌, [], ℕ, List, OnOk, IfSome, IfNone};
+ghost use Rattle.std.specs.Prelude.{◌≡◌, ◌++◌, ◌∷◌, [], ℕ, List, OnOk, OnErr, IfSome, IfNone, ◌≤◌, vec_capacity};
+ghost use Rattle.checkpoint_lines.specs.Room.{LacksRoom};
 ghost use Rattle.row_reader.specs.Fields.{commas, left};
 ghost use Rattle.checkpoint_lines.specs.Lines.{time_line, bound_line};
 ghost use Rattle.checkpoint_lines.specs.Reading.{time_of, bound_of};
@@ -10,7 +11,9 @@ use tw_rows::{Memory, Time};
 
 /// Appends the line of the number of the last line that was fed, which is 0 where there was none, and of the last punctuation.
 pub fn push_time_line(out: &mut Vec<u8>, lines: u64, last: Time) -> Result<(), Memory>
-    ensures { OnOk result (out.new.items ≡ out.old.items ++ time_line lines last) }
+    ensures ok { OnOk result (out.new.items ≡ out.old.items ++ time_line lines last) }
+    ensures room { vec_capacity out.old ≤ vec_capacity out.new }
+    ensures full { OnErr result (LacksRoom out.old (time_line lines last)) }
 {
     out.extend_from_slice(b"#time")?;
     push_number_field(out, lines)?;
@@ -19,7 +22,9 @@ pub fn push_time_line(out: &mut Vec<u8>, lines: u64, last: Time) -> Result<(), M
 
 /// Appends the line of a stream: its bound and its mark.
 pub fn push_bound_line(out: &mut Vec<u8>, bound: Time, mark: Time) -> Result<(), Memory>
-    ensures { OnOk result (out.new.items ≡ out.old.items ++ bound_line bound mark) }
+    ensures ok { OnOk result (out.new.items ≡ out.old.items ++ bound_line bound mark) }
+    ensures room { vec_capacity out.old ≤ vec_capacity out.new }
+    ensures full { OnErr result (LacksRoom out.old (bound_line bound mark)) }
 {
     out.extend_from_slice(b"#bound")?;
     push_time_field(out, bound)?;

@@ -1,5 +1,6 @@
 // The line of a text.
-ghost use Rattle.std.specs.Prelude.{◌≡◌, ◌++◌, true, false, Some, None, OnOk, IfSome, IfNone, take, drop, codes};
+ghost use Rattle.std.specs.Prelude.{◌≡◌, ◌++◌, true, false, Some, None, OnOk, OnErr, IfSome, IfNone, take, drop, codes, ◌≤◌, vec_capacity};
+ghost use Rattle.checkpoint_lines.specs.Room.{LacksRoom};
 ghost use Rattle.std.specs.List.{list_any};
 ghost use Rattle.row_reader.specs.Number.{same_text};
 ghost use Rattle.checkpoint_lines.specs.Lines.{text_line};
@@ -9,7 +10,9 @@ use tw_rows::Memory;
 
 /// Appends the line of a text, as it stands. A text that may be read back has neither CR nor LF.
 pub fn push_text_line(out: &mut Vec<u8>, text: &str) -> Result<(), Memory>
-    ensures { OnOk result (out.new.items ≡ out.old.items ++ text_line text.now) }
+    ensures ok { OnOk result (out.new.items ≡ out.old.items ++ text_line text.now) }
+    ensures room { vec_capacity out.old ≤ vec_capacity out.new }
+    ensures full { OnErr result (LacksRoom out.old (text_line text.now)) }
 {
     out.extend_from_slice(b"#text,")?;
     out.extend_from_slice(text.as_bytes())?;
