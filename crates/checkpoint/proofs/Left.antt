@@ -1,6 +1,8 @@
 -- What is left to be written.
-use Rattle.std.proofs.Common.{◌≡◌, ◌<◌, ◌≤◌, ◌+◌, ℕ, zero, suc, List, [], ◌∷◌, ◌++◌, length, map, drop, get_or, Some, slice_get, refl, sym, ◌∙◌, ap, arith, append_assoc}
-use Rattle.std.proofs.lemmas.List.{drop_more}
+use Rattle.std.proofs.Common.{◌≡◌, ◌<◌, ◌≤◌, ◌+◌, ℕ, zero, suc, List, [], ◌∷◌, ◌++◌, length, map, drop, get_or, Some, slice_get, refl, sym, ◌∙◌, ap, arith, append_assoc, subst}
+use Rattle.std.specs.Prelude.{Vec, vec_len, vec_capacity}
+use Rattle.std.proofs.lemmas.List.{drop_more, length-append}
+use Rattle.std.proofs.lemmas.Option.{slice_get_read}
 use Rattle.edge_stream.specs.declared.saved.SavedEntry.{SavedEntry}
 use Rattle.frozen_state.specs.declared.frozen.FrozenPart.{FrozenPart}
 use Rattle.frozen_state.specs.Frozen.{FrozenView}
@@ -8,7 +10,7 @@ use Rattle.checkpoint_lines.specs.Lines.{end_line, time_line, text_line, entry_l
 use Rattle.checkpoint.specs.declared.writing.Place.TheVariants.{Head}
 use Rattle.checkpoint.specs.Form.{FormView}
 use Rattle.checkpoint.specs.Text.{bound_lines, entry_lines, checkpoint_lines}
-use Rattle.checkpoint.specs.Writing.{entries_left, lines_left, bytes_of, Appends}
+use Rattle.checkpoint.specs.Writing.{entries_left, lines_left, bytes_of, Appends, LacksRoomFor, LacksRoomToFeed}
 
 pub dropped_all : {X : Type 0} (xs : List X) (n : ℕ) → length xs ≤ n → drop n xs ≡ []
 dropped_all [] zero low = refl
@@ -43,6 +45,17 @@ next_of_part ps i p n e at is =
     ∙ ap (λ (l : List SavedEntry). map (entry_line p.owner p.shard) l ++ entry_lines (drop (i + 1) ps)) (dropped_more p.saved n e is)
     ∙ ap (λ (l : List FrozenPart). entry_line p.owner p.shard e ∷ entries_left l (n + 1)) (sym there)
 
+-- of the entries behind a place, the next one is this of that part, and then those behind it
+pub entry_is_next : (fs ps : List FrozenPart) (part entry n k : ℕ) (p : FrozenPart) (es : List SavedEntry) (e : SavedEntry) → ps ≡ fs → es ≡ p.saved → n < length ps → p ≡ get_or ps n p →
+    ((q : FrozenPart) → slice_get ps n ≡ Some q → k < length q.saved) → e ≡ get_or es k e → entries_left (drop part ps) entry ≡ entries_left (drop n ps) k →
+    entries_left (drop part fs) entry ++ end_line ∷ [] ≡ entry_line p.owner p.shard e ∷ (entries_left (drop n fs) (k + 1) ++ end_line ∷ [])
+entry_is_next fs ps part entry n k p es e same saved low is within there left =
+    let at : slice_get ps n ≡ Some p = slice_get_read ps _ n p refl low is in
+    let e_low : k < length es = omega (arith, within p at, ap length saved) in
+    let e_at : slice_get p.saved k ≡ Some e = subst (λ (l : List SavedEntry). slice_get l k ≡ Some e) saved (slice_get_read es _ k e refl e_low there) in
+    ap (λ (l : List (List ℕ)). l ++ end_line ∷ [])
+    (subst (λ (l : List FrozenPart). entries_left (drop part l) entry ≡ entry_line p.owner p.shard e ∷ entries_left (drop n l) (k + 1)) same (left ∙ next_of_part ps n p k e at e_at))
+
 pub bounds_end : (bs ms : List ℕ) (n : ℕ) → length ms ≤ n → bound_lines (drop n bs) (drop n ms) ≡ []
 bounds_end bs ms n low = ap (bound_lines (drop n bs)) (dropped_all ms n low) ∙ none (drop n bs)
   where
@@ -70,3 +83,16 @@ fed left rest old mid new a e = (a.line, (a.next, e ∙ ap (λ (l : List ℕ). l
 pub bytes_more : (left rest : List (List ℕ)) (old new line : List ℕ) → left ≡ line ∷ rest → new ≡ old ++ (line ++ 10 ∷ []) → new ++ bytes_of rest ≡ old ++ bytes_of left
 bytes_more left rest old new line a b =
     ap (λ (l : List ℕ). l ++ bytes_of rest) b ∙ append_assoc old (line ++ 10 ∷ []) (bytes_of rest) ∙ ap (λ (l : List (List ℕ)). old ++ bytes_of l) (sym a)
+
+-- where the buffer has no room for a line, it has none for it and a line feed
+pub lacks_feed : {Z : Type 0} (left : List (List ℕ)) (v : Vec ℕ Z) → LacksRoomFor left v → LacksRoomToFeed left v
+lacks_feed left v l = record { line = l.line; rest = l.rest; next = l.next; lacks = omega (arith, l.lacks, length-append l.line (10 ∷ [])) }
+
+-- nor where there is none for the line feed alone
+pub lacks_last : {Z : Type 0} (left rest : List (List ℕ)) (old mid : Vec ℕ Z) → Appends left rest old.items mid.items → vec_capacity old ≤ vec_capacity mid → vec_capacity mid ≤ vec_len mid → LacksRoomToFeed left old
+lacks_last left rest old mid a room full = record {
+  line = a.line;
+  rest = rest;
+  next = a.next;
+  lacks = omega (arith, room, full, mid.ok.0, ap length a.bytes, length-append old.items a.line, length-append a.line (10 ∷ []));
+}

@@ -1,8 +1,9 @@
 -- The lines that are still to be written.
-use Rattle.std.specs.Prelude.{◌≡◌, ℕ, Option, Some, None, List, [], ◌∷◌, ◌++◌, map, flat_map, drop}
+use Rattle.std.specs.Prelude.{◌≡◌, ℕ, Option, Some, None, List, [], ◌∷◌, ◌++◌, map, flat_map, drop, Vec}
 use Rattle.frozen_state.specs.declared.frozen.FrozenPart.{FrozenPart}
 use Rattle.frozen_state.specs.Frozen.{FrozenView}
 use Rattle.checkpoint_lines.specs.Lines.{end_line, time_line, text_line, entry_line}
+use Rattle.checkpoint_lines.specs.Room.{LacksRoom}
 use Rattle.checkpoint.specs.declared.writing.Place.{Place}
 use Rattle.checkpoint.specs.declared.writing.Place.TheVariants.{Head, Bounds, Texts, Entries, Done}
 use Rattle.checkpoint.specs.Form.{FormView}
@@ -21,12 +22,16 @@ texts_left f n = map text_line (drop n f.texts) ++ (entry_lines f.parts ++ end_l
 abbrev pub bounds_left : FrozenView → ℕ → List (List ℕ)
 bounds_left f n = bound_lines (drop n f.bounds) (drop n f.marks) ++ texts_left f 0
 
+-- the lines from an entry on
+abbrev pub ends_left : FrozenView → ℕ → ℕ → List (List ℕ)
+ends_left f part entry = entries_left (drop part f.parts) entry ++ end_line ∷ []
+
 -- the lines from a place on
 abbrev pub lines_left : FormView → FrozenView → Place → List (List ℕ)
 lines_left form f (Head n) = drop n form.head ++ time_line f.lines f.last ∷ bounds_left f 0
 lines_left form f (Bounds n) = bounds_left f n
 lines_left form f (Texts n) = texts_left f n
-lines_left form f (Entries part entry) = entries_left (drop part f.parts) entry ++ end_line ∷ []
+lines_left form f (Entries part entry) = ends_left f part entry
 lines_left form f Done = []
 
 -- the bytes of lines, with a line feed behind each
@@ -44,3 +49,17 @@ abbrev pub WritesLine : FormView → FrozenView → Place → List ℕ → List 
 WritesLine form f place old new (Some next) =
     (line : List ℕ) × ((lines_left form f place ≡ line ∷ lines_left form f next) × (new ≡ old ++ (line ++ 10 ∷ [])))
 WritesLine form f place old new None = (lines_left form f place ≡ []) × (new ≡ old)
+
+-- a buffer has no room for the first of the lines
+pub record LacksRoomFor {Z : Type 0} (left : List (List ℕ)) (v : Vec ℕ Z) : Type 0 where
+  pub line : List ℕ
+  pub rest : List (List ℕ)
+  pub next : left ≡ line ∷ rest
+  pub lacks : LacksRoom v line
+
+-- nor for it and a line feed
+pub record LacksRoomToFeed {Z : Type 0} (left : List (List ℕ)) (v : Vec ℕ Z) : Type 0 where
+  pub line : List ℕ
+  pub rest : List (List ℕ)
+  pub next : left ≡ line ∷ rest
+  pub lacks : LacksRoom v (line ++ 10 ∷ [])

@@ -1,17 +1,17 @@
 // The writing of a checkpoint, line by line.
-ghost use Rattle.std.specs.Prelude.{◌≡◌, ◌≢◌, ◌<◌, [], length, slice_get, Some, drop, IfOk, IfSome, IfNone, ℕ};
+ghost use Rattle.std.specs.Prelude.{◌≡◌, ◌≢◌, ◌<◌, ◌≤◌, ℕ, [], length, slice_get, Some, drop};
+ghost use Rattle.std.specs.Prelude.{IfOk, OnErr, IfSome, IfNone, vec_capacity};
 ghost use Rattle.frozen_state.specs.declared.frozen.FrozenPart.{FrozenPart as OnePart};
 ghost use Rattle.checkpoint.specs.Form.{FormView};
-ghost use Rattle.frozen_state.specs.Frozen.{FrozenView};
-ghost use Rattle.checkpoint.specs.Text.{checkpoint_lines};
-ghost use Rattle.checkpoint.specs.Writing.{entries_left, texts_left, bounds_left, lines_left, bytes_of, Appends, WritesLine};
+ghost use Rattle.checkpoint.specs.Writing.{entries_left, ends_left, texts_left, bounds_left};
+ghost use Rattle.checkpoint.specs.Writing.{lines_left, Appends, WritesLine};
+ghost use Rattle.checkpoint.specs.Writing.{LacksRoomFor, LacksRoomToFeed};
 
 use crate::form::Form;
 use checkpoint_lines::{
     push_bound_line, push_end_line, push_entry_line, push_text_line, push_time_line,
 };
 use frozen_state::{Frozen, FrozenPart};
-use std::alloc::Global;
 use tw_rows::Memory;
 
 /// Where a writer of a checkpoint stands.
@@ -32,7 +32,8 @@ pub enum Place {
 // The next entry from that one of that part on, if there is one: its part, and its number there.
 fn next_entry(parts: &[FrozenPart], part: usize, entry: usize) -> Option<(usize, usize)>
     ensures part { IfSome result (λ t. t.0 < length parts.now) }
-    ensures entry { IfSome result (λ t. (p : OnePart) → slice_get parts.now t.0 ≡ Some p → t.1 < length p.saved) }
+    ensures entry { IfSome result (λ t. (p : OnePart) → slice_get parts.now t.0 ≡ Some p →
+        t.1 < length p.saved) }
     ensures left { IfSome result (λ t.
         entries_left (drop part parts.now) entry ≡ entries_left (drop t.0 parts.now) t.1) }
     ensures none { IfNone result (entries_left (drop part parts.now) entry ≡ []) }
@@ -54,8 +55,11 @@ fn push_entry(
     entry: usize,
     out: &mut Vec<u8>,
 ) -> Result<Place, Memory>
-    ensures { IfOk result (λ next. (form : FormView) →
-        Appends (lines_left form frozen.now (Place.Entries part entry)) (lines_left form frozen.now next) out.old.items out.new.items) }
+    ensures ok { IfOk result (λ next. (form : FormView) →
+        Appends (ends_left frozen.now part entry) (lines_left form frozen.now next)
+        out.old.items out.new.items) }
+    ensures room { vec_capacity out.old ≤ vec_capacity out.new }
+    ensures full { OnErr result (LacksRoomFor (ends_left frozen.now part entry) out.old) }
 {
     let parts = frozen.parts();
     let Some((part, entry)) = next_entry(parts, part, entry) else {
@@ -72,8 +76,11 @@ fn push_entry(
 
 // Appends the line of the next text, or what follows.
 fn push_text(frozen: &Frozen, number: usize, out: &mut Vec<u8>) -> Result<Place, Memory>
-    ensures { IfOk result (λ next. (form : FormView) →
-        Appends (texts_left frozen.now number) (lines_left form frozen.now next) out.old.items out.new.items) }
+    ensures ok { IfOk result (λ next. (form : FormView) →
+        Appends (texts_left frozen.now number) (lines_left form frozen.now next)
+        out.old.items out.new.items) }
+    ensures room { vec_capacity out.old ≤ vec_capacity out.new }
+    ensures full { OnErr result (LacksRoomFor (texts_left frozen.now number) out.old) }
 {
     let Some(text) = frozen.texts().get(number) else {
         return push_entry(frozen, 0, 0, out);
@@ -84,8 +91,11 @@ fn push_text(frozen: &Frozen, number: usize, out: &mut Vec<u8>) -> Result<Place,
 
 // Appends the line of the next stream, or what follows.
 fn push_bound(frozen: &Frozen, number: usize, out: &mut Vec<u8>) -> Result<Place, Memory>
-    ensures { IfOk result (λ next. (form : FormView) →
-        Appends (bounds_left frozen.now number) (lines_left form frozen.now next) out.old.items out.new.items) }
+    ensures ok { IfOk result (λ next. (form : FormView) →
+        Appends (bounds_left frozen.now number) (lines_left form frozen.now next)
+        out.old.items out.new.items) }
+    ensures room { vec_capacity out.old ≤ vec_capacity out.new }
+    ensures full { OnErr result (LacksRoomFor (bounds_left frozen.now number) out.old) }
 {
     let Some(bound) = frozen.bounds().get(number) else {
         return push_text(frozen, 0, out);
@@ -104,8 +114,12 @@ fn push_head(
     number: usize,
     out: &mut Vec<u8>,
 ) -> Result<Place, Memory>
-    ensures { IfOk result (λ next.
-        Appends (lines_left form.now frozen.now (Place.Head number)) (lines_left form.now frozen.now next) out.old.items out.new.items) }
+    ensures ok { IfOk result (λ next. Appends
+        (lines_left form.now frozen.now (Place.Head number)) (lines_left form.now frozen.now next)
+        out.old.items out.new.items) }
+    ensures room { vec_capacity out.old ≤ vec_capacity out.new }
+    ensures full { OnErr result
+        (LacksRoomFor (lines_left form.now frozen.now (Place.Head number)) out.old) }
 {
     let Some(line) = form.head_line(number) else {
         push_time_line(out, frozen.lines(), frozen.last())?;
@@ -118,8 +132,11 @@ fn push_head(
 // Appends the next line from a place on.
 fn push_line(form: &Form, frozen: &Frozen, place: Place, out: &mut Vec<u8>) -> Result<Place, Memory>
     requires { place ≢ Place.Done }
-    ensures { IfOk result (λ next.
-        Appends (lines_left form.now frozen.now place) (lines_left form.now frozen.now next) out.old.items out.new.items) }
+    ensures ok { IfOk result (λ next. Appends
+        (lines_left form.now frozen.now place) (lines_left form.now frozen.now next)
+        out.old.items out.new.items) }
+    ensures room { vec_capacity out.old ≤ vec_capacity out.new }
+    ensures full { OnErr result (LacksRoomFor (lines_left form.now frozen.now place) out.old) }
 {
     match place {
         Place::Head(number) => push_head(form, frozen, number, out),
@@ -138,7 +155,10 @@ pub fn write_line(
     place: Place,
     out: &mut Vec<u8>,
 ) -> Result<Option<Place>, Memory>
-    ensures { IfOk result (λ next. WritesLine form.now frozen.now place out.old.items out.new.items next) }
+    ensures ok { IfOk result (WritesLine form.now frozen.now place out.old.items out.new.items) }
+    ensures room { vec_capacity out.old ≤ vec_capacity out.new }
+    // It wants no memory while the buffer has room for the line.
+    ensures full { OnErr result (LacksRoomToFeed (lines_left form.now frozen.now place) out.old) }
 {
     if matches!(place, Place::Done) {
         return Ok(None);
@@ -146,19 +166,4 @@ pub fn write_line(
     let next = push_line(form, frozen, place, out)?;
     out.push(b'\n')?;
     Ok(Some(next))
-}
-
-/// The whole text.
-pub fn write(alloc: Global, form: &Form, frozen: &Frozen) -> Result<Vec<u8>, Memory>
-    ensures { IfOk result (λ bytes. bytes.items ≡ bytes_of (checkpoint_lines form.now.head frozen.now)) }
-{
-    let mut out = Vec::new(alloc);
-    let mut place = Place::Head(0);
-    for _ in 0..u64::MAX {
-        match write_line(form, frozen, place, &mut out)? {
-            Some(next) => place = next,
-            None => return Ok(out),
-        }
-    }
-    Err(Memory)
 }

@@ -1,12 +1,15 @@
 -- A run that writes a checkpoint at the end of its input.
-use Rattle.std.proofs.Common.{◌≡◌, ◌++◌, List, ℕ, [], Bool, true, false, inl, inr, refl, sym, ◌∙◌, ap, append_assoc, append-nil, subst}
+use Rattle.std.proofs.Common.{◌≡◌, ◌++◌, List, ℕ, [], Bool, true, false, Option, inl, inr, refl, sym, ◌∙◌, ap, append_assoc, append-nil, subst}
 use Rattle.std.specs.Prelude.{◌||◌}
-use Rattle.wire_lines.specs.Journal.{Entry, ins, outs, ended}
+use Rattle.std.proofs.lemmas.List.Elements.{All-append}
+use Rattle.wire_lines.specs.Journal.{Entry, Grows, IsOut, SentAll, ins, outs, ended}
 use Rattle.wire_lines.specs.Lines.{lines}
-use Rattle.wire_lines.proofs.Growth.{ins-append, outs-append}
+use Rattle.wire_lines.proofs.Growth.{Grows-grows, ins-append, outs-append}
 use Rattle.frozen_state.specs.Frozen.{FrozenView}
 use Rattle.checkpoint.specs.Form.{FormView}
 use Rattle.checkpoint.specs.Text.{checkpoint_lines}
+use Rattle.checkpoint.specs.Writing.{bytes_of}
+use Rattle.tempo_engine.specs.Frozen.{Fits}
 use Rattle.tempo_engine.specs.declared.fault.EngineFault.{EngineFault}
 use Rattle.tempo_engine.specs.declared.fault.EngineFault.TheVariants as faults
 use Rattle.tempo_cli.specs.Answers.{Answers, IsFront}
@@ -18,9 +21,9 @@ use Rattle.admission.specs.declared.policy.Policy.{Policy}
 use Rattle.command_line.specs.Words.{Asked as Words}
 use Rattle.tempo_cli.specs.Told.{answers}
 use Rattle.tempo_cli.specs.Jobs.{form_asked, HasFroze}
-use Rattle.tempo_cli.specs.Feeding.{Asked, from_start, answers_to, status_at, Ended}
+use Rattle.tempo_cli.specs.Feeding.{Asked, from_start, answers_to, fed_by, status_at, Ended, IsAsked}
 use Rattle.tempo_cli.specs.Working.{AtEnd, Stops}
-use Rattle.tempo_cli.specs.Halting.{StopsGoing, FrozeAfter, FreezesWith}
+use Rattle.tempo_cli.specs.Halting.{StopsGoing, SendsLines, FrozeAfter, FreezesWith}
 use Rattle.tempo_cli.specs.declared.answering.Answering.{Answering}
 use Rattle.tempo_cli.specs.declared.status.Status.{Status}
 use Rattle.tempo_cli.specs.declared.status.Status.TheVariants.{Done, BadWords, BadQuery, Malformed, Late, Overflow, InputTooLong, ReadFault, WriteFault, Memory, BadCheckpoint}
@@ -89,37 +92,66 @@ pub short_frozen : (q : Asked) (bytes before last : List ℕ) (O : List Entry) (
 short_frozen q bytes before last O s e is = short_end (going_on (answers_to q)) bytes (before ++ outs O) (ap (λ x. before ++ x) (sym is) ∙ e.so_far)
 
 -- of what was frozen and has a text, the lines of the text are a checkpoint
-pub froze_of : {form : FormView} {P : FrozenView → Type 0} (f : FrozenView) (bytes : List ℕ) → HasText form f bytes → P f → Froze form P (checkpoint_lines form.head f)
-froze_of {form} {P} f bytes t fits = record { frozen = f; fits = fits; of_form = t.of_form; text = refl; short = t.short }
+pub froze_of : {form : FormView} {P : FrozenView → Type 0} (f : FrozenView) → HasText form f → P f → Froze form P (checkpoint_lines form.head f)
+froze_of {form} {P} f t fits = record { frozen = f; fits = fits; of_form = t.of_form; text = refl; short = t.short }
 
 -- all was written, and the checkpoint
-pub frozen_done : (form : FormView) (P : FrozenView → Type 0) (q : Asked) (bytes before last text : List ℕ) (f : FrozenView) (O K : List Entry) (s : Answering) → Ended q bytes (before ++ last) s →
-    HasText form f text → P f → last ≡ outs O → text ≡ outs K → IsFrozen (answers_to q) (Froze form P) bytes (before ++ outs (O ++ K)) true
-frozen_done form P q bytes before last text f O K s e t fits is all = record {
-  at_end = refl;
-  no_fault = e.fine;
-  C = checkpoint_lines form.head f;
-  froze = froze_of f text t fits;
-  written = sym (written_both before last text O K is all) ∙ (ap (λ x. x ++ text) e.so_far ∙ ap (λ x. (answers_to q).text (lines bytes true) false ++ x) t.bytes_are);
-}
+pub frozen_done : (form : FormView) (P : FrozenView → Type 0) (q : Asked) (bytes before last : List ℕ) (f : FrozenView) (O K : List Entry) (s : Answering) → Ended q bytes (before ++ last) s →
+    HasText form f → P f → last ≡ outs O → bytes_of (checkpoint_lines form.head f) ≡ outs K → IsFrozen (answers_to q) (Froze form P) bytes (before ++ outs (O ++ K)) true
+frozen_done form P q bytes before last f O K s e t fits is all =
+    let text = bytes_of (checkpoint_lines form.head f) in
+    record {
+      at_end = refl;
+      no_fault = e.fine;
+      C = checkpoint_lines form.head f;
+      froze = froze_of f t fits;
+      written = sym (written_both before last text O K is all) ∙ ap (λ x. x ++ text) e.so_far;
+    }
 
 -- or a front of the checkpoint
-pub frozen_front : (form : FormView) (P : FrozenView → Type 0) (q : Asked) (bytes before last text after : List ℕ) (f : FrozenView) (O K : List Entry) (s : Answering) → Ended q bytes (before ++ last) s →
-    HasText form f text → P f → last ≡ outs O → text ≡ outs K ++ after → IsFrontFrozen (answers_to q) (Froze form P) bytes (before ++ outs (O ++ K)) true
-frozen_front form P q bytes before last text after f O K s e t fits is some = inr (
+pub frozen_front : (form : FormView) (P : FrozenView → Type 0) (q : Asked) (bytes before last after : List ℕ) (f : FrozenView) (O K : List Entry) (s : Answering) → Ended q bytes (before ++ last) s →
+    HasText form f → P f → last ≡ outs O → bytes_of (checkpoint_lines form.head f) ≡ outs K ++ after → IsFrontFrozen (answers_to q) (Froze form P) bytes (before ++ outs (O ++ K)) true
+frozen_front form P q bytes before last after f O K s e t fits is some = inr (
   refl,
   (
     checkpoint_lines form.head f,
     (
-      froze_of f text t fits,
+      froze_of f t fits,
       (
         after,
-        ap (λ x. (answers_to q).text (lines bytes true) false ++ x) (sym t.bytes_are) ∙ (ap (λ x. x ++ text) (sym e.so_far)
-            ∙ (ap (λ x. (before ++ last) ++ x) some ∙ (sym (append_assoc (before ++ last) (outs K) after) ∙ ap (λ x. x ++ after) (written_both before last (outs K) O K is refl)))),
+        ap (λ x. x ++ bytes_of (checkpoint_lines form.head f)) (sym e.so_far)
+            ∙ (ap (λ x. (before ++ last) ++ x) some ∙ (sym (append_assoc (before ++ last) (outs K) after) ∙ ap (λ x. x ++ after) (written_both before last (outs K) O K is refl))),
       ),
     ),
   ),
 )
+
+-- the lines of a checkpoint went out behind what is due for the last line
+pub checkpoint_sent : {form : FormView} {workers : ℕ} {q : Asked} {bytes last : List ℕ} {given : List (List ℕ)} {f : FrozenView} {s : Answering} {before mid now : Option (List Entry)} (status : Status) →
+    Ended q bytes ((answers_to q).text given false ++ last) s → HasText form f → Fits workers q.plan q.policy (fed_by q (lines bytes true)) f →
+    Grows before mid (SentAll last) → SendsLines (checkpoint_lines form.head f) mid now status → Grows before now (FreezesWith form workers q bytes given status)
+checkpoint_sent {form} {workers} {q} {bytes} {last} {given} {f} {s} Done e t fits sent ends = Grows-grows sent ends (λ O K a b. record {
+  outs_alone = All-append IsOut O K a.outs_alone b.outs_alone;
+  end = frozen_done form (Fits workers q.plan q.policy (fed_by q (lines bytes true))) q bytes ((answers_to q).text given false) last f O K s e t fits (sym a.all) (sym b.all);
+})
+checkpoint_sent {form} {workers} {q} {bytes} {last} {given} {f} {s} WriteFault e t fits sent ends = Grows-grows sent ends (λ O K a b. record {
+  outs_alone = All-append IsOut O K a.outs_alone b.outs_alone;
+  end = frozen_front form (Fits workers q.plan q.policy (fed_by q (lines bytes true))) q bytes ((answers_to q).text given false) last b.after f O K s e t fits (sym a.all) b.front;
+})
+checkpoint_sent Memory e t fits sent ends = absurd (ends t.short)
+checkpoint_sent BadWords e t fits sent ends = absurd ends
+checkpoint_sent (BadQuery fault) e t fits sent ends = absurd ends
+checkpoint_sent (Malformed line cause) e t fits sent ends = absurd ends
+checkpoint_sent (Late line time bound) e t fits sent ends = absurd ends
+checkpoint_sent (Overflow punct node time) e t fits sent ends = absurd ends
+checkpoint_sent InputTooLong e t fits sent ends = absurd ends
+checkpoint_sent ReadFault e t fits sent ends = absurd ends
+checkpoint_sent (BadCheckpoint line) e t fits sent ends = absurd ends
+
+pub sends_asked : (lines : List (List ℕ)) (before now : Option (List Entry)) (status : Status) → SendsLines lines before now status → IsAsked status
+sends_asked lines before now BadWords ends = ends
+sends_asked lines before now (BadQuery fault) ends = ends
+sends_asked lines before now status ends = tt
 
 -- what a run has done is what the words ask for, where plan, policy, workers and form are those of the words
 pub frozen_asked : (asked : Words) (plan : PlanParts) (policy : Policy) (workers : ℕ) (form : FormView) (status : Status) (K : List Entry) → policy ≡ asked.policy → workers ≡ asked.workers → form ≡ form_asked asked plan →

@@ -18,3 +18,4 @@ pub mod Pieces
 pub mod Jobs
 pub mod Summed
 pub mod Halting
+pub mod Sending

@@ -16,11 +16,10 @@ use Rattle.tempo_cli.specs.declared.status.Status.TheVariants.{Done, WriteFault}
 abbrev pub IsShort : List ℕ → Type 0
 IsShort line = length line ≤ 65536
 
--- the bytes are the text of a checkpoint of this form, of this, no line of which is longer than a line of input may be
-pub record HasText (form : FormView) (frozen : FrozenView) (bytes : List ℕ) : Type 0 where
+-- this has a text of this form, no line of which is longer than a line of input may be
+pub record HasText (form : FormView) (frozen : FrozenView) : Type 0 where
   pub of_form : IsOfForm form frozen
   pub short : All IsShort (checkpoint_lines form.head frozen)
-  pub bytes_are : bytes ≡ bytes_of (checkpoint_lines form.head frozen)
 
 -- the lines C are a checkpoint of this form of something that fits, and each of them is short
 pub record Froze (form : FormView) (Fits : FrozenView → Type 0) (C : List (List ℕ)) : Type 0 where

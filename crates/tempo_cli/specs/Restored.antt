@@ -49,7 +49,8 @@ pub record HasRead (form : FormView) (f : FrozenView) (bytes : List ℕ) (given 
 
 -- the line of that number, given to a reader: it goes on; or it has all of what was frozen; or it refuses the line
 abbrev pub TakesLine : ReaderView → ℕ → List ℕ → Result (Option FrozenView) Status → ReaderView → Type 0
-TakesLine old number line (Ok None) new = (lines_taken new ≡ lines_taken old ++ line ∷ []) × IsUnfinished old.form (lines_taken new) × (new.form ≡ old.form)
+TakesLine old number line (Ok None) new =
+    (lines_taken new ≡ lines_taken old ++ line ∷ []) × IsUnfinished old.form (lines_taken new) × (new.form ≡ old.form)
 TakesLine old number line (Ok (Some f)) new = (checkpoint_lines old.form.head f ≡ lines_taken old ++ line ∷ []) × IsOfForm old.form f
 TakesLine old number line (Err (BadCheckpoint n)) new = (n ≡ number) × (BeginsText old.form (lines_taken old ++ line ∷ []) → ⊥)
 TakesLine old number line (Err Memory) new = Unit {0}
@@ -57,15 +58,18 @@ TakesLine old number line (Err status) new = ⊥
 
 -- the status of a run that ends before its checkpoint does
 abbrev pub IsRestoreEnd : FormView → Status → List ℕ → List (List ℕ) → Bool → Type 0
-IsRestoreEnd form InputTooLong bytes given over = (length bytes ≡ limit + 1) × (whole (take limit bytes) ≡ given) × (length (rest (take limit bytes)) ≤ 65536)
+IsRestoreEnd form InputTooLong bytes given over =
+    (length bytes ≡ limit + 1) × (whole (take limit bytes) ≡ given) × (length (rest (take limit bytes)) ≤ 65536)
 IsRestoreEnd form ReadFault bytes given over = (over ≡ false) × (lines bytes over ≡ given)
 IsRestoreEnd form Memory bytes given over = Unit {0}
-IsRestoreEnd form (BadCheckpoint n) bytes given over = IsNotWhole form (lines (take limit bytes) over) over n × IsNotWhole form (lines bytes over) over n
+IsRestoreEnd form (BadCheckpoint n) bytes given over =
+    IsNotWhole form (lines (take limit bytes) over) over n × IsNotWhole form (lines bytes over) over n
 IsRestoreEnd form status bytes given over = ⊥
 
 -- whatever lines of whatever bytes were taken
 abbrev pub WhateverTaken : Restoring → (FormView → List ℕ → List (List ℕ) → Type 0) → Type 0
-WhateverTaken r P = (form : FormView) (bytes : List ℕ) (given : List (List ℕ)) → Reads form bytes given r → length bytes ≤ limit + 1 → P form bytes given
+WhateverTaken r P =
+    (form : FormView) (bytes : List ℕ) (given : List (List ℕ)) → Reads form bytes given r → length bytes ≤ limit + 1 → P form bytes given
 
 -- the run ends after these lines, which the reader took
 pub record StopsAt (form : FormView) (status : Status) (bytes : List ℕ) (given : List (List ℕ)) (ended : Bool) : Type 0 where
@@ -138,7 +142,8 @@ pub record BreaksOff (form : FormView) (status : Status) (J : List Entry) : Type
   pub heard : IsHeard given J
 
 -- what fits some lines: they are lines without fault, and it is a state. No two parts of the form are of the same owner and shard
-pub record IsFitting (form : FormView) (Fits : List Told → FrozenView → Type 0) (IsState : FrozenView → Type 0) (plan : PlanParts) (policy : Policy) : Type 0 where
+pub record IsFitting (form : FormView) (Fits : List Told → FrozenView → Type 0) (IsState : FrozenView → Type 0)
+    (plan : PlanParts) (policy : Policy) : Type 0 where
   pub apart : AreApart form.parts
   pub sound : (before : List Told) (f : FrozenView) → Fits before f → IsPlan plan
   pub read : (before : List Told) (f : FrozenView) → Fits before f → AreRead (length plan.streams) before

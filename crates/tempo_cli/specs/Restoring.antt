@@ -16,7 +16,9 @@ use Rattle.tempo_cli.specs.Told.{entry_at}
 use Rattle.tempo_cli.specs.Resumed.{resumed}
 use Rattle.tempo_cli.specs.Freezing.{Froze, IsShort}
 use Rattle.tempo_cli.specs.declared.status.Status.{Status}
-use Rattle.tempo_cli.specs.declared.status.Status.TheVariants.{Done, BadWords, BadQuery, Malformed, Late, Overflow, InputTooLong, ReadFault, WriteFault, Memory, BadCheckpoint}
+use Rattle.tempo_cli.specs.declared.status.Status.TheVariants.{Done, BadWords, BadQuery, Malformed, Late, Overflow}
+use Rattle.tempo_cli.specs.declared.status.Status.TheVariants.{InputTooLong, ReadFault, WriteFault, Memory}
+use Rattle.tempo_cli.specs.declared.status.Status.TheVariants.{BadCheckpoint}
 
 -- the lines C stand in front of the lines
 abbrev pub AreFront : List (List ℕ) → List (List ℕ) → Type 0
@@ -98,7 +100,8 @@ pub record IsBadLine (streams : List StreamDef) (last : ℕ) (behind : List (Lis
   pub cause_is : IsCause streams n line cause
 
 -- a checkpoint of a state came in whole before anything was written, and a line behind it is bad
-pub record IsMalformed (form : FormView) (IsState : FrozenView → Type 0) (streams : List StreamDef) (n : ℕ) (cause : BadLine) (J : List Entry) : Type 0 where
+pub record IsMalformed (form : FormView) (IsState : FrozenView → Type 0) (streams : List StreamDef) (n : ℕ) (cause : BadLine)
+    (J : List Entry) : Type 0 where
   pub restored : HasRestored form IsState J
   pub behind : List (List ℕ)
   pub lines_are : lines (ins J) (ended J) ≡ checkpoint_lines form.head restored.frozen ++ behind

@@ -5,12 +5,18 @@ use Rattle.wire_lines.specs.Faults.{Rose}
 use Rattle.wire_lines.specs.Journal.{Entry, outs, IsOut, SentAll, SentFront}
 use Rattle.line_text.specs.Fields.{time_text}
 use Rattle.plan_model.specs.declared.fault.QueryFault.{QueryFault}
-use Rattle.plan_model.specs.declared.fault.QueryFault.TheVariants.{Syntax, LongExpr, TooLarge, UnknownName, TypeClash, NotEventLevel, BadWindow, ReachTooLong, TooManyNodes, TooManyColumns, NameTaken}
+use Rattle.plan_model.specs.declared.fault.QueryFault.TheVariants.{Syntax, LongExpr, TooLarge, UnknownName, TypeClash}
+use Rattle.plan_model.specs.declared.fault.QueryFault.TheVariants.{NotEventLevel, BadWindow, ReachTooLong, TooManyNodes}
+use Rattle.plan_model.specs.declared.fault.QueryFault.TheVariants.{TooManyColumns, NameTaken}
 use Rattle.row_reader.specs.declared.entry.BadLine.{BadLine}
-use Rattle.row_reader.specs.declared.entry.BadLine.TheVariants.{TooLong, NotUtf8, StrayReturn, OddQuotes, UnknownStream, UnknownKind, WrongFields, BadTime, BadLife, BadValue, NoStart}
+use Rattle.row_reader.specs.declared.entry.BadLine.TheVariants.{TooLong, NotUtf8, StrayReturn, OddQuotes, UnknownStream}
+use Rattle.row_reader.specs.declared.entry.BadLine.TheVariants.{UnknownKind, WrongFields, BadTime, BadLife, BadValue}
+use Rattle.row_reader.specs.declared.entry.BadLine.TheVariants.{NoStart}
 use Rattle.tempo_cli.specs.Answers.{IsFront}
 use Rattle.tempo_cli.specs.declared.status.Status.{Status}
-use Rattle.tempo_cli.specs.declared.status.Status.TheVariants.{Done, BadWords, BadQuery, Malformed, Late, Overflow, InputTooLong, ReadFault, WriteFault, Memory, BadCheckpoint}
+use Rattle.tempo_cli.specs.declared.status.Status.TheVariants.{Done, BadWords, BadQuery, Malformed, Late, Overflow}
+use Rattle.tempo_cli.specs.declared.status.Status.TheVariants.{InputTooLong, ReadFault, WriteFault, Memory}
+use Rattle.tempo_cli.specs.declared.status.Status.TheVariants.{BadCheckpoint}
 
 -- the exit number of the program
 abbrev pub exit_of : Status → ℕ
@@ -83,8 +89,10 @@ note_pieces Done = []
 note_pieces BadWords = []
 note_pieces (BadQuery fault) = codes "query: " ∷ fault_words fault ∷ place_text (fault_place fault) ∷ codes "\n" ∷ []
 note_pieces (Malformed line cause) = codes "line " ∷ decimal line ∷ codes ": " ∷ cause_words cause ∷ place_text (cause_place cause) ∷ codes "\n" ∷ []
-note_pieces (Late line time bound) = codes "line " ∷ decimal line ∷ codes ": late, " ∷ time_text time ∷ codes " below " ∷ time_text bound ∷ codes "\n" ∷ []
-note_pieces (Overflow punct node time) = codes "node " ∷ decimal node ∷ codes ": overflow at " ∷ time_text time ∷ codes ", closing " ∷ time_text punct ∷ codes "\n" ∷ []
+note_pieces (Late line time bound) =
+    codes "line " ∷ decimal line ∷ codes ": late, " ∷ time_text time ∷ codes " below " ∷ time_text bound ∷ codes "\n" ∷ []
+note_pieces (Overflow punct node time) =
+    codes "node " ∷ decimal node ∷ codes ": overflow at " ∷ time_text time ∷ codes ", closing " ∷ time_text punct ∷ codes "\n" ∷ []
 note_pieces InputTooLong = codes "input too long\n" ∷ []
 note_pieces ReadFault = codes "read failed\n" ∷ []
 note_pieces WriteFault = codes "write failed\n" ∷ []

@@ -6,7 +6,9 @@ use Rattle.wire_lines.specs.Lines.{whole, rest, lines}
 use Rattle.admission.specs.Progress.{Fault, Malformed as WasBad, TooLate, Overflowed}
 use Rattle.tempo_cli.specs.Answers.{Answers, IsFront}
 use Rattle.tempo_cli.specs.declared.status.Status.{Status}
-use Rattle.tempo_cli.specs.declared.status.Status.TheVariants.{Done, BadWords, BadQuery, Malformed, Late, Overflow, InputTooLong, ReadFault, WriteFault, Memory, BadCheckpoint}
+use Rattle.tempo_cli.specs.declared.status.Status.TheVariants.{Done, BadWords, BadQuery, Malformed, Late, Overflow}
+use Rattle.tempo_cli.specs.declared.status.Status.TheVariants.{InputTooLong, ReadFault, WriteFault, Memory}
+use Rattle.tempo_cli.specs.declared.status.Status.TheVariants.{BadCheckpoint}
 
 -- the most bytes of the input
 unfoldable pub limit : ℕ

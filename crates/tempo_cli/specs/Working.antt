@@ -106,4 +106,5 @@ pub record EndsWith (q : Asked) (bytes : List ℕ) (given : List (List ℕ)) (st
 
 -- so the run ends
 abbrev pub EndsAll : Option (List Entry) → Option (List Entry) → Answering → Status → Type 0
-EndsAll before now old status = (q : Asked) (bytes : List ℕ) (given : List (List ℕ)) → Holds q bytes given old → Grows before now (EndsWith q bytes given status)
+EndsAll before now old status =
+    (q : Asked) (bytes : List ℕ) (given : List (List ℕ)) → Holds q bytes given old → Grows before now (EndsWith q bytes given status)

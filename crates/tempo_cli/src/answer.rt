@@ -42,7 +42,8 @@ pub(crate) fn work<R: Threads + Sync, W: Wire, G: Gate>(
     ensures open { OnOk result (StaysOpen answering.old.engine answering.new.engine) }
     ensures same { OnOk result ((W.read_faults wire.new ≡ W.read_faults wire.old) × (W.write_faults wire.new ≡ W.write_faults wire.old)) }
     ensures err { IfErr result (StopsWith (W.journal wire.old) (W.journal wire.new) answering.old) }
-    ensures reason { IfErr result (λ status. AfterGiven (W.journal wire.old) (W.journal wire.new) answering.old (λ k bytes. GivesOut k bytes status)) }
+    ensures reason { IfErr result (λ status. AfterGiven (W.journal wire.old) (W.journal wire.new) answering.old
+        (λ k bytes. GivesOut k bytes status)) }
     ensures asked { IfErr result IsAsked }
     ensures counts { IfErr result (Counts (W.read_faults wire.old) (W.read_faults wire.new) (W.write_faults wire.old) (W.write_faults wire.new)) }
 {

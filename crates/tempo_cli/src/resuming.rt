@@ -1,5 +1,6 @@
 // A run that goes on from a checkpoint: its lines are read back, and what was frozen is at work again.
-ghost use Rattle.std.specs.Prelude.{◌≡◌, ◌≢◌, ◌≤◌, ◌<◌, ◌+◌, ◌++◌, [], List, ℕ, IfOk, OnOk, IfErr, None, true, false, length};
+ghost use Rattle.std.specs.Prelude.{◌≡◌, ◌≢◌, ◌≤◌, ◌<◌, ◌+◌, ◌++◌, [], List, ℕ, IfOk, OnOk, IfErr};
+ghost use Rattle.std.specs.Prelude.{None, true, false, length};
 ghost use Rattle.wire_lines.specs.Lines.{lines};
 ghost use Rattle.wire_lines.specs.Journal.{Entry, Grows};
 ghost use Rattle.checkpoint.specs.Form.{FormView, form_of};
@@ -8,8 +9,9 @@ ghost use Rattle.tempo_cli.specs.Status.{Counts};
 ghost use Rattle.tempo_cli.specs.Feeding.{Asked, answers_to, WantsBytes, LineRules, IsOwn, IsAsked};
 ghost use Rattle.tempo_cli.specs.Working.{status_of};
 ghost use Rattle.tempo_cli.specs.Jobs.{HasResumed};
-ghost use Rattle.tempo_cli.specs.Restored.{Reads, IsWhole, TakesLine, WhateverTaken, PartComes, PartsCome, HasFewer, TakesMore, IsOwnPart};
-ghost use Rattle.tempo_cli.specs.Restored.{StopsAt, CameIn, BreaksOff, GoesOnFrom, StandsBehind, GrewBy};
+ghost use Rattle.tempo_cli.specs.Restored.{Reads, IsWhole, TakesLine, WhateverTaken, PartComes};
+ghost use Rattle.tempo_cli.specs.Restored.{PartsCome, HasFewer, TakesMore, IsOwnPart, GrewBy};
+ghost use Rattle.tempo_cli.specs.Restored.{StopsAt, CameIn, BreaksOff, GoesOnFrom, StandsBehind};
 
 use crate::answer::{answer_on, asked, work};
 use crate::answering::{Answering, LIMIT, LONGEST};
@@ -95,7 +97,8 @@ impl Restoring {
         requires going { self.old.reader.stage ≢ Stage.Ended }
         ensures longest { self.new.cutter.longest ≡ 65536 }
         ensures going { TakesMore self.new result }
-        ensures comes { WhateverTaken self.old (λ form bytes given. PartComes form bytes given self.new result) }
+        ensures comes { WhateverTaken self.old
+            (λ form bytes given. PartComes form bytes given self.new result) }
         ensures wants { result ≡ Part.More → WantsBytes self.new.cutter }
         ensures own { IsOwnPart result }
         ensures less { HasFewer self.old.cutter self.new.cutter result }
@@ -121,7 +124,8 @@ impl Restoring {
         requires longest { self.old.cutter.longest ≡ 65536 }
         requires going { self.old.reader.stage ≢ Stage.Ended }
         ensures longest { self.new.cutter.longest ≡ 65536 }
-        ensures comes { WhateverTaken self.old (λ form bytes given. PartsCome form bytes given self.new result) }
+        ensures comes { WhateverTaken self.old
+            (λ form bytes given. PartsCome form bytes given self.new result) }
         ensures going { result ≡ Ok None → self.new.reader.stage ≢ Stage.Ended }
         ensures wants { result ≡ Ok None → WantsBytes self.new.cutter }
         ensures own { IfErr result IsOwn }
@@ -140,11 +144,16 @@ impl Restoring {
     fn last_part(&mut self) -> Result<Frozen, Status>
         requires wants { WantsBytes self.old.cutter }
         requires going { self.old.reader.stage ≢ Stage.Ended }
-        ensures whole { IfOk result (λ f. (form : FormView) (bytes : List ℕ) (given : List (List ℕ)) → Reads form bytes given self.old →
+        ensures whole { IfOk result (λ f.
+            (form : FormView) (bytes : List ℕ) (given : List (List ℕ)) →
+            Reads form bytes given self.old →
             IsWhole form f (lines bytes true)) }
-        ensures number { OnOk result ((form : FormView) (bytes : List ℕ) (given : List (List ℕ)) → Reads form bytes given self.old →
+        ensures number { OnOk result ((form : FormView) (bytes : List ℕ) (given : List (List ℕ)) →
+            Reads form bytes given self.old →
             self.new.taken ≡ length (lines bytes true)) }
-        ensures stops { IfErr result (λ status. (form : FormView) (bytes : List ℕ) (given : List (List ℕ)) → Reads form bytes given self.old →
+        ensures stops { IfErr result (λ status.
+            (form : FormView) (bytes : List ℕ) (given : List (List ℕ)) →
+            Reads form bytes given self.old →
             StopsAt form status bytes given true) }
         ensures own { IfErr result IsOwn }
     {
@@ -169,13 +178,17 @@ fn read_back<W: Wire>(restoring: &mut Restoring, wire: &mut W) -> Result<Restore
     requires wants { WantsBytes restoring.old.cutter }
     requires going { restoring.old.reader.stage ≢ Stage.Ended }
     ensures came { IfOk result (λ d. (form : FormView) → Reads form [] [] restoring.old →
-        Grows (W.journal wire.old) (W.journal wire.new) (CameIn form d.frozen restoring.new d.left d.ended)) }
+        Grows (W.journal wire.old) (W.journal wire.new)
+        (CameIn form d.frozen restoring.new d.left d.ended)) }
     ensures longest { IfOk result (λ d. d.ended ≡ false → restoring.new.cutter.longest ≡ 65536) }
-    ensures same { OnOk result ((W.read_faults wire.new ≡ W.read_faults wire.old) × (W.write_faults wire.new ≡ W.write_faults wire.old)) }
+    ensures same { OnOk result ((W.read_faults wire.new ≡ W.read_faults wire.old)
+        × (W.write_faults wire.new ≡ W.write_faults wire.old)) }
     ensures broke { IfErr result (λ status. (form : FormView) → Reads form [] [] restoring.old →
         Grows (W.journal wire.old) (W.journal wire.new) (BreaksOff form status)) }
     ensures asked { IfErr result IsAsked }
-    ensures counts { IfErr result (Counts (W.read_faults wire.old) (W.read_faults wire.new) (W.write_faults wire.old) (W.write_faults wire.new)) }
+    ensures counts { IfErr result
+        (Counts (W.read_faults wire.old) (W.read_faults wire.new) (W.write_faults wire.old)
+        (W.write_faults wire.new)) }
 {
     let mut left = LIMIT + 1;
     while left > 0 {
@@ -211,11 +224,13 @@ fn answer_behind<R: Threads + Sync, W: Wire, G: Gate>(
 ) -> Result<(), Status>
     requires longest { ended ≡ false → answering.old.cutter.longest ≡ 65536 }
     ensures ends { (q : Asked) (J : List Entry) → GoesOnFrom q answering.old left ended J →
-        Grows (W.journal wire.old) (W.journal wire.new) (λ K. Ends (answers_to q) (status_of result) (J ++ K)) }
+        Grows (W.journal wire.old) (W.journal wire.new)
+        (λ K. Ends (answers_to q) (status_of result) (J ++ K)) }
     ensures grew { (k : LineRules) (J : List Entry) → StandsBehind k answering.old left ended J →
         Grows (W.journal wire.old) (W.journal wire.new) (GrewBy k ended (status_of result) J) }
     ensures asked { IsAsked (status_of result) }
-    ensures counts { Counts (W.read_faults wire.old) (W.read_faults wire.new) (W.write_faults wire.old) (W.write_faults wire.new) (status_of result) }
+    ensures counts { Counts (W.read_faults wire.old) (W.read_faults wire.new)
+        (W.write_faults wire.old) (W.write_faults wire.new) (status_of result) }
 {
     if ended {
         let rest = answering.finish(rt, gate)?;
@@ -241,10 +256,13 @@ fn take_up<R: Threads + Sync, W: Wire, G: Gate>(
     requires workers { (1 ≤ options.workers) × (options.workers ≤ 16) }
     requires longest { restored.ended ≡ false → restoring.cutter.longest ≡ 65536 }
     ensures resumes { (query : List ℕ) (J : List Entry) →
-        CameIn (form_of query options.workers options.policy plan) restored.frozen restoring restored.left restored.ended J →
-        Grows (W.journal wire.old) (W.journal wire.new) (λ K. HasResumed query options.workers plan options.policy result (J ++ K)) }
+        CameIn (form_of query options.workers options.policy plan)
+        restored.frozen restoring restored.left restored.ended J →
+        Grows (W.journal wire.old) (W.journal wire.new)
+        (λ K. HasResumed query options.workers plan options.policy result (J ++ K)) }
     ensures asked { IsAsked result }
-    ensures counts { Counts (W.read_faults wire.old) (W.read_faults wire.new) (W.write_faults wire.old) (W.write_faults wire.new) result }
+    ensures counts { Counts (W.read_faults wire.old) (W.read_faults wire.new)
+        (W.write_faults wire.old) (W.write_faults wire.new) result }
 {
     // Its call tells the proof that an engine can be made of what was frozen.
     what_fits_is_a_state();
@@ -293,9 +311,11 @@ pub fn resume<R: Threads + Sync, W: Wire, G: Gate>(
 ) -> Status
     requires batch { 1 ≤ options.batch }
     requires workers { (1 ≤ options.workers) × (options.workers ≤ 16) }
-    ensures resumes { Grows (W.journal wire.old) (W.journal wire.new) (HasResumed query.now options.workers plan options.policy result) }
+    ensures resumes { Grows (W.journal wire.old) (W.journal wire.new)
+        (HasResumed query.now options.workers plan options.policy result) }
     ensures asked { IsAsked result }
-    ensures counts { Counts (W.read_faults wire.old) (W.read_faults wire.new) (W.write_faults wire.old) (W.write_faults wire.new) result }
+    ensures counts { Counts (W.read_faults wire.old) (W.read_faults wire.new)
+        (W.write_faults wire.old) (W.write_faults wire.new) result }
 {
     what_fits_is_a_state();
     let Ok(form) = Form::new(alloc, query, options.workers as u64, &options.policy, &plan) else {
