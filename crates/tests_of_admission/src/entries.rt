@@ -24,17 +24,17 @@ pub(crate) fn word<'a>(words: &[&'a str], i: usize) -> &'a str {
     if i < words.len() { words[i] } else { "" }
 }
 
-// The number that a word spells, and 0 where it spells none.
-fn number(word: &str) -> u64 {
+/// The number that a word spells, and 0 where it spells none.
+pub(crate) fn number(word: &str) -> u64 {
     match word.parse::<u64>() {
         Ok(number) => number,
         Err(_) => 0,
     }
 }
 
-// The time that a word spells.
+/// The time that a word spells.
 #[tactic(auto, unfolding(tw_rows::specs::Instant::inf))]
-fn time(word: &str) -> Time {
+pub(crate) fn time(word: &str) -> Time {
     if word == "inf" {
         return Time::INF;
     }

@@ -3,11 +3,11 @@ ghost use Rattle.std.specs.Prelude.{◌≡◌, [], ◌∷◌, length, IfOk};
 ghost use Rattle.tw_rows.specs.declared.kind.CellKind.{CellKind};
 ghost use Rattle.ingress.specs.Admits.{cells_of};
 
-use crate::entries::{entry, policy, stream, stream_of, word, words_of};
+use crate::entries::{entry, number, policy, stream, stream_of, time, word, words_of};
 use admission::{Admitted, Policy};
 use batch::Pools;
 use edge_stream::EdgeList;
-use ingress::{Ingress, Refusal};
+use ingress::{Ingress, Refusal, slice_end};
 use std::alloc::Global;
 use tw_rows::{Memory, TextTable, Time};
 
@@ -166,10 +166,33 @@ fn resumed(alloc: Global, run: &mut Run) -> Result<&'static str, Memory> {
     }
 }
 
-// What is told of a line: at `held` how much is held, and at `resume` whether what was saved is loaded.
+// Releases the edges before a time, and tells where the first slice of them ends, for each of the sizes of batches that follow
+// the time.
+fn push_slices(
+    alloc: Global,
+    out: &mut String,
+    run: &mut Run,
+    words: &[&str],
+) -> Result<(), Memory> {
+    let p = time(word(words, 1));
+    if p < run.ingress.released() {
+        return Ok(());
+    }
+    let mut pools = Pools::new(alloc, 8, 4)?;
+    let lists = run.ingress.release(&mut pools, p)?;
+    for i in 2..words.len() {
+        push_time(alloc, out, slice_end(&lists, p, number(words[i]) as usize)?)?;
+        out.push_str(",")?;
+    }
+    Ok(())
+}
+
+// What is told of a line: at `slices` where slices end, at `held` how much is held, and at `resume` whether what was saved is
+// loaded.
 fn push_told(alloc: Global, out: &mut String, run: &mut Run, words: &[&str]) -> Result<(), Memory> {
     match word(words, 0) {
         "held" => push_number(alloc, out, run.ingress.held()),
+        "slices" => push_slices(alloc, out, run, words),
         "resume" => {
             out.push_str(resumed(alloc, run)?)?;
             Ok(())

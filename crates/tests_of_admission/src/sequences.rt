@@ -5,7 +5,7 @@ use std::test::Fail;
 
 /// What a sequence shows, the rules under which it begins, and its lines, each with its answer, the bound of its stream after
 /// it, and the punctuation that is due then, with the number of edges that are released at it.
-static SEQUENCES: [(&str, &str, &str); 48] = [
+static SEQUENCES: [(&str, &str, &str); 49] = [
     (
         "a late line is refused",
         "one refuse 5 10",
@@ -413,6 +413,15 @@ static SEQUENCES: [(&str, &str, &str); 48] = [
          resume -> resumed\n\
          s e 12 3 1 -> dropped 12\n\
          held -> 1\n",
+    ),
+    (
+        "a slice ends where its batch is full, or behind the edges of one time",
+        "one refuse 0 0",
+        "s s 1 inf 1 -> kept 1\n\
+         s s 1 inf 2 -> kept 1\n\
+         s s 2 inf 3 -> kept 2\n\
+         s s 5 inf 4 -> kept 5\n\
+         slices 9 1 3 4 -> 2,5,9,\n",
     ),
     (
         "starts that were moved to the bound go on as before",
