@@ -1,5 +1,6 @@
 -- FILE stays whole while it is replaced, from call to call.
-use Rattle.std.proofs.Common.{◌≡◌, inl, inr, ℕ, List, [], ◌∷◌, ◌++◌, Result, Ok, Err, IsErr, sym, ◌∙◌, ap, subst, append_assoc}
+use Rattle.std.proofs.Common.{◌≡◌, inl, inr, ℕ, List, [], ◌∷◌, ◌++◌, Result, Ok, Err, IsErr, sym, ◌∙◌}
+use Rattle.std.proofs.Common.{ap, subst, append_assoc}
 use Rattle.std.proofs.lemmas.List.{append-nil}
 use Rattle.std.proofs.lemmas.List.Elements.{All-append, All-nil}
 use Rattle.durable_file.specs.declared.medium.Name.TheVariants.{Next}
@@ -31,22 +32,22 @@ module _ (bytes : List ℕ) (old : Told) where
   beside : (c : Content) (d : Disk) → d ≡ with_content Next c old.now → IsWhole old.now (bytes ∷ []) d
   beside c d is = subst (IsWhole old.now (bytes ∷ [])) (sym is) (λ left may. inl may)
 
-  pub written : {T E : Type 0} (result : Result T E) (new : Told)
-      → HasWritten Next bytes result old new → StaysWhole (bytes ∷ []) old new
+  written : {T E : Type 0} (result : Result T E) (new : Told) → HasWritten Next bytes result old new → StaysWhole (bytes ∷ []) old new
   written result new call = goes_on _ _ result old new starts call (λ d may. elim may [
     | inl same ↦ subst (IsWhole old.now (bytes ∷ [])) (sym same) (λ left l. inl l)
     | inr (inl torn) ↦ beside Torn d torn
     | inr (inr all) ↦ beside (Written bytes) d all
   ])
 
-  pub brought : {T E : Type 0} (result : Result T E) (mid new : Told)
-      → StaysWhole (bytes ∷ []) old mid → mid.now ≡ with_content Next (Written bytes) old.now
-      → HasSynced Next result mid new → StaysWhole (bytes ∷ []) old new
-  brought result mid new so_far is call = goes_on _ _ result mid new so_far call (λ d may. elim may [
-    | inl same ↦ beside (Written bytes) d (same ∙ is)
-    | inr (inl torn) ↦ beside Torn d (torn ∙ ap (with_content Next Torn) is)
-    | inr (inr all) ↦ beside (Synced bytes) d (all ∙ ap (with_synced Next) is)
-  ])
+  -- up to the sync of FILE.new
+  pub brought : {T E : Type 0} (value : T) (result : Result T E) (mid new : Told)
+      → HasWritten {E = E} Next bytes (Ok value) old mid → HasSynced Next result mid new → StaysWhole (bytes ∷ []) old new
+  brought value result mid new write sync =
+      goes_on _ _ result mid new (written (Ok value) mid write) sync (λ d may. elim may [
+        | inl same ↦ beside (Written bytes) d (same ∙ write.ok)
+        | inr (inl torn) ↦ beside Torn d (torn ∙ ap (with_content Next Torn) write.ok)
+        | inr (inr all) ↦ beside (Synced bytes) d (all ∙ ap (with_synced Next) write.ok)
+      ])
 
   -- the disk before the rename
   abbrev ready : Disk
@@ -56,12 +57,16 @@ module _ (bytes : List ℕ) (old : Told) where
   put left (inl is) = inr (inl is)
   put left (inr may) = inl may
 
-  pub taken : {T E : Type 0} (result : Result T E) (mid new : Told)
-      → StaysWhole (bytes ∷ []) old mid → mid.now ≡ ready → HasRenamed result mid new → StaysWhole (bytes ∷ []) old new
-  taken result mid new so_far is call = goes_on _ _ result mid new so_far call (λ d may. elim may [
-    | inl same ↦ beside (Synced bytes) d (same ∙ is)
-    | inr all ↦ subst (IsWhole old.now (bytes ∷ [])) (sym (all ∙ ap renamed is)) put
-  ])
+  -- up to the rename
+  pub taken : {T E : Type 0} (value : T) (result : Result T E) (first mid new : Told)
+      → HasWritten {E = E} Next bytes (Ok value) old first → HasSynced {E = E} Next (Ok value) first mid → HasRenamed result mid new
+      → StaysWhole (bytes ∷ []) old new
+  taken value result first mid new write sync rename =
+      let is : mid.now ≡ ready = sync.ok ∙ ap (with_synced Next) write.ok in
+      goes_on _ _ result mid new (brought value (Ok value) first mid write sync) rename (λ d may. elim may [
+        | inl same ↦ beside (Synced bytes) d (same ∙ is)
+        | inr all ↦ subst (IsWhole old.now (bytes ∷ [])) (sym (all ∙ ap renamed is)) put
+      ])
 
   only : LeavesOnly bytes (settled (renamed ready))
   only left (inl is) = is
@@ -74,10 +79,9 @@ module _ (bytes : List ℕ) (old : Told) where
     | inr all ↦ subst (IsWhole old.now (bytes ∷ [])) (sym (all ∙ ap settled is)) (λ left l. inr (inl (only left l)))
   ])
 
-  -- the last call: once the folder is synced a crash leaves the new bytes
+  -- once the folder is synced a crash leaves the new bytes
   pub replaced : {T E : Type 0} (result : Result T E) (mid new : Told)
-      → StaysWhole (bytes ∷ []) old mid → mid.now ≡ renamed ready → HasSyncedFolder result mid new
-      → HasReplaced bytes result old new
+      → StaysWhole (bytes ∷ []) old mid → mid.now ≡ renamed ready → HasSyncedFolder result mid new → HasReplaced bytes result old new
   replaced (Ok value) mid new so_far is call = record {
     whole = settles (Ok value) mid new so_far is call;
     ok = subst (LeavesOnly bytes) (sym (call.ok ∙ ap settled is)) only;

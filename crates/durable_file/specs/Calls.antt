@@ -1,5 +1,6 @@
 -- What the calls of a medium do to its disk.
-use Rattle.std.specs.Prelude.{◌≡◌, ◌⊎◌, ◌≤◌, ℕ, Option, Some, option_map, List, [], ◌∷◌, ◌++◌, All, Result, OnOk, IfOk, IsErrOf, Vec}
+use Rattle.std.specs.Prelude.{◌≡◌, ◌⊎◌, ◌≤◌, ℕ, Option, Some, option_map, List, [], ◌∷◌, ◌++◌, All, Vec}
+use Rattle.std.specs.Prelude.{Result, OnOk, IfOk, IsErrOf}
 use Rattle.std.specs.declared.alloc.Global.{Global}
 use Rattle.wire_lines.specs.Faults.{Rose}
 use Rattle.durable_file.specs.Disk.{Torn, Written, Disk, with_content, synced, renamed, settled, IsSeen}
