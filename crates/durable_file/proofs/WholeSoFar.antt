@@ -84,12 +84,13 @@ module _ (bytes : List ℕ) (old : Told) where
       → StaysWhole (bytes ∷ []) old mid → mid.now ≡ renamed ready → HasSyncedFolder result mid new → HasReplaced bytes result old new
   replaced (Ok value) mid new so_far is call = record {
     whole = settles (Ok value) mid new so_far is call;
+    read = ap (λ (d : Disk). d.file) (call.ok ∙ ap settled is);
     ok = subst (LeavesOnly bytes) (sym (call.ok ∙ ap settled is)) only;
   }
-  replaced (Err error) mid new so_far is call = record { whole = settles (Err error) mid new so_far is call; ok = tt }
+  replaced (Err error) mid new so_far is call = record { whole = settles (Err error) mid new so_far is call; read = tt; ok = tt }
 
   -- a call failed, and nothing is promised of Ok
   pub fails : {T E : Type 0} (result : Result T E) (new : Told)
       → IsErr result → StaysWhole (bytes ∷ []) old new → HasReplaced bytes result old new
   fails (Ok value) new is so_far = absurd (cc is)
-  fails (Err error) new is so_far = record { whole = so_far; ok = tt }
+  fails (Err error) new is so_far = record { whole = so_far; read = tt; ok = tt }
