@@ -1,6 +1,6 @@
 // What an engine tells that it holds, by a call that no run makes.
 use admission::{Lateness, Policy};
-use plan_model::QueryError;
+use plan_model::{Plan, QueryError};
 use query_plan::plan;
 use query_text::parse;
 use shard_apply::OpenGate;
@@ -10,22 +10,23 @@ use std::thread::Threads;
 use tempo_engine::{Engine, Options};
 use tw_rows::Memory;
 
-fn counting(alloc: Global) -> Result<Engine, QueryError> {
+fn planned(alloc: Global) -> Result<Plan, QueryError> {
     let query = parse(
         alloc,
         "stream s(k text, v int); s | group by k : count as n",
     )?;
-    let options = Options {
-        batch: 2,
-        workers: 2,
-        policy: Policy {
-            lateness: 0,
-            late: Lateness::Refuse,
-            period: 0,
-        },
-    };
-    Ok(Engine::new(alloc, plan(alloc, &query)?, options)?)
+    plan(alloc, &query)
 }
+
+const OPTIONS: Options = Options {
+    batch: 2,
+    workers: 2,
+    policy: Policy {
+        lateness: 0,
+        late: Lateness::Refuse,
+        period: 0,
+    },
+};
 
 /// Feeds the line of that number, to which the engine answers with a text.
 fn feed<R: Threads + Sync + Abort>(
@@ -73,7 +74,7 @@ fn check_held<R: Abort>(
 
 #[test]
 fn an_engine_tells_what_it_holds(rt: HostRuntime) -> Result<(), QueryError> {
-    let mut engine = counting(rt.alloc())?;
+    let mut engine = Engine::new(rt.alloc(), planned(rt.alloc())?, OPTIONS)?;
     check_held(&rt, &engine, [0, 0], [0, 0])?;
     // The rows wait at the source, and nothing is kept of them yet by the group.
     feed_rows(&rt, rt.alloc(), &mut engine)?;

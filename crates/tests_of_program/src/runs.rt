@@ -9,11 +9,11 @@ use wire_lines::MemoryWire;
 
 pub(crate) const ALL: &str = "stream s(k text, v int); s";
 
-pub(crate) const FILTER: &str = "stream s(k text, v int); s | where v > 10";
+const FILTER: &str = "stream s(k text, v int); s | where v > 10";
 
 const TWO_INTERVALS: &[u8] = b"s,interval,1,5,a,12\ns,interval,2,4,b,7\n";
 
-pub(crate) const HOP: &str = "stream s(k text, v int); s | hop 20 10";
+const HOP: &str = "stream s(k text, v int); s | hop 20 10";
 
 const CLOSING: &[u8] = b"s,interval,15,16,a,1\n*,punct,17\n";
 
