@@ -16,7 +16,7 @@ use Rattle.command_line.specs.Words.{AreWithin, Asked, SpellsCommand, are_taken,
 use Rattle.admission.specs.declared.policy.Lateness.{Lateness}
 use Rattle.admission.specs.declared.policy.Lateness.TheVariants.{Refuse, Drop, Adjust}
 use Rattle.command_line.specs.declared.words.Mode.{Mode}
-use Rattle.command_line.specs.declared.words.Mode.TheVariants.{Run, Freeze, Resume, Explain, Sample}
+use Rattle.command_line.specs.declared.words.Mode.TheVariants.{Run, Freeze, Resume, Explain, Cut, Sample}
 use Rattle.command_line.proofs.Taken.{Passes, modes, ways, tempo_shape}
 use Rattle.command_line.proofs.Faults.{takes_from}
 
@@ -100,6 +100,7 @@ mode_passes Run = refl
 mode_passes Freeze = refl
 mode_passes Resume = refl
 mode_passes Explain = refl
+mode_passes Cut = refl
 mode_passes Sample = refl
 
 late_passes : (l : Lateness) → accepts false ways (late_text l) ≡ true

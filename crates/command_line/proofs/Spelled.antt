@@ -16,20 +16,21 @@ use Rattle.admission.specs.declared.policy.Lateness.{Lateness}
 use Rattle.admission.specs.declared.policy.Lateness.TheVariants.{Refuse, Drop, Adjust}
 use Rattle.clap.specs.ValueTests.{accepts}
 use Rattle.command_line.specs.declared.words.Mode.{Mode}
-use Rattle.command_line.specs.declared.words.Mode.TheVariants.{Run, Freeze, Resume, Explain, Sample}
+use Rattle.command_line.specs.declared.words.Mode.TheVariants.{Run, Freeze, Resume, Explain, Cut, Sample}
 use Rattle.command_line.proofs.Taken.{header_built, last_rows, late_built, mode_built, modes, ways, tempo_shape, values_of_words}
 use Rattle.command_line.proofs.Faults.{passes_of}
 
 mode_said : (v : Text) → value_passes mode_built v ≡ true → (m : Mode) × (v ≡ mode_text m)
-mode_said v h = go (bytes_eq (codes "run") v) refl (bytes_eq (codes "freeze") v) refl (bytes_eq (codes "resume") v) refl (bytes_eq (codes "explain") v) refl (bytes_eq (codes "sample") v) refl h
+mode_said v h = go (bytes_eq (codes "run") v) refl (bytes_eq (codes "freeze") v) refl (bytes_eq (codes "resume") v) refl (bytes_eq (codes "explain") v) refl (bytes_eq (codes "cut") v) refl (bytes_eq (codes "sample") v) refl h
   where
-    go : (a : Bool) → bytes_eq (codes "run") v ≡ a → (b : Bool) → bytes_eq (codes "freeze") v ≡ b → (d : Bool) → bytes_eq (codes "resume") v ≡ d → (e : Bool) → bytes_eq (codes "explain") v ≡ e → (f : Bool) → bytes_eq (codes "sample") v ≡ f → (a || (b || (d || (e || (f || false))))) ≡ true → (m : Mode) × (v ≡ mode_text m)
-    go true p b q d r e s f t x = (Run, sym ((bytes_eq-Decides (codes "run") v).0 p))
-    go false p true q d r e s f t x = (Freeze, sym ((bytes_eq-Decides (codes "freeze") v).0 q))
-    go false p false q true r e s f t x = (Resume, sym ((bytes_eq-Decides (codes "resume") v).0 r))
-    go false p false q false r true s f t x = (Explain, sym ((bytes_eq-Decides (codes "explain") v).0 s))
-    go false p false q false r false s true t x = (Sample, sym ((bytes_eq-Decides (codes "sample") v).0 t))
-    go false p false q false r false s false t x = absurd (true≢false (sym x))
+    go : (a : Bool) → bytes_eq (codes "run") v ≡ a → (b : Bool) → bytes_eq (codes "freeze") v ≡ b → (d : Bool) → bytes_eq (codes "resume") v ≡ d → (e : Bool) → bytes_eq (codes "explain") v ≡ e → (f : Bool) → bytes_eq (codes "cut") v ≡ f → (g : Bool) → bytes_eq (codes "sample") v ≡ g → (a || (b || (d || (e || (f || (g || false)))))) ≡ true → (m : Mode) × (v ≡ mode_text m)
+    go true p b q d r e s f t g u x = (Run, sym ((bytes_eq-Decides (codes "run") v).0 p))
+    go false p true q d r e s f t g u x = (Freeze, sym ((bytes_eq-Decides (codes "freeze") v).0 q))
+    go false p false q true r e s f t g u x = (Resume, sym ((bytes_eq-Decides (codes "resume") v).0 r))
+    go false p false q false r true s f t g u x = (Explain, sym ((bytes_eq-Decides (codes "explain") v).0 s))
+    go false p false q false r false s true t g u x = (Cut, sym ((bytes_eq-Decides (codes "cut") v).0 t))
+    go false p false q false r false s false t true u x = (Sample, sym ((bytes_eq-Decides (codes "sample") v).0 u))
+    go false p false q false r false s false t false u x = absurd (true≢false (sym x))
 
 header_said : (v : Text) → value_passes header_built v ≡ true → (b : Bool) × (v ≡ bool_text b)
 header_said v e = go (bytes_eq v (codes "true")) refl (bytes_eq v (codes "false")) refl e

@@ -17,7 +17,7 @@ abbrev pub among : List Text → ValueParser
 among names = vp.Names (behind (map (λ name. behind name) names))
 
 abbrev pub mode_names : List Text
-mode_names = codes "run" ∷ codes "freeze" ∷ codes "resume" ∷ codes "explain" ∷ codes "sample" ∷ []
+mode_names = codes "run" ∷ codes "freeze" ∷ codes "resume" ∷ codes "explain" ∷ codes "cut" ∷ codes "sample" ∷ []
 
 abbrev pub late_names : List Text
 late_names = codes "refuse" ∷ codes "drop" ∷ codes "adjust" ∷ []
@@ -78,6 +78,6 @@ option_rules modes ways = query_rule ∷ mode_rule modes ∷ batch_rule ∷ work
 abbrev pub tempo_app_with : ValueParser → ValueParser → App
 tempo_app_with modes ways = fold with_rule (new_app (codes "tempo")) (option_rules modes ways)
 
--- the command tempo, where the values of --mode are run, freeze, resume, explain and sample, and those of --late refuse, drop and adjust
+-- the command tempo, where the values of --mode are run, freeze, resume, explain, cut and sample, and those of --late refuse, drop and adjust
 abbrev pub tempo_app : App
 tempo_app = tempo_app_with (among mode_names) (among late_names)

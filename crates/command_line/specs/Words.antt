@@ -12,7 +12,7 @@ use Rattle.admission.specs.declared.policy.Lateness.{Lateness}
 use Rattle.admission.specs.declared.policy.Lateness.TheVariants.{Refuse, Drop, Adjust}
 use Rattle.command_line.specs.Options.{tempo_app}
 use Rattle.command_line.specs.declared.words.Mode.{Mode}
-use Rattle.command_line.specs.declared.words.Mode.TheVariants.{Run, Freeze, Resume, Explain, Sample}
+use Rattle.command_line.specs.declared.words.Mode.TheVariants.{Run, Freeze, Resume, Explain, Cut, Sample}
 use Rattle.command_line.specs.declared.words.CommandLine.{CommandLine}
 use Rattle.command_line.specs.declared.words.WordsFault.{WordsFault}
 use Rattle.command_line.specs.declared.words.WordsFault.TheVariants.{Refused, Memory}
@@ -39,6 +39,7 @@ mode_text Run = codes "run"
 mode_text Freeze = codes "freeze"
 mode_text Resume = codes "resume"
 mode_text Explain = codes "explain"
+mode_text Cut = codes "cut"
 mode_text Sample = codes "sample"
 
 -- the word for what becomes of late lines: drop for Drop

@@ -12,7 +12,7 @@ use clap::builder::ValueParser;
 use clap::{Arg, ArgAction, Command};
 use std::alloc::{AllocError, Global};
 
-static MODES: [&str; 5] = ["run", "freeze", "resume", "explain", "sample"];
+static MODES: [&str; 6] = ["run", "freeze", "resume", "explain", "cut", "sample"];
 
 static WAYS: [&str; 3] = ["refuse", "drop", "adjust"];
 

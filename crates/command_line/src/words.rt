@@ -25,6 +25,8 @@ pub enum Mode {
     Resume,
     /// It is explained.
     Explain,
+    /// The columns are told by which its input may be cut.
+    Cut,
     /// It is answered for generated events, and the lines of the answer are counted.
     Sample,
 }
@@ -80,6 +82,7 @@ fn mode_of(matches: &ArgMatches<'_>) -> Mode
         Some("freeze") => Mode::Freeze,
         Some("resume") => Mode::Resume,
         Some("explain") => Mode::Explain,
+        Some("cut") => Mode::Cut,
         Some("sample") => Mode::Sample,
         _ => Mode::Run,
     }

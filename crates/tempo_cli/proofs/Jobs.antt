@@ -25,7 +25,7 @@ use Rattle.admission.specs.declared.policy.Policy.{Policy}
 use Rattle.admission.specs.declared.policy.Lateness.{Lateness}
 use Rattle.admission.specs.declared.policy.Lateness.TheVariants as ways
 use Rattle.command_line.specs.declared.words.Mode.{Mode}
-use Rattle.command_line.specs.declared.words.Mode.TheVariants.{Run, Freeze, Resume, Explain, Sample}
+use Rattle.command_line.specs.declared.words.Mode.TheVariants.{Run, Freeze, Resume, Explain, Cut, Sample}
 use Rattle.command_line.proofs.Same.{asked_is, policy_is}
 use Rattle.command_line.proofs.Spelled.{spelled}
 use Rattle.tempo_cli.specs.Answers.{Answers}
@@ -81,6 +81,7 @@ memory_does Resume asked plan = record {
   unclaimed = inl refl;
 }
 memory_does Explain asked plan = record { outs_alone = All-nil IsOut; told = refl }
+memory_does Cut asked plan = record { outs_alone = All-nil IsOut; told = refl }
 memory_does Sample asked plan = (refl, tt)
 
 pub memory_job : (job : Job) → Does job Memory []
@@ -123,12 +124,12 @@ pub complete_resumed : (asked : Asked) (plan : PlanParts) (before : List Told) (
 complete_resumed asked plan before C status J r r' w w' does counts froze front =
     complete (resumed plan asked.policy before (length C)) status J r r' w w' (does.resumed before C froze front) counts
 
-pub complete_told : (plan : PlanParts) (status : Status) (J : List Entry) (reads reads' writes writes' : ℕ) → Tells plan status J → Counts reads reads' writes writes' status →
+pub complete_told : (text : List ℕ) (status : Status) (J : List Entry) (reads reads' writes writes' : ℕ) → Tells text status J → Counts reads reads' writes writes' status →
     (Rose writes writes' → ⊥) → (status ≡ Done) ⊎ (status ≡ Memory)
-complete_told plan Done J r r' w w' tells counts writes = inl refl
-complete_told plan WriteFault J r r' w w' tells counts writes = absurd (writes counts)
-complete_told plan Memory J r r' w w' tells counts writes = inr refl
-complete_told plan status J r r' w w' tells counts writes = absurd tells.told
+complete_told text Done J r r' w w' tells counts writes = inl refl
+complete_told text WriteFault J r r' w w' tells counts writes = absurd (writes counts)
+complete_told text Memory J r r' w w' tells counts writes = inr refl
+complete_told text status J r r' w w' tells counts writes = absurd tells.told
 
 pub complete_summed : (a : Answers) (lines : List (List ℕ)) (status : Status) (J : List Entry) (reads reads' writes writes' : ℕ) → Sums a lines status J → Counts reads reads' writes writes' status →
     a.fault lines true ≡ None → (Rose writes writes' → ⊥) → (status ≡ Done) ⊎ (status ≡ Memory)
@@ -148,26 +149,37 @@ mode_once Run Run e = refl
 mode_once Run Freeze e = apart (codes "run") (codes "freeze") refl e
 mode_once Run Resume e = apart (codes "run") (codes "resume") refl e
 mode_once Run Explain e = apart (codes "run") (codes "explain") refl e
+mode_once Run Cut e = apart (codes "run") (codes "cut") refl e
 mode_once Run Sample e = apart (codes "run") (codes "sample") refl e
 mode_once Freeze Run e = apart (codes "freeze") (codes "run") refl e
 mode_once Freeze Freeze e = refl
 mode_once Freeze Resume e = apart (codes "freeze") (codes "resume") refl e
 mode_once Freeze Explain e = apart (codes "freeze") (codes "explain") refl e
+mode_once Freeze Cut e = apart (codes "freeze") (codes "cut") refl e
 mode_once Freeze Sample e = apart (codes "freeze") (codes "sample") refl e
 mode_once Resume Run e = apart (codes "resume") (codes "run") refl e
 mode_once Resume Freeze e = apart (codes "resume") (codes "freeze") refl e
 mode_once Resume Resume e = refl
 mode_once Resume Explain e = apart (codes "resume") (codes "explain") refl e
+mode_once Resume Cut e = apart (codes "resume") (codes "cut") refl e
 mode_once Resume Sample e = apart (codes "resume") (codes "sample") refl e
 mode_once Explain Run e = apart (codes "explain") (codes "run") refl e
 mode_once Explain Freeze e = apart (codes "explain") (codes "freeze") refl e
 mode_once Explain Resume e = apart (codes "explain") (codes "resume") refl e
 mode_once Explain Explain e = refl
+mode_once Explain Cut e = apart (codes "explain") (codes "cut") refl e
 mode_once Explain Sample e = apart (codes "explain") (codes "sample") refl e
+mode_once Cut Run e = apart (codes "cut") (codes "run") refl e
+mode_once Cut Freeze e = apart (codes "cut") (codes "freeze") refl e
+mode_once Cut Resume e = apart (codes "cut") (codes "resume") refl e
+mode_once Cut Explain e = apart (codes "cut") (codes "explain") refl e
+mode_once Cut Cut e = refl
+mode_once Cut Sample e = apart (codes "cut") (codes "sample") refl e
 mode_once Sample Run e = apart (codes "sample") (codes "run") refl e
 mode_once Sample Freeze e = apart (codes "sample") (codes "freeze") refl e
 mode_once Sample Resume e = apart (codes "sample") (codes "resume") refl e
 mode_once Sample Explain e = apart (codes "sample") (codes "explain") refl e
+mode_once Sample Cut e = apart (codes "sample") (codes "cut") refl e
 mode_once Sample Sample e = refl
 
 flag_once : (b d : Bool) → bool_text b ≡ bool_text d → b ≡ d

@@ -12,9 +12,10 @@ use Rattle.query_text.specs.IsParse.{Spells, IsSmallText, IsTextFault}
 use Rattle.query_text.specs.declared.query.Query.{Query}
 use Rattle.query_plan.specs.Planned.{planned}
 use Rattle.query_plan.specs.Explained.{explained}
+use Rattle.plan_cuts.specs.Told.{cut_text}
 use Rattle.command_line.specs.Words.{Asked, SpellsCommand, are_taken}
 use Rattle.command_line.specs.declared.words.Mode.{Mode}
-use Rattle.command_line.specs.declared.words.Mode.TheVariants.{Run, Freeze, Resume, Explain, Sample}
+use Rattle.command_line.specs.declared.words.Mode.TheVariants.{Run, Freeze, Resume, Explain, Cut, Sample}
 use Rattle.sample_trades.specs.Lines.{sample_lines}
 use Rattle.checkpoint.specs.Form.{FormView, form_of}
 use Rattle.tempo_engine.specs.Frozen.{Fits, IsState}
@@ -57,7 +58,7 @@ IsJob words NoWords = are_taken words ≡ false
 IsJob words (NoPlan asked fault) = SpellsCommand words asked × HasFault asked.query fault
 IsJob words (Planned asked plan) = SpellsCommand words asked × HasPlan asked.query plan
 
--- a plan was told: its text went out, or its first bytes where a write failed, and nothing came in. Out of memory nothing
+-- a text was told: it went out, or its first bytes where a write failed, and nothing came in. Out of memory nothing
 -- was written at all
 abbrev pub IsTold : Status → List ℕ → List Entry → Type 0
 IsTold Done text J = outs J ≡ text
@@ -65,9 +66,9 @@ IsTold WriteFault text J = IsFront (outs J) text
 IsTold Memory text J = J ≡ []
 IsTold status text J = ⊥
 
-pub record Tells (plan : PlanParts) (status : Status) (J : List Entry) : Type 0 where
+pub record Tells (text : List ℕ) (status : Status) (J : List Entry) : Type 0 where
   pub outs_alone : All IsOut J
-  pub told : IsTold status (explained plan) J
+  pub told : IsTold status text J
 
 -- the form of the checkpoints of what is asked for
 abbrev pub form_asked : Asked → PlanParts → FormView
@@ -87,12 +88,13 @@ HasResumed query workers plan policy status J =
     Resumes (form_of query workers policy plan) (Fits workers plan policy) (IsState workers plan) plan policy status J
 
 -- in mode run the query is answered, in mode freeze a checkpoint stands at the end of the answer, in mode resume the answer goes
--- on from one, in mode explain the plan is told, and in mode sample the answer to generated lines is summed up
+-- on from one, in mode explain the plan is told, in mode cut its cuts are, and in mode sample the answer to generated lines is summed up
 abbrev pub DoesMode : Mode → Asked → PlanParts → Status → List Entry → Type 0
 DoesMode Run asked plan status J = Ends (answers plan asked.policy asked.header) status J
 DoesMode Freeze asked plan status J = Freezes (answers plan asked.policy asked.header) (HasFroze asked plan) status J
 DoesMode Resume asked plan status J = HasResumed asked.query asked.workers plan asked.policy status J
-DoesMode Explain asked plan status J = Tells plan status J
+DoesMode Explain asked plan status J = Tells (explained plan) status J
+DoesMode Cut asked plan status J = Tells (cut_text plan) status J
 DoesMode Sample asked plan status J = Sums (answers plan asked.policy asked.header) (sample_lines asked.number asked.events) status J
 
 -- what a run has done for a job. J is what it added to the journal of its wire. Where nothing is asked for that can be done,

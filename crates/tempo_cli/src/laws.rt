@@ -30,7 +30,7 @@ pub fn words_ask_for_one_job()
 {}
 
 /// Where no line has a fault, the input has at most 2^40 bytes and no call of the wire failed, a run ends Done, or out of
-/// memory: where a query is answered, also up to a checkpoint or on from one, where its plan is told, and where its answer to
+/// memory: where a query is answered, also up to a checkpoint or on from one, where its plan or its cuts are told, and where its answer to
 /// generated lines is summed up.
 #[tactic(auto, using(crate::proofs::Jobs::complete, crate::proofs::Jobs::complete_frozen, crate::proofs::Jobs::complete_told, crate::proofs::Jobs::complete_summed))]
 pub fn runs_are_complete()
@@ -50,8 +50,8 @@ pub fn runs_are_complete()
         IsCheckpointOf asked plan before C → AreFront C (lines (ins J) (ended J)) →
         a.fault (lines (ins J) (ended J)) (ended J) ≡ None → length (ins J) ≤ limit → (Rose reads reads' → ⊥) → (Rose writes writes' → ⊥) →
         (status ≡ Done) ⊎ (status ≡ Memory) }
-    ensures told { (plan : PlanParts) (status : Status) (J : List Entry) (reads reads' writes writes' : ℕ) →
-        Tells plan status J → Counts reads reads' writes writes' status →
+    ensures told { (text : List ℕ) (status : Status) (J : List Entry) (reads reads' writes writes' : ℕ) →
+        Tells text status J → Counts reads reads' writes writes' status →
         (Rose writes writes' → ⊥) → (status ≡ Done) ⊎ (status ≡ Memory) }
     ensures summed { (a : Answers) (lines : List (List ℕ)) (status : Status) (J : List Entry) (reads reads' writes writes' : ℕ) →
         Sums a lines status J → Counts reads reads' writes writes' status →

@@ -1,5 +1,5 @@
 // The whole run: from the words and the bytes that come in to the bytes that go out, the notes and the status.
-ghost use Rattle.std.specs.Prelude.{◌≡◌, ◌≤◌, ◌⊎◌, ℕ, List, [], map, option_map};
+ghost use Rattle.std.specs.Prelude.{◌≡◌, ◌≤◌, ◌⊎◌, ℕ, IfOk, List, [], map, option_map};
 ghost use Rattle.wire_lines.specs.Journal.{Grows};
 ghost use Rattle.plan_model.specs.IsPlan.{PlanParts};
 ghost use Rattle.tempo_cli.specs.Jobs.{Job, IsJob, IsPlanned, HasPlan, HasFault, Does, DoesMode, Tells, HasReason, HasQueryReason, query_status};
@@ -15,6 +15,7 @@ use crate::resuming::resume;
 use crate::sampling::sum_up;
 use crate::status::Status;
 use command_line::{CommandLine, Mode, WordsFault, read_words};
+use plan_cuts::cut_text;
 use plan_model::{Plan, QueryError};
 use query_plan::{explain, plan};
 use query_text::parse;
@@ -23,6 +24,7 @@ use shard_apply::Gate;
 use std::alloc::Global;
 use std::thread::Threads;
 use tempo_engine::Options;
+use tw_rows::Memory;
 use wire_lines::{Wire, WriteFailed, send};
 
 // The plan of the query that the text spells.
@@ -33,13 +35,14 @@ pub(crate) fn plan_of(alloc: Global, text: &str) -> Result<Plan, QueryError>
     plan(alloc, &query)
 }
 
-// Writes the text of the plan.
-fn tell<W: Wire>(alloc: Global, plan: &Plan, wire: &mut W) -> Status
+// Writes a text that is told of the plan, where there was memory for it.
+fn tell<W: Wire>(text: Result<Vec<u8>, Memory>, wire: &mut W) -> Status
     ensures asked { IsAsked result }
-    ensures tells { Grows (W.journal wire.old) (W.journal wire.new) (Tells plan.now result) }
+    ensures tells { (t : List ℕ) → IfOk text (λ v. v.items ≡ t) →
+        Grows (W.journal wire.old) (W.journal wire.new) (Tells t result) }
     ensures counts { Counts (W.read_faults wire.old) (W.read_faults wire.new) (W.write_faults wire.old) (W.write_faults wire.new) result }
 {
-    let Ok(text) = explain(alloc, plan) else {
+    let Ok(text) = text else {
         return Status::Memory;
     };
     match send(wire, &text) {
@@ -78,7 +81,8 @@ fn do_mode<R: Threads + Sync, W: Wire, G: Gate>(
         Mode::Run => answer(rt, alloc, plan, options, asked.header, wire, gate),
         Mode::Freeze => answer_frozen(rt, alloc, asked, plan, wire, gate),
         Mode::Resume => resume(rt, alloc, asked.query, plan, options, wire, gate),
-        Mode::Explain => tell(alloc, &plan, wire),
+        Mode::Explain => tell(explain(alloc, &plan), wire),
+        Mode::Cut => tell(cut_text(alloc, &plan), wire),
         Mode::Sample => {
             let sample = Sample::new(asked.number, asked.events);
             sum_up(rt, alloc, plan, options, asked.header, sample, wire, gate)
