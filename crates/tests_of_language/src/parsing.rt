@@ -13,207 +13,211 @@ fn fault(alloc: Global, text: &str) -> Option<QueryError> {
     }
 }
 
-/// Texts that stop being a query, with the place: in their streams, lets or tests, in another step, or at a name that is none.
-static SYNTAX: [(&str, usize); 181] = [
-    ("", 0),
-    ("s", 0),
-    ("stream ", 7),
-    ("select", 0),
-    ("stream s v int); s", 9),
-    ("stream s(); s", 9),
-    ("stream s(v ); s", 11),
-    ("stream s(v v); s", 11),
-    ("stream s(v int int); s", 15),
-    ("stream s(v int, ); s", 16),
-    ("stream s(v int) s", 16),
-    ("stream s(v int); ", 17),
-    ("stream s(v int); s x", 19),
-    ("stream s(v int); s;", 18),
-    ("stream s(v int); 3", 17),
-    ("stream s(v int); let = s; s", 21),
-    ("stream s(v int); let m s; s", 23),
-    ("stream s(v int); let m = ; s", 25),
-    ("stream s(v int); let m = s m", 27),
-    ("stream s(v int); let m = s; ;", 28),
-    ("stream s(v int); let m = s; stream t(v int); m", 28),
-    ("stream s(v int); let m = s; ", 28),
-    ("stream s(v int); s | where v >", 30),
-    ("stream s(v int); s | where )", 27),
-    ("stream s(v int); s | where (v", 29),
-    ("stream s(v int); s | where v)", 28),
-    ("stream s(v int); s | where v v", 29),
-    ("stream s(v int); s | where v = 1 = 2", 33),
-    ("stream s(v int); s | where v < 1 >= 2", 33),
-    ("stream s(v int); s | where not or", 31),
-    ("stream s(v int); s | where v + * 2", 31),
-    ("stream s(v int); s | where v and and v", 33),
-    ("stream s(v int); s | where v = not v", 31),
-    ("stream s(v int); s | where v div 0", 33),
-    ("stream s(v int); s | where v mod v", 33),
-    ("stream s(v int); s | where v div -1", 33),
-    ("stream s(v int); s | where v div (2)", 33),
-    ("stream s(v int); s | where 1 1", 29),
-    ("stream s(v int); s | where 01", 28),
-    ("stream s(v int); s | where 1a", 28),
-    ("stream s(v int); s | where v = 'abc", 31),
-    ("stream s(v int); s | where v = 'a\nb'", 31),
-    ("stream s(v int); s | where v = 'a' 'b'", 35),
-    ("stream s(v int); s | where v = 9223372036854775808", 31),
-    (
-        "stream s(v int); s | where aaaaaaaaaaaaaaaaaaaaaaaaaaaaaaaaaaaaaaaaaaaaaaaaaaaaaaaaaaaaaaaaa",
-        27,
-    ),
-    ("stream s(v int); s | where v ! 3", 29),
-    ("stream s(v int); s | where v = @", 31),
-    ("stream s(v int); s | where v = \"a\"", 31),
-    ("stream s(v int); s | where v as w", 29),
-    ("stream s(p dec); s", 14),
-    ("stream s(p dec()); s", 15),
-    ("stream s(p dec(0)); s", 15),
-    ("stream s(p dec(19)); s", 15),
-    ("stream s(p dec(2, q int); s", 16),
-    ("stream s(p dec(v)); s", 15),
-    ("stream s(p dec(1.5)); s", 15),
-    ("stream s(p dec(2) 3); s", 18),
-    ("stream s(p deci(2)); s", 11),
-    ("stream s(v int); s | where v = 1.", 32),
-    ("stream s(v int); s | where v = 1.5.5", 34),
-    ("stream s(v int); s | where v = .5", 31),
-    ("stream s(v int); s | where v = 0.1234567890123456789", 31),
-    ("stream s(v int); s | where v = 9223372036854775807.1", 31),
-    ("stream s(v int); s | where v = 01.5", 32),
-    ("stream s(v int); s | where v div 1.5", 33),
-    ("stream s(v int); s | where v = 'it''s", 31),
-    ("stream s(v int); s | where v = 'a''", 31),
-    ("stream s(v int); s | ", 21),
-    ("stream s(v int); s | v", 21),
-    ("stream s(v int); s | | where true", 21),
-    ("stream s(v int); s | where | union t", 27),
-    ("stream s(v int); s | where (v | union t", 30),
-    ("stream s(v int); s | select ", 28),
-    ("stream s(v int); s | select v, ", 31),
-    ("stream s(v int); s | select v + 1", 33),
-    ("stream s(v int); s | select v + 1 , v", 34),
-    ("stream s(v int); s | select v as 1", 33),
-    ("stream s(v int); s | select 1 | delay 1", 30),
-    ("stream s(v int); s | select v w", 30),
-    ("stream s(v int); s | select v as w as x", 35),
-    ("stream s(v int); s | select (v)", 31),
-    ("stream s(v int); s | select v * as w", 32),
-    ("stream s(v int); s | union 3", 27),
-    ("stream s(v int); s | union ", 27),
-    ("stream s(v int); s | union t t", 29),
-    ("stream s(v int); s | delay v", 27),
-    ("stream s(v int); s | delay -1", 27),
-    ("stream s(v int); s | delay 1.5", 27),
-    ("stream s(v int); s | hop 5 ", 27),
-    ("stream s(v int); s | hop 105", 28),
-    ("stream s(v int); s | hop v 5", 25),
-    ("stream s(v int); s | hop 1 2 3", 29),
-    ("stream s(v int); s | tumble 5 5", 30),
-    ("stream s(v int); s | session by v", 29),
-    ("stream s(v int); s | session 5 by ", 34),
-    ("stream s(v int); s | session 5 on v", 31),
-    ("stream s(v int); s | clip t by v", 28),
-    ("stream s(v int); s | clip on v", 26),
-    ("stream s(v int); s | join t on v, ", 34),
-    ("stream s(v int); s | join t on 1", 31),
-    ("stream s(v int); s | anti on v", 26),
-    ("stream s(v int); s | group count as n", 27),
-    ("stream s(v int); s | group : sum as s", 33),
-    ("stream s(v int); s | group : count n", 35),
-    ("stream s(v int); s | group : count as ", 38),
-    ("stream s(v int); s | group by : count as n", 30),
-    ("stream s(v int); s | group : count as n, ", 41),
-    ("stream s(v int); s | group : v", 29),
-    ("stream s(v int); s | group by v sum v as s", 32),
-    ("stream s(v int); s | group by v : min v , max v as m", 40),
-    ("stream s(v int); s | coalesce 5", 30),
-    ("stream s(v int); s | left | delay 1", 26),
-    ("stream s(v int); s | left r else ", 33),
-    ("stream s(v int); s | left r else 1 2", 35),
-    ("stream s(v int); s | left r else v", 33),
-    ("stream s(v int); s | left r else - 'a'", 35),
-    ("stream s(v int); s | left r else - - 1", 35),
-    ("stream s(v int); s | left r else 1, ", 36),
-    ("stream s(v int); s | left r on k by v", 33),
-    ("stream s(v int); s | left r else (1)", 33),
-    ("stream s(v int); s | top 0 by v", 25),
-    ("stream s(v int); s | top 5 v", 27),
-    ("stream s(v int); s | top 5 by ", 30),
-    ("stream s(v int); s | top 5 per by v", 31),
-    ("stream s(v int); s | top v by v", 25),
-    ("stream s(v int); s | top 5 by v, w", 31),
-    ("stream s(v int); s | follow r ", 30),
-    ("stream s(v int); s | follow r within 0", 37),
-    ("stream s(v int); s | follow r within 1.5", 37),
-    ("stream s(v int); s | follow r by k within 5", 30),
-    ("stream s(v int); s | follow r on k ", 35),
-    ("stream s(v int); s | group : avg as m", 33),
-    ("stream s(v int); s | group : left as m", 29),
-    ("stream s(v int); s | top 0 by 1 | left 5", 25),
-    (
-        "stream s(v int); s | union xxxxxxxxxxxxxxxxxxxxxxxxxxxxxxxxxxxxxxxxxxxxxxxxxxxxxxxxxxxxxxxxx | top 0",
-        27,
-    ),
-    ("stream s(v int); s | where v as x | follow r within 0", 29),
-    ("stream stream(v int); s", 7),
-    ("stream let(v int); s", 7),
-    ("stream where(v int); s", 7),
-    ("stream select(v int); s", 7),
-    ("stream union(v int); s", 7),
-    ("stream delay(v int); s", 7),
-    ("stream hop(v int); s", 7),
-    ("stream tumble(v int); s", 7),
-    ("stream duration(v int); s", 7),
-    ("stream extend(v int); s", 7),
-    ("stream session(v int); s", 7),
-    ("stream clip(v int); s", 7),
-    ("stream join(v int); s", 7),
-    ("stream anti(v int); s", 7),
-    ("stream group(v int); s", 7),
-    ("stream by(v int); s", 7),
-    ("stream on(v int); s", 7),
-    ("stream as(v int); s", 7),
-    ("stream and(v int); s", 7),
-    ("stream or(v int); s", 7),
-    ("stream not(v int); s", 7),
-    ("stream div(v int); s", 7),
-    ("stream mod(v int); s", 7),
-    ("stream true(v int); s", 7),
-    ("stream false(v int); s", 7),
-    ("stream int(v int); s", 7),
-    ("stream bool(v int); s", 7),
-    ("stream text(v int); s", 7),
-    ("stream count(v int); s", 7),
-    ("stream sum(v int); s", 7),
-    ("stream min(v int); s", 7),
-    ("stream max(v int); s", 7),
-    ("stream dec(v int); s", 7),
-    ("stream coalesce(v int); s", 7),
-    ("stream left(v int); s", 7),
-    ("stream else(v int); s", 7),
-    ("stream avg(v int); s", 7),
-    ("stream top(v int); s", 7),
-    ("stream per(v int); s", 7),
-    ("stream follow(v int); s", 7),
-    ("stream within(v int); s", 7),
-    ("stream s(v int); s | where v<=1<>2", 31),
-    ("stream s(v int); s | where v < = 1", 31),
-    ("stream s(v int); s | where v = 1.50x", 35),
-    ("é!", 0),
-];
+fn syntax_at(at: usize) -> QueryError {
+    QueryError::Fault(QueryFault::Syntax { at })
+}
+
+/// Texts that stop being a query, each with the place: in their streams, lets or tests, in another step, or at a word that is no
+/// name.
+const SYNTAX: &str = "\
+s -> 0
+ -> 0
+stream  -> 7
+select -> 0
+stream s v int); s -> 9
+stream s(); s -> 9
+stream s(v ); s -> 11
+stream s(v v); s -> 11
+stream s(v int int); s -> 15
+stream s(v int, ); s -> 16
+stream s(v int) s -> 16
+stream s(v int);  -> 17
+stream s(v int); s x -> 19
+stream s(v int); s; -> 18
+stream s(v int); 3 -> 17
+stream s(v int); let = s; s -> 21
+stream s(v int); let m s; s -> 23
+stream s(v int); let m = ; s -> 25
+stream s(v int); let m = s m -> 27
+stream s(v int); let m = s; ; -> 28
+stream s(v int); let m = s; stream t(v int); m -> 28
+stream s(v int); let m = s;  -> 28
+stream s(v int); s | where v > -> 30
+stream s(v int); s | where ) -> 27
+stream s(v int); s | where (v -> 29
+stream s(v int); s | where v) -> 28
+stream s(v int); s | where v v -> 29
+stream s(v int); s | where v = 1 = 2 -> 33
+stream s(v int); s | where v < 1 >= 2 -> 33
+stream s(v int); s | where not or -> 31
+stream s(v int); s | where v + * 2 -> 31
+stream s(v int); s | where v and and v -> 33
+stream s(v int); s | where v = not v -> 31
+stream s(v int); s | where v div 0 -> 33
+stream s(v int); s | where v mod v -> 33
+stream s(v int); s | where v div -1 -> 33
+stream s(v int); s | where v div (2) -> 33
+stream s(v int); s | where 1 1 -> 29
+stream s(v int); s | where 01 -> 28
+stream s(v int); s | where 1a -> 28
+stream s(v int); s | where v = 'abc -> 31
+stream s(v int); s | where v = 'a' 'b' -> 35
+stream s(v int); s | where v = 9223372036854775808 -> 31
+stream s(v int); s | where aaaaaaaaaaaaaaaaaaaaaaaaaaaaaaaaaaaaaaaaaaaaaaaaaaaaaaaaaaaaaaaaa -> 27
+stream s(v int); s | where v ! 3 -> 29
+stream s(v int); s | where v = @ -> 31
+stream s(v int); s | where v = \"a\" -> 31
+stream s(v int); s | where v as w -> 29
+stream s(p dec); s -> 14
+stream s(p dec()); s -> 15
+stream s(p dec(0)); s -> 15
+stream s(p dec(19)); s -> 15
+stream s(p dec(2, q int); s -> 16
+stream s(p dec(v)); s -> 15
+stream s(p dec(1.5)); s -> 15
+stream s(p dec(2) 3); s -> 18
+stream s(p deci(2)); s -> 11
+stream s(v int); s | where v = 1. -> 32
+stream s(v int); s | where v = 1.5.5 -> 34
+stream s(v int); s | where v = .5 -> 31
+stream s(v int); s | where v = 0.1234567890123456789 -> 31
+stream s(v int); s | where v = 9223372036854775807.1 -> 31
+stream s(v int); s | where v = 01.5 -> 32
+stream s(v int); s | where v div 1.5 -> 33
+stream s(v int); s | where v = 'it''s -> 31
+stream s(v int); s | where v = 'a'' -> 31
+stream s(v int); s |  -> 21
+stream s(v int); s | v -> 21
+stream s(v int); s | | where true -> 21
+stream s(v int); s | where | union t -> 27
+stream s(v int); s | where (v | union t -> 30
+stream s(v int); s | select  -> 28
+stream s(v int); s | select v,  -> 31
+stream s(v int); s | select v + 1 -> 33
+stream s(v int); s | select v + 1 , v -> 34
+stream s(v int); s | select v as 1 -> 33
+stream s(v int); s | select 1 | delay 1 -> 30
+stream s(v int); s | select v w -> 30
+stream s(v int); s | select v as w as x -> 35
+stream s(v int); s | select (v) -> 31
+stream s(v int); s | select v * as w -> 32
+stream s(v int); s | union 3 -> 27
+stream s(v int); s | union  -> 27
+stream s(v int); s | union t t -> 29
+stream s(v int); s | delay v -> 27
+stream s(v int); s | delay -1 -> 27
+stream s(v int); s | delay 1.5 -> 27
+stream s(v int); s | hop 5  -> 27
+stream s(v int); s | hop 105 -> 28
+stream s(v int); s | hop v 5 -> 25
+stream s(v int); s | hop 1 2 3 -> 29
+stream s(v int); s | tumble 5 5 -> 30
+stream s(v int); s | session by v -> 29
+stream s(v int); s | session 5 by  -> 34
+stream s(v int); s | session 5 on v -> 31
+stream s(v int); s | clip t by v -> 28
+stream s(v int); s | clip on v -> 26
+stream s(v int); s | join t on v,  -> 34
+stream s(v int); s | join t on 1 -> 31
+stream s(v int); s | anti on v -> 26
+stream s(v int); s | group count as n -> 27
+stream s(v int); s | group : sum as s -> 33
+stream s(v int); s | group : count n -> 35
+stream s(v int); s | group : count as  -> 38
+stream s(v int); s | group by : count as n -> 30
+stream s(v int); s | group : count as n,  -> 41
+stream s(v int); s | group : v -> 29
+stream s(v int); s | group by v sum v as s -> 32
+stream s(v int); s | group by v : min v , max v as m -> 40
+stream s(v int); s | coalesce 5 -> 30
+stream s(v int); s | left | delay 1 -> 26
+stream s(v int); s | left r else  -> 33
+stream s(v int); s | left r else 1 2 -> 35
+stream s(v int); s | left r else v -> 33
+stream s(v int); s | left r else - 'a' -> 35
+stream s(v int); s | left r else - - 1 -> 35
+stream s(v int); s | left r else 1,  -> 36
+stream s(v int); s | left r on k by v -> 33
+stream s(v int); s | left r else (1) -> 33
+stream s(v int); s | top 0 by v -> 25
+stream s(v int); s | top 5 v -> 27
+stream s(v int); s | top 5 by  -> 30
+stream s(v int); s | top 5 per by v -> 31
+stream s(v int); s | top v by v -> 25
+stream s(v int); s | top 5 by v, w -> 31
+stream s(v int); s | follow r  -> 30
+stream s(v int); s | follow r within 0 -> 37
+stream s(v int); s | follow r within 1.5 -> 37
+stream s(v int); s | follow r by k within 5 -> 30
+stream s(v int); s | follow r on k  -> 35
+stream s(v int); s | group : avg as m -> 33
+stream s(v int); s | group : left as m -> 29
+stream s(v int); s | top 0 by 1 | left 5 -> 25
+stream s(v int); s | union xxxxxxxxxxxxxxxxxxxxxxxxxxxxxxxxxxxxxxxxxxxxxxxxxxxxxxxxxxxxxxxxx | top 0 -> 27
+stream s(v int); s | where v as x | follow r within 0 -> 29
+stream stream(v int); s -> 7
+stream let(v int); s -> 7
+stream where(v int); s -> 7
+stream select(v int); s -> 7
+stream union(v int); s -> 7
+stream delay(v int); s -> 7
+stream hop(v int); s -> 7
+stream tumble(v int); s -> 7
+stream duration(v int); s -> 7
+stream extend(v int); s -> 7
+stream session(v int); s -> 7
+stream clip(v int); s -> 7
+stream join(v int); s -> 7
+stream anti(v int); s -> 7
+stream group(v int); s -> 7
+stream by(v int); s -> 7
+stream on(v int); s -> 7
+stream as(v int); s -> 7
+stream and(v int); s -> 7
+stream or(v int); s -> 7
+stream not(v int); s -> 7
+stream div(v int); s -> 7
+stream mod(v int); s -> 7
+stream true(v int); s -> 7
+stream false(v int); s -> 7
+stream int(v int); s -> 7
+stream bool(v int); s -> 7
+stream text(v int); s -> 7
+stream count(v int); s -> 7
+stream sum(v int); s -> 7
+stream min(v int); s -> 7
+stream max(v int); s -> 7
+stream dec(v int); s -> 7
+stream coalesce(v int); s -> 7
+stream left(v int); s -> 7
+stream else(v int); s -> 7
+stream avg(v int); s -> 7
+stream top(v int); s -> 7
+stream per(v int); s -> 7
+stream follow(v int); s -> 7
+stream within(v int); s -> 7
+stream s(v int); s | where v<=1<>2 -> 31
+stream s(v int); s | where v < = 1 -> 31
+stream s(v int); s | where v = 1.50x -> 35
+é! -> 0";
 
 #[test]
 fn texts_are_read_as_the_grammar_says(rt: HostRuntime) {
-    for &(text, at) in SYNTAX.iter() {
-        let want = Some(QueryError::Fault(QueryFault::Syntax { at }));
+    for row in SYNTAX.split('\n') {
+        let Some((text, place)) = row.split_once(" -> ") else {
+            panic!(rt; "no row: {row}");
+        };
+        let want = place.parse::<usize>().ok().map(syntax_at);
         assert_eq!(rt; fault(rt.alloc(), text), want, "of {text}");
     }
 }
 
 /// Queries of each production, with the faults of those that have no plan.
-static QUERIES: [(&str, Option<QueryFault>); 102] = [
+static QUERIES: [(&str, Option<QueryFault>); 103] = [
+    (
+        "stream s(v int); s | where v = 'a\nb'",
+        Some(QueryFault::Syntax { at: 31 }),
+    ),
     ("stream s(v int); s", None),
     ("stream s(v int, w bool, x text); s", None),
     ("stream a(v int); stream b(w text); a", None),
