@@ -159,7 +159,7 @@ started_there t (x ∷ now) h = one x.sync x.other (omega (arith, h)) (started_t
     one s o at rest = grind (arith, nat_tests)
 
 -- WHAT IS KNOWN
--- queues hang on the rows before alone
+-- queues depend on the rows before alone
 pub known_starts : (f g : ℕ → List Cells) (r : Cells) (t : ℕ) → ((u : ℕ) → u < t → SameBag (f u) (g u)) → open_starts same_cells f r t ≡ open_starts same_cells g r t
 known_starts f g r zero h = refl
 known_starts f g r (suc t) h =
