@@ -10,11 +10,10 @@ use std::thread::Threads;
 use tempo_engine::{Engine, Options};
 use tw_rows::Memory;
 
-fn planned(alloc: Global) -> Result<Plan, QueryError> {
-    let query = parse(
-        alloc,
-        "stream s(k text, v int); s | group by k : count as n",
-    )?;
+const GROUP: &str = "stream s(k text, v int); s | group by k : count as n";
+
+fn planned(alloc: Global, text: &str) -> Result<Plan, QueryError> {
+    let query = parse(alloc, text)?;
     plan(alloc, &query)
 }
 
@@ -74,7 +73,7 @@ fn check_held<R: Abort>(
 
 #[test]
 fn an_engine_tells_what_it_holds(rt: HostRuntime) -> Result<(), QueryError> {
-    let mut engine = Engine::new(rt.alloc(), planned(rt.alloc())?, OPTIONS)?;
+    let mut engine = Engine::new(rt.alloc(), planned(rt.alloc(), GROUP)?, OPTIONS)?;
     check_held(&rt, &engine, [0, 0], [0, 0])?;
     // The rows wait at the source, and nothing is kept of them yet by the group.
     feed_rows(&rt, rt.alloc(), &mut engine)?;
@@ -83,5 +82,14 @@ fn an_engine_tells_what_it_holds(rt: HostRuntime) -> Result<(), QueryError> {
     feed(&rt, &mut engine, 10001, punctuation);
     // One row has an end that is not below 10000.
     check_held(&rt, &engine, [0, 0], [2, 5])?;
+    Ok(())
+}
+
+#[test]
+fn a_source_alone_has_one_number(rt: HostRuntime) -> Result<(), QueryError> {
+    let plan = planned(rt.alloc(), "stream s(k text, v int); s")?;
+    let engine = Engine::new(rt.alloc(), plan, OPTIONS)?;
+    let held = engine.held()?;
+    assert_eq!(rt; held.len(), 1);
     Ok(())
 }

@@ -61,6 +61,22 @@ out,end,6,1,a,1
 out,end,9,3,a,1
 *,punct,inf
 ----
+stream s(k text, v int); s
+s,start,1,inf,a,1
+=> 0
+out,start,1,inf,a,1
+*,punct,inf
+----
+stream s(k text, v int); s | tumble 10
+s,interval,1,9,a,1
+s,interval,9,12,a,1
+=> 0
+out,start,0,inf,a,1
+out,start,0,inf,a,1
+out,end,10,0,a,1
+out,end,10,0,a,1
+*,punct,inf
+----
 stream s(k text, v int); s | union s
 s,interval,1,4,a,1
 => 0
@@ -670,6 +686,24 @@ fn worked_rows_are_cut_in_two(rt: HostRuntime) -> Result<(), Memory> {
 
 /// Runs with options and in other modes.
 const CASES: &str = "
+stream l(k text, w int); stream r(k text, x int); l | union r
+--punctuate 10
+l,interval,25,30,a,1
+r,interval,5,8,b,2
+r,interval,14,16,c,3
+l,punct,40
+r,punct,22
+=> 0
+out,start,5,inf,b,2
+out,end,8,5,b,2
+*,punct,10
+out,start,14,inf,c,3
+out,end,16,14,c,3
+*,punct,22
+out,start,25,inf,a,1
+out,end,30,25,a,1
+*,punct,inf
+----
 stream l(k text, w int); stream r(k text, x int); l | union r
 --punctuate 10
 l,interval,25,30,a,1
