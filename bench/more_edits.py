@@ -22,7 +22,7 @@ def main() -> int:
     )
     with tempfile.TemporaryDirectory() as temporary:
         copy = pathlib.Path(temporary) / "copy"
-        shutil.copytree(ROOT, copy, ignore=shutil.ignore_patterns(".git", "wip", "__pycache__"))
+        shutil.copytree(ROOT, copy, ignore=shutil.ignore_patterns(".git", "wip", "out", "__pycache__"))
         for name in names:
             crate = copy / "crates" / name
             shutil.rmtree(crate / "must-fail", ignore_errors=True)
