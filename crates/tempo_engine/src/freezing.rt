@@ -347,6 +347,7 @@ impl Parts {
             dataflow,
             egress,
             closed,
+            row: Vec::new(alloc),
         })
     }
 

@@ -5,4 +5,4 @@ use Rattle.row_reader.proofs.rows.row_of_cells.Goals as goal
 
 pub value_of_datum-requires : goal.value_of_datum-requires
 value_of_datum-requires c =
-    placed_at c.args.texts.now _ c.loop-datum.datum-index _ (subst (ArePlaced c.args.texts.now) (sym c.items-datum-items.ensures) c.requires) c.loop-datum-test.true
+    placed_at c.args.texts.now _ c.loop-datum.datum-index _ (subst (ArePlaced c.args.texts.now) (refl) c.requires) c.loop-datum-test.true
