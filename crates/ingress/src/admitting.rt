@@ -97,9 +97,9 @@ fn cells_of_entry(
         ≡ with_row texts.old (take n (row_read (Ok entry))))) }
     ensures begins { BeginsWith texts.new texts.old }
 {
-    Ok(match entry {
-        Entry::Skip => (Said::Skip, no_cells(alloc)),
-        Entry::Punct { stream, time } => (Said::Punct { stream, time }, no_cells(alloc)),
+    match entry {
+        Entry::Skip => Ok((Said::Skip, no_cells(alloc))),
+        Entry::Punct { stream, time } => Ok((Said::Punct { stream, time }, no_cells(alloc))),
         Entry::Event {
             stream,
             form,
@@ -114,9 +114,9 @@ fn cells_of_entry(
                 sync,
                 other,
             };
-            (said, cells)
+            Ok((said, cells))
         }
-    })
+    }
 }
 
 impl Ingress {

@@ -17,3 +17,10 @@ value_in field (data_of.Text place) = Text field
 unfoldable pub row_in : List (List ℕ) → List Datum → Row
 row_in fields [] = []
 row_in fields (d ∷ ds) = value_in (field_of fields 0) d ∷ row_in (drop 1 fields) ds
+
+-- none of the data is of a text
+abbrev pub HaveNoText : List Datum → Type 0
+HaveNoText [] = Unit {0}
+HaveNoText (data_of.Int x ∷ ds) = HaveNoText ds
+HaveNoText (data_of.Bool b ∷ ds) = HaveNoText ds
+HaveNoText (data_of.Text place ∷ ds) = ⊥

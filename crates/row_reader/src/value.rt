@@ -1,12 +1,13 @@
 // Times, values and words of a line.
-ghost use Rattle.std.specs.Prelude.{◌≡◌, ℕ, take, IfOk, OnOk, OnErr, option_map};
+ghost use Rattle.std.specs.Prelude.{◌≡◌, ◌≤◌, ◌∷◌, ℕ, List, false, length, take, drop, IfOk, OnOk, OnErr, option_map};
 ghost use Rattle.std.specs.Str.{IsUtf8};
 ghost use Rattle.csv.specs.Records.{AllText};
 ghost use Rattle.tw_rows.specs.Cells.{IsPlaced, ArePlaced, read_datum, read_cells, with_value, with_row};
 ghost use Rattle.tw_rows.specs.Texts.{BeginsWith};
+ghost use Rattle.tw_rows.specs.declared.cells.Datum.{Datum};
 ghost use Rattle.tw_rows.specs.declared.kind.Kind.TheVariants as kinds;
 ghost use Rattle.tw_rows.specs.declared.row.Value.TheVariants as values;
-ghost use Rattle.row_reader.specs.Drafted.{value_in, row_in};
+ghost use Rattle.row_reader.specs.Drafted.{value_in, row_in, HaveNoText};
 ghost use Rattle.row_reader.specs.Fields.{left};
 ghost use Rattle.row_reader.specs.Values.{time_of, end_of, inf_of, form_of, times_of, is_alive, value_of};
 
@@ -141,6 +142,26 @@ fn place_value(datum: Datum, field: &[u8], texts: &mut TextTable) -> Result<Datu
     })
 }
 
+fn is_text(datum: Datum) -> bool
+    ensures { (ds : List Datum) → result ≡ false → HaveNoText ds → HaveNoText (datum ∷ ds) }
+{
+    matches!(datum, Datum::Text(_))
+}
+
+// How many of the data stand before the last text and at it.
+fn texts_end(row: &[Datum]) -> usize
+    ensures within { result ≤ length row.now }
+    ensures rest { HaveNoText (drop result row.now) }
+{
+    for i in 0..row.len() {
+        let end = row.len() - i;
+        if is_text(row[end - 1]) {
+            return end;
+        }
+    }
+    0
+}
+
 /// Puts the texts of a row that was read of these fields into the table, in order, and their places into the row. After a
 /// refusal those of the first values are there.
 pub fn place_texts(
@@ -158,7 +179,7 @@ pub fn place_texts(
         ≡ with_row texts.old (take n (row_in (left fields.entry) row.old.items)))) }
     ensures begins { BeginsWith texts.new texts.old }
 {
-    for i in 0..row.len() {
+    for i in 0..texts_end(row.as_slice()) {
         row[i] = place_value(row[i], fields.take_field(), texts)?;
     }
     Ok(())

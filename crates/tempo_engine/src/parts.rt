@@ -127,8 +127,14 @@ impl Parts {
         event_times_stay();
         let streams = self.dataflow.plan().streams();
         let first = number == 1;
-        let (texts, row) = (&mut self.texts, &mut self.row);
-        let said = match read_cells(self.alloc, line, first, streams, texts, row) {
+        let said = match read_cells(
+            self.alloc,
+            line,
+            first,
+            streams,
+            &mut self.texts,
+            &mut self.row,
+        ) {
             Ok(said) => said,
             Err(fault) => return Err(EngineFault::of_row(number, &fault)),
         };

@@ -1,4 +1,4 @@
-use Rattle.std.proofs.Common.{◌≡◌, ◌<◌, ◌≤◌, ◌+◌, Err, ℕ, List, length, drop, get_or, refl, length-append, ap, sym, subst, ◌∙◌, arith}
+use Rattle.std.proofs.Common.{◌≡◌, ◌<◌, ◌≤◌, ◌+◌, Err, ℕ, List, length, drop, get_or, length-append, ap, sym, subst, ◌∙◌, arith}
 use Rattle.std.specs.Prelude.{option_map, [], ◌∷◌, ◌++◌}
 use Rattle.tw_rows.specs.declared.schema.ColumnDef.{ColumnDef}
 use Rattle.tw_rows.specs.declared.cells.Datum.{Datum}

@@ -1,15 +1,15 @@
-use Rattle.std.proofs.Common.{ℕ, ◌+◌, ◌<◌, ◌≤◌, ◌≡◌, List, length, get_or, sym, ◌∙◌, subst, take, drop, ap, arith}
-use Rattle.std.proofs.lemmas.List.{take_all, take_more_set, drop-set-lt, length-set, get_or-drop}
+use Rattle.std.proofs.Common.{ℕ, ◌+◌, ◌<◌, ◌≡◌, List, length, get_or, sym, ◌∙◌, subst, take, drop, ap, arith}
+use Rattle.std.proofs.lemmas.List.{take_more_set, drop-set-lt, length-set, get_or-drop}
 use Rattle.tw_rows.specs.Rows.{Row}
 use Rattle.tw_rows.specs.Texts.{BeginsWith}
-use Rattle.tw_rows.specs.Cells.{read_cells, with_row}
+use Rattle.tw_rows.specs.Cells.{with_row}
 use Rattle.tw_rows.specs.declared.cells.Datum.{Datum}
 use Rattle.tw_rows.proofs.CellReads.{IsTaken, IsTaken-next, BeginsWith-with_row}
 use Rattle.row_reader.specs.Fields.{left}
 use Rattle.row_reader.specs.Record.{field_of}
-use Rattle.row_reader.specs.Drafted.{value_in, row_in}
+use Rattle.row_reader.specs.Drafted.{value_in, row_in, HaveNoText}
 use Rattle.row_reader.proofs.TextFields.{text_here, texts_left}
-use Rattle.row_reader.proofs.Drafting.{row_in-length, row_in-at}
+use Rattle.row_reader.proofs.Drafting.{row_in-length, row_in-at, row_taken}
 use Rattle.row_reader.proofs.Steps.{drop_again}
 use Rattle.row_reader.proofs.value.place_texts.Goals as goal
 
@@ -27,6 +27,9 @@ value_at fields at old row n d f low behind here rest is =
 rest_behind : (row old : List Datum) (n : ℕ) → drop n row ≡ drop n old → drop (n + 1) row ≡ drop (n + 1) old
 rest_behind row old n e = sym (drop_again n row) ∙ ap (drop 1) e ∙ drop_again n old
 
+none_behind : (old items : List Datum) (n m : ℕ) → items ≡ old → n ≡ m → HaveNoText (drop m items) → HaveNoText (drop n old)
+none_behind old items n m same at h = subst HaveNoText (ap (λ l. drop m l) same ∙ ap (λ k. drop k old) (sym at)) h
+
 pub place_value-requires : goal.place_value-requires
 place_value-requires c = text_here _ _ c.loop-i.invariant.texts_left c.take_field.ensures.field
 
@@ -42,7 +45,7 @@ loop-i-preserved c =
     let n = c.loop-i.i in
     let d = c.in_ok-row.field-0 in
     let told = c.in_ok-row.ensures in
-    let low : n < length old = omega (arith, c.loop-i-test.true, c.len-i-end.ensures) in
+    let low : n < length old = omega (arith, c.loop-i-test.true, c.texts_end-i-end.ensures.within, ap (λ l. length l) c.as_slice.ensures.value) in
     let here : n < length row = omega (arith, low, before.long) in
     let at = value_at fields (left c.loop-i.fields) old row n c.index.result.now c.take_field.result.now low before.behind c.take_field.ensures.field before.rest c.index.ensures in
     record {
@@ -54,20 +57,14 @@ loop-i-preserved c =
       texts_left = texts_left _ _ before.texts_left c.take_field.ensures.left;
     }
 
-all_read : (texts : List (List ℕ)) (fields : List (List ℕ)) (old row : List Datum) (n : ℕ) → length old ≤ n → length row ≡ length old → read_cells texts (take n row) ≡ take n (row_in fields old) →
-    read_cells texts row ≡ row_in fields old
-all_read texts fields old row n end long is =
-    ap (read_cells texts) (sym (take_all n row (omega arith))) ∙ is ∙ take_all n (row_in fields old) (omega (arith, end, row_in-length fields old))
-
 pub returns-clause-read : goal.returns-clause-read
-returns-clause-read c =
-    let before = c.loop-i.invariant in
-    all_read _ (left c.args.fields) c.args.row.now.items c.loop-i.row.items c.loop-i.i (omega (arith, c.loop-i-test.false, c.len-i-end.ensures)) before.long before.taken.read
+returns-clause-read c = (row_taken c.args.texts.now c.loop-i.texts (left c.args.fields) c.args.row.now.items c.loop-i.row.items c.loop-i.i c.loop-i.invariant.taken c.loop-i.invariant.rest (none_behind c.args.row.now.items c.as_slice.result.now _ _ c.as_slice.ensures.value (omega (arith, c.loop-i-test.false, c.loop-i.auto.i-end)) c.texts_end-i-end.ensures.rest)).0
+
+pub returns-clause-placed : goal.returns-clause-placed
+returns-clause-placed c = (row_taken c.args.texts.now c.loop-i.texts (left c.args.fields) c.args.row.now.items c.loop-i.row.items c.loop-i.i c.loop-i.invariant.taken c.loop-i.invariant.rest (none_behind c.args.row.now.items c.as_slice.result.now _ _ c.as_slice.ensures.value (omega (arith, c.loop-i-test.false, c.loop-i.auto.i-end)) c.texts_end-i-end.ensures.rest)).1
 
 pub returns-clause-table : goal.returns-clause-table
-returns-clause-table c =
-    let all = row_in (left c.args.fields) c.args.row.now.items in
-    c.loop-i.invariant.taken.table ∙ ap (with_row c.args.texts.now) (take_all c.loop-i.i all (omega (arith, c.loop-i-test.false, c.len-i-end.ensures, row_in-length (left c.args.fields) c.args.row.now.items)))
+returns-clause-table c = (row_taken c.args.texts.now c.loop-i.texts (left c.args.fields) c.args.row.now.items c.loop-i.row.items c.loop-i.i c.loop-i.invariant.taken c.loop-i.invariant.rest (none_behind c.args.row.now.items c.as_slice.result.now _ _ c.as_slice.ensures.value (omega (arith, c.loop-i-test.false, c.loop-i.auto.i-end)) c.texts_end-i-end.ensures.rest)).2
 
 pub returns-clause-begins : goal.returns-clause-begins
 returns-clause-begins c = begins _ _ _ c.loop-i.i c.loop-i.invariant.taken.table
