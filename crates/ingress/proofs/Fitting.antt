@@ -1,5 +1,5 @@
 -- Edges that fit the columns of their stream, and pools of which columns are taken.
-use Rattle.std.specs.Prelude.{◌≡◌, ◌≢◌, ℕ, zero, suc, ◌+◌, ◌-◌, ◌<◌, ◌≤◌, ◌⊎◌, min, nat_eq, Bool, true, false, ◌&&◌, cond, IsTrue, Result, Ok, Err, OnOk, OnErr, List, [], ◌∷◌, ◌++◌, length, get_or, map, filter, take, drop, refl}
+use Rattle.std.specs.Prelude.{◌≡◌, ◌≢◌, ℕ, zero, suc, ◌+◌, ◌<◌, ◌≤◌, ◌⊎◌, nat_eq, Bool, true, false, ◌&&◌, cond, IsTrue, Result, Ok, Err, OnOk, OnErr, List, [], ◌∷◌, ◌++◌, length, get_or, map, filter, take, drop, refl}
 use Rattle.std.proofs.Common.{sym, ◌∙◌, ap, subst, arith, inl, inr}
 use Rattle.std.proofs.lemmas.Bool.{and_parts, eqb-true, cases_lt}
 use Rattle.std.proofs.lemmas.Bool.Decides.{Decides-eqb}
@@ -17,7 +17,7 @@ use Rattle.edge_history.specs.Order.{rank, failing, is_real, is_from, Rises, Kee
 use Rattle.edge_history.proofs.Keeping.{KeepsOrder-front}
 use Rattle.edge_history.proofs.Rising.{Rises-less}
 use Rattle.edge_history.proofs.Sums.{weaker, failing-parts}
-use Rattle.edge_stream.specs.Listing.{EdgeListView, cells_of, appended, SameShape}
+use Rattle.edge_stream.specs.Listing.{EdgeListView, appended, SameShape}
 use Rattle.edge_stream.specs.Taking.{room_taken}
 use Rattle.edge_stream.proofs.Filling.{room_taken-capacity, appended-kinds, appended-capacity}
 use Rattle.carried_edges.proofs.Pools.{part-capacity, part-limit, room_taken-limit}
