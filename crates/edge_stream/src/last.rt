@@ -20,12 +20,7 @@ pub(crate) fn has_room(batches: &VecDeque<Batch>) -> bool
 }
 
 /// Adds the edge of these times and cells to the last batch, which has room for it.
-pub(crate) fn push_last(
-    batches: &mut VecDeque<Batch>,
-    sync: Time,
-    other: Time,
-    cells: &[Datum],
-)
+pub(crate) fn push_last(batches: &mut VecDeque<Batch>, sync: Time, other: Time, cells: &[Datum])
     requires room { 0 < last_room batches.old.items }
     requires kinds { All (λ b. b.kinds ≡ map datum_kind cells.now) batches.old.items }
     ensures edges { edges_in batches.new.items ≡ edges_in batches.old.items
