@@ -8,16 +8,17 @@ ghost use Rattle.checkpoint.specs.Text.{checkpoint_lines, IsOfForm};
 
 /// Of two things that have a text, and the same one, each is the other: so what is read back is what was written.
 pub fn one_text_for_each()
-    ensures { (query : List ℕ) (workers : ℕ) (policy : Policy) (plan : PlanParts) (f g : FrozenView) →
-        let form = form_of query workers policy plan in
-        IsOfForm form f → IsOfForm form g → checkpoint_lines form.head f ≡ checkpoint_lines form.head g → f ≡ g }
+    ensures { (query : List ℕ) (workers : ℕ) (policy : Policy) (plan : PlanParts)
+        (f g : FrozenView) → let form = form_of query workers policy plan in IsOfForm form f →
+        IsOfForm form g → checkpoint_lines form.head f ≡ checkpoint_lines form.head g → f ≡ g }
 {}
 
 /// No text is the front of another one: where a text ends, a checkpoint does.
 pub fn no_text_goes_on()
-    ensures { (query : List ℕ) (workers : ℕ) (policy : Policy) (plan : PlanParts) (f g : FrozenView) (rest : List (List ℕ)) →
-        let form = form_of query workers policy plan in
-        IsOfForm form f → IsOfForm form g → checkpoint_lines form.head f ≡ checkpoint_lines form.head g ++ rest → f ≡ g }
+    ensures { (query : List ℕ) (workers : ℕ) (policy : Policy) (plan : PlanParts) (f g : FrozenView)
+        (rest : List (List ℕ)) → let form = form_of query workers policy plan in IsOfForm form f →
+        IsOfForm form g → checkpoint_lines form.head f ≡ checkpoint_lines form.head g ++ rest →
+        f ≡ g }
 {}
 
 /// No line is longer than a line of input may be, where each text came from a line or from the query.

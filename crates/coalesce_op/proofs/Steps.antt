@@ -1,11 +1,9 @@
 -- A Coalesce from instant to instant, and what new edges leave of what is kept.
-use Rattle.std.specs.Prelude.{◌≡◌, ℕ, zero, suc, ◌+◌, ◌-◌, ◌<◌, ◌≤◌, ◌*◌, nat_eq, nat_le, length, cond, List, [], ◌∷◌, ◌++◌, take, drop, replicate, refl}
+use Rattle.std.specs.Prelude.{◌≡◌, ℕ, zero, suc, ◌+◌, ◌-◌, ◌<◌, ◌≤◌, ◌*◌, nat_eq, nat_le, cond, List, [], ◌∷◌, ◌++◌, take, drop, replicate, refl}
 use Rattle.std.proofs.Common.{inl, inr, sym, ◌∙◌, ap, subst, arith}
 use Rattle.std.proofs.lemmas.Bool.Decides.{nat_tests}
-use Rattle.std.proofs.lemmas.List.{append-nil, drop-drop, length-drop, length-take, take-append-drop}
+use Rattle.std.proofs.lemmas.List.{append-nil, take-append-drop}
 use Rattle.std.proofs.lemmas.Grind.{flat_map-append}
-use Rattle.std.proofs.lemmas.Slice.{drop-put_mid, take-put_mid}
-use borrow.Rule.Slice.PartMut.{put_mid}
 use Rattle.tw_rows.specs.Instant.{inf}
 use Rattle.tw_rows.specs.Bag.{SameBag, total}
 use Rattle.tw_rows.specs.Event.{alive, cut, AreEvents}
@@ -29,7 +27,7 @@ use Rattle.sweep_laws.specs.Sweeps.{is_at, IsPast, StartsAt, IsDue, Tells, IsNex
 use Rattle.sweep_laws.proofs.Ordering.{order_later}
 use Rattle.sweep_laws.proofs.QueueMoves.{edges_move}
 use Rattle.sweep_laws.proofs.Queueing.{queues_next, touched_told}
-use Rattle.sweep_laws.proofs.Sides.{side_now, side_none, side_rest, starts_between, some_done, tells_parts, tells_still}
+use Rattle.sweep_laws.proofs.Sides.{side_now, side_none, side_rest, starts_between, tells_parts, tells_still}
 use Rattle.coalesce_op.specs.Coalesces.{coalesces}
 use Rattle.coalesce_op.specs.Holding.{CoalesceReached}
 
@@ -159,7 +157,7 @@ started_there t (x ∷ now) h = one x.sync x.other (omega (arith, h)) (started_t
     one s o at rest = grind (arith, nat_tests)
 
 -- WHAT IS KNOWN
--- queues hang on the rows before alone
+-- queues depend on the rows before alone
 pub known_starts : (f g : ℕ → List Cells) (r : Cells) (t : ℕ) → ((u : ℕ) → u < t → SameBag (f u) (g u)) → open_starts same_cells f r t ≡ open_starts same_cells g r t
 known_starts f g r zero h = refl
 known_starts f g r (suc t) h =

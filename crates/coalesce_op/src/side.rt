@@ -42,13 +42,15 @@ impl Side {
     /// Takes new edges in, and tells what happens to the coalesced rows up to a time.
     pub(crate) fn advance(&mut self, left: &EdgeList, to: Time) -> Result<Vec<Edge>, Memory>
         requires { to ≤ inf }
-        ensures kept { IfOk result (λ answer. (from : ℕ) (hl : List Edge) → from ≤ to → SideKeeps self.old from hl →
-            IsHistory (hl ++ left.now.edges) → failing (is_from from) left.now.edges ≡ 0 →
-            SideKeeps self.new to (hl ++ left.now.edges)
+        ensures kept { IfOk result (λ answer. (from : ℕ) (hl : List Edge) → from ≤ to →
+            SideKeeps self.old from hl → IsHistory (hl ++ left.now.edges) →
+            failing (is_from from) left.now.edges ≡ 0 → SideKeeps self.new to (hl ++ left.now.edges)
             × Tells (coalesces (of (hl ++ left.now.edges))) from to [] answer.items) }
-        ensures side { OnOk result ((from : ℕ) → from ≤ to → IsSide (cells_of left.now) from self.old.queues self.old.waiting →
+        ensures side { OnOk result ((from : ℕ) → from ≤ to →
+            IsSide (cells_of left.now) from self.old.queues self.old.waiting →
             IsSide (cells_of left.now) to self.new.queues self.new.waiting) }
-        ensures cells { OnOk result (All (λ e. map datum_kind e.cells ≡ cells_of left.now) left.now.edges) }
+        ensures cells { OnOk result (All (λ e. map datum_kind e.cells ≡ cells_of left.now)
+            left.now.edges) }
     {
         let due = take_in(&mut self.waiting, self.alloc, left, to)?;
         let told = tell_due(&mut self.queues, due)?;
@@ -58,7 +60,8 @@ impl Side {
 
 /// The open starts of the part 0, and the edges of the part 1 as they wait.
 pub(crate) fn load_side(alloc: Global, saved: &Saved) -> Result<Side, Memory>
-    ensures queues { IfOk result (λ s. (c : List Datum) → queue_of s.queues c ≡ queue_of (rows_of (part_of 0 saved.now)) c) }
+    ensures queues { IfOk result (λ s. (c : List Datum) →
+        queue_of s.queues c ≡ queue_of (rows_of (part_of 0 saved.now)) c) }
     ensures waiting { IfOk result (λ s. SameBag (queued s.waiting) (part_of 1 saved.now)) }
     ensures side { IfOk result (λ s. (kinds : List CellKind) (to : ℕ) →
         CoalesceSound kinds to saved.now → IsSide kinds to s.queues s.waiting) }

@@ -20,9 +20,10 @@ use tw_rows::{Edge, Memory, Time};
 
 // Goes on past one instant.
 fn pass(queues: &mut RowQueues, answer: &mut Vec<Edge>, t: Time, now: &[Edge]) -> Result<(), Memory>
-    ensures swept { OnOk result ((a : List CellEvent) → t < inf → AreEvents a → SameBag now.now (news t (suc t) a) →
-        AreQueues (alive a) t queues.old → AreQueues (alive a) (suc t) queues.new
-        × Tells (coalesces a) t (suc t) answer.old.items answer.new.items) }
+    ensures swept { OnOk result ((a : List CellEvent) → t < inf → AreEvents a →
+        SameBag now.now (news t (suc t) a) → AreQueues (alive a) t queues.old →
+        AreQueues (alive a) (suc t) queues.new × Tells (coalesces a) t (suc t) answer.old.items
+        answer.new.items) }
     ensures rows { OnOk result (failing (is_at t) now.now ≡ 0 → (w : HeldRow → ℕ) →
         total w queues.new ≤ total w queues.old + total w (started_rows now.now)) }
 {
@@ -33,9 +34,9 @@ fn pass(queues: &mut RowQueues, answer: &mut Vec<Edge>, t: Time, now: &[Edge]) -
 // Goes on past one instant in place.
 fn pass_in_place(queues: &mut RowQueues, t: Time, now: &mut [Edge]) -> Result<(), Memory>
     requires { AreApart now.old }
-    ensures swept { OnOk result ((a : List CellEvent) → t < inf → AreEvents a → SameBag now.old (news t (suc t) a) →
-        AreQueues (alive a) t queues.old → AreQueues (alive a) (suc t) queues.new
-        × Tells (coalesces a) t (suc t) [] now.new) }
+    ensures swept { OnOk result ((a : List CellEvent) → t < inf → AreEvents a →
+        SameBag now.old (news t (suc t) a) → AreQueues (alive a) t queues.old →
+        AreQueues (alive a) (suc t) queues.new × Tells (coalesces a) t (suc t) [] now.new) }
     ensures rows { OnOk result (failing (is_at t) now.old ≡ 0 → (w : HeldRow → ℕ) →
         total w queues.new ≤ total w queues.old + total w (started_rows now.old)) }
 {
@@ -66,9 +67,9 @@ fn sweep(queues: &mut RowQueues, answer: &mut Vec<Edge>, due: &[Edge]) -> Result
 fn sweep_in_place(queues: &mut RowQueues, due: &mut [Edge]) -> Result<usize, Memory>
     ensures within { IfOk result (λ done. done ≤ length due.old) }
     ensures rest { IfOk result (λ done. drop done due.new ≡ drop done due.old) }
-    ensures swept { IfOk result (λ done. (a : List CellEvent) (from to : ℕ) → IsDue a from to due.old →
-        AreQueues (alive a) from queues.old →
-        (u : ℕ) × CoalesceReached a from u to (drop done due.old) queues.new [] (take done due.new)) }
+    ensures swept { IfOk result (λ done. (a : List CellEvent) (from to : ℕ) →
+        IsDue a from to due.old → AreQueues (alive a) from queues.old → (u : ℕ)
+        × CoalesceReached a from u to (drop done due.old) queues.new [] (take done due.new)) }
     ensures rows { IfOk result (λ done. (w : HeldRow → ℕ) →
         total w queues.new ≤ total w queues.old + total w (started_rows (take done due.old))) }
 {
@@ -89,9 +90,9 @@ fn sweep_in_place(queues: &mut RowQueues, due: &mut [Edge]) -> Result<usize, Mem
 /// Goes through what is due, and answers what it tells. The edges themselves tell it, as long as those of an instant are
 /// few and apart.
 pub(crate) fn tell_due(queues: &mut RowQueues, mut due: Vec<Edge>) -> Result<Vec<Edge>, Memory>
-    ensures swept { IfOk result (λ told. (a : List CellEvent) (from to : ℕ) → IsDue a from to due.items →
-        AreQueues (alive a) from queues.old → AreQueues (alive a) to queues.new
-        × Tells (coalesces a) from to [] told.items) }
+    ensures swept { IfOk result (λ told. (a : List CellEvent) (from to : ℕ) →
+        IsDue a from to due.items → AreQueues (alive a) from queues.old →
+        AreQueues (alive a) to queues.new × Tells (coalesces a) from to [] told.items) }
     ensures rows { OnOk result ((w : HeldRow → ℕ) →
         total w queues.new ≤ total w queues.old + total w (started_rows due.items)) }
 {

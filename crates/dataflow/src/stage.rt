@@ -102,7 +102,7 @@ impl Stage {
 
     /// What the node has to tell once the new edges of its sides came in, which are then closed up to the two times. Of a
     /// node with one child the right list has no columns. Shards pass the gate, and run beside each other where threads can be
-    /// made. Want of memory loses the lists.
+    /// made. Out of memory the lists are lost.
     pub fn step<R: Threads + Sync, G: Gate>(
         &mut self,
         rt: &R,

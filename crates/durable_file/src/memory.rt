@@ -66,7 +66,8 @@ impl MemoryDisk {
 
     // Puts bytes in the place of the file.
     fn write(&mut self, name: Name, bytes: Vec<u8>) -> Result<(), MediumFailed>
-        ensures ok { OnOk result (disk_of self.new ≡ with_content name (Written bytes.items) (disk_of self.old)) }
+        ensures ok { OnOk result (disk_of self.new
+            ≡ with_content name (Written bytes.items) (disk_of self.old)) }
         ensures err { OnErr result (disk_of self.new ≡ disk_of self.old) }
     {
         match name {
@@ -80,7 +81,8 @@ impl MemoryDisk {
 
     // Puts another file in the place of FILE, which a crash may bring back.
     fn put_file(&mut self, next: Stored) -> Result<(), MediumFailed>
-        ensures ok { OnOk result (disk_of self.new ≡ with_content Name.File (content_of next) (disk_of self.old)) }
+        ensures ok { OnOk result (disk_of self.new
+            ≡ with_content Name.File (content_of next) (disk_of self.old)) }
         ensures err { OnErr result (disk_of self.new ≡ disk_of self.old) }
     {
         if self.earlier.reserve(1).is_err() {
@@ -121,7 +123,8 @@ impl MemoryDisk {
     // FILE as it is where back is 0, and else as it was so many changes ago. None where they are more than since the folder was
     // synced.
     fn file_back(self, back: usize) -> Option<Stored>
-        ensures some { IfSome result (λ stored. (left : _) → Leaves (content_of stored) left → MayLeave (disk_of self) left) }
+        ensures some { IfSome result (λ stored. (left : _) → Leaves (content_of stored) left →
+            MayLeave (disk_of self) left) }
         ensures none { IfNone result (length (disk_of self).earlier < back) }
     {
         let MemoryDisk {

@@ -43,7 +43,7 @@ use Rattle.egress.proofs.Moving.{weigh_ended, weigh_started}
 use Rattle.egress.proofs.Reading.{placed_all, since_longer}
 use Rattle.egress.proofs.Reaching.{reached_first}
 
--- what is open hangs on the rows before, as multisets
+-- what is open depends on the rows before, as multisets
 module _ (f g : ℕ → List Row) (c : ℕ) (h : (u : ℕ) → u < c → SameBag (f u) (g u)) where
   before_often : (r : Row) (t : ℕ) → t ≤ c → how_often r (before f t) ≡ how_often r (before g t)
   before_often r zero low = refl

@@ -98,7 +98,7 @@ module _ (lk rk : List ℕ) (within : ℕ) (a b : List CellEvent) where
 
 -- WHAT IS KNOWN
 module _ (lk rk : List ℕ) (within : ℕ) where
-  -- rows that wait hang on what is known before alone
+  -- rows that wait depend on what is known before alone
   pub held_known : (c v : ℕ) (a a2 b b2 : List CellEvent) (rows queue : List HeldRow) → SameBag (cut c a) (cut c a2) → SameBag (cut c b) (cut c b2) →
       FollowHeld lk rk within a b v c rows queue → FollowHeld lk rk within a2 b2 v c rows queue
   held_known c v a a2 b b2 rows queue sa sb h = record {

@@ -166,7 +166,7 @@ module _ (lk rk : List ℕ) (within : ℕ) where
           (none_weigh (nat_lt t (e.start + within)) (flat_map (match_of meets (paired_row rk) within t (held e)) b) ∙ ap (λ n. cond (nat_lt t (e.start + within)) n 0) (gives_is v t b (held e)))
           ∙ last (is_clipped meets b t (held e)) e.start (gives v t b (held e)))
 
-  -- those that start below n hang on what is known below it
+  -- those that start below n depend on what is known below it
   pub below_known : (c : ℕ) (a a2 b b2 : List CellEvent) → c ≤ inf → SameBag (cut c a) (cut c a2) → SameBag (cut c b) (cut c b2) → (v : CellEvent → ℕ) (n : ℕ) → n ≤ c →
       total (λ e. cond (nat_lt e.start n) (v e) 0) (follows lk rk within a b) ≡ total (λ e. cond (nat_lt e.start n) (v e) 0) (follows lk rk within a2 b2)
   below_known c a a2 b b2 low sa sb v zero le = none (follows lk rk within a b) ∙ sym (none (follows lk rk within a2 b2))

@@ -79,7 +79,8 @@ impl AlterLifetime {
         requires room { 1 ≤ capacity }
         requires ints { divides_ints change (map cell_kind_of kinds.now) ≡ true }
         ensures change { IfOk result (λ o. o.change ≡ change) }
-        ensures carried { IfOk result (λ o. o.carried ≡ record { edges = []; kinds = kinds.now; capacity = capacity; batches = 0; room = 0 }) }
+        ensures carried { IfOk result (λ o. o.carried
+            ≡ record { edges = []; kinds = kinds.now; capacity = capacity; batches = 0; room = 0 }) }
         ensures times { IfOk result (λ o. (o.left_to ≡ 0) × (o.right_to ≡ 0)) }
         ensures works { IfOk result (λ o. o.failed ≡ false) }
     {

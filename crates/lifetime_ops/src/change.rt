@@ -65,7 +65,8 @@ impl Change {
 
     /// Whether an edge of these times is answered.
     fn answers(&self, sync: Time, other: Time) -> bool
-        ensures { (e : Edge) → e.sync ≡ sync → e.other ≡ other → result ≡ is_answered (node_of self.now) e }
+        ensures { (e : Edge) → e.sync ≡ sync → e.other ≡ other →
+            result ≡ is_answered (node_of self.now) e }
     {
         match self {
             Change::Delay { by } => sync.plus(*by) < Time::bounds().1,
@@ -88,7 +89,8 @@ impl Change {
 
     // Which rows of the batch are answered.
     fn mask(&self, alloc: Global, batch: &Batch) -> Result<Occupancy, Memory>
-        ensures { IfOk result (λ mask. mask.items ≡ map (λ r. is_answered (node_of self.now) (edge_of r)) batch.now.rows) }
+        ensures { IfOk result (λ mask. mask.items ≡ map
+            (λ r. is_answered (node_of self.now) (edge_of r)) batch.now.rows) }
     {
         let mut mask = Occupancy::new(alloc, batch.rows())?;
         for i in 0..batch.rows() {
@@ -110,7 +112,8 @@ impl Change {
 
     /// Leaves the edges of the batch that are answered, with their new times. Out of memory, the batch stays as it was.
     pub(crate) fn apply(&self, alloc: Global, batch: &mut Batch) -> Result<(), Memory>
-        ensures edges { OnOk result (edges_of batch.new.rows ≡ retimed (node_of self.now) (edges_of batch.old.rows)) }
+        ensures edges { OnOk result (edges_of batch.new.rows
+            ≡ retimed (node_of self.now) (edges_of batch.old.rows)) }
         ensures kinds { batch.new.kinds ≡ batch.old.kinds }
         ensures capacity { batch.new.capacity ≡ batch.old.capacity }
     {

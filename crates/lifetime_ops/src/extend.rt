@@ -105,7 +105,8 @@ pub(crate) fn take_due(
 ) -> Result<EdgeList, Memory>
     requires waiting { All (IsWaitingEnd (cells_of like.now)) ends.old }
     requires capacity { pools.old.capacity ≡ like.now.capacity }
-    ensures edges { IfOk result (λ due. edges_of_pending ends.old ≡ due.edges ++ edges_of_pending ends.new) }
+    ensures edges { IfOk result (λ due. edges_of_pending ends.old ≡ due.edges
+        ++ edges_of_pending ends.new) }
     ensures low { IfOk result (λ due. failing (is_below below) due.edges ≡ 0) }
     ensures late { OnOk result (All (λ p. below ≤ p.at) ends.new) }
     ensures waiting { All (IsWaitingEnd (cells_of like.now)) ends.new }
@@ -134,7 +135,8 @@ impl ExtendLifetime {
         requires width { length kinds.now ≤ 32 }
         requires room { 1 ≤ capacity }
         ensures by { IfOk result (λ o. o.by ≡ by) }
-        ensures carried { IfOk result (λ o. o.carried ≡ record { edges = []; kinds = kinds.now; capacity = capacity; batches = 0; room = 0 }) }
+        ensures carried { IfOk result (λ o. o.carried
+            ≡ record { edges = []; kinds = kinds.now; capacity = capacity; batches = 0; room = 0 }) }
         ensures ends { IfOk result (λ o. o.ends ≡ []) }
         ensures times { IfOk result (λ o. (o.left_to ≡ 0) × (o.right_to ≡ 0)) }
         ensures works { IfOk result (λ o. o.failed ≡ false) }

@@ -38,8 +38,9 @@ fn are_ends_of_part(saved: &Saved, part: u64) -> bool
 fn queue_of(alloc: Global, edges: &[Edge]) -> Result<EndQueue, Memory>
     requires ends { list_all is_end edges.now ≡ true }
     ensures edges { IfOk result (λ ends. SameBag edges.now (edges_of_pending ends)) }
-    ensures waiting { IfOk result (λ ends. (kinds : List CellKind) (from : ℕ) → IsEdgePart kinds from edges.now →
-        All (IsWaitingEnd kinds) ends × All (λ p. from ≤ p.at) ends) }
+    ensures waiting { IfOk result (λ ends. (kinds : List CellKind) (from : ℕ) →
+        IsEdgePart kinds from edges.now → All (IsWaitingEnd kinds) ends
+        × All (λ p. from ≤ p.at) ends) }
 {
     let mut ends = EndQueue::new(alloc);
     for edge in edges {
@@ -68,13 +69,16 @@ impl ExtendLifetime {
     fn parts_of(&self, saved: &Saved, left_to: Time) -> Result<(EdgeList, EndQueue), LoadFault>
         ensures carried { IfOk result (λ parts. parts.0.edges ≡ part_of 0 saved.now) }
         ensures shape { IfOk result (λ parts. SameShape self.now.carried parts.0) }
-        ensures ends { IfOk result (λ parts. SameBag (part_of 1 saved.now) (edges_of_pending parts.1)) }
+        ensures ends { IfOk result (λ parts. SameBag (part_of 1 saved.now)
+            (edges_of_pending parts.1)) }
         ensures waiting { IfOk result (λ parts.
-            All (IsWaitingEnd (cells_of self.now.carried)) parts.1 × All (λ p. left_to ≤ p.at) parts.1) }
+            All (IsWaitingEnd (cells_of self.now.carried)) parts.1
+            × All (λ p. left_to ≤ p.at) parts.1) }
         ensures sound { OnOk result (IsState self.now saved.now left_to left_to) }
         ensures refused { IfErr result (λ fault. fault ≡ LoadFault.NotState →
             IsState self.now saved.now left_to left_to → ⊥) }
-        ensures told { (IsState self.now saved.now left_to left_to → ⊥) → result ≡ Err LoadFault.NotState }
+        ensures told { (IsState self.now saved.now left_to left_to → ⊥) →
+            result ≡ Err LoadFault.NotState }
     {
         if !self.is_state(saved, left_to) {
             return Err(LoadFault::NotState);

@@ -39,7 +39,8 @@ fn mean_of(datum: Datum, count: Datum) -> Datum
 
 // What stands in a column: the mean, if it is one of the columns `at`.
 fn mean_in(at: &[usize], column: usize, datum: Datum, count: Datum) -> Datum
-    ensures { result ≡ cond (list_any (nat_eq column) at.now) (mean_of_int plain_cells (datum_int count) datum) datum }
+    ensures { result ≡ cond (list_any (nat_eq column) at.now)
+        (mean_of_int plain_cells (datum_int count) datum) datum }
 {
     if at.contains(&column) {
         mean_of(datum, count)
@@ -71,8 +72,10 @@ pub(crate) fn means_of(
 ) -> Result<EdgeList, Memory>
     requires capacity { pools.old.capacity ≡ due.capacity }
     requires ints { divides_ints (Change.Mean at.now) (cells_of due) ≡ true }
-    ensures edges { IfOk result (λ answer. answer.edges ≡ answered (node_of (Change.Mean at.now)) due.edges) }
-    ensures kinds { IfOk result (λ answer. cells_of answer ≡ answer_kinds (Change.Mean at.now) (cells_of due)) }
+    ensures edges { IfOk result (λ answer. answer.edges
+        ≡ answered (node_of (Change.Mean at.now)) due.edges) }
+    ensures kinds { IfOk result (λ answer. cells_of answer
+        ≡ answer_kinds (Change.Mean at.now) (cells_of due)) }
     ensures capacity { IfOk result (λ answer. answer.capacity ≡ due.capacity) }
     ensures pools { pools.new.capacity ≡ pools.old.capacity }
     ensures limit { pools.new.limit ≡ pools.old.limit }

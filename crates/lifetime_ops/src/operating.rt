@@ -30,7 +30,8 @@ impl AlterLifetime {
         ensures sound { OnOk result (IsState self.now saved.now left_to left_to) }
         ensures refused { IfErr result (λ fault. fault ≡ LoadFault.NotState →
             IsState self.now saved.now left_to left_to → ⊥) }
-        ensures told { (IsState self.now saved.now left_to left_to → ⊥) → result ≡ Err LoadFault.NotState }
+        ensures told { (IsState self.now saved.now left_to left_to → ⊥) →
+            result ≡ Err LoadFault.NotState }
     {
         if !self.is_state(saved, left_to) {
             return Err(LoadFault::NotState);

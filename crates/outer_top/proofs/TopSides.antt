@@ -29,7 +29,7 @@ use Rattle.outer_top.specs.TopEvents.{tops_at, AreSettled, TopHeld}
 use Rattle.outer_top.specs.Sweeping.{has_begun}
 
 -- WHAT IS KNOWN
--- queues hang on the rows before alone
+-- queues depend on the rows before alone
 starts_known : (f g : ℕ → List Cells) (r : Cells) (t : ℕ) → ((u : ℕ) → u < t → SameBag (f u) (g u)) → open_starts same_cells f r t ≡ open_starts same_cells g r t
 starts_known f g r zero h = refl
 starts_known f g r (suc t) h =

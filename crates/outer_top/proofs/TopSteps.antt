@@ -30,7 +30,7 @@ use Rattle.sweep_laws.specs.Queues.{AreMoves}
 use Rattle.sweep_laws.specs.Sweeps.{is_at, IsPast, StartsAt, IsDue, Tells, IsNext}
 use Rattle.sweep_laws.proofs.QueueMoves.{shown_move}
 use Rattle.sweep_laws.proofs.Queueing.{queues_next, touched_told}
-use Rattle.sweep_laws.proofs.Sides.{side_now, side_none, side_rest, starts_between, some_done, tells_parts, tells_still}
+use Rattle.sweep_laws.proofs.Sides.{side_now, side_none, side_rest, starts_between, tells_parts, tells_still}
 use Rattle.outer_top.specs.Keyed.{Block, AreOfKeys, AreOtherKeys, tops_of_blocks}
 use Rattle.outer_top.specs.Ranks.{has_rank}
 use Rattle.outer_top.specs.Shown.{rows_of, shown_of, rank_strays, is_settled}

@@ -49,7 +49,7 @@ fn is_low(groups: &Groups, rank: u64) -> bool
     }
 }
 
-// A sum that has no room is want of memory.
+// A sum that has no room is told as out of memory.
 fn sum_of(a: usize, b: usize) -> Result<usize, Memory>
     ensures { IfOk result (λ n. n ≡ a + b) }
 {

@@ -24,7 +24,8 @@ pub fn each_node_is_cut()
 
 /// Each choice of a number below each of these has its own number, below their product.
 pub fn choices_are_numbered()
-    ensures each { (widths columns : List ℕ) → AllZip (λ column width. column < width) columns widths →
+    ensures each { (widths columns : List ℕ) →
+        AllZip (λ column width. column < width) columns widths →
         (number_of widths columns < choice_count widths)
         × (choice widths (number_of widths columns) ≡ columns) }
     ensures once { (widths : List ℕ) (number : ℕ) → number < choice_count widths →
@@ -50,12 +51,12 @@ pub fn parts_have_their_rows()
         (over_shards (λ k. snapshots (part_of part k columns source) plan.nodes i t) count) }
     ensures ends { (part : Value → ℕ) (plan : PlanParts) (source : Sources) (columns : List ℕ)
         (i place : ℕ) → IsCutBy plan source columns i place → (row : Row) (t : ℕ) → t < inf →
-        row_ends (snapshots (part_of part (part_at part place row) columns source) plan.nodes i) t row
-        ≡ row_ends (snapshots source plan.nodes i) t row }
+        row_ends (snapshots (part_of part (part_at part place row) columns source) plan.nodes i) t
+        row ≡ row_ends (snapshots source plan.nodes i) t row }
     ensures starts { (part : Value → ℕ) (plan : PlanParts) (source : Sources) (columns : List ℕ)
         (i place : ℕ) → IsCutBy plan source columns i place → (row : Row) (t : ℕ) → t < inf →
-        row_starts (snapshots (part_of part (part_at part place row) columns source) plan.nodes i) t row
-        ≡ row_starts (snapshots source plan.nodes i) t row }
+        row_starts (snapshots (part_of part (part_at part place row) columns source) plan.nodes i) t
+        row ≡ row_starts (snapshots source plan.nodes i) t row }
     ensures others { (part : Value → ℕ) (k : ℕ) (plan : PlanParts) (source : Sources)
         (columns : List ℕ) (i place : ℕ) → IsCutBy plan source columns i place → (row : Row)
         (t : ℕ) → t < inf → part_at part place row ≢ k →

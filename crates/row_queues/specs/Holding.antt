@@ -1,17 +1,19 @@
 -- The open starts of the rows that are held, and edges of one instant.
-use Rattle.std.specs.Prelude.{◌≡◌, ℕ, nat_lt, Bool, true, ◌&&◌, ◌||◌, not, cond}
+use Rattle.std.specs.Prelude.{◌≡◌, ℕ, suc, ◌<◌, nat_lt, Bool, true, ◌&&◌, ◌||◌, not, cond}
 use Rattle.std.specs.Prelude.{List, [], ◌∷◌, ◌++◌, ◌-◌, ◌≤◌, length, map, drop, replicate}
 use Rattle.std.specs.List.{list_all}
+use Rattle.tw_rows.specs.Instant.{inf}
 use Rattle.tw_rows.specs.SameCells.{same_cells}
 use Rattle.tw_rows.specs.declared.edge.Edge.{Edge}
 use Rattle.edge_history.specs.Order.{failing, is_end}
 use Rattle.edge_history.specs.Opens.{bare, ended_rows, started_rows}
-use Rattle.key_nodes.specs.Coalesced.{how_often}
-use Rattle.sweep_laws.specs.Queues.{Cells, queue_ends, queue_starts, queue_after}
+use Rattle.key_nodes.specs.Coalesced.{how_often, coalesced}
+use Rattle.sweep_laws.specs.Queues.{Cells, queue_ends, queue_starts, queue_after, open_starts}
+use Rattle.sweep_laws.specs.Sweeps.{Tells}
 use Rattle.row_queues.specs.declared.moves.Moves.{Moves}
 use Rattle.row_queues.specs.declared.held.Held.{Held}
 use Rattle.row_queues.specs.Kept.{since_at}
-use Rattle.row_queues.specs.Queued.{queue_of}
+use Rattle.row_queues.specs.Queued.{queue_of, EdgesLead}
 
 -- the open starts of a row, the earliest first: those among the few, and then those in the map
 abbrev pub since_of : Held → Cells → List ℕ
@@ -25,6 +27,15 @@ AreEarly t since = (cells : Cells) → failing (λ s. nat_lt s t) (since cells) 
 abbrev pub after_edges : ℕ → List Edge → (Cells → List ℕ) → Cells → List ℕ
 after_edges t now since r =
     queue_after t (λ c. how_often same_cells c (bare (ended_rows now))) (λ c. how_often same_cells c (bare (started_rows now))) since r
+
+-- each row is open as the edges at t leave it
+abbrev pub AreMovedBy : ℕ → List Edge → Held → Held → Type 0
+AreMovedBy t now old new = (c : Cells) → since_of new c ≡ after_edges t now (since_of old) c
+
+-- where the edges lead to the rows at t, and the rows before it were open, what happens to the coalesced events at t is told
+abbrev pub TellEdges : ℕ → List Edge → Held → List Edge → List Edge → Type 0
+TellEdges t now old before after = (f : ℕ → List Cells) → t < inf → EdgesLead f t now →
+    ((c : Cells) → since_of old c ≡ open_starts same_cells f c t) → Tells (coalesced same_cells f) t (suc t) before after
 
 -- the move of an edge: its row ends once, or starts once
 abbrev pub move_of : Edge → Moves

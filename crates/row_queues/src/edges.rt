@@ -1,5 +1,5 @@
 // The edges of one instant.
-ghost use Rattle.std.specs.Prelude.{◌≡◌, ◌↔◌, ◌<◌, ◌≤◌, ◌+◌, ◌*◌, ◌++◌, ℕ, suc, IsTrue, List, length, drop, flat_map, OnOk};
+ghost use Rattle.std.specs.Prelude.{◌≡◌, ◌↔◌, ◌<◌, ◌≤◌, ◌+◌, ◌*◌, ◌++◌, ℕ, suc, IsTrue, length, drop, flat_map, OnOk};
 ghost use Rattle.std.specs.List.{list_all};
 ghost use Rattle.tw_rows.specs.Bag.{total};
 ghost use Rattle.tw_rows.specs.Instant.{inf};
@@ -7,12 +7,10 @@ ghost use Rattle.tw_rows.specs.declared.edge.Edge.{Edge as Told};
 ghost use Rattle.tw_rows.specs.SameCells.{same_cells as same};
 ghost use Rattle.edge_history.specs.Order.{is_end};
 ghost use Rattle.edge_history.specs.Opens.{bare, ended_of, started_of};
-ghost use Rattle.key_nodes.specs.Coalesced.{coalesced};
-ghost use Rattle.sweep_laws.specs.Queues.{Cells as Row, open_starts, queue_told, queue_after};
-ghost use Rattle.sweep_laws.specs.Sweeps.{InOrder, Tells};
+ghost use Rattle.sweep_laws.specs.Queues.{Cells as Row, queue_told, queue_after};
+ghost use Rattle.sweep_laws.specs.Sweeps.{InOrder};
 ghost use Rattle.row_queues.specs.Kept.{EachIsOpen, ends_of, starts_of, rows_of};
-ghost use Rattle.row_queues.specs.Holding.{since_of, after_edges, AreEarly, may_follow, AreApart, moves_of, MovesOnce};
-ghost use Rattle.row_queues.specs.Queued.{EdgesLead};
+ghost use Rattle.row_queues.specs.Holding.{since_of, AreMovedBy, TellEdges, AreEarly, may_follow, AreApart, moves_of, MovesOnce};
 
 use crate::held::{Held, end_one, start_one};
 use crate::instant::tell_instant;
@@ -96,7 +94,8 @@ fn move_one(
     at: Time,
     edge: &Edge,
 ) -> Result<(), Memory>
-    ensures moved { OnOk result (MovesOnce at edge.now held.old held.new answer.old.items answer.new.items) }
+    ensures moved { OnOk result (MovesOnce at edge.now held.old held.new answer.old.items
+        answer.new.items) }
     ensures filled { EachIsOpen held.old.starts → EachIsOpen held.new.starts }
 {
     if edge.is_end() {
@@ -115,11 +114,12 @@ fn move_apart(
     at: Time,
     now: &[Edge],
 ) -> Result<(), Memory>
-    ensures since { OnOk result (AreApart now.now → (c : Row) → since_of held.new c
-        ≡ queue_after at (ends_of (moves_of now.now)) (starts_of (moves_of now.now)) (since_of held.old) c) }
-    ensures told { OnOk result (AreApart now.now → (w : Told → ℕ) → total w answer.new.items
-        ≡ total w answer.old.items
-        + total w (flat_map (queue_told at (ends_of (moves_of now.now)) (starts_of (moves_of now.now))
+    ensures since { OnOk result (AreApart now.now → (c : Row) →
+        since_of held.new c ≡ queue_after at (ends_of (moves_of now.now))
+        (starts_of (moves_of now.now)) (since_of held.old) c) }
+    ensures told { OnOk result (AreApart now.now → (w : Told → ℕ) →
+        total w answer.new.items ≡ total w answer.old.items + total w
+        (flat_map (queue_told at (ends_of (moves_of now.now)) (starts_of (moves_of now.now))
         (since_of held.old)) (rows_of (moves_of now.now)))) }
     ensures order { OnOk result (AreApart now.now → at < inf → AreEarly at (since_of held.old) →
         InOrder (2 * at) answer.old.items → InOrder (suc (2 * at)) answer.new.items) }
@@ -139,11 +139,9 @@ fn move_together(
     at: Time,
     now: &[Edge],
 ) -> Result<(), Memory>
-    ensures since { OnOk result ((c : Row) → since_of held.new c ≡ after_edges at now.now (since_of held.old) c) }
-    ensures tells { OnOk result ((f : ℕ → List Row) → at < inf →
-        EdgesLead f at now.now →
-        ((c : Row) → since_of held.old c ≡ open_starts same f c at) →
-        Tells (coalesced same f) at (suc at) answer.old.items answer.new.items) }
+    ensures since { OnOk result (AreMovedBy at now.now held.old held.new) }
+    ensures tells { OnOk result (
+        TellEdges at now.now held.old answer.old.items answer.new.items) }
     ensures filled { EachIsOpen held.old.starts → EachIsOpen held.new.starts }
 {
     let mut lost = Vec::new(alloc);
@@ -163,11 +161,9 @@ pub(crate) fn tell_edges(
     at: Time,
     now: &[Edge],
 ) -> Result<(), Memory>
-    ensures since { OnOk result ((c : Row) → since_of held.new c ≡ after_edges at now.now (since_of held.old) c) }
-    ensures tells { OnOk result ((f : ℕ → List Row) → at < inf →
-        EdgesLead f at now.now →
-        ((c : Row) → since_of held.old c ≡ open_starts same f c at) →
-        Tells (coalesced same f) at (suc at) answer.old.items answer.new.items) }
+    ensures since { OnOk result (AreMovedBy at now.now held.old held.new) }
+    ensures tells { OnOk result (
+        TellEdges at now.now held.old answer.old.items answer.new.items) }
     ensures filled { EachIsOpen held.old.starts → EachIsOpen held.new.starts }
 {
     // Edges of different rows need no counts.

@@ -55,7 +55,8 @@ fn word_of(cells: &Cells) -> u64
 
 // Whether the row has these cells, whose word is given.
 fn is_row(row: &MarkedRow, word: u64, cells: &Cells) -> bool
-    ensures { is_marked row.now → word ≡ word_of_cells cells.now → result ≡ same cells.now row.now.cells }
+    ensures { is_marked row.now → word ≡ word_of_cells cells.now →
+        result ≡ same cells.now row.now.cells }
 {
     row.word == word && same_cells(cells, &row.cells)
 }
@@ -77,8 +78,8 @@ fn place_of(rows: &[MarkedRow], cells: &Cells) -> Option<usize>
 
 // Adds an entry of a row.
 fn save_row(saved: &mut Saved, part: u64, row: &MarkedRow) -> Result<(), Memory>
-    ensures { OnOk result (saved.new ≡ saved.old
-        ++ entries_of part (starts_of (record { cells = row.now.cells; start = row.now.start } ∷ []))) }
+    ensures { OnOk result (saved.new ≡ saved.old ++ entries_of part
+        (starts_of (record { cells = row.now.cells; start = row.now.start } ∷ []))) }
 {
     saved.push(SavedEntry {
         part,
@@ -91,7 +92,8 @@ fn save_row(saved: &mut Saved, part: u64, row: &MarkedRow) -> Result<(), Memory>
 
 // Adds an entry of each row.
 fn save_rows(saved: &mut Saved, part: u64, rows: &[MarkedRow]) -> Result<(), Memory>
-    ensures { OnOk result (saved.new ≡ saved.old ++ entries_of part (starts_of (held_rows rows.now))) }
+    ensures { OnOk result (saved.new ≡ saved.old ++ entries_of part
+        (starts_of (held_rows rows.now))) }
 {
     for row in rows {
         save_row(saved, part, row)?;
@@ -123,7 +125,8 @@ impl FewRows {
 
     /// Puts a row last.
     pub(crate) fn push(&mut self, cells: &Cells, start: Time) -> Result<(), Memory>
-        ensures { OnOk result (self.new ≡ self.old ++ record { cells = cells.now; start = start } ∷ []) }
+        ensures { OnOk result (self.new ≡ self.old
+            ++ record { cells = cells.now; start = start } ∷ []) }
     {
         let word = word_of(cells);
         let kept = cells.clone()?;

@@ -22,7 +22,7 @@ pub(crate) struct Counts {
 
 type Counted = IndexMap<Cells, Counts>;
 
-// A sum that has no room is want of memory.
+// A sum that has no room is told as out of memory.
 fn sum_of(a: usize, b: usize) -> Result<usize, Memory>
     ensures { IfOk result (λ n. n ≡ a + b) }
 {
@@ -42,8 +42,10 @@ fn counts_of(counted: &Counted, cells: &Cells) -> Counts
 
 // Counts a row so often.
 fn count(counted: &mut Counted, cells: &Cells, more: Counts) -> Result<(), Memory>
-    ensures ends { OnOk result ((c : List Datum) → ends_at counted.new c ≡ ends_at counted.old c + cond (same cells.now c) more.ends 0) }
-    ensures starts { OnOk result ((c : List Datum) → starts_at counted.new c ≡ starts_at counted.old c + cond (same cells.now c) more.starts 0) }
+    ensures ends { OnOk result ((c : List Datum) →
+        ends_at counted.new c ≡ ends_at counted.old c + cond (same cells.now c) more.ends 0) }
+    ensures starts { OnOk result ((c : List Datum) →
+        starts_at counted.new c ≡ starts_at counted.old c + cond (same cells.now c) more.starts 0) }
 {
     let had = counts_of(counted, cells);
     let ends = sum_of(had.ends, more.ends)?;
@@ -55,8 +57,10 @@ fn count(counted: &mut Counted, cells: &Cells, more: Counts) -> Result<(), Memor
 
 // Counts an end of each row.
 fn count_lost(counted: &mut Counted, rows: &[Cells]) -> Result<(), Memory>
-    ensures ends { OnOk result ((c : List Datum) → ends_at counted.new c ≡ ends_at counted.old c + how_often same c rows.now) }
-    ensures starts { OnOk result ((c : List Datum) → starts_at counted.new c ≡ starts_at counted.old c) }
+    ensures ends { OnOk result ((c : List Datum) →
+        ends_at counted.new c ≡ ends_at counted.old c + how_often same c rows.now) }
+    ensures starts { OnOk result ((c : List Datum) →
+        starts_at counted.new c ≡ starts_at counted.old c) }
 {
     for cells in rows {
         count(counted, cells, Counts { ends: 1, starts: 0 })?;
@@ -67,7 +71,8 @@ fn count_lost(counted: &mut Counted, rows: &[Cells]) -> Result<(), Memory>
 // Counts a start of each row.
 fn count_won(counted: &mut Counted, rows: &[Cells]) -> Result<(), Memory>
     ensures ends { OnOk result ((c : List Datum) → ends_at counted.new c ≡ ends_at counted.old c) }
-    ensures starts { OnOk result ((c : List Datum) → starts_at counted.new c ≡ starts_at counted.old c + how_often same c rows.now) }
+    ensures starts { OnOk result ((c : List Datum) →
+        starts_at counted.new c ≡ starts_at counted.old c + how_often same c rows.now) }
 {
     for cells in rows {
         count(counted, cells, Counts { ends: 0, starts: 1 })?;
@@ -77,7 +82,8 @@ fn count_won(counted: &mut Counted, rows: &[Cells]) -> Result<(), Memory>
 
 // The counts of an entry as moves.
 fn push_moves(moves: &mut Vec<Moves>, entry: Option<(&Cells, &Counts)>) -> Result<(), Memory>
-    ensures { OnOk result (moves.new.items ≡ moves.old.items ++ map as_moves (option_to_list (option_map (λ p. (p.0.now, p.1.now)) entry.entry))) }
+    ensures { OnOk result (moves.new.items ≡ moves.old.items ++ map as_moves
+        (option_to_list (option_map (λ p. (p.0.now, p.1.now)) entry.entry))) }
 {
     if let Some((cells, counts)) = entry {
         moves.push(Moves {
@@ -92,8 +98,10 @@ fn push_moves(moves: &mut Vec<Moves>, entry: Option<(&Cells, &Counts)>) -> Resul
 // The counts as moves.
 fn moves_of(alloc: Global, counted: Counted) -> Result<Vec<Moves>, Memory>
     ensures once { IfOk result (λ moves. AreOnce moves.items) }
-    ensures ends { IfOk result (λ moves. (c : List Datum) → ends_of moves.items c ≡ ends_at counted c) }
-    ensures starts { IfOk result (λ moves. (c : List Datum) → starts_of moves.items c ≡ starts_at counted c) }
+    ensures ends { IfOk result (λ moves. (c : List Datum) →
+        ends_of moves.items c ≡ ends_at counted c) }
+    ensures starts { IfOk result (λ moves. (c : List Datum) →
+        starts_of moves.items c ≡ starts_at counted c) }
 {
     let mut moves = Vec::new(alloc);
     for i in 0..counted.len() {
@@ -104,8 +112,10 @@ fn moves_of(alloc: Global, counted: Counted) -> Result<Vec<Moves>, Memory>
 
 /// The moves of a row that moves alone, once.
 pub(crate) fn lone_moves(lost: &[Cells], won: &[Cells]) -> Result<Option<Moves>, Memory>
-    ensures ends { IfOk result (λ found. IfSome found (λ m. (c : List Datum) → ends_of (m ∷ []) c ≡ how_often same c lost.now)) }
-    ensures starts { IfOk result (λ found. IfSome found (λ m. (c : List Datum) → starts_of (m ∷ []) c ≡ how_often same c won.now)) }
+    ensures ends { IfOk result (λ found. IfSome found
+        (λ m. (c : List Datum) → ends_of (m ∷ []) c ≡ how_often same c lost.now)) }
+    ensures starts { IfOk result (λ found. IfSome found
+        (λ m. (c : List Datum) → starts_of (m ∷ []) c ≡ how_often same c won.now)) }
 {
     if lost.is_empty() && won.len() == 1 {
         let cells = won[0].clone()?;
@@ -129,8 +139,10 @@ pub(crate) fn lone_moves(lost: &[Cells], won: &[Cells]) -> Result<Option<Moves>,
 /// How often each row that was lost or won ends and starts, each row once.
 pub(crate) fn gather(alloc: Global, lost: &[Cells], won: &[Cells]) -> Result<Vec<Moves>, Memory>
     ensures once { IfOk result (λ moves. AreOnce moves.items) }
-    ensures ends { IfOk result (λ moves. (c : List Datum) → ends_of moves.items c ≡ how_often same c lost.now) }
-    ensures starts { IfOk result (λ moves. (c : List Datum) → starts_of moves.items c ≡ how_often same c won.now) }
+    ensures ends { IfOk result (λ moves. (c : List Datum) →
+        ends_of moves.items c ≡ how_often same c lost.now) }
+    ensures starts { IfOk result (λ moves. (c : List Datum) →
+        starts_of moves.items c ≡ how_often same c won.now) }
 {
     if let Some(moves) = few_moves(alloc, lost, won)? {
         return Ok(moves);

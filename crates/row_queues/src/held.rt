@@ -144,9 +144,11 @@ pub(crate) fn start_often(
     cells: &Cells,
     count: usize,
 ) -> Result<(), Memory>
-    ensures since { OnOk result ((c : List Datum) → since_of held.new c
-        ≡ cond (same cells.now c) (since_of held.old c ++ replicate count at) (since_of held.old c)) }
-    ensures told { OnOk result (answer.new.items ≡ answer.old.items ++ queue_starts at count cells.now) }
+    ensures since { OnOk result ((c : List Datum) →
+        since_of held.new c ≡ cond (same cells.now c) (since_of held.old c ++ replicate count at)
+        (since_of held.old c)) }
+    ensures told { OnOk result (answer.new.items ≡ answer.old.items
+        ++ queue_starts at count cells.now) }
     ensures filled { EachIsOpen held.old.starts → EachIsOpen held.new.starts }
 {
     for _ in 0..count {

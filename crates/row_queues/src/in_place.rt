@@ -1,15 +1,12 @@
 // Edges of one instant that tell in place what they show.
-ghost use Rattle.std.specs.Prelude.{◌≡◌, ◌<◌, ◌*◌, ℕ, suc, [], List, flat_map, OnOk};
+ghost use Rattle.std.specs.Prelude.{◌≡◌, ◌<◌, ◌*◌, ℕ, suc, [], flat_map, OnOk};
 ghost use Rattle.tw_rows.specs.Bag.{total};
 ghost use Rattle.tw_rows.specs.Instant.{inf};
 ghost use Rattle.tw_rows.specs.declared.edge.Edge.{Edge as Told};
-ghost use Rattle.tw_rows.specs.SameCells.{same_cells as same};
-ghost use Rattle.key_nodes.specs.Coalesced.{coalesced};
-ghost use Rattle.sweep_laws.specs.Queues.{Cells as Row, open_starts, queue_told, queue_after};
-ghost use Rattle.sweep_laws.specs.Sweeps.{InOrder, Tells};
+ghost use Rattle.sweep_laws.specs.Queues.{Cells as Row, queue_told, queue_after};
+ghost use Rattle.sweep_laws.specs.Sweeps.{InOrder};
 ghost use Rattle.row_queues.specs.Kept.{EachIsOpen, ends_of, starts_of, rows_of};
-ghost use Rattle.row_queues.specs.Holding.{since_of, after_edges, AreEarly, AreApart, HaveStarts, moves_of, MovesInPlace};
-ghost use Rattle.row_queues.specs.Queued.{EdgesLead};
+ghost use Rattle.row_queues.specs.Holding.{since_of, AreMovedBy, TellEdges, AreEarly, AreApart, HaveStarts, moves_of, MovesInPlace};
 
 use crate::held::{Held, put_start, take_start};
 use std::alloc::Global;
@@ -38,13 +35,15 @@ fn move_row(held: &mut Held, alloc: Global, at: Time, edge: &mut Edge) -> Result
 
 // Ends and starts the rows of edges that are apart, which then tell that.
 fn move_each(held: &mut Held, alloc: Global, at: Time, now: &mut [Edge]) -> Result<(), Memory>
-    ensures since { OnOk result (AreApart now.old → (c : Row) → since_of held.new c
-        ≡ queue_after at (ends_of (moves_of now.old)) (starts_of (moves_of now.old)) (since_of held.old) c) }
-    ensures told { OnOk result (AreApart now.old → HaveStarts (since_of held.old) now.old → (w : Told → ℕ) → total w now.new
-        ≡ total w (flat_map (queue_told at (ends_of (moves_of now.old)) (starts_of (moves_of now.old))
+    ensures since { OnOk result (AreApart now.old → (c : Row) →
+        since_of held.new c ≡ queue_after at (ends_of (moves_of now.old))
+        (starts_of (moves_of now.old)) (since_of held.old) c) }
+    ensures told { OnOk result (AreApart now.old → HaveStarts (since_of held.old) now.old →
+        (w : Told → ℕ) → total w now.new ≡ total w
+        (flat_map (queue_told at (ends_of (moves_of now.old)) (starts_of (moves_of now.old))
         (since_of held.old)) (rows_of (moves_of now.old)))) }
-    ensures order { OnOk result (AreApart now.old → HaveStarts (since_of held.old) now.old → at < inf →
-        AreEarly at (since_of held.old) → InOrder (suc (2 * at)) now.new) }
+    ensures order { OnOk result (AreApart now.old → HaveStarts (since_of held.old) now.old →
+        at < inf → AreEarly at (since_of held.old) → InOrder (suc (2 * at)) now.new) }
     ensures filled { EachIsOpen held.old.starts → EachIsOpen held.new.starts }
 {
     for i in 0..now.len() {
@@ -61,11 +60,8 @@ pub(crate) fn tell_in_place(
     now: &mut [Edge],
 ) -> Result<(), Memory>
     requires { AreApart now.old }
-    ensures since { OnOk result ((c : Row) → since_of held.new c ≡ after_edges at now.old (since_of held.old) c) }
-    ensures tells { OnOk result ((f : ℕ → List Row) → at < inf →
-        EdgesLead f at now.old →
-        ((c : Row) → since_of held.old c ≡ open_starts same f c at) →
-        Tells (coalesced same f) at (suc at) [] now.new) }
+    ensures since { OnOk result (AreMovedBy at now.old held.old held.new) }
+    ensures tells { OnOk result (TellEdges at now.old held.old [] now.new) }
     ensures filled { EachIsOpen held.old.starts → EachIsOpen held.new.starts }
 {
     move_each(held, alloc, at, now)?;

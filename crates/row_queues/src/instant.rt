@@ -24,8 +24,9 @@ pub(crate) fn tell_instant(
     lost: &[Cells],
     won: &[Cells],
 ) -> Result<(), Memory>
-    ensures since { OnOk result ((c : Row) → since_of held.new c
-        ≡ queue_after at (λ r. how_often same r lost.now) (λ r. how_often same r won.now) (since_of held.old) c) }
+    ensures since { OnOk result ((c : Row) →
+        since_of held.new c ≡ queue_after at (λ r. how_often same r lost.now)
+        (λ r. how_often same r won.now) (since_of held.old) c) }
     ensures tells { OnOk result ((f : ℕ → List Row) → at < inf →
         AreMoves same f at (λ r. how_often same r lost.now) (λ r. how_often same r won.now) →
         ((c : Row) → since_of held.old c ≡ open_starts same f c at) →

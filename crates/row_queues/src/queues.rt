@@ -19,7 +19,8 @@ pub type Starts = IndexMap<Cells, VecDeque<Time>>;
 /// Tells a start.
 #[tactic(auto, unfolding(tw_rows::specs::Instant::inf))]
 pub(crate) fn push_start(answer: &mut Vec<Edge>, at: Time, cells: &Cells) -> Result<(), Memory>
-    ensures { OnOk result (answer.new.items ≡ answer.old.items ++ record { sync = at; other = inf; cells = cells.now } ∷ []) }
+    ensures { OnOk result (answer.new.items ≡ answer.old.items
+        ++ record { sync = at; other = inf; cells = cells.now } ∷ []) }
 {
     answer.push(Edge {
         sync: at,
@@ -36,7 +37,8 @@ pub(crate) fn push_end(
     start: Time,
     cells: &Cells,
 ) -> Result<(), Memory>
-    ensures { OnOk result (answer.new.items ≡ answer.old.items ++ record { sync = at; other = start; cells = cells.now } ∷ []) }
+    ensures { OnOk result (answer.new.items ≡ answer.old.items
+        ++ record { sync = at; other = start; cells = cells.now } ∷ []) }
 {
     answer.push(Edge {
         sync: at,

@@ -116,7 +116,8 @@ impl RowQueues {
             EdgesLead f at now.now → AreQueues f at self.old → AreQueues f (suc at) self.new
             × Tells (coalesced same f) at (suc at) answer.old.items answer.new.items) }
         ensures rows { OnOk result ((w : HeldRow → ℕ) →
-            total w self.new ≤ total w self.old + total w (rows_at at (bare (started_rows now.now)))) }
+            total w self.new ≤ total w self.old + total w
+            (rows_at at (bare (started_rows now.now)))) }
     {
         // Their calls tell the proof that no row stands twice.
         let _ = self.held.starts.len();
@@ -132,7 +133,8 @@ impl RowQueues {
             EdgesLead f at now.old → AreQueues f at self.old → AreQueues f (suc at) self.new
             × Tells (coalesced same f) at (suc at) [] now.new) }
         ensures rows { OnOk result ((w : HeldRow → ℕ) →
-            total w self.new ≤ total w self.old + total w (rows_at at (bare (started_rows now.old)))) }
+            total w self.new ≤ total w self.old + total w
+            (rows_at at (bare (started_rows now.old)))) }
     {
         // Their calls tell the proof that no row stands twice.
         let _ = self.held.starts.len();
@@ -170,7 +172,8 @@ impl RowQueues {
 
     /// The rows that the entries of that part start. The entries of one row are its queue, in their order.
     pub fn load(alloc: Global, saved: &Saved, part: u64) -> Result<RowQueues, Memory>
-        ensures { IfOk result (λ q. (c : Row) → queue_of q c ≡ queue_of (rows_of (part_of part saved.now)) c) }
+        ensures { IfOk result (λ q. (c : Row) →
+            queue_of q c ≡ queue_of (rows_of (part_of part saved.now)) c) }
     {
         let edges = edges_of_part(alloc, saved, part)?;
         queues_of(alloc, &edges)

@@ -34,7 +34,8 @@ fn save_queue(
     cells: &Cells,
     since: &VecDeque<Time>,
 ) -> Result<(), Memory>
-    ensures { OnOk result (saved.new ≡ saved.old ++ entries_of part (starts_of (held_with cells.now since.now.items))) }
+    ensures { OnOk result (saved.new ≡ saved.old ++ entries_of part
+        (starts_of (held_with cells.now since.now.items))) }
 {
     for i in 0..since.len() {
         saved.push(SavedEntry {
@@ -49,7 +50,8 @@ fn save_queue(
 
 /// Adds an entry of each start, those of one row in order.
 pub(crate) fn save_starts(saved: &mut Saved, part: u64, starts: &Starts) -> Result<(), Memory>
-    ensures { OnOk result (saved.new ≡ saved.old ++ entries_of part (starts_of (rows_in starts.now.entries))) }
+    ensures { OnOk result (saved.new ≡ saved.old ++ entries_of part
+        (starts_of (rows_in starts.now.entries))) }
 {
     for (cells, since) in starts.iter() {
         save_queue(saved, part, cells, since)?;

@@ -122,7 +122,7 @@ impl OpenRows {
         })
     }
 
-    /// Puts in a row, and tells whether it is the first of its key. Want of memory changes no row.
+    /// Puts in a row, and tells whether it is the first of its key. Out of memory no row changes.
     pub(crate) fn add(&mut self, cells: Cells, start: Time) -> Result<bool, Memory>
         ensures ok { OnOk result ((w : HeldRow → ℕ) → total w self.new.rows ≡ total w self.old.rows
             + w (record { cells = cells; start = start })) }
@@ -132,7 +132,7 @@ impl OpenRows {
         ensures err { OnErr result (self.new.rows ≡ self.old.rows) }
         ensures key { self.new.key ≡ self.old.key }
     {
-        // A count that no longer fits is told as want of memory.
+        // A count that no longer fits is told as out of memory.
         let Some(count) = self.count.checked_add(1) else {
             return Err(Memory);
         };

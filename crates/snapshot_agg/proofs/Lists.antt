@@ -1,5 +1,5 @@
 -- The first edges of a list, and its first items.
-use Rattle.std.specs.Prelude.{◌≡◌, ℕ, zero, suc, ◌+◌, ◌<◌, List, [], ◌∷◌, ◌++◌, length, get_or, take, drop, refl}
+use Rattle.std.specs.Prelude.{◌≡◌, ℕ, zero, suc, ◌<◌, List, [], ◌∷◌, ◌++◌, length, get_or, take, drop, refl}
 use Rattle.std.proofs.Common.{ap, arith}
 use Rattle.tw_rows.specs.declared.edge.Edge.{Edge}
 use Rattle.sweep_laws.specs.Sweeps.{StartsAt}

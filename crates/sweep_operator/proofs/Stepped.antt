@@ -8,7 +8,6 @@ use Rattle.tw_rows.specs.Texts.{BeginsWith}
 use Rattle.tw_rows.specs.declared.edge.Edge.{Edge}
 use Rattle.tw_rows.specs.declared.kind.CellKind.{CellKind}
 use Rattle.edge_history.specs.Balance.{Told}
-use Rattle.edge_history.specs.History.{of}
 use Rattle.edge_history.specs.Order.{KeepsOrder}
 use Rattle.edge_history.proofs.Agreeing.{same_order}
 use Rattle.edge_history.proofs.Keeping.{KeepsOrder-back}

@@ -36,16 +36,21 @@ pub(crate) fn work<R: Threads + Sync, W: Wire, G: Gate>(
     gate: &G,
 ) -> Result<(), Status>
     requires longest { answering.old.cutter.longest ≡ 65536 }
-    ensures ok { OnOk result (WorksThrough (W.journal wire.old) (W.journal wire.new) answering.old answering.new) }
-    ensures gives { OnOk result (AfterGiven (W.journal wire.old) (W.journal wire.new) answering.old (λ k bytes. GivesOn k bytes answering.new)) }
+    ensures ok { OnOk result (WorksThrough (W.journal wire.old) (W.journal wire.new) answering.old
+        answering.new) }
+    ensures gives { OnOk result (AfterGiven (W.journal wire.old) (W.journal wire.new) answering.old
+        (λ k bytes. GivesOn k bytes answering.new)) }
     ensures wants { OnOk result (WantsBytes answering.new.cutter) }
     ensures open { OnOk result (StaysOpen answering.old.engine answering.new.engine) }
-    ensures same { OnOk result ((W.read_faults wire.new ≡ W.read_faults wire.old) × (W.write_faults wire.new ≡ W.write_faults wire.old)) }
+    ensures same { OnOk result ((W.read_faults wire.new ≡ W.read_faults wire.old)
+        × (W.write_faults wire.new ≡ W.write_faults wire.old)) }
     ensures err { IfErr result (StopsWith (W.journal wire.old) (W.journal wire.new) answering.old) }
-    ensures reason { IfErr result (λ status. AfterGiven (W.journal wire.old) (W.journal wire.new) answering.old
+    ensures reason { IfErr result (λ status.
+        AfterGiven (W.journal wire.old) (W.journal wire.new) answering.old
         (λ k bytes. GivesOut k bytes status)) }
     ensures asked { IfErr result IsAsked }
-    ensures counts { IfErr result (Counts (W.read_faults wire.old) (W.read_faults wire.new) (W.write_faults wire.old) (W.write_faults wire.new)) }
+    ensures counts { IfErr result (Counts (W.read_faults wire.old) (W.read_faults wire.new)
+        (W.write_faults wire.old) (W.write_faults wire.new)) }
 {
     loop {
         match answering.next_step(rt, gate) {
@@ -64,11 +69,14 @@ fn end<R: Threads + Sync, W: Wire, G: Gate>(
     gate: &G,
 ) -> Result<(), Status>
     requires wants { WantsBytes answering.old.cutter }
-    ensures ends { EndsAll (W.journal wire.old) (W.journal wire.new) answering.old (status_of result) }
+    ensures ends { EndsAll (W.journal wire.old) (W.journal wire.new) answering.old
+        (status_of result) }
     ensures grows { Grows (W.journal wire.old) (W.journal wire.new) (λ O. All IsOut O) }
-    ensures reason { WhateverGave answering.old (λ k bytes given. StopsFor k (status_of result) bytes true) }
+    ensures reason { WhateverGave answering.old
+        (λ k bytes given. StopsFor k (status_of result) bytes true) }
     ensures asked { IsAsked (status_of result) }
-    ensures counts { Counts (W.read_faults wire.old) (W.read_faults wire.new) (W.write_faults wire.old) (W.write_faults wire.new) (status_of result) }
+    ensures counts { Counts (W.read_faults wire.old) (W.read_faults wire.new)
+        (W.write_faults wire.old) (W.write_faults wire.new) (status_of result) }
 {
     let last = answering.last_line(rt, gate)?;
     send(wire, &last)?;
@@ -87,17 +95,22 @@ pub(crate) fn read_on<R: Threads + Sync, W: Wire, G: Gate>(
     gate: &G,
 ) -> Result<(), Status>
     requires wants { WantsBytes answering.old.cutter }
-    ensures ok { OnOk result (WhateverRead (W.journal wire.old) (W.journal wire.new) answering.old most (λ q J. AtEnd q answering.new J)) }
+    ensures ok { OnOk result (WhateverRead (W.journal wire.old) (W.journal wire.new) answering.old
+        most (λ q J. AtEnd q answering.new J)) }
     ensures wants { OnOk result (WantsBytes answering.new.cutter) }
     ensures open { OnOk result (StaysOpen answering.old.engine answering.new.engine) }
-    ensures same { OnOk result ((W.read_faults wire.new ≡ W.read_faults wire.old) × (W.write_faults wire.new ≡ W.write_faults wire.old)) }
-    ensures err { IfErr result (λ status.
-        WhateverRead (W.journal wire.old) (W.journal wire.new) answering.old most (λ q J. Stops (answers_to q) status J)) }
-    ensures came { OnOk result (WhateverCame (W.journal wire.old) (W.journal wire.new) answering.old most (λ k J. HasAllCome k answering.new J)) }
+    ensures same { OnOk result ((W.read_faults wire.new ≡ W.read_faults wire.old)
+        × (W.write_faults wire.new ≡ W.write_faults wire.old)) }
+    ensures err { IfErr result (λ status. WhateverRead (W.journal wire.old) (W.journal wire.new)
+        answering.old most (λ q J. Stops (answers_to q) status J)) }
+    ensures came { OnOk result (WhateverCame (W.journal wire.old) (W.journal wire.new) answering.old
+        most (λ k J. HasAllCome k answering.new J)) }
     ensures reason { IfErr result (λ status.
-        WhateverCame (W.journal wire.old) (W.journal wire.new) answering.old most (λ k J. EndsFor k status J)) }
+        WhateverCame (W.journal wire.old) (W.journal wire.new) answering.old most
+        (λ k J. EndsFor k status J)) }
     ensures asked { IfErr result IsAsked }
-    ensures counts { IfErr result (Counts (W.read_faults wire.old) (W.read_faults wire.new) (W.write_faults wire.old) (W.write_faults wire.new)) }
+    ensures counts { IfErr result (Counts (W.read_faults wire.old) (W.read_faults wire.new)
+        (W.write_faults wire.old) (W.write_faults wire.new)) }
 {
     let mut left = most;
     while left > 0 {
@@ -121,10 +134,13 @@ pub(crate) fn answer_on<R: Threads + Sync, W: Wire, G: Gate>(
     gate: &G,
 ) -> Result<(), Status>
     requires wants { WantsBytes answering.old.cutter }
-    ensures ends { WhateverRead (W.journal wire.old) (W.journal wire.new) answering.old most (λ q J. Ends (answers_to q) (status_of result) J) }
-    ensures reason { WhateverCame (W.journal wire.old) (W.journal wire.new) answering.old most (λ k J. EndsFor k (status_of result) J) }
+    ensures ends { WhateverRead (W.journal wire.old) (W.journal wire.new) answering.old most
+        (λ q J. Ends (answers_to q) (status_of result) J) }
+    ensures reason { WhateverCame (W.journal wire.old) (W.journal wire.new) answering.old most
+        (λ k J. EndsFor k (status_of result) J) }
     ensures asked { IsAsked (status_of result) }
-    ensures counts { Counts (W.read_faults wire.old) (W.read_faults wire.new) (W.write_faults wire.old) (W.write_faults wire.new) (status_of result) }
+    ensures counts { Counts (W.read_faults wire.old) (W.read_faults wire.new)
+        (W.write_faults wire.old) (W.write_faults wire.new) (status_of result) }
 {
     read_on(rt, answering, most, wire, gate)?;
     end(rt, answering, wire, gate)
@@ -142,9 +158,11 @@ pub fn answer<R: Threads + Sync, W: Wire, G: Gate>(
 ) -> Status
     requires batch { 1 ≤ options.batch }
     requires workers { (1 ≤ options.workers) × (options.workers ≤ 16) }
-    ensures ends { Grows (W.journal wire.old) (W.journal wire.new) (Ends (answers plan options.policy header) result) }
+    ensures ends { Grows (W.journal wire.old) (W.journal wire.new)
+        (Ends (answers plan options.policy header) result) }
     ensures asked { IsAsked result }
-    ensures counts { Counts (W.read_faults wire.old) (W.read_faults wire.new) (W.write_faults wire.old) (W.write_faults wire.new) result }
+    ensures counts { Counts (W.read_faults wire.old) (W.read_faults wire.new)
+        (W.write_faults wire.old) (W.write_faults wire.new) result }
 {
     let Ok(mut answering) = Answering::new(alloc, plan, options, header) else {
         return Status::Memory;

@@ -77,13 +77,16 @@ pub(crate) fn feed<R: Threads + Sync, G: Gate>(
 ) -> Result<Vec<u8>, EngineFault>
     requires short { length line.now ≤ 65536 }
     requires no_feed { HasNoLf line.now }
-    ensures took { IfOk result (λ _. WhateverGiven header number engine.old (λ q given. Took q (given ++ line.now ∷ []) engine.new)) }
-    ensures text { IfOk result (λ out. WhateverGiven header number engine.old (λ q given. GrowsBy q given line.now out.items)) }
-    ensures fault { IfErr result (λ f.
-        WhateverGiven header number engine.old (λ q given. IsFaultOf f ((answers_to q).fault (given ++ line.now ∷ []) false))) }
+    ensures took { IfOk result (λ _. WhateverGiven header number engine.old
+        (λ q given. Took q (given ++ line.now ∷ []) engine.new)) }
+    ensures text { IfOk result (λ out. WhateverGiven header number engine.old
+        (λ q given. GrowsBy q given line.now out.items)) }
+    ensures fault { IfErr result (λ f. WhateverGiven header number engine.old
+        (λ q given. IsFaultOf f ((answers_to q).fault (given ++ line.now ∷ []) false))) }
     ensures open { StaysOpen engine.old engine.new }
     ensures fine { OnOk result (engine.old.fault ≡ None → engine.new.fault ≡ None) }
-    ensures bad { engine.old.fault ≡ None → IfErr result (TellsLine engine.old.parts.dataflow.plan.streams number line.now) }
+    ensures bad { engine.old.fault ≡ None →
+        IfErr result (TellsLine engine.old.parts.dataflow.plan.streams number line.now) }
 {
     if is_header(header, number) {
         return Ok(Vec::new(alloc));
@@ -138,12 +141,15 @@ impl Answering {
     pub fn next_step<R: Threads + Sync, G: Gate>(&mut self, rt: &R, gate: &G) -> Step
         requires longest { self.old.cutter.longest ≡ 65536 }
         ensures longest { self.new.cutter.longest ≡ 65536 }
-        ensures comes { WhateverHeld self.old (λ q bytes given. length bytes ≤ limit + 1 → Comes q bytes given self.new result) }
-        ensures gives { WhateverGave self.old (λ k bytes given. length bytes ≤ limit + 1 → StepGives k bytes given self.new result) }
+        ensures comes { WhateverHeld self.old (λ q bytes given. length bytes ≤ limit + 1 →
+            Comes q bytes given self.new result) }
+        ensures gives { WhateverGave self.old (λ k bytes given. length bytes ≤ limit + 1 →
+            StepGives k bytes given self.new result) }
         ensures wants { result ≡ Step.More → WantsBytes self.new.cutter }
         ensures less { HasLess self.old.cutter self.new.cutter result }
-        ensures long { (line : ℕ) → next self.old.cutter ≡ Overlong line →
-            (number : ℕ) × IsNumbered self.old.base self.old.skipped line number × (result ≡ Step.Stop (Status.Malformed number BadLine.TooLong)) }
+        ensures long { (line : ℕ) → next self.old.cutter ≡ Overlong line → (number : ℕ)
+            × IsNumbered self.old.base self.old.skipped line number
+            × (result ≡ Step.Stop (Status.Malformed number BadLine.TooLong)) }
         ensures open { StaysOpen self.old.engine self.new.engine }
         ensures own { StopsOwn result }
     {
@@ -176,16 +182,19 @@ impl Answering {
         gate: &G,
     ) -> Result<Vec<u8>, Status>
         requires wants { WantsBytes self.old.cutter }
-        ensures ok { IfOk result (λ out.
-            WhateverHeld self.old (λ q bytes given. Ended q bytes ((answers_to q).text given false ++ out.items) self.new)) }
-        ensures err { IfErr result (λ status.
-            WhateverHeld self.old (λ q bytes given. IsEnd (answers_to q) status bytes ((answers_to q).text given false) true)) }
+        ensures ok { IfOk result (λ out. WhateverHeld self.old
+            (λ q bytes given. Ended q bytes ((answers_to q).text given false ++ out.items)
+            self.new)) }
+        ensures err { IfErr result (λ status. WhateverHeld self.old
+            (λ q bytes given. IsEnd (answers_to q) status bytes ((answers_to q).text given false)
+            true)) }
         ensures err_frozen { IfErr result (λ status. WhateverHeld self.old (λ q bytes given.
             StopsGoing (answers_to q) status bytes ((answers_to q).text given false) true)) }
         ensures open { StaysOpen self.old.engine self.new.engine }
         ensures fine { OnOk result (self.old.engine.fault ≡ None → self.new.engine.fault ≡ None) }
         ensures own { IfErr result IsOwn }
-        ensures reason { IfErr result (λ status. WhateverGave self.old (λ k bytes given. StopsFor k status bytes true)) }
+        ensures reason { IfErr result (λ status.
+            WhateverGave self.old (λ k bytes given. StopsFor k status bytes true)) }
     {
         let Some(line) = self.cutter.last_line() else {
             return Ok(Vec::new(self.alloc));
@@ -208,8 +217,10 @@ impl Answering {
         rt: &R,
         gate: &G,
     ) -> Result<Vec<u8>, Status>
-        ensures ok { IfOk result (λ out. WhateverEnded self.old (λ q bytes written. IsDone (answers_to q) bytes (written ++ out.items) true)) }
-        ensures err { IfErr result (λ status. WhateverEnded self.old (λ q bytes written. IsEnd (answers_to q) status bytes written true)) }
+        ensures ok { IfOk result (λ out. WhateverEnded self.old
+            (λ q bytes written. IsDone (answers_to q) bytes (written ++ out.items) true)) }
+        ensures err { IfErr result (λ status. WhateverEnded self.old
+            (λ q bytes written. IsEnd (answers_to q) status bytes written true)) }
         ensures own { IfErr result IsOwn }
         ensures reason { IfErr result (λ status. self.old.engine.fault ≡ None →
             (k : LineRules) (bytes : List ℕ) (ended : Bool) → StopsFor k status bytes ended) }

@@ -34,41 +34,45 @@ pub fn words_ask_for_one_job()
 /// generated lines is summed up.
 #[tactic(auto, using(crate::proofs::Jobs::complete, crate::proofs::Jobs::complete_frozen, crate::proofs::Jobs::complete_told, crate::proofs::Jobs::complete_summed))]
 pub fn runs_are_complete()
-    ensures answered { (a : Answers) (status : Status) (J : List Entry) (reads reads' writes writes' : ℕ) →
-        Ends a status J → Counts reads reads' writes writes' status →
-        a.fault (lines (ins J) (ended J)) (ended J) ≡ None → length (ins J) ≤ limit → (Rose reads reads' → ⊥) → (Rose writes writes' → ⊥) →
-        (status ≡ Done) ⊎ (status ≡ Memory) }
-    ensures frozen { (asked : Asked) (plan : PlanParts) (status : Status) (J : List Entry) (reads reads' writes writes' : ℕ) →
-        let a = answers plan asked.policy asked.header in
+    ensures answered { (a : Answers) (status : Status) (J : List Entry)
+        (reads reads' writes writes' : ℕ) → Ends a status J →
+        Counts reads reads' writes writes' status →
+        a.fault (lines (ins J) (ended J)) (ended J) ≡ None → length (ins J) ≤ limit →
+        (Rose reads reads' → ⊥) → (Rose writes writes' → ⊥) → (status ≡ Done) ⊎ (status ≡ Memory) }
+    ensures frozen { (asked : Asked) (plan : PlanParts) (status : Status) (J : List Entry)
+        (reads reads' writes writes' : ℕ) → let a = answers plan asked.policy asked.header in
         Freezes a (HasFroze asked plan) status J → Counts reads reads' writes writes' status →
-        a.fault (lines (ins J) (ended J)) false ≡ None → length (ins J) ≤ limit → (Rose reads reads' → ⊥) → (Rose writes writes' → ⊥) →
+        a.fault (lines (ins J) (ended J)) false ≡ None → length (ins J) ≤ limit →
+        (Rose reads reads' → ⊥) → (Rose writes writes' → ⊥) → (status ≡ Done) ⊎ (status ≡ Memory) }
+    ensures resumed { (asked : Asked) (plan : PlanParts) (before : List Told) (C : List (List ℕ))
+        (status : Status) (J : List Entry) (reads reads' writes writes' : ℕ) →
+        let a = resumed plan asked.policy before (length C) in DoesMode Resume asked plan status J →
+        Counts reads reads' writes writes' status → IsCheckpointOf asked plan before C →
+        AreFront C (lines (ins J) (ended J)) → a.fault (lines (ins J) (ended J)) (ended J) ≡ None →
+        length (ins J) ≤ limit → (Rose reads reads' → ⊥) → (Rose writes writes' → ⊥) →
         (status ≡ Done) ⊎ (status ≡ Memory) }
-    ensures resumed { (asked : Asked) (plan : PlanParts) (before : List Told) (C : List (List ℕ)) (status : Status) (J : List Entry)
-        (reads reads' writes writes' : ℕ) →
-        let a = resumed plan asked.policy before (length C) in
-        DoesMode Resume asked plan status J → Counts reads reads' writes writes' status →
-        IsCheckpointOf asked plan before C → AreFront C (lines (ins J) (ended J)) →
-        a.fault (lines (ins J) (ended J)) (ended J) ≡ None → length (ins J) ≤ limit → (Rose reads reads' → ⊥) → (Rose writes writes' → ⊥) →
+    ensures told { (text : List ℕ) (status : Status) (J : List Entry)
+        (reads reads' writes writes' : ℕ) → Tells text status J →
+        Counts reads reads' writes writes' status → (Rose writes writes' → ⊥) →
         (status ≡ Done) ⊎ (status ≡ Memory) }
-    ensures told { (text : List ℕ) (status : Status) (J : List Entry) (reads reads' writes writes' : ℕ) →
-        Tells text status J → Counts reads reads' writes writes' status →
+    ensures summed { (a : Answers) (lines : List (List ℕ)) (status : Status) (J : List Entry)
+        (reads reads' writes writes' : ℕ) → Sums a lines status J →
+        Counts reads reads' writes writes' status → a.fault lines true ≡ None →
         (Rose writes writes' → ⊥) → (status ≡ Done) ⊎ (status ≡ Memory) }
-    ensures summed { (a : Answers) (lines : List (List ℕ)) (status : Status) (J : List Entry) (reads reads' writes writes' : ℕ) →
-        Sums a lines status J → Counts reads reads' writes writes' status →
-        a.fault lines true ≡ None → (Rose writes writes' → ⊥) → (status ≡ Done) ⊎ (status ≡ Memory) }
 {}
 
 /// What is asked of a run that goes on from a checkpoint is final: what it wrote stays, whatever lines follow.
 #[tactic(auto, using(crate::proofs::Behind::resumed_final))]
 pub fn resumed_runs_are_final()
-    ensures { (plan : PlanParts) → IsPlan plan → (policy : Policy) (before : List Told) → AreRead (length plan.streams) before → (k : ℕ) →
-        IsFinal (resumed plan policy before k) }
+    ensures { (plan : PlanParts) → IsPlan plan → (policy : Policy) (before : List Told) →
+        AreRead (length plan.streams) before → (k : ℕ) → IsFinal (resumed plan policy before k) }
 {}
 
 /// What the run before a checkpoint wrote and what the one behind it writes are the text of the lines of both.
 #[tactic(auto, using(crate::proofs::Behind::both_texts))]
 pub fn both_runs_write_all()
-    ensures { (plan : PlanParts) → IsPlan plan → (policy : Policy) (before : List Told) (k : ℕ) (lines : List (List ℕ)) (ended : Bool) →
+    ensures { (plan : PlanParts) → IsPlan plan →
+        (policy : Policy) (before : List Told) (k : ℕ) (lines : List (List ℕ)) (ended : Bool) →
         AreRead (length plan.streams) before → All HasNoLf lines →
         plan_text plan policy before false ++ (resumed plan policy before k).text lines ended
         ≡ plan_text plan policy (before ++ later plan.streams before k lines) ended }
@@ -78,8 +82,11 @@ pub fn both_runs_write_all()
 /// one at least one more; C those of the checkpoint, and B those of the second part.
 #[tactic(auto, using(crate::proofs::Behind::one_run))]
 pub fn runs_in_two_write_as_one()
-    ensures { (plan : PlanParts) → IsPlan plan → (policy : Policy) (header : Bool) (A B C : List (List ℕ)) (ended : Bool) →
-        All HasNoLf A → All HasNoLf B → (header ≡ true → 1 < length A) → (answers plan policy header).fault A false ≡ None →
-        (answers plan policy header).text A false ++ (resumed plan policy (fed plan.streams header A) (length C)).text (C ++ B) ended
+    ensures { (plan : PlanParts) → IsPlan plan →
+        (policy : Policy) (header : Bool) (A B C : List (List ℕ)) (ended : Bool) → All HasNoLf A →
+        All HasNoLf B → (header ≡ true → 1 < length A) →
+        (answers plan policy header).fault A false ≡ None →
+        (answers plan policy header).text A false ++
+        (resumed plan policy (fed plan.streams header A) (length C)).text (C ++ B) ended
         ≡ (answers plan policy header).text (A ++ B) ended }
 {}

@@ -16,8 +16,10 @@ use wire_lines::{Wire, WriteFailed, send};
 
 // Writes the pieces in order.
 fn send_pieces<N: Wire>(notes: &mut N, pieces: &[&[u8]]) -> Result<(), WriteFailed>
-    ensures ok { OnOk result (Grows (N.journal notes.old) (N.journal notes.new) (SentAll (joined_pieces (map (λ p. p.now) pieces.now)))) }
-    ensures err { OnErr result (Grows (N.journal notes.old) (N.journal notes.new) (SentFront (joined_pieces (map (λ p. p.now) pieces.now)))) }
+    ensures ok { OnOk result (Grows (N.journal notes.old) (N.journal notes.new)
+        (SentAll (joined_pieces (map (λ p. p.now) pieces.now)))) }
+    ensures err { OnErr result (Grows (N.journal notes.old) (N.journal notes.new)
+        (SentFront (joined_pieces (map (λ p. p.now) pieces.now)))) }
     ensures cause { HasCause (N.write_faults notes.old) (N.write_faults notes.new) result }
 {
     for piece in pieces {
@@ -107,8 +109,10 @@ fn time_text(buffer: &mut Buffer, time: Time) -> &[u8]
 }
 
 fn send_fault<N: Wire>(notes: &mut N, fault: &QueryFault) -> Result<(), WriteFailed>
-    ensures ok { OnOk result (Grows (N.journal notes.old) (N.journal notes.new) (SentAll (note_of (Status.BadQuery fault.now)))) }
-    ensures err { OnErr result (Grows (N.journal notes.old) (N.journal notes.new) (SentFront (note_of (Status.BadQuery fault.now)))) }
+    ensures ok { OnOk result (Grows (N.journal notes.old) (N.journal notes.new)
+        (SentAll (note_of (Status.BadQuery fault.now)))) }
+    ensures err { OnErr result (Grows (N.journal notes.old) (N.journal notes.new)
+        (SentFront (note_of (Status.BadQuery fault.now)))) }
     ensures cause { HasCause (N.write_faults notes.old) (N.write_faults notes.new) result }
 {
     let mut place = Buffer::new();
@@ -120,8 +124,10 @@ fn send_fault<N: Wire>(notes: &mut N, fault: &QueryFault) -> Result<(), WriteFai
 }
 
 fn send_bad_line<N: Wire>(notes: &mut N, line: u64, cause: &BadLine) -> Result<(), WriteFailed>
-    ensures ok { OnOk result (Grows (N.journal notes.old) (N.journal notes.new) (SentAll (note_of (Status.Malformed line cause.now)))) }
-    ensures err { OnErr result (Grows (N.journal notes.old) (N.journal notes.new) (SentFront (note_of (Status.Malformed line cause.now)))) }
+    ensures ok { OnOk result (Grows (N.journal notes.old) (N.journal notes.new)
+        (SentAll (note_of (Status.Malformed line cause.now)))) }
+    ensures err { OnErr result (Grows (N.journal notes.old) (N.journal notes.new)
+        (SentFront (note_of (Status.Malformed line cause.now)))) }
     ensures cause { HasCause (N.write_faults notes.old) (N.write_faults notes.new) result }
 {
     let mut number = Buffer::new();
@@ -142,8 +148,10 @@ fn send_bad_line<N: Wire>(notes: &mut N, line: u64, cause: &BadLine) -> Result<(
 }
 
 fn send_bad_checkpoint<N: Wire>(notes: &mut N, line: u64) -> Result<(), WriteFailed>
-    ensures ok { OnOk result (Grows (N.journal notes.old) (N.journal notes.new) (SentAll (note_of (Status.BadCheckpoint line)))) }
-    ensures err { OnErr result (Grows (N.journal notes.old) (N.journal notes.new) (SentFront (note_of (Status.BadCheckpoint line)))) }
+    ensures ok { OnOk result (Grows (N.journal notes.old) (N.journal notes.new)
+        (SentAll (note_of (Status.BadCheckpoint line)))) }
+    ensures err { OnErr result (Grows (N.journal notes.old) (N.journal notes.new)
+        (SentFront (note_of (Status.BadCheckpoint line)))) }
     ensures cause { HasCause (N.write_faults notes.old) (N.write_faults notes.new) result }
 {
     let mut number = Buffer::new();
@@ -152,8 +160,10 @@ fn send_bad_checkpoint<N: Wire>(notes: &mut N, line: u64) -> Result<(), WriteFai
 }
 
 fn send_late<N: Wire>(notes: &mut N, line: u64, time: Time, bound: Time) -> Result<(), WriteFailed>
-    ensures ok { OnOk result (Grows (N.journal notes.old) (N.journal notes.new) (SentAll (note_of (Status.Late line time bound)))) }
-    ensures err { OnErr result (Grows (N.journal notes.old) (N.journal notes.new) (SentFront (note_of (Status.Late line time bound)))) }
+    ensures ok { OnOk result (Grows (N.journal notes.old) (N.journal notes.new)
+        (SentAll (note_of (Status.Late line time bound)))) }
+    ensures err { OnErr result (Grows (N.journal notes.old) (N.journal notes.new)
+        (SentFront (note_of (Status.Late line time bound)))) }
     ensures cause { HasCause (N.write_faults notes.old) (N.write_faults notes.new) result }
 {
     let mut a = Buffer::new();
@@ -182,8 +192,10 @@ fn send_overflow<N: Wire>(
     node: usize,
     time: Time,
 ) -> Result<(), WriteFailed>
-    ensures ok { OnOk result (Grows (N.journal notes.old) (N.journal notes.new) (SentAll (note_of (Status.Overflow punct node time)))) }
-    ensures err { OnErr result (Grows (N.journal notes.old) (N.journal notes.new) (SentFront (note_of (Status.Overflow punct node time)))) }
+    ensures ok { OnOk result (Grows (N.journal notes.old) (N.journal notes.new)
+        (SentAll (note_of (Status.Overflow punct node time)))) }
+    ensures err { OnErr result (Grows (N.journal notes.old) (N.journal notes.new)
+        (SentFront (note_of (Status.Overflow punct node time)))) }
     ensures cause { HasCause (N.write_faults notes.old) (N.write_faults notes.new) result }
 {
     let mut a = Buffer::new();
@@ -207,8 +219,10 @@ fn send_overflow<N: Wire>(
 }
 
 fn send_note<N: Wire>(notes: &mut N, status: &Status) -> Result<(), WriteFailed>
-    ensures ok { OnOk result (Grows (N.journal notes.old) (N.journal notes.new) (SentAll (note_of status.now))) }
-    ensures err { OnErr result (Grows (N.journal notes.old) (N.journal notes.new) (SentFront (note_of status.now))) }
+    ensures ok { OnOk result (Grows (N.journal notes.old) (N.journal notes.new)
+        (SentAll (note_of status.now))) }
+    ensures err { OnErr result (Grows (N.journal notes.old) (N.journal notes.new)
+        (SentFront (note_of status.now))) }
     ensures cause { HasCause (N.write_faults notes.old) (N.write_faults notes.new) result }
 {
     match status {
@@ -227,7 +241,8 @@ fn send_note<N: Wire>(notes: &mut N, status: &Status) -> Result<(), WriteFailed>
 
 /// Writes the note of the status. It takes no memory, and a fault of the notes changes nothing else.
 pub fn note<N: Wire>(notes: &mut N, status: &Status)
-    ensures { Grows (N.journal notes.old) (N.journal notes.new) (IsNoted status.now (N.write_faults notes.old) (N.write_faults notes.new)) }
+    ensures { Grows (N.journal notes.old) (N.journal notes.new)
+        (IsNoted status.now (N.write_faults notes.old) (N.write_faults notes.new)) }
 {
     match send_note(notes, status) {
         Ok(()) => {}

@@ -40,7 +40,8 @@ fn tell<W: Wire>(text: Result<Vec<u8>, Memory>, wire: &mut W) -> Status
     ensures asked { IsAsked result }
     ensures tells { (t : List ℕ) → IfOk text (λ v. v.items ≡ t) →
         Grows (W.journal wire.old) (W.journal wire.new) (Tells t result) }
-    ensures counts { Counts (W.read_faults wire.old) (W.read_faults wire.new) (W.write_faults wire.old) (W.write_faults wire.new) result }
+    ensures counts { Counts (W.read_faults wire.old) (W.read_faults wire.new)
+        (W.write_faults wire.old) (W.write_faults wire.new) result }
 {
     let Ok(text) = text else {
         return Status::Memory;
@@ -53,7 +54,12 @@ fn tell<W: Wire>(text: Result<Vec<u8>, Memory>, wire: &mut W) -> Status
 
 // How an engine works for what the words ask for.
 pub(crate) fn options_of(asked: &CommandLine<'_>) -> Options
-    ensures { result ≡ record { batch = asked.now.batch; workers = asked.now.workers; policy = asked.now.policy } }
+    ensures { result ≡ record {
+      batch = asked.now.batch;
+      workers = asked.now.workers;
+      policy =
+          asked.now.policy;
+    } }
 {
     Options {
         batch: asked.batch,
@@ -73,8 +79,10 @@ fn do_mode<R: Threads + Sync, W: Wire, G: Gate>(
 ) -> Status
     requires within { AreWithin (asked_by asked.now) }
     ensures asked { IsAsked result }
-    ensures does { Grows (W.journal wire.old) (W.journal wire.new) (DoesMode asked.now.mode (asked_by asked.now) plan result) }
-    ensures counts { Counts (W.read_faults wire.old) (W.read_faults wire.new) (W.write_faults wire.old) (W.write_faults wire.new) result }
+    ensures does { Grows (W.journal wire.old) (W.journal wire.new)
+        (DoesMode asked.now.mode (asked_by asked.now) plan result) }
+    ensures counts { Counts (W.read_faults wire.old) (W.read_faults wire.new)
+        (W.write_faults wire.old) (W.write_faults wire.new) result }
 {
     let options = options_of(asked);
     match asked.mode {
@@ -101,10 +109,13 @@ fn perform<R: Threads + Sync, W: Wire, G: Gate>(
     requires within { AreWithin (asked_by asked.now) }
     ensures reason { HasQueryReason asked.now.query.now result }
     ensures planned { (plan : PlanParts) → HasPlan asked.now.query.now plan →
-        Grows (W.journal wire.old) (W.journal wire.new) (DoesMode asked.now.mode (asked_by asked.now) plan result) }
+        Grows (W.journal wire.old) (W.journal wire.new)
+        (DoesMode asked.now.mode (asked_by asked.now) plan result) }
     ensures unplanned { (fault : SomeFault) → HasFault asked.now.query.now fault →
-        Grows (W.journal wire.old) (W.journal wire.new) (λ J. (J ≡ []) × ((result ≡ Status.BadQuery fault) ⊎ (result ≡ Status.Memory))) }
-    ensures counts { Counts (W.read_faults wire.old) (W.read_faults wire.new) (W.write_faults wire.old) (W.write_faults wire.new) result }
+        Grows (W.journal wire.old) (W.journal wire.new)
+        (λ J. (J ≡ []) × ((result ≡ Status.BadQuery fault) ⊎ (result ≡ Status.Memory))) }
+    ensures counts { Counts (W.read_faults wire.old) (W.read_faults wire.new)
+        (W.write_faults wire.old) (W.write_faults wire.new) result }
 {
     match plan_of(alloc, asked.query) {
         Ok(plan) => do_mode(rt, alloc, asked, plan, wire, gate),
@@ -125,7 +136,8 @@ fn status_of(error: QueryError) -> Status
 // Writes the text of a refusal of the words, where there is one.
 fn tell_refusal<N: Wire>(notes: &mut N, text: &Option<String>)
     ensures text { Grows (N.journal notes.old) (N.journal notes.new)
-        (IsRefusalTold (option_map (λ t. t.bytes.items) text.now) (N.write_faults notes.old) (N.write_faults notes.new)) }
+        (IsRefusalTold (option_map (λ t. t.bytes.items) text.now) (N.write_faults notes.old)
+        (N.write_faults notes.new)) }
     ensures noted { Grows (N.journal notes.old) (N.journal notes.new)
         (IsNoted Status.BadWords (N.write_faults notes.old) (N.write_faults notes.new)) }
 {
@@ -157,10 +169,13 @@ pub fn run<'a, R: Threads + Sync, W: Wire, N: Wire, G: Gate>(
     ensures reason { HasReason (map (λ w. w.now) words.now) result }
 
     // What is done for what the words ask for: what was written before each read and at the end, by the status.
-    ensures does { (job : Job) → IsJob (map (λ w. w.now) words.now) job → Grows (W.journal wire.old) (W.journal wire.new) (Does job result) }
-    ensures counts { Counts (W.read_faults wire.old) (W.read_faults wire.new) (W.write_faults wire.old) (W.write_faults wire.new) result }
+    ensures does { (job : Job) → IsJob (map (λ w. w.now) words.now) job →
+        Grows (W.journal wire.old) (W.journal wire.new) (Does job result) }
+    ensures counts { Counts (W.read_faults wire.old) (W.read_faults wire.new)
+        (W.write_faults wire.old) (W.write_faults wire.new) result }
 
-    ensures notes { Grows (N.journal notes.old) (N.journal notes.new) (IsNoted result (N.write_faults notes.old) (N.write_faults notes.new)) }
+    ensures notes { Grows (N.journal notes.old) (N.journal notes.new)
+        (IsNoted result (N.write_faults notes.old) (N.write_faults notes.new)) }
 {
     match read_words(alloc, words) {
         Ok(asked) => {

@@ -65,11 +65,15 @@ impl Sampling {
     // What the next line comes to: it is counted, and there may be another; or there was none.
     fn feed_next<R: Threads + Sync, G: Gate>(&mut self, rt: &R, gate: &G) -> Result<bool, Status>
         requires few { self.old.number + length (to_come self.old.sample) ≤ 2000000 }
-        ensures few { IfOk result (λ _. self.new.number + length (to_come self.new.sample) ≤ 2000000) }
-        ensures sampled { IfOk result (λ _. (q : Asked) (all : List (List ℕ)) → Sampled q all self.old → Sampled q all self.new) }
-        ensures less { IfOk result (λ more. more ≡ true → length (to_come self.new.sample) < length (to_come self.old.sample)) }
+        ensures few { IfOk result (λ _. self.new.number + length
+            (to_come self.new.sample) ≤ 2000000) }
+        ensures sampled { IfOk result (λ _. (q : Asked) (all : List (List ℕ)) →
+            Sampled q all self.old → Sampled q all self.new) }
+        ensures less { IfOk result (λ more. more ≡ true →
+            length (to_come self.new.sample) < length (to_come self.old.sample)) }
         ensures end { IfOk result (λ more. more ≡ false → to_come self.new.sample ≡ []) }
-        ensures failed { IfErr result (λ status. (q : Asked) (all : List (List ℕ)) → Sampled q all self.old → IsFailed (answers_to q) all status) }
+        ensures failed { IfErr result (λ status. (q : Asked) (all : List (List ℕ)) →
+            Sampled q all self.old → IsFailed (answers_to q) all status) }
         ensures own { IfErr result IsOwn }
     {
         let Some(next) = self.sample.next_line() else {
@@ -92,9 +96,11 @@ impl Sampling {
 
     fn feed_all<R: Threads + Sync, G: Gate>(&mut self, rt: &R, gate: &G) -> Result<(), Status>
         requires few { self.old.number + length (to_come self.old.sample) ≤ 2000000 }
-        ensures sampled { OnOk result ((q : Asked) (all : List (List ℕ)) → Sampled q all self.old → Sampled q all self.new) }
+        ensures sampled { OnOk result ((q : Asked) (all : List (List ℕ)) → Sampled q all self.old →
+            Sampled q all self.new) }
         ensures end { OnOk result (to_come self.new.sample ≡ []) }
-        ensures failed { IfErr result (λ status. (q : Asked) (all : List (List ℕ)) → Sampled q all self.old → IsFailed (answers_to q) all status) }
+        ensures failed { IfErr result (λ status. (q : Asked) (all : List (List ℕ)) →
+            Sampled q all self.old → IsFailed (answers_to q) all status) }
         ensures own { IfErr result IsOwn }
     {
         'lines: loop {
@@ -108,10 +114,12 @@ impl Sampling {
     // The summary, after all lines.
     fn finish<R: Threads + Sync, G: Gate>(&mut self, rt: &R, gate: &G) -> Result<Vec<u8>, Status>
         requires end { to_come self.old.sample ≡ [] }
-        ensures fine { IfOk result (λ _. (q : Asked) (all : List (List ℕ)) → Sampled q all self.old → (answers_to q).fault all true ≡ None) }
-        ensures text { IfOk result (λ text. (q : Asked) (all : List (List ℕ)) → Sampled q all self.old →
-            text.items ≡ summary_for (answers_to q) all) }
-        ensures failed { IfErr result (λ status. (q : Asked) (all : List (List ℕ)) → Sampled q all self.old → IsFailed (answers_to q) all status) }
+        ensures fine { IfOk result (λ _. (q : Asked) (all : List (List ℕ)) →
+            Sampled q all self.old → (answers_to q).fault all true ≡ None) }
+        ensures text { IfOk result (λ text. (q : Asked) (all : List (List ℕ)) →
+            Sampled q all self.old → text.items ≡ summary_for (answers_to q) all) }
+        ensures failed { IfErr result (λ status. (q : Asked) (all : List (List ℕ)) →
+            Sampled q all self.old → IsFailed (answers_to q) all status) }
         ensures own { IfErr result IsOwn }
     {
         let last = self.engine.finish(rt, gate)?;
@@ -123,10 +131,12 @@ impl Sampling {
     // The summary of all lines that are to come.
     fn sum<R: Threads + Sync, G: Gate>(&mut self, rt: &R, gate: &G) -> Result<Vec<u8>, Status>
         requires few { self.old.number + length (to_come self.old.sample) ≤ 2000000 }
-        ensures fine { IfOk result (λ _. (q : Asked) (all : List (List ℕ)) → Sampled q all self.old → (answers_to q).fault all true ≡ None) }
-        ensures text { IfOk result (λ text. (q : Asked) (all : List (List ℕ)) → Sampled q all self.old →
-            text.items ≡ summary_for (answers_to q) all) }
-        ensures failed { IfErr result (λ status. (q : Asked) (all : List (List ℕ)) → Sampled q all self.old → IsFailed (answers_to q) all status) }
+        ensures fine { IfOk result (λ _. (q : Asked) (all : List (List ℕ)) →
+            Sampled q all self.old → (answers_to q).fault all true ≡ None) }
+        ensures text { IfOk result (λ text. (q : Asked) (all : List (List ℕ)) →
+            Sampled q all self.old → text.items ≡ summary_for (answers_to q) all) }
+        ensures failed { IfErr result (λ status. (q : Asked) (all : List (List ℕ)) →
+            Sampled q all self.old → IsFailed (answers_to q) all status) }
         ensures own { IfErr result IsOwn }
     {
         self.feed_all(rt, gate)?;
@@ -147,9 +157,12 @@ fn summed_up<R: Threads + Sync, G: Gate>(
     requires batch { 1 ≤ options.batch }
     requires workers { (1 ≤ options.workers) × (options.workers ≤ 16) }
     requires few { length (to_come sample) ≤ 2000000 }
-    ensures fine { IfOk result (λ _. (answers plan options.policy header).fault (map line_of (to_come sample)) true ≡ None) }
-    ensures text { IfOk result (λ text. text.items ≡ summary_for (answers plan options.policy header) (map line_of (to_come sample))) }
-    ensures failed { IfErr result (IsFailed (answers plan options.policy header) (map line_of (to_come sample))) }
+    ensures fine { IfOk result (λ _. (answers plan options.policy header).fault
+        (map line_of (to_come sample)) true ≡ None) }
+    ensures text { IfOk result (λ text. text.items
+        ≡ summary_for (answers plan options.policy header) (map line_of (to_come sample))) }
+    ensures failed { IfErr result (IsFailed (answers plan options.policy header)
+        (map line_of (to_come sample))) }
     ensures own { IfErr result IsOwn }
 {
     let mut sampling = Sampling::new(alloc, plan, options, header, sample)?;
@@ -170,9 +183,11 @@ pub fn sum_up<R: Threads + Sync, W: Wire, G: Gate>(
     requires batch { 1 ≤ options.batch }
     requires workers { (1 ≤ options.workers) × (options.workers ≤ 16) }
     requires few { length (to_come sample) ≤ 2000000 }
-    ensures sums { Grows (W.journal wire.old) (W.journal wire.new) (Sums (answers plan options.policy header) (map line_of (to_come sample)) result) }
+    ensures sums { Grows (W.journal wire.old) (W.journal wire.new)
+        (Sums (answers plan options.policy header) (map line_of (to_come sample)) result) }
     ensures asked { IsAsked result }
-    ensures counts { Counts (W.read_faults wire.old) (W.read_faults wire.new) (W.write_faults wire.old) (W.write_faults wire.new) result }
+    ensures counts { Counts (W.read_faults wire.old) (W.read_faults wire.new)
+        (W.write_faults wire.old) (W.write_faults wire.new) result }
 {
     match summed_up(rt, alloc, plan, options, header, sample, gate) {
         Ok(text) => match send(wire, &text) {

@@ -109,7 +109,8 @@ impl Engine {
     /// What computes each node of the plan, in order of number: as many operators as there are workers where the node has a key.
     pub fn stages(&self) -> &[Stage]
         ensures stages { result.now ≡ self.now.parts.dataflow.stages }
-        ensures runs { RunAll self.now.parts.dataflow.workers self.now.parts.dataflow.plan.nodes result.now }
+        ensures runs { RunAll self.now.parts.dataflow.workers self.now.parts.dataflow.plan.nodes
+            result.now }
     {
         self.parts.dataflow.stages()
     }
@@ -117,8 +118,9 @@ impl Engine {
     /// For each node, in order, its number and how many entries it keeps for later lines. What waits for the Sources is told of
     /// the first of them. The numbers are as exact as there is room for.
     pub fn held(&self) -> Result<Vec<(usize, u64)>, Memory>
-        ensures { IfOk result (λ held. (plan : PlanParts) (policy : Admitting) (lines : List Told) (ended : Bool) →
-            Holds plan policy lines ended self.now → AreHeld plan (progress plan policy lines ended) self.now.parts held.items) }
+        ensures { IfOk result (λ held. (plan : PlanParts) (policy : Admitting) (lines : List Told)
+            (ended : Bool) → Holds plan policy lines ended self.now →
+            AreHeld plan (progress plan policy lines ended) self.now.parts held.items) }
     {
         let mut held = self.parts.dataflow.held()?;
         tell_first(&mut held, self.parts.ingress.held());
@@ -140,8 +142,9 @@ impl Engine {
         ensures lists { OnOk result (FeedsOn self.old (λ plan. told plan number line.now) self.new) }
         ensures holds { OnOk result (WhateverTook self.old (λ plan policy lines.
             Holds plan policy (lines ++ told plan number line.now ∷ []) false self.new)) }
-        ensures text { IfOk result (λ bytes. WhateverTook self.old (λ plan policy lines.
-            plan_text plan policy (lines ++ told plan number line.now ∷ []) false ≡ plan_text plan policy lines false ++ bytes.items)) }
+        ensures text { IfOk result (λ bytes. WhateverTook self.old
+            (λ plan policy lines. plan_text plan policy (lines ++ told plan number line.now ∷ [])
+            false ≡ plan_text plan policy lines false ++ bytes.items)) }
         ensures fault { IfErr result (λ f. WhateverTook self.old (λ plan policy lines.
             IsFaultOf f (fault_of plan policy (lines ++ told plan number line.now ∷ []) false))) }
         ensures kept { IfErr result (λ f. self.new.fault ≡ Some f) }
@@ -149,7 +152,8 @@ impl Engine {
         ensures over { self.old.ended ≡ true → IfOk result (λ bytes. bytes.items ≡ []) }
         ensures ended { self.new.ended ≡ self.old.ended }
         ensures fine { OnOk result (self.new.fault ≡ None) }
-        ensures bad { self.old.fault ≡ None → IfErr result (IsBadOf self.old.parts.dataflow.plan number line.now) }
+        ensures bad { self.old.fault ≡ None → IfErr result
+            (IsBadOf self.old.parts.dataflow.plan number line.now) }
         ensures plan { self.new.parts.dataflow.plan ≡ self.old.parts.dataflow.plan }
         ensures workers { self.new.parts.dataflow.workers ≡ self.old.parts.dataflow.workers }
     {
@@ -174,8 +178,10 @@ impl Engine {
         rt: &R,
         gate: &G,
     ) -> Result<Vec<u8>, EngineFault>
-        ensures fine { OnOk result (WhateverTook self.old (λ plan policy lines. fault_of plan policy lines true ≡ None)) }
-        ensures holds { OnOk result (WhateverTook self.old (λ plan policy lines. Holds plan policy lines true self.new)) }
+        ensures fine { OnOk result (WhateverTook self.old
+            (λ plan policy lines. fault_of plan policy lines true ≡ None)) }
+        ensures holds { OnOk result (WhateverTook self.old
+            (λ plan policy lines. Holds plan policy lines true self.new)) }
         ensures text { IfOk result (λ bytes. WhateverTook self.old (λ plan policy lines.
             plan_text plan policy lines true ≡ plan_text plan policy lines false ++ bytes.items)) }
         ensures fault { IfErr result (λ f. WhateverTook self.old (λ plan policy lines.

@@ -37,12 +37,16 @@ impl Parts {
         fault: PlanFault,
         p: Time,
     ) -> PlanFault
-        requires can { (node time : ℕ) → fault ≡ PlanFault.Overflow node time → CanStepRest node self.old }
-        requires lines { (node time : ℕ) → fault ≡ PlanFault.Overflow node time → HasOverflowedOfLines node time self.old }
+        requires can { (node time : ℕ) → fault ≡ PlanFault.Overflow node time →
+            CanStepRest node self.old }
+        requires lines { (node time : ℕ) → fault ≡ PlanFault.Overflow node time →
+            HasOverflowedOfLines node time self.old }
         requires low { (self.old.ingress.released ≤ p) × (p ≤ inf) }
-        ensures overflow { (node time lower at : ℕ) → fault ≡ PlanFault.Overflow node time → result ≡ PlanFault.Overflow lower at →
-            (a : Admission) (given lists : ℕ → List Edge) → HasOverflowed node time a given lists self.old →
-            overflow (rows a) self.old.dataflow.plan.nodes p ≡ Some (record { node = lower; time = at }) }
+        ensures overflow { (node time lower at : ℕ) → fault ≡ PlanFault.Overflow node time →
+            result ≡ PlanFault.Overflow lower at → (a : Admission) (given lists : ℕ → List Edge) →
+            HasOverflowed node time a given lists self.old →
+            overflow (rows a) self.old.dataflow.plan.nodes p
+            ≡ Some (record { node = lower; time = at }) }
         ensures memory { fault ≡ PlanFault.Memory → result ≡ PlanFault.Memory }
         ensures thawed { self.new.dataflow.thawed ≡ self.old.dataflow.thawed }
         ensures plan { self.new.dataflow.plan ≡ self.old.dataflow.plan }
@@ -90,11 +94,13 @@ impl Parts {
         ensures plan { self.new.dataflow.plan ≡ self.old.dataflow.plan }
         ensures workers { self.new.dataflow.workers ≡ self.old.dataflow.workers }
         ensures texts { self.new.texts ≡ self.old.texts }
-        ensures underway { OnOk result (WhileUnderway self.old (λ plan policy w given lists.
-            Further given lists (λ more_given more_lists. IsUnderway plan policy w more_given more_lists self.new))) }
-        ensures overflow { IfErr result (λ fault. (node time : ℕ) → fault ≡ PlanFault.Overflow node time →
-            WhileUnderway self.old (λ plan policy w given lists.
-            overflow (rows w.after) plan.nodes p ≡ Some (record { node = node; time = time }))) }
+        ensures underway { OnOk result (WhileUnderway self.old
+            (λ plan policy w given lists. Further given lists
+            (λ more_given more_lists. IsUnderway plan policy w more_given more_lists self.new))) }
+        ensures overflow { IfErr result (λ fault. (node time : ℕ) →
+            fault ≡ PlanFault.Overflow node time → WhileUnderway self.old
+            (λ plan policy w given lists. overflow (rows w.after) plan.nodes p
+            ≡ Some (record { node = node; time = time }))) }
     {
         each_text_once(&self.texts);
         let given = match self.ingress.release(&mut self.pools, end) {
@@ -134,16 +140,19 @@ impl Parts {
         ensures plan { self.new.dataflow.plan ≡ self.old.dataflow.plan }
         ensures workers { self.new.dataflow.workers ≡ self.old.dataflow.workers }
         ensures texts { self.new.texts ≡ self.old.texts }
-        ensures went { OnOk result (WhenDue p self.old (λ plan policy w given lists.
-            ((s : ℕ) → s < length plan.streams → p ≤ w.after.bound s) →
-            Further given lists (λ more_given more_lists. Went plan policy (judged p w None) more_given more_lists self.new))) }
+        ensures went { OnOk result (WhenDue p self.old
+            (λ plan policy w given lists. ((s : ℕ) → s < length plan.streams →
+            p ≤ w.after.bound s) → Further given lists
+            (λ more_given more_lists. Went plan policy (judged p w None) more_given more_lists
+            self.new))) }
         ensures worked { OnOk result (WhenDue p self.old (λ plan policy w given lists.
             HasWorked plan (judged p w None) self.new)) }
         ensures shown { IfOk result (λ bytes. WhenDue p self.old (λ plan policy w given lists.
             IsShown p plan w bytes.items)) }
-        ensures overflow { IfErr result (λ fault. (node time : ℕ) → fault ≡ PlanFault.Overflow node time →
-            WhenDue p self.old (λ plan policy w given lists.
-            overflow (rows w.after) plan.nodes p ≡ Some (record { node = node; time = time }))) }
+        ensures overflow { IfErr result (λ fault. (node time : ℕ) →
+            fault ≡ PlanFault.Overflow node time → WhenDue p self.old
+            (λ plan policy w given lists. overflow (rows w.after) plan.nodes p
+            ≡ Some (record { node = node; time = time }))) }
     {
         'slices: while is_before(self.ingress.released(), p) {
             let end = self.ingress.slice_end(p, self.pools.capacity());

@@ -41,8 +41,9 @@ use tw_rows::{Memory, TextTable, Time};
 fn bounds_of(alloc: Global, ingress: &Ingress, streams: usize) -> Result<Vec<Time>, Memory>
     requires { streams ≡ length ingress.now.kinds.items }
     ensures count { IfOk result (λ times. length times.items ≡ streams) }
-    ensures bounds { IfOk result (λ times. (texts : List (List ℕ)) (a : Admission) (given : ℕ → List Edge) →
-        Follows texts a given ingress.now → (s : ℕ) → s < streams → a.bound s ≡ get_or times.items s 0) }
+    ensures bounds { IfOk result (λ times. (texts : List (List ℕ)) (a : Admission) (given : ℕ →
+        List Edge) → Follows texts a given ingress.now → (s : ℕ) → s < streams →
+        a.bound s ≡ get_or times.items s 0) }
 {
     let mut times = Vec::new(alloc);
     for stream in 0..streams {
@@ -55,8 +56,9 @@ fn bounds_of(alloc: Global, ingress: &Ingress, streams: usize) -> Result<Vec<Tim
 fn marks_of(alloc: Global, ingress: &Ingress, streams: usize) -> Result<Vec<Time>, Memory>
     requires { streams ≡ length ingress.now.kinds.items }
     ensures count { IfOk result (λ times. length times.items ≡ streams) }
-    ensures marks { IfOk result (λ times. (texts : List (List ℕ)) (a : Admission) (given : ℕ → List Edge) →
-        Follows texts a given ingress.now → (s : ℕ) → s < streams → a.mark s ≡ get_or times.items s 0) }
+    ensures marks { IfOk result (λ times. (texts : List (List ℕ)) (a : Admission) (given : ℕ →
+        List Edge) → Follows texts a given ingress.now → (s : ℕ) → s < streams →
+        a.mark s ≡ get_or times.items s 0) }
 {
     let mut times = Vec::new(alloc);
     for stream in 0..streams {
@@ -151,14 +153,15 @@ fn ingress_of(
     requires marks { length marks.now ≡ length plan.now.streams }
     ensures whole { OnOk result (IsPlan plan.now) }
     ensures fixed { IfOk result (IsFor plan.now.streams policy batch) }
-    ensures admits { IfOk result (λ i. (texts : List (List ℕ)) (a : Admission) (given : ℕ → List Edge) →
-        Resumes (stream_cells plan.now.streams) input.now (time_at bounds.now) (time_at marks.now) last
-        texts a given → Admits texts a given i) }
+    ensures admits { IfOk result (λ i. (texts : List (List ℕ)) (a : Admission) (given : ℕ →
+        List Edge) → Resumes (stream_cells plan.now.streams) input.now (time_at bounds.now)
+        (time_at marks.now) last texts a given → Admits texts a given i) }
     ensures released { IfOk result (λ i. i.released ≡ last) }
     ensures sound { IfOk result (λ i. IsSoundInput (stream_cells plan.now.streams) input.now
         (time_at bounds.now) (time_at marks.now) last) }
-    ensures refused { IfErr result (λ fault. fault ≡ LoadFault.NotState → IsSoundInput (stream_cells plan.now.streams)
-        input.now (time_at bounds.now) (time_at marks.now) last → ⊥) }
+    ensures refused { IfErr result (λ fault. fault ≡ LoadFault.NotState →
+        IsSoundInput (stream_cells plan.now.streams) input.now (time_at bounds.now)
+        (time_at marks.now) last → ⊥) }
     ensures low { IfOk result (λ i. i.released ≤ inf) }
 {
     let mut ingress = Ingress::new(alloc, policy, plan.streams(), batch)?;
@@ -171,8 +174,10 @@ fn ingress_of(
 // An output that goes on from the entries, at a closing.
 fn egress_of(alloc: Global, plan: &Plan, output: &Saved, closed: Time) -> Result<Egress, LoadFault>
     ensures holds { IfOk result (λ e. (texts : List (List ℕ)) (h : List Edge) →
-        ShownResumes (result_kinds plan.now) output.now closed texts h → Holds texts h closed closed e) }
-    ensures placed { IfOk result (λ e. (texts : List (List ℕ)) → EntriesArePlaced texts output.now → IsPlacedIn texts e) }
+        ShownResumes (result_kinds plan.now) output.now closed texts h →
+        Holds texts h closed closed e) }
+    ensures placed { IfOk result (λ e. (texts : List (List ℕ)) → EntriesArePlaced texts output.now →
+        IsPlacedIn texts e) }
     ensures ready { IfOk result (λ e. e.failed ≡ false) }
     ensures kinds { IfOk result (λ e. e.rows.kinds.items ≡ result_kinds plan.now) }
     ensures sound { IfOk result (λ e. IsSoundOutput (result_kinds plan.now) output.now closed) }
@@ -201,8 +206,8 @@ fn dataflow_of(
     requires batch { 1 ≤ batch }
     requires workers { (1 ≤ workers) × (workers ≤ 16) }
     ensures flows { IfOk result (λ d. (given lists : ℕ → List Edge) →
-        FlowsResume texts.old last given lists workers plan (map (λ shards. shards.items) nodes.now) →
-        Flows texts.new last given lists d) }
+        FlowsResume texts.old last given lists workers plan
+        (map (λ shards. shards.items) nodes.now) → Flows texts.new last given lists d) }
     ensures can { IfOk result (λ d. CanStep texts.new last d) }
     ensures plan { IfOk result (λ d. d.plan ≡ plan) }
     ensures capacity { IfOk result (λ d. d.capacity ≡ batch) }
@@ -210,7 +215,8 @@ fn dataflow_of(
     ensures thawed { IfOk result (λ d. d.thawed ≡ true) }
     ensures table { OnOk result (texts.new ≡ with_texts texts.old (nodes_in_all plan.nodes)) }
     ensures begins { BeginsWith texts.new texts.old }
-    ensures states { IfOk result (λ d. AreStates workers plan last (map (λ shards. shards.items) nodes.now)) }
+    ensures states { IfOk result (λ d. AreStates workers plan last
+        (map (λ shards. shards.items) nodes.now)) }
     ensures refused { IfErr result (λ fault. fault ≡ LoadFault.NotState →
         AreStates workers plan last (map (λ shards. shards.items) nodes.now) → ⊥) }
 {
@@ -305,7 +311,8 @@ impl Parts {
         ensures workers { IfOk result (λ e. e.dataflow.workers ≡ workers) }
         ensures thawed { IfOk result (λ e. e.dataflow.thawed ≡ true) }
         ensures sound { IfOk result (λ e. IsSoundKept workers plan kept.now) }
-        ensures refused { IfErr result (λ fault. fault ≡ LoadFault.NotState → IsSoundKept workers plan kept.now → ⊥) }
+        ensures refused { IfErr result (λ fault. fault ≡ LoadFault.NotState →
+            IsSoundKept workers plan kept.now → ⊥) }
     {
         let mut texts = texts;
         let ingress = match ingress_of(
@@ -339,6 +346,7 @@ impl Parts {
             Ok(dataflow) => dataflow,
             Err(fault) => return Err(fault),
         };
+        let row = Vec::new(alloc);
         Ok(Parts {
             alloc,
             texts,
@@ -347,7 +355,7 @@ impl Parts {
             dataflow,
             egress,
             closed,
-            row: Vec::new(alloc),
+            row,
         })
     }
 
@@ -362,15 +370,18 @@ impl Parts {
     ) -> Result<Parts, LoadFault>
         requires batch { 1 ≤ batch }
         requires workers { (1 ≤ workers) × (workers ≤ 16) }
-        ensures went { IfOk result (GoesOnFrom workers plan policy frozen.texts (kept_of workers plan frozen)) }
+        ensures went { IfOk result (GoesOnFrom workers plan policy frozen.texts
+            (kept_of workers plan frozen)) }
         ensures run { IfOk result CanRun }
-        ensures texts { IfOk result (λ e. e.texts ≡ with_texts frozen.texts (nodes_in_all plan.nodes)) }
+        ensures texts { IfOk result (λ e. e.texts
+            ≡ with_texts frozen.texts (nodes_in_all plan.nodes)) }
         ensures plan { IfOk result (λ e. e.dataflow.plan ≡ plan) }
         ensures batch { IfOk result (λ e. e.dataflow.capacity ≡ batch) }
         ensures workers { IfOk result (λ e. e.dataflow.workers ≡ workers) }
         ensures thawed { IfOk result (λ e. e.dataflow.thawed ≡ true) }
         ensures state { IfOk result (λ e. IsState workers plan frozen) }
-        ensures refused { IfErr result (λ fault. fault ≡ LoadFault.NotState → IsState workers plan frozen → ⊥) }
+        ensures refused { IfErr result (λ fault. fault ≡ LoadFault.NotState →
+            IsState workers plan frozen → ⊥) }
     {
         let texts = match complete_table(alloc, &plan, workers as u64, &frozen) {
             Ok(texts) => texts,

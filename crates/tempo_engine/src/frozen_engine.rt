@@ -48,13 +48,14 @@ impl Engine {
         requires going { self.now.ended ≡ false }
         ensures fits { IfOk result (λ f. WhateverTook self.now (λ plan policy lines.
             Fits self.now.parts.dataflow.workers plan policy lines f)) }
-        ensures lists { IfOk result (λ f.
-            (plan : PlanParts) (policy : Admitting) (lines : List Told) (given lists : ℕ → List Edge) →
+        ensures lists { IfOk result (λ f. (plan : PlanParts) (policy : Admitting)
+            (lines : List Told) (given lists : ℕ → List Edge) →
             FedBy plan policy lines given lists self.now →
             FitsBy self.now.parts.dataflow.workers plan policy lines given lists f) }
         ensures lines { IfOk result (λ f. f.lines ≡ self.now.lines) }
-        ensures few { IfOk result (λ f. WhateverTook self.now (λ plan policy lines. (made : List Told) →
-            MadeDue plan policy lines false made → entries_of f.parts ≤ may_freeze plan policy made lines)) }
+        ensures few { IfOk result (λ f. WhateverTook self.now
+            (λ plan policy lines. (made : List Told) → MadeDue plan policy lines false made →
+            entries_of f.parts ≤ may_freeze plan policy made lines)) }
         ensures again { (f : EngineFault) → self.now.fault ≡ Some f → result ≡ Err f }
         ensures fault { self.now.fault ≡ None → IfErr result (λ f. f ≡ EngineFault.Memory) }
     {

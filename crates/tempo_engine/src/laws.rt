@@ -17,16 +17,16 @@ use dataflow::answers_stand;
 
 /// What each node answered of the lines stands for its events, read, below its closing at the last punctuation.
 pub fn answers_of_lines_stand()
-    ensures { (plan : PlanParts) (policy : Policy) (lines : List Told) (given lists : ℕ → List Edge) (e : EngineView) →
-        AreDistinct e.parts.texts → FedBy plan policy lines given lists e →
-        AllStandRead e.parts.texts plan.nodes (progress plan policy lines false).last (rows (progress plan policy lines false).after)
-        lists (length plan.nodes) }
+    ensures { (plan : PlanParts) (policy : Policy) (lines : List Told) (given lists : ℕ → List Edge)
+        (e : EngineView) → AreDistinct e.parts.texts → FedBy plan policy lines given lists e →
+        AllStandRead e.parts.texts plan.nodes (progress plan policy lines false).last
+        (rows (progress plan policy lines false).after) lists (length plan.nodes) }
 {
     answers_stand();
 }
 
 /// What fits lines is a state, so that an engine can be made of it.
 pub fn what_fits_is_a_state()
-    ensures { (workers : ℕ) (plan : PlanParts) (policy : Policy) (lines : List Told) (f : FrozenView) →
-        Fits workers plan policy lines f → IsState workers plan f }
+    ensures { (workers : ℕ) (plan : PlanParts) (policy : Policy) (lines : List Told)
+        (f : FrozenView) → Fits workers plan policy lines f → IsState workers plan f }
 {}

@@ -164,10 +164,14 @@ impl Parts {
         ensures thawed { self.new.dataflow.thawed ≡ self.old.dataflow.thawed }
         ensures plan { self.new.dataflow.plan ≡ self.old.dataflow.plan }
         ensures workers { self.new.dataflow.workers ≡ self.old.dataflow.workers }
-        ensures fed { OnOk result (WhateverFed self.old (λ plan policy lines given lists. Further given lists (λ more_given more_lists.
-            HasFed plan policy (lines ++ told plan number line.now ∷ []) more_given more_lists self.new))) }
-        ensures text { IfOk result (λ bytes. WhateverFed self.old (λ plan policy lines given lists.
-            plan_text plan policy (lines ++ told plan number line.now ∷ []) false ≡ plan_text plan policy lines false ++ bytes.items)) }
+        ensures fed { OnOk result (WhateverFed self.old
+            (λ plan policy lines given lists. Further given lists
+            (λ more_given more_lists. HasFed plan policy (lines ++ told plan number line.now ∷ [])
+            more_given more_lists self.new))) }
+        ensures text { IfOk result (λ bytes. WhateverFed self.old
+            (λ plan policy lines given lists. plan_text plan policy
+            (lines ++ told plan number line.now ∷ []) false ≡ plan_text plan policy lines false
+            ++ bytes.items)) }
         ensures fault { IfErr result (λ f. WhateverFed self.old (λ plan policy lines given lists.
             IsFaultOf f (fault_of plan policy (lines ++ told plan number line.now ∷ []) false))) }
         ensures bad { IfErr result (IsBadOf self.old.dataflow.plan number line.now) }

@@ -19,7 +19,7 @@ const PLAIN: CommandLine<'static> = CommandLine {
 };
 
 /// Words, with `|` between each two, with what they ask for, or nothing where they are refused.
-static WORDS: [(&str, Option<CommandLine<'static>>); 47] = [
+static WORDS: [(&str, Option<CommandLine<'static>>); 48] = [
     ("tempo|--query|q", Some(PLAIN)),
     ("tempo|--query|", Some(CommandLine { query: "", ..PLAIN })),
     ("tempo|--query=", Some(CommandLine { query: "", ..PLAIN })),
@@ -84,6 +84,13 @@ static WORDS: [(&str, Option<CommandLine<'static>>); 47] = [
         Some(CommandLine {
             mode: Mode::Explain,
             header: true,
+            ..PLAIN
+        }),
+    ),
+    (
+        "tempo|--mode|cut|--query|q",
+        Some(CommandLine {
+            mode: Mode::Cut,
             ..PLAIN
         }),
     ),

@@ -771,6 +771,47 @@ x=> 0
 3 select 2 event 0 q:int
 root 2
 ----
+stream trades(sym text, px int, qty int); trades | group by sym : sum qty as q
+--mode cut
+x=> 0
+trades by sym
+----
+stream trades(sym text, px int); trades
+--mode cut
+x=> 0
+trades by sym
+trades by px
+----
+stream trades(sym text, px int); trades | group : count as n
+--mode cut
+x=> 0
+no way: item 1 brings all rows together
+----
+stream trades(sym text, px int); stream quotes(sym text, bid int); trades | join quotes on sym
+--mode cut
+x=> 0
+trades by sym, quotes by sym
+----
+stream l(k text, w int); stream r(k text, x int); l | left r on k else 1
+--mode cut
+x=> 0
+l by k, r by k
+----
+stream a(v int); stream b(v int); a | union b
+--mode cut
+x=> 0
+a by v, b by v
+----
+stream s(k text, v int); s | select v as w
+--mode cut
+x=> 0
+s by v
+----
+stream s(v int); s | where v >
+--mode cut
+x=> 3
+!> query: syntax at 30
+----
 stream s(k text, v int); s | where v = 'a'
 --mode explain
 x=> 3

@@ -40,7 +40,8 @@ impl Union {
         ensures sound { OnOk result (IsState self.now saved.now left_to right_to) }
         ensures refused { IfErr result (λ fault. fault ≡ LoadFault.NotState →
             IsState self.now saved.now left_to right_to → ⊥) }
-        ensures told { (IsState self.now saved.now left_to right_to → ⊥) → result ≡ Err LoadFault.NotState }
+        ensures told { (IsState self.now saved.now left_to right_to → ⊥) →
+            result ≡ Err LoadFault.NotState }
     {
         if !self.is_state(saved, left_to, right_to) {
             return Err(LoadFault::NotState);

@@ -28,7 +28,8 @@ impl Union {
     pub fn new(alloc: Global, kinds: &[Kind], capacity: usize) -> Result<Union, Memory>
         requires width { length kinds.now ≤ 32 }
         requires room { 1 ≤ capacity }
-        ensures left { IfOk result (λ o. o.left ≡ record { edges = []; kinds = kinds.now; capacity = capacity; batches = 0; room = 0 }) }
+        ensures left { IfOk result (λ o. o.left
+            ≡ record { edges = []; kinds = kinds.now; capacity = capacity; batches = 0; room = 0 }) }
         ensures right { IfOk result (λ o. o.right ≡ o.left) }
         ensures times { IfOk result (λ o. (o.left_to ≡ 0) × (o.right_to ≡ 0)) }
         ensures works { IfOk result (λ o. o.failed ≡ false) }

@@ -33,10 +33,10 @@ returns-clause-ok c =
     let end = c.push_time_field-2.new.out.items in
     let cells = ap cell_texts c.items.ensures ∙ cell_fields e.cells in
     pieces c.args.out.now.items (codes "#entry,") c.extend_from_slice.new.self.items (owner_text c.args.owner) c.push_owner.new.out.items (44 ∷ decimal c.args.shard) c.push_number_field.new.out.items
-        (44 ∷ decimal e.part) c.push_number_field-2.new.out.items (44 ∷ time_text e.sync) c.push_time_field.new.out.items (44 ∷ time_text e.other) end
-        (flat_map (λ (f : List ℕ). 44 ∷ f) (map datum_text e.cells)) c.push_cells.new.out.items
-        c.in_ok-extend_from_slice.ensures.items c.in_ok-push_owner.ensures.ok c.in_ok-push_number_field.ensures.ok c.in_ok-push_number_field-2.ensures.ok
-        c.in_ok-push_time_field.ensures.ok c.in_ok-push_time_field-2.ensures.ok (c.in_ok-push_cells.ensures.ok ∙ ap (λ (l : List ℕ). end ++ l) cells)
+    (44 ∷ decimal e.part) c.push_number_field-2.new.out.items (44 ∷ time_text e.sync) c.push_time_field.new.out.items (44 ∷ time_text e.other) end
+    (flat_map (λ (f : List ℕ). 44 ∷ f) (map datum_text e.cells)) c.push_cells.new.out.items
+    c.in_ok-extend_from_slice.ensures.items c.in_ok-push_owner.ensures.ok c.in_ok-push_number_field.ensures.ok c.in_ok-push_number_field-2.ensures.ok
+    c.in_ok-push_time_field.ensures.ok c.in_ok-push_time_field-2.ensures.ok (c.in_ok-push_cells.ensures.ok ∙ ap (λ (l : List ℕ). end ++ l) cells)
 
 pub returns-in_err-push_cells-clause-full : goal.returns-in_err-push_cells-clause-full
 returns-in_err-push_cells-clause-full c =
@@ -45,12 +45,17 @@ returns-in_err-push_cells-clause-full c =
     let cells = ap cell_texts c.items.ensures ∙ cell_fields e.cells in
     let last = flat_map (λ (f : List ℕ). 44 ∷ f) (map datum_text e.cells) in
     let whole = pieces c.args.out.now.items (codes "#entry,") c.extend_from_slice.new.self.items (owner_text c.args.owner) c.push_owner.new.out.items (44 ∷ decimal c.args.shard) c.push_number_field.new.out.items
-        (44 ∷ decimal e.part) c.push_number_field-2.new.out.items (44 ∷ time_text e.sync) c.push_time_field.new.out.items (44 ∷ time_text e.other) end.items last (end.items ++ last)
-        c.in_ok-extend_from_slice.ensures.items c.in_ok-push_owner.ensures.ok c.in_ok-push_number_field.ensures.ok c.in_ok-push_number_field-2.ensures.ok
-        c.in_ok-push_time_field.ensures.ok c.in_ok-push_time_field-2.ensures.ok refl in
+    (44 ∷ decimal e.part) c.push_number_field-2.new.out.items (44 ∷ time_text e.sync) c.push_time_field.new.out.items (44 ∷ time_text e.other) end.items last (end.items ++ last)
+    c.in_ok-extend_from_slice.ensures.items c.in_ok-push_owner.ensures.ok c.in_ok-push_number_field.ensures.ok c.in_ok-push_number_field-2.ensures.ok
+    c.in_ok-push_time_field.ensures.ok c.in_ok-push_time_field-2.ensures.ok refl in
     let lacks : LacksRoom end last = subst (LacksRoom end) cells c.in_err-push_cells.ensures.full in
     let room : vec_capacity c.args.out.now ≤ vec_capacity end = omega (
-        arith, c.in_ok-extend_from_slice.ensures.capacity, c.in_ok-push_owner.ensures.room, c.in_ok-push_number_field.ensures.room, c.in_ok-push_number_field-2.ensures.room,
-        c.in_ok-push_time_field.ensures.room, c.in_ok-push_time_field-2.ensures.room,
+      arith,
+      c.in_ok-extend_from_slice.ensures.capacity,
+      c.in_ok-push_owner.ensures.room,
+      c.in_ok-push_number_field.ensures.room,
+      c.in_ok-push_number_field-2.ensures.room,
+      c.in_ok-push_time_field.ensures.room,
+      c.in_ok-push_time_field-2.ensures.room,
     ) in
     on_err _ _ (then_full c.args.out.now end last _ whole room lacks)
