@@ -195,15 +195,28 @@ impl Batch {
         }) }
         ensures err { OnErr result (self.new ≡ self.old) }
     {
+        self.push_row(edge.sync, edge.other, edge.cells.items())
+    }
+
+    /// Adds a row with the edge of these times and cells, as `push_edge` does.
+    pub fn push_row(&mut self, sync: Time, other: Time, cells: &[Datum]) -> Result<(), Full>
+        requires { map datum_kind cells.now ≡ self.old.kinds }
+        ensures full { IsErr result ↔ (length self.old.rows ≡ self.old.capacity) }
+        ensures ok { OnOk result (self.new ≡ record self.old {
+          rows = self.old.rows
+              ++ row_of (record { sync = sync; other = other; cells = cells.now }) ∷ [];
+        }) }
+        ensures err { OnErr result (self.new ≡ self.old) }
+    {
         if self.sync.len() == self.sync.capacity() {
             return Err(Full);
         }
-        self.sync.push(edge.sync.word());
-        self.other.push(edge.other.word());
+        self.sync.push(sync.word());
+        self.other.push(other.word());
         self.key.push(0);
         self.hash.push(0);
         self.occupied.push(true);
-        push_cells(self.payload.as_mut_slice(), edge.cells.items());
+        push_cells(self.payload.as_mut_slice(), cells);
         Ok(())
     }
 

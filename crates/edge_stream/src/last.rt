@@ -7,7 +7,7 @@ ghost use Rattle.edge_stream.specs.Listing.{IsOf, edges_in, last_room};
 
 use batch::Batch;
 use std::collections::VecDeque;
-use tw_rows::Edge;
+use tw_rows::{Datum, Time};
 
 /// Whether the last batch has room for one row more.
 pub(crate) fn has_room(batches: &VecDeque<Batch>) -> bool
@@ -19,11 +19,12 @@ pub(crate) fn has_room(batches: &VecDeque<Batch>) -> bool
     }
 }
 
-/// Adds the edge to the last batch, which has room for it.
-pub(crate) fn push_last(batches: &mut VecDeque<Batch>, edge: &Edge)
+/// Adds the edge of these times and cells to the last batch, which has room for it.
+pub(crate) fn push_last(batches: &mut VecDeque<Batch>, sync: Time, other: Time, cells: &[Datum])
     requires room { 0 < last_room batches.old.items }
-    requires kinds { All (λ b. b.kinds ≡ map datum_kind edge.now.cells) batches.old.items }
-    ensures edges { edges_in batches.new.items ≡ edges_in batches.old.items ++ edge.now ∷ [] }
+    requires kinds { All (λ b. b.kinds ≡ map datum_kind cells.now) batches.old.items }
+    ensures edges { edges_in batches.new.items ≡ edges_in batches.old.items
+        ++ record { sync = sync; other = other; cells = cells.now } ∷ [] }
     ensures room { last_room batches.new.items + 1 ≡ last_room batches.old.items }
     ensures len { length batches.new.items ≡ length batches.old.items }
     ensures alike { (kinds : List CellKind) (capacity : ℕ) →
@@ -31,7 +32,7 @@ pub(crate) fn push_last(batches: &mut VecDeque<Batch>, edge: &Edge)
 {
     if let Some(last) = batches.back_mut() {
         // There is room.
-        let _ = last.push_edge(edge);
+        let _ = last.push_row(sync, other, cells);
     }
 }
 

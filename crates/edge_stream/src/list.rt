@@ -19,7 +19,7 @@ use std::collections::VecDeque;
 use std::error::Error;
 use std::fmt;
 use std::marker::Model;
-use tw_rows::{Edge, Kind, Memory, Time};
+use tw_rows::{Datum, Edge, Kind, Memory, Time};
 
 /// Edges in order, in batches of one capacity. At one sync time end edges stand first. Contracts see
 /// the edges, the kinds of the columns, the capacity, how many batches there are, and how many rows
@@ -186,8 +186,30 @@ impl EdgeList {
         ensures err_pools { OnErr result (IsPartTaken pools.old pools.new (cells_of self.old)) }
         ensures full { IsErr result → self.old.room ≡ 0 }
     {
+        self.append_cells(pools, edge.sync, edge.other, edge.cells.items())
+    }
+
+    /// Adds the edge of these times and cells last, as `append` adds an edge.
+    pub fn append_cells(
+        &mut self,
+        pools: &mut Pools,
+        sync: Time,
+        other: Time,
+        cells: &[Datum],
+    ) -> Result<(), Memory>
+        requires capacity { pools.old.capacity ≡ self.old.capacity }
+        requires kinds { map datum_kind cells.now ≡ cells_of self.old }
+        requires order { KeepsOrder (self.old.edges
+            ++ record { sync = sync; other = other; cells = cells.now } ∷ []) }
+        ensures ok { OnOk result (self.new ≡ appended self.old
+            (record { sync = sync; other = other; cells = cells.now })) }
+        ensures pools { OnOk result (pools.new ≡ room_taken self.old pools.old) }
+        ensures err { OnErr result (self.new ≡ self.old) }
+        ensures err_pools { OnErr result (IsPartTaken pools.old pools.new (cells_of self.old)) }
+        ensures full { IsErr result → self.old.room ≡ 0 }
+    {
         self.make_room(pools)?;
-        push_last(&mut self.batches, edge);
+        push_last(&mut self.batches, sync, other, cells);
         Ok(())
     }
 

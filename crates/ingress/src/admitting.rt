@@ -25,7 +25,8 @@ use crate::ingress::{Ingress, Refusal};
 use crate::watermarks::{Watermarks, later};
 use admission::{Admitted, Lateness, Policy};
 use line_text::Form;
-use row_reader::{CellEntry, Entry};
+use row_reader::{Entry, Said};
+use smallvec::SmallVec;
 use std::alloc::Global;
 use tw_rows::{Cells, Kind, Memory, Schema, StreamDef, TextTable, Time, to_cells};
 
@@ -77,18 +78,28 @@ fn reduced(t: Time, by: u64) -> Time
     Time::from_word(t.word().saturating_sub(by))
 }
 
-// The entry in cells. Its texts are in the table then.
-fn cells_of_entry(alloc: Global, entry: Entry, texts: &mut TextTable) -> Result<CellEntry, Memory>
-    ensures same { IfOk result (λ cells. entry_in texts.new cells ≡ entry) }
-    ensures placed { IfOk result (λ cells. IsPlacedIn texts.new cells) }
+fn no_cells(alloc: Global) -> Cells
+    ensures { result ≡ [] }
+{
+    Cells::new(SmallVec::new(alloc))
+}
+
+// What the entry says, and the cells of an event's row. Its texts are in the table then.
+fn cells_of_entry(
+    alloc: Global,
+    entry: Entry,
+    texts: &mut TextTable,
+) -> Result<(Said, Cells), Memory>
+    ensures same { IfOk result (λ told. entry_in texts.new told.0 told.1 ≡ entry) }
+    ensures placed { IfOk result (λ told. IsPlacedIn texts.new told.0 told.1) }
     ensures table { OnOk result (texts.new ≡ with_row texts.old (row_read (Ok entry))) }
     ensures err { OnErr result ((n : ℕ) × (texts.new
         ≡ with_row texts.old (take n (row_read (Ok entry))))) }
     ensures begins { BeginsWith texts.new texts.old }
 {
     match entry {
-        Entry::Skip => Ok(CellEntry::Skip),
-        Entry::Punct { stream, time } => Ok(CellEntry::Punct { stream, time }),
+        Entry::Skip => Ok((Said::Skip, no_cells(alloc))),
+        Entry::Punct { stream, time } => Ok((Said::Punct { stream, time }, no_cells(alloc))),
         Entry::Event {
             stream,
             form,
@@ -97,13 +108,13 @@ fn cells_of_entry(alloc: Global, entry: Entry, texts: &mut TextTable) -> Result<
             row,
         } => {
             let cells = to_cells(alloc, &row, texts)?;
-            Ok(CellEntry::Event {
+            let said = Said::Event {
                 stream,
                 form,
                 sync,
                 other,
-                cells,
-            })
+            };
+            Ok((said, cells))
         }
     }
 }
@@ -151,39 +162,44 @@ impl Ingress {
         ensures fixed { SameFixed self.old self.new }
         ensures released { self.new.released ≡ self.old.released }
     {
-        let cells = match cells_of_entry(self.alloc, entry, texts) {
-            Ok(cells) => cells,
+        let (said, cells) = match cells_of_entry(self.alloc, entry, texts) {
+            Ok(told) => told,
             Err(Memory) => return Err(Refusal::Memory),
         };
-        self.admit_cells(cells, texts)
+        self.admit_cells(said, cells, texts)
     }
 
     /// One line more, whose values are cells: what is admitted is the entry that they stand for. A refusal changes nothing.
-    pub fn admit_cells(&mut self, entry: CellEntry, texts: &TextTable) -> Result<Admitted, Refusal>
-        requires placed { IsPlacedIn texts.now entry }
-        requires fits { Fits (cells_of self.old) (entry_in texts.now entry) }
-        ensures ok { IfOk result (Takes texts.now texts.now (entry_in texts.now entry) self.old
-            self.new) }
-        ensures refused { IfErr result (IsRefused texts.now (entry_in texts.now entry) self.old) }
+    pub fn admit_cells(
+        &mut self,
+        said: Said,
+        cells: Cells,
+        texts: &TextTable,
+    ) -> Result<Admitted, Refusal>
+        requires placed { IsPlacedIn texts.now said cells }
+        requires fits { Fits (cells_of self.old) (entry_in texts.now said cells) }
+        ensures ok { IfOk result (Takes texts.now texts.now (entry_in texts.now said cells)
+            self.old self.new) }
+        ensures refused { IfErr result (IsRefused texts.now (entry_in texts.now said cells)
+            self.old) }
         ensures memory { result ≡ Err Refusal.Memory →
-            WantsMemory texts.now (entry_in texts.now entry) self.old }
+            WantsMemory texts.now (entry_in texts.now said cells) self.old }
         ensures left { IfErr result (λ refusal. IsLeft refusal self.old self.new) }
         ensures err { OnErr result (StillAdmits texts.now texts.now self.old self.new) }
         ensures fixed { SameFixed self.old self.new }
         ensures released { self.new.released ≡ self.old.released }
     {
-        match entry {
-            CellEntry::Skip => Ok(Admitted::Skipped),
-            CellEntry::Punct { stream, time } => {
+        match said {
+            Said::Skip => Ok(Admitted::Skipped),
+            Said::Punct { stream, time } => {
                 self.punctuate(stream, time);
                 Ok(Admitted::Kept)
             }
-            CellEntry::Event {
+            Said::Event {
                 stream,
                 form,
                 sync,
                 other,
-                cells,
             } => self.admit_event(stream, form, sync, other, cells, texts),
         }
     }

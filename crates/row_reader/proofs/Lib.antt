@@ -13,5 +13,6 @@ pub mod Printed
 pub mod Spells
 pub mod Steps
 pub mod Celled
+pub mod Drafting
 pub mod Printing
 pub mod Examples

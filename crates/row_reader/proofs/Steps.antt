@@ -14,7 +14,7 @@ use Rattle.tw_rows.specs.declared.schema.ColumnDef.{ColumnDef}
 use Rattle.tw_rows.specs.declared.schema.StreamDef.{StreamDef}
 use Rattle.line_text.specs.declared.form.Form.{Form}
 use Rattle.row_reader.specs.declared.entry.Entry.TheVariants.{Skip, Punct, Event}
-use Rattle.row_reader.specs.declared.entry.CellEntry.TheVariants.{Event as CellEvent}
+use Rattle.row_reader.specs.declared.entry.Said.TheVariants.{Event as SaidEvent}
 use Rattle.row_reader.specs.declared.entry.BadLine.TheVariants.{NotUtf8, StrayReturn, OddQuotes, UnknownStream, UnknownKind, WrongFields, BadTime, BadLife, BadValue}
 use Rattle.row_reader.specs.Line.{has_mark}
 use Rattle.row_reader.specs.Quotes.{odd_quotes}
@@ -29,8 +29,8 @@ use Rattle.row_reader.specs.declared.entry.RowFault.TheVariants.{Bad, Memory}
 use Rattle.row_reader.proofs.Spells.{no_return_found, not_empty}
 
 -- a bad line leaves the table as it was
-pub bad_read : (texts : List (List ℕ)) (cause : BadLine) (read : Read) → read ≡ Err cause → IsReadIn texts texts (Err (Bad cause)) read
-bad_read texts cause read h = record { entry = h; texts = refl }
+pub bad_read : (texts : List (List ℕ)) (row : List Datum) (cause : BadLine) (read : Read) → read ≡ Err cause → IsReadIn texts texts row (Err (Bad cause)) read
+bad_read texts row cause read h = record { entry = h; texts = refl }
 
 -- fields that are taken off
 pub drop_again : {A : Type 0} (n : ℕ) (fs : List A) → drop 1 (drop n fs) ≡ drop (n + 1) fs
@@ -196,7 +196,7 @@ by_tests false false read = refl
 -- the values are read, or there are none
 pub event_ok : (old new : List (List ℕ)) (stream : ℕ) (columns : List ColumnDef) (fs rest : List (List ℕ)) (form : Form) (a b : List ℕ) (sync other : ℕ) (row : Row) (cells : List Datum) → AreHeads fs form a b rest →
     times_of form a b ≡ Some (sync, other) → is_alive form sync other ≡ true → values_of columns rest ≡ Ok row → read_cells new cells ≡ row → ArePlaced new cells → new ≡ table_with old row →
-    IsReadIn old new (Ok (CellEvent stream form sync other cells)) (event stream columns fs)
+    IsReadIn old new cells (Ok (SaidEvent stream form sync other)) (event stream columns fs)
 event_ok old new stream columns fs rest form a b sync other row cells h t l r is placed table =
     let says = event_row stream columns fs rest form a b sync other h t l ∙ ap (λ (x : Result Row BadLine). with_values x (λ v. Ok (Event stream form sync other v))) r in
     record {
@@ -204,18 +204,18 @@ event_ok old new stream columns fs rest form a b sync other row cells h t l r is
       texts = table ∙ ap (λ (x : Read). table_with old (row_read x)) (sym says);
     }
 
-pub event_memory : (old new : List (List ℕ)) (stream : ℕ) (columns : List ColumnDef) (fs rest : List (List ℕ)) (form : Form) (a b : List ℕ) (sync other : ℕ) (row : Row) → AreHeads fs form a b rest →
+pub event_memory : (old new : List (List ℕ)) (cells : List Datum) (stream : ℕ) (columns : List ColumnDef) (fs rest : List (List ℕ)) (form : Form) (a b : List ℕ) (sync other : ℕ) (row : Row) → AreHeads fs form a b rest →
     times_of form a b ≡ Some (sync, other) → is_alive form sync other ≡ true → values_of columns rest ≡ Ok row → (n : ℕ) × (new ≡ table_with old (take n row)) →
-    IsReadIn old new (Err Memory) (event stream columns fs)
-event_memory old new stream columns fs rest form a b sync other row h t l r table =
+    IsReadIn old new cells (Err Memory) (event stream columns fs)
+event_memory old new cells stream columns fs rest form a b sync other row h t l r table =
     let says = event_row stream columns fs rest form a b sync other h t l ∙ ap (λ (x : Result Row BadLine). with_values x (λ v. Ok (Event stream form sync other v))) r in
     record { entry = tt; texts = (table.0, table.1 ∙ ap (λ (x : Read). table_with old (take table.0 (row_read x))) (sym says)) }
 
-pub event_err : (texts : List (List ℕ)) (stream : ℕ) (columns : List ColumnDef) (fs rest : List (List ℕ)) (form : Form) (a b : List ℕ) (sync other : ℕ) (fault : RowFault) → AreHeads fs form a b rest →
-    times_of form a b ≡ Some (sync, other) → is_alive form sync other ≡ true → IsCause fault (values_of columns rest) → IsReadIn texts texts (Err fault) (event stream columns fs)
-event_err texts stream columns fs rest form a b sync other (Bad cause) h t l r =
-    bad_read texts cause (event stream columns fs) (event_row stream columns fs rest form a b sync other h t l ∙ ap (λ (x : Result Row BadLine). with_values x (λ v. Ok (Event stream form sync other v))) r)
-event_err texts stream columns fs rest form a b sync other Memory h t l r = record { entry = tt; texts = (0, refl) }
+pub event_err : (texts : List (List ℕ)) (cells : List Datum) (stream : ℕ) (columns : List ColumnDef) (fs rest : List (List ℕ)) (form : Form) (a b : List ℕ) (sync other : ℕ) (fault : RowFault) → AreHeads fs form a b rest →
+    times_of form a b ≡ Some (sync, other) → is_alive form sync other ≡ true → IsCause fault (values_of columns rest) → IsReadIn texts texts cells (Err fault) (event stream columns fs)
+event_err texts cells stream columns fs rest form a b sync other (Bad cause) h t l r =
+    bad_read texts cells cause (event stream columns fs) (event_row stream columns fs rest form a b sync other h t l ∙ ap (λ (x : Result Row BadLine). with_values x (λ v. Ok (Event stream form sync other v))) r)
+event_err texts cells stream columns fs rest form a b sync other Memory h t l r = record { entry = tt; texts = (0, refl) }
 
 -- the values of an event
 pub values_short : (columns : List ColumnDef) (fs : List (List ℕ)) → length fs ≢ length columns → values_of columns fs ≡ Err WrongFields

@@ -3,13 +3,13 @@ use Rattle.std.proofs.Common.{◌≡◌, ◌<◌, ℕ, suc, ◌+◌, List, [], �
 use Rattle.std.specs.Prelude.{◌≢◌}
 use Rattle.std.specs.List.{All}
 use Rattle.std.specs.Str.{IsUtf8}
-use Rattle.std.proofs.lemmas.Str.{IsUtf8-append, IsUtf8-take, IsUtf8-drop, IsCharBoundary-before_ascii, IsCharBoundary-after_ascii}
+use Rattle.std.proofs.lemmas.Str.{IsUtf8-from_ascii, IsUtf8-append, IsUtf8-take, IsUtf8-drop, IsCharBoundary-before_ascii, IsCharBoundary-after_ascii}
 use Rattle.std.proofs.lemmas.List.{length-append, append-nil}
 use Rattle.std.proofs.lemmas.Bool.Decides.{eqb_tells}
 use Rattle.csv.specs.Machine.{next_record}
 use Rattle.csv.specs.Reading.{default_config}
-use Rattle.csv.specs.Records.{AllText}
-use Rattle.row_reader.specs.Record.{state_at, ReadsOn, record_of, fields_read}
+use Rattle.csv.specs.Records.{AllText, field_at}
+use Rattle.row_reader.specs.Record.{state_at, ReadsOn, record_of, fields_read, field_of}
 use Rattle.row_reader.specs.declared.quotes.Place.{Place}
 use Rattle.row_reader.specs.declared.quotes.Place.TheVariants.{Start, Plain, Quoted, Closed}
 use Rattle.row_reader.proofs.Records.{ReadsOn-comma, ReadsOn-plain, ReadsOn-start, ReadsOn-closed, ReadsOn-open, ReadsOn-close, ReadsOn-quoted, ReadsOn-again, IsSplit-start, read_at_end}
@@ -124,3 +124,9 @@ pub texts_left : (fs rest : List (List ℕ)) → AllText fs → rest ≡ drop 1 
 unfolding AllText
 texts_left [] rest t e = subst AllText (sym e) tt
 texts_left (f ∷ fs) rest t e = subst AllText (sym e) t.1
+
+-- the first field, or none, is a text
+pub text_here : (fs : List (List ℕ)) (f : List ℕ) → AllText fs → f ≡ field_of fs 0 → IsUtf8 f
+unfolding AllText field_of field_at
+text_here [] f t e = subst IsUtf8 (sym e) (IsUtf8-from_ascii [] (λ j. omega arith))
+text_here (g ∷ fs) f t e = subst IsUtf8 (sym e) t.0

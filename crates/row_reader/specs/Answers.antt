@@ -2,12 +2,13 @@
 use Rattle.std.specs.Prelude.{◌≡◌, ℕ, List, Option, Some, None, Result, Ok, Err, if◌then◌else◌, ◌==◌, length}
 use Rattle.std.specs.Borrow.{Bor}
 use Rattle.tw_rows.specs.Rows.{Row}
+use Rattle.tw_rows.specs.declared.cells.Datum.{Datum}
 use Rattle.tw_rows.specs.declared.schema.StreamDef.{StreamDef}
 use Rattle.tw_rows.specs.declared.schema.ColumnDef.{ColumnDef}
 use Rattle.row_reader.specs.Entry.{Read, row_of}
 use Rattle.row_reader.specs.Celled.{entry_in, IsPlacedIn}
 use Rattle.row_reader.specs.declared.entry.Entry.{Entry}
-use Rattle.row_reader.specs.declared.entry.CellEntry.{CellEntry}
+use Rattle.row_reader.specs.declared.entry.Said.{Said}
 use Rattle.row_reader.specs.declared.entry.BadLine.{BadLine}
 use Rattle.row_reader.specs.declared.entry.BadLine.TheVariants.{WrongFields, BadValue}
 use Rattle.row_reader.specs.declared.entry.RowFault.{RowFault}
@@ -19,11 +20,11 @@ Answers (Ok entry) read = read ≡ Ok entry
 Answers (Err (Bad cause)) read = read ≡ Err cause
 Answers (Err Memory) read = Unit {0}
 
--- the same in cells: the places are those of texts of the table, in which the entry is the one that is told
-abbrev pub AnswersIn : List (List ℕ) → Result CellEntry RowFault → Read → Type 0
-AnswersIn texts (Ok entry) read = (read ≡ Ok (entry_in texts entry)) × IsPlacedIn texts entry
-AnswersIn texts (Err (Bad cause)) read = read ≡ Err cause
-AnswersIn texts (Err Memory) read = Unit {0}
+-- the same with a row of data: its places are those of texts of the table, in which the entry is the one that is told
+abbrev pub AnswersIn : List (List ℕ) → List Datum → Result Said RowFault → Read → Type 0
+AnswersIn texts row (Ok said) read = (read ≡ Ok (entry_in texts said row)) × IsPlacedIn texts said row
+AnswersIn texts row (Err (Bad cause)) read = read ≡ Err cause
+AnswersIn texts row (Err Memory) read = Unit {0}
 
 -- the fault is the cause for which there are no values, unless there was no memory
 abbrev pub IsCause : RowFault → Result Row BadLine → Type 0

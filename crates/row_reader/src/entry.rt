@@ -4,7 +4,7 @@ ghost use Rattle.row_reader.specs.declared.entry.RowFault.TheVariants as faults;
 
 use line_text::Form;
 use std::alloc::{AllocError, AllocFailed};
-use tw_rows::{Cells, Memory, Row, Time};
+use tw_rows::{Memory, Row, Time};
 
 /// What a line says.
 #[derive(Drop)]
@@ -27,9 +27,9 @@ pub enum Entry {
     },
 }
 
-/// What a line says, with the values of an event as cells: a text is its place in a table of texts.
-#[derive(Drop)]
-pub enum CellEntry {
+/// What a line says but for the values of an event, which stand in a row beside it: a text as its place in a table of texts.
+#[derive(Clone, Copy)]
+pub enum Said {
     Skip,
     Punct {
         stream: Option<usize>,
@@ -40,7 +40,6 @@ pub enum CellEntry {
         form: Form,
         sync: Time,
         other: Time,
-        cells: Cells,
     },
 }
 

@@ -12,7 +12,7 @@ mod record;
 mod rows;
 mod value;
 
-pub use entry::{BadLine, CellEntry, Entry, RowFault};
+pub use entry::{BadLine, Entry, RowFault, Said};
 pub use fields::Fields;
 pub use laws::{
     entries_are_within, events_are_printed, lines_are_fields, lines_say_what_they_spell,

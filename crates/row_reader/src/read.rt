@@ -1,11 +1,12 @@
 // A line to its entry.
-ghost use Rattle.std.specs.Prelude.{◌≡◌, ◌≢◌, ◌≤◌, ◌<◌, ℕ, List, Ok, Err, None, IfOk, IfErr, false, length, drop, map, codes};
+ghost use Rattle.std.specs.Prelude.{◌≡◌, ◌≢◌, ◌≤◌, ◌<◌, ℕ, List, Ok, Err, None, IfErr, OnOk, false, length, drop, codes};
 ghost use Rattle.std.specs.List.{All};
 ghost use Rattle.std.specs.Str.{IsUtf8, is_utf8};
 ghost use Rattle.csv.specs.Records.{AllText};
 ghost use Rattle.tw_rows.specs.Texts.{BeginsWith};
+ghost use Rattle.tw_rows.specs.declared.cells.Datum.{Datum};
 ghost use Rattle.row_reader.specs.Fields.{left};
-ghost use Rattle.row_reader.specs.FieldValue.{field_value};
+ghost use Rattle.row_reader.specs.Drafted.{row_in};
 ghost use Rattle.row_reader.specs.Line.{has_mark, text_of};
 ghost use Rattle.row_reader.specs.Quotes.{odd_quotes};
 ghost use Rattle.row_reader.specs.Interned.{Interns, IsReadIn};
@@ -14,15 +15,14 @@ ghost use Rattle.row_reader.specs.Record.{field_of};
 ghost use Rattle.row_reader.specs.Number.{same_text};
 ghost use Rattle.row_reader.specs.Answers.{AnswersIn, IsCause, IsNamed, unless_wrong, values_of};
 
-use crate::entry::{BadLine, CellEntry, RowFault};
+use crate::entry::{BadLine, RowFault, Said};
 use crate::fields::Fields;
 use crate::line::{has_byte_order_mark, has_special, text_of_line};
 use crate::quotes::has_odd_quotes;
 use crate::record::read_record;
-use crate::value::{FieldValue, has_life, read_end, read_form, read_times, read_value, to_cells};
-use smallvec::SmallVec;
+use crate::value::{has_life, place_texts, read_end, read_form, read_times, read_value};
 use std::alloc::Global;
-use tw_rows::{Memory, SHORT_ROW, Schema, StreamDef, TextTable};
+use tw_rows::{Datum, Memory, Schema, StreamDef, TextTable};
 
 // This cause, where so many fields are left as are still wanted.
 fn unless_wrong_fields(fields: &Fields, wanted: usize, cause: BadLine) -> BadLine
@@ -35,49 +35,46 @@ fn unless_wrong_fields(fields: &Fields, wanted: usize, cause: BadLine) -> BadLin
     }
 }
 
-// The values of an event line, of which these fields are left, or why there are none.
-fn read_values<'a>(
-    alloc: Global,
-    schema: &Schema,
-    fields: &mut Fields<'a>,
-) -> Result<SmallVec<FieldValue<'a>, SHORT_ROW>, RowFault>
-    requires { AllText (left fields.old) }
-    ensures values { IfOk result (λ values.
-        values_of schema.now (left fields.old) ≡ Ok (map field_value values.items)) }
-    ensures cause { IfErr result (λ fault. IsCause fault (values_of schema.now (left fields.old))) }
+// Reads the values of an event line, of which these fields are left, into the row, but for its texts, or answers why there
+// are none.
+fn read_values(schema: &Schema, mut fields: Fields, row: &mut Vec<Datum>) -> Result<(), RowFault>
+    ensures values { OnOk result (values_of schema.now (left fields.entry)
+        ≡ Ok (row_in (left fields.entry) row.new.items)) }
+    ensures cause { IfErr result (λ fault.
+        IsCause fault (values_of schema.now (left fields.entry))) }
 {
     let columns = schema.items();
-    let mut values: SmallVec<FieldValue, SHORT_ROW> = SmallVec::new(alloc);
+    row.clear();
     for (i, column) in columns.iter().enumerate() {
         let Some(field) = fields.next_field() else {
             return Err(RowFault::Bad(BadLine::WrongFields));
         };
         match read_value(column.kind, field) {
-            Some(value) => values.push(value)?,
+            Some(datum) => row.push(datum)?,
             None => {
                 let cause = BadLine::BadValue { column: i + 1 };
                 let wanted = columns.len() - i - 1;
-                return Err(RowFault::Bad(unless_wrong_fields(fields, wanted, cause)));
+                return Err(RowFault::Bad(unless_wrong_fields(&fields, wanted, cause)));
             }
         }
     }
     match fields.next_field() {
         Some(_) => Err(RowFault::Bad(BadLine::WrongFields)),
-        None => Ok(values),
+        None => Ok(()),
     }
 }
 
 // The punctuation of a stream, or of all, whose fields behind `punct` these are.
 #[tactic(auto, unfolding(crate::specs::Entry::punctuation))]
-fn read_punctuation(stream: Option<usize>, mut fields: Fields) -> Result<CellEntry, RowFault>
-    ensures { (table all : List (List ℕ)) → left fields.entry ≡ drop 1 all →
-        IsReadIn table table result (punctuation stream all) }
+fn read_punctuation(stream: Option<usize>, mut fields: Fields) -> Result<Said, RowFault>
+    ensures { (table all : List (List ℕ)) (row : List Datum) → left fields.entry ≡ drop 1 all →
+        IsReadIn table table row result (punctuation stream all) }
 {
     if fields.count() != 1 {
         return Err(RowFault::Bad(BadLine::WrongFields));
     }
     match read_end(fields.take_field()) {
-        Some(time) => Ok(CellEntry::Punct { stream, time }),
+        Some(time) => Ok(Said::Punct { stream, time }),
         None => Err(RowFault::Bad(BadLine::BadTime)),
     }
 }
@@ -85,16 +82,16 @@ fn read_punctuation(stream: Option<usize>, mut fields: Fields) -> Result<CellEnt
 // The event that has this word as its form, and these fields behind it.
 #[tactic(auto, unfolding(crate::specs::Entry::event), using(crate::proofs::Celled::same_table))]
 fn read_event(
-    alloc: Global,
     stream: usize,
     schema: &Schema,
     word: &[u8],
     mut fields: Fields,
     texts: &mut TextTable,
-) -> Result<CellEntry, RowFault>
+    row: &mut Vec<Datum>,
+) -> Result<Said, RowFault>
     requires { AllText (left fields) }
     ensures entry { (all : List (List ℕ)) → word.now ≡ field_of all 0 →
-        left fields.entry ≡ drop 1 all → IsReadIn texts.old texts.new result
+        left fields.entry ≡ drop 1 all → IsReadIn texts.old texts.new row.new.items result
         (event stream schema.now all) }
     ensures begins { BeginsWith texts.new texts.old }
 {
@@ -116,18 +113,17 @@ fn read_event(
         let cause = unless_wrong_fields(&fields, columns, BadLine::BadLife);
         return Err(RowFault::Bad(cause));
     }
-    let values = match read_values(alloc, schema, &mut fields) {
-        Ok(values) => values,
+    match read_values(schema, fields, row) {
+        Ok(()) => {}
         Err(fault) => return Err(fault),
-    };
+    }
     // only now that nothing is bad: a bad line leaves no text
-    match to_cells(alloc, values.as_slice(), texts) {
-        Ok(cells) => Ok(CellEntry::Event {
+    match place_texts(fields, row, texts) {
+        Ok(()) => Ok(Said::Event {
             stream,
             form,
             sync: times.0,
             other: times.1,
-            cells,
         }),
         Err(Memory) => Err(RowFault::Memory),
     }
@@ -145,14 +141,21 @@ fn find_stream<'a>(streams: &'a [StreamDef], name: &[u8]) -> Option<(usize, &'a 
     None
 }
 
+fn is_star(word: &[u8]) -> bool
+    ensures { result ≡ same_text word.now (codes "*") }
+{
+    word == b"*".as_slice()
+}
+
 fn is_punct(word: &[u8]) -> bool
     ensures { result ≡ same_text word.now (codes "punct") }
 {
     word == b"punct".as_slice()
 }
 
-fn read_of_all(mut fields: Fields) -> Result<CellEntry, RowFault>
-    ensures { (table : List (List ℕ)) → IsReadIn table table result (of_all (left fields.entry)) }
+fn read_of_all(mut fields: Fields) -> Result<Said, RowFault>
+    ensures { (table : List (List ℕ)) (row : List Datum) →
+        IsReadIn table table row result (of_all (left fields.entry)) }
 {
     if is_punct(fields.take_field()) {
         read_punctuation(None, fields)
@@ -163,14 +166,14 @@ fn read_of_all(mut fields: Fields) -> Result<CellEntry, RowFault>
 
 #[tactic(auto, using(crate::proofs::Celled::same_table))]
 fn read_of_stream(
-    alloc: Global,
     number: usize,
     stream: &StreamDef,
     mut fields: Fields,
     texts: &mut TextTable,
-) -> Result<CellEntry, RowFault>
+    row: &mut Vec<Datum>,
+) -> Result<Said, RowFault>
     requires { AllText (left fields) }
-    ensures entry { IsReadIn texts.old texts.new result
+    ensures entry { IsReadIn texts.old texts.new row.new.items result
         (of_stream number stream.now.schema (left fields.entry)) }
     ensures begins { BeginsWith texts.new texts.old }
 {
@@ -178,28 +181,28 @@ fn read_of_stream(
     if is_punct(word) {
         read_punctuation(Some(number), fields)
     } else {
-        read_event(alloc, number, &stream.schema, word, fields, texts)
+        read_event(number, &stream.schema, word, fields, texts, row)
     }
 }
 
 #[tactic(auto, unfolding(crate::specs::Entry::record_entry), using(crate::proofs::Celled::same_table))]
 fn read_entry(
-    alloc: Global,
     mut fields: Fields,
     streams: &[StreamDef],
     texts: &mut TextTable,
-) -> Result<CellEntry, RowFault>
+    row: &mut Vec<Datum>,
+) -> Result<Said, RowFault>
     requires { AllText (left fields) }
-    ensures entry { IsReadIn texts.old texts.new result
+    ensures entry { IsReadIn texts.old texts.new row.new.items result
         (record_entry streams.now (left fields.entry)) }
     ensures begins { BeginsWith texts.new texts.old }
 {
     let name = fields.take_field();
-    if name == b"*".as_slice() {
+    if is_star(name) {
         return read_of_all(fields);
     }
     match find_stream(streams, name) {
-        Some((number, stream)) => read_of_stream(alloc, number, stream, fields, texts),
+        Some((number, stream)) => read_of_stream(number, stream, fields, texts, row),
         None => Err(RowFault::Bad(BadLine::UnknownStream)),
     }
 }
@@ -207,17 +210,17 @@ fn read_entry(
 // The entry of a text without quotes.
 #[tactic(auto, using(crate::proofs::Celled::same_table))]
 fn read_plain(
-    alloc: Global,
     text: &[u8],
     streams: &[StreamDef],
     texts: &mut TextTable,
-) -> Result<CellEntry, RowFault>
+    row: &mut Vec<Datum>,
+) -> Result<Said, RowFault>
     requires utf8 { IsUtf8 text.now }
     requires some { 0 < length text.now }
     requires no_quote { All (λ b. b ≢ 34) text.now }
     requires no_return { All (λ b. b ≢ 13) text.now }
     requires no_feed { All (λ b. b ≢ 10) text.now }
-    ensures entry { IsReadIn texts.old texts.new result (text_entry streams.now text.now) }
+    ensures entry { IsReadIn texts.old texts.new row.new.items result (text_entry streams.now text.now) }
     ensures begins { BeginsWith texts.new texts.old }
     ensures memory { result ≡ Err RowFault.Memory → (odd_quotes text.now ≡ false)
         × (has_mark text.now ≡ false) }
@@ -225,7 +228,7 @@ fn read_plain(
     if has_byte_order_mark(text) {
         return Err(RowFault::Bad(BadLine::UnknownStream));
     }
-    read_entry(alloc, Fields::Plain(Some(text)), streams, texts)
+    read_entry(Fields::Plain(Some(text)), streams, texts, row)
 }
 
 // The entry of a text that may have quotes.
@@ -235,12 +238,13 @@ fn read_quoted(
     text: &[u8],
     streams: &[StreamDef],
     texts: &mut TextTable,
-) -> Result<CellEntry, RowFault>
+    row: &mut Vec<Datum>,
+) -> Result<Said, RowFault>
     requires utf8 { IsUtf8 text.now }
     requires some { 0 < length text.now }
     requires no_return { All (λ b. b ≢ 13) text.now }
     requires no_feed { All (λ b. b ≢ 10) text.now }
-    ensures entry { IsReadIn texts.old texts.new result (text_entry streams.now text.now) }
+    ensures entry { IsReadIn texts.old texts.new row.new.items result (text_entry streams.now text.now) }
     ensures begins { BeginsWith texts.new texts.old }
     ensures memory { result ≡ Err RowFault.Memory → (odd_quotes text.now ≡ false)
         × (has_mark text.now ≡ false) }
@@ -252,7 +256,7 @@ fn read_quoted(
         return Err(RowFault::Bad(BadLine::UnknownStream));
     }
     let record = read_record(alloc, text)?;
-    read_entry(alloc, Fields::Record(&record, 0), streams, texts)
+    read_entry(Fields::Record(&record, 0), streams, texts, row)
 }
 
 fn is_text(bytes: &[u8]) -> bool
@@ -268,10 +272,11 @@ fn read_special(
     bytes: &[u8],
     streams: &[StreamDef],
     texts: &mut TextTable,
-) -> Result<CellEntry, RowFault>
+    row: &mut Vec<Datum>,
+) -> Result<Said, RowFault>
     requires some { 0 < length bytes.now }
     requires no_feed { All (λ b. b ≢ 10) bytes.now }
-    ensures entry { IsReadIn texts.old texts.new result (text_entry streams.now bytes.now) }
+    ensures entry { IsReadIn texts.old texts.new row.new.items result (text_entry streams.now bytes.now) }
     ensures begins { BeginsWith texts.new texts.old }
     ensures memory { result ≡ Err RowFault.Memory → text_fault bytes.now ≡ None }
 {
@@ -282,14 +287,14 @@ fn read_special(
         return Err(RowFault::Bad(BadLine::StrayReturn));
     }
     if bytes.contains(&b'"') {
-        read_quoted(alloc, bytes, streams, texts)
+        read_quoted(alloc, bytes, streams, texts, row)
     } else {
-        read_plain(alloc, bytes, streams, texts)
+        read_plain(bytes, streams, texts, row)
     }
 }
 
-/// The entry of a line in cells, as `read_row` tells it. The texts of an event's row are in the table then, and a bad line
-/// leaves the table as it was. Memory is taken for fields between quotes, for long rows and for new texts.
+/// What a line says, as `read_row` tells it. The values of an event are in the row then, and their texts in the table; a bad line
+/// leaves the table as it was. Memory is taken for fields between quotes, for new texts, and where the row has too little room.
 #[tactic(auto, using(crate::proofs::Celled::same_table))]
 pub fn read_cells(
     alloc: Global,
@@ -297,21 +302,22 @@ pub fn read_cells(
     first: bool,
     streams: &[StreamDef],
     texts: &mut TextTable,
-) -> Result<CellEntry, RowFault>
+    row: &mut Vec<Datum>,
+) -> Result<Said, RowFault>
     requires short { length line.now ≤ 65536 }
     requires no_feed { All (λ b. b ≢ 10) line.now }
-    ensures entry { AnswersIn texts.new result (entry streams.now first line.now) }
+    ensures entry { AnswersIn texts.new row.new.items result (entry streams.now first line.now) }
     ensures texts { Interns texts.old texts.new result (entry streams.now first line.now) }
     ensures begins { BeginsWith texts.new texts.old }
     ensures memory { result ≡ Err RowFault.Memory → text_fault (text_of first line.now) ≡ None }
 {
     let bytes = text_of_line(line, first);
     if bytes.is_empty() {
-        return Ok(CellEntry::Skip);
+        return Ok(Said::Skip);
     }
     if has_special(bytes) {
-        read_special(alloc, bytes, streams, texts)
+        read_special(alloc, bytes, streams, texts, row)
     } else {
-        read_plain(alloc, bytes, streams, texts)
+        read_plain(bytes, streams, texts, row)
     }
 }

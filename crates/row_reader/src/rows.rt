@@ -6,10 +6,10 @@ ghost use Rattle.row_reader.specs.Entry.{entry};
 ghost use Rattle.row_reader.specs.Celled.{entry_in, IsPlacedIn};
 ghost use Rattle.row_reader.specs.Answers.{Answers};
 
-use crate::entry::{CellEntry, Entry, RowFault};
+use crate::entry::{Entry, RowFault, Said};
 use crate::read::read_cells;
 use std::alloc::Global;
-use tw_rows::{Cells, Datum, Label, Memory, Row, StreamDef, TextTable, Value};
+use tw_rows::{Datum, Label, Memory, Row, StreamDef, TextTable, Value};
 
 // The value that a datum stands for.
 fn value_of_datum(alloc: Global, datum: Datum, texts: &TextTable) -> Result<Value, Memory>
@@ -24,37 +24,41 @@ fn value_of_datum(alloc: Global, datum: Datum, texts: &TextTable) -> Result<Valu
 }
 
 // The row that cells stand for.
-fn row_of_cells(alloc: Global, cells: &Cells, texts: &TextTable) -> Result<Row, Memory>
+fn row_of_cells(alloc: Global, cells: &[Datum], texts: &TextTable) -> Result<Row, Memory>
     requires { ArePlaced texts.now cells.now }
     ensures { IfOk result (λ row. row ≡ row_at texts.now cells.now) }
 {
-    let mut values = Vec::with_capacity(alloc, cells.items().len())?;
-    for datum in cells.items() {
+    let mut values = Vec::with_capacity(alloc, cells.len())?;
+    for datum in cells {
         values.push(value_of_datum(alloc, *datum, texts)?)?;
     }
     Ok(Row::from_vec(values))
 }
 
-// The entry that an entry in cells stands for.
-fn entry_of_cells(alloc: Global, entry: CellEntry, texts: &TextTable) -> Result<Entry, Memory>
-    requires { IsPlacedIn texts.now entry }
-    ensures { IfOk result (λ e. e ≡ entry_in texts.now entry) }
+// The entry that is said, with the row of an event.
+fn entry_of_said(
+    alloc: Global,
+    said: Said,
+    row: &[Datum],
+    texts: &TextTable,
+) -> Result<Entry, Memory>
+    requires { IsPlacedIn texts.now said row.now }
+    ensures { IfOk result (λ e. e ≡ entry_in texts.now said row.now) }
 {
-    Ok(match entry {
-        CellEntry::Skip => Entry::Skip,
-        CellEntry::Punct { stream, time } => Entry::Punct { stream, time },
-        CellEntry::Event {
+    Ok(match said {
+        Said::Skip => Entry::Skip,
+        Said::Punct { stream, time } => Entry::Punct { stream, time },
+        Said::Event {
             stream,
             form,
             sync,
             other,
-            cells,
         } => Entry::Event {
             stream,
             form,
             sync,
             other,
-            row: row_of_cells(alloc, &cells, texts)?,
+            row: row_of_cells(alloc, row, texts)?,
         },
     })
 }
@@ -72,8 +76,9 @@ pub fn read_row(
     ensures { Answers result (entry streams.now first line.now) }
 {
     let mut texts = TextTable::new(alloc);
-    match read_cells(alloc, line, first, streams, &mut texts) {
-        Ok(entry) => match entry_of_cells(alloc, entry, &texts) {
+    let mut row = Vec::new(alloc);
+    match read_cells(alloc, line, first, streams, &mut texts, &mut row) {
+        Ok(said) => match entry_of_said(alloc, said, row.as_slice(), &texts) {
             Ok(entry) => Ok(entry),
             Err(Memory) => Err(RowFault::Memory),
         },

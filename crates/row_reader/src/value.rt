@@ -1,18 +1,20 @@
 // Times, values and words of a line.
-ghost use Rattle.std.specs.Prelude.{◌≡◌, ℕ, map, take, IfOk, OnOk, OnErr, option_map};
+ghost use Rattle.std.specs.Prelude.{◌≡◌, ◌≤◌, ◌∷◌, ℕ, List, false, length, take, drop, IfOk, OnOk, OnErr, option_map};
 ghost use Rattle.std.specs.Str.{IsUtf8};
+ghost use Rattle.csv.specs.Records.{AllText};
 ghost use Rattle.tw_rows.specs.Cells.{IsPlaced, ArePlaced, read_datum, read_cells, with_value, with_row};
 ghost use Rattle.tw_rows.specs.Texts.{BeginsWith};
+ghost use Rattle.tw_rows.specs.declared.cells.Datum.{Datum};
 ghost use Rattle.tw_rows.specs.declared.kind.Kind.TheVariants as kinds;
 ghost use Rattle.tw_rows.specs.declared.row.Value.TheVariants as values;
-ghost use Rattle.row_reader.specs.FieldValue.{field_value};
+ghost use Rattle.row_reader.specs.Drafted.{value_in, row_in, HaveNoText};
+ghost use Rattle.row_reader.specs.Fields.{left};
 ghost use Rattle.row_reader.specs.Values.{time_of, end_of, inf_of, form_of, times_of, is_alive, value_of};
 
+use crate::fields::Fields;
 use crate::number::{read_number, read_places};
 use line_text::Form;
-use smallvec::SmallVec;
-use std::alloc::Global;
-use tw_rows::{Cells, Datum, Kind, Memory, TextTable, Time};
+use tw_rows::{Datum, Kind, Memory, TextTable, Time};
 
 #[tactic(auto, unfolding(tw_rows::specs::Instant::inf))]
 fn read_time(text: &[u8]) -> Option<Time>
@@ -112,64 +114,73 @@ fn as_text(bytes: &[u8]) -> &str
     }
 }
 
-/// The value of a field. A text still stands in the line.
-#[derive(Clone, Copy)]
-pub enum FieldValue<'a> {
-    Int(i64),
-    Bool(bool),
-    Text(&'a str),
-}
-
-impl Default for FieldValue<'_> {
-    fn default() -> Self {
-        FieldValue::Bool(false)
-    }
-}
-
-//// The value of that kind that the bytes of a text spell.
+/// The datum of the value of that kind that the bytes of a text spell. A text is not in a table yet: its datum has place 0.
 #[tactic(auto, unfolding(crate::specs::Values::value_of))]
-pub fn read_value(kind: Kind, text: &[u8]) -> Option<FieldValue<'_>>
-    requires { IsUtf8 text.now }
-    ensures { option_map field_value result ≡ value_of kind text.now }
+pub fn read_value(kind: Kind, text: &[u8]) -> Option<Datum>
+    ensures { option_map (value_in text.now) result ≡ value_of kind text.now }
 {
     Some(match kind {
-        Kind::Int => FieldValue::Int(read_places(text, 0)?),
-        Kind::Dec(places) => FieldValue::Int(read_places(text, places)?),
-        Kind::Bool => FieldValue::Bool(read_flag(text)?),
-        Kind::Text => FieldValue::Text(as_text(text)),
+        Kind::Int => Datum::Int(read_places(text, 0)?),
+        Kind::Dec(places) => Datum::Int(read_places(text, places)?),
+        Kind::Bool => Datum::Bool(read_flag(text)?),
+        Kind::Text => Datum::Text(0),
     })
 }
 
-// The datum of the value. A text is in the table then.
-fn to_datum(value: &FieldValue, texts: &mut TextTable) -> Result<Datum, Memory>
-    ensures read { IfOk result (λ datum. read_datum texts.new datum ≡ field_value value.now) }
-    ensures placed { IfOk result (λ datum. IsPlaced texts.new datum) }
-    ensures table { OnOk result (texts.new ≡ with_value texts.old (field_value value.now)) }
+// The datum that was read of that field, whose text, where it is one, is in the table then.
+fn place_value(datum: Datum, field: &[u8], texts: &mut TextTable) -> Result<Datum, Memory>
+    requires { IsUtf8 field.now }
+    ensures read { IfOk result (λ d. read_datum texts.new d ≡ value_in field.now datum) }
+    ensures placed { IfOk result (λ d. IsPlaced texts.new d) }
+    ensures table { OnOk result (texts.new ≡ with_value texts.old (value_in field.now datum)) }
     ensures err { OnErr result (texts.new ≡ texts.old) }
 {
-    Ok(match value {
-        FieldValue::Int(number) => Datum::Int(*number),
-        FieldValue::Bool(flag) => Datum::Bool(*flag),
-        FieldValue::Text(text) => Datum::Text(texts.intern(text)?),
+    Ok(match datum {
+        Datum::Int(number) => Datum::Int(number),
+        Datum::Bool(flag) => Datum::Bool(flag),
+        Datum::Text(_) => Datum::Text(texts.intern(as_text(field))?),
     })
 }
 
-/// The cells of the values. Their texts are in the table then, in order; after a refusal those of the first values.
-pub fn to_cells(
-    alloc: Global,
-    values: &[FieldValue],
+fn is_text(datum: Datum) -> bool
+    ensures { (ds : List Datum) → result ≡ false → HaveNoText ds → HaveNoText (datum ∷ ds) }
+{
+    matches!(datum, Datum::Text(_))
+}
+
+// How many of the data stand before the last text and at it.
+fn texts_end(row: &[Datum]) -> usize
+    ensures within { result ≤ length row.now }
+    ensures rest { HaveNoText (drop result row.now) }
+{
+    for i in 0..row.len() {
+        let end = row.len() - i;
+        if is_text(row[end - 1]) {
+            return end;
+        }
+    }
+    0
+}
+
+/// Puts the texts of a row that was read of these fields into the table, in order, and their places into the row. After a
+/// refusal those of the first values are there.
+pub fn place_texts(
+    mut fields: Fields,
+    row: &mut Vec<Datum>,
     texts: &mut TextTable,
-) -> Result<Cells, Memory>
-    ensures read { IfOk result (λ cells. read_cells texts.new cells ≡ map field_value values.now) }
-    ensures placed { IfOk result (λ cells. ArePlaced texts.new cells) }
-    ensures table { OnOk result (texts.new ≡ with_row texts.old (map field_value values.now)) }
-    ensures err { OnErr result
-        ((n : ℕ) × (texts.new ≡ with_row texts.old (take n (map field_value values.now)))) }
+) -> Result<(), Memory>
+    requires { AllText (left fields) }
+    ensures read { OnOk result (read_cells texts.new row.new.items
+        ≡ row_in (left fields.entry) row.old.items) }
+    ensures placed { OnOk result (ArePlaced texts.new row.new.items) }
+    ensures table { OnOk result (texts.new
+        ≡ with_row texts.old (row_in (left fields.entry) row.old.items)) }
+    ensures err { OnErr result ((n : ℕ) × (texts.new
+        ≡ with_row texts.old (take n (row_in (left fields.entry) row.old.items)))) }
     ensures begins { BeginsWith texts.new texts.old }
 {
-    let mut cells = SmallVec::new(alloc);
-    for value in values {
-        cells.push(to_datum(value, texts)?)?;
+    for i in 0..texts_end(row.as_slice()) {
+        row[i] = place_value(row[i], fields.take_field(), texts)?;
     }
-    Ok(Cells::new(cells))
+    Ok(())
 }

@@ -59,11 +59,11 @@ ends released r p b tells not is low = elim (cases_lt r p) [
 pub begins : (released r p : ℕ) (b : Bool) → (IsTrue b ↔ (r < p)) → b ≡ true → r ≡ released → released < p
 begins released r p b tells before is = (let l = tells.0 before in omega (arith, l, is))
 
--- one line more was admitted, and its texts are in the table
-pub taken_went : (plan : PlanParts) (policy : Policy) (w : Progress) (given lists : ℕ → List Edge) (e : Parts) → Went plan policy w given lists e → (b : Admission) (more : List (List ℕ)) (i : Ingress) →
+-- one line more was admitted, its texts are in the table, and the row is that of other parts
+pub taken_went : (plan : PlanParts) (policy : Policy) (w : Progress) (given lists : ℕ → List Edge) (e : Parts) → Went plan policy w given lists e → (b : Admission) (more : List (List ℕ)) (i : Ingress) (read : Parts) →
     BeginsWith more e.texts → Admits more b given i → SameFixed e.ingress i → i.released ≡ e.ingress.released → IsTimed b →
-    Went plan policy (record w { after = b }) given lists (record e { texts = more; ingress = i })
-taken_went plan policy w given lists e went b more i begins took same released timed = record {
+    Went plan policy (record w { after = b }) given lists (record e { texts = more; ingress = i; row = read.row })
+taken_went plan policy w given lists e went b more i read begins took same released timed = record {
   fixed = still_for plan policy e.dataflow.capacity e.ingress i went.fixed same;
   took = took;
   released = released ∙ went.released;
@@ -83,8 +83,9 @@ taken_went plan policy w given lists e went b more i begins took same released t
 }
 
 -- and the parts can still run
-pub taken_run : (e : Parts) → CanRun e → (more : List (List ℕ)) (i : Ingress) → BeginsWith more e.texts → SameFixed e.ingress i → i.released ≡ e.ingress.released → CanRun (record e { texts = more; ingress = i })
-taken_run e run more i begins same released = record {
+pub taken_run : (e : Parts) → CanRun e → (more : List (List ℕ)) (i : Ingress) (read : Parts) → BeginsWith more e.texts → SameFixed e.ingress i → i.released ≡ e.ingress.released →
+    CanRun (record e { texts = more; ingress = i; row = read.row })
+taken_run e run more i read begins same released = record {
   sound = run.sound;
   fixed = subst (λ r. IsFor e.dataflow.plan.streams r e.dataflow.capacity i) (sym same.policy) (still_for e.dataflow.plan e.ingress.policy e.dataflow.capacity e.ingress i run.fixed same);
   pooled = run.pooled;

@@ -346,6 +346,7 @@ impl Parts {
             Ok(dataflow) => dataflow,
             Err(fault) => return Err(fault),
         };
+        let row = Vec::new(alloc);
         Ok(Parts {
             alloc,
             texts,
@@ -354,6 +355,7 @@ impl Parts {
             dataflow,
             egress,
             closed,
+            row,
         })
     }
 

@@ -22,10 +22,10 @@ use row_stage::column_kinds;
 use shard_apply::Gate;
 use std::alloc::Global;
 use std::thread::Threads;
-use tw_rows::{Kind, Memory, TextTable, Time};
+use tw_rows::{Cells, Datum, Kind, Memory, TextTable, Time};
 
 /// The parts of an engine: lines come in at the ingress, their edges go through the dataflow of the plan, and the egress shows
-/// what the root changes. `closed` is how far the text goes.
+/// what the root changes. `closed` is how far the text goes, and `row` has the values of the last event that was read.
 #[derive(Drop)]
 pub struct Parts {
     pub(crate) alloc: Global,
@@ -35,6 +35,7 @@ pub struct Parts {
     pub(crate) dataflow: Dataflow,
     pub(crate) egress: Egress,
     pub(crate) closed: Time,
+    pub(crate) row: Vec<Datum>,
 }
 
 // No text stands twice in a table.
@@ -103,6 +104,7 @@ impl Parts {
             dataflow,
             egress,
             closed: Time::ZERO,
+            row: Vec::new(alloc),
         })
     }
 
@@ -124,11 +126,23 @@ impl Parts {
         // its call tells the proof that the line has no other times than event times
         event_times_stay();
         let streams = self.dataflow.plan().streams();
-        let entry = match read_cells(self.alloc, line, number == 1, streams, &mut self.texts) {
-            Ok(entry) => entry,
+        let first = number == 1;
+        let said = match read_cells(
+            self.alloc,
+            line,
+            first,
+            streams,
+            &mut self.texts,
+            &mut self.row,
+        ) {
+            Ok(said) => said,
             Err(fault) => return Err(EngineFault::of_row(number, &fault)),
         };
-        match self.ingress.admit_cells(entry, &self.texts) {
+        let cells = match Cells::from_slice(self.alloc, self.row.as_slice()) {
+            Ok(cells) => cells,
+            Err(Memory) => return Err(EngineFault::Memory),
+        };
+        match self.ingress.admit_cells(said, cells, &self.texts) {
             Ok(_) => Ok(()),
             Err(refusal) => Err(EngineFault::of_refusal(number, &refusal)),
         }

@@ -1,5 +1,6 @@
 use Rattle.std.proofs.Common.{◌≡◌, ◌<◌, ◌-◌, suc, ◌∙◌, refl, ap, arith, rules, length, deque_len}
 use Rattle.std.specs.Prelude.{Result, Ok, Err, IsErr, OnOk}
+use Rattle.tw_rows.specs.declared.edge.Edge.{Edge}
 use Rattle.batch.specs.Rows.{edges_of, row_of}
 use Rattle.edge_stream.proofs.Rows.{edges-push}
 use Rattle.edge_stream.proofs.Cutting.{edges_in-last}
@@ -17,9 +18,10 @@ returns-in-Some-clause-edges c =
     let some : 0 < deque_len bs = search rules in
     let last : suc (deque_len bs - 1) ≡ length bs.items = omega (arith, some, bs.ok.0) in
     let b = c.in-Some.last.now in
+    let edge : Edge = record { sync = c.args.sync; other = c.args.other; cells = c.args.cells.now } in
     let room = last_room-last bs.items (deque_len bs - 1) b last c.in-Some.ensures.value in
-    let new = done c.push_edge.result _ (λ h. omega (arith, c.push_edge.ensures.full.0 h, room, c.requires.room)) c.push_edge.ensures.ok in
-    edges_in-last bs.items (deque_len bs - 1) b c.push_edge.new.self c.args.edge.now last c.in-Some.ensures.value (ap (λ t. edges_of t.rows) new ∙ edges-push b.rows c.args.edge.now)
+    let new = done c.push_row.result _ (λ h. omega (arith, c.push_row.ensures.full.0 h, room, c.requires.room)) c.push_row.ensures.ok in
+    edges_in-last bs.items (deque_len bs - 1) b c.push_row.new.self edge last c.in-Some.ensures.value (ap (λ t. edges_of t.rows) new ∙ edges-push b.rows edge)
 
 pub returns-in-Some-clause-room : goal.returns-in-Some-clause-room
 returns-in-Some-clause-room c =
@@ -27,6 +29,7 @@ returns-in-Some-clause-room c =
     let some : 0 < deque_len bs = search rules in
     let last : suc (deque_len bs - 1) ≡ length bs.items = omega (arith, some, bs.ok.0) in
     let b = c.in-Some.last.now in
+    let edge : Edge = record { sync = c.args.sync; other = c.args.other; cells = c.args.cells.now } in
     let room = last_room-last bs.items (deque_len bs - 1) b last c.in-Some.ensures.value in
-    let new = done c.push_edge.result _ (λ h. omega (arith, c.push_edge.ensures.full.0 h, room, c.requires.room)) c.push_edge.ensures.ok in
-    last_room-less bs.items (deque_len bs - 1) b c.push_edge.new.self (row_of c.args.edge.now) last c.in-Some.ensures.value new c.requires.room
+    let new = done c.push_row.result _ (λ h. omega (arith, c.push_row.ensures.full.0 h, room, c.requires.room)) c.push_row.ensures.ok in
+    last_room-less bs.items (deque_len bs - 1) b c.push_row.new.self (row_of edge) last c.in-Some.ensures.value new c.requires.room

@@ -11,7 +11,7 @@ pub returns-then-has_byte_order_mark-clause-entry : goal.returns-then-has_byte_o
 returns-then-has_byte_order_mark-clause-entry c =
     let text = c.args.text.now in
     let marked = sym c.has_byte_order_mark.ensures.value ∙ c.if-has_byte_order_mark.true in
-    bad_read _ _ _ (text_is c.args.streams.now text c.requires.some c.requires.utf8 c.requires.no_return ∙ rw (even_without text c.requires.no_quote, marked) refl)
+    bad_read _ _ _ _ (text_is c.args.streams.now text c.requires.some c.requires.utf8 c.requires.no_return ∙ rw (even_without text c.requires.no_quote, marked) refl)
 
 pub read_entry-requires : goal.read_entry-requires
 read_entry-requires c =
@@ -24,7 +24,7 @@ returns-clause-entry c =
     let unmarked = sym c.has_byte_order_mark.ensures.value ∙ c.if-has_byte_order_mark.false in
     let is = text_is c.args.streams.now text c.requires.some c.requires.utf8 c.requires.no_return ∙ rw (even_without text c.requires.no_quote, unmarked) refl
     ∙ ap (record_entry c.args.streams.now) (record_of_commas text c.requires.some c.requires.no_quote c.requires.no_return c.requires.no_feed) in
-    subst (IsReadIn c.args.texts.now c.read_entry.new.texts c.read_entry.result) (sym is) c.read_entry.ensures.entry
+    subst (IsReadIn c.args.texts.now c.read_entry.new.texts c.read_entry.new.row.items c.read_entry.result) (sym is) c.read_entry.ensures.entry
 
 pub returns-clause-memory : goal.returns-clause-memory
 returns-clause-memory c = λ is. (even_without c.args.text.now c.requires.no_quote, sym c.has_byte_order_mark.ensures.value ∙ c.if-has_byte_order_mark.false)

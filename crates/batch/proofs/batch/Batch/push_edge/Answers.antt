@@ -1,56 +1,16 @@
-use Rattle.std.proofs.Common.{◌≡◌, ◌≤◌, ◌∙◌, ◌++◌, [], ◌∷◌, true, length, ap, sym, refl, subst, arith}
-use Rattle.std.specs.List.{refill}
-use Rattle.tw_rows.specs.Instant.{inf}
-use Rattle.batch.specs.declared.batch.Batch.TheInside.{Inside}
-use Rattle.batch.specs.Rows.{Row, Table}
-use Rattle.batch.proofs.Pushing.{refill-pushed}
-use Rattle.batch.proofs.Views.{Holds-push, view-push, length_is, capacity_is, kinds_are}
+use Rattle.std.proofs.Common.{map, ◌≡◌, ◌++◌, ◌∷◌, [], List, ap, subst, ◌∙◌}
+use Rattle.std.specs.Prelude.{OnOk}
+use Rattle.tw_rows.specs.Cells.{datum_kind}
+use Rattle.tw_rows.specs.declared.cells.Datum.{Datum}
+use Rattle.batch.specs.Rows.{row_of}
 use Rattle.batch.proofs.batch.Batch.push_edge.Goals as goal
 
-pub returns-then-len-capacity-clause-full : goal.returns-then-len-capacity-clause-full
-returns-then-len-capacity-clause-full c =
-    let long = length_is c.self.inside c.args.self.now c.self.view_is c.self.invariant in
-    let room = capacity_is c.self.inside c.args.self.now c.self.view_is c.self.invariant in
-    (λ _. omega (arith, long, room, c.len.ensures.len, c.capacity.ensures.capacity, c.if-len-capacity.true), λ _. refl)
-
-pub returns-clause-full : goal.returns-clause-full
-returns-clause-full c =
-    let long = length_is c.self.inside c.args.self.now c.self.view_is c.self.invariant in
-    let room = capacity_is c.self.inside c.args.self.now c.self.view_is c.self.invariant in
-    (λ e. absurd (cc), λ e. absurd (omega (arith, e, long, room, c.len.ensures.len, c.capacity.ensures.capacity, c.if-len-capacity.false)))
-
-pub invariant_of-self : goal.invariant_of-self
-invariant_of-self c =
-    let row : Row = record { sync = c.word.result; other = c.word-2.result; key = 0; hash = 0; cells = c.args.edge.now.cells; occupied = true } in
-    let more : Inside = record {
-      sync = c.push.new.self;
-      other = c.push-2.new.self;
-      key = c.push-3.new.self;
-      hash = c.push-4.new.self;
-      payload = record { items = refill (length c.self.inside.payload.items) c.self.inside.payload.items c.push_cells.new.columns; capacity = c.self.inside.payload.capacity };
-      occupied = c.push-5.new.self;
-    } in
-    Holds-push c.self.inside c.args.self.now c.self.view_is c.self.invariant row more c.push.ensures c.push-2.ensures c.push-3.ensures c.push-4.ensures
-    (refill-pushed c.self.inside.payload.items c.push_cells.new.columns c.as_mut_slice.result.now c.args.edge.now.cells c.items.result.now c.push_cells.ensures c.as_mut_slice.ensures.value c.items.ensures) c.push-5.ensures
-    (c.requires ∙ sym (kinds_are c.self.inside c.args.self.now c.self.view_is c.self.invariant))
-    (subst (λ n. n ≤ inf) (sym c.word.ensures.word) c.word.ensures.within)
-    (subst (λ n. n ≤ inf) (sym c.word-2.ensures.word) c.word-2.ensures.within)
+pub push_row-requires : goal.push_row-requires
+push_row-requires c = ap (map datum_kind) c.items.ensures ∙ c.requires
 
 pub returns-clause-ok : goal.returns-clause-ok
 returns-clause-ok c =
-    let row : Row = record { sync = c.word.result; other = c.word-2.result; key = 0; hash = 0; cells = c.args.edge.now.cells; occupied = true } in
-    let more : Inside = record {
-      sync = c.push.new.self;
-      other = c.push-2.new.self;
-      key = c.push-3.new.self;
-      hash = c.push-4.new.self;
-      payload = record { items = refill (length c.self.inside.payload.items) c.self.inside.payload.items c.push_cells.new.columns; capacity = c.self.inside.payload.capacity };
-      occupied = c.push-5.new.self;
-    } in
-    let with_last : Row → Table = (λ r. record c.args.self.now { rows = c.args.self.now.rows ++ r ∷ [] }) in
-    let same_row : row ≡ record { sync = c.args.edge.now.sync; other = c.args.edge.now.other; key = 0; hash = 0; cells = c.args.edge.now.cells; occupied = true } =
-    (λ i. record { sync = c.word.ensures.word i; other = c.word-2.ensures.word i; key = 0; hash = 0; cells = c.args.edge.now.cells; occupied = true }) in
-    view-push c.self.inside c.args.self.now c.self.view_is c.self.invariant row more c.push.ensures c.push-2.ensures c.push-3.ensures c.push-4.ensures
-    (refill-pushed c.self.inside.payload.items c.push_cells.new.columns c.as_mut_slice.result.now c.args.edge.now.cells c.items.result.now c.push_cells.ensures c.as_mut_slice.ensures.value c.items.ensures) c.push-5.ensures
-    (c.requires ∙ sym (kinds_are c.self.inside c.args.self.now c.self.view_is c.self.invariant))
-    ∙ ap with_last same_row
+    let old = c.args.self.now in
+    let edge = c.args.edge.now in
+    let P : List Datum → Type 0 = λ cells. OnOk c.push_row.result (c.push_row.new.self ≡ record old { rows = old.rows ++ row_of (record { sync = edge.sync; other = edge.other; cells = cells }) ∷ [] }) in
+    subst P c.items.ensures c.push_row.ensures.ok

@@ -30,7 +30,7 @@ returns-clause-went c = λ w given lists going fits.
     let holds = subst (λ z. (texts : List (List ℕ)) (h : List Edge) → ShownResumes (result_kinds plan) k.output z texts h → Holds texts h z z o) at c.in-Ok-egress_of.ensures.holds in
     thaw_went c.args.workers plan c.in-Ok.ensures.whole c.args.policy w going given lists c.args.texts _
     (subst (FitsProgress c.args.workers plan w given lists c.args.texts) (sym c.kept.view_is) fits)
-    (record { alloc = c.args.alloc; texts = c.dataflow_of.new.texts; ingress = i; pools = c.in_ok-pools.pools; dataflow = d; egress = o; closed = c.time_reached-closed.result })
+    (record { alloc = c.args.alloc; texts = c.dataflow_of.new.texts; ingress = i; pools = c.in_ok-pools.pools; dataflow = d; egress = o; closed = c.time_reached-closed.result; row = c.new-row.result })
     c.in-Ok-dataflow_of.ensures.begins
     (subst (λ n. IsFor plan.streams c.args.policy n i) (sym c.in-Ok-dataflow_of.ensures.capacity) c.in-Ok.ensures.fixed)
     admits_all c.in-Ok.ensures.released (ap (λ p. p.capacity) c.in_ok-pools.ensures ∙ sym c.in-Ok-dataflow_of.ensures.capacity)

@@ -1,0 +1,26 @@
+-- A row whose texts are still in the fields of their line.
+use Rattle.std.specs.Prelude.{ℕ, List, [], ◌∷◌, drop}
+use Rattle.tw_rows.specs.Rows.{Row}
+use Rattle.tw_rows.specs.declared.row.Value.{Value}
+use Rattle.tw_rows.specs.declared.row.Value.TheVariants.{Int, Bool as Flag, Text}
+use Rattle.tw_rows.specs.declared.cells.Datum.{Datum}
+use Rattle.tw_rows.specs.declared.cells.Datum.TheVariants as data_of
+use Rattle.row_reader.specs.Record.{field_of}
+
+-- the value of a datum that was read of this field, which is the text of one of a text
+abbrev pub value_in : List ℕ → Datum → Value
+value_in field (data_of.Int x) = Int x
+value_in field (data_of.Bool b) = Flag b
+value_in field (data_of.Text place) = Text field
+
+-- the row of data that were read of these fields: of 7 and a text, read of the fields `7` and `a`, it is the row (7, a)
+unfoldable pub row_in : List (List ℕ) → List Datum → Row
+row_in fields [] = []
+row_in fields (d ∷ ds) = value_in (field_of fields 0) d ∷ row_in (drop 1 fields) ds
+
+-- none of the data is of a text
+abbrev pub HaveNoText : List Datum → Type 0
+HaveNoText [] = Unit {0}
+HaveNoText (data_of.Int x ∷ ds) = HaveNoText ds
+HaveNoText (data_of.Bool b ∷ ds) = HaveNoText ds
+HaveNoText (data_of.Text place ∷ ds) = ⊥
