@@ -43,11 +43,7 @@ fn push_edge(edges: &mut Vec<Edge>, edge: Edge) -> Result<(), Memory>
     Ok(())
 }
 
-fn put_later(
-    later: &mut BTreeMap<u64, Vec<Edge>>,
-    alloc: Global,
-    edge: Edge,
-) -> Result<(), Memory>
+fn put_later(later: &mut BTreeMap<u64, Vec<Edge>>, alloc: Global, edge: Edge) -> Result<(), Memory>
     ensures { OnOk result (ArePut (later_in later.old) (later_in later.new) (edge ∷ [])) }
 {
     let instant = edge.sync.word();
