@@ -1,5 +1,6 @@
 // The edges that wait until they are due.
-ghost use Rattle.std.specs.Prelude.{◌≡◌, ◌<◌, ◌≤◌, ◌+◌, ℕ, [], ◌∷◌, ◌++◌, IfOk, IfSome, IfNone, IsSome, is_some, if◌then◌else◌, nat_eq, cond, None, OnOk};
+ghost use Rattle.std.specs.Prelude.{◌≡◌, ◌<◌, ◌≤◌, ◌+◌, ℕ, [], ◌∷◌, ◌++◌, IfOk, IfSome, IfNone};
+ghost use Rattle.std.specs.Prelude.{IsSome, is_some, if◌then◌else◌, nat_eq, cond, None, OnOk};
 ghost use Rattle.std.specs.Ordering.{nat_cmp};
 ghost use Rattle.std.specs.BTreeMap.{get, btree_map_len, IsLowerBound};
 ghost use Rattle.tw_rows.specs.Instant.{inf};

@@ -12,19 +12,7 @@ use Rattle.line_text.specs.Fields.{form_text, time_text, value_text, row_texts, 
 use Rattle.line_text.specs.Record.{record_text, EndsLine}
 use Rattle.line_text.specs.declared.form.Form.{Form}
 use Rattle.line_text.specs.declared.form.Form.TheVariants as forms
-use Rattle.line_text.proofs.Plain.{field_text-plain, word_plain, time_plain}
-
-life_pieces : (a b c d e f g w x y w' x' y' : List ℕ) → b ≡ a ++ 44 ∷ [] → c ≡ b ++ w → d ≡ c ++ 44 ∷ [] → e ≡ d ++ x → f ≡ e ++ 44 ∷ [] → g ≡ f ++ y →
-    w' ≡ w → x' ≡ x → y' ≡ y → g ≡ a ++ (44 ∷ (w' ++ (44 ∷ (x' ++ (44 ∷ (y' ++ []))))))
-life_pieces a b c d e f g w x y w' x' y' p q r s t u k l m = rw (u, t, s, r, q, p, k, l, m) (simp (append_assoc, append-nil) refl)
-
--- the form and both times
-pub life_text : (form : Form) (sync other : ℕ) (a b c d e f g : List ℕ) → b ≡ a ++ 44 ∷ [] → c ≡ b ++ form_text form → d ≡ c ++ 44 ∷ [] → e ≡ d ++ time_text sync →
-    f ≡ e ++ 44 ∷ [] → g ≡ f ++ time_text other → g ≡ a ++ fields_text default_writer (form_text form ∷ time_text sync ∷ time_text other ∷ [])
-unfolding fields_text
-life_text form sync other a b c d e f g p q r s t u =
-    life_pieces a b c d e f g (form_text form) (time_text sync) (time_text other) _ _ _ p q r s t u
-    (field_text-plain (form_text form) (word_plain form)) (field_text-plain (time_text sync) (time_plain sync)) (field_text-plain (time_text other) (time_plain other))
+use Rattle.line_text.proofs.Plain.{field_text-plain, time_plain}
 
 punctuation_pieces : (a b c d e w x x' : List ℕ) → b ≡ a ++ w → c ≡ b ++ codes ",punct," → d ≡ c ++ x → e ≡ d ++ 10 ∷ [] → x' ≡ x →
     e ≡ a ++ ((w ++ (44 ∷ (codes "punct" ++ (44 ∷ (x' ++ []))))) ++ ([] ++ 10 ∷ []))
