@@ -14,7 +14,7 @@ use Rattle.tw_rows.specs.SameCells.{same_cells}
 use Rattle.tw_rows.specs.declared.cells.Datum.{Datum}
 use Rattle.tw_rows.specs.declared.edge.Edge.{Edge}
 use Rattle.row_queues.specs.Kept.{times_if, since_at}
-use Rattle.egress.specs.Waiting.{items_if, waiting_in}
+use Rattle.egress.specs.Waiting.{items_if, later_in}
 
 module _ {S H : Type 0} (m n : IndexMap (List Datum) (VecDeque ℕ S) H) (C : List Datum → List Datum → Type 0) (D : VecDeque ℕ S → VecDeque ℕ S → Type 0)
     (keys : (x y : List Datum) → C x y → y ≡ x) (times : (v w : VecDeque ℕ S) → D v w → AllZip (λ x y. y ≡ x) v.items w.items) where
@@ -35,7 +35,7 @@ module _ {A : Type 0} (m n : BTreeMap ℕ (Vec Edge A)) (C : ℕ → ℕ → Typ
   same_edges (Some v) None h = absurd h
   same_edges (Some v) (Some w) h = ap Some (same_from_all_zip (λ x y. y ≡ x) v.items w.items (edges v w h) (λ x y k. k))
 
-  pub copied_waiting : AllZip (λ p q. C p.0 q.0 × D p.1 q.1) m.entries n.entries → (t : ℕ) → waiting_in n t ≡ waiting_in m t
+  pub copied_waiting : AllZip (λ p q. C p.0 q.0 × D p.1 q.1) m.entries n.entries → (t : ℕ) → later_in n t ≡ later_in m t
   copied_waiting zip t =
       same_edges (lookup (eq_by_cmp nat_cmp t) m.entries) (lookup (eq_by_cmp nat_cmp t) n.entries)
       (lookup_clone C D (eq_by_cmp nat_cmp t) (λ x y k. ap (eq_by_cmp nat_cmp t) (keys x y k)) m.entries n.entries zip)

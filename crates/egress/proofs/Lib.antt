@@ -15,6 +15,7 @@ mod EdgeMoves
 mod Reaching
 mod Sweeps
 mod Putting
+mod Pending
 pub mod Taking
 mod TakingOne
 mod Entries

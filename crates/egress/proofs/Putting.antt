@@ -9,7 +9,7 @@ use Rattle.std.proofs.lemmas.List.Elements.{filter-append}
 use Rattle.std.specs.Cmp.{unsigned_tied}
 use Rattle.tw_rows.specs.declared.edge.Edge.{Edge}
 use Rattle.edge_history.specs.Opens.{singles_of, singles}
-use Rattle.egress.specs.Waiting.{Waiting, edges_if, items_if, waiting_in, edges_at, ArePut}
+use Rattle.egress.specs.Waiting.{Waiting, edges_if, items_if, later_in, edges_at, ArePut}
 
 nil_left : {X : Type 0} (xs ys : List X) → xs ++ ys ≡ [] → xs ≡ []
 nil_left [] ys e = refl
@@ -36,26 +36,26 @@ then_put a b c xs ys p q = record {
 
 -- one edge is put where it is the last of its instant, and all else stays
 module _ {A : Type 0} (m n : BTreeMap ℕ (Vec Edge A)) (k : ℕ) (e : Edge) (at : k ≡ e.sync) (v : Vec Edge A)
-    (last : v.items ≡ edges_if (waiting_in m k) ++ e ∷ [])
+    (last : v.items ≡ edges_if (later_in m k) ++ e ∷ [])
     (set : (q : ℕ) → get nat_cmp n q ≡ cond (eq_by_cmp nat_cmp k q) (Some v) (get nat_cmp m q)) where
   tied : (q : ℕ) → eq_by_cmp nat_cmp k q ≡ nat_eq e.sync q
   tied q = unsigned_tied k q ∙ ap (λ x. nat_eq x q) at
 
-  is_now : (q : ℕ) → waiting_in n q ≡ items_if (cond (nat_eq e.sync q) (Some v) (get nat_cmp m q))
+  is_now : (q : ℕ) → later_in n q ≡ items_if (cond (nat_eq e.sync q) (Some v) (get nat_cmp m q))
   is_now q = ap items_if (set q ∙ ap (λ b. cond b (Some v) (get nat_cmp m q)) (tied q))
 
-  pub one_put : ArePut (waiting_in m) (waiting_in n) (e ∷ [])
+  pub one_put : ArePut (later_in m) (later_in n) (e ∷ [])
   one_put = record {
     edges = λ t. ap edges_if (is_now t) ∙ pick t (nat_eq e.sync t) refl;
     none = λ t old empty. is_now t ∙ rest t old (nat_eq e.sync t) empty;
   }
     where
       pick : (t : ℕ) (b : Bool) → nat_eq e.sync t ≡ b →
-          edges_if (items_if (cond b (Some v) (get nat_cmp m t))) ≡ edges_if (waiting_in m t) ++ cond b (e ∷ []) []
-      pick t true f = last ∙ ap (λ q. edges_if (waiting_in m q) ++ e ∷ []) (at ∙ eqb-true e.sync t f)
-      pick t false f = sym (append-nil (edges_if (waiting_in m t)))
+          edges_if (items_if (cond b (Some v) (get nat_cmp m t))) ≡ edges_if (later_in m t) ++ cond b (e ∷ []) []
+      pick t true f = last ∙ ap (λ q. edges_if (later_in m q) ++ e ∷ []) (at ∙ eqb-true e.sync t f)
+      pick t false f = sym (append-nil (edges_if (later_in m t)))
 
-      rest : (t : ℕ) → waiting_in m t ≡ None → (b : Bool) → cond b (e ∷ []) [] ≡ [] → items_if (cond b (Some v) (get nat_cmp m t)) ≡ None
+      rest : (t : ℕ) → later_in m t ≡ None → (b : Bool) → cond b (e ∷ []) [] ≡ [] → items_if (cond b (Some v) (get nat_cmp m t)) ≡ None
       rest t old true empty = absurd (cc)
       rest t old false empty = old
 

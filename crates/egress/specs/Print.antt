@@ -1,17 +1,15 @@
 -- The bytes of change lines, each value by the kind of its column.
 use Rattle.std.specs.Prelude.{ℕ, Option, None, Some, List, [], codes, flat_map}
-use Rattle.tw_rows.specs.Instant.{inf}
 use Rattle.tw_rows.specs.declared.kind.Kind.{Kind}
-use Rattle.line_text.specs.Fields.{event_fields, punctuation_fields}
+use Rattle.line_text.specs.Fields.{start_fields, end_fields, punctuation_fields}
 use Rattle.line_text.specs.Record.{record_text}
-use Rattle.line_text.specs.declared.form.Form.TheVariants as forms
 use Rattle.plan_model.specs.Changes.{Line, Started, Ended}
 
 -- a start line is `out`, `start`, the time, `inf` and the values; an end line is `out`, `end`, the time, the time of the
 -- start line that it names, and the values
 abbrev pub line_fields : List Kind → Line → List (List ℕ)
-line_fields kinds (Started t row) = event_fields kinds (codes "out") forms.Start t inf row
-line_fields kinds (Ended t s row) = event_fields kinds (codes "out") forms.End t s row
+line_fields kinds (Started t row) = start_fields kinds t row
+line_fields kinds (Ended t s row) = end_fields kinds t s row
 
 -- a change line: `out,end,7,3,"a,b",1.50` and a line feed, of a row of a text and a decimal of two places
 abbrev pub line_text : List Kind → Line → List ℕ

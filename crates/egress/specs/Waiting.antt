@@ -1,7 +1,7 @@
 -- The edges that wait for their instants, and how far the output has come.
-use Rattle.std.specs.Prelude.{◌≡◌, ℕ, suc, ◌<◌, ◌≤◌, nat_eq, Bool, cond, Option, Some, None, List, [], ◌++◌, filter, Vec}
+use Rattle.std.specs.Prelude.{◌≡◌, ℕ, suc, ◌+◌, ◌<◌, ◌≤◌, nat_eq, Bool, cond, Option, Some, None, List, [], ◌∷◌, ◌++◌, filter, length, Vec}
 use Rattle.std.specs.Ordering.{nat_cmp}
-use Rattle.std.specs.BTreeMap.{get, BTreeMap}
+use Rattle.std.specs.BTreeMap.{get, btree_map_len, BTreeMap}
 use Rattle.tw_rows.specs.Instant.{inf}
 use Rattle.tw_rows.specs.Bag.{SameBag}
 use Rattle.tw_rows.specs.Event.{alive}
@@ -16,6 +16,7 @@ use Rattle.edge_history.specs.Opens.{bare, ended_rows, started_rows}
 use Rattle.node_laws.specs.Places.{read_events, EdgesArePlaced}
 use Rattle.egress.specs.Kept.{OpensPass}
 use Rattle.egress.specs.Reached.{Reached}
+use Rattle.egress.specs.declared.waiting.Pending.{Pending}
 
 -- the edges that wait for each instant, and None for an instant for which none was put
 abbrev pub Waiting : Type 0
@@ -30,8 +31,24 @@ items_if None = None
 items_if (Some v) = Some v.items
 
 -- what waits by a map from the numbers of instants
-abbrev pub waiting_in : {A : Type 0} → BTreeMap ℕ (Vec Edge A) → Waiting
-waiting_in waiting t = items_if (get nat_cmp waiting t)
+abbrev pub later_in : {A : Type 0} → BTreeMap ℕ (Vec Edge A) → Waiting
+later_in later t = items_if (get nat_cmp later t)
+
+-- those that wait, and these after them. With none of both, None
+abbrev pub joined : Option (List Edge) → List Edge → Option (List Edge)
+joined o [] = o
+joined o (e ∷ es) = Some (edges_if o ++ e ∷ es)
+
+-- what waits, and the edges of the instant at hand with it
+abbrev pub with_now : ℕ → List Edge → Waiting → Waiting
+with_now at now later t = cond (nat_eq at t) (joined (later t) now) (later t)
+
+abbrev pub waiting_in : Pending → Waiting
+waiting_in w = with_now w.at w.at_hand.items (later_in w.later)
+
+-- with each instant that is taken out it falls
+abbrev pub pending_len : Pending → ℕ
+pending_len w = length w.at_hand.items + btree_map_len w.later
 
 -- the edges of an instant. Of edges at 3, 5 and 3 those of 3 are the first and the last
 abbrev pub edges_at : ℕ → List Edge → List Edge

@@ -28,14 +28,14 @@ impl OpenRows {
         Ok(())
     }
 
-    // Adds the lines of the instant at which these edges stand: all single edges of it, in any order. Out of memory,
-    // neither the lines nor the open starts are to be used any more.
+    // Adds the lines of the instant at which these edges stand: all single edges of it, in any order. The list comes back,
+    // for its room. Out of memory, neither the lines nor the open starts are to be used any more.
     pub(crate) fn show_edges(
         &mut self,
         at: Time,
         mut edges: Vec<Edge>,
         texts: &TextTable,
-    ) -> Result<(), Memory>
+    ) -> Result<Vec<Edge>, Memory>
         requires { EdgesArePlaced texts.now edges.items }
         ensures instant { OnOk result (ShowsInstant texts.now edges.items at self.old self.new) }
         ensures kinds { self.new.kinds ≡ self.old.kinds }
@@ -44,7 +44,7 @@ impl OpenRows {
         if count == 1 {
             let edge = &edges[0];
             self.show_edge(at, edge, texts)?;
-            return Ok(());
+            return Ok(edges);
         }
         // Its call tells the proof that the texts are distinct.
         let _ = texts.len();
@@ -52,10 +52,10 @@ impl OpenRows {
         let sorted = edges.as_slice();
         if are_single(sorted) {
             self.show_singles(at, sorted, texts)?;
-            return Ok(());
+            return Ok(edges);
         }
         let touched = gather(self.alloc, sorted)?;
         self.show_instant(at, &touched, texts)?;
-        Ok(())
+        Ok(edges)
     }
 }

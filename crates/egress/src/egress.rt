@@ -10,13 +10,12 @@ ghost use Rattle.egress.specs.Saving.{IsSound, EntriesArePlaced, IsOpening, AreO
 
 use crate::loading::load_entries;
 use crate::open_rows::OpenRows;
-use crate::saving::{copy_starts, copy_waiting, save_rest, save_waiting};
-use crate::waiting::{Expected, pop_due, put_singles};
+use crate::saving::{copy_starts, save_rest, save_waiting};
+use crate::waiting::Pending;
 use batch::Pools;
 use edge_stream::{EdgeList, LoadFault, Saved};
 use line_text::push_punctuation;
 use std::alloc::Global;
-use std::collections::BTreeMap;
 use tw_rows::{Edge, Kind, Memory, TextTable, Time};
 
 /// The changes of rows, from the edges that tell of them. `Holds` says of which edges they are, and what of them is
@@ -24,7 +23,7 @@ use tw_rows::{Edge, Kind, Memory, TextTable, Time};
 #[derive(Drop)]
 pub struct Egress {
     rows: OpenRows,
-    waiting: BTreeMap<u64, Vec<Edge>>,
+    waiting: Pending,
     failed: bool,
 }
 
@@ -48,7 +47,7 @@ impl Egress {
     {
         Ok(Egress {
             rows: OpenRows::new(alloc, kinds)?,
-            waiting: BTreeMap::new(alloc),
+            waiting: Pending::new(alloc),
             failed: false,
         })
     }
@@ -67,21 +66,15 @@ impl Egress {
         ensures kinds { self.new.rows.kinds ≡ self.old.rows.kinds }
         ensures failed { self.new.failed ≡ self.old.failed }
     {
-        'instants: while let Some(due) = pop_due(&mut self.waiting, to) {
-            self.rows.show_edges(due.at, due.edges, texts)?;
+        'instants: while let Some(due) = self.waiting.pop_due(to)? {
+            let shown = self.rows.show_edges(due.at, due.edges, texts)?;
+            self.waiting.keep_room(shown);
         }
         Ok(())
     }
 
-    // Shows what is due, and then puts the edge, which comes no earlier, to those that wait. So many are expected for its
-    // instant.
-    fn take_one(
-        &mut self,
-        edge: Edge,
-        due: Time,
-        texts: &TextTable,
-        room: usize,
-    ) -> Result<(), Memory>
+    // Shows what is due, and then puts the edge, which comes no earlier, to those that wait.
+    fn take_one(&mut self, edge: Edge, due: Time, texts: &TextTable) -> Result<(), Memory>
         requires placed { ArePlaced texts.now edge.cells }
         requires waiting { IsPlacedIn texts.now self.old }
         ensures holds { OnOk result (GoesOnWith texts.now edge due self.old self.new) }
@@ -90,7 +83,7 @@ impl Egress {
         ensures failed { self.new.failed ≡ self.old.failed }
     {
         self.show_due(due, texts)?;
-        put_singles(&mut self.waiting, self.rows.alloc, edge, room)?;
+        self.waiting.put_singles(edge)?;
         Ok(())
     }
 
@@ -102,12 +95,10 @@ impl Egress {
         ensures kinds { self.new.rows.kinds ≡ self.old.rows.kinds }
         ensures failed { self.new.failed ≡ self.old.failed }
     {
-        let mut expected = Expected::new(edges.len());
         let mut cursor = edges.cursor();
         while let Some(edge) = cursor.next()? {
             let due = edge.sync.min(to);
-            let room = expected.room(edge.sync);
-            self.take_one(edge, due, texts, room)?;
+            self.take_one(edge, due, texts)?;
         }
         self.show_due(to, texts)?;
         Ok(())
@@ -173,7 +164,7 @@ impl Egress {
         let (_, last) = Time::bounds();
         let mut saved = Saved::new(self.rows.alloc);
         let mut starts = copy_starts(&self.rows.starts)?;
-        let mut waiting = copy_waiting(&self.waiting)?;
+        let mut waiting = self.waiting.copy()?;
         save_waiting(&mut saved, &mut starts, &mut waiting, last)?;
         save_rest(&mut saved, &mut starts, last)?;
         Ok(saved)

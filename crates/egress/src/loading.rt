@@ -8,13 +8,13 @@ ghost use Rattle.egress.specs.Kept.{HasAdded};
 ghost use Rattle.egress.specs.Waiting.{waiting_in, ArePut};
 ghost use Rattle.egress.specs.Saving.{starts_of, end_of, ends_of, IsKept, IsSound, MayFollow};
 
-use crate::waiting::put;
+use crate::waiting::Pending;
 use carried_edges::is_stored_as;
 use edge_stream::{LoadFault, SavedEntry};
 use indexmap::IndexMap;
 use row_queues::{Starts, open_row};
 use std::alloc::Global;
-use std::collections::{BTreeMap, VecDeque};
+use std::collections::VecDeque;
 use tw_rows::{Cells, Edge, Kind, Memory, Time};
 
 // What is kept of entries: the open starts of each row, its ends, and the edges of those that are known.
@@ -22,7 +22,7 @@ use tw_rows::{Cells, Edge, Kind, Memory, Time};
 pub(crate) struct Loaded {
     pub(crate) starts: Starts,
     pub(crate) ends: IndexMap<Cells, VecDeque<Time>>,
-    pub(crate) waiting: BTreeMap<u64, Vec<Edge>>,
+    pub(crate) waiting: Pending,
 }
 
 // Whether an output of these kinds keeps such an entry at the time.
@@ -81,11 +81,7 @@ fn is_instant(time: Time) -> bool
 }
 
 // Puts the end of the entry, if it is known.
-fn put_end(
-    waiting: &mut BTreeMap<u64, Vec<Edge>>,
-    alloc: Global,
-    entry: &SavedEntry,
-) -> Result<(), Memory>
+fn put_end(waiting: &mut Pending, entry: &SavedEntry) -> Result<(), Memory>
     ensures { OnOk result (ArePut (waiting_in waiting.old) (waiting_in waiting.new)
         (end_of entry.now)) }
 {
@@ -99,7 +95,7 @@ fn put_end(
         other: Time::ZERO,
         cells,
     };
-    put(waiting, alloc, end, 1)?;
+    waiting.put(end)?;
     Ok(())
 }
 
@@ -115,7 +111,7 @@ fn keep_entry(loaded: &mut Loaded, alloc: Global, entry: &SavedEntry) -> Result<
 {
     open_row(&mut loaded.starts, alloc, &entry.cells, entry.sync, 1)?;
     open_row(&mut loaded.ends, alloc, &entry.cells, entry.other, 1)?;
-    put_end(&mut loaded.waiting, alloc, entry)?;
+    put_end(&mut loaded.waiting, entry)?;
     Ok(())
 }
 
@@ -174,7 +170,7 @@ pub(crate) fn load_entries(
     let _ = closed.word();
     let starts = IndexMap::new(alloc);
     let ends = IndexMap::new(alloc);
-    let waiting = BTreeMap::new(alloc);
+    let waiting = Pending::new(alloc);
     let mut loaded = Loaded {
         starts,
         ends,

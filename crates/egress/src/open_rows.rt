@@ -6,7 +6,7 @@ ghost use Rattle.egress.specs.Print.{print, line_text};
 ghost use Rattle.egress.specs.Showing.{EndsRow, StartsRow, AreNone};
 
 use indexmap::IndexMap;
-use line_text::{Form, push_event};
+use line_text::{push_end_line, push_start_line};
 use row_queues::{Starts, open_row, put_back};
 use std::alloc::Global;
 use std::collections::VecDeque;
@@ -22,7 +22,6 @@ pub(crate) struct OpenRows {
     pub(crate) lines: Vec<u8>,
 }
 
-#[tactic(auto, unfolding(tw_rows::specs::Instant::inf))]
 fn push_start(
     lines: &mut Vec<u8>,
     kinds: &[Kind],
@@ -34,17 +33,7 @@ fn push_start(
     ensures { OnOk result (lines.new.items ≡ lines.old.items ++ line_text kinds.now
         (Started at (read_cells texts.now cells.now))) }
 {
-    let cells = cells.items();
-    push_event(
-        lines,
-        "out",
-        Form::Start,
-        at,
-        Time::INF,
-        kinds,
-        cells,
-        texts,
-    )
+    push_start_line(lines, at, kinds, cells.items(), texts)
 }
 
 fn push_end(
@@ -59,8 +48,7 @@ fn push_end(
     ensures { OnOk result (lines.new.items ≡ lines.old.items ++ line_text kinds.now
         (Ended at start (read_cells texts.now cells.now))) }
 {
-    let cells = cells.items();
-    push_event(lines, "out", Form::End, at, start, kinds, cells, texts)
+    push_end_line(lines, at, start, kinds, cells.items(), texts)
 }
 
 // Ends the first of the open starts of a row, so many of them or all: their end lines come last.

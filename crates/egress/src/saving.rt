@@ -7,10 +7,10 @@ ghost use Rattle.row_queues.specs.Kept.{since_at};
 ghost use Rattle.egress.specs.Waiting.{waiting_in};
 ghost use Rattle.egress.specs.Saved.{entry_at, HasDropped, Taken, TakenRest, TakesWaiting};
 
-use crate::waiting::pop_due;
+use crate::waiting::Pending;
 use edge_stream::{Saved, SavedEntry};
 use row_queues::Starts;
-use std::collections::{BTreeMap, VecDeque};
+use std::collections::VecDeque;
 use tw_rows::{Cells, Edge, Memory, Time};
 
 // A copy of the open starts.
@@ -18,16 +18,6 @@ pub(crate) fn copy_starts(starts: &Starts) -> Result<Starts, Memory>
     ensures { IfOk result (λ copy. (c : List DatumOf) → since_at copy c ≡ since_at starts.now c) }
 {
     let copy = starts.clone()?;
-    Ok(copy)
-}
-
-// A copy of what waits.
-pub(crate) fn copy_waiting(
-    waiting: &BTreeMap<u64, Vec<Edge>>,
-) -> Result<BTreeMap<u64, Vec<Edge>>, Memory>
-    ensures { IfOk result (λ copy. (t : ℕ) → waiting_in copy t ≡ waiting_in waiting.now t) }
-{
-    let copy = waiting.clone()?;
     Ok(copy)
 }
 
@@ -77,14 +67,14 @@ fn save_ends(saved: &mut Saved, starts: &mut Starts, edges: &[Edge], at: Time) -
 pub(crate) fn save_waiting(
     saved: &mut Saved,
     starts: &mut Starts,
-    waiting: &mut BTreeMap<u64, Vec<Edge>>,
+    waiting: &mut Pending,
     last: Time,
 ) -> Result<(), Memory>
     requires { last ≡ inf }
     ensures { OnOk result (TakesWaiting starts.old (waiting_in waiting.old) saved.old saved.new
         (since_at starts.new)) }
 {
-    'instants: while let Some(due) = pop_due(waiting, last) {
+    'instants: while let Some(due) = waiting.pop_due(last)? {
         save_ends(saved, starts, &due.edges, due.at)?;
     }
     Ok(())

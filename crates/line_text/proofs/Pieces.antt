@@ -3,26 +3,16 @@ use Rattle.std.proofs.Common.{◌≡◌, ◌<◌, ◌≤◌, ◌+◌, ℕ, zero,
 use Rattle.std.specs.Prelude.{codes, ◌⊎◌}
 use Rattle.std.proofs.lemmas.List.{append-nil}
 use Rattle.csv.specs.Writing.{default_writer, field_text, fields_text, is_blank}
+use Rattle.tw_rows.specs.Instant.{inf}
 use Rattle.tw_rows.specs.Cells.{IsPlaced, ArePlaced}
 use Rattle.tw_rows.specs.declared.cells.Datum.{Datum}
 use Rattle.tw_rows.specs.declared.kind.Kind.{Kind}
 use Rattle.tw_rows.specs.declared.row.Value.{Value}
-use Rattle.line_text.specs.Fields.{form_text, time_text, value_text, row_texts, event_fields, punctuation_fields}
-use Rattle.line_text.specs.Record.{record_text}
+use Rattle.line_text.specs.Fields.{form_text, time_text, value_text, row_texts, event_fields, start_fields, end_fields, punctuation_fields}
+use Rattle.line_text.specs.Record.{record_text, EndsLine}
 use Rattle.line_text.specs.declared.form.Form.{Form}
-use Rattle.line_text.proofs.Plain.{field_text-plain, word_plain, time_plain}
-
-life_pieces : (a b c d e f g w x y w' x' y' : List ℕ) → b ≡ a ++ 44 ∷ [] → c ≡ b ++ w → d ≡ c ++ 44 ∷ [] → e ≡ d ++ x → f ≡ e ++ 44 ∷ [] → g ≡ f ++ y →
-    w' ≡ w → x' ≡ x → y' ≡ y → g ≡ a ++ (44 ∷ (w' ++ (44 ∷ (x' ++ (44 ∷ (y' ++ []))))))
-life_pieces a b c d e f g w x y w' x' y' p q r s t u k l m = rw (u, t, s, r, q, p, k, l, m) (simp (append_assoc, append-nil) refl)
-
--- the form and both times
-pub life_text : (form : Form) (sync other : ℕ) (a b c d e f g : List ℕ) → b ≡ a ++ 44 ∷ [] → c ≡ b ++ form_text form → d ≡ c ++ 44 ∷ [] → e ≡ d ++ time_text sync →
-    f ≡ e ++ 44 ∷ [] → g ≡ f ++ time_text other → g ≡ a ++ fields_text default_writer (form_text form ∷ time_text sync ∷ time_text other ∷ [])
-unfolding fields_text
-life_text form sync other a b c d e f g p q r s t u =
-    life_pieces a b c d e f g (form_text form) (time_text sync) (time_text other) _ _ _ p q r s t u
-    (field_text-plain (form_text form) (word_plain form)) (field_text-plain (time_text sync) (time_plain sync)) (field_text-plain (time_text other) (time_plain other))
+use Rattle.line_text.specs.declared.form.Form.TheVariants as forms
+use Rattle.line_text.proofs.Plain.{field_text-plain, time_plain}
 
 punctuation_pieces : (a b c d e w x x' : List ℕ) → b ≡ a ++ w → c ≡ b ++ codes ",punct," → d ≡ c ++ x → e ≡ d ++ 10 ∷ [] → x' ≡ x →
     e ≡ a ++ ((w ++ (44 ∷ (codes "punct" ++ (44 ∷ (x' ++ []))))) ++ ([] ++ 10 ∷ []))
@@ -94,3 +84,31 @@ event_text kinds name form sync other row a b c d e p q r s =
     let life = form_text form ∷ time_text sync ∷ time_text other ∷ [] in
     event_pieces a b c d e (field_text default_writer name) (fields_text default_writer life) (fields_text default_writer (row_texts kinds row)) p q r s
     ∙ ap (λ (l : List ℕ). a ++ ((field_text default_writer name ++ l) ++ ([] ++ 10 ∷ []))) (sym (fields_text-append life (row_texts kinds row)))
+
+start_pieces : (a b c d x x' : List ℕ) → b ≡ a ++ codes "out,start," → c ≡ b ++ x → d ≡ c ++ codes ",inf" → x' ≡ x →
+    d ≡ (a ++ codes "out") ++ (44 ∷ (codes "start" ++ (44 ∷ (x' ++ (44 ∷ (codes "inf" ++ []))))))
+start_pieces a b c d x x' p q r k = rw (r, q, p, k) (simp (append_assoc, append-nil) refl)
+
+end_pieces : (a b c d e x y x' y' : List ℕ) → b ≡ a ++ codes "out,end," → c ≡ b ++ x → d ≡ c ++ 44 ∷ [] → e ≡ d ++ y → x' ≡ x → y' ≡ y →
+    e ≡ (a ++ codes "out") ++ (44 ∷ (codes "end" ++ (44 ∷ (x' ++ (44 ∷ (y' ++ []))))))
+end_pieces a b c d e x y x' y' p q r s k l = rw (s, r, q, p, k, l) (simp (append_assoc, append-nil) refl)
+
+rest_pieces : (d e v : List ℕ) → e ≡ d ++ (v ++ 10 ∷ []) → e ≡ (d ++ v) ++ 10 ∷ []
+rest_pieces d e v p = p ∙ sym (append_assoc d v (10 ∷ []))
+
+-- the front of the line in one piece, the time, its infinite end, and the values
+pub start_text : (kinds : List Kind) (at : ℕ) (row : List Value) (a b c d e : List ℕ) → b ≡ a ++ codes "out,start," → c ≡ b ++ time_text at → d ≡ c ++ codes ",inf" →
+    EndsLine kinds row d e → e ≡ a ++ record_text (start_fields kinds at row)
+unfolding fields_text inf
+start_text kinds at row a b c d e p q r s =
+    event_text kinds (codes "out") forms.Start at inf row a (a ++ codes "out") d (d ++ fields_text default_writer (row_texts kinds row)) e refl
+    (start_pieces a b c d (time_text at) _ p q r (field_text-plain (time_text at) (time_plain at))) refl
+    (rest_pieces d e (fields_text default_writer (row_texts kinds row)) s)
+
+pub end_text : (kinds : List Kind) (at start : ℕ) (row : List Value) (a b c d e f : List ℕ) → b ≡ a ++ codes "out,end," → c ≡ b ++ time_text at → d ≡ c ++ 44 ∷ [] →
+    e ≡ d ++ time_text start → EndsLine kinds row e f → f ≡ a ++ record_text (end_fields kinds at start row)
+unfolding fields_text
+end_text kinds at start row a b c d e f p q r s t =
+    event_text kinds (codes "out") forms.End at start row a (a ++ codes "out") e (e ++ fields_text default_writer (row_texts kinds row)) f refl
+    (end_pieces a b c d e (time_text at) (time_text start) _ _ p q r s (field_text-plain (time_text at) (time_plain at)) (field_text-plain (time_text start) (time_plain start))) refl
+    (rest_pieces e f (fields_text default_writer (row_texts kinds row)) t)

@@ -9,9 +9,7 @@ use Rattle.std.proofs.lemmas.List.Folds.{list_any-append}
 use Rattle.csv.specs.Writing.{default_writer, field_text, needs_byte}
 use Rattle.tw_rows.specs.Instant.{inf}
 use Rattle.line_text.specs.Number.{fraction, units_text, number_text}
-use Rattle.line_text.specs.Fields.{time_text, form_text}
-use Rattle.line_text.specs.declared.form.Form.{Form}
-use Rattle.line_text.specs.declared.form.Form.TheVariants as forms
+use Rattle.line_text.specs.Fields.{time_text}
 use Rattle.line_text.proofs.Digits.{own, digit_is, digits_fraction}
 use Rattle.line_text.proofs.Units.{quotient-le}
 
@@ -49,11 +47,6 @@ IsSmall (negsuc n) = suc n < 2 ^ 64
 pub number_plain : (k : ℕ) (z : ℤ) → IsSmall z → IsPlain (number_text k z)
 number_plain k (pos n) h = units_plain k n h
 number_plain k (negsuc n) h = rw (units_plain k (suc n) h) refl
-
-pub word_plain : (form : Form) → IsPlain (form_text form)
-word_plain forms.Interval = refl
-word_plain forms.Start = refl
-word_plain forms.End = refl
 
 inf-is : inf ≡ 2 ^ 61
 unfolding inf

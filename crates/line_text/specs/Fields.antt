@@ -44,6 +44,14 @@ form_text forms.End = codes "end"
 abbrev pub event_fields : List Kind → List ℕ → Form → ℕ → ℕ → Row → List (List ℕ)
 event_fields kinds name form sync other row = name ∷ form_text form ∷ time_text sync ∷ time_text other ∷ row_texts kinds row
 
+-- of the output: the start of a row, whose end is not known yet, and the end of one that began at `start`. A row of 7 that
+-- starts at 3 and ends at 9 gives `out,start,3,inf,7` and `out,end,9,3,7`
+abbrev pub start_fields : List Kind → ℕ → Row → List (List ℕ)
+start_fields kinds at row = event_fields kinds (codes "out") forms.Start at inf row
+
+abbrev pub end_fields : List Kind → ℕ → ℕ → Row → List (List ℕ)
+end_fields kinds at start row = event_fields kinds (codes "out") forms.End at start row
+
 -- of a punctuation: the stream's name, or `*`, then `punct` and the time
 abbrev pub punctuation_fields : List ℕ → ℕ → List (List ℕ)
 punctuation_fields name time = name ∷ codes "punct" ∷ time_text time ∷ []

@@ -8,5 +8,5 @@ mod number;
 
 pub use field::{push_datum, push_text, push_time};
 pub use form::Form;
-pub use line::{push_event, push_punctuation};
+pub use line::{push_end_line, push_punctuation, push_start_line};
 pub use number::push_number;

@@ -1,11 +1,9 @@
 use Rattle.std.specs.Prelude.{◌+◌}
 use Rattle.std.specs.Map.{lookup}
-use Rattle.std.specs.Ordering.{eq_by_cmp, nat_cmp}
 use Rattle.std.proofs.Common.{ap, subst, take, drop, arith}
 use Rattle.std.proofs.lemmas.Result.{err_from_is_err_and}
 use Rattle.tw_rows.specs.SameCells.{same_cells}
 use Rattle.row_queues.specs.Kept.{times_if}
-use Rattle.egress.specs.Waiting.{items_if}
 use Rattle.egress.specs.Saving.{IsSound}
 use Rattle.egress.proofs.Entries.{Loads, loads_first, loads_next, loads_all, starts_rise, ends_rise, sound_start, sound_other, parted, front_is, all_there}
 use Rattle.egress.proofs.loading.load_entries.Goals as goal
@@ -15,7 +13,7 @@ loop-entry-init c =
     loads_first c.args.kinds.now c.args.closed _
     (λ q. ap (λ es. times_if (lookup (same_cells q) es)) c.new-starts.ensures.empty)
     (λ q. ap (λ es. times_if (lookup (same_cells q) es)) c.new-ends.ensures.empty)
-    (λ t. ap (λ es. items_if (lookup (eq_by_cmp nat_cmp t) es)) c.new-waiting.ensures.empty)
+    (λ t. c.new-waiting.ensures t)
     (λ q closed. ap (lookup (same_cells q)) c.new-starts.ensures.empty)
 
 pub load_entry-requires-clause-starts_rise : goal.load_entry-requires-clause-starts_rise

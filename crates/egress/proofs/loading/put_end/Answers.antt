@@ -12,5 +12,5 @@ returns-then-not-known c = none_put (waiting_in c.args.waiting.now) c.args.entry
 pub returns : goal.returns
 returns c =
     let end : List Datum → Edge = λ k. record { sync = c.args.entry.now.other; other = 0; cells = k } in
-    known_put (waiting_in c.args.waiting.now) (waiting_in c.put.new.waiting) c.args.entry.now (end c.in_ok-cells.cells)
+    known_put (waiting_in c.args.waiting.now) (waiting_in c.put.new.self) c.args.entry.now (end c.in_ok-cells.cells)
     (sym c.is_instant-known.ensures ∙ c.if-not-known.false) (ap end c.in_ok-cells.ensures.cases) c.in_ok-put.ensures

@@ -1,12 +1,11 @@
 -- An entry was added for each edge that waited for the instants before.
 use Rattle.std.specs.Prelude.{ℕ, ◌≤◌, List}
-use Rattle.std.specs.BTreeMap.{btree_map_len}
 use Rattle.tw_rows.specs.Instant.{inf}
 use Rattle.tw_rows.specs.declared.kind.Kind.{Kind}
 use Rattle.edge_history.specs.History.{CellEvent}
 use Rattle.row_queues.specs.Kept.{since_at}
 use Rattle.egress.specs.Kept.{since_in}
-use Rattle.egress.specs.Waiting.{waiting_in, Swept, WaitingArePlaced}
+use Rattle.egress.specs.Waiting.{waiting_in, pending_len, Swept, WaitingArePlaced}
 use Rattle.egress.specs.Saved.{IsSettled}
 use Rattle.egress.proofs.SavedInstants.{EndsSo}
 use Rattle.egress.proofs.saving.save_waiting.Given as goal
@@ -17,4 +16,4 @@ invariant-instants l = (texts : List (List ℕ)) (kinds : List Kind) (events : L
     EndsSo texts kinds events a c (waiting_in l.fn.waiting) l.fn.saved l.saved (since_at l.fn.starts) (since_at l.starts) (waiting_in l.waiting)
 
 abbrev pub decreases-instants : goal.decreases-instants
-decreases-instants l = btree_map_len l.waiting
+decreases-instants l = pending_len l.waiting

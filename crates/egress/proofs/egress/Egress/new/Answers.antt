@@ -1,11 +1,9 @@
 use Rattle.std.proofs.Common.{refl, sym, ◌∙◌, ap, arith}
-use Rattle.std.specs.Map.{lookup}
-use Rattle.std.specs.Ordering.{eq_by_cmp, nat_cmp}
 use Rattle.edge_history.specs.Order.{failing}
 use Rattle.row_queues.specs.Kept.{times_if}
 use Rattle.node_laws.specs.RowCells.{cells_of}
 use Rattle.egress.specs.Kept.{since_in}
-use Rattle.egress.specs.Waiting.{edges_if, items_if, waiting_in}
+use Rattle.egress.specs.Waiting.{edges_if, waiting_in}
 use Rattle.node_laws.proofs.Standing.{no_history}
 use Rattle.egress.proofs.Taking.{swept_none}
 use Rattle.egress.proofs.egress.Egress.new.Goals as goal
@@ -19,11 +17,11 @@ returns-clause-holds c = λ texts.
       history = no_history;
       swept = swept_none texts rows.kinds.items (since_in texts rows.starts) (waiting_in c.new-2.result) rows.lines.items
           (λ r. ap times_if (is.none (cells_of texts r)))
-          (λ t. ap (λ es. items_if (lookup (eq_by_cmp nat_cmp t) es)) c.new-2.ensures.empty)
+          (λ t. c.new-2.ensures t)
           is.lines;
       cells = λ p none. record {
         opens = λ cells t rest some. absurd (let z = sym (ap times_if (is.none cells)) ∙ some in cc);
-        waits = λ t. ap (λ es. failing (λ e. p e.cells) (edges_if (items_if (lookup (eq_by_cmp nat_cmp t) es)))) c.new-2.ensures.empty;
+        waits = λ t. ap (λ o. failing (λ e. p e.cells) (edges_if o)) (c.new-2.ensures t);
       };
       kept = λ cells closed. is.none cells;
     }
@@ -31,7 +29,7 @@ returns-clause-holds c = λ texts.
 pub returns-clause-opening : goal.returns-clause-opening
 returns-clause-opening c = record {
   closed = c.in_ok-new.ensures.none;
-  none = λ t. ap (λ es. items_if (lookup (eq_by_cmp nat_cmp t) es)) c.new-2.ensures.empty;
+  none = λ t. c.new-2.ensures t;
   empty = c.in_ok-new.ensures.lines;
   works = refl;
 }

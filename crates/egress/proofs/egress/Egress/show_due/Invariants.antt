@@ -1,11 +1,10 @@
 use Rattle.std.specs.Prelude.{◌≡◌, ℕ, ◌≤◌, Bool, List}
-use Rattle.std.specs.BTreeMap.{btree_map_len}
 use Rattle.tw_rows.specs.Event.{AreEvents}
 use Rattle.tw_rows.specs.declared.cells.Datum.{Datum}
 use Rattle.edge_history.specs.History.{CellEvent}
 use Rattle.row_queues.specs.Kept.{EachIsOpen}
 use Rattle.egress.specs.Kept.{since_in}
-use Rattle.egress.specs.Waiting.{waiting_in}
+use Rattle.egress.specs.Waiting.{waiting_in, pending_len}
 use Rattle.egress.specs.Output.{HasSwept, AllPassed, IsPlacedIn}
 use Rattle.egress.proofs.Sweeps.{Going}
 use Rattle.egress.proofs.egress.Egress.show_due.Given as goal
@@ -22,4 +21,4 @@ invariant-instants l = record {
 }
 
 abbrev pub decreases-instants : goal.decreases-instants
-decreases-instants l = btree_map_len l.self.waiting
+decreases-instants l = pending_len l.self.waiting
