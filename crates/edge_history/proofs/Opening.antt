@@ -132,7 +132,7 @@ ends_there a t now rows valid is h w =
     let e = total-flat_map w ended_of now ∙ is.weigh (λ y. total w (ended_of y)) ∙ sym (total-flat_map w ended_of (news t (suc t) a)) in
     omega (arith, f, x, e)
 
--- what is open hangs on what is known alone
+-- what is open depends on what is known alone
 open_known : (w : HeldRow → ℕ) (c : ℕ) (e : CellEvent) → c ≤ inf → total w (open_of c e) ≡ total (λ x. total w (open_of c x)) (cut_one c e)
 open_known w c e high = grind (arith, nat_tests)
 

@@ -247,7 +247,7 @@ pub news_none : (c : ℕ) (es : List CellEvent) → news c c es ≡ []
 news_none c [] = refl
 news_none c (e ∷ es) = ap (λ l. l ++ news c c es) (none_between c e) ∙ news_none c es
 
--- news hangs on what is known of the events alone
+-- news depends on what is known of the events alone
 news_known : (w : Edge → ℕ) (c d : ℕ) (e : CellEvent) → d ≤ inf → is_event e ≡ true →
     total w (news_of c d e) ≡ total (λ x. total w (news_of c d x)) (cut_one d e)
 news_known w c d e high k = grind (arith, nat_tests)

@@ -238,7 +238,7 @@ impl EdgeList {
     }
 
     /// Takes out the edges whose sync time is below `t`. At most one batch is copied, and only its
-    /// later rows. Want of memory changes nothing but the pools.
+    /// later rows. Out of memory nothing changes but the pools.
     pub fn split_below(&mut self, pools: &mut Pools, t: Time) -> Result<EdgeList, Memory>
         requires { pools.old.capacity ≡ self.old.capacity }
         ensures below { IfOk result (λ front. front.edges ≡ filter (is_below t) self.old.edges) }
@@ -286,7 +286,7 @@ impl EdgeList {
         self.batches.pop_front()
     }
 
-    /// Puts the batch last. Want of memory hands it back, and leaves the list as it was.
+    /// Puts the batch last. Out of memory it is handed back, and the list is as it was.
     pub fn put_batch(&mut self, batch: Batch) -> Result<(), Refused>
         requires kinds { batch.kinds ≡ cells_of self.old }
         requires capacity { batch.capacity ≡ self.old.capacity }

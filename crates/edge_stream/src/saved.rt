@@ -62,7 +62,7 @@ impl Saved {
         }
     }
 
-    /// Adds the entry last. Want of memory leaves the entries as they were.
+    /// Adds the entry last. Out of memory the entries are as they were.
     pub fn push(&mut self, entry: SavedEntry) -> Result<(), Memory>
         ensures ok { OnOk result (self.new ≡ self.old ++ entry ∷ []) }
         ensures err { OnErr result (self.new ≡ self.old) }

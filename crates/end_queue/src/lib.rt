@@ -81,12 +81,12 @@ impl EndQueue {
         }
     }
 
-    /// Puts the edge behind all that are due at its time or earlier. Want of memory changes nothing.
+    /// Puts the edge behind all that are due at its time or earlier. Out of memory nothing changes.
     pub fn put(&mut self, at: Time, edge: Edge) -> Result<(), Memory>
         ensures ok { OnOk result (self.new ≡ put_pending (record { at = at; edge = edge }) self.old) }
         ensures err { OnErr result (self.new ≡ self.old) }
     {
-        // After 2^64 edges there is no number left, which is told as want of memory.
+        // After 2^64 edges there is no number left, which is told as out of memory.
         let Some(next) = self.next.checked_add(1) else {
             return Err(Memory);
         };

@@ -1,4 +1,4 @@
--- The nodes that steps stand for: their kinds and rules do not hang on the texts.
+-- The nodes that steps stand for: their kinds and rules do not depend on the texts.
 use Rattle.std.proofs.Common.{◌≡◌, ℕ, zero, suc, ◌+◌, ◌-◌, ◌<◌, List, [], ◌∷◌, ◌++◌, map, length, get_or, refl, ap, sym, ◌∙◌, subst, arith, zero-add, append_assoc, append-nil, take}
 use Rattle.std.proofs.lemmas.List.{length-map, length-append, map-append, get_or_append_left, get_or-map}
 use Rattle.std.proofs.lemmas.List.Sums.{fold-append}

@@ -1,4 +1,4 @@
--- When groups are undefined, and that this hangs on the rows alone.
+-- When groups are undefined, and that this depends on the rows alone.
 use Rattle.std.specs.Prelude.{◌≡◌, ◌↔◌, ℕ, zero, suc, ◌-◌, ◌^◌, ◌<◌, ◌≤◌, nat_lt, ℤ, pos, negsuc, int_le, Bool, true, false, cond, IsTrue, Option, Some, None, List, length, slice_get, All, refl, is_some}
 use Rattle.std.specs.List.{list_any}
 use Rattle.std.proofs.Common.{◌∙◌, ap, subst, arith, inl, inr}
@@ -218,7 +218,7 @@ pub overflow_none : (source : Sources) (nodes : List Node) (p : ℕ) → overflo
     (i : ℕ) → i < length nodes → first_undefined source nodes i (closes nodes i p) ≡ None
 overflow_none source nodes p = overflow_first_none (λ i. first_undefined source nodes i (closes nodes i p)) (length nodes)
 
--- the overflow hangs on what is known of the sources
+-- the overflow depends on what is known of the sources
 overflow_there_same : (f g : ℕ → Option ℕ) → ((i : ℕ) → f i ≡ g i) → (n : ℕ) →
     overflow_there f (first_below (λ i. is_some (f i)) n) ≡ overflow_there g (first_below (λ i. is_some (g i)) n)
 overflow_there_same f g h n =

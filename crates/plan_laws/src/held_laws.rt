@@ -5,7 +5,7 @@ ghost use Rattle.tw_rows.specs.Event.{Event, alive};
 ghost use Rattle.plan_laws.specs.Held.{reaching};
 
 /// The events that do not end before a time: all of them for 0, no more for a later time, and at least those that are
-/// alive at the time. Their number hangs on the multiset of the events alone, and that of two lists is the sum.
+/// alive at the time. Their number depends on the multiset of the events alone, and that of two lists is the sum.
 pub fn reaching_counts<R>()
     ensures all { (es : List (Event R)) → reaching 0 es ≡ length es }
     ensures later { (m n : ℕ) (es : List (Event R)) → m ≤ n → reaching n es ≤ reaching m es }

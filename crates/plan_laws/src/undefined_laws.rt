@@ -44,7 +44,7 @@ pub fn first_undefined_is()
         first_below p c ≡ first_below q c }
 {}
 
-/// Whether a node is undefined hangs on the multiset of the rows alone, and before a time on what is known below it of
+/// Whether a node is undefined depends on the multiset of the rows alone, and before a time on what is known below it of
 /// the events that have them.
 pub fn undefined_nodes_are_alike<X>()
     ensures rows { (ops : RowOps X) (n : Node) (xs ys : List (List X)) → SameBag xs ys →

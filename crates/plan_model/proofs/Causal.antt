@@ -1,4 +1,4 @@
--- What is known of a node's events hangs on what is known of its children's, over rows of any kind.
+-- What is known of a node's events depends on what is known of its children's, over rows of any kind.
 use Rattle.std.specs.Prelude.{◌≡◌, ℕ, ◌≤◌, min, Bool, true, false, cond, List, [], ◌∷◌, filter, refl}
 use Rattle.std.proofs.Common.{sym, ◌∙◌, arith, add-zero}
 use Rattle.std.proofs.lemmas.Bool.Decides.{nat_tests}

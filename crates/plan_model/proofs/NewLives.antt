@@ -73,7 +73,7 @@ extended_one_known w by c e high low = grind (arith, nat_tests)
 pub Known-extended : {R : Type 0} (by c : ℕ) (a b : List (Event R)) → Known c a b → Known c (extended by a) (extended by b)
 Known-extended by c a b h = known_each (extended_one by) c c h.low (λ e. AreEvents-with_life e.row e.start (later by e.end) (omega arith)) (λ w e low. extended_one_known w by c e h.low low) a b h
 
--- a life that hangs on the start alone: nothing of it is known where the start is not
+-- a life that depends on the start alone: nothing of it is known where the start is not
 late_known : {R : Type 0} (w : Event R → ℕ) (row : R) (start end d : ℕ) → d ≤ start → total w (cut d (with_life row start end)) ≡ 0
 late_known w row start end d late = grind (arith, nat_tests)
 

@@ -1,4 +1,4 @@
--- Of each kind of node: its events agree with its rows, and what is known of its events hangs on what is known of its
+-- Of each kind of node: its events agree with its rows, and what is known of its events depends on what is known of its
 -- children's.
 use Rattle.std.specs.Prelude.{◌≡◌, ℕ, ◌+◌, ◌<◌, Bool, true, false, cond, List, ◌++◌, map, filter, flat_map, refl}
 use Rattle.std.proofs.Common.{sym, ◌∙◌, ap}

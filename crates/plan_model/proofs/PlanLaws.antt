@@ -59,7 +59,7 @@ pub AreEvents-events : (source : Sources) (nodes : List Node) → IsOrdered node
 AreEvents-events source nodes ordered valid n =
     (all_known 0 source source nodes ordered (λ s. record { low = omega arith; left_valid = valid s; right_valid = valid s; same = SameBag-refl _ }) n).left_valid
 
--- what each node is below its closing hangs on what is known of the sources at p
+-- what each node is below its closing depends on what is known of the sources at p
 pub snapshots_final : (p : ℕ) (source later_source : Sources) (nodes : List Node) → IsOrdered nodes → IsLevelled nodes → ((s : ℕ) → Known p (source s) (later_source s)) →
     (n t : ℕ) → t < closes nodes n p → SameBag (snapshots source nodes n t) (snapshots later_source nodes n t)
 snapshots_final p source later_source nodes ordered levelled known n t below =

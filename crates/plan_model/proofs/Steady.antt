@@ -52,7 +52,7 @@ quiet rows a (suc n) h =
     ap (λ l. l ++ changes rows (suc a) n) (quiet_at rows a (h a (omega arith) (omega arith)))
     ∙ quiet rows (suc a) n (λ t low high. h t (omega arith) (omega arith))
 
--- the lines of a row hang on how often the row stands there, and on nothing else
+-- the lines of a row depend on how often the row stands there, and on nothing else
 module _ (f g : ℕ → List Row) (r : Row) (c : ℕ) (h : (u : ℕ) → u < c → how_often r (f u) ≡ how_often r (g u)) where
   before_alike : (t : ℕ) → t ≤ c → how_often r (before f t) ≡ how_often r (before g t)
   before_alike zero low = refl

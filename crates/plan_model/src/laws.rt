@@ -223,7 +223,7 @@ pub fn group_is()
 {}
 
 /// The least int is at least `z` exactly where no int is below `z`, and the greatest is at most `z` exactly where no int is
-/// above it. What an aggregate makes of rows hangs on their multiset alone.
+/// above it. What an aggregate makes of rows depends on their multiset alone.
 pub fn aggregates_are()
     ensures least { (z x : ℤ) (xs : List ℤ) →
         int_le z (least_int (x ∷ xs)) ≡ not (list_any (λ v. int_lt v z) (x ∷ xs)) }
@@ -232,7 +232,7 @@ pub fn aggregates_are()
     ensures order { (a : Agg) (xs ys : List Row) → SameBag xs ys → agg_value a xs ≡ agg_value a ys }
 {}
 
-/// Whether one of the groups of some rows has too many rows, or a sum outside i64, hangs on the multiset of the rows alone.
+/// Whether one of the groups of some rows has too many rows, or a sum outside i64, depends on the multiset of the rows alone.
 pub fn undefined_groups_have_no_order()
     ensures { (key : List ℕ) (aggs : List Agg) (xs ys : List Row) → SameBag xs ys →
         is_undefined key aggs xs ≡ is_undefined key aggs ys }
@@ -420,7 +420,7 @@ pub fn snapshots_agree()
         SameBag (events source nodes n) (meaning source nodes n).events }
 {}
 
-/// Causality: what is known of a node's events below its closing hangs only on what is known of its children's events
+/// Causality: what is known of a node's events below its closing depends only on what is known of its children's events
 /// below theirs. `x` and `y` are the closings of the children.
 pub fn nodes_are_causal()
     ensures { (n : Node) (x y : ℕ) (a b c d : List (Event Row)) → Known x a c → Known y b d →

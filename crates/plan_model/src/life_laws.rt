@@ -15,7 +15,7 @@ pub fn joins_have_the_rows<L, R, P>()
         SameBag (alive (joined meets pair xs ys) t) (joined_rows meets pair left right) }
 {}
 
-/// Causality: what is known of joined events below the lesser of `x` and `y` hangs only on what is known of the left events
+/// Causality: what is known of joined events below the lesser of `x` and `y` depends only on what is known of the left events
 /// below `x` and of the right ones below `y`.
 pub fn joins_are_causal<L, R, P>()
     ensures { (meets : L → R → Bool) (pair : L → R → P) (x y : ℕ) (a c : List (Event L))
@@ -30,7 +30,7 @@ pub fn moved_events_have_the_rows<R>()
         SameBag (alive (moved by es) t) (cond (nat_le by t) (rows (t - by)) []) }
 {}
 
-/// Causality of each change of lives: what is known of the changed events below a time hangs only on what is known of the
+/// Causality of each change of lives: what is known of the changed events below a time depends only on what is known of the
 /// events below theirs.
 pub fn lives_are_causal<R, K>()
     ensures moved { (by c : ℕ) (a b : List (Event R)) → Known c a b →

@@ -28,7 +28,7 @@ pub enum RowStage {
 
 impl RowStage {
     /// What the node makes of the edges of its child, or of its stream where it is a Source. The pools are refilled as
-    /// columns are needed. Want of memory loses the list.
+    /// columns are needed. Out of memory the list is lost.
     pub fn step(
         &mut self,
         alloc: Global,

@@ -65,7 +65,7 @@ fn write_punctuation(time: u64, text: &mut Vec<u8>) -> Result<(), Memory>
 }
 
 impl SampleLine {
-    /// Writes the line, without its line feed, in place of what the text held. After want of memory the text holds some of it.
+    /// Writes the line, without its line feed, in place of what the text held. Out of memory the text holds some of it.
     pub fn write(&self, text: &mut Vec<u8>) -> Result<(), Memory>
         ensures text { OnOk result (text.new.items ≡ line_of self.now) }
         ensures short { OnOk result (length text.new.items ≤ 300) }

@@ -3,7 +3,7 @@ ghost use Rattle.std.specs.Prelude.{◌≡◌, OnOk, flat_map};
 
 use tw_rows::Memory;
 
-/// Writes the pieces, one after the other, in place of what the text held. After want of memory it holds some of them.
+/// Writes the pieces, one after the other, in place of what the text held. Out of memory it holds some of them.
 pub(crate) fn write_pieces(text: &mut Vec<u8>, pieces: &[&[u8]]) -> Result<(), Memory>
     ensures { OnOk result (text.new.items ≡ flat_map (λ p. p.now) pieces.now) }
 {

@@ -58,8 +58,8 @@ pub record LeadsOver {S : Type 0} (step : S → S → Round → Answer → Type 
   pub each : (i : ℕ) (d : Round) → i < length rounds →
       step (states i) (states (suc i)) (slice_index_or rounds i d) (answer_at answers i)
 
--- what was answered of rounds, and behind it the fault, if there is one. Of the lists a and b and want of memory: a, b, and
--- want of memory
+-- what was answered of rounds, and behind it the fault, if there is one. Of the lists a and b and out of memory: a, b, and
+-- out of memory
 abbrev pub told : List EdgeListView → Option StepFault → List Answer
 told lists None = map Ok lists
 told lists (Some fault) = map Ok lists ++ Err fault ∷ []

@@ -28,7 +28,7 @@ pub record CanStep (s : Standing) (room count : ℕ) (left_key right_key : List 
   pub right_columns : All (λ column. column < length right.kinds) right_key
 
 -- the clauses of a step of an operator that stood as old and stands as new, with edges left and right, up to u and v; but
--- want of memory may come before the operator is asked
+-- out of memory may come before the operator is asked
 pub record HasStepped (old new : Standing) (before after : Keeping) (left right : List Edge) (u v : ℕ)
     (answer : Result EdgeListView StepFault) : Type 0 where
   pub kept : IfOk answer (λ list. StaysKept old before after left right list.edges)
@@ -49,13 +49,13 @@ abbrev pub edges_answered : Result EdgeListView StepFault → List Edge
 edges_answered (Ok list) = list.edges
 edges_answered (Err fault) = []
 
--- the answer is no want of memory, and no overflow before the time
+-- the answer is not out of memory, and no overflow before the time
 abbrev pub is_fine_before : ℕ → Result EdgeListView StepFault → Bool
 is_fine_before time (Ok list) = true
 is_fine_before time (Err Memory) = false
 is_fine_before time (Err (Overflow other)) = nat_le time other
 
--- one of the answers is an overflow at the time, and none is want of memory or an overflow before it
+-- one of the answers is an overflow at the time, and none is out of memory or an overflow before it
 pub record IsLeastOverflow (time : ℕ) (answers : List (Result EdgeListView StepFault)) : Type 0 where
   pub place : ℕ
   pub within : place < length answers
@@ -67,7 +67,7 @@ abbrev pub fault_of : Result EdgeListView StepFault → Option StepFault
 fault_of (Ok list) = None
 fault_of (Err fault) = Some fault
 
--- the fault of two that is told: want of memory, and else the earlier overflow
+-- the fault of two that is told: out of memory, and else the earlier overflow
 abbrev pub worse_of : Option StepFault → Option StepFault → Option StepFault
 worse_of None b = b
 worse_of (Some Memory) b = Some Memory

@@ -25,7 +25,7 @@ fn earlier(a: Time, b: Time) -> Time
     if a < b { a } else { b }
 }
 
-// Of two faults want of memory, and else the earlier overflow.
+// Of two faults out of memory, and else the earlier overflow.
 fn graver(a: StepFault, b: StepFault) -> StepFault
     ensures { Some result ≡ worse_of (Some a) (Some b) }
 {
@@ -40,7 +40,7 @@ fn graver(a: StepFault, b: StepFault) -> StepFault
     }
 }
 
-// The fault of two that is told: want of memory, and else the earlier overflow.
+// The fault of two that is told: out of memory, and else the earlier overflow.
 fn worse(a: Option<StepFault>, b: Option<StepFault>) -> Option<StepFault>
     ensures { result ≡ worse_of a b }
 {

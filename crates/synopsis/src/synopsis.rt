@@ -65,14 +65,14 @@ impl Synopsis {
         })
     }
 
-    /// Puts in a row. Want of memory changes nothing.
+    /// Puts in a row. Out of memory nothing changes.
     pub fn add(&mut self, cells: Cells, start: Time) -> Result<(), Memory>
         ensures ok { OnOk result ((w : HeldRow → ℕ) → total w self.new.rows ≡ total w self.old.rows
             + w (record { cells = cells; start = start })) }
         ensures err { OnErr result (self.new.rows ≡ self.old.rows) }
         ensures key { self.new.key ≡ self.old.key }
     {
-        // A count that no longer fits is told as want of memory.
+        // A count that no longer fits is told as out of memory.
         let Some(count) = self.count.checked_add(1) else {
             return Err(Memory);
         };

@@ -22,7 +22,7 @@ cut-append c a b = flat_map-append (cut_one c) a b
 lives_known : {R : Type 0} (w : R → ℕ) (c t : ℕ) (e : Event R) → t < c → c ≤ inf → cond (lives_at t e) (w e.row) 0 ≡ total (λ x. cond (lives_at t x) (w x.row) 0) (cut_one c e)
 lives_known w c t e low high = grind (arith, nat_tests)
 
--- below c the rows that are alive hang on what is known at c alone
+-- below c the rows that are alive depend on what is known at c alone
 pub alive_known : {R : Type 0} (c t : ℕ) (a b : List (Event R)) → t < c → c ≤ inf → SameBag (cut c a) (cut c b) → SameBag (alive a t) (alive b t)
 alive_known {R} c t a b low high h = record {
   weigh = λ w.
@@ -35,7 +35,7 @@ pub AreEvents-append : {R : Type 0} (a b : List (Event R)) → AreEvents a → A
 AreEvents-append [] b va vb = vb
 AreEvents-append (e ∷ a) b va vb = (va.0, va.1, AreEvents-append a b va.2 vb)
 
--- a step that takes its events one by one: what is known of its events hangs on what is known of those that it takes
+-- a step that takes its events one by one: what is known of its events depends on what is known of those that it takes
 causal_by_one : {R : Type 0} (F : List (Event R) → List (Event R)) (one : Event R → List (Event R)) (c d : ℕ) →
     ((w : Event R → ℕ) (es : List (Event R)) → total w (F es) ≡ total (λ e. total w (one e)) es) →
     ((w : Event R → ℕ) (e : Event R) → e.start < inf → total w (cut d (one e)) ≡ total (λ x. total w (cut d (one x))) (cut_one c e)) →
