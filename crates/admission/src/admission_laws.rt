@@ -42,11 +42,13 @@ pub fn entries_change_their_stream_alone()
 /// running greatest, and what is allowed is the greater of the bound, rounded down to the period, and of the mark.
 pub fn bounds_are_greatest()
     ensures bound { (policy : Policy) (entries : List Entry) (a : Admission) (s : ℕ) →
-        admit_all policy entries nothing ≡ Taken a → a.bound s ≡ greatest (bound_by policy s) entries }
+        admit_all policy entries nothing ≡ Taken a →
+        a.bound s ≡ greatest (bound_by policy s) entries }
     ensures mark { (policy : Policy) (entries : List Entry) (a : Admission) (s : ℕ) →
         admit_all policy entries nothing ≡ Taken a → a.mark s ≡ greatest (mark_by s) entries }
     ensures only { (policy : Policy) (entries : List Entry) (a : Admission) → AreEntries 1 entries →
-        admit_all policy entries nothing ≡ Taken a → a.bound 0 ≡ greatest (only_bound policy) entries }
+        admit_all policy entries nothing ≡ Taken a →
+        a.bound 0 ≡ greatest (only_bound policy) entries }
     ensures only_allowed { (policy : Policy) (a : Admission) → a.bound 0 ≤ inf → a.mark 0 ≤ inf →
         allowed policy 1 a ≡ max (stepped policy.period (a.bound 0)) (a.mark 0) }
 {}

@@ -26,13 +26,16 @@ pub trait Aggregate: Drop {
     /// Takes in an int. Out of memory, it is kept of the bag as before.
     fn add(&mut self, value: i64) -> Result<(), Memory>
         requires { (bag : List ℤ) × stands self.old bag × (length bag < 2 ^ 63) }
-        ensures ok { OnOk result ((bag : List ℤ) → stands self.old bag → stands self.new (value ∷ bag)) }
+        ensures ok { OnOk result ((bag : List ℤ) → stands self.old bag →
+            stands self.new (value ∷ bag)) }
         ensures err { OnErr result ((bag : List ℤ) → stands self.old bag → stands self.new bag) };
 
     /// Gives up an int that is in the bag. It takes no memory.
     fn remove(&mut self, value: i64)
-        requires { (bag : List ℤ) × (rest : List ℤ) × stands self.old bag × SameBag bag (value ∷ rest) }
-        ensures { (bag rest : List ℤ) → stands self.old bag → SameBag bag (value ∷ rest) → stands self.new rest };
+        requires { (bag : List ℤ) × (rest : List ℤ) × stands self.old bag
+            × SameBag bag (value ∷ rest) }
+        ensures { (bag rest : List ℤ) → stands self.old bag → SameBag bag (value ∷ rest) →
+            stands self.new rest };
 
     /// How many ints there are.
     fn len(&self) -> u64

@@ -57,9 +57,10 @@ impl Bag {
     }
 
     pub(crate) fn remove(&mut self, value: i64)
-        requires { (bag : List ℤ) × (rest : List ℤ) × IsBag self.old.counts self.old.len bag × SameBag bag (value ∷ rest) }
-        ensures { (bag rest : List ℤ) → IsBag self.old.counts self.old.len bag → SameBag bag (value ∷ rest) →
-            IsBag self.new.counts self.new.len rest }
+        requires { (bag : List ℤ) × (rest : List ℤ) × IsBag self.old.counts self.old.len bag
+            × SameBag bag (value ∷ rest) }
+        ensures { (bag rest : List ℤ) → IsBag self.old.counts self.old.len bag →
+            SameBag bag (value ∷ rest) → IsBag self.new.counts self.new.len rest }
     {
         self.len -= 1;
         if let Some(count) = self.counts.get_mut(&value) {
@@ -72,14 +73,16 @@ impl Bag {
     }
 
     pub(crate) fn least(&self) -> Option<i64>
-        ensures { (bag : List ℤ) → IsBag self.now.counts self.now.len bag → 0 < length bag → result ≡ Some (least_int bag) }
+        ensures { (bag : List ℤ) → IsBag self.now.counts self.now.len bag → 0 < length bag →
+            result ≡ Some (least_int bag) }
     {
         let (value, _) = self.counts.first_key_value()?;
         Some(*value)
     }
 
     pub(crate) fn greatest(&self) -> Option<i64>
-        ensures { (bag : List ℤ) → IsBag self.now.counts self.now.len bag → 0 < length bag → result ≡ Some (greatest_int bag) }
+        ensures { (bag : List ℤ) → IsBag self.now.counts self.now.len bag → 0 < length bag →
+            result ≡ Some (greatest_int bag) }
     {
         let (value, _) = self.counts.last_key_value()?;
         Some(*value)

@@ -16,7 +16,8 @@ pub trait End {
 
     /// The int at the end.
     fn of(bag: &Bag) -> Option<i64>
-        ensures { (ints : List ℤ) → IsBag bag.now.counts bag.now.len ints → 0 < length ints → result ≡ Some (end ints) };
+        ensures { (ints : List ℤ) → IsBag bag.now.counts bag.now.len ints → 0 < length ints →
+            result ≡ Some (end ints) };
 }
 
 /// The end of the least int.

@@ -22,9 +22,11 @@ pub fn replaced<A: Aggregate>(
     old: i64,
     new: i64,
 ) -> Result<(u64, Option<i64>), Memory>
-    requires { (bag : List ℤ) × (rest : List ℤ) × A.stands aggregate.old bag × SameBag bag (old ∷ rest) × (length rest < 2 ^ 63) }
-    ensures { IfOk result (λ answer. (bag rest : List ℤ) → A.stands aggregate.old bag → SameBag bag (old ∷ rest) →
-        A.stands aggregate.new (new ∷ rest) × (answer.0 ≡ length (new ∷ rest)) × (answer.1 ≡ told A.made A.is_large (new ∷ rest))) }
+    requires { (bag : List ℤ) × (rest : List ℤ) × A.stands aggregate.old bag
+        × SameBag bag (old ∷ rest) × (length rest < 2 ^ 63) }
+    ensures { IfOk result (λ answer. (bag rest : List ℤ) → A.stands aggregate.old bag →
+        SameBag bag (old ∷ rest) → A.stands aggregate.new (new ∷ rest)
+        × (answer.0 ≡ length (new ∷ rest)) × (answer.1 ≡ told A.made A.is_large (new ∷ rest))) }
 {
     aggregate.remove(old);
     aggregate.add(new)?;

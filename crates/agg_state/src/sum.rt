@@ -51,7 +51,8 @@ impl Aggregate for Sum {
     }
 
     fn add(&mut self, value: i64) -> Result<(), Memory>
-        requires { (bag : List ℤ) × IsSummed self.old.total self.old.count bag × (length bag < 2 ^ 63) }
+        requires { (bag : List ℤ) × IsSummed self.old.total self.old.count bag
+            × (length bag < 2 ^ 63) }
         ensures ok { OnOk result ((bag : List ℤ) → IsSummed self.old.total self.old.count bag →
             IsSummed self.new.total self.new.count (value ∷ bag)) }
         ensures err { OnErr result ((bag : List ℤ) → IsSummed self.old.total self.old.count bag →

@@ -97,7 +97,8 @@ impl EndQueue {
 
     /// Takes out the first edge, if it is due before `below`.
     pub fn pop_due(&mut self, below: Time) -> Option<Edge>
-        ensures some { IfSome result (λ edge. (p : Pending) × (p.edge ≡ edge) × (p.at < below) × (self.old ≡ p ∷ self.new)) }
+        ensures some { IfSome result (λ edge. (p : Pending) × (p.edge ≡ edge) × (p.at < below)
+            × (self.old ≡ p ∷ self.new)) }
         ensures none { IfNone result (All (λ p. below ≤ p.at) self.old) }
         ensures unchanged { IfNone result (self.new ≡ self.old) }
     {

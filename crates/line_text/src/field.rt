@@ -77,7 +77,8 @@ pub fn push_datum(
     texts: &TextTable,
 ) -> Result<(), Memory>
     requires { IsPlaced texts.now datum }
-    ensures ok { OnOk result (out.new.items ≡ out.old.items ++ field_text default_writer (value_text kind (read_datum texts.now datum))) }
+    ensures ok { OnOk result (out.new.items ≡ out.old.items
+        ++ field_text default_writer (value_text kind (read_datum texts.now datum))) }
     ensures err { OnErr result (Begins out.old.items out.new.items) }
 {
     match datum {

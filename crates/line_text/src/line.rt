@@ -17,7 +17,8 @@ fn push_cells(
     texts: &TextTable,
 ) -> Result<(), Memory>
     requires { ArePlaced texts.now cells.now }
-    ensures ok { OnOk result (out.new.items ≡ out.old.items ++ fields_text default_writer (row_texts kinds.now (read_cells texts.now cells.now))) }
+    ensures ok { OnOk result (out.new.items ≡ out.old.items
+        ++ fields_text default_writer (row_texts kinds.now (read_cells texts.now cells.now))) }
     ensures err { OnErr result (Begins out.old.items out.new.items) }
 {
     for (kind, datum) in kinds.iter().zip(cells) {
@@ -136,7 +137,8 @@ pub fn push_end_line(
 
 #[tactic(auto, using(crate::proofs::Begin::begin_steps))]
 fn push_punctuation_fields(out: &mut Vec<u8>, name: &str, time: Time) -> Result<(), Memory>
-    ensures ok { OnOk result (out.new.items ≡ out.old.items ++ record_text (punctuation_fields name.now time)) }
+    ensures ok { OnOk result (out.new.items ≡ out.old.items
+        ++ record_text (punctuation_fields name.now time)) }
     ensures err { OnErr result (Begins out.old.items out.new.items) }
 {
     push_text(out, name)?;
@@ -150,7 +152,8 @@ fn push_punctuation_fields(out: &mut Vec<u8>, name: &str, time: Time) -> Result<
 /// for `*`. Where there is no memory, nothing is appended.
 #[tactic(auto, using(crate::proofs::Begin::Begins_take))]
 pub fn push_punctuation(out: &mut Vec<u8>, name: &str, time: Time) -> Result<(), Memory>
-    ensures ok { OnOk result (out.new.items ≡ out.old.items ++ record_text (punctuation_fields name.now time)) }
+    ensures ok { OnOk result (out.new.items ≡ out.old.items
+        ++ record_text (punctuation_fields name.now time)) }
     ensures err { OnErr result (out.new.items ≡ out.old.items) }
 {
     let before = out.len();

@@ -47,7 +47,8 @@ fn push_units(out: &mut Vec<u8>, places: usize, units: u64) -> Result<(), Memory
 #[tactic(auto, using(crate::proofs::Begin::begin_steps))]
 pub fn push_number(out: &mut Vec<u8>, places: u8, number: i64) -> Result<(), Memory>
     ensures ok { OnOk result (out.new.items ≡ out.old.items ++ number_text places number) }
-    ensures field { field_text default_writer (number_text places number) ≡ number_text places number }
+    ensures field { field_text default_writer (number_text places number)
+        ≡ number_text places number }
     ensures err { OnErr result (Begins out.old.items out.new.items) }
 {
     if number < 0 {

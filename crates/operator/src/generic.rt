@@ -26,12 +26,14 @@ pub fn step_once<O: Operator>(
     requires left_capacity { left.capacity ≡ (O.standing operator.old).batch_rows }
     requires right_capacity { right.capacity ≡ (O.standing operator.old).batch_rows }
     requires capacity { pools.old.capacity ≡ (O.standing operator.old).batch_rows }
-    ensures stands { IfOk result (λ answer. StandsAfter (O.standing operator.old) (O.keeps operator.old)
-        left.edges right.edges left_to right_to answer.edges) }
-    ensures defined { OnOk result (
-        IsFirstUndefined (O.standing operator.old) (O.keeps operator.old) left.edges left_to right_to None) }
+    ensures stands { IfOk result (λ answer.
+        StandsAfter (O.standing operator.old) (O.keeps operator.old) left.edges right.edges left_to
+        right_to answer.edges) }
+    ensures defined { OnOk result (IsFirstUndefined (O.standing operator.old)
+        (O.keeps operator.old) left.edges left_to right_to None) }
     ensures overflow { IfErr result (λ fault. (time : ℕ) → fault ≡ StepFault.Overflow time →
-        IsFirstUndefined (O.standing operator.old) (O.keeps operator.old) left.edges left_to right_to (Some time)) }
+        IsFirstUndefined (O.standing operator.old) (O.keeps operator.old) left.edges left_to
+        right_to (Some time)) }
 {
     O::laws();
     operator.step(pools, left, right, left_to, right_to)

@@ -63,14 +63,15 @@ pub trait Operator: Send + Drop {
         requires left_capacity { left.capacity ≡ (standing self.old).batch_rows }
         requires right_capacity { right.capacity ≡ (standing self.old).batch_rows }
         requires capacity { pools.old.capacity ≡ (standing self.old).batch_rows }
-        ensures kept { IfOk result (λ answer.
-            StaysKept (standing self.old) (keeps self.old) (keeps self.new) left.edges right.edges answer.edges) }
+        ensures kept { IfOk result (λ answer. StaysKept (standing self.old) (keeps self.old)
+            (keeps self.new) left.edges right.edges answer.edges) }
         ensures between { IfOk result (λ answer.
             AnswersBetween (standing self.old) left.edges right.edges left_to right_to answer.edges) }
-        ensures defined { OnOk result (
-            IsFirstUndefined (standing self.old) (keeps self.old) left.edges left_to right_to None) }
+        ensures defined { OnOk result (IsFirstUndefined (standing self.old) (keeps self.old)
+            left.edges left_to right_to None) }
         ensures overflow { IfErr result (λ fault. (time : ℕ) → fault ≡ StepFault.Overflow time →
-            IsFirstUndefined (standing self.old) (keeps self.old) left.edges left_to right_to (Some time)) }
+            IsFirstUndefined (standing self.old) (keeps self.old) left.edges left_to right_to
+            (Some time)) }
         ensures group { IfErr result (λ fault. (time : ℕ) → fault ≡ StepFault.Overflow time →
             is_group (standing self.old).node ≡ true) }
         ensures kinds { IfOk result (λ answer. cells_of answer ≡ (standing self.old).own_kinds) }
@@ -96,8 +97,9 @@ pub trait Operator: Send + Drop {
         ensures few { IfOk result (λ saved. length saved ≤ entries self.now) }
         ensures sound { IfOk result (λ saved.
             sound self.now saved (standing self.now).left_closed (standing self.now).right_closed) }
-        ensures resumes { IfOk result (λ saved. Implies (keeps self.now)
-            (resumes self.now saved (standing self.now).left_closed (standing self.now).right_closed)) };
+        ensures resumes { IfOk result (λ saved.
+            Implies (keeps self.now) (resumes self.now saved (standing self.now).left_closed
+            (standing self.now).right_closed)) };
 
     /// Takes up what was saved, with sides that are closed up to the two times. After a fault it stands as it was made.
     fn load(&mut self, saved: &Saved, left_to: Time, right_to: Time) -> Result<(), LoadFault>
@@ -130,8 +132,9 @@ pub trait Operator: Send + Drop {
             BeginsWith new old → keeps s old hl hr out → keeps s new hl hr out }
         ensures bounded { (s : Self) (texts : List (List ℕ)) (hl hr out : List Edge) →
             keeps s texts hl hr out → entries s ≤ most_entries (standing s) hl hr }
-        ensures resumes_sound { (s : Self) (saved : List SavedEntry) (x y : ℕ) (texts : List (List ℕ))
-            (hl hr out : List Edge) → resumes s saved x y texts hl hr out → sound s saved x y }
+        ensures resumes_sound { (s : Self) (saved : List SavedEntry) (x y : ℕ)
+            (texts : List (List ℕ)) (hl hr out : List Edge) → resumes s saved x y texts hl hr out →
+            sound s saved x y }
         ensures rows { (s : Self) (saved : List SavedEntry) (x y : ℕ) →
             sound s saved x y → AreStoredAs row_of_part (standing s) saved };
 }

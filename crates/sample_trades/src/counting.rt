@@ -23,7 +23,8 @@ pub struct LineCounts {
 
 // The count of lines that begin with `front`, with one more line, whose first bytes are these.
 fn with_line(count: u64, first: &[u8], front: &[u8]) -> Result<u64, Memory>
-    ensures { IfOk result (λ n. n ≡ count + (if starts_with nat_eq first.now front.now then 1 else 0)) }
+    ensures { IfOk result (λ n. n ≡ count +
+        (if starts_with nat_eq first.now front.now then 1 else 0)) }
 {
     if first.starts_with(front) {
         count.checked_add(1).ok_or(Memory)
@@ -46,7 +47,8 @@ impl LineCounts {
     }
 
     fn end_line(&mut self) -> Result<(), Memory>
-        ensures { OnOk result ((text : List ℕ) → Counted text self.old → Counted (text ++ 10 ∷ []) self.new) }
+        ensures { OnOk result ((text : List ℕ) → Counted text self.old →
+            Counted (text ++ 10 ∷ []) self.new) }
     {
         let first = self.first.as_slice();
         let starts = with_line(self.starts, first, b"out,start,")?;
@@ -60,7 +62,8 @@ impl LineCounts {
     }
 
     fn add_byte(&mut self, byte: u8) -> Result<(), Memory>
-        ensures { OnOk result ((text : List ℕ) → Counted text self.old → Counted (text ++ byte ∷ []) self.new) }
+        ensures { OnOk result ((text : List ℕ) → Counted text self.old →
+            Counted (text ++ byte ∷ []) self.new) }
     {
         if byte == b'\n' {
             return self.end_line();
@@ -74,7 +77,8 @@ impl LineCounts {
     /// The text goes on with these bytes. Out of memory nothing is said of the counts; a count that no u64 holds is such
     /// a want.
     pub fn add(&mut self, bytes: &[u8]) -> Result<(), Memory>
-        ensures { OnOk result ((text : List ℕ) → Counted text self.old → Counted (text ++ bytes.now) self.new) }
+        ensures { OnOk result ((text : List ℕ) → Counted text self.old →
+            Counted (text ++ bytes.now) self.new) }
     {
         for byte in bytes {
             self.add_byte(*byte)?;
@@ -84,7 +88,8 @@ impl LineCounts {
 
     /// The summary of the text.
     pub fn summary(&self, alloc: Global) -> Result<Vec<u8>, Memory>
-        ensures { IfOk result (λ bytes. (text : List ℕ) → Counted text self.now → bytes.items ≡ summary_text (summary_of text)) }
+        ensures { IfOk result (λ bytes. (text : List ℕ) → Counted text self.now →
+            bytes.items ≡ summary_text (summary_of text)) }
     {
         let mut starts = Buffer::new();
         let mut ends = Buffer::new();

@@ -20,27 +20,27 @@ ghost use Rattle.shard_laws.specs.Parts.{left_part, right_part, sum_of_shards, m
 /// However keys are given shards: where the answers of each shard stand, read, for the events of the node over the edges of
 /// that shard, all answers together, in order, stand for those of the node over all edges.
 pub fn shards_stand_together()
-    ensures { (n : Node) → is_keyed n ≡ true →
-        (shard : List Datum → ℕ) (count : ℕ) → ((key : List Datum) → shard key < count) →
-        (texts : List (List ℕ)) → AreDistinct texts →
-        (c : ℕ) (hl hr out : List Edge) (outs : ℕ → List Edge) → c ≤ inf →
-        IsHistory hl → IsHistory hr → EdgesArePlaced texts hl → EdgesArePlaced texts hr →
+    ensures { (n : Node) → is_keyed n ≡ true → (shard : List Datum → ℕ) (count : ℕ) →
+        ((key : List Datum) → shard key < count) → (texts : List (List ℕ)) → AreDistinct texts →
+        (c : ℕ) (hl hr out : List Edge) (outs : ℕ → List Edge) → c ≤ inf → IsHistory hl →
+        IsHistory hr → EdgesArePlaced texts hl → EdgesArePlaced texts hr →
         ((s : ℕ) → s < count → StandsRead texts c (outs s)
-        (node_events n (read_of texts (left_part shard n s hl)) (read_of texts (right_part shard n s hr)))) →
-        Rises 0 out → SameBag out (over_shards outs count) → EdgesArePlaced texts out →
+        (node_events n (read_of texts (left_part shard n s hl))
+        (read_of texts (right_part shard n s hr)))) → Rises 0 out →
+        SameBag out (over_shards outs count) → EdgesArePlaced texts out →
         StandsRead texts c out (node_events n (read_of texts hl) (read_of texts hr)) }
 {}
 
 /// However keys are given shards: a node is undefined at an instant, over edges that are read, where it is so in one of its
 /// shards. So its least undefined instant is the least of its shards'.
 pub fn shards_are_undefined_together()
-    ensures instants { (n : Node) → is_keyed n ≡ true →
-        (shard : List Datum → ℕ) (count : ℕ) → ((key : List Datum) → shard key < count) →
-        (texts : List (List ℕ)) → AreDistinct texts → (h : List Edge) → IsHistory h → EdgesArePlaced texts h → (t : ℕ) →
-        undefined_over value_ops n (alive (read_of texts h) t)
-        ≡ any_shard (λ s. undefined_over value_ops n (alive (read_of texts (left_part shard n s h)) t)) count }
-    ensures least { (q : ℕ → ℕ → Bool) (count c s m : ℕ) → s < count → first_below (q s) c ≡ Some m →
-        ((k : ℕ) → k < count → (u : ℕ) → u < m → q k u ≡ false) →
+    ensures instants { (n : Node) → is_keyed n ≡ true → (shard : List Datum → ℕ) (count : ℕ) →
+        ((key : List Datum) → shard key < count) → (texts : List (List ℕ)) → AreDistinct texts →
+        (h : List Edge) → IsHistory h → EdgesArePlaced texts h → (t : ℕ) →
+        undefined_over value_ops n (alive (read_of texts h) t) ≡ any_shard
+        (λ s. undefined_over value_ops n (alive (read_of texts (left_part shard n s h)) t)) count }
+    ensures least { (q : ℕ → ℕ → Bool) (count c s m : ℕ) → s < count →
+        first_below (q s) c ≡ Some m → ((k : ℕ) → k < count → (u : ℕ) → u < m → q k u ≡ false) →
         first_below (λ t. any_shard (λ k. q k t) count) c ≡ Some m }
     ensures none { (q : ℕ → ℕ → Bool) (count c : ℕ) →
         ((k : ℕ) → k < count → first_below (q k) c ≡ None) →
@@ -50,7 +50,8 @@ pub fn shards_are_undefined_together()
 /// The edges of a shard, in order, are a history where all edges are one; and edges that are those of placed edges in another
 /// order are placed.
 pub fn shards_have_histories()
-    ensures history { (test : List Datum → Bool) (h : List Edge) → IsHistory h → IsHistory (edges_where test h) }
+    ensures history { (test : List Datum → Bool) (h : List Edge) → IsHistory h →
+        IsHistory (edges_where test h) }
     ensures placed { (texts : List (List ℕ)) (a b : List Edge) →
         SameBag a b → EdgesArePlaced texts b → EdgesArePlaced texts a }
 {}
@@ -61,15 +62,15 @@ pub fn answers_of_shards_add_up()
     ensures bag { (n : ℕ) (outs answers : ℕ → List Edge) (out answer : List Edge) →
         SameBag out (over_shards outs n) → SameBag answer (over_shards answers n) →
         SameBag (out ++ answer) (over_shards (λ s. outs s ++ answers s) n) }
-    ensures order { (c r : ℕ) (out answer : List Edge) → Rises r out → failing (is_below c) out ≡ 0 →
-        Rises 0 answer → failing (is_from c) answer ≡ 0 → r ≤ 2 * c → Rises r (out ++ answer) }
+    ensures order { (c r : ℕ) (out answer : List Edge) → Rises r out →
+        failing (is_below c) out ≡ 0 → Rises 0 answer → failing (is_from c) answer ≡ 0 → r ≤ 2 * c →
+        Rises r (out ++ answer) }
 {}
 
 /// However keys are given shards: a node may keep as many entries of edges as its shards may together, each of its own.
 pub fn shards_keep_as_much()
-    ensures { (n : Node) → is_keyed n ≡ true →
-        (shard : List Datum → ℕ) (count : ℕ) → ((key : List Datum) → shard key < count) →
-        (x y : ℕ) (hl hr : List Edge) → IsHistory hl → IsHistory hr →
-        sum_of_shards (λ s. may_keep_of n x y (left_part shard n s hl) (right_part shard n s hr)) count
-        ≡ may_keep_of n x y hl hr }
+    ensures { (n : Node) → is_keyed n ≡ true → (shard : List Datum → ℕ) (count : ℕ) →
+        ((key : List Datum) → shard key < count) → (x y : ℕ) (hl hr : List Edge) → IsHistory hl →
+        IsHistory hr → sum_of_shards (λ s. may_keep_of n x y (left_part shard n s hl)
+        (right_part shard n s hr)) count ≡ may_keep_of n x y hl hr }
 {}

@@ -125,7 +125,8 @@ impl Bucket {
 
     /// Puts in a row, as the last.
     pub fn add(&mut self, alloc: Global, cells: Cells, start: Time) -> Result<(), Memory>
-        ensures ok { OnOk result (self.new ≡ self.old ++ record { cells = cells; start = start } ∷ []) }
+        ensures ok { OnOk result (self.new ≡ self.old
+            ++ record { cells = cells; start = start } ∷ []) }
         ensures err { OnErr result (self.new ≡ self.old) }
     {
         // Where there is no room the index is gone.

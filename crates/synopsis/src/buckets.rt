@@ -70,7 +70,8 @@ pub fn take_row(
         AreKeyed columns buckets.old.entries →
         many (is_held cells.now start) (rows_in buckets.old.entries) ≡ 0 }
     ensures unchanged { result ≡ false → buckets.new.entries ≡ buckets.old.entries }
-    ensures keyed { (columns : List ℕ) → AreKeyed columns buckets.old.entries → AreKeyed columns buckets.new.entries }
+    ensures keyed { (columns : List ℕ) → AreKeyed columns buckets.old.entries →
+        AreKeyed columns buckets.new.entries }
 {
     let Some(i) = buckets.get_index_of(key) else {
         return false;
