@@ -92,7 +92,7 @@ def watch(pid, is_going):
 
 
 def kit():
-    return subprocess.run([*RT, "version"], capture_output=True, text=True).stdout.strip()
+    return subprocess.run(["rt", "version"], capture_output=True, text=True).stdout.strip()
 
 
 def with_second_proof(sums):
