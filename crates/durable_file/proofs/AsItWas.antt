@@ -1,7 +1,7 @@
 -- FILE is as it was while it is opened.
-use Rattle.std.proofs.Common.{◌≡◌, ◌≢◌, inl, inr, ℕ, List, [], Option, Some, None, Result, Ok, Err, refl, sym, ◌∙◌, ap, subst}
+use Rattle.std.proofs.Common.{◌≡◌, ◌≢◌, inl, inr, ℕ, List, [], Option, None, refl, sym, ◌∙◌, subst}
 use Rattle.durable_file.specs.declared.medium.Name.TheVariants.{File}
-use Rattle.durable_file.specs.Disk.{Content, Absent, Written, Synced, Torn, Disk, Leaves, MayLeave, IsSeen, synced, lost, settled}
+use Rattle.durable_file.specs.Disk.{Content, Absent, Written, Synced, Torn, Disk, Leaves, IsSeen, synced, lost, settled}
 use Rattle.durable_file.specs.Calls.{with_synced, with_lost}
 use Rattle.durable_file.specs.Replaced.{IsWhole}
 use Rattle.durable_file.specs.Opened.{LeavesJust}

@@ -1,5 +1,5 @@
 -- FILE stays as it was, or becomes one of these, from call to call.
-use Rattle.std.proofs.Common.{◌≡◌, inl, ℕ, List, [], ◌++◌, Result, sym, ◌∙◌, ap, append_assoc}
+use Rattle.std.proofs.Common.{inl, ℕ, List, [], ◌++◌, Result, sym, ◌∙◌, ap, append_assoc}
 use Rattle.std.proofs.lemmas.List.{append-nil}
 use Rattle.std.proofs.lemmas.List.Elements.{All-append, All-nil}
 use Rattle.durable_file.specs.Disk.{Disk}

@@ -1,5 +1,5 @@
 -- FILE is opened, from call to call.
-use Rattle.std.proofs.Common.{◌≡◌, inl, inr, List, [], Option, Some, None, Result, Ok, Err, IsErr, refl, ◌∙◌, ap}
+use Rattle.std.proofs.Common.{◌≡◌, inl, inr, [], Option, Some, None, Result, Ok, Err, IsErr, refl, ◌∙◌, ap}
 use Rattle.std.specs.Prelude.{ℕ, Vec}
 use Rattle.std.specs.declared.alloc.Global.{Global}
 use Rattle.durable_file.specs.declared.medium.Name.TheVariants.{File}

@@ -1,9 +1,9 @@
 -- FILE stays whole while it is replaced, from call to call.
-use Rattle.std.proofs.Common.{◌≡◌, inl, inr, ℕ, List, [], ◌∷◌, ◌++◌, Result, Ok, Err, IsErr, sym, ◌∙◌}
-use Rattle.std.proofs.Common.{ap, subst, append_assoc}
+use Rattle.std.proofs.Common.{◌≡◌, inl, inr, ℕ, List, [], ◌∷◌, Result, Ok, Err, IsErr, sym, ◌∙◌}
+use Rattle.std.proofs.Common.{ap, subst}
 use Rattle.durable_file.specs.declared.medium.Name.TheVariants.{Next}
 use Rattle.durable_file.specs.Disk.{Content, Synced, Written, Torn, Disk, with_content, renamed, settled, LeavesOnly}
-use Rattle.durable_file.specs.Calls.{Told, Passes, HasWritten, HasSynced, HasRenamed, HasSyncedFolder, with_synced, with_lost}
+use Rattle.durable_file.specs.Calls.{Told, HasWritten, HasSynced, HasRenamed, HasSyncedFolder, with_synced, with_lost}
 use Rattle.durable_file.specs.Replaced.{IsWhole, StaysWhole, HasReplaced}
 use Rattle.durable_file.proofs.Going.{starts, goes_on}
 

@@ -1,5 +1,5 @@
 -- A medium in memory.
-use Rattle.std.specs.Prelude.{◌≡◌, ℕ, ◌-◌, ◌^◌, Option, Some, None, option_map, List, [], ◌∷◌, map, slice_get}
+use Rattle.std.specs.Prelude.{ℕ, ◌-◌, ◌^◌, Option, Some, None, option_map, List, [], ◌∷◌, map, slice_get}
 use Rattle.durable_file.specs.Disk.{Content, Absent, Written, Synced, Torn, Disk}
 use Rattle.durable_file.specs.Calls.{Told}
 use Rattle.durable_file.specs.declared.memory.Stored.{Stored}
