@@ -1,4 +1,4 @@
-// All shards at once.
+// All shards, at once or in turn.
 ghost use Rattle.std.specs.Prelude.{◌≡◌, ℕ, ◌≤◌, ◌<◌, false, is_err, length, slice_index_or, All};
 ghost use Rattle.edge_stream.specs.Shards.{edges_in_shard};
 ghost use Rattle.shard_apply.specs.Stepping.{CanStep, HasStepped};
@@ -12,8 +12,67 @@ use std::alloc::Global;
 use std::thread;
 use std::thread::Threads;
 
-/// One step of all shards, each in a thread where one can be made.
+/// One step of all shards: each in a thread where one can be made, or with few edges one after another.
 pub(crate) fn step_shards<R: Threads + Sync, G: Gate, O: Operator>(
+    rt: &R,
+    gate: &G,
+    shards: &mut [Shard<O>],
+    cut: &Cut<'_>,
+    news: &News<'_>,
+)
+    requires can { All (λ s. CanStep (O.standing s.operator) s.pools.capacity
+        cut.now.count cut.now.left_key.now cut.now.right_key.now
+        news.now.left.now news.now.right.now news.now.left_to news.now.right_to) shards.old }
+    ensures stepped { (i : ℕ) (d : Shard O) → i < length shards.old →
+        HasStepped (O.standing (slice_index_or shards.old i d).operator)
+        (O.standing (slice_index_or shards.new i d).operator)
+        (O.keeps (slice_index_or shards.old i d).operator)
+        (O.keeps (slice_index_or shards.new i d).operator)
+        (edges_in_shard cut.now.count cut.now.left_key.now i news.now.left.now.edges)
+        (edges_in_shard cut.now.count cut.now.right_key.now i news.now.right.now.edges)
+        news.now.left_to news.now.right_to (slice_index_or shards.new i d).answer }
+    ensures pools { (i : ℕ) (d : Shard O) → i < length shards.old →
+        (slice_index_or shards.new i d).pools.capacity
+        ≡ (slice_index_or shards.old i d).pools.capacity }
+{
+    let edges = news.left.len().saturating_add(news.right.len());
+    if edges < gate.fewest_edges() {
+        step_in_turn(gate, shards, cut, news);
+    } else {
+        step_beside(rt, gate, shards, cut, news);
+    }
+}
+
+// One step of all shards, one after another.
+fn step_in_turn<G: Gate, O: Operator>(
+    gate: &G,
+    shards: &mut [Shard<O>],
+    cut: &Cut<'_>,
+    news: &News<'_>,
+)
+    requires can { All (λ s. CanStep (O.standing s.operator) s.pools.capacity
+        cut.now.count cut.now.left_key.now cut.now.right_key.now
+        news.now.left.now news.now.right.now news.now.left_to news.now.right_to) shards.old }
+    ensures stepped { (i : ℕ) (d : Shard O) → i < length shards.old →
+        HasStepped (O.standing (slice_index_or shards.old i d).operator)
+        (O.standing (slice_index_or shards.new i d).operator)
+        (O.keeps (slice_index_or shards.old i d).operator)
+        (O.keeps (slice_index_or shards.new i d).operator)
+        (edges_in_shard cut.now.count cut.now.left_key.now i news.now.left.now.edges)
+        (edges_in_shard cut.now.count cut.now.right_key.now i news.now.right.now.edges)
+        news.now.left_to news.now.right_to (slice_index_or shards.new i d).answer }
+    ensures pools { (i : ℕ) (d : Shard O) → i < length shards.old →
+        (slice_index_or shards.new i d).pools.capacity
+        ≡ (slice_index_or shards.old i d).pools.capacity }
+{
+    for i in 0..shards.len() {
+        gate.enter(i);
+        shards[i].step(i, cut, news);
+    }
+}
+
+// One step of all shards, each in a thread where one can be made.
+fn step_beside<R: Threads + Sync, G: Gate, O: Operator>(
     rt: &R,
     gate: &G,
     shards: &mut [Shard<O>],
@@ -53,7 +112,7 @@ pub(crate) fn step_shards<R: Threads + Sync, G: Gate, O: Operator>(
             ensures pools { shard.new.pools.capacity ≡ shard.old.pools.capacity }
         {
             gate.enter(i);
-            shard.answer = shard.take(i, cut, news);
+            shard.step(i, cut, news);
         },
     );
 }

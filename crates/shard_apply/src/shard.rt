@@ -118,6 +118,21 @@ impl<O: Operator> Shard<O> {
             .step(&mut self.pools, left, right, news.left_to, news.right_to)
     }
 
+    /// The same, and keeps what it answered.
+    pub(crate) fn step(&mut self, number: usize, cut: &Cut<'_>, news: &News<'_>)
+        requires can { CanStep (O.standing self.old.operator) self.old.pools.capacity
+            cut.now.count cut.now.left_key.now cut.now.right_key.now
+            news.now.left.now news.now.right.now news.now.left_to news.now.right_to }
+        ensures stepped { HasStepped (O.standing self.old.operator) (O.standing self.new.operator)
+            (O.keeps self.old.operator) (O.keeps self.new.operator)
+            (edges_in_shard cut.now.count cut.now.left_key.now number news.now.left.now.edges)
+            (edges_in_shard cut.now.count cut.now.right_key.now number news.now.right.now.edges)
+            news.now.left_to news.now.right_to self.new.answer }
+        ensures pools { self.new.pools.capacity ≡ self.old.pools.capacity }
+    {
+        self.answer = self.take(number, cut, news);
+    }
+
     /// Takes the edges of the rounds that belong to the shard of that number, in turn, up to the first fault.
     pub(crate) fn take_rounds(
         &mut self,
