@@ -7,5 +7,7 @@ pub mod Taken
 pub mod Faults
 pub mod Spelled
 pub mod Same
+pub mod Once
+pub mod Clash
 pub mod Printed
 mod Examples

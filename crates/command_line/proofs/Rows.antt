@@ -29,6 +29,15 @@ no_row_left id change missing (r ∷ rows) e = go (bytes_eq r.id id) (no_row_lef
     go true rec x = absurd (true≢false x)
     go false rec x = ap (λ t. r ∷ t) (rec x)
 
+-- no row of an id is found where there is none
+pub none_found : (id : Text) (rows : List Row) → has_row id rows ≡ false → find (λ r. bytes_eq r.id id) rows ≡ None
+none_found id [] e = refl
+none_found id (r ∷ rows) e = go (bytes_eq r.id id) (none_found id rows) e
+  where
+    go : (b : Bool) → (has_row id rows ≡ false → find (λ r. bytes_eq r.id id) rows ≡ None) → (b || has_row id rows) ≡ false → cond b (Some r) (find (λ r. bytes_eq r.id id) rows) ≡ None
+    go true rec x = absurd (true≢false x)
+    go false rec x = rec x
+
 new_row : Text → Reading → ValueSource → List Text → Row
 new_row id how s values = record { id = id; values = values; count = None; source = Some s; reading = how }
 

@@ -1,16 +1,17 @@
 -- Words that are taken give each option a value that passes.
-use Rattle.std.proofs.Common.{◌≡◌, true, false, inl, inr, refl, sym, subst, true≢false, List, [], ◌∷◌, codes, length, map, nat_le, ◌++◌}
+use Rattle.std.proofs.Common.{◌≡◌, ◌⊎◌, Bool, None, true, false, inl, inr, refl, sym, ap, subst, true≢false, List, [], ◌∷◌, codes, length, map, nat_le, ◌++◌}
+use Rattle.std.specs.Prelude.{option_and_then, slice_get}
 use Rattle.std.specs.List.{fold}
-use Rattle.clap.specs.Walk.{Row, Rule, Text, finished, has_row, nothing_held, reading_by, settled_rows, used, walk, walk_from, with_default}
+use Rattle.clap.specs.Walk.{Row, Rule, Text, finished, first_of, has_row, nothing_held, reading_by, settled_rows, used, walk, walk_from, with_default}
 use Rattle.clap.specs.Simple.{Shape, built, filled, help_rule, with_index}
 use Rattle.clap.specs.Takes.{is_given, settle_passes, use_passes, walk_passes}
 use Rattle.clap.specs.declared.builder.value_parser.ValueParser.{ValueParser}
 use Rattle.clap.specs.declared.builder.value_parser.Reading.TheVariants as reading
 use Rattle.clap.proofs.WalkLemmas.{both}
-use Rattle.command_line.specs.Options.{among, batch_rule, events_rule, header_rule, late_names, late_rule, lateness_rule, mode_names, mode_rule, number_rule, option_rules, punctuate_rule, query_rule, tempo_app_with, workers_rule}
+use Rattle.command_line.specs.Options.{among, batch_rule, checkpoint_rule, events_rule, every_rule, header_rule, input_rule, late_names, late_rule, lateness_rule, mode_names, mode_rule, number_rule, option_rules, output_rule, punctuate_rule, query_rule, tempo_app_with, workers_rule}
 use Rattle.command_line.proofs.Distinct.{Each, are_distinct, defaults_keep, each_in, one_of_id, row_by_default}
 use Rattle.command_line.proofs.Kept.{IsIn, settling_keeps, walk_keeps}
-use Rattle.command_line.proofs.Rows.{AllFit, Reads, default_fits, flag_use, given_has, no_default, reads_of, row_found, set_use}
+use Rattle.command_line.proofs.Rows.{AllFit, Reads, default_fits, flag_use, given_has, no_default, none_found, reads_of, row_found, set_use}
 
 -- ---- the command as clap builds it
 
@@ -52,6 +53,18 @@ number_built = built_rule number_rule
 
 abbrev pub events_built : Rule
 events_built = built_rule events_rule
+
+abbrev pub checkpoint_built : Rule
+checkpoint_built = built_rule checkpoint_rule
+
+abbrev pub every_built : Rule
+every_built = built_rule every_rule
+
+abbrev pub input_built : Rule
+input_built = built_rule input_rule
+
+abbrev pub output_built : Rule
+output_built = built_rule output_rule
 
 abbrev pub help_built : Rule
 help_built = built_rule help_rule
@@ -99,6 +112,18 @@ of_number = inr (inr (inr (inr (inr (inr (inr (inr (inl refl))))))))
 of_events : IsIn events_built tempo_rules
 of_events = inr (inr (inr (inr (inr (inr (inr (inr (inr (inl refl)))))))))
 
+of_checkpoint : IsIn checkpoint_built tempo_rules
+of_checkpoint = inr (inr (inr (inr (inr (inr (inr (inr (inr (inr (inl refl))))))))))
+
+of_every : IsIn every_built tempo_rules
+of_every = inr (inr (inr (inr (inr (inr (inr (inr (inr (inr (inr (inl refl)))))))))))
+
+of_input : IsIn input_built tempo_rules
+of_input = inr (inr (inr (inr (inr (inr (inr (inr (inr (inr (inr (inr (inl refl))))))))))))
+
+of_output : IsIn output_built tempo_rules
+of_output = inr (inr (inr (inr (inr (inr (inr (inr (inr (inr (inr (inr (inr (inl refl)))))))))))))
+
 -- ---- one use, and one default: a line for each option
 
 Uses : Rule → Type 0
@@ -133,8 +158,20 @@ uses = (
                   (
                     set_use tempo_rules events_built of_events,
                     (
-                      (λ vs rows p k. absurd (by_help vs rows p)),
-                      tt,
+                      set_use tempo_rules checkpoint_built of_checkpoint,
+                      (
+                        set_use tempo_rules every_built of_every,
+                        (
+                          set_use tempo_rules input_built of_input,
+                          (
+                            set_use tempo_rules output_built of_output,
+                            (
+                              (λ vs rows p k. absurd (by_help vs rows p)),
+                              tt,
+                            ),
+                          ),
+                        ),
+                      ),
                     ),
                   ),
                 ),
@@ -180,8 +217,20 @@ keeps = (
                   (
                     default_fits tempo_rules events_built of_events (codes "1000") refl refl,
                     (
-                      keeps_none help_built refl,
-                      tt,
+                      keeps_none checkpoint_built refl,
+                      (
+                        default_fits tempo_rules every_built of_every (codes "1") refl refl,
+                        (
+                          default_fits tempo_rules input_built of_input (codes "-") refl refl,
+                          (
+                            default_fits tempo_rules output_built of_output (codes "-") refl refl,
+                            (
+                              keeps_none help_built refl,
+                              tt,
+                            ),
+                          ),
+                        ),
+                      ),
                     ),
                   ),
                 ),
@@ -220,7 +269,11 @@ rows_fit words p =
 apart : are_distinct tempo_rules ≡ true
 apart = refl
 
--- each option has a value that passes
+-- the option has a value that passes, or none
+abbrev pub MayRead : Rule → Text → List Row → Type 0
+MayRead a id rows = (first_of id rows ≡ None) ⊎ Reads a id rows
+
+-- each option has a value that passes, but --checkpoint may have none
 pub record Values (rows : List Row) : Type 0 where
   pub query : Reads query_built (codes "query") rows
   pub mode : Reads mode_built (codes "mode") rows
@@ -232,9 +285,20 @@ pub record Values (rows : List Row) : Type 0 where
   pub punctuate : Reads punctuate_built (codes "punctuate") rows
   pub number : Reads number_built (codes "number") rows
   pub events : Reads events_built (codes "events") rows
+  pub checkpoint : MayRead checkpoint_built (codes "checkpoint") rows
+  pub every : Reads every_built (codes "every") rows
+  pub input : Reads input_built (codes "input") rows
+  pub output : Reads output_built (codes "output") rows
 
 value_of_rule : (a : Rule) → IsIn a tempo_rules → reading_by a ≡ reading.AsWritten → (rows : List Row) → K rows → has_row a.id rows ≡ true → Reads a a.id rows
 value_of_rule a of plain rows k has = reads_of tempo_rules a a.id rows (λ x in_ same. one_of_id tempo_rules apart x a in_ of same) plain (row_found tempo_rules a.id rows k has)
+
+may_read : (a : Rule) → IsIn a tempo_rules → reading_by a ≡ reading.AsWritten → (rows : List Row) → K rows → MayRead a a.id rows
+may_read a of plain rows k = go (has_row a.id rows) refl
+  where
+    go : (b : Bool) → has_row a.id rows ≡ b → MayRead a a.id rows
+    go true has = inr (value_of_rule a of plain rows k has)
+    go false none = inl (ap (option_and_then (λ (r : Row). slice_get r.values 0)) (none_found a.id rows none))
 
 pub values_of_words : (words : List Text) → Passes tempo_shape words → Values (last_rows tempo_shape words)
 values_of_words words p =
@@ -253,4 +317,8 @@ values_of_words words p =
       punctuate = value_of_rule punctuate_built of_punctuate refl rows k (row_by_default punctuate_built (codes "0") refl refl tempo_rules of_punctuate before);
       number = value_of_rule number_built of_number refl rows k (row_by_default number_built (codes "0") refl refl tempo_rules of_number before);
       events = value_of_rule events_built of_events refl rows k (row_by_default events_built (codes "1000") refl refl tempo_rules of_events before);
+      checkpoint = may_read checkpoint_built of_checkpoint refl rows k;
+      every = value_of_rule every_built of_every refl rows k (row_by_default every_built (codes "1") refl refl tempo_rules of_every before);
+      input = value_of_rule input_built of_input refl rows k (row_by_default input_built (codes "-") refl refl tempo_rules of_input before);
+      output = value_of_rule output_built of_output refl rows k (row_by_default output_built (codes "-") refl refl tempo_rules of_output before);
     }

@@ -70,9 +70,31 @@ number_rule = record (option_rule (codes "number")) { parser = Some (vp.Unsigned
 abbrev pub events_rule : Rule
 events_rule = record (option_rule (codes "events")) { parser = Some (vp.Unsigned 1 1000000); defaults = codes "1000" ∷ [] }
 
+-- --checkpoint: the file that keeps the state of a run, of which the name is not empty: --checkpoint state; none where it does not stand
+abbrev pub checkpoint_rule : Rule
+checkpoint_rule = record (option_rule (codes "checkpoint")) { parser = Some vp.NonEmptyString }
+
+-- --every: how many units of time are between two checkpoints at least, from 1 to 2^60 - 1; 1 where it does not stand: --every 60
+abbrev pub every_rule : Rule
+every_rule = record (option_rule (codes "every")) { parser = Some (vp.Unsigned 1 1152921504606846975); defaults = codes "1" ∷ [] }
+
+-- a file by a name that is not empty; - where it does not stand, which is the standard one: --input lines.csv
+abbrev pub file_rule : Text → Rule
+file_rule name = record (option_rule name) { parser = Some vp.NonEmptyString; defaults = codes "-" ∷ [] }
+
+-- --input: where lines come from
+abbrev pub input_rule : Rule
+input_rule = file_rule (codes "input")
+
+-- --output: where lines go to
+abbrev pub output_rule : Rule
+output_rule = file_rule (codes "output")
+
 -- the options, where the values of --mode and of --late are given by parsers
 abbrev pub option_rules : ValueParser → ValueParser → List Rule
-option_rules modes ways = query_rule ∷ mode_rule modes ∷ batch_rule ∷ workers_rule ∷ header_rule ∷ late_rule ways ∷ lateness_rule ∷ punctuate_rule ∷ number_rule ∷ events_rule ∷ []
+option_rules modes ways =
+    query_rule ∷ mode_rule modes ∷ batch_rule ∷ workers_rule ∷ header_rule ∷ late_rule ways ∷ lateness_rule ∷ punctuate_rule ∷ number_rule ∷ events_rule
+    ∷ checkpoint_rule ∷ every_rule ∷ input_rule ∷ output_rule ∷ []
 
 -- the command tempo with its options; clap adds --help itself
 abbrev pub tempo_app_with : ValueParser → ValueParser → App

@@ -6,4 +6,4 @@ mod options;
 mod words;
 
 pub use laws::{commands_have_words, taken_words_spell_a_command, words_spell_one_command};
-pub use words::{CommandLine, Mode, WordsFault, read_words};
+pub use words::{CommandLine, Keeping, Mode, WordsFault, read_words};

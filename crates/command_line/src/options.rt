@@ -3,7 +3,8 @@ ghost use Rattle.std.specs.Prelude.{◌≡◌, ◌∷◌, [], IfOk, List, codes,
 ghost use Rattle.std.specs.Borrow.{Bor};
 ghost use Rattle.clap.specs.Words.{Text, app_of, new_app, rule_of};
 ghost use Rattle.clap.specs.declared.builder.value_parser.ValueParser.TheVariants.{Names};
-ghost use Rattle.command_line.specs.Options.{batch_rule, events_rule, header_rule, late_names};
+ghost use Rattle.command_line.specs.Options.{batch_rule, checkpoint_rule, events_rule, every_rule};
+ghost use Rattle.command_line.specs.Options.{header_rule, input_rule, late_names, output_rule};
 ghost use Rattle.command_line.specs.Options.{late_rule, lateness_rule, mode_names, mode_rule};
 ghost use Rattle.command_line.specs.Options.{number_rule, punctuate_rule, query_rule, workers_rule};
 ghost use Rattle.command_line.specs.Options.{tempo_app_with};
@@ -140,6 +141,55 @@ fn events_option<'a>(alloc: Global) -> Arg<'a>
         .help("How many events are generated")
 }
 
+fn checkpoint_option<'a>(alloc: Global) -> Arg<'a>
+    ensures rule { rule_of result ≡ checkpoint_rule }
+    ensures local { result.global ≡ false }
+{
+    Arg::new(alloc, "checkpoint")
+        .long("checkpoint")
+        .action(ArgAction::Set)
+        .value_parser(ValueParser::NonEmptyString)
+        .help(
+            "The file that keeps the state of the run, which goes on from it when it starts again",
+        )
+}
+
+fn every_option<'a>(alloc: Global) -> Arg<'a>
+    ensures rule { rule_of result ≡ every_rule }
+    ensures local { result.global ≡ false }
+{
+    Arg::new(alloc, "every")
+        .long("every")
+        .action(ArgAction::Set)
+        .value_parser(ValueParser::unsigned(1, LATEST))
+        .default_value("1")
+        .help("How many units of time are between two checkpoints at least")
+}
+
+fn input_option<'a>(alloc: Global) -> Arg<'a>
+    ensures rule { rule_of result ≡ input_rule }
+    ensures local { result.global ≡ false }
+{
+    Arg::new(alloc, "input")
+        .long("input")
+        .action(ArgAction::Set)
+        .value_parser(ValueParser::NonEmptyString)
+        .default_value("-")
+        .help("With a checkpoint: the file that lines come from, or - for standard input")
+}
+
+fn output_option<'a>(alloc: Global) -> Arg<'a>
+    ensures rule { rule_of result ≡ output_rule }
+    ensures local { result.global ≡ false }
+{
+    Arg::new(alloc, "output")
+        .long("output")
+        .action(ArgAction::Set)
+        .value_parser(ValueParser::NonEmptyString)
+        .default_value("-")
+        .help("With a checkpoint: the file that the answer goes to, or - for standard output")
+}
+
 fn bare_command<'a>(alloc: Global) -> Command<'a>
     ensures { app_of result ≡ new_app (codes "tempo") }
 {
@@ -162,5 +212,9 @@ pub(crate) fn tempo_command<'a>(alloc: Global) -> Result<Command<'a>, AllocError
         .arg(lateness_option(alloc))?
         .arg(punctuate_option(alloc))?
         .arg(number_option(alloc))?
-        .arg(events_option(alloc))
+        .arg(events_option(alloc))?
+        .arg(checkpoint_option(alloc))?
+        .arg(every_option(alloc))?
+        .arg(input_option(alloc))?
+        .arg(output_option(alloc))
 }

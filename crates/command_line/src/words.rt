@@ -1,16 +1,18 @@
 // The words, and what they ask for.
-ghost use Rattle.std.specs.Prelude.{◌≡◌, ℕ, Bool, IfErr, IfOk, Some, List, codes, map, true};
+ghost use Rattle.std.specs.Prelude.{◌≡◌, ℕ, Bool, IfErr, IfOk, Option, Some, List, codes, map, true, is_none, option_map};
 ghost use Rattle.clap.specs.Words.{Text, found_of, kind_of, matches_of, one_text, first_value, rows_of};
 ghost use Rattle.clap.specs.Values.{bool_text};
 ghost use Rattle.command_line.specs.Options.{tempo_app};
 ghost use Rattle.command_line.specs.Words.{AreWithin, Asked, HasCause, ShowsCommand, ShowsNumber};
-ghost use Rattle.command_line.specs.Words.{SpellsCommand, are_taken, asked_by, late_text};
-ghost use Rattle.command_line.specs.Words.{mode_text};
+ghost use Rattle.command_line.specs.Words.{Kept, ShowsKeeping, SpellsCommand, are_read, are_taken};
+ghost use Rattle.command_line.specs.Words.{asked_by, go_together, is_run, is_said, kept_by, late_text};
+ghost use Rattle.command_line.specs.Words.{mode_text, stands};
 ghost use Rattle.admission.specs.declared.policy.Lateness.{Lateness as SomeLateness};
 
 use crate::options::tempo_command;
 use admission::{Lateness, Policy};
 use clap::error::ErrorKind;
+use clap::parser::ValueSource;
 use clap::{ArgMatches, Error};
 use std::alloc::{AllocError, Global};
 
@@ -31,6 +33,19 @@ pub enum Mode {
     Sample,
 }
 
+/// Where a run keeps its state, so that it goes on from there when it is started again.
+#[derive(Clone, Copy, Debug, PartialEq, Eq)]
+pub struct Keeping<'a> {
+    /// The file of the last checkpoint.
+    pub checkpoint: &'a str,
+    /// How many units of time are between two checkpoints at least.
+    pub every: u64,
+    /// The file that lines come from, or `-` for standard input.
+    pub input: &'a str,
+    /// The file that the answer goes to, or `-` for standard output.
+    pub output: &'a str,
+}
+
 /// What the words ask for. The query is a part of the words.
 #[derive(Clone, Copy, Debug, PartialEq, Eq)]
 pub struct CommandLine<'a> {
@@ -48,6 +63,8 @@ pub struct CommandLine<'a> {
     pub number: u64,
     /// How many events are generated.
     pub events: u64,
+    /// Where the state of the run is kept, which may be in the mode Run alone.
+    pub keeping: Option<Keeping<'a>>,
 }
 
 /// Why words give no command line.
@@ -60,11 +77,10 @@ pub enum WordsFault {
     Memory,
 }
 
-fn query_of<'a>(matches: &ArgMatches<'a>) -> &'a str
-    ensures { (q : Text) → first_value (found_of matches.now) (codes "query") ≡ Some q →
-        result.now ≡ q }
+fn text_of<'a>(matches: &ArgMatches<'a>, name: &str) -> &'a str
+    ensures { (t : Text) → first_value (found_of matches.now) name.now ≡ Some t → result.now ≡ t }
 {
-    matches.get_str("query").unwrap_or("")
+    matches.get_str(name).unwrap_or("")
 }
 
 fn header_of(matches: &ArgMatches<'_>) -> bool
@@ -123,12 +139,25 @@ fn policy_of(matches: &ArgMatches<'_>) -> Policy
     }
 }
 
-// What the matches of a parse show. Each option has a value there.
+fn keeping_of<'a>(matches: &ArgMatches<'a>) -> Option<Keeping<'a>>
+    ensures { (k : Option Kept) → ShowsKeeping (found_of matches.now) k →
+        option_map kept_by result ≡ k }
+{
+    let checkpoint = matches.get_str("checkpoint")?;
+    Some(Keeping {
+        checkpoint,
+        every: number_of(matches, "every"),
+        input: text_of(matches, "input"),
+        output: text_of(matches, "output"),
+    })
+}
+
+// What the matches of a parse show. Each option has a value there, but --checkpoint.
 fn command_of<'a>(matches: &ArgMatches<'a>) -> CommandLine<'a>
     ensures { (a : Asked) → ShowsCommand (found_of matches.now) a → asked_by result ≡ a }
 {
     CommandLine {
-        query: query_of(matches),
+        query: text_of(matches, "query"),
         mode: mode_of(matches),
         batch: size_of(matches, "batch"),
         workers: size_of(matches, "workers"),
@@ -136,11 +165,12 @@ fn command_of<'a>(matches: &ArgMatches<'a>) -> CommandLine<'a>
         policy: policy_of(matches),
         number: number_of(matches, "number"),
         events: number_of(matches, "events"),
+        keeping: keeping_of(matches),
     }
 }
 
 fn match_words<'a>(alloc: Global, words: &'a [&'a str]) -> Result<ArgMatches<'a>, Error>
-    ensures taken { IfOk result (λ _. are_taken (map (λ w. w.now) words.now) ≡ true) }
+    ensures taken { IfOk result (λ _. are_read (map (λ w. w.now) words.now) ≡ true) }
     ensures matches { IfOk result (λ m. rows_of (found_of m)
         ≡ matches_of tempo_app (map (λ w. w.now) words.now)) }
     ensures refused { IfErr result (λ e. are_taken (map (λ w. w.now) words.now) ≡ true →
@@ -163,6 +193,48 @@ fn fault_of(alloc: Global, error: &Error) -> WordsFault
     }
 }
 
+fn is_said(source: Option<ValueSource>) -> bool
+    ensures { result ≡ is_said source }
+{
+    match source {
+        Some(ValueSource::CommandLine) => true,
+        Some(ValueSource::DefaultValue) => false,
+        None => false,
+    }
+}
+
+// Whether the words give the option its value.
+fn stands(matches: &ArgMatches<'_>, name: &str) -> bool
+    ensures { result ≡ stands name.now (rows_of (found_of matches.now)) }
+{
+    is_said(matches.value_source(name))
+}
+
+fn is_run(matches: &ArgMatches<'_>) -> bool
+    ensures { result ≡ is_run (first_value (found_of matches.now) (codes "mode")) }
+{
+    match matches.get_str("mode") {
+        Some(mode) => mode == "run",
+        None => false,
+    }
+}
+
+// What is told of options that do not go together.
+fn clash(matches: &ArgMatches<'_>) -> Option<&'static str>
+    ensures { is_none result ≡ go_together (rows_of (found_of matches.now)) }
+{
+    if matches.get_str("checkpoint").is_some() {
+        if is_run(matches) {
+            return None;
+        }
+        return Some("error: --checkpoint goes with the mode run\n");
+    }
+    if stands(matches, "every") || stands(matches, "input") || stands(matches, "output") {
+        return Some("error: --every, --input and --output go with --checkpoint\n");
+    }
+    None
+}
+
 /// What the words, of which the first is the program's name, ask for.
 pub fn read_words<'a>(alloc: Global, words: &'a [&'a str]) -> Result<CommandLine<'a>, WordsFault>
     ensures spelled { IfOk result (λ c. SpellsCommand (map (λ w. w.now) words.now) (asked_by c)) }
@@ -170,7 +242,12 @@ pub fn read_words<'a>(alloc: Global, words: &'a [&'a str]) -> Result<CommandLine
     ensures refused { IfErr result (HasCause (map (λ w. w.now) words.now)) }
 {
     match match_words(alloc, words) {
-        Ok(matches) => Ok(command_of(&matches)),
+        Ok(matches) => match clash(&matches) {
+            Some(text) => Err(WordsFault::Refused {
+                text: String::from_str(alloc, text).ok(),
+            }),
+            None => Ok(command_of(&matches)),
+        },
         Err(error) => Err(fault_of(alloc, &error)),
     }
 }
