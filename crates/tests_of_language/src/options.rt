@@ -1,6 +1,6 @@
 // Words against what they ask for.
 use admission::{Lateness, Policy};
-use command_line::{CommandLine, Mode, read_words};
+use command_line::{CommandLine, Keeping, Mode, read_words};
 
 /// What the query `q` alone asks for.
 const PLAIN: CommandLine<'static> = CommandLine {
@@ -16,10 +16,19 @@ const PLAIN: CommandLine<'static> = CommandLine {
     },
     number: 0,
     events: 1000,
+    keeping: None,
+};
+
+/// What the query `q` with the checkpoint `state` asks for.
+const KEPT: Keeping<'static> = Keeping {
+    checkpoint: "state",
+    every: 1,
+    input: "-",
+    output: "-",
 };
 
 /// Words, with `|` between each two, with what they ask for, or nothing where they are refused.
-static WORDS: [(&str, Option<CommandLine<'static>>); 48] = [
+static WORDS: [(&str, Option<CommandLine<'static>>); 60] = [
     ("tempo|--query|q", Some(PLAIN)),
     ("tempo|--query|", Some(CommandLine { query: "", ..PLAIN })),
     ("tempo|--query=", Some(CommandLine { query: "", ..PLAIN })),
@@ -121,6 +130,35 @@ static WORDS: [(&str, Option<CommandLine<'static>>); 48] = [
             ..PLAIN
         }),
     ),
+    (
+        "tempo|--query|q|--checkpoint|state",
+        Some(CommandLine {
+            keeping: Some(KEPT),
+            ..PLAIN
+        }),
+    ),
+    (
+        "tempo|--checkpoint=state|--every=60|--query|q|--mode|run|--input|in.csv|--output=-o",
+        Some(CommandLine {
+            keeping: Some(Keeping {
+                every: 60,
+                input: "in.csv",
+                output: "-o",
+                ..KEPT
+            }),
+            ..PLAIN
+        }),
+    ),
+    (
+        "tempo|--query|q|--checkpoint|state|--every|1152921504606846975|--input|-",
+        Some(CommandLine {
+            keeping: Some(Keeping {
+                every: 1152921504606846975,
+                ..KEPT
+            }),
+            ..PLAIN
+        }),
+    ),
     ("--query|--query|q", Some(PLAIN)),
     ("tempo", None),
     ("tempo|--query", None),
@@ -136,6 +174,15 @@ static WORDS: [(&str, Option<CommandLine<'static>>); 48] = [
     ("tempo|--query|q|--events|0", None),
     ("tempo|--query|q|--events|1000001", None),
     ("tempo|--query|q|--mode|Run", None),
+    ("tempo|--query|q|--mode|keep|--checkpoint|state", None),
+    ("tempo|--query|q|--mode|explain|--checkpoint|state", None),
+    ("tempo|--query|q|--checkpoint|", None),
+    ("tempo|--query|q|--checkpoint|a|--checkpoint|b", None),
+    ("tempo|--query|q|--checkpoint|state|--every|0", None),
+    ("tempo|--query|q|--checkpoint|state|--input=", None),
+    ("tempo|--query|q|--every|1", None),
+    ("tempo|--query|q|--input|in.csv", None),
+    ("tempo|--query|q|--output|-", None),
     ("tempo|--query|q|--late|late", None),
     ("tempo|--query|q|--lateness|1152921504606846976", None),
     ("tempo|--query|q|--punctuate|-1", None),
