@@ -20,8 +20,8 @@ use Rattle.row_reader.proofs.Numbers.{number_of-spelled, number_of-is, same_text
 use Rattle.frozen_state.specs.declared.owner.Owner.{Owner}
 use Rattle.checkpoint_lines.specs.declared.owner.EntryPart.{EntryPart}
 use Rattle.checkpoint_lines.specs.declared.entry.EntryLine.{EntryLine}
-use Rattle.checkpoint_lines.specs.Lines.{line_of, time_line, bound_line, text_line, owner_text, datum_text, entry_fields, line_of_entry, part_of_entry, IsTimes, IsBound, IsText, IsOwner, IsEntry}
-use Rattle.checkpoint_lines.specs.Reading.{is_break, instant_of, pair_of, time_of, bound_of, text_of, owner_of, all_three, part_of, times_of, cells_of, all_parts, entry_by, entry_of}
+use Rattle.checkpoint_lines.specs.Lines.{line_of, time_line, bound_line, input_line, output_line, text_line, owner_text, datum_text, entry_fields, line_of_entry, part_of_entry, IsTimes, IsBound, IsText, IsOwner, IsEntry}
+use Rattle.checkpoint_lines.specs.Reading.{is_break, instant_of, pair_of, time_of, bound_of, single_of, input_of, output_of, text_of, owner_of, all_three, part_of, times_of, cells_of, all_parts, entry_by, entry_of}
 use Rattle.checkpoint_lines.proofs.Commas.{neither, bare_word, commas-line, line-commas}
 use Rattle.checkpoint_lines.proofs.Spelling.{number_back, decimal_bare, time_bare, instant_back, instant_is, owner_back, owner_is, owner_bare, cells_back, cells_bare, cells_are}
 
@@ -80,6 +80,43 @@ bound_both line n p = (
       ),
   λ h. ap bound_of h.1 ∙ pair_back (codes "#bound") (time_text n) (time_text p) instant_of n p (bare_word (codes "#bound") refl) (time_bare n) (time_bare p) (instant_back n h.0.0) (instant_back p h.0.1),
 )
+
+-- LINES OF ONE NUMBER
+record IsSingle (word : List ℕ) (fs : List (List ℕ)) (n : ℕ) : Type 0 where
+  a : List ℕ
+  fields : fs ≡ word ∷ a ∷ []
+  one : number_of (2 ^ 64) a ≡ Some n
+
+single_by : (word w a : List ℕ) (q : Bool) (n : ℕ) → same_text w word ≡ q → cond q (number_of (2 ^ 64) a) None ≡ Some n → IsSingle word (w ∷ a ∷ []) n
+single_by word w a true n e h = let is = (same_text-Decides w word).0 e in record { a = a; fields = λ i. is i ∷ a ∷ []; one = h }
+single_by word w a false n e h = absurd (cc)
+
+single_is : (word : List ℕ) (fs : List (List ℕ)) (n : ℕ) → single_of word fs ≡ Some n → IsSingle word fs n
+single_is word [] n h = absurd (cc)
+single_is word (w ∷ []) n h = absurd (cc)
+single_is word (w ∷ a ∷ []) n h = single_by word w a (same_text w word) n refl h
+single_is word (w ∷ a ∷ b ∷ fs) n h = absurd (cc)
+
+single_back : (word : List ℕ) (n : ℕ) → NoComma word → n < 2 ^ 64 → single_of word (commas (line_of word (decimal n ∷ []))) ≡ Some n
+single_back word n bare low =
+    let same : same_text word word ≡ true = (same_text-Decides word word).1 refl in
+    ap (single_of word) (commas-line word (decimal n ∷ []) bare (decimal_bare n low, tt)) ∙ rw (same, number_back n low) refl
+
+single_both : (word line : List ℕ) (n : ℕ) → NoComma word → (single_of word (commas line) ≡ Some n) ↔ ((n < 2 ^ 64) × (line ≡ line_of word (decimal n ∷ [])))
+single_both word line n bare = (
+  λ h. (
+      let f = single_is word (commas line) n h in
+      let one = number_of-is (2 ^ 64) f.a n f.one in
+      (one.0, line-commas line _ _ f.fields ∙ (λ i. line_of word (one.1 i ∷ [])))
+      ),
+  λ h. ap (λ (l : List ℕ). single_of word (commas l)) h.1 ∙ single_back word n bare h.0,
+)
+
+pub input_both : (line : List ℕ) (n : ℕ) → (input_of line ≡ Some n) ↔ ((n < 2 ^ 64) × (line ≡ input_line n))
+input_both line n = single_both (codes "#input") line n (bare_word (codes "#input") refl)
+
+pub output_both : (line : List ℕ) (n : ℕ) → (output_of line ≡ Some n) ↔ ((n < 2 ^ 64) × (line ≡ output_line n))
+output_both line n = single_both (codes "#output") line n (bare_word (codes "#output") refl)
 
 -- TEXTS
 none_at : (xs : List ℕ) → list_any is_break xs ≡ false → (n d : ℕ) → n < length xs → is_break (get_or xs n d) ≡ false

@@ -11,8 +11,8 @@ use Rattle.admission.specs.declared.policy.Lateness.TheVariants.{Refuse}
 use Rattle.admission.specs.declared.policy.Policy.{Policy}
 use Rattle.edge_stream.specs.declared.saved.SavedEntry.{SavedEntry}
 use Rattle.frozen_state.specs.declared.owner.Owner.TheVariants.{In, Node, Out}
-use Rattle.checkpoint_lines.specs.Lines.{query_line, options_line, time_line, bound_line, text_line, entry_line}
-use Rattle.checkpoint_lines.specs.Reading.{time_of, bound_of}
+use Rattle.checkpoint_lines.specs.Lines.{query_line, options_line, time_line, bound_line, input_line, output_line, text_line, entry_line}
+use Rattle.checkpoint_lines.specs.Reading.{time_of, bound_of, input_of}
 
 abbrev plain : Policy
 plain = record { lateness = 0; late = Refuse; period = 0 }
@@ -35,6 +35,14 @@ time = refl
 bound : bound_line 40 0 ≡ codes "#bound,40,0"
 unfolding inf digits
 bound = refl
+
+input : input_line 60 ≡ codes "#input,60"
+unfolding digits
+input = refl
+
+output : output_line 0 ≡ codes "#output,0"
+unfolding digits
+output = refl
 
 text : text_line (codes "a,b") ≡ codes "#text,a,b"
 text = refl
@@ -60,3 +68,8 @@ no_bound = refl
 no_time : time_of (codes "#bound,3,3") ≡ None
 unfolding commas
 no_time = refl
+
+-- a field too many
+no_place : input_of (codes "#input,6,0") ≡ None
+unfolding commas
+no_place = refl

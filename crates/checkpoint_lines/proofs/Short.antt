@@ -19,7 +19,7 @@ use Rattle.admission.specs.declared.policy.Policy.{Policy}
 use Rattle.frozen_state.specs.declared.owner.Owner.{Owner}
 use Rattle.frozen_state.specs.declared.owner.Owner.TheVariants.{In, Node, Out}
 use Rattle.checkpoint_lines.specs.declared.entry.EntryLine.{EntryLine}
-use Rattle.checkpoint_lines.specs.Lines.{line_of, query_line, options_line, late_text, time_line, bound_line, text_line, owner_text, datum_text, entry_fields, line_of_entry, IsOwner, IsCell, AreCells, IsEntry}
+use Rattle.checkpoint_lines.specs.Lines.{line_of, query_line, options_line, late_text, time_line, bound_line, input_line, output_line, text_line, owner_text, datum_text, entry_fields, line_of_entry, IsOwner, IsCell, AreCells, IsEntry}
 
 -- each has 20 bytes at most
 abbrev AreShort : List (List ℕ) → Type 0
@@ -94,6 +94,12 @@ time_line_short lines last h = omega (arith, line_short (codes "#time") (decimal
 
 pub bound_short : (bound mark : ℕ) → length (bound_line bound mark) ≤ 65536
 bound_short bound mark = omega (arith, line_short (codes "#bound") (time_text bound ∷ time_text mark ∷ []) (time_short bound, (time_short mark, tt)))
+
+pub input_short : (bytes : ℕ) → bytes < 2 ^ 64 → length (input_line bytes) ≤ 65536
+input_short bytes h = omega (arith, line_short (codes "#input") (decimal bytes ∷ []) (decimal_short bytes h, tt))
+
+pub output_short : (bytes : ℕ) → bytes < 2 ^ 64 → length (output_line bytes) ≤ 65536
+output_short bytes h = omega (arith, line_short (codes "#output") (decimal bytes ∷ []) (decimal_short bytes h, tt))
 
 pub text_short : (text : List ℕ) → length text ≤ 65530 → length (text_line text) ≤ 65536
 text_short text h = omega (arith, length-append (codes "#text,") text, h)

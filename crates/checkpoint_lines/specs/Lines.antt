@@ -53,6 +53,14 @@ time_line lines last = line_of (codes "#time") (decimal lines ∷ time_text last
 abbrev pub bound_line : ℕ → ℕ → List ℕ
 bound_line bound mark = line_of (codes "#bound") (time_text bound ∷ time_text mark ∷ [])
 
+-- how many bytes of the input were taken: `#input,60`
+abbrev pub input_line : ℕ → List ℕ
+input_line bytes = line_of (codes "#input") (decimal bytes ∷ [])
+
+-- how many bytes of the output count: `#output,25`
+abbrev pub output_line : ℕ → List ℕ
+output_line bytes = line_of (codes "#output") (decimal bytes ∷ [])
+
 -- a text as it stands: `#text,a,b` of the text `a,b`
 abbrev pub text_line : List ℕ → List ℕ
 text_line text = codes "#text," ++ text

@@ -35,6 +35,21 @@ time_of line = pair_of (codes "#time") (number_of (2 ^ 62 + 1)) (commas line)
 abbrev pub bound_of : List ℕ → Option (ℕ × ℕ)
 bound_of line = pair_of (codes "#bound") instant_of (commas line)
 
+-- the number that the field behind a word spells, where there are two fields and the first is the word
+abbrev pub single_of : List ℕ → List (List ℕ) → Option ℕ
+single_of word (w ∷ a ∷ []) = if same_text w word then number_of (2 ^ 64) a else None
+single_of word [] = None
+single_of word (w ∷ []) = None
+single_of word (w ∷ a ∷ b ∷ fs) = None
+
+-- the bytes of the input that a line `#input` tells
+abbrev pub input_of : List ℕ → Option ℕ
+input_of line = single_of (codes "#input") (commas line)
+
+-- the bytes of the output that a line `#output` tells
+abbrev pub output_of : List ℕ → Option ℕ
+output_of line = single_of (codes "#output") (commas line)
+
 -- a CR or a LF
 abbrev pub is_break : ℕ → Bool
 is_break b = (b == 13) || (b == 10)

@@ -7,6 +7,7 @@ mod fields;
 mod head;
 mod laws;
 mod owner;
+mod places;
 mod progress;
 mod text;
 
@@ -17,5 +18,6 @@ pub use head::{
 };
 pub use laws::{lines_are_short, lines_say_what_was_written};
 pub use owner::{EntryPart, read_entry_part};
+pub use places::{push_input_line, push_output_line, read_input_line, read_output_line};
 pub use progress::{push_bound_line, push_time_line, read_bound_line, read_time_line};
 pub use text::{push_text_line, read_text_line};

@@ -1,4 +1,4 @@
-use Rattle.checkpoint_lines.proofs.Short.{query_short, options_short, time_line_short, bound_short, text_short, entry_short}
+use Rattle.checkpoint_lines.proofs.Short.{query_short, options_short, time_line_short, bound_short, input_short, output_short, text_short, entry_short}
 use Rattle.checkpoint_lines.proofs.laws.lines_are_short.Goals as goal
 
 pub returns-clause-query : goal.returns-clause-query
@@ -12,6 +12,12 @@ returns-clause-times c = λ lines last is. time_line_short lines last is.0
 
 pub returns-clause-bounds : goal.returns-clause-bounds
 returns-clause-bounds c = bound_short
+
+pub returns-clause-inputs : goal.returns-clause-inputs
+returns-clause-inputs c = input_short
+
+pub returns-clause-outputs : goal.returns-clause-outputs
+returns-clause-outputs c = output_short
 
 pub returns-clause-texts : goal.returns-clause-texts
 returns-clause-texts c = text_short

@@ -1,4 +1,4 @@
-use Rattle.checkpoint_lines.proofs.Both.{time_both, bound_both, text_both, entry_both, part_back}
+use Rattle.checkpoint_lines.proofs.Both.{time_both, bound_both, input_both, output_both, text_both, entry_both, part_back}
 use Rattle.checkpoint_lines.proofs.laws.lines_say_what_was_written.Goals as goal
 
 pub returns-clause-times : goal.returns-clause-times
@@ -6,6 +6,12 @@ returns-clause-times c = time_both
 
 pub returns-clause-bounds : goal.returns-clause-bounds
 returns-clause-bounds c = bound_both
+
+pub returns-clause-inputs : goal.returns-clause-inputs
+returns-clause-inputs c = input_both
+
+pub returns-clause-outputs : goal.returns-clause-outputs
+returns-clause-outputs c = output_both
 
 pub returns-clause-texts : goal.returns-clause-texts
 returns-clause-texts c = text_both
