@@ -7,6 +7,9 @@ use Rattle.checkpoint.specs.Form.{FormView}
 use Rattle.checkpoint.specs.Text.{checkpoint_lines, IsOfForm, BeginsText, IsUnfinished}
 use Rattle.checkpoint.specs.Taking.{ReaderView, lines_taken}
 use Rattle.checkpoint.proofs.Unfinished.{one_front}
+use Rattle.checkpoint_lines.specs.Lines.{input_line, output_line}
+use Rattle.checkpoint_lines.specs.Reading.{input_of, output_of}
+use Rattle.checkpoint_lines.proofs.Both.{input_both, output_both}
 use Rattle.tempo_cli.specs.Restored.{TakesLine}
 use Rattle.tempo_cli.specs.declared.status.Status.{Status}
 use Rattle.tempo_cli.specs.declared.status.Status.TheVariants as statuses
@@ -40,3 +43,22 @@ pub none_left : (form : FormView) (f : FrozenView) (r : ReaderView) (rest : List
 none_left form f r rest all none same of_form unfinished =
     unfinished.none_whole f [] (subst (λ x. IsOfForm x f) (sym same) of_form)
     (sym (append-nil (lines_taken r)) ∙ (ap (λ x. lines_taken r ++ x) (sym none) ∙ (sym all ∙ (ap (λ (x : FormView). checkpoint_lines x.head f) (sym same) ∙ sym (append-nil _)))))
+
+-- the two lines in front of it. These lemmas and read_state's answers are not checked yet: the stub has no `input_both`
+heads : (x y : List ℕ) (xs ys : List (List ℕ)) → x ∷ xs ≡ y ∷ ys → x ≡ y
+heads x y xs ys e = cc
+
+tails : (x y : List ℕ) (xs ys : List (List ℕ)) → x ∷ xs ≡ y ∷ ys → xs ≡ ys
+tails x y xs ys e = cc
+
+pub input_read : (first : List ℕ) (all rest more : List (List ℕ)) (n : ℕ) → all ≡ first ∷ rest → all ≡ input_line n ∷ more → n < 2 ^ 64 → (input_of first ≡ Some n) × (rest ≡ more)
+input_read first all rest more n p q low = let e = sym p ∙ q in ((input_both first n).1 (low, heads first (input_line n) rest more e), tails first (input_line n) rest more e)
+
+pub output_read : (second : List ℕ) (all rest more : List (List ℕ)) (n : ℕ) → all ≡ second ∷ rest → all ≡ output_line n ∷ more → n < 2 ^ 64 → (output_of second ≡ Some n) × (rest ≡ more)
+output_read second all rest more n p q low = let e = sym p ∙ q in ((output_both second n).1 (low, heads second (output_line n) rest more e), tails second (output_line n) rest more e)
+
+pub none_read : (o : Option ℕ) (n : ℕ) → None ≡ o → o ≡ Some n → ⊥
+none_read o n e f = absurd (let x = e ∙ f in cc)
+
+pub some_read : (o : Option ℕ) (m n : ℕ) → Some m ≡ o → o ≡ Some n → m ≡ n
+some_read o m n e f = let x = e ∙ f in cc
