@@ -16,3 +16,7 @@ pub places_pushed : (a b c d e i o : List ℕ) → b ≡ a ++ i → c ≡ b ++ 1
 places_pushed a b c d e i o p q r s =
     s ∙ (ap (λ x. x ++ 10 ∷ []) r ∙ (append_assoc c o (10 ∷ []) ∙ (ap (λ x. x ++ (o ++ 10 ∷ [])) (q ∙ (ap (λ x. x ++ 10 ∷ []) p ∙ append_assoc a i (10 ∷ [])))
     ∙ (append_assoc a (i ++ 10 ∷ []) (o ++ 10 ∷ []) ∙ ap (λ x. a ++ ((i ++ 10 ∷ []) ++ x)) (sym (append-nil (o ++ 10 ∷ [])))))))
+
+-- two texts were printed into an empty buffer
+pub both_pushed : (a b c x y : List ℕ) → c ≡ b ++ y → b ≡ a ++ x → a ≡ [] → c ≡ x ++ y
+both_pushed a b c x y p q r = p ∙ ap (λ z. z ++ y) (q ∙ ap (λ z. z ++ x) r)
