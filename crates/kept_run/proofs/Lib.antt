@@ -1,0 +1,13 @@
+pub mod Counting
+pub mod Wholes
+pub mod Recovering
+pub mod Standing
+pub mod Bytes
+pub mod Starts
+pub mod Adding
+pub mod Texts
+pub mod Pushing
+pub mod ReadBack
+pub mod Walks
+pub mod Runs
+pub mod Times

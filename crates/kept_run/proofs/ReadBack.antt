@@ -1,0 +1,64 @@
+-- FILE read back.
+use Rattle.std.proofs.Common.{◌≡◌, ◌<◌, ◌+◌, ◌^◌, ◌++◌, ℕ, List, [], ◌∷◌, Option, Some, None, Result, Ok, Err, refl, sym, ◌∙◌, ap, subst, arith, append_assoc, append-nil}
+use Rattle.wire_lines.specs.Lines.{whole}
+use Rattle.frozen_state.specs.Frozen.{FrozenView}
+use Rattle.frozen_state.specs.Forms.{AreApart}
+use Rattle.checkpoint.specs.Form.{FormView}
+use Rattle.checkpoint.specs.Text.{checkpoint_lines, IsOfForm, BeginsText, IsUnfinished}
+use Rattle.checkpoint.specs.Taking.{ReaderView, lines_taken}
+use Rattle.checkpoint.proofs.Unfinished.{one_front}
+use Rattle.checkpoint_lines.specs.Lines.{input_line, output_line}
+use Rattle.checkpoint_lines.specs.Reading.{input_of, output_of}
+use Rattle.checkpoint_lines.proofs.Both.{input_both, output_both}
+use Rattle.tempo_cli.specs.Restored.{TakesLine}
+use Rattle.tempo_cli.specs.declared.status.Status.{Status}
+use Rattle.tempo_cli.specs.declared.status.Status.TheVariants as statuses
+use Rattle.kept_run.specs.Standing.{IsFrozenAs}
+
+-- what is known of the lines of a checkpoint while they are taken
+module _ (form : FormView) (f : FrozenView) (old : ReaderView) (line : List ℕ) (rest more : List (List ℕ)) (all : checkpoint_lines form.head f ≡ lines_taken old ++ rest) (next : rest ≡ line ∷ more) (same : old.form ≡ form) where
+  upto : checkpoint_lines form.head f ≡ (lines_taken old ++ line ∷ []) ++ more
+  upto = all ∙ (ap (λ x. lines_taken old ++ x) next ∙ sym (append_assoc (lines_taken old) (line ∷ []) more))
+
+  -- it goes on
+  pub goes_on : (new : ReaderView) → lines_taken new ≡ lines_taken old ++ line ∷ [] → checkpoint_lines form.head f ≡ lines_taken new ++ more
+  goes_on new taken = upto ∙ ap (λ x. x ++ more) (sym taken)
+
+  -- it has ended
+  pub ended_as : IsOfForm form f → AreApart form.parts → (g : FrozenView) → checkpoint_lines old.form.head g ≡ lines_taken old ++ line ∷ [] → IsOfForm old.form g → g ≡ f
+  ended_as of_form apart g text other =
+      sym (one_front form f g more of_form (subst (λ x. IsOfForm x g) same other) apart (upto ∙ ap (λ x. x ++ more) (sym text ∙ ap (λ (x : FormView). checkpoint_lines x.head g) same)))
+
+  -- a line of it is refused never
+  pub not_refused : IsOfForm form f → (BeginsText old.form (lines_taken old ++ line ∷ []) → ⊥) → ⊥
+  not_refused of_form refused = refused (subst (λ x. BeginsText x (lines_taken old ++ line ∷ [])) (sym same) (record { frozen = f; rest = more; of_form = of_form; text = upto }))
+
+  pub taken_as : IsOfForm form f → (number : ℕ) (status : Status) (new : ReaderView) → TakesLine old number line (Err status) new → status ≡ statuses.Memory
+  taken_as of_form number (statuses.BadCheckpoint n) new h = absurd (not_refused of_form h.1)
+  taken_as of_form number statuses.Memory new h = refl
+  taken_as of_form number status new h = absurd h
+
+-- not all of it was taken where no line is left
+pub none_left : (form : FormView) (f : FrozenView) (r : ReaderView) (rest : List (List ℕ)) → checkpoint_lines form.head f ≡ lines_taken r ++ rest → rest ≡ [] → r.form ≡ form → IsOfForm form f → IsUnfinished r.form (lines_taken r) → ⊥
+none_left form f r rest all none same of_form unfinished =
+    unfinished.none_whole f [] (subst (λ x. IsOfForm x f) (sym same) of_form)
+    (sym (append-nil (lines_taken r)) ∙ (ap (λ x. lines_taken r ++ x) (sym none) ∙ (sym all ∙ (ap (λ (x : FormView). checkpoint_lines x.head f) (sym same) ∙ sym (append-nil _)))))
+
+-- the two lines in front of it. These lemmas and read_state's answers are not checked yet: the stub has no `input_both`
+heads : (x y : List ℕ) (xs ys : List (List ℕ)) → x ∷ xs ≡ y ∷ ys → x ≡ y
+heads x y xs ys e = cc
+
+tails : (x y : List ℕ) (xs ys : List (List ℕ)) → x ∷ xs ≡ y ∷ ys → xs ≡ ys
+tails x y xs ys e = cc
+
+pub input_read : (first : List ℕ) (all rest more : List (List ℕ)) (n : ℕ) → all ≡ first ∷ rest → all ≡ input_line n ∷ more → n < 2 ^ 64 → (input_of first ≡ Some n) × (rest ≡ more)
+input_read first all rest more n p q low = let e = sym p ∙ q in ((input_both first n).1 (low, heads first (input_line n) rest more e), tails first (input_line n) rest more e)
+
+pub output_read : (second : List ℕ) (all rest more : List (List ℕ)) (n : ℕ) → all ≡ second ∷ rest → all ≡ output_line n ∷ more → n < 2 ^ 64 → (output_of second ≡ Some n) × (rest ≡ more)
+output_read second all rest more n p q low = let e = sym p ∙ q in ((output_both second n).1 (low, heads second (output_line n) rest more e), tails second (output_line n) rest more e)
+
+pub none_read : (o : Option ℕ) (n : ℕ) → None ≡ o → o ≡ Some n → ⊥
+none_read o n e f = absurd (let x = e ∙ f in cc)
+
+pub some_read : (o : Option ℕ) (m n : ℕ) → Some m ≡ o → o ≡ Some n → m ≡ n
+some_read o m n e f = let x = e ∙ f in cc

@@ -1,0 +1,58 @@
+-- A run from its start on.
+use Rattle.std.proofs.Common.{◌≡◌, ◌++◌, ℕ, List, [], ◌∷◌, Option, Some, None, inl, inr, refl, ◌∙◌, ap, subst, append-nil}
+use Rattle.wire_lines.specs.Journal.{Entry, Did, Start, Adds, Grows}
+use Rattle.durable_file.specs.Disk.{Content, Absent, Written, Synced, IsSeen}
+use Rattle.wire_lines.proofs.Growth.{Grows-weaker}
+use Rattle.plan_model.specs.IsPlan.{PlanParts}
+use Rattle.command_line.specs.Words.{Asked as Words}
+use Rattle.tempo_cli.proofs.Journals.{Grows-then}
+use Rattle.kept_run.specs.Keeping.{Task, Places, Keeps, Runs, RunsFirst, HasBytes, first_task}
+use Rattle.kept_run.specs.Standing.{Begun, StartsWith, IsWanting}
+use Rattle.kept_run.specs.declared.keeping.Keeper.{Keeper}
+use Rattle.kept_run.specs.declared.status.KeptStatus.{KeptStatus}
+
+runs_as : (t : Task) (every : ℕ) (status : KeptStatus) (J K : List Entry) → J ≡ Did (Start t.start.input t.start.output) ∷ [] → Keeps t every status K → Runs t every status (J ++ K)
+runs_as t every status J K is keeps = inr (K, ap (λ x. x ++ K) is, keeps)
+
+module _ {a b c : Option (List Entry)} {every : ℕ} {k : Keeper} (status : KeptStatus) where
+  pub runs_first : {asked : Words} {plan : PlanParts} → Grows a b (λ J. (output : ℕ) × StartsWith (first_task asked plan output) every k J) → ((t : Task) → Begun t every k → Grows b c (Keeps t every status)) →
+      Grows a c (RunsFirst asked plan every status)
+  runs_first {asked} {plan} starts go = Grows-then {P = λ J. (output : ℕ) × StartsWith (first_task asked plan output) every k J} starts
+      (λ (J : List Entry) (p : (output : ℕ) × StartsWith (first_task asked plan output) every k J). go (first_task asked plan p.0) p.1.1)
+      (λ J K p q. (p.0, runs_as (first_task asked plan p.0) every status J K p.1.0 q))
+
+  pub runs_on : (t : Task) → Grows a b (StartsWith t every k) → ((u : Task) → Begun u every k → Grows b c (Keeps u every status)) → Grows a c (Runs t every status)
+  runs_on t starts go = Grows-then {P = StartsWith t every k} starts (λ (J : List Entry) (p : StartsWith t every k J). go t p.1) (λ J K p q. runs_as t every status J K p.0 q)
+
+-- it failed before
+pub runs_not_first : {a b : Option (List Entry)} {asked : Words} {plan : PlanParts} {every : ℕ} (status : KeptStatus) → Grows a b (λ J. J ≡ []) → IsWanting status → Grows a b (RunsFirst asked plan every status)
+runs_not_first status silent wanting = Grows-weaker silent (λ J e. (0, inl (e, wanting)))
+
+-- after a call that added nothing
+pub after_none : {a b c : Option (List Entry)} {P : List Entry → Type 0} → Adds a b [] → Grows b c P → Grows a c P
+after_none {a} {b} {c} {P} none grows = record { grown = λ told e. grows.grown told (none.added told e ∙ ap Some (append-nil told)) }
+
+-- nothing was done
+pub did_nothing : {a b : Option (List Entry)} {P : List Entry → Type 0} → Adds a b [] → P [] → Grows a b P
+did_nothing {a} {b} {P} none p = record { grown = λ told e. ([], none.added told e, p) }
+
+some_is_some : {X : Type 0} (x y : X) → Some x ≡ Some y → x ≡ y
+some_is_some x y e = cc
+
+none_is_some : {X : Type 0} (x : X) → None ≡ Some x → ⊥
+none_is_some x e = cc
+
+some_is_none : {X : Type 0} (x : X) → Some x ≡ None → ⊥
+some_is_none x e = cc
+
+-- FILE was read: what a read gives is what it has
+pub read_absent : (file : Content) (bytes : List ℕ) → file ≡ Absent → IsSeen file (Some bytes) → ⊥
+read_absent file bytes is seen = some_is_none bytes (subst (λ f. IsSeen f (Some bytes)) is seen)
+
+pub read_none : (file : Content) (bytes : List ℕ) → HasBytes file bytes → IsSeen file None → ⊥
+read_none file bytes (inl is) seen = none_is_some bytes (subst (λ f. IsSeen f None) is seen)
+read_none file bytes (inr is) seen = none_is_some bytes (subst (λ f. IsSeen f None) is seen)
+
+pub read_some : (file : Content) (bytes found : List ℕ) → HasBytes file bytes → IsSeen file (Some found) → found ≡ bytes
+read_some file bytes found (inl is) seen = some_is_some found bytes (subst (λ f. IsSeen f (Some found)) is seen)
+read_some file bytes found (inr is) seen = some_is_some found bytes (subst (λ f. IsSeen f (Some found)) is seen)

@@ -1,0 +1,16 @@
+use Rattle.std.proofs.Common.{inl}
+use Rattle.std.proofs.lemmas.Result.{err_from_is_err_and}
+use Rattle.wire_lines.proofs.Growth.{Grows-weaker}
+use Rattle.command_line.specs.Words.{asked_by}
+use Rattle.kept_run.specs.Keeping.{task_from}
+use Rattle.kept_run.specs.Status.{kept_of}
+use Rattle.kept_run.proofs.Runs.{runs_on}
+use Rattle.kept_run.proofs.running.run_again.Goals as goal
+
+pub returns-in_err-keeper-clause-runs : goal.returns-in_err-keeper-clause-runs
+returns-in_err-keeper-clause-runs g c = let p = err_from_is_err_and c.from_residual.result c.from_residual.ensures.1 in rw (p.1, p.2)
+    (λ before start is. Grows-weaker c.in_err-keeper.ensures.silent (λ J e. inl (e, c.in_err-keeper.ensures.wanting before start is)))
+
+pub returns-clause-runs : goal.returns-clause-runs
+returns-clause-runs g c = λ before start is.
+    runs_on (kept_of c.go.result) (task_from (asked_by c.args.asked.now) c.args.plan before start) (c.in_ok-keeper.ensures.starts before start is) (λ t begun. c.go.ensures.ends t _ begun)

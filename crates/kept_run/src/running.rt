@@ -1,0 +1,191 @@
+// The whole run.
+ghost use Rattle.std.specs.Prelude.{◌≡◌, ◌⊎◌, ℕ, List, [], Some};
+ghost use Rattle.wire_lines.specs.Journal.{Grows};
+ghost use Rattle.plan_model.specs.IsPlan.{PlanParts};
+ghost use Rattle.plan_model.specs.declared.fault.QueryFault.{QueryFault as SomeFault};
+ghost use Rattle.command_line.specs.Words.{AreWithin, asked_by};
+ghost use Rattle.durable_file.specs.Calls.{Told as Disks};
+ghost use Rattle.tempo_cli.specs.Jobs.{HasPlan, HasFault, query_status};
+ghost use Rattle.admission.specs.Entries.{Told as Said};
+ghost use Rattle.durable_file.specs.Disk.{Absent};
+ghost use Rattle.kept_run.specs.Keeping.{Places, Runs, RunsFirst, HasBytes, task_from, IsStartOf};
+ghost use Rattle.kept_run.specs.Status.{kept_of, KeptCounts, IsKeptNoted, HasKeptReason, IsKeptAsked};
+
+use crate::starting::{start_again, start_first};
+use crate::status::KeptStatus;
+use command_line::CommandLine;
+use durable_file::ReadFault;
+use kept_wire::KeptWire;
+use plan_model::Plan;
+use shard_apply::Gate;
+use std::alloc::Global;
+use std::thread::Threads;
+use tempo_cli::{Status, note, plan_of, status_of};
+use wire_lines::{Wire, WriteFailed, send};
+
+// A first run.
+fn run_first<R: Threads + Sync, W: KeptWire, G: Gate>(
+    rt: &R,
+    alloc: Global,
+    asked: &CommandLine<'_>,
+    every: u64,
+    plan: Plan,
+    wire: &mut W,
+    gate: &G,
+) -> Result<(), KeptStatus>
+    requires within { AreWithin (asked_by asked.now) }
+    ensures runs { Grows (W.journal wire.old) (W.journal wire.new)
+        (RunsFirst (asked_by asked.now) plan every (kept_of result)) }
+    ensures asked { IsKeptAsked (kept_of result) }
+    ensures counts { KeptCounts (W.read_faults wire.old) (W.read_faults wire.new)
+        (W.write_faults wire.old) (W.write_faults wire.new) (kept_of result) }
+{
+    let mut keeper = start_first(alloc, asked, every, plan, wire)?;
+    keeper.go(rt, wire, gate)
+}
+
+// A run that goes on from the bytes of FILE.
+fn run_again<R: Threads + Sync, W: KeptWire, G: Gate>(
+    rt: &R,
+    alloc: Global,
+    asked: &CommandLine<'_>,
+    every: u64,
+    plan: Plan,
+    bytes: &[u8],
+    wire: &mut W,
+    gate: &G,
+) -> Result<(), KeptStatus>
+    requires within { AreWithin (asked_by asked.now) }
+    ensures runs { (before : List Said) (start : Places) →
+        let t = task_from (asked_by asked.now) plan before start in IsStartOf t bytes.now →
+        Grows (W.journal wire.old) (W.journal wire.new) (Runs t every (kept_of result)) }
+    ensures asked { IsKeptAsked (kept_of result) }
+    ensures counts { KeptCounts (W.read_faults wire.old) (W.read_faults wire.new)
+        (W.write_faults wire.old) (W.write_faults wire.new) (kept_of result) }
+{
+    let mut keeper = start_again(alloc, asked, every, plan, bytes, wire)?;
+    keeper.go(rt, wire, gate)
+}
+
+// The run of a plan, by what FILE has.
+fn run_plan<R: Threads + Sync, W: KeptWire, G: Gate>(
+    rt: &R,
+    alloc: Global,
+    asked: &CommandLine<'_>,
+    every: u64,
+    plan: Plan,
+    wire: &mut W,
+    gate: &G,
+) -> Result<(), KeptStatus>
+    requires within { AreWithin (asked_by asked.now) }
+    ensures first { (d : Disks) → W.told wire.old ≡ Some d → d.now.file ≡ Absent →
+        Grows (W.journal wire.old) (W.journal wire.new)
+        (RunsFirst (asked_by asked.now) plan every (kept_of result)) }
+    ensures again { (d : Disks) → W.told wire.old ≡ Some d → (bytes : List ℕ) →
+        HasBytes d.now.file bytes → (before : List Said) (start : Places) →
+        let t = task_from (asked_by asked.now) plan before start in IsStartOf t bytes →
+        Grows (W.journal wire.old) (W.journal wire.new) (Runs t every (kept_of result)) }
+    ensures asked { IsKeptAsked (kept_of result) }
+    ensures counts { KeptCounts (W.read_faults wire.old) (W.read_faults wire.new)
+        (W.write_faults wire.old) (W.write_faults wire.new) (kept_of result) }
+{
+    match wire.open(alloc) {
+        Ok(None) => run_first(rt, alloc, asked, every, plan, wire, gate),
+        Ok(Some(bytes)) => run_again(rt, alloc, asked, every, plan, &bytes, wire, gate),
+        Err(ReadFault::Memory) => Err(KeptStatus::Ended(Status::Memory)),
+        Err(ReadFault::Failed) => Err(KeptStatus::CheckpointFailed),
+    }
+}
+
+// The run of what is asked for.
+fn perform<R: Threads + Sync, W: KeptWire, G: Gate>(
+    rt: &R,
+    alloc: Global,
+    asked: &CommandLine<'_>,
+    every: u64,
+    wire: &mut W,
+    gate: &G,
+) -> KeptStatus
+    requires within { AreWithin (asked_by asked.now) }
+    ensures reason { HasKeptReason asked.now.query.now result }
+    ensures first { (plan : PlanParts) → HasPlan asked.now.query.now plan →
+        (d : Disks) → W.told wire.old ≡ Some d → d.now.file ≡ Absent →
+        Grows (W.journal wire.old) (W.journal wire.new)
+        (RunsFirst (asked_by asked.now) plan every result) }
+    ensures again { (plan : PlanParts) → HasPlan asked.now.query.now plan →
+        (d : Disks) → W.told wire.old ≡ Some d → (bytes : List ℕ) → HasBytes d.now.file bytes →
+        (before : List Said) (start : Places) →
+        let t = task_from (asked_by asked.now) plan before start in IsStartOf t bytes →
+        Grows (W.journal wire.old) (W.journal wire.new) (Runs t every result) }
+    ensures unplanned { (fault : SomeFault) → HasFault asked.now.query.now fault →
+        Grows (W.journal wire.old) (W.journal wire.new) (λ J. (J ≡ [])
+        × ((result ≡ KeptStatus.Ended (Status.BadQuery fault))
+        ⊎ (result ≡ KeptStatus.Ended Status.Memory))) }
+    ensures counts { KeptCounts (W.read_faults wire.old) (W.read_faults wire.new)
+        (W.write_faults wire.old) (W.write_faults wire.new) result }
+{
+    match plan_of(alloc, asked.query) {
+        Ok(plan) => match run_plan(rt, alloc, asked, every, plan, wire, gate) {
+            Ok(()) => KeptStatus::Ended(Status::Done),
+            Err(status) => status,
+        },
+        Err(error) => KeptStatus::Ended(status_of(error)),
+    }
+}
+
+// Writes the note of the status.
+fn note_kept<N: Wire>(notes: &mut N, status: &KeptStatus)
+    ensures { Grows (N.journal notes.old) (N.journal notes.new)
+        (IsKeptNoted status.now (N.write_faults notes.old) (N.write_faults notes.new)) }
+{
+    match status {
+        KeptStatus::Ended(status) => note(notes, status),
+        KeptStatus::CheckpointFailed => match send(notes, b"checkpoint failed\n") {
+            Ok(()) => {}
+            Err(WriteFailed) => {}
+        },
+    }
+}
+
+/// A run that keeps checkpoints of what is asked for, in FILE of the wire: at its start, at the first punctuation that is `every`
+/// or more after that of the checkpoint before, and at the end of the input, which is none for the query: a last line that no LF
+/// ends is not taken. Where FILE has a checkpoint the run goes on from it.
+///
+/// The clauses on bytes hold where the wire tells its journal and its disk; over the system's files no contract can say what came
+/// or went, or what a disk has.
+pub fn run_kept<R: Threads + Sync, W: KeptWire, N: Wire, G: Gate>(
+    rt: &R,
+    alloc: Global,
+    asked: &CommandLine<'_>,
+    every: u64,
+    wire: &mut W,
+    notes: &mut N,
+    gate: &G,
+) -> KeptStatus
+    requires within { AreWithin (asked_by asked.now) }
+    ensures reason { HasKeptReason asked.now.query.now result }
+
+    // What came in, went out, was brought to the disk and kept: without FILE, and from a checkpoint in FILE.
+    ensures first { (plan : PlanParts) → HasPlan asked.now.query.now plan →
+        (d : Disks) → W.told wire.old ≡ Some d → d.now.file ≡ Absent →
+        Grows (W.journal wire.old) (W.journal wire.new)
+        (RunsFirst (asked_by asked.now) plan every result) }
+    ensures again { (plan : PlanParts) → HasPlan asked.now.query.now plan →
+        (d : Disks) → W.told wire.old ≡ Some d → (bytes : List ℕ) → HasBytes d.now.file bytes →
+        (before : List Said) (start : Places) →
+        let t = task_from (asked_by asked.now) plan before start in IsStartOf t bytes →
+        Grows (W.journal wire.old) (W.journal wire.new) (Runs t every result) }
+    ensures unplanned { (fault : SomeFault) → HasFault asked.now.query.now fault →
+        Grows (W.journal wire.old) (W.journal wire.new) (λ J. (J ≡ [])
+        × ((result ≡ KeptStatus.Ended (Status.BadQuery fault))
+        ⊎ (result ≡ KeptStatus.Ended Status.Memory))) }
+    ensures counts { KeptCounts (W.read_faults wire.old) (W.read_faults wire.new)
+        (W.write_faults wire.old) (W.write_faults wire.new) result }
+
+    ensures notes { Grows (N.journal notes.old) (N.journal notes.new)
+        (IsKeptNoted result (N.write_faults notes.old) (N.write_faults notes.new)) }
+{
+    let status = perform(rt, alloc, asked, every, wire, gate);
+    note_kept(notes, &status);
+    status
+}

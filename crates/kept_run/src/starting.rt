@@ -1,0 +1,140 @@
+// Where a run starts: at the beginning, or from FILE.
+ghost use Rattle.std.specs.Prelude.{◌≡◌, ◌&&◌, nat_eq, [], ℕ, List, IfOk, IfErr, OnOk, OnErr};
+ghost use Rattle.wire_lines.specs.Journal.{Grows};
+ghost use Rattle.command_line.specs.Words.{AreWithin, asked_by};
+ghost use Rattle.admission.specs.Entries.{Told};
+ghost use Rattle.kept_run.specs.Keeping.{Places, first_task, task_from, IsStartOf};
+ghost use Rattle.kept_run.specs.Standing.{StartsWith, IsWanting, HasThawed, IsFresh};
+ghost use Rattle.kept_run.specs.Status.{KeptCounts, StaysCounted, IsKeptAsked, IsEndedOwn};
+
+use crate::keeping::Keeper;
+use crate::reading::{KeptState, read_state};
+use crate::status::KeptStatus;
+use checkpoint::Form;
+use command_line::CommandLine;
+use kept_wire::KeptWire;
+use plan_model::Plan;
+use std::alloc::Global;
+use tempo_cli::{Answering, LIMIT, Status, options_of};
+use tempo_engine::{Engine, ThawFault, what_fits_is_a_state};
+use tw_rows::Time;
+use wire_lines::LineCutter;
+
+// The most bytes of a line, its LF not counted.
+const LONGEST: usize = 65536;
+
+// A first run, behind all that the output's file has.
+pub(crate) fn start_first<W: KeptWire>(
+    alloc: Global,
+    asked: &CommandLine<'_>,
+    every: u64,
+    plan: Plan,
+    wire: &mut W,
+) -> Result<Keeper, KeptStatus>
+    requires within { AreWithin (asked_by asked.now) }
+    ensures fresh { IfOk result (λ k. IsFresh (asked_by asked.now) k.answering) }
+    ensures starts { IfOk result (λ k. Grows (W.journal wire.old) (W.journal wire.new)
+        (λ J. (output : ℕ) × StartsWith (first_task (asked_by asked.now) plan output) every k J)) }
+    ensures silent { OnErr result (Grows (W.journal wire.old) (W.journal wire.new) (λ J. J ≡ [])) }
+    ensures wanting { IfErr result IsWanting }
+    ensures counted { OnOk result (StaysCounted (W.read_faults wire.old) (W.read_faults wire.new)
+        (W.write_faults wire.old) (W.write_faults wire.new)) }
+    ensures counts { IfErr result (KeptCounts (W.read_faults wire.old) (W.read_faults wire.new)
+        (W.write_faults wire.old) (W.write_faults wire.new)) }
+{
+    let workers = asked.workers as u64;
+    let form = Form::new(alloc, asked.query, workers, &asked.policy, &plan)?;
+    let answering = Answering::new(alloc, plan, options_of(asked), asked.header)?;
+    let output = wire.start_new()?;
+    Ok(Keeper {
+        answering,
+        form,
+        every,
+        input: 0,
+        output,
+        kept_at: Time::ZERO,
+    })
+}
+
+// Whether the first line behind that byte of the input is a header.
+fn has_header(header: bool, input: u64) -> bool
+    ensures { result ≡ (nat_eq input 0 && header) }
+{
+    input == 0 && header
+}
+
+// What answers the lines behind a checkpoint.
+fn thawed(
+    alloc: Global,
+    asked: &CommandLine<'_>,
+    plan: Plan,
+    state: KeptState,
+) -> Result<Answering, KeptStatus>
+    requires within { AreWithin (asked_by asked.now) }
+    ensures fresh { IfOk result (IsFresh (asked_by asked.now)) }
+    ensures thaws { HasThawed (asked_by asked.now) plan state.input state.frozen result }
+    ensures asked { IfErr result IsKeptAsked }
+    ensures own { IfErr result IsEndedOwn }
+{
+    // Its call tells the proof that an engine can be made of what was frozen.
+    what_fits_is_a_state();
+    let base = state.frozen.lines();
+    let header = has_header(asked.header, state.input);
+    let cutter = LineCutter::new(alloc, LONGEST, LIMIT)?;
+    match Engine::thaw(alloc, plan, options_of(asked), state.frozen) {
+        Ok(engine) => Ok(Answering {
+            alloc,
+            cutter,
+            engine,
+            header,
+            base,
+            skipped: 0,
+        }),
+        Err(ThawFault::NotState) => {
+            Err(KeptStatus::Ended(Status::BadCheckpoint { line: state.lines }))
+        }
+        Err(ThawFault::Memory) => Err(KeptStatus::Ended(Status::Memory)),
+    }
+}
+
+// A run that goes on from what FILE has.
+pub(crate) fn start_again<W: KeptWire>(
+    alloc: Global,
+    asked: &CommandLine<'_>,
+    every: u64,
+    plan: Plan,
+    bytes: &[u8],
+    wire: &mut W,
+) -> Result<Keeper, KeptStatus>
+    requires within { AreWithin (asked_by asked.now) }
+    ensures fresh { IfOk result (λ k. IsFresh (asked_by asked.now) k.answering) }
+    ensures starts { IfOk result (λ k. (before : List Told) (start : Places) →
+        let t = task_from (asked_by asked.now) plan before start in IsStartOf t bytes.now →
+        Grows (W.journal wire.old) (W.journal wire.new) (StartsWith t every k)) }
+    ensures silent { OnErr result (Grows (W.journal wire.old) (W.journal wire.new) (λ J. J ≡ [])) }
+    ensures wanting { IfErr result (λ status. (before : List Told) (start : Places) →
+        IsStartOf (task_from (asked_by asked.now) plan before start) bytes.now →
+        IsWanting status) }
+    ensures asked { IfErr result IsKeptAsked }
+    ensures counted { OnOk result (StaysCounted (W.read_faults wire.old) (W.read_faults wire.new)
+        (W.write_faults wire.old) (W.write_faults wire.new)) }
+    ensures counts { IfErr result (KeptCounts (W.read_faults wire.old) (W.read_faults wire.new)
+        (W.write_faults wire.old) (W.write_faults wire.new)) }
+{
+    let workers = asked.workers as u64;
+    let form = Form::new(alloc, asked.query, workers, &asked.policy, &plan)?;
+    let read_form = Form::new(alloc, asked.query, workers, &asked.policy, &plan)?;
+    let state = read_state(alloc, read_form, bytes)?;
+    let input = state.input;
+    let output = state.output;
+    let answering = thawed(alloc, asked, plan, state)?;
+    wire.start_at(input, output)?;
+    Ok(Keeper {
+        answering,
+        form,
+        every,
+        input,
+        output,
+        kept_at: Time::ZERO,
+    })
+}
