@@ -1,13 +1,14 @@
 // The line of an entry.
-ghost use Rattle.std.specs.Prelude.{◌≡◌, ◌≤◌, ◌++◌, ◌∷◌, OnOk, OnErr, IfOk, IfSome, drop, vec_capacity};
+ghost use Rattle.std.specs.Prelude.{◌≡◌, ◌≤◌, ◌++◌, OnOk, OnErr, IfOk, IfSome, drop, length, vec_capacity};
 ghost use Rattle.row_reader.specs.Fields.{commas, left};
-ghost use Rattle.line_text.specs.Number.{number_text};
 ghost use Rattle.checkpoint_lines.specs.Room.{LacksRoom};
-ghost use Rattle.checkpoint_lines.specs.Lines.{datum_text, cell_texts, entry_line};
+ghost use Rattle.checkpoint_lines.specs.Lines.{cell_texts, entry_line};
+ghost use Rattle.checkpoint_lines.specs.Pieces.{line_head};
 ghost use Rattle.checkpoint_lines.specs.Reading.{flag_of, datum_of, times_of, cells_of, entry_of};
 
-use crate::fields::{push_decimal, push_number_field, push_time_field, read_instant};
-use crate::owner::{push_owner, take_part};
+use crate::fields::read_instant;
+use crate::owner::take_part;
+use crate::putting::{put_cells, put_line_head};
 use edge_stream::SavedEntry;
 use frozen_state::Owner;
 use row_reader::{Fields, read_places, read_whole};
@@ -23,49 +24,55 @@ pub struct EntryLine {
     pub entry: SavedEntry,
 }
 
-// Appends the number by its digits.
-fn push_int(out: &mut Vec<u8>, number: i64) -> Result<(), Memory>
-    ensures ok { OnOk result (out.new.items ≡ out.old.items ++ number_text 0 number) }
-    ensures room { vec_capacity out.old ≤ vec_capacity out.new }
-    ensures full { OnErr result (LacksRoom out.old (number_text 0 number)) }
-{
-    if number < 0 {
-        out.push(b'-')?;
-    }
-    push_decimal(out, number.unsigned_abs())
-}
+// The most cells that are appended at once, and the most bytes that they take.
+const FEW_CELLS: usize = 8;
 
-fn push_datum(out: &mut Vec<u8>, datum: Datum) -> Result<(), Memory>
-    ensures ok { OnOk result (out.new.items ≡ out.old.items ++ datum_text datum) }
+const ROOM_OF_CELLS: usize = 168;
+
+// The most bytes of what stands before the cells.
+const ROOM_OF_HEAD: usize = 111;
+
+// Appends the line up to its cells.
+fn push_line_head(
+    out: &mut Vec<u8>,
+    owner: Owner,
+    shard: u64,
+    entry: &SavedEntry,
+) -> Result<(), Memory>
+    ensures ok { OnOk result (out.new.items ≡ out.old.items ++ line_head owner shard entry.now) }
     ensures room { vec_capacity out.old ≤ vec_capacity out.new }
-    ensures full { OnErr result (LacksRoom out.old (datum_text datum)) }
+    ensures full { OnErr result (LacksRoom out.old (line_head owner shard entry.now)) }
 {
-    match datum {
-        Datum::Int(number) => push_int(out, number)?,
-        Datum::Bool(flag) => out.push(if flag { b'1' } else { b'0' })?,
-        Datum::Text(place) => push_decimal(out, place)?,
-    }
+    let mut line = [0; ROOM_OF_HEAD];
+    let at = put_line_head(&mut line, ROOM_OF_HEAD, owner, shard, entry);
+    out.extend_from_slice(&line[at..])?;
     Ok(())
 }
 
-// Appends a comma and the cell.
-fn push_cell(out: &mut Vec<u8>, datum: Datum) -> Result<(), Memory>
-    ensures ok { OnOk result (out.new.items ≡ out.old.items ++ 44 ∷ datum_text datum) }
+// Appends the cells, each behind a comma.
+fn push_few_cells(out: &mut Vec<u8>, cells: &[Datum]) -> Result<(), Memory>
+    requires { length cells.now ≤ FEW_CELLS }
+    ensures ok { OnOk result (out.new.items ≡ out.old.items ++ cell_texts cells.now) }
     ensures room { vec_capacity out.old ≤ vec_capacity out.new }
-    ensures full { OnErr result (LacksRoom out.old (44 ∷ datum_text datum)) }
+    ensures full { OnErr result (LacksRoom out.old (cell_texts cells.now)) }
 {
-    out.push(b',')?;
-    push_datum(out, datum)
+    let mut line = [0; ROOM_OF_CELLS];
+    let at = put_cells(&mut line, ROOM_OF_CELLS, cells);
+    out.extend_from_slice(&line[at..])?;
+    Ok(())
 }
 
-// Appends the cells, each behind a comma.
+// Appends the cells, each behind a comma, however many they are.
 fn push_cells(out: &mut Vec<u8>, cells: &[Datum]) -> Result<(), Memory>
     ensures ok { OnOk result (out.new.items ≡ out.old.items ++ cell_texts cells.now) }
     ensures room { vec_capacity out.old ≤ vec_capacity out.new }
     ensures full { OnErr result (LacksRoom out.old (cell_texts cells.now)) }
 {
-    for datum in cells {
-        push_cell(out, *datum)?;
+    let mut rest = cells;
+    while !rest.is_empty() {
+        let (few, more) = rest.split_at(rest.len().min(FEW_CELLS));
+        push_few_cells(out, few)?;
+        rest = more;
     }
     Ok(())
 }
@@ -81,12 +88,7 @@ pub fn push_entry_line(
     ensures room { vec_capacity out.old ≤ vec_capacity out.new }
     ensures full { OnErr result (LacksRoom out.old (entry_line owner shard entry.now)) }
 {
-    out.extend_from_slice(b"#entry,")?;
-    push_owner(out, owner)?;
-    push_number_field(out, shard)?;
-    push_number_field(out, entry.part)?;
-    push_time_field(out, entry.sync)?;
-    push_time_field(out, entry.other)?;
+    push_line_head(out, owner, shard, entry)?;
     push_cells(out, entry.cells.items())?;
     Ok(())
 }

@@ -9,8 +9,8 @@ use itoa::Buffer;
 use row_reader::read_number;
 use tw_rows::{Memory, Time};
 
-/// Appends the number.
-pub fn push_decimal(out: &mut Vec<u8>, number: u64) -> Result<(), Memory>
+// Appends the number.
+fn push_decimal(out: &mut Vec<u8>, number: u64) -> Result<(), Memory>
     ensures ok { OnOk result (out.new.items ≡ out.old.items ++ decimal number) }
     ensures room { vec_capacity out.old ≤ vec_capacity out.new }
     ensures full { OnErr result (LacksRoom out.old (decimal number)) }

@@ -9,6 +9,7 @@ mod laws;
 mod owner;
 mod places;
 mod progress;
+mod putting;
 mod text;
 
 pub use entry::{EntryLine, push_entry_line, read_entry_line};

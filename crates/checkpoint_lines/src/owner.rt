@@ -1,14 +1,10 @@
 // Whose entries a checkpoint has.
-ghost use Rattle.std.specs.Prelude.{◌≡◌, ◌++◌, ◌∷◌, OnOk, OnErr, IfSome, drop, ◌≤◌, vec_capacity};
-ghost use Rattle.checkpoint_lines.specs.Room.{LacksRoom};
+ghost use Rattle.std.specs.Prelude.{◌≡◌, IfSome, drop};
 ghost use Rattle.row_reader.specs.Fields.{commas, left};
-ghost use Rattle.checkpoint_lines.specs.Lines.{owner_text};
 ghost use Rattle.checkpoint_lines.specs.Reading.{owner_of, part_of, part_by};
 
-use crate::fields::push_decimal;
 use frozen_state::Owner;
 use row_reader::{Fields, read_whole};
-use tw_rows::Memory;
 
 /// Which entries of whom.
 #[derive(Clone, Copy, Debug, PartialEq, Eq)]
@@ -17,20 +13,6 @@ pub struct EntryPart {
     /// The shard of the owner, which is 0 where it has none.
     pub shard: u64,
     pub part: u64,
-}
-
-/// Appends the owner.
-pub fn push_owner(out: &mut Vec<u8>, owner: Owner) -> Result<(), Memory>
-    ensures ok { OnOk result (out.new.items ≡ out.old.items ++ owner_text owner) }
-    ensures room { vec_capacity out.old ≤ vec_capacity out.new }
-    ensures full { OnErr result (LacksRoom out.old (owner_text owner)) }
-{
-    match owner {
-        Owner::In => out.extend_from_slice(b"in")?,
-        Owner::Node(number) => push_decimal(out, number)?,
-        Owner::Out => out.extend_from_slice(b"out")?,
-    }
-    Ok(())
 }
 
 #[tactic(auto, unfolding(crate::specs::Reading::owner_of))]

@@ -43,24 +43,27 @@ fn split_two(line: &[u8]) -> Option<(&[u8], &[u8])>
     Some((first, second))
 }
 
+// The number behind that word, in a line that has two fields.
+fn read_single(line: &[u8], expected: &[u8]) -> Option<u64>
+    ensures { result ≡ single_of expected.now (commas line.now) }
+{
+    let (word, bytes) = split_two(line)?;
+    if word != expected {
+        return None;
+    }
+    read_whole(bytes)
+}
+
 /// What a line of `push_input_line` says, where it is one.
 pub fn read_input_line(line: &[u8]) -> Option<u64>
     ensures { result ≡ input_of line.now }
 {
-    let (word, bytes) = split_two(line)?;
-    if word != b"#input".as_slice() {
-        return None;
-    }
-    read_whole(bytes)
+    read_single(line, b"#input")
 }
 
 /// What a line of `push_output_line` says, where it is one.
 pub fn read_output_line(line: &[u8]) -> Option<u64>
     ensures { result ≡ output_of line.now }
 {
-    let (word, bytes) = split_two(line)?;
-    if word != b"#output".as_slice() {
-        return None;
-    }
-    read_whole(bytes)
+    read_single(line, b"#output")
 }
