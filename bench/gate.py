@@ -1,20 +1,21 @@
 #!/usr/bin/env python3
 """Measures how many processor minutes the gate takes, crate by crate: for its check, its tests and its must-fail edits.
 
-usage: bench/gate.py [NAME ..]          runs `rt ci NAME ..` (with no name the whole gate), prints the table and keeps the figures
+usage: bench/gate.py                    runs `rt ci`, the whole gate, prints the table and keeps the figures
        bench/gate.py --watch PID        the same for a run of rt that goes already, until it ends
-       bench/gate.py --edits NAME ..    the same for `rt must-fail NAME ..`, over what `rt check` kept
+       bench/gate.py --edits NAME ..    the same for `rt must-fail NAME`, crate by crate
+       bench/gate.py --tests NAME ..    the same for `rt test` in each of these crates
        bench/gate.py --table            writes docs/gate.md from the figures that are kept, and measures nothing
 
 Every second it asks Linux for the processor time of each process of the run: those of the prover, the compiler and the tests.
 A process counts for the crate that its words name by --crate-name, as those that it starts do, and for `other` where none is
 named. What a process used after the last look at it is lost, so the sums are a few per cent too low.
-`rt ci` tries a crate's edits over a second proof of the crate, or a single edit from nothing. `rt must-fail` begins with what
-a check kept instead, so with --edits the crate's check is added to what was seen.
+`rt ci` tries a crate's edits over a second proof of the crate, or a single edit from nothing. So does `rt must-fail`, but in
+the kits of KEEPING, where it begins with what a check kept: there the crate's check is added to what was seen.
 Figures are kept in bench/gate.json, with the commit at which each crate was measured last, and with a line for each dear crate
-that says why. What `rt ci` had passed before on this machine costs nothing, and keeps the figure that it had. ./tempo --build
-says by these figures how long it takes yet.
-The status is that of the gate.
+that says why. Where a kit keeps what `rt ci` passed before on this machine, that costs nothing, and keeps the figure that it had.
+./tempo --build says by these figures how long it takes yet. The variable TEMPO_RT has another command than `rt`.
+The status is that of what was run.
 """
 import collections
 import json
@@ -25,6 +26,8 @@ import time
 from pathlib import Path
 
 ROOT = Path(__file__).resolve().parent.parent
+RT = os.environ.get("TEMPO_RT", "rt").split()
+KEEPING = {"rattle-kit-13f"}
 KEPT = ROOT / "bench/gate.json"
 TABLE = ROOT / "docs/gate.md"
 TICK = os.sysconf("SC_CLK_TCK")
@@ -88,10 +91,34 @@ def watch(pid, is_going):
     return sums
 
 
+def kit():
+    return subprocess.run(["rt", "version"], capture_output=True, text=True).stdout.strip()
+
+
 def with_second_proof(sums):
-    """What the gate takes for the edits that rt must-fail tried over kept proofs."""
-    rows = kept()["crates"]
-    return {name: {"edits": parts["edits"] + rows.get(name, {}).get("check", 0)} for name, parts in sums.items() if parts["edits"]}
+    """What the gate takes for the edits that rt must-fail tried."""
+    rows, is_kept = kept()["crates"], kit().partition(" ")[0] in KEEPING
+    seen = {name: parts["edits"] for name, parts in sums.items() if parts["edits"]}
+    return {name: {"edits": minutes + is_kept * rows.get(name, {}).get("check", 0)} for name, minutes in seen.items()}
+
+
+def run(words, folder=ROOT):
+    """Runs a command of rt. Gives its minutes, by crate and part, and its status."""
+    going = subprocess.Popen([*RT, *words], cwd=folder)
+    sums = watch(going.pid, lambda: going.poll() is None)
+    return sums, going.returncode
+
+
+def one_by_one(names, words, counted):
+    """Runs a command for each of the crates, keeps the figures of each as it ends, and gives them all with the worst status."""
+    found, worst = {}, 0
+    for name in names:
+        sums, status = run(*words(name))
+        sums = {crate: parts for crate, parts in counted(sums).items() if crate == name}
+        keep(sums)
+        found.update(sums)
+        worst = worst or status
+    return found, worst
 
 
 def commit():
@@ -121,9 +148,8 @@ def keep(sums):
         new = {part: round(minutes, 2) for part, minutes in parts.items() if minutes >= LEAST}
         if name in named and new:
             rows[name] = {**rows.get(name, {}), **new, "at": commit()}
-    kit = subprocess.run(["rt", "version"], capture_output=True, text=True).stdout.strip()
     sources = sums.get("sources", {}).get("check") or kept().get("sources")
-    told = {"machine": machine(), "kit": kit, **({"sources": round(sources, 2)} if sources else {})}
+    told = {"machine": machine(), "kit": kit(), **({"sources": round(sources, 2)} if sources else {})}
     maps = {"why": {name: why for name, why in kept().get("why", {}).items() if name in named},
             "crates": {name: rows[name] for name in named if name in rows}}
     lines = [f"  {json.dumps(key)}: {json.dumps(value)}" for key, value in told.items()]
@@ -192,13 +218,15 @@ def main():
     if words[:1] == ["--watch"]:
         pid = int(words[1])
         sums = watch(pid, lambda: os.path.exists(f"/proc/{pid}"))
+    elif words[:1] == ["--edits"]:
+        sums, status = one_by_one(words[1:], lambda name: (["must-fail", name],), with_second_proof)
+    elif words[:1] == ["--tests"]:
+        tests = lambda sums: {name: {"tests": parts["tests"]} for name, parts in sums.items()}
+        sums, status = one_by_one(words[1:], lambda name: (["test"], ROOT / "crates" / name), tests)
+    elif words:
+        sys.exit(__doc__)
     else:
-        alone = words[:1] == ["--edits"]
-        gate = subprocess.Popen(["rt", *(["must-fail", *words[1:]] if alone else ["ci", *words])], cwd=ROOT)
-        sums = watch(gate.pid, lambda: gate.poll() is None)
-        status = gate.returncode
-        if alone:
-            sums = with_second_proof(sums)
+        sums, status = run(["ci"])
     keep(sums)
     write_table()
     print(table(sums), end="")

@@ -20,9 +20,10 @@ QUERY = f"{TRADES} | where px > 125"
 ROUNDS = 200
 
 
-def answer_time(program):
+def answer_time(program, query=QUERY, workers=1):
     """The median of the seconds from a line that makes a punctuation due to the first bytes, over a pipe."""
-    run = subprocess.Popen([program, "--query", QUERY], stdin=subprocess.PIPE, stdout=subprocess.PIPE, bufsize=0)
+    words = [program, "--query", query, *(["--workers", str(workers)] if workers > 1 else [])]
+    run = subprocess.Popen(words, stdin=subprocess.PIPE, stdout=subprocess.PIPE, bufsize=0)
     times = []
     for i in range(1, ROUNDS + 1):
         run.stdin.write(f"trades,interval,{10 * i},{10 * i + 5},{i},S,130,1\n".encode())

@@ -1,14 +1,17 @@
 #!/usr/bin/env python3
-"""Says what `--workers` costs and gives, and that it changes no byte.
+"""Says what `--workers` costs and gives, beside one worker and beside programs written by hand, and that it changes no byte.
 
-usage: bench/workers.py [COUNT] [--before PATH] [--program PATH]
+usage: bench/workers.py [COUNT] [--query NAME ..] [--gap N ..] [--workers N ..] [--rounds N] [--no-instructions]
+                        [--before PATH] [--program PATH]
 
-Runs a filter, windows with a group, a join, an anti-join and sessions over COUNT lines (300,000 if not given) at 1, 2, 3, 4 and
-16 workers, with a punctuation after each 100 lines and again after each 20,000, and tells for each number of workers its time
-by the clock and by the processor as a ratio to one worker of the same minutes. --before names an earlier program, which is run
-beside one worker. Where valgrind is installed, the instructions of 20,000 lines too, which depend on nothing else that the
-machine does: one worker is wanted at most 1.02 times the earlier program.
-Ends with status 1 where two numbers of workers, or the earlier program, write different bytes.
+Over COUNT lines (1,000,000 if not given), for a filter, windows with a group, a join, an anti-join and sessions, with a
+punctuation after each 100 lines, after each 10,000 and none until the end (a gap of 0): the time by the clock and by the
+processor of one worker beside the yardstick, of 2, 3, 4 and 16 workers beside one and beside the yardstick, and the most memory,
+all of them in turn. --query, --gap and --workers take some of these. --before names an earlier program, which is run beside one
+worker. Then the time from a line that makes a punctuation due to its bytes, over a pipe, at one and at four workers; and where
+valgrind is installed, the instructions of 20,000 lines, which depend on nothing else that the machine does: one worker is wanted
+at most 1.02 times the earlier program. The table at the end has the ratios by the clock, and what is wanted of them.
+Ends with status 1 where two numbers of workers, the yardstick or the earlier program write different bytes.
 """
 import re
 import shutil
@@ -17,16 +20,16 @@ import sys
 import tempfile
 from pathlib import Path
 
-from runs import STREAMS, TRADES, arguments, in_turn, write_keyed, write_trades
+from program import answer_time
+from runs import STREAMS, TRADES, arguments, in_turn, write_keyed, write_trades, yardstick
 
 KEYS = 1000
 WORKERS = (1, 2, 3, 4, 16)
 COUNTED = (1, 2, 4)
-ROUNDS = 3
 COUNTED_LINES = 20_000
 WANTED = 1.02
-# The lines after which a punctuation stands: as they are generated, and where a step has many edges.
-NEAR, FAR = 100, 20_000
+# The lines after which a punctuation stands, as they are generated; where a step has many edges; and none until the end.
+NEAR, FAR, NONE = 100, 10_000, 0
 QUERIES = {
     "filter": f"{TRADES} | where px > 125",
     "tumble": f"{TRADES} | tumble 60 | group by sym : count as n, sum qty as q",
@@ -34,7 +37,17 @@ QUERIES = {
     "anti": STREAMS + "l | anti r on k",
     "session": STREAMS + "l | session 30 by k",
 }
-BEFORE = "before"
+BEFORE, YARDSTICK = "the earlier program", "the yardstick"
+# What is wanted of ratios by the clock: one worker beside the yardstick, four beside it, and one beside four; and four beside one.
+ONE = {"filter": 1.0, "tumble": 1.6, "join": 1.5, "session": 1.3}
+FOUR = {"filter": 1.0, "tumble": 1.1, "join": 1.0}
+GAINS = {"filter": 1.3, "tumble": 1.5, "join": 1.6}
+LOSS = 1.05
+# The most memory of four workers beside one, and megabytes that the filter may take at four.
+MEMORY, FILTER_MEGABYTES = 2, 64
+# Queries that answer each punctuation with a line, and within how many seconds.
+ANSWERED = {"filter": QUERIES["filter"], "group": f"{TRADES} | group by sym : count as n"}
+SECONDS = 1e-3
 
 
 def write_lines(path, query, count, gap):
@@ -52,37 +65,42 @@ def write_lines(path, query, count, gap):
                 out.write(line)
                 continue
             seen += 1
-            if seen % (gap // NEAR) == 0:
+            if gap and seen % (gap // NEAR) == 0:
                 out.write(line)
 
 
-def words_of(read, query, workers):
-    """The program and its words: the earlier program has no option for workers."""
-    if workers == BEFORE:
+def words_of(read, query, name):
+    """A program and its words: the earlier one has no option for workers."""
+    if name == YARDSTICK:
+        return [yardstick(), query]
+    if name == BEFORE:
         return [read.before, "--query", QUERIES[query]]
-    return [read.program, "--workers", str(workers), "--query", QUERIES[query]]
+    return [read.program, "--workers", str(name), "--query", QUERIES[query]]
+
+
+def titled(name):
+    return name if isinstance(name, str) else f"{name} worker{'s' * (name != 1)}"
 
 
 def compare_times(read, query, path, gap):
-    """Prints the times of each number of workers, and returns whether all wrote the same bytes."""
+    """Prints the times of each number of workers. Gives them, where all wrote the same bytes, and else None."""
     write_lines(path, query, read.count, gap)
-    numbers = [*WORKERS, *([BEFORE] if read.before else [])]
-    runs = in_turn({number: (words_of(read, query, number), path) for number in numbers}, ROUNDS)
-    one = runs[1]
-    print(f"{query}, {read.count} lines, a punctuation each {gap}: 1 worker {one.wall:.2f} s by the clock, "
-          f"{one.processor:.2f} s of processor, {one.kilobytes / 1024:.0f} MB", flush=True)
-    for number in numbers[1:]:
-        run = runs[number]
-        name = "the earlier program" if number == BEFORE else f"{number} workers"
+    names = [YARDSTICK, *read.workers, *([BEFORE] if read.before else [])]
+    runs = in_turn({name: (words_of(read, query, name), path) for name in names}, read.rounds)
+    one, hand = runs[1], runs[YARDSTICK]
+    told = f"a punctuation each {gap}" if gap else "no punctuation"
+    print(f"{query}, {read.count} lines, {told}:", flush=True)
+    for name, run in runs.items():
         same = "" if run.digest == one.digest else "; OTHER BYTES"
-        print(f"    {name}: {run.wall / one.wall:.2f} times by the clock, {run.processor / one.processor:.2f} by the processor, "
-              f"{run.kilobytes / 1024:.0f} MB{same}", flush=True)
-    return all(run.digest == one.digest for run in runs.values())
+        print(f"    {titled(name)}: {run.wall:.2f} s by the clock, {run.processor:.2f} s of processor, {run.kilobytes / 1024:.0f} MB; "
+              f"by the clock {run.wall / hand.wall:.2f} times the yardstick, {run.wall / one.wall:.2f} times one worker; "
+              f"by the processor {run.processor / hand.processor:.2f}, {run.processor / one.processor:.2f}{same}", flush=True)
+    return runs if len({run.digest for run in runs.values()}) == 1 else None
 
 
 def instructions(words, path, folder):
     """How many instructions all threads of the run take over the lines."""
-    counted = ["valgrind", "--tool=callgrind", f"--callgrind-out-file={folder / 'calls'}", *words]
+    counted = ["valgrind", "--tool=callgrind", f"--callgrind-out-file={folder / 'calls'}", *map(str, words)]
     with open(path) as lines:
         run = subprocess.run(counted, stdin=lines, stdout=subprocess.DEVNULL, stderr=subprocess.PIPE, check=True)
     return int(re.search(rb"Collected : (\d+)", run.stderr)[1])
@@ -90,29 +108,72 @@ def instructions(words, path, folder):
 
 def compare_instructions(read, query, path, folder):
     write_lines(path, query, COUNTED_LINES, NEAR)
-    numbers = [*COUNTED, *([BEFORE] if read.before else [])]
-    counts = {number: instructions(words_of(read, query, number), path, folder) for number in numbers}
-    told = [f"{number} workers {counts[number] / counts[1]:.3f} times" for number in COUNTED[1:]]
+    names = [*(number for number in COUNTED if number in read.workers), YARDSTICK, *([BEFORE] if read.before else [])]
+    counts = {name: instructions(words_of(read, query, name), path, folder) for name in names}
+    told = [f"{titled(name)} {counts[name] / counts[1]:.3f} times" for name in names[1:]]
     if read.before:
         ratio = counts[1] / counts[BEFORE]
-        told.append(f"1 worker {ratio:.3f} times the earlier program (wanted {WANTED}: {'met' if ratio <= WANTED else 'MISSED'})")
-    print(f"{query}, instructions a line: 1 worker {counts[1] / COUNTED_LINES:.0f}; {'; '.join(told)}", flush=True)
+        told.append(f"one worker {ratio:.3f} times the earlier program (wanted {WANTED}: {'met' if ratio <= WANTED else 'MISSED'})")
+    print(f"{query}, instructions a line: one worker {counts[1] / COUNTED_LINES:.0f}; {'; '.join(told)}", flush=True)
+
+
+def against(ratio, wanted, is_least=False):
+    """A ratio as a cell of the table, with what is wanted of it."""
+    if wanted is None:
+        return f"{ratio:.2f}"
+    met = ratio >= wanted if is_least else ratio <= wanted
+    return f"{ratio:.2f} ({'' if met else '*MISSED* '}{wanted})"
+
+
+def tell_table(figures):
+    """The ratios by the clock, with what is wanted in brackets."""
+    print("\n| query, punctuation | one worker beside the yardstick | four beside the yardstick | one beside four | four beside one | "
+          "memory of four beside one; MB |\n|---|---|---|---|---|---|")
+    for (query, gap), runs in figures.items():
+        one, four, hand = runs[1], runs[4], runs[YARDSTICK]
+        megabytes = four.kilobytes / 1024
+        most = f"{megabytes:.0f}"
+        if query == "filter":
+            most += f" ({'' if megabytes <= FILTER_MEGABYTES else '*MISSED* '}{FILTER_MEGABYTES})"
+        cells = [f"{query}, {f'each {gap}' if gap else 'none'}", against(one.wall / hand.wall, ONE.get(query)),
+                 against(four.wall / hand.wall, FOUR.get(query)), against(one.wall / four.wall, GAINS.get(query), True),
+                 against(four.wall / one.wall, LOSS), f"{against(four.kilobytes / max(one.kilobytes, 1), MEMORY)}; {most}"]
+        print(f"| {' | '.join(cells)} |")
 
 
 def main(read):
-    good = True
+    good, figures = True, {}
     read.before = read.before and read.before.resolve()
+    read.workers = sorted({1, *read.workers})
     with tempfile.TemporaryDirectory() as name:
         folder = Path(name)
         path = folder / "lines"
-        for query in QUERIES:
-            for gap in (NEAR, FAR):
-                good = compare_times(read, query, path, gap) and good
-            if shutil.which("valgrind"):
+        for gap in read.gap:
+            for query in read.query:
+                runs = compare_times(read, query, path, gap)
+                good = good and runs is not None
+                if runs and 4 in runs:
+                    figures[query, gap] = runs
+        if not read.no_instructions and shutil.which("valgrind"):
+            for query in read.query:
                 compare_instructions(read, query, path, folder)
+    for number in (1, 4):
+        for name, query in ANSWERED.items():
+            taken = answer_time(read.program, query, number)
+            met = "met" if taken < SECONDS else "MISSED"
+            print(f"from a line that makes a punctuation due to its bytes, {name}, {titled(number)}: {taken * 1e6:.0f} us (wanted "
+                  f"below {SECONDS * 1e6:.0f}: {met})", flush=True)
+    if figures:
+        tell_table(figures)
     sys.exit(0 if good else 1)
 
 
 if __name__ == "__main__":
-    count = {"nargs": "?", "type": int, "default": 300_000}
-    main(arguments(__doc__, ("count", count), ("--before", {"type": Path, "help": "an earlier program, run beside one worker"})))
+    main(arguments(__doc__,
+                   ("count", {"nargs": "?", "type": int, "default": 1_000_000}),
+                   ("--query", {"nargs": "+", "choices": QUERIES, "default": list(QUERIES)}),
+                   ("--gap", {"nargs": "+", "type": int, "default": [NEAR, FAR, NONE], "help": "a multiple of 100, or 0 for none"}),
+                   ("--workers", {"nargs": "+", "type": int, "default": WORKERS}),
+                   ("--rounds", {"type": int, "default": 5, "help": "runs of each, of which the least counts"}),
+                   ("--no-instructions", {"action": "store_true"}),
+                   ("--before", {"type": Path, "help": "an earlier program, run beside one worker"})))

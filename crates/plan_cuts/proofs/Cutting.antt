@@ -1,5 +1,5 @@
 -- The induction over a plan.
-use Rattle.std.specs.Prelude.{◌≡◌, ℕ, ◌<◌, ◌⊎◌, nat_eq, Bool, true, false, Option, Some, None, option_to_list, List, [], ◌∷◌, length, slice_get, slice_index_or, All, refl}
+use Rattle.std.specs.Prelude.{◌≡◌, ℕ, ◌<◌, ◌⊎◌, nat_eq, nat_lt, Bool, true, false, cond, Option, Some, None, option_to_list, List, [], ◌∷◌, length, filter, slice_get, slice_index_or, All, refl}
 use Rattle.std.proofs.Common.{inl, inr, sym, ◌∙◌, ap, subst, arith}
 use Rattle.std.proofs.lemmas.Bool.{or_cases, eqb-true}
 use Rattle.std.proofs.lemmas.List.{length-map}
@@ -7,6 +7,7 @@ use Rattle.std.proofs.lemmas.List.Elements.{All-head, All-tail}
 use Rattle.std.proofs.lemmas.Option.{get_or_from_slice_get, slice_get_within}
 use Rattle.tw_rows.specs.Kinds.{cell_kind_of}
 use Rattle.tw_rows.specs.declared.row.Value.{Value}
+use Rattle.tw_rows.specs.declared.schema.StreamDef.{StreamDef}
 use Rattle.plan_model.specs.IsPlan.{kinds_of_stream, kinds_at, PlanParts, IsPlan}
 use Rattle.plan_model.specs.Meaning.{Sources, events, node_events}
 use Rattle.plan_model.specs.Shape.{Shape, Stream, One, Two, shape, left_in, read_left, HasLower}
@@ -16,22 +17,25 @@ use Rattle.plan_model.proofs.Plans.{by_nodes}
 use Rattle.plan_laws.specs.Widths.{FitStreams}
 use Rattle.plan_laws.proofs.RowsOf.{Rows}
 use Rattle.plan_laws.proofs.Widths.{events_wide}
-use Rattle.plan_cuts.specs.Cuts.{is_among, node_places, width_at, cut_places}
+use Rattle.plan_cuts.specs.Cuts.{is_among, node_places, width_at, stream_widths, stream_places, cut_places}
 use Rattle.plan_cuts.specs.Parts.{passing_events, passing_sources, IsCutBy}
 use Rattle.plan_cuts.proofs.Steps.{IsCut, step}
 
 -- the column of a stream is the one of the list
-column_is : (columns : List ℕ) (s c : ℕ) → is_among (option_to_list (slice_get columns s)) c ≡ true →
-    c ≡ slice_index_or columns s 0
-column_is columns s c h = at (slice_get columns s) refl h
+column_is : (streams : List StreamDef) (columns : List ℕ) (s c : ℕ) → is_among (stream_places streams columns s) c ≡ true → c ≡ slice_index_or columns s 0
+column_is streams columns s c h = at (slice_get columns s) refl h
   where
     one : (x : ℕ) → slice_get columns s ≡ Some x → (nat_eq c x ≡ true) ⊎ (false ≡ true) → c ≡ slice_index_or columns s 0
     one x e (inl k) = eqb-true c x k ∙ sym (get_or_from_slice_get columns s x 0 e)
     one x e (inr k) = absurd (cc)
 
-    at : (o : Option ℕ) → slice_get columns s ≡ o → is_among (option_to_list o) c ≡ true → c ≡ slice_index_or columns s 0
-    at None e h = absurd (cc)
-    at (Some x) e h = one x e (or_cases (nat_eq c x) false h)
+    kept : (x : ℕ) → slice_get columns s ≡ Some x → (b : Bool) → is_among (cond b (x ∷ []) []) c ≡ true → c ≡ slice_index_or columns s 0
+    kept x e true k = one x e (or_cases (nat_eq c x) false k)
+    kept x e false k = absurd (cc)
+
+    at : (o : Option ℕ) → slice_get columns s ≡ o → is_among (filter (λ x. nat_lt x (slice_index_or (stream_widths streams) s 0)) (option_to_list o)) c ≡ true → c ≡ slice_index_or columns s 0
+    at None e k = absurd (cc)
+    at (Some x) e k = kept x e (nat_lt x (slice_index_or (stream_widths streams) s 0)) k
 
 each_of_all : {X : Type 0} (P : X → Type 0) (xs : List X) → All P xs → Each P xs
 each_of_all P [] h = tt
@@ -69,9 +73,9 @@ module _ (test : Value → Bool) (plan : PlanParts) (kept : IsPlan plan) (source
       IsCut test (events source plan.nodes i) (events (passing_sources test columns source) plan.nodes i)
       (cut_places plan columns i)
   events_cut =
-      by_nodes [] [] [] source (passing_sources test columns source) (λ s. option_to_list (slice_get columns s)) node_events
+      by_nodes [] [] [] source (passing_sources test columns source) (stream_places plan.streams columns) node_events
       node_events (node_places (width_at plan.schemas)) (IsCut test) plan.nodes (IsPlan-ordered plan kept) (λ c h. absurd (cc))
-      (λ s c h. ap (λ k. passing_events test k (source s)) (sym (column_is columns s c h)))
+      (λ s c h. ap (λ k. passing_events test k (source s)) (sym (column_is plan.streams columns s c h)))
       (λ i n there left right.
       let is = kept.nodes_are.each i n there in
       step test (width_at plan.schemas) n _ _ _ _ _ _ _ _ is.sound (same_width (shape n))

@@ -1,5 +1,5 @@
 -- What a search for cuts keeps.
-use Rattle.std.specs.Prelude.{◌≡◌, ℕ, zero, suc, ◌+◌, ◌*◌, ◌<◌, ◌≤◌, min, nat_eq, nat_lt, Bool, true, false, Some, None, option_to_list, List, [], ◌∷◌, ◌++◌, length, slice_get, slice_index_or, drop, refl}
+use Rattle.std.specs.Prelude.{◌≡◌, ℕ, zero, suc, ◌+◌, ◌*◌, ◌<◌, ◌≤◌, min, nat_eq, nat_lt, Bool, true, false, Some, None, List, [], ◌∷◌, ◌++◌, length, slice_get, slice_index_or, drop, refl}
 use Rattle.std.proofs.Common.{inl, inr, sym, ◌∙◌, ap, subst, arith, add-one, mul-suc, mul_assoc, drop-cons}
 use native.Mathlib.Numerals.{unary_clauses}
 use Rattle.std.proofs.Math.Seq.{get_or-append_seam}
@@ -11,7 +11,7 @@ use Rattle.plan_model.specs.Shape.{left_of, right_of}
 use Rattle.plan_model.proofs.Kept.{IsPlan-ordered, node_at}
 use Rattle.plan_model.proofs.Plans.{over_nodes-from}
 use Rattle.plan_laws.specs.Undefined.{or_next, first_below}
-use Rattle.plan_cuts.specs.Cuts.{in_both_keys, node_places, width_at, cut_places, is_uncut}
+use Rattle.plan_cuts.specs.Cuts.{in_both_keys, node_places, width_at, stream_places, cut_places, is_uncut}
 use Rattle.plan_cuts.specs.Choices.{choice_count}
 
 -- no column is found once one of the keys ends
@@ -41,10 +41,10 @@ past b i n e k = ltb-false i n (sym e ∙ k)
 -- the columns of the next node, from those of the nodes before it
 pub next_found : (plan : PlanParts) → IsPlan plan → (columns : List ℕ) (i : ℕ) (n : Node) → slice_get plan.nodes i ≡ Some n →
     (done : List (List ℕ)) → ((k : ℕ) → k < i → slice_index_or done k [] ≡ cut_places plan columns k) →
-    node_places (width_at plan.schemas) n (left_of [] (λ s. option_to_list (slice_get columns s)) (λ k. slice_index_or done k []) n)
+    node_places (width_at plan.schemas) n (left_of [] (stream_places plan.streams columns) (λ k. slice_index_or done k []) n)
     (right_of [] (λ k. slice_index_or done k []) n) ≡ cut_places plan columns i
 next_found plan kept columns i n there done below =
-    sym (over_nodes-from [] (λ s. option_to_list (slice_get columns s)) (node_places (width_at plan.schemas)) plan.nodes
+    sym (over_nodes-from [] (stream_places plan.streams columns) (node_places (width_at plan.schemas)) plan.nodes
     (IsPlan-ordered plan kept) i n there (λ k. slice_index_or done k []) below)
 
 -- the least number that passes a test
@@ -93,7 +93,7 @@ pub next_is : (plan : PlanParts) → IsPlan plan → (columns : List ℕ) (i : �
     (done passed : List (List ℕ)) (places : List ℕ) → nodes ≡ plan.nodes → i < length nodes → n ≡ slice_index_or nodes i n →
     passed ≡ done → ((k : ℕ) → k < i → slice_index_or done k [] ≡ cut_places plan columns k) →
     places ≡ node_places (width_at plan.schemas) n
-    (left_of [] (λ s. option_to_list (slice_get columns s)) (λ k. slice_index_or passed k []) n)
+    (left_of [] (stream_places plan.streams columns) (λ k. slice_index_or passed k []) n)
     (right_of [] (λ k. slice_index_or passed k []) n) → places ≡ cut_places plan columns i
 next_is plan kept columns i n nodes done passed places same low is value below e =
     e ∙ next_found plan kept columns i n

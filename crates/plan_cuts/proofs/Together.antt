@@ -1,7 +1,7 @@
 -- What the parts of a plan have together.
 use Rattle.std.specs.Prelude.{◌≡◌, ◌≢◌, ◌↔◌, ℕ, zero, suc, ◌<◌, nat_eq, Bool, true, false, cond, ◌||◌, is_none, Option, Some, None, List, [], ◌∷◌, length, filter, slice_get, slice_index_or, refl}
 use Rattle.std.proofs.Common.{sym, ◌∙◌, ap, subst, arith}
-use Rattle.std.proofs.lemmas.Bool.{eqb-true, eq-eqb, false_from_ne_true}
+use Rattle.std.proofs.lemmas.Bool.{and_parts, eqb-true, eq-eqb, false_from_ne_true}
 use Rattle.std.proofs.lemmas.Option.{slice_get-get_or}
 use Rattle.tw_rows.specs.Bag.{SameBag}
 use Rattle.tw_rows.specs.Event.{alive}
@@ -241,12 +241,19 @@ none_uncut p zero h = refl
 none_uncut p (suc n) h = rw (none_uncut p n (λ i low. h i (omega (arith, low))), h n (omega arith)) refl
 
 pub nodes_cut : (plan : PlanParts) (columns : List ℕ) → (may_be_cut plan columns ≡ true) ↔
-    ((i : ℕ) → i < length plan.nodes → (place : ℕ) × (is_among (cut_places plan columns i) place ≡ true))
+    ((length columns ≡ length plan.streams)
+    × ((i : ℕ) → i < length plan.nodes → (place : ℕ) × (is_among (cut_places plan columns i) place ≡ true)))
 nodes_cut plan columns = (
-  λ h i low. first_among (cut_places plan columns i)
-      (first_below_none (is_uncut plan columns) (length plan.nodes) (is_None (first_uncut plan columns) h) i low),
-  λ each. ap is_none (none_uncut (is_uncut plan columns) (length plan.nodes)
-      (λ i low. let at = each i low in not_empty (cut_places plan columns i) at.0 at.1)),
+  λ h.
+      let both = and_parts (nat_eq (length columns) (length plan.streams)) (is_none (first_uncut plan columns)) h in (
+        eqb-true (length columns) (length plan.streams) both.0,
+        λ i low. first_among (cut_places plan columns i)
+            (first_below_none (is_uncut plan columns) (length plan.nodes) (is_None (first_uncut plan columns) both.1) i low),
+      ),
+  λ each.
+      rw (eq-eqb (length columns) (length plan.streams) each.0)
+      (ap is_none (none_uncut (is_uncut plan columns) (length plan.nodes)
+      (λ i low. let at = each.1 i low in not_empty (cut_places plan columns i) at.0 at.1))),
 )
   where
     is_None : (o : Option ℕ) → is_none o ≡ true → o ≡ None

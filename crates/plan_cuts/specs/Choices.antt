@@ -1,11 +1,7 @@
 -- The choices of a column for each stream by which a plan may be cut.
-use Rattle.std.specs.Prelude.{ℕ, zero, suc, ◌+◌, ◌*◌, ◌/◌, ◌%◌, ◌^◌, cond, List, [], ◌∷◌, ◌++◌, length, map}
+use Rattle.std.specs.Prelude.{ℕ, zero, suc, ◌+◌, ◌*◌, ◌/◌, ◌%◌, ◌^◌, cond, List, [], ◌∷◌, ◌++◌}
 use Rattle.plan_model.specs.IsPlan.{PlanParts}
-use Rattle.plan_cuts.specs.Cuts.{may_be_cut}
-
--- how many columns each stream has
-abbrev pub stream_widths : PlanParts → List ℕ
-stream_widths plan = map (λ s. length s.schema) plan.streams
+use Rattle.plan_cuts.specs.Cuts.{stream_widths, may_be_cut}
 
 -- how many choices there are of a number below each of these. Below 2 and 3: 6
 abbrev pub choice_count : List ℕ → ℕ
@@ -27,11 +23,11 @@ number_of (width ∷ widths) (column ∷ columns) = number_of widths columns * w
 abbrev pub cuts_below : PlanParts → ℕ → List (List ℕ)
 cuts_below plan zero = []
 cuts_below plan (suc n) = cuts_below plan n
-    ++ cond (may_be_cut plan (choice (stream_widths plan) n)) (choice (stream_widths plan) n ∷ []) []
+    ++ cond (may_be_cut plan (choice (stream_widths plan.streams) n)) (choice (stream_widths plan.streams) n ∷ []) []
 
 -- the choices of a column for each stream by which the plan may be cut, in order
 abbrev pub cuts : PlanParts → List (List ℕ)
-cuts plan = cuts_below plan (choice_count (stream_widths plan))
+cuts plan = cuts_below plan (choice_count (stream_widths plan.streams))
 
 -- as many choices as are tried
 abbrev pub most_choices : ℕ

@@ -1,7 +1,8 @@
 -- When a plan may be cut by one column of each stream, so that each part of the rows is computed by itself.
-use Rattle.std.specs.Prelude.{ℕ, suc, ◌+◌, nat_eq, nat_lt, Bool, false, cond, not, ◌&&◌, is_none, Option, option_to_list, List, [], ◌∷◌, length, filter, slice_get, slice_index_or}
+use Rattle.std.specs.Prelude.{ℕ, suc, ◌+◌, nat_eq, nat_lt, Bool, false, cond, not, ◌&&◌, is_none, Option, option_to_list, List, [], ◌∷◌, length, map, filter, slice_get, slice_index_or}
 use Rattle.std.specs.List.{list_any}
 use Rattle.tw_rows.specs.declared.schema.ColumnDef.{ColumnDef}
+use Rattle.tw_rows.specs.declared.schema.StreamDef.{StreamDef}
 use Rattle.plan_model.specs.declared.expr.ExprNode.{ExprNode}
 use Rattle.plan_model.specs.declared.expr.ExprNode.TheVariants.{Column}
 use Rattle.plan_model.specs.declared.node.Node.{Node}
@@ -54,19 +55,29 @@ node_places width n a b = a
 abbrev pub width_at : List (List ColumnDef) → ℕ → ℕ
 width_at schemas i = length (slice_index_or schemas i [])
 
+-- how many columns each stream has
+abbrev pub stream_widths : List StreamDef → List ℕ
+stream_widths streams = map (λ s. length s.schema) streams
+
+-- the columns by which the rows of the stream of number s are cut: its column of the list, if it has one of that number. Of the
+-- columns 1 and 5, where each stream has two: 1 of the first, and none of the second
+abbrev pub stream_places : List StreamDef → List ℕ → ℕ → List ℕ
+stream_places streams columns s =
+    filter (λ c. nat_lt c (slice_index_or (stream_widths streams) s 0)) (option_to_list (slice_get columns s))
+
 -- the columns by which the rows of the node of number i are cut, where those of each stream are cut by its column of the list
 abbrev pub cut_places : PlanParts → List ℕ → ℕ → List ℕ
 cut_places plan columns i =
-    over_nodes [] (λ s. option_to_list (slice_get columns s)) (node_places (width_at plan.schemas)) plan.nodes i
+    over_nodes [] (stream_places plan.streams columns) (node_places (width_at plan.schemas)) plan.nodes i
 
--- the node has no such column, so that it brings rows of all parts together
+-- the rows of the node are cut by no column, as those of a select that leaves it out
 abbrev pub is_uncut : PlanParts → List ℕ → ℕ → Bool
 is_uncut plan columns i = nat_eq (length (cut_places plan columns i)) 0
 
--- the lowest node that brings rows of all parts together
+-- the lowest node whose rows are cut by no column
 abbrev pub first_uncut : PlanParts → List ℕ → Option ℕ
 first_uncut plan columns = first_below (is_uncut plan columns) (length plan.nodes)
 
--- the plan may be cut by these columns, one for each stream: no node brings rows of all parts together
+-- the plan may be cut by these columns, one for each stream: the rows of each node are cut by a column too
 abbrev pub may_be_cut : PlanParts → List ℕ → Bool
-may_be_cut plan columns = is_none (first_uncut plan columns)
+may_be_cut plan columns = nat_eq (length columns) (length plan.streams) && is_none (first_uncut plan columns)

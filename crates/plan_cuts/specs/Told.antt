@@ -2,8 +2,8 @@
 use Rattle.std.specs.Prelude.{ℕ, zero, suc, max, nat_lt, cond, Option, Some, None, List, [], ◌∷◌, ◌++◌, map, flat_map, slice_index_or, codes, decimal}
 use Rattle.tw_rows.specs.declared.schema.StreamDef.{StreamDef}
 use Rattle.plan_model.specs.IsPlan.{PlanParts}
-use Rattle.plan_cuts.specs.Cuts.{first_uncut}
-use Rattle.plan_cuts.specs.Choices.{stream_widths, choice_count, choice, cuts, most_choices}
+use Rattle.plan_cuts.specs.Cuts.{stream_widths, first_uncut}
+use Rattle.plan_cuts.specs.Choices.{choice_count, choice, cuts, most_choices}
 
 -- a stream with its column of a choice, as trades by sym
 abbrev pub stream_cut : StreamDef → ℕ → List ℕ
@@ -28,12 +28,12 @@ or_zero (Some i) = i
 abbrev pub furthest_below : PlanParts → ℕ → ℕ
 furthest_below plan zero = 0
 furthest_below plan (suc n) =
-    max (furthest_below plan n) (or_zero (first_uncut plan (choice (stream_widths plan) n)))
+    max (furthest_below plan n) (or_zero (first_uncut plan (choice (stream_widths plan.streams) n)))
 
--- the line of a plan that no choice cuts: the node that none gets past brings all rows together
+-- the line of a plan that no choice cuts: the node that none gets past
 abbrev pub no_way : PlanParts → List ℕ
-no_way plan = codes "no way: item " ++ decimal (furthest_below plan (choice_count (stream_widths plan)))
-    ++ codes " brings all rows together\n"
+no_way plan = codes "no way: node " ++ decimal (furthest_below plan (choice_count (stream_widths plan.streams)))
+    ++ codes " has no column by which its rows are cut\n"
 
 -- the lines of the choices, or the one that says why there are none
 abbrev pub lines_or : PlanParts → List (List ℕ) → List ℕ
@@ -43,5 +43,5 @@ lines_or plan (columns ∷ more) = flat_map (cut_line plan) (columns ∷ more)
 -- the text of the cuts of a plan. Of a group by sym of trades(sym text, qty int):
 -- trades by sym
 abbrev pub cut_text : PlanParts → List ℕ
-cut_text plan = cond (nat_lt most_choices (choice_count (stream_widths plan))) (codes "too many choices\n")
+cut_text plan = cond (nat_lt most_choices (choice_count (stream_widths plan.streams))) (codes "too many choices\n")
     (lines_or plan (cuts plan))

@@ -1,7 +1,7 @@
 // Whether a plan may be cut, and by which columns.
 ghost use Rattle.std.specs.Prelude.{◌≡◌, ◌<◌, ◌≤◌, ℕ, min, OnOk, IfOk, IfErr, ◌∷◌, [], ◌++◌, List, length, map};
-ghost use Rattle.plan_cuts.specs.Cuts.{first_uncut as first_of, may_be_cut as may_be};
-ghost use Rattle.plan_cuts.specs.Choices.{stream_widths, choice_count as count_of};
+ghost use Rattle.plan_cuts.specs.Cuts.{stream_widths, first_uncut as first_of, may_be_cut as may_be};
+ghost use Rattle.plan_cuts.specs.Choices.{choice_count as count_of};
 ghost use Rattle.plan_cuts.specs.declared.choosing.CutsFault.TheVariants as faults;
 ghost use Rattle.plan_cuts.specs.Choices.{choice as choice_of, cuts as cuts_of, most_choices};
 
@@ -30,8 +30,7 @@ impl From<Memory> for CutsFault {
     }
 }
 
-/// The lowest node that brings rows of all parts together, where the rows of each stream are cut by its column of the list.
-/// Where there is none, the plan may be cut by these columns.
+/// The lowest node whose rows are cut by no column, where the rows of each stream are cut by its column of the list.
 pub fn first_uncut(alloc: Global, plan: &Plan, columns: &[usize]) -> Result<Option<usize>, Memory>
     ensures { IfOk result (λ o. o ≡ first_of plan.now columns.now) }
 {
@@ -51,13 +50,16 @@ pub fn first_uncut(alloc: Global, plan: &Plan, columns: &[usize]) -> Result<Opti
 pub fn may_be_cut(alloc: Global, plan: &Plan, columns: &[usize]) -> Result<bool, Memory>
     ensures { IfOk result (λ b. b ≡ may_be plan.now columns.now) }
 {
+    if columns.len() != plan.streams().len() {
+        return Ok(false);
+    }
     let uncut = first_uncut(alloc, plan, columns)?;
     Ok(uncut.is_none())
 }
 
 /// How many columns each stream has.
 pub(crate) fn widths_of(alloc: Global, plan: &Plan) -> Result<Vec<usize>, Memory>
-    ensures { IfOk result (λ v. v.items ≡ stream_widths plan.now) }
+    ensures { IfOk result (λ v. v.items ≡ stream_widths plan.now.streams) }
 {
     let mut widths = Vec::new(alloc);
     for stream in plan.streams() {
@@ -102,9 +104,9 @@ fn put(found: &mut Vec<Key>, columns: Vec<usize>) -> Result<(), Memory>
 /// The choices of a column for each stream by which the plan may be cut, in order.
 pub fn cuts(alloc: Global, plan: &Plan) -> Result<Vec<Key>, CutsFault>
     ensures told { IfOk result (λ v. (v.items ≡ cuts_of plan.now)
-        × (count_of (stream_widths plan.now) ≤ most_choices)) }
+        × (count_of (stream_widths plan.now.streams) ≤ most_choices)) }
     ensures many { IfErr result (λ e. e ≡ faults.TooMany →
-        most_choices < count_of (stream_widths plan.now)) }
+        most_choices < count_of (stream_widths plan.now.streams)) }
 {
     let widths = widths_of(alloc, plan)?;
     let count = choice_count(&widths);

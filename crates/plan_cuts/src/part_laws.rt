@@ -15,11 +15,11 @@ ghost use Rattle.plan_cuts.specs.Cuts.{is_among, cut_places, may_be_cut};
 ghost use Rattle.plan_cuts.specs.Choices.{choice_count, choice, number_of};
 ghost use Rattle.plan_cuts.specs.Parts.{passing_events, passing_sources, part_of, part_at, IsCutBy};
 
-/// A plan may be cut by columns, one of each stream, where each of its nodes has a column by which its rows are cut.
+/// A plan may be cut by columns, one of each stream, where the rows of each of its nodes are cut by a column too.
 pub fn each_node_is_cut()
     ensures { (plan : PlanParts) (columns : List ℕ) → (may_be_cut plan columns ≡ true) ↔
-        ((i : ℕ) → i < length plan.nodes →
-        (place : ℕ) × (is_among (cut_places plan columns i) place ≡ true)) }
+        ((length columns ≡ length plan.streams) × ((i : ℕ) → i < length plan.nodes →
+        (place : ℕ) × (is_among (cut_places plan columns i) place ≡ true))) }
 {}
 
 /// Each choice of a number below each of these has its own number, below their product.

@@ -1,12 +1,12 @@
 // The columns by which the rows of nodes are cut.
-ghost use Rattle.std.specs.Prelude.{◌≡◌, ◌+◌, ℕ, nat_lt, not, ◌&&◌, IfOk, [], option_to_list, filter, slice_get, slice_index_or};
+ghost use Rattle.std.specs.Prelude.{◌≡◌, ◌+◌, ℕ, nat_lt, not, ◌&&◌, IfOk, [], filter, slice_index_or};
 ghost use Rattle.plan_model.specs.Shape.{at_child, left_of, right_of};
-ghost use Rattle.plan_cuts.specs.Cuts.{is_among as is_among_list, is_cut_column as is_cut_item};
+ghost use Rattle.plan_cuts.specs.Cuts.{is_among as is_among_list, is_cut_column as is_cut_item, stream_widths, stream_places};
 ghost use Rattle.plan_cuts.specs.Cuts.{passing_from, in_both_keys as in_both, node_places as places_of, width_at};
 
 use plan_model::{Expr, ExprNode, Key, Node, Plan};
 use std::alloc::Global;
-use tw_rows::Memory;
+use tw_rows::{Memory, StreamDef};
 
 // Whether the number is one of the list.
 fn is_among(places: &[usize], place: usize) -> bool
@@ -162,13 +162,31 @@ fn node_places(
     }
 }
 
-// The columns by which the rows of a stream are cut: its column of the list.
-fn source_places(alloc: Global, columns: &[usize], stream: usize) -> Result<Vec<usize>, Memory>
-    ensures { IfOk result (λ v. v.items ≡ option_to_list (slice_get columns.now stream)) }
+// How many columns the stream of that number has.
+fn stream_width(streams: &[StreamDef], number: usize) -> usize
+    ensures { result ≡ slice_index_or (stream_widths streams.now) number 0 }
 {
+    match streams.get(number) {
+        Some(stream) => stream.schema.items().len(),
+        None => 0,
+    }
+}
+
+// The columns by which the rows of a stream are cut: its column of the list, if it has one of that number.
+fn source_places(
+    alloc: Global,
+    streams: &[StreamDef],
+    columns: &[usize],
+    number: usize,
+) -> Result<Vec<usize>, Memory>
+    ensures { IfOk result (λ v. v.items ≡ stream_places streams.now columns.now number) }
+{
+    let width = stream_width(streams, number);
     let mut places = Vec::new(alloc);
-    if let Some(column) = columns.get(stream) {
-        places.push(*column)?;
+    if let Some(column) = columns.get(number) {
+        if *column < width {
+            places.push(*column)?;
+        }
     }
     Ok(places)
 }
@@ -192,12 +210,12 @@ pub(crate) fn next_places(
     done: &[Key],
 ) -> Result<Vec<usize>, Memory>
     ensures { IfOk result (λ v. v.items ≡ places_of (width_at plan.now.schemas) node.now
-        (left_of [] (λ s. option_to_list (slice_get columns.now s))
+        (left_of [] (stream_places plan.now.streams columns.now)
         (λ i. slice_index_or done.now i []) node.now)
         (right_of [] (λ i. slice_index_or done.now i []) node.now)) }
 {
     match node {
-        Node::Source { stream } => source_places(alloc, columns, *stream),
+        Node::Source { stream } => source_places(alloc, plan.streams(), columns, *stream),
         Node::Where { of, .. }
         | Node::Select { of, .. }
         | Node::Delay { of, .. }

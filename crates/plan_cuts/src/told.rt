@@ -1,6 +1,7 @@
 // The text of the cuts of a plan.
 ghost use Rattle.std.specs.Prelude.{◌≡◌, ◌≤◌, ◌++◌, OnOk, IfOk, [], cond, codes, decimal, flat_map, max, nat_lt, slice_index_or};
-ghost use Rattle.plan_cuts.specs.Choices.{stream_widths, choice_count as count_of, most_choices};
+ghost use Rattle.plan_cuts.specs.Cuts.{stream_widths};
+ghost use Rattle.plan_cuts.specs.Choices.{choice_count as count_of, most_choices};
 ghost use Rattle.plan_cuts.specs.Told.{stream_cut, cut_line};
 ghost use Rattle.plan_cuts.specs.Told.{furthest_below, no_way as no_way_text, cut_text as text_of};
 
@@ -37,10 +38,7 @@ fn put_comma(out: &mut Vec<u8>, number: usize) -> Result<(), Memory>
 fn column_of(columns: &[usize], number: usize) -> usize
     ensures { result ≡ slice_index_or columns.now number 0 }
 {
-    match columns.get(number) {
-        Some(column) => *column,
-        None => 0,
-    }
+    columns.get(number).copied().unwrap_or(0)
 }
 
 // The line of a choice.
@@ -57,8 +55,8 @@ fn put_cut(out: &mut Vec<u8>, plan: &Plan, columns: &[usize]) -> Result<(), Memo
 
 // The greatest of the nodes at which choices end.
 fn furthest(alloc: Global, plan: &Plan) -> Result<usize, Memory>
-    requires { count_of (stream_widths plan.now) ≤ most_choices }
-    ensures { IfOk result (λ n. n ≡ furthest_below plan.now (count_of (stream_widths plan.now))) }
+    requires { count_of (stream_widths plan.now.streams) ≤ most_choices }
+    ensures { IfOk result (λ n. n ≡ furthest_below plan.now (count_of (stream_widths plan.now.streams))) }
 {
     let widths = widths_of(alloc, plan)?;
     let mut most = 0;
@@ -73,15 +71,15 @@ fn furthest(alloc: Global, plan: &Plan) -> Result<usize, Memory>
 
 // The line of a plan that no choice cuts.
 fn no_way(alloc: Global, plan: &Plan) -> Result<Vec<u8>, Memory>
-    requires { count_of (stream_widths plan.now) ≤ most_choices }
+    requires { count_of (stream_widths plan.now.streams) ≤ most_choices }
     ensures { IfOk result (λ bytes. bytes.items ≡ no_way_text plan.now) }
 {
     let node = furthest(alloc, plan)?;
     let mut buffer = Buffer::new();
     let mut out = Vec::new(alloc);
-    out.extend_from_slice(b"no way: item ")?;
+    out.extend_from_slice(b"no way: node ")?;
     out.extend_from_slice(buffer.format(node as u64).as_bytes())?;
-    out.extend_from_slice(b" brings all rows together\n")?;
+    out.extend_from_slice(b" has no column by which its rows are cut\n")?;
     Ok(out)
 }
 

@@ -3,7 +3,7 @@ use Rattle.std.proofs.Common.{◌≡◌, ◌≤◌, ◌<◌, ℕ, suc, ◌+◌, 
 use Rattle.std.specs.Prelude.{◌||◌, ◌^◌}
 use Rattle.std.specs.List.{All}
 use Rattle.std.proofs.lemmas.List.{append-nil, append_cancel_left, length-append}
-use Rattle.wire_lines.specs.Journal.{Entry, In, Out, ins, outs, ended, IsOut, Grows}
+use Rattle.wire_lines.specs.Journal.{Entry, In, Out, Did, ins, outs, ended, IsOut, Grows}
 use Rattle.wire_lines.specs.Faults.{Rose}
 use Rattle.wire_lines.proofs.Growth.{ins-append, outs-append}
 use Rattle.tempo_cli.specs.Answers.{Answers}
@@ -31,28 +31,34 @@ ended-append [] K = refl
 ended-append (In [] ∷ J) K = refl
 ended-append (In (b ∷ bs) ∷ J) K = ended-append J K
 ended-append (Out b ∷ J) K = ended-append J K
+ended-append (Did mark ∷ J) K = ended-append J K
 
 pub ins_outs : (K : List Entry) → All IsOut K → ins K ≡ []
 ins_outs [] a = refl
 ins_outs (In b ∷ K) a = absurd (a 0 (In b) (omega arith))
 ins_outs (Out b ∷ K) a = ins_outs K (λ k d h. a (suc k) d (omega arith))
+ins_outs (Did mark ∷ K) a = absurd (a 0 (Did mark) (omega arith))
 
 ended_outs : (K : List Entry) → All IsOut K → ended K ≡ false
 ended_outs [] a = refl
 ended_outs (In b ∷ K) a = absurd (a 0 (In b) (omega arith))
 ended_outs (Out b ∷ K) a = ended_outs K (λ k d h. a (suc k) d (omega arith))
+ended_outs (Did mark ∷ K) a = absurd (a 0 (Did mark) (omega arith))
 
 pub prompt_in : (a : Answers) (K J : List Entry) (b : List ℕ) → IsPromptAfter a K J → IsReady a (K ++ J) → IsPiece (K ++ J) b → IsPromptAfter a K (J ++ In b ∷ [])
 prompt_in a K [] b p ready piece = (rw append-nil at ready, rw append-nil at piece, tt)
 prompt_in a K (In bytes ∷ J) b p ready piece = (p.0, p.1, prompt_in a (K ++ In bytes ∷ []) J b p.2 (rw append_assoc ready) (rw append_assoc piece))
 prompt_in a K (Out bytes ∷ J) b p ready piece = prompt_in a (K ++ Out bytes ∷ []) J b p (rw append_assoc ready) (rw append_assoc piece)
+prompt_in a K (Did mark ∷ J) b p ready piece = prompt_in a (K ++ Did mark ∷ []) J b p (rw append_assoc ready) (rw append_assoc piece)
 
 pub prompt_outs : (a : Answers) (K J O : List Entry) → All IsOut O → IsPromptAfter a K J → IsPromptAfter a K (J ++ O)
 prompt_outs a K [] [] o p = tt
 prompt_outs a K [] (In b ∷ O) o p = absurd (o 0 (In b) (omega arith))
 prompt_outs a K [] (Out b ∷ O) o p = prompt_outs a (K ++ Out b ∷ []) [] O (λ k d h. o (suc k) d (omega arith)) tt
+prompt_outs a K [] (Did mark ∷ O) o p = absurd (o 0 (Did mark) (omega arith))
 prompt_outs a K (In bytes ∷ J) O o p = (p.0, p.1, prompt_outs a (K ++ In bytes ∷ []) J O o p.2)
 prompt_outs a K (Out bytes ∷ J) O o p = prompt_outs a (K ++ Out bytes ∷ []) J O o p
+prompt_outs a K (Did mark ∷ J) O o p = prompt_outs a (K ++ Did mark ∷ []) J O o p
 
 -- a read of b, and what was written after it
 pub ins_after : (J O : List Entry) (b : List ℕ) → All IsOut O → ins ((J ++ In b ∷ []) ++ O) ≡ ins J ++ b

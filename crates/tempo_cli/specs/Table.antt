@@ -1,7 +1,7 @@
 -- What a run has done, by its status, for any faults and any text. `bytes` are all that came in, `out` all that went out, and
 -- `ended` says whether the input has ended.
 use Rattle.std.specs.Prelude.{◌≡◌, ◌≤◌, ◌+◌, ◌^◌, ℕ, Bool, true, false, List, [], ◌∷◌, ◌++◌, Some, None, take, length}
-use Rattle.wire_lines.specs.Journal.{Entry, In, Out, ins, outs, ended}
+use Rattle.wire_lines.specs.Journal.{Entry, In, Out, Did, ins, outs, ended}
 use Rattle.wire_lines.specs.Lines.{whole, rest, lines}
 use Rattle.admission.specs.Progress.{Fault, Malformed as WasBad, TooLate, Overflowed}
 use Rattle.tempo_cli.specs.Answers.{Answers, IsFront}
@@ -31,6 +31,7 @@ abbrev pub IsPromptAfter : Answers → List Entry → List Entry → Type 0
 IsPromptAfter a K [] = Unit {0}
 IsPromptAfter a K (In bytes ∷ J) = IsReady a K × IsPiece K bytes × IsPromptAfter a (K ++ In bytes ∷ []) J
 IsPromptAfter a K (Out bytes ∷ J) = IsPromptAfter a (K ++ Out bytes ∷ []) J
+IsPromptAfter a K (Did mark ∷ J) = IsPromptAfter a (K ++ Did mark ∷ []) J
 
 abbrev pub IsPrompt : Answers → List Entry → Type 0
 IsPrompt a J = IsPromptAfter a [] J

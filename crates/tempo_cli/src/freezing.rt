@@ -58,9 +58,9 @@ fn is_small(frozen: &Frozen) -> bool
     frozen.lines() <= LAST_LINE && are_short(frozen.texts())
 }
 
-// A buffer for the lines of the checkpoint of what was frozen. No text and no number of an engine
-// that lines were fed to is too great for one; where one is, this answers Memory.
-pub(crate) fn buffer_for(alloc: Global, frozen: &Frozen) -> Result<Vec<u8>, Memory>
+/// A buffer for the lines of the checkpoint of what was frozen. No text and no number of an engine
+/// that lines were fed to is too great for one; where one is, this answers Memory.
+pub fn buffer_for(alloc: Global, frozen: &Frozen) -> Result<Vec<u8>, Memory>
     ensures text { OnOk result
         ((query : List ℕ) (workers : ℕ) (plan : PlanParts) (policy : Policy) →
         IsFormed workers plan frozen.now → IsPlan plan →

@@ -12,13 +12,14 @@ mod running;
 mod sampling;
 mod status;
 
-pub use answering::{Answering, Step};
+pub use answering::{Answering, LIMIT, Step};
+pub use freezing::buffer_for;
 pub use laws::{
     both_runs_write_all, resumed_runs_are_final, runs_are_complete, runs_in_two_write_as_one,
     words_ask_for_one_job,
 };
 pub use notes::note;
-pub use resuming::{Part, Restored, Restoring};
-pub use running::run;
+pub use resuming::{Part, Restored, Restoring, take_line};
+pub use running::{options_of, plan_of, run, status_of};
 pub use sampling::Sampling;
 pub use status::Status;

@@ -56,8 +56,8 @@ pub struct Restored {
     pub ended: bool,
 }
 
-// Gives the line of that number to the reader: what was frozen, where it is the last one.
-fn take_line(reader: &mut Reader, number: u64, line: &[u8]) -> Result<Option<Frozen>, Status>
+/// Gives the line of that number to the reader: what was frozen, where it is the last one.
+pub fn take_line(reader: &mut Reader, number: u64, line: &[u8]) -> Result<Option<Frozen>, Status>
     requires going { reader.old.stage ≢ Stage.Ended }
     ensures takes { TakesLine reader.old number line.now result reader.new }
     ensures going { result ≡ Ok None → reader.new.stage ≢ Stage.Ended }

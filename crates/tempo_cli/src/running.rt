@@ -27,8 +27,8 @@ use tempo_engine::Options;
 use tw_rows::Memory;
 use wire_lines::{Wire, WriteFailed, send};
 
-// The plan of the query that the text spells.
-pub(crate) fn plan_of(alloc: Global, text: &str) -> Result<Plan, QueryError>
+/// The plan of the query that the text spells.
+pub fn plan_of(alloc: Global, text: &str) -> Result<Plan, QueryError>
     ensures { IsPlanned text.now result }
 {
     let query = parse(alloc, text)?;
@@ -52,8 +52,8 @@ fn tell<W: Wire>(text: Result<Vec<u8>, Memory>, wire: &mut W) -> Status
     }
 }
 
-// How an engine works for what the words ask for.
-pub(crate) fn options_of(asked: &CommandLine<'_>) -> Options
+/// How an engine works for what the words ask for.
+pub fn options_of(asked: &CommandLine<'_>) -> Options
     ensures { result ≡ record {
       batch = asked.now.batch;
       workers = asked.now.workers;
@@ -123,8 +123,8 @@ fn perform<R: Threads + Sync, W: Wire, G: Gate>(
     }
 }
 
-// The status of a run whose query has no plan, or that is out of memory.
-fn status_of(error: QueryError) -> Status
+/// The status of a run whose query has no plan, or that is out of memory.
+pub fn status_of(error: QueryError) -> Status
     ensures { result ≡ query_status error }
 {
     match error {

@@ -4,6 +4,7 @@ ghost use Rattle.tw_rows.specs.declared.edge.Edge.{Edge};
 ghost use Rattle.plan_model.specs.IsPlan.{PlanParts};
 ghost use Rattle.admission.specs.declared.policy.Policy.{Policy as Admitting};
 ghost use Rattle.admission.specs.Entries.{Told};
+ghost use Rattle.admission.specs.Progress.{progress};
 
 use crate::engine::{Engine, Options};
 use crate::fault::EngineFault;
@@ -14,7 +15,7 @@ use edge_stream::LoadFault;
 use frozen_state::Frozen;
 use plan_model::Plan;
 use std::alloc::Global;
-use tw_rows::Memory;
+use tw_rows::{Memory, Time};
 
 /// Why no engine is made of what was frozen.
 #[derive(Clone, Copy, Debug, PartialEq, Eq)]
@@ -71,6 +72,14 @@ impl Engine {
             Ok(frozen) => Ok(frozen),
             Err(Memory) => Err(EngineFault::Memory),
         }
+    }
+
+    /// The last punctuation that was worked through, and 0 before the first.
+    pub fn last_punctuation(&self) -> Time
+        ensures { WhateverTook self.now (λ plan policy lines.
+            result ≡ (progress plan policy lines false).last) }
+    {
+        self.parts.ingress.released()
     }
 
     /// An engine that goes on from what was frozen: as if it had taken the lines that this fits.

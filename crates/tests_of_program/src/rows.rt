@@ -819,7 +819,12 @@ trades by px
 stream trades(sym text, px int); trades | group : count as n
 --mode cut
 x=> 0
-no way: item 1 brings all rows together
+no way: node 1 has no column by which its rows are cut
+----
+stream l(k text, v int); stream r(k text, v int); l | union r | select 1 as one
+--mode cut
+x=> 0
+no way: node 3 has no column by which its rows are cut
 ----
 stream trades(sym text, px int); stream quotes(sym text, bid int); trades | join quotes on sym
 --mode cut

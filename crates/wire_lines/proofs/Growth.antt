@@ -5,7 +5,7 @@ use Rattle.std.proofs.lemmas.List.{append-nil, take-append-drop}
 use Rattle.std.proofs.lemmas.Slice.{between_to_end}
 use Rattle.std.specs.List.{between}
 use Rattle.std.specs.List.{All}
-use Rattle.wire_lines.specs.Journal.{Entry, In, Out, ins, outs, IsOut, Adds, Grows, SentAll, SentFront}
+use Rattle.wire_lines.specs.Journal.{Entry, In, Out, Did, ins, outs, IsOut, Adds, Grows, SentAll, SentFront}
 
 -- nothing was added
 pub Grows-none : {P : List Entry → Type 0} (x : Option (List Entry)) → P [] → Grows x x P
@@ -43,11 +43,13 @@ Grows-grows {a} {b} {c} {P} {Q} {R} first then step = record {
 pub outs-append : (J K : List Entry) → outs (J ++ K) ≡ outs J ++ outs K
 outs-append [] K = refl
 outs-append (In bytes ∷ J) K = outs-append J K
+outs-append (Did mark ∷ J) K = outs-append J K
 outs-append (Out bytes ∷ J) K = ap (λ x. bytes ++ x) (outs-append J K) ∙ sym (append_assoc bytes (outs J) (outs K))
 
 pub ins-append : (J K : List Entry) → ins (J ++ K) ≡ ins J ++ ins K
 ins-append [] K = refl
 ins-append (Out bytes ∷ J) K = ins-append J K
+ins-append (Did mark ∷ J) K = ins-append J K
 ins-append (In bytes ∷ J) K = ap (λ x. bytes ++ x) (ins-append J K) ∙ sym (append_assoc bytes (ins J) (ins K))
 
 -- a front of the bytes went out, and the rest is still to come

@@ -2,22 +2,32 @@
 use Rattle.std.specs.Prelude.{◌≡◌, ℕ, List, [], ◌∷◌, ◌++◌, take, Bool, true, false, Option, Some, Result, MatchResult}
 use Rattle.std.specs.List.{All}
 
--- the bytes that one call took in or gave out; an In without bytes is the end of the input
+-- what a wire over files does beside reads and writes: the input goes on from that byte, and the output behind so many bytes of its
+-- file; all that went out so far is brought to the disk; or the file of a run's state is replaced by these bytes, from here on
+pub data Mark : Type 0 where
+  Start : ℕ → ℕ → Mark
+  Sync : Mark
+  Keep : List ℕ → Mark
+
+-- the bytes that one call took in or gave out, or what else it did; an In without bytes is the end of the input
 pub data Entry : Type 0 where
   In : List ℕ → Entry
   Out : List ℕ → Entry
+  Did : Mark → Entry
 
 -- the bytes of all its Ins
 abbrev pub ins : List Entry → List ℕ
 ins [] = []
 ins (In bytes ∷ entries) = bytes ++ ins entries
 ins (Out bytes ∷ entries) = ins entries
+ins (Did mark ∷ entries) = ins entries
 
 -- the bytes of all its Outs
 abbrev pub outs : List Entry → List ℕ
 outs [] = []
 outs (In bytes ∷ entries) = outs entries
 outs (Out bytes ∷ entries) = bytes ++ outs entries
+outs (Did mark ∷ entries) = outs entries
 
 -- it has an In without bytes
 abbrev pub ended : List Entry → Bool
@@ -25,11 +35,13 @@ ended [] = false
 ended (In [] ∷ entries) = true
 ended (In (byte ∷ bytes) ∷ entries) = ended entries
 ended (Out bytes ∷ entries) = ended entries
+ended (Did mark ∷ entries) = ended entries
 
 -- the entry is an Out
 abbrev pub IsOut : Entry → Type 0
 IsOut (In bytes) = ⊥
 IsOut (Out bytes) = Unit {0}
+IsOut (Did mark) = ⊥
 
 -- where the journal was told it still is, and these entries came after
 pub record Adds (before now : Option (List Entry)) (entries : List Entry) : Type 0 where

@@ -264,6 +264,13 @@ impl LineCutter {
         }
     }
 
+    /// How many bytes the lines given so far had, their LFs counted.
+    pub fn passed(&self) -> u64
+        ensures { result ≡ self.now.passed }
+    {
+        self.passed
+    }
+
     /// The bytes after the last LF, once all bytes were fed: the last `next_line` gave `More` and
     /// nothing was fed since. They are a last line, where there are any.
     pub fn last_line(&mut self) -> Option<Line<'_>>

@@ -1,0 +1,61 @@
+// A wire over files.
+ghost use Rattle.std.specs.Prelude.{◌≡◌, ℕ, List, [], ◌∷◌, Option, IfOk, OnOk, OnErr};
+ghost use Rattle.wire_lines.specs.Journal.{Did, Start, Sync, Keep, Adds};
+ghost use Rattle.wire_lines.specs.Faults.{HasCause, IsOther};
+ghost use Rattle.durable_file.specs.Calls.{Told, Goes, HasReadCause};
+ghost use Rattle.durable_file.specs.Replaced.{HasReplaced};
+ghost use Rattle.kept_wire.specs.Opened.{HasOpened};
+
+use durable_file::{MediumFailed, ReadFault};
+use std::alloc::Global;
+use wire_lines::Wire;
+
+/// A wire whose output is a file, beside FILE, which keeps the state of a run.
+///
+/// What is done to the files stands in the journal, in order with what came in and went out: after a `Sync` a crash leaves all
+/// that went out before it, and from a `Keep` on it leaves of FILE what it might have left before, or those bytes. Reads and
+/// writes do nothing to FILE, and take nothing back that was synced. `open` counts its faults among those of reads, and the
+/// other calls theirs among those of writes.
+pub trait KeptWire: Wire {
+    /// The disk of FILE, where the wire tells it.
+    ghost told: { Self → Option Told };
+
+    /// Brings FILE and its name to the disk, and reads it. None where there is none.
+    fn open(&mut self, alloc: Global) -> Result<Option<Vec<u8>>, ReadFault>
+        ensures told { Goes (told self.old) (told self.new) (HasOpened result) }
+        ensures same { Adds (journal self.old) (journal self.new) [] }
+        ensures cause { HasReadCause (read_faults self.old) (read_faults self.new) result }
+        ensures other { IsOther (write_faults self.old) (write_faults self.new) result };
+
+    /// Before the first read: the input comes from its first byte on, and the output goes behind all that its file has, which is
+    /// made where there is none. Answers how long it is.
+    fn start_new(&mut self) -> Result<u64, MediumFailed>
+        ensures ok { IfOk result (λ output.
+            Adds (journal self.old) (journal self.new) (Did (Start 0 output) ∷ [])) }
+        ensures err { OnErr result (Adds (journal self.old) (journal self.new) []) }
+        ensures cause { HasCause (write_faults self.old) (write_faults self.new) result }
+        ensures other { IsOther (read_faults self.old) (read_faults self.new) result };
+
+    /// Before the first read: the input comes from that byte on, and the output goes behind so many bytes of its file, which is
+    /// cut there. It is an error where either has fewer.
+    fn start_at(&mut self, input: u64, output: u64) -> Result<(), MediumFailed>
+        ensures ok { OnOk result
+            (Adds (journal self.old) (journal self.new) (Did (Start input output) ∷ [])) }
+        ensures err { OnErr result (Adds (journal self.old) (journal self.new) []) }
+        ensures cause { HasCause (write_faults self.old) (write_faults self.new) result }
+        ensures other { IsOther (read_faults self.old) (read_faults self.new) result };
+
+    /// Brings all that went out to the disk.
+    fn sync_output(&mut self) -> Result<(), MediumFailed>
+        ensures ok { OnOk result (Adds (journal self.old) (journal self.new) (Did Sync ∷ [])) }
+        ensures err { OnErr result (Adds (journal self.old) (journal self.new) []) }
+        ensures cause { HasCause (write_faults self.old) (write_faults self.new) result }
+        ensures other { IsOther (read_faults self.old) (read_faults self.new) result };
+
+    /// Replaces FILE by these bytes, whole at every moment. Where it fails a crash may leave either.
+    fn keep(&mut self, bytes: &[u8]) -> Result<(), MediumFailed>
+        ensures told { Goes (told self.old) (told self.new) (HasReplaced bytes.now result) }
+        ensures kept { Adds (journal self.old) (journal self.new) (Did (Keep bytes.now) ∷ []) }
+        ensures cause { HasCause (write_faults self.old) (write_faults self.new) result }
+        ensures other { IsOther (read_faults self.old) (read_faults self.new) result };
+}
