@@ -1,3 +1,6 @@
+mod AsItWas
 mod Earlier
+mod Going
 mod InARow
+mod OpenedSoFar
 mod WholeSoFar

@@ -1,39 +1,19 @@
 -- FILE stays whole while it is replaced, from call to call.
-use Rattle.std.proofs.Common.{◌≡◌, inl, inr, ℕ, List, [], ◌∷◌, ◌++◌, Result, Ok, Err, IsErr, sym, ◌∙◌}
-use Rattle.std.proofs.Common.{ap, subst, append_assoc}
-use Rattle.std.proofs.lemmas.List.{append-nil}
-use Rattle.std.proofs.lemmas.List.Elements.{All-append, All-nil}
+use Rattle.std.proofs.Common.{◌≡◌, inl, inr, ℕ, List, [], ◌∷◌, Result, Ok, Err, IsErr, sym, ◌∙◌}
+use Rattle.std.proofs.Common.{ap, subst}
 use Rattle.durable_file.specs.declared.medium.Name.TheVariants.{Next}
 use Rattle.durable_file.specs.Disk.{Content, Synced, Written, Torn, Disk, with_content, renamed, settled, LeavesOnly}
-use Rattle.durable_file.specs.Calls.{Told, Passes, HasWritten, HasSynced, HasRenamed, HasSyncedFolder, with_synced}
+use Rattle.durable_file.specs.Calls.{Told, HasWritten, HasSynced, HasRenamed, HasSyncedFolder, with_synced, with_lost}
 use Rattle.durable_file.specs.Replaced.{IsWhole, StaysWhole, HasReplaced}
+use Rattle.durable_file.proofs.Going.{starts, goes_on}
 
 module _ (bytes : List ℕ) (old : Told) where
-  starts : StaysWhole (bytes ∷ []) old old
-  starts = record {
-    passed = [];
-    past = sym (append-nil old.past);
-    each = All-nil (IsWhole old.now (bytes ∷ []));
-    last = λ left may. inl may;
-  }
-
-  -- one call more
-  goes_on : {T E : Type 0} (May : Disk → Type 0) (done : Disk) (result : Result T E) (mid new : Told)
-      → StaysWhole (bytes ∷ []) old mid → Passes May done result mid new
-      → ((d : Disk) → May d → IsWhole old.now (bytes ∷ []) d) → StaysWhole (bytes ∷ []) old new
-  goes_on May done result mid new so_far call whole = record {
-    passed = so_far.passed ++ call.passed;
-    past = call.past ∙ ap (λ (l : List Disk). l ++ call.passed) so_far.past ∙ append_assoc old.past so_far.passed call.passed;
-    each = All-append (IsWhole old.now (bytes ∷ [])) so_far.passed call.passed so_far.each (λ k d lt. whole _ (call.each k d lt));
-    last = whole new.now call.last;
-  }
-
   -- what FILE.new is makes no difference
   beside : (c : Content) (d : Disk) → d ≡ with_content Next c old.now → IsWhole old.now (bytes ∷ []) d
   beside c d is = subst (IsWhole old.now (bytes ∷ [])) (sym is) (λ left may. inl may)
 
   written : {T E : Type 0} (result : Result T E) (new : Told) → HasWritten Next bytes result old new → StaysWhole (bytes ∷ []) old new
-  written result new call = goes_on _ _ result old new starts call (λ d may. elim may [
+  written result new call = goes_on (bytes ∷ []) old _ _ result old new (starts (bytes ∷ []) old) call (λ d may. elim may [
     | inl same ↦ subst (IsWhole old.now (bytes ∷ [])) (sym same) (λ left l. inl l)
     | inr (inl torn) ↦ beside Torn d torn
     | inr (inr all) ↦ beside (Written bytes) d all
@@ -43,9 +23,9 @@ module _ (bytes : List ℕ) (old : Told) where
   pub brought : {T E : Type 0} (value : T) (result : Result T E) (mid new : Told)
       → HasWritten {E = E} Next bytes (Ok value) old mid → HasSynced Next result mid new → StaysWhole (bytes ∷ []) old new
   brought value result mid new write sync =
-      goes_on _ _ result mid new (written (Ok value) mid write) sync (λ d may. elim may [
+      goes_on (bytes ∷ []) old _ _ result mid new (written (Ok value) mid write) sync (λ d may. elim may [
         | inl same ↦ beside (Written bytes) d (same ∙ write.ok)
-        | inr (inl torn) ↦ beside Torn d (torn ∙ ap (with_content Next Torn) write.ok)
+        | inr (inl torn) ↦ beside Torn d (torn ∙ ap (with_lost Next) write.ok)
         | inr (inr all) ↦ beside (Synced bytes) d (all ∙ ap (with_synced Next) write.ok)
       ])
 
@@ -63,7 +43,7 @@ module _ (bytes : List ℕ) (old : Told) where
       → StaysWhole (bytes ∷ []) old new
   taken value result first mid new write sync rename =
       let is : mid.now ≡ ready = sync.ok ∙ ap (with_synced Next) write.ok in
-      goes_on _ _ result mid new (brought value (Ok value) first mid write sync) rename (λ d may. elim may [
+      goes_on (bytes ∷ []) old _ _ result mid new (brought value (Ok value) first mid write sync) rename (λ d may. elim may [
         | inl same ↦ beside (Synced bytes) d (same ∙ is)
         | inr all ↦ subst (IsWhole old.now (bytes ∷ [])) (sym (all ∙ ap renamed is)) put
       ])
@@ -74,7 +54,7 @@ module _ (bytes : List ℕ) (old : Told) where
 
   settles : {T E : Type 0} (result : Result T E) (mid new : Told)
       → StaysWhole (bytes ∷ []) old mid → mid.now ≡ renamed ready → HasSyncedFolder result mid new → StaysWhole (bytes ∷ []) old new
-  settles result mid new so_far is call = goes_on _ _ result mid new so_far call (λ d may. elim may [
+  settles result mid new so_far is call = goes_on (bytes ∷ []) old _ _ result mid new so_far call (λ d may. elim may [
     | inl same ↦ subst (IsWhole old.now (bytes ∷ [])) (sym (same ∙ is)) put
     | inr all ↦ subst (IsWhole old.now (bytes ∷ [])) (sym (all ∙ ap settled is)) (λ left l. inr (inl (only left l)))
   ])
@@ -86,11 +66,12 @@ module _ (bytes : List ℕ) (old : Told) where
     whole = settles (Ok value) mid new so_far is call;
     read = ap (λ (d : Disk). d.file) (call.ok ∙ ap settled is);
     ok = subst (LeavesOnly bytes) (sym (call.ok ∙ ap settled is)) only;
+    left = ap (λ (d : Disk). d.next) (call.ok ∙ ap settled is);
   }
-  replaced (Err error) mid new so_far is call = record { whole = settles (Err error) mid new so_far is call; read = tt; ok = tt }
+  replaced (Err error) mid new so_far is call = record { whole = settles (Err error) mid new so_far is call; read = tt; ok = tt; left = tt }
 
   -- a call failed, and nothing is promised of Ok
   pub fails : {T E : Type 0} (result : Result T E) (new : Told)
       → IsErr result → StaysWhole (bytes ∷ []) old new → HasReplaced bytes result old new
   fails (Ok value) new is so_far = absurd (cc is)
-  fails (Err error) new is so_far = record { whole = so_far; read = tt; ok = tt }
+  fails (Err error) new is so_far = record { whole = so_far; read = tt; ok = tt; left = tt }

@@ -3,7 +3,7 @@ use Rattle.std.specs.Prelude.{◌≡◌, ◌⊎◌, ◌≤◌, ℕ, Option, Some
 use Rattle.std.specs.Prelude.{Result, OnOk, IfOk, IsErrOf}
 use Rattle.std.specs.declared.alloc.Global.{Global}
 use Rattle.wire_lines.specs.Faults.{Rose}
-use Rattle.durable_file.specs.Disk.{Torn, Written, Disk, with_content, synced, renamed, settled, IsSeen}
+use Rattle.durable_file.specs.Disk.{Torn, Written, Disk, with_content, synced, lost, renamed, settled, IsSeen}
 use Rattle.durable_file.specs.declared.medium.Name.{Name}
 use Rattle.durable_file.specs.declared.medium.Name.TheVariants.{File, Next}
 use Rattle.durable_file.specs.declared.medium.ReadFault.{ReadFault}
@@ -47,9 +47,14 @@ abbrev pub with_synced : Name → Disk → Disk
 with_synced File d = record d { file = synced d.file }
 with_synced Next d = record d { next = synced d.next }
 
+-- the disk once a sync of it failed
+abbrev pub with_lost : Name → Disk → Disk
+with_lost File d = record d { file = lost d.file }
+with_lost Next d = record d { next = lost d.next }
+
 -- while it is synced: it is not yet, or it lost bytes, or it is
 abbrev pub IsSyncing : Name → Disk → Disk → Type 0
-IsSyncing name old d = (d ≡ old) ⊎ ((d ≡ with_content name Torn old) ⊎ (d ≡ with_synced name old))
+IsSyncing name old d = (d ≡ old) ⊎ ((d ≡ with_lost name old) ⊎ (d ≡ with_synced name old))
 
 abbrev pub HasSynced : {T E : Type 0} → Name → Result T E → Told → Told → Type 0
 HasSynced name result old new = Passes (IsSyncing name old.now) (with_synced name old.now) result old new

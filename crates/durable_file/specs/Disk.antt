@@ -49,6 +49,13 @@ synced (Written bytes) = Synced bytes
 synced (Synced bytes) = Synced bytes
 synced Torn = Torn
 
+-- the file once a sync of it failed: `Written` bytes may be lost, and any other file is as it was
+abbrev pub lost : Content → Content
+lost Absent = Absent
+lost (Written bytes) = Torn
+lost (Synced bytes) = Synced bytes
+lost Torn = Torn
+
 -- the disk once FILE.new is renamed to FILE
 abbrev pub renamed : Disk → Disk
 renamed d = record { file = d.next; next = Absent; earlier = d.file ∷ d.earlier }

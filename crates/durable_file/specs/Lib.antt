@@ -1,4 +1,5 @@
 pub mod Calls
 pub mod Disk
 pub mod Memory
+pub mod Opened
 pub mod Replaced

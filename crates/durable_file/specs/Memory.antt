@@ -1,6 +1,6 @@
 -- A medium in memory.
-use Rattle.std.specs.Prelude.{◌≡◌, ℕ, Option, Some, None, List, [], map}
-use Rattle.durable_file.specs.Disk.{Content, Absent, Written, Synced, Disk, MayLeave}
+use Rattle.std.specs.Prelude.{ℕ, ◌-◌, ◌^◌, Option, Some, None, option_map, List, [], ◌∷◌, map, slice_get}
+use Rattle.durable_file.specs.Disk.{Content, Absent, Written, Synced, Torn, Disk}
 use Rattle.durable_file.specs.Calls.{Told}
 use Rattle.durable_file.specs.declared.memory.Stored.{Stored}
 use Rattle.durable_file.specs.declared.memory.Stored.TheVariants as stored
@@ -34,12 +34,22 @@ file_of (Some bytes) = Synced bytes
 abbrev pub disk_with : Option (List ℕ) → Disk
 disk_with left = record { file = file_of left; next = Absent; earlier = [] }
 
+-- the file that a crash leaves, where it leaves these bytes of those that were not synced
+abbrev pub left_of : Content → List ℕ → Option (List ℕ)
+left_of Absent torn = None
+left_of (Written bytes) torn = Some torn
+left_of (Synced bytes) torn = Some bytes
+left_of Torn torn = Some torn
+
+-- the file that a crash leaves, where it brings back what FILE was so many changes ago. None where they are more than since the folder
+-- was synced
+abbrev pub left_back : Disk → ℕ → List ℕ → Option (Option (List ℕ))
+left_back d back torn = option_map (λ c. left_of c torn) (slice_get (d.file ∷ d.earlier) back)
+
 -- nothing has passed
 abbrev pub started : Option (List ℕ) → ℕ → MemoryView
 started left calls = record { told = record { past = []; now = disk_with left }; calls = calls; faults = 0 }
 
--- what a crash left of a disk is on this one
-pub record IsLeft (old new : Disk) : Type 0 where
-  pub left : Option (List ℕ)
-  pub may : MayLeave old left
-  pub is : new ≡ disk_with left
+-- the next process, over the same disk
+abbrev pub restarted : Disk → MemoryView
+restarted d = record { told = record { past = []; now = d }; calls = 2 ^ 64 - 1; faults = 0 }

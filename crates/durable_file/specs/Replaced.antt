@@ -1,6 +1,6 @@
 -- What a crash may leave of FILE while it is replaced.
 use Rattle.std.specs.Prelude.{◌≡◌, ◌⊎◌, ℕ, Option, Some, List, [], ◌∷◌, ◌++◌, All, Result, OnOk}
-use Rattle.durable_file.specs.Disk.{Synced, Disk, MayLeave, LeavesOnly}
+use Rattle.durable_file.specs.Disk.{Absent, Synced, Disk, MayLeave, LeavesOnly}
 use Rattle.durable_file.specs.Calls.{Told}
 
 -- FILE was left with one of these
@@ -20,8 +20,9 @@ pub record StaysWhole (all : List (List ℕ)) (old new : Told) : Type 0 where
   pub each : All (IsWhole old.now all) passed
   pub last : IsWhole old.now all new.now
 
--- FILE was replaced by these bytes, or that failed. After Ok a read gives these bytes, and a crash leaves them
+-- FILE was replaced by these bytes, or that failed. After Ok a read gives these bytes, a crash leaves them, and there is no FILE.new
 pub record HasReplaced {T E : Type 0} (bytes : List ℕ) (result : Result T E) (old new : Told) : Type 0 where
   pub whole : StaysWhole (bytes ∷ []) old new
   pub read : OnOk result (new.now.file ≡ Synced bytes)
   pub ok : OnOk result (LeavesOnly bytes new.now)
+  pub left : OnOk result (new.now.next ≡ Absent)

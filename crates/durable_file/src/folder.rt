@@ -28,8 +28,8 @@ pub struct FolderMedium<'a, R: Files> {
     faults: u64,
 }
 
-// The folder that the file of this path lies in.
-fn folder_of(path: &str) -> &str {
+/// The folder that the file of this path lies in.
+pub fn folder_of(path: &str) -> &str {
     match Path::new(path).parent() {
         Some(folder) if !folder.as_str().is_empty() => folder.as_str(),
         _ => ".",

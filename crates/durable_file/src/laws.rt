@@ -1,5 +1,7 @@
-// Over many replacements.
-ghost use Rattle.std.specs.Prelude.{ℕ, List, ◌++◌};
+// Of many replacements, and of crashes in memory.
+ghost use Rattle.std.specs.Prelude.{◌≡◌, ℕ, List, ◌++◌, Option, Some};
+ghost use Rattle.durable_file.specs.Disk.{Disk, MayLeave};
+ghost use Rattle.durable_file.specs.Memory.{left_back};
 ghost use Rattle.durable_file.specs.Calls.{Told};
 ghost use Rattle.durable_file.specs.Replaced.{StaysWhole};
 
@@ -8,4 +10,10 @@ ghost use Rattle.durable_file.specs.Replaced.{StaysWhole};
 pub fn replacements_stay_whole()
     ensures { (first later : List (List ℕ)) (old mid new : Told) →
         StaysWhole first old mid → StaysWhole later mid new → StaysWhole (first ++ later) old new }
+{}
+
+/// What a crash of a medium in memory leaves is what one of its disk may leave.
+pub fn crashes_in_memory_may_be()
+    ensures { (d : Disk) (back : ℕ) (torn : List ℕ) (left : Option (List ℕ)) →
+        left_back d back torn ≡ Some left → MayLeave d left }
 {}

@@ -5,12 +5,14 @@ mod folder;
 mod laws;
 mod medium;
 mod memory;
+mod opening;
 mod replacing;
 
-pub use folder::FolderMedium;
-pub use laws::replacements_stay_whole;
+pub use folder::{FolderMedium, folder_of};
+pub use laws::{crashes_in_memory_may_be, replacements_stay_whole};
 pub use medium::{Medium, MediumFailed, Name, ReadFault};
 pub use memory::MemoryMedium;
+pub use opening::open;
 pub use replacing::replace;
 
 #[cfg(test)]

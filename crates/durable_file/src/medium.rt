@@ -1,8 +1,9 @@
 // A medium: FILE, and FILE.new beside it in the same folder.
-ghost use Rattle.std.specs.Prelude.{ℕ, Option};
+ghost use Rattle.std.specs.Prelude.{◌≡◌, ℕ, Option};
 ghost use Rattle.wire_lines.specs.Faults.{HasCause};
 ghost use Rattle.durable_file.specs.Calls.{Told, Goes, HasRead, HasReadCause};
 ghost use Rattle.durable_file.specs.Calls.{HasWritten, HasSynced, HasRenamed, HasSyncedFolder};
+ghost use Rattle.durable_file.specs.declared.medium.ReadFault.TheVariants as faults;
 
 use std::alloc::Global;
 
@@ -24,6 +25,14 @@ pub struct MediumFailed;
 pub enum ReadFault {
     Failed,
     Memory,
+}
+
+impl From<MediumFailed> for ReadFault {
+    ghost from_gives = { λ _ fault. fault ≡ faults.Failed };
+
+    fn from(_failed: MediumFailed) -> ReadFault {
+        ReadFault::Failed
+    }
 }
 
 /// The folder of FILE and FILE.new, and the calls by which FILE is replaced.

@@ -1,7 +1,7 @@
 // A medium in memory, which crashes where it is told to.
-ghost use Rattle.std.specs.Prelude.{◌≡◌, ◌<◌, length, OnOk, OnErr, IfSome, IfNone, option_map};
+ghost use Rattle.std.specs.Prelude.{◌≡◌, ◌≤◌, ◌+◌, ◌-◌, ◌^◌, ◌⊎◌, ◌∷◌, length, slice_get, OnOk, OnErr, option_map, vec_capacity};
 ghost use Rattle.wire_lines.specs.Faults.{HasCause};
-ghost use Rattle.durable_file.specs.Disk.{Written, Leaves, MayLeave, synced, with_content, renamed};
+ghost use Rattle.durable_file.specs.Disk.{Written, synced, with_content, renamed};
 ghost use Rattle.durable_file.specs.Calls.{with_synced};
 
 use crate::{Medium, MediumFailed, Name, ReadFault};
@@ -27,7 +27,7 @@ struct MemoryDisk {
 }
 
 impl Stored {
-    ghost use Rattle.durable_file.specs.Memory.{content_of, file_of};
+    ghost use Rattle.durable_file.specs.Memory.{content_of, file_of, left_of};
 
     // A file with these bytes on the disk, and none where they are None.
     fn of(file: Option<Vec<u8>>) -> Stored
@@ -41,7 +41,7 @@ impl Stored {
 
     // What a crash leaves of the file, where it leaves these of bytes that were not synced.
     fn left(self, torn: Vec<u8>) -> Option<Vec<u8>>
-        ensures { Leaves (content_of self) (option_map (λ v. v.items) result) }
+        ensures { option_map (λ v. v.items) result ≡ left_of (content_of self) torn.items }
     {
         match self {
             Stored::Absent => None,
@@ -123,9 +123,8 @@ impl MemoryDisk {
     // FILE as it is where back is 0, and else as it was so many changes ago. None where they are more than since the folder was
     // synced.
     fn file_back(self, back: usize) -> Option<Stored>
-        ensures some { IfSome result (λ stored. (left : _) → Leaves (content_of stored) left →
-            MayLeave (disk_of self) left) }
-        ensures none { IfNone result (length (disk_of self).earlier < back) }
+        ensures { option_map content_of result
+            ≡ slice_get ((disk_of self).file ∷ (disk_of self).earlier) back }
     {
         let MemoryDisk {
             file,
@@ -142,7 +141,7 @@ impl MemoryDisk {
     }
 }
 
-// The disk as it is, and as it was before each call that went on; and how many calls may still go on.
+// The disk as it is, and as it was before each call that was let go on; and how many may still be.
 #[derive(Drop)]
 struct Moments {
     disk: MemoryDisk,
@@ -155,10 +154,13 @@ impl Moments {
     ghost use Rattle.durable_file.specs.Calls.{moved};
     ghost use Rattle.durable_file.specs.Calls.{HasWritten, HasSynced, HasRenamed, HasSyncedFolder};
 
-    // The disk as it is is one that was.
+    // The disk as it is is one that was, unless no call goes on any more, or for want of memory.
     fn pass(&mut self) -> Result<(), MediumFailed>
         ensures ok { OnOk result (told_of self.new ≡ moved (told_of self.old)) }
+        ensures fewer { OnOk result (self.old.calls ≡ self.new.calls + 1) }
         ensures err { OnErr result (told_of self.new ≡ told_of self.old) }
+        ensures full { OnErr result ((self.old.calls ≡ 0)
+            ⊎ (vec_capacity self.old.past ≤ length self.old.past.items)) }
     {
         if self.calls == 0 {
             return Err(MediumFailed);
@@ -171,7 +173,8 @@ impl Moments {
     }
 
     fn write(&mut self, alloc: Global, name: Name, bytes: &[u8]) -> Result<(), MediumFailed>
-        ensures { HasWritten name bytes.now result (told_of self.old) (told_of self.new) }
+        ensures told { HasWritten name bytes.now result (told_of self.old) (told_of self.new) }
+        ensures fewer { OnOk result (self.old.calls ≡ self.new.calls + 1) }
     {
         self.pass()?;
         match bytes.to_vec(alloc) {
@@ -181,7 +184,8 @@ impl Moments {
     }
 
     fn sync(&mut self, name: Name) -> Result<(), MediumFailed>
-        ensures { HasSynced name result (told_of self.old) (told_of self.new) }
+        ensures told { HasSynced name result (told_of self.old) (told_of self.new) }
+        ensures fewer { OnOk result (self.old.calls ≡ self.new.calls + 1) }
     {
         self.pass()?;
         self.disk.sync(name);
@@ -189,14 +193,16 @@ impl Moments {
     }
 
     fn rename(&mut self) -> Result<(), MediumFailed>
-        ensures { HasRenamed result (told_of self.old) (told_of self.new) }
+        ensures told { HasRenamed result (told_of self.old) (told_of self.new) }
+        ensures fewer { OnOk result (self.old.calls ≡ self.new.calls + 1) }
     {
         self.pass()?;
         self.disk.rename()
     }
 
     fn sync_folder(&mut self) -> Result<(), MediumFailed>
-        ensures { HasSyncedFolder result (told_of self.old) (told_of self.new) }
+        ensures told { HasSyncedFolder result (told_of self.old) (told_of self.new) }
+        ensures fewer { OnOk result (self.old.calls ≡ self.new.calls + 1) }
     {
         self.pass()?;
         self.disk.earlier.clear();
@@ -213,7 +219,7 @@ fn count(faults: &mut u64, answer: &Result<(), MediumFailed>)
     }
 }
 
-/// A medium whose files are kept in memory, and whose calls fail from a given one on, as those of a process that was ended.
+/// A medium whose files are kept in memory, and whose calls fail from a given one on, as those of a process that is ended.
 #[derive(Drop)]
 pub struct MemoryMedium {
     alloc: Global,
@@ -230,9 +236,10 @@ impl Model for MemoryMedium {
 }
 
 impl MemoryMedium {
-    ghost use Rattle.durable_file.specs.Memory.{started, IsLeft};
+    ghost use Rattle.durable_file.specs.Memory.{started, restarted, left_back};
 
-    /// FILE has these bytes, and where they are None there is none. So many calls go on, and each one behind them fails.
+    /// FILE has these bytes, and where they are None there is none. So many writes, syncs and renames go on, and each one behind
+    /// them fails; a read goes on always.
     pub fn new(alloc: Global, file: Option<Vec<u8>>, calls: u64) -> MemoryMedium
         ensures { result ≡ started (option_map (λ v. v.items) file) calls }
     {
@@ -251,11 +258,36 @@ impl MemoryMedium {
         }
     }
 
+    /// What the next process finds where this one was ended and the machine went on: the same disk, with nothing synced.
+    pub fn killed(self) -> MemoryMedium
+        ensures { result ≡ restarted self.told.now }
+    {
+        let MemoryMedium {
+            alloc,
+            moments,
+            faults: _,
+        } = self;
+        let Moments {
+            disk,
+            past: _,
+            calls: _,
+        } = moments;
+        MemoryMedium {
+            alloc,
+            moments: Moments {
+                disk,
+                past: Vec::new(alloc),
+                calls: u64::MAX,
+            },
+            faults: 0,
+        }
+    }
+
     /// What a crash leaves: FILE as it is where `back` is 0, and else as it was so many changes ago, with the bytes `torn` where
     /// they were not synced. None where FILE has not changed so often since the folder was synced.
     pub fn crash(self, back: usize, torn: Vec<u8>) -> Option<MemoryMedium>
-        ensures some { IfSome result (λ m. IsLeft self.told.now m.told.now) }
-        ensures none { IfNone result (length self.told.now.earlier < back) }
+        ensures { result ≡ option_map (λ left. started left (2 ^ 64 - 1))
+            (left_back self.told.now back torn.items) }
     {
         let MemoryMedium {
             alloc,
@@ -273,7 +305,9 @@ impl MemoryMedium {
 }
 
 impl Medium for MemoryMedium {
-    ghost use Rattle.std.specs.Prelude.{Some};
+    ghost use Rattle.std.specs.Prelude.{Some, ◌≡◌, ◌+◌, OnOk};
+    ghost use Rattle.wire_lines.specs.Faults.{HasCause};
+    ghost use Rattle.durable_file.specs.Calls.{Goes, HasWritten, HasSynced, HasRenamed, HasSyncedFolder};
 
     ghost told = { λ m. Some m.told };
 
@@ -289,25 +323,41 @@ impl Medium for MemoryMedium {
         }
     }
 
-    fn write(&mut self, name: Name, bytes: &[u8]) -> Result<(), MediumFailed> {
+    fn write(&mut self, name: Name, bytes: &[u8]) -> Result<(), MediumFailed>
+        ensures told { Goes (Some self.old.told) (Some self.new.told) (HasWritten name bytes.now result) }
+        ensures cause { HasCause self.old.faults self.new.faults result }
+        ensures fewer { OnOk result (self.old.calls ≡ self.new.calls + 1) }
+    {
         let answer = self.moments.write(self.alloc, name, bytes);
         count(&mut self.faults, &answer);
         answer
     }
 
-    fn sync(&mut self, name: Name) -> Result<(), MediumFailed> {
+    fn sync(&mut self, name: Name) -> Result<(), MediumFailed>
+        ensures told { Goes (Some self.old.told) (Some self.new.told) (HasSynced name result) }
+        ensures cause { HasCause self.old.faults self.new.faults result }
+        ensures fewer { OnOk result (self.old.calls ≡ self.new.calls + 1) }
+    {
         let answer = self.moments.sync(name);
         count(&mut self.faults, &answer);
         answer
     }
 
-    fn rename(&mut self) -> Result<(), MediumFailed> {
+    fn rename(&mut self) -> Result<(), MediumFailed>
+        ensures told { Goes (Some self.old.told) (Some self.new.told) (HasRenamed result) }
+        ensures cause { HasCause self.old.faults self.new.faults result }
+        ensures fewer { OnOk result (self.old.calls ≡ self.new.calls + 1) }
+    {
         let answer = self.moments.rename();
         count(&mut self.faults, &answer);
         answer
     }
 
-    fn sync_folder(&mut self) -> Result<(), MediumFailed> {
+    fn sync_folder(&mut self) -> Result<(), MediumFailed>
+        ensures told { Goes (Some self.old.told) (Some self.new.told) (HasSyncedFolder result) }
+        ensures cause { HasCause self.old.faults self.new.faults result }
+        ensures fewer { OnOk result (self.old.calls ≡ self.new.calls + 1) }
+    {
         let answer = self.moments.sync_folder();
         count(&mut self.faults, &answer);
         answer

@@ -4,7 +4,8 @@ ghost use Rattle.wire_lines.specs.Journal.{Did, Start, Sync, Keep, Adds};
 ghost use Rattle.wire_lines.specs.Faults.{HasCause, IsOther};
 ghost use Rattle.durable_file.specs.Calls.{Told, Goes, HasReadCause};
 ghost use Rattle.durable_file.specs.Replaced.{HasReplaced};
-ghost use Rattle.kept_wire.specs.Opened.{HasOpened};
+ghost use Rattle.durable_file.specs.Opened.{HasOpened};
+ghost use Rattle.kept_wire.specs.Kept.{HasNotKept};
 
 use durable_file::{MediumFailed, ReadFault};
 use std::alloc::Global;
@@ -23,39 +24,42 @@ pub trait KeptWire: Wire {
     /// Brings FILE and its name to the disk, and reads it. None where there is none.
     fn open(&mut self, alloc: Global) -> Result<Option<Vec<u8>>, ReadFault>
         ensures told { Goes (told self.old) (told self.new) (HasOpened result) }
-        ensures same { Adds (journal self.old) (journal self.new) [] }
-        ensures cause { HasReadCause (read_faults self.old) (read_faults self.new) result }
-        ensures other { IsOther (write_faults self.old) (write_faults self.new) result };
+        ensures same { Adds (Self.journal self.old) (Self.journal self.new) [] }
+        ensures cause { HasReadCause (Self.read_faults self.old) (Self.read_faults self.new) result }
+        ensures other { IsOther (Self.write_faults self.old) (Self.write_faults self.new) result };
 
     /// Before the first read: the input comes from its first byte on, and the output goes behind all that its file has, which is
     /// made where there is none. Answers how long it is.
     fn start_new(&mut self) -> Result<u64, MediumFailed>
         ensures ok { IfOk result (λ output.
-            Adds (journal self.old) (journal self.new) (Did (Start 0 output) ∷ [])) }
-        ensures err { OnErr result (Adds (journal self.old) (journal self.new) []) }
-        ensures cause { HasCause (write_faults self.old) (write_faults self.new) result }
-        ensures other { IsOther (read_faults self.old) (read_faults self.new) result };
+            Adds (Self.journal self.old) (Self.journal self.new) (Did (Start 0 output) ∷ [])) }
+        ensures err { OnErr result (Adds (Self.journal self.old) (Self.journal self.new) []) }
+        ensures cause { HasCause (Self.write_faults self.old) (Self.write_faults self.new) result }
+        ensures other { IsOther (Self.read_faults self.old) (Self.read_faults self.new) result };
 
     /// Before the first read: the input comes from that byte on, and the output goes behind so many bytes of its file, which is
     /// cut there. It is an error where either has fewer.
     fn start_at(&mut self, input: u64, output: u64) -> Result<(), MediumFailed>
         ensures ok { OnOk result
-            (Adds (journal self.old) (journal self.new) (Did (Start input output) ∷ [])) }
-        ensures err { OnErr result (Adds (journal self.old) (journal self.new) []) }
-        ensures cause { HasCause (write_faults self.old) (write_faults self.new) result }
-        ensures other { IsOther (read_faults self.old) (read_faults self.new) result };
+            (Adds (Self.journal self.old) (Self.journal self.new) (Did (Start input output) ∷ [])) }
+        ensures err { OnErr result (Adds (Self.journal self.old) (Self.journal self.new) []) }
+        ensures cause { HasCause (Self.write_faults self.old) (Self.write_faults self.new) result }
+        ensures other { IsOther (Self.read_faults self.old) (Self.read_faults self.new) result };
 
     /// Brings all that went out to the disk.
     fn sync_output(&mut self) -> Result<(), MediumFailed>
-        ensures ok { OnOk result (Adds (journal self.old) (journal self.new) (Did Sync ∷ [])) }
-        ensures err { OnErr result (Adds (journal self.old) (journal self.new) []) }
-        ensures cause { HasCause (write_faults self.old) (write_faults self.new) result }
-        ensures other { IsOther (read_faults self.old) (read_faults self.new) result };
+        ensures ok { OnOk result (Adds (Self.journal self.old) (Self.journal self.new) (Did Sync ∷ [])) }
+        ensures err { OnErr result (Adds (Self.journal self.old) (Self.journal self.new) []) }
+        ensures cause { HasCause (Self.write_faults self.old) (Self.write_faults self.new) result }
+        ensures other { IsOther (Self.read_faults self.old) (Self.read_faults self.new) result };
 
     /// Replaces FILE by these bytes, whole at every moment. Where it fails a crash may leave either.
     fn keep(&mut self, bytes: &[u8]) -> Result<(), MediumFailed>
         ensures told { Goes (told self.old) (told self.new) (HasReplaced bytes.now result) }
-        ensures kept { Adds (journal self.old) (journal self.new) (Did (Keep bytes.now) ∷ []) }
-        ensures cause { HasCause (write_faults self.old) (write_faults self.new) result }
-        ensures other { IsOther (read_faults self.old) (read_faults self.new) result };
+        ensures ok { OnOk result
+            (Adds (Self.journal self.old) (Self.journal self.new) (Did (Keep bytes.now) ∷ [])) }
+        ensures err { OnErr result (HasNotKept (Self.journal self.old) (Self.journal self.new)
+            (told self.old) (told self.new) bytes.now) }
+        ensures cause { HasCause (Self.write_faults self.old) (Self.write_faults self.new) result }
+        ensures other { IsOther (Self.read_faults self.old) (Self.read_faults self.new) result };
 }
