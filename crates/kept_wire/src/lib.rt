@@ -1,6 +1,8 @@
 //! Wires whose output is a file, beside a file that keeps the state of a run.
 #![tactic(auto)]
 
+mod files;
 mod wire;
 
+pub use files::FileWire;
 pub use wire::KeptWire;
