@@ -2,7 +2,9 @@
 #![tactic(auto)]
 
 mod files;
+mod memory;
 mod wire;
 
 pub use files::FileWire;
+pub use memory::MemoryFileWire;
 pub use wire::KeptWire;
