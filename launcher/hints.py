@@ -5,7 +5,7 @@ usage: launcher/hints.py PROGRAM WORD ..
 
 What the program reads, what it writes and its status are as they are without this. Behind its note stand, on standard error:
 the query with a mark under the place or the item, or the line where it came from a file; which names are there, the nearest
-one first, or which kinds clash; and what to do, from docs/refusals.tsv.
+one first, which kinds clash, or which file cannot serve; and what to do, from docs/refusals.tsv.
 """
 import os
 import re
@@ -214,6 +214,38 @@ def of_line(note, line, text, width):
     return (shown(line, marks, width) if line else []) + told
 
 
+def places_of(checkpoint):
+    """How many bytes of the input and of the output's file are behind a state."""
+    try:
+        with open(checkpoint, "rb") as file:
+            found = re.match(rb"#input,(\d+)\n#output,(\d+)\n", file.read(SHOWN))
+    except OSError:
+        found = None
+    return (int(found[1]), int(found[2])) if found else (0, 0)
+
+
+def of_files(words):
+    """Which of the files of a run with a checkpoint cannot serve it."""
+    checkpoint, given, answer = (option(words, name) for name in ("--checkpoint", "--input", "--output"))
+    taken, written = places_of(checkpoint)
+    told = []
+    for name, count, is_made in ((checkpoint, 0, True), (given, taken, False), (answer, written, written == 0)):
+        folder = os.path.dirname(name or "") or "."
+        if name in (None, "-"):
+            continue
+        if not os.path.isdir(folder):
+            told.append(f"there is no folder {folder}")
+        elif not os.path.exists(name):
+            told += [] if is_made else [f"there is no {name}"]
+        elif name == checkpoint and os.path.isdir(name):
+            told.append(f"{name} is a folder")
+        elif count and not os.path.isfile(name):
+            told.append(f"{name} is no file, and {count} bytes of it are behind the state")
+        elif count > os.path.getsize(name):
+            told.append(f"{name} has {os.path.getsize(name)} bytes, and {count} are behind the state")
+    return told
+
+
 def of_node(note, program, text):
     """The node that a note names, as the plan has it."""
     number = re.match(r"node (\d+): ", note)[1]
@@ -236,6 +268,8 @@ def hints(program, words, note, status, start):
             told = of_line(note, line_of_file(int(numbered.split()[1]), *at) if at else None, text, width)
         elif note.startswith("node "):
             told = of_node(note, program, text)
+        elif note == "checkpoint failed":
+            told = of_files(words)
     except (query.Wrong, LookupError, ValueError, OSError):
         # The note stands, and so does what to do about it.
         pass

@@ -135,6 +135,7 @@ RESUMED = [
 the checkpoint was taken with --workers 1 --late drop --lateness 5 --punctuate 0
 """),
 ]
+KEPT_HEAD = f"#input,5\n#output,1\n{HEAD}".encode()
 KEPT = [
     # the same with a checkpoint: what stands in its file, if that is there, and the lines of the input's file; note and more
     (None, b"s,interval,1,2,a,1\nS,interval,1,2,a,1\n", "line 2: unknown stream", """
@@ -143,6 +144,10 @@ S,interval,1,2,a,1
 the streams are s; did you mean s?
 """),
     (b"#input,0\n#output,0\n#tempo,1\n#query,73\n", b"", "line 4: not a checkpoint", "\n#query,73\nthe checkpoint is of another query\n"),
+    (KEPT_HEAD + b"#options,1,refuse,0,0\n#time,0,0\n#bound,0,0\n#end\n", b"*,", "checkpoint failed", """
+FOLDER/lines has 2 bytes, and 5 are behind the state
+there is no FOLDER/out
+"""),
 ]
 
 
@@ -217,7 +222,7 @@ def check_terminal(report, program):
                 kept, lines, out = (Path(folder, name) for name in ("state", "lines", "out"))
                 lines.write_bytes(fed)
                 words = ["--query", S_WORDS, "--checkpoint", kept, "--input", lines, "--output", out]
-                check_hint(report, words, stdin, env, lambda: put(kept, state), note, below)
+                check_hint(report, words, stdin, env, lambda: put(kept, state), note, below.replace("FOLDER", folder))
     if report.wants("hint how to type"):
         out, noted, status = at_terminal([ROOT / "tempo", "--query", S_WORDS], None, env, b"s,interval,1,5,a,7\n\4")
         typed = [line for line in noted.splitlines() if line.startswith("tempo: ")]
