@@ -236,7 +236,7 @@ impl Model for MemoryMedium {
 }
 
 impl MemoryMedium {
-    ghost use Rattle.durable_file.specs.Memory.{started, restarted, left_back};
+    ghost use Rattle.durable_file.specs.Memory.{disk_of, started, restarted, left_back};
 
     /// FILE has these bytes, and where they are None there is none. So many writes, syncs and renames go on, and each one behind
     /// them fails; a read goes on always.
@@ -258,9 +258,9 @@ impl MemoryMedium {
         }
     }
 
-    /// What the next process finds where this one was ended and the machine went on: the same disk, with nothing synced.
-    pub fn killed(self) -> MemoryMedium
-        ensures { result ≡ restarted self.told.now }
+    // Where it allocates, and its disk as it is.
+    fn into_disk(self) -> (Global, MemoryDisk)
+        ensures { disk_of result.1 ≡ self.told.now }
     {
         let MemoryMedium {
             alloc,
@@ -272,6 +272,14 @@ impl MemoryMedium {
             past: _,
             calls: _,
         } = moments;
+        (alloc, disk)
+    }
+
+    /// What the next process finds where this one was ended and the machine went on: the same disk, with nothing synced.
+    pub fn killed(self) -> MemoryMedium
+        ensures { result ≡ restarted self.told.now }
+    {
+        let (alloc, disk) = self.into_disk();
         MemoryMedium {
             alloc,
             moments: Moments {
@@ -289,16 +297,7 @@ impl MemoryMedium {
         ensures { result ≡ option_map (λ left. started left (2 ^ 64 - 1))
             (left_back self.told.now back torn.items) }
     {
-        let MemoryMedium {
-            alloc,
-            moments,
-            faults: _,
-        } = self;
-        let Moments {
-            disk,
-            past: _,
-            calls: _,
-        } = moments;
+        let (alloc, disk) = self.into_disk();
         let file = disk.file_back(back)?;
         Some(MemoryMedium::new(alloc, file.left(torn), u64::MAX))
     }

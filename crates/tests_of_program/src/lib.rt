@@ -2,7 +2,11 @@
 #![tactic(auto)]
 
 #[cfg(test)]
+mod bad_lines;
+#[cfg(test)]
 mod engines;
+#[cfg(test)]
+mod modes;
 #[cfg(test)]
 mod rows;
 #[cfg(test)]
