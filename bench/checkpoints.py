@@ -1,14 +1,17 @@
 #!/usr/bin/env python3
-"""Measures what a checkpoint costs: to take it, to go on from it, its bytes and the memory that both hold.
+"""Measures what a checkpoint costs: to take it, to go on from it, its bytes and the memory that both hold; and to keep them.
 
-usage: bench/checkpoints.py [ROWS] [--lines LINES] [--program PATH]
+usage: bench/checkpoints.py [ROWS] [--lines LINES] [--folder FOLDER] [--program PATH]
 
 With ROWS rows of four columns alive (100,000 if not given), once as open starts of a stream, once on one side of a join and once
 in a group: the seconds of the processor that a frozen run takes beyond a run over the same lines, and that a resumed run takes to
 begin, each wanted below 0.5 s, and the memory beside that of the run, wanted at most 3 times; and the bytes of an entry, wanted
 at most 120. (Both runs end at a line that is refused, so the end of the input costs nothing.) Then what a restart takes behind
 LINES trades (3,000,000): from a checkpoint, wanted below 1 s, and from the first line on.
-Ends with status 1 where a run that was cut in two writes other bytes than one run.
+Then with --checkpoint, over files in a new folder below FOLDER (that of temporary files; its disk is what is measured): how long
+the run stands still for a checkpoint with ROWS rows alive, wanted below 50 ms by the clock; and how long a run over the trades
+takes in which none is due, beside one without, wanted at most 1.01 times the processor.
+Ends with status 1 where a run that was cut in two, or that kept checkpoints, writes other bytes than one run.
 """
 import subprocess
 import sys
@@ -31,6 +34,9 @@ END = 1 << 40
 STOP = b'"!\n'
 ROUNDS = 5
 SECONDS, TIMES, BYTES, RESTART = 0.5, 3, 120, 1.0
+PAUSE, BETWEEN = 0.050, 1.01
+PAUSES = 20
+NEVER = (1 << 60) - 1
 
 
 class Run(NamedTuple):
@@ -127,14 +133,68 @@ def measure_restart(read, folder):
     return same
 
 
+def kept(read, folder, query, lines, every):
+    """A run over a file that keeps checkpoints, from its first line on, and what it wrote."""
+    state, out = folder / "state", folder / "out"
+    for path in (state, out):
+        path.unlink(missing_ok=True)
+    run = ran([read.program, "--query", query, "--checkpoint", state, "--every", every, "--input", lines, "--output", out], [])
+    return run, out.read_bytes()
+
+
+def measure_pause(read, name, folder):
+    """Prints how long a checkpoint with many rows alive holds a run up, and returns whether it wrote the bytes of one run."""
+    query, kind = HELD[name]
+    lines = folder / "lines"
+    write_held(lines, read.rows, kind)
+    with open(lines, "a") as out:
+        out.writelines(f"*,punct,{read.rows + 1 + i}\n" for i in range(PAUSES))
+    # (Due at each of the last punctuations, or at none.)
+    runs = [[kept(read, folder, query, lines, every) for _ in range(ROUNDS)] for every in (1, NEVER)]
+    each, none = (min(run.wall for run, _ in of) for of in runs)
+    # (Without --every one is due at the punctuation behind the rows too.)
+    pause = (each - none) / (PAUSES + 1)
+    print(f"{read.rows} rows alive, {name}: a checkpoint holds the run up for {1000 * pause:.0f} ms {told(pause, PAUSE)}", flush=True)
+    text, _ = parted(written([read.program, "--query", query, "--mode", "freeze"], [lines]))
+    same = all(out == text for of in runs for _, out in of)
+    print("" if same else f"    {name}: OTHER BYTES than one run\n", end="")
+    return same
+
+
+def measure_between(read, folder):
+    """Prints what a run takes while no checkpoint is due, beside one that keeps none, and returns whether both wrote the same."""
+    lines, out = folder / "trades", folder / "plain"
+    if not lines.exists():
+        write_trades(lines, read.lines)
+    plain, with_state, texts = [], [], []
+    for _ in range(ROUNDS):
+        with open(lines) as fed, open(out, "wb") as wrote:
+            started = subprocess.Popen([str(read.program), "--query", COUNTED, "--mode", "freeze"], stdin=fed, stdout=wrote)
+            status, usage, _ = wait_for(started)
+        if status:
+            sys.exit(f"bench: the run without checkpoints ended with {status}")
+        plain.append(usage.ru_utime + usage.ru_stime)
+        run, text = kept(read, folder, COUNTED, lines, NEVER)
+        with_state.append(run.processor)
+        texts.append(text)
+    times = min(with_state) / min(plain)
+    print(f"{read.lines} lines between two checkpoints: {times:.3f} times a run that keeps none {told(times, BETWEEN)}", flush=True)
+    same = all(text == parted(out.read_bytes())[0] for text in texts)
+    print("" if same else "    OTHER BYTES than one run\n", end="")
+    return same
+
+
 def main(read):
     good = True
-    with tempfile.TemporaryDirectory() as name:
+    with tempfile.TemporaryDirectory(dir=read.folder) as name:
         for held in HELD:
             good = measure_held(read, held, Path(name)) and good
         good = measure_restart(read, Path(name)) and good
+        for held in HELD:
+            good = measure_pause(read, held, Path(name)) and good
+        good = measure_between(read, Path(name)) and good
     sys.exit(0 if good else 1)
 
 
 if __name__ == "__main__":
-    main(arguments(__doc__, ("rows", {"nargs": "?", "type": int, "default": 100_000}), ("--lines", {"type": int, "default": 3_000_000})))
+    main(arguments(__doc__, ("rows", {"nargs": "?", "type": int, "default": 100_000}), ("--lines", {"type": int, "default": 3_000_000}), ("--folder", {})))

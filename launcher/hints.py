@@ -4,8 +4,8 @@
 usage: launcher/hints.py PROGRAM WORD ..
 
 What the program reads, what it writes and its status are as they are without this. Behind its note stand, on standard error:
-the query with a mark under the place or the item, or the line where standard input is a file; which names are there, the
-nearest one first, or which kinds clash; and what to do, from docs/refusals.tsv.
+the query with a mark under the place or the item, or the line where it came from a file; which names are there, the nearest
+one first, which kinds clash, or which file cannot serve; and what to do, from docs/refusals.tsv.
 """
 import os
 import re
@@ -133,11 +133,21 @@ def of_query(note, text, width):
     return at_line(text, marks, width) + ([wrong.sentence] if wrong else [])
 
 
-def line_of_file(number, start):
-    """The beginning of a line of standard input, where that is a file that was read from the byte `start` on."""
+def lines_of(words, cause, start):
+    """The descriptor of the file whose line a note numbers, and the byte from which on it is read, or None for no file. `start`
+    is that byte of standard input."""
+    checkpoint, given = option(words, "--checkpoint"), option(words, "--input")
+    if checkpoint is None:
+        return None if start is None else (0, start)
+    name = checkpoint if cause == "not a checkpoint" else given
+    return None if name in (None, "-") else (os.open(name, os.O_RDONLY), 0)
+
+
+def line_of_file(number, descriptor, start):
+    """The beginning of a line of a file that is read from the byte `start` on."""
     at, rest, seen = start, b"", 1
     while True:
-        part = os.pread(0, 1 << 20, at)
+        part = os.pread(descriptor, 1 << 20, at)
         at += len(part)
         count = part.count(b"\n")
         if not part or seen + count >= number:
@@ -171,7 +181,7 @@ def of_checkpoint(fields):
 
 
 def of_line(note, line, text, width):
-    """What to say of a line that was refused; `line` is None where standard input is no file."""
+    """What to say of a line that was refused; `line` is None where it came from no file."""
     streams = query.streams_of(text)
     cause = note.partition(": ")[2]
     fields = fields_of(line) if line is not None else []
@@ -204,6 +214,38 @@ def of_line(note, line, text, width):
     return (shown(line, marks, width) if line else []) + told
 
 
+def places_of(checkpoint):
+    """How many bytes of the input and of the output's file are behind a state."""
+    try:
+        with open(checkpoint, "rb") as file:
+            found = re.match(rb"#input,(\d+)\n#output,(\d+)\n", file.read(SHOWN))
+    except OSError:
+        found = None
+    return (int(found[1]), int(found[2])) if found else (0, 0)
+
+
+def of_files(words):
+    """Which of the files of a run with a checkpoint cannot serve it."""
+    checkpoint, given, answer = (option(words, name) for name in ("--checkpoint", "--input", "--output"))
+    taken, written = places_of(checkpoint)
+    told = []
+    for name, count, is_made in ((checkpoint, 0, True), (given, taken, False), (answer, written, written == 0)):
+        folder = os.path.dirname(name or "") or "."
+        if name in (None, "-"):
+            continue
+        if not os.path.isdir(folder):
+            told.append(f"there is no folder {folder}")
+        elif not os.path.exists(name):
+            told += [] if is_made else [f"there is no {name}"]
+        elif name == checkpoint and os.path.isdir(name):
+            told.append(f"{name} is a folder")
+        elif count and not os.path.isfile(name):
+            told.append(f"{name} is no file, and {count} bytes of it are behind the state")
+        elif count > os.path.getsize(name):
+            told.append(f"{name} has {os.path.getsize(name)} bytes, and {count} are behind the state")
+    return told
+
+
 def of_node(note, program, text):
     """The node that a note names, as the plan has it."""
     number = re.match(r"node (\d+): ", note)[1]
@@ -221,10 +263,13 @@ def hints(program, words, note, status, start):
         if note.startswith("query: ") and text:
             told = of_query(note, text, width)
         elif note.startswith("line ") and text:
-            line = line_of_file(int(note.split()[1].rstrip(":")), start) if start is not None else None
-            told = of_line(note, line, text, width)
+            numbered, _, cause = note.partition(": ")
+            at = lines_of(words, cause, start)
+            told = of_line(note, line_of_file(int(numbered.split()[1]), *at) if at else None, text, width)
         elif note.startswith("node "):
             told = of_node(note, program, text)
+        elif note == "checkpoint failed":
+            told = of_files(words)
     except (query.Wrong, LookupError, ValueError, OSError):
         # The note stands, and so does what to do about it.
         pass
@@ -240,7 +285,8 @@ def run(program, words):
                            preexec_fn=lambda: signal.signal(signal.SIGINT, signal.SIG_DFL))
     for number in (signal.SIGTERM, signal.SIGHUP):
         signal.signal(number, lambda number, _: ran.send_signal(number))
-    if os.isatty(0) and "--query" in " ".join(words) and option(words, "--mode") in (None, "run", "freeze"):
+    if os.isatty(0) and "--query" in " ".join(words) and option(words, "--mode") in (None, "run", "freeze") \
+            and option(words, "--input") in (None, "-"):
         # Not where it ends at once, as at a query that it refuses.
         if not select.select([ran.stderr], [], [], ENTER)[0]:
             # (In one write, so that nothing that is typed comes into the line.)

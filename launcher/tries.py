@@ -135,6 +135,20 @@ RESUMED = [
 the checkpoint was taken with --workers 1 --late drop --lateness 5 --punctuate 0
 """),
 ]
+KEPT_HEAD = f"#input,5\n#output,1\n{HEAD}".encode()
+KEPT = [
+    # the same with a checkpoint: what stands in its file, if that is there, and the lines of the input's file; note and more
+    (None, b"s,interval,1,2,a,1\nS,interval,1,2,a,1\n", "line 2: unknown stream", """
+S,interval,1,2,a,1
+^
+the streams are s; did you mean s?
+"""),
+    (b"#input,0\n#output,0\n#tempo,1\n#query,73\n", b"", "line 4: not a checkpoint", "\n#query,73\nthe checkpoint is of another query\n"),
+    (KEPT_HEAD + b"#options,1,refuse,0,0\n#time,0,0\n#bound,0,0\n#end\n", b"*,", "checkpoint failed", """
+FOLDER/lines has 2 bytes, and 5 are behind the state
+there is no FOLDER/out
+"""),
+]
 
 
 def at_terminal(command, stdin, env, keys=b""):
@@ -161,6 +175,34 @@ def at_terminal(command, stdin, env, keys=b""):
         return out.read(), noted.decode(errors="replace").replace("\r\n", "\n"), status
 
 
+def put(path, told):
+    """Makes a file of these bytes, or takes it away."""
+    if told is None:
+        path.unlink(missing_ok=True)
+    else:
+        path.write_bytes(told)
+
+
+def check_hint(report, words, stdin, env, prepare, note, below):
+    """One refusal: alone its note, and at a terminal what stands below it and what to do; nothing else differs."""
+    name, words = f"hint {note}", [ROOT / "tempo", *words]
+    prepare()
+    plain = subprocess.run(words, stdin=stdin, capture_output=True, env=env, timeout=SECONDS)
+    prepare()
+    out, noted, status = at_terminal(words, stdin, env)
+    wanted = note + "\n" + "".join(f"  {line}\n" for line in below.strip("\n").split("\n") if line)
+    last = noted.rstrip("\n").rpartition("\n")[2]
+    told = plain.stderr.decode()
+    if told != note + "\n":
+        report.fails(name, f"without a terminal its note is {told!r}")
+    elif (out, status) != (plain.stdout, plain.returncode):
+        report.fails(name, f"at a terminal its output or its status {status} is another")
+    elif not re.match(r"  What to do: \w.*\.$", last):
+        report.fails(name, f"what to do is not said: {last!r}")
+    else:
+        report.compares(name, noted[:-len(last) - 1], wanted)
+
+
 def check_terminal(report, program):
     """What ./tempo says at a terminal behind a refusal, and before lines are typed; nothing else differs there."""
     # The script takes this program and no other, and where the program is the script itself, what the script finds.
@@ -170,27 +212,17 @@ def check_terminal(report, program):
         env["TEMPO_PROGRAM"] = path
     tried = [([], it) for it in HINTS] + [(["--mode", "resume"], it) for it in RESUMED]
     for mode, (query, fed, note, below) in tried:
-        name = f"hint {note}"
-        if not report.wants(name):
-            continue
-        with tempfile.TemporaryFile() as stdin:
-            stdin.write(fed or b"")
-            words = [ROOT / "tempo", *mode, "--query", query]
-            stdin.seek(0)
-            plain = subprocess.run(words, stdin=stdin, capture_output=True, env=env, timeout=SECONDS)
-            stdin.seek(0)
-            out, noted, status = at_terminal(words, stdin, env)
-        wanted = note + "\n" + "".join(f"  {line}\n" for line in below.strip("\n").split("\n") if line)
-        last = noted.rstrip("\n").rpartition("\n")[2]
-        told = plain.stderr.decode()
-        if told != note + "\n":
-            report.fails(name, f"without a terminal its note is {told!r}")
-        elif (out, status) != (plain.stdout, plain.returncode):
-            report.fails(name, f"at a terminal its output or its status {status} is another")
-        elif not re.match(r"  What to do: \w.*\.$", last):
-            report.fails(name, f"what to do is not said: {last!r}")
-        else:
-            report.compares(name, noted[:-len(last) - 1], wanted)
+        if report.wants(f"hint {note}"):
+            with tempfile.TemporaryFile() as stdin:
+                stdin.write(fed or b"")
+                check_hint(report, [*mode, "--query", query], stdin, env, lambda: stdin.seek(0), note, below)
+    for state, fed, note, below in KEPT:
+        if report.wants(f"hint {note}"):
+            with tempfile.TemporaryDirectory() as folder, open(os.devnull) as stdin:
+                kept, lines, out = (Path(folder, name) for name in ("state", "lines", "out"))
+                lines.write_bytes(fed)
+                words = ["--query", S_WORDS, "--checkpoint", kept, "--input", lines, "--output", out]
+                check_hint(report, words, stdin, env, lambda: put(kept, state), note, below.replace("FOLDER", folder))
     if report.wants("hint how to type"):
         out, noted, status = at_terminal([ROOT / "tempo", "--query", S_WORDS], None, env, b"s,interval,1,5,a,7\n\4")
         typed = [line for line in noted.splitlines() if line.startswith("tempo: ")]
