@@ -236,7 +236,7 @@ pub IfOk-three : {X Y : Type 0} (r : Result X Y) (P Q R S : X → Type 0) → ((
 IfOk-three (Ok x) P Q R S f a b c = f x a b c
 IfOk-three (Err e) P Q R S f a b c = tt
 
--- and so the pools stay alike whether a copy was made or there was no memory for it
+-- and so the pools stay alike whether a copy was made or it was out of memory
 pub copy_leaves : {E : Type 0} (r : Result EdgeListView E) (old new : PoolsView) (kinds : List CellKind) → IfOk r (λ copy. new ≡ batches_taken copy.batches old kinds) → OnErr r (AreBatchesTaken old new kinds) →
     (new.capacity ≡ old.capacity) × (new.limit ≡ old.limit)
 copy_leaves (Ok copy) old new kinds told failed = (

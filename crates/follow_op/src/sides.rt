@@ -105,7 +105,7 @@ impl Sides {
         Ok(answer)
     }
 
-    /// Takes up the rows, by these key columns, and the starts that were saved. Where there is no memory nothing changes.
+    /// Takes up the rows, by these key columns, and the starts that were saved. Out of memory nothing changes.
     pub(crate) fn take_up(&mut self, saved: &Saved, left_key: &[usize]) -> Result<(), Memory>
         ensures rows { OnOk result (SameBag self.new.rows.left.rows
             (rows_of (part_of 0 saved.now))) }

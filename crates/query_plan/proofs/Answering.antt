@@ -1,4 +1,4 @@
--- Answers that hang on earlier answers.
+-- Answers that depend on earlier answers.
 use Rattle.std.specs.Prelude.{◌≡◌, Result, Ok, Err}
 use Rattle.std.specs.Result.{IsErrAnd}
 use Rattle.std.proofs.Common.{sym, ◌∙◌, ap, subst}

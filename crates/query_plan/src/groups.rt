@@ -9,8 +9,8 @@ ghost use Rattle.query_plan.specs.Answer.{Is};
 ghost use Rattle.query_plan.specs.Steps.{has_average, grouped, group_step, is_top_count, top_step};
 
 use crate::checks::needs;
-use crate::draft::{Draft, PlannedNode};
-use crate::steps::{alone, found, key_columns};
+use crate::draft::PlannedNode;
+use crate::steps::{StepContext, found};
 use plan_model::{Agg, AggList, Key, Node, QueryError, QueryFault};
 use query_columns::{
     aggs_fit, aggs_of, averages, column_of, counted_schema, group_schema, is_number,
@@ -49,68 +49,6 @@ fn with_count(alloc: Global, aggs: &[Agg]) -> Result<AggList, Memory>
     Ok(AggList::from_vec(counted))
 }
 
-// The nodes of a group over the node of number `at`: one, or two where there are averages.
-fn grouped(
-    alloc: Global,
-    draft: &Draft,
-    at: usize,
-    key: Key,
-    aggs: &[QueryAgg],
-    computed: AggList,
-) -> Result<Vec<PlannedNode>, Memory>
-    ensures { IfOk result (λ v. v.items ≡ grouped draft.now at key aggs.now computed) }
-{
-    let before = draft.schema_at(at);
-    let schema = group_schema(alloc, before, key.items(), aggs, computed.items())?;
-    if !has_average(aggs) {
-        let node = Node::Group {
-            of: at,
-            key,
-            aggs: computed,
-        };
-        let nodes = vec![in alloc; PlannedNode { node, schema }]?;
-        return Ok(nodes);
-    }
-    let counted = counted_schema(alloc, before, key.items(), aggs, computed.items())?;
-    let mean = Node::Mean {
-        of: draft.len(),
-        at: Key::from_vec(averages(alloc, key.items().len(), aggs)?),
-    };
-    let sums = Node::Group {
-        of: at,
-        key,
-        aggs: with_count(alloc, computed.items())?,
-    };
-    let nodes = vec![in alloc;
-        PlannedNode {
-            node: sums,
-            schema: counted
-        },
-        PlannedNode { node: mean, schema },
-    ]?;
-    Ok(nodes)
-}
-
-/// A key, and aggregates of numbers.
-pub(crate) fn group_step(
-    alloc: Global,
-    item: usize,
-    draft: &Draft,
-    at: usize,
-    names: &NameList,
-    aggs: &query_text::AggList,
-) -> Result<Vec<PlannedNode>, QueryError>
-    ensures { Is (λ v. v.items) result (group_step item draft.now at names.now aggs.now) }
-{
-    let before = draft.schema_at(at);
-    let key = key_columns(alloc, item, before, names)?;
-    let computed = computed(alloc, item, before, aggs)?;
-    let fit = aggs_fit(before, aggs.items());
-    needs(fit, QueryFault::TypeClash { item })?;
-    let nodes = grouped(alloc, draft, at, key, aggs.items(), computed)?;
-    Ok(nodes)
-}
-
 // The column of that name.
 fn column_named(item: usize, schema: &[ColumnDef], name: &Label) -> Result<usize, QueryError>
     ensures { Is (λ n. n) result (ok_or (column_named schema.now name.now) (F.UnknownName item)) }
@@ -138,33 +76,90 @@ fn is_top_count(count: u64) -> bool
     count >= 1 && count <= 1000
 }
 
-/// The rows with the greatest values in a column of numbers, for each value of a key.
-pub(crate) fn top_step(
-    alloc: Global,
-    item: usize,
-    draft: &Draft,
-    at: usize,
-    count: u64,
-    names: &NameList,
-    by: &Label,
-) -> Result<Vec<PlannedNode>, QueryError>
-    ensures { Is (λ v. v.items) result (top_step item draft.now at count names.now by.now) }
-{
-    let before = draft.schema_at(at);
-    let key = key_columns(alloc, item, before, names)?;
-    let column = column_named(item, before, by)?;
-    let fit = is_numeric(before, column);
-    needs(fit, QueryFault::TypeClash { item })?;
-    needs(is_top_count(count), QueryFault::BadWindow { item })?;
-    alone(
-        alloc,
-        draft,
-        at,
-        Node::Top {
-            of: at,
+impl<'a> StepContext<'a> {
+    // The nodes of a group: one, or two where there are averages.
+    fn grouped(
+        &self,
+        key: Key,
+        aggs: &[QueryAgg],
+        computed: AggList,
+    ) -> Result<Vec<PlannedNode>, Memory>
+        ensures { IfOk result
+            (λ v. v.items ≡ grouped self.now.draft.now self.now.at key aggs.now computed) }
+    {
+        let before = self.draft.schema_at(self.at);
+        let schema = group_schema(self.alloc, before, key.items(), aggs, computed.items())?;
+        if !has_average(aggs) {
+            let node = Node::Group {
+                of: self.at,
+                key,
+                aggs: computed,
+            };
+            let nodes = vec![in self.alloc; PlannedNode { node, schema }]?;
+            return Ok(nodes);
+        }
+        let counted = counted_schema(self.alloc, before, key.items(), aggs, computed.items())?;
+        let mean = Node::Mean {
+            of: self.draft.len(),
+            at: Key::from_vec(averages(self.alloc, key.items().len(), aggs)?),
+        };
+        let sums = Node::Group {
+            of: self.at,
+            key,
+            aggs: with_count(self.alloc, computed.items())?,
+        };
+        let nodes = vec![in self.alloc;
+            PlannedNode {
+                node: sums,
+                schema: counted
+            },
+            PlannedNode { node: mean, schema },
+        ]?;
+        Ok(nodes)
+    }
+
+    /// A key, and aggregates of numbers.
+    pub(crate) fn group_step(
+        &self,
+        names: &NameList,
+        aggs: &query_text::AggList,
+    ) -> Result<Vec<PlannedNode>, QueryError>
+        ensures { Is (λ v. v.items) result
+            (group_step self.now.item self.now.draft.now self.now.at names.now aggs.now) }
+    {
+        let before = self.draft.schema_at(self.at);
+        let key = self.key_columns(before, names)?;
+        let computed = computed(self.alloc, self.item, before, aggs)?;
+        let fit = aggs_fit(before, aggs.items());
+        needs(fit, QueryFault::TypeClash { item: self.item })?;
+        let nodes = self.grouped(key, aggs.items(), computed)?;
+        Ok(nodes)
+    }
+
+    /// The rows with the greatest values in a column of numbers, for each value of a key.
+    pub(crate) fn top_step(
+        &self,
+        count: u64,
+        names: &NameList,
+        by: &Label,
+    ) -> Result<Vec<PlannedNode>, QueryError>
+        ensures { Is (λ v. v.items) result
+            (top_step self.now.item self.now.draft.now self.now.at count names.now by.now) }
+    {
+        let before = self.draft.schema_at(self.at);
+        let key = self.key_columns(before, names)?;
+        let column = column_named(self.item, before, by)?;
+        let fit = is_numeric(before, column);
+        needs(fit, QueryFault::TypeClash { item: self.item })?;
+        needs(
+            is_top_count(count),
+            QueryFault::BadWindow { item: self.item },
+        )?;
+        self.alone(Node::Top {
+            of: self.at,
             key,
             by: column,
             count,
-        },
-    )
+        })
+    }
 }

@@ -6,7 +6,7 @@ ghost use Rattle.query_plan.specs.Planned.{stream_planned, streams_planned, step
 
 use crate::checks::needs;
 use crate::draft::{Draft, PlannedNode};
-use crate::steps::{operand, step_nodes};
+use crate::steps::{StepContext, operand};
 use plan_model::{Node, Plan, QueryError, QueryFault, StreamList};
 use query_columns::copied;
 use query_text::{Let, Pipe, Query, QueryStep};
@@ -79,7 +79,13 @@ fn step_planned(
     ensures { Is (λ r. r) result (step_planned item reached step.now) }
 {
     let Reached { draft, at } = reached;
-    let planned = step_nodes(alloc, item, &draft, at, step)?;
+    let context = StepContext {
+        alloc,
+        item,
+        draft: &draft,
+        at,
+    };
+    let planned = context.step_nodes(step)?;
     let draft = draft.admit(item, planned)?;
     let at = draft.len().saturating_sub(1);
     Ok(Reached { draft, at })

@@ -5,8 +5,8 @@ ghost use Rattle.query_plan.specs.Answer.{Is};
 ghost use Rattle.query_plan.specs.Steps.{named_sides, are_alike, sides, joined, key_group, anti_node};
 
 use crate::checks::needs;
-use crate::draft::{Draft, PlannedNode};
-use crate::steps::{key_columns, operand};
+use crate::draft::PlannedNode;
+use crate::steps::{StepContext, operand};
 use plan_model::{AggList, Key, Node, QueryError, QueryFault};
 use query_columns::{copied, group_schema, join_schema, keys_alike};
 use query_text::NameList;
@@ -30,72 +30,6 @@ impl Model for Sides {
     ghost view = { λ s. record { right = s.right; left_key = s.left_key; right_key = s.right_key } };
 }
 
-/// The right operand of a step by a key, and the key's columns on both sides.
-pub(crate) fn named_sides(
-    alloc: Global,
-    item: usize,
-    draft: &Draft,
-    at: usize,
-    name: &Label,
-    names: &NameList,
-) -> Result<Sides, QueryError>
-    ensures { Is (λ s. s) result (named_sides item draft.now at name.now names.now) }
-{
-    let right = operand(item, draft, name)?;
-    let left_key = key_columns(alloc, item, draft.schema_at(at), names)?;
-    let right_key = key_columns(alloc, item, draft.schema_at(right), names)?;
-    Ok(Sides {
-        right,
-        left_key,
-        right_key,
-    })
-}
-
-/// Whether the columns of the key are of the same kinds on both sides.
-pub(crate) fn are_alike(draft: &Draft, at: usize, sides: &Sides) -> bool
-    ensures { result ≡ are_alike draft.now at sides.now }
-{
-    keys_alike(
-        draft.schema_at(at),
-        draft.schema_at(sides.right),
-        sides.left_key.items(),
-        sides.right_key.items(),
-    )
-}
-
-/// The right operand of a step by a key, whose columns are of the same kinds on both sides.
-pub(crate) fn find_sides(
-    alloc: Global,
-    item: usize,
-    draft: &Draft,
-    at: usize,
-    name: &Label,
-    names: &NameList,
-) -> Result<Sides, QueryError>
-    ensures { Is (λ s. s) result (sides item draft.now at name.now names.now) }
-{
-    let both = named_sides(alloc, item, draft, at, name, names)?;
-    needs(are_alike(draft, at, &both), QueryFault::TypeClash { item })?;
-    Ok(both)
-}
-
-/// The left columns, and then the right ones outside the key.
-pub(crate) fn joined_schema(
-    alloc: Global,
-    draft: &Draft,
-    at: usize,
-    sides: &Sides,
-) -> Result<Schema, Memory>
-    ensures { IfOk result (λ s. s ≡ joined draft.now at sides.now) }
-{
-    join_schema(
-        alloc,
-        draft.schema_at(at),
-        draft.schema_at(sides.right),
-        sides.right_key.items(),
-    )
-}
-
 /// A copy of the key.
 pub(crate) fn key_copy(alloc: Global, key: &Key) -> Result<Key, Memory>
     ensures { IfOk result (λ k. k ≡ key.now) }
@@ -117,36 +51,84 @@ fn first_columns(alloc: Global, count: usize) -> Result<Key, Memory>
     Ok(Key::from_vec(columns))
 }
 
-/// A group of the right keys alone.
-pub(crate) fn key_group(alloc: Global, draft: &Draft, sides: &Sides) -> Result<PlannedNode, Memory>
-    ensures { IfOk result (λ p. p ≡ key_group draft.now sides.now) }
-{
-    let key = sides.right_key.items();
-    let schema = group_schema(alloc, draft.schema_at(sides.right), key, &[], &[])?;
-    let node = Node::Group {
-        of: sides.right,
-        key: key_copy(alloc, &sides.right_key)?,
-        aggs: AggList::from_vec(Vec::new(alloc)),
-    };
-    Ok(PlannedNode { node, schema })
-}
+impl<'a> StepContext<'a> {
+    /// The right operand of a step by a key, and the key's columns on both sides.
+    pub(crate) fn named_sides(&self, name: &Label, names: &NameList) -> Result<Sides, QueryError>
+        ensures { Is (λ s. s) result
+            (named_sides self.now.item self.now.draft.now self.now.at name.now names.now) }
+    {
+        let right = operand(self.item, self.draft, name)?;
+        let left_key = self.key_columns(self.draft.schema_at(self.at), names)?;
+        let right_key = self.key_columns(self.draft.schema_at(right), names)?;
+        Ok(Sides {
+            right,
+            left_key,
+            right_key,
+        })
+    }
 
-/// The anti-join with the group of the right keys, which has number `group`. Its right key is all of the group's columns.
-pub(crate) fn anti_node(
-    alloc: Global,
-    draft: &Draft,
-    at: usize,
-    sides: &Sides,
-    group: usize,
-) -> Result<PlannedNode, Memory>
-    ensures { IfOk result (λ p. p ≡ anti_node draft.now at sides.now group) }
-{
-    let schema = copied(alloc, draft.schema_at(at))?;
-    let node = Node::Anti {
-        left: at,
-        right: group,
-        left_key: key_copy(alloc, &sides.left_key)?,
-        right_key: first_columns(alloc, sides.right_key.items().len())?,
-    };
-    Ok(PlannedNode { node, schema })
+    /// Whether the columns of the key are of the same kinds on both sides.
+    pub(crate) fn are_alike(&self, sides: &Sides) -> bool
+        ensures { result ≡ are_alike self.now.draft.now self.now.at sides.now }
+    {
+        keys_alike(
+            self.draft.schema_at(self.at),
+            self.draft.schema_at(sides.right),
+            sides.left_key.items(),
+            sides.right_key.items(),
+        )
+    }
+
+    /// The right operand of a step by a key, whose columns are of the same kinds on both sides.
+    pub(crate) fn find_sides(&self, name: &Label, names: &NameList) -> Result<Sides, QueryError>
+        ensures { Is (λ s. s) result
+            (sides self.now.item self.now.draft.now self.now.at name.now names.now) }
+    {
+        let both = self.named_sides(name, names)?;
+        needs(
+            self.are_alike(&both),
+            QueryFault::TypeClash { item: self.item },
+        )?;
+        Ok(both)
+    }
+
+    /// The left columns, and then the right ones outside the key.
+    pub(crate) fn joined_schema(&self, sides: &Sides) -> Result<Schema, Memory>
+        ensures { IfOk result (λ s. s ≡ joined self.now.draft.now self.now.at sides.now) }
+    {
+        join_schema(
+            self.alloc,
+            self.draft.schema_at(self.at),
+            self.draft.schema_at(sides.right),
+            sides.right_key.items(),
+        )
+    }
+
+    /// A group of the right keys alone.
+    pub(crate) fn key_group(&self, sides: &Sides) -> Result<PlannedNode, Memory>
+        ensures { IfOk result (λ p. p ≡ key_group self.now.draft.now sides.now) }
+    {
+        let key = sides.right_key.items();
+        let schema = group_schema(self.alloc, self.draft.schema_at(sides.right), key, &[], &[])?;
+        let node = Node::Group {
+            of: sides.right,
+            key: key_copy(self.alloc, &sides.right_key)?,
+            aggs: AggList::from_vec(Vec::new(self.alloc)),
+        };
+        Ok(PlannedNode { node, schema })
+    }
+
+    /// The anti-join with the group of the right keys, which has number `group`. Its right key is all of the group's columns.
+    pub(crate) fn anti_node(&self, sides: &Sides, group: usize) -> Result<PlannedNode, Memory>
+        ensures { IfOk result (λ p. p ≡ anti_node self.now.draft.now self.now.at sides.now group) }
+    {
+        let schema = copied(self.alloc, self.draft.schema_at(self.at))?;
+        let node = Node::Anti {
+            left: self.at,
+            right: group,
+            left_key: key_copy(self.alloc, &sides.left_key)?,
+            right_key: first_columns(self.alloc, sides.right_key.items().len())?,
+        };
+        Ok(PlannedNode { node, schema })
+    }
 }

@@ -11,9 +11,6 @@ ghost use Rattle.query_plan.specs.Steps.{hop_step, session_step, step_nodes};
 
 use crate::checks::needs;
 use crate::draft::{Draft, PlannedNode};
-use crate::groups::{group_step, top_step};
-use crate::joins::{anti_step, clip_step, follow_step, join_step};
-use crate::outer::left_step;
 use plan_model::{Key, Node, QueryError, QueryFault};
 use query_columns::{
     copied, expr_of, exprs_of, key_of, same_kinds, select_schema, type_of, types_of,
@@ -21,6 +18,15 @@ use query_columns::{
 use query_text::{ItemList, NameList, QueryStep, Tree};
 use std::alloc::Global;
 use tw_rows::{ColumnDef, Kind, Label, Schema};
+
+/// A step that is planned: the number of its item, what is planned before it, and the number of the node that it works on.
+#[derive(Clone, Copy)]
+pub(crate) struct StepContext<'a> {
+    pub(crate) alloc: Global,
+    pub(crate) item: usize,
+    pub(crate) draft: &'a Draft,
+    pub(crate) at: usize,
+}
 
 /// What was found, or the fault where there is nothing.
 pub(crate) fn found<T: Drop>(value: Option<T>, fault: QueryFault) -> Result<T, QueryError>
@@ -42,70 +48,10 @@ pub(crate) fn operand(item: usize, draft: &Draft, name: &Label) -> Result<usize,
     )
 }
 
-/// A step that changes lives stands over events.
-pub(crate) fn over_events(item: usize, draft: &Draft, at: usize) -> Result<(), QueryError>
-    ensures { Is (λ _. tt) result (over_events item draft.now at) }
-{
-    needs(draft.is_event_level(at), QueryFault::NotEventLevel { item })
-}
-
-/// The columns that the names of a key stand for.
-pub(crate) fn key_columns(
-    alloc: Global,
-    item: usize,
-    schema: &[ColumnDef],
-    names: &NameList,
-) -> Result<Key, QueryError>
-    ensures { Is (λ k. k) result (ok_or (key_of schema.now names.now) (F.UnknownName item)) }
-{
-    let key = key_of(alloc, schema, names.items())?;
-    found(key, QueryFault::UnknownName { item })
-}
-
-/// One node.
-pub(crate) fn one(alloc: Global, node: Node, schema: Schema) -> Result<Vec<PlannedNode>, QueryError>
-    ensures { Is (λ v. v.items) result (Ok (record { node = node; schema = schema } ∷ [])) }
-{
-    let nodes = vec![in alloc; PlannedNode { node, schema }]?;
-    Ok(nodes)
-}
-
-/// One node, with the columns of the node before it.
-pub(crate) fn alone(
-    alloc: Global,
-    draft: &Draft,
-    at: usize,
-    node: Node,
-) -> Result<Vec<PlannedNode>, QueryError>
-    ensures { Is (λ v. v.items) result (alone draft.now at node) }
-{
-    let schema = copied(alloc, draft.schema_at(at))?;
-    one(alloc, node, schema)
-}
-
 fn is_bool(kind: Kind) -> bool
     ensures { result ≡ same_kind kind K.Bool }
 {
     matches!(kind, Kind::Bool)
-}
-
-// A filter by a test.
-fn where_step(
-    alloc: Global,
-    item: usize,
-    draft: &Draft,
-    at: usize,
-    tree: &Tree,
-) -> Result<Vec<PlannedNode>, QueryError>
-    ensures { Is (λ v. v.items) result (where_step item draft.now at tree.now) }
-{
-    let schema = draft.schema_at(at);
-    let told = expr_of(alloc, schema, tree)?;
-    let test = found(told, QueryFault::UnknownName { item })?;
-    let typed = type_of(alloc, schema, tree)?;
-    let kind = found(typed, QueryFault::TypeClash { item })?;
-    needs(is_bool(kind), QueryFault::TypeClash { item })?;
-    alone(alloc, draft, at, Node::Where { of: at, test })
 }
 
 // The kinds of the items of a select.
@@ -123,75 +69,6 @@ fn kinds_of(
     }
 }
 
-// A column for each item.
-fn select_step(
-    alloc: Global,
-    item: usize,
-    draft: &Draft,
-    at: usize,
-    items: &ItemList,
-) -> Result<Vec<PlannedNode>, QueryError>
-    ensures { Is (λ v. v.items) result (select_step item draft.now at items.now) }
-{
-    let before = draft.schema_at(at);
-    let told = exprs_of(alloc, before, items.items())?;
-    let exprs = found(told, QueryFault::UnknownName { item })?;
-    let kinds = kinds_of(alloc, item, before, items)?;
-    let schema = select_schema(alloc, items.items(), kinds.as_slice())?;
-    one(
-        alloc,
-        Node::Select {
-            of: at,
-            items: exprs,
-        },
-        schema,
-    )
-}
-
-// The rows of both sides, whose columns have the same kinds.
-fn union_step(
-    alloc: Global,
-    item: usize,
-    draft: &Draft,
-    at: usize,
-    name: &Label,
-) -> Result<Vec<PlannedNode>, QueryError>
-    ensures { Is (λ v. v.items) result (union_step item draft.now at name.now) }
-{
-    let right = operand(item, draft, name)?;
-    let same = same_kinds(draft.schema_at(at), draft.schema_at(right));
-    needs(same, QueryFault::TypeClash { item })?;
-    alone(alloc, draft, at, Node::Union { left: at, right })
-}
-
-// A duration of at least 1.
-fn duration_step(
-    alloc: Global,
-    item: usize,
-    draft: &Draft,
-    at: usize,
-    by: u64,
-) -> Result<Vec<PlannedNode>, QueryError>
-    ensures { Is (λ v. v.items) result (duration_step item draft.now at by) }
-{
-    over_events(item, draft, at)?;
-    needs(by >= 1, QueryFault::BadWindow { item })?;
-    alone(alloc, draft, at, Node::Duration { of: at, by })
-}
-
-fn extend_step(
-    alloc: Global,
-    item: usize,
-    draft: &Draft,
-    at: usize,
-    by: u64,
-) -> Result<Vec<PlannedNode>, QueryError>
-    ensures { Is (λ v. v.items) result (extend_step item draft.now at by) }
-{
-    over_events(item, draft, at)?;
-    alone(alloc, draft, at, Node::Extend { of: at, by })
-}
-
 // The size and the period are at least 1, and the period divides the size.
 fn is_window(size: u64, period: u64) -> bool
     ensures { result ≡ is_window size period }
@@ -199,89 +76,167 @@ fn is_window(size: u64, period: u64) -> bool
     size >= 1 && period >= 1 && size % period == 0
 }
 
-fn hop_step(
-    alloc: Global,
-    item: usize,
-    draft: &Draft,
-    at: usize,
-    size: u64,
-    period: u64,
-) -> Result<Vec<PlannedNode>, QueryError>
-    ensures { Is (λ v. v.items) result (hop_step item draft.now at size period) }
-{
-    over_events(item, draft, at)?;
-    needs(is_window(size, period), QueryFault::BadWindow { item })?;
-    alone(
-        alloc,
-        draft,
-        at,
-        Node::Hop {
-            of: at,
+impl<'a> StepContext<'a> {
+    /// The columns of the schema that the names of a key stand for.
+    pub(crate) fn key_columns(
+        &self,
+        schema: &[ColumnDef],
+        names: &NameList,
+    ) -> Result<Key, QueryError>
+        ensures { Is (λ k. k) result
+            (ok_or (key_of schema.now names.now) (F.UnknownName self.now.item)) }
+    {
+        let key = key_of(self.alloc, schema, names.items())?;
+        found(key, QueryFault::UnknownName { item: self.item })
+    }
+
+    /// One node.
+    pub(crate) fn one(&self, node: Node, schema: Schema) -> Result<Vec<PlannedNode>, QueryError>
+        ensures { Is (λ v. v.items) result (Ok (record { node = node; schema = schema } ∷ [])) }
+    {
+        let nodes = vec![in self.alloc; PlannedNode { node, schema }]?;
+        Ok(nodes)
+    }
+
+    /// A step that changes lives stands over events, as the rows of that node.
+    pub(crate) fn over_events(&self, node: usize) -> Result<(), QueryError>
+        ensures { Is (λ _. tt) result (over_events self.now.item self.now.draft.now node) }
+    {
+        needs(
+            self.draft.is_event_level(node),
+            QueryFault::NotEventLevel { item: self.item },
+        )
+    }
+
+    /// One node, with the columns of the node before it.
+    pub(crate) fn alone(&self, node: Node) -> Result<Vec<PlannedNode>, QueryError>
+        ensures { Is (λ v. v.items) result (alone self.now.draft.now self.now.at node) }
+    {
+        let schema = copied(self.alloc, self.draft.schema_at(self.at))?;
+        self.one(node, schema)
+    }
+
+    // A filter by a test.
+    fn where_step(&self, tree: &Tree) -> Result<Vec<PlannedNode>, QueryError>
+        ensures { Is (λ v. v.items) result
+            (where_step self.now.item self.now.draft.now self.now.at tree.now) }
+    {
+        let schema = self.draft.schema_at(self.at);
+        let told = expr_of(self.alloc, schema, tree)?;
+        let test = found(told, QueryFault::UnknownName { item: self.item })?;
+        let typed = type_of(self.alloc, schema, tree)?;
+        let kind = found(typed, QueryFault::TypeClash { item: self.item })?;
+        needs(is_bool(kind), QueryFault::TypeClash { item: self.item })?;
+        self.alone(Node::Where { of: self.at, test })
+    }
+
+    // A column for each item.
+    fn select_step(&self, items: &ItemList) -> Result<Vec<PlannedNode>, QueryError>
+        ensures { Is (λ v. v.items) result
+            (select_step self.now.item self.now.draft.now self.now.at items.now) }
+    {
+        let before = self.draft.schema_at(self.at);
+        let told = exprs_of(self.alloc, before, items.items())?;
+        let exprs = found(told, QueryFault::UnknownName { item: self.item })?;
+        let kinds = kinds_of(self.alloc, self.item, before, items)?;
+        let schema = select_schema(self.alloc, items.items(), kinds.as_slice())?;
+        self.one(
+            Node::Select {
+                of: self.at,
+                items: exprs,
+            },
+            schema,
+        )
+    }
+
+    // The rows of both sides, whose columns have the same kinds.
+    fn union_step(&self, name: &Label) -> Result<Vec<PlannedNode>, QueryError>
+        ensures { Is (λ v. v.items) result
+            (union_step self.now.item self.now.draft.now self.now.at name.now) }
+    {
+        let right = operand(self.item, self.draft, name)?;
+        let same = same_kinds(self.draft.schema_at(self.at), self.draft.schema_at(right));
+        needs(same, QueryFault::TypeClash { item: self.item })?;
+        self.alone(Node::Union {
+            left: self.at,
+            right,
+        })
+    }
+
+    // A duration of at least 1.
+    fn duration_step(&self, by: u64) -> Result<Vec<PlannedNode>, QueryError>
+        ensures { Is (λ v. v.items) result
+            (duration_step self.now.item self.now.draft.now self.now.at by) }
+    {
+        self.over_events(self.at)?;
+        needs(by >= 1, QueryFault::BadWindow { item: self.item })?;
+        self.alone(Node::Duration { of: self.at, by })
+    }
+
+    fn extend_step(&self, by: u64) -> Result<Vec<PlannedNode>, QueryError>
+        ensures { Is (λ v. v.items) result
+            (extend_step self.now.item self.now.draft.now self.now.at by) }
+    {
+        self.over_events(self.at)?;
+        self.alone(Node::Extend { of: self.at, by })
+    }
+
+    fn hop_step(&self, size: u64, period: u64) -> Result<Vec<PlannedNode>, QueryError>
+        ensures { Is (λ v. v.items) result
+            (hop_step self.now.item self.now.draft.now self.now.at size period) }
+    {
+        self.over_events(self.at)?;
+        needs(
+            is_window(size, period),
+            QueryFault::BadWindow { item: self.item },
+        )?;
+        self.alone(Node::Hop {
+            of: self.at,
             size,
             period,
-        },
-    )
-}
+        })
+    }
 
-// A timeout of at least 1, and a key.
-fn session_step(
-    alloc: Global,
-    item: usize,
-    draft: &Draft,
-    at: usize,
-    timeout: u64,
-    names: &NameList,
-) -> Result<Vec<PlannedNode>, QueryError>
-    ensures { Is (λ v. v.items) result (session_step item draft.now at timeout names.now) }
-{
-    let key = key_columns(alloc, item, draft.schema_at(at), names)?;
-    over_events(item, draft, at)?;
-    needs(timeout >= 1, QueryFault::BadWindow { item })?;
-    alone(
-        alloc,
-        draft,
-        at,
-        Node::Session {
-            of: at,
+    // A timeout of at least 1, and a key.
+    fn session_step(&self, timeout: u64, names: &NameList) -> Result<Vec<PlannedNode>, QueryError>
+        ensures { Is (λ v. v.items) result
+            (session_step self.now.item self.now.draft.now self.now.at timeout names.now) }
+    {
+        let key = self.key_columns(self.draft.schema_at(self.at), names)?;
+        self.over_events(self.at)?;
+        needs(timeout >= 1, QueryFault::BadWindow { item: self.item })?;
+        self.alone(Node::Session {
+            of: self.at,
             timeout,
             key,
-        },
-    )
-}
+        })
+    }
 
-/// The nodes of the step over the node of number `at`, or its first fault: of names, then of kinds, then of levels, then of
-/// windows.
-pub(crate) fn step_nodes(
-    alloc: Global,
-    item: usize,
-    draft: &Draft,
-    at: usize,
-    step: &QueryStep,
-) -> Result<Vec<PlannedNode>, QueryError>
-    ensures { Is (λ v. v.items) result (step_nodes item draft.now at step.now) }
-{
-    match step {
-        QueryStep::Where(tree) => where_step(alloc, item, draft, at, tree),
-        QueryStep::Select(items) => select_step(alloc, item, draft, at, items),
-        QueryStep::Union(name) => union_step(alloc, item, draft, at, name),
-        QueryStep::Delay(by) => alone(alloc, draft, at, Node::Delay { of: at, by: *by }),
-        QueryStep::Duration(by) => duration_step(alloc, item, draft, at, *by),
-        QueryStep::Extend(by) => extend_step(alloc, item, draft, at, *by),
-        QueryStep::Hop { size, period } => hop_step(alloc, item, draft, at, *size, *period),
-        QueryStep::Session { timeout, key } => {
-            session_step(alloc, item, draft, at, *timeout, key)
-        }
-        QueryStep::Clip { right, key } => clip_step(alloc, item, draft, at, right, key),
-        QueryStep::Join { right, key } => join_step(alloc, item, draft, at, right, key),
-        QueryStep::Anti { right, key } => anti_step(alloc, item, draft, at, right, key),
-        QueryStep::Group { key, aggs } => group_step(alloc, item, draft, at, key, aggs),
-        QueryStep::Coalesce => alone(alloc, draft, at, Node::Coalesce { of: at }),
-        QueryStep::Left { right, key, fills } => {
-            left_step(alloc, item, draft, at, right, key, fills)
-        }
-        QueryStep::Top { count, key, by } => top_step(alloc, item, draft, at, *count, key, by),
-        QueryStep::Follow { right, key, within } => {
-            follow_step(alloc, item, draft, at, right, key, *within)
+    /// The nodes of the step, or its first fault: of names, then of kinds, then of levels, then of windows.
+    pub(crate) fn step_nodes(&self, step: &QueryStep) -> Result<Vec<PlannedNode>, QueryError>
+        ensures { Is (λ v. v.items) result
+            (step_nodes self.now.item self.now.draft.now self.now.at step.now) }
+    {
+        match step {
+            QueryStep::Where(tree) => self.where_step(tree),
+            QueryStep::Select(items) => self.select_step(items),
+            QueryStep::Union(name) => self.union_step(name),
+            QueryStep::Delay(by) => self.alone(Node::Delay {
+                of: self.at,
+                by: *by,
+            }),
+            QueryStep::Duration(by) => self.duration_step(*by),
+            QueryStep::Extend(by) => self.extend_step(*by),
+            QueryStep::Hop { size, period } => self.hop_step(*size, *period),
+            QueryStep::Session { timeout, key } => { self.session_step(*timeout, key) }
+            QueryStep::Clip { right, key } => self.clip_step(right, key),
+            QueryStep::Join { right, key } => self.join_step(right, key),
+            QueryStep::Anti { right, key } => self.anti_step(right, key),
+            QueryStep::Group { key, aggs } => self.group_step(key, aggs),
+            QueryStep::Coalesce => self.alone(Node::Coalesce { of: self.at }),
+            QueryStep::Left { right, key, fills } => { self.left_step(right, key, fills) }
+            QueryStep::Top { count, key, by } => self.top_step(*count, key, by),
+            QueryStep::Follow { right, key, within } => { self.follow_step(right, key, *within) }
         }
     }
 }

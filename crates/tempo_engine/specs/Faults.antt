@@ -13,7 +13,7 @@ use Rattle.tempo_engine.specs.Output.{told}
 use Rattle.tempo_engine.specs.declared.fault.EngineFault.{EngineFault}
 use Rattle.tempo_engine.specs.declared.fault.EngineFault.TheVariants.{Bad, Late, Overflow, Memory}
 
--- the engine's fault is the first fault of the lines. Want of memory says nothing of the lines. Where line 3 is late, with
+-- the engine's fault is the first fault of the lines. Out of memory says nothing of the lines. Where line 3 is late, with
 -- the time 4 and the bound 9, the engine says that of line 3
 abbrev pub IsFaultOf : EngineFault → Option Fault → Type 0
 IsFaultOf (Bad line cause) fault = fault ≡ Some (Malformed line cause)
@@ -27,7 +27,7 @@ abbrev pub IsBadOf : PlanParts → ℕ → List ℕ → EngineFault → Type 0
 IsBadOf plan number line (Bad told_number cause) = (told_number ≡ number) × ((cause ≡ causes.NoStart) ⊎ ((told plan number line).read ≡ Err cause))
 IsBadOf plan number line f = Unit {0}
 
--- no line is told at the end of an input: a punctuation cannot be worked through, or memory is wanting
+-- no line is told at the end of an input: a punctuation cannot be worked through, or it is out of memory
 abbrev pub IsFaultAtEnd : EngineFault → Type 0
 IsFaultAtEnd (Bad line cause) = ⊥
 IsFaultAtEnd (Late line time bound) = ⊥
