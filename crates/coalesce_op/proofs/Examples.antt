@@ -5,7 +5,7 @@ use Rattle.tw_rows.specs.declared.cells.Datum.TheVariants.{Int}
 use Rattle.tw_rows.specs.declared.edge.HeldRow.{HeldRow}
 use Rattle.edge_stream.specs.declared.saved.PartRow.TheVariants.{Left}
 use Rattle.row_queues.specs.Queued.{queue_of}
-use Rattle.coalesce_op.specs.Operating.{row_of_part}
+use Rattle.coalesce_op.specs.Operating.{coalesce_row}
 
 abbrev held : ℕ → ℕ → HeldRow
 held n start = record { cells = Int (pos n) ∷ []; start = start }
@@ -15,5 +15,5 @@ queue_of_a_row : queue_of (held 7 1 ∷ held 4 2 ∷ held 7 3 ∷ []) (Int (pos 
 unfolding same_cells
 queue_of_a_row = refl
 
-rows_of_parts : (row_of_part 0 ≡ Some Left) × (row_of_part 1 ≡ Some Left) × (row_of_part 2 ≡ None)
+rows_of_parts : (coalesce_row 0 ≡ Some Left) × (coalesce_row 1 ≡ Some Left) × (coalesce_row 2 ≡ None)
 rows_of_parts = (refl, refl, refl)

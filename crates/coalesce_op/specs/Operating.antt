@@ -1,47 +1,28 @@
--- The operator of a Coalesce: how it stands, and what it keeps.
-use Rattle.std.specs.Prelude.{ℕ, nat_lt, cond, Option, Some, None, ◌+◌, length, List, [], map}
-use Rattle.tw_rows.specs.Kinds.{cell_kind_of}
+-- The sweep of a Coalesce: its node, and what it keeps, as entries.
+use Rattle.std.specs.Prelude.{ℕ, nat_lt, cond, Option, Some, None, ◌+◌, length, List}
+use Rattle.tw_rows.specs.declared.edge.Edge.{Edge}
 use Rattle.edge_stream.specs.declared.saved.PartRow.{PartRow}
 use Rattle.edge_stream.specs.declared.saved.PartRow.TheVariants.{Left}
 use Rattle.edge_stream.specs.declared.saved.SavedEntry.{SavedEntry}
+use Rattle.carried_edges.specs.Entries.{part_of}
+use Rattle.plan_model.specs.declared.node.Node.{Node}
 use Rattle.plan_model.specs.declared.node.Node.TheVariants.{Coalesce as CoalesceNode}
-use Rattle.operator.specs.Standing.{Standing, Keeping}
-use Rattle.sweep_sides.specs.Waiting.{queued}
-use Rattle.coalesce_op.specs.declared.coalesce.Coalesce.{Coalesce}
-use Rattle.coalesce_op.specs.States.{KeepsCoalesce, IsOpening, CoalesceSound, CoalesceResumes}
+use Rattle.sweep_laws.specs.Saving.{rows_of}
+use Rattle.coalesce_op.specs.declared.side.CoalesceSide.{CoalesceSide}
+use Rattle.coalesce_op.specs.Holding.{CoalesceKeeps}
 
-abbrev pub standing : Coalesce → Standing
-standing c = record {
-  node = CoalesceNode 0;
-  left_closed = c.left_to;
-  right_closed = c.right_to;
-  left_kinds = map cell_kind_of c.kinds.items;
-  right_kinds = [];
-  own_kinds = map cell_kind_of c.kinds.items;
-  batch_rows = c.capacity;
-  has_failed = c.failed;
-}
+abbrev pub coalesce_node : CoalesceSide → Node
+coalesce_node s = CoalesceNode 0
 
 -- how many entries it keeps: one for each open start, and one for each edge that waits
-abbrev pub entries : Coalesce → ℕ
-entries c = length c.side.queues + length c.side.waiting
+abbrev pub coalesce_entries : CoalesceSide → ℕ
+coalesce_entries s = length s.queues + length s.waiting
 
--- it stands as it was made
-abbrev pub IsNew : Coalesce → Type 0
-IsNew c = IsOpening c.side.queues c.side.waiting c.left_to c.right_to c.failed
-
--- it is what is left after the edges came in and out was answered
-abbrev pub IsKept : Coalesce → Keeping
-IsKept c texts hl hr out = KeepsCoalesce (map cell_kind_of c.kinds.items) texts c.left_to c.right_to c.side.queues (queued c.side.waiting) hl hr out
-
--- saved entries can be its state, closed up to x
-abbrev pub IsSound : Coalesce → List SavedEntry → ℕ → ℕ → Type 0
-IsSound c saved x y = CoalesceSound (map cell_kind_of c.kinds.items) x saved
-
--- they are what it keeps after the edges came in and were answered
-abbrev pub Resumes : Coalesce → List SavedEntry → ℕ → ℕ → Keeping
-Resumes c saved x y texts hl hr out = CoalesceResumes (map cell_kind_of c.kinds.items) texts x y saved hl hr out
+-- saved entries are what it keeps up to a time, after the edges came in and were answered. Those of equal rows stand in the order
+-- in which they end
+abbrev pub Resumes : List SavedEntry → ℕ → List Edge → List Edge → Type 0
+Resumes saved to came out = CoalesceKeeps (rows_of (part_of 0 saved)) (part_of 1 saved) to came out
 
 -- whose row the cells of a part are
-abbrev pub row_of_part : ℕ → Option PartRow
-row_of_part part = cond (nat_lt part 2) (Some Left) None
+abbrev pub coalesce_row : ℕ → Option PartRow
+coalesce_row part = cond (nat_lt part 2) (Some Left) None

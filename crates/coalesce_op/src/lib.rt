@@ -2,8 +2,8 @@
 #![tactic(auto)]
 
 mod coalesce;
-mod operating;
 mod side;
 mod sweep;
 
-pub use coalesce::Coalesce;
+pub use coalesce::{Coalesce, new_coalesce};
+pub use side::CoalesceSide;

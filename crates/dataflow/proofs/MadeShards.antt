@@ -74,3 +74,13 @@ module _ {O : Type 0} (standing : O → Standing) (is_new : O → Type 0) (worke
 
   pub as_many : (w : Whole O) (l r : List ℕ) → w ≡ side_by_side os l r false → length w.operators ≡ workers
   as_many w l r whole = ap (λ x. length x.operators) whole ∙ made.count
+
+-- an operator that is a stage by itself, and stands so as it is made
+pub alone_starts : {O : Type 0} (stage : O → Stage) (standing : O → Standing) (keeping : O → Keeping) → IsVariant stage standing keeping →
+    (plan : PlanParts) (capacity : ℕ) (texts : List (List ℕ)) (n : Node) (o : O) (s : Standing) → standing o ≡ s →
+    CanOperate capacity (left_kinds plan n) (right_kinds plan n) n s 0 0 → keeping o texts [] [] [] → StandsAsMade (stage o) → StartsFor texts capacity plan n (stage o)
+alone_starts stage standing keeping is plan capacity texts n o s stands can opens made = record {
+  ready = is.ready texts capacity (left_kinds plan n) (right_kinds plan n) n o 0 0 (subst (λ x. CanOperate capacity (left_kinds plan n) (right_kinds plan n) n x 0 0) (sym stands) can);
+  opens = is.keeps texts n o 0 0 [] [] [] opens;
+  made = made;
+}

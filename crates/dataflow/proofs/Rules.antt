@@ -26,10 +26,7 @@ use Rattle.sweep_sides.specs.Waiting.{queued}
 use Rattle.snapshot_agg.proofs.Standing.{group_longer, group_stands}
 use Rattle.session_window.proofs.Resuming.{session_tells}
 use Rattle.sweep_operator.proofs.Kept.{kept_longer, kept_stands}
-use Rattle.coalesce_op.proofs.Resuming.{coalesce_longer, coalesce_stands}
 use Rattle.follow_op.proofs.Resuming.{follow_longer, follow_stands}
-use Rattle.outer_top.proofs.Resuming.{top_longer, top_stands}
-use Rattle.outer_top.specs.TopKeys.{kept_rows}
 use Rattle.lifetime_ops.specs.Nodes.{node_of, known}
 use Rattle.lifetime_ops.specs.Waiting.{edges_of_pending}
 use Rattle.row_stage.specs.Made.{IsMade}
@@ -44,9 +41,7 @@ use Rattle.sweep_operator.specs.Operating.{standing as swept_standing, IsKept as
 use Rattle.operator.specs.Standing.{StandsFor}
 use Rattle.shard_apply.specs.Whole.{standing_in}
 use Rattle.shard_apply.proofs.WholeLaws.{grows_together, stands_together}
-use Rattle.coalesce_op.specs.Operating.{standing as coalesce_standing}
 use Rattle.follow_op.specs.Operating.{standing as follow_standing}
-use Rattle.outer_top.specs.Operating.{standing as top_standing}
 use Rattle.dataflow.specs.Stages.{HasCome, MayComeUpTo, HasMade, IsReady, StageKeeps, first_undefined_read}
 use Rattle.dataflow.proofs.Operators.{operator_stands}
 
@@ -97,12 +92,11 @@ keeps_longer texts more begins capacity left right n (Group w) x y ready hl hr o
 keeps_longer texts more begins capacity left right n (Session w) x y ready hl hr out kept = grows_together swept_standing IsSweptKept w (λ o. kept_longer o) more texts hl hr out begins kept
 keeps_longer texts more begins capacity left right n (Anti w) x y ready hl hr out kept = grows_together swept_standing IsSweptKept w (λ o. kept_longer o) more texts hl hr out begins kept
 keeps_longer texts more begins capacity left right n (Clip w) x y ready hl hr out kept = grows_together swept_standing IsSweptKept w (λ o. kept_longer o) more texts hl hr out begins kept
-keeps_longer texts more begins capacity left right n (Coalesce o) x y ready hl hr out kept = coalesce_longer (map cell_kind_of o.kinds.items) more texts o.left_to o.right_to o.side.queues (queued o.side.waiting) hl hr out begins kept
+keeps_longer texts more begins capacity left right n (Coalesce o) x y ready hl hr out kept = kept_longer o more texts hl hr out begins kept
 keeps_longer texts more begins capacity left right n (Follow o) x y ready hl hr out kept =
     follow_longer o.sides.rows.left.key o.sides.rows.right_key.columns o.sides.rows.within (map cell_kind_of o.left_kinds.items) (map cell_kind_of o.right_kinds.items) more texts o.left_to o.right_to
     o.sides.rows.left.rows o.sides.rows.queue.items (queued o.sides.left_waiting) (queued o.sides.right_waiting) hl hr out begins kept
-keeps_longer texts more begins capacity left right n (Top o) x y ready hl hr out kept =
-    top_longer o.side.tops.key.columns o.side.tops.by o.side.tops.most (map cell_kind_of o.kinds.items) more texts o.left_to o.right_to (kept_rows o.side.tops.keys.entries) (queued o.side.waiting) o.side.queues hl hr out begins kept
+keeps_longer texts more begins capacity left right n (Top o) x y ready hl hr out kept = kept_longer o more texts hl hr out begins kept
 
 -- what it answered stands for the node
 pub stage_stands : (texts : List (List ℕ)) → AreDistinct texts → (capacity : ℕ) (left right : List CellKind) (n : Node) (s : Stage) (x y : ℕ) →
@@ -128,12 +122,12 @@ stage_stands texts distinct capacity left right n (Anti w) x y ready hl hr out k
 stage_stands texts distinct capacity left right n (Clip w) x y ready hl hr out kept =
     operator_stands capacity left right n (standing_in swept_standing w) x y ready texts hl hr out (stands_together swept_standing IsSweptKept w texts hl hr out kept (λ o t l r e apart k. kept_stands o t l r e refl apart k.kept.kept.told k) distinct)
 stage_stands texts distinct capacity left right n (Coalesce o) x y ready hl hr out kept =
-    operator_stands capacity left right n (coalesce_standing o) x y ready texts hl hr out (coalesce_stands (map cell_kind_of o.kinds.items) texts o.left_to o.right_to o.side.queues (queued o.side.waiting) hl hr out distinct kept)
+    operator_stands capacity left right n (swept_standing o) x y ready texts hl hr out (kept_stands o texts hl hr out refl distinct kept.kept.kept.told kept)
 stage_stands texts distinct capacity left right n (Follow o) x y ready hl hr out kept =
     operator_stands capacity left right n (follow_standing o) x y ready texts hl hr out (follow_stands o.sides.rows.left.key o.sides.rows.right_key.columns o.sides.rows.within (map cell_kind_of o.left_kinds.items) (map cell_kind_of o.right_kinds.items) texts o.left_to o.right_to
     o.sides.rows.left.rows o.sides.rows.queue.items (queued o.sides.left_waiting) (queued o.sides.right_waiting) hl hr out distinct kept)
 stage_stands texts distinct capacity left right n (Top o) x y ready hl hr out kept =
-    operator_stands capacity left right n (top_standing o) x y ready texts hl hr out (top_stands o.side.tops.key.columns o.side.tops.by o.side.tops.most (map cell_kind_of o.kinds.items) texts o.left_to o.right_to (kept_rows o.side.tops.keys.entries) (queued o.side.waiting) o.side.queues hl hr out distinct kept)
+    operator_stands capacity left right n (swept_standing o) x y ready texts hl hr out (kept_stands o texts hl hr out refl distinct kept.kept.kept.told kept)
 
 -- and all places in it are in the table
 pub keeps_placed : (texts : List (List ℕ)) → AreDistinct texts → (capacity : ℕ) (left right : List CellKind) (n : Node) (s : Stage) (x y : ℕ) → IsReady texts capacity left right n s x y →

@@ -19,9 +19,9 @@ use Rattle.lifetime_ops.specs.declared.change.Change.TheVariants.{Delay, Hop, Du
 use Rattle.lifetime_ops.specs.Operating.{standing as life_standing, IsState as IsLifeState, IsResumed as IsLifeResumed}
 use Rattle.lifetime_ops.specs.ExtendOperating.{standing as extend_standing, IsState as IsExtendState, IsResumed as IsExtendResumed}
 use Rattle.union_op.specs.Operating.{standing as union_standing, IsState as IsUnionState, IsResumed as IsUnionResumed}
-use Rattle.coalesce_op.specs.Operating.{standing as coalesce_standing, IsSound as IsCoalesceSound, Resumes as CoalesceGoesOn, row_of_part as coalesce_row}
+use Rattle.coalesce_op.specs.Operating.{coalesce_row}
 use Rattle.follow_op.specs.Operating.{standing as follow_standing, IsSound as IsFollowSound, Resumes as FollowGoesOn, row_of_part as follow_row}
-use Rattle.outer_top.specs.Operating.{standing as top_standing, IsSound as IsTopSound, Resumes as TopGoesOn, row_of_part as top_row}
+use Rattle.outer_top.specs.Operating.{top_row}
 use Rattle.snapshot_agg.specs.Operating.{standing as group_standing, group_row}
 use Rattle.snapshot_agg.specs.Saving.{GroupSound, GroupResumes}
 use Rattle.snapshot_agg.specs.declared.grouped.Grouped.{Grouped}
@@ -145,7 +145,7 @@ extend_saving = record {
   no_key = λ o. refl;
 }
 
-pub coalesce_saving : SavesAsOne CoalesceStage coalesce_standing IsCoalesceSound CoalesceGoesOn coalesce_row
+pub coalesce_saving : SavesAsOne CoalesceStage swept_standing IsSweptSound SweptGoesOn coalesce_row
 coalesce_saving = record {
   saving = record { sound = λ o saved x y h. h; sounds = λ o saved x y h. h; resumed = λ o saved x y texts hl hr out h. h; resumes = λ o saved x y texts hl hr out h. h };
   one = λ o. refl;
@@ -161,7 +161,7 @@ follow_saving = record {
   no_key = λ o. refl;
 }
 
-pub top_saving : SavesAsOne TopStage top_standing IsTopSound TopGoesOn top_row
+pub top_saving : SavesAsOne TopStage swept_standing IsSweptSound SweptGoesOn top_row
 top_saving = record {
   saving = record { sound = λ o saved x y h. h; sounds = λ o saved x y h. h; resumed = λ o saved x y texts hl hr out h. h; resumes = λ o saved x y texts hl hr out h. h };
   one = λ o. refl;

@@ -11,7 +11,7 @@ use Rattle.tw_rows.specs.declared.kind.CellKind.TheVariants.{Whole}
 use Rattle.tw_rows.specs.declared.schema.StreamDef.{StreamDef}
 use Rattle.edge_stream.specs.Listing.{EdgeListView, cells_of}
 use Rattle.plan_model.specs.declared.node.Node.{Node}
-use Rattle.plan_model.specs.declared.node.Node.TheVariants.{Source, Union as UnionNode, Extend as ExtendNode, Session as SessionNode, Clip as ClipNode, Group as GroupNode, Join as JoinNode, Anti as AntiNode, Coalesce as CoalesceNode, Follow as FollowNode, Top as TopNode}
+use Rattle.plan_model.specs.declared.node.Node.TheVariants.{Source, Union as UnionNode, Extend as ExtendNode, Session as SessionNode, Clip as ClipNode, Group as GroupNode, Join as JoinNode, Anti as AntiNode, Follow as FollowNode, Top as TopNode}
 use Rattle.plan_model.specs.IsPlan.{PlanParts, IsPlan, IsSoundOver, kinds_at, kinds_of_schema, kinds_of_stream, node_kinds}
 use Rattle.plan_model.specs.Shape.{Shape, Stream, One, Two, shape, left_in, read_left, HasLower}
 use Rattle.life_laws.proofs.Lives.{lives_opening}
@@ -28,18 +28,11 @@ use Rattle.plan_model.specs.Keys.{paired_row}
 use Rattle.temporal_join.proofs.Answering.{pair_mapped}
 use Rattle.plan_model.specs.declared.agg.Agg.{Agg}
 use Rattle.snapshot_agg.specs.Answering.{group_kinds}
-use Rattle.coalesce_op.specs.States.{IsOpening as IsCoalesceOpening}
-use Rattle.coalesce_op.specs.declared.coalesce.Coalesce.{Coalesce as CoalesceOperator}
-use Rattle.coalesce_op.proofs.Resuming.{coalesce_opening}
 use Rattle.follow_op.specs.Operating.{IsNew as IsFollowNew}
 use Rattle.follow_op.specs.declared.follow.Follow.{Follow as FollowOperator}
 use Rattle.follow_op.proofs.Resuming.{follow_opening}
-use Rattle.outer_top.specs.Operating.{IsNew as IsTopNew}
-use Rattle.outer_top.specs.TopKeys.{kept_rows}
-use Rattle.outer_top.specs.declared.top.Top.{Top as TopOperator}
-use Rattle.outer_top.proofs.Resuming.{top_opening}
 use Rattle.sweep_operator.specs.Sweepers.{new_standing}
-use Rattle.dataflow.specs.declared.stage.Stage.TheVariants.{Life, Union, Extend, Coalesce, Follow, Top}
+use Rattle.dataflow.specs.declared.stage.Stage.TheVariants.{Life, Union, Extend, Follow}
 use Rattle.dataflow.specs.Operating.{CanOperate, MeanAlike, over_two}
 use Rattle.dataflow.specs.Stages.{left_kinds, right_kinds, changing, StartsFor}
 
@@ -253,25 +246,6 @@ new_can plan capacity n m l r own alike named on_left on_right on_own = record {
   batch_rows = refl;
 }
 
-pub coalesce_starts : (plan : PlanParts) (capacity : ℕ) (l : List Kind) (texts : List (List ℕ)) (of : ℕ) (o : CoalesceOperator) → o.kinds.items ≡ l → o.capacity ≡ capacity →
-    IsCoalesceOpening o.side.queues o.side.waiting o.left_to o.right_to o.failed →
-    map cell_kind_of l ≡ left_kinds plan (CoalesceNode of) → StartsFor texts capacity plan (CoalesceNode of) (Coalesce o)
-coalesce_starts plan capacity l texts of o like rows opening read = record {
-  ready = record {
-    node = record { events = λ l r. refl; closes = λ x y. refl; undefined = λ rows. refl; held = λ x y hl hr. refl };
-    named = refl;
-    works = opening.works;
-    left_closed = opening.left;
-    right_closed = opening.right;
-    left_kinds = ap (map cell_kind_of) like ∙ read;
-    right_kinds = refl;
-    own_kinds = ap (map cell_kind_of) like ∙ read;
-    batch_rows = rows;
-  };
-  opens = coalesce_opening (map cell_kind_of o.kinds.items) texts o.side.queues o.side.waiting o.left_to o.right_to o.failed opening;
-  made = opening;
-}
-
 -- the right child of a follow is a node of the plan, the follow is not too wide, and its time is at least 1
 module _ (plan : PlanParts) (whole : IsPlan plan) (i left right : ℕ) (left_key right_key : List ℕ) (within : ℕ) (there : slice_get plan.nodes i ≡ Some (FollowNode left right left_key right_key within)) where
   pub follow_right : right < length plan.nodes
@@ -315,23 +289,3 @@ follow_starts plan capacity l r texts left right left_key right_key within o sam
 -- a top of a plan shows at least one row
 pub top_shows : (plan : PlanParts) → IsPlan plan → (i of : ℕ) (key : List ℕ) (by count : ℕ) → slice_get plan.nodes i ≡ Some (TopNode of key by count) → 1 ≤ count
 top_shows plan whole i of key by count there = (whole.nodes_are.each i (TopNode of key by count) there).sound.some
-
-pub top_starts : (plan : PlanParts) (capacity : ℕ) (l : List Kind) (texts : List (List ℕ)) (of : ℕ) (key : List ℕ) (by count : ℕ) (o : TopOperator) →
-    o.side.tops.key.columns ≡ key → o.side.tops.by ≡ by → o.side.tops.most ≡ count → o.kinds.items ≡ l → o.capacity ≡ capacity → IsTopNew o →
-    map cell_kind_of l ≡ left_kinds plan (TopNode of key by count) → StartsFor texts capacity plan (TopNode of key by count) (Top o)
-top_starts plan capacity l texts of key by count o same_key same_by same_most like rows opening read = record {
-  ready = record {
-    node = subst (MeanAlike (TopNode of key by count)) (sym (λ j. TopNode 0 (same_key j) (same_by j) (same_most j)))
-        (record { events = λ a b. refl; closes = λ x y. refl; undefined = λ rows. refl; held = λ x y hl hr. refl });
-    named = λ j. TopNode 0 (same_key j) (same_by j) (same_most j);
-    works = opening.works;
-    left_closed = opening.left;
-    right_closed = opening.right;
-    left_kinds = ap (map cell_kind_of) like ∙ read;
-    right_kinds = refl;
-    own_kinds = ap (map cell_kind_of) like ∙ read;
-    batch_rows = rows;
-  };
-  opens = top_opening o.side.tops.key.columns o.side.tops.by o.side.tops.most (map cell_kind_of o.kinds.items) texts (kept_rows o.side.tops.keys.entries) o.side.waiting o.side.queues o.left_to o.right_to o.failed opening;
-  made = opening;
-}

@@ -15,9 +15,7 @@ use Rattle.union_op.specs.Operating.{standing as union_standing, IsKept as IsUni
 use Rattle.snapshot_agg.specs.Operating.{standing as group_standing, IsKept as IsGroupKept}
 use Rattle.dataflow.specs.declared.stage.Stage.{Stage}
 use Rattle.sweep_operator.specs.Operating.{standing as swept_standing, IsKept as IsSweptKept}
-use Rattle.coalesce_op.specs.Operating.{standing as coalesce_standing, IsKept as IsCoalesceKept}
 use Rattle.follow_op.specs.Operating.{standing as follow_standing, IsKept as IsFollowKept}
-use Rattle.outer_top.specs.Operating.{standing as top_standing, IsKept as IsTopKept}
 use Rattle.shard_apply.specs.Whole.{standing_in, ShardsKeep}
 use Rattle.dataflow.specs.declared.stage.Stage.TheVariants.{Life, Union, Extend, Join, Group, Anti, Session, Clip, Coalesce, Follow, Top}
 use Rattle.dataflow.proofs.Operators.{operator_held}
@@ -94,11 +92,11 @@ session_variant = record { can = λ texts capacity left right n o x y h. h; read
 pub clip_variant : IsVariant Clip (standing_in swept_standing) (ShardsKeep swept_standing IsSweptKept)
 clip_variant = record { can = λ texts capacity left right n o x y h. h; ready = λ texts capacity left right n o x y h. h; kept = λ texts n o x y hl hr out h. h; keeps = λ texts n o x y hl hr out h. h }
 
-pub coalesce_variant : IsVariant Coalesce coalesce_standing IsCoalesceKept
+pub coalesce_variant : IsVariant Coalesce swept_standing IsSweptKept
 coalesce_variant = record { can = λ texts capacity left right n o x y h. h; ready = λ texts capacity left right n o x y h. h; kept = λ texts n o x y hl hr out h. h; keeps = λ texts n o x y hl hr out h. h }
 
 pub follow_variant : IsVariant Follow follow_standing IsFollowKept
 follow_variant = record { can = λ texts capacity left right n o x y h. h; ready = λ texts capacity left right n o x y h. h; kept = λ texts n o x y hl hr out h. h; keeps = λ texts n o x y hl hr out h. h }
 
-pub top_variant : IsVariant Top top_standing IsTopKept
+pub top_variant : IsVariant Top swept_standing IsSweptKept
 top_variant = record { can = λ texts capacity left right n o x y h. h; ready = λ texts capacity left right n o x y h. h; kept = λ texts n o x y hl hr out h. h; keeps = λ texts n o x y hl hr out h. h }

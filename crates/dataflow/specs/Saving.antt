@@ -39,9 +39,10 @@ use Rattle.session_window.specs.States.{SessionSound}
 use Rattle.session_window.specs.Holding.{SessionKeeps}
 use Rattle.end_queue.specs.Pending.{Pending}
 use Rattle.snapshot_agg.specs.Saving.{GroupSound, GroupResumes}
-use Rattle.coalesce_op.specs.States.{CoalesceSound, CoalesceResumes}
+use Rattle.coalesce_op.specs.States.{CoalesceSound}
+use Rattle.coalesce_op.specs.Holding.{CoalesceKeeps}
 use Rattle.follow_op.specs.States.{FollowSound, FollowResumes}
-use Rattle.outer_top.specs.States.{TopSound, TopResumes}
+use Rattle.outer_top.specs.States.{TopSound, TopKeeps}
 use Rattle.shard_apply.specs.Saving.{AreRowsOf, AreSound, AreOwn, ShardsResume}
 use Rattle.shard_apply.specs.Whole.{Whole, standing_in, AreInStep, ShardsKeep}
 use Rattle.dataflow.specs.declared.stage.Stage.{Stage}
@@ -86,6 +87,13 @@ abbrev pub ClipSaved : List ℕ → List ℕ → List SavedEntry → SweepKeepin
 ClipSaved left_key right_key saved to hl hr out =
     ClipKeeps left_key right_key (rows_of (part_of 0 saved)) (part_of 1 saved) (part_of 2 saved) to hl hr out
 
+abbrev pub CoalesceSaved : List SavedEntry → SweepKeeping
+CoalesceSaved saved to hl hr out = CoalesceKeeps (rows_of (part_of 0 saved)) (part_of 1 saved) to hl out
+
+abbrev pub TopSaved : List ℕ → ℕ → ℕ → List SavedEntry → SweepKeeping
+TopSaved key by count saved to hl hr out =
+    TopKeeps key by count (rows_of (part_of 0 saved)) (part_of 1 saved) (rows_of (part_of 2 saved)) to hl out
+
 pub record SessionSaved (key : List ℕ) (timeout : ℕ) (saved : List SavedEntry) (to : ℕ) (hl hr out : List Edge) : Type 0 where
   pub ends : List Pending
   pub kept : SessionKeeps key timeout (rows_of (part_of 0 saved)) ends (part_of 1 saved) to hl out
@@ -100,8 +108,10 @@ NodeResumes texts left right own (Hop of size period) saved x y hl hr out = Life
 NodeResumes texts left right own (Duration of by) saved x y hl hr out = LifeResumes (Duration of by) left texts x y saved hl hr out
 NodeResumes texts left right own (Mean of at) saved x y hl hr out = LifeResumes (Mean of at) left texts x y saved hl hr out
 NodeResumes texts left right own (Extend of by) saved x y hl hr out = ExtendResumes by left texts x y saved hl hr out
-NodeResumes texts left right own (Coalesce of) saved x y hl hr out = CoalesceResumes left texts x y saved hl hr out
-NodeResumes texts left right own (Top of key by count) saved x y hl hr out = TopResumes key by count left texts x y saved hl hr out
+NodeResumes texts left right own (Coalesce of) saved x y hl hr out =
+    SweptResumes (Coalesce of) (CoalesceSound left x saved) (CoalesceSaved saved) left right x y texts hl hr out
+NodeResumes texts left right own (Top of key by count) saved x y hl hr out =
+    SweptResumes (Top of key by count) (TopSound left x saved) (TopSaved key by count saved) left right x y texts hl hr out
 NodeResumes texts left right own (Follow a b left_key right_key within) saved x y hl hr out =
     FollowResumes left_key right_key within left right texts x y saved hl hr out
 NodeResumes texts left right own (Session of timeout key) saved x y hl hr out =

@@ -22,9 +22,7 @@ use Rattle.lifetime_ops.specs.ExtendSaving.{IsOpening as IsExtendOpening}
 use Rattle.snapshot_agg.specs.Keeping.{IsOpening as IsGroupOpening}
 use Rattle.snapshot_agg.specs.declared.grouped.Grouped.{Grouped}
 use Rattle.shard_apply.specs.Whole.{standing_in, entries_in as entries_of_shards, AreNew, ShardsKeep}
-use Rattle.coalesce_op.specs.Operating.{standing as coalesce_standing, entries as coalesce_entries, IsNew as IsCoalesceNew, IsKept as IsCoalesceKept}
 use Rattle.follow_op.specs.Operating.{standing as follow_standing, entries as follow_entries, IsNew as IsFollowNew, IsKept as IsFollowKept}
-use Rattle.outer_top.specs.Operating.{standing as top_standing, entries as top_entries, IsNew as IsTopNew, IsKept as IsTopKept}
 use Rattle.lifetime_ops.specs.declared.change.Change.{Change}
 use Rattle.lifetime_ops.specs.declared.change.Change.TheVariants.{Delay, Hop, Duration, Mean}
 use Rattle.snapshot_agg.specs.Operating.{standing as group_standing, entries as group_entries, IsKept as IsGroupKept}
@@ -82,9 +80,9 @@ IsReady texts capacity left right n (Group o) x y = CanOperate capacity left rig
 IsReady texts capacity left right n (Session o) x y = CanOperate capacity left right n (standing_in swept_standing o) x y
 IsReady texts capacity left right n (Anti o) x y = CanOperate capacity left right n (standing_in swept_standing o) x y
 IsReady texts capacity left right n (Clip o) x y = CanOperate capacity left right n (standing_in swept_standing o) x y
-IsReady texts capacity left right n (Coalesce o) x y = CanOperate capacity left right n (coalesce_standing o) x y
+IsReady texts capacity left right n (Coalesce o) x y = CanOperate capacity left right n (swept_standing o) x y
 IsReady texts capacity left right n (Follow o) x y = CanOperate capacity left right n (follow_standing o) x y
-IsReady texts capacity left right n (Top o) x y = CanOperate capacity left right n (top_standing o) x y
+IsReady texts capacity left right n (Top o) x y = CanOperate capacity left right n (swept_standing o) x y
 
 -- the stage can take a step of some node over these two lists, which closes its sides up to u and v
 pub record CanTake (texts : List (List ℕ)) (left right : EdgeListView) (s : Stage) (u v : ℕ) : Type 0 where
@@ -113,9 +111,9 @@ StageKeeps texts n (Group o) x y hl hr out = ShardsKeep group_standing IsGroupKe
 StageKeeps texts n (Session o) x y hl hr out = ShardsKeep swept_standing IsSweptKept o texts hl hr out
 StageKeeps texts n (Anti o) x y hl hr out = ShardsKeep swept_standing IsSweptKept o texts hl hr out
 StageKeeps texts n (Clip o) x y hl hr out = ShardsKeep swept_standing IsSweptKept o texts hl hr out
-StageKeeps texts n (Coalesce o) x y hl hr out = IsCoalesceKept o texts hl hr out
+StageKeeps texts n (Coalesce o) x y hl hr out = IsSweptKept o texts hl hr out
 StageKeeps texts n (Follow o) x y hl hr out = IsFollowKept o texts hl hr out
-StageKeeps texts n (Top o) x y hl hr out = IsTopKept o texts hl hr out
+StageKeeps texts n (Top o) x y hl hr out = IsSweptKept o texts hl hr out
 
 -- what is asked of what was kept and of two lists, so that a step keeps it: the lists come on the sides that the stage is
 -- closed up to, and close them up to u and v
@@ -157,9 +155,9 @@ entries_in (Group o) = entries_of_shards group_entries o
 entries_in (Session o) = entries_of_shards swept_entries o
 entries_in (Anti o) = entries_of_shards swept_entries o
 entries_in (Clip o) = entries_of_shards swept_entries o
-entries_in (Coalesce o) = coalesce_entries o
+entries_in (Coalesce o) = swept_entries o
 entries_in (Follow o) = follow_entries o
-entries_in (Top o) = top_entries o
+entries_in (Top o) = swept_entries o
 
 -- a step of the stage failed, which stood as `old` before: a Source, a Where or a Select is as it was, and an operator says so
 abbrev pub HasStopped : Stage → Stage → Type 0
@@ -172,9 +170,9 @@ HasStopped old (Group o) = o.failed ≡ true
 HasStopped old (Session o) = o.failed ≡ true
 HasStopped old (Anti o) = o.failed ≡ true
 HasStopped old (Clip o) = o.failed ≡ true
-HasStopped old (Coalesce o) = (coalesce_standing o).has_failed ≡ true
+HasStopped old (Coalesce o) = (swept_standing o).has_failed ≡ true
 HasStopped old (Follow o) = (follow_standing o).has_failed ≡ true
-HasStopped old (Top o) = (top_standing o).has_failed ≡ true
+HasStopped old (Top o) = (swept_standing o).has_failed ≡ true
 
 -- the stage keeps no more entries than its node may, whatever came in and was answered
 abbrev pub KeepsAtMost : ℕ → Stage → Type 0
@@ -196,9 +194,9 @@ StandsAsMade (Group o) = AreNew IsNewGroup group_standing o
 StandsAsMade (Session o) = AreNew IsSweptNew swept_standing o
 StandsAsMade (Anti o) = AreNew IsSweptNew swept_standing o
 StandsAsMade (Clip o) = AreNew IsSweptNew swept_standing o
-StandsAsMade (Coalesce o) = IsCoalesceNew o
+StandsAsMade (Coalesce o) = IsSweptNew o
 StandsAsMade (Follow o) = IsFollowNew o
-StandsAsMade (Top o) = IsTopNew o
+StandsAsMade (Top o) = IsSweptNew o
 
 -- the stage stands as it was made for the node of the plan: it can take a first step, and nothing came in yet
 pub record StartsFor (texts : List (List ℕ)) (capacity : ℕ) (plan : PlanParts) (n : Node) (s : Stage) : Type 0 where

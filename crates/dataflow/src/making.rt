@@ -15,10 +15,10 @@ use crate::sharding::{in_shards, new_grouped, operators_of};
 use crate::stage::Stage;
 use anti_join::new_anti;
 use clip_op::new_clip;
-use coalesce_op::Coalesce;
+use coalesce_op::new_coalesce;
 use follow_op::Follow;
 use lifetime_ops::{AlterLifetime, Change, ExtendLifetime};
-use outer_top::Top;
+use outer_top::new_top;
 use plan_model::{Agg, Key, Node, Plan};
 use row_stage::{column_kinds, read_kinds};
 use session_window::new_session;
@@ -245,7 +245,7 @@ impl<'a> StageMaker<'a> {
         // Its call tells the proof what a plan keeps.
         let _ = self.plan.nodes();
         let kinds = self.kinds_read()?;
-        let operator = Coalesce::new(self.alloc, &kinds, self.capacity)?;
+        let operator = new_coalesce(self.alloc, &kinds, self.capacity)?;
         Ok(Stage::Coalesce(operator))
     }
 
@@ -258,7 +258,7 @@ impl<'a> StageMaker<'a> {
         // Its call tells the proof what a plan keeps.
         let _ = self.plan.nodes();
         let kinds = self.kinds_read()?;
-        let operator = Top::new(self.alloc, key, by, most, &kinds, self.capacity)?;
+        let operator = new_top(self.alloc, key, by, most, &kinds, self.capacity)?;
         Ok(Stage::Top(operator))
     }
 

@@ -1,15 +1,14 @@
--- What is kept of a Top at first, in longer tables, how much it is, and after it was saved and loaded.
+-- What is kept of a Top at first, how much it is, and after it was saved and loaded.
 use Rattle.std.specs.Prelude.{◌≡◌, ℕ, zero, suc, ◌+◌, ◌<◌, ◌≤◌, nat_lt, All, Bool, true, false, cond, List, [], ◌∷◌, ◌++◌, length, map, filter, refl}
+use Rattle.std.specs.List.{IsDistinct}
 use Rattle.std.proofs.Common.{sym, ◌∙◌, ap, subst, arith}
 use Rattle.std.proofs.lemmas.List.{append-nil, length-map}
-use Rattle.std.proofs.lemmas.List.Elements.{All-nil}
 use Rattle.std.proofs.lemmas.Bool.{le-ltb}
 use Rattle.tw_rows.specs.Bag.{SameBag, total}
 use Rattle.tw_rows.specs.Event.{alive}
 use Rattle.tw_rows.specs.Instant.{inf}
 use Rattle.tw_rows.specs.SameCells.{same_cells}
 use Rattle.tw_rows.specs.Cells.{datum_kind}
-use Rattle.tw_rows.specs.Texts.{BeginsWith}
 use Rattle.tw_rows.specs.declared.cells.Datum.{Datum}
 use Rattle.tw_rows.specs.declared.edge.Edge.{Edge}
 use Rattle.tw_rows.specs.declared.edge.HeldRow.{HeldRow}
@@ -21,30 +20,29 @@ use Rattle.edge_history.proofs.Opening.{alive_is_open}
 use Rattle.key_nodes.proofs.CoalescedRows.{coalesced_rows}
 use Rattle.key_nodes.specs.Tops.{greater}
 use Rattle.edge_history.specs.Order.{failing}
+use Rattle.edge_history.proofs.Telling.{told_nothing}
 use Rattle.edge_history.proofs.Waiting.{side_bound}
 use Rattle.edge_stream.specs.declared.saved.SavedEntry.{SavedEntry}
 use Rattle.end_queue.specs.Pending.{Pending}
 use Rattle.carried_edges.specs.Entries.{entries_of, part_of, are_of_parts}
 use Rattle.carried_edges.proofs.Parts.{parts_pass, part_of_own, part_of_other, part_of_append, parts_own, parts_append, all_pass}
-use Rattle.plan_model.specs.Meaning.{node_events}
 use Rattle.plan_model.specs.declared.node.Node.TheVariants.{Top as TopNode}
 use Rattle.plan_laws.specs.Held.{may_hold}
-use Rattle.node_laws.specs.Keeping.{plain_cells}
-use Rattle.node_laws.specs.Places.{AreDistinct, read_of}
-use Rattle.node_laws.specs.Standing.{StandsRead}
-use Rattle.node_laws.proofs.Steps.{keeps_first, keeps_longer, keeps_read}
+use Rattle.node_laws.proofs.Standing.{no_history}
 use Rattle.operator.specs.Standing.{own_kept, Standing, IsStoredAs, AreStoredAs}
 use Rattle.row_queues.proofs.OpenRows.{queues_are_open}
 use Rattle.row_queues.proofs.Once.{cells_tell}
 use Rattle.row_queues.specs.Queued.{queue_of}
 use Rattle.sweep_laws.specs.Saving.{starts_of, rows_of, is_row_start, may_wait, are_row_starts, may_all_wait}
 use Rattle.sweep_laws.proofs.Stored.{rows_of_starts}
-use Rattle.sweep_sides.specs.Waiting.{queued}
-use Rattle.sweep_sides.proofs.KeptSides.{row_cells, waiting_cells, open_few}
-use Rattle.outer_top.specs.TopKeys.{meets, value_of}
-use Rattle.outer_top.specs.TopEvents.{tops_at, tops}
-use Rattle.outer_top.specs.Operating.{row_of_part}
-use Rattle.outer_top.specs.States.{KeepsTop, IsOpening, TopSound, TopResumes}
+use Rattle.sweep_sides.specs.Waiting.{queued, AreTimed}
+use Rattle.sweep_sides.proofs.KeptSides.{row_cells, waiting_cells, open_few, none_side}
+use Rattle.outer_top.specs.TopKeys.{kept_rows, meets, value_of}
+use Rattle.outer_top.specs.TopEvents.{tops_at, tops, AreSettled}
+use Rattle.outer_top.specs.Operating.{top_row}
+use Rattle.outer_top.specs.Sides.{SideKeeps, SideFits, IsEmpty}
+use Rattle.outer_top.specs.States.{TopKeeps, TopSound}
+use Rattle.outer_top.specs.declared.side.TopSide.{TopSide}
 
 -- no row is open before the first instant
 no_open : (es : List CellEvent) → opens 0 es ≡ []
@@ -85,88 +83,67 @@ shown_few columns by most a (suc u) rows shown low kept there =
     let f : total (λ z. 1) (tops_at columns by most a u) ≤ total (λ z. 1) (alive a u) = kept_few (λ z. nat_lt (greater (meets columns) (value_of by) (alive a u) z) most) (alive a u) in
     omega (arith, c, d, o, k, m, n, p, q, r, f)
 
-module _ (columns : List ℕ) (by most : ℕ) (kinds : List CellKind) where
-  top_first : (texts : List (List ℕ)) → KeepsTop columns by most kinds texts 0 0 [] (queued []) [] [] [] []
-  top_first texts = record {
-    node = keeps_first plain_cells (TopNode 0 columns by most) texts 0 0;
-    cells = All-nil (λ (e : Edge). map datum_kind e.cells ≡ kinds);
-    left_low = omega arith;
-    right_low = omega arith;
-    waits = SameBag-refl [];
-    kept = SameBag-refl [];
-    queues = λ c. refl;
-  }
+no_keys_settled : (columns : List ℕ) (by most : ℕ) → AreSettled columns by most []
+unfolding IsDistinct
+no_keys_settled columns by most = record { rows = record { own = refl; ranked = refl }; settled = refl; apart = tt }
 
-  pub top_opening : (texts : List (List ℕ)) (rows : List HeldRow) (waiting : List Pending) (shown : List HeldRow) (x y : ℕ) (failed : Bool) → IsOpening rows waiting shown x y failed →
-      KeepsTop columns by most kinds texts x y rows (queued waiting) shown [] [] []
-  top_opening texts rows waiting shown x y failed o =
-      let a = o.no_rows in
-      let b = o.none in
-      let e = o.none_shown in
-      let c = o.left in
-      let d = o.right in
-      rw (a, b, e, c, d) (top_first texts)
+-- of no edges nothing is kept, which fits any time
+pub top_opens : (s : TopSide) → IsEmpty s → SideKeeps s 0 [] []
+top_opens s e = record {
+  timed = subst AreTimed (sym e.none) refl;
+  settled = subst (AreSettled s.tops.key.columns s.tops.by s.tops.most) (sym e.no_keys) (no_keys_settled s.tops.key.columns s.tops.by s.tops.most);
+  kept = (let a = e.no_keys in let b = e.none_shown in let c = e.none in rw (a, b, c) none);
+}
+  where
+    none : TopKeeps s.tops.key.columns s.tops.by s.tops.most (kept_rows []) (queued []) [] 0 [] []
+    none = record {
+      low = omega arith;
+      history = no_history;
+      waits = SameBag-refl [];
+      rows_are = SameBag-refl [];
+      queues = λ c. refl;
+      told = told_nothing (tops s.tops.key.columns s.tops.by s.tops.most []);
+    }
 
-  pub top_longer : (new old : List (List ℕ)) (x y : ℕ) (rows : List HeldRow) (waiting : List Edge) (shown : List HeldRow) (hl hr out : List Edge) → BeginsWith new old →
-      KeepsTop columns by most kinds old x y rows waiting shown hl hr out → KeepsTop columns by most kinds new x y rows waiting shown hl hr out
-  top_longer new old x y rows waiting shown hl hr out b k = record {
-    node = keeps_longer plain_cells (TopNode 0 columns by most) new old x y hl hr out b k.node;
-    cells = k.cells;
-    left_low = k.left_low;
-    right_low = k.right_low;
-    waits = k.waits;
-    kept = k.kept;
-    queues = k.queues;
-  }
+pub top_fits : (s : TopSide) (kinds : List CellKind) (to : ℕ) → IsEmpty s → SideFits kinds to s
+top_fits s kinds to e = record {
+  side = none_side kinds to (kept_rows s.tops.keys.entries) s.waiting (ap kept_rows e.no_keys) e.none;
+  shown = (let b = e.none_shown in rw b refl);
+}
 
-  -- what was answered stands, read, for the events of the node
-  pub top_stands : (texts : List (List ℕ)) (x y : ℕ) (rows : List HeldRow) (waiting : List Edge) (shown : List HeldRow) (hl hr out : List Edge) → AreDistinct texts →
-      KeepsTop columns by most kinds texts x y rows waiting shown hl hr out → StandsRead texts x out (node_events (TopNode 0 columns by most) (read_of texts hl) (read_of texts hr))
-  top_stands texts x y rows waiting shown hl hr out apart k =
-      keeps_read (λ test row. false) (λ items row. row) (TopNode 0 columns by most) texts x y hl hr out refl apart k.left_low k.right_low k.node
-
+module _ (columns : List ℕ) (by most : ℕ) where
   -- how much is kept
-  pub top_bound : (texts : List (List ℕ)) (x y : ℕ) (rows : List HeldRow) (waiting : List Pending) (shown : List HeldRow) (hl hr out : List Edge) →
-      KeepsTop columns by most kinds texts x y rows (queued waiting) shown hl hr out →
-      length rows + length waiting + length shown ≤ may_hold (TopNode 0 columns by most) x x (of hl) (of hr) (own_kept (TopNode 0 columns by most) (of hl) (of hr))
-  top_bound texts x y rows waiting shown hl hr out k =
-      let a = shown_few columns by most (of hl) x rows shown k.left_low k.kept (queues_are_open (tops_at columns by most (of hl)) x shown k.left_low k.queues) in
-      let c = open_few x (of hl) rows k.kept in
-      let b = side_bound hl rows (queued waiting) x k.node.left_history k.kept k.waits in
+  pub top_bound : (to : ℕ) (rows : List HeldRow) (waiting : List Pending) (shown : List HeldRow) (hl hr out : List Edge) →
+      TopKeeps columns by most rows (queued waiting) shown to hl out →
+      length rows + length waiting + length shown ≤ may_hold (TopNode 0 columns by most) to to (of hl) (of hr) (own_kept (TopNode 0 columns by most) (of hl) (of hr))
+  top_bound to rows waiting shown hl hr out k =
+      let a = shown_few columns by most (of hl) to rows shown k.low k.rows_are (queues_are_open (tops_at columns by most (of hl)) to shown k.low k.queues) in
+      let c = open_few to (of hl) rows k.rows_are in
+      let b = side_bound hl rows (queued waiting) to k.history k.rows_are k.waits in
       let m = length-map waiting (λ (p : Pending). p.edge) in
       omega (arith, a, b, c, m)
 
   -- LOADING: the same rows, the same queues, and the same edges in another order
-  pub top_loaded : (texts : List (List ℕ)) (x y : ℕ) (rows rows2 : List HeldRow) (waiting waiting2 : List Edge) (shown shown2 : List HeldRow) (hl hr out : List Edge) →
+  pub top_loaded : (to : ℕ) (rows rows2 : List HeldRow) (waiting waiting2 : List Edge) (shown shown2 : List HeldRow) (came out : List Edge) →
       SameBag rows2 rows → SameBag waiting2 waiting → ((c : List Datum) → queue_of shown2 c ≡ queue_of shown c) →
-      KeepsTop columns by most kinds texts x y rows waiting shown hl hr out → KeepsTop columns by most kinds texts x y rows2 waiting2 shown2 hl hr out
-  top_loaded texts x y rows rows2 waiting waiting2 shown shown2 hl hr out a b c k = record {
-    node = k.node;
-    cells = k.cells;
-    left_low = k.left_low;
-    right_low = k.right_low;
+      TopKeeps columns by most rows waiting shown to came out → TopKeeps columns by most rows2 waiting2 shown2 to came out
+  top_loaded to rows rows2 waiting waiting2 shown shown2 came out a b c k = record {
+    low = k.low;
+    history = k.history;
     waits = SameBag-trans _ _ _ b k.waits;
-    kept = SameBag-trans _ _ _ a k.kept;
+    rows_are = SameBag-trans _ _ _ a k.rows_are;
     queues = λ r. c r ∙ k.queues r;
+    told = k.told;
   }
 
--- what is kept, with other names of the columns
-pub kept_as : (columns columns2 : List ℕ) (by by2 most most2 : ℕ) (kinds kinds2 : List CellKind) (texts : List (List ℕ)) (x y : ℕ) (rows : List HeldRow) (waiting : List Edge) (shown : List HeldRow) (hl hr out : List Edge) →
-    columns2 ≡ columns → by2 ≡ by → most2 ≡ most → kinds2 ≡ kinds → KeepsTop columns by most kinds texts x y rows waiting shown hl hr out → KeepsTop columns2 by2 most2 kinds2 texts x y rows waiting shown hl hr out
-kept_as columns columns2 by by2 most most2 kinds kinds2 texts x y rows waiting shown hl hr out a b c d k =
-    subst (λ n. KeepsTop columns2 by2 most2 n texts x y rows waiting shown hl hr out) (sym d)
-    (subst (λ n. KeepsTop columns2 by2 n kinds texts x y rows waiting shown hl hr out) (sym c)
-    (subst (λ n. KeepsTop columns2 n most kinds texts x y rows waiting shown hl hr out) (sym b)
-    (subst (λ n. KeepsTop n by most kinds texts x y rows waiting shown hl hr out) (sym a) k)))
-
 -- each entry of a sound state has the cells of its row
-pub top_rows_stored : (s : Standing) (saved : List SavedEntry) (x : ℕ) (kinds : List CellKind) → s.left_kinds ≡ kinds → TopSound kinds x saved → AreStoredAs row_of_part s saved
-top_rows_stored s saved x kinds is sound = parts_pass (λ part. IsStoredAs s (row_of_part part)) 3 saved sound.parts each
+pub top_rows_stored : (s : Standing) (saved : List SavedEntry) (x : ℕ) (kinds : List CellKind) → s.left_kinds ≡ kinds → TopSound kinds x saved → AreStoredAs top_row s saved
+top_rows_stored s saved x kinds is sound = parts_pass (λ part. IsStoredAs s (top_row part)) 3 saved sound.parts each
   where
     left : (p : ℕ) → All (λ e. map datum_kind e.cells ≡ kinds) (part_of p saved) → All (λ e. map datum_kind e.cells ≡ s.left_kinds) (part_of p saved)
     left p h = subst (λ (k : List CellKind). All (λ (e : Edge). map datum_kind e.cells ≡ k) (part_of p saved)) (sym is) h
 
-    each : (p : ℕ) → p < 3 → All (λ e. IsStoredAs s (row_of_part p) e.cells) (part_of p saved)
+    each : (p : ℕ) → p < 3 → All (λ e. IsStoredAs s (top_row p) e.cells) (part_of p saved)
     each zero low = left 0 (row_cells kinds x (part_of 0 saved) sound.rows)
     each (suc zero) low = left 1 (waiting_cells kinds x (part_of 1 saved) sound.waiting)
     each (suc (suc zero)) low = left 2 (row_cells kinds x (part_of 2 saved) sound.shown)
@@ -209,11 +186,9 @@ module _ (rows : List HeldRow) (waiting : List Edge) (shown : List HeldRow) (s0 
     shown = ap (are_row_starts kinds x) third_part ∙ all_pass (is_row_start kinds x) (starts_of shown) c;
   }
 
-  pub top_resumed : (columns : List ℕ) (by most : ℕ) (kinds : List CellKind) (texts : List (List ℕ)) (x y : ℕ) (hl hr out : List Edge) → TopSound kinds x s3 →
-      KeepsTop columns by most kinds texts x y rows waiting shown hl hr out → TopResumes columns by most kinds texts x y s3 hl hr out
-  top_resumed columns by most kinds texts x y hl hr out sound k = record {
-    sound = sound;
-    keeps = subst (λ (a : List HeldRow). KeepsTop columns by most kinds texts x y a (part_of 1 s3) (rows_of (part_of 2 s3)) hl hr out) (sym (ap rows_of first_part ∙ rows_of_starts rows))
-        (subst (λ (a : List Edge). KeepsTop columns by most kinds texts x y rows a (rows_of (part_of 2 s3)) hl hr out) (sym second_part)
-        (subst (λ (a : List HeldRow). KeepsTop columns by most kinds texts x y rows waiting a hl hr out) (sym (ap rows_of third_part ∙ rows_of_starts shown)) k));
-  }
+  pub top_resumed : (columns : List ℕ) (by most : ℕ) (to : ℕ) (came out : List Edge) → TopKeeps columns by most rows waiting shown to came out →
+      TopKeeps columns by most (rows_of (part_of 0 s3)) (part_of 1 s3) (rows_of (part_of 2 s3)) to came out
+  top_resumed columns by most to came out k =
+      subst (λ (a : List HeldRow). TopKeeps columns by most a (part_of 1 s3) (rows_of (part_of 2 s3)) to came out) (sym (ap rows_of first_part ∙ rows_of_starts rows))
+      (subst (λ (a : List Edge). TopKeeps columns by most rows a (rows_of (part_of 2 s3)) to came out) (sym second_part)
+      (subst (λ (a : List HeldRow). TopKeeps columns by most rows waiting a to came out) (sym (ap rows_of third_part ∙ rows_of_starts shown)) k))

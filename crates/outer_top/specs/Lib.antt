@@ -7,4 +7,5 @@ pub mod TopLikes
 pub mod TopEvents
 pub mod Sweeping
 pub mod States
+pub mod Sides
 pub mod Operating

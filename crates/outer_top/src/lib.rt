@@ -3,7 +3,6 @@
 
 mod groups;
 mod keys;
-mod operating;
 mod ranked;
 mod saving;
 mod side;
@@ -12,4 +11,5 @@ mod top;
 mod tops;
 
 pub use ranked::{Ranked, tops_are_found_key_by_key};
-pub use top::Top;
+pub use side::TopSide;
+pub use top::{Top, new_top};

@@ -13,3 +13,4 @@ pub mod EdgesApart
 pub mod HeldRows
 pub mod Moving
 pub mod InPlace
+pub mod Coalescing

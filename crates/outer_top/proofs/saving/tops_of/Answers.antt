@@ -3,7 +3,7 @@ use Rattle.outer_top.specs.TopKeys.{HasPassed}
 use Rattle.outer_top.specs.TopEvents.{AreSettled}
 use Rattle.outer_top.proofs.TopSides.{starts_loaded, loaded_settled}
 use Rattle.outer_top.proofs.TopSteps.{for_like}
-use Rattle.outer_top.proofs.side.tops_of.Goals as goal
+use Rattle.outer_top.proofs.saving.tops_of.Goals as goal
 
 pub returns-clause-settled : goal.returns-clause-settled
 returns-clause-settled c =

@@ -7,7 +7,7 @@ use Rattle.sweep_laws.specs.Saving.{rows_of, is_row_start, are_row_starts}
 use Rattle.sweep_laws.proofs.Stored.{rows_started}
 use Rattle.sweep_sides.proofs.KeptSides.{side_loaded}
 use Rattle.outer_top.specs.TopKeys.{kept_rows}
-use Rattle.outer_top.proofs.side.load_side.Goals as goal
+use Rattle.outer_top.proofs.saving.load_side.Goals as goal
 
 pub returns-clause-side : goal.returns-clause-side
 returns-clause-side c = λ kinds to low sound.
