@@ -95,6 +95,7 @@ module _ {t : Task} {k : Keeper} {J : List Entry} {given : List (List ℕ)} {cou
           refl,
           record {
             came = subst (λ b. AreFront given (whole b)) (sym same.0) (taken_front s.holds.within);
+            fine = s.holds.within.fine;
             written = same.1 ∙ s.written;
             synced = record { front = J; back = []; are = refl; silent = refl };
             starts = starts;

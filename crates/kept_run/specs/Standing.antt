@@ -4,6 +4,8 @@ use Rattle.wire_lines.specs.Journal.{Entry, Did, Start, Grows, ins, outs, ended}
 use Rattle.wire_lines.specs.Cutter.{CutterState}
 use Rattle.wire_lines.specs.Lines.{whole}
 use Rattle.frozen_state.specs.Frozen.{FrozenView}
+use Rattle.checkpoint.specs.Form.{FormView}
+use Rattle.checkpoint.specs.Text.{checkpoint_lines, IsOfForm}
 use Rattle.plan_model.specs.IsPlan.{PlanParts}
 use Rattle.admission.specs.Entries.{Told}
 use Rattle.command_line.specs.Words.{Asked}
@@ -15,7 +17,7 @@ use Rattle.tempo_cli.specs.Feeding.{Holds, WantsBytes}
 use Rattle.tempo_cli.specs.Halting.{IsFormFor}
 use Rattle.tempo_cli.specs.declared.status.Status.{Status}
 use Rattle.tempo_cli.specs.declared.status.Status.TheVariants as statuses
-use Rattle.kept_run.specs.Keeping.{Task, query_of, answers_of, KeepsAfter, Keeps, due_in, Places}
+use Rattle.kept_run.specs.Keeping.{Task, query_of, answers_of, KeepsAfter, Keeps, due_in, Places, place_lines}
 use Rattle.kept_run.specs.declared.keeping.Keeper.{Keeper}
 use Rattle.kept_run.specs.declared.reading.KeptState.{KeptState}
 use Rattle.kept_run.specs.declared.status.KeptStatus.{KeptStatus}
@@ -76,6 +78,15 @@ StartsWith t every k J = (J ≡ Did (Start t.start.input t.start.output) ∷ [])
 abbrev pub IsReadAs : Places → FrozenView → Result KeptState Status → Type 0
 IsReadAs places f (Ok state) = (state.frozen ≡ f) × (state.input ≡ places.input) × (state.output ≡ places.output)
 IsReadAs places f (Err status) = status ≡ statuses.Memory
+
+-- the lines begin with a checkpoint of this form
+abbrev pub BeginsWith : FormView → FrozenView → List (List ℕ) → Type 0
+BeginsWith form f lines = IsOfForm form f × AreFront (checkpoint_lines form.head f) lines
+
+-- and behind the places it is what was read
+pub record BeginsState (form : FormView) (lines : List (List ℕ)) (state : KeptState) : Type 0 where
+  pub of_form : IsOfForm form state.frozen
+  pub front : AreFront (place_lines (record { input = state.input; output = state.output }) ++ checkpoint_lines form.head state.frozen) lines
 
 -- what was frozen is read back
 abbrev pub IsFrozenAs : FrozenView → Result (FrozenView × ℕ) Status → Type 0
