@@ -14,6 +14,3 @@ pub use laws::{every_crash_is_recovered, every_line_counts_once, what_is_kept_is
 pub use reading::KeptState;
 pub use running::run_kept;
 pub use status::KeptStatus;
-
-#[cfg(test)]
-mod tests;

@@ -4,6 +4,9 @@ use Rattle.wire_lines.specs.Lines.{whole}
 use Rattle.kept_run.proofs.ReadBack.{goes_on, begins, ended_as, taken_as, line_refused, none_left}
 use Rattle.kept_run.proofs.reading.read_frozen.Goals as goal
 
+pub lines-init : goal.lines-init
+lines-init c = (c.in_ok-reader.ensures.form, c.in_ok-reader.ensures.going, ap (λ x. x ++ whole c.args.bytes.now) (sym c.in_ok-reader.ensures.taken))
+
 pub returns-in_err-frozen-clause-read : goal.returns-in_err-frozen-clause-read
 returns-in_err-frozen-clause-read c = let p = err_from_is_err_and c.from_residual-in_err-frozen.result c.from_residual-in_err-frozen.ensures.1 in rw (p.1, p.2) (λ f is e.
     taken_as c.args.form f c.lines.reader c.in-Some.line.now (whole c.lines.rest.now) (whole c.in-Some.more.now) (sym e ∙ c.lines.invariant.2) c.in-Some.ensures.some.0 c.lines.invariant.0 is _ c.in_err-frozen.field-0.0 c.take_line.new.reader c.in_err-frozen.ensures.takes)
