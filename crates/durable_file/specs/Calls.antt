@@ -7,7 +7,7 @@ use Rattle.durable_file.specs.Disk.{Torn, Written, Disk, with_content, synced, l
 use Rattle.durable_file.specs.declared.medium.Name.{Name}
 use Rattle.durable_file.specs.declared.medium.Name.TheVariants.{File, Next}
 use Rattle.durable_file.specs.declared.medium.ReadFault.{ReadFault}
-use Rattle.durable_file.specs.declared.medium.ReadFault.TheVariants.{Failed}
+use Rattle.durable_file.specs.declared.medium.ReadFault.TheVariants.{Failed, Memory}
 
 -- past: the disk at moments that have passed, the first of them first; now: as it is
 pub record Told : Type 0 where
@@ -65,8 +65,9 @@ HasRenamed result old new = Passes (λ d. (d ≡ old.now) ⊎ (d ≡ renamed old
 abbrev pub HasSyncedFolder : {T E : Type 0} → Result T E → Told → Told → Type 0
 HasSyncedFolder result old new = Passes (λ d. (d ≡ old.now) ⊎ (d ≡ settled old.now)) (settled old.now) result old new
 
--- Failed comes only where the count of faults rose, and at Ok it is what it was
+-- Failed comes only where the count of faults rose; at Ok and where memory was wanting it is what it was
 pub record HasReadCause {T : Type 0} (before now : ℕ) (result : Result T ReadFault) : Type 0 where
   pub later : before ≤ now
   pub failed : IsErrOf result Failed → Rose before now
+  pub memory : IsErrOf result Memory → now ≡ before
   pub same : OnOk result (now ≡ before)
