@@ -95,6 +95,15 @@ KeepsAfter t K [] (Did (Keep bytes) ∷ J) = ⊥
 KeepsAfter t K (count ∷ counts) (Did (Keep bytes) ∷ J) =
     ((taken : List (List ℕ)) × (count ≡ length taken) × MayKeep t K taken bytes) × KeepsAfter t (K ++ Did (Keep bytes) ∷ []) counts J
 
+-- how many checkpoints were kept
+abbrev pub kept_in : List Entry → ℕ
+kept_in [] = 0
+kept_in (In bytes ∷ J) = kept_in J
+kept_in (Out bytes ∷ J) = kept_in J
+kept_in (Did (Start input output) ∷ J) = kept_in J
+kept_in (Did Sync ∷ J) = kept_in J
+kept_in (Did (Keep bytes) ∷ J) = suc (kept_in J)
+
 -- the last punctuation behind these lines
 abbrev pub last_behind : Task → List (List ℕ) → ℕ
 last_behind t taken = (progress t.plan t.asked.policy (fed_by (query_of t) taken) false).last
@@ -123,13 +132,23 @@ abbrev pub IsPunctual : Task → ℕ → KeptStatus → List ℕ → List (List 
 IsPunctual t every (Ended statuses.Done) counts ls = counts ≡ all_counts t every ls
 IsPunctual t every status counts ls = IsFront counts (all_counts t every ls)
 
--- the run was prompt, and ended as its status says; and checkpoints were kept where they are due. J is what came after its start
+-- before each read of the entries, which came after K, as many checkpoints were kept as are due in the whole lines that came in so far
+abbrev pub IsTimelyAfter : Task → ℕ → List Entry → List Entry → Type 0
+IsTimelyAfter t every K [] = Unit {0}
+IsTimelyAfter t every K (In bytes ∷ J) =
+    (kept_in K ≡ length (due_in t every (whole (ins K)) (length (whole (ins K)))).counts) × IsTimelyAfter t every (K ++ In bytes ∷ []) J
+IsTimelyAfter t every K (Out bytes ∷ J) = IsTimelyAfter t every (K ++ Out bytes ∷ []) J
+IsTimelyAfter t every K (Did mark ∷ J) = IsTimelyAfter t every (K ++ Did mark ∷ []) J
+
+-- the run was prompt, and ended as its status says; and checkpoints were kept where they are due, before the next read. J is what came
+-- after its start
 pub record Keeps (t : Task) (every : ℕ) (status : KeptStatus) (J : List Entry) : Type 0 where
   pub prompt : IsPrompt (answers_of t) J
   pub end : IsKeptEnd (answers_of t) status (ins J) (outs J) (ended J)
   pub counts : List ℕ
   pub keeps : KeepsAfter t [] counts J
   pub punctual : IsPunctual t every status counts (whole (ins J))
+  pub timely : IsTimelyAfter t every [] J
 
 -- the run failed before its start
 abbrev pub IsUnstarted : KeptStatus → List Entry → Type 0

@@ -4,6 +4,8 @@
 #[cfg(test)]
 mod engines;
 #[cfg(test)]
+mod kept;
+#[cfg(test)]
 mod rows;
 #[cfg(test)]
 mod runs;
