@@ -11,6 +11,7 @@ use Rattle.tw_rows.specs.declared.cells.Datum.TheVariants.{Int, Bool as Flag, Te
 use Rattle.tw_rows.specs.declared.kind.CellKind.{CellKind}
 use Rattle.tw_rows.specs.declared.kind.CellKind.TheVariants.{Whole, Bit, Place}
 use Rattle.edge_stream.specs.declared.saved.SavedEntry.{SavedEntry}
+use Rattle.line_text.specs.Fields.{time_text}
 use Rattle.line_text.specs.Number.{number_text}
 use Rattle.row_reader.specs.Number.{fits_i64}
 use Rattle.line_text.proofs.Plain.{IsPlain, decimal_plain, number_plain, time_plain}
@@ -25,7 +26,7 @@ use Rattle.frozen_state.specs.declared.frozen.FrozenPart.{FrozenPart}
 use Rattle.frozen_state.specs.Frozen.{FrozenView}
 use Rattle.frozen_state.specs.Forms.{PartFormView}
 use Rattle.command_line.specs.Words.{AreWithin}
-use Rattle.checkpoint_lines.specs.Lines.{line_of, form_line, end_line, query_line, options_line, late_text, time_line, bound_line, input_line, output_line, text_line, entry_line, owner_text, datum_text, IsOwner, IsCell, AreCells, IsText, IsEntry}
+use Rattle.checkpoint_lines.specs.Lines.{line_of, form_line, end_line, query_line, options_line, late_text, time_line, bound_line, input_line, output_line, text_line, entry_line, entry_fields, owner_text, datum_text, IsOwner, IsCell, AreCells, IsText, IsEntry}
 use Rattle.checkpoint_lines.proofs.Commas.{neither}
 use Rattle.checkpoint.specs.Form.{FormView, pieces, query_lines, head_lines}
 use Rattle.checkpoint.specs.Text.{bound_lines, part_lines, entry_lines, body_lines, checkpoint_lines, HasLine, ArePartsWith, IsOfForm}
@@ -95,13 +96,13 @@ head_free query workers p a b c = All-cons HasNoLf form_line (query_lines query 
     (All-append HasNoLf (query_lines query) (options_line workers p ∷ []) (All-map HasNoLf query_line (pieces (length query) query) (λ n d low. query_free _)) (one (options_line workers p) (options_free workers p a b c)))
 
 time_free : (lines last : ℕ) → lines < 2 ^ 64 → HasNoLf (time_line lines last)
-time_free lines last low = line (codes "#time") _ (HasNoLf-one_line (codes "#time") refl) (number lines low, (word _ (time_plain last), tt))
+time_free lines last low = line (codes "#time") (decimal lines ∷ time_text last ∷ []) (HasNoLf-one_line (codes "#time") refl) (number lines low, (word (time_text last) (time_plain last), tt))
 
 bounds_free : (bs ms : List ℕ) → All HasNoLf (bound_lines bs ms)
 bounds_free [] ms = All-nil HasNoLf
 bounds_free (b ∷ bs) [] = All-nil HasNoLf
 bounds_free (b ∷ bs) (m ∷ ms) = All-cons HasNoLf (bound_line b m) (bound_lines bs ms)
-    (line (codes "#bound") _ (HasNoLf-one_line (codes "#bound") refl) (word _ (time_plain b), (word _ (time_plain m), tt))) (bounds_free bs ms)
+    (line (codes "#bound") (time_text b ∷ time_text m ∷ []) (HasNoLf-one_line (codes "#bound") refl) (word (time_text b) (time_plain b), (word (time_text m) (time_plain m), tt))) (bounds_free bs ms)
 
 -- the lines of entries
 owner_free : (o : Owner) → IsOwner o → HasNoLf (owner_text o)
@@ -110,8 +111,8 @@ owner_free (Node n) h = number n h
 owner_free Out h = HasNoLf-one_line (codes "out") refl
 
 int_free : (x : ℤ) → fits_i64 x ≡ true → HasNoLf (number_text 0 x)
-int_free (pos n) h = let low : n < 2 ^ 63 = (Decides-ltb n (2 ^ 63)).0 h in word _ (number_plain 0 (pos n) (omega (arith, low)))
-int_free (negsuc n) h = let low : n < 2 ^ 63 = (Decides-ltb n (2 ^ 63)).0 h in word _ (number_plain 0 (negsuc n) (omega (arith, low)))
+int_free (pos n) h = let low : n < 2 ^ 63 = (Decides-ltb n (2 ^ 63)).0 h in word (number_text 0 (pos n)) (number_plain 0 (pos n) (omega (arith, low)))
+int_free (negsuc n) h = let low : n < 2 ^ 63 = (Decides-ltb n (2 ^ 63)).0 h in word (number_text 0 (negsuc n)) (number_plain 0 (negsuc n) (omega (arith, low)))
 
 datum_free : (k : CellKind) (d : Datum) → IsCell k d → HasNoLf (datum_text d)
 datum_free Whole (Int x) h = int_free x h
@@ -132,8 +133,8 @@ cells_free (k ∷ ks) [] h = absurd h
 cells_free (k ∷ ks) (d ∷ ds) h = (datum_free k d h.0, cells_free ks ds h.1)
 
 entry_free : (g : PartFormView) (e : SavedEntry) → HasLine g e → HasNoLf (entry_line g.owner g.shard e)
-entry_free g e h = line (codes "#entry") _ (HasNoLf-one_line (codes "#entry") refl)
-    (owner_free g.owner h.entry.owner, (number g.shard h.entry.shard, (number e.part h.entry.part, (word _ (time_plain e.sync), (word _ (time_plain e.other), cells_free h.kinds e.cells h.entry.cells)))))
+entry_free g e h = line (codes "#entry") (entry_fields g.owner g.shard e) (HasNoLf-one_line (codes "#entry") refl)
+    (owner_free g.owner h.entry.owner, (number g.shard h.entry.shard, (number e.part h.entry.part, (word (time_text e.sync) (time_plain e.sync), (word (time_text e.other) (time_plain e.other), cells_free h.kinds e.cells h.entry.cells)))))
 
 part_free : (g : PartFormView) (owner : Owner) (shard : ℕ) (es : List SavedEntry) → owner ≡ g.owner → shard ≡ g.shard → All (HasLine g) es → All HasNoLf (map (entry_line owner shard) es)
 part_free g owner shard es o s has = All-map HasNoLf (entry_line owner shard) es (λ n d low.

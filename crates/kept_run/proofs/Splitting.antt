@@ -33,7 +33,7 @@ use Rattle.kept_run.specs.Unbroken.{IsNoHeader}
 -- where the line is no header
 one_entry : (streams : List StreamDef) (h : Bool) (n : ℕ) (line : List ℕ) → (h && nat_eq n 1) ≡ false → told_at streams h n line ≡ told_at streams false n line
 unfolding entry_at
-one_entry streams h n line no = ap (λ b. record { number = n; read = cond (nat_lt 65536 (length line)) (Err TooLong) (cond b (Ok Skip) (entry streams (nat_eq n 1) line)) }) no
+one_entry streams h n line other = ap (λ b. record { number = n; read = cond (nat_lt 65536 (length line)) (Err TooLong) (cond b (Ok Skip) (entry streams (nat_eq n 1) line)) }) other
 
 behind_one : (h : Bool) (n : ℕ) → 1 < n → (h && nat_eq n 1) ≡ false
 behind_one true n low = grind (arith, nat_tests)
@@ -106,13 +106,13 @@ module _ (plan : PlanParts) (is : IsPlan plan) (policy : Policy) (before : List 
 
   -- no line is a header
   fed_plain : (h : Bool) (l : List ℕ) (ls : List (List ℕ)) → (h && nat_eq (suc (last_number before)) 1) ≡ false → AreFed plan policy before h (l ∷ ls)
-  fed_plain h l ls no =
+  fed_plain h l ls other =
       let n = suc (last_number before) in
       let p = plain_from plan.streams h (suc n) ls (omega arith) in
       let all = told_from plan.streams false n (l ∷ ls) in
-      let told_is : told_from plan.streams h n (l ∷ ls) ≡ all = ap (λ x. x ∷ told_from plan.streams h (suc n) ls) (one_entry plan.streams h n l no) ∙ ap (λ x. told_at plan.streams false n l ∷ x) p.0 in
+      let told_is : told_from plan.streams h n (l ∷ ls) ≡ all = ap (λ x. x ∷ told_from plan.streams h (suc n) ls) (one_entry plan.streams h n l other) ∙ ap (λ x. told_at plan.streams false n l ∷ x) p.0 in
       let fed_is : fed_from plan.streams h n (l ∷ ls) ≡ all =
-          ap (λ b. cond b (fed_from plan.streams h (suc n) ls) (told_at plan.streams false n l ∷ fed_from plan.streams h (suc n) ls)) no ∙ ap (λ x. told_at plan.streams false n l ∷ x) p.1 in
+          ap (λ b. cond b (fed_from plan.streams h (suc n) ls) (told_at plan.streams false n l ∷ fed_from plan.streams h (suc n) ls)) other ∙ ap (λ x. told_at plan.streams false n l ∷ x) p.1 in
       let one : last_number before + 1 ≡ n = omega arith in
       record {
         same = ap (λ x. steps plan policy start (before ++ x)) (fed_is ∙ sym told_is);
@@ -151,7 +151,7 @@ module _ (t : Task) (taken : List (List ℕ)) (is : IsPlan t.plan) (read : AreRe
   fed = fed_by_first t.plan is t.asked.policy t.before ((query_of t).header && nat_eq (suc (last_number t.before)) 1) (query_of t).header taken refl past fine
 
   -- what is said behind the lines that were taken
-  behind : List (List ℕ) → List Told
+  abbrev behind : List (List ℕ) → List Told
   behind more = told_from t.plan.streams (query_of t).header (suc (last_number t.before) + length taken) more
 
   said_on : (more : List (List ℕ)) → said (query_of (task_after t taken)) more ≡ fed_by (query_of t) taken ++ behind more

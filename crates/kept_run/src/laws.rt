@@ -24,7 +24,6 @@ pub fn every_crash_is_recovered()
 
 /// No line is lost and no byte doubled: runs that crashes ended, each gone on with by the next one, and a last one that ends Done
 /// leave in the output's file what one run does that no crash ends.
-#[tactic(auto, using(crate::proofs::Unbroken::unbroken))]
 pub fn every_line_counts_once()
     ensures { (t u : Task) (file left : List ℕ) (crashes : List Crash) (all : List (List ℕ)) →
         t.start.output ≤ length file → AreGoneOn t file crashes u left all →
