@@ -31,6 +31,7 @@ use Rattle.checkpoint_lines.proofs.Commas.{neither}
 use Rattle.checkpoint.specs.Form.{FormView, pieces, query_lines, head_lines}
 use Rattle.checkpoint.specs.Text.{bound_lines, part_lines, entry_lines, body_lines, checkpoint_lines, HasLine, ArePartsWith, IsOfForm}
 use Rattle.checkpoint.specs.Writing.{bytes_of}
+use Rattle.tempo_cli.specs.Jobs.{form_asked}
 use Rattle.kept_run.specs.Keeping.{Task, place_lines, StartsTask, IsStartOf}
 
 abbrev feeds_not : ℕ → Type 0
@@ -167,7 +168,7 @@ pub read_back : (t : Task) (bytes : List ℕ) → AreWithin t.asked → StartsTa
 read_back t bytes within s =
     let free : All HasNoLf (place_lines t.start ++ s.C) =
         All-append HasNoLf (place_lines t.start) s.C (places_free t.start.input t.start.output s.low.0 s.low.1)
-        (subst (All HasNoLf) (sym s.froze.text) (lines_free _ _ s.froze.frozen
+        (subst (All HasNoLf) (sym s.froze.text) (lines_free (head_lines t.asked.query t.asked.workers t.asked.policy) (form_asked t.asked t.plan) s.froze.frozen
             (head_free t.asked.query t.asked.workers t.asked.policy (omega (arith, within.workers)) (omega (arith, within.lateness)) (omega (arith, within.period))) s.froze.of_form)) in
     record {
       C = s.C;

@@ -8,14 +8,12 @@ ghost use Rattle.kept_run.specs.Keeping.{Task, KeepsAfter, Keeps, IsRecovered, S
 ghost use Rattle.kept_run.specs.Unbroken.{Crash, AreGoneOn, IsUnbroken};
 
 /// What a run keeps is what the next one reads.
-#[tactic(auto, using(crate::proofs::Feeds::read_back))]
 pub fn what_is_kept_is_read_back()
     ensures { (t : Task) (bytes : List ℕ) → AreWithin t.asked → StartsTask t bytes →
         IsStartOf t bytes }
 {}
 
 /// Whenever a crash comes, all that was ever kept can be gone on from: K is what was done before the crash.
-#[tactic(auto, using(crate::proofs::Recovering::recovered))]
 pub fn every_crash_is_recovered()
     ensures { (t : Task) → AreWithin t.asked → (counts : List ℕ) (K after : List Entry) →
         KeepsAfter t [] counts (K ++ after) → (front back : List Entry) (bytes : List ℕ) →

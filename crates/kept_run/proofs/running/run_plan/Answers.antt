@@ -16,6 +16,3 @@ returns-in-Ok-Some-clause-does g c =
 
 pub returns-in-Err-Memory-clause-does : goal.returns-in-Err-Memory-clause-does
 returns-in-Err-Memory-clause-does g c = by_failure (g.W.KeptWire.told c.args.wire.now) _ (inr refl) tt c.in-Err-Memory.ensures.same
-
-pub returns-in-Err-Failed-clause-does : goal.returns-in-Err-Failed-clause-does
-returns-in-Err-Failed-clause-does g c = by_failure (g.W.KeptWire.told c.args.wire.now) _ (inl refl) tt c.in-Err-Failed.ensures.same
