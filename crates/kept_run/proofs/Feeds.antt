@@ -167,9 +167,9 @@ places_free input output a b = All-cons HasNoLf (input_line input) (output_line 
 pub read_back : (t : Task) (bytes : List ℕ) → AreWithin t.asked → StartsTask t bytes → IsStartOf t bytes
 read_back t bytes within s =
     let free : All HasNoLf (place_lines t.start ++ s.C) =
-        All-append HasNoLf (place_lines t.start) s.C (places_free t.start.input t.start.output s.low.0 s.low.1)
-        (subst (All HasNoLf) (sym s.froze.text) (lines_free (head_lines t.asked.query t.asked.workers t.asked.policy) (form_asked t.asked t.plan) s.froze.frozen
-            (head_free t.asked.query t.asked.workers t.asked.policy (omega (arith, within.workers)) (omega (arith, within.lateness)) (omega (arith, within.period))) s.froze.of_form)) in
+    All-append HasNoLf (place_lines t.start) s.C (places_free t.start.input t.start.output s.low.0 s.low.1)
+    (subst (All HasNoLf) (sym s.froze.text) (lines_free (head_lines t.asked.query t.asked.workers t.asked.policy) (form_asked t.asked t.plan) s.froze.frozen
+    (head_free t.asked.query t.asked.workers t.asked.policy (omega (arith, within.workers)) (omega (arith, within.lateness)) (omega (arith, within.period))) s.froze.of_form)) in
     record {
       C = s.C;
       froze = s.froze;

@@ -86,8 +86,8 @@ module _ (plan : PlanParts) (is : IsPlan plan) (policy : Policy) (before : List 
       let w = steps plan policy start before in
       let some = bad_some w.fault w n refl in
       let at : fault plan policy (before ++ bad ∷ []) false ≡ Some some.0 =
-          ap (λ (v : Progress). v.fault) (steps-append plan policy start before (bad ∷ []))
-          ∙ (ap (λ r. (step plan policy w (record { number = n; read = r })).fault) (long_is_bad plan.streams true n line long) ∙ some.1) in
+      ap (λ (v : Progress). v.fault) (steps-append plan policy start before (bad ∷ []))
+      ∙ (ap (λ r. (step plan policy w (record { number = n; read = r })).fault) (long_is_bad plan.streams true n line long) ∙ some.1) in
       let all = ap (λ (v : Progress). v.fault) (progress_stays plan policy (before ++ bad ∷ []) more false some.0 at) ∙ at in
       none_is_some some.0 (sym fine ∙ (ap (λ ls. fault plan policy ls false) (sym (append_assoc before (bad ∷ []) more)) ∙ all))
 
@@ -112,7 +112,7 @@ module _ (plan : PlanParts) (is : IsPlan plan) (policy : Policy) (before : List 
       let all = told_from plan.streams false n (l ∷ ls) in
       let told_is : told_from plan.streams h n (l ∷ ls) ≡ all = ap (λ x. x ∷ told_from plan.streams h (suc n) ls) (one_entry plan.streams h n l other) ∙ ap (λ x. told_at plan.streams false n l ∷ x) p.0 in
       let fed_is : fed_from plan.streams h n (l ∷ ls) ≡ all =
-          ap (λ b. cond b (fed_from plan.streams h (suc n) ls) (told_at plan.streams false n l ∷ fed_from plan.streams h (suc n) ls)) other ∙ ap (λ x. told_at plan.streams false n l ∷ x) p.1 in
+      ap (λ b. cond b (fed_from plan.streams h (suc n) ls) (told_at plan.streams false n l ∷ fed_from plan.streams h (suc n) ls)) other ∙ ap (λ x. told_at plan.streams false n l ∷ x) p.1 in
       let one : last_number before + 1 ≡ n = omega arith in
       record {
         same = ap (λ x. steps plan policy start (before ++ x)) (fed_is ∙ sym told_is);
@@ -125,7 +125,7 @@ module _ (plan : PlanParts) (is : IsPlan plan) (policy : Policy) (before : List 
       let n = suc (last_number before) in
       let p = plain_from plan.streams true (suc n) (k ∷ ls) (omega arith) in
       let fed_is : fed_from plan.streams true n (l ∷ k ∷ ls) ≡ told_from plan.streams false (suc n) (k ∷ ls) =
-          ap (λ b. cond b (fed_from plan.streams true (suc n) (k ∷ ls)) (told_at plan.streams false n l ∷ fed_from plan.streams true (suc n) (k ∷ ls))) first ∙ p.1 in
+      ap (λ b. cond b (fed_from plan.streams true (suc n) (k ∷ ls)) (told_at plan.streams false n l ∷ fed_from plan.streams true (suc n) (k ∷ ls))) first ∙ p.1 in
       let none : last_number before ≡ 0 = grind (arith, nat_tests) in
       let one : suc n + 1 ≡ suc (suc n) = omega arith in
       record {
@@ -183,11 +183,11 @@ module _ (t : Task) (taken : List (List ℕ)) (is : IsPlan t.plan) (read : AreRe
       let S = said (query_of t) taken in
       let fed_text : T F ≡ T S = same_text t.plan t.asked.policy F S false fed.same in
       let all_text : T (said (query_of (task_after t taken)) more) ≡ T (said (query_of t) (taken ++ more)) =
-          same_text t.plan t.asked.policy (said (query_of (task_after t taken)) more) (said (query_of t) (taken ++ more)) false (steps_on more) in
+      same_text t.plan t.asked.policy (said (query_of (task_after t taken)) more) (said (query_of t) (taken ++ more)) false (steps_on more) in
       let parts = read_parts (length t.plan.streams) t.before (fed_from t.plan.streams (query_of t).header (suc (last_number t.before)) taken) read in
       let front : IsFront (T F) (T (F ++ behind more)) = text_before t.plan is t.asked.policy F (behind more) false read (are_read t.plan.streams (query_of t).header (suc (last_number t.before) + length taken) more free) in
       let low : length (T t.before) ≤ length (T S) =
-          omega (arith, front_low (T t.before) (T F) (text_before t.plan is t.asked.policy t.before _ false parts.0 parts.1), ap length fed_text) in
+      omega (arith, front_low (T t.before) (T F) (text_before t.plan is t.asked.policy t.before _ false parts.0 parts.1), ap length fed_text) in
       let whole : T (said (query_of t) (taken ++ more)) ≡ T S ++ front.0 = sym all_text ∙ (ap T (said_on more) ∙ (front.1 ∙ ap (λ x. x ++ front.0) fed_text)) in
       let rest : drop (length (T F)) (T (said (query_of (task_after t taken)) more)) ≡ front.0 = ap (drop (length (T F))) (ap T (said_on more) ∙ front.1) ∙ drop-append_seam (T F) front.0 in
       ap (λ x. (answers_of t).text taken false ++ x) rest ∙ sym (cut_grows (length (T t.before)) (T S) (T (said (query_of t) (taken ++ more))) front.0 low whole)

@@ -100,7 +100,7 @@ module _ (t u : Task) (file left : List ℕ) (c : Crash) (low : t.start.output �
         let F = take t.start.output file in
         let f = goes_as t c.did bytes r past in
         let cut : take v.start.output c.output ≡ F ++ (answers_of t).text r.taken false =
-            ap (λ (n : ℕ). take n c.output) (sym length_is) ∙ (take_front (F ++ outs r.front) c.output synced ∙ ap (λ y. F ++ y) r.text) in
+        ap (λ (n : ℕ). take n c.output) (sym length_is) ∙ (take_front (F ++ outs r.front) c.output synced ∙ ap (λ y. F ++ y) r.text) in
         record {
           input = omega (arith, x.input, ap (λ ls. length (joined ls)) is, ap length (joined_on r.taken more), length-append (joined r.taken) (joined more));
           output = x.output ∙ (ap (λ y. y ++ (answers_of v).text more false) cut ∙ (append_assoc F ((answers_of t).text r.taken false) ((answers_of v).text more false)

@@ -12,7 +12,10 @@ use tw_rows::Memory;
 use wire_lines::MemoryWire;
 
 /// A run of the worked example over these files: its exit number.
-fn run_on<R: Threads + Sync + AllocGlobal>(rt: &R, files: &mut MemoryFileWire) -> Result<u8, Memory> {
+fn run_on<R: Threads + Sync + AllocGlobal>(
+    rt: &R,
+    files: &mut MemoryFileWire,
+) -> Result<u8, Memory> {
     let alloc = rt.alloc();
     let words = ["tempo", "--query", HOP, "--checkpoint", "state"];
     let Ok(asked) = read_words(alloc, &words) else {
