@@ -13,13 +13,13 @@ use Rattle.tempo_cli.specs.Working.{Reading}
 use Rattle.tempo_cli.specs.declared.status.Status.TheVariants as statuses
 use Rattle.tempo_cli.proofs.Journals.{ended-append, prompt_in, ready, read_on}
 use Rattle.tempo_cli.proofs.Moves.{cut_off, few_bytes}
-use Rattle.kept_run.specs.Keeping.{Task, query_of, answers_of, KeepsAfter, Keeps, due_in, last_behind, all_counts}
+use Rattle.kept_run.specs.Keeping.{Task, query_of, answers_of, KeepsAfter, Keeps, IsTimelyAfter, due_in, last_behind, all_counts}
 use Rattle.kept_run.specs.Standing.{Stands, Begun, Under, MayRead, Fails, IsWanting, SaysSame}
 use Rattle.kept_run.specs.declared.keeping.Keeper.{Keeper}
 use Rattle.kept_run.specs.declared.status.KeptStatus.{KeptStatus}
 use Rattle.kept_run.specs.declared.status.KeptStatus.TheVariants.{Ended, CheckpointFailed}
 use Rattle.kept_run.proofs.Counting.{given_front}
-use Rattle.kept_run.proofs.Standing.{is_for_again, keeps_more, line_stops, fails_keeps}
+use Rattle.kept_run.proofs.Standing.{is_for_again, keeps_more, kept_count, timely_on, line_stops, fails_keeps}
 
 -- it is as it was, but for what answers
 abbrev pub OnlyAnswers : Keeper → Keeper → Type 0
@@ -54,6 +54,13 @@ module _ {t : Task} {every : ℕ} {k : Keeper} {left : ℕ} {J : List Entry} (wa
         output = same.4 ∙ (s.output ∙ ap (λ (o : List ℕ). min (t.start.output + length o) 18446744073709551615) (sym out));
       }
 
+  -- what is due was kept before the read
+  timely_in : (b : List ℕ) → IsTimelyAfter t every [] (J ++ In b ∷ [])
+  timely_in b =
+      let w = r.under.stands.holds.within in
+      let all : whole (ins J) ≡ r.under.given = (whole_are_given (ins J) k.answering.cutter r.under.given w.cuts (w.cuts.settled wants.wants_bytes).one_line).0 in
+      timely_on t every [] J (In b ∷ []) r.under.timely (kept_count t [] _ J r.under.stands.keeps ∙ ap (λ ls. length (due_in t every ls (length ls)).counts) (sym all), tt)
+
   pub came_in : (k' : Keeper) (b : List ℕ) → OnlyAnswers k k' → 0 < length b → length b ≤ 65536 → length b ≤ left → Holds (query_of t) (ins J ++ b) r.under.given k'.answering → Under t every k' (J ++ In b ∷ [])
   came_in k' b same some piece few holds = record {
     given = r.under.given;
@@ -61,6 +68,7 @@ module _ {t : Task} {every : ℕ} {k : Keeper} {left : ℕ} {J : List Entry} (wa
     at = same.5 ∙ r.under.at;
     goes_on = read_on J b r.under.goes_on some;
     every_is = same.2 ∙ r.under.every_is;
+    timely = timely_in b;
   }
 
   pub count_in : (b : List ℕ) (n : ℕ) (N : List Entry) → n ≡ length b → n ≤ left → ins N ≡ ins (J ++ In b ∷ []) → length (ins N) + (left - n) ≡ limit + 1
@@ -91,6 +99,7 @@ module _ {t : Task} {every : ℕ} {k : Keeper} {left : ℕ} {J : List Entry} (wa
         counts = (due_in t every r.under.given (length r.under.given)).counts ++ length r.under.given ∷ [];
         keeps = s.keeps;
         punctual = ap (all_counts t every) (sym all);
+        timely = kept.0.3 t every (timely_in []);
       }
 
   -- or failed
@@ -102,14 +111,15 @@ module _ {t : Task} {every : ℕ} {k : Keeper} {left : ℕ} {J : List Entry} (wa
       let all : whole (ins N) ≡ r.under.given = ap whole came ∙ (whole_are_given (ins J ++ []) k'.answering.cutter r.under.given holds.within.cuts settled.one_line).0 in
       fails_keeps every status failed.1 wanting (given_front t every r.under.given (whole (ins N)) failed.1.came)
       (subst (λ ls. IsFront ((due_in t every r.under.given (length r.under.given)).counts ++ length r.under.given ∷ []) (all_counts t every ls)) (sym all) ([], sym (append-nil _)))
+      (failed.0.3 t every (timely_in []))
 
 -- the first checkpoint was kept
 pub started : {t : Task} {every : ℕ} {k : Keeper} (k' : Keeper) (K : List Entry) → Begun t every k → k'.every ≡ k.every → k'.kept_at ≡ last_behind t [] → SaysSame [] K × Stands t k' K [] (0 ∷ []) → MayRead t every k' (limit + 1) K
 started {t} {every} {k} k' K b each at kept = record {
-  under = record { given = []; stands = kept.1; at = at; goes_on = kept.0.2; every_is = each ∙ b.1 };
+  under = record { given = []; stands = kept.1; at = at; goes_on = kept.0.2; every_is = each ∙ b.1; timely = kept.0.3 t every tt };
   count = omega (arith, ap length kept.0.0);
 }
 
 -- or failed
 pub unstarted : {t : Task} (every : ℕ) (status : KeptStatus) (K : List Entry) → IsWanting status → SaysSame [] K × Fails t [] [] K → Keeps t every status K
-unstarted {t} every status K wanting failed = fails_keeps every status failed.1 wanting (all_counts t every (whole (ins K)), refl) (given_front t every [] (whole (ins K)) (whole (ins K), refl))
+unstarted {t} every status K wanting failed = fails_keeps every status failed.1 wanting (all_counts t every (whole (ins K)), refl) (given_front t every [] (whole (ins K)) (whole (ins K), refl)) (failed.0.3 t every tt)

@@ -41,7 +41,7 @@ due_within t every given more k low = due_same every (λ n. last_behind t (take 
 pub given_front : (t : Task) (every : ℕ) (given ls : List (List ℕ)) → AreFront given ls → IsFront (due_in t every given (length given)).counts (all_counts t every ls)
 given_front t every given ls front =
     let e : due_in t every given (length given) ≡ due_in t every ls (length given) =
-        due_within t every given front.0 (length given) (omega arith) ∙ ap (λ x. due_in t every x (length given)) (sym front.1) in
+    due_within t every given front.0 (length given) (omega arith) ∙ ap (λ x. due_in t every x (length given)) (sym front.1) in
     let low : length given ≤ length ls = omega (arith, ap length front.1, length-append given front.0) in
     front_on _ (due_in t every ls (length ls)).counts _
     (subst (λ (m : Marks). IsFront m.counts (due_in t every ls (length ls)).counts) (sym e) (due_front every (λ n. last_behind t (take n ls)) (length given) (length ls) low))
@@ -50,18 +50,18 @@ given_front t every given ls front =
 -- with one line more
 pub due_more : (t : Task) (every : ℕ) (given : List (List ℕ)) (line : List ℕ) →
     due_in t every (given ++ line ∷ []) (length (given ++ line ∷ [])) ≡ cond (nat_le ((due_in t every given (length given)).punct + every) (last_behind t (given ++ line ∷ [])))
-        (record { punct = last_behind t (given ++ line ∷ []); counts = (due_in t every given (length given)).counts ++ length (given ++ line ∷ []) ∷ [] }) (due_in t every given (length given))
+    (record { punct = last_behind t (given ++ line ∷ []); counts = (due_in t every given (length given)).counts ++ length (given ++ line ∷ []) ∷ [] }) (due_in t every given (length given))
 due_more t every given line =
     let n : length (given ++ line ∷ []) ≡ suc (length given) = omega (arith, length-append given (line ∷ [])) in
     let all : last_behind t (take (suc (length given)) (given ++ line ∷ [])) ≡ last_behind t (given ++ line ∷ []) =
-        ap (λ k. last_behind t (take k (given ++ line ∷ []))) (sym n) ∙ ap (last_behind t) (take-length (given ++ line ∷ [])) in
+    ap (λ k. last_behind t (take k (given ++ line ∷ []))) (sym n) ∙ ap (last_behind t) (take-length (given ++ line ∷ [])) in
     let before : due_in t every (given ++ line ∷ []) (length given) ≡ due_in t every given (length given) = sym (due_within t every given (line ∷ []) (length given) (omega arith)) in
     ap (due_in t every (given ++ line ∷ [])) n
     ∙ (ap (λ (m : Marks). cond (nat_le (m.punct + every) (last_behind t (take (suc (length given)) (given ++ line ∷ []))))
-        (record { punct = last_behind t (take (suc (length given)) (given ++ line ∷ [])); counts = m.counts ++ suc (length given) ∷ [] }) m) before
+    (record { punct = last_behind t (take (suc (length given)) (given ++ line ∷ [])); counts = m.counts ++ suc (length given) ∷ [] }) m) before
     ∙ (ap (λ (x : ℕ). cond (nat_le ((due_in t every given (length given)).punct + every) x) (record { punct = x; counts = (due_in t every given (length given)).counts ++ suc (length given) ∷ [] }) (due_in t every given (length given))) all
     ∙ ap (λ (k : ℕ). cond (nat_le ((due_in t every given (length given)).punct + every) (last_behind t (given ++ line ∷ [])))
-        (record { punct = last_behind t (given ++ line ∷ []); counts = (due_in t every given (length given)).counts ++ k ∷ [] }) (due_in t every given (length given))) (sym n)))
+    (record { punct = last_behind t (given ++ line ∷ []); counts = (due_in t every given (length given)).counts ++ k ∷ [] }) (due_in t every given (length given))) (sym n)))
 
 -- where the line makes one due, and where it does not
 pub due_now : (t : Task) (every : ℕ) (given : List (List ℕ)) (line : List ℕ) → nat_le ((due_in t every given (length given)).punct + every) (last_behind t (given ++ line ∷ [])) ≡ true →

@@ -11,3 +11,6 @@ pub mod ReadBack
 pub mod Walks
 pub mod Runs
 pub mod Times
+pub mod Feeds
+pub mod Splitting
+pub mod Unbroken

@@ -5,7 +5,9 @@ use Rattle.wire_lines.specs.Lines.{whole, rest, joined}
 use Rattle.wire_lines.proofs.Growth.{ins-append, outs-append}
 use Rattle.tempo_cli.specs.Restoring.{AreFront}
 use Rattle.tempo_cli.proofs.Fronts.{front_again}
-use Rattle.kept_run.specs.Keeping.{Task, KeepsAfter, MayKeep, IsRecovered}
+use Rattle.command_line.specs.Words.{AreWithin}
+use Rattle.kept_run.specs.Keeping.{Task, task_after, KeepsAfter, MayKeep, IsRecovered}
+use Rattle.kept_run.proofs.Feeds.{read_back}
 use Rattle.kept_run.proofs.Wholes.{whole_front}
 
 -- before each of them it might be kept
@@ -21,8 +23,8 @@ kept_at t P [] (Did (Keep b) ∷ front) back bytes h = absurd h
 kept_at t P (n ∷ counts) (Did (Keep b) ∷ front) back bytes h =
     let r = kept_at t (P ++ Did (Keep b) ∷ []) counts front back bytes h.1 in (r.0, subst (λ K. MayKeep t K r.0 bytes) (append_assoc P (Did (Keep b) ∷ []) front) r.1)
 
-pub recovered : (t : Task) (counts : List ℕ) (K after : List Entry) → KeepsAfter t [] counts (K ++ after) → (front back : List Entry) (bytes : List ℕ) → K ≡ front ++ Did (Keep bytes) ∷ back → IsRecovered t K bytes
-recovered t counts K after keeps front back bytes is =
+pub recovered : (t : Task) → AreWithin t.asked → (counts : List ℕ) (K after : List Entry) → KeepsAfter t [] counts (K ++ after) → (front back : List Entry) (bytes : List ℕ) → K ≡ front ++ Did (Keep bytes) ∷ back → IsRecovered t K bytes
+recovered t within counts K after keeps front back bytes is =
     let all : K ++ after ≡ front ++ Did (Keep bytes) ∷ (back ++ after) = ap (λ x. x ++ after) is ∙ append_assoc front (Did (Keep bytes) ∷ back) after in
     let r = kept_at t [] counts front (back ++ after) bytes (subst (KeepsAfter t [] counts) all keeps) in
     let m = r.1 in
@@ -31,7 +33,8 @@ recovered t counts K after keeps front back bytes is =
     record {
       taken = r.0;
       came = front_again r.0 (whole (ins front)) (whole (ins K)) m.came (subst (λ b. AreFront (whole (ins front)) (whole b)) (sym came) (whole_front (ins front) (ins back)));
-      starts = m.starts;
+      fine = m.fine;
+      starts = read_back (task_after t r.0) bytes within m.starts;
       front = s.front;
       back = s.back ++ Did (Keep bytes) ∷ back;
       are = is ∙ (ap (λ x. x ++ Did (Keep bytes) ∷ back) s.are ∙ append_assoc s.front (Did Sync ∷ s.back) (Did (Keep bytes) ∷ back));

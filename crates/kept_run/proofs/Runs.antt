@@ -1,14 +1,25 @@
 -- A run from its start on.
-use Rattle.std.proofs.Common.{◌≡◌, ◌++◌, ℕ, List, [], ◌∷◌, Option, Some, None, inl, inr, refl, ◌∙◌, ap, subst, append-nil}
+use Rattle.std.proofs.Common.{◌≡◌, ◌⊎◌, ◌++◌, Err, ℕ, List, [], ◌∷◌, Option, Some, None, inl, inr, refl, sym, ◌∙◌, ap, subst, append-nil}
 use Rattle.wire_lines.specs.Journal.{Entry, Did, Start, Adds, Grows}
+use Rattle.admission.specs.Entries.{Told}
+use Rattle.durable_file.specs.Calls.{Told as Disks}
 use Rattle.durable_file.specs.Disk.{Content, Absent, Written, Synced, IsSeen}
 use Rattle.wire_lines.proofs.Growth.{Grows-weaker}
 use Rattle.plan_model.specs.IsPlan.{PlanParts}
 use Rattle.command_line.specs.Words.{Asked as Words}
 use Rattle.tempo_cli.proofs.Journals.{Grows-then}
-use Rattle.kept_run.specs.Keeping.{Task, Places, Keeps, Runs, RunsFirst, HasBytes, first_task}
+use Rattle.kept_run.specs.Keeping.{Task, Places, Keeps, Runs, RunsFirst, RunsByFile, HasBytes, HasState, IsStartOf, first_task, task_from}
+use Rattle.kept_run.specs.Status.{IsRefusal}
 use Rattle.kept_run.specs.Standing.{Begun, StartsWith, IsWanting}
+use Rattle.plan_model.specs.declared.fault.QueryFault.{QueryFault}
+use Rattle.plan_model.specs.declared.fault.QueryError.{QueryError}
+use Rattle.plan_model.specs.declared.fault.QueryError.TheVariants as errors
+use Rattle.tempo_cli.specs.Jobs.{HasPlan, IsPlanned, query_status}
+use Rattle.tempo_cli.specs.declared.status.Status.{Status}
+use Rattle.tempo_cli.specs.declared.status.Status.TheVariants as statuses
+use Rattle.tempo_cli.proofs.Jobs.{never_both}
 use Rattle.kept_run.specs.declared.keeping.Keeper.{Keeper}
+use Rattle.kept_run.specs.declared.status.KeptStatus.TheVariants.{Ended}
 use Rattle.kept_run.specs.declared.status.KeptStatus.{KeptStatus}
 
 runs_as : (t : Task) (every : ℕ) (status : KeptStatus) (J K : List Entry) → J ≡ Did (Start t.start.input t.start.output) ∷ [] → Keeps t every status K → Runs t every status (J ++ K)
@@ -56,3 +67,39 @@ read_none file bytes (inr is) seen = none_is_some bytes (subst (λ f. IsSeen f N
 pub read_some : (file : Content) (bytes found : List ℕ) → HasBytes file bytes → IsSeen file (Some found) → found ≡ bytes
 read_some file bytes found (inl is) seen = some_is_some found bytes (subst (λ f. IsSeen f (Some found)) is seen)
 read_some file bytes found (inr is) seen = some_is_some found bytes (subst (λ f. IsSeen f (Some found)) is seen)
+
+-- FILE was opened: there is none, or it has these bytes, or it failed
+module _ {a b c : Option (List Entry)} {asked : Words} {plan : PlanParts} {every : ℕ} {status : KeptStatus} (told : Option Disks) (none : Adds a b []) where
+  pub by_none : ((d : Disks) → told ≡ Some d → IsSeen d.now.file None) → Grows b c (RunsFirst asked plan every status) → RunsByFile asked plan every told status a c
+  by_none seen runs = record {
+    first = λ d e absent. after_none none runs;
+    again = λ d e bytes has lines start is. absurd (read_none d.now.file bytes has (seen d e));
+    refused = λ d e bytes has isnt. absurd (read_none d.now.file bytes has (seen d e));
+  }
+
+  pub by_bytes : (found : List ℕ) → ((d : Disks) → told ≡ Some d → IsSeen d.now.file (Some found)) →
+      ((lines : List Told) (start : Places) → IsStartOf (task_from asked plan lines start) found → Grows b c (Runs (task_from asked plan lines start) every status)) →
+      ((HasState asked plan found → ⊥) → Grows b c (λ J. (J ≡ []) × IsRefusal status)) → RunsByFile asked plan every told status a c
+  by_bytes found seen runs refused = record {
+    first = λ d e absent. absurd (read_absent d.now.file found absent (seen d e));
+    again = λ d e bytes has lines start is. after_none none (runs lines start (subst (IsStartOf (task_from asked plan lines start)) (sym (read_some d.now.file bytes found has (seen d e))) is));
+    refused = λ d e bytes has isnt. after_none none (refused (λ h. isnt (subst (HasState asked plan) (read_some d.now.file bytes found has (seen d e)) h)));
+  }
+
+pub by_failure : {a b : Option (List Entry)} {asked : Words} {plan : PlanParts} {every : ℕ} (told : Option Disks) (status : KeptStatus) → IsWanting status → IsRefusal status → Adds a b [] →
+    RunsByFile asked plan every told status a b
+by_failure told status wanting refusal none = record {
+  first = λ d e absent. did_nothing none (0, inl (refl, wanting));
+  again = λ d e bytes has lines start is. did_nothing none (inl (refl, wanting));
+  refused = λ d e bytes has isnt. did_nothing none (refl, refusal);
+}
+
+-- the query has a plan, and so its failure is one of memory
+pub by_error : {a : Option (List Entry)} {every : ℕ} (text : List ℕ) (e : QueryError) (asked : Words) (plan : PlanParts) (told : Option Disks) → IsPlanned text (Err e) → HasPlan text plan →
+    RunsByFile asked plan every told (Ended (query_status e)) a a
+by_error text (errors.Fault f) asked plan told is h = absurd (never_both text plan f h is)
+by_error text errors.Memory asked plan told is h = by_failure told (Ended statuses.Memory) (inr refl) tt (record { added = λ t e. e ∙ ap Some (sym (append-nil t)) })
+
+pub ended_so : (s : Status) (fault : QueryFault) → (s ≡ statuses.BadQuery fault) ⊎ (s ≡ statuses.Memory) → (Ended s ≡ Ended (statuses.BadQuery fault)) ⊎ (Ended s ≡ Ended statuses.Memory)
+ended_so s fault (inl e) = inl (ap Ended e)
+ended_so s fault (inr e) = inr (ap Ended e)

@@ -20,7 +20,7 @@ use Rattle.tempo_cli.proofs.Fed.{took_final}
 use Rattle.tempo_cli.proofs.Journals.{ended-append, ins_outs, prompt_outs, ready}
 use Rattle.tempo_cli.proofs.Moves.{short, some_written, cut_off, few_bytes}
 use Rattle.checkpoint.specs.Form.{FormView}
-use Rattle.kept_run.specs.Keeping.{Task, Marks, query_of, answers_of, task_after, StartsTask, KeepsAfter, Keeps, due_in, last_behind, all_counts, IsPunctual}
+use Rattle.kept_run.specs.Keeping.{Task, Marks, query_of, answers_of, task_after, StartsTask, KeepsAfter, Keeps, IsTimelyAfter, kept_in, due_in, last_behind, all_counts, IsPunctual}
 use Rattle.kept_run.specs.Standing.{IsFor, Stands, Begun, Under, MayRead, Fails, IsWanting, IsAsBefore, SaysSame}
 use Rattle.kept_run.specs.Status.{IsKeptEnd}
 use Rattle.kept_run.specs.declared.keeping.Keeper.{Keeper}
@@ -68,11 +68,34 @@ prompt_on a K (In b ∷ J) M p m = (p.0, p.1, prompt_on a (K ++ In b ∷ []) J M
 prompt_on a K (Out b ∷ J) M p m = prompt_on a (K ++ Out b ∷ []) J M p (subst (λ x. IsPromptAfter a x M) (sym (append_assoc K (Out b ∷ []) J)) m)
 prompt_on a K (Did d ∷ J) M p m = prompt_on a (K ++ Did d ∷ []) J M p (subst (λ x. IsPromptAfter a x M) (sym (append_assoc K (Did d ∷ []) J)) m)
 
-says : (J M : List Entry) → ins M ≡ [] → outs M ≡ [] → ended M ≡ false → SaysSame J (J ++ M)
-says J M i o e = (
+pub timely_on : (t : Task) (every : ℕ) (K J M : List Entry) → IsTimelyAfter t every K J → IsTimelyAfter t every (K ++ J) M → IsTimelyAfter t every K (J ++ M)
+timely_on t every K [] M p m = subst (λ x. IsTimelyAfter t every x M) (append-nil K) m
+timely_on t every K (In b ∷ J) M p m = (p.0, timely_on t every (K ++ In b ∷ []) J M p.1 (subst (λ x. IsTimelyAfter t every x M) (sym (append_assoc K (In b ∷ []) J)) m))
+timely_on t every K (Out b ∷ J) M p m = timely_on t every (K ++ Out b ∷ []) J M p (subst (λ x. IsTimelyAfter t every x M) (sym (append_assoc K (Out b ∷ []) J)) m)
+timely_on t every K (Did d ∷ J) M p m = timely_on t every (K ++ Did d ∷ []) J M p (subst (λ x. IsTimelyAfter t every x M) (sym (append_assoc K (Did d ∷ []) J)) m)
+
+timely_outs : (t : Task) (every : ℕ) (K O : List Entry) → All IsOut O → IsTimelyAfter t every K O
+timely_outs t every K [] o = tt
+timely_outs t every K (In b ∷ O) o = absurd (o 0 (In b) (omega arith))
+timely_outs t every K (Out b ∷ O) o = timely_outs t every (K ++ Out b ∷ []) O (λ k d h. o (suc k) d (omega arith))
+timely_outs t every K (Did m ∷ O) o = absurd (o 0 (Did m) (omega arith))
+
+-- as many checkpoints were kept as lines were counted
+pub kept_count : (t : Task) (K : List Entry) (counts : List ℕ) (J : List Entry) → KeepsAfter t K counts J → kept_in J ≡ length counts
+kept_count t K counts [] h = ap length (sym h)
+kept_count t K counts (In b ∷ J) h = kept_count t (K ++ In b ∷ []) counts J h
+kept_count t K counts (Out b ∷ J) h = kept_count t (K ++ Out b ∷ []) counts J h
+kept_count t K counts (Did (Start i o) ∷ J) h = absurd h
+kept_count t K counts (Did Sync ∷ J) h = kept_count t (K ++ Did Sync ∷ []) counts J h
+kept_count t K [] (Did (Keep b) ∷ J) h = absurd h
+kept_count t K (n ∷ counts) (Did (Keep b) ∷ J) h = ap suc (kept_count t (K ++ Did (Keep b) ∷ []) counts J h.1)
+
+says : (J M : List Entry) → ins M ≡ [] → outs M ≡ [] → ended M ≡ false → ((t : Task) (every : ℕ) → IsTimelyAfter t every J M) → SaysSame J (J ++ M)
+says J M i o e timely = (
   ins-append J M ∙ (ap (λ x. ins J ++ x) i ∙ append-nil (ins J)),
   outs-append J M ∙ (ap (λ x. outs J ++ x) o ∙ append-nil (outs J)),
   ended-append J M ∙ (ap (λ x. ended J || x) e ∙ or_false (ended J)),
+  λ t every h. timely_on t every [] J M h (timely t every),
 )
 
 pub is_for_again : {t : Task} {k k' : Keeper} → IsFor t k → k'.answering.engine.parts.dataflow.workers ≡ k.answering.engine.parts.dataflow.workers → k'.form ≡ k.form → k'.input ≡ k.input → IsFor t k'
@@ -89,12 +112,13 @@ marks bytes = Did Sync ∷ Did (Keep bytes) ∷ []
 module _ {t : Task} {k : Keeper} {J : List Entry} {given : List (List ℕ)} {counts : List ℕ} (s : Stands t k J given counts) where
   may_keep : (bytes : List ℕ) → StartsTask (task_after t given) bytes → KeepsAfter t J (length given ∷ []) (Did Sync ∷ Did (Keep bytes) ∷ [])
   may_keep bytes starts =
-      let same = says J (Did Sync ∷ []) refl refl refl in (
+      let same = says J (Did Sync ∷ []) refl refl refl (λ t every. tt) in (
         (
           given,
           refl,
           record {
             came = subst (λ b. AreFront given (whole b)) (sym same.0) (taken_front s.holds.within);
+            fine = s.holds.within.fine;
             written = same.1 ∙ s.written;
             synced = record { front = J; back = []; are = refl; silent = refl };
             starts = starts;
@@ -107,7 +131,7 @@ module _ {t : Task} {k : Keeper} {J : List Entry} {given : List (List ℕ)} {cou
       SaysSame J (J ++ Did Sync ∷ Did (Keep bytes) ∷ []) × Stands t k' (J ++ Did Sync ∷ Did (Keep bytes) ∷ []) given (counts ++ length given ∷ [])
   stands_kept k' bytes before starts =
       let M : List Entry = Did Sync ∷ Did (Keep bytes) ∷ [] in
-      let same = says J M refl refl refl in (
+      let same = says J M refl refl refl (λ t every. tt) in (
         same,
         record {
           is_for = is_for_again s.is_for (ap (λ (a : Answering). a.engine.parts.dataflow.workers) before.0) before.1 before.3;
@@ -127,7 +151,7 @@ module _ {t : Task} {k : Keeper} {J : List Entry} {given : List (List ℕ)} {cou
   -- before it was synced, and before it was kept; and once it was
   pub fails_first : SaysSame J (J ++ []) × Fails t given counts (J ++ [])
   fails_first =
-      let same = says J [] refl refl refl in (
+      let same = says J [] refl refl refl (λ t every. tt) in (
         same,
         record {
           prompt = prompt_on (answers_of t) [] J [] s.prompt tt;
@@ -141,7 +165,7 @@ module _ {t : Task} {k : Keeper} {J : List Entry} {given : List (List ℕ)} {cou
 
   pub fails_synced : SaysSame J (J ++ Did Sync ∷ []) × Fails t given counts (J ++ Did Sync ∷ [])
   fails_synced =
-      let same = says J (Did Sync ∷ []) refl refl refl in (
+      let same = says J (Did Sync ∷ []) refl refl refl (λ t every. tt) in (
         same,
         record {
           prompt = prompt_on (answers_of t) [] J (Did Sync ∷ []) s.prompt tt;
@@ -156,7 +180,7 @@ module _ {t : Task} {k : Keeper} {J : List Entry} {given : List (List ℕ)} {cou
   pub fails_kept : (bytes : List ℕ) → StartsTask (task_after t given) bytes → SaysSame J (J ++ Did Sync ∷ Did (Keep bytes) ∷ []) × Fails t given counts (J ++ Did Sync ∷ Did (Keep bytes) ∷ [])
   fails_kept bytes starts =
       let M : List Entry = Did Sync ∷ Did (Keep bytes) ∷ [] in
-      let same = says J M refl refl refl in (
+      let same = says J M refl refl refl (λ t every. tt) in (
         same,
         record {
           prompt = prompt_on (answers_of t) [] J M s.prompt tt;
@@ -193,13 +217,14 @@ wanting_punctual t every status counts ls (inr e) f = subst (λ s. IsPunctual t 
 
 -- a checkpoint failed
 pub fails_keeps : {t : Task} {given : List (List ℕ)} {counts : List ℕ} {J : List Entry} (every : ℕ) (status : KeptStatus) → Fails t given counts J → IsWanting status →
-    IsFront counts (all_counts t every (whole (ins J))) → IsFront (counts ++ length given ∷ []) (all_counts t every (whole (ins J))) → Keeps t every status J
-fails_keeps {t} {given} {counts} {J} every status f w before after = record {
+    IsFront counts (all_counts t every (whole (ins J))) → IsFront (counts ++ length given ∷ []) (all_counts t every (whole (ins J))) → IsTimelyAfter t every [] J → Keeps t every status J
+fails_keeps {t} {given} {counts} {J} every status f w before after timely = record {
   prompt = f.prompt;
   end = wanting_end (answers_of t) status (ins J) (outs J) (ended J) w f.short;
   counts = f.all;
   keeps = f.keeps;
   punctual = wanting_punctual t every status f.all (whole (ins J)) w (front f.one_more);
+  timely = timely;
 }
   where
     front : (f.all ≡ counts) ⊎ (f.all ≡ counts ++ length given ∷ []) → IsFront f.all (all_counts t every (whole (ins J)))
@@ -215,6 +240,7 @@ pub record AfterLine (t : Task) (every : ℕ) (k : Keeper) (J M : List Entry) : 
   pub goes_on : ended M ≡ false
   pub every_is : k.every ≡ every
   pub same : ins M ≡ ins J
+  pub timely : IsTimelyAfter t every [] M
 
 module _ {t : Task} {every : ℕ} {k : Keeper} {J : List Entry} (u : Under t every k J) where
   -- the lines that came in were taken
@@ -235,6 +261,7 @@ module _ {t : Task} {every : ℕ} {k : Keeper} {J : List Entry} (u : Under t eve
       at = at ∙ u.at;
       goes_on = u.goes_on;
       every_is = each ∙ u.every_is;
+      timely = u.timely;
     },
     refl,
   )
@@ -249,6 +276,7 @@ module _ {t : Task} {every : ℕ} {k : Keeper} {J : List Entry} (u : Under t eve
         counts = (due_in t every u.given (length u.given)).counts;
         keeps = u.stands.keeps;
         punctual = ends_punctual t every (answers_of t) status (ins J) (outs J) _ (whole (ins J)) now (given_front t every u.given (whole (ins J)) (taken_front u.stands.holds.within));
+        timely = u.timely;
       }
 
   pub line_ends : (status : Status) → IsEnd (answers_of t) status (ins J) ((answers_of t).text u.given false) false → Keeps t every (Ended status) (J ++ [])
@@ -267,6 +295,7 @@ module _ {t : Task} {every : ℕ} {k : Keeper} {J : List Entry} (u : Under t eve
         counts = (due_in t every u.given (length u.given)).counts;
         keeps = keeps_more t _ J O u.stands.keeps (keeps_outs t J O sent.outs_alone);
         punctual = given_front t every u.given (whole (ins (J ++ O))) (subst (λ b. AreFront u.given (whole b)) (sym same) (taken_front u.stands.holds.within));
+        timely = timely_on t every [] J O u.timely (timely_outs t every J O sent.outs_alone);
       }
 
   -- it was written
@@ -292,6 +321,7 @@ module _ {t : Task} {every : ℕ} {k : Keeper} {J : List Entry} (u : Under t eve
         goes_on = ended-append J O ∙ (ap (λ x. x || ended O) u.goes_on ∙ ended_outs O sent.outs_alone);
         every_is = each ∙ u.every_is;
         same = same;
+        timely = timely_on t every [] J O u.timely (timely_outs t every J O sent.outs_alone);
       }
 
 module _ {t : Task} {every : ℕ} {k : Keeper} {J M : List Entry} (l : AfterLine t every k J M) where
@@ -311,6 +341,7 @@ module _ {t : Task} {every : ℕ} {k : Keeper} {J M : List Entry} (l : AfterLine
           at = l.at ∙ ap (λ (m : Marks). m.punct) (sym d);
           goes_on = l.goes_on;
           every_is = l.every_is;
+          timely = l.timely;
         },
         l.same,
       )
@@ -325,6 +356,7 @@ module _ {t : Task} {every : ℕ} {k : Keeper} {J M : List Entry} (l : AfterLine
           at = at ∙ ap (λ (m : Marks). m.punct) (sym d);
           goes_on = kept.0.2 ∙ l.goes_on;
           every_is = each ∙ l.every_is;
+          timely = kept.0.3 t every l.timely;
         },
         kept.0.0 ∙ l.same,
       )
@@ -336,4 +368,4 @@ module _ {t : Task} {every : ℕ} {k : Keeper} {J M : List Entry} (l : AfterLine
       let d = due_now t every l.given l.line (due_as b is ∙ holds) in
       let all = given_front t every (l.given ++ l.line ∷ []) (whole (ins N)) f.came in
       let front = given_front t every l.given (whole (ins N)) (l.line ∷ f.came.0, f.came.1 ∙ append_assoc l.given (l.line ∷ []) f.came.0) in
-      fails_keeps every status f wanting front (subst (λ (m : Marks). IsFront m.counts (all_counts t every (whole (ins N)))) d all)
+      fails_keeps every status f wanting front (subst (λ (m : Marks). IsFront m.counts (all_counts t every (whole (ins N)))) d all) (failed.0.3 t every l.timely)

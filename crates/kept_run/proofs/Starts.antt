@@ -18,17 +18,18 @@ use Rattle.kept_run.proofs.Adding.{adds_grows}
 use Rattle.admission.specs.Progress.{start, steps, fault}
 use Rattle.frozen_state.specs.Frozen.{FrozenView}
 use Rattle.checkpoint.specs.Form.{FormView, form_of}
-use Rattle.command_line.specs.Words.{AreWithin}
+use Rattle.command_line.specs.Words.{Asked as Words, AreWithin}
 use Rattle.tempo_engine.specs.Fed.{Fed, last_number}
-use Rattle.tempo_engine.specs.Frozen.{Fits}
+use Rattle.tempo_engine.specs.Frozen.{Fits, IsState}
 use Rattle.tempo_cli.specs.Table.{limit}
 use Rattle.tempo_cli.specs.Feeding.{answers_to, Holds}
 use Rattle.tempo_cli.specs.Halting.{IsFormFor}
 use Rattle.tempo_cli.specs.declared.answering.Answering.{Answering}
 use Rattle.tempo_cli.proofs.Fed.{took_final}
 use Rattle.tempo_cli.proofs.Moves.{within_none}
-use Rattle.kept_run.specs.Keeping.{Task, Places, AreLow, query_of, place_lines, IsStartOf}
-use Rattle.kept_run.specs.Standing.{IsFor, Begun, StartsWith, IsWanting, IsReadAs, HasThawed}
+use Rattle.tempo_cli.specs.Restoring.{AreFront}
+use Rattle.kept_run.specs.Keeping.{Task, Places, AreLow, query_of, place_lines, IsStartOf, HasState}
+use Rattle.kept_run.specs.Standing.{IsFor, Begun, StartsWith, IsWanting, IsReadAs, BeginsState, HasThawed}
 use Rattle.kept_run.specs.declared.keeping.Keeper.{Keeper}
 
 pub is_for_words : (t : Task) (k : Keeper) → AreWithin t.asked → k.answering.engine.parts.dataflow.workers ≡ t.asked.workers → k.form ≡ form_of t.asked.query t.asked.workers t.asked.policy t.plan → k.input ≡ t.start.input → IsFor t k
@@ -79,6 +80,20 @@ module _ {plan : PlanParts} {f : FrozenView} {o : Options} {batch workers : ℕ}
 
   pub fed_options : {e : EngineView} → ((lines : List Told) → Fits o.workers plan o.policy lines f → Fed plan o.policy lines e) → (lines : List Told) → Fits workers plan policy lines f → Fed plan policy lines e
   fed_options {e} h lines fits = subst (λ (p : Policy). Fed plan p lines e) (ap (λ (x : Options). x.policy) is) (h lines (fits_options lines fits))
+
+  pub state_options : IsState o.workers plan f → IsState workers plan f
+  state_options h = subst (λ n. IsState n plan f) (ap (λ (x : Options). x.workers) is) h
+
+-- what was read is a state of what is asked for
+pub has_state : (asked : Words) (plan : PlanParts) (bytes : List ℕ) (form : FormView) (state : KeptState) → form ≡ form_of asked.query asked.workers asked.policy plan → BeginsState form (whole bytes) state →
+    IsState asked.workers plan state.frozen → HasState asked plan bytes
+has_state asked plan bytes form state same begins is = record {
+  places = record { input = state.input; output = state.output };
+  frozen = state.frozen;
+  of_form = subst (λ x. IsOfForm x state.frozen) same begins.of_form;
+  front = subst (λ (x : FormView). AreFront (place_lines (record { input = state.input; output = state.output }) ++ checkpoint_lines x.head state.frozen) (whole bytes)) same begins.front;
+  state = is;
+}
 
 -- what FILE has was read back
 module _ {t : Task} {bytes : List ℕ} {form : FormView} (is : IsStartOf t bytes) (same : form ≡ form_of t.asked.query t.asked.workers t.asked.policy t.plan) where

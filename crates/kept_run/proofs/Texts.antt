@@ -47,7 +47,7 @@ module _ {t : Task} {k : Keeper} {J : List Entry} {given : List (List ℕ)} {cou
       let w = k.answering.engine.parts.dataflow.workers in
       let fits0 = whatever t.plan t.asked.policy took.fed took.took in
       let fits : Fits t.asked.workers t.plan t.asked.policy (fed_by (query_of t) given) frozen =
-          subst (λ ls. Fits t.asked.workers t.plan t.asked.policy ls frozen) took.is (subst (λ n. Fits n t.plan t.asked.policy took.fed frozen) s.is_for.workers fits0) in
+      subst (λ ls. Fits t.asked.workers t.plan t.asked.policy ls frozen) took.is (subst (λ n. Fits n t.plan t.asked.policy took.fed frozen) s.is_for.workers fits0) in
       let f = s.is_for.form in
       let has0 = has t.asked.query w t.plan t.asked.policy fits0.by.formed fits0.by.sound f.workers_fit f.lateness_fits f.period_fits in
       let text_of : HasText (form_asked t.asked t.plan) frozen = subst (λ n. HasText (form_of t.asked.query n t.asked.policy t.plan) frozen) s.is_for.workers has0 in

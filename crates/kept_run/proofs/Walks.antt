@@ -75,14 +75,14 @@ module _ {a b c : Option (List Entry)} {k k' : Keeper} {left : ℕ} {t : Task} {
   ends_kept_at {d} {m} same kept = Grows-then {P = λ K. HasRead t every k k' left [] (J ++ K)} all_read
       (λ (K : List Entry) (h : HasRead t every k k' left [] (J ++ K)). kept t (h.before ++ In [] ∷ []) h.may.under.given _ (at_end (J ++ K) h))
       (λ K M h q. subst (Keeps t every (Ended statuses.Done)) (ap (λ x. x ++ M) (sym h.is) ∙ append_assoc J K M)
-          (all_kept wants h.may m ((h.before ++ In [] ∷ []) ++ M) (subst (λ (x : Answering). WantsBytes x.cutter) (sym same) done) q))
+      (all_kept wants h.may m ((h.before ++ In [] ∷ []) ++ M) (subst (λ (x : Answering). WantsBytes x.cutter) (sym same) done) q))
 
   pub ends_failed_at : {d : Option (List Entry)} (status : KeptStatus) → IsWanting status →
       WhateverStands k' (λ t J given counts. Grows c d (λ K. SaysSame J (J ++ K) × Fails t given counts (J ++ K))) → Grows a d (λ K. Keeps t every status (J ++ K))
   ends_failed_at {d} status wanting failed = Grows-then {P = λ K. HasRead t every k k' left [] (J ++ K)} all_read
       (λ (K : List Entry) (h : HasRead t every k k' left [] (J ++ K)). failed t (h.before ++ In [] ∷ []) h.may.under.given _ (at_end (J ++ K) h))
       (λ K M h q. subst (Keeps t every status) (ap (λ x. x ++ M) (sym h.is) ∙ append_assoc J K M)
-          (all_failed wants h.may k' status ((h.before ++ In [] ∷ []) ++ M) done (holds (ins h.before) h.may.under.given h.may.under.stands.holds) wanting q))
+      (all_failed wants h.may k' status ((h.before ++ In [] ∷ []) ++ M) done (holds (ins h.before) h.may.under.given h.may.under.stands.holds) wanting q))
 
 -- from the start on
 pub begins : {a b c : Option (List Entry)} {k m : Keeper} {t : Task} {every : ℕ} {P : List Entry → Type 0} → Begun t every k → m.every ≡ k.every →
@@ -113,7 +113,7 @@ module _ {a b c : Option (List Entry)} {k l m : Keeper} (due : Bool) (writes : W
   line_kept each at kept = λ t every J u. Grows-then {P = λ O. AfterLine t every l J (J ++ O)} (writes t every J u)
       (λ (O : List Entry) (h : AfterLine t every l J (J ++ O)). kept t (J ++ O) (h.given ++ h.line ∷ []) _ h.stands)
       (λ O K h q. subst (λ N. Under t every m N × (ins N ≡ ins J)) (append_assoc J O K)
-          (one_kept h due (tells t (J ++ O) (h.given ++ h.line ∷ []) _ h.stands) is m ((J ++ O) ++ K) each (at t (J ++ O) (h.given ++ h.line ∷ []) _ h.stands) q))
+      (one_kept h due (tells t (J ++ O) (h.given ++ h.line ∷ []) _ h.stands) is m ((J ++ O) ++ K) each (at t (J ++ O) (h.given ++ h.line ∷ []) _ h.stands) q))
 
 pub line_failed : {a b c : Option (List Entry)} {k l : Keeper} (due : Bool) (status : KeptStatus) → WritesLine a b k l → TellsDue l due → due ≡ true → IsWanting status →
     WhateverStands l (λ t J given counts. Grows b c (λ K. SaysSame J (J ++ K) × Fails t given counts (J ++ K))) → EndsAt a c k status

@@ -38,8 +38,7 @@ pub first_at : (bytes : List ℕ) (at : ℕ) → at < length bytes → line_len 
 first_at bytes at low is =
     let next : at + 1 ≡ suc at = omega arith in
     let tail : take (length bytes - (at + 1)) (drop (at + 1) bytes) ≡ drop (suc at) bytes =
-        ap (λ n. take (length bytes - n) (drop n bytes)) next ∙ take_all (length bytes - suc at) (drop (suc at) bytes) (omega (arith, length-drop (suc at) bytes)) in
-    (
+    ap (λ n. take (length bytes - n) (drop n bytes)) next ∙ take_all (length bytes - suc at) (drop (suc at) bytes) (omega (arith, length-drop (suc at) bytes)) in (
       whole_first bytes (omega (arith, is, low)) ∙ (ap (λ n. take n bytes ∷ whole (drop (suc n) bytes)) is ∙ ap (λ x. take at bytes ∷ whole x) (sym tail)),
       omega (arith, ap length tail, length-drop (suc at) bytes, low),
     )

@@ -1,6 +1,6 @@
 -- What a run has done that keeps checkpoints while its input goes on.
 use Rattle.std.specs.Prelude.{◌≡◌, ◌⊎◌, ◌<◌, ◌^◌, ◌+◌, ◌++◌, ◌&&◌, ℕ, zero, suc, nat_le, nat_eq, cond, false, Option, Some, None, List, [], ◌∷◌, length, take}
-use Rattle.wire_lines.specs.Journal.{Entry, In, Out, Did, Mark, Start, Sync, Keep, ins, outs, ended}
+use Rattle.wire_lines.specs.Journal.{Entry, In, Out, Did, Mark, Start, Sync, Keep, Grows, ins, outs, ended}
 use Rattle.wire_lines.specs.Lines.{whole, joined}
 use Rattle.plan_model.specs.IsPlan.{PlanParts}
 use Rattle.admission.specs.Entries.{Told}
@@ -8,16 +8,20 @@ use Rattle.admission.specs.Progress.{progress}
 use Rattle.command_line.specs.Words.{Asked as Words}
 use Rattle.checkpoint_lines.specs.Lines.{input_line, output_line}
 use Rattle.checkpoint.specs.Writing.{bytes_of}
-use Rattle.durable_file.specs.Disk.{Content, Written, Synced}
+use Rattle.checkpoint.specs.Text.{checkpoint_lines, IsOfForm}
+use Rattle.frozen_state.specs.Frozen.{FrozenView}
+use Rattle.durable_file.specs.Calls.{Told as Disks}
+use Rattle.durable_file.specs.Disk.{Content, Absent, Written, Synced}
+use Rattle.tempo_engine.specs.Frozen.{IsState}
 use Rattle.tempo_cli.specs.Answers.{Answers, IsFront}
-use Rattle.tempo_cli.specs.Jobs.{IsCheckpointOf}
+use Rattle.tempo_cli.specs.Jobs.{IsCheckpointOf, form_asked}
 use Rattle.tempo_cli.specs.Restoring.{AreFront}
 use Rattle.tempo_cli.specs.Table.{IsPrompt}
 use Rattle.tempo_cli.specs.Feeding.{Asked, answers_to, fed_by}
 use Rattle.tempo_cli.specs.declared.status.Status.TheVariants as statuses
 use Rattle.kept_run.specs.declared.status.KeptStatus.{KeptStatus}
 use Rattle.kept_run.specs.declared.status.KeptStatus.TheVariants.{Ended, CheckpointFailed}
-use Rattle.kept_run.specs.Status.{IsKeptEnd}
+use Rattle.kept_run.specs.Status.{IsKeptEnd, IsRefusal}
 
 -- how many bytes of the input, and of the output's file, are behind a run
 pub record Places : Type 0 where
@@ -71,9 +75,11 @@ pub record IsSynced (K : List Entry) : Type 0 where
   pub are : K ≡ front ++ Did Sync ∷ back
   pub silent : outs back ≡ []
 
--- a checkpoint may be kept: it is one after the first whole lines that came in, all that they call for is written, and brought to the disk
+-- a checkpoint may be kept: it is one after the first whole lines that came in, which have no fault; all that they call for is written,
+-- and brought to the disk
 pub record MayKeep (t : Task) (K : List Entry) (taken : List (List ℕ)) (bytes : List ℕ) : Type 0 where
   pub came : AreFront taken (whole (ins K))
+  pub fine : (answers_of t).fault taken false ≡ None
   pub written : outs K ≡ (answers_of t).text taken false
   pub synced : IsSynced K
   pub starts : StartsTask (task_after t taken) bytes
@@ -88,6 +94,15 @@ KeepsAfter t K counts (Did Sync ∷ J) = KeepsAfter t (K ++ Did Sync ∷ []) cou
 KeepsAfter t K [] (Did (Keep bytes) ∷ J) = ⊥
 KeepsAfter t K (count ∷ counts) (Did (Keep bytes) ∷ J) =
     ((taken : List (List ℕ)) × (count ≡ length taken) × MayKeep t K taken bytes) × KeepsAfter t (K ++ Did (Keep bytes) ∷ []) counts J
+
+-- how many checkpoints were kept
+abbrev pub kept_in : List Entry → ℕ
+kept_in [] = 0
+kept_in (In bytes ∷ J) = kept_in J
+kept_in (Out bytes ∷ J) = kept_in J
+kept_in (Did (Start input output) ∷ J) = kept_in J
+kept_in (Did Sync ∷ J) = kept_in J
+kept_in (Did (Keep bytes) ∷ J) = suc (kept_in J)
 
 -- the last punctuation behind these lines
 abbrev pub last_behind : Task → List (List ℕ) → ℕ
@@ -117,13 +132,23 @@ abbrev pub IsPunctual : Task → ℕ → KeptStatus → List ℕ → List (List 
 IsPunctual t every (Ended statuses.Done) counts ls = counts ≡ all_counts t every ls
 IsPunctual t every status counts ls = IsFront counts (all_counts t every ls)
 
--- the run was prompt, and ended as its status says; and checkpoints were kept where they are due. J is what came after its start
+-- before each read of the entries, which came after K, as many checkpoints were kept as are due in the whole lines that came in so far
+abbrev pub IsTimelyAfter : Task → ℕ → List Entry → List Entry → Type 0
+IsTimelyAfter t every K [] = Unit {0}
+IsTimelyAfter t every K (In bytes ∷ J) =
+    (kept_in K ≡ length (due_in t every (whole (ins K)) (length (whole (ins K)))).counts) × IsTimelyAfter t every (K ++ In bytes ∷ []) J
+IsTimelyAfter t every K (Out bytes ∷ J) = IsTimelyAfter t every (K ++ Out bytes ∷ []) J
+IsTimelyAfter t every K (Did mark ∷ J) = IsTimelyAfter t every (K ++ Did mark ∷ []) J
+
+-- the run was prompt, and ended as its status says; and checkpoints were kept where they are due, before the next read. J is what came
+-- after its start
 pub record Keeps (t : Task) (every : ℕ) (status : KeptStatus) (J : List Entry) : Type 0 where
   pub prompt : IsPrompt (answers_of t) J
   pub end : IsKeptEnd (answers_of t) status (ins J) (outs J) (ended J)
   pub counts : List ℕ
   pub keeps : KeepsAfter t [] counts J
   pub punctual : IsPunctual t every status counts (whole (ins J))
+  pub timely : IsTimelyAfter t every [] J
 
 -- the run failed before its start
 abbrev pub IsUnstarted : KeptStatus → List Entry → Type 0
@@ -156,12 +181,30 @@ RunsFirst asked plan every status J = (output : ℕ) × Runs (first_task asked p
 abbrev pub HasBytes : Content → List ℕ → Type 0
 HasBytes file bytes = (file ≡ Synced bytes) ⊎ (file ≡ Written bytes)
 
--- in a crash once a run did this, FILE with these bytes can be gone on from: they are a checkpoint after the first whole lines that
--- came in, and what these call for had gone out, and nothing else, when it was brought to the disk
+-- the bytes of FILE begin with places and a checkpoint of which an engine can be made for what is asked
+pub record HasState (asked : Words) (plan : PlanParts) (bytes : List ℕ) : Type 0 where
+  pub places : Places
+  pub frozen : FrozenView
+  pub of_form : IsOfForm (form_asked asked plan) frozen
+  pub front : AreFront (place_lines places ++ checkpoint_lines (form_asked asked plan).head frozen) (whole bytes)
+  pub state : IsState asked.workers plan frozen
+
+-- what a run has done by FILE, whose disk was told before it. Without FILE it was a first one; from a checkpoint it went on; and
+-- where FILE has no state of what is asked for, nothing came in or went out, and FILE was not touched
+pub record RunsByFile (asked : Words) (plan : PlanParts) (every : ℕ) (told : Option Disks) (status : KeptStatus) (before now : Option (List Entry)) : Type 0 where
+  pub first : (d : Disks) → told ≡ Some d → d.now.file ≡ Absent → Grows before now (RunsFirst asked plan every status)
+  pub again : (d : Disks) → told ≡ Some d → (bytes : List ℕ) → HasBytes d.now.file bytes → (lines : List Told) (start : Places) →
+      IsStartOf (task_from asked plan lines start) bytes → Grows before now (Runs (task_from asked plan lines start) every status)
+  pub refused : (d : Disks) → told ≡ Some d → (bytes : List ℕ) → HasBytes d.now.file bytes → (HasState asked plan bytes → ⊥) →
+      Grows before now (λ J. (J ≡ []) × IsRefusal status)
+
+-- in a crash once a run did this, FILE with these bytes can be gone on from: a start reads them as a checkpoint after the first whole
+-- lines that came in, and what these call for had gone out, and nothing else, when it was brought to the disk
 pub record IsRecovered (t : Task) (K : List Entry) (bytes : List ℕ) : Type 0 where
   pub taken : List (List ℕ)
   pub came : AreFront taken (whole (ins K))
-  pub starts : StartsTask (task_after t taken) bytes
+  pub fine : (answers_of t).fault taken false ≡ None
+  pub starts : IsStartOf (task_after t taken) bytes
   pub front : List Entry
   pub back : List Entry
   pub are : K ≡ front ++ Did Sync ∷ back

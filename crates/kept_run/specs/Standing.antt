@@ -4,6 +4,8 @@ use Rattle.wire_lines.specs.Journal.{Entry, Did, Start, Grows, ins, outs, ended}
 use Rattle.wire_lines.specs.Cutter.{CutterState}
 use Rattle.wire_lines.specs.Lines.{whole}
 use Rattle.frozen_state.specs.Frozen.{FrozenView}
+use Rattle.checkpoint.specs.Form.{FormView}
+use Rattle.checkpoint.specs.Text.{checkpoint_lines, IsOfForm}
 use Rattle.plan_model.specs.IsPlan.{PlanParts}
 use Rattle.admission.specs.Entries.{Told}
 use Rattle.command_line.specs.Words.{Asked}
@@ -15,7 +17,7 @@ use Rattle.tempo_cli.specs.Feeding.{Holds, WantsBytes}
 use Rattle.tempo_cli.specs.Halting.{IsFormFor}
 use Rattle.tempo_cli.specs.declared.status.Status.{Status}
 use Rattle.tempo_cli.specs.declared.status.Status.TheVariants as statuses
-use Rattle.kept_run.specs.Keeping.{Task, query_of, answers_of, KeepsAfter, Keeps, due_in, Places}
+use Rattle.kept_run.specs.Keeping.{Task, query_of, answers_of, KeepsAfter, Keeps, IsTimelyAfter, due_in, Places, place_lines}
 use Rattle.kept_run.specs.declared.keeping.Keeper.{Keeper}
 use Rattle.kept_run.specs.declared.reading.KeptState.{KeptState}
 use Rattle.kept_run.specs.declared.status.KeptStatus.{KeptStatus}
@@ -49,6 +51,7 @@ pub record Under (t : Task) (every : ℕ) (k : Keeper) (J : List Entry) : Type 0
   pub at : k.kept_at ≡ (due_in t every given (length given)).punct
   pub goes_on : ended J ≡ false
   pub every_is : k.every ≡ every
+  pub timely : IsTimelyAfter t every [] J
 
 -- before a read, where so many bytes may still come
 pub record MayRead (t : Task) (every : ℕ) (k : Keeper) (left : ℕ) (J : List Entry) : Type 0 where
@@ -77,14 +80,23 @@ abbrev pub IsReadAs : Places → FrozenView → Result KeptState Status → Type
 IsReadAs places f (Ok state) = (state.frozen ≡ f) × (state.input ≡ places.input) × (state.output ≡ places.output)
 IsReadAs places f (Err status) = status ≡ statuses.Memory
 
+-- the lines begin with a checkpoint of this form
+abbrev pub BeginsWith : FormView → FrozenView → List (List ℕ) → Type 0
+BeginsWith form f lines = IsOfForm form f × AreFront (checkpoint_lines form.head f) lines
+
+-- and behind the places it is what was read
+pub record BeginsState (form : FormView) (lines : List (List ℕ)) (state : KeptState) : Type 0 where
+  pub of_form : IsOfForm form state.frozen
+  pub front : AreFront (place_lines (record { input = state.input; output = state.output }) ++ checkpoint_lines form.head state.frozen) lines
+
 -- what was frozen is read back
 abbrev pub IsFrozenAs : FrozenView → Result (FrozenView × ℕ) Status → Type 0
 IsFrozenAs f (Ok read) = read.0 ≡ f
 IsFrozenAs f (Err status) = status ≡ statuses.Memory
 
--- nothing came in or went out, and the input goes on where it did
+-- nothing came in or went out, the input goes on where it did, and there was no read
 abbrev pub SaysSame : List Entry → List Entry → Type 0
-SaysSame J K = (ins K ≡ ins J) × (outs K ≡ outs J) × (ended K ≡ ended J)
+SaysSame J K = (ins K ≡ ins J) × (outs K ≡ outs J) × (ended K ≡ ended J) × ((t : Task) (every : ℕ) → IsTimelyAfter t every [] J → IsTimelyAfter t every [] K)
 
 -- it is as it was, but for its last checkpoint
 abbrev pub IsAsBefore : Keeper → Keeper → Type 0

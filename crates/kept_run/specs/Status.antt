@@ -63,6 +63,17 @@ abbrev pub IsKeptAsked : KeptStatus → Type 0
 IsKeptAsked (Ended status) = IsAsked status
 IsKeptAsked CheckpointFailed = Unit {0}
 
+-- FILE was refused, or memory was wanting before that was known
+abbrev pub IsRefused : Status → Type 0
+IsRefused (statuses.BadCheckpoint line) = Unit {0}
+IsRefused statuses.Memory = Unit {0}
+IsRefused status = ⊥
+
+-- or FILE could not be read
+abbrev pub IsRefusal : KeptStatus → Type 0
+IsRefusal (Ended status) = IsRefused status
+IsRefusal CheckpointFailed = Unit {0}
+
 -- it ended, and its status tells of no wire
 abbrev pub IsEndedOwn : KeptStatus → Type 0
 IsEndedOwn (Ended status) = IsOwn status

@@ -10,10 +10,7 @@ mod starting;
 mod status;
 
 pub use keeping::Keeper;
-pub use laws::every_crash_is_recovered;
+pub use laws::{every_crash_is_recovered, every_line_counts_once, what_is_kept_is_read_back};
 pub use reading::KeptState;
 pub use running::run_kept;
 pub use status::KeptStatus;
-
-#[cfg(test)]
-mod tests;

@@ -1,12 +1,13 @@
 // FILE read back.
-ghost use Rattle.std.specs.Prelude.{◌≡◌, ◌<◌, ◌∷◌, ◌++◌, [], ℕ, List, length, IfSome, IfNone, IfErr};
+ghost use Rattle.std.specs.Prelude.{◌≡◌, ◌<◌, ◌∷◌, ◌++◌, [], ℕ, List, length, IfSome, IfNone, IfOk, IfErr};
 ghost use Rattle.wire_lines.specs.Lines.{whole};
 ghost use Rattle.frozen_state.specs.Forms.{AreApart};
 ghost use Rattle.frozen_state.specs.Frozen.{FrozenView};
 ghost use Rattle.checkpoint.specs.Text.{checkpoint_lines, IsOfForm};
 ghost use Rattle.tempo_cli.specs.Feeding.{IsOwn};
 ghost use Rattle.kept_run.specs.Keeping.{Places, AreLow, place_lines};
-ghost use Rattle.kept_run.specs.Standing.{IsReadAs, IsFrozenAs};
+ghost use Rattle.kept_run.specs.Standing.{IsReadAs, IsFrozenAs, BeginsWith, BeginsState};
+ghost use Rattle.kept_run.specs.Status.{IsRefused};
 
 use checkpoint::{Form, Reader};
 use checkpoint_lines::{read_input_line, read_output_line};
@@ -42,7 +43,9 @@ fn read_frozen(alloc: Global, form: Form, bytes: &[u8]) -> Result<(Frozen, u64),
     requires { AreApart form.parts }
     ensures read { (f : FrozenView) → IsOfForm form f →
         whole bytes.now ≡ checkpoint_lines form.head f → IsFrozenAs f result }
+    ensures begins { IfOk result (λ p. BeginsWith form p.0 (whole bytes.now)) }
     ensures own { IfErr result IsOwn }
+    ensures refused { IfErr result IsRefused }
 {
     let mut reader = Reader::new(alloc, form)?;
     reader.goes_on();
@@ -67,7 +70,9 @@ pub(crate) fn read_state(alloc: Global, form: Form, bytes: &[u8]) -> Result<Kept
     ensures read { (places : Places) (f : FrozenView) → IsOfForm form f → AreLow places →
         whole bytes.now ≡ place_lines places ++ checkpoint_lines form.head f →
         IsReadAs places f result }
+    ensures begins { IfOk result (BeginsState form (whole bytes.now)) }
     ensures own { IfErr result IsOwn }
+    ensures refused { IfErr result IsRefused }
 {
     let Some((first, rest)) = first_line(bytes) else {
         return Err(Status::BadCheckpoint { line: 1 });

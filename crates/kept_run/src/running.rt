@@ -1,15 +1,13 @@
 // The whole run.
-ghost use Rattle.std.specs.Prelude.{◌≡◌, ◌⊎◌, ℕ, List, [], Some};
+ghost use Rattle.std.specs.Prelude.{◌≡◌, ◌⊎◌, [], List};
 ghost use Rattle.wire_lines.specs.Journal.{Grows};
 ghost use Rattle.plan_model.specs.IsPlan.{PlanParts};
 ghost use Rattle.plan_model.specs.declared.fault.QueryFault.{QueryFault as SomeFault};
 ghost use Rattle.command_line.specs.Words.{AreWithin, asked_by};
-ghost use Rattle.durable_file.specs.Calls.{Told as Disks};
 ghost use Rattle.tempo_cli.specs.Jobs.{HasPlan, HasFault, query_status};
 ghost use Rattle.admission.specs.Entries.{Told as Said};
-ghost use Rattle.durable_file.specs.Disk.{Absent};
-ghost use Rattle.kept_run.specs.Keeping.{Places, Runs, RunsFirst, HasBytes, task_from, IsStartOf};
-ghost use Rattle.kept_run.specs.Status.{kept_of, KeptCounts, IsKeptNoted, HasKeptReason, IsKeptAsked};
+ghost use Rattle.kept_run.specs.Keeping.{Places, Runs, RunsFirst, RunsByFile, task_from, IsStartOf, HasState};
+ghost use Rattle.kept_run.specs.Status.{kept_of, KeptCounts, IsKeptNoted, HasKeptReason, IsKeptAsked, IsRefusal};
 
 use crate::starting::{start_again, start_first};
 use crate::status::KeptStatus;
@@ -59,6 +57,9 @@ fn run_again<R: Threads + Sync, W: KeptWire, G: Gate>(
     ensures runs { (before : List Said) (start : Places) →
         let t = task_from (asked_by asked.now) plan before start in IsStartOf t bytes.now →
         Grows (W.journal wire.old) (W.journal wire.new) (Runs t every (kept_of result)) }
+    ensures refused { (HasState (asked_by asked.now) plan bytes.now → ⊥) →
+        Grows (W.journal wire.old) (W.journal wire.new)
+        (λ J. (J ≡ []) × IsRefusal (kept_of result)) }
     ensures asked { IsKeptAsked (kept_of result) }
     ensures counts { KeptCounts (W.read_faults wire.old) (W.read_faults wire.new)
         (W.write_faults wire.old) (W.write_faults wire.new) (kept_of result) }
@@ -78,13 +79,8 @@ fn run_plan<R: Threads + Sync, W: KeptWire, G: Gate>(
     gate: &G,
 ) -> Result<(), KeptStatus>
     requires within { AreWithin (asked_by asked.now) }
-    ensures first { (d : Disks) → W.told wire.old ≡ Some d → d.now.file ≡ Absent →
-        Grows (W.journal wire.old) (W.journal wire.new)
-        (RunsFirst (asked_by asked.now) plan every (kept_of result)) }
-    ensures again { (d : Disks) → W.told wire.old ≡ Some d → (bytes : List ℕ) →
-        HasBytes d.now.file bytes → (before : List Said) (start : Places) →
-        let t = task_from (asked_by asked.now) plan before start in IsStartOf t bytes →
-        Grows (W.journal wire.old) (W.journal wire.new) (Runs t every (kept_of result)) }
+    ensures does { RunsByFile (asked_by asked.now) plan every (W.told wire.old) (kept_of result)
+        (W.journal wire.old) (W.journal wire.new) }
     ensures asked { IsKeptAsked (kept_of result) }
     ensures counts { KeptCounts (W.read_faults wire.old) (W.read_faults wire.new)
         (W.write_faults wire.old) (W.write_faults wire.new) (kept_of result) }
@@ -108,15 +104,9 @@ fn perform<R: Threads + Sync, W: KeptWire, G: Gate>(
 ) -> KeptStatus
     requires within { AreWithin (asked_by asked.now) }
     ensures reason { HasKeptReason asked.now.query.now result }
-    ensures first { (plan : PlanParts) → HasPlan asked.now.query.now plan →
-        (d : Disks) → W.told wire.old ≡ Some d → d.now.file ≡ Absent →
-        Grows (W.journal wire.old) (W.journal wire.new)
-        (RunsFirst (asked_by asked.now) plan every result) }
-    ensures again { (plan : PlanParts) → HasPlan asked.now.query.now plan →
-        (d : Disks) → W.told wire.old ≡ Some d → (bytes : List ℕ) → HasBytes d.now.file bytes →
-        (before : List Said) (start : Places) →
-        let t = task_from (asked_by asked.now) plan before start in IsStartOf t bytes →
-        Grows (W.journal wire.old) (W.journal wire.new) (Runs t every result) }
+    ensures does { (plan : PlanParts) → HasPlan asked.now.query.now plan →
+        RunsByFile (asked_by asked.now) plan every (W.told wire.old) result
+        (W.journal wire.old) (W.journal wire.new) }
     ensures unplanned { (fault : SomeFault) → HasFault asked.now.query.now fault →
         Grows (W.journal wire.old) (W.journal wire.new) (λ J. (J ≡ [])
         × ((result ≡ KeptStatus.Ended (Status.BadQuery fault))
@@ -149,7 +139,7 @@ fn note_kept<N: Wire>(notes: &mut N, status: &KeptStatus)
 
 /// A run that keeps checkpoints of what is asked for, in FILE of the wire: at its start, at the first punctuation that is `every`
 /// or more after that of the checkpoint before, and at the end of the input, which is none for the query: a last line that no LF
-/// ends is not taken. Where FILE has a checkpoint the run goes on from it.
+/// ends is not taken. Where FILE has a checkpoint the run goes on from it, and a FILE that has none of what is asked for is refused.
 ///
 /// The clauses on bytes hold where the wire tells its journal and its disk; over the system's files no contract can say what came
 /// or went, or what a disk has.
@@ -165,16 +155,10 @@ pub fn run_kept<R: Threads + Sync, W: KeptWire, N: Wire, G: Gate>(
     requires within { AreWithin (asked_by asked.now) }
     ensures reason { HasKeptReason asked.now.query.now result }
 
-    // What came in, went out, was brought to the disk and kept: without FILE, and from a checkpoint in FILE.
-    ensures first { (plan : PlanParts) → HasPlan asked.now.query.now plan →
-        (d : Disks) → W.told wire.old ≡ Some d → d.now.file ≡ Absent →
-        Grows (W.journal wire.old) (W.journal wire.new)
-        (RunsFirst (asked_by asked.now) plan every result) }
-    ensures again { (plan : PlanParts) → HasPlan asked.now.query.now plan →
-        (d : Disks) → W.told wire.old ≡ Some d → (bytes : List ℕ) → HasBytes d.now.file bytes →
-        (before : List Said) (start : Places) →
-        let t = task_from (asked_by asked.now) plan before start in IsStartOf t bytes →
-        Grows (W.journal wire.old) (W.journal wire.new) (Runs t every result) }
+    // What came in, went out, was brought to the disk and kept, by what FILE has.
+    ensures does { (plan : PlanParts) → HasPlan asked.now.query.now plan →
+        RunsByFile (asked_by asked.now) plan every (W.told wire.old) result
+        (W.journal wire.old) (W.journal wire.new) }
     ensures unplanned { (fault : SomeFault) → HasFault asked.now.query.now fault →
         Grows (W.journal wire.old) (W.journal wire.new) (λ J. (J ≡ [])
         × ((result ≡ KeptStatus.Ended (Status.BadQuery fault))

@@ -3,9 +3,10 @@ ghost use Rattle.std.specs.Prelude.{◌≡◌, ◌&&◌, nat_eq, [], ℕ, List, 
 ghost use Rattle.wire_lines.specs.Journal.{Grows};
 ghost use Rattle.command_line.specs.Words.{AreWithin, asked_by};
 ghost use Rattle.admission.specs.Entries.{Told};
-ghost use Rattle.kept_run.specs.Keeping.{Places, first_task, task_from, IsStartOf};
+ghost use Rattle.tempo_engine.specs.Frozen.{IsState};
+ghost use Rattle.kept_run.specs.Keeping.{Places, first_task, task_from, IsStartOf, HasState};
 ghost use Rattle.kept_run.specs.Standing.{StartsWith, IsWanting, HasThawed, IsFresh};
-ghost use Rattle.kept_run.specs.Status.{KeptCounts, StaysCounted, IsKeptAsked, IsEndedOwn};
+ghost use Rattle.kept_run.specs.Status.{KeptCounts, StaysCounted, IsKeptAsked, IsEndedOwn, IsRefusal};
 
 use crate::keeping::Keeper;
 use crate::reading::{KeptState, read_state};
@@ -73,8 +74,10 @@ fn thawed(
     requires within { AreWithin (asked_by asked.now) }
     ensures fresh { IfOk result (IsFresh (asked_by asked.now)) }
     ensures thaws { HasThawed (asked_by asked.now) plan state.input state.frozen result }
+    ensures state { OnOk result (IsState (asked_by asked.now).workers plan state.frozen) }
     ensures asked { IfErr result IsKeptAsked }
     ensures own { IfErr result IsEndedOwn }
+    ensures refusal { IfErr result IsRefusal }
 {
     // Its call tells the proof that an engine can be made of what was frozen.
     what_fits_is_a_state();
@@ -115,6 +118,8 @@ pub(crate) fn start_again<W: KeptWire>(
     ensures wanting { IfErr result (λ status. (before : List Told) (start : Places) →
         IsStartOf (task_from (asked_by asked.now) plan before start) bytes.now →
         IsWanting status) }
+    ensures state { OnOk result (HasState (asked_by asked.now) plan bytes.now) }
+    ensures refusal { IfErr result IsRefusal }
     ensures asked { IfErr result IsKeptAsked }
     ensures counted { OnOk result (StaysCounted (W.read_faults wire.old) (W.read_faults wire.new)
         (W.write_faults wire.old) (W.write_faults wire.new)) }

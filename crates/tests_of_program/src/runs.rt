@@ -13,11 +13,12 @@ const FILTER: &str = "stream s(k text, v int); s | where v > 10";
 
 const TWO_INTERVALS: &[u8] = b"s,interval,1,5,a,12\ns,interval,2,4,b,7\n";
 
-const HOP: &str = "stream s(k text, v int); s | hop 20 10";
+pub(crate) const HOP: &str = "stream s(k text, v int); s | hop 20 10";
 
-const CLOSING: &[u8] = b"s,interval,15,16,a,1\n*,punct,17\n";
+pub(crate) const CLOSING: &[u8] = b"s,interval,15,16,a,1\n*,punct,17\n";
 
-const CLOSED: &str = "*,punct,10\nout,start,10,inf,a,1\nout,end,30,10,a,1\n*,punct,inf\n";
+pub(crate) const CLOSED: &str =
+    "*,punct,10\nout,start,10,inf,a,1\nout,end,30,10,a,1\n*,punct,inf\n";
 
 /// What a run is given: its words, and an input that comes in pieces of `step` bytes; the call of number `failing` fails.
 #[derive(Clone, Copy)]

@@ -1,8 +1,6 @@
 -- The lines that were taken, and those that are left, are all lines.
 use Rattle.std.proofs.Common.{◌≡◌, ◌++◌, length}
 use Rattle.wire_lines.specs.Lines.{whole}
-use Rattle.frozen_state.specs.Frozen.{FrozenView}
-use Rattle.checkpoint.specs.Text.{checkpoint_lines, IsOfForm}
 use Rattle.checkpoint.specs.Taking.{lines_taken}
 use Rattle.checkpoint.specs.declared.reading.Stage.TheVariants.{Ended}
 use Rattle.kept_run.proofs.reading.read_frozen.Given as goal
@@ -11,7 +9,7 @@ abbrev pub invariant-lines : goal.invariant-lines
 invariant-lines l =
     (l.reader.form ≡ l.fn.form)
     × (l.reader.stage ≡ Ended → ⊥)
-    × ((f : FrozenView) → IsOfForm l.fn.form f → whole l.fn.bytes ≡ checkpoint_lines l.fn.form.head f → checkpoint_lines l.fn.form.head f ≡ lines_taken l.reader ++ whole l.rest)
+    × (whole l.fn.bytes ≡ lines_taken l.reader ++ whole l.rest)
 
 abbrev pub decreases-lines : goal.decreases-lines
 decreases-lines l = length l.rest

@@ -5,7 +5,7 @@ use Rattle.frozen_state.proofs.Names.{parts_apart}
 use Rattle.frozen_state.specs.Forms.{AreApart}
 use Rattle.checkpoint.specs.Form.{FormView}
 use Rattle.kept_run.specs.Keeping.{task_from}
-use Rattle.kept_run.proofs.Starts.{is_for_words, begun, read_as, again_holds, again_wants, unread_wants, starts_again}
+use Rattle.kept_run.proofs.Starts.{is_for_words, begun, read_as, again_holds, again_wants, unread_wants, starts_again, has_state}
 use Rattle.kept_run.proofs.starting.start_again.Goals as goal
 
 pub returns-clause-starts : goal.returns-clause-starts
@@ -28,3 +28,6 @@ returns-in_err-answering-clause-wanting g c = let p = err_from_is_err_and c.from
 
 pub read_state-requires : goal.read_state-requires
 read_state-requires g c = subst (λ (x : FormView). AreApart x.parts) (sym c.in_ok-read_form.ensures) (parts_apart (asked_by c.args.asked.now).workers c.args.plan)
+
+pub returns-clause-state : goal.returns-clause-state
+returns-clause-state g c = has_state (asked_by c.args.asked.now) c.args.plan c.args.bytes.now _ c.in_ok-state.state c.in_ok-read_form.ensures c.in_ok-state.ensures.begins c.in_ok-answering.ensures.state

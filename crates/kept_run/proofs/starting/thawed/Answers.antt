@@ -3,7 +3,7 @@ use Rattle.wire_lines.specs.Cutter.{CutterState}
 use Rattle.command_line.specs.Words.{asked_by}
 use Rattle.tempo_cli.proofs.Journals.{limit-is}
 use Rattle.kept_run.specs.Keeping.{task_from}
-use Rattle.kept_run.proofs.Starts.{thaw_holds, fits_options, fed_options}
+use Rattle.kept_run.proofs.Starts.{thaw_holds, fits_options, fed_options, state_options}
 use Rattle.kept_run.proofs.starting.thawed.Goals as goal
 
 pub returns-in-Ok-clause-thaws : goal.returns-in-Ok-clause-thaws
@@ -15,3 +15,6 @@ returns-in-Ok-clause-thaws c = λ before fits low output.
 pub returns-in-Err-NotState-clause-thaws : goal.returns-in-Err-NotState-clause-thaws
 returns-in-Err-NotState-clause-thaws c = λ before fits.
     absurd (c.in-Err-NotState.ensures.refused c.in-Err-NotState.field-0-is (c.what_fits_is_a_state.ensures _ _ _ before _ (fits_options c.options_of.ensures before fits)))
+
+pub returns-in-Ok-clause-state : goal.returns-in-Ok-clause-state
+returns-in-Ok-clause-state c = state_options c.options_of.ensures c.in-Ok.ensures.state

@@ -62,4 +62,4 @@ returns-in_err-take_lines-clause-ends g c =
     let short : length taken.piece ≤ 65536 = omega (arith, n, c.in_ok-count.ensures.bound, c.piece.ensures) in
     let p = err_from_is_err_and c.from_residual-in_err-take_lines.result c.from_residual-in_err-take_lines.ensures.1 in rw (p.1, p.2)
     (λ t every J m. reads_end J taken.piece (c.reads.invariant.2 t every J m) taken.told c.reads.invariant.0 (c.in_ok-count.ensures.open.0, refl, refl, refl, refl, refl)
-        (taken.holds (query_of t)) _ c.in_ok-count.count n some short few c.in_err-take_lines.ensures.err)
+    (taken.holds (query_of t)) _ c.in_ok-count.count n some short few c.in_err-take_lines.ensures.err)

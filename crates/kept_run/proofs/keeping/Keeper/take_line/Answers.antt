@@ -31,8 +31,8 @@ returns-in_err-take_checkpoint-in-Out-clause-err g c =
     let l : Keeper = record c.args.self.now { answering = c.next_step.new.self; output = c.saturating_add-self.result } in
     let p = err_from_is_err_and c.from_residual-in_err-take_checkpoint-in-Out.result c.from_residual-in_err-take_checkpoint-in-Out.ensures.1 in rw (p.1, p.2)
     (line_failed {l = l} c.is_due.result _ (λ t every J u. Grows-weaker c.in_ok-send-in-Out.ensures.ok (λ O s.
-        let comes = c.in-Out.ensures.comes _ _ u.given u.stands.holds u.stands.few in
-        after_line u l O c.in-Out.out.items comes.0 comes.1 comes.2 (subst (λ b. SentAll b O) c.deref.ensures.value s) c.in-Out.ensures.open.0 refl refl refl (omega (arith, c.saturating_add-self.ensures, c.len.ensures)) refl))
+    let comes = c.in-Out.ensures.comes _ _ u.given u.stands.holds u.stands.few in
+    after_line u l O c.in-Out.out.items comes.0 comes.1 comes.2 (subst (λ b. SentAll b O) c.deref.ensures.value s) c.in-Out.ensures.open.0 refl refl refl (omega (arith, c.saturating_add-self.ensures, c.len.ensures)) refl))
     c.is_due.ensures c.if-is_due.true c.in_err-take_checkpoint-in-Out.ensures.wanting c.in_err-take_checkpoint-in-Out.ensures.err)
 
 pub returns-after-is_due-clause-ok : goal.returns-after-is_due-clause-ok
@@ -40,11 +40,11 @@ returns-after-is_due-clause-ok g c =
     let l : Keeper = record c.args.self.now { answering = c.next_step.new.self; output = c.saturating_add-self.result } in
     elim c.if-is_due.branch [
       | then-is_due+in_ok-take_checkpoint-in-Out w ↦ rw (w.self-is, w.wire-is) (line_kept {l = l} c.is_due.result (λ t every J u. Grows-weaker c.in_ok-send-in-Out.ensures.ok (λ O s.
-            let comes = c.in-Out.ensures.comes _ _ u.given u.stands.holds u.stands.few in
-            after_line u l O c.in-Out.out.items comes.0 comes.1 comes.2 (subst (λ b. SentAll b O) c.deref.ensures.value s) c.in-Out.ensures.open.0 refl refl refl (omega (arith, c.saturating_add-self.ensures, c.len.ensures)) refl))
+          let comes = c.in-Out.ensures.comes _ _ u.given u.stands.holds u.stands.few in
+          after_line u l O c.in-Out.out.items comes.0 comes.1 comes.2 (subst (λ b. SentAll b O) c.deref.ensures.value s) c.in-Out.ensures.open.0 refl refl refl (omega (arith, c.saturating_add-self.ensures, c.len.ensures)) refl))
           c.is_due.ensures w.if-is_due.true w.in_ok-take_checkpoint-in-Out.ensures.same.2 w.in_ok-take_checkpoint-in-Out.ensures.at w.in_ok-take_checkpoint-in-Out.ensures.ok)
       | else-is_due w ↦ rw (w.self-is, w.wire-is) (line_not_due {l = l} c.is_due.result (λ t every J u. Grows-weaker c.in_ok-send-in-Out.ensures.ok (λ O s.
-            let comes = c.in-Out.ensures.comes _ _ u.given u.stands.holds u.stands.few in
-            after_line u l O c.in-Out.out.items comes.0 comes.1 comes.2 (subst (λ b. SentAll b O) c.deref.ensures.value s) c.in-Out.ensures.open.0 refl refl refl (omega (arith, c.saturating_add-self.ensures, c.len.ensures)) refl))
+          let comes = c.in-Out.ensures.comes _ _ u.given u.stands.holds u.stands.few in
+          after_line u l O c.in-Out.out.items comes.0 comes.1 comes.2 (subst (λ b. SentAll b O) c.deref.ensures.value s) c.in-Out.ensures.open.0 refl refl refl (omega (arith, c.saturating_add-self.ensures, c.len.ensures)) refl))
           c.is_due.ensures w.if-is_due.false)
     ]
