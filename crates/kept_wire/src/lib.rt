@@ -8,6 +8,3 @@ mod wire;
 pub use files::FileWire;
 pub use memory::MemoryFileWire;
 pub use wire::KeptWire;
-
-#[cfg(test)]
-mod tests;

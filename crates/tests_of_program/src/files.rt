@@ -1,17 +1,18 @@
-use crate::{FileWire, KeptWire, MemoryFileWire};
-use durable_file::{FolderMedium, MemoryMedium};
+// A wire over files, which a second one goes on with.
+use durable_file::FolderMedium;
+use kept_wire::{FileWire, KeptWire};
 use std::alloc::AllocError;
 use std::fs;
 use std::test::Fail;
 use wire_lines::{Wire, send};
 
-const FOLDER: &str = "kept_wire_test";
+const FOLDER: &str = "tests_of_program_files";
 
-const INPUT: &str = "kept_wire_test/input";
+const INPUT: &str = "tests_of_program_files/input";
 
-const OUTPUT: &str = "kept_wire_test/output";
+const OUTPUT: &str = "tests_of_program_files/output";
 
-const STATE: &str = "kept_wire_test/state";
+const STATE: &str = "tests_of_program_files/state";
 
 /// A wire over the files, with no byte in its streams.
 fn over_files(
@@ -49,33 +50,5 @@ fn files_are_gone_on_with(rt: HostRuntime) -> Result<(), Fail> {
     assert!(rt; send(&mut next, b"w").is_ok());
     assert_eq!(rt; fs::read(&rt, OUTPUT)?.as_slice(), b"beforexyw".as_slice());
     fs::remove_dir_all(&rt, FOLDER)?;
-    Ok(())
-}
-
-#[test]
-fn a_crash_leaves_what_was_synced(rt: HostRuntime) -> Result<(), Fail> {
-    let alloc = rt.alloc();
-    // How many reads, writes, starts and syncs go on, how many bytes more than those kept are left, and what the output has then.
-    for (calls, more, left) in [
-        (0, 9, "old"),
-        (2, 0, "old"),
-        (2, 1, "olda"),
-        (3, 0, "oldab"),
-        (4, 1, "oldabc"),
-        (9, 0, "oldab"),
-    ] {
-        let medium = MemoryMedium::new(alloc, None, u64::MAX);
-        let input = b"in".to_vec(alloc)?;
-        let mut wire = MemoryFileWire::new(alloc, input, 1, b"old".to_vec(alloc)?, medium, calls);
-        let ended = wire.start_new().is_ok()
-            && send(&mut wire, b"ab").is_ok()
-            && wire.sync_output().is_ok()
-            && send(&mut wire, b"cd").is_ok();
-        assert_eq!(rt; ended, calls >= 4);
-        let Some(crashed) = wire.crash(0, Vec::new(alloc), more) else {
-            return Err(Fail::new("a crash leaves FILE as it is"));
-        };
-        assert_eq!(rt; crashed.output(), left.as_bytes());
-    }
     Ok(())
 }
