@@ -8,9 +8,9 @@ in a group: the seconds of the processor that a frozen run takes beyond a run ov
 begin, each wanted below 0.5 s, and the memory beside that of the run, wanted at most 3 times; and the bytes of an entry, wanted
 at most 120. (Both runs end at a line that is refused, so the end of the input costs nothing.) Then what a restart takes behind
 LINES trades (3,000,000): from a checkpoint, wanted below 1 s, and from the first line on.
-Then with --checkpoint, over files in a new folder below FOLDER (that of temporary files; its disk is what is measured): how long
-the run stands still for a checkpoint with ROWS rows alive, wanted below 50 ms by the clock; and how long a run over the trades
-takes in which none is due, beside one without, wanted at most 1.01 times the processor.
+Then with --checkpoint, over files in a new folder below FOLDER (that of temporary files): what a checkpoint with ROWS rows alive
+takes of the processor, wanted below 50 ms, and how long it holds the run up by the clock, which the disk has a part in; and what
+a run over the trades takes in which none is due, beside one without, wanted at most 1.01 times the processor.
 Ends with status 1 where a run that was cut in two, or that kept checkpoints, writes other bytes than one run.
 """
 import subprocess
@@ -143,7 +143,7 @@ def kept(read, folder, query, lines, every):
 
 
 def measure_pause(read, name, folder):
-    """Prints how long a checkpoint with many rows alive holds a run up, and returns whether it wrote the bytes of one run."""
+    """Prints what a checkpoint with many rows alive takes, and returns whether the run wrote the bytes of one run."""
     query, kind = HELD[name]
     lines = folder / "lines"
     write_held(lines, read.rows, kind)
@@ -151,10 +151,11 @@ def measure_pause(read, name, folder):
         out.writelines(f"*,punct,{read.rows + 1 + i}\n" for i in range(PAUSES))
     # (Due at each of the last punctuations, or at none.)
     runs = [[kept(read, folder, query, lines, every) for _ in range(ROUNDS)] for every in (1, NEVER)]
-    each, none = (min(run.wall for run, _ in of) for of in runs)
-    # (Without --every one is due at the punctuation behind the rows too.)
-    pause = (each - none) / (PAUSES + 1)
-    print(f"{read.rows} rows alive, {name}: a checkpoint holds the run up for {1000 * pause:.0f} ms {told(pause, PAUSE)}", flush=True)
+    # (With --every 1 one is due at the punctuation behind the rows too.)
+    processor, wall = ((min(each) - min(none)) / (PAUSES + 1) for each, none in (
+        [[run.processor for run, _ in of] for of in runs], [[run.wall for run, _ in of] for of in runs]))
+    print(f"{read.rows} rows alive, {name}: a checkpoint takes {1000 * processor:.0f} ms of the processor {told(processor, PAUSE)}, "
+          f"and holds the run up for {1000 * wall:.0f} ms", flush=True)
     text, _ = parted(written([read.program, "--query", query, "--mode", "freeze"], [lines]))
     same = all(out == text for of in runs for _, out in of)
     print("" if same else f"    {name}: OTHER BYTES than one run\n", end="")

@@ -1,7 +1,9 @@
 """What the recipe parts asks of Redis: the stream lines:N has the lines of part N, numbered from 1 on.
 
-usage: parts.py feed PORT < NUMBERED_LINES | parts.py read PORT PART
+usage: parts.py feed PORT < NUMBERED_LINES | parts.py read PORT PART PLACES
 """
+import os
+import re
 import sys
 
 import redis
@@ -26,14 +28,31 @@ def feed(port):
     sys.exit("parts: the lines ended, and a file that is followed has no end")
 
 
-def read(port, part):
-    """Writes all lines of a part from the first one on, and goes on as they come."""
-    server, last = redis.Redis("127.0.0.1", port), "0"
+def place_of(places, taken):
+    """The last entry in the file of places behind which there are at most so many bytes, and how many these are."""
+    last, count = "0", 0
+    if os.path.exists(places):
+        # (A line that a crash cut short has no full stop.)
+        for entry, number in re.findall(r"^at (\d+-\d+) (\d+) \.$", open(places, errors="replace").read(), re.M):
+            if int(number) <= taken:
+                last, count = entry, int(number)
+    return last, count
+
+
+def read(port, part, places):
+    """Writes the lines of a part from the byte $FROM of them on, and goes on as they come. Of each answer of the server a line in
+    the file of places says how far it goes."""
+    server, taken = redis.Redis("127.0.0.1", port), int(os.environ.get("FROM", 0))
+    last, count = place_of(places, taken)
     while True:
         for _, entries in server.xread({f"lines:{part}": last}, count=1000, block=1000):
-            sys.stdout.buffer.write(b"".join(fields[b"line"] + b"\n" for _, fields in entries))
+            for entry, fields in entries:
+                if count >= taken:
+                    sys.stdout.buffer.write(fields[b"line"] + b"\n")
+                last, count = entry.decode(), count + len(fields[b"line"]) + 1
             sys.stdout.buffer.flush()
-            last = entries[-1][0]
+            with open(places, "a") as told:
+                told.write(f"at {last} {count} .\n")
 
 
 if __name__ == "__main__":
@@ -41,7 +60,7 @@ if __name__ == "__main__":
         if sys.argv[1] == "feed":
             feed(int(sys.argv[2]))
         else:
-            read(int(sys.argv[2]), sys.argv[3])
+            read(int(sys.argv[2]), *sys.argv[3:])
     except redis.RedisError as fault:
         sys.exit(f"parts: {fault}")
     except BrokenPipeError:

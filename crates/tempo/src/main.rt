@@ -3,7 +3,7 @@
 
 ghost use Rattle.std.specs.Prelude.{◌≡◌, IfOk, map};
 
-use command_line::{Keeping, read_words};
+use command_line::{Keeping, WordsFault, read_words};
 use durable_file::FolderMedium;
 use kept_run::run_kept;
 use kept_wire::FileWire;
@@ -66,7 +66,11 @@ fn main(rt: HostRuntime) -> ExitCode {
     let Ok(texts) = as_texts(alloc, &words) else {
         return out_of_memory(&mut notes);
     };
-    if let Ok(asked) = read_words(alloc, &texts)
+    let asked = match read_words(alloc, &texts) {
+        Err(WordsFault::Memory) => return out_of_memory(&mut notes),
+        asked => asked,
+    };
+    if let Ok(asked) = asked
         && let Some(keeping) = asked.keeping
     {
         // A standard stream that was closed leaves its descriptor to the next file: none of the run's is to be that one.

@@ -6,6 +6,8 @@ mod bad_lines;
 #[cfg(test)]
 mod engines;
 #[cfg(test)]
+mod files;
+#[cfg(test)]
 mod modes;
 #[cfg(test)]
 mod rows;
