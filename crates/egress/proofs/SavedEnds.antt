@@ -2,24 +2,24 @@
 use Rattle.std.specs.Prelude.{◌≡◌, ℕ, zero, suc, ◌+◌, ◌-◌, ◌<◌, ◌≤◌, nat_lt, Bool, true, false, cond, Option, Some, None, List, [], ◌∷◌, ◌++◌, map, length, All, refl}
 use Rattle.std.specs.declared.collections.VecDeque.{VecDeque}
 use Rattle.std.specs.List.Sorted.{IsNonDecreasingBy}
-use Rattle.std.specs.Map.{lookup}
+use Rattle.std.specs.List.{AllByRecursion, IsDistinct}
+use Rattle.std.specs.Map.{lookup, keys_of}
 use Rattle.std.specs.Option.{option_to_list}
-use Rattle.std.proofs.Common.{sym, ◌∙◌, ap, subst, arith, take, drop}
+use Rattle.std.proofs.Common.{sym, ◌∙◌, ap, subst, arith, take, drop, get_or}
 use Rattle.std.proofs.lemmas.Bool.Decides.{nat_tests}
-use Rattle.std.proofs.lemmas.List.{append-nil, append_assoc, map-append, length-drop, take-append-drop}
+use Rattle.std.proofs.lemmas.List.{append-nil, append_assoc, map-append, length-drop, take-append-drop, take_more}
 use Rattle.std.proofs.lemmas.List.Elements.{All-nil, All-cons, All-head, All-tail, All-append, All-get_or}
 use Rattle.std.proofs.lemmas.List.Sorted.{IsNonDecreasingBy-push}
 use Rattle.std.proofs.lemmas.Grind.{flat_map-append}
-use Rattle.indexmap.specs.IndexMap.{get, IndexMap}
 use Rattle.tw_rows.proofs.Bags.{total-append}
 use Rattle.tw_rows.specs.Instant.{inf}
-use Rattle.tw_rows.specs.SameCells.{same_cells, cells_are_same, same_itself}
+use Rattle.tw_rows.specs.SameCells.{same_cells, cells_are_same, same_itself, same_cells_equiv}
 use Rattle.tw_rows.specs.declared.cells.Datum.{Datum}
 use Rattle.tw_rows.specs.declared.edge.Edge.{Edge}
 use Rattle.edge_stream.specs.declared.saved.SavedEntry.{SavedEntry}
 use Rattle.edge_history.specs.Order.{failing}
 use Rattle.edge_history.proofs.Sums.{failing-append, failing-parts}
-use Rattle.row_queues.specs.Kept.{times_if, since_at}
+use Rattle.row_queues.specs.Kept.{times_if}
 use Rattle.egress.specs.Kept.{OpensPass}
 use Rattle.egress.specs.Saving.{entries_of, starts_of, end_of, ends_of}
 use Rattle.egress.specs.Saved.{entry_at, end_at, count_of, EndAt, Taken, TakenRest}
@@ -187,18 +187,55 @@ lookup_last test (e ∷ es) k x none own = pick (test e.0) refl none (lookup_las
     pick true f n later = absurd (cc)
     pick false f n later = ap (λ b. cond b (Some e.1) (lookup test (es ++ (k, x) ∷ []))) f ∙ later n own
 
-module _ {S H : Type 0} (m n : IndexMap (List Datum) (VecDeque ℕ S) H) (k : List Datum) (d : VecDeque ℕ S)
-    (entries : m.entries ≡ n.entries ++ (k, d) ∷ [])
-    (gone : (q : List Datum) → get same_cells n q ≡ cond (same_cells k q) None (get same_cells m q)) where
-  pub popped_own : d.items ≡ since_at m k
-  popped_own =
-      let none : get same_cells n k ≡ None = gone k ∙ ap (λ b. cond b None (get same_cells m k)) (same_itself k) in
-      sym (ap times_if (ap (lookup (same_cells k)) entries ∙ lookup_last (same_cells k) n.entries k d none (same_itself k)))
+-- the open starts of a row among the entries of a map
+abbrev pub times_at : {S : Type 0} → List (List Datum × VecDeque ℕ S) → List Datum → List ℕ
+times_at es c = times_if (lookup (same_cells c) es)
 
-  pub popped_others : (c : List Datum) → since_at n c ≡ cond (same_cells k c) [] (since_at m c)
-  popped_others c = ap times_if (gone c) ∙ pick (same_cells k c)
+front_all : {X : Type 0} (P : List Datum → Type 0) (fs : List (List Datum × X)) (k : List Datum) (d : X) → AllByRecursion P (keys_of (fs ++ (k, d) ∷ [])) → AllByRecursion P (keys_of fs)
+front_all P [] k d h = tt
+front_all P (f ∷ fs) k d h = (h.0, front_all P fs k d h.1)
+
+last_all : {X : Type 0} (P : List Datum → Type 0) (fs : List (List Datum × X)) (k : List Datum) (d : X) → AllByRecursion P (keys_of (fs ++ (k, d) ∷ [])) → P k
+last_all P [] k d h = h.0
+last_all P (f ∷ fs) k d h = last_all P fs k d h.1
+
+-- the keys of the entries before the last one are apart too
+pub front_apart : {X : Type 0} (fs : List (List Datum × X)) (k : List Datum) (d : X) → IsDistinct same_cells (keys_of (fs ++ (k, d) ∷ [])) → IsDistinct same_cells (keys_of fs)
+unfolding IsDistinct
+front_apart [] k d h = tt
+front_apart (f ∷ fs) k d h = (front_all (λ y. same_cells f.0 y ≡ false) fs k d h.0, front_apart fs k d h.1)
+
+-- without the last entry its row is gone, and the others are as they were
+last_gone : {X : Type 0} (fs : List (List Datum × X)) (k : List Datum) (d : X) → IsDistinct same_cells (keys_of (fs ++ (k, d) ∷ [])) → (c : List Datum) →
+    lookup (same_cells c) fs ≡ cond (same_cells k c) None (lookup (same_cells c) (fs ++ (k, d) ∷ []))
+unfolding IsDistinct
+last_gone [] k d h c = one (same_cells k c) (same_cells c k) (same_cells_equiv.symm k c)
+  where
+    one : (a b : Bool) → a ≡ b → None ≡ cond a None (cond b (Some d) None)
+    one true b e = refl
+    one false true e = absurd (cc)
+    one false false e = refl
+last_gone (f ∷ fs) k d h c = two (same_cells c f.0) refl (last_gone fs k d h.1 c)
+  where
+    two : (b : Bool) → same_cells c f.0 ≡ b → lookup (same_cells c) fs ≡ cond (same_cells k c) None (lookup (same_cells c) (fs ++ (k, d) ∷ [])) →
+        cond b (Some f.1) (lookup (same_cells c) fs) ≡ cond (same_cells k c) None (cond b (Some f.1) (lookup (same_cells c) (fs ++ (k, d) ∷ [])))
+    two true e rest =
+        let apart : same_cells f.0 k ≡ false = last_all (λ y. same_cells f.0 y ≡ false) fs k d h.0 in
+        let other : same_cells k c ≡ false = same_cells_equiv.symm k c ∙ same_cells_equiv.congr c f.0 k e ∙ apart in
+        sym (ap (λ b. cond b None (Some f.1)) other)
+    two false e rest = rest
+
+module _ {S : Type 0} (es fs : List (List Datum × VecDeque ℕ S)) (k : List Datum) (d : VecDeque ℕ S)
+    (last : es ≡ fs ++ (k, d) ∷ []) (apart : IsDistinct same_cells (keys_of (fs ++ (k, d) ∷ []))) where
+  pub last_own : d.items ≡ times_at es k
+  last_own =
+      let none : lookup (same_cells k) fs ≡ None = last_gone fs k d apart k ∙ ap (λ b. cond b None (lookup (same_cells k) (fs ++ (k, d) ∷ []))) (same_itself k) in
+      sym (ap times_if (ap (lookup (same_cells k)) last ∙ lookup_last (same_cells k) fs k d none (same_itself k)))
+
+  pub last_others : (c : List Datum) → times_at fs c ≡ cond (same_cells k c) [] (times_at es c)
+  last_others c = ap times_if (last_gone fs k d apart c) ∙ pick (same_cells k c) ∙ ap (λ (l : List (List Datum × VecDeque ℕ S)). cond (same_cells k c) [] (times_at l c)) (sym last)
     where
-      pick : (b : Bool) → times_if (cond b None (get same_cells m c)) ≡ cond b [] (since_at m c)
+      pick : (b : Bool) → times_if (cond b None (lookup (same_cells c) (fs ++ (k, d) ∷ []))) ≡ cond b [] (times_at (fs ++ (k, d) ∷ []) c)
       pick true = refl
       pick false = refl
 
@@ -219,8 +256,13 @@ first_taken None (x ∷ xs) ys e f = absurd (let a = ap length e in let b = ap l
 first_taken (Some v) xs ys e f = sym (ap (take 1) e)
 
 -- one more start of a row
-pub starts_more : (saved saved2 : List SavedEntry) (other : ℕ) (k : List Datum) (sync : ℕ) (items rest : List ℕ) (e : SavedEntry) →
-    saved2 ≡ saved ++ e ∷ [] → e ≡ entry_at other k sync → items ≡ sync ∷ rest → saved2 ++ map (entry_at other k) rest ≡ saved ++ map (entry_at other k) items
-starts_more saved saved2 other k sync items rest e is same parts =
-    ap (λ l. l ++ map (entry_at other k) rest) is ∙ append_assoc saved (e ∷ []) (map (entry_at other k) rest)
-    ∙ ap (λ x. saved ++ x ∷ map (entry_at other k) rest) same ∙ sym (ap (λ l. saved ++ map (entry_at other k) l) parts)
+pub starts_more : (other : ℕ) (cells copy : List Datum) (since : List ℕ) (i s sync : ℕ) (saved0 saved1 saved2 : List SavedEntry) → i < length since → sync ≡ get_or since i s → copy ≡ cells →
+    saved1 ≡ saved0 ++ map (entry_at other cells) (take i since) → saved2 ≡ saved1 ++ record { part = 0; sync = sync; other = other; cells = copy } ∷ [] →
+    saved2 ≡ saved0 ++ map (entry_at other cells) (take (i + 1) since)
+starts_more other cells copy since i s sync saved0 saved1 saved2 low at same so more =
+    let f : ℕ → SavedEntry = entry_at other cells in
+    more ∙ ap (λ l. l ++ record { part = 0; sync = sync; other = other; cells = copy } ∷ []) so
+    ∙ append_assoc saved0 (map f (take i since)) (record { part = 0; sync = sync; other = other; cells = copy } ∷ [])
+    ∙ ap (λ l. saved0 ++ l)
+    ((λ j. map f (take i since) ++ record { part = 0; sync = at j; other = other; cells = same j } ∷ [])
+    ∙ sym (map-append f (take i since) (get_or since i s ∷ [])) ∙ sym (ap (map f) (take_more since i s low)))

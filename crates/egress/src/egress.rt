@@ -163,10 +163,15 @@ impl Egress {
     {
         let (_, last) = Time::bounds();
         let mut saved = Saved::new(self.rows.alloc);
+        // Where no end is known no start is taken out, and no copy is made to take them from.
+        if self.waiting.is_empty() {
+            save_rest(&mut saved, &self.rows.starts, last)?;
+            return Ok(saved);
+        }
         let mut starts = copy_starts(&self.rows.starts)?;
         let mut waiting = self.waiting.copy()?;
         save_waiting(&mut saved, &mut starts, &mut waiting, last)?;
-        save_rest(&mut saved, &mut starts, last)?;
+        save_rest(&mut saved, &starts, last)?;
         Ok(saved)
     }
 

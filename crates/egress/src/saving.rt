@@ -84,30 +84,30 @@ pub(crate) fn save_waiting(
 fn save_starts(
     saved: &mut Saved,
     cells: &Cells,
-    mut since: VecDeque<Time>,
+    since: &VecDeque<Time>,
     last: Time,
 ) -> Result<(), Memory>
-    ensures { OnOk result (saved.new ≡ saved.old ++ map (entry_at last cells.now) since.items) }
+    ensures { OnOk result (saved.new ≡ saved.old ++ map (entry_at last cells.now) since.now.items) }
 {
-    'starts: while let Some(sync) = since.pop_front() {
-        let copy = cells.clone()?;
+    for i in 0..since.len() {
         saved.push(SavedEntry {
             part: 0,
-            sync,
+            sync: since[i],
             other: last,
-            cells: copy,
+            cells: cells.clone()?,
         })?;
     }
     Ok(())
 }
 
-// Adds an entry without an end for each open start.
-pub(crate) fn save_rest(saved: &mut Saved, starts: &mut Starts, last: Time) -> Result<(), Memory>
+// Adds an entry without an end for each open start, those of the row that came last first.
+pub(crate) fn save_rest(saved: &mut Saved, starts: &Starts, last: Time) -> Result<(), Memory>
     requires { last ≡ inf }
-    ensures { OnOk result (TakenRest saved.old saved.new (since_at starts.old)) }
+    ensures { OnOk result (TakenRest saved.old saved.new (since_at starts.now)) }
 {
-    'rows: while let Some((cells, since)) = starts.pop() {
-        save_starts(saved, &cells, since, last)?;
+    let mut rows = starts.iter();
+    'rows: while let Some((cells, since)) = rows.next_back() {
+        save_starts(saved, cells, since, last)?;
     }
     Ok(())
 }

@@ -1,6 +1,6 @@
 // The edges that wait until they are due.
 ghost use Rattle.std.specs.Prelude.{◌≡◌, ◌<◌, ◌≤◌, ◌+◌, ℕ, [], ◌∷◌, ◌++◌, IfOk, IfSome, IfNone};
-ghost use Rattle.std.specs.Prelude.{IsSome, is_some, if◌then◌else◌, nat_eq, cond, None, OnOk};
+ghost use Rattle.std.specs.Prelude.{true, IsSome, is_some, if◌then◌else◌, nat_eq, cond, None, OnOk};
 ghost use Rattle.std.specs.Ordering.{nat_cmp};
 ghost use Rattle.std.specs.BTreeMap.{get, btree_map_len, IsLowerBound};
 ghost use Rattle.tw_rows.specs.Instant.{inf};
@@ -97,6 +97,16 @@ impl Pending {
             at: Time::ZERO,
             at_hand: Vec::new(alloc),
             later: BTreeMap::new(alloc),
+        }
+    }
+
+    // Whether no edge waits.
+    pub(crate) fn is_empty(&self) -> bool
+        ensures { result ≡ true → (t : ℕ) → waiting_in self.now t ≡ None }
+    {
+        match first_instant(&self.later) {
+            Some(_) => false,
+            None => self.at_hand.is_empty(),
         }
     }
 

@@ -1,10 +1,20 @@
-use Rattle.std.proofs.Common.{◌∙◌, ap}
+use Rattle.std.proofs.Common.{◌∙◌, ◌++◌, ap, map, arith}
+use Rattle.std.proofs.lemmas.List.{take_all}
 use Rattle.egress.specs.Saved.{entry_at}
 use Rattle.egress.proofs.SavedEnds.{starts_more}
 use Rattle.egress.proofs.saving.save_starts.Goals as goal
 
-pub starts-preserved : goal.starts-preserved
-starts-preserved c =
-    starts_more c.starts.saved c.push.new.self c.args.last c.args.cells.now c.in-Some.sync c.starts.since.items c.pop_front.new.self.items _
-    c.in_ok-push.ensures.ok (ap (λ k. entry_at c.args.last k c.in-Some.sync) c.in_ok-copy.ensures.cases) c.in-Some.ensures.items
-    ∙ c.starts.invariant
+pub loop-i-preserved : goal.loop-i-preserved
+loop-i-preserved c =
+    let e = c.len-i-end.ensures in
+    let t = c.loop-i-test.true in
+    let k = c.args.since.now.ok in
+    starts_more c.args.last c.args.cells.now c.in_ok-clone.field-0 c.args.since.now.items c.loop-i.i c.index.result.now c.index.result.now
+    c.args.saved.now c.loop-i.saved c.push.new.self (omega (arith, e, t, k)) c.index.ensures c.in_ok-clone.ensures.cases c.loop-i.invariant c.in_ok-push.ensures.ok
+
+pub returns : goal.returns
+returns c =
+    let e = c.len-i-end.ensures in
+    let t = c.loop-i-test.false in
+    let k = c.args.since.now.ok in
+    c.loop-i.invariant ∙ ap (λ l. c.args.saved.now ++ map (entry_at c.args.last c.args.cells.now) l) (take_all c.loop-i.i c.args.since.now.items (omega (arith, e, t, k)))
