@@ -1,12 +1,12 @@
 -- How much a group keeps: keys with rows are no more than the rows.
-use Rattle.std.specs.Prelude.{◌≡◌, ℕ, suc, ◌+◌, ◌*◌, ◌≤◌, nat_lt, nat_le, Bool, true, false, cond, Option, Some, List, [], ◌∷◌, length, slice_get, refl}
+use Rattle.std.specs.Prelude.{◌≡◌, ℕ, suc, ◌+◌, ◌*◌, ◌≤◌, nat_lt, nat_le, Bool, true, false, cond, Option, Some, List, [], ◌∷◌, Vec, map, length, slice_get, refl}
 use Rattle.std.specs.List.{IsDistinct, AllByRecursion}
 use Rattle.std.specs.Map.{keys_of}
 use Rattle.std.proofs.Common.{sym, ◌∙◌, ap, subst, arith}
 use Rattle.std.proofs.Math.Nat.{mul-le-mul_left}
 use Rattle.std.proofs.lemmas.Bool.Decides.{nat_tests}
 use Rattle.std.proofs.lemmas.Map.Entries.{hash_map_get_place}
-use Rattle.indexmap.specs.IndexMap.{IndexMap, IsUnique, get}
+use Rattle.indexmap.specs.IndexMap.{IndexMap, IsUnique}
 use Rattle.tw_rows.specs.Bag.{SameBag, total}
 use Rattle.tw_rows.specs.SameCells.{same_cells, cells_are_same, same_itself, same_cells_equiv}
 use Rattle.tw_rows.specs.declared.cells.Datum.{Datum}
@@ -29,14 +29,17 @@ use Rattle.plan_model.specs.RowOps.{group_row_in}
 use Rattle.sweep_laws.specs.Grouping.{row_of_run}
 use Rattle.snapshot_agg.specs.declared.totals.Totals.{Totals}
 use Rattle.snapshot_agg.specs.Words.{key_data, tell}
-use Rattle.snapshot_agg.specs.Totaled.{IsTotalOf, Totaled, run_from, run_of}
+use Rattle.snapshot_agg.specs.Totaled.{IsTotalOf, Totaled, totals_of, run_from, run_of}
+use Rattle.synopsis.proofs.Keyed.{key_eq}
 use Rattle.snapshot_agg.proofs.Answering.{passes}
+use Rattle.snapshot_agg.proofs.Kept.{length_map}
+use Rattle.snapshot_agg.proofs.Keyed.{found_at, data_apart}
 use Rattle.snapshot_agg.proofs.Totaling.{of_key}
 
 -- ENTRIES OF A MAP
 -- what is so of the key at each place is so of all keys
-pub keys_pass : {V : Type 0} (test : List Datum → Bool) (es : List (List Datum × V)) →
-    ((i : ℕ) (k : List Datum) (v : V) → slice_get es i ≡ Some (k, v) → test k ≡ true) → failing test (keys_of es) ≡ 0
+pub keys_pass : {K V : Type 0} (test : K → Bool) (es : List (K × V)) →
+    ((i : ℕ) (k : K) (v : V) → slice_get es i ≡ Some (k, v) → test k ≡ true) → failing test (keys_of es) ≡ 0
 keys_pass test [] h = refl
 keys_pass test (e ∷ es) h =
     let z = passes (test e.0) (h 0 e.0 e.1 refl) in
@@ -89,7 +92,7 @@ some_rows aggs k (x ∷ xs) row h = above (length xs)
     above : (n : ℕ) → nat_lt 0 (suc n) ≡ true
     above n = grind (arith, nat_tests)
 
-keys_length : {V : Type 0} (es : List (List Datum × V)) → length (keys_of es) ≡ length es
+keys_length : {K V : Type 0} (es : List (K × V)) → length (keys_of es) ≡ length es
 keys_length [] = refl
 keys_length (e ∷ es) = let r = keys_length es in omega (arith, r)
 
@@ -114,13 +117,16 @@ counts_some o t aggs rs is h =
     above : (n : ℕ) → 1 ≤ n → nat_lt 0 n ≡ true
     above n low = grind (arith, nat_tests)
 
-pub few_totals : {S : Type 0} (key : List ℕ) (aggs : List Agg) (rows : List HeldRow) (totals : IndexMap (List Datum) Totals S) → IsUnique same_cells totals →
+pub few_totals : {S T : Type 0} (key : List ℕ) (aggs : List Agg) (rows : List HeldRow) (totals : IndexMap (Vec Datum S) Totals T) → IsUnique key_eq totals →
     Totaled key aggs rows totals → length totals.entries ≤ length rows
-few_totals key aggs rows totals once h =
-    let f = few_keys key rows (keys_of totals.entries) once
-    (keys_pass (has_some key rows) totals.entries (λ i k t is. counts_some (get same_cells totals k) t aggs (of_key key k rows) (hash_map_get_place same_cells_equiv totals i k t once is) (h.of_key k))) in
+few_totals {S} key aggs rows totals once h =
+    let data_of : Vec Datum S → List Datum = λ k. k.items in
+    let ks = keys_of totals.entries in
+    let p = keys_pass (λ k. has_some key rows (data_of k)) totals.entries (λ i k t is. counts_some (totals_of totals (data_of k)) t aggs (of_key key (data_of k) rows) (found_at totals i k t once is) (h.of_key (data_of k))) in
+    let f = few_keys key rows (map data_of ks) (data_apart ks once) (total-map (λ k. cond {A = ℕ} (has_some key rows k) 0 1) data_of ks ∙ p) in
+    let l = length_map data_of ks in
     let e = keys_length totals.entries in
-    omega (arith, f, e)
+    omega (arith, f, l, e)
 
 -- a row is open of an event that does not end before
 open_counts : (to : ℕ) (e : CellEvent) → total (λ x. 1) (open_of to e) ≤ cond {A = ℕ} (nat_le to e.end) 1 0

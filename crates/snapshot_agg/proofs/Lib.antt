@@ -1,5 +1,6 @@
 pub mod Kept
 pub mod Lists
+pub mod Keyed
 pub mod Totaling
 pub mod Touching
 pub mod PuttingOff

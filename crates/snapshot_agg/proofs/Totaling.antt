@@ -1,8 +1,8 @@
 -- The totals of all keys, as rows come and go, and what they tell.
-use Rattle.std.specs.Prelude.{◌≡◌, ℕ, suc, ◌+◌, ◌<◌, ◌≤◌, Bool, true, false, cond, ◌||◌, Option, Some, None, List, [], ◌∷◌, length, filter, refl}
+use Rattle.std.specs.Prelude.{◌≡◌, ℕ, suc, ◌+◌, ◌<◌, ◌≤◌, Bool, true, false, cond, ◌||◌, Option, Some, None, List, [], ◌∷◌, Vec, length, filter, refl}
 use Rattle.std.specs.List.{list_any}
 use Rattle.std.proofs.Common.{sym, ◌∙◌, ap, subst, arith}
-use Rattle.indexmap.specs.IndexMap.{IndexMap, get}
+use Rattle.indexmap.specs.IndexMap.{IndexMap}
 use Rattle.tw_rows.specs.Bag.{SameBag, total}
 use Rattle.tw_rows.specs.SameCells.{same_cells, same_cells-Decides, cells_are_same, same_itself}
 use Rattle.tw_rows.specs.declared.cells.Datum.{Datum}
@@ -21,7 +21,7 @@ use Rattle.sweep_laws.specs.Grouping.{DependsOnKey}
 use Rattle.snapshot_agg.specs.declared.totals.Totals.{Totals}
 use Rattle.snapshot_agg.specs.Words.{key_data, tell, bad}
 use Rattle.snapshot_agg.specs.States.{IsTotals, told_row}
-use Rattle.snapshot_agg.specs.Totaled.{IsTotalOf, Totaled}
+use Rattle.snapshot_agg.specs.Totaled.{AreTotalsOf, IsTotalOf, Totaled, totals_of}
 use Rattle.snapshot_agg.proofs.Kept.{totals_same, length_map}
 
 -- the laws of groups ask for these
@@ -60,10 +60,10 @@ few_of_key key k rows =
     omega (arith, a, b)
 
 -- the same rows in another order
-pub totaled_same : {S : Type 0} (key : List ℕ) (aggs : List Agg) (rows rows2 : List HeldRow) (totals : IndexMap (List Datum) Totals S) → SameBag rows rows2 →
+pub totaled_same : {S T : Type 0} (key : List ℕ) (aggs : List Agg) (rows rows2 : List HeldRow) (totals : IndexMap (Vec Datum S) Totals T) → SameBag rows rows2 →
     Totaled key aggs rows totals → Totaled key aggs rows2 totals
 totaled_same key aggs rows rows2 totals same h = record {
-  of_key = λ k. total_of_same (get same_cells totals k) aggs (of_key key k rows) (of_key key k rows2)
+  of_key = λ k. total_of_same (totals_of totals k) aggs (of_key key k rows) (of_key key k rows2)
       (SameBag-filter (has_key (key_in plain_cells key) same_cells k) (bare rows) (bare rows2) (SameBag-map (λ (r : HeldRow). r.cells) rows rows2 same)) (h.of_key k);
 }
 
@@ -92,30 +92,30 @@ module _ (key : List ℕ) (rows rows2 : List HeldRow) (cells : List Datum) (star
       pick true f = let z = ap (same_cells k) (cells_are_same q (key_data key cells) f ∙ sym is) in let y = sym (same_itself k) ∙ sym z ∙ e in absurd (cc)
       pick false f = f
 
-  module _ {S T : Type 0} (aggs : List Agg) (totals : IndexMap (List Datum) Totals S) (totals2 : IndexMap (List Datum) Totals T) (k : List Datum) (is : k ≡ key_data key cells) where
-    pub totaled_added : Totaled key aggs rows totals → ((q : List Datum) → same_cells k q ≡ false → get same_cells totals2 q ≡ get same_cells totals q) →
-        ((rs : List (List Datum)) → IsTotalOf (get same_cells totals k) aggs rs → IsTotalOf (get same_cells totals2 k) aggs (cells ∷ rs)) → Totaled key aggs rows2 totals2
+  module _ {S T : Type 0} (aggs : List Agg) (totals totals2 : IndexMap (Vec Datum S) Totals T) (k : List Datum) (is : k ≡ key_data key cells) where
+    pub totaled_added : Totaled key aggs rows totals → ((q : List Datum) → same_cells k q ≡ false → totals_of totals2 q ≡ totals_of totals q) →
+        ((rs : List (List Datum)) → IsTotalOf (totals_of totals k) aggs rs → IsTotalOf (totals_of totals2 k) aggs (cells ∷ rs)) → Totaled key aggs rows2 totals2
     totaled_added h others own = record { of_key = λ q. pick q (same_cells k q) refl }
       where
-        pick : (q : List Datum) (b : Bool) → same_cells k q ≡ b → IsTotalOf (get same_cells totals2 q) aggs (of_key key q rows2)
+        pick : (q : List Datum) (b : Bool) → same_cells k q ≡ b → IsTotalOf (totals_of totals2 q) aggs (of_key key q rows2)
         pick q true e =
-            subst (λ x. IsTotalOf (get same_cells totals2 x) aggs (of_key key x rows2)) (cells_are_same k q e)
-            (total_of_same (get same_cells totals2 k) aggs (cells ∷ of_key key k rows) (of_key key k rows2) (SameBag-sym _ _ (own_key k is)) (own (of_key key k rows) (h.of_key k)))
+            subst (λ x. IsTotalOf (totals_of totals2 x) aggs (of_key key x rows2)) (cells_are_same k q e)
+            (total_of_same (totals_of totals2 k) aggs (cells ∷ of_key key k rows) (of_key key k rows2) (SameBag-sym _ _ (own_key k is)) (own (of_key key k rows) (h.of_key k)))
         pick q false e =
             subst (λ o. IsTotalOf o aggs (of_key key q rows2)) (sym (others q e))
-            (total_of_same (get same_cells totals q) aggs (of_key key q rows) (of_key key q rows2) (SameBag-sym _ _ (other_key k q is e)) (h.of_key q))
+            (total_of_same (totals_of totals q) aggs (of_key key q rows) (of_key key q rows2) (SameBag-sym _ _ (other_key k q is e)) (h.of_key q))
 
-    pub totaled_taken : Totaled key aggs rows2 totals → ((q : List Datum) → same_cells k q ≡ false → get same_cells totals2 q ≡ get same_cells totals q) →
-        ((rs rest : List (List Datum)) → IsTotalOf (get same_cells totals k) aggs rs → SameBag rs (cells ∷ rest) → IsTotalOf (get same_cells totals2 k) aggs rest) → Totaled key aggs rows totals2
+    pub totaled_taken : Totaled key aggs rows2 totals → ((q : List Datum) → same_cells k q ≡ false → totals_of totals2 q ≡ totals_of totals q) →
+        ((rs rest : List (List Datum)) → IsTotalOf (totals_of totals k) aggs rs → SameBag rs (cells ∷ rest) → IsTotalOf (totals_of totals2 k) aggs rest) → Totaled key aggs rows totals2
     totaled_taken h others own = record { of_key = λ q. pick q (same_cells k q) refl }
       where
-        pick : (q : List Datum) (b : Bool) → same_cells k q ≡ b → IsTotalOf (get same_cells totals2 q) aggs (of_key key q rows)
+        pick : (q : List Datum) (b : Bool) → same_cells k q ≡ b → IsTotalOf (totals_of totals2 q) aggs (of_key key q rows)
         pick q true e =
-            subst (λ x. IsTotalOf (get same_cells totals2 x) aggs (of_key key x rows)) (cells_are_same k q e)
+            subst (λ x. IsTotalOf (totals_of totals2 x) aggs (of_key key x rows)) (cells_are_same k q e)
             (own (of_key key k rows2) (of_key key k rows) (h.of_key k) (own_key k is))
         pick q false e =
             subst (λ o. IsTotalOf o aggs (of_key key q rows)) (sym (others q e))
-            (total_of_same (get same_cells totals q) aggs (of_key key q rows2) (of_key key q rows) (other_key k q is e) (h.of_key q))
+            (total_of_same (totals_of totals q) aggs (of_key key q rows2) (of_key key q rows) (other_key k q is e) (h.of_key q))
 
 -- WHAT IS TOLD
 none_large : (a : Agg) → has_large_sum_in plain_cells [] a ≡ false
@@ -155,6 +155,10 @@ some_told aggs k row rows h = pick (is_undefined_group_in plain_cells aggs rows)
 -- no row is taken from a key without one, and a key whose rows are gone has none
 pub nothing_taken : (aggs : List Agg) (rows rest : List (List Datum)) (cells : List Datum) → rows ≡ [] → SameBag rows (cells ∷ rest) → ⊥
 nothing_taken aggs rows rest cells h same = let e = length_same rows (cells ∷ rest) same in let f = ap length h in omega (arith, e, f)
+
+-- a key with a row more has totals
+pub some_rows_of : (t : Totals) (aggs : List Agg) (cells : List Datum) (rows : List (List Datum)) → AreTotalsOf t aggs (cells ∷ rows) → IsTotalOf (Some t) aggs (cells ∷ rows)
+some_rows_of t aggs cells rows h = (h, let e = h.is_count in omega (arith, e))
 
 pub all_taken : (t t2 : Totals) (aggs : List Agg) (rows rest : List (List Datum)) → IsTotalOf (Some t) aggs rows →
     (IsTotals t.count t.states.items aggs rows → IsTotals t2.count t2.states.items aggs rest) → t2.count ≤ 0 → rest ≡ []

@@ -23,9 +23,10 @@ use Rattle.snapshot_agg.specs.Totaled.{Totaled, run_of}
 use Rattle.snapshot_agg.specs.Keeping.{KeepsGroup}
 use Rattle.snapshot_agg.specs.Answering.{group_kinds, IsSoFar}
 
--- each key has totals of its rows, and a key with no row has none
-abbrev pub IsCounted : Groups → Type 0
-IsCounted g = Totaled g.key.items g.aggs.items g.rows.rows g.totals
+-- each key has totals of its rows, and a key with no row has none; the room is for these keys
+pub record IsCounted (g : Groups) : Type 0 where
+  pub totals : Totaled g.key.items g.aggs.items g.rows.rows g.totals
+  pub room : g.room.columns ≡ g.key.items
 
 -- the key of a row. By the column 0, the key of (7, 2) is 7
 abbrev pub key_by : Groups → List Datum → List Datum

@@ -1,5 +1,5 @@
 -- What a group keeps from step to step.
-use Rattle.std.specs.Prelude.{◌≡◌, ℕ, ◌≤◌, Bool, false, List, [], length, map, All}
+use Rattle.std.specs.Prelude.{◌≡◌, ℕ, ◌≤◌, Bool, false, List, [], Vec, length, map, All}
 use Rattle.indexmap.specs.IndexMap.{IndexMap, IsUnique}
 use Rattle.tw_rows.specs.Cells.{datum_kind}
 use Rattle.tw_rows.specs.Instant.{inf}
@@ -47,6 +47,6 @@ pub record IsOpening {S : Type 0} (rows : List HeldRow) (running : IndexMap (Lis
 
 -- the keys that have rows are no more than the rows, and of each key one row is emitted at most. Of rows of the keys 5, 5 and 6
 -- they are two
-pub record HasFewKeys {S T : Type 0} (rows : List HeldRow) (totals : IndexMap (List Datum) Totals T) (running : IndexMap (List Datum) HeldRow S) : Type 0 where
+pub record HasFewKeys {R S T : Type 0} (rows : List HeldRow) (totals : IndexMap (Vec Datum R) Totals T) (running : IndexMap (List Datum) HeldRow S) : Type 0 where
   pub keys : length totals.entries ≤ length rows
   pub once : IsUnique same_cells running

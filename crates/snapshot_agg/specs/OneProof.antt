@@ -1,5 +1,5 @@
 -- What is kept of rows, and of keys, has at most one proof.
-use Rattle.std.specs.Prelude.{◌≡◌, ◌⊎◌, ℕ, ℤ, Bool, false, Option, Some, None, List, [], ◌∷◌, refl}
+use Rattle.std.specs.Prelude.{◌≡◌, ◌⊎◌, ℕ, ℤ, Bool, false, Option, Some, None, List, [], ◌∷◌, Vec, refl}
 use Rattle.std.specs.List.{AllByRecursion, IsDistinct}
 use Rattle.std.specs.Coded.{×_prop, Π_prop, Unit-prop, le_prop, Coded, Coded-set, coded_ℕ, coded_ℤ, coded_bool, coded_list, coded⊎, code_by}
 use Rattle.std.proofs.Common.{inl, inr}
@@ -83,11 +83,14 @@ total_prop : (o : Option Totals) (aggs : List Agg) (rows : List (List Datum)) �
 total_prop None aggs rows = Coded-set (coded_list (coded_list datum_coded)) rows []
 total_prop (Some t) aggs rows = ×_prop (kept_prop t.count t.states.items aggs rows) le_prop
 
-totaled_prop : {S : Type 0} (key : List ℕ) (aggs : List Agg) (rows : List HeldRow) (totals : IndexMap (List Datum) Totals S) → IsProp (Totaled key aggs rows totals)
+totaled_prop : {S T : Type 0} (key : List ℕ) (aggs : List Agg) (rows : List HeldRow) (totals : IndexMap (Vec Datum S) Totals T) → IsProp (Totaled key aggs rows totals)
 totaled_prop key aggs rows totals = hlevel total_prop
 
+columns_set : IsSet (List ℕ)
+columns_set = Coded-set (coded_list coded_ℕ)
+
 pub counted_prop : (g : Groups) → IsProp (IsCounted g)
-counted_prop g = totaled_prop g.key.items g.aggs.items g.rows.rows g.totals
+counted_prop g = hlevel (totaled_prop, columns_set)
 
 others_prop : (k : List Datum) (ks : List (List Datum)) → IsProp (AllByRecursion (λ x. same_cells k x ≡ false) ks)
 others_prop k [] = Unit-prop
@@ -98,7 +101,7 @@ unfolding IsDistinct
 distinct_prop [] = Unit-prop
 distinct_prop (k ∷ ks) = ×_prop (others_prop k ks) (distinct_prop ks)
 
-pub few_prop : {S T : Type 0} (rows : List HeldRow) (totals : IndexMap (List Datum) Totals T) (running : IndexMap (List Datum) HeldRow S) → IsProp (HasFewKeys rows totals running)
+pub few_prop : {R S T : Type 0} (rows : List HeldRow) (totals : IndexMap (Vec Datum R) Totals T) (running : IndexMap (List Datum) HeldRow S) → IsProp (HasFewKeys rows totals running)
 few_prop rows totals running = hlevel (le_prop, distinct_prop)
 
 -- and so has what is kept while no step failed

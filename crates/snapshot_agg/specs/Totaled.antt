@@ -1,6 +1,6 @@
 -- The totals of all keys.
-use Rattle.std.specs.Prelude.{◌≡◌, ℕ, ◌≤◌, cond, Option, None, Some, List, []}
-use Rattle.indexmap.specs.IndexMap.{IndexMap, get}
+use Rattle.std.specs.Prelude.{◌≡◌, ℕ, ◌≤◌, cond, Option, None, Some, List, [], Vec}
+use Rattle.indexmap.specs.IndexMap.{IndexMap, get, get_by}
 use Rattle.tw_rows.specs.SameCells.{same_cells}
 use Rattle.tw_rows.specs.declared.cells.Datum.{Datum}
 use Rattle.tw_rows.specs.declared.edge.HeldRow.{HeldRow}
@@ -21,8 +21,12 @@ abbrev pub IsTotalOf : Option Totals → List Agg → List (List Datum) → Type
 IsTotalOf None aggs rows = rows ≡ []
 IsTotalOf (Some t) aggs rows = AreTotalsOf t aggs rows × (1 ≤ t.count)
 
-pub record Totaled {S : Type 0} (key : List ℕ) (aggs : List Agg) (rows : List HeldRow) (totals : IndexMap (List Datum) Totals S) : Type 0 where
-  pub of_key : (k : List Datum) → IsTotalOf (get same_cells totals k) aggs (rows_of_key_in plain_cells key k (bare rows))
+-- the totals of the key with these data. Of the keys 7 and 8, those of 8
+abbrev pub totals_of : {S T : Type 0} → IndexMap (Vec Datum S) Totals T → List Datum → Option Totals
+totals_of totals k = get_by (λ x. same_cells k x.items) totals
+
+pub record Totaled {S T : Type 0} (key : List ℕ) (aggs : List Agg) (rows : List HeldRow) (totals : IndexMap (Vec Datum S) Totals T) : Type 0 where
+  pub of_key : (k : List Datum) → IsTotalOf (totals_of totals k) aggs (rows_of_key_in plain_cells key k (bare rows))
 
 -- the run that is open for a key
 abbrev pub run_from : Option HeldRow → Option Run

@@ -1,6 +1,6 @@
 // The rows that are alive, and the totals of those of each key.
 ghost use Rattle.std.specs.Prelude.{◌≡◌, ◌<◌, ◌≤◌, ◌^◌, false, Bool, Option, List, [], ◌∷◌, length, IfOk, OnOk};
-ghost use Rattle.indexmap.specs.IndexMap.{get};
+ghost use Rattle.std.specs.Option.{option_copied};
 ghost use Rattle.tw_rows.specs.Bag.{SameBag};
 ghost use Rattle.tw_rows.specs.SameCells.{same_cells};
 ghost use Rattle.tw_rows.specs.declared.cells.Datum.{Datum};
@@ -8,25 +8,22 @@ ghost use Rattle.edge_history.specs.Order.{many};
 ghost use Rattle.edge_history.specs.Opens.{is_held};
 ghost use Rattle.plan_model.specs.declared.agg.Agg.{Agg};
 ghost use Rattle.sweep_laws.specs.Running.{has_row};
-ghost use Rattle.snapshot_agg.specs.Words.{key_data};
 ghost use Rattle.snapshot_agg.specs.Changing.{Gains, NoMore, row_since};
 ghost use Rattle.snapshot_agg.specs.Touching.{Touches};
-ghost use Rattle.synopsis.specs.Held.{cell_or_zero};
-ghost use Rattle.snapshot_agg.specs.Totaled.{IsTotalOf};
+ghost use Rattle.snapshot_agg.specs.Totaled.{IsTotalOf, totals_of};
 ghost use Rattle.snapshot_agg.specs.KeyRow.{IsKeyRow, row_in};
 
 use crate::row_queue::RowQueue;
 use crate::totals::{Totals, touch};
 use indexmap::IndexMap;
 use plan_model::Agg;
-use smallvec::SmallVec;
 use std::alloc::Global;
 use std::hash::BuildHasherDefault;
-use synopsis::WordHasher;
+use synopsis::{KeyRoom, WordHasher};
 use tw_rows::{Cells, Datum, Memory, Time, same_cells};
 
 // The totals of each key that has rows.
-pub(crate) type KeyTotals = IndexMap<Cells, Totals, BuildHasherDefault<WordHasher>>;
+pub(crate) type KeyTotals = IndexMap<Vec<Datum>, Totals, BuildHasherDefault<WordHasher>>;
 
 // What a group is at an instant: undefined, or its row, if it has one.
 #[derive(Drop)]
@@ -40,34 +37,13 @@ pub(crate) enum KeyRow {
 pub(crate) struct Groups {
     pub(crate) alloc: Global,
     pub(crate) key: Vec<usize>,
+    // Room for the key of a row, by the same columns.
+    pub(crate) room: KeyRoom,
     pub(crate) aggs: Vec<Agg>,
     pub(crate) rows: RowQueue,
     pub(crate) totals: KeyTotals,
     // The keys of the rows that came or went since the list was cleared.
     pub(crate) touched: Vec<Cells>,
-}
-
-// The datum of a row in a column. One that is not there reads as the int 0.
-fn datum_at(cells: &[Datum], column: usize) -> Datum
-    ensures { result ≡ cell_or_zero cells.now column }
-{
-    cells.get(column).copied().unwrap_or(Datum::Int(0))
-}
-
-// The data of a row in the key columns.
-pub(crate) fn key_of(alloc: Global, key: &[usize], cells: &[Datum]) -> Result<Cells, Memory>
-    ensures { IfOk result (λ k. k ≡ key_data key.now cells.now) }
-{
-    if key.len() == 1 {
-        let data = [datum_at(cells, key[0])];
-        return Cells::from_slice(alloc, &data);
-    }
-    let mut data = SmallVec::<Datum, 4>::new(alloc);
-    for column in key {
-        data.push(datum_at(cells, *column))?;
-    }
-    let key = Cells::from_slice(alloc, data.as_slice())?;
-    Ok(key)
 }
 
 // Takes a row in among those of its key, which is touched.
@@ -76,24 +52,26 @@ fn add_to(
     touched: &mut Vec<Cells>,
     alloc: Global,
     aggs: &[Agg],
-    key: Cells,
+    key: &[Datum],
     cells: &[Datum],
 ) -> Result<(), Memory>
     requires { (rows : List (List Datum))
-        × IsTotalOf (get same_cells totals.old key) aggs.now rows × (length rows < 2 ^ 63) }
-    ensures others { OnOk result ((q : List Datum) → same_cells key q ≡ false →
-        get same_cells totals.new q ≡ get same_cells totals.old q) }
+        × IsTotalOf (totals_of totals.old key.now) aggs.now rows × (length rows < 2 ^ 63) }
+    ensures others { OnOk result ((q : List Datum) → same_cells key.now q ≡ false →
+        totals_of totals.new q ≡ totals_of totals.old q) }
     ensures own { OnOk result ((rows : List (List Datum)) →
-        IsTotalOf (get same_cells totals.old key) aggs.now rows →
-        IsTotalOf (get same_cells totals.new key) aggs.now (cells.now ∷ rows)) }
-    ensures touched { OnOk result (Touches touched.old.items touched.new.items key) }
+        IsTotalOf (totals_of totals.old key.now) aggs.now rows →
+        IsTotalOf (totals_of totals.new key.now) aggs.now (cells.now ∷ rows)) }
+    ensures touched { OnOk result (Touches touched.old.items touched.new.items key.now) }
 {
-    if let Some(there) = totals.get_mut(&key) {
-        return there.add(touched, &key, cells);
+    if let Some(there) = totals.get_mut(key) {
+        there.add(alloc, touched, key, cells)?;
+        return Ok(());
     }
     let mut new = Totals::new(alloc, aggs)?;
-    new.add(touched, &key, cells)?;
-    totals.insert(key, new)?;
+    new.add(alloc, touched, key, cells)?;
+    let owned = Vec::from_slice(alloc, key)?;
+    totals.insert(owned, new)?;
     Ok(())
 }
 
@@ -101,27 +79,35 @@ fn add_to(
 fn take_from(
     totals: &mut KeyTotals,
     touched: &mut Vec<Cells>,
-    key: &Cells,
+    alloc: Global,
+    key: &[Datum],
     cells: &[Datum],
 ) -> Result<(), Memory>
     requires { (aggs : List Agg) × (rows : List (List Datum)) × (rest : List (List Datum))
-        × IsTotalOf (get same_cells totals.old key.now) aggs rows
+        × IsTotalOf (totals_of totals.old key.now) aggs rows
         × SameBag rows (cells.now ∷ rest) }
     ensures others { OnOk result ((q : List Datum) → same_cells key.now q ≡ false →
-        get same_cells totals.new q ≡ get same_cells totals.old q) }
+        totals_of totals.new q ≡ totals_of totals.old q) }
     ensures own { OnOk result ((aggs : List Agg) (rows rest : List (List Datum)) →
-        IsTotalOf (get same_cells totals.old key.now) aggs rows →
-        SameBag rows (cells.now ∷ rest) → IsTotalOf (get same_cells totals.new key.now) aggs rest) }
+        IsTotalOf (totals_of totals.old key.now) aggs rows →
+        SameBag rows (cells.now ∷ rest) → IsTotalOf (totals_of totals.new key.now) aggs rest) }
     ensures touched { OnOk result (Touches touched.old.items touched.new.items key.now) }
 {
     if let Some(there) = totals.get_mut(key) {
-        there.remove(touched, key, cells)?;
+        there.remove(alloc, touched, key, cells)?;
         if there.count() > 0 {
             return Ok(());
         }
     }
     totals.swap_remove(key);
     Ok(())
+}
+
+// The totals of a key, if it has rows.
+fn totals_at<'a>(totals: &'a KeyTotals, key: &Cells) -> Option<&'a Totals>
+    ensures value { option_copied result ≡ totals_of totals.now key.now }
+{
+    totals.get(key.items())
 }
 
 impl KeyRow {
@@ -152,6 +138,7 @@ impl Groups {
         Ok(Groups {
             alloc,
             key: Vec::from_slice(alloc, key)?,
+            room: KeyRoom::new(alloc, key)?,
             aggs: Vec::from_slice(alloc, aggs)?,
             rows: RowQueue::new(alloc, key)?,
             totals: IndexMap::with_hasher(alloc, BuildHasherDefault::new()),
@@ -174,13 +161,13 @@ impl Groups {
         if self.rows.len() >= i64::MAX as usize {
             return Err(Memory);
         }
-        let key = key_of(self.alloc, &self.key, cells.items())?;
+        self.room.write(cells.items());
         add_to(
             &mut self.totals,
             &mut self.touched,
             self.alloc,
             &self.aggs,
-            key,
+            self.room.values(),
             cells.items(),
         )?;
         let row = Cells::from_slice(self.alloc, cells.items())?;
@@ -200,13 +187,20 @@ impl Groups {
         ensures key { self.new.key ≡ self.old.key }
         ensures aggs { self.new.aggs ≡ self.old.aggs }
     {
-        let key = key_of(self.alloc, &self.key, cells.items())?;
+        self.room.write(cells.items());
+        let key = self.room.values();
         let taken = self.rows.take(cells.items(), start)?;
         if taken {
-            take_from(&mut self.totals, &mut self.touched, &key, cells.items())?;
+            take_from(
+                &mut self.totals,
+                &mut self.touched,
+                self.alloc,
+                key,
+                cells.items(),
+            )?;
             return Ok(());
         }
-        touch(&mut self.touched, &key, usize::MAX)?;
+        touch(self.alloc, &mut self.touched, key, usize::MAX)?;
         Ok(())
     }
 
@@ -215,7 +209,7 @@ impl Groups {
         requires counted { IsCounted self.now }
         ensures { result ≡ is_undefined_now self.now key.now }
     {
-        match self.totals.get(key) {
+        match totals_at(&self.totals, key) {
             Some(totals) => totals.is_undefined(),
             None => false,
         }
@@ -227,7 +221,7 @@ impl Groups {
         ensures { IfOk result (λ row.
             IsKeyRow row (is_undefined_now self.now key.now) (row_now self.now key.now)) }
     {
-        match self.totals.get(key) {
+        match totals_at(&self.totals, key) {
             None => Ok(KeyRow::Row(None)),
             Some(totals) => match totals.row(self.alloc, key.items())? {
                 None => Ok(KeyRow::Undefined),

@@ -14,7 +14,7 @@ use crate::state::State;
 use plan_model::Agg;
 use smallvec::SmallVec;
 use std::alloc::Global;
-use tw_rows::{Cells, Datum, Memory, same_cells};
+use tw_rows::{Cells, Datum, Memory};
 
 // A group of more rows is undefined, by our profile.
 const MOST_ROWS: u64 = 4611686018427387904;
@@ -29,24 +29,29 @@ pub(crate) struct Totals {
 }
 
 // Whether the key stands at the place.
-fn stands_at(touched: &[Cells], key: &Cells, place: usize) -> bool
+fn stands_at(touched: &[Cells], key: &[Datum], place: usize) -> bool
     ensures { result ≡ true → list_any (same_cells key.now) touched.now ≡ true }
 {
     match touched.get(place) {
-        Some(there) => same_cells(key, there),
+        Some(there) => key == there.items(),
         None => false,
     }
 }
 
 // Puts the key to the touched ones, unless it stands at the place that is given, and answers its place.
-pub(crate) fn touch(touched: &mut Vec<Cells>, key: &Cells, place: usize) -> Result<usize, Memory>
+pub(crate) fn touch(
+    alloc: Global,
+    touched: &mut Vec<Cells>,
+    key: &[Datum],
+    place: usize,
+) -> Result<usize, Memory>
     ensures { OnOk result (Touches touched.old.items touched.new.items key.now) }
 {
     if stands_at(touched, key, place) {
         return Ok(place);
     }
     let next = touched.len();
-    touched.push(key.clone()?)?;
+    touched.push(Cells::from_slice(alloc, key)?)?;
     Ok(next)
 }
 
@@ -104,8 +109,9 @@ impl Totals {
     // Takes in a row of the key, which is touched.
     pub(crate) fn add(
         &mut self,
+        alloc: Global,
         touched: &mut Vec<Cells>,
-        key: &Cells,
+        key: &[Datum],
         cells: &[Datum],
     ) -> Result<(), Memory>
         requires { (aggs : List Agg) × (rows : List (List Datum))
@@ -114,7 +120,7 @@ impl Totals {
             AreTotalsOf self.old aggs rows → AreTotalsOf self.new aggs (cells.now ∷ rows)) }
         ensures touched { OnOk result (Touches touched.old.items touched.new.items key.now) }
     {
-        self.place = touch(touched, key, self.place)?;
+        self.place = touch(alloc, touched, key, self.place)?;
         self.count += 1;
         add_all(&mut self.states, cells)?;
         Ok(())
@@ -123,8 +129,9 @@ impl Totals {
     // Gives up a row that is there, of the key, which is touched.
     pub(crate) fn remove(
         &mut self,
+        alloc: Global,
         touched: &mut Vec<Cells>,
-        key: &Cells,
+        key: &[Datum],
         cells: &[Datum],
     ) -> Result<(), Memory>
         requires { (aggs : List Agg) × (rows : List (List Datum)) × (rest : List (List Datum))
@@ -134,7 +141,7 @@ impl Totals {
             AreTotalsOf self.new aggs rest) }
         ensures touched { OnOk result (Touches touched.old.items touched.new.items key.now) }
     {
-        self.place = touch(touched, key, self.place)?;
+        self.place = touch(alloc, touched, key, self.place)?;
         self.count -= 1;
         remove_all(&mut self.states, cells);
         Ok(())

@@ -1,28 +1,31 @@
 use Rattle.std.specs.Prelude.{◌≡◌, ◌+◌, ℕ, ◌∷◌, ◌||◌}
 use Rattle.std.specs.List.{list_any}
 use Rattle.std.proofs.Common.{subst, sym, ◌∙◌, ap, arith}
-use Rattle.indexmap.specs.IndexMap.{get}
 use Rattle.tw_rows.specs.Bag.{total}
 use Rattle.tw_rows.specs.SameCells.{same_cells}
 use Rattle.tw_rows.specs.declared.edge.HeldRow.{HeldRow}
 use Rattle.snapshot_agg.specs.Words.{key_data}
-use Rattle.snapshot_agg.specs.Totaled.{IsTotalOf}
+use Rattle.synopsis.specs.Held.{key_of}
+use Rattle.snapshot_agg.specs.Totaled.{IsTotalOf, totals_of}
 use Rattle.snapshot_agg.proofs.Totaling.{of_key, totaled_added, few_of_key}
 use Rattle.snapshot_agg.proofs.groups.Groups.add.Goals as goal
 
 pub add_to-requires : goal.add_to-requires
 add_to-requires c =
     let g = c.args.self.now in
-    let k = c.in_ok-key.key in (
+    let k = c.values.result.now in (
       of_key g.key.items k g.rows.rows,
-      subst (λ b. IsTotalOf (get same_cells g.totals k) b (of_key g.key.items k g.rows.rows)) (sym c.deref-2.ensures.value) (c.requires.counted.of_key k),
+      subst (λ b. IsTotalOf (totals_of g.totals k) b (of_key g.key.items k g.rows.rows)) (sym c.deref.ensures.value) (c.requires.counted.totals.of_key k),
       let f = few_of_key g.key.items k g.rows.rows in let e = c.len.ensures in let z = c.if-len.false in omega (arith, f, e, z),
     )
 
 pub returns-clause-touched : goal.returns-clause-touched
 returns-clause-touched c = λ q.
     let g = c.args.self.now in
-    let is : c.in_ok-key.key ≡ key_data g.key.items c.args.cells.now = c.in_ok-key.ensures ∙ ap (λ l. key_data l c.items.result.now) c.deref.ensures.value ∙ ap (key_data g.key.items) c.items.ensures in
+    let cells = c.args.cells.now in
+    let k = c.values.result.now in
+    let is : k ≡ key_data g.key.items cells =
+    c.values.ensures ∙ c.write.ensures.values ∙ ap (λ l. key_of l c.items.result.now) c.requires.counted.room ∙ ap (key_of g.key.items) c.items.ensures in
     c.in_ok-add_to.ensures.touched q ∙ ap (λ l. list_any (same_cells q) g.touched.items || same_cells q l) is
 
 pub returns-clause-counted : goal.returns-clause-counted
@@ -30,12 +33,17 @@ returns-clause-counted c =
     let g = c.args.self.now in
     let rows2 = c.add.new.self.rows in
     let cells = c.args.cells.now in
-    let k = c.in_ok-key.key in
-    let b = c.deref-2.result.now in
-    let is : k ≡ key_data g.key.items cells = c.in_ok-key.ensures ∙ ap (λ l. key_data l c.items.result.now) c.deref.ensures.value ∙ ap (key_data g.key.items) c.items.ensures in
+    let k = c.values.result.now in
+    let b = c.deref.result.now in
+    let is : k ≡ key_data g.key.items cells =
+    c.values.ensures ∙ c.write.ensures.values ∙ ap (λ l. key_of l c.items.result.now) c.requires.counted.room ∙ ap (key_of g.key.items) c.items.ensures in
     let more : (w : HeldRow → ℕ) → total w rows2 ≡ total w g.rows.rows + w (record { cells = cells; start = c.args.start }) =
     λ w. c.in_ok-add.ensures w ∙ ap (λ l. total w g.rows.rows + w (record { cells = l; start = c.args.start })) (c.in_ok-row.ensures.ok ∙ c.items-3.ensures) in
-    totaled_added g.key.items g.rows.rows rows2 cells c.args.start more g.aggs.items g.totals c.add_to.new.totals k is c.requires.counted c.in_ok-add_to.ensures.others
-    (λ rs h. let z = c.in_ok-add_to.ensures.own rs (subst (λ x. IsTotalOf (get same_cells g.totals k) x rs) (sym c.deref-2.ensures.value) h) in
-    subst (λ x. IsTotalOf (get same_cells c.add_to.new.totals k) x (cells ∷ rs)) c.deref-2.ensures.value
-    (subst (λ l. IsTotalOf (get same_cells c.add_to.new.totals k) b (l ∷ rs)) c.items-2.ensures z))
+    record {
+      room = c.write.ensures.columns ∙ c.requires.counted.room;
+      totals =
+          totaled_added g.key.items g.rows.rows rows2 cells c.args.start more g.aggs.items g.totals c.add_to.new.totals k is c.requires.counted.totals c.in_ok-add_to.ensures.others
+          (λ rs h. let z = c.in_ok-add_to.ensures.own rs (subst (λ x. IsTotalOf (totals_of g.totals k) x rs) (sym c.deref.ensures.value) h) in
+          subst (λ x. IsTotalOf (totals_of c.add_to.new.totals k) x (cells ∷ rs)) c.deref.ensures.value
+          (subst (λ l. IsTotalOf (totals_of c.add_to.new.totals k) b (l ∷ rs)) c.items-2.ensures z));
+    }

@@ -7,4 +7,4 @@ pub returns-in-None : goal.returns-in-None
 returns-in-None c =
     let g = c.args.self.now in
     sym (none_told g.aggs.items c.args.key.now (of_key g.key.items c.args.key.now g.rows.rows)
-    (subst (λ o. IsTotalOf o g.aggs.items (of_key g.key.items c.args.key.now g.rows.rows)) (sym c.in-None.ensures.value) (c.requires.counted.of_key c.args.key.now))).0
+    (subst (λ o. IsTotalOf o g.aggs.items (of_key g.key.items c.args.key.now g.rows.rows)) (sym c.in-None.ensures.value) (c.requires.counted.totals.of_key c.args.key.now))).0

@@ -6,6 +6,7 @@ use Rattle.tw_rows.specs.SameCells.{same_cells}
 use Rattle.tw_rows.specs.declared.edge.HeldRow.{HeldRow}
 use Rattle.edge_history.specs.Order.{many}
 use Rattle.edge_history.specs.Opens.{is_held}
+use Rattle.synopsis.specs.Held.{key_of}
 use Rattle.snapshot_agg.specs.Words.{key_data}
 use Rattle.snapshot_agg.proofs.Totaling.{of_key, own_key, totaled_taken, totaled_same}
 use Rattle.snapshot_agg.proofs.groups.Groups.take.Goals as goal
@@ -15,14 +16,15 @@ take_from-requires c =
     let g = c.args.self.now in
     let rows2 = c.take.new.self.rows in
     let cells = c.args.cells.now in
-    let k = c.in_ok-key.key in
-    let is : k ≡ key_data g.key.items cells = c.in_ok-key.ensures ∙ ap (λ l. key_data l c.items.result.now) c.deref.ensures.value ∙ ap (key_data g.key.items) c.items.ensures in
+    let k = c.key.result.now in
+    let is : k ≡ key_data g.key.items cells =
+    c.key.ensures ∙ c.write.ensures.values ∙ ap (λ l. key_of l c.items.result.now) c.requires.counted.room ∙ ap (key_of g.key.items) c.items.ensures in
     let more : (w : HeldRow → ℕ) → total w g.rows.rows ≡ total w rows2 + w (record { cells = cells; start = c.args.start }) =
     λ w. c.in_ok-taken.ensures.taken c.if-taken.true w ∙ ap (λ l. total w rows2 + w (record { cells = l; start = c.args.start })) c.items-2.ensures in (
       g.aggs.items,
       of_key g.key.items k g.rows.rows,
       of_key g.key.items k rows2,
-      c.requires.counted.of_key k,
+      c.requires.counted.totals.of_key k,
       subst (λ l. SameBag (of_key g.key.items k g.rows.rows) (l ∷ of_key g.key.items k rows2)) (sym c.items-then-taken.ensures)
           (own_key g.key.items rows2 g.rows.rows cells c.args.start more k is),
     )
@@ -32,12 +34,17 @@ returns-then-taken-clause-counted c =
     let g = c.args.self.now in
     let rows2 = c.take.new.self.rows in
     let cells = c.args.cells.now in
-    let k = c.in_ok-key.key in
-    let is : k ≡ key_data g.key.items cells = c.in_ok-key.ensures ∙ ap (λ l. key_data l c.items.result.now) c.deref.ensures.value ∙ ap (key_data g.key.items) c.items.ensures in
+    let k = c.key.result.now in
+    let is : k ≡ key_data g.key.items cells =
+    c.key.ensures ∙ c.write.ensures.values ∙ ap (λ l. key_of l c.items.result.now) c.requires.counted.room ∙ ap (key_of g.key.items) c.items.ensures in
     let more : (w : HeldRow → ℕ) → total w g.rows.rows ≡ total w rows2 + w (record { cells = cells; start = c.args.start }) =
     λ w. c.in_ok-taken.ensures.taken c.if-taken.true w ∙ ap (λ l. total w rows2 + w (record { cells = l; start = c.args.start })) c.items-2.ensures in
-    totaled_taken g.key.items rows2 g.rows.rows cells c.args.start more g.aggs.items g.totals c.take_from.new.totals k is c.requires.counted c.in_ok-take_from.ensures.others
-    (λ rs rest h same. c.in_ok-take_from.ensures.own g.aggs.items rs rest h (subst (λ l. SameBag rs (l ∷ rest)) (sym c.items-then-taken.ensures) same))
+    record {
+      room = c.write.ensures.columns ∙ c.requires.counted.room;
+      totals =
+          totaled_taken g.key.items rows2 g.rows.rows cells c.args.start more g.aggs.items g.totals c.take_from.new.totals k is c.requires.counted.totals c.in_ok-take_from.ensures.others
+          (λ rs rest h same. c.in_ok-take_from.ensures.own g.aggs.items rs rest h (subst (λ l. SameBag rs (l ∷ rest)) (sym c.items-then-taken.ensures) same));
+    }
 
 pub returns-then-taken-clause-taken : goal.returns-then-taken-clause-taken
 returns-then-taken-clause-taken c = λ some w.
@@ -49,13 +56,19 @@ returns-then-taken-clause-fewer c = λ w. let z = c.in_ok-taken.ensures.taken c.
 pub returns-then-taken-clause-touched : goal.returns-then-taken-clause-touched
 returns-then-taken-clause-touched c = λ q.
     let g = c.args.self.now in
-    let is : c.in_ok-key.key ≡ key_data g.key.items c.args.cells.now = c.in_ok-key.ensures ∙ ap (λ l. key_data l c.items.result.now) c.deref.ensures.value ∙ ap (key_data g.key.items) c.items.ensures in
+    let cells = c.args.cells.now in
+    let k = c.key.result.now in
+    let is : k ≡ key_data g.key.items cells =
+    c.key.ensures ∙ c.write.ensures.values ∙ ap (λ l. key_of l c.items.result.now) c.requires.counted.room ∙ ap (key_of g.key.items) c.items.ensures in
     c.in_ok-take_from.ensures.touched q ∙ ap (λ l. list_any (same_cells q) g.touched.items || same_cells q l) is
 
 pub returns-clause-counted : goal.returns-clause-counted
 returns-clause-counted c =
     let g = c.args.self.now in
-    totaled_same g.key.items g.aggs.items g.rows.rows c.take.new.self.rows g.totals (c.in_ok-taken.ensures.same c.if-taken.false) c.requires.counted
+    record {
+      room = c.write.ensures.columns ∙ c.requires.counted.room;
+      totals = totaled_same g.key.items g.aggs.items g.rows.rows c.take.new.self.rows g.totals (c.in_ok-taken.ensures.same c.if-taken.false) c.requires.counted.totals;
+    }
 
 pub returns-clause-taken : goal.returns-clause-taken
 returns-clause-taken c = λ some.
@@ -70,5 +83,8 @@ returns-clause-fewer c = λ w. let z = (c.in_ok-taken.ensures.same c.if-taken.fa
 pub returns-clause-touched : goal.returns-clause-touched
 returns-clause-touched c = λ q.
     let g = c.args.self.now in
-    let is : c.in_ok-key.key ≡ key_data g.key.items c.args.cells.now = c.in_ok-key.ensures ∙ ap (λ l. key_data l c.items.result.now) c.deref.ensures.value ∙ ap (key_data g.key.items) c.items.ensures in
+    let cells = c.args.cells.now in
+    let k = c.key.result.now in
+    let is : k ≡ key_data g.key.items cells =
+    c.key.ensures ∙ c.write.ensures.values ∙ ap (λ l. key_of l c.items.result.now) c.requires.counted.room ∙ ap (key_of g.key.items) c.items.ensures in
     c.in_ok-touch.ensures q ∙ ap (λ l. list_any (same_cells q) g.touched.items || same_cells q l) is
