@@ -1,7 +1,6 @@
-use Rattle.std.specs.Prelude.{◌≡◌, ◌++◌, ◌∷◌, [], map, List, Option}
+use Rattle.std.specs.Prelude.{◌++◌, ◌∷◌, [], map}
 use Rattle.std.proofs.Common.{sym, ◌∙◌, ap, subst, take}
-use Rattle.std.proofs.lemmas.List.{map_more, take_all}
-use Rattle.tw_rows.specs.declared.cells.Datum.{Datum}
+use Rattle.std.proofs.lemmas.List.{map_more}
 use Rattle.snapshot_agg.specs.Counting.{is_undefined_now, row_now}
 use Rattle.snapshot_agg.specs.KeyRow.{IsKeyRow}
 use Rattle.snapshot_agg.proofs.Touching.{fine_keys}

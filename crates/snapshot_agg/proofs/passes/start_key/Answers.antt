@@ -1,6 +1,6 @@
 use Rattle.std.specs.Prelude.{◌≡◌, true, Option, Some, None, is_some, refl}
 use Rattle.std.specs.Option.{option_copied}
-use Rattle.std.proofs.Common.{sym, ◌∙◌, ap, subst}
+use Rattle.std.proofs.Common.{sym, ◌∙◌, subst}
 use denote.Bor.{Bor}
 use Rattle.tw_rows.specs.declared.edge.HeldRow.{HeldRow}
 use Rattle.snapshot_agg.proofs.Rerunning.{rerun, begun_some, begun_none}
