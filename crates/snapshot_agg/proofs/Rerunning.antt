@@ -6,14 +6,7 @@ use Rattle.tw_rows.specs.SameCells.{same_cells, cells_are_same}
 use Rattle.tw_rows.specs.declared.cells.Datum.{Datum}
 use Rattle.tw_rows.specs.declared.edge.HeldRow.{HeldRow}
 use Rattle.sweep_laws.specs.Running.{Run, has_row, kept, begun_at}
-use Rattle.snapshot_agg.specs.declared.groups.KeyRow.{KeyRow}
-use Rattle.snapshot_agg.specs.declared.groups.KeyRow.TheVariants.{Undefined, Row}
-use Rattle.snapshot_agg.specs.KeyRow.{IsKeyRow, row_in}
 use Rattle.snapshot_agg.specs.Totaled.{run_from, run_of, Reruns}
-
-pub told_is : (told : KeyRow) (b : Bool) (o : Option (List Datum)) → IsKeyRow told b o → b ≡ false → row_in told ≡ o
-told_is Undefined b o h e = let z = sym h ∙ e in absurd (cc)
-told_is (Row r) b o h e = h.1
 
 pub rerun : {S : Type 0} (running : IndexMap (List Datum) HeldRow S) (key : List Datum) (x : Option Run) → run_of running key ≡ x → Reruns running running key x
 rerun running key x is k = pick (same_cells key k) refl
@@ -26,10 +19,9 @@ pub kept_none : (o : Option (List Datum)) (r : Option HeldRow) → None ≡ r �
 kept_none o None h = refl
 kept_none o (Some r) h = absurd (cc)
 
-pub kept_told : (o p : Option (List Datum)) (run : HeldRow) (r : Option HeldRow) → Some run ≡ r → p ≡ o → has_row p run.cells ≡ true → run_from r ≡ kept o (run_from r)
-kept_told o p run r is same has =
-    subst (λ r. run_from r ≡ kept o (run_from r)) is
-    (sym (ap (λ b. cond b (Some (record { row = run.cells; start = run.start })) None) (ap (λ q. has_row q run.cells) (sym same) ∙ has)))
+pub kept_told : (o : Option (List Datum)) (run : HeldRow) (r : Option HeldRow) → Some run ≡ r → has_row o run.cells ≡ true → run_from r ≡ kept o (run_from r)
+kept_told o run r is has =
+    subst (λ r. run_from r ≡ kept o (run_from r)) is (sym (ap (λ b. cond b (Some (record { row = run.cells; start = run.start })) None) has))
 
 pub begun_some : (t : ℕ) (o : Option (List Datum)) (r : Option HeldRow) → IsSome r → run_from r ≡ begun_at t o (run_from r)
 begun_some t o None h = absurd (cc)

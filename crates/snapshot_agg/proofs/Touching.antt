@@ -3,7 +3,7 @@ use Rattle.std.specs.Prelude.{◌≡◌, ℕ, zero, suc, ◌+◌, ◌<◌, ◌||
 use Rattle.snapshot_agg.proofs.Kept.{or_last}
 use Rattle.std.specs.List.{list_any}
 use Rattle.std.proofs.Common.{sym, ◌∙◌, ap, arith}
-use Rattle.std.proofs.lemmas.List.{take_more}
+use Rattle.std.proofs.lemmas.List.{take_more, get_or-map}
 use Rattle.std.proofs.lemmas.List.Folds.{list_any_more}
 use Rattle.tw_rows.specs.SameCells.{same_cells, cells_are_same, same_itself}
 use Rattle.tw_rows.specs.declared.cells.Datum.{Datum}
@@ -117,3 +117,7 @@ pub starts_over : (key : List ℕ) (t : ℕ) (now : List Edge) (ks : List (List 
     ((q : List Datum) → list_any (same_cells q) ks ≡ list_any (same_cells q) (keys_of (key_data key) now)) →
     StartsOfKeys t ks o run0 run1 before after → StartsTold (key_data key) same_cells t now o run0 run1 before after
 starts_over key t now ks o run0 run1 before after same h = pass_over (key_data key) (λ k x. begun_at t (o k) x) (λ k x. start_part t (o k) x) now ks run0 run1 before after same h
+
+-- the row that a list has of a key
+pub row_here : {X : Type 0} (ks : List (List Datum)) (rows : List X) (row : List Datum → X) (i : ℕ) (k : List Datum) (x : X) → i < length ks → k ≡ get_or ks i k → x ≡ get_or rows i x → rows ≡ map row ks → x ≡ row k
+row_here ks rows row i k x low key is same = is ∙ ap (λ l. get_or l i x) same ∙ get_or-map row ks i k x low ∙ ap row (sym key)

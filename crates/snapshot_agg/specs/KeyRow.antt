@@ -1,5 +1,5 @@
 -- What the group of a key is at an instant.
-use Rattle.std.specs.Prelude.{◌≡◌, Bool, true, false, Option, None, List}
+use Rattle.std.specs.Prelude.{◌≡◌, Bool, true, false, Option, List}
 use Rattle.tw_rows.specs.declared.cells.Datum.{Datum}
 use Rattle.snapshot_agg.specs.declared.groups.KeyRow.{KeyRow}
 use Rattle.snapshot_agg.specs.declared.groups.KeyRow.TheVariants.{Undefined, Row}
@@ -8,8 +8,3 @@ use Rattle.snapshot_agg.specs.declared.groups.KeyRow.TheVariants.{Undefined, Row
 abbrev pub IsKeyRow : KeyRow → Bool → Option (List Datum) → Type 0
 IsKeyRow Undefined b o = b ≡ true
 IsKeyRow (Row r) b o = (b ≡ false) × (r ≡ o)
-
--- its row, if it has one
-abbrev pub row_in : KeyRow → Option (List Datum)
-row_in Undefined = None
-row_in (Row r) = r

@@ -7,11 +7,10 @@ ghost use Rattle.tw_rows.specs.declared.cells.Datum.{Datum};
 ghost use Rattle.edge_history.specs.Order.{many};
 ghost use Rattle.edge_history.specs.Opens.{is_held};
 ghost use Rattle.plan_model.specs.declared.agg.Agg.{Agg};
-ghost use Rattle.sweep_laws.specs.Running.{has_row};
 ghost use Rattle.snapshot_agg.specs.Changing.{Gains, NoMore, row_since};
 ghost use Rattle.snapshot_agg.specs.Touching.{Touches};
 ghost use Rattle.snapshot_agg.specs.Totaled.{IsTotalOf, totals_of};
-ghost use Rattle.snapshot_agg.specs.KeyRow.{IsKeyRow, row_in};
+ghost use Rattle.snapshot_agg.specs.KeyRow.{IsKeyRow};
 
 use crate::row_queue::RowQueue;
 use crate::totals::{Totals, touch};
@@ -20,7 +19,7 @@ use plan_model::Agg;
 use std::alloc::Global;
 use std::hash::BuildHasherDefault;
 use synopsis::{KeyRoom, WordHasher};
-use tw_rows::{Cells, Datum, Memory, Time, same_cells};
+use tw_rows::{Cells, Datum, Memory, Time};
 
 // The totals of each key that has rows.
 pub(crate) type KeyTotals = IndexMap<Vec<Datum>, Totals, BuildHasherDefault<WordHasher>>;
@@ -110,21 +109,6 @@ fn totals_at<'a>(totals: &'a KeyTotals, key: &Cells) -> Option<&'a Totals>
     totals.get(key.items())
 }
 
-impl KeyRow {
-    // Whether the group has the row.
-    pub(crate) fn has(&self, cells: &Cells) -> bool
-        ensures { result ≡ has_row (row_in self.now) cells.now }
-    {
-        match self {
-            KeyRow::Undefined => false,
-            KeyRow::Row(row) => match row {
-                Some(own) => same_cells(cells, own),
-                None => false,
-            },
-        }
-    }
-}
-
 impl Groups {
     ghost use Rattle.snapshot_agg.specs.Counting.{IsCounted, key_by, row_now, is_undefined_now};
 
@@ -202,17 +186,6 @@ impl Groups {
         }
         touch(self.alloc, &mut self.touched, key, usize::MAX)?;
         Ok(())
-    }
-
-    // Whether the group of a key is undefined. A key with no row has no group.
-    pub(crate) fn is_undefined(&self, key: &Cells) -> bool
-        requires counted { IsCounted self.now }
-        ensures { result ≡ is_undefined_now self.now key.now }
-    {
-        match totals_at(&self.totals, key) {
-            Some(totals) => totals.is_undefined(),
-            None => false,
-        }
     }
 
     // What the group of a key is.

@@ -1,5 +1,5 @@
 // The pass over the edges of one instant, and those over the keys that it touched.
-ghost use Rattle.std.specs.Prelude.{◌≡◌, ◌+◌, ◌*◌, ◌<◌, ◌≤◌, ◌++◌, ℕ, suc, true, false, Some, List, [], ◌∷◌, OnOk, IfErr};
+ghost use Rattle.std.specs.Prelude.{◌≡◌, ◌+◌, ◌*◌, ◌<◌, ◌≤◌, ◌++◌, ℕ, suc, true, false, Some, Option, List, [], ◌∷◌, map, length, IfOk, OnOk, IfErr};
 ghost use Rattle.std.specs.List.{list_any};
 ghost use Rattle.tw_rows.specs.Bag.{total};
 ghost use Rattle.tw_rows.specs.Instant.{inf};
@@ -9,7 +9,7 @@ ghost use Rattle.tw_rows.specs.declared.edge.HeldRow.{HeldRow};
 ghost use Rattle.edge_history.specs.Opens.{ended_of, started_of, ended_rows, started_rows};
 ghost use Rattle.sweep_laws.specs.Sweeps.{InOrder};
 ghost use Rattle.sweep_laws.specs.Moves.{HoldsEnded};
-ghost use Rattle.sweep_laws.specs.Running.{end_part, start_part, kept, begun_at};
+ghost use Rattle.sweep_laws.specs.Running.{end_part, start_part, kept, begun_at, has_row};
 ghost use Rattle.sweep_laws.specs.Grouping.{keys_of, IsEarly};
 ghost use Rattle.snapshot_agg.specs.Changing.{NoMore, TakeAtMost};
 ghost use Rattle.snapshot_agg.specs.Counting.{IsCounted, key_by, row_now, is_undefined_now};
@@ -21,7 +21,7 @@ use edge_stream::StepFault;
 use indexmap::IndexMap;
 use std::hash::BuildHasherDefault;
 use synopsis::WordHasher;
-use tw_rows::{Cells, Edge, HeldRow, Memory, Time};
+use tw_rows::{Cells, Edge, HeldRow, Memory, Time, same_cells};
 
 // The emitted row of each key, and since when it goes on.
 pub(crate) type Running = IndexMap<Cells, HeldRow, BuildHasherDefault<WordHasher>>;
@@ -74,42 +74,64 @@ pub(crate) fn apply(groups: &mut Groups, now: &[Edge]) -> Result<(), Memory>
     Ok(())
 }
 
-// Refuses an instant at which the group of one of the keys is undefined. Takes no memory.
-pub(crate) fn check_defined(groups: &Groups, keys: &[Cells], t: Time) -> Result<(), StepFault>
-    requires counted { IsCounted groups.now }
-    ensures undefined { IfErr result (λ fault. (fault ≡ StepFault.Overflow t)
-        × ((k : List Datum) × (is_undefined_now groups.now k ≡ true))) }
-    ensures defined { OnOk result ((k : List Datum) → list_any (same_cells k) keys.now ≡ true →
-        is_undefined_now groups.now k ≡ false) }
+// Adds a row, or that there is none.
+fn push_row(rows: &mut Vec<Option<Cells>>, row: Option<Cells>) -> Result<(), Memory>
+    ensures { OnOk result (rows.new.items ≡ rows.old.items ++ row ∷ []) }
 {
-    for key in keys {
-        if groups.is_undefined(key) {
-            return Err(StepFault::Overflow { time: t });
-        }
-    }
+    rows.push(row)?;
     Ok(())
 }
 
-// Emits the end of the row of a key, if the row changed.
-fn end_key(
+// The row of the group of each key, if it has one. An instant at which one of the groups is undefined is refused.
+pub(crate) fn rows_of(
     groups: &Groups,
+    keys: &[Cells],
+    t: Time,
+) -> Result<Vec<Option<Cells>>, StepFault>
+    requires counted { IsCounted groups.now }
+    ensures rows { IfOk result (λ rows. rows.items ≡ map (row_now groups.now) keys.now) }
+    ensures undefined { IfErr result (λ fault. (v : ℕ) → fault ≡ StepFault.Overflow v →
+        (v ≡ t) × ((k : List Datum) × (is_undefined_now groups.now k ≡ true))) }
+    ensures defined { OnOk result ((k : List Datum) → list_any (same_cells k) keys.now ≡ true →
+        is_undefined_now groups.now k ≡ false) }
+{
+    let mut rows = Vec::new(groups.alloc);
+    for key in keys {
+        match groups.row_of(key)? {
+            KeyRow::Undefined => return Err(StepFault::Overflow { time: t }),
+            KeyRow::Row(row) => push_row(&mut rows, row)?,
+        }
+    }
+    Ok(rows)
+}
+
+// Whether the row, if there is one, has these cells.
+fn is_same(row: &Option<Cells>, cells: &Cells) -> bool
+    ensures { result ≡ has_row row.now cells.now }
+{
+    match row {
+        Some(own) => same_cells(cells, own),
+        None => false,
+    }
+}
+
+// Emits the end of the row of a key, if its row is another now.
+fn end_key(
     running: &mut Running,
     answer: &mut Vec<Edge>,
     t: Time,
     key: &Cells,
+    row: &Option<Cells>,
 ) -> Result<(), Memory>
-    requires counted { IsCounted groups.now }
-    requires fine { is_undefined_now groups.now key.now ≡ false }
     ensures pushed { OnOk result (answer.new.items ≡ answer.old.items
-        ++ end_part t (row_now groups.now key.now) (run_of running.old key.now)) }
+        ++ end_part t row.now (run_of running.old key.now)) }
     ensures run { OnOk result (Reruns running.old running.new key.now
-        (kept (row_now groups.now key.now) (run_of running.old key.now))) }
+        (kept row.now (run_of running.old key.now))) }
 {
-    let row = groups.row_of(key)?;
     match running.get(key) {
         None => return Ok(()),
         Some(run) => {
-            if row.has(&run.cells) {
+            if is_same(row, &run.cells) {
                 return Ok(());
             }
         }
@@ -144,88 +166,82 @@ fn begin_run(
     answer: &mut Vec<Edge>,
     t: Time,
     key: &Cells,
-    row: Cells,
+    row: &Cells,
 ) -> Result<(), Memory>
     ensures pushed { OnOk result (answer.new.items ≡ answer.old.items
-        ++ record { sync = t; other = inf; cells = row } ∷ []) }
+        ++ record { sync = t; other = inf; cells = row.now } ∷ []) }
     ensures run { OnOk result (Reruns running.old running.new key.now
-        (Some (record { row = row; start = t }))) }
+        (Some (record { row = row.now; start = t }))) }
 {
     answer.push(Edge {
         sync: t,
         other: Time::bounds().1,
         cells: row.clone()?,
     })?;
-    put_run(running, key, row, t)
+    put_run(running, key, row.clone()?, t)
 }
 
 // Emits the start of the row of a key, if none goes on.
 fn start_key(
-    groups: &Groups,
     running: &mut Running,
     answer: &mut Vec<Edge>,
     t: Time,
     key: &Cells,
+    row: &Option<Cells>,
 ) -> Result<(), Memory>
-    requires counted { IsCounted groups.now }
-    requires fine { is_undefined_now groups.now key.now ≡ false }
     ensures pushed { OnOk result (answer.new.items ≡ answer.old.items
-        ++ start_part t (row_now groups.now key.now) (run_of running.old key.now)) }
+        ++ start_part t row.now (run_of running.old key.now)) }
     ensures run { OnOk result (Reruns running.old running.new key.now
-        (begun_at t (row_now groups.now key.now) (run_of running.old key.now))) }
+        (begun_at t row.now (run_of running.old key.now))) }
 {
     if running.get(key).is_some() {
         return Ok(());
     }
-    match groups.row_of(key)? {
-        KeyRow::Undefined => Ok(()),
-        KeyRow::Row(now) => match now {
-            Some(row) => begin_run(running, answer, t, key, row),
-            None => Ok(()),
-        },
+    match row {
+        Some(row) => begin_run(running, answer, t, key, row),
+        None => Ok(()),
     }
 }
 
-// Emits the ends at an instant of the rows of the keys' groups that changed.
+// Emits the ends at an instant of the rows of the keys that changed. The keys have these rows now.
 pub(crate) fn emit_ends(
-    groups: &Groups,
     running: &mut Running,
     answer: &mut Vec<Edge>,
     t: Time,
     keys: &[Cells],
+    rows: &[Option<Cells>],
 ) -> Result<(), Memory>
-    requires counted { IsCounted groups.now }
-    requires fine { (k : List Datum) → list_any (same_cells k) keys.now ≡ true →
-        is_undefined_now groups.now k ≡ false }
-    ensures order { OnOk result (((k : List Datum) → IsEarly t (run_of running.old k)) →
+    requires long { length rows.now ≡ length keys.now }
+    ensures order { OnOk result ((row : List Datum → Option (List Datum)) →
+        rows.now ≡ map row keys.now → ((k : List Datum) → IsEarly t (run_of running.old k)) →
         InOrder (2 * t) answer.old.items → InOrder (2 * t) answer.new.items) }
-    ensures told { OnOk result (EndsOfKeys t keys.now (row_now groups.now)
+    ensures told { OnOk result ((row : List Datum → Option (List Datum)) →
+        rows.now ≡ map row keys.now → EndsOfKeys t keys.now row
         (run_of running.old) (run_of running.new) answer.old.items answer.new.items) }
 {
-    for key in keys {
-        end_key(groups, running, answer, t, key)?;
+    for i in 0..keys.len() {
+        end_key(running, answer, t, &keys[i], &rows[i])?;
     }
     Ok(())
 }
 
-// Emits the starts at an instant of the rows of the keys' groups that changed.
+// Emits the starts at an instant of the rows of the keys that changed.
 pub(crate) fn emit_starts(
-    groups: &Groups,
     running: &mut Running,
     answer: &mut Vec<Edge>,
     t: Time,
     keys: &[Cells],
+    rows: &[Option<Cells>],
 ) -> Result<(), Memory>
-    requires counted { IsCounted groups.now }
-    requires fine { (k : List Datum) → list_any (same_cells k) keys.now ≡ true →
-        is_undefined_now groups.now k ≡ false }
+    requires long { length rows.now ≡ length keys.now }
     ensures order { OnOk result (t < inf → InOrder (suc (2 * t)) answer.old.items →
         InOrder (suc (2 * t)) answer.new.items) }
-    ensures told { OnOk result (StartsOfKeys t keys.now (row_now groups.now)
+    ensures told { OnOk result ((row : List Datum → Option (List Datum)) →
+        rows.now ≡ map row keys.now → StartsOfKeys t keys.now row
         (run_of running.old) (run_of running.new) answer.old.items answer.new.items) }
 {
-    for key in keys {
-        start_key(groups, running, answer, t, key)?;
+    for i in 0..keys.len() {
+        start_key(running, answer, t, &keys[i], &rows[i])?;
     }
     Ok(())
 }

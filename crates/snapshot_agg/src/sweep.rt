@@ -14,7 +14,7 @@ ghost use Rattle.snapshot_agg.specs.Counting.{IsCounted, AreSwept, Emits, AreDef
 ghost use Rattle.snapshot_agg.specs.Answering.{is_stored};
 
 use crate::groups::Groups;
-use crate::passes::{Running, apply, check_defined, emit_ends, emit_starts};
+use crate::passes::{Running, apply, emit_ends, emit_starts, rows_of};
 use edge_stream::StepFault;
 use sweep_sides::{first_instant, rest};
 use tw_rows::{Edge, Time};
@@ -65,9 +65,10 @@ fn sweep_instant(
 {
     apply(groups, now)?;
     let keys = groups.touched.as_slice();
-    check_defined(groups, keys, t)?;
-    emit_ends(groups, running, answer, t, keys)?;
-    emit_starts(groups, running, answer, t, keys)?;
+    let kept = rows_of(groups, keys, t)?;
+    let rows = kept.as_slice();
+    emit_ends(running, answer, t, keys, rows)?;
+    emit_starts(running, answer, t, keys, rows)?;
     Ok(())
 }
 

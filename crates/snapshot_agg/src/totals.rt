@@ -5,7 +5,6 @@ ghost use Rattle.tw_rows.specs.SameCells.{same_cells};
 ghost use Rattle.tw_rows.specs.Bag.{SameBag};
 ghost use Rattle.tw_rows.specs.declared.cells.Datum.{Datum};
 ghost use Rattle.node_laws.specs.Keeping.{plain_cells};
-ghost use Rattle.plan_model.specs.RowOps.{is_undefined_group_in};
 ghost use Rattle.plan_model.specs.declared.agg.Agg.{Agg};
 ghost use Rattle.snapshot_agg.specs.States.{AreStatesOf, IsTotals, told_row};
 ghost use Rattle.snapshot_agg.specs.Touching.{Touches};
@@ -145,25 +144,6 @@ impl Totals {
         self.count -= 1;
         remove_all(&mut self.states, cells);
         Ok(())
-    }
-
-    // Whether the group is undefined: it has too many rows, or a sum that is no int.
-    pub(crate) fn is_undefined(&self) -> bool
-        requires { (aggs : List Agg) × (rows : List (List Datum))
-            × AreTotalsOf self.now aggs rows × (0 < length rows) }
-        ensures { (aggs : List Agg) (rows : List (List Datum)) → AreTotalsOf self.now aggs rows →
-            result ≡ is_undefined_group_in plain_cells aggs rows }
-    {
-        if self.count > MOST_ROWS {
-            return true;
-        }
-        for state in &self.states {
-            match state.value() {
-                Some(_) => {}
-                None => return true,
-            }
-        }
-        false
     }
 
     // The row of the group, unless it is undefined.

@@ -1,12 +1,9 @@
 use Rattle.std.specs.Prelude.{◌≡◌, true, Option, Some, None, is_some, refl}
 use Rattle.std.specs.Option.{option_copied}
-use Rattle.std.proofs.Common.{sym, ◌∙◌, ap, subst}
+use Rattle.std.proofs.Common.{sym, ◌∙◌, subst}
 use denote.Bor.{Bor}
 use Rattle.tw_rows.specs.declared.edge.HeldRow.{HeldRow}
-use Rattle.edge_history.specs.Opens.{bare}
-use Rattle.snapshot_agg.specs.Words.{tell}
-use Rattle.snapshot_agg.specs.KeyRow.{row_in}
-use Rattle.snapshot_agg.proofs.Rerunning.{told_is, rerun, begun_some, begun_none}
+use Rattle.snapshot_agg.proofs.Rerunning.{rerun, begun_some, begun_none}
 use Rattle.snapshot_agg.proofs.passes.start_key.Goals as goal
 
 some_there : (r : Option (Bor HeldRow)) (o : Option HeldRow) → option_copied r ≡ o → is_some r ≡ true → is_some o ≡ true
@@ -18,8 +15,4 @@ returns-then-is_some-clause-run c =
     rerun c.args.running.now c.args.key.now _ (begun_some c.args.t _ _ (some_there c.get.result _ c.get.ensures.value (sym c.is_some.ensures ∙ c.if-is_some.true)))
 
 pub returns-in-None-clause-run : goal.returns-in-None-clause-run
-returns-in-None-clause-run c =
-    let g = c.args.groups.now in
-    let e : None ≡ tell g.key.items g.aggs.items c.args.key.now (bare g.rows.rows) =
-    sym (ap row_in c.in-Row.is ∙ c.in-None.is) ∙ told_is c.in_ok-row_of.field-0 _ _ c.in_ok-row_of.ensures c.requires.fine in
-    rerun c.args.running.now c.args.key.now _ (begun_none c.args.t _ _ e)
+returns-in-None-clause-run c = rerun c.args.running.now c.args.key.now _ (begun_none c.args.t _ _ (sym c.in-None.is))
