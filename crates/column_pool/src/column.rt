@@ -1,5 +1,5 @@
 // A list of cells whose room is made once.
-ghost use Rattle.std.specs.Prelude.{◌≡◌, ◌+◌, ◌<◌, ◌≤◌, [], ◌∷◌, ◌++◌, length, slice_get, slice_set, Some, IfOk, IsTrue, ◌↔◌};
+ghost use Rattle.std.specs.Prelude.{drop, ◌≡◌, ◌+◌, ◌<◌, ◌≤◌, [], ◌∷◌, ◌++◌, length, slice_get, slice_set, Some, IfOk, IsTrue, ◌↔◌};
 
 use crate::cell::Cell;
 use std::alloc::{AllocError, Global};
@@ -109,6 +109,15 @@ impl<T: Cell> Column<T> {
         ensures within { length self.now.items ≤ self.now.capacity }
     {
         self.capacity
+    }
+
+    /// Takes the first `count` cells out, and leaves the room as it was.
+    pub fn remove_first(&mut self, count: usize)
+        requires { count ≤ length self.old.items }
+        ensures { self.new ≡ record self.old { items = drop count self.old.items } }
+    {
+        self.items.copy_within(count.., 0);
+        self.items.truncate(self.items.len() - count);
     }
 
     /// Leaves no cell, and the room as it was.
