@@ -2,7 +2,7 @@
 #![tactic(auto)]
 
 ghost use Rattle.std.specs.Prelude.{◌≡◌, ℕ, ◌+◌, ◌*◌, ◌^◌, ◌%◌, ◌<◌, ◌≤◌, ◌↔◌, true, false, []};
-ghost use Rattle.std.specs.Prelude.{◌∷◌, ◌++◌, length, count_by, slice_set, IfOk, IfSome, IfNone};
+ghost use Rattle.std.specs.Prelude.{◌∷◌, ◌++◌, length, count_by, replicate, slice_set, IfOk, IfSome, IfNone};
 ghost use Rattle.std.specs.Prelude.{IsTrue};
 ghost use Rattle.occupancy.specs.Bits.{is_set_at, IsNextSet, IsNoneSet, both, test, word_bits};
 
@@ -110,6 +110,22 @@ impl Occupancy {
     {
         for (w, kept) in mask.words.iter().enumerate() {
             self.words[w] &= *kept;
+        }
+    }
+
+    /// Adds `count` bits that are set, a word at a time where the list ends with a full word.
+    pub fn push_set(&mut self, count: usize)
+        requires { length self.old.items + count ≤ self.old.capacity }
+        ensures { self.new ≡ record self.old { items = self.old.items ++ replicate count true } }
+    {
+        let mut left = count;
+        'words: while left >= 64 && self.len % 64 == 0 {
+            self.push_word(u64::MAX, 64);
+            left -= 64;
+        }
+        'bits: while left > 0 {
+            self.push(true);
+            left -= 1;
         }
     }
 
