@@ -18,12 +18,14 @@ ghost use Rattle.ingress.specs.Counts.{may_hold};
 ghost use Rattle.ingress.specs.Admits.{cells_of, IsFor, SameFixed, Admits, WhateverFollowed};
 ghost use Rattle.ingress.specs.Admits.{StillAdmits, Takes, IsRefused, WantsMemory, IsLeft};
 ghost use Rattle.ingress.specs.Admits.{LeavesTexts};
+ghost use Rattle.ingress.specs.Ranks.{SamePools};
 
 use crate::entering::EventLine;
 use crate::held_streams::{HeldStreams, is_before};
 use crate::ingress::{Ingress, Refusal};
 use crate::watermarks::{Watermarks, later};
 use admission::{Admitted, Lateness, Policy};
+use batch::Pools;
 use line_text::Form;
 use row_reader::{CellEntry, Entry};
 use std::alloc::Global;
@@ -127,12 +129,13 @@ impl Ingress {
         for stream in streams {
             kinds.push(plain_kinds(alloc, &stream.schema)?)?;
         }
+        let held = HeldStreams::new(alloc, &kinds, capacity)?;
         Ok(Ingress {
             policy,
             kinds,
             capacity,
             watermarks: Watermarks::new(alloc, streams.len())?,
-            held: HeldStreams::new(alloc, streams.len())?,
+            held,
             released: Time::ZERO,
             alloc,
         })
@@ -140,7 +143,12 @@ impl Ingress {
 
     /// One line more. What it gives is held. The texts of its row are in the table then, also where it is dropped or refused; but
     /// for them a refusal changes nothing.
-    pub fn admit(&mut self, entry: Entry, texts: &mut TextTable) -> Result<Admitted, Refusal>
+    pub fn admit(
+        &mut self,
+        entry: Entry,
+        texts: &mut TextTable,
+        pools: &mut Pools,
+    ) -> Result<Admitted, Refusal>
         requires { Fits (cells_of self.old) entry }
         ensures ok { IfOk result (Takes texts.old texts.new entry self.old self.new) }
         ensures refused { IfErr result (IsRefused texts.old entry self.old) }
@@ -150,16 +158,22 @@ impl Ingress {
         ensures begins { BeginsWith texts.new texts.old }
         ensures fixed { SameFixed self.old self.new }
         ensures released { self.new.released ≡ self.old.released }
+        ensures pools { SamePools pools.old pools.new }
     {
         let cells = match cells_of_entry(self.alloc, entry, texts) {
             Ok(cells) => cells,
             Err(Memory) => return Err(Refusal::Memory),
         };
-        self.admit_cells(cells, texts)
+        self.admit_cells(cells, texts, pools)
     }
 
     /// One line more, whose values are cells: what is admitted is the entry that they stand for. A refusal changes nothing.
-    pub fn admit_cells(&mut self, entry: CellEntry, texts: &TextTable) -> Result<Admitted, Refusal>
+    pub fn admit_cells(
+        &mut self,
+        entry: CellEntry,
+        texts: &TextTable,
+        pools: &mut Pools,
+    ) -> Result<Admitted, Refusal>
         requires placed { IsPlacedIn texts.now entry }
         requires fits { Fits (cells_of self.old) (entry_in texts.now entry) }
         ensures ok { IfOk result (Takes texts.now texts.now (entry_in texts.now entry) self.old
@@ -171,6 +185,7 @@ impl Ingress {
         ensures err { OnErr result (StillAdmits texts.now texts.now self.old self.new) }
         ensures fixed { SameFixed self.old self.new }
         ensures released { self.new.released ≡ self.old.released }
+        ensures pools { SamePools pools.old pools.new }
     {
         match entry {
             CellEntry::Skip => Ok(Admitted::Skipped),
@@ -184,7 +199,7 @@ impl Ingress {
                 sync,
                 other,
                 cells,
-            } => self.admit_event(stream, form, sync, other, cells, texts),
+            } => self.admit_event(stream, form, sync, other, cells, texts, pools),
         }
     }
 
@@ -213,6 +228,7 @@ impl Ingress {
         other: Time,
         cells: Cells,
         texts: &TextTable,
+        pools: &mut Pools,
     ) -> Result<Admitted, Refusal>
         requires placed { ArePlaced texts.now cells }
         requires stream { stream < length self.old.kinds.items }
@@ -228,6 +244,7 @@ impl Ingress {
         ensures err { OnErr result (StillAdmits texts.now texts.now self.old self.new) }
         ensures fixed { SameFixed self.old self.new }
         ensures released { self.new.released ≡ self.old.released }
+        ensures pools { SamePools pools.old pools.new }
     {
         let bound = self.watermarks.bound(stream);
         if is_refused(self.policy, sync, bound) {
@@ -243,7 +260,7 @@ impl Ingress {
         };
         // each text is in the table once
         let _count = texts.len();
-        let Ok(entered) = self.held.enter(&line, cells) else {
+        let Ok(entered) = self.held.enter(pools, &line, cells) else {
             return Err(Refusal::Memory);
         };
         let Some(answer) = entered else {

@@ -128,7 +128,7 @@ impl Parts {
             Ok(entry) => entry,
             Err(fault) => return Err(EngineFault::of_row(number, &fault)),
         };
-        match self.ingress.admit_cells(entry, &self.texts) {
+        match self.ingress.admit_cells(entry, &self.texts, &mut self.pools) {
             Ok(_) => Ok(()),
             Err(refusal) => Err(EngineFault::of_refusal(number, &refusal)),
         }
