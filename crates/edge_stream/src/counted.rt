@@ -1,5 +1,5 @@
 // How many edges of a list come before a time, and where the first one after it is.
-ghost use Rattle.std.specs.Prelude.{◌≡◌, ◌+◌, ◌<◌, ◌≤◌, true, take, drop, length, filter, IfSome, IsNone};
+ghost use Rattle.std.specs.Prelude.{◌≡◌, ◌+◌, ◌<◌, ◌≤◌, ◌-◌, true, take, drop, length, filter, IfSome, IsNone};
 ghost use Rattle.std.specs.List.{list_all};
 ghost use Rattle.tw_rows.specs.declared.edge.Edge.{Edge};
 ghost use Rattle.batch.specs.Rows.{edges_of, occupied_rows};
@@ -33,7 +33,8 @@ pub(crate) fn row_from(batch: &Batch, t: Time) -> usize
 
 // How many rows of a batch are occupied, from one on and before another.
 fn occupied_between(batch: &Batch, from: usize, to: usize) -> usize
-    requires { (from ≤ to) × (to ≤ length batch.now.rows) }
+    requires order { from ≤ to }
+    requires within { to ≤ length batch.now.rows }
     ensures { result ≡ length (occupied_rows (take (to - from) (drop from batch.now.rows))) }
 {
     // mostly all are
