@@ -4,3 +4,4 @@ pub mod Views
 pub mod PoolLaws
 pub mod Keeping
 pub mod Placing
+pub mod Bulk

@@ -160,7 +160,7 @@ impl EdgeList {
     // Opens a batch. It is a function of its own since a call clears the memory of all its locals, and
     // a batch is large.
     #[inline(never)]
-    fn open_batch(&mut self, pools: &mut Pools) -> Result<(), Memory>
+    pub(crate) fn open_batch(&mut self, pools: &mut Pools) -> Result<(), Memory>
         requires capacity { pools.old.capacity ≡ self.old.capacity }
         requires full { self.old.room ≡ 0 }
         ensures ok { OnOk result (self.new ≡ with_room self.old) }

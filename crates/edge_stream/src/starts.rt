@@ -1,0 +1,59 @@
+// Start edges that are taken out of a list again.
+ghost use Rattle.std.specs.Prelude.{◌≡◌, ◌<◌, ◌∷◌, false, true, slice_get, length, Some, IsTrue, IfSome, IsNone};
+ghost use Rattle.tw_rows.specs.Instant.{inf};
+ghost use Rattle.tw_rows.specs.Bag.{SameBag};
+ghost use Rattle.batch.specs.Rows.{Row, edge_of, edges_of};
+ghost use Rattle.edge_history.specs.Order.{many, starts_it};
+ghost use Rattle.edge_stream.specs.Listing.{SameShape};
+
+use crate::list::EdgeList;
+use batch::Batch;
+use tw_rows::{Cells, Datum, Time};
+
+// Whether the edge of the row `i` is the start edge of these cells at that time.
+#[tactic(auto, unfolding(tw_rows::specs::Instant::inf))]
+fn is_start(batch: &Batch, i: usize, cells: &[Datum], start: Time) -> bool
+    requires { i < length batch.now.rows }
+    ensures { (r : Row) → slice_get batch.now.rows i ≡ Some r →
+        result ≡ starts_it cells.now start (edge_of r) }
+{
+    let sync = batch.sync_at(i);
+    let other = batch.other_at(i);
+    other == Time::INF && sync <= other && batch.has_cells(i, cells) && sync == start
+}
+
+// The first row with a start edge of these cells at that time.
+fn start_row(batch: &Batch, cells: &[Datum], start: Time) -> Option<usize>
+    ensures some { IfSome result (λ i. (r : Row) → slice_get batch.now.rows i ≡ Some r →
+        r.occupied ≡ true) }
+    ensures starts { IfSome result (λ i. (r : Row) → slice_get batch.now.rows i ≡ Some r →
+        starts_it cells.now start (edge_of r) ≡ true) }
+    ensures within { IfSome result (λ i. i < length batch.now.rows) }
+    ensures none { IsNone result → many (starts_it cells.now start) (edges_of batch.now.rows) ≡ 0 }
+{
+    for i in 0..batch.rows() {
+        if batch.occupancy().is_set(i) && is_start(batch, i, cells, start) {
+            return Some(i);
+        }
+    }
+    None
+}
+
+impl EdgeList {
+    /// Takes out a start edge of these cells at that time, if there is one. Its row stays, unoccupied.
+    pub fn take_start(&mut self, cells: &Cells, start: Time) -> bool
+        ensures taken { IsTrue result → SameBag
+            (record { sync = start; other = inf; cells = cells.now } ∷ self.new.edges) self.old.edges }
+        ensures none { result ≡ false → many (starts_it cells.now start) self.old.edges ≡ 0 }
+        ensures kept { result ≡ false → self.new ≡ self.old }
+        ensures shape { SameShape self.old self.new }
+    {
+        for place in 0..self.batches.len() {
+            if let Some(row) = start_row(&self.batches[place], cells.items(), start) {
+                self.batches[place].clear_row(row);
+                return true;
+            }
+        }
+        false
+    }
+}
