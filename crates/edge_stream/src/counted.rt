@@ -3,7 +3,7 @@ ghost use Rattle.std.specs.Prelude.{◌≡◌, ◌+◌, ◌<◌, ◌≤◌, ◌-
 ghost use Rattle.std.specs.List.{list_all};
 ghost use Rattle.tw_rows.specs.declared.edge.Edge.{Edge};
 ghost use Rattle.batch.specs.Rows.{edges_of, occupied_rows};
-ghost use Rattle.edge_history.specs.Order.{Rises, rank, many, is_below, is_from};
+ghost use Rattle.edge_history.specs.Order.{KeepsOrder, Rises, rank, many, is_below, is_from};
 ghost use Rattle.edge_stream.specs.Reading.{first_sync, last_rank};
 
 use crate::list::EdgeList;
@@ -115,7 +115,8 @@ impl EdgeList {
 
     /// The rank of the last edge.
     pub fn last_rank(&self) -> Option<u64>
-        ensures { result ≡ last_rank self.now.edges }
+        ensures rank { result ≡ last_rank self.now.edges }
+        ensures order { KeepsOrder self.now.edges }
     {
         for place in (0..self.batches.len()).rev() {
             if let Some(rank) = last_in(&self.batches[place]) {

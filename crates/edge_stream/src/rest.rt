@@ -64,13 +64,14 @@ impl EdgeList {
         Ok(())
     }
 
-    /// Adds copies of the edges before `t` last to a list of the same kinds, whole columns at once. Memory is
-    /// taken for batches alone; want of it leaves the first of them added.
+    /// Adds copies of the edges before `t` to an empty list of the same kinds, whole columns at once. Memory
+    /// is taken for batches alone; want of it leaves the first of them added.
     pub fn copy_below(&self, pools: &mut Pools, t: Time, to: &mut EdgeList) -> Result<(), Memory>
         requires capacity { (pools.old.capacity ≡ self.now.capacity) × (to.old.capacity ≡ self.now.capacity) }
         requires kinds { cells_of to.old ≡ cells_of self.now }
-        requires order { KeepsOrder (to.old.edges ++ self.now.edges) }
-        ensures ok { OnOk result (to.new.edges ≡ to.old.edges ++ filter (is_below t) self.now.edges) }
+        requires empty { to.old.edges ≡ [] }
+        ensures ok { OnOk result (to.new.edges ≡ filter (is_below t) self.now.edges) }
+        ensures order { KeepsOrder self.now.edges }
         ensures shape { SameShape to.old to.new }
         ensures batches { to.old.batches ≤ to.new.batches }
         ensures pools { OnOk result (pools.new ≡ batches_taken (to.new.batches - to.old.batches)
