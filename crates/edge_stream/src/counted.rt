@@ -4,7 +4,7 @@ ghost use Rattle.std.specs.Prelude.{filter, IfSome, IsNone, IsTrue};
 ghost use Rattle.std.specs.List.{list_all};
 ghost use Rattle.tw_rows.specs.declared.edge.Edge.{Edge};
 ghost use Rattle.batch.specs.Rows.{edges_of};
-ghost use Rattle.edge_history.specs.Order.{Rises, rank, many, is_below, is_from};
+ghost use Rattle.edge_history.specs.Order.{KeepsOrder, Rises, rank, many, is_below, is_from};
 ghost use Rattle.edge_stream.specs.Listing.{edges_in};
 ghost use Rattle.edge_stream.specs.Reading.{first_sync, last_rank};
 
@@ -174,7 +174,8 @@ impl EdgeList {
 
     /// The rank of the last edge.
     pub fn last_rank(&self) -> Option<u64>
-        ensures { result ≡ last_rank self.now.edges }
+        ensures rank { result ≡ last_rank self.now.edges }
+        ensures order { KeepsOrder self.now.edges }
     {
         last_of(&self.batches)
     }

@@ -150,15 +150,15 @@ impl EdgeList {
         Ok(())
     }
 
-    /// Adds copies of the edges before `t` last to a list of the same kinds, whole columns at once. Memory
-    /// is taken for batches alone; out of memory the first of them are added.
+    /// Adds copies of the edges before `t` to an empty list of the same kinds, whole columns at once.
+    /// Memory is taken for batches alone; out of memory the first of them are added.
     pub fn copy_below(&self, pools: &mut Pools, t: Time, to: &mut EdgeList) -> Result<(), Memory>
         requires pools { pools.old.capacity ≡ self.now.capacity }
         requires capacity { to.old.capacity ≡ self.now.capacity }
         requires kinds { cells_of to.old ≡ cells_of self.now }
-        requires order { KeepsOrder (to.old.edges ++ self.now.edges) }
-        ensures ok { OnOk result (to.new.edges
-            ≡ to.old.edges ++ filter (is_below t) self.now.edges) }
+        requires empty { to.old.edges ≡ [] }
+        ensures ok { OnOk result (to.new.edges ≡ filter (is_below t) self.now.edges) }
+        ensures order { KeepsOrder self.now.edges }
         ensures shape { SameShape to.old to.new }
         ensures batches { to.old.batches ≤ to.new.batches }
         ensures pools { OnOk result (pools.new
