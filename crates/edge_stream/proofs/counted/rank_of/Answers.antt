@@ -1,6 +1,6 @@
 use Rattle.std.proofs.Common.{◌≡◌, refl, arith}
 use Rattle.tw_rows.specs.Instant.{inf}
-use Rattle.edge_stream.proofs.cursor.Cursor.rank.Goals as goal
+use Rattle.edge_stream.proofs.counted.rank_of.Goals as goal
 
 inf_is : inf ≡ 2305843009213693952
 unfolding inf

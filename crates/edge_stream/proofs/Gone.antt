@@ -1,0 +1,176 @@
+-- Edges that go: that of one row, those of the first rows, and those of the first batches.
+use Rattle.std.proofs.Common.{◌≡◌, ◌≤◌, ◌<◌, ℕ, zero, suc, ◌+◌, ◌-◌, ◌&&◌, Bool, true, false, cond, List, [], ◌∷◌, ◌++◌, map, length, get_or, set, take, drop, refl, ap, sym, ◌∙◌, subst, arith, add-one, append_assoc, append-nil, drop-cons}
+use Rattle.std.specs.Prelude.{All, Some, filter, slice_get, nat_eq, not}
+use Rattle.std.specs.List.{list_all}
+use Rattle.std.proofs.lemmas.List.{set_split, take_more_set}
+use Rattle.std.proofs.lemmas.List.Elements.{All-nil, All-cons, All-head, All-tail, All-append, filter-append}
+use Rattle.std.proofs.lemmas.List.Folds.{list_all-append}
+use Rattle.std.proofs.lemmas.Option.{get_or_from_slice_get}
+use Rattle.std.proofs.lemmas.Bool.{and_parts, eqb-true}
+use Rattle.tw_rows.specs.Instant.{inf}
+use Rattle.tw_rows.specs.Bag.{total, SameBag}
+use Rattle.tw_rows.specs.SameCells.{same_cells, cells_are_same}
+use Rattle.tw_rows.proofs.Bags.{total-append}
+use Rattle.tw_rows.specs.declared.cells.Datum.{Datum}
+use Rattle.tw_rows.specs.declared.edge.Edge.{Edge}
+use Rattle.batch.specs.Rows.{Row, Table, edge_of, edges_of, occupied_rows}
+use Rattle.edge_history.specs.Order.{Rises, IsReal, KeepsOrder, rank, is_end, is_below, is_from, many, starts_it}
+use Rattle.edge_history.proofs.Rising.{Rises-less}
+use Rattle.edge_history.proofs.Keeping.{KeepsOrder-front, KeepsOrder-back}
+use Rattle.edge_stream.specs.Listing.{edges_in}
+use Rattle.edge_stream.proofs.Parts.{filter-none, length-filter-le}
+use Rattle.edge_stream.proofs.Rising.{below-not_from, lower_clean, upper_clean}
+use Rattle.edge_stream.proofs.Cutting.{edges_in-append}
+use Rattle.edge_stream.proofs.Fronts.{edges-append, edges_parts}
+use Rattle.edge_stream.proofs.Passing.{whole_in}
+
+-- ---- one edge less
+
+rises_without : (r : ℕ) (a b : List Edge) (e : Edge) → Rises r (a ++ e ∷ b) → Rises r (a ++ b)
+rises_without r [] b e h = Rises-less (rank e) r b h.0 h.1
+rises_without r (x ∷ a) b e h = (h.0, rises_without (rank x) a b e h.1)
+
+pub order_without : (a b : List Edge) (e : Edge) → KeepsOrder (a ++ e ∷ b) → KeepsOrder (a ++ b)
+order_without a b e h = record {
+  rises = rises_without 0 a b e h.rises;
+  real = All-append IsReal a b (KeepsOrder-front a (e ∷ b) h).real (All-tail IsReal e b (KeepsOrder-back a (e ∷ b) h).real);
+}
+
+bag_without : (a b : List Edge) (e : Edge) → SameBag (e ∷ (a ++ b)) (a ++ e ∷ b)
+bag_without a b e = record { weigh = λ w. omega (arith, total-append w a b, total-append w a (e ∷ b)) }
+
+-- the start edge that the test finds
+pub start_is : (cells : List Datum) (start : ℕ) (e : Edge) → starts_it cells start e ≡ true → e ≡ record { sync = start; other = inf; cells = cells }
+start_is cells start e h =
+    let p = and_parts (nat_eq e.other inf) (not (is_end e) && (same_cells e.cells cells && nat_eq e.sync start)) h in
+    let q = and_parts (not (is_end e)) (same_cells e.cells cells && nat_eq e.sync start) p.1 in
+    let r = and_parts (same_cells e.cells cells) (nat_eq e.sync start) q.1 in
+    let a = eqb-true e.other inf p.0 in
+    let b = cells_are_same e.cells cells r.0 in
+    let s = eqb-true e.sync start r.1 in
+    λ i. record { sync = s i; other = a i; cells = b i }
+
+-- ---- a row that is cleared
+
+pub edges_set : (bs : List Table) (n : ℕ) (new : Table) → n < length bs → edges_in (set bs n new) ≡ edges_in (take n bs) ++ (edges_of new.rows ++ edges_in (drop (suc n) bs))
+edges_set bs n new lt = ap edges_in (set_split bs n new lt) ∙ edges_in-append (take n bs) (new ∷ drop (suc n) bs)
+
+module _ (rows : List Row) (i : ℕ) (r : Row) (lt : i < length rows) (found : slice_get rows i ≡ Some r) where
+  pub edges_cleared : edges_of (set rows i (record r { occupied = false })) ≡ edges_of (take i rows) ++ edges_of (drop (suc i) rows)
+  edges_cleared = ap edges_of (set_split rows i (record r { occupied = false }) lt) ∙ edges-append (take i rows) (record r { occupied = false } ∷ drop (suc i) rows)
+
+  edges_with : r.occupied ≡ true → edges_of rows ≡ edges_of (take i rows) ++ (edge_of r ∷ edges_of (drop (suc i) rows))
+  edges_with set =
+      sym (edges_parts i rows) ∙ ap (λ l. edges_of (take i rows) ++ edges_of l) (drop-cons rows i r lt ∙ ap (λ x. x ∷ drop (suc i) rows) (get_or_from_slice_get rows i r r found))
+      ∙ ap (λ b. edges_of (take i rows) ++ map edge_of (cond b (r ∷ occupied_rows (drop (suc i) rows)) (occupied_rows (drop (suc i) rows)))) set
+
+  -- in a batch of several
+  module _ (bs : List Table) (n : ℕ) (b new : Table) (low : n < length bs) (is : b ≡ get_or bs n b) (same : b.rows ≡ rows) (set : r.occupied ≡ true)
+      (gone : new.rows ≡ set rows i (record r { occupied = false })) where
+    abbrev front : List Edge
+    front = edges_in (take n bs) ++ edges_of (take i rows)
+
+    abbrev rest : List Edge
+    rest = edges_of (drop (suc i) rows) ++ edges_in (drop (suc n) bs)
+
+    was : edges_in bs ≡ front ++ edge_of r ∷ rest
+    was =
+        whole_in bs n b low is ∙ (λ j. edges_in (take n bs) ++ (edges_of (same j) ++ edges_in (drop (add-one n j) bs)))
+        ∙ ap (λ l. edges_in (take n bs) ++ (l ++ edges_in (drop (suc n) bs))) (edges_with set)
+        ∙ ap (λ l. edges_in (take n bs) ++ l) (append_assoc (edges_of (take i rows)) (edge_of r ∷ edges_of (drop (suc i) rows)) (edges_in (drop (suc n) bs)))
+        ∙ sym (append_assoc (edges_in (take n bs)) (edges_of (take i rows)) (edge_of r ∷ rest))
+
+    now : edges_in (set bs n new) ≡ front ++ rest
+    now =
+        edges_set bs n new low ∙ ap (λ l. edges_in (take n bs) ++ (l ++ edges_in (drop (suc n) bs))) (ap edges_of gone ∙ edges_cleared)
+        ∙ ap (λ l. edges_in (take n bs) ++ l) (append_assoc (edges_of (take i rows)) (edges_of (drop (suc i) rows)) (edges_in (drop (suc n) bs)))
+        ∙ sym (append_assoc (edges_in (take n bs)) (edges_of (take i rows)) rest)
+
+    pub order_cleared : KeepsOrder (edges_in bs) → KeepsOrder (edges_in (set bs n new))
+    order_cleared h = subst KeepsOrder (sym now) (order_without front rest (edge_of r) (subst KeepsOrder was h))
+
+    pub bag_cleared : (cells : List Datum) (start : ℕ) → starts_it cells start (edge_of r) ≡ true → SameBag (record { sync = start; other = inf; cells = cells } ∷ edges_in (set bs n new)) (edges_in bs)
+    bag_cleared cells start starts =
+        let e : edge_of r ≡ record { sync = start; other = inf; cells = cells } = start_is cells start (edge_of r) starts in
+        let both : SameBag (edge_of r ∷ (front ++ rest)) (front ++ edge_of r ∷ rest) = bag_without front rest (edge_of r) in
+        let moved : SameBag (edge_of r ∷ edges_in (set bs n new)) (edges_in bs) = subst (λ l. SameBag (edge_of r ∷ edges_in (set bs n new)) l) (sym was) (subst (λ l. SameBag (edge_of r ∷ l) (front ++ edge_of r ∷ rest)) (sym now) both) in
+        subst (λ x. SameBag (x ∷ edges_in (set bs n new)) (edges_in bs)) e moved
+
+-- ---- the first rows
+
+-- one row more of those that hold no edge
+pub none_cleared : (rows : List Row) (i : ℕ) (r : Row) → i < length rows → edges_of (take i rows) ≡ [] → edges_of (take (i + 1) (set rows i (record r { occupied = false }))) ≡ []
+none_cleared rows i r lt none =
+    ap edges_of (take_more_set rows i (record r { occupied = false }) lt) ∙ edges-append (take i rows) (record r { occupied = false } ∷ []) ∙ ap (λ l. l ++ []) none
+
+-- as many are occupied as there are
+pub all_occupied : (rows : List Row) → length (occupied_rows rows) ≡ length rows → occupied_rows rows ≡ rows
+all_occupied [] h = refl
+all_occupied (r ∷ rs) h = pick r.occupied h (all_occupied rs)
+  where
+    pick : (b : Bool) → length (cond b (r ∷ occupied_rows rs) (occupied_rows rs)) ≡ suc (length rs) → (length (occupied_rows rs) ≡ length rs → occupied_rows rs ≡ rs) →
+        cond b (r ∷ occupied_rows rs) (occupied_rows rs) ≡ r ∷ rs
+    pick true k rest = ap (λ l. r ∷ l) (rest (omega (arith, k)))
+    pick false k rest = absurd (omega (arith, k, length-filter-le (λ q. q.occupied) rs))
+
+-- where no edge stands from a row on, all come before t
+pub all_low : (t k : ℕ) (rows : List Row) → list_all (is_below t) (edges_of (take k rows)) ≡ true → edges_of (drop k rows) ≡ [] → list_all (is_below t) (edges_of rows) ≡ true
+all_low t k rows low none =
+    ap (list_all (is_below t)) (sym (edges_parts k rows) ∙ ap (λ l. edges_of (take k rows) ++ l) none ∙ append-nil (edges_of (take k rows))) ∙ low
+
+-- ---- the first batches
+
+-- the first batch keeps what does not come before t
+pub front_cut : (t k : ℕ) (bs : List Table) (b new : Table) → 0 < length bs → b ≡ get_or bs 0 b → edges_of new.rows ≡ edges_of (drop k b.rows) →
+    list_all (is_below t) (edges_of (take k b.rows)) ≡ true → list_all (is_from t) (edges_of (drop k b.rows)) ≡ true → list_all (is_from t) (edges_in (drop 1 bs)) ≡ true →
+    edges_in (set bs 0 new) ≡ filter (is_from t) (edges_in bs)
+front_cut t k [] b new lt is left low high later = absurd (omega (arith, lt))
+front_cut t k (x ∷ bs) b new lt is left low high later =
+    let a = edges_of (take k b.rows) in
+    let r = edges_of (drop k b.rows) ++ edges_in bs in
+    let from : list_all (is_from t) r ≡ true = list_all-append (is_from t) (edges_of (drop k b.rows)) (edges_in bs) ∙ rw (high, later) refl in
+    let whole : a ++ r ≡ edges_in (x ∷ bs) =
+    sym (append_assoc a (edges_of (drop k b.rows)) (edges_in bs)) ∙ ap (λ l. l ++ edges_in bs) (edges_parts k b.rows) ∙ ap (λ c. edges_of c.rows ++ edges_in bs) is in
+    ap (λ l. l ++ edges_in bs) left ∙ upper_clean t a r low from ∙ ap (filter (is_from t)) whole
+
+-- a batch whose edges all come before t goes
+pub front_gone : (t : ℕ) (bs : List Table) (b : Table) → 0 < length bs → b ≡ get_or bs 0 b → list_all (is_below t) (edges_of b.rows) ≡ true →
+    filter (is_from t) (edges_in (drop 1 bs)) ≡ filter (is_from t) (edges_in bs)
+front_gone t [] b lt is low = absurd (omega (arith, lt))
+front_gone t (x ∷ bs) b lt is low =
+    let none : filter (is_from t) (edges_of x.rows) ≡ [] = filter-none (is_below t) (is_from t) (below-not_from t) (edges_of x.rows) (ap (λ c. list_all (is_below t) (edges_of c.rows)) (sym is) ∙ low) in
+    sym (filter-append (is_from t) (edges_of x.rows) (edges_in bs) ∙ ap (λ l. l ++ filter (is_from t) (edges_in bs)) none)
+
+-- ---- the copies
+
+-- the batch is the last one with edges before t
+module _ (t k : ℕ) (bs : List Table) (n : ℕ) (b : Table) (lt : n < length bs) (is : b ≡ get_or bs n b) (below : list_all (is_below t) (edges_in (take n bs)) ≡ true)
+    (low : list_all (is_below t) (edges_of (take k b.rows)) ≡ true) where
+  abbrev parts : List Edge
+  parts = edges_in (take n bs) ++ edges_of (take k b.rows)
+
+  pub low_parts : list_all (is_below t) parts ≡ true
+  low_parts = list_all-append (is_below t) (edges_in (take n bs)) (edges_of (take k b.rows)) ∙ rw (below, low) refl
+
+  whole_parts : edges_in bs ≡ parts ++ (edges_of (drop k b.rows) ++ edges_in (drop (n + 1) bs))
+  whole_parts =
+      whole_in bs n b lt is ∙ ap (λ l. edges_in (take n bs) ++ (l ++ edges_in (drop (n + 1) bs))) (sym (edges_parts k b.rows))
+      ∙ ap (λ l. edges_in (take n bs) ++ l) (append_assoc (edges_of (take k b.rows)) (edges_of (drop k b.rows)) (edges_in (drop (n + 1) bs)))
+      ∙ sym (append_assoc (edges_in (take n bs)) (edges_of (take k b.rows)) (edges_of (drop k b.rows) ++ edges_in (drop (n + 1) bs)))
+
+  pub parts_are_low : list_all (is_from t) (edges_of (drop k b.rows)) ≡ true → list_all (is_from t) (edges_in (drop (n + 1) bs)) ≡ true → parts ≡ filter (is_below t) (edges_in bs)
+  parts_are_low high later =
+      let from : list_all (is_from t) (edges_of (drop k b.rows) ++ edges_in (drop (n + 1) bs)) ≡ true = list_all-append (is_from t) (edges_of (drop k b.rows)) (edges_in (drop (n + 1) bs)) ∙ rw (high, later) refl in
+      lower_clean t parts (edges_of (drop k b.rows) ++ edges_in (drop (n + 1) bs)) low_parts from ∙ ap (filter (is_below t)) (sym whole_parts)
+
+  -- what is there, and what is copied, keeps the order
+  module _ (out to : List Edge) (so_far : to ≡ out ++ edges_in (take n bs)) where
+    pub order_parts : KeepsOrder (out ++ edges_in bs) → KeepsOrder (to ++ edges_of (take k b.rows))
+    order_parts h =
+        let whole : out ++ edges_in bs ≡ (to ++ edges_of (take k b.rows)) ++ (edges_of (drop k b.rows) ++ edges_in (drop (n + 1) bs)) =
+        ap (λ l. out ++ l) whole_parts ∙ sym (append_assoc out parts (edges_of (drop k b.rows) ++ edges_in (drop (n + 1) bs)))
+        ∙ ap (λ l. l ++ (edges_of (drop k b.rows) ++ edges_in (drop (n + 1) bs))) (sym (append_assoc out (edges_in (take n bs)) (edges_of (take k b.rows))) ∙ ap (λ l. l ++ edges_of (take k b.rows)) (sym so_far)) in
+        KeepsOrder-front (to ++ edges_of (take k b.rows)) (edges_of (drop k b.rows) ++ edges_in (drop (n + 1) bs)) (subst KeepsOrder whole h)
+
+    pub copied_parts : (new : List Edge) → new ≡ to ++ edges_of (take k b.rows) → new ≡ out ++ parts
+    copied_parts new is_new = is_new ∙ ap (λ l. l ++ edges_of (take k b.rows)) so_far ∙ append_assoc out (edges_in (take n bs)) (edges_of (take k b.rows))
