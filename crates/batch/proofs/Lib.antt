@@ -5,3 +5,5 @@ pub mod PoolLaws
 pub mod Keeping
 pub mod Placing
 pub mod Bulk
+pub mod FirstRows
+pub mod FirstViews

@@ -167,7 +167,8 @@ impl EdgeList {
 
     /// The sync of the first edge that comes at `t` or later.
     pub fn first_from(&self, t: Time) -> Option<Time>
-        ensures { result ≡ first_sync (filter (is_from t) self.now.edges) }
+        ensures sync { result ≡ first_sync (filter (is_from t) self.now.edges) }
+        ensures order { KeepsOrder self.now.edges }
     {
         first_of(&self.batches, t)
     }

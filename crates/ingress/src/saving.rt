@@ -53,7 +53,7 @@ fn save_queue(saved: &mut Saved, part: u64, queue: &EdgeList) -> Result<(), Memo
     ensures { OnOk result (saved.new ≡ saved.old ++ entries_of part queue.now.edges) }
 {
     let mut cursor = queue.cursor();
-    while let Some(edge) = cursor.next()? {
+    'edges: while let Some(edge) = cursor.next()? {
         saved.push(SavedEntry {
             part,
             sync: edge.sync,

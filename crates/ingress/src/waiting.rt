@@ -46,8 +46,7 @@ fn is_real(edge: &Edge) -> bool
 // Whether the edge can be put last in the list.
 fn goes_last(queue: &EdgeList, edge: &Edge) -> bool
     ensures kinds { IsTrue result → map datum_kind edge.now.cells ≡ cells_of queue.now }
-    ensures order { IsTrue result → KeepsOrder queue.now.edges →
-        KeepsOrder (queue.now.edges ++ edge.now ∷ []) }
+    ensures order { IsTrue result → KeepsOrder (queue.now.edges ++ edge.now ∷ []) }
 {
     is_real(edge)
         && is_stored_as(edge.cells.items(), queue.kinds())
@@ -56,8 +55,8 @@ fn goes_last(queue: &EdgeList, edge: &Edge) -> bool
 
 // Whether an edge of that rank comes after those of the list.
 fn comes_last(queue: &EdgeList, rank: u64) -> bool
-    ensures { IsTrue result → Rises 0 queue.now.edges → (edge : Edge) → edge_rank edge ≡ rank →
-        Rises 0 (queue.now.edges ++ edge ∷ []) }
+    ensures { IsTrue result → (edge : Edge) → edge_rank edge ≡ rank → IsReal edge →
+        KeepsOrder (queue.now.edges ++ edge ∷ []) }
 {
     match queue.last_rank() {
         Some(last) => last <= rank,
@@ -74,8 +73,10 @@ fn are_alike(a: &EdgeList, b: &EdgeList) -> bool
 
 // The rank of the next edge, where it is below `end`.
 fn rank_below(cursor: &Cursor, end: u64) -> Option<u64>
-    ensures below { IfSome result (λ r. (r < end) × ((e : Edge) (rest : List Edge) →
-        cursor.now.edges ≡ e ∷ rest → r ≡ edge_rank e)) }
+    ensures below { IfSome result (λ r. r < end) }
+    ensures rank { IfSome result (λ r. (e : Edge) (rest : List Edge) →
+        cursor.now.edges ≡ e ∷ rest → r ≡ edge_rank e) }
+    ensures some { cursor.now.edges ≡ [] → IsNone result }
     ensures none { IsNone result → (e : Edge) (rest : List Edge) → cursor.now.edges ≡ e ∷ rest →
         end ≤ edge_rank e }
 {
