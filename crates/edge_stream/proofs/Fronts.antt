@@ -1,9 +1,9 @@
 -- The first rows of a batch, and those that are left: their edges, and how many there are.
 use Rattle.std.proofs.Common.{◌≡◌, ◌≤◌, ◌<◌, ℕ, zero, suc, ◌+◌, ◌-◌, ◌&&◌, Bool, true, false, cond, List, [], ◌∷◌, ◌++◌, map, length, get_or, take, drop, refl, ap, sym, ◌∙◌, subst, arith, append-nil}
-use Rattle.std.specs.Prelude.{Option, Some, None, IsSome, IfSome, IfNone, IsTrue}
+use Rattle.std.specs.Prelude.{Option, Some, None, IfSome, IfNone, filter}
 use Rattle.std.specs.Option.{is_some}
 use Rattle.std.specs.List.{list_all}
-use Rattle.std.proofs.lemmas.List.{take-append-drop, take_more, map-append, length-map, length-append}
+use Rattle.std.proofs.lemmas.List.{take-append-drop, take_more, map-append, length-map, length-take}
 use Rattle.std.proofs.lemmas.List.Elements.{filter-append}
 use Rattle.std.proofs.lemmas.List.Folds.{list_all-append}
 use Rattle.std.proofs.lemmas.Option.{slice_get-get_or}
@@ -19,7 +19,7 @@ use Rattle.batch.proofs.Keeping.{no_row}
 use Rattle.edge_history.specs.Order.{Rises, many, is_below, is_from}
 use Rattle.edge_history.proofs.Rising.{Rises-back}
 use Rattle.edge_stream.proofs.Parts.{length-filter-le}
-use Rattle.edge_stream.proofs.Rising.{later_from, below-not_from, from-not_below}
+use Rattle.edge_stream.proofs.Rising.{later_from, below-not_from, from-not_below, upper_clean}
 use Rattle.edge_stream.proofs.Rows.{edges-push_row}
 use Rattle.edge_stream.proofs.Ahead.{row_occupied}
 
@@ -55,6 +55,10 @@ edges-append xs ys = ap (map edge_of) (filter-append (λ r. r.occupied) xs ys) �
 
 pub edges_parts : (n : ℕ) (rows : List Row) → edges_of (take n rows) ++ edges_of (drop n rows) ≡ edges_of rows
 edges_parts n rows = sym (edges-append (take n rows) (drop n rows)) ∙ ap edges_of (take-append-drop n rows)
+
+-- the edges from a row on are those that come at t or later
+pub upper_rows : (t k : ℕ) (rows : List Row) → list_all (is_below t) (edges_of (take k rows)) ≡ true → list_all (is_from t) (edges_of (drop k rows)) ≡ true → edges_of (drop k rows) ≡ filter (is_from t) (edges_of rows)
+upper_rows t k rows low high = upper_clean t (edges_of (take k rows)) (edges_of (drop k rows)) low high ∙ ap (filter (is_from t)) (edges_parts k rows)
 
 module _ (rows : List Row) (from k : ℕ) (next : IsNextSet (map (λ r. r.occupied) rows) from k) where
   -- the next row that holds an edge holds the first one that is left
@@ -117,11 +121,15 @@ pub fewer_hold : (m n : ℕ) (rows : List Row) → m ≤ n → length (edges_of 
 fewer_hold zero n rows le = omega arith
 fewer_hold (suc m) zero rows le = absurd (omega (arith, le))
 fewer_hold (suc m) (suc n) [] le = omega arith
-fewer_hold (suc m) (suc n) (r ∷ rs) le = pick r.occupied
+fewer_hold (suc m) (suc n) (r ∷ rs) le = pick r.occupied (fewer_hold m n rs (omega (arith, le)))
   where
-    pick : (b : Bool) → length (map edge_of (cond b (r ∷ occupied_rows (take m rs)) (occupied_rows (take m rs)))) ≤ length (map edge_of (cond b (r ∷ occupied_rows (take n rs)) (occupied_rows (take n rs))))
-    pick true = let h = fewer_hold m n rs (omega (arith, le)) in omega (arith, h)
-    pick false = fewer_hold m n rs (omega (arith, le))
+    pick : (b : Bool) → length (edges_of (take m rs)) ≤ length (edges_of (take n rs)) → length (map edge_of (cond b (r ∷ occupied_rows (take m rs)) (occupied_rows (take m rs)))) ≤ length (map edge_of (cond b (r ∷ occupied_rows (take n rs)) (occupied_rows (take n rs))))
+    pick true h = omega (arith, h)
+    pick false h = h
+
+-- no more than there are rows
+pub few_hold : (n : ℕ) (rows : List Row) → length (edges_of (take n rows)) ≤ n
+few_hold n rows = omega (arith, length-map (occupied_rows (take n rows)) edge_of, length-filter-le (λ r. r.occupied) (take n rows), length-take n rows)
 
 -- one row more
 module _ (rows : List Row) (i : ℕ) (lt : i < length rows) where
@@ -131,11 +139,20 @@ module _ (rows : List Row) (i : ℕ) (lt : i < length rows) where
   more : edges_of (take (i + 1) rows) ≡ edges_of (take i rows) ++ edges_of (r ∷ [])
   more = ap edges_of (take_more rows i no_row lt) ∙ edges-append (take i rows) (r ∷ [])
 
+  left : edges_of (drop i rows) ≡ edges_of (r ∷ drop (i + 1) rows)
+  left = ap edges_of (drop-cons rows i no_row lt ∙ ap (λ n. r ∷ drop n rows) (sym (add-one i)))
+
   pub one_more : r.occupied ≡ true → edges_of (take (i + 1) rows) ≡ edges_of (take i rows) ++ edge_of r ∷ []
   one_more set = more ∙ ap (λ b. edges_of (take i rows) ++ map edge_of (cond b (r ∷ []) [])) set
 
   pub no_more : r.occupied ≡ false → edges_of (take (i + 1) rows) ≡ edges_of (take i rows)
   no_more clear = more ∙ ap (λ b. edges_of (take i rows) ++ map edge_of (cond b (r ∷ []) [])) clear ∙ append-nil (edges_of (take i rows))
+
+  pub edges_left : r.occupied ≡ true → edges_of (drop i rows) ≡ edge_of r ∷ edges_of (drop (i + 1) rows)
+  edges_left holds = left ∙ ap (λ b. map edge_of (cond b (r ∷ occupied_rows (drop (i + 1) rows)) (occupied_rows (drop (i + 1) rows)))) holds
+
+  pub edges_clear : r.occupied ≡ false → edges_of (drop i rows) ≡ edges_of (drop (i + 1) rows)
+  edges_clear clear = left ∙ ap (λ b. map edge_of (cond b (r ∷ occupied_rows (drop (i + 1) rows)) (occupied_rows (drop (i + 1) rows)))) clear
 
 -- ---- how many edges come before a time
 

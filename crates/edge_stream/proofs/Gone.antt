@@ -60,12 +60,12 @@ module _ (rows : List Row) (i : ℕ) (r : Row) (lt : i < length rows) (found : s
   edges_cleared = ap edges_of (set_split rows i (record r { occupied = false }) lt) ∙ edges-append (take i rows) (record r { occupied = false } ∷ drop (suc i) rows)
 
   edges_with : r.occupied ≡ true → edges_of rows ≡ edges_of (take i rows) ++ (edge_of r ∷ edges_of (drop (suc i) rows))
-  edges_with set =
+  edges_with holds =
       sym (edges_parts i rows) ∙ ap (λ l. edges_of (take i rows) ++ edges_of l) (drop-cons rows i r lt ∙ ap (λ x. x ∷ drop (suc i) rows) (get_or_from_slice_get rows i r r found))
-      ∙ ap (λ b. edges_of (take i rows) ++ map edge_of (cond b (r ∷ occupied_rows (drop (suc i) rows)) (occupied_rows (drop (suc i) rows)))) set
+      ∙ ap (λ b. edges_of (take i rows) ++ map edge_of (cond b (r ∷ occupied_rows (drop (suc i) rows)) (occupied_rows (drop (suc i) rows)))) holds
 
   -- in a batch of several
-  module _ (bs : List Table) (n : ℕ) (b new : Table) (low : n < length bs) (is : b ≡ get_or bs n b) (same : b.rows ≡ rows) (set : r.occupied ≡ true)
+  module _ (bs : List Table) (n : ℕ) (b new : Table) (low : n < length bs) (is : b ≡ get_or bs n b) (same : b.rows ≡ rows) (holds : r.occupied ≡ true)
       (gone : new.rows ≡ set rows i (record r { occupied = false })) where
     abbrev front : List Edge
     front = edges_in (take n bs) ++ edges_of (take i rows)
@@ -76,7 +76,7 @@ module _ (rows : List Row) (i : ℕ) (r : Row) (lt : i < length rows) (found : s
     was : edges_in bs ≡ front ++ edge_of r ∷ rest
     was =
         whole_in bs n b low is ∙ (λ j. edges_in (take n bs) ++ (edges_of (same j) ++ edges_in (drop (add-one n j) bs)))
-        ∙ ap (λ l. edges_in (take n bs) ++ (l ++ edges_in (drop (suc n) bs))) (edges_with set)
+        ∙ ap (λ l. edges_in (take n bs) ++ (l ++ edges_in (drop (suc n) bs))) (edges_with holds)
         ∙ ap (λ l. edges_in (take n bs) ++ l) (append_assoc (edges_of (take i rows)) (edge_of r ∷ edges_of (drop (suc i) rows)) (edges_in (drop (suc n) bs)))
         ∙ sym (append_assoc (edges_in (take n bs)) (edges_of (take i rows)) (edge_of r ∷ rest))
 
