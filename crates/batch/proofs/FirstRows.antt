@@ -149,9 +149,9 @@ module _ (k count capacity there room : ℕ) (fits : k ≤ there) where
       let rest : map payload_kind fs ≡ map payload_kind ps = cc in
       let long = length-append (payload_data p) (take k (payload_data f)) in
       let taken = length-take-le k (payload_data f) (omega (arith, fits, other.cells)) in
-      let data = ap length (payload_data-extend k p f same) in
+      let longer = ap length (payload_data-extend k p f same) in
       All-cons (IsColumn (count + k) capacity) _ _ (record {
-        cells = omega (arith, data, long, taken, first.cells);
+        cells = omega (arith, longer, long, taken, first.cells);
         room = payload_capacity-extend k p f ∙ first.room;
       }) (columns-extended ps fs rest (All-tail (IsColumn count capacity) p ps all) (All-tail (IsColumn there room) f fs more))
 
