@@ -15,6 +15,7 @@ use batch::Pools;
 use carried_edges::is_stored_as;
 use edge_stream::{Cursor, EdgeList};
 use std::alloc::Global;
+use std::marker::Model;
 use tw_rows::{Cells, Edge, Kind, Memory, Time};
 
 /// Edges from which those before a time are taken first. One that comes in order and fits the columns is put last in a list of
