@@ -1,5 +1,5 @@
 -- The first rows of a batch, and those that are left: their edges, and how many there are.
-use Rattle.std.proofs.Common.{◌≡◌, ◌≤◌, ◌<◌, ℕ, zero, suc, ◌+◌, ◌-◌, ◌&&◌, Bool, true, false, cond, List, [], ◌∷◌, ◌++◌, map, length, get_or, take, drop, refl, ap, sym, ◌∙◌, subst, arith, append-nil}
+use Rattle.std.proofs.Common.{◌≡◌, ◌≤◌, ◌<◌, ℕ, zero, suc, ◌+◌, ◌-◌, ◌&&◌, Bool, true, false, cond, List, [], ◌∷◌, ◌++◌, map, length, get_or, take, drop, refl, ap, sym, ◌∙◌, subst, arith, add-one, append-nil, drop-cons}
 use Rattle.std.specs.Prelude.{Option, Some, None, IfSome, IfNone, filter}
 use Rattle.std.specs.Option.{is_some}
 use Rattle.std.specs.List.{list_all}
