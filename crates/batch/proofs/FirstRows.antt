@@ -1,9 +1,9 @@
 -- The rows of columns that lost their first cells, or got those of other ones.
 use Rattle.std.proofs.Common.{◌≡◌, ◌+◌, ◌-◌, ◌<◌, ◌≤◌, ℕ, zero, suc, pos, Bool, true, false, replicate, List, [], ◌∷◌, ◌++◌, map, length, take, drop, get_or, ◌⊎◌, inl, inr, refl, ap, sym, ◌∙◌, subst, arith}
-use Rattle.std.specs.Prelude.{All, count_by}
+use Rattle.std.specs.Prelude.{All, count_by, filter}
 use Rattle.std.proofs.lemmas.List.{map-append, drop-map, take-map, length-append, length-drop, length-take-le, get_or-drop, get_or-take, get_or_append_left, get_or-append_right}
 use Rattle.std.proofs.lemmas.List.Elements.{All-head, All-tail, All-cons, All-nil, All-append, All-drop, All-take}
-use Rattle.std.proofs.lemmas.List.Sums.{count_by-le-length}
+use Rattle.std.proofs.lemmas.List.Sums.{length-filter, count_by-le-length}
 use Rattle.std.proofs.lemmas.Bool.{cases_lt}
 use Rattle.tw_rows.specs.Instant.{inf}
 use Rattle.tw_rows.specs.declared.cells.Datum.TheVariants.{Int, Bool as Flag, Text}
@@ -84,10 +84,19 @@ AreColumns-cut k capacity c whole =
     }
 
 -- bits of which as many are set as there are: all are
+as_many_set : (bits : List Bool) → length (filter (λ b. b) bits) ≡ length bits → bits ≡ replicate (length bits) true
+as_many_set [] e = refl
+as_many_set (true ∷ bits) e =
+    let f : suc (length (filter (λ b. b) bits)) ≡ suc (length bits) = e in
+    ap (λ bs. true ∷ bs) (as_many_set bits (omega (arith, f)))
+as_many_set (false ∷ bits) e =
+    let f : length (filter (λ b. b) bits) ≡ suc (length bits) = e in
+    let same = length-filter (λ (b : Bool). b) bits in
+    let most = count_by-le-length (λ (b : Bool). b) bits in
+    absurd (omega (arith, f, same, most))
+
 pub all_set : (bits : List Bool) → count_by (λ b. b) bits ≡ length bits → bits ≡ replicate (length bits) true
-all_set [] e = refl
-all_set (true ∷ bits) e = ap (λ bs. true ∷ bs) (all_set bits (omega (arith, e)))
-all_set (false ∷ bits) e = absurd (omega (arith, e, count_by-le-length (λ (b : Bool). b) bits))
+all_set bits e = as_many_set bits (length-filter (λ b. b) bits ∙ e)
 
 -- ---- the rows of columns that got the first cells of other ones
 

@@ -3,6 +3,7 @@ use Rattle.std.proofs.Common.{◌≡◌, ◌+◌, ◌-◌, ◌<◌, ◌≤◌, �
 use Rattle.std.specs.Prelude.{All, count_by}
 use Rattle.std.specs.List.{refill}
 use Rattle.std.proofs.lemmas.List.{drop-replicate, length-map}
+use Rattle.column_pool.specs.Contents.{Contents}
 use Rattle.occupancy.specs.Bits.{Bits}
 use Rattle.batch.specs.declared.payload.Payload.{Payload}
 use Rattle.batch.specs.declared.batch.Batch.TheInside.{Inside}
@@ -56,6 +57,10 @@ module _ (k : ℕ) (b : Inside) (t : Table) (is : the_view b ≡ t) (holds : Hol
       (ap rows_of less_are ∙ rows_of-cut k (columns_of b) ∙ ap (λ rs. drop k rs) (rows_are b t is holds))
       (same_room ∙ capacity_is b t is holds)
       (ap (map payload_kind) payload ∙ kinds-cut k b.payload.items ∙ kinds_are b t is holds)
+
+-- a column that got the first k items of a slice
+pub extended_to : (k : ℕ) (c n : Contents ℕ) (seen items : List ℕ) → n ≡ record c { items = c.items ++ take k seen } → seen ≡ items → n ≡ record c { items = c.items ++ take k items }
+extended_to k c n seen items is same = is ∙ ap (λ l. record c { items = c.items ++ take k l }) same
 
 -- a batch whose columns got the first k rows of another one
 module _ (k : ℕ) (b f : Inside) (t u : Table) (is : the_view b ≡ t) (holds : Holds b) (from_is : the_view f ≡ u) (from_holds : Holds f) (n : Inside)

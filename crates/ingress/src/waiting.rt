@@ -1,6 +1,6 @@
 // Edges that wait for their time.
 ghost use Rattle.std.specs.Prelude.{◌≡◌, ◌-◌, ◌^◌, ◌<◌, ◌≤◌, min, length, map, filter, false, IsTrue};
-ghost use Rattle.std.specs.Prelude.{IfSome, IsNone, IfOk, OnOk, OnErr, List, [], ◌∷◌, ◌++◌};
+ghost use Rattle.std.specs.Prelude.{IfOk, OnOk, OnErr, List, [], ◌∷◌, ◌++◌};
 ghost use Rattle.tw_rows.specs.Instant.{inf};
 ghost use Rattle.tw_rows.specs.Bag.{SameBag};
 ghost use Rattle.tw_rows.specs.Cells.{datum_kind};
@@ -15,6 +15,7 @@ use batch::Pools;
 use carried_edges::is_stored_as;
 use edge_stream::{Cursor, EdgeList};
 use std::alloc::Global;
+use std::marker::Model;
 use tw_rows::{Cells, Edge, Kind, Memory, Time};
 
 /// Edges from which those before a time are taken first. One that comes in order and fits the columns is put last in a list of
@@ -71,17 +72,18 @@ fn are_alike(a: &EdgeList, b: &EdgeList) -> bool
     a.capacity() == b.capacity() && a.kinds() == b.kinds()
 }
 
-// The rank of the next edge, where it is below `end`.
-fn rank_below(cursor: &Cursor, end: u64) -> Option<u64>
-    ensures below { IfSome result (λ r. r < end) }
-    ensures rank { IfSome result (λ r. (e : Edge) (rest : List Edge) →
-        cursor.now.edges ≡ e ∷ rest → r ≡ edge_rank e) }
-    ensures some { cursor.now.edges ≡ [] → IsNone result }
-    ensures none { IsNone result → (e : Edge) (rest : List Edge) → cursor.now.edges ≡ e ∷ rest →
+// Whether an edge is left, and the next one has a rank below `end`.
+fn has_before(cursor: &Cursor, end: u64) -> bool
+    ensures below { IsTrue result → (e : Edge) (rest : List Edge) → cursor.now.edges ≡ e ∷ rest →
+        edge_rank e < end }
+    ensures some { cursor.now.edges ≡ [] → result ≡ false }
+    ensures none { result ≡ false → (e : Edge) (rest : List Edge) → cursor.now.edges ≡ e ∷ rest →
         end ≤ edge_rank e }
 {
-    let rank = cursor.rank()?;
-    if rank < end { Some(rank) } else { None }
+    match cursor.rank() {
+        Some(rank) => rank < end,
+        None => false,
+    }
 }
 
 impl Waiting {
@@ -169,11 +171,14 @@ impl Waiting {
         let end = end_rank(t);
         let mut low = 0;
         let mut cursor = self.queue.cursor();
-        'edges: while let Some(rank) = rank_below(&cursor, end) {
+        'edges: while has_before(&cursor, end) {
+            // it is there: this leaves nothing out
+            let Some(edge) = cursor.next()? else {
+                return Ok(());
+            };
+            let rank = rank_of(&edge);
             self.others.append_between(pools, low, rank, list)?;
-            if let Some(edge) = cursor.next()? {
-                list.append(pools, &edge)?;
-            }
+            list.append(pools, &edge)?;
             low = rank;
         }
         self.others.append_between(pools, low, end, list)

@@ -34,7 +34,7 @@ pub overflow_sub-left : goal.overflow_sub-left
 overflow_sub-left c =
     let n = length_is c.self.inside c.args.self.now c.self.view_is c.self.invariant in
     let e = c.self.invariant.columns.occupied in
-    let l = c.len-left.ensures.len in
+    let l = c.len.ensures.len in
     omega (arith, n, e, l, c.requires.count)
 
 pub cut_columns-requires : goal.cut_columns-requires
@@ -54,7 +54,7 @@ invariant_of-self c =
       payload = record { items = refill (length b.payload.items) b.payload.items c.cut_columns.new.columns; capacity = b.payload.capacity };
       occupied = c.push_set.new.self;
     } in
-    let e = c.len-left.ensures.len in
+    let e = c.len.ensures.len in
     Holds-cut c.args.count b c.args.self.now c.self.view_is c.self.invariant less c.remove_first.ensures c.remove_first-2.ensures c.remove_first-3.ensures c.remove_first-4.ensures
     (refill-cut c.args.count b.payload.items c.cut_columns.new.columns c.as_mut_slice.result.now c.cut_columns.ensures c.as_mut_slice.ensures.value)
     (bits_cut b c.args.self.now c.self.view_is c.self.invariant c.requires.occupied c.args.count _ (ap (λ n. n - c.args.count) e) c.reset.new.self c.push_set.new.self c.reset.ensures c.push_set.ensures)
@@ -70,7 +70,7 @@ returns c =
       payload = record { items = refill (length b.payload.items) b.payload.items c.cut_columns.new.columns; capacity = b.payload.capacity };
       occupied = c.push_set.new.self;
     } in
-    let e = c.len-left.ensures.len in
+    let e = c.len.ensures.len in
     view-cut c.args.count b c.args.self.now c.self.view_is c.self.invariant less c.remove_first.ensures c.remove_first-2.ensures c.remove_first-3.ensures c.remove_first-4.ensures
     (refill-cut c.args.count b.payload.items c.cut_columns.new.columns c.as_mut_slice.result.now c.cut_columns.ensures c.as_mut_slice.ensures.value)
     (bits_cut b c.args.self.now c.self.view_is c.self.invariant c.requires.occupied c.args.count _ (ap (λ n. n - c.args.count) e) c.reset.new.self c.push_set.new.self c.reset.ensures c.push_set.ensures)
