@@ -1,19 +1,21 @@
 -- Edges that go: that of one row, those of the first rows, and those of the first batches.
 use Rattle.std.proofs.Common.{◌≡◌, ◌≤◌, ◌<◌, ℕ, zero, suc, ◌+◌, ◌-◌, ◌&&◌, Bool, true, false, cond, List, [], ◌∷◌, ◌++◌, map, length, get_or, set, take, drop, refl, ap, sym, ◌∙◌, subst, arith, add-one, append_assoc, append-nil, drop-cons}
-use Rattle.std.specs.Prelude.{All, Some, filter, slice_get, nat_eq, not}
+use Rattle.std.specs.Prelude.{All, Some, filter, slice_get, nat_eq, nat_lt, not, ◌↔◌}
 use Rattle.std.specs.List.{list_all}
 use Rattle.std.proofs.lemmas.List.{set_split, take_more_set, drop-set-lt}
 use Rattle.std.proofs.lemmas.List.Elements.{All-nil, All-cons, All-head, All-tail, All-append, filter-append}
 use Rattle.std.proofs.lemmas.List.Folds.{list_all-append}
 use Rattle.std.proofs.lemmas.Option.{get_or_from_slice_get}
 use Rattle.std.proofs.lemmas.Bool.{and_parts, eqb-true}
+use Rattle.std.proofs.lemmas.Bool.Decides.{nat_tests}
 use Rattle.tw_rows.specs.Instant.{inf}
 use Rattle.tw_rows.specs.Bag.{total, SameBag}
-use Rattle.tw_rows.specs.SameCells.{same_cells, cells_are_same}
+use Rattle.tw_rows.specs.SameCells.{same_cells, cells_are_same, same_cells-Decides}
 use Rattle.tw_rows.proofs.Bags.{total-append}
 use Rattle.tw_rows.specs.declared.cells.Datum.{Datum}
 use Rattle.tw_rows.specs.declared.edge.Edge.{Edge}
 use Rattle.batch.specs.Rows.{Row, Table, edge_of, edges_of, occupied_rows}
+use Rattle.batch.proofs.Keeping.{no_row}
 use Rattle.edge_history.specs.Order.{Rises, IsReal, KeepsOrder, rank, is_end, is_below, is_from, many, starts_it}
 use Rattle.edge_history.proofs.Rising.{Rises-less}
 use Rattle.edge_history.proofs.Keeping.{KeepsOrder-front, KeepsOrder-back}
@@ -21,7 +23,7 @@ use Rattle.edge_stream.specs.Listing.{edges_in}
 use Rattle.edge_stream.proofs.Parts.{filter-none, length-filter-le}
 use Rattle.edge_stream.proofs.Rising.{below-not_from, lower_clean, upper_clean}
 use Rattle.edge_stream.proofs.Cutting.{edges_in-append}
-use Rattle.edge_stream.proofs.Fronts.{edges-append, edges_parts}
+use Rattle.edge_stream.proofs.Fronts.{edges-append, edges_parts, one_more, no_more}
 use Rattle.edge_stream.proofs.Passing.{next_in, whole_in}
 
 -- ---- one edge less
@@ -49,6 +51,53 @@ start_is cells start e h =
     let b = cells_are_same e.cells cells r.0 in
     let s = eqb-true e.sync start r.1 in
     λ i. record { sync = s i; other = a i; cells = b i }
+
+-- the test, where the times are those of the start
+pub start_test : (cells : List Datum) (start : ℕ) (r : Row) (d : Bool) → r.other ≡ inf → r.sync ≡ start → start ≤ inf → (d ≡ true) ↔ (r.cells ≡ cells) → d ≡ starts_it cells start (edge_of r)
+start_test cells start r d other sync low same = pick (same_cells r.cells cells) d refl same
+  where
+    ends : nat_eq r.other inf ≡ true
+    ends = grind (arith, nat_tests)
+
+    late : nat_lt r.other r.sync ≡ false
+    late = grind (arith, nat_tests)
+
+    starts : nat_eq r.sync start ≡ true
+    starts = grind (arith, nat_tests)
+
+    pick : (v x : Bool) → same_cells r.cells cells ≡ v → (x ≡ true) ↔ (r.cells ≡ cells) → x ≡ (nat_eq r.other inf && (not (nat_lt r.other r.sync) && (v && nat_eq r.sync start)))
+    pick true true is k = rw (ends, late, starts) refl
+    pick true false is k = let wrong : false ≡ true = k.1 (cells_are_same r.cells cells is) in absurd (cc)
+    pick false true is k = let wrong : same_cells r.cells cells ≡ true = (same_cells-Decides r.cells cells).1 (k.0 refl) in absurd (cc)
+    pick false false is k = rw (ends, late) refl
+
+pub no_start_other : (cells : List Datum) (start : ℕ) (r : Row) → (r.other ≡ inf → ⊥) → false ≡ starts_it cells start (edge_of r)
+no_start_other cells start r apart = let no : nat_eq r.other inf ≡ false = grind (arith, nat_tests) in rw no refl
+
+pub no_start_sync : (cells : List Datum) (start : ℕ) (r : Row) → (r.sync ≡ start → ⊥) → false ≡ starts_it cells start (edge_of r)
+no_start_sync cells start r apart = pick (nat_eq r.other inf) (not (nat_lt r.other r.sync)) (same_cells r.cells cells)
+  where
+    no : nat_eq r.sync start ≡ false
+    no = grind (arith, nat_tests)
+
+    pick : (a b c : Bool) → false ≡ (a && (b && (c && nat_eq r.sync start)))
+    pick true true true = rw no refl
+    pick true true false = refl
+    pick true false c = refl
+    pick false b c = refl
+
+-- ---- rows without such a start
+
+module _ (p : Edge → Bool) (rows : List Row) (i : ℕ) (lt : i < length rows) (none : many p (edges_of (take i rows)) ≡ 0) where
+  pub none_there : (get_or rows i no_row).occupied ≡ true → p (edge_of (get_or rows i no_row)) ≡ false → many p (edges_of (take (i + 1) rows)) ≡ 0
+  none_there holds not_it =
+      let w : Edge → ℕ = λ e. cond (p e) 1 0 in
+      let e = edge_of (get_or rows i no_row) in
+      let zero_there : cond {A = ℕ} (p e) 1 0 ≡ 0 = ap (λ b. cond b 1 0) not_it in
+      omega (arith, ap (total w) (one_more rows i lt holds), total-append w (edges_of (take i rows)) (e ∷ []), zero_there, none)
+
+  pub none_held : (get_or rows i no_row).occupied ≡ false → many p (edges_of (take (i + 1) rows)) ≡ 0
+  none_held clear = ap (many p) (no_more rows i lt clear) ∙ none
 
 -- ---- a row that is cleared
 

@@ -20,9 +20,13 @@ fn is_start(batch: &Batch, i: usize, cells: &[Datum], start: Time) -> bool
     ensures { (r : Row) → slice_get batch.now.rows i ≡ Some r →
         result ≡ starts_it cells.now start (edge_of r) }
 {
-    let sync = batch.sync_at(i);
-    let other = batch.other_at(i);
-    other == Time::INF && sync <= other && batch.has_cells(i, cells) && sync == start
+    if batch.other_at(i) != Time::INF {
+        return false;
+    }
+    if batch.sync_at(i).word() != start.word() {
+        return false;
+    }
+    batch.has_cells(i, cells)
 }
 
 // The first row with a start edge of these cells at that time.
