@@ -2,7 +2,7 @@
 use Rattle.std.proofs.Common.{◌≡◌, ◌≤◌, ◌<◌, ℕ, zero, suc, ◌+◌, ◌-◌, ◌&&◌, Bool, true, false, cond, List, [], ◌∷◌, ◌++◌, map, length, get_or, set, take, drop, refl, ap, sym, ◌∙◌, subst, arith, add-one, append_assoc, append-nil, drop-cons}
 use Rattle.std.specs.Prelude.{All, Some, filter, slice_get, nat_eq, not}
 use Rattle.std.specs.List.{list_all}
-use Rattle.std.proofs.lemmas.List.{set_split, take_more_set}
+use Rattle.std.proofs.lemmas.List.{set_split, take_more_set, drop-set-lt}
 use Rattle.std.proofs.lemmas.List.Elements.{All-nil, All-cons, All-head, All-tail, All-append, filter-append}
 use Rattle.std.proofs.lemmas.List.Folds.{list_all-append}
 use Rattle.std.proofs.lemmas.Option.{get_or_from_slice_get}
@@ -22,7 +22,7 @@ use Rattle.edge_stream.proofs.Parts.{filter-none, length-filter-le}
 use Rattle.edge_stream.proofs.Rising.{below-not_from, lower_clean, upper_clean}
 use Rattle.edge_stream.proofs.Cutting.{edges_in-append}
 use Rattle.edge_stream.proofs.Fronts.{edges-append, edges_parts}
-use Rattle.edge_stream.proofs.Passing.{whole_in}
+use Rattle.edge_stream.proofs.Passing.{next_in, whole_in}
 
 -- ---- one edge less
 
@@ -103,6 +103,16 @@ pub none_cleared : (rows : List Row) (i : ℕ) (r : Row) → i < length rows →
 none_cleared rows i r lt none =
     ap edges_of (take_more_set rows i (record r { occupied = false }) lt) ∙ edges-append (take i rows) (record r { occupied = false } ∷ []) ∙ ap (λ l. l ++ []) none
 
+drop_tail : (i : ℕ) (rows : List Row) → drop 1 (drop i rows) ≡ drop (suc i) rows
+drop_tail zero rows = refl
+drop_tail (suc i) [] = refl
+drop_tail (suc i) (r ∷ rs) = drop_tail i rs
+
+-- and the others are as they were
+pub rest_cleared : (rows old : List Row) (i : ℕ) (y : Row) → drop i rows ≡ drop i old → drop (i + 1) (set rows i y) ≡ drop (i + 1) old
+rest_cleared rows old i y same =
+    drop-set-lt (i + 1) rows i y (omega arith) ∙ (ap (λ n. drop n rows) (add-one i) ∙ sym (drop_tail i rows)) ∙ ap (drop 1) same ∙ (drop_tail i old ∙ ap (λ n. drop n old) (sym (add-one i)))
+
 -- as many are occupied as there are
 pub all_occupied : (rows : List Row) → length (occupied_rows rows) ≡ length rows → occupied_rows rows ≡ rows
 all_occupied [] h = refl
@@ -113,10 +123,12 @@ all_occupied (r ∷ rs) h = pick r.occupied h (all_occupied rs)
     pick true k rest = ap (λ l. r ∷ l) (rest (omega (arith, k)))
     pick false k rest = absurd (omega (arith, k, length-filter-le (λ q. q.occupied) rs))
 
--- where no edge stands from a row on, all come before t
+-- where no edge stands from a row on, those before it are all
+pub all_before : (k : ℕ) (rows : List Row) → edges_of (drop k rows) ≡ [] → edges_of (take k rows) ≡ edges_of rows
+all_before k rows none = sym (append-nil (edges_of (take k rows))) ∙ ap (λ l. edges_of (take k rows) ++ l) (sym none) ∙ edges_parts k rows
+
 pub all_low : (t k : ℕ) (rows : List Row) → list_all (is_below t) (edges_of (take k rows)) ≡ true → edges_of (drop k rows) ≡ [] → list_all (is_below t) (edges_of rows) ≡ true
-all_low t k rows low none =
-    ap (list_all (is_below t)) (sym (edges_parts k rows) ∙ ap (λ l. edges_of (take k rows) ++ l) none ∙ append-nil (edges_of (take k rows))) ∙ low
+all_low t k rows low none = ap (list_all (is_below t)) (sym (all_before k rows none)) ∙ low
 
 -- ---- the first batches
 
@@ -162,6 +174,9 @@ module _ (t k : ℕ) (bs : List Table) (n : ℕ) (b : Table) (lt : n < length bs
   parts_are_low high later =
       let from : list_all (is_from t) (edges_of (drop k b.rows) ++ edges_in (drop (n + 1) bs)) ≡ true = list_all-append (is_from t) (edges_of (drop k b.rows)) (edges_in (drop (n + 1) bs)) ∙ rw (high, later) refl in
       lower_clean t parts (edges_of (drop k b.rows) ++ edges_in (drop (n + 1) bs)) low_parts from ∙ ap (filter (is_below t)) (sym whole_parts)
+
+  pub parts_all : edges_of (drop k b.rows) ≡ [] → parts ≡ edges_in (take (n + 1) bs)
+  parts_all none = ap (λ l. edges_in (take n bs) ++ l) (all_before k b.rows none) ∙ sym (next_in bs n b lt is)
 
   -- what is there, and what is copied, keeps the order
   module _ (out to : List Edge) (so_far : to ≡ out ++ edges_in (take n bs)) where

@@ -62,6 +62,9 @@ module _ (bs : List Table) (n : ℕ) (b : Table) (lt : n < length bs) (is : b �
     pub rises_in : Rises 0 (edges_of b.rows)
     rises_in = Rises-front 0 (edges_of b.rows) (edges_in (drop (n + 1) bs)) after
 
+    pub rises_later : Rises 0 (edges_in (drop (n + 1) bs))
+    rises_later = Rises-back 0 (edges_of b.rows) (edges_in (drop (n + 1) bs)) after
+
     -- where not all of its edges come before t, none of a later batch does
     pub later_in : (t : ℕ) → list_all (is_below t) (edges_of b.rows) ≡ false → list_all (is_from t) (edges_in (drop (n + 1) bs)) ≡ true
     later_in t some = later_from t 0 (edges_of b.rows) (edges_in (drop (n + 1) bs)) after some

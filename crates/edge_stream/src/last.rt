@@ -56,9 +56,10 @@ pub(crate) fn copy_last(batches: &mut VecDeque<Batch>, batch: &Batch, i: usize)
 
 /// Adds the first rows of a batch to the last batch, which has room for them.
 pub(crate) fn extend_last(batches: &mut VecDeque<Batch>, batch: &Batch, rows: usize)
+    requires some { 0 < rows }
     requires room { rows ≤ last_room batches.old.items }
     requires kinds { All (λ b. b.kinds ≡ batch.now.kinds) batches.old.items }
-    requires rows { rows ≤ length batch.now.rows }
+    requires within { rows ≤ length batch.now.rows }
     ensures edges { edges_in batches.new.items
         ≡ edges_in batches.old.items ++ edges_of (take rows batch.now.rows) }
     ensures len { length batches.new.items ≡ length batches.old.items }

@@ -145,6 +145,9 @@ impl EdgeList {
         ensures err { OnErr result (self.new ≡ self.old) }
         ensures err_pools { OnErr result (IsPartTaken pools.old pools.new (cells_of self.old)) }
     {
+        if rows == 0 {
+            return Ok(());
+        }
         self.make_room_for(pools, rows)?;
         extend_last(&mut self.batches, batch, rows);
         Ok(())
