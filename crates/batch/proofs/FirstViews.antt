@@ -1,5 +1,5 @@
 -- What a batch is whose columns lost their first rows, or got those of another batch.
-use Rattle.std.proofs.Common.{◌≡◌, ◌+◌, ◌-◌, ◌<◌, ◌≤◌, ℕ, true, replicate, List, [], ◌∷◌, ◌++◌, map, length, suc, take, drop, refl, ap, sym, ◌∙◌, subst, arith}
+use Rattle.std.proofs.Common.{◌≡◌, ◌+◌, ◌-◌, ◌≤◌, ℕ, true, replicate, List, [], ◌∷◌, ◌++◌, map, length, suc, take, drop, refl, ap, sym, ◌∙◌, subst, arith}
 use Rattle.std.specs.Prelude.{All, count_by}
 use Rattle.std.specs.List.{refill}
 use Rattle.std.proofs.lemmas.List.{drop-replicate, length-map}
@@ -9,7 +9,7 @@ use Rattle.batch.specs.declared.payload.Payload.{Payload}
 use Rattle.batch.specs.declared.batch.Batch.TheInside.{Inside}
 use Rattle.batch.specs.contracts.batch.Batch.{the_view}
 use Rattle.batch.specs.Rows.{Table, occupied_rows}
-use Rattle.batch.specs.Payloads.{payload_kind, payload_data, payload_capacity, payload_cut, extended, Holds as HoldsCells, HasRoomFor}
+use Rattle.batch.specs.Payloads.{payload_kind, payload_cut, extended, Holds as HoldsCells, HasRoomFor}
 use Rattle.batch.specs.Columns.{rows_of, IsColumn, AreColumns}
 use Rattle.batch.proofs.FirstRows.{cut_rows, with_first, rows_of-cut, AreColumns-cut, rows_of-first, AreColumns-first, kinds-cut, kinds-extended, all_set}
 use Rattle.batch.proofs.Pushing.{refill_whole}

@@ -226,7 +226,7 @@ pub next_fits : (ks : List CellKind) (es : List Edge) (e : Edge) (rest : List Ed
 next_fits ks es e rest is h =
     let all : failing (is_fit ks) (e ∷ rest) ≡ 0 = ap (failing (is_fit ks)) (sym is) ∙ h in
     let real = fit_real ks (e ∷ rest) all in
-    (none_fails_at is_real (e ∷ rest) 0 e real (omega arith), fit_kinds ks (e ∷ rest) 0 e e refl (omega arith) all, grind (arith, nat_tests))
+    (none_fails_at is_real (e ∷ rest) 0 e real (omega arith), fit_kinds ks (e ∷ rest) 0 e e refl (omega arith) all, omega (arith, all))
 
 -- a list in order with one edge more, where its last rank is no greater
 pub last_rises : (r : ℕ) (xs : List Edge) (e : Edge) (last : ℕ) → Rises r xs → Some last ≡ last_rank xs → last ≤ rank e → Rises r (xs ++ e ∷ [])

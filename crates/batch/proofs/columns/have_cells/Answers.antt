@@ -1,4 +1,4 @@
-use Rattle.std.proofs.Common.{refl, ◌≡◌, ◌<◌, ◌∙◌, length, get_or, sym, map, arith, pos}
+use Rattle.std.proofs.Common.{refl, ◌≡◌, ◌<◌, ◌∙◌, length, get_or, arith, pos}
 use Rattle.std.proofs.lemmas.List.{take_more_same, length-map, get_or_default}
 use Rattle.tw_rows.specs.declared.cells.Datum.TheVariants.{Int}
 use Rattle.batch.specs.Payloads.{payload_data, cells_at}

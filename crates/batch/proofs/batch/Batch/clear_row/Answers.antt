@@ -1,4 +1,4 @@
-use Rattle.std.proofs.Common.{◌∙◌, ap, set, length, false}
+use Rattle.std.proofs.Common.{◌∙◌, ap, set, false}
 use Rattle.std.specs.Prelude.{slice_get}
 use Rattle.batch.specs.Rows.{Row}
 use Rattle.batch.specs.Columns.{rows_of}

@@ -1,7 +1,6 @@
 use Rattle.std.proofs.Common.{◌≡◌, ◌∙◌, ap, sym, subst, get_or}
 use Rattle.std.specs.Prelude.{All}
 use Rattle.std.proofs.lemmas.Option.{get_or_from_slice_get}
-use Rattle.batch.specs.Columns.{rows_of}
 use Rattle.batch.specs.Payloads.{cells_at, Reaches}
 use Rattle.batch.proofs.Tables.{get_or-rows_of}
 use Rattle.batch.proofs.Views.{columns_of, rows_are, sync_place, payload_place}
