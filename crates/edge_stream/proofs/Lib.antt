@@ -7,6 +7,9 @@ pub mod Listings
 pub mod CutLists
 pub mod LastBatch
 pub mod Filling
+pub mod Fronts
+pub mod Passing
+pub mod Gone
 pub mod Merging
 pub mod Placed
 pub mod Together
