@@ -49,47 +49,61 @@ none_before x r (e ∷ es) le h =
     let t : cond {A = ℕ} (nat_lt e.sync x) 1 0 ≡ 0 = (let k : x ≤ e.sync = omega (arith, high, first, le) in grind (arith, nat_tests)) in
     let rest = none_before x (rank e) es (omega (arith, le, first)) h.1 in omega (arith, t, rest)
 
--- the edges of a queue in order from a time on: at their first sync no more come before it than before that time
-pub queue_first : (f r : ℕ) (es : List Edge) (s : ℕ) → Rises r es → Some s ≡ first_sync (filter (is_from f) es) →
-    (f ≤ s) × ((x : ℕ) → f ≤ x → x ≤ s → count_below x es ≡ count_below f es) × (count_below s es < count_below (s + 1) es)
+-- the first sync from f on of edges in order is s: no more of them come before it than before f, and one comes at it
+pub record StartsAt (f s : ℕ) (es : List Edge) : Type 0 where
+  pub from : f ≤ s
+  pub none : (x : ℕ) → f ≤ x → x ≤ s → count_below x es ≡ count_below f es
+  pub some : count_below s es < count_below (s + 1) es
+
+counted_once : (x : ℕ) (e : Edge) → e.sync < x → cond {A = ℕ} (nat_lt e.sync x) 1 0 ≡ 1
+counted_once x e less = let k : nat_lt e.sync x ≡ true = grind (arith, nat_tests) in ap (λ b. cond {A = ℕ} b 1 0) k
+
+pub queue_first : (f r : ℕ) (es : List Edge) (s : ℕ) → Rises r es → Some s ≡ first_sync (filter (is_from f) es) → StartsAt f s es
 queue_first f r [] s h is = absurd (cc)
-queue_first f r (e ∷ es) s h is = go (cases_lt e.sync f)
+queue_first f r (e ∷ es) s h is = go (λ k. queue_first f (rank e) es s h.1 k) (cases_lt e.sync f)
   where
-    go : (e.sync < f) ⊎ (f ≤ e.sync) →
-        (f ≤ s) × ((x : ℕ) → f ≤ x → x ≤ s → count_below x (e ∷ es) ≡ count_below f (e ∷ es)) × (count_below s (e ∷ es) < count_below (s + 1) (e ∷ es))
-    go (inl early) =
+    go : (Some s ≡ first_sync (filter (is_from f) es) → StartsAt f s es) → (e.sync < f) ⊎ (f ≤ e.sync) → StartsAt f s (e ∷ es)
+    go next (inl early) =
         let t : nat_le f e.sync ≡ false = grind (arith, nat_tests) in
-        let later = queue_first f (rank e) es s h.1 (is ∙ ap (λ b. first_sync (cond b (e ∷ filter (is_from f) es) (filter (is_from f) es))) t) in
-        let one = (λ (x : ℕ) (le : f ≤ x). (let k : nat_lt e.sync x ≡ true = grind (arith, nat_tests) in ap (λ b. cond {A = ℕ} b 1 0) k)) in
-        (later.0,
-        λ x low high. (let a = one x low in let b = one f (omega arith) in let c = later.1.0 x low high in omega (arith, a, b, c)),
-        (let a = one s later.0 in let b = one (s + 1) (let k = later.0 in omega (arith, k)) in let c = later.1.1 in omega (arith, a, b, c)))
-    go (inr late) =
+        let later = next (is ∙ ap (λ b. first_sync (cond b (e ∷ filter (is_from f) es) (filter (is_from f) es))) t) in
+        let here = counted_once f e early in
+        record {
+          from = later.from;
+          none = λ x low high. (let a = counted_once x e (omega (arith, early, low)) in let c = later.none x low high in omega (arith, a, here, c));
+          some = (
+              let a = counted_once s e (omega (arith, early, later.from)) in
+              let b = counted_once (s + 1) e (omega (arith, early, later.from)) in
+              let c = later.some in
+              omega (arith, a, b, c));
+        }
+    go next (inr late) =
         let t : nat_le f e.sync ≡ true = grind (arith, nat_tests) in
         let first : Some s ≡ Some e.sync = is ∙ ap (λ b. first_sync (cond b (e ∷ filter (is_from f) es) (filter (is_from f) es))) t in
         let same : s ≡ e.sync = cc in
         let l = rank_low e in
-        let none = (λ (x : ℕ) (le : x ≤ e.sync). none_before x (2 * e.sync) (e ∷ es) (omega (arith, le)) (l, h.1)) in
-        let one : cond {A = ℕ} (nat_lt e.sync (s + 1)) 1 0 ≡ 1 = grind (arith, nat_tests) in
-        (omega (arith, same, late),
-        λ x low high. (let a = none x (omega (arith, high, same)) in let b = none f late in omega (arith, a, b)),
-        (let a = none s (omega (arith, same)) in omega (arith, a, one)))
+        let all : Rises (2 * e.sync) (e ∷ es) = (l, h.1) in
+        let here = none_before f (2 * e.sync) (e ∷ es) (omega (arith, late)) all in
+        record {
+          from = omega (arith, same, late);
+          none = λ x low high. (let a = none_before x (2 * e.sync) (e ∷ es) (omega (arith, high, same)) all in omega (arith, a, here));
+          some = (let a = none_before s (2 * e.sync) (e ∷ es) (omega (arith, same)) all in let b = counted_once (s + 1) e (omega (arith, same)) in omega (arith, a, b));
+        }
 
 -- and where there is none, no more come before any later time
 pub queue_over : (f : ℕ) (es : List Edge) → None ≡ first_sync (filter (is_from f) es) → (x : ℕ) → f ≤ x → count_below x es ≡ count_below f es
 queue_over f [] is x le = refl
-queue_over f (e ∷ es) is x le = go (cases_lt e.sync f)
+queue_over f (e ∷ es) is x le = go (λ k. queue_over f es k x le) (cases_lt e.sync f)
   where
-    go : (e.sync < f) ⊎ (f ≤ e.sync) → count_below x (e ∷ es) ≡ count_below f (e ∷ es)
-    go (inl early) =
+    go : (None ≡ first_sync (filter (is_from f) es) → count_below x es ≡ count_below f es) → (e.sync < f) ⊎ (f ≤ e.sync) → count_below x (e ∷ es) ≡ count_below f (e ∷ es)
+    go next (inl early) =
         let t : nat_le f e.sync ≡ false = grind (arith, nat_tests) in
-        let rest = queue_over f es (is ∙ ap (λ b. first_sync (cond b (e ∷ filter (is_from f) es) (filter (is_from f) es))) t) x le in
-        let a : cond {A = ℕ} (nat_lt e.sync x) 1 0 ≡ 1 = (let k : nat_lt e.sync x ≡ true = grind (arith, nat_tests) in ap (λ b. cond {A = ℕ} b 1 0) k) in
-        let b : cond {A = ℕ} (nat_lt e.sync f) 1 0 ≡ 1 = (let k : nat_lt e.sync f ≡ true = grind (arith, nat_tests) in ap (λ b. cond {A = ℕ} b 1 0) k) in
+        let rest = next (is ∙ ap (λ b. first_sync (cond b (e ∷ filter (is_from f) es) (filter (is_from f) es))) t) in
+        let a = counted_once x e (omega (arith, early, le)) in
+        let b = counted_once f e early in
         omega (arith, a, b, rest)
-    go (inr late) =
+    go next (inr late) =
         let t : nat_le f e.sync ≡ true = grind (arith, nat_tests) in
-        absurd (let k = is ∙ ap (λ b. first_sync (cond b (e ∷ filter (is_from f) es) (filter (is_from f) es))) t in cc)
+        absurd (let k : None ≡ Some e.sync = is ∙ ap (λ b. first_sync (cond b (e ∷ filter (is_from f) es) (filter (is_from f) es))) t in cc)
 
 -- the edges of the ranks between those of two times
 one_between : (a b : ℕ) (x : ℕ) (e : Edge) → a ≤ x → x ≤ b →

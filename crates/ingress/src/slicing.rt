@@ -63,10 +63,13 @@ impl Waiting {
         ensures some { result < to → count_below result self.now < count_below (result + 1) self.now }
     {
         let other = self.others.first_between(from, to);
-        match self.queue.first_from(from) {
-            Some(sync) if sync < other => sync,
-            _ => other,
+        let Some(sync) = self.queue.first_from(from) else {
+            return other;
+        };
+        if is_before(sync, other) {
+            return sync;
         }
+        other
     }
 }
 

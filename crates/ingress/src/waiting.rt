@@ -65,11 +65,18 @@ fn comes_last(queue: &EdgeList, rank: u64) -> bool
     }
 }
 
+// Whether these are the same kinds.
+fn same_kinds(a: &[Kind], b: &[Kind]) -> bool
+    ensures { IsTrue result → b.now ≡ a.now }
+{
+    a == b
+}
+
 // Whether the lists have columns of the same kinds, and batches of the same capacity.
 fn are_alike(a: &EdgeList, b: &EdgeList) -> bool
     ensures { IsTrue result → SameShape a.now b.now }
 {
-    a.capacity() == b.capacity() && a.kinds() == b.kinds()
+    a.capacity() == b.capacity() && same_kinds(a.kinds(), b.kinds())
 }
 
 // Whether an edge is left, and the next one has a rank below `end`.
@@ -136,7 +143,10 @@ impl Waiting {
         ensures kept { result ≡ false → self.new ≡ self.old }
         ensures none { result ≡ false → many (starts_it cells.now start) self.old ≡ 0 }
     {
-        self.others.take_out(cells, start) || self.queue.take_start(cells, start)
+        if self.others.take_out(cells, start) {
+            return true;
+        }
+        self.queue.take_start(cells, start)
     }
 
     /// Adds copies of the edges before `t` to an empty list, in order. Out of memory changes the list and the pools alone. Where

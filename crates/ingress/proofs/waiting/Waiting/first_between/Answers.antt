@@ -1,8 +1,15 @@
-use Rattle.std.specs.Prelude.{◌<◌, ◌≤◌, refl}
-use Rattle.std.proofs.Common.{arith}
-use Rattle.std.proofs.lemmas.Bool.Decides.{nat_tests}
+use Rattle.std.specs.Prelude.{◌≡◌, ℕ, Bool, false, IsTrue, ◌↔◌, ◌<◌, ◌≤◌}
+use Rattle.std.proofs.Common.{arith, inl, inr}
+use Rattle.std.proofs.lemmas.Bool.{cases_lt}
 use Rattle.ingress.proofs.Below.{queue_first, queue_over, queue_none, queue_some, others_some}
 use Rattle.ingress.proofs.waiting.Waiting.first_between.Goals as goal
+
+-- where the test does not hold
+no_less : (a b : ℕ) (r : Bool) → (IsTrue r ↔ (a < b)) → r ≡ false → b ≤ a
+no_less a b r tells no = elim (cases_lt a b) [
+  | inl less ↦ absurd (let yes = tells.1 less in cc)
+  | inr more ↦ more
+]
 
 pub returns-in_default-clause-none : goal.returns-in_default-clause-none
 returns-in_default-clause-none c =
@@ -17,36 +24,43 @@ returns-in_default-clause-some c = λ early.
     let w = c.first_between-other.ensures.within in
     others_some c.self.inside.queue.edges c.self.inside.others c.args.self.now c.self.view_is c.args.from c.first_between-other.result w.0 c.first_between-other.ensures.none (c.first_between-other.ensures.some early)
 
-pub returns-then-lt-clause-none : goal.returns-then-lt-clause-none
-returns-then-lt-clause-none c =
+pub returns-then-is_before-clause-within : goal.returns-then-is_before-clause-within
+returns-then-is_before-clause-within c =
+    let w = c.first_between-other.ensures.within in
+    let less = c.is_before.ensures.test.0 c.if-is_before.true in
+    let first = queue_first c.args.from 0 c.self.inside.queue.edges c.in-Some.sync c.in-Some.ensures.order.rises c.in-Some.ensures.sync in
+    (first.from, omega (arith, less, w.1))
+
+pub returns-then-is_before-clause-none : goal.returns-then-is_before-clause-none
+returns-then-is_before-clause-none c =
     let q = c.self.inside.queue.edges in
     let w = c.first_between-other.ensures.within in
     let s = c.in-Some.sync in
-    let less : s < c.first_between-other.result = (let t = c.if-lt.true in let a = c.lt.ensures in grind (arith, nat_tests)) in
+    let less : s < c.first_between-other.result = c.is_before.ensures.test.0 c.if-is_before.true in
     let first = queue_first c.args.from 0 q s c.in-Some.ensures.order.rises c.in-Some.ensures.sync in
-    queue_none q c.self.inside.others c.args.self.now c.self.view_is c.args.from c.first_between-other.result w.0 c.first_between-other.ensures.none s first.0 (omega (arith, less))
-    (first.1.0 s first.0 (omega arith))
+    queue_none q c.self.inside.others c.args.self.now c.self.view_is c.args.from c.first_between-other.result w.0 c.first_between-other.ensures.none s first.from (omega (arith, less))
+    (first.none s first.from (omega arith))
 
-pub returns-then-lt-clause-some : goal.returns-then-lt-clause-some
-returns-then-lt-clause-some c = λ _.
+pub returns-then-is_before-clause-some : goal.returns-then-is_before-clause-some
+returns-then-is_before-clause-some c = λ _.
     let q = c.self.inside.queue.edges in
     let w = c.first_between-other.ensures.within in
     let s = c.in-Some.sync in
     let first = queue_first c.args.from 0 q s c.in-Some.ensures.order.rises c.in-Some.ensures.sync in
-    queue_some q c.self.inside.others c.args.self.now c.self.view_is c.args.from c.first_between-other.result w.0 c.first_between-other.ensures.none s first.1.1
+    queue_some q c.self.inside.others c.args.self.now c.self.view_is c.args.from c.first_between-other.result w.0 c.first_between-other.ensures.none s first.some
 
-pub returns-else-lt-clause-none : goal.returns-else-lt-clause-none
-returns-else-lt-clause-none c =
+pub returns-clause-none : goal.returns-clause-none
+returns-clause-none c =
     let q = c.self.inside.queue.edges in
     let w = c.first_between-other.ensures.within in
     let other = c.first_between-other.result in
     let s = c.in-Some.sync in
-    let late : other ≤ s = (let t = c.if-lt.false in let a = c.lt.ensures in grind (arith, nat_tests)) in
+    let late : other ≤ s = no_less s other c.is_before.result c.is_before.ensures.test c.if-is_before.false in
     let first = queue_first c.args.from 0 q s c.in-Some.ensures.order.rises c.in-Some.ensures.sync in
     queue_none q c.self.inside.others c.args.self.now c.self.view_is c.args.from other w.0 c.first_between-other.ensures.none other w.0 (omega arith)
-    (first.1.0 other w.0 late)
+    (first.none other w.0 late)
 
-pub returns-else-lt-clause-some : goal.returns-else-lt-clause-some
-returns-else-lt-clause-some c = λ early.
+pub returns-clause-some : goal.returns-clause-some
+returns-clause-some c = λ early.
     let w = c.first_between-other.ensures.within in
     others_some c.self.inside.queue.edges c.self.inside.others c.args.self.now c.self.view_is c.args.from c.first_between-other.result w.0 c.first_between-other.ensures.none (c.first_between-other.ensures.some early)

@@ -40,7 +40,7 @@ append_between-requires-clause-rises c =
 pub append-requires-clause-kinds : goal.append-requires-clause-kinds
 append-requires-clause-kinds c =
     let is : c.edges.cursor.edges ≡ c.in-Some.edge ∷ c.next.new.self.edges = c.in_ok-edge.ensures.edges ∙ ap (λ o. option_to_list o ++ c.next.new.self.edges) c.in-Some.is in
-    (next_fits (cells_of c.args.list.now) c.edges.cursor.edges c.in-Some.edge c.next.new.self.edges is c.edges.invariant.fit).1.0
+    (next_fits (cells_of c.args.list.now) c.edges.cursor.edges c.in-Some.edge c.next.new.self.edges is c.edges.invariant.fit).1
     ∙ sym (ap (map cell_kind_of) (shape_again c.args.list.now c.edges.list c.append_between.new.list c.edges.invariant.shape c.append_between.ensures.shape).kinds)
 
 pub append-requires-clause-order : goal.append-requires-clause-order
@@ -66,7 +66,7 @@ edges-preserved c =
       merged = merged_next c.self.inside.queue.edges c.self.inside.others c.edges.cursor.edges c.args.t c.edges.low c.edges.list.edges c.append_between.new.list.edges c.edges.invariant.merged
           c.in-Some.edge c.rank_of-rank.result c.rank_of-rank.ensures c.in_ok-append_between.ensures.ok c.in_ok-append_between.ensures.order c.in_ok-append_between.ensures.high fits.0
           c.append.new.self.edges c.next.new.self.edges is early (ap (λ v. v.edges) c.in_ok-append.ensures.ok);
-      fit = fits.1.1;
+      fit = fits.2;
       shape = shape_next c.args.list.now c.append_between.new.list c.append.new.self c.in-Some.edge shape c.in_ok-append.ensures.ok;
       taken = λ first kinds same h.
           taken_next c.append_between.new.list c.append.new.self c.in-Some.edge first c.append_between.new.pools c.append.new.pools kinds
