@@ -1,3 +1,4 @@
+pub mod Infinity
 pub mod Parts
 pub mod Rising
 pub mod Rows

@@ -1,10 +1,6 @@
-use Rattle.std.proofs.Common.{◌≡◌, refl, arith}
-use Rattle.tw_rows.specs.Instant.{inf}
+use Rattle.std.proofs.Common.{arith}
+use Rattle.edge_stream.proofs.Infinity.{inf_is}
 use Rattle.edge_stream.proofs.counted.rank_of.Goals as goal
-
-inf_is : inf ≡ 2305843009213693952
-unfolding inf
-inf_is = refl
 
 pub overflow_mul-twice : goal.overflow_mul-twice
 overflow_mul-twice c = record { fits = omega (arith, c.word-twice.ensures.within, inf_is) }
