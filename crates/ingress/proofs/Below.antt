@@ -26,14 +26,7 @@ pub none_below_zero : (es : List Edge) → count_below 0 es ≡ 0
 none_below_zero [] = refl
 none_below_zero (e ∷ es) = let rest = none_below_zero es in let a : cond {A = ℕ} (nat_lt e.sync 0) 1 0 ≡ 0 = grind (arith, nat_tests) in omega (arith, a, rest)
 
--- all come below, and none
-pub all_counted : (x : ℕ) (es : List Edge) → failing (is_below x) es ≡ 0 → count_below x es ≡ length es
-all_counted x [] h = refl
-all_counted x (e ∷ es) h =
-    let t : cond {A = ℕ} (nat_lt e.sync x) 1 0 ≡ 1 = grind (arith, nat_tests) in
-    let others : failing (is_below x) es ≡ 0 = grind (arith, nat_tests) in
-    let rest = all_counted x es others in omega (arith, t, rest)
-
+-- none come below
 pub none_counted : (x : ℕ) (es : List Edge) → failing (is_from x) es ≡ 0 → count_below x es ≡ 0
 none_counted x [] h = refl
 none_counted x (e ∷ es) h =
