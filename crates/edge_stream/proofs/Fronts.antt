@@ -1,5 +1,5 @@
 -- The first rows of a batch, and those that are left: their edges, and how many there are.
-use Rattle.std.proofs.Common.{◌≡◌, ◌≤◌, ◌<◌, ℕ, zero, suc, ◌+◌, ◌-◌, ◌&&◌, Bool, true, false, cond, List, [], ◌∷◌, ◌++◌, map, length, get_or, take, drop, refl, ap, sym, ◌∙◌, subst, arith, add-one, append-nil, drop-cons}
+use Rattle.std.proofs.Common.{◌≡◌, ◌≤◌, ◌<◌, ℕ, zero, suc, ◌+◌, ◌&&◌, Bool, true, false, cond, List, [], ◌∷◌, ◌++◌, map, length, get_or, take, drop, refl, ap, sym, ◌∙◌, subst, arith, add-one, append-nil, drop-cons}
 use Rattle.std.specs.Prelude.{Option, Some, None, IfSome, IfNone, filter}
 use Rattle.std.specs.Option.{is_some}
 use Rattle.std.specs.List.{list_all}
@@ -9,9 +9,8 @@ use Rattle.std.proofs.lemmas.List.Folds.{list_all-append}
 use Rattle.std.proofs.lemmas.Option.{slice_get-get_or}
 use Rattle.std.proofs.lemmas.Bool.{and_parts}
 use Rattle.std.proofs.lemmas.Bool.Decides.{nat_tests}
-use Rattle.occupancy.specs.Bits.{is_set_at, IsNextSet, IsNoneSet}
+use Rattle.occupancy.specs.Bits.{IsNextSet, IsNoneSet}
 use Rattle.occupancy.proofs.Filtered.{filter-none_set, filter-next_set}
-use Rattle.tw_rows.specs.Bag.{total}
 use Rattle.tw_rows.proofs.Bags.{total-append}
 use Rattle.tw_rows.specs.declared.edge.Edge.{Edge}
 use Rattle.batch.specs.Rows.{Row, edge_of, edges_of, occupied_rows}

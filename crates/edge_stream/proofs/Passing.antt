@@ -1,24 +1,19 @@
 -- Batches one after another: how many of their edges come before a time, which is the first that does not, and which is the last.
-use Rattle.std.proofs.Common.{◌≡◌, ◌≤◌, ◌<◌, ℕ, zero, suc, ◌+◌, ◌&&◌, Bool, true, false, cond, List, [], ◌∷◌, ◌++◌, length, get_or, set, take, drop, refl, ap, sym, ◌∙◌, subst, arith, add-one, append_assoc, append-nil, drop-cons}
-use Rattle.std.specs.Prelude.{Option, Some, None, filter}
+use Rattle.std.proofs.Common.{◌≡◌, ◌≤◌, ◌<◌, ℕ, ◌+◌, Bool, true, false, cond, List, [], ◌∷◌, ◌++◌, length, get_or, take, drop, refl, ap, sym, ◌∙◌, subst, arith, add-one, append-nil}
+use Rattle.std.specs.Prelude.{Some, None, filter}
 use Rattle.std.specs.List.{list_all}
 use Rattle.std.proofs.lemmas.List.{take_more}
 use Rattle.std.proofs.lemmas.List.Elements.{filter-append}
-use Rattle.std.proofs.lemmas.List.Folds.{list_all-append}
-use Rattle.tw_rows.specs.Bag.{total}
 use Rattle.tw_rows.proofs.Bags.{total-append}
 use Rattle.tw_rows.specs.declared.edge.Edge.{Edge}
-use Rattle.batch.specs.Rows.{Row, Table, edge_of, edges_of}
-use Rattle.batch.proofs.Keeping.{no_row}
-use Rattle.edge_history.specs.Order.{Rises, KeepsOrder, rank, many, is_below, is_from}
+use Rattle.batch.specs.Rows.{Table, edges_of}
+use Rattle.edge_history.specs.Order.{Rises, many, is_below, is_from}
 use Rattle.edge_history.proofs.Rising.{Rises-front, Rises-back}
-use Rattle.edge_history.proofs.Keeping.{KeepsOrder-front}
 use Rattle.edge_stream.specs.Listing.{edges_in}
 use Rattle.edge_stream.specs.Reading.{first_sync, last_rank}
-use Rattle.edge_stream.proofs.Parts.{filter-none}
-use Rattle.edge_stream.proofs.Rising.{later_from, below-not_from, lower_clean, upper_clean}
+use Rattle.edge_stream.proofs.Rising.{later_from}
 use Rattle.edge_stream.proofs.Cutting.{edges_in-push, edges_in-parts, edges_in-at}
-use Rattle.edge_stream.proofs.Fronts.{edges_parts, many_none, many_fewer}
+use Rattle.edge_stream.proofs.Fronts.{many_none, many_fewer}
 
 -- ---- the first edge
 

@@ -1,7 +1,5 @@
-use Rattle.std.proofs.Common.{◌≡◌, ◌∙◌, [], Some, get_or, drop, sym, ap, subst}
+use Rattle.std.proofs.Common.{◌∙◌, Some, sym, ap, subst}
 use Rattle.occupancy.specs.Bits.{IsNextSet, IsNoneSet}
-use Rattle.batch.specs.Rows.{edges_of}
-use Rattle.batch.proofs.Keeping.{no_row}
 use Rattle.edge_stream.specs.Reading.{first_sync}
 use Rattle.edge_stream.proofs.Rows.{sync_is}
 use Rattle.edge_stream.proofs.Ahead.{row_within}

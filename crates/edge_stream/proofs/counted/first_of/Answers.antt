@@ -1,4 +1,4 @@
-use Rattle.std.proofs.Common.{◌≡◌, ◌<◌, length, arith}
+use Rattle.std.proofs.Common.{◌<◌, length, arith}
 use Rattle.edge_stream.proofs.Passing.{rises_in, first_here, first_later}
 use Rattle.edge_stream.proofs.counted.first_of.Goals as goal
 

@@ -1,4 +1,4 @@
-use Rattle.std.proofs.Common.{◌≡◌, ◌∙◌, sym, subst}
+use Rattle.std.proofs.Common.{◌∙◌, sym, subst}
 use Rattle.std.specs.Prelude.{IfSome, IfNone}
 use Rattle.occupancy.specs.Bits.{IsNextSet, IsNoneSet}
 use Rattle.edge_stream.proofs.Fronts.{some_left, none_left}

@@ -1,5 +1,4 @@
 use Rattle.std.proofs.Common.{◌≡◌, ◌∙◌, ◌+◌, ◌-◌, ◌<◌, ℕ, Bool, true, false, List, [], ◌∷◌, ◌++◌, Some, map, length, get_or, take, drop, sym, ap, refl, arith}
-use Rattle.occupancy.specs.Bits.{IsNextSet}
 use Rattle.batch.specs.Rows.{Row, edge_of, edges_of}
 use Rattle.batch.proofs.Keeping.{no_row}
 use Rattle.edge_stream.specs.Reading.{last_rank}

@@ -1,7 +1,6 @@
-use Rattle.std.proofs.Common.{◌≡◌, ◌+◌, ◌-◌, ◌<◌, ◌≤◌, ℕ, ◌⊎◌, inl, inr, length, take, arith, ◌∙◌, sym}
-use Rattle.std.specs.Prelude.{Option, Some, None}
+use Rattle.std.proofs.Common.{◌≡◌, ◌+◌, ◌-◌, ◌<◌, ◌≤◌, ℕ, length, arith}
+use Rattle.std.specs.Prelude.{Some, None}
 use Rattle.std.specs.Option.{SomeIff}
-use Rattle.std.proofs.lemmas.Bool.{cases_lt}
 use Rattle.edge_stream.proofs.Passing.{rises_in, later_in, fewer_left, none_left, all_left}
 use Rattle.edge_stream.proofs.counted.left_of.Goals as goal
 

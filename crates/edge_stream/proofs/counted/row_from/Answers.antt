@@ -1,8 +1,8 @@
-use Rattle.std.proofs.Common.{◌≡◌, ◌+◌, ◌-◌, ◌/◌, ◌<◌, ◌≤◌, ◌∙◌, true, false, ℕ, map, length, get_or, drop, refl, ap, sym, subst, arith}
+use Rattle.std.proofs.Common.{◌≡◌, ◌+◌, ◌-◌, ◌/◌, ◌<◌, ◌≤◌, ◌∙◌, true, false, ℕ, length, get_or, ap, subst, arith}
 use Rattle.std.specs.List.{list_all}
 use Rattle.std.proofs.lemmas.Bool.Decides.{nat_tests}
 use Rattle.occupancy.specs.Bits.{IsNextSet, IsNoneSet}
-use Rattle.batch.specs.Rows.{Row, edge_of, edges_of}
+use Rattle.batch.specs.Rows.{Row, edge_of}
 use Rattle.batch.proofs.Keeping.{no_row}
 use Rattle.edge_history.specs.Order.{is_below, is_from}
 use Rattle.edge_stream.proofs.Rows.{sync_is}

@@ -1,4 +1,4 @@
-use Rattle.std.proofs.Common.{◌≡◌, ◌<◌, ◌≤◌, ◌-◌, suc, ◌∙◌, take, ap, sym, subst, get_or, arith, rules, length, deque_len}
+use Rattle.std.proofs.Common.{◌≡◌, ◌<◌, ◌-◌, suc, ◌∙◌, take, ap, sym, subst, arith, rules, length, deque_len}
 use Rattle.std.proofs.lemmas.List.Elements.{All-set}
 use Rattle.batch.specs.Rows.{edges_of}
 use Rattle.edge_stream.specs.Listing.{IsOf}

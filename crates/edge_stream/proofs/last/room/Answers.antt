@@ -1,5 +1,4 @@
-use Rattle.std.proofs.Common.{◌≡◌, ◌<◌, ◌-◌, suc, length, deque_len, sym, ◌∙◌, rules, arith}
-use Rattle.edge_stream.specs.Listing.{last_room}
+use Rattle.std.proofs.Common.{◌≡◌, ◌<◌, ◌-◌, suc, length, deque_len, rules, arith}
 use Rattle.edge_stream.proofs.LastBatch.{last_room-last}
 use Rattle.edge_stream.proofs.last.room.Goals as goal
 

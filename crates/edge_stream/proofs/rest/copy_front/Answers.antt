@@ -1,4 +1,4 @@
-use Rattle.std.proofs.Common.{◌≡◌, ◌∙◌, ◌++◌, ◌<◌, ◌≤◌, true, length, take, map, sym, ap, arith}
+use Rattle.std.proofs.Common.{◌∙◌, ◌++◌, ◌<◌, length, map, sym, ap, arith}
 use Rattle.std.specs.List.{list_all}
 use Rattle.std.proofs.lemmas.List.{take_all}
 use Rattle.tw_rows.specs.Kinds.{cell_kind_of}

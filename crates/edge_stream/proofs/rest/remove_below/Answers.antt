@@ -1,9 +1,8 @@
-use Rattle.std.proofs.Common.{◌≡◌, ◌∙◌, ◌<◌, ◌≤◌, ℕ, true, false, length, take, drop, refl, sym, ap, subst, arith}
+use Rattle.std.proofs.Common.{◌∙◌, ◌<◌, ◌≤◌, length, sym, ap, subst, arith}
 use Rattle.std.specs.Prelude.{All, filter}
 use Rattle.std.specs.List.{list_all}
 use Rattle.std.proofs.lemmas.List.{drop_all}
 use Rattle.std.proofs.lemmas.List.Elements.{All-drop}
-use Rattle.batch.specs.Rows.{Table}
 use Rattle.edge_history.specs.Order.{Rises, is_from}
 use Rattle.edge_stream.specs.Listing.{IsOf, edges_in}
 use Rattle.edge_stream.proofs.Passing.{rises_in, rises_later, later_in}

@@ -1,6 +1,6 @@
 use Rattle.std.proofs.Common.{◌≡◌, ◌∙◌, ◌<◌, ℕ, Bool, true, false, List, map, length, get_or, sym, ap, arith}
 use Rattle.std.proofs.lemmas.Option.{slice_get-get_or}
-use Rattle.batch.specs.Rows.{Row, edge_of}
+use Rattle.batch.specs.Rows.{Row}
 use Rattle.batch.proofs.Keeping.{no_row}
 use Rattle.edge_history.specs.Order.{starts_it}
 use Rattle.edge_stream.proofs.Rows.{bit_is}

@@ -1,5 +1,5 @@
-use Rattle.std.proofs.Common.{◌≡◌, ◌∙◌, ◌+◌, ◌<◌, ◌∷◌, ℕ, true, false, length, get_or, set, take, refl, sym, ap, subst, arith}
-use Rattle.std.specs.Prelude.{slice_get, Some, All}
+use Rattle.std.proofs.Common.{◌∙◌, ◌<◌, ◌∷◌, false, length, get_or, set, refl, sym, ap, subst, arith}
+use Rattle.std.specs.Prelude.{slice_get, All}
 use Rattle.std.proofs.lemmas.List.Elements.{All-set}
 use Rattle.std.proofs.lemmas.Option.{slice_get-get_or}
 use Rattle.tw_rows.specs.Instant.{inf}

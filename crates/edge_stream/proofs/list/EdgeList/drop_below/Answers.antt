@@ -1,4 +1,4 @@
-use Rattle.std.proofs.Common.{ap, sym, subst}
+use Rattle.std.proofs.Common.{sym, subst}
 use Rattle.edge_history.specs.Order.{KeepsOrder, is_from}
 use Rattle.edge_stream.specs.Listing.{edges_in}
 use Rattle.edge_stream.proofs.Listings.{IsListing-other}
