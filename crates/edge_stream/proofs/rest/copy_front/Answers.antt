@@ -70,7 +70,7 @@ loop-place-preserved c =
       capacity = c.append_first.ensures.shape.capacity ∙ inv.capacity;
       batches = omega (arith, inv.batches, c.append_first.ensures.batches);
       pools = taken_after c.args.to.now.batches c.loop-place.to.batches c.append_first.new.self.batches c.args.pools.now c.loop-place.pools c.append_first.new.pools (cells_of c.args.to.now) (cells_of c.loop-place.to)
-      inv.batches c.append_first.ensures.batches (ap (map cell_kind_of) inv.kinds) inv.pools c.in_ok-append_first.ensures.pools;
+          inv.batches c.append_first.ensures.batches (ap (map cell_kind_of) inv.kinds) inv.pools c.in_ok-append_first.ensures.pools;
     }
 
 pub returns-clause-ok : goal.returns-clause-ok

@@ -33,7 +33,7 @@ returns-in-Some-clause-taken c = λ _.
     let start : Edge = record { sync = c.args.start; other = inf; cells = c.args.cells.now } in
     subst (λ xs. SameBag (start ∷ edges_in (set bs.items n c.clear_row.new.self)) (edges_in xs)) c.loop-place.invariant.same
     (bag_cleared seen.rows i r c.in-Some.ensures.within found bs.items n b c.clear_row.new.self lt c.index_mut.ensures.value same (c.in-Some.ensures.some r found) gone
-        c.args.cells.now c.args.start (c.in-Some.ensures.starts r found))
+    c.args.cells.now c.args.start (c.in-Some.ensures.starts r found))
 
 pub returns-in-Some-clause-order : goal.returns-in-Some-clause-order
 returns-in-Some-clause-order c = λ order.
