@@ -4,3 +4,6 @@ pub mod Views
 pub mod PoolLaws
 pub mod Keeping
 pub mod Placing
+pub mod Bulk
+pub mod FirstRows
+pub mod FirstViews

@@ -178,6 +178,24 @@ rows_of-mark capacity c i key hash r whole lt found =
         rw (get_or-set_other c.key i j key 0 apart, get_or-set_other c.hash i j hash 0 apart, get_or-set_other (rows_of c) i j (record r { key = key; hash = hash }) r apart)
         (get_or-rows_of c j r within)
 
+-- the rows once one is cleared
+pub rows_of-clear : (capacity : ℕ) (c : Columns) (i : ℕ) (r : Row) → AreColumns capacity c → i < length c.sync → slice_get (rows_of c) i ≡ Some r →
+    rows_of (record c { occupied = set c.occupied i false }) ≡ set (rows_of c) i (record r { occupied = false })
+rows_of-clear capacity c i r whole lt found =
+    let here : row_at c i ≡ r = sym (get_or-rows_of c i r lt) ∙ get_or_from_slice_get (rows_of c) i r r found in
+    sym (rows_of-is (set (rows_of c) i (record r { occupied = false })) (record c { occupied = set c.occupied i false }) r (length-set (rows_of c) i _ ∙ length-rows_of c)
+    (λ j within. at j within here (cases_eq j i)))
+  where
+    at : (j : ℕ) → j < length c.sync → row_at c i ≡ r → (j ≡ i) ⊎ (j ≢ i) →
+        get_or (set (rows_of c) i (record r { occupied = false })) j r ≡ row_at (record c { occupied = set c.occupied i false }) j
+    at j within here (inl same) =
+        let bit_here : get_or (set c.occupied i false) i false ≡ false = get_or-set_same c.occupied i false false (omega (arith, lt, whole.occupied)) in
+        let row_here : get_or (set (rows_of c) i (record r { occupied = false })) i r ≡ record r { occupied = false } = get_or-set_same (rows_of c) i (record r { occupied = false }) r (omega (arith, lt, length-rows_of c)) in
+        rw (same, row_here, bit_here, ← here) refl
+    at j within here (inr apart) =
+        rw (get_or-set_other c.occupied i j false false apart, get_or-set_other (rows_of c) i j (record r { occupied = false }) r apart)
+        (get_or-rows_of c j r within)
+
 -- the rows once the times of one are written
 pub rows_of-times : (capacity : ℕ) (c : Columns) (i sync other : ℕ) (r : Row) → AreColumns capacity c → i < length c.sync → slice_get (rows_of c) i ≡ Some r →
     rows_of (record c { sync = set c.sync i sync; other = set c.other i other }) ≡ set (rows_of c) i (record r { sync = sync; other = other })

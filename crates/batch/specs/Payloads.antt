@@ -1,5 +1,5 @@
 -- Payload columns: the data that they hold.
-use Rattle.std.specs.Prelude.{ℕ, ◌<◌, pos, length, List, [], ◌∷◌, ◌++◌, map, slice_index_or}
+use Rattle.std.specs.Prelude.{ℕ, ◌+◌, ◌<◌, ◌≤◌, pos, length, take, drop, List, [], ◌∷◌, ◌++◌, map, slice_index_or}
 use Rattle.tw_rows.specs.declared.cells.Datum.{Datum}
 use Rattle.tw_rows.specs.declared.cells.Datum.TheVariants.{Int, Bool as Flag, Text}
 use Rattle.tw_rows.specs.declared.kind.CellKind.{CellKind}
@@ -60,3 +60,34 @@ HasRoom p = length (payload_data p) < payload_capacity p
 -- the column has a cell at the place
 abbrev pub Reaches : ℕ → Payload → Type 0
 Reaches place p = place < length (payload_data p)
+
+-- the column without its first n cells
+abbrev pub payload_cut : ℕ → Payload → Payload
+payload_cut n (Ints c) = Ints (record c { items = drop n c.items })
+payload_cut n (Bits c) = Bits (record c { items = drop n c.items })
+payload_cut n (Places c) = Places (record c { items = drop n c.items })
+
+-- the column with the first n cells of another one last, where that is stored as it is
+abbrev pub payload_extend : ℕ → Payload → Payload → Payload
+payload_extend n (Ints c) (Ints f) = Ints (record c { items = c.items ++ take n f.items })
+payload_extend n (Ints c) (Bits f) = Ints c
+payload_extend n (Ints c) (Places f) = Ints c
+payload_extend n (Bits c) (Ints f) = Bits c
+payload_extend n (Bits c) (Bits f) = Bits (record c { items = c.items ++ take n f.items })
+payload_extend n (Bits c) (Places f) = Bits c
+payload_extend n (Places c) (Ints f) = Places c
+payload_extend n (Places c) (Bits f) = Places c
+payload_extend n (Places c) (Places f) = Places (record c { items = c.items ++ take n f.items })
+
+-- each column with the first n cells of its other one last
+abbrev pub extended : ℕ → List Payload → List Payload → List Payload
+extended n [] fs = []
+extended n (p ∷ ps) [] = p ∷ ps
+extended n (p ∷ ps) (f ∷ fs) = payload_extend n p f ∷ extended n ps fs
+
+-- the column has n cells; it has room for n cells more
+abbrev pub Holds : ℕ → Payload → Type 0
+Holds n p = n ≤ length (payload_data p)
+
+abbrev pub HasRoomFor : ℕ → Payload → Type 0
+HasRoomFor n p = length (payload_data p) + n ≤ payload_capacity p

@@ -1,14 +1,16 @@
 // A batch of edges, in columns.
 ghost use Rattle.std.specs.Prelude.{◌≡◌, ◌+◌, ◌<◌, ◌≤◌, ◌↔◌, ◌&&◌, true, false, [], ◌∷◌, ◌++◌};
-ghost use Rattle.std.specs.Prelude.{length, map, Some, slice_get, slice_set, slice_index_or, All};
-ghost use Rattle.std.specs.Prelude.{IsOk, IsErr, IfOk, OnOk, OnErr};
+ghost use Rattle.std.specs.Prelude.{length, take, drop, map, Some, slice_get, slice_set, slice_index_or, All};
+ghost use Rattle.std.specs.Prelude.{IsTrue, IsOk, IsErr, IfOk, OnOk, OnErr};
 ghost use Rattle.tw_rows.specs.Cells.{datum_kind};
 ghost use Rattle.batch.specs.Rows.{Row, Table, edge_of, edges_of, occupied_rows, row_of, kept, cell_column};
 ghost use Rattle.batch.specs.Payloads.{payload_kind, payload_data, payload_capacity};
 ghost use Rattle.batch.specs.Columns.{IsColumn, with_cells};
 ghost use Rattle.batch.specs.PoolsView.{batch_given};
 
-use crate::columns::{clear_columns, copy_cells, push_cells};
+use crate::columns::{
+    clear_columns, copy_cells, cut_columns, extend_bits, extend_columns, have_cells, push_cells,
+};
 use crate::making::give_columns;
 use crate::payload::Payload;
 use crate::pools::Pools;
@@ -186,6 +188,18 @@ impl Batch {
         self.other.set(i, other.word());
     }
 
+    /// Leaves the row `i` in its place, and unoccupied.
+    pub fn clear_row(&mut self, i: usize)
+        requires { i < length self.old.rows }
+        ensures { (r : Row) → slice_get self.old.rows i ≡ Some r →
+            self.new ≡ record self.old {
+              rows = slice_set self.old.rows i
+                  (record r { occupied = false });
+            } }
+    {
+        self.occupied.clear_at(i);
+    }
+
     /// Adds a row with the edge, whose key and hash are 0.
     pub fn push_edge(&mut self, edge: &Edge) -> Result<(), Full>
         requires { map datum_kind edge.now.cells ≡ self.old.kinds }
@@ -258,6 +272,15 @@ impl Batch {
         (self, old)
     }
 
+    /// Whether the cells of the row `i` are these.
+    pub fn has_cells(&self, i: usize, cells: &[Datum]) -> bool
+        requires { i < length self.now.rows }
+        ensures { (r : Row) → slice_get self.now.rows i ≡ Some r →
+            IsTrue result ↔ (r.cells ≡ cells.now) }
+    {
+        have_cells(self.payload.as_slice(), i, cells)
+    }
+
     /// The edge of the row `i`. Memory is taken only for more than 4 cells.
     pub fn edge_at(&self, i: usize) -> Result<Edge, Memory>
         requires { i < length self.now.rows }
@@ -305,6 +328,38 @@ impl Batch {
                 self.copy_row(i, to);
             }
         }
+    }
+
+    /// Adds the first `count` rows, occupied or not, to another batch of the same kinds that has room for them:
+    /// one copy of memory for each column.
+    pub fn copy_first(&self, count: usize, to: &mut Batch)
+        requires count { count ≤ length self.now.rows }
+        requires kinds { self.now.kinds ≡ to.old.kinds }
+        requires room { length to.old.rows + count ≤ to.old.capacity }
+        ensures { to.new ≡ record to.old { rows = to.old.rows ++ take count self.now.rows } }
+    {
+        to.sync.extend(&self.sync.as_slice()[..count]);
+        to.other.extend(&self.other.as_slice()[..count]);
+        to.key.extend(&self.key.as_slice()[..count]);
+        to.hash.extend(&self.hash.as_slice()[..count]);
+        extend_bits(&mut to.occupied, &self.occupied, count);
+        extend_columns(to.payload.as_mut_slice(), self.payload.as_slice(), count);
+    }
+
+    /// Takes the first `count` rows out, of a batch whose rows are all occupied, and leaves the room as it was.
+    pub fn remove_first(&mut self, count: usize)
+        requires count { count ≤ length self.old.rows }
+        requires occupied { occupied_rows self.old.rows ≡ self.old.rows }
+        ensures { self.new ≡ record self.old { rows = drop count self.old.rows } }
+    {
+        self.sync.remove_first(count);
+        self.other.remove_first(count);
+        self.key.remove_first(count);
+        self.hash.remove_first(count);
+        let left = self.occupied.len() - count;
+        self.occupied.reset();
+        self.occupied.push_set(left);
+        cut_columns(self.payload.as_mut_slice(), count);
     }
 
     // Whether the row `i` is occupied and its bit is set.

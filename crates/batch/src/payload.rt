@@ -1,7 +1,7 @@
 // A column of payload cells.
-ghost use Rattle.std.specs.Prelude.{◌≡◌, ◌<◌, ◌≤◌, [], ◌∷◌, ◌++◌, length, slice_get, Some, pos, slice_index_or, IfOk};
+ghost use Rattle.std.specs.Prelude.{◌≡◌, ◌+◌, ◌<◌, ◌≤◌, [], ◌∷◌, ◌++◌, length, slice_get, Some, pos, slice_index_or, IfOk};
 ghost use Rattle.tw_rows.specs.Cells.{datum_kind};
-ghost use Rattle.batch.specs.Payloads.{payload_kind, payload_data, payload_capacity, payload_push, payload_clear};
+ghost use Rattle.batch.specs.Payloads.{payload_kind, payload_data, payload_capacity, payload_push, payload_clear, payload_cut, payload_extend};
 
 use column_pool::{Bit, Column};
 use std::alloc::{AllocError, Global};
@@ -91,6 +91,39 @@ impl Payload {
             (Payload::Bits(column), Datum::Bool(flag)) => column.push(Bit::new(flag)),
             (Payload::Places(column), Datum::Text(place)) => column.push(place),
             _ => {}
+        }
+    }
+
+    /// Adds the first `count` cells of a column of the same kind last.
+    pub fn extend_first(&mut self, from: &Payload, count: usize)
+        requires kind { payload_kind from.now ≡ payload_kind self.old }
+        requires count { count ≤ length (payload_data from.now) }
+        requires room { length (payload_data self.old) + count ≤ payload_capacity self.old }
+        ensures { self.new ≡ payload_extend count self.old from.now }
+    {
+        match (self, from) {
+            (Payload::Ints(column), Payload::Ints(cells)) => column.extend(
+                &cells.as_slice()[..count],
+            ),
+            (Payload::Bits(column), Payload::Bits(cells)) => column.extend(
+                &cells.as_slice()[..count],
+            ),
+            (Payload::Places(column), Payload::Places(cells)) => {
+                column.extend(&cells.as_slice()[..count]);
+            }
+            _ => {}
+        }
+    }
+
+    /// Takes the first `count` cells out.
+    pub fn remove_first(&mut self, count: usize)
+        requires { count ≤ length (payload_data self.old) }
+        ensures { self.new ≡ payload_cut count self.old }
+    {
+        match self {
+            Payload::Ints(column) => column.remove_first(count),
+            Payload::Bits(column) => column.remove_first(count),
+            Payload::Places(column) => column.remove_first(count),
         }
     }
 

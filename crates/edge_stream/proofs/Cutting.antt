@@ -31,12 +31,16 @@ drop-set [] n b lt = absurd (omega arith)
 drop-set (x ∷ xs) zero b lt = refl
 drop-set (x ∷ xs) (suc n) b lt = drop-set xs n b (omega arith)
 
--- with one edge more in the last batch
+-- with more edges in the last batch
+pub edges_in-extended : (xs : List Table) (k : ℕ) (b new : Table) (es : List Edge) → suc k ≡ length xs → b ≡ get_or xs k b → edges_of new.rows ≡ edges_of b.rows ++ es → edges_in (set xs k new) ≡ edges_in xs ++ es
+edges_in-extended [] k b new es last is more = absurd (omega (arith, last))
+edges_in-extended (x ∷ []) zero b new es last is more =
+    append-nil (edges_of new.rows) ∙ more ∙ ap (λ t. edges_of t.rows ++ es) is ∙ ap (λ l. l ++ es) (sym (append-nil (edges_of x.rows)))
+edges_in-extended (x ∷ []) (suc k) b new es last is more = absurd (omega (arith, last))
+edges_in-extended (x ∷ y ∷ ys) zero b new es last is more = absurd (omega (arith, last))
+edges_in-extended (x ∷ y ∷ ys) (suc k) b new es last is more =
+    ap (λ l. edges_of x.rows ++ l) (edges_in-extended (y ∷ ys) k b new es (omega (arith, last)) is more) ∙ sym (append_assoc (edges_of x.rows) (edges_in (y ∷ ys)) es)
+
+-- with one edge more there
 pub edges_in-last : (xs : List Table) (k : ℕ) (b new : Table) (e : Edge) → suc k ≡ length xs → b ≡ get_or xs k b → edges_of new.rows ≡ edges_of b.rows ++ e ∷ [] → edges_in (set xs k new) ≡ edges_in xs ++ e ∷ []
-edges_in-last [] k b new e last is more = absurd (omega (arith, last))
-edges_in-last (x ∷ []) zero b new e last is more =
-    append-nil (edges_of new.rows) ∙ more ∙ ap (λ t. edges_of t.rows ++ e ∷ []) is ∙ ap (λ l. l ++ e ∷ []) (sym (append-nil (edges_of x.rows)))
-edges_in-last (x ∷ []) (suc k) b new e last is more = absurd (omega (arith, last))
-edges_in-last (x ∷ y ∷ ys) zero b new e last is more = absurd (omega (arith, last))
-edges_in-last (x ∷ y ∷ ys) (suc k) b new e last is more =
-    ap (λ l. edges_of x.rows ++ l) (edges_in-last (y ∷ ys) k b new e (omega (arith, last)) is more) ∙ sym (append_assoc (edges_of x.rows) (edges_in (y ∷ ys)) (e ∷ []))
+edges_in-last xs k b new e last is more = edges_in-extended xs k b new (e ∷ []) last is more

@@ -137,3 +137,16 @@ part_whole s kinds =
     let first : PoolsView = record s { words = s.words - 4; occupancies = s.occupancies - 1 } in
     let some : AreSomeTaken first (batch_taken s kinds) kinds = record { count = length kinds; is = ap (λ ks. batch_taken s ks) (sym (take_all (length kinds) kinds (omega arith))) } in
     payload_told s first (batch_taken s kinds) kinds refl some
+
+-- some batches are taken, and then some more
+batches_taken-more : (m n : ℕ) (s : PoolsView) (ks : List CellKind) → batches_taken n (batches_taken m s ks) ks ≡ batches_taken (m + n) s ks
+batches_taken-more m zero s ks = let e : m + 0 ≡ m = omega arith in ap (λ k. batches_taken k s ks) (sym e)
+batches_taken-more m (suc n) s ks =
+    let e : m + suc n ≡ suc (m + n) = omega arith in
+    ap (λ r. batch_taken r ks) (batches_taken-more m n s ks) ∙ ap (λ k. batches_taken k s ks) (sym e)
+
+pub taken_after : (old mid new : ℕ) (first before after : PoolsView) (kinds ks : List CellKind) → old ≤ mid → mid ≤ new → ks ≡ kinds → before ≡ batches_taken (mid - old) first kinds →
+    after ≡ batches_taken (new - mid) before ks → after ≡ batches_taken (new - old) first kinds
+taken_after old mid new first before after kinds ks low high same so_far more =
+    let e : (mid - old) + (new - mid) ≡ new - old = omega (arith, low, high) in
+    more ∙ (λ i. batches_taken (new - mid) (so_far i) (same i)) ∙ batches_taken-more (mid - old) (new - mid) first kinds ∙ ap (λ k. batches_taken k first kinds) e

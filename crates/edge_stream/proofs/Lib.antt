@@ -1,3 +1,4 @@
+pub mod Infinity
 pub mod Parts
 pub mod Rising
 pub mod Rows
@@ -7,6 +8,9 @@ pub mod Listings
 pub mod CutLists
 pub mod LastBatch
 pub mod Filling
+pub mod Fronts
+pub mod Passing
+pub mod Gone
 pub mod Merging
 pub mod Placed
 pub mod Together

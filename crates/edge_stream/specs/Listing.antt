@@ -25,9 +25,13 @@ abbrev pub where_full : {X : Type 0} → ℕ → X → X → X
 where_full zero full other = full
 where_full (suc room) full other = other
 
+-- the list with a new batch last
+abbrev pub opened : EdgeListView → EdgeListView
+opened l = record l { batches = l.batches + 1; room = l.capacity }
+
 -- the list with a new batch where its last one is full, and else as it is
 abbrev pub with_room : EdgeListView → EdgeListView
-with_room l = where_full l.room (record l { batches = l.batches + 1; room = l.capacity }) l
+with_room l = where_full l.room (opened l) l
 
 -- the list with the edge last. With capacity 2 and no room an edge opens a batch, which then has room for one more
 abbrev pub appended : EdgeListView → Edge → EdgeListView

@@ -35,6 +35,17 @@ abbrev pub rank_ahead : List Edge → Option ℕ
 rank_ahead [] = None
 rank_ahead (e ∷ es) = Some (rank e)
 
+-- the rank of the last edge, if there is one
+abbrev pub last_rank : List Edge → Option ℕ
+last_rank [] = None
+last_rank (e ∷ []) = Some (rank e)
+last_rank (e ∷ f ∷ es) = last_rank (f ∷ es)
+
+-- the sync of the first edge, if there is one
+abbrev pub first_sync : List Edge → Option ℕ
+first_sync [] = None
+first_sync (e ∷ es) = Some e.sync
+
 -- the first rank is there, and the second is not, or is greater
 abbrev pub is_below_rank : Option ℕ → Option ℕ → Bool
 is_below_rank None other = false

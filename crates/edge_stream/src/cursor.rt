@@ -11,6 +11,7 @@ ghost use Rattle.edge_stream.specs.Taking.{room_taken};
 ghost use Rattle.edge_stream.specs.Reading.{edges_from, IsAtEdge, AreOfKinds};
 ghost use Rattle.edge_stream.specs.Shards.{shard_by};
 
+use crate::counted::rank_of;
 use crate::list::EdgeList;
 use crate::shards::shard_at;
 use batch::{Batch, Pools};
@@ -139,8 +140,7 @@ impl<'a> Cursor<'a> {
             self.now.edges ≡ e ∷ rest → r ≡ rank e) }
     {
         let (sync, other) = self.times()?;
-        let twice = 2 * sync.word();
-        Some(if other < sync { twice } else { twice + 1 })
+        Some(rank_of(sync, other))
     }
 
     /// The number of the shard of the next edge, of so many.

@@ -2,13 +2,16 @@
 #![tactic(auto)]
 
 mod cells;
+mod counted;
 mod cursor;
 mod cut;
 mod last;
 mod laws;
 mod list;
+mod rest;
 mod saved;
 mod shards;
+mod starts;
 mod whole;
 
 pub use cursor::Cursor;

@@ -5,14 +5,14 @@ ghost use Rattle.std.specs.Prelude.{IsErr, IfErr, IfOk, OnOk, OnErr};
 ghost use Rattle.tw_rows.specs.Kinds.{cell_kind_of};
 ghost use Rattle.tw_rows.specs.Cells.{datum_kind};
 ghost use Rattle.batch.specs.Rows.{Row, edge_of, edges_of};
-ghost use Rattle.batch.specs.PoolsView.{IsPartTaken};
+ghost use Rattle.batch.specs.PoolsView.{batch_taken, IsPartTaken};
 ghost use Rattle.edge_history.specs.Order.{is_below, is_from, KeepsOrder};
-ghost use Rattle.edge_stream.specs.Listing.{cells_of, edges_in, with_room, appended, SameShape};
+ghost use Rattle.edge_stream.specs.Listing.{cells_of, edges_in, opened, with_room, appended, SameShape};
 ghost use Rattle.edge_stream.specs.Taking.{room_taken, batches_taken, batches_given};
 
 use crate::cursor::Cursor;
 use crate::cut::{batches_below, move_front, part_at};
-use crate::last::{copy_last, has_room, push_last};
+use crate::last::{copy_last, push_last, room};
 use batch::{Batch, Pools};
 use std::alloc::Global;
 use std::collections::VecDeque;
@@ -150,22 +150,20 @@ impl EdgeList {
         ensures err_pools { OnErr result (IsPartTaken pools.old pools.new (cells_of self.old)) }
         ensures full { IsErr result → self.old.room ≡ 0 }
     {
-        if has_room(&self.batches) {
+        if room(&self.batches) > 0 {
             Ok(())
         } else {
             self.open_batch(pools)
         }
     }
 
-    // Opens a batch. It is a function of its own since a call clears the memory of all its locals, and
-    // a batch is large.
+    // Opens a batch, whatever room the last one has. It is a function of its own since a call clears
+    // the memory of all its locals, and a batch is large.
     #[inline(never)]
-    fn open_batch(&mut self, pools: &mut Pools) -> Result<(), Memory>
-        requires capacity { pools.old.capacity ≡ self.old.capacity }
-        requires full { self.old.room ≡ 0 }
-        ensures ok { OnOk result (self.new ≡ with_room self.old) }
-        ensures room { OnOk result (0 < self.new.room) }
-        ensures pools { OnOk result (pools.new ≡ room_taken self.old pools.old) }
+    pub(crate) fn open_batch(&mut self, pools: &mut Pools) -> Result<(), Memory>
+        requires { pools.old.capacity ≡ self.old.capacity }
+        ensures ok { OnOk result (self.new ≡ opened self.old) }
+        ensures pools { OnOk result (pools.new ≡ batch_taken pools.old (cells_of self.old)) }
         ensures err { OnErr result (self.new ≡ self.old) }
         ensures err_pools { OnErr result (IsPartTaken pools.old pools.new (cells_of self.old)) }
     {

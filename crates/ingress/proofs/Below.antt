@@ -1,5 +1,5 @@
 -- How many edges come below a time: of a queue in order, between two ranks, and of several lists.
-use Rattle.std.specs.Prelude.{◌≡◌, ℕ, zero, suc, ◌+◌, ◌-◌, ◌*◌, ◌<◌, ◌≤◌, ◌⊎◌, nat_lt, Bool, true, false, cond, List, [], ◌∷◌, ◌++◌, filter, length, take, drop, get_or, refl}
+use Rattle.std.specs.Prelude.{◌≡◌, ℕ, zero, suc, ◌+◌, ◌-◌, ◌*◌, ◌<◌, ◌≤◌, ◌⊎◌, nat_lt, nat_le, Bool, true, false, cond, List, [], ◌∷◌, ◌++◌, filter, length, take, drop, get_or, refl}
 use Rattle.std.specs.Prelude.{Vec, Option, Some, None, slice_get, unwrap_or, is_some, IfSome, IsNone}
 use Rattle.std.specs.BTreeMap.Range.{entries_between}
 use Rattle.std.specs.declared.ops.Bound.TheVariants.{Included, Excluded}
@@ -7,16 +7,15 @@ use Rattle.std.specs.Ordering.{nat_cmp}
 use Rattle.std.proofs.Common.{sym, ◌∙◌, ap, subst, arith, inl, inr}
 use Rattle.std.proofs.lemmas.Bool.{cases_lt}
 use Rattle.std.proofs.lemmas.Bool.Decides.{nat_tests}
-use Rattle.std.proofs.lemmas.List.{drop_more, take-append-drop, length-take, length-drop}
 use Rattle.tw_rows.specs.Bag.{SameBag}
 use Rattle.tw_rows.specs.declared.edge.Edge.{Edge}
 use Rattle.tw_rows.proofs.Bags.{total-append}
 use Rattle.tw_rows.proofs.Fronts.{total_more}
 use Rattle.edge_history.specs.Order.{rank, failing, is_below, is_from, Rises}
-use Rattle.edge_history.proofs.Rising.{Rises-back, Rises-less, sorted_from_rises}
 use Rattle.edge_history.proofs.Sums.{failing-append, failing-kept}
 use Rattle.ingress.specs.Ranks.{is_between, AreRanked, edges_at as edges_of_ranks}
 use Rattle.edge_stream.specs.Listing.{EdgeListView}
+use Rattle.edge_stream.specs.Reading.{first_sync}
 use Rattle.ingress.specs.Admits.{edges_at}
 use Rattle.ingress.specs.Slices.{count_below, all_below, edges_of}
 use Rattle.ingress.proofs.Ranked.{rank_low, rank_high}
@@ -27,14 +26,7 @@ pub none_below_zero : (es : List Edge) → count_below 0 es ≡ 0
 none_below_zero [] = refl
 none_below_zero (e ∷ es) = let rest = none_below_zero es in let a : cond {A = ℕ} (nat_lt e.sync 0) 1 0 ≡ 0 = grind (arith, nat_tests) in omega (arith, a, rest)
 
--- all come below, and none
-pub all_counted : (x : ℕ) (es : List Edge) → failing (is_below x) es ≡ 0 → count_below x es ≡ length es
-all_counted x [] h = refl
-all_counted x (e ∷ es) h =
-    let t : cond {A = ℕ} (nat_lt e.sync x) 1 0 ≡ 1 = grind (arith, nat_tests) in
-    let others : failing (is_below x) es ≡ 0 = grind (arith, nat_tests) in
-    let rest = all_counted x es others in omega (arith, t, rest)
-
+-- none come below
 pub none_counted : (x : ℕ) (es : List Edge) → failing (is_from x) es ≡ 0 → count_below x es ≡ 0
 none_counted x [] h = refl
 none_counted x (e ∷ es) h =
@@ -50,80 +42,61 @@ none_before x r (e ∷ es) le h =
     let t : cond {A = ℕ} (nat_lt e.sync x) 1 0 ≡ 0 = (let k : x ≤ e.sync = omega (arith, high, first, le) in grind (arith, nat_tests)) in
     let rest = none_before x (rank e) es (omega (arith, le, first)) h.1 in omega (arith, t, rest)
 
-still_below : (x z : ℕ) (es : List Edge) → x ≤ z → failing (is_below x) es ≡ 0 → failing (is_below z) es ≡ 0
-still_below x z [] le h = refl
-still_below x z (e ∷ es) le h =
-    let t : e.sync < x = grind (arith, nat_tests) in
-    let others : failing (is_below x) es ≡ 0 = grind (arith, nat_tests) in
-    let rest = still_below x z es le others in
-    let a : cond {A = ℕ} (nat_lt e.sync z) 0 1 ≡ 0 = grind (arith, nat_tests) in omega (arith, a, rest)
+-- the first sync from f on of edges in order is s: no more of them come before it than before f, and one comes at it
+pub record StartsAt (f s : ℕ) (es : List Edge) : Type 0 where
+  pub from : f ≤ s
+  pub none : (x : ℕ) → f ≤ x → x ≤ s → count_below x es ≡ count_below f es
+  pub some : count_below s es < count_below (s + 1) es
 
-none_of_none : (x : ℕ) (es : List Edge) → length es ≡ 0 → count_below x es ≡ 0
-none_of_none x [] h = refl
-none_of_none x (e ∷ es) h = absurd (omega (arith, h))
+counted_once : (x : ℕ) (e : Edge) → e.sync < x → cond {A = ℕ} (nat_lt e.sync x) 1 0 ≡ 1
+counted_once x e less = let k : nat_lt e.sync x ≡ true = grind (arith, nat_tests) in ap (λ b. cond {A = ℕ} b 1 0) k
 
--- in order, the edges up to one that comes below a time
-front_below : (t r : ℕ) (es : List Edge) (i : ℕ) (e : Edge) → Rises r es → i < length es → e ≡ get_or es i e → e.sync < t → failing (is_below t) (take (suc i) es) ≡ 0
-front_below t r [] i e h low is early = absurd (omega (arith, low))
-front_below t r (x ∷ xs) zero e h low is early =
-    let s : x.sync < t = (let k = ap (λ y. y.sync) is in omega (arith, k, early)) in grind (arith, nat_tests)
-front_below t r (x ∷ xs) (suc i) e h low is early =
-    let rest = front_below t (rank x) xs i e h.1 (omega (arith, low)) is early in
-    let up = sorted_from_rises (x ∷ xs) (Rises-less r 0 (x ∷ xs) (omega arith) h) 0 (suc i) e (omega arith) low in
-    let a = rank_low x in let b = rank_high e in
-    let k = ap rank is in
-    let s : x.sync < t = omega (arith, up, a, b, k, early) in
-    let one : cond {A = ℕ} (nat_lt x.sync t) 0 1 ≡ 0 = grind (arith, nat_tests) in
-    omega (arith, one, rest)
+pub queue_first : (f r : ℕ) (es : List Edge) (s : ℕ) → Rises r es → Some s ≡ first_sync (filter (is_from f) es) → StartsAt f s es
+queue_first f r [] s h is = absurd (cc)
+queue_first f r (e ∷ es) s h is = go (λ k. queue_first f (rank e) es s h.1 k) (cases_lt e.sync f)
+  where
+    go : (Some s ≡ first_sync (filter (is_from f) es) → StartsAt f s es) → (e.sync < f) ⊎ (f ≤ e.sync) → StartsAt f s (e ∷ es)
+    go next (inl early) =
+        let t : nat_le f e.sync ≡ false = grind (arith, nat_tests) in
+        let later = next (is ∙ ap (λ b. first_sync (cond b (e ∷ filter (is_from f) es) (filter (is_from f) es))) t) in
+        let here = counted_once f e early in
+        record {
+          from = later.from;
+          none = λ x low high. (let a = counted_once x e (omega (arith, early, low)) in let c = later.none x low high in omega (arith, a, here, c));
+          some = (
+              let a = counted_once s e (omega (arith, early, later.from)) in
+              let b = counted_once (s + 1) e (omega (arith, early, later.from)) in
+              let c = later.some in
+              omega (arith, a, b, c));
+        }
+    go next (inr late) =
+        let t : nat_le f e.sync ≡ true = grind (arith, nat_tests) in
+        let first : Some s ≡ Some e.sync = is ∙ ap (λ b. first_sync (cond b (e ∷ filter (is_from f) es) (filter (is_from f) es))) t in
+        let same : s ≡ e.sync = cc in
+        let l = rank_low e in
+        let all : Rises (2 * e.sync) (e ∷ es) = (l, h.1) in
+        let here = none_before f (2 * e.sync) (e ∷ es) (omega (arith, late)) all in
+        record {
+          from = omega (arith, same, late);
+          none = λ x low high. (let a = none_before x (2 * e.sync) (e ∷ es) (omega (arith, high, same)) all in omega (arith, a, here));
+          some = (let a = none_before s (2 * e.sync) (e ∷ es) (omega (arith, same)) all in let b = counted_once (s + 1) e (omega (arith, same)) in omega (arith, a, b));
+        }
 
-pub up_to_below : (t : ℕ) (es : List Edge) (i : ℕ) (e : Edge) (n : ℕ) → Rises 0 es → i < length es → e ≡ get_or es i e → e.sync < t → n ≡ suc i → failing (is_below t) (take n es) ≡ 0
-up_to_below t es i e n h low is early next = ap (λ k. failing (is_below t) (take k es)) next ∙ front_below t 0 es i e h low is early
-
--- the first n edges of a queue come below a time, and the others do not
-module _ (queue : List Edge) (t n : ℕ) (within : n ≤ length queue) (below : failing (is_below t) (take n queue) ≡ 0) where
-  parts : (x : ℕ) → count_below x queue ≡ count_below x (take n queue) + count_below x (drop n queue)
-  parts x = ap (count_below x) (sym (take-append-drop n queue)) ∙ total-append (λ e. cond (is_below x e) 1 0) (take n queue) (drop n queue)
-
-  front : (x : ℕ) → t ≤ x → count_below x (take n queue) ≡ n
-  front x le = let a = all_counted x (take n queue) (still_below t x (take n queue) le below) in let b = length-take n queue in omega (arith, a, b, within)
-
-  pub queue_counts : failing (is_from t) (drop n queue) ≡ 0 → count_below t queue ≡ n
-  queue_counts from = let a = parts t in let b = front t (omega arith) in let c = none_counted t (drop n queue) from in omega (arith, a, b, c)
-
-  module _ (e : Edge) (low : n < length queue) (is : e ≡ get_or queue n e) (rises : Rises 0 queue) where
-    rest_rises : (0 ≤ rank e) × Rises (rank e) (drop (n + 1) queue)
-    rest_rises = subst (Rises 0) (drop_more queue n e low ∙ ap (λ x. x ∷ drop (n + 1) queue) (sym is))
-        (Rises-back 0 (take n queue) (drop n queue) (subst (Rises 0) (sym (take-append-drop n queue)) rises))
-
-    next_parts : (x : ℕ) → count_below x (drop n queue) ≡ cond (nat_lt e.sync x) 1 0 + count_below x (drop (n + 1) queue)
-    next_parts x = ap (count_below x) (drop_more queue n e low ∙ ap (λ x. x ∷ drop (n + 1) queue) (sym is))
-
-    pub queue_until : (x : ℕ) → t ≤ x → x ≤ e.sync → count_below x queue ≡ n
-    queue_until x le high =
-        let a = parts x in let b = front x le in let c = next_parts x in
-        let d : cond {A = ℕ} (nat_lt e.sync x) 1 0 ≡ 0 = grind (arith, nat_tests) in
-        let r = rank_low e in
-        let f = none_before x (rank e) (drop (n + 1) queue) (omega (arith, r, high)) rest_rises.1 in
-        omega (arith, a, b, c, d, f)
-
-    pub queue_past : t ≤ e.sync → n < count_below (e.sync + 1) queue
-    queue_past le =
-        let a = parts (e.sync + 1) in let b = front (e.sync + 1) (omega (arith, le)) in let c = next_parts (e.sync + 1) in
-        let d : cond {A = ℕ} (nat_lt e.sync (e.sync + 1)) 1 0 ≡ 1 = grind (arith, nat_tests) in
-        omega (arith, a, b, c, d)
-
-  pub queue_ends : length queue ≤ n → (x : ℕ) → t ≤ x → count_below x queue ≡ n
-  queue_ends all x le =
-      let a = parts x in let b = front x le in
-      let l = length-drop n queue in
-      let c = none_of_none x (drop n queue) (omega (arith, l, all)) in
-      omega (arith, a, b, c)
-
--- the edge after those below a time comes at it or later
-pub next_from : (queue : List Edge) (t n : ℕ) (e : Edge) → n < length queue → e ≡ get_or queue n e → failing (is_from t) (drop n queue) ≡ 0 → t ≤ e.sync
-next_from queue t n e low is from =
-    let k = ap (failing (is_from t)) (sym (drop_more queue n e low ∙ ap (λ x. x ∷ drop (n + 1) queue) (sym is))) ∙ from in
-    grind (arith, nat_tests)
+-- and where there is none, no more come before any later time
+pub queue_over : (f : ℕ) (es : List Edge) → None ≡ first_sync (filter (is_from f) es) → (x : ℕ) → f ≤ x → count_below x es ≡ count_below f es
+queue_over f [] is x le = refl
+queue_over f (e ∷ es) is x le = go (λ k. queue_over f es k x le) (cases_lt e.sync f)
+  where
+    go : (None ≡ first_sync (filter (is_from f) es) → count_below x es ≡ count_below f es) → (e.sync < f) ⊎ (f ≤ e.sync) → count_below x (e ∷ es) ≡ count_below f (e ∷ es)
+    go next (inl early) =
+        let t : nat_le f e.sync ≡ false = grind (arith, nat_tests) in
+        let rest = next (is ∙ ap (λ b. first_sync (cond b (e ∷ filter (is_from f) es) (filter (is_from f) es))) t) in
+        let a = counted_once x e (omega (arith, early, le)) in
+        let b = counted_once f e early in
+        omega (arith, a, b, rest)
+    go next (inr late) =
+        let t : nat_le f e.sync ≡ true = grind (arith, nat_tests) in
+        absurd (let k : None ≡ Some e.sync = is ∙ ap (λ b. first_sync (cond b (e ∷ filter (is_from f) es) (filter (is_from f) es))) t in cc)
 
 -- the edges of the ranks between those of two times
 one_between : (a b : ℕ) (x : ℕ) (e : Edge) → a ≤ x → x ≤ b →
@@ -221,19 +194,17 @@ module _ (queue others all : List Edge) (is : queue ++ others ≡ all) where
   both : (x : ℕ) → count_below x all ≡ count_below x queue + count_below x others
   both x = ap (count_below x) (sym is) ∙ total-append (λ e. cond (is_below x e) 1 0) queue others
 
-  module _ (a b m n : ℕ) (low : count_below a queue ≡ m) (high : count_below b queue ≡ n) (le : a ≤ b) where
-    pub counts_apart : m ≤ n
-    counts_apart = let r = counts_rise a b queue le in omega (arith, r, low, high)
+  -- what is left of the room for the others
+  module _ (a b : ℕ) (le : a ≤ b) (room : ℕ) where
+    pub no_room : count_below a queue + room < count_below b queue → count_below a all + room < count_below b all
+    no_room less = let p = both a in let q = both b in let r = counts_rise a b others le in omega (arith, p, q, r, less)
 
-    pub no_room : (room : ℕ) → room < n - m → count_below a all + room < count_below b all
-    no_room room less = let p = both a in let q = both b in let r = counts_rise a b others le in omega (arith, p, q, r, less, low, high)
-
-    module _ (room rest : ℕ) (fits : n - m ≤ room) (left : rest ≡ room - (n - m)) where
+    module _ (rest : ℕ) (left : count_below b queue + rest ≡ count_below a queue + room) where
       pub room_none : count_below a others + rest < count_below b others → count_below a all + room < count_below b all
-      room_none less = let p = both a in let q = both b in let r = counts_apart in omega (arith, p, q, r, less, low, high, fits, left)
+      room_none less = let p = both a in let q = both b in omega (arith, p, q, less, left)
 
       pub room_some : (k : ℕ) → count_below b others + k ≡ count_below a others + rest → count_below b all + k ≡ count_below a all + room
-      room_some k same = let p = both a in let q = both b in let r = counts_apart in omega (arith, p, q, r, same, low, high, fits, left)
+      room_some k same = let p = both a in let q = both b in omega (arith, p, q, same, left)
 
   -- the first sync from f on, of the queue where it is below o, the first of the others
   module _ (f o : ℕ) (from : f ≤ o) (none : count_below o others ≡ count_below f others) where

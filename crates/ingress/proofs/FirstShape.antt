@@ -1,7 +1,7 @@
 -- What is kept of no line at all.
-use Rattle.std.specs.Prelude.{◌≡◌, ℕ, zero, suc, ◌≤◌, List, [], ◌∷◌, length, get_or, map, refl}
+use Rattle.std.specs.Prelude.{◌≡◌, ℕ, zero, suc, ◌≤◌, List, [], ◌∷◌, length, get_or, map, refl, All, Vec}
 use Rattle.std.proofs.Common.{sym, ◌∙◌, ap, subst, arith}
-use Rattle.std.proofs.lemmas.List.{length-map}
+use Rattle.std.proofs.lemmas.List.{length-map, get_or-map}
 use Rattle.std.proofs.lemmas.List.Elements.{All-head, All-tail}
 use Rattle.tw_rows.specs.Kinds.{cell_kind_of}
 use Rattle.tw_rows.specs.declared.edge.Edge.{Edge}
@@ -28,13 +28,17 @@ pub plain_cells : (streams : List StreamDef) → map (λ k. map cell_kind_of k) 
 plain_cells [] = refl
 plain_cells (d ∷ ds) = let a = plain_schema d.schema in let b = plain_cells ds in λ i. a i ∷ b i
 
-width_at : (streams : List StreamDef) (s : ℕ) → AreNarrow streams → length (get_or (stream_kinds streams) s []) ≤ 32
+pub width_at : (streams : List StreamDef) (s : ℕ) → AreNarrow streams → length (get_or (stream_kinds streams) s []) ≤ 32
 width_at [] s h = omega arith
 width_at (d ∷ ds) zero h =
     let a = length-map d.schema (λ (c : ColumnDef). plain c.kind) in
     let b : length d.schema ≤ 32 = All-head (λ (x : StreamDef). length x.schema ≤ 32) d ds h in
     omega (arith, a, b)
 width_at (d ∷ ds) (suc s) h = width_at ds s (All-tail (λ (x : StreamDef). length x.schema ≤ 32) d ds h)
+
+-- each stream has few columns
+pub all_narrow : {S : Type 0} (kinds : List (Vec Kind S)) → ((s : ℕ) → length (get_or (map (λ k. k.items) kinds) s []) ≤ 32) → All (λ k. length k.items ≤ 32) kinds
+all_narrow kinds h i d lt = subst (λ l. length l ≤ 32) (get_or-map (λ k. k.items) kinds i d [] lt) (h i)
 
 pub shape_first : (streams : List StreamDef) (kinds : List (List Kind)) (capacity count : ℕ) (held : List (List Edge)) → kinds ≡ stream_kinds streams → AreNarrow streams → 1 ≤ capacity →
     count ≡ length streams → length held ≡ length streams → ((s : ℕ) → get_or held s [] ≡ []) → HasShape kinds capacity count held

@@ -1,5 +1,5 @@
 -- Edges that fit the columns of their stream, and pools of which columns are taken.
-use Rattle.std.specs.Prelude.{◌≡◌, ◌≢◌, ℕ, zero, suc, ◌+◌, ◌<◌, ◌≤◌, ◌⊎◌, nat_eq, Bool, true, false, ◌&&◌, cond, IsTrue, Result, Ok, Err, OnOk, OnErr, List, [], ◌∷◌, ◌++◌, length, get_or, map, filter, take, drop, refl}
+use Rattle.std.specs.Prelude.{◌≡◌, ◌≢◌, ℕ, zero, suc, ◌+◌, ◌-◌, ◌<◌, ◌≤◌, ◌⊎◌, nat_eq, Bool, true, false, ◌&&◌, cond, IsTrue, Result, Ok, Err, OnOk, OnErr, List, [], ◌∷◌, ◌++◌, length, get_or, map, filter, take, drop, refl}
 use Rattle.std.proofs.Common.{sym, ◌∙◌, ap, subst, arith, inl, inr}
 use Rattle.std.proofs.lemmas.Bool.{and_parts, eqb-true, cases_lt}
 use Rattle.std.proofs.lemmas.Bool.Decides.{Decides-eqb}
@@ -12,19 +12,19 @@ use Rattle.tw_rows.specs.declared.edge.Edge.{Edge}
 use Rattle.tw_rows.specs.declared.kind.CellKind.{CellKind}
 use Rattle.tw_rows.specs.declared.kind.CellKind.TheVariants.{Whole, Bit, Place}
 use Rattle.tw_rows.specs.Bag.{SameBag}
-use Rattle.batch.specs.PoolsView.{PoolsView, IsPartTaken}
+use Rattle.batch.specs.PoolsView.{PoolsView, batch_taken, IsPartTaken}
 use Rattle.edge_history.specs.Order.{rank, failing, is_real, is_from, Rises, KeepsOrder}
 use Rattle.edge_history.proofs.Keeping.{KeepsOrder-front}
 use Rattle.edge_history.proofs.Rising.{Rises-less}
 use Rattle.edge_history.proofs.Sums.{weaker, failing-parts}
-use Rattle.edge_stream.specs.Listing.{EdgeListView, appended, SameShape}
-use Rattle.edge_stream.specs.Taking.{room_taken}
-use Rattle.edge_stream.proofs.Filling.{room_taken-capacity, appended-kinds, appended-capacity}
-use Rattle.carried_edges.proofs.Pools.{part-capacity, part-limit, room_taken-limit}
+use Rattle.edge_stream.specs.Listing.{EdgeListView, cells_of, appended, SameShape}
+use Rattle.edge_stream.specs.Taking.{room_taken, batches_taken, AreBatchesTaken}
+use Rattle.edge_stream.proofs.Filling.{room_taken-capacity, batches_taken-capacity, appended-kinds, appended-capacity}
+use Rattle.carried_edges.proofs.Pools.{part-capacity, part-limit, room_taken-limit, some-capacity, some-limit, batches_taken-limit}
 use Rattle.ingress.specs.Fits.{is_stored, are_stored, is_fit, AreFit}
 use Rattle.ingress.specs.Keeping.{Changed}
 use Rattle.ingress.proofs.Keep.{real_edge}
-use Rattle.ingress.specs.Ranks.{SamePools}
+use Rattle.ingress.specs.Ranks.{SamePools, TakesBatches}
 
 stored_one : (k : CellKind) (d : Datum) → is_stored k d ≡ true → datum_kind d ≡ k
 stored_one Whole (IntDatum x) h = refl
@@ -132,6 +132,33 @@ pools_part first before after ks so_far part = record {
   capacity = part-capacity before after ks part ∙ so_far.capacity;
   limit = part-limit before after ks part ∙ so_far.limit;
 }
+
+-- what an edge that was put last took, or was to take
+pub pools_put : {T E : Type 0} (r : Result T E) (before after : PoolsView) (l : EdgeListView) → OnOk r (after ≡ room_taken l before) → OnErr r (IsPartTaken before after (cells_of l)) → SamePools before after
+pools_put (Ok x) before after l took part = pools_next before before after l (pools_same before) took
+pools_put (Err x) before after l took part = pools_part before before after (cells_of l) (pools_same before) part
+
+-- and what a list that was copied took
+pub pools_copied : {T E : Type 0} (r : Result T E) (before after : PoolsView) (n : ℕ) (ks : List CellKind) → OnOk r (after ≡ batches_taken n before ks) → OnErr r (AreBatchesTaken before after ks) →
+    SamePools before after
+pools_copied (Ok x) before after n ks took some = record {
+  capacity = ap (λ s. s.capacity) took ∙ batches_taken-capacity n before ks;
+  limit = ap (λ s. s.limit) took ∙ batches_taken-limit n before ks;
+}
+pools_copied (Err x) before after n ks took some = record { capacity = some-capacity before after ks some; limit = some-limit before after ks some }
+
+taken_more : (m n : ℕ) (s : PoolsView) (ks : List CellKind) → batches_taken n (batches_taken m s ks) ks ≡ batches_taken (m + n) s ks
+taken_more m zero s ks = ap (λ k. batches_taken k s ks) (let e : m ≡ m + 0 = omega arith in e)
+taken_more m (suc n) s ks =
+    ap (λ p. batch_taken p ks) (taken_more m n s ks) ∙ ap (λ k. batches_taken k s ks) (let e : suc (m + n) ≡ m + suc n = omega arith in e)
+
+pub takes_copied : (old new : EdgeListView) (before after : PoolsView) (ks : List CellKind) → cells_of old ≡ ks → old.batches ≤ new.batches →
+    after ≡ batches_taken (new.batches - old.batches) before ks → TakesBatches old before new after
+takes_copied old new before after ks of more took first kinds same so_far =
+    let k : ks ≡ kinds = sym of ∙ same in
+    took ∙ ap (λ s. batches_taken (new.batches - old.batches) s ks) so_far ∙ ap (λ q. batches_taken (new.batches - old.batches) (batches_taken old.batches first kinds) q) k
+    ∙ taken_more old.batches (new.batches - old.batches) first kinds
+    ∙ ap (λ n. batches_taken n first kinds) (let e : old.batches + (new.batches - old.batches) ≡ new.batches = omega (arith, more) in e)
 
 pub shape_next : (first before after : EdgeListView) (e : Edge) → SameShape first before → after ≡ appended before e → SameShape first after
 shape_next first before after e so_far one = record {

@@ -1,27 +1,28 @@
 -- Edges of a queue in order and edges by rank, put together in order.
-use Rattle.std.specs.Prelude.{◌≡◌, ℕ, zero, suc, ◌+◌, ◌-◌, ◌*◌, ◌<◌, ◌≤◌, ◌⊎◌, nat_le, nat_lt, ◌&&◌, Bool, true, false, cond, List, [], ◌∷◌, ◌++◌, length, get_or, take, drop, filter, Vec, Option, Some, None, IsSome, OnSome, Result, Ok, Err, OnOk, refl}
+use Rattle.std.specs.Prelude.{◌≡◌, ℕ, zero, suc, ◌+◌, ◌-◌, ◌*◌, ◌<◌, ◌≤◌, ◌⊎◌, nat_le, nat_lt, ◌&&◌, Bool, true, false, cond, List, [], ◌∷◌, ◌++◌, length, map, filter, Vec, Some, None, Result, Ok, Err, OnOk, refl}
 use Rattle.std.specs.BTreeMap.Range.{range_contains, entries_between}
 use Rattle.std.specs.declared.ops.Bound.TheVariants.{Included, Excluded}
 use Rattle.std.specs.Ordering.{nat_cmp}
 use Rattle.std.proofs.Common.{sym, ◌∙◌, ap, subst, arith, inl, inr}
 use Rattle.std.proofs.lemmas.Bool.{and_parts, cases_lt}
 use Rattle.std.proofs.lemmas.Bool.Decides.{nat_tests}
-use Rattle.std.proofs.lemmas.List.{drop_more, take-append-drop, length-take, get_or-take, append-nil, drop-drop}
+use Rattle.std.proofs.lemmas.List.{append-nil, append_assoc}
 use Rattle.std.proofs.lemmas.List.Elements.{filter-append}
 use Rattle.tw_rows.specs.Bag.{total, SameBag}
 use Rattle.tw_rows.specs.declared.edge.Edge.{Edge}
 use Rattle.tw_rows.proofs.Bags.{total-append}
-use Rattle.tw_rows.proofs.Fronts.{total_more}
+use Rattle.tw_rows.specs.Cells.{datum_kind}
 use Rattle.edge_history.specs.Order.{rank, failing, many, is_below, is_from, is_real, Rises, KeepsOrder}
 use Rattle.edge_history.proofs.Agreeing.{same_order}
-use Rattle.edge_history.proofs.Rising.{Rises-less, Rises-back}
+use Rattle.edge_history.proofs.Rising.{Rises-less}
+use Rattle.edge_stream.specs.Reading.{last_rank}
 use Rattle.edge_history.proofs.Sums.{weaker, failing-append, failing-filter, failing-kept}
 use Rattle.tw_rows.specs.declared.kind.CellKind.{CellKind}
 use Rattle.ingress.specs.Fits.{is_fit}
 use Rattle.ingress.specs.Ranks.{has_rank, is_ranked_below, is_up_to, is_between, AreRanked, edges_at}
 use Rattle.ingress.proofs.Ranked.{rank_low, rank_high}
-use Rattle.ingress.proofs.Released.{kept_all, none_from, none_below}
-use Rattle.ingress.proofs.Fitting.{rises_filter, none_fails_at, fit_real}
+use Rattle.ingress.proofs.Released.{kept_all, none_below}
+use Rattle.ingress.proofs.Fitting.{rises_filter, none_fails_at, fit_real, fit_kinds}
 
 joined : (r s : ℕ) (xs ys : List Edge) → Rises r xs → failing (is_up_to s) xs ≡ 0 → r ≤ s → Rises s ys → Rises r (xs ++ ys)
 joined r s [] ys h up le rest = Rises-less s r ys le rest
@@ -130,94 +131,19 @@ below_ranks t (e ∷ es) = go (cases_lt e.sync t) (below_ranks t es)
     go (inl p) rest = let a = rank_high e in grind (arith, nat_tests)
     go (inr p) rest = let a = rank_low e in grind (arith, nat_tests)
 
--- the next edge of a part of edges in order
-pub next_rank : (low : ℕ) (xs : List Edge) (i : ℕ) (e : Edge) → i < length xs → e ≡ get_or xs i e → Rises low (drop i xs) → (low ≤ rank e) × Rises (rank e) (drop (i + 1) xs)
-next_rank low xs i e less is h = subst (Rises low) (drop_more xs i e less ∙ ap (λ x. x ∷ drop (i + 1) xs) (sym is)) h
-
--- the first i edges of the queue and the others below a rank were put together, up to that rank
-pub record Merged (queue others : List Edge) (i low : ℕ) (list : List Edge) : Type 0 where
-  pub bag : (w : Edge → ℕ) → total w list ≡ total w (take i queue) + total w (filter (is_ranked_below low) others)
+-- the edges of the queue before t that were gone through, and the others below a rank, were put together, up to that rank;
+-- `rest` are those of the queue to come
+pub record Merged (queue others rest : List Edge) (t low : ℕ) (list : List Edge) : Type 0 where
+  pub done : List Edge
+  pub parts : done ++ rest ≡ queue
+  pub early : failing (is_below t) done ≡ 0
+  pub bag : (w : Edge → ℕ) → total w list ≡ total w done + total w (filter (is_ranked_below low) others)
   pub order : KeepsOrder list
   pub up : failing (is_up_to low) list ≡ 0
-  pub rest : Rises low (drop i queue)
+  pub rises : Rises low rest
+  pub within : low ≤ 2 * t
 
-module _ (queue others : List Edge) where
-  pub merged_first : (list : List Edge) → list ≡ [] → Rises 0 queue → Merged queue others 0 0 list
-  merged_first list empty h = record {
-    bag = λ w. let a = ap (total w) empty in let b = ap (total w) (none_below_zero others) in omega (arith, a, b);
-    order = (same_order list).1 (subst (Rises 0) (sym empty) tt, ap (failing is_real) empty);
-    up = ap (failing (is_up_to 0)) empty;
-    rest = h;
-  }
-
-  module _ (i low : ℕ) (list mid : List Edge) (m : Merged queue others i low list) (e : Edge) (r : ℕ) (is_rank : r ≡ rank e)
-      (added : mid ≡ list ++ filter (is_between low r) others) (keeps : KeepsOrder mid) (up : failing (is_up_to r) mid ≡ 0) (real : is_real e ≡ true) where
-    alone : failing is_real (e ∷ []) ≡ 0
-    alone = ap (λ b. cond {A = ℕ} b 0 1 + 0) real
-
-    pub next_order : KeepsOrder (mid ++ e ∷ [])
-    next_order = keeps_joined r mid (e ∷ []) keeps up (omega (arith, is_rank), tt) alone
-
-    pub merged_next : (after : List Edge) → i < length queue → e ≡ get_or queue i e → after ≡ mid ++ e ∷ [] → Merged queue others (i + 1) r after
-    merged_next after less is last =
-        let next = next_rank low queue i e less is m.rest in
-        record {
-          bag = λ w.
-              let a = ap (total w) last ∙ total-append w mid (e ∷ []) in
-              let b = ap (total w) added ∙ total-append w list (filter (is_between low r) others) in
-              let c = m.bag w in
-              let d = total_more w queue i e less in
-              let f = ap w is in
-              let g = sum_between w low r others (omega (arith, next.0, is_rank)) in
-              omega (arith, a, b, c, d, f, g);
-          order = subst KeepsOrder (sym last) next_order;
-          up = ap (failing (is_up_to r)) last ∙ failing-append (is_up_to r) mid (e ∷ []) up (let z : rank e ≤ r = omega (arith, is_rank) in grind (arith, nat_tests));
-          rest = subst (λ n. Rises n (drop (i + 1) queue)) (sym is_rank) next.1;
-        }
-
-  -- the edges below t, where the queue's below t are the first n
-  module _ (t n : ℕ) (within : n ≤ length queue) (below : failing (is_below t) (take n queue) ≡ 0) (from : failing (is_from t) (drop n queue) ≡ 0) where
-    queue_below : filter (is_below t) queue ≡ take n queue
-    queue_below =
-        ap (filter (is_below t)) (sym (take-append-drop n queue)) ∙ filter-append (is_below t) (take n queue) (drop n queue)
-        ∙ ap (λ l. l ++ filter (is_below t) (drop n queue)) (kept_all (is_below t) (take n queue) below)
-        ∙ ap (λ l. take n queue ++ l) (none_below t (drop n queue) from) ∙ append-nil (take n queue)
-
-    queue_from : filter (is_from t) queue ≡ drop n queue
-    queue_from =
-        ap (filter (is_from t)) (sym (take-append-drop n queue)) ∙ filter-append (is_from t) (take n queue) (drop n queue)
-        ∙ ap (λ l. l ++ filter (is_from t) (drop n queue)) (none_from t (take n queue) below)
-        ∙ kept_all (is_from t) (drop n queue) from
-
-    pub merged_all : (low end : ℕ) (list after : List Edge) → Merged queue others n low list → end ≡ 2 * t → low ≤ end →
-        after ≡ list ++ filter (is_between low end) others → SameBag after (filter (is_below t) (queue ++ others))
-    merged_all low end list after m is le added = record {
-      weigh = λ w.
-          let a = ap (total w) added ∙ total-append w list (filter (is_between low end) others) in
-          let b = m.bag w in
-          let c = sum_between w low end others le in
-          let d = ap (λ k. total w (filter (is_ranked_below k) others)) is ∙ ap (total w) (below_ranks t others) in
-          let f = ap (total w) (filter-append (is_below t) queue others) ∙ total-append w (filter (is_below t) queue) (filter (is_below t) others) in
-          let g = ap (total w) queue_below in
-          omega (arith, a, b, c, d, f, g);
-    }
-
-    pub rest_left : (rest left : List Edge) → rest ≡ drop n queue → left ≡ filter (is_from t) others → rest ++ left ≡ filter (is_from t) (queue ++ others)
-    rest_left rest left a b =
-        ap (λ l. l ++ left) (a ∙ sym queue_from) ∙ ap (λ l. filter (is_from t) queue ++ l) b ∙ sym (filter-append (is_from t) queue others)
-
-    pub rank_below : (i : ℕ) (e : Edge) → i < n → e ≡ get_or queue i e → rank e ≤ 2 * t
-    rank_below i e less is =
-        let len = length-take n queue in
-        let low : i < length (take n queue) = omega (arith, len, less, within) in
-        let at = none_fails_at (is_below t) (take n queue) i e below low in
-        let same : get_or (take n queue) i e ≡ e = get_or-take n queue i e less ∙ sym is in
-        let b : is_below t e ≡ true = ap (is_below t) (sym same) ∙ at in
-        let high = rank_high e in
-        let c : e.sync < t = grind (arith, nat_tests) in
-        omega (arith, c, high)
-
--- edges in order, where the one at a place comes at a time or later
+-- edges in order, where the first comes at a time or later
 rank_sync : (t : ℕ) (e : Edge) → 2 * t ≤ rank e → t ≤ e.sync
 rank_sync t e h = let a = rank_high e in omega (arith, a, h)
 
@@ -228,42 +154,90 @@ all_later t r (e ∷ es) le h =
     let rest = all_later t (rank e) es (omega (arith, le, h.0)) h.1 in
     grind (arith, nat_tests)
 
-pub dropped_rises : (n : ℕ) (xs : List Edge) → Rises 0 xs → Rises 0 (drop n xs)
-dropped_rises n xs h = Rises-back 0 (take n xs) (drop n xs) (subst (Rises 0) (sym (take-append-drop n xs)) h)
+-- where the rank of the next one, if there is one, is at least that of the ends at t, none is left before t
+pub none_left : (t low : ℕ) (rest : List Edge) → Rises low rest → ((e : Edge) (es : List Edge) → rest ≡ e ∷ es → 2 * t ≤ rank e) → failing (is_from t) rest ≡ 0
+none_left t low [] h late = refl
+none_left t low (e ∷ es) h late = all_later t (2 * t) (e ∷ es) (omega arith) (late e es refl, h.1)
 
-pub later_from : (t : ℕ) (xs : List Edge) (i : ℕ) (e : Edge) → i < length xs → e ≡ get_or xs i e → t ≤ e.sync → Rises 0 xs → failing (is_from t) (drop i xs) ≡ 0
-later_from t xs i e less is late h =
-    let parts = next_rank 0 xs i e less is (dropped_rises i xs h) in
-    let low = rank_low e in
-    let rest = all_later t (rank e) (drop (i + 1) xs) (omega (arith, late, low)) parts.1 in
-    ap (failing (is_from t)) (drop_more xs i e less ∙ ap (λ x. x ∷ drop (i + 1) xs) (sym is)) ∙ grind (arith, nat_tests)
+module _ (queue others : List Edge) where
+  pub merged_first : (t : ℕ) (list rest : List Edge) → list ≡ [] → rest ≡ queue → KeepsOrder queue → Merged queue others rest t 0 list
+  merged_first t list rest empty is h = record {
+    done = [];
+    parts = is;
+    early = refl;
+    bag = λ w. let a = ap (total w) empty in let b = ap (total w) (none_below_zero others) in omega (arith, a, b);
+    order = (same_order list).1 (subst (Rises 0) (sym empty) tt, ap (failing is_real) empty);
+    up = ap (failing (is_up_to 0)) empty;
+    rises = subst (Rises 0) (sym is) h.rises;
+    within = omega arith;
+  }
 
-pub below_next : (t : ℕ) (xs : List Edge) (i : ℕ) (e : Edge) → i < length xs → e ≡ get_or xs i e → e.sync < t → failing (is_below t) (take i xs) ≡ 0 → failing (is_below t) (take (i + 1) xs) ≡ 0
-below_next t xs i e less is early h =
-    let a = total_more (λ x. cond (is_below t x) 0 1) xs i e less in
-    let b : is_below t (get_or xs i e) ≡ true = ap (is_below t) (sym is) ∙ grind (arith, nat_tests) in
-    let c = ap (λ k. cond {A = ℕ} k 0 1) b in
-    omega (arith, a, c, h)
+  module _ (rest : List Edge) (t low : ℕ) (list mid : List Edge) (m : Merged queue others rest t low list) (e : Edge) (r : ℕ) (is_rank : r ≡ rank e)
+      (added : mid ≡ list ++ filter (is_between low r) others) (keeps : KeepsOrder mid) (up : failing (is_up_to r) mid ≡ 0) (real : is_real e ≡ true) where
+    alone : failing is_real (e ∷ []) ≡ 0
+    alone = ap (λ b. cond {A = ℕ} b 0 1 + 0) real
 
--- a queue in order with one edge more
-pub last_rises : (xs : List Edge) (last e : Edge) → 0 < length xs → last ≡ get_or xs (length xs - 1) last → rank last ≤ rank e → Rises 0 xs → Rises 0 (xs ++ e ∷ [])
-last_rises xs last e some is le h = go 0 xs some is h
-  where
-    go : (r : ℕ) (ys : List Edge) → 0 < length ys → last ≡ get_or ys (length ys - 1) last → Rises r ys → Rises r (ys ++ e ∷ [])
-    go r [] more at k = absurd (omega (arith, more))
-    go r (y ∷ []) more at k = (k.0, (subst (λ x. rank x ≤ rank e) at le, tt))
-    go r (y ∷ z ∷ zs) more at k = (k.0, go (rank y) (z ∷ zs) (omega arith) (let n : length (y ∷ z ∷ zs) - 1 ≡ suc (length (z ∷ zs) - 1) = omega arith in subst (λ k. last ≡ get_or (y ∷ z ∷ zs) k last) n at) k.1)
+    pub next_order : KeepsOrder (mid ++ e ∷ [])
+    next_order = keeps_joined r mid (e ∷ []) keeps up (omega (arith, is_rank), tt) alone
 
-pub only_rises : (xs : List Edge) (e : Edge) → (0 < length xs → false ≡ true) → Rises 0 (xs ++ e ∷ [])
-only_rises [] e none = (omega arith, tt)
-only_rises (x ∷ xs) e none = absurd (let f = none (omega arith) in cc)
+    pub merged_next : (after left : List Edge) → rest ≡ e ∷ left → r < 2 * t → after ≡ mid ++ e ∷ [] → Merged queue others left t r after
+    merged_next after left first early last =
+        let next : (low ≤ rank e) × Rises (rank e) left = subst (Rises low) first m.rises in
+        let l = rank_low e in
+        let before : is_below t e ≡ true = (let k : e.sync < t = omega (arith, l, early, is_rank) in grind (arith, nat_tests)) in
+        record {
+          done = m.done ++ e ∷ [];
+          parts = append_assoc m.done (e ∷ []) left ∙ ap (λ l. m.done ++ l) (sym first) ∙ m.parts;
+          early = failing-append (is_below t) m.done (e ∷ []) m.early (ap (λ b. cond {A = ℕ} b 0 1 + 0) before);
+          bag = λ w.
+              let a = ap (total w) last ∙ total-append w mid (e ∷ []) in
+              let b = ap (total w) added ∙ total-append w list (filter (is_between low r) others) in
+              let c = m.bag w in
+              let d = total-append w m.done (e ∷ []) in
+              let g = sum_between w low r others (omega (arith, next.0, is_rank)) in
+              omega (arith, a, b, c, d, g);
+          order = subst KeepsOrder (sym last) next_order;
+          up = ap (failing (is_up_to r)) last ∙ failing-append (is_up_to r) mid (e ∷ []) up (let z : rank e ≤ r = omega (arith, is_rank) in grind (arith, nat_tests));
+          rises = subst (λ n. Rises n left) (sym is_rank) next.1;
+          within = omega (arith, early);
+        }
 
--- edges in order without one of them
-pub rises_without : (r : ℕ) (xs : List Edge) (i : ℕ) → Rises r xs → Rises r (take i xs ++ drop (suc i) xs)
-rises_without r [] zero h = tt
-rises_without r [] (suc i) h = tt
-rises_without r (x ∷ xs) zero h = Rises-less (rank x) r xs h.0 h.1
-rises_without r (x ∷ xs) (suc i) h = (h.0, rises_without (rank x) xs i h.1)
+  -- the edges before t, where none of the queue is left before it
+  pub merged_all : (rest : List Edge) (t low end : ℕ) (list after : List Edge) → Merged queue others rest t low list → failing (is_from t) rest ≡ 0 → end ≡ 2 * t →
+      after ≡ list ++ filter (is_between low end) others → SameBag after (filter (is_below t) (queue ++ others))
+  merged_all rest t low end list after m late is added =
+      let before : filter (is_below t) queue ≡ m.done =
+      ap (filter (is_below t)) (sym m.parts) ∙ filter-append (is_below t) m.done rest
+      ∙ ap (λ l. l ++ filter (is_below t) rest) (kept_all (is_below t) m.done m.early)
+      ∙ ap (λ l. m.done ++ l) (none_below t rest late) ∙ append-nil m.done in
+      record {
+        weigh = λ w.
+            let a = ap (total w) added ∙ total-append w list (filter (is_between low end) others) in
+            let b = m.bag w in
+            let c = sum_between w low end others (let k = m.within in omega (arith, k, is)) in
+            let d = ap (λ k. total w (filter (is_ranked_below k) others)) is ∙ ap (total w) (below_ranks t others) in
+            let f = ap (total w) (filter-append (is_below t) queue others) ∙ total-append w (filter (is_below t) queue) (filter (is_below t) others) in
+            let g = ap (total w) before in
+            omega (arith, a, b, c, d, f, g);
+      }
+
+-- the next edge of those that fit, and the others
+pub next_fits : (ks : List CellKind) (es : List Edge) (e : Edge) (rest : List Edge) → es ≡ e ∷ rest → failing (is_fit ks) es ≡ 0 → (is_real e ≡ true) × (map datum_kind e.cells ≡ ks) × (failing (is_fit ks) rest ≡ 0)
+next_fits ks es e rest is h =
+    let all : failing (is_fit ks) (e ∷ rest) ≡ 0 = ap (failing (is_fit ks)) (sym is) ∙ h in
+    let real = fit_real ks (e ∷ rest) all in
+    (none_fails_at is_real (e ∷ rest) 0 e real (omega arith), fit_kinds ks (e ∷ rest) 0 e e refl (omega arith) all, omega (arith, all))
+
+-- a list in order with one edge more, where its last rank is no greater
+pub last_rises : (r : ℕ) (xs : List Edge) (e : Edge) (last : ℕ) → Rises r xs → Some last ≡ last_rank xs → last ≤ rank e → Rises r (xs ++ e ∷ [])
+last_rises r [] e last h is le = absurd (cc)
+last_rises r (x ∷ []) e last h is le = let s : last ≡ rank x = cc in (h.0, (omega (arith, s, le), tt))
+last_rises r (x ∷ y ∷ ys) e last h is le = (h.0, last_rises (rank x) (y ∷ ys) e last h.1 is le)
+
+pub none_last : (xs : List Edge) → None ≡ last_rank xs → xs ≡ []
+none_last [] is = refl
+none_last (x ∷ []) is = absurd (cc)
+none_last (x ∷ y ∷ ys) is = absurd (let none = none_last (y ∷ ys) is in cc)
 
 module _ (queue others : List Edge) where
   pub last_bag : (e : Edge) (more : List Edge) → more ≡ queue ++ e ∷ [] → SameBag (more ++ others) (e ∷ queue ++ others)
@@ -308,14 +282,6 @@ module _ (queue others : List Edge) where
       let d = total-append (λ e. cond (p e) 1 0) queue others in
       omega (arith, a, b, c, d)
 
--- what holds of an answer that is there
-pub some_holds : {X : Type 0} (o : Option X) (P : Type 0) → IsSome o → OnSome o P → P
-some_holds None P some h = absurd (cc)
-some_holds (Some x) P some h = h
-
 pub ok_maps : {T E : Type 0} (r : Result T E) (P Q : Type 0) → (P → Q) → OnOk r P → OnOk r Q
 ok_maps (Ok x) P Q f h = f h
 ok_maps (Err e) P Q f h = tt
-
-pub drop_one_more : {X : Type 0} (n : ℕ) (xs : List X) → drop 1 (drop n xs) ≡ drop (n + 1) xs
-drop_one_more n xs = drop-drop 1 n xs

@@ -1,5 +1,5 @@
 -- Edges in a map by rank: a queue that changes, a queue that is new, and what is first.
-use Rattle.std.specs.Prelude.{◌≡◌, ℕ, suc, ◌+◌, ◌*◌, ◌<◌, ◌≤◌, Bool, true, false, cond, unwrap_or, slice_get, Option, Some, None, Result, Ok, Err, OnErr, IsTrue, List, [], ◌∷◌, ◌++◌, Vec, refl}
+use Rattle.std.specs.Prelude.{◌≡◌, ℕ, suc, ◌+◌, ◌*◌, ◌<◌, ◌≤◌, Bool, true, false, cond, unwrap_or, slice_get, Option, Some, None, Result, Ok, Err, OnErr, IsTrue, List, [], ◌∷◌, ◌++◌, filter, length, Vec, refl}
 use Rattle.std.specs.Ordering.{nat_cmp, is_eq, match_ordering}
 use Rattle.std.specs.declared.cmp.Ordering.{Ordering}
 use Rattle.std.specs.declared.cmp.Ordering.TheVariants.{Less, Equal, Greater}
@@ -163,6 +163,11 @@ own_rank k e is = grind (arith, nat_tests)
 abbrev pub rank_in : {S : Type 0} → Option (ℕ × Vec Edge S) → ℕ
 rank_in None = 0
 rank_in (Some p) = p.0
+
+-- of no ranks there is no edge
+pub no_ranks : {S : Type 0} (es : List (ℕ × Vec Edge S)) (edges : List Edge) (p : Edge → Bool) → edges_at es ≡ edges → (0 < length es → ⊥) → filter p edges ≡ []
+no_ranks [] edges p is none = ap (filter p) (sym is)
+no_ranks (e ∷ es) edges p is none = absurd (none (omega arith))
 
 -- the first of the edges, and those without it
 module _ {S : Type 0} (es : List (ℕ × Vec Edge S)) (edges : List Edge) (is : edges_at es ≡ edges) (h : AreRanked 0 es) where

@@ -11,26 +11,16 @@ use Rattle.std.proofs.lemmas.Bool.Decides.{nat_tests}
 use Rattle.std.proofs.lemmas.Cmp.{ranked}
 use Rattle.tw_rows.specs.Instant.{inf}
 use Rattle.tw_rows.specs.Bag.{total, SameBag}
-use Rattle.tw_rows.specs.SameCells.{same_cells, cells_are_same}
+use Rattle.tw_rows.specs.SameCells.{same_cells}
 use Rattle.tw_rows.specs.declared.cells.Datum.{Datum}
 use Rattle.tw_rows.specs.declared.edge.Edge.{Edge}
 use Rattle.tw_rows.proofs.Bags.{total-append}
 use Rattle.tw_rows.proofs.Fronts.{total_more}
 use Rattle.edge_history.specs.Order.{rank, is_end, failing, many, starts_it}
+use Rattle.edge_stream.proofs.Gone.{start_is}
 use Rattle.ingress.specs.Ranks.{has_rank, AreRanked, edges_at}
 
 module _ (cells : List Datum) (start : ℕ) where
-  -- the edge that the test finds
-  pub start_is : (e : Edge) → starts_it cells start e ≡ true → e ≡ record { sync = start; other = inf; cells = cells }
-  start_is e h =
-      let p = and_parts (nat_eq e.other inf) (not (is_end e) && (same_cells e.cells cells && nat_eq e.sync start)) h in
-      let q = and_parts (not (is_end e)) (same_cells e.cells cells && nat_eq e.sync start) p.1 in
-      let r = and_parts (same_cells e.cells cells) (nat_eq e.sync start) q.1 in
-      let a = eqb-true e.other inf p.0 in
-      let b = cells_are_same e.cells cells r.0 in
-      let s = eqb-true e.sync start r.1 in
-      λ i. record { sync = s i; other = a i; cells = b i }
-
   start_rank : (e : Edge) → starts_it cells start e ≡ true → rank e ≡ 2 * start + 1
   start_rank e h =
       let p = and_parts (nat_eq e.other inf) (not (is_end e) && (same_cells e.cells cells && nat_eq e.sync start)) h in

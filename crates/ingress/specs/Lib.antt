@@ -14,5 +14,3 @@ pub mod Times
 pub mod Saving
 pub mod Loaded
 pub mod Slices
-pub mod Words
-pub mod Queued

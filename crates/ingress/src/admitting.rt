@@ -18,12 +18,14 @@ ghost use Rattle.ingress.specs.Counts.{may_hold};
 ghost use Rattle.ingress.specs.Admits.{cells_of, IsFor, SameFixed, Admits, WhateverFollowed};
 ghost use Rattle.ingress.specs.Admits.{StillAdmits, Takes, IsRefused, WantsMemory, IsLeft};
 ghost use Rattle.ingress.specs.Admits.{LeavesTexts};
+ghost use Rattle.ingress.specs.Ranks.{SamePools};
 
 use crate::entering::EventLine;
 use crate::held_streams::{HeldStreams, is_before};
 use crate::ingress::{Ingress, Refusal};
 use crate::watermarks::{Watermarks, later};
 use admission::{Admitted, Lateness, Policy};
+use batch::Pools;
 use line_text::Form;
 use row_reader::{Entry, Said};
 use smallvec::SmallVec;
@@ -138,12 +140,13 @@ impl Ingress {
         for stream in streams {
             kinds.push(plain_kinds(alloc, &stream.schema)?)?;
         }
+        let held = HeldStreams::new(alloc, &kinds, capacity)?;
         Ok(Ingress {
             policy,
             kinds,
             capacity,
             watermarks: Watermarks::new(alloc, streams.len())?,
-            held: HeldStreams::new(alloc, streams.len())?,
+            held,
             released: Time::ZERO,
             alloc,
         })
@@ -151,7 +154,12 @@ impl Ingress {
 
     /// One line more. What it gives is held. The texts of its row are in the table then, also where it is dropped or refused; but
     /// for them a refusal changes nothing.
-    pub fn admit(&mut self, entry: Entry, texts: &mut TextTable) -> Result<Admitted, Refusal>
+    pub fn admit(
+        &mut self,
+        entry: Entry,
+        texts: &mut TextTable,
+        pools: &mut Pools,
+    ) -> Result<Admitted, Refusal>
         requires { Fits (cells_of self.old) entry }
         ensures ok { IfOk result (Takes texts.old texts.new entry self.old self.new) }
         ensures refused { IfErr result (IsRefused texts.old entry self.old) }
@@ -161,12 +169,13 @@ impl Ingress {
         ensures begins { BeginsWith texts.new texts.old }
         ensures fixed { SameFixed self.old self.new }
         ensures released { self.new.released ≡ self.old.released }
+        ensures pools { SamePools pools.old pools.new }
     {
         let (said, cells) = match cells_of_entry(self.alloc, entry, texts) {
             Ok(told) => told,
             Err(Memory) => return Err(Refusal::Memory),
         };
-        self.admit_cells(said, cells, texts)
+        self.admit_cells(said, cells, texts, pools)
     }
 
     /// One line more, whose values are cells: what is admitted is the entry that they stand for. A refusal changes nothing.
@@ -175,6 +184,7 @@ impl Ingress {
         said: Said,
         cells: Cells,
         texts: &TextTable,
+        pools: &mut Pools,
     ) -> Result<Admitted, Refusal>
         requires placed { IsPlacedIn texts.now said cells }
         requires fits { Fits (cells_of self.old) (entry_in texts.now said cells) }
@@ -188,6 +198,7 @@ impl Ingress {
         ensures err { OnErr result (StillAdmits texts.now texts.now self.old self.new) }
         ensures fixed { SameFixed self.old self.new }
         ensures released { self.new.released ≡ self.old.released }
+        ensures pools { SamePools pools.old pools.new }
     {
         match said {
             Said::Skip => Ok(Admitted::Skipped),
@@ -200,7 +211,7 @@ impl Ingress {
                 form,
                 sync,
                 other,
-            } => self.admit_event(stream, form, sync, other, cells, texts),
+            } => self.admit_event(stream, form, sync, other, cells, texts, pools),
         }
     }
 
@@ -229,6 +240,7 @@ impl Ingress {
         other: Time,
         cells: Cells,
         texts: &TextTable,
+        pools: &mut Pools,
     ) -> Result<Admitted, Refusal>
         requires placed { ArePlaced texts.now cells }
         requires stream { stream < length self.old.kinds.items }
@@ -244,6 +256,7 @@ impl Ingress {
         ensures err { OnErr result (StillAdmits texts.now texts.now self.old self.new) }
         ensures fixed { SameFixed self.old self.new }
         ensures released { self.new.released ≡ self.old.released }
+        ensures pools { SamePools pools.old pools.new }
     {
         let bound = self.watermarks.bound(stream);
         if is_refused(self.policy, sync, bound) {
@@ -259,7 +272,7 @@ impl Ingress {
         };
         // each text is in the table once
         let _count = texts.len();
-        let Ok(entered) = self.held.enter(&line, cells) else {
+        let Ok(entered) = self.held.enter(pools, &line, cells) else {
             return Err(Refusal::Memory);
         };
         let Some(answer) = entered else {

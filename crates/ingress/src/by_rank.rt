@@ -5,7 +5,7 @@ ghost use Rattle.std.specs.Prelude.{◌∷◌, ◌++◌};
 ghost use Rattle.tw_rows.specs.Instant.{inf};
 ghost use Rattle.tw_rows.specs.Bag.{SameBag};
 ghost use Rattle.tw_rows.specs.declared.edge.Edge.{Edge};
-ghost use Rattle.edge_history.specs.Order.{rank, many, failing, starts_it, is_from, KeepsOrder};
+ghost use Rattle.edge_history.specs.Order.{rank, many, failing, starts_it, is_below, is_from, KeepsOrder};
 ghost use Rattle.edge_stream.specs.Listing.{cells_of, SameShape};
 ghost use Rattle.ingress.specs.Fits.{is_fit};
 ghost use Rattle.ingress.specs.Ranks.{is_up_to, is_between, TakesBatches, SamePools, IsShorterBelow, StartsFrom};
@@ -184,6 +184,16 @@ impl ByRank {
             append_all(pools, edges, list)?;
         }
         Ok(())
+    }
+
+    /// Whether an edge comes before `t`.
+    pub fn has_below(&self, t: Time) -> bool
+        ensures { result ≡ false → filter (is_below t) self.now ≡ [] }
+    {
+        match self.ranks.first_key_value() {
+            Some((rank, _)) => *rank < end_rank(t),
+            None => false,
+        }
     }
 
     /// Takes the edges before `t` out.

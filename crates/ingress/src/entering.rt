@@ -5,10 +5,12 @@ ghost use Rattle.key_nodes.specs.Joins.{with_life};
 ghost use Rattle.admission.specs.Answers.{became as became_of};
 ghost use Rattle.ingress.specs.Keeping.{kept_state};
 ghost use Rattle.ingress.specs.Changes.{SameHeld, Enters, StaysFit, NamesStart};
+ghost use Rattle.ingress.specs.Ranks.{SamePools};
 
 use crate::held_streams::{HeldStreams, infinity, is_before};
 use crate::opens::{OpenKey, OpenStart};
 use admission::Admitted;
+use batch::Pools;
 use line_text::Form;
 use tw_rows::{Cells, Memory, Time};
 
@@ -50,7 +52,12 @@ fn open_state(line: &EventLine) -> OpenStart
 impl HeldStreams {
     /// What a line that takes effect at the bound of its stream or later gives is held. None where it ends an event that did
     /// not start: nothing changes then.
-    pub fn enter(&mut self, line: &EventLine, cells: Cells) -> Result<Option<Admitted>, Memory>
+    pub fn enter(
+        &mut self,
+        pools: &mut Pools,
+        line: &EventLine,
+        cells: Cells,
+    ) -> Result<Option<Admitted>, Memory>
         requires { line.now.stream < length self.old.waiting.items }
         ensures ok { IfOk result (Enters line.now.form line.now cells self.old self.new) }
         ensures none { IfOk result (λ answer. answer ≡ None → self.new ≡ self.old) }
@@ -58,11 +65,12 @@ impl HeldStreams {
         ensures named { OnErr result (NamesStart line.now.form line.now cells self.old) }
         ensures len { length self.new.waiting.items ≡ length self.old.waiting.items }
         ensures fit { StaysFit line.now.stream cells self.old self.new }
+        ensures pools { SamePools pools.old pools.new }
     {
         match line.form {
             Form::Interval if line.dropped => Ok(Some(Admitted::Dropped)),
             Form::Interval => {
-                self.add_row(line.stream, cells, line.at, line.other)?;
+                self.add_row(pools, line.stream, cells, line.at, line.other)?;
                 Ok(Some(became(false, line.at, line.other)))
             }
             Form::Start => {
@@ -71,7 +79,7 @@ impl HeldStreams {
                     given: line.sync,
                     cells,
                 };
-                self.open_start(key, open_state(line))?;
+                self.open_start(pools, key, open_state(line))?;
                 Ok(Some(became(line.dropped, line.at, infinity())))
             }
             Form::End => {
@@ -80,7 +88,7 @@ impl HeldStreams {
                     given: line.other,
                     cells,
                 };
-                let Some(state) = self.end_start(&key, line.at)? else {
+                let Some(state) = self.end_start(pools, &key, line.at)? else {
                     return Ok(None);
                 };
                 Ok(Some(became(state.dropped, state.start, line.at)))

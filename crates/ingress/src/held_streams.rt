@@ -1,6 +1,6 @@
 // What is held of all streams: the edges that wait for a punctuation, and the open starts.
 ghost use Rattle.std.specs.Prelude.{◌≡◌, ℕ, ◌+◌, ◌-◌, ◌^◌, ◌<◌, ◌≤◌, ◌↔◌, min, IsTrue, false, []};
-ghost use Rattle.std.specs.Prelude.{◌∷◌, length, get_or, filter, None, IfOk, OnOk, OnErr};
+ghost use Rattle.std.specs.Prelude.{◌∷◌, length, get_or, filter, None, All, IfOk, OnOk, OnErr};
 ghost use Rattle.tw_rows.specs.Instant.{inf};
 ghost use Rattle.tw_rows.specs.Bag.{total, SameBag};
 ghost use Rattle.indexmap.specs.IndexMap.{IsUnique};
@@ -10,11 +10,13 @@ ghost use Rattle.ingress.specs.Held.{start_of};
 ghost use Rattle.ingress.specs.OpenKeys.{same_key, starts_in};
 ghost use Rattle.ingress.specs.Keeping.{Changed, HasEndedRow, opens_in};
 ghost use Rattle.ingress.specs.Changes.{KeepsIn, SameHeld, AddsRow, AddsStart, EndsStart, StaysFit};
+ghost use Rattle.ingress.specs.Ranks.{SamePools};
 
 use crate::opens::{OpenKey, OpenStart, OpenStarts};
 use crate::waiting::Waiting;
+use batch::Pools;
 use std::alloc::Global;
-use tw_rows::{Cells, Edge, Memory, Time};
+use tw_rows::{Cells, Edge, Kind, Memory, Time};
 
 /// The edges of all streams that wait for a punctuation, and the starts that wait for their ends.
 #[derive(Drop)]
@@ -45,15 +47,17 @@ fn is_live(state: &OpenStart) -> bool
 }
 
 impl HeldStreams {
-    /// Nothing, for so many streams.
-    pub fn new(alloc: Global, streams: usize) -> Result<HeldStreams, Memory>
+    /// Nothing, for streams with columns of these kinds, in batches of that capacity.
+    pub fn new(alloc: Global, kinds: &[Vec<Kind>], capacity: usize) -> Result<HeldStreams, Memory>
+        requires width { All (λ k. length k.items ≤ 32) kinds.now }
+        requires room { 1 ≤ capacity }
         ensures keeps { IfOk result (λ h. KeepsIn 0 h (λ s. []) [] (λ s. [])) }
-        ensures len { IfOk result (λ h. length h.waiting.items ≡ streams) }
+        ensures len { IfOk result (λ h. length h.waiting.items ≡ length kinds.now) }
         ensures empty { IfOk result (λ h. (s : ℕ) → get_or h.waiting.items s [] ≡ []) }
     {
         let mut waiting = Vec::new(alloc);
-        for _ in 0..streams {
-            waiting.push(Waiting::new(alloc))?;
+        for columns in kinds {
+            waiting.push(Waiting::new(alloc, columns, capacity)?)?;
         }
         Ok(HeldStreams {
             waiting,
@@ -75,7 +79,7 @@ impl HeldStreams {
     }
 
     // Adds an edge of a stream.
-    pub(crate) fn put(&mut self, stream: usize, edge: Edge) -> Result<(), Memory>
+    pub(crate) fn put(&mut self, pools: &mut Pools, stream: usize, edge: Edge) -> Result<(), Memory>
         requires { stream < length self.old.waiting.items }
         ensures changed { Changed stream self.old.waiting.items self.new.waiting.items }
         ensures ok { OnOk result (SameBag (get_or self.new.waiting.items stream [])
@@ -83,8 +87,9 @@ impl HeldStreams {
         ensures err { OnErr result (get_or self.new.waiting.items stream []
             ≡ get_or self.old.waiting.items stream []) }
         ensures opens { self.new.opens ≡ self.old.opens }
+        ensures pools { SamePools pools.old pools.new }
     {
-        self.waiting[stream].put(edge)
+        self.waiting[stream].put(pools, edge)
     }
 
     // Adds an edge of a stream that may be taken out again.
@@ -101,7 +106,13 @@ impl HeldStreams {
     }
 
     // Adds the start edge of an open start that was given. Where it was moved to a later bound its end may come no later.
-    fn put_start(&mut self, stream: usize, edge: Edge, given: Time) -> Result<(), Memory>
+    fn put_start(
+        &mut self,
+        pools: &mut Pools,
+        stream: usize,
+        edge: Edge,
+        given: Time,
+    ) -> Result<(), Memory>
         requires { stream < length self.old.waiting.items }
         ensures changed { Changed stream self.old.waiting.items self.new.waiting.items }
         ensures ok { OnOk result (SameBag (get_or self.new.waiting.items stream [])
@@ -109,9 +120,10 @@ impl HeldStreams {
         ensures err { OnErr result (get_or self.new.waiting.items stream []
             ≡ get_or self.old.waiting.items stream []) }
         ensures opens { self.new.opens ≡ self.old.opens }
+        ensures pools { SamePools pools.old pools.new }
     {
         if edge.sync == given {
-            self.put(stream, edge)
+            self.put(pools, stream, edge)
         } else {
             self.put_by_rank(stream, edge)
         }
@@ -136,6 +148,7 @@ impl HeldStreams {
     /// A row of a stream with its life, if that is not empty. It starts at the bound of the stream or later.
     pub fn add_row(
         &mut self,
+        pools: &mut Pools,
         stream: usize,
         cells: Cells,
         start: Time,
@@ -146,6 +159,7 @@ impl HeldStreams {
         ensures err { OnErr result (SameHeld self.old self.new) }
         ensures len { length self.new.waiting.items ≡ length self.old.waiting.items }
         ensures fit { StaysFit stream cells self.old self.new }
+        ensures pools { SamePools pools.old pools.new }
     {
         if is_before(start, end) {
             let edge = Edge {
@@ -153,19 +167,25 @@ impl HeldStreams {
                 other: end,
                 cells,
             };
-            self.put(stream, edge)?;
+            self.put(pools, stream, edge)?;
             return Ok(());
         }
         Ok(())
     }
 
     /// One more open start. It starts at the bound of its stream or later.
-    pub fn open_start(&mut self, key: OpenKey, state: OpenStart) -> Result<(), Memory>
+    pub fn open_start(
+        &mut self,
+        pools: &mut Pools,
+        key: OpenKey,
+        state: OpenStart,
+    ) -> Result<(), Memory>
         requires { key.stream < length self.old.waiting.items }
         ensures ok { OnOk result (AddsStart key state self.old self.new) }
         ensures err { OnErr result (SameHeld self.old self.new) }
         ensures len { length self.new.waiting.items ≡ length self.old.waiting.items }
         ensures fit { StaysFit key.stream key.cells self.old self.new }
+        ensures pools { SamePools pools.old pools.new }
     {
         if !is_live(&state) {
             self.opens.open(key, state)?;
@@ -179,7 +199,7 @@ impl HeldStreams {
             other: infinity(),
             cells: cells.clone()?,
         };
-        self.put_start(stream, edge, given)?;
+        self.put_start(pools, stream, edge, given)?;
         if let Err(memory) = self.opens.open(key, state) {
             self.take_out(stream, &cells, start);
             return Err(memory);
@@ -188,7 +208,13 @@ impl HeldStreams {
     }
 
     // The edges of a stream once an open start has ended.
-    fn end_row(&mut self, key: &OpenKey, state: &OpenStart, at: Time) -> Result<(), Memory>
+    fn end_row(
+        &mut self,
+        pools: &mut Pools,
+        key: &OpenKey,
+        state: &OpenStart,
+        at: Time,
+    ) -> Result<(), Memory>
         requires { key.now.stream < length self.old.waiting.items }
         ensures changed { Changed key.now.stream self.old.waiting.items self.new.waiting.items }
         ensures ended { OnOk result (HasEndedRow key.now at
@@ -199,6 +225,7 @@ impl HeldStreams {
         ensures opens { self.new.opens ≡ self.old.opens }
         ensures within { at ≤ inf }
         ensures fit { StaysFit key.now.stream key.now.cells self.old self.new }
+        ensures pools { SamePools pools.old pools.new }
     {
         if state.dropped {
             return Ok(());
@@ -212,7 +239,7 @@ impl HeldStreams {
                 other: state.start,
                 cells: key.cells.clone()?,
             };
-            self.put(key.stream, edge)?;
+            self.put(pools, key.stream, edge)?;
             return Ok(());
         }
         if is_before(state.start, infinity()) {
@@ -222,7 +249,12 @@ impl HeldStreams {
     }
 
     /// Ends the first open start that the key names, if there is one, at a time that is not before the bound of its stream.
-    pub fn end_start(&mut self, key: &OpenKey, at: Time) -> Result<Option<OpenStart>, Memory>
+    pub fn end_start(
+        &mut self,
+        pools: &mut Pools,
+        key: &OpenKey,
+        at: Time,
+    ) -> Result<Option<OpenStart>, Memory>
         requires { key.now.stream < length self.old.waiting.items }
         ensures ok { IfOk result (EndsStart key.now at self.old self.new) }
         ensures none { IfOk result (λ answer. answer ≡ None → self.new ≡ self.old) }
@@ -230,11 +262,12 @@ impl HeldStreams {
         ensures named { OnErr result (0 < length (starts_in self.old.opens.starts key.now)) }
         ensures len { length self.new.waiting.items ≡ length self.old.waiting.items }
         ensures fit { StaysFit key.now.stream key.now.cells self.old self.new }
+        ensures pools { SamePools pools.old pools.new }
     {
         let Some(state) = self.opens.first(key) else {
             return Ok(None);
         };
-        self.end_row(key, &state, at)?;
+        self.end_row(pools, key, &state, at)?;
         self.opens.close(key);
         Ok(Some(state))
     }

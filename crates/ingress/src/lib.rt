@@ -5,7 +5,6 @@
 mod admitting;
 mod by_rank;
 mod entering;
-mod few_cells;
 mod held_laws;
 mod held_streams;
 mod ingress;
@@ -13,7 +12,6 @@ mod ingress_laws;
 mod list_slices;
 mod loading;
 mod opens;
-mod queued_edge;
 mod releasing;
 mod saving;
 mod slicing;

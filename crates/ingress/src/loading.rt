@@ -144,16 +144,19 @@ fn are_sound_entries(kinds: &[Vec<Kind>], entries: &[SavedEntry], last: Time) ->
     true
 }
 
-// What is held of the entries of so many streams.
+// What is held of the entries, of streams with columns of these kinds.
 fn load_entries(
     alloc: Global,
     entries: &[SavedEntry],
-    streams: usize,
+    kinds: &[Vec<Kind>],
+    capacity: usize,
 ) -> Result<HeldStreams, Memory>
-    requires { All (λ e. stream_of e < streams) entries.now }
-    ensures { IfOk result (LoadsAll streams entries.now entries.now) }
+    requires streams { All (λ e. stream_of e < length kinds.now) entries.now }
+    requires width { All (λ k. length k.items ≤ 32) kinds.now }
+    requires room { 1 ≤ capacity }
+    ensures { IfOk result (LoadsAll (length kinds.now) entries.now entries.now) }
 {
-    let mut held = HeldStreams::new(alloc, streams)?;
+    let mut held = HeldStreams::new(alloc, kinds, capacity)?;
     for entry in entries {
         held.take_up(entry)?;
     }
@@ -240,7 +243,7 @@ impl Ingress {
             return Err(LoadFault::NotState);
         }
         let watermarks = Watermarks::of(self.alloc, bounds, marks)?;
-        let held = load_entries(self.alloc, entries, self.kinds.len())?;
+        let held = load_entries(self.alloc, entries, &self.kinds, self.capacity)?;
         self.watermarks = watermarks;
         self.held = held;
         self.released = last;

@@ -17,10 +17,9 @@ use crate::by_rank::ByRank;
 use crate::held_streams::HeldStreams;
 use crate::ingress::Ingress;
 use crate::opens::{OpenKey, OpenStart, OpenStarts};
-use crate::queued_edge::QueuedEdge;
 use crate::waiting::Waiting;
 use carried_edges::save_edges;
-use edge_stream::{Saved, SavedEntry};
+use edge_stream::{EdgeList, Saved, SavedEntry};
 use std::alloc::Global;
 use std::collections::VecDeque;
 use tw_rows::Memory;
@@ -49,17 +48,12 @@ impl ByRank {
     }
 }
 
-// Adds the edges of a queue as entries of that part.
-fn save_queue(
-    saved: &mut Saved,
-    alloc: Global,
-    part: u64,
-    queue: &VecDeque<QueuedEdge>,
-) -> Result<(), Memory>
-    ensures { OnOk result (saved.new ≡ saved.old ++ entries_of part queue.now.items) }
+// Adds the edges of a list as entries of that part.
+fn save_queue(saved: &mut Saved, part: u64, queue: &EdgeList) -> Result<(), Memory>
+    ensures { OnOk result (saved.new ≡ saved.old ++ entries_of part queue.now.edges) }
 {
-    for i in 0..queue.len() {
-        let edge = queue[i].to_edge(alloc)?;
+    let mut cursor = queue.cursor();
+    'edges: while let Some(edge) = cursor.next()? {
         saved.push(SavedEntry {
             part,
             sync: edge.sync,
@@ -75,7 +69,7 @@ impl Waiting {
     pub(crate) fn save(&self, saved: &mut Saved, part: u64) -> Result<(), Memory>
         ensures { OnOk result (saved.new ≡ saved.old ++ entries_of part self.now) }
     {
-        save_queue(saved, self.alloc, part, &self.queue)?;
+        save_queue(saved, part, &self.queue)?;
         self.others.save(saved, part)
     }
 }

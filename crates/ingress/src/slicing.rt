@@ -9,7 +9,7 @@ ghost use Rattle.ingress.specs.Slices.{edges_of, count_below, all_below, slice_e
 use crate::by_rank::{ByRank, end_rank};
 use crate::held_streams::{HeldStreams, is_before};
 use crate::ingress::Ingress;
-use crate::waiting::{Waiting, count_below};
+use crate::waiting::Waiting;
 use tw_rows::Time;
 
 impl ByRank {
@@ -51,8 +51,7 @@ impl Waiting {
             ≡ count_below from self.now + room) }
         ensures none { IsNone result → count_below from self.now + room < count_below to self.now }
     {
-        let count = count_below(&self.queue, to) - count_below(&self.queue, from);
-        let rest = room.checked_sub(count)?;
+        let rest = self.queue.room_left(from, to, room)?;
         self.others.room_left(from, to, rest)
     }
 
@@ -64,12 +63,13 @@ impl Waiting {
         ensures some { result < to → count_below result self.now < count_below (result + 1) self.now }
     {
         let other = self.others.first_between(from, to);
-        let place = count_below(&self.queue, from);
-        let Some(edge) = self.queue.get(place) else {
+        let Some(sync) = self.queue.first_from(from) else {
             return other;
         };
-        let sync = edge.sync();
-        if sync < other { sync } else { other }
+        if is_before(sync, other) {
+            return sync;
+        }
+        other
     }
 }
 

@@ -1,29 +1,28 @@
 // Edges that wait for their time.
-ghost use Rattle.std.specs.Prelude.{◌≡◌, ◌-◌, ◌^◌, ◌<◌, ◌≤◌, min, length, take, drop, get_or};
-ghost use Rattle.std.specs.Prelude.{filter, true, false, IsTrue, IfSome, IsNone, OnOk, OnErr, []};
-ghost use Rattle.std.specs.Prelude.{◌∷◌, ◌++◌};
+ghost use Rattle.std.specs.Prelude.{◌≡◌, ◌-◌, ◌^◌, ◌<◌, ◌≤◌, min, length, map, filter, false, IsTrue};
+ghost use Rattle.std.specs.Prelude.{IfOk, OnOk, OnErr, List, [], ◌∷◌, ◌++◌};
 ghost use Rattle.tw_rows.specs.Instant.{inf};
 ghost use Rattle.tw_rows.specs.Bag.{SameBag};
+ghost use Rattle.tw_rows.specs.Cells.{datum_kind};
 ghost use Rattle.tw_rows.specs.declared.edge.Edge.{Edge};
-ghost use Rattle.edge_history.specs.Order.{rank as edge_rank, many, failing, starts_it, is_below, is_from, Rises};
+ghost use Rattle.edge_history.specs.Order.{rank as edge_rank, many, failing, starts_it, is_below, is_from, Rises, IsReal, KeepsOrder};
 ghost use Rattle.edge_stream.specs.Listing.{cells_of, SameShape};
 ghost use Rattle.ingress.specs.Fits.{is_fit};
 ghost use Rattle.ingress.specs.Ranks.{TakesBatches, SamePools};
 
 use crate::by_rank::{ByRank, end_rank, rank_of};
-use crate::queued_edge::QueuedEdge;
 use batch::Pools;
-use edge_stream::EdgeList;
+use carried_edges::is_stored_as;
+use edge_stream::{Cursor, EdgeList};
 use std::alloc::Global;
-use std::collections::VecDeque;
 use std::marker::Model;
-use tw_rows::{Cells, Edge, Memory, Time};
+use tw_rows::{Cells, Edge, Kind, Memory, Time};
 
-/// Edges from which those before a time are taken first. One that comes in order is put last, in little room, and any other by
-/// its rank.
+/// Edges from which those before a time are taken first. One that comes in order and fits the columns is put last in a list of
+/// batches, and any other by its rank.
 #[derive(Drop)]
 pub struct Waiting {
-    pub(crate) queue: VecDeque<QueuedEdge>,
+    pub(crate) queue: EdgeList,
     pub(crate) others: ByRank,
     pub(crate) alloc: Global,
 }
@@ -31,108 +30,91 @@ pub struct Waiting {
 impl Model for Waiting {
     ghost use Rattle.std.specs.Prelude.{List, ◌++◌};
     ghost use Rattle.tw_rows.specs.declared.edge.Edge.{Edge as Item};
-    ghost use Rattle.edge_history.specs.Order.{Rises};
 
     ghost Value = { List Item };
 
-    ghost view = { λ w. w.queue.items ++ w.others };
-
-    ghost invariant = { λ w. Rises 0 w.queue.items };
+    ghost view = { λ w. w.queue.edges ++ w.others };
 }
 
-// Whether an edge of that rank comes after those of the queue.
-fn comes_last(queue: &VecDeque<QueuedEdge>, rank: u64) -> bool
-    ensures { IsTrue result → Rises 0 queue.now.items → (edge : Edge) → edge_rank edge ≡ rank →
-        Rises 0 (queue.now.items ++ edge ∷ []) }
+// Whether the edge comes at an instant, and its other time is another one.
+#[tactic(auto, unfolding(tw_rows::specs::Instant::inf))]
+fn is_real(edge: &Edge) -> bool
+    ensures { IsTrue result → IsReal edge.now }
 {
-    match queue.back() {
-        Some(last) => last.rank() <= rank,
+    edge.sync < Time::INF && edge.other != edge.sync
+}
+
+// Whether the edge can be put last in the list.
+fn goes_last(queue: &EdgeList, edge: &Edge) -> bool
+    ensures kinds { IsTrue result → map datum_kind edge.now.cells ≡ cells_of queue.now }
+    ensures order { IsTrue result → KeepsOrder (queue.now.edges ++ edge.now ∷ []) }
+{
+    is_real(edge)
+        && is_stored_as(edge.cells.items(), queue.kinds())
+        && comes_last(queue, rank_of(edge))
+}
+
+// Whether an edge of that rank comes after those of the list.
+fn comes_last(queue: &EdgeList, rank: u64) -> bool
+    ensures { IsTrue result → (edge : Edge) → edge_rank edge ≡ rank → IsReal edge →
+        KeepsOrder (queue.now.edges ++ edge ∷ []) }
+{
+    match queue.last_rank() {
+        Some(last) => last <= rank,
         None => true,
     }
 }
 
-// How many edges of a queue in order come before the time.
-pub(crate) fn count_below(queue: &VecDeque<QueuedEdge>, t: Time) -> usize
-    ensures within { result ≤ length queue.now.items }
-    ensures below { Rises 0 queue.now.items →
-        failing (is_below t) (take result queue.now.items) ≡ 0 }
-    ensures from { Rises 0 queue.now.items → failing (is_from t) (drop result queue.now.items) ≡ 0 }
+// Whether these are the same kinds.
+fn same_kinds(a: &[Kind], b: &[Kind]) -> bool
+    ensures { IsTrue result → b.now ≡ a.now }
 {
-    let mut low = 0;
-    let mut high = queue.len();
-    'halves: while low < high {
-        let middle = low + (high - low) / 2;
-        if queue[middle].sync() < t {
-            low = middle + 1;
-        } else {
-            high = middle;
-        }
-    }
-    low
+    a == b
 }
 
-// Takes the first edges out.
-fn drop_front(queue: &mut VecDeque<QueuedEdge>, count: usize)
-    ensures { queue.new.items ≡ drop count queue.old.items }
+// Whether the lists have columns of the same kinds, and batches of the same capacity.
+fn are_alike(a: &EdgeList, b: &EdgeList) -> bool
+    ensures { IsTrue result → SameShape a.now b.now }
 {
-    for _ in 0..count {
-        queue.pop_front();
-    }
+    a.capacity() == b.capacity() && same_kinds(a.kinds(), b.kinds())
 }
 
-// The place of a start edge of these cells, if there is one.
-fn queue_place(queue: &VecDeque<QueuedEdge>, cells: &Cells, start: Time) -> Option<usize>
-    ensures within { IfSome result (λ i. i < length queue.now.items) }
-    ensures some { IfSome result (λ i. (d : Edge) →
-        starts_it cells.now start (get_or queue.now.items i d) ≡ true) }
-    ensures none { IsNone result → (many (starts_it cells.now start) queue.now.items ≡ 0) }
+// Whether an edge is left, and the next one has a rank below `end`.
+fn has_before(cursor: &Cursor, end: u64) -> bool
+    ensures below { IsTrue result → (e : Edge) (rest : List Edge) → cursor.now.edges ≡ e ∷ rest →
+        edge_rank e < end }
+    ensures some { cursor.now.edges ≡ [] → result ≡ false }
+    ensures none { result ≡ false → (e : Edge) (rest : List Edge) → cursor.now.edges ≡ e ∷ rest →
+        end ≤ edge_rank e }
 {
-    for i in 0..queue.len() {
-        if queue[i].is_start_of(cells, start) {
-            return Some(i);
-        }
-    }
-    None
-}
-
-// Takes one start edge of these cells out, if there is one.
-fn remove_queued(queue: &mut VecDeque<QueuedEdge>, cells: &Cells, start: Time) -> bool
-    ensures taken { IsTrue result → SameBag
-        (record { sync = start; other = inf; cells = cells.now } ∷ queue.new.items) queue.old.items }
-    ensures kept { result ≡ false → queue.new.items ≡ queue.old.items }
-    ensures none { result ≡ false → many (starts_it cells.now start) queue.old.items ≡ 0 }
-    ensures order { Rises 0 queue.old.items → Rises 0 queue.new.items }
-{
-    match queue_place(queue, cells, start) {
-        Some(place) => {
-            queue.remove(place);
-            true
-        }
+    match cursor.rank() {
+        Some(rank) => rank < end,
         None => false,
     }
 }
 
 impl Waiting {
-    /// No edge.
-    pub fn new(alloc: Global) -> Waiting
-        ensures { result ≡ [] }
+    /// No edge, and columns of these kinds in batches of that capacity.
+    pub fn new(alloc: Global, kinds: &[Kind], capacity: usize) -> Result<Waiting, Memory>
+        requires width { length kinds.now ≤ 32 }
+        requires room { 1 ≤ capacity }
+        ensures { IfOk result (λ w. w ≡ []) }
     {
-        Waiting {
-            queue: VecDeque::new(alloc),
+        Ok(Waiting {
+            queue: EdgeList::new(alloc, kinds, capacity)?,
             others: ByRank::new(alloc),
             alloc,
-        }
+        })
     }
 
     /// Adds an edge.
-    pub fn put(&mut self, edge: Edge) -> Result<(), Memory>
+    pub fn put(&mut self, pools: &mut Pools, edge: Edge) -> Result<(), Memory>
         ensures ok { OnOk result (SameBag self.new (edge ∷ self.old)) }
         ensures err { OnErr result (self.new ≡ self.old) }
+        ensures pools { SamePools pools.old pools.new }
     {
-        if comes_last(&self.queue, rank_of(&edge)) {
-            let queued = QueuedEdge::new(self.alloc, &edge)?;
-            self.queue.push_back(queued)?;
-            return Ok(());
+        if pools.capacity() == self.queue.capacity() && goes_last(&self.queue, &edge) {
+            return self.queue.append(pools, &edge);
         }
         self.put_by_rank(edge)
     }
@@ -145,13 +127,12 @@ impl Waiting {
         self.others.put(edge)
     }
 
-    /// How many edges wait, or the greatest number where there are more. It goes through the times of those that did not come
-    /// in order.
+    /// How many edges wait, or the greatest number where there are more. It goes through the batches and through the times of
+    /// those that did not come in order.
     pub fn len(&self) -> u64
         ensures { result ≡ min (length self.now) (2 ^ 64 - 1) }
     {
-        let len = self.others.len();
-        len.saturating_add(self.queue.len() as u64)
+        self.queue.len().saturating_add(self.others.len())
     }
 
     /// Takes a start edge out, if it is there. Of those that were put by rank only the edges that start at that time are
@@ -165,10 +146,11 @@ impl Waiting {
         if self.others.take_out(cells, start) {
             return true;
         }
-        remove_queued(&mut self.queue, cells, start)
+        self.queue.take_start(cells, start)
     }
 
-    /// Adds copies of the edges before `t` to an empty list, in order. Out of memory changes the list and the pools alone.
+    /// Adds copies of the edges before `t` to an empty list, in order. Out of memory changes the list and the pools alone. Where
+    /// all of them came in order, whole columns are copied.
     pub fn copy_below(&self, pools: &mut Pools, t: Time, list: &mut EdgeList) -> Result<(), Memory>
         requires capacity { pools.old.capacity ≡ list.old.capacity }
         requires empty { list.old.edges ≡ [] }
@@ -179,25 +161,44 @@ impl Waiting {
         ensures taken { OnOk result (TakesBatches list.old pools.old list.new pools.new) }
         ensures pools { SamePools pools.old pools.new }
     {
-        let count = count_below(&self.queue, t);
+        if are_alike(&self.queue, list) && !self.others.has_below(t) {
+            return self.queue.copy_below(pools, t, list);
+        }
+        self.merge_below(pools, t, list)
+    }
+
+    // The same, edge by edge.
+    fn merge_below(&self, pools: &mut Pools, t: Time, list: &mut EdgeList) -> Result<(), Memory>
+        requires capacity { pools.old.capacity ≡ list.old.capacity }
+        requires empty { list.old.edges ≡ [] }
+        requires fit { failing (is_fit (cells_of list.old)) self.now ≡ 0 }
+        ensures ok { OnOk result (SameBag list.new.edges (filter (is_below t) self.now)) }
+        ensures order { OnOk result (Rises 0 list.new.edges) }
+        ensures shape { SameShape list.old list.new }
+        ensures taken { OnOk result (TakesBatches list.old pools.old list.new pools.new) }
+        ensures pools { SamePools pools.old pools.new }
+    {
+        let end = end_rank(t);
         let mut low = 0;
-        for i in 0..count {
-            let queued = &self.queue[i];
-            let rank = queued.rank();
+        let mut cursor = self.queue.cursor();
+        'edges: while has_before(&cursor, end) {
+            // it is there: this leaves nothing out
+            let Some(edge) = cursor.next()? else {
+                return Ok(());
+            };
+            let rank = rank_of(&edge);
             self.others.append_between(pools, low, rank, list)?;
-            let edge = queued.to_edge(self.alloc)?;
             list.append(pools, &edge)?;
             low = rank;
         }
-        self.others.append_between(pools, low, end_rank(t), list)
+        self.others.append_between(pools, low, end, list)
     }
 
     /// Takes the edges before `t` out.
     pub fn drop_below(&mut self, t: Time)
         ensures { self.new ≡ filter (is_from t) self.old }
     {
-        let count = count_below(&self.queue, t);
-        drop_front(&mut self.queue, count);
+        self.queue.drop_below(t);
         self.others.drop_below(t);
     }
 }

@@ -31,6 +31,7 @@ use Rattle.egress.specs.Waiting.{edges_if, waiting_in}
 use Rattle.egress.specs.declared.egress.Egress.{Egress}
 use Rattle.egress.proofs.Taking.{holds_longer}
 use Rattle.ingress.specs.Admits.{IsFor, SameFixed, Follows, Admits}
+use Rattle.ingress.specs.Ranks.{SamePools}
 use Rattle.ingress.specs.Times.{IsTimed}
 use Rattle.ingress.specs.declared.ingress.Ingress.{Ingress}
 use Rattle.batch.specs.PoolsView.{PoolsView}
@@ -59,15 +60,15 @@ ends released r p b tells not is low = elim (cases_lt r p) [
 pub begins : (released r p : ℕ) (b : Bool) → (IsTrue b ↔ (r < p)) → b ≡ true → r ≡ released → released < p
 begins released r p b tells before is = (let l = tells.0 before in omega (arith, l, is))
 
--- one line more was admitted, its texts are in the table, and the row is that of other parts
+-- one line more was admitted, its texts are in the table, and the row and the pools are those of other parts
 pub taken_went : (plan : PlanParts) (policy : Policy) (w : Progress) (given lists : ℕ → List Edge) (e : Parts) → Went plan policy w given lists e → (b : Admission) (more : List (List ℕ)) (i : Ingress) (read : Parts) →
-    BeginsWith more e.texts → Admits more b given i → SameFixed e.ingress i → i.released ≡ e.ingress.released → IsTimed b →
-    Went plan policy (record w { after = b }) given lists (record e { texts = more; ingress = i; row = read.row })
-taken_went plan policy w given lists e went b more i read begins took same released timed = record {
+    BeginsWith more e.texts → Admits more b given i → SameFixed e.ingress i → i.released ≡ e.ingress.released → SamePools e.pools read.pools → IsTimed b →
+    Went plan policy (record w { after = b }) given lists (record e { texts = more; ingress = i; row = read.row; pools = read.pools })
+taken_went plan policy w given lists e went b more i read begins took same released lent timed = record {
   fixed = still_for plan policy e.dataflow.capacity e.ingress i went.fixed same;
   took = took;
   released = released ∙ went.released;
-  pooled = went.pooled;
+  pooled = lent.capacity ∙ went.pooled;
   planned = went.planned;
   flows = flows_longer e.texts more w.last e.dataflow begins given lists went.flows;
   placed = placed_longer more e.texts begins (lists plan.root) went.placed;
@@ -84,12 +85,12 @@ taken_went plan policy w given lists e went b more i read begins took same relea
 
 -- and the parts can still run
 pub taken_run : (e : Parts) → CanRun e → (more : List (List ℕ)) (i : Ingress) (read : Parts) → BeginsWith more e.texts → SameFixed e.ingress i → i.released ≡ e.ingress.released →
-    CanRun (record e { texts = more; ingress = i; row = read.row })
-taken_run e run more i read begins same released = record {
+    SamePools e.pools read.pools → CanRun (record e { texts = more; ingress = i; row = read.row; pools = read.pools })
+taken_run e run more i read begins same released lent = record {
   sound = run.sound;
   fixed = subst (λ r. IsFor e.dataflow.plan.streams r e.dataflow.capacity i) (sym same.policy) (still_for e.dataflow.plan e.ingress.policy e.dataflow.capacity e.ingress i run.fixed same);
-  pooled = run.pooled;
-  wide = run.wide;
+  pooled = lent.capacity ∙ run.pooled;
+  wide = subst (λ n. most_columns ≤ n) (sym lent.limit) run.wide;
   can = subst (λ t. CanStep more t e.dataflow) (sym released) (can_longer e.texts more e.ingress.released e.dataflow begins run.can);
   low = subst (λ t. t ≤ inf) (sym released) run.low;
   waits = λ t. placed_longer more e.texts begins (edges_if (waiting_in e.egress.waiting t)) (run.waits t);

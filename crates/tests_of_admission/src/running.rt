@@ -54,7 +54,8 @@ pub(crate) fn admitted(
 ) -> Result<Result<Admitted, Refusal>, Memory> {
     let entry = entry(alloc, words)?;
     let mut texts = TextTable::new(alloc);
-    Ok(run.ingress.admit(entry, &mut texts))
+    let mut pools = Pools::new(alloc, 8, 4)?;
+    Ok(run.ingress.admit(entry, &mut texts, &mut pools))
 }
 
 fn push_number(alloc: Global, out: &mut String, number: u64) -> Result<(), Memory> {

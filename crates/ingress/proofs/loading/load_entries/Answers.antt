@@ -1,4 +1,4 @@
-use Rattle.std.specs.Prelude.{◌<◌, ◌++◌, ◌∷◌, []}
+use Rattle.std.specs.Prelude.{length, ◌<◌, ◌++◌, ◌∷◌, []}
 use Rattle.std.proofs.Common.{◌∙◌, ap, sym, subst, take, arith}
 use Rattle.std.proofs.lemmas.List.{take_more, take_all}
 use Rattle.carried_edges.proofs.Parts.{All-there}
@@ -31,7 +31,7 @@ loop-entry-preserved c =
 
 pub take_up-requires : goal.take_up-requires
 take_up-requires c =
-    let d = All-there (λ e. stream_of e < c.args.streams) c.args.entries.now c.loop-entry.entry-index c.entry-item.result c.loop-entry-test.true c.entry-item.is c.requires in
+    let d = All-there (λ e. stream_of e < length c.args.kinds.now) c.args.entries.now c.loop-entry.entry-index c.entry-item.result c.loop-entry-test.true c.entry-item.is c.requires.streams in
     let n = c.loop-entry.invariant.long in
     omega (arith, d, n)
 

@@ -4,6 +4,6 @@ use Rattle.ingress.proofs.loading.load_entries.Given as goal
 
 abbrev pub invariant-loop-entry : goal.invariant-loop-entry
 invariant-loop-entry l = record {
-  loads : LoadsAll l.fn.streams l.entries (take l.entry-index l.entries) l.held;
-  long : length l.held.waiting.items ≡ l.fn.streams;
+  loads : LoadsAll (length l.kinds) l.entries (take l.entry-index l.entries) l.held;
+  long : length l.held.waiting.items ≡ length l.kinds;
 }

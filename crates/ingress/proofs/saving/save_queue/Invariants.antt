@@ -1,6 +1,10 @@
-use Rattle.std.proofs.Common.{◌≡◌, ◌++◌, take}
+-- The entries so far, and those of the edges that are still to come, are those of the list.
+use Rattle.std.proofs.Common.{◌≡◌, ◌++◌, length}
 use Rattle.carried_edges.specs.Entries.{entries_of}
 use Rattle.ingress.proofs.saving.save_queue.Given as goal
 
-abbrev pub invariant-loop-i : goal.invariant-loop-i
-invariant-loop-i l = l.saved ≡ l.fn.saved ++ entries_of l.part (take l.i l.queue.items)
+abbrev pub invariant-edges : goal.invariant-edges
+invariant-edges l = l.saved ++ entries_of l.part l.cursor.edges ≡ l.fn.saved ++ entries_of l.part l.queue.edges
+
+abbrev pub decreases-edges : goal.decreases-edges
+decreases-edges l = length l.cursor.edges

@@ -1,5 +1,5 @@
-use Rattle.std.specs.Prelude.{◌≡◌, ℕ, ◌<◌, length, get_or, All, Vec, List}
-use Rattle.std.proofs.Common.{refl, sym, subst, ◌∙◌, arith}
+use Rattle.std.specs.Prelude.{◌≡◌, ℕ, ◌<◌, ◌≤◌, length, get_or, All, Vec, List}
+use Rattle.std.proofs.Common.{refl, ap, sym, subst, ◌∙◌, arith}
 use Rattle.std.proofs.lemmas.List.{length-map}
 use Rattle.std.proofs.lemmas.List.Elements.{All-weaker}
 use Rattle.std.proofs.lemmas.Result.{err_from_is_err_and}
@@ -10,6 +10,7 @@ use Rattle.ingress.specs.Admits.{cells_of}
 use Rattle.ingress.specs.Saving.{stream_of, IsSoundEntry}
 use Rattle.ingress.specs.Loaded.{Loads, LoadsAll, cells_of_kinds}
 use Rattle.ingress.specs.declared.held_streams.HeldStreams.{HeldStreams}
+use Rattle.ingress.proofs.FirstShape.{all_narrow}
 use Rattle.ingress.proofs.Timed.{end_within}
 use Rattle.ingress.proofs.LoadedAll.{loaded_admits, loaded_above, loaded_shape, state_of, marks_of, kinds_long}
 use Rattle.ingress.proofs.ingress.Ingress.load.Goals as goal
@@ -34,10 +35,14 @@ module _ {S : Type 0} (kinds ks : List (Vec Kind S)) (same : ks ≡ kinds) (save
       subst (λ x. Loads (cells_of_kinds kinds) last x h.waiting.items (starts_in h.opens.starts)) is
       (loads (cells_of_kinds kinds) last (kinds_long kinds ∙ sym long) (subst (All (IsSoundEntry (cells_of_kinds kinds) last)) (sym is) all))
 
-pub load_entries-requires : goal.load_entries-requires
-load_entries-requires c =
+pub load_entries-requires-clause-streams : goal.load_entries-requires-clause-streams
+load_entries-requires-clause-streams c =
     each_declared c.args.self.now.kinds.items c.deref.result.now c.deref.ensures.value c.args.saved.now c.entries-entries.result.now c.entries-entries.ensures c.args.last
-    (c.are_sound_entries.ensures.0 c.if-not-are_sound_entries.false) c.len.result (let e = c.len.ensures in omega (arith, e))
+    (c.are_sound_entries.ensures.0 c.if-not-are_sound_entries.false) (length c.deref-2.result.now) (ap length c.deref-2.ensures.value)
+
+pub load_entries-requires-clause-width : goal.load_entries-requires-clause-width
+load_entries-requires-clause-width c =
+    subst (λ ks. All (λ k. length k.items ≤ 32) ks) (sym c.deref-2.ensures.value) (all_narrow c.args.self.now.kinds.items c.args.self.now.shape.width)
 
 pub invariant_of-self : goal.invariant_of-self
 invariant_of-self c =
@@ -47,7 +52,7 @@ invariant_of-self c =
     let each = each_saved i.kinds.items c.deref.result.now c.deref.ensures.value c.args.saved.now c.entries-entries.result.now c.entries-entries.ensures c.args.last (c.are_sound_entries.ensures.0 c.if-not-are_sound_entries.false) in
     let state = state_of (cells_of i) c.args.saved.now c.args.bounds.now c.args.marks.now c.args.last long marks.0 marks.1 each in
     let l : Loads (cells_of i) c.args.last c.args.saved.now c.in_ok-held.held.waiting.items (starts_in c.in_ok-held.held.opens.starts) =
-    loaded i.kinds.items c.deref.result.now c.deref.ensures.value c.args.saved.now c.entries-entries.result.now c.entries-entries.ensures c.args.last c.len.result (let e = c.len.ensures in omega (arith, e)) c.in_ok-held.held c.in_ok-held.ensures each in
+    loaded i.kinds.items c.deref.result.now c.deref.ensures.value c.args.saved.now c.entries-entries.result.now c.entries-entries.ensures c.args.last (length c.deref-2.result.now) (ap length c.deref-2.ensures.value) c.in_ok-held.held c.in_ok-held.ensures each in
     let n = kinds_long i.kinds.items in
     let n2 = length-map i.kinds.items (λ k. k.items) in
     let b = c.requires.bounds in
@@ -117,7 +122,7 @@ returns-clause-admits c = λ texts a given r.
     let each = each_saved i.kinds.items c.deref.result.now c.deref.ensures.value c.args.saved.now c.entries-entries.result.now c.entries-entries.ensures c.args.last (c.are_sound_entries.ensures.0 c.if-not-are_sound_entries.false) in
     let state = state_of (cells_of i) c.args.saved.now c.args.bounds.now c.args.marks.now c.args.last long marks.0 marks.1 each in
     let l : Loads (cells_of i) c.args.last c.args.saved.now c.in_ok-held.held.waiting.items (starts_in c.in_ok-held.held.opens.starts) =
-    loaded i.kinds.items c.deref.result.now c.deref.ensures.value c.args.saved.now c.entries-entries.result.now c.entries-entries.ensures c.args.last c.len.result (let e = c.len.ensures in omega (arith, e)) c.in_ok-held.held c.in_ok-held.ensures each in
+    loaded i.kinds.items c.deref.result.now c.deref.ensures.value c.args.saved.now c.entries-entries.result.now c.entries-entries.ensures c.args.last (length c.deref-2.result.now) (ap length c.deref-2.ensures.value) c.in_ok-held.held c.in_ok-held.ensures each in
     let b = c.requires.bounds in
     loaded_admits i c.args.saved.now (λ s. get_or c.args.bounds.now s 0) (λ s. get_or c.args.marks.now s 0) c.args.last texts a given r _ refl refl (end_within c.args.last marks.0) l
     (λ s less. c.in_ok-watermarks.ensures.bounds s (omega (arith, less, b))) (λ s less. c.in_ok-watermarks.ensures.marks s (omega (arith, less, b))) (λ s less. (marks.1 s (omega (arith, less, b))).2)

@@ -1,79 +1,66 @@
-use Rattle.std.specs.Prelude.{◌≡◌, ◌+◌, ◌<◌, ◌≤◌, false, length, refl}
-use Rattle.std.proofs.Common.{◌∙◌, sym, subst, arith}
-use Rattle.std.proofs.lemmas.Bool.Decides.{nat_tests}
-use Rattle.ingress.specs.Slices.{count_below}
-use Rattle.ingress.proofs.Below.{queue_counts, queue_until, queue_past, queue_ends, queue_none, queue_some, others_some, next_from, not_before}
+use Rattle.std.specs.Prelude.{◌≡◌, ℕ, Bool, false, IsTrue, ◌↔◌, ◌<◌, ◌≤◌}
+use Rattle.std.proofs.Common.{arith, inl, inr}
+use Rattle.std.proofs.lemmas.Bool.{cases_lt}
+use Rattle.ingress.proofs.Below.{queue_first, queue_over, queue_none, queue_some, others_some}
 use Rattle.ingress.proofs.waiting.Waiting.first_between.Goals as goal
+
+-- where the test does not hold
+no_less : (a b : ℕ) (r : Bool) → (IsTrue r ↔ (a < b)) → r ≡ false → b ≤ a
+no_less a b r tells no = elim (cases_lt a b) [
+  | inl less ↦ absurd (let yes = tells.1 less in cc)
+  | inr more ↦ more
+]
 
 pub returns-in_default-clause-none : goal.returns-in_default-clause-none
 returns-in_default-clause-none c =
-    let q = c.self.inside.queue.items in
-    let o = c.self.inside.others in
-    let n = c.count_below-place.ensures in
-    let other = c.first_between-other.ensures in
-    let count = queue_counts q c.args.from c.count_below-place.result n.within (n.below c.self.invariant) (n.from c.self.invariant) in
-    let v = c.in_default.ensures.variant in
-    let k = c.self.inside.queue.ok in
-    let all : length q ≤ c.count_below-place.result = (let past = not_before false c.count_below-place.result _ v.1 refl in omega (arith, past, k)) in
-    queue_none q o c.args.self.now c.self.view_is c.args.from c.first_between-other.result other.within.0 other.none c.first_between-other.result other.within.0 (omega arith)
-    (queue_ends q c.args.from c.count_below-place.result n.within (n.below c.self.invariant) all c.first_between-other.result other.within.0 ∙ sym count)
+    let q = c.self.inside.queue.edges in
+    let w = c.first_between-other.ensures.within in
+    let other = c.first_between-other.result in
+    queue_none q c.self.inside.others c.args.self.now c.self.view_is c.args.from other w.0 c.first_between-other.ensures.none other w.0 (omega arith)
+    (queue_over c.args.from q c.in_default.ensures.sync other w.0)
 
 pub returns-in_default-clause-some : goal.returns-in_default-clause-some
 returns-in_default-clause-some c = λ early.
-    let other = c.first_between-other.ensures in
-    others_some c.self.inside.queue.items c.self.inside.others c.args.self.now c.self.view_is c.args.from c.first_between-other.result other.within.0 other.none (other.some early)
+    let w = c.first_between-other.ensures.within in
+    others_some c.self.inside.queue.edges c.self.inside.others c.args.self.now c.self.view_is c.args.from c.first_between-other.result w.0 c.first_between-other.ensures.none (c.first_between-other.ensures.some early)
 
-pub returns-then-lt-clause-none : goal.returns-then-lt-clause-none
-returns-then-lt-clause-none c =
-    let q = c.self.inside.queue.items in
-    let o = c.self.inside.others in
-    let n = c.count_below-place.ensures in
-    let other = c.first_between-other.ensures in
-    let count = queue_counts q c.args.from c.count_below-place.result n.within (n.below c.self.invariant) (n.from c.self.invariant) in
-    let e = c.in-Some.edge.now in
-    let v = c.in-Some.ensures.variant in
-    let k = c.self.inside.queue.ok in
-    let low : c.count_below-place.result < length q = (let less = v.0 refl in omega (arith, less, k)) in
-    let from = next_from q c.args.from c.count_below-place.result e low c.in-Some.ensures.lookup (n.from c.self.invariant) in
-    let t = c.if-lt.true in
-    let less : e.sync < c.first_between-other.result = (let a = c.lt.ensures in let s = c.sync-sync.ensures in grind (arith, nat_tests)) in
-    subst (λ s. count_below s c.args.self.now ≡ count_below c.args.from c.args.self.now) (sym c.sync-sync.ensures) (queue_none q o c.args.self.now c.self.view_is c.args.from c.first_between-other.result other.within.0 other.none e.sync from (omega (arith, less))
-    (queue_until q c.args.from c.count_below-place.result n.within (n.below c.self.invariant) e low c.in-Some.ensures.lookup c.self.invariant e.sync from (omega arith) ∙ sym count))
+pub returns-then-is_before-clause-within : goal.returns-then-is_before-clause-within
+returns-then-is_before-clause-within c =
+    let w = c.first_between-other.ensures.within in
+    let less = c.is_before.ensures.test.0 c.if-is_before.true in
+    let first = queue_first c.args.from 0 c.self.inside.queue.edges c.in-Some.sync c.in-Some.ensures.order.rises c.in-Some.ensures.sync in
+    (first.from, omega (arith, less, w.1))
 
-pub returns-then-lt-clause-some : goal.returns-then-lt-clause-some
-returns-then-lt-clause-some c = λ _.
-    let q = c.self.inside.queue.items in
-    let o = c.self.inside.others in
-    let n = c.count_below-place.ensures in
-    let other = c.first_between-other.ensures in
-    let count = queue_counts q c.args.from c.count_below-place.result n.within (n.below c.self.invariant) (n.from c.self.invariant) in
-    let e = c.in-Some.edge.now in
-    let v = c.in-Some.ensures.variant in
-    let k = c.self.inside.queue.ok in
-    let low : c.count_below-place.result < length q = (let less = v.0 refl in omega (arith, less, k)) in
-    let from = next_from q c.args.from c.count_below-place.result e low c.in-Some.ensures.lookup (n.from c.self.invariant) in
-    let same = queue_until q c.args.from c.count_below-place.result n.within (n.below c.self.invariant) e low c.in-Some.ensures.lookup c.self.invariant e.sync from (omega arith) in
-    let past = queue_past q c.args.from c.count_below-place.result n.within (n.below c.self.invariant) e low c.in-Some.ensures.lookup c.self.invariant from in
-    subst (λ s. count_below s c.args.self.now < count_below (s + 1) c.args.self.now) (sym c.sync-sync.ensures) (queue_some q o c.args.self.now c.self.view_is c.args.from c.first_between-other.result other.within.0 other.none e.sync (omega (arith, same, past)))
+pub returns-then-is_before-clause-none : goal.returns-then-is_before-clause-none
+returns-then-is_before-clause-none c =
+    let q = c.self.inside.queue.edges in
+    let w = c.first_between-other.ensures.within in
+    let s = c.in-Some.sync in
+    let less : s < c.first_between-other.result = c.is_before.ensures.test.0 c.if-is_before.true in
+    let first = queue_first c.args.from 0 q s c.in-Some.ensures.order.rises c.in-Some.ensures.sync in
+    queue_none q c.self.inside.others c.args.self.now c.self.view_is c.args.from c.first_between-other.result w.0 c.first_between-other.ensures.none s first.from (omega (arith, less))
+    (first.none s first.from (omega arith))
 
-pub returns-else-lt-clause-none : goal.returns-else-lt-clause-none
-returns-else-lt-clause-none c =
-    let q = c.self.inside.queue.items in
-    let o = c.self.inside.others in
-    let n = c.count_below-place.ensures in
-    let other = c.first_between-other.ensures in
-    let count = queue_counts q c.args.from c.count_below-place.result n.within (n.below c.self.invariant) (n.from c.self.invariant) in
-    let e = c.in-Some.edge.now in
-    let v = c.in-Some.ensures.variant in
-    let k = c.self.inside.queue.ok in
-    let low : c.count_below-place.result < length q = (let less = v.0 refl in omega (arith, less, k)) in
-    let from = next_from q c.args.from c.count_below-place.result e low c.in-Some.ensures.lookup (n.from c.self.invariant) in
-    let t = c.if-lt.false in
-    let late : c.first_between-other.result ≤ e.sync = (let a = c.lt.ensures in let s = c.sync-sync.ensures in grind (arith, nat_tests)) in
-    queue_none q o c.args.self.now c.self.view_is c.args.from c.first_between-other.result other.within.0 other.none c.first_between-other.result other.within.0 (omega arith)
-    (queue_until q c.args.from c.count_below-place.result n.within (n.below c.self.invariant) e low c.in-Some.ensures.lookup c.self.invariant c.first_between-other.result other.within.0 late ∙ sym count)
+pub returns-then-is_before-clause-some : goal.returns-then-is_before-clause-some
+returns-then-is_before-clause-some c = λ _.
+    let q = c.self.inside.queue.edges in
+    let w = c.first_between-other.ensures.within in
+    let s = c.in-Some.sync in
+    let first = queue_first c.args.from 0 q s c.in-Some.ensures.order.rises c.in-Some.ensures.sync in
+    queue_some q c.self.inside.others c.args.self.now c.self.view_is c.args.from c.first_between-other.result w.0 c.first_between-other.ensures.none s first.some
 
-pub returns-else-lt-clause-some : goal.returns-else-lt-clause-some
-returns-else-lt-clause-some c = λ early.
-    let other = c.first_between-other.ensures in
-    others_some c.self.inside.queue.items c.self.inside.others c.args.self.now c.self.view_is c.args.from c.first_between-other.result other.within.0 other.none (other.some early)
+pub returns-clause-none : goal.returns-clause-none
+returns-clause-none c =
+    let q = c.self.inside.queue.edges in
+    let w = c.first_between-other.ensures.within in
+    let other = c.first_between-other.result in
+    let s = c.in-Some.sync in
+    let late : other ≤ s = no_less s other c.is_before.result c.is_before.ensures.test c.if-is_before.false in
+    let first = queue_first c.args.from 0 q s c.in-Some.ensures.order.rises c.in-Some.ensures.sync in
+    queue_none q c.self.inside.others c.args.self.now c.self.view_is c.args.from other w.0 c.first_between-other.ensures.none other w.0 (omega arith)
+    (first.none other w.0 late)
+
+pub returns-clause-some : goal.returns-clause-some
+returns-clause-some c = λ early.
+    let w = c.first_between-other.ensures.within in
+    others_some c.self.inside.queue.edges c.self.inside.others c.args.self.now c.self.view_is c.args.from c.first_between-other.result w.0 c.first_between-other.ensures.none (c.first_between-other.ensures.some early)

@@ -7,6 +7,6 @@ use Rattle.ingress.proofs.waiting.Waiting.put_by_rank.Goals as goal
 pub returns-clause-ok : goal.returns-clause-ok
 returns-clause-ok c =
     ok_maps c.put.result _ _
-    (λ added. subst (λ l. SameBag (c.self.inside.queue.items ++ c.put.new.self) (c.args.edge ∷ l)) c.self.view_is
-    (other_bag c.self.inside.queue.items c.self.inside.others c.args.edge c.put.new.self added))
+    (λ added. subst (λ l. SameBag (c.self.inside.queue.edges ++ c.put.new.self) (c.args.edge ∷ l)) c.self.view_is
+    (other_bag c.self.inside.queue.edges c.self.inside.others c.args.edge c.put.new.self added))
     c.put.ensures.ok

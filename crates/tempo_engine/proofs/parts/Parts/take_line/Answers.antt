@@ -41,7 +41,7 @@ admit_cells-requires-clause-fits c =
 
 pub returns-in-Ok-admit_cells-clause-run : goal.returns-in-Ok-admit_cells-clause-run
 returns-in-Ok-admit_cells-clause-run c =
-    taken_run c.args.self.now c.requires.run c.read_cells.new.texts c.admit_cells.new.self (record c.args.self.now { row = c.read_cells.new.row }) c.in-Ok.ensures.begins c.admit_cells.ensures.fixed c.admit_cells.ensures.released
+    taken_run c.args.self.now c.requires.run c.read_cells.new.texts c.admit_cells.new.self (record c.args.self.now { row = c.read_cells.new.row; pools = c.admit_cells.new.pools }) c.in-Ok.ensures.begins c.admit_cells.ensures.fixed c.admit_cells.ensures.released c.admit_cells.ensures.pools
 
 pub returns-in-Ok-admit_cells-clause-taken : goal.returns-in-Ok-admit_cells-clause-taken
 returns-in-Ok-admit_cells-clause-taken c = λ plan policy lines given lists fed.
@@ -59,7 +59,7 @@ returns-in-Ok-admit_cells-clause-taken c = λ plan policy lines given lists fed.
       says = rw same at says;
       takes = takes;
       texts = (rw same at c.in-Ok.ensures.texts) ∙ ap (λ t. with_row t (row_read (told plan c.args.number c.args.line.now).read)) fed.texts ∙ texts_next plan lines (told plan c.args.number c.args.line.now);
-      went = taken_went plan policy w given lists c.args.self.now fed.went taken.0 texts c.admit_cells.new.self (record c.args.self.now { row = c.read_cells.new.row }) c.in-Ok.ensures.begins taken.1.1 c.admit_cells.ensures.fixed c.admit_cells.ensures.released timed;
+      went = taken_went plan policy w given lists c.args.self.now fed.went taken.0 texts c.admit_cells.new.self (record c.args.self.now { row = c.read_cells.new.row; pools = c.admit_cells.new.pools }) c.in-Ok.ensures.begins taken.1.1 c.admit_cells.ensures.fixed c.admit_cells.ensures.released c.admit_cells.ensures.pools timed;
       instant = c.event_times_stay.ensures.due policy (length plan.streams) taken.0 timed;
     }
 
