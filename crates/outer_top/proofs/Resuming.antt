@@ -1,5 +1,6 @@
 -- What is kept of a Top at first, how much it is, and after it was saved and loaded.
 use Rattle.std.specs.Prelude.{◌≡◌, ℕ, zero, suc, ◌+◌, ◌<◌, ◌≤◌, nat_lt, All, Bool, true, false, cond, List, [], ◌∷◌, ◌++◌, length, map, filter, refl}
+use Rattle.std.specs.List.{IsDistinct}
 use Rattle.std.proofs.Common.{sym, ◌∙◌, ap, subst, arith}
 use Rattle.std.proofs.lemmas.List.{append-nil, length-map}
 use Rattle.std.proofs.lemmas.Bool.{le-ltb}
@@ -83,6 +84,7 @@ shown_few columns by most a (suc u) rows shown low kept there =
     omega (arith, c, d, o, k, m, n, p, q, r, f)
 
 no_keys_settled : (columns : List ℕ) (by most : ℕ) → AreSettled columns by most []
+unfolding IsDistinct
 no_keys_settled columns by most = record { rows = record { own = refl; ranked = refl }; settled = refl; apart = tt }
 
 -- of no edges nothing is kept, which fits any time

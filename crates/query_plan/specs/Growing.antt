@@ -1,5 +1,5 @@
 -- A draft as it grows: what is found of the nodes that are put behind it, one after the other.
-use Rattle.std.specs.Prelude.{ℕ, nat_lt, Bool, true, not, Result, Ok, List, [], ◌∷◌, ◌++◌}
+use Rattle.std.specs.Prelude.{◌≡◌, ℕ, nat_lt, Bool, true, not, Result, Ok, List, [], ◌∷◌, ◌++◌}
 use Rattle.plan_model.specs.declared.fault.QueryFault.{QueryFault}
 use Rattle.plan_model.specs.declared.fault.QueryFault.TheVariants as F
 use Rattle.plan_model.specs.declared.node.Node.{Node}
@@ -24,6 +24,10 @@ next_reach = by_number 0 (λ n at. node_reach n (left_of 0 (λ s. 0) at n) (righ
 -- the reaches of all nodes. Of a source and a delay of 60 over it: 0, 60
 abbrev pub reaches_of : List Node → List ℕ
 reaches_of nodes = results_from next_reach [] nodes
+
+-- the levels and the reaches are those of the nodes
+abbrev pub AreFound : List Bool → List ℕ → List Node → Type 0
+AreFound levels reaches nodes = (levels ≡ levels_of nodes) × (reaches ≡ reaches_of nodes)
 
 -- the reach of the next node, or the fault where it is too far
 abbrev pub near_reach : ℕ → Node → List ℕ → Result ℕ QueryFault

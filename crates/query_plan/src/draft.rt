@@ -53,15 +53,14 @@ pub(crate) struct Draft {
 }
 
 impl Model for Draft {
-    ghost use Rattle.std.specs.Prelude.{◌≡◌};
     ghost use Rattle.query_plan.specs.Draft.{Draft as Drafted};
-    ghost use Rattle.query_plan.specs.Growing.{levels_of, reaches_of};
+    ghost use Rattle.query_plan.specs.Growing.{AreFound};
 
     ghost Value = { Drafted };
 
     ghost view = { λ d. record { names = d.names.items; nodes = d.nodes.items; schemas = d.schemas.items } };
 
-    ghost invariant = { λ d. (d.levels.items ≡ levels_of d.nodes.items) × (d.reaches.items ≡ reaches_of d.nodes.items) };
+    ghost invariant = { λ d. AreFound d.levels.items d.reaches.items d.nodes.items };
 }
 
 impl Draft {

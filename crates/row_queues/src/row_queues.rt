@@ -148,6 +148,7 @@ impl RowQueues {
         ensures { OnOk result ((c : Row) → queue_of self.new c
             ≡ queue_of self.old c ++ cond (same cells.now c) (start ∷ []) []) }
     {
+        // Their calls tell the proof that no row stands twice.
         let _ = self.held.starts.len();
         open_row(&mut self.held.starts, self.alloc, cells, start, 1)?;
         let _ = self.held.starts.len();

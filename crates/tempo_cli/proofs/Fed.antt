@@ -92,7 +92,7 @@ module _ (q : Asked) (given : List (List ℕ)) (line : List ℕ) (number : ℕ) 
 pub before_read : (q : Asked) (given : List (List ℕ)) (e : EngineView) → Took q given e → AreRead (length q.plan.streams) q.before
 before_read q given e t = (read_parts (length q.plan.streams) q.before _ (subst (AreRead (length q.plan.streams)) t.is t.took.by.read)).0
 
--- and what they call for is a front of what all lines do
+-- and what they call for is a prefix of what all lines do
 pub before_low : (q : Asked) (given : List (List ℕ)) (e : EngineView) → Took q given e →
     length (plan_text q.plan q.policy q.before false) ≤ length (plan_text q.plan q.policy (said q given) false)
 before_low q given e t =

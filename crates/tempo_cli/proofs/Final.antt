@@ -41,15 +41,15 @@ judged_writes plan w None false o f fine e = refl
 judged_writes plan w None true (Some v) f fine e = refl
 judged_writes plan w None true None f fine e = absurd (let z : None ≡ Some f = sym fine ∙ e in cc)
 
--- the front of a text is no longer than the text
+-- a prefix of a text is no longer than the text
 pub front_low : (x y : List ℕ) → IsFront x y → length x ≤ length y
 front_low x y f = omega (arith, ap length f.1, length-append x f.0)
 
--- what a text grows by, it grows by also where its front is left out
+-- what a text grows by, it grows by also where a prefix of it is left out
 pub cut_grows : (n : ℕ) (x y out : List ℕ) → n ≤ length x → y ≡ x ++ out → drop n y ≡ drop n x ++ out
 cut_grows n x y out low e = ap (drop n) e ∙ drop-append-le n x out low
 
--- the text of the lines before is the front of the text of more lines
+-- the text of the lines before is a prefix of the text of more lines
 pub text_before : (plan : PlanParts) → IsPlan plan → (policy : Policy) (before more : List Told) (ended : Bool) → AreRead (length plan.streams) before → AreRead (length plan.streams) more →
     IsFront (plan_text plan policy before false) (plan_text plan policy (before ++ more) ended)
 text_before plan is policy before more ended read more_read =

@@ -82,12 +82,12 @@ freezes_all {form} {workers} {q} {s} {J} {O} status r w = record {
       w.end;
 }
 
--- a front of what is due for the last line went out
+-- a prefix of what is due for the last line went out
 pub front_due : (F : List (List ℕ) → Type 0) (q : Asked) (bytes before last front : List ℕ) (s : Answering) → Ended q bytes (before ++ last) s → IsFront front last →
     IsFrontFrozen (answers_to q) F bytes (before ++ front) true
 front_due F q bytes before last front s e some = inl (some.0, sym e.so_far ∙ (ap (λ y. before ++ y) some.1 ∙ sym (append_assoc before front some.0)))
 
--- all that is due was written, and memory was wanting
+-- all that is due was written, and it was out of memory
 pub short_frozen : (q : Asked) (bytes before last : List ℕ) (O : List Entry) (s : Answering) → Ended q bytes (before ++ last) s → last ≡ outs O → IsShortText (going_on (answers_to q)) bytes (before ++ outs O) true
 short_frozen q bytes before last O s e is = short_end (going_on (answers_to q)) bytes (before ++ outs O) (ap (λ x. before ++ x) (sym is) ∙ e.so_far)
 
@@ -108,7 +108,7 @@ frozen_done form P q bytes before last f O K s e t fits is all =
       written = sym (written_both before last text O K is all) ∙ ap (λ x. x ++ text) e.so_far;
     }
 
--- or a front of the checkpoint
+-- or a prefix of the checkpoint
 pub frozen_front : (form : FormView) (P : FrozenView → Type 0) (q : Asked) (bytes before last after : List ℕ) (f : FrozenView) (O K : List Entry) (s : Answering) → Ended q bytes (before ++ last) s →
     HasText form f → P f → last ≡ outs O → bytes_of (checkpoint_lines form.head f) ≡ outs K ++ after → IsFrontFrozen (answers_to q) (Froze form P) bytes (before ++ outs (O ++ K)) true
 frozen_front form P q bytes before last after f O K s e t fits is some = inr (

@@ -83,7 +83,7 @@ memory_job NoWords = (refl, inr refl)
 memory_job (NoPlan asked fault) = (refl, inr refl)
 memory_job (Planned asked plan) = memory_does asked.mode asked plan
 
--- a run over lines without fault ends Done, or memory was wanting
+-- a run over lines without fault ends Done, or out of memory
 ended_well : (a : Answers) (status : Status) (bytes out : List ℕ) (ended : Bool) (reads reads' writes writes' : ℕ) → IsEnd a status bytes out ended →
     Counts reads reads' writes writes' status → a.fault (lines bytes ended) ended ≡ None → length bytes ≤ limit → (Rose reads reads' → ⊥) → (Rose writes writes' → ⊥) →
     (status ≡ Done) ⊎ (status ≡ Memory)

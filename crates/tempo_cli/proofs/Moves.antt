@@ -79,7 +79,7 @@ module _ {a : Answers} {bytes : List ℕ} {given : List (List ℕ)} {c : CutterS
         (here.0, (here.1, lines_within bytes c.rest given ended w.cuts.all w.cuts.each given_low ∙ (ap (λ ls. given ++ ls) here.2 ∙ sym (append_assoc given (here.0 ∷ []) here.1))), here.3),
       )
 
-  -- memory was wanting
+  -- it was out of memory
   pub short : (ended : Bool) → IsShort a bytes (a.text given false) ended
   short ended = record {
     k = length given;
@@ -144,7 +144,7 @@ module _ {a : Answers} {bytes : List ℕ} {given : List (List ℕ)} {c : CutterS
         (lines_within bytes c.rest given ended w.cuts.all w.cuts.each given_low ∙ ap (λ ls. given ++ ls) here.2)
         (bad found.line (omega (arith, found.long, w.longest))) (bad here.0 here.3)
 
-    -- a front of what became due last went out
+    -- a prefix of what became due last went out
     pub some_written : (before out front : List ℕ) → a.text given false ≡ before ++ out → IsFront front out → (ended : Bool) → IsFront (before ++ front) (a.text (lines bytes ended) ended)
     some_written before out front grows some ended =
         let all = lines_after ended in

@@ -14,7 +14,7 @@ piece_sent bytes piece rest J K p q = record {
   so_far = p.so_far ∙ (ap (λ x. outs J ++ (x ++ rest)) (sym q.all) ∙ (sym (append_assoc (outs J) (outs K) rest) ∙ ap (λ x. x ++ rest) (sym (outs-append J K))));
 }
 
--- a front of one piece
+-- a prefix of one piece
 pub piece_failed : (bytes piece rest : List ℕ) (J K : List Entry) → SentBefore bytes (piece ++ rest) J → SentFront piece K → SentFront bytes (J ++ K)
 piece_failed bytes piece rest J K p q = record {
   outs_alone = All-append IsOut J K p.outs_alone q.outs_alone;

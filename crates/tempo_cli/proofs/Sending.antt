@@ -23,7 +23,7 @@ sent_held {all} held rest O K s t = record {
       ∙ (sym (append_assoc (outs O) (outs K) rest) ∙ ap (λ x. x ++ rest) (sym (outs-append O K))));
 }
 
--- or a front of it
+-- or a prefix of it
 sent_some : {all : List ℕ} (held rest : List ℕ) (O K : List Entry) → SentBefore all (held ++ rest) O → SentFront held K → SentFront all (O ++ K)
 sent_some {all} held rest O K s t = record {
   outs_alone = All-append IsOut O K s.outs_alone t.outs_alone;
@@ -69,7 +69,7 @@ held_sent {Z} {all} {left} {w} v {before} {mid} {now} s t none same = record {
       (Grows-grows s.sent t (λ O K a b. sent_held v.items (bytes_of left) O K a b));
 }
 
--- or a front of it
+-- or a prefix of it
 pub front_sent : {Z : Type 0} {all left : List (List ℕ)} (v : Vec ℕ Z) {before mid now : Option (List Entry)} → IsSending all left v before mid → Grows mid now (SentFront v.items) →
     Grows before now (SentFront (bytes_of all))
 front_sent {Z} {all} {left} v s t = Grows-grows s.sent t (λ O K a b. sent_some v.items (bytes_of left) O K a b)

@@ -105,7 +105,7 @@ end_done q bytes written out s e fine grows =
           (sym (same_text q.plan q.policy e.engine.fed all true e.engine.same) ∙ (grows ∙ ap (λ x. x ++ out) (same_text q.plan q.policy e.engine.fed all false e.engine.same))));
     }
 
--- a front of what is due for the last line went out
+-- a prefix of what is due for the last line went out
 pub end_front : (q : Asked) (bytes before out front : List ℕ) (s : Answering) → Ended q bytes (before ++ out) s → IsFront front out → IsFront (before ++ front) ((answers_to q).text (lines bytes true) true)
 end_front q bytes before out front s e some =
     let ls = lines bytes true in

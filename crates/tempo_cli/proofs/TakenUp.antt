@@ -172,7 +172,7 @@ module _ {form : FormView} {f : FrozenView} {r : Restoring} {left : ℕ} {over :
     quiet : (before : List Told) → Fits before f → IsQuiet (answers_to (behind plan policy before (length k.given))) (length k.given)
     quiet before h = quiet_resumed plan policy before (length k.given) (fits.fine before f h)
 
-    -- memory was wanting
+    -- it was out of memory
     pub no_room : Resumes form Fits IsState plan policy statuses.Memory J
     no_room = record {
       resumed = λ before C froze front.

@@ -37,7 +37,7 @@ pub record IsFrozen (a : Answers) (Froze : List (List ℕ) → Type 0) (bytes ou
   pub froze : Froze C
   pub written : out ≡ a.text (lines bytes true) false ++ bytes_of C
 
--- a front of that was; of the checkpoint only where the input has ended
+-- a prefix of that was; of the checkpoint only where the input has ended
 abbrev pub IsFrontFrozen : Answers → (List (List ℕ) → Type 0) → List ℕ → List ℕ → Bool → Type 0
 IsFrontFrozen a Froze bytes out ended = IsFront out (a.text (lines bytes ended) false)
     ⊎ ((ended ≡ true) × ((C : List (List ℕ)) × (Froze C × IsFront out (a.text (lines bytes true) false ++ bytes_of C))))

@@ -45,8 +45,8 @@ FrozeAfter form workers q lines C = Froze form (Fits workers q.plan q.policy (fe
 abbrev pub IsSmall : FrozenView → Type 0
 IsSmall f = (f.lines ≤ 2 ^ 62) × All (λ t. length t ≤ 65530) f.texts
 
--- the bytes of the lines went out; or a front of them did, and a call of the wire failed; or memory was wanting for a line that is
--- longer than a line of input may be
+-- the bytes of the lines went out; or a prefix of them did, and a call of the wire failed; or it was out of memory for a line that
+-- is longer than a line of input may be
 abbrev pub SendsLines : List (List ℕ) → Option (List Entry) → Option (List Entry) → Status → Type 0
 SendsLines lines before now Done = Grows before now (SentAll (bytes_of lines))
 SendsLines lines before now WriteFault = Grows before now (SentFront (bytes_of lines))

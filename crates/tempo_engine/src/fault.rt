@@ -27,7 +27,7 @@ pub enum EngineFault {
         node: usize,
         time: Time,
     },
-    /// Memory was wanting.
+    /// Out of memory.
     Memory,
 }
 

@@ -22,7 +22,7 @@ use tw_rows::{Memory, Time};
 pub enum ThawFault {
     /// It is no state of an engine of the plan and the options.
     NotState,
-    /// Memory was wanting.
+    /// Out of memory.
     Memory,
 }
 

@@ -49,7 +49,7 @@ returns-in_err-rest-clause-asked g c = let p = err_from_is_err_and c.from_residu
 pub returns-in_err-rest-clause-counts : goal.returns-in_err-rest-clause-counts
 returns-in_err-rest-clause-counts g c = let p = err_from_is_err_and c.from_residual-in_err-rest.result c.from_residual-in_err-rest.ensures.1 in rw (p.1, p.2) (own_counts _ _ _ _ _ c.in_err-rest.ensures.own c.in_ok-send.ensures.other.same c.in_ok-send.ensures.cause.same)
 
--- all of the first part, and a front of the second
+-- all of the first part, and a prefix of the second
 front_of : (x y z whole after : List ℕ) (O K : List Entry) → (x ++ y) ++ z ≡ whole → y ≡ outs O → z ≡ outs K ++ after → IsFront (x ++ outs (O ++ K)) whole
 front_of x y z whole after O K e p r = (
   after,
