@@ -15,30 +15,21 @@ use Rattle.dataflow.specs.Operating.{CanOperate}
 use Rattle.dataflow.specs.Stages.{left_kinds, right_kinds, StandsAsMade, StartsFor}
 use Rattle.dataflow.proofs.Variants.{IsVariant}
 
--- as many operators as there are workers, which are as they were made and all stand so
-pub record AreMade {O : Type 0} (standing : O → Standing) (is_new : O → Type 0) (workers : ℕ) (s : Standing) (os : List O) : Type 0 where
-  pub some : 1 ≤ workers
-  pub count : length os ≡ workers
-  pub stand : All (λ o. standing o ≡ s) os
-  pub new : All is_new os
-
-module _ {O : Type 0} (standing : O → Standing) (is_new : O → Type 0) (workers : ℕ) (s : Standing) (os : List O) (made : AreMade standing is_new workers s os) where
-  some_there : 1 ≤ length os
-  some_there = (let some = made.some in let count = made.count in omega (arith, some, count))
-
+-- operators that all stand so
+module _ {O : Type 0} (standing : O → Standing) (s : Standing) (os : List O) (some : 1 ≤ length os) (stand : All (λ o. standing o ≡ s) os) where
   pub first_is : first_of (map standing os) ≡ s
-  first_is = with_item os some_there (λ d. first_as standing os d some_there ∙ made.stand 0 d some_there)
+  first_is = with_item os some (λ d. first_as standing os d some ∙ stand 0 d some)
 
   all_alike : All (λ x. x ≡ first_of (map standing os)) (map standing os)
   all_alike k d low =
       let within : k < length os = (let long = length-map os standing in omega (arith, low, long)) in
-      with_item os some_there (λ o. get_or-map standing os k o d within ∙ made.stand k o within ∙ sym first_is)
+      with_item os some (λ o. get_or-map standing os k o d within ∙ stand k o within ∙ sym first_is)
 
   -- the columns of the keys are those of the node
   pub in_step : (l r : List ℕ) → s.has_failed ≡ false → is_keyed s.node ≡ true → l ≡ left_key_of s.node → r ≡ right_key_of s.node → IsKey s.left_kinds l → IsKey s.right_kinds r →
       AreInStep (map standing os) l r
   in_step l r works keyed left_is right_is on_left on_right = record {
-    some = (let long = length-map os standing in let some = some_there in omega (arith, some, long));
+    some = (let long = length-map os standing in omega (arith, some, long));
     alike = all_alike;
     works = ap (λ x. x.has_failed) first_is ∙ works;
     keyed = ap (λ x. is_keyed x.node) first_is ∙ keyed;
@@ -48,32 +39,29 @@ module _ {O : Type 0} (standing : O → Standing) (is_new : O → Type 0) (worke
     right_columns = subst (λ x. IsKey x.right_kinds r) (sym first_is) on_right;
   }
 
-  -- so does the stage of their shards
-  pub sharded_starts : (stage : Whole O → Stage) (keeping : O → Keeping) → IsVariant stage (standing_in standing) (ShardsKeep standing keeping) →
-      ((w : Whole O) → AreNew is_new standing w → StandsAsMade (stage w)) → ((o : O) (texts : List (List ℕ)) → is_new o → keeping o texts [] [] []) →
-      (plan : PlanParts) (capacity : ℕ) (texts : List (List ℕ)) (n : Node) → CanOperate capacity (left_kinds plan n) (right_kinds plan n) n s 0 0 →
-      (w : Whole O) (l r : List ℕ) → w ≡ side_by_side os l r false → AreNew is_new standing w → StartsFor texts capacity plan n (stage w)
-  sharded_starts stage keeping is as_made opens plan capacity texts n can w l r whole new =
-      let stands : s ≡ first_of (map standing w.operators) = sym (ap (λ x. first_of (map standing x.operators)) whole ∙ first_is) in
-      let first = subst (λ x. CanOperate capacity (left_kinds plan n) (right_kinds plan n) n x 0 0) stands can in
-      record {
-        ready = is.ready texts capacity (left_kinds plan n) (right_kinds plan n) n w 0 0 (record {
-          node = first.node;
-          named = first.named;
-          works = new.works;
-          left_closed = first.left_closed;
-          right_closed = first.right_closed;
-          left_kinds = first.left_kinds;
-          right_kinds = first.right_kinds;
-          own_kinds = first.own_kinds;
-          batch_rows = first.batch_rows;
-        });
-        opens = is.keeps texts n w 0 0 [] [] [] (opens_together standing keeping w is_new opens texts new);
-        made = as_made w new;
-      }
-
-  pub as_many : (w : Whole O) (l r : List ℕ) → w ≡ side_by_side os l r false → length w.operators ≡ workers
-  as_many w l r whole = ap (λ x. length x.operators) whole ∙ made.count
+-- new operators that all stand so are the stage of a node in shards
+pub sharded_starts : {O : Type 0} (stage : Whole O → Stage) (standing : O → Standing) (is_new : O → Type 0) (keeping : O → Keeping) → IsVariant stage (standing_in standing) (ShardsKeep standing keeping) →
+    ((w : Whole O) → AreNew is_new standing w → StandsAsMade (stage w)) → ((o : O) (texts : List (List ℕ)) → is_new o → keeping o texts [] [] []) →
+    (plan : PlanParts) (capacity : ℕ) (texts : List (List ℕ)) (n : Node) (s : Standing) → CanOperate capacity (left_kinds plan n) (right_kinds plan n) n s 0 0 →
+    (w : Whole O) → All (λ o. standing o ≡ s) w.operators → AreNew is_new standing w → StartsFor texts capacity plan n (stage w)
+sharded_starts stage standing is_new keeping is as_made opens plan capacity texts n s can w stand new =
+    let some : 1 ≤ length w.operators = (let some = new.in_step.some in let long = length-map w.operators standing in omega (arith, some, long)) in
+    let first = subst (λ x. CanOperate capacity (left_kinds plan n) (right_kinds plan n) n x 0 0) (sym (first_is standing s w.operators some stand)) can in
+    record {
+      ready = is.ready texts capacity (left_kinds plan n) (right_kinds plan n) n w 0 0 (record {
+        node = first.node;
+        named = first.named;
+        works = new.works;
+        left_closed = first.left_closed;
+        right_closed = first.right_closed;
+        left_kinds = first.left_kinds;
+        right_kinds = first.right_kinds;
+        own_kinds = first.own_kinds;
+        batch_rows = first.batch_rows;
+      });
+      opens = is.keeps texts n w 0 0 [] [] [] (opens_together standing keeping w is_new opens texts new);
+      made = as_made w new;
+    }
 
 -- an operator that is a stage by itself, and stands so as it is made
 pub alone_starts : {O : Type 0} (stage : O → Stage) (standing : O → Standing) (keeping : O → Keeping) → IsVariant stage standing keeping →

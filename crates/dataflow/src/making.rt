@@ -1,5 +1,5 @@
 // The making of stages from the nodes of a plan.
-ghost use Rattle.std.specs.Prelude.{◌≡◌, ◌<◌, ◌≤◌, ℕ, true, false, length, map, IfOk, OnOk, OnErr};
+ghost use Rattle.std.specs.Prelude.{◌≡◌, ◌<◌, ◌≤◌, ℕ, true, false, length, map, All, Ok, IfOk, OnOk, OnErr};
 ghost use Rattle.tw_rows.specs.Kinds.{cell_kind_of};
 ghost use Rattle.tw_rows.specs.Texts.{BeginsWith};
 ghost use Rattle.plan_model.specs.declared.node.Node.{Node};
@@ -18,10 +18,12 @@ use clip_op::new_clip;
 use coalesce_op::new_coalesce;
 use follow_op::Follow;
 use lifetime_ops::{AlterLifetime, Change, ExtendLifetime};
+use operator::Operator;
 use outer_top::new_top;
 use plan_model::{Agg, Key, Node, Plan};
 use row_stage::{column_kinds, read_kinds};
 use session_window::new_session;
+use shard_apply::Sharded;
 use std::alloc::Global;
 use temporal_join::new_join;
 use tw_rows::{Kind, Memory, TextTable};
@@ -87,7 +89,8 @@ pub(crate) struct StageMaker<'a> {
 }
 
 impl<'a> StageMaker<'a> {
-    ghost use Rattle.dataflow.specs.Making.{IsOf, StartsOf, RunsOf};
+    ghost use Rattle.shard_apply.specs.Whole.{AreNew};
+    ghost use Rattle.dataflow.specs.Making.{IsOf, StartsOf, RunsOf, MakesShards};
 
     // The kinds of the columns that the node reads on the left.
     fn kinds_read(&self) -> Result<Vec<Kind>, Memory>
@@ -99,6 +102,25 @@ impl<'a> StageMaker<'a> {
         let kinds = read_kinds(self.alloc, self.plan, self.node)?;
         prove!(self.node < nodes.len());
         Ok(kinds)
+    }
+
+    // An operator for each worker, as `make` gives it, side by side, by the keys of both sides.
+    fn shards<O: Operator, F: Fn() -> Result<O, Memory>>(
+        &self,
+        left_key: &[usize],
+        right_key: &[usize],
+        make: &F,
+    ) -> Result<Sharded<O>, Memory>
+        requires callable { F.IsAlwaysCallable make.now }
+        requires makes { MakesShards O.is_opening O.standing (λ o. F.post make.now (Ok o))
+            left_key.now right_key.now self.now.capacity }
+        ensures each { IfOk result (λ w. All (λ o. F.post make.now (Ok o)) w.operators) }
+        ensures count { IfOk result (λ w. length w.operators ≡ self.now.workers) }
+        ensures opening { IfOk result (AreNew O.is_opening O.standing) }
+    {
+        let operators = operators_of(self.alloc, self.workers, make)?;
+        let whole = in_shards(self.alloc, operators, self.capacity, left_key, right_key)?;
+        Ok(whole)
     }
 
     /// The stage of another node of the plan. Its operator needs no texts.
@@ -217,12 +239,11 @@ impl<'a> StageMaker<'a> {
         let kinds = self.kinds_read()?;
         let read = kinds.as_slice();
         let (alloc, capacity) = (self.alloc, self.capacity);
-        let operators = operators_of(
-            alloc,
-            self.workers,
+        let whole = self.shards(
+            key,
+            &[],
             &|| { new_session(alloc, timeout, key, read, capacity) },
         )?;
-        let whole = in_shards(alloc, operators, capacity, key, &[])?;
         Ok(Stage::Session(whole))
     }
 
@@ -281,12 +302,11 @@ impl<'a> StageMaker<'a> {
         let read = left_kinds.as_slice();
         let told = right_kinds.as_slice();
         let (alloc, capacity) = (self.alloc, self.capacity);
-        let operators = operators_of(
-            alloc,
-            self.workers,
+        let whole = self.shards(
+            left_key,
+            right_key,
             &|| { new_join(alloc, left_key, right_key, read, told, capacity) },
         )?;
-        let whole = in_shards(alloc, operators, capacity, left_key, right_key)?;
         Ok(Stage::Join(whole))
     }
 
@@ -303,12 +323,11 @@ impl<'a> StageMaker<'a> {
         let read = left_kinds.as_slice();
         let told = own_kinds.as_slice();
         let (alloc, capacity) = (self.alloc, self.capacity);
-        let operators = operators_of(
-            alloc,
-            self.workers,
+        let whole = self.shards(
+            key,
+            &[],
             &|| { new_grouped(alloc, key, aggs, read, told, capacity) },
         )?;
-        let whole = in_shards(alloc, operators, capacity, key, &[])?;
         Ok(Stage::Group(whole))
     }
 
@@ -331,12 +350,11 @@ impl<'a> StageMaker<'a> {
         let read = left_kinds.as_slice();
         let told = right_kinds.as_slice();
         let (alloc, capacity) = (self.alloc, self.capacity);
-        let operators = operators_of(
-            alloc,
-            self.workers,
+        let whole = self.shards(
+            left_key,
+            right_key,
             &|| { new_anti(alloc, left_key, right_key, read, told, capacity) },
         )?;
-        let whole = in_shards(alloc, operators, capacity, left_key, right_key)?;
         Ok(Stage::Anti(whole))
     }
 
@@ -359,12 +377,11 @@ impl<'a> StageMaker<'a> {
         let read = left_kinds.as_slice();
         let told = right_kinds.as_slice();
         let (alloc, capacity) = (self.alloc, self.capacity);
-        let operators = operators_of(
-            alloc,
-            self.workers,
+        let whole = self.shards(
+            left_key,
+            right_key,
             &|| { new_clip(alloc, left_key, right_key, read, told, capacity) },
         )?;
-        let whole = in_shards(alloc, operators, capacity, left_key, right_key)?;
         Ok(Stage::Clip(whole))
     }
 

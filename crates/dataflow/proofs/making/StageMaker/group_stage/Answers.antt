@@ -1,5 +1,5 @@
-use Rattle.std.specs.Prelude.{Some, map, get_or, length, ◌≤◌}
-use Rattle.std.proofs.Common.{refl, sym, ap, subst, ◌∙◌, [], arith, rules}
+use Rattle.std.specs.Prelude.{Some, map, get_or, length, ◌≤◌, All}
+use Rattle.std.proofs.Common.{◌≡◌, refl, sym, ap, subst, ◌∙◌, [], arith, rules}
 use Rattle.std.proofs.iter.Serving.{serving}
 use Rattle.std.proofs.lemmas.Option.{slice_get-get_or}
 use Rattle.tw_rows.specs.Kinds.{cell_kind_of}
@@ -13,13 +13,13 @@ use Rattle.std.proofs.lemmas.List.Elements.{All-nil}
 use Rattle.dataflow.specs.declared.stage.Stage.TheVariants.{Group}
 use Rattle.dataflow.specs.Shards.{RunsNode}
 use Rattle.dataflow.specs.Stages.{left_kinds, StartsFor}
-use Rattle.dataflow.proofs.MadeShards.{AreMade, first_is, in_step, sharded_starts}
+use Rattle.dataflow.proofs.MadeShards.{sharded_starts}
 use Rattle.dataflow.proofs.Starting.{new_can, group_like, own_kinds_are}
 use Rattle.dataflow.proofs.Variants.{group_variant}
 use Rattle.dataflow.proofs.making.StageMaker.group_stage.Goals as goal
 
-pub operators_of-requires-after_bounds : goal.operators_of-requires-after_bounds
-operators_of-requires-after_bounds c =
+pub shards-requires-clause-callable : goal.shards-requires-clause-callable
+shards-requires-clause-callable c κs =
     let plan = c.args.self.now.plan.now in
     let n = get_or plan.nodes c.args.self.now.node (Source 0) in
     let there = slice_get-get_or plan.nodes c.args.self.now.node (Source 0) c.args.self.now.inside in
@@ -31,14 +31,8 @@ operators_of-requires-after_bounds c =
     let room = c.args.self.now.room in
     grind (serving, like, width, room)
 
-pub in_shards-requires-clause-few : goal.in_shards-requires-clause-few
-in_shards-requires-clause-few c κs = let few = c.args.self.now.few in let count = c.in_ok-operators.ensures.count in omega (arith, few, count)
-
-pub in_shards-requires-clause-opening : goal.in_shards-requires-clause-opening
-in_shards-requires-clause-opening c κs = λ k d low. let each = c.in_ok-operators.ensures.each k d low in search rules
-
-pub in_shards-requires-clause-in_step : goal.in_shards-requires-clause-in_step
-in_shards-requires-clause-in_step c κs =
+pub shards-requires-clause-makes : goal.shards-requires-clause-makes
+shards-requires-clause-makes c κs =
     let plan = c.args.self.now.plan.now in
     let n = get_or plan.nodes c.args.self.now.node (Source 0) in
     let there = slice_get-get_or plan.nodes c.args.self.now.node (Source 0) c.args.self.now.inside in
@@ -46,23 +40,18 @@ in_shards-requires-clause-in_step c κs =
     let l = c.args.key.now in
     let read = ap (map cell_kind_of) c.as_slice-read.ensures.value ∙ c.in_ok-left_kinds.ensures.kinds n there ∙ ap (left_kinds plan) is.1 in
     let keyed = (c.nodes.ensures.kept.nodes_are.each c.args.self.now.node (GroupNode is.0 l c.args.aggs.now) (there ∙ ap Some is.1)).sound.0 in
-    let made : AreMade group_standing IsNewGroup c.args.self.now.workers (new_standing (GroupNode 0 c.args.key.now c.args.aggs.now) c.as_slice-read.result.now [] c.as_slice-told.result.now c.args.self.now.capacity) c.in_ok-operators.operators.items = record {
-      some = c.args.self.now.some;
-      count = c.in_ok-operators.ensures.count;
-      stand = λ k d low. (let each = c.in_ok-operators.ensures.each k d low in search rules);
-      new = λ k d low. (let each = c.in_ok-operators.ensures.each k d low in search rules);
-    } in
-    in_step group_standing IsNewGroup c.args.self.now.workers _ c.in_ok-operators.operators.items made l [] refl refl refl refl (subst (λ ks. IsKey ks l) (sym read) keyed) (All-nil _)
-
-pub in_shards-requires-clause-capacity : goal.in_shards-requires-clause-capacity
-in_shards-requires-clause-capacity c κs =
-    let made : AreMade group_standing IsNewGroup c.args.self.now.workers (new_standing (GroupNode 0 c.args.key.now c.args.aggs.now) c.as_slice-read.result.now [] c.as_slice-told.result.now c.args.self.now.capacity) c.in_ok-operators.operators.items = record {
-      some = c.args.self.now.some;
-      count = c.in_ok-operators.ensures.count;
-      stand = λ k d low. (let each = c.in_ok-operators.ensures.each k d low in search rules);
-      new = λ k d low. (let each = c.in_ok-operators.ensures.each k d low in search rules);
-    } in
-    ap (λ s. s.batch_rows) (first_is group_standing IsNewGroup c.args.self.now.workers _ c.in_ok-operators.operators.items made)
+    record {
+      stand = new_standing (GroupNode 0 l c.args.aggs.now) c.as_slice-read.result.now [] c.as_slice-told.result.now c.args.self.now.capacity;
+      stands = λ o made. search rules;
+      new = λ o made. search rules;
+      works = refl;
+      keyed = refl;
+      left_key_is = refl;
+      right_key_is = refl;
+      left_columns = subst (λ ks. IsKey ks l) (sym read) keyed;
+      right_columns = All-nil _;
+      batch_rows = refl;
+    }
 
 pub returns-clause-starts : goal.returns-clause-starts
 returns-clause-starts c = λ texts n there.
@@ -70,19 +59,16 @@ returns-clause-starts c = λ texts n there.
     let is = c.requires.is n there in
     let l = c.args.key.now in
     let read = ap (map cell_kind_of) c.as_slice-read.ensures.value ∙ c.in_ok-left_kinds.ensures.kinds n there ∙ ap (left_kinds plan) is.1 in
-    let made : AreMade group_standing IsNewGroup c.args.self.now.workers (new_standing (GroupNode 0 l c.args.aggs.now) c.as_slice-read.result.now [] c.as_slice-told.result.now c.args.self.now.capacity) c.in_ok-operators.operators.items = record {
-      some = c.args.self.now.some;
-      count = c.in_ok-operators.ensures.count;
-      stand = λ k d low. (let each = c.in_ok-operators.ensures.each k d low in search rules);
-      new = λ k d low. (let each = c.in_ok-operators.ensures.each k d low in search rules);
-    } in
-    subst (λ m. StartsFor texts c.args.self.now.capacity plan m (Group c.in_ok-whole.whole)) (sym is.1)
-    (sharded_starts group_standing IsNewGroup c.args.self.now.workers _ c.in_ok-operators.operators.items made Group IsGroupKept group_variant (λ w new. new) (λ o texts new. group_opening o.groups.key.items o.groups.aggs.items (map cell_kind_of o.left_kinds.items) texts o.groups.rows.rows o.running o.waiting o.left_to o.right_to o.failed new)
-    plan c.args.self.now.capacity texts (GroupNode is.0 l c.args.aggs.now) (new_can plan c.args.self.now.capacity (GroupNode is.0 l c.args.aggs.now) (GroupNode 0 l c.args.aggs.now) c.as_slice-read.result.now [] c.as_slice-told.result.now (record { events = λ a b. refl; closes = λ x y. refl; undefined = λ rows. refl; held = λ x y hl hr. refl }) refl read refl ((ap (map cell_kind_of) c.as_slice-told.ensures.value ∙ c.in_ok-own_kinds.ensures.kinds) ∙ own_kinds_are plan c.nodes.ensures.kept c.args.self.now.node (GroupNode is.0 l c.args.aggs.now) (there ∙ ap Some is.1)))
-    c.in_ok-whole.whole l [] c.in_ok-whole.ensures.whole c.in_ok-whole.ensures.opening)
+    let told = ap (map cell_kind_of) c.as_slice-told.ensures.value ∙ c.in_ok-own_kinds.ensures.kinds in
+    let w = c.in_ok-whole.whole in
+    let stands : All (λ o. group_standing o ≡ new_standing (GroupNode 0 l c.args.aggs.now) c.as_slice-read.result.now [] c.as_slice-told.result.now c.args.self.now.capacity) w.operators = λ k d low. (let each = c.in_ok-whole.ensures.each k d low in search rules) in
+    subst (λ m. StartsFor texts c.args.self.now.capacity plan m (Group w)) (sym is.1)
+    (sharded_starts Group group_standing IsNewGroup IsGroupKept group_variant (λ w new. new) (λ o texts new. group_opening o.groups.key.items o.groups.aggs.items (map cell_kind_of o.left_kinds.items) texts o.groups.rows.rows o.running o.waiting o.left_to o.right_to o.failed new)
+    plan c.args.self.now.capacity texts (GroupNode is.0 l c.args.aggs.now) _ (new_can plan c.args.self.now.capacity (GroupNode is.0 l c.args.aggs.now) (GroupNode 0 l c.args.aggs.now) c.as_slice-read.result.now [] c.as_slice-told.result.now (record { events = λ a b. refl; closes = λ x y. refl; undefined = λ rows. refl; held = λ x y hl hr. refl }) refl read refl (told ∙ own_kinds_are plan c.nodes.ensures.kept c.args.self.now.node (GroupNode is.0 l c.args.aggs.now) (there ∙ ap Some is.1)))
+    w stands c.in_ok-whole.ensures.opening)
 
 pub returns-clause-runs : goal.returns-clause-runs
 returns-clause-runs c = λ n there.
     let is = c.requires.is n there in
     subst (λ m. RunsNode c.args.self.now.workers m (Group c.in_ok-whole.whole)) (sym is.1)
-    (record { variant = refl; shards = ap (λ w. length w.operators) c.in_ok-whole.ensures.whole ∙ c.in_ok-operators.ensures.count })
+    (record { variant = refl; shards = c.in_ok-whole.ensures.count })
