@@ -168,7 +168,7 @@ impl<O: Operator> Shard<O> {
         answers
     }
 
-    /// Takes for its answer what it answered of the round of that number; where it answered nothing of it, it wants memory.
+    /// Takes for its answer what it answered of the round of that number, and out of memory where it answered nothing of it.
     pub(crate) fn turn_to(&mut self, round: usize)
         ensures answer { self.new.answer ≡ answer_at self.old.answers.items round }
         ensures later { (n : ℕ) → round < n → answer_at self.new.answers.items n
