@@ -29,9 +29,16 @@ sides_first texts closing = record {
 
 pub sides_longer : (new old : List (List ℕ)) (x y closing : ℕ) (left right out : List Edge) → BeginsWith new old →
     KeepsSides old x y closing left right out → KeepsSides new x y closing left right out
-sides_longer new old x y closing left right out b k = record k {
+sides_longer new old x y closing left right out b k = record {
+  left_history = k.left_history;
+  right_history = k.right_history;
   left_placed = placed_longer new old b left k.left_placed;
   right_placed = placed_longer new old b right k.right_placed;
+  left_low = k.left_low;
+  right_low = k.right_low;
+  order = k.order;
+  real = k.real;
+  below = k.below;
 }
 
 below_later : (c d : ℕ) (e : Edge) → c ≤ d → is_below c e ≡ true → is_below d e ≡ true

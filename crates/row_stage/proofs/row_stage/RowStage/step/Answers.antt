@@ -3,8 +3,9 @@ use Rattle.std.proofs.lemmas.List.Elements.{All-nil, All-append}
 use Rattle.tw_rows.specs.Cells.{ArePlaced}
 use Rattle.tw_rows.specs.Kinds.{cell_kind_of}
 use Rattle.batch.specs.Rows.{edges_of}
-use Rattle.edge_history.specs.Order.{KeepsOrder}
+use Rattle.edge_history.specs.Order.{KeepsOrder, is_from, failing}
 use Rattle.edge_history.proofs.Keeping.{KeepsOrder-front}
+use Rattle.edge_history.proofs.Sums.{failing-parts}
 use Rattle.edge_stream.specs.Listing.{cells_of}
 use Rattle.plan_model.specs.IsPlan.{node_kinds}
 use Rattle.node_laws.specs.Places.{EdgesArePlaced}
@@ -90,4 +91,9 @@ loop-batch-preserved c =
     }
 
 pub returns-clause-later : goal.returns-clause-later
-returns-clause-later c = ?
+returns-clause-later c = λ x from.
+    let inv = c.loop-batch.invariant in
+    let n = c.requires.stage.0 in
+    let is = c.requires.stage.1 in
+    made_later c.args.texts.now c.args.left.capacity (cells_of c.args.left) n c.args.self.now is inv.done c.loop-batch.made.edges (inv.made n is) x
+    (failing-parts (is_from x) inv.done c.loop-batch.left.edges (subst (λ es. failing (is_from x) es ≡ 0) (sym inv.parts) from)).0
