@@ -14,7 +14,8 @@ use wire_lines::{ReadFailed, Wire, WriteFailed};
 enum Done {
     In(Vec<u8>),
     Out(Vec<u8>),
-    Start(u64, u64),
+    StartNew(u64),
+    StartAt(u64, u64),
     Sync,
     Keep(Vec<u8>),
 }
@@ -278,16 +279,17 @@ impl Wire for MemoryFileWire {
 
 impl MemoryFileWire {
     ghost use Rattle.std.specs.Prelude.{◌≡◌, ◌-◌, ◌++◌, ◌∷◌, [], length, take, OnSome, IfNone};
-    ghost use Rattle.wire_lines.specs.Journal.{Did, Start, Sync};
+    ghost use Rattle.wire_lines.specs.Journal.{Did, Sync};
+    ghost use Rattle.kept_wire.specs.Memory.{entry_of};
 
-    // The input goes on there, and the output behind so many bytes of its file.
-    fn start(&mut self, input: u64, output: u64) -> Option<()>
+    // The input goes on there, and the output behind so many bytes of its file. That stands in the journal so.
+    fn start(&mut self, input: u64, output: u64, done: Done) -> Option<()>
         ensures some { OnSome result (self.new ≡ record self.old {
           taken = input;
           output = take output self.old.output;
           kept = output;
           calls = self.old.calls - 1;
-          journal = self.old.journal ++ Did (Start input output) ∷ [];
+          journal = self.old.journal ++ entry_of done ∷ [];
         }) }
         ensures none { IfNone result (self.new ≡ record self.old { calls = self.new.calls }) }
     {
@@ -295,7 +297,7 @@ impl MemoryFileWire {
         if (self.input.len() as u64) < input || (self.output.len() as u64) < output {
             return None;
         }
-        self.journal.push(Done::Start(input, output)).ok()?;
+        self.journal.push(done).ok()?;
         self.taken = input as usize;
         self.output.truncate(output as usize);
         self.kept = output as usize;
@@ -320,7 +322,7 @@ impl MemoryFileWire {
 
 impl KeptWire for MemoryFileWire {
     ghost use Rattle.std.specs.Prelude.{Some, ◌≡◌, ◌∷◌, [], length, take, IfOk, OnOk, OnErr};
-    ghost use Rattle.wire_lines.specs.Journal.{Did, Start, Sync, Keep, Adds};
+    ghost use Rattle.wire_lines.specs.Journal.{Did, Start, AtEnd, CutAt, Sync, Keep, Adds};
     ghost use Rattle.wire_lines.specs.Faults.{HasCause, IsOther};
     ghost use Rattle.durable_file.specs.Calls.{Goes};
     ghost use Rattle.durable_file.specs.Replaced.{HasReplaced};
@@ -337,8 +339,8 @@ impl KeptWire for MemoryFileWire {
     }
 
     fn start_new(&mut self) -> Result<u64, MediumFailed>
-        ensures ok { IfOk result (λ output.
-            Adds (Some self.old.journal) (Some self.new.journal) (Did (Start 0 output) ∷ [])) }
+        ensures ok { IfOk result (λ output. Adds (Some self.old.journal) (Some self.new.journal)
+            (Did (Start 0 (AtEnd output)) ∷ [])) }
         ensures err { OnErr result (Adds (Some self.old.journal) (Some self.new.journal) []) }
         ensures cause { HasCause self.old.write_faults self.new.write_faults result }
         ensures other { IsOther self.old.read_faults self.new.read_faults result }
@@ -348,14 +350,14 @@ impl KeptWire for MemoryFileWire {
         ensures output { self.new.output ≡ self.old.output }
     {
         let output = self.output.len() as u64;
-        let started = self.start(0, output);
+        let started = self.start(0, output, Done::StartNew(output));
         counted(&mut self.write_faults, started)?;
         Ok(output)
     }
 
     fn start_at(&mut self, input: u64, output: u64) -> Result<(), MediumFailed>
-        ensures ok { OnOk result
-            (Adds (Some self.old.journal) (Some self.new.journal) (Did (Start input output) ∷ [])) }
+        ensures ok { OnOk result (Adds (Some self.old.journal) (Some self.new.journal)
+            (Did (Start input (CutAt output)) ∷ [])) }
         ensures err { OnErr result (Adds (Some self.old.journal) (Some self.new.journal) []) }
         ensures cause { HasCause self.old.write_faults self.new.write_faults result }
         ensures other { IsOther self.old.read_faults self.new.read_faults result }
@@ -364,7 +366,7 @@ impl KeptWire for MemoryFileWire {
         ensures output { OnOk result (self.new.output ≡ take output self.old.output) }
         ensures input { OnOk result (self.new.taken ≡ input) }
     {
-        let started = self.start(input, output);
+        let started = self.start(input, output, Done::StartAt(input, output));
         counted(&mut self.write_faults, started)
     }
 
