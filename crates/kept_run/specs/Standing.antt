@@ -58,7 +58,7 @@ pub record MayRead (t : Task) (every : ℕ) (k : Keeper) (left : ℕ) (J : List 
   pub under : Under t every k J
   pub count : length (ins J) + left ≡ limit + 1
 
--- the last checkpoint failed, or memory was wanting for it
+-- the last checkpoint failed, or there was no memory for it
 abbrev pub IsWanting : KeptStatus → Type 0
 IsWanting status = (status ≡ CheckpointFailed) ⊎ (status ≡ Ended statuses.Memory)
 

@@ -1,5 +1,5 @@
 -- A wire over files in memory.
-use Rattle.std.specs.Prelude.{ℕ, ◌+◌, ◌-◌, ◌^◌, min, List, [], length, take, Option}
+use Rattle.std.specs.Prelude.{ℕ, ◌+◌, ◌-◌, ◌^◌, ◌++◌, min, List, [], ◌∷◌, length, take, Option}
 use Rattle.wire_lines.specs.Journal.{Entry, In, Out, Did, Start, AtEnd, CutAt, Sync, Keep}
 use Rattle.durable_file.specs.Memory.{MemoryView, started, restarted}
 use Rattle.kept_wire.specs.declared.memory.Done.{Done}
@@ -28,6 +28,10 @@ entry_of (done.StartNew output) = Did (Start 0 (AtEnd output))
 entry_of (done.StartAt input output) = Did (Start input (CutAt output))
 entry_of done.Sync = Did Sync
 entry_of (done.Keep v) = Did (Keep v.items)
+
+-- the journal once FILE was replaced by these bytes, or a crash may leave them there
+abbrev pub with_keep : WireView → List ℕ → List Entry
+with_keep w bytes = w.journal ++ Did (Keep bytes) ∷ []
 
 -- nothing has come in or gone out; `output` stands in the output's file, and a crash leaves `kept` bytes of it
 abbrev pub opened : List ℕ → ℕ → List ℕ → ℕ → MemoryView → ℕ → WireView

@@ -57,7 +57,9 @@ impl Model for MemoryFileWire {
       write_faults = w.write_faults;
     } };
 
-    ghost invariant = { λ w. (0 < w.step) × (w.taken ≤ length w.input.items) × (w.kept ≤ length w.output.items) };
+    ghost invariant = { λ w. (0 < w.step)
+        × (w.taken ≤ length w.input.items)
+        × (w.kept ≤ length w.output.items) };
 }
 
 impl MemoryFileWire {
@@ -102,34 +104,9 @@ impl MemoryFileWire {
         self.output.as_slice()
     }
 
-    /// What the next process finds after a crash: FILE as the medium's `crash` leaves it, and of the output's file the bytes that
-    /// are kept and so many more. No call of it fails.
-    pub fn crash(self, back: usize, torn: Vec<u8>, more: usize) -> Option<MemoryFileWire>
-        ensures { result ≡ option_map (crashed self more)
-            (left_back self.file.told.now back torn.items) }
-    {
-        let MemoryFileWire {
-            alloc,
-            input,
-            step,
-            taken: _,
-            mut output,
-            kept,
-            medium,
-            calls: _,
-            journal: _,
-            read_faults: _,
-            write_faults: _,
-        } = self;
-        let more = more.min(output.len() - kept);
-        output.truncate(kept + more);
-        let medium = medium.crash(back, torn)?;
-        Some(MemoryFileWire::new(alloc, input, step, output, medium, u64::MAX))
-    }
-
-    /// What the next process finds where this one was ended and the machine went on. No call of it fails.
-    pub fn killed(self) -> MemoryFileWire
-        ensures { result ≡ killed self }
+    // What the next process finds where nothing is done to the files. No call of it fails.
+    fn reopened(self) -> MemoryFileWire
+        ensures { result ≡ opened self.input self.step self.output self.kept self.file (2 ^ 64 - 1) }
     {
         let MemoryFileWire {
             alloc,
@@ -151,7 +128,7 @@ impl MemoryFileWire {
             taken: 0,
             output,
             kept,
-            medium: medium.killed(),
+            medium,
             calls: u64::MAX,
             journal: Vec::new(alloc),
             read_faults: 0,
@@ -159,7 +136,30 @@ impl MemoryFileWire {
         }
     }
 
-    // One call fewer may go on. None where none may, or for want of memory for its entry.
+    /// What the next process finds after a crash: FILE as the medium's `crash` leaves it, and of the output's file the bytes that
+    /// are kept and so many more. No call of it fails.
+    pub fn crash(self, back: usize, torn: Vec<u8>, more: usize) -> Option<MemoryFileWire>
+        ensures { result ≡ option_map (crashed self more)
+            (left_back self.file.told.now back torn.items) }
+    {
+        let mut next = self.reopened();
+        let more = more.min(next.output.len() - next.kept);
+        next.output.truncate(next.kept + more);
+        next.kept = next.output.len();
+        next.medium = next.medium.crash(back, torn)?;
+        Some(next)
+    }
+
+    /// What the next process finds where this one was ended and the machine went on. No call of it fails.
+    pub fn killed(self) -> MemoryFileWire
+        ensures { result ≡ killed self }
+    {
+        let mut next = self.reopened();
+        next.medium = next.medium.killed();
+        next
+    }
+
+    // One call fewer may go on. None where none may, or out of memory for its entry.
     fn pass(&mut self) -> Option<()>
         ensures rest { self.new ≡ record self.old { calls = self.new.calls } }
         ensures fewer { OnSome result (self.old.calls ≡ self.new.calls + 1) }
@@ -170,8 +170,10 @@ impl MemoryFileWire {
 
     // The next bytes of the input.
     fn take_in(&mut self, into: &mut [u8]) -> Option<usize>
-        ensures count { IfSome result (λ n. n ≡ min (min self.old.step (length into.old)) (length self.old.input - self.old.taken)) }
-        ensures bytes { IfSome result (λ n. into.new ≡ take n (drop self.old.taken self.old.input) ++ drop n into.old) }
+        ensures count { IfSome result (λ n.
+            n ≡ min (min self.old.step (length into.old)) (length self.old.input - self.old.taken)) }
+        ensures bytes { IfSome result (λ n.
+            into.new ≡ take n (drop self.old.taken self.old.input) ++ drop n into.old) }
         ensures some { IfSome result (λ n. self.new ≡ record self.old {
           taken = self.old.taken + n;
           calls = self.old.calls - 1;
@@ -371,7 +373,8 @@ impl KeptWire for MemoryFileWire {
     }
 
     fn sync_output(&mut self) -> Result<(), MediumFailed>
-        ensures ok { OnOk result (Adds (Some self.old.journal) (Some self.new.journal) (Did Sync ∷ [])) }
+        ensures ok { OnOk result
+            (Adds (Some self.old.journal) (Some self.new.journal) (Did Sync ∷ [])) }
         ensures err { OnErr result (Adds (Some self.old.journal) (Some self.new.journal) []) }
         ensures cause { HasCause self.old.write_faults self.new.write_faults result }
         ensures other { IsOther self.old.read_faults self.new.read_faults result }
@@ -394,16 +397,16 @@ impl KeptWire for MemoryFileWire {
 }
 
 impl MemoryFileWire {
-    ghost use Rattle.std.specs.Prelude.{◌≡◌, ◌⊎◌, ◌++◌, ◌∷◌, [], OnOk, OnErr};
-    ghost use Rattle.wire_lines.specs.Journal.{Did, Keep};
+    ghost use Rattle.std.specs.Prelude.{◌≡◌, ◌⊎◌, OnOk, OnErr};
     ghost use Rattle.durable_file.specs.Replaced.{HasReplaced};
+    ghost use Rattle.kept_wire.specs.Memory.{with_keep};
 
-    // FILE is replaced, and that stands in the journal. For want of memory nothing is done.
+    // FILE is replaced, and that stands in the journal. Out of memory nothing is done.
     fn keep_bytes(&mut self, bytes: &[u8]) -> Result<(), MediumFailed>
         ensures told { HasReplaced bytes.now result self.old.file.told self.new.file.told }
-        ensures ok { OnOk result (self.new.journal ≡ self.old.journal ++ Did (Keep bytes.now) ∷ []) }
-        ensures err { OnErr result ((self.new.journal ≡ self.old.journal ++ Did (Keep bytes.now) ∷ [])
-            ⊎ (self.new ≡ self.old)) }
+        ensures ok { OnOk result (self.new.journal ≡ with_keep self.old bytes.now) }
+        ensures err { OnErr result
+            ((self.new.journal ≡ with_keep self.old bytes.now) ⊎ (self.new ≡ self.old)) }
         ensures faults { (self.new.read_faults ≡ self.old.read_faults)
             × (self.new.write_faults ≡ self.old.write_faults) }
     {

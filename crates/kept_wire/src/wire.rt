@@ -48,7 +48,8 @@ pub trait KeptWire: Wire {
 
     /// Brings all that went out to the disk.
     fn sync_output(&mut self) -> Result<(), MediumFailed>
-        ensures ok { OnOk result (Adds (Self.journal self.old) (Self.journal self.new) (Did Sync ∷ [])) }
+        ensures ok { OnOk result
+            (Adds (Self.journal self.old) (Self.journal self.new) (Did Sync ∷ [])) }
         ensures err { OnErr result (Adds (Self.journal self.old) (Self.journal self.new) []) }
         ensures cause { HasCause (Self.write_faults self.old) (Self.write_faults self.new) result }
         ensures other { IsOther (Self.read_faults self.old) (Self.read_faults self.new) result };

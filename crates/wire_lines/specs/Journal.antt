@@ -53,7 +53,7 @@ IsOut (Did mark) = ⊥
 pub record Adds (before now : Option (List Entry)) (entries : List Entry) : Type 0 where
   pub added : (told : List Entry) → before ≡ Some told → now ≡ Some (told ++ entries)
 
--- what a read does to the journal: Ok n adds an In of the n bytes now in front of the slice, also where n is 0, and a failure adds nothing
+-- what a read does to the journal: Ok n adds an In of the first n bytes of the slice, also where n is 0, and a failure adds nothing
 abbrev pub Reads : {E : Type 0} → Option (List Entry) → Option (List Entry) → Result ℕ E → List ℕ → Type 0
 Reads before now result into = MatchResult result (λ n. Adds before now (In (take n into) ∷ [])) (λ _. Adds before now [])
 
