@@ -12,7 +12,7 @@ use query_words::Spot;
 use std::alloc::Global;
 use tw_rows::Memory;
 
-/// How many words an expression may have.
+// How many words an expression may have.
 const LONGEST: usize = 200;
 
 /// Why a text spells no query. `at` is an offset in bytes.
