@@ -3,7 +3,7 @@ use Rattle.std.proofs.Common.{◌≡◌, ◌⊎◌, ◌++◌, Err, ℕ, List, []
 use Rattle.wire_lines.specs.Journal.{Entry, Did, Mark, Adds, Grows}
 use Rattle.admission.specs.Entries.{Told}
 use Rattle.durable_file.specs.Calls.{Told as Disks}
-use Rattle.durable_file.specs.Disk.{Content, Absent, Written, Synced, IsSeen}
+use Rattle.durable_file.specs.Disk.{Content, Absent, IsSeen}
 use Rattle.wire_lines.proofs.Growth.{Grows-weaker}
 use Rattle.plan_model.specs.IsPlan.{PlanParts}
 use Rattle.command_line.specs.Words.{Asked as Words}

@@ -1,5 +1,5 @@
 -- Where a run starts.
-use Rattle.std.proofs.Common.{◌≡◌, ◌≤◌, ◌<◌, ◌+◌, ◌^◌, ◌++◌, ℕ, List, [], ◌∷◌, length, Option, false, None, Result, Ok, Err, inr, refl, sym, ◌∙◌, ap, subst, arith, append-nil}
+use Rattle.std.proofs.Common.{◌≡◌, ◌≤◌, ◌+◌, ◌^◌, ◌++◌, ℕ, List, [], ◌∷◌, Option, false, Result, Ok, Err, inr, refl, sym, ◌∙◌, ap, subst, arith, append-nil}
 use Rattle.std.specs.Prelude.{◌&&◌, nat_eq}
 use Rattle.plan_model.specs.IsPlan.{PlanParts}
 use Rattle.admission.specs.Entries.{Told}
@@ -19,7 +19,7 @@ use Rattle.admission.specs.Progress.{start, steps, fault}
 use Rattle.frozen_state.specs.Frozen.{FrozenView}
 use Rattle.checkpoint.specs.Form.{FormView, form_of}
 use Rattle.command_line.specs.Words.{Asked as Words, AreWithin}
-use Rattle.tempo_engine.specs.Fed.{Fed, last_number}
+use Rattle.tempo_engine.specs.Fed.{Fed}
 use Rattle.tempo_engine.specs.Frozen.{Fits, IsState}
 use Rattle.tempo_cli.specs.Table.{limit}
 use Rattle.tempo_cli.specs.Feeding.{answers_to, Holds}

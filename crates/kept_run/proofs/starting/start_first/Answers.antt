@@ -1,4 +1,4 @@
-use Rattle.std.proofs.Common.{◌≡◌, ◌∙◌, [], refl, sym, ap, arith, subst}
+use Rattle.std.proofs.Common.{◌≡◌, ◌∙◌, [], refl, ap, arith, subst}
 use Rattle.command_line.specs.Words.{asked_by}
 use Rattle.admission.specs.declared.policy.Policy.{Policy}
 use Rattle.tempo_engine.specs.declared.engine.Options.{Options}
