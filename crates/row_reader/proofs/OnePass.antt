@@ -1,5 +1,5 @@
 -- Intervals that are read in one pass.
-use Rattle.std.proofs.Common.{◌≡◌, ◌<◌, ◌≤◌, ◌+◌, ◌*◌, ◌^◌, ℕ, zero, suc, List, [], ◌∷◌, ◌++◌, length, take, drop, get_or, true, Option, Some, Ok, Err, refl, sym, ◌∙◌, ap, subst, arith, inl, inr}
+use Rattle.std.proofs.Common.{◌≡◌, ◌<◌, ◌≤◌, ◌+◌, ◌*◌, ◌^◌, ℕ, ℤ, zero, suc, List, [], ◌∷◌, ◌++◌, length, take, drop, get_or, true, Option, Some, Ok, Err, refl, sym, ◌∙◌, ap, subst, arith, inl, inr}
 use Rattle.std.specs.Prelude.{◌==◌, ◌≢◌, decimal, codes, pos, option_map, None, MatchOption, IfSome}
 use Rattle.std.specs.Borrow.{Bor}
 use Rattle.std.specs.Char.{digit_value}
@@ -87,12 +87,12 @@ number_before bs k n h low comma =
     ap commas cut ∙ commas-more (take k bs) rest (no_commas (take k bs) h.digits) ∙ ap (λ (f : List ℕ). f ∷ commas rest) (digits_are bs k n h)
 
 -- the first of ints
-pub int_first : (kind : Kind) (fields rest : List (List ℕ)) (n : ℕ) → kind ≡ kinds.Int → fields ≡ decimal n ∷ rest → n < 2 ^ 60 → IsFirst kind fields (data_of.Int (pos n)) rest
+pub int_first : (kind : Kind) (fields rest : List (List ℕ)) (n : ℕ) (x : ℤ) → kind ≡ kinds.Int → fields ≡ decimal n ∷ rest → n < 2 ^ 60 → x ≡ pos n → IsFirst kind fields (data_of.Int x) rest
 unfolding value_of
-int_first kind fields rest n is e low = record {
+int_first kind fields rest n x is e low same = record {
   field = decimal n;
   first = e;
-  spells = ap (λ k. value_of k (decimal n)) is ∙ ap (option_map Int) (units_of-spelled 0 (decimal n) (pos n) ((Decides-ltb n (2 ^ 63)).1 (omega (arith, low))) refl);
+  spells = ap (λ k. value_of k (decimal n)) is ∙ ap (option_map Int) (units_of-spelled 0 (decimal n) (pos n) ((Decides-ltb n (2 ^ 63)).1 (omega (arith, low))) refl) ∙ ap (λ z. Some (Int z)) (sym same);
 }
 
 -- the word of an interval

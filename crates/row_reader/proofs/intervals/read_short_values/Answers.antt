@@ -1,4 +1,5 @@
-use Rattle.std.proofs.Common.{◌≡◌, ◌+◌, Some, length, drop, ap, sym, ◌∙◌, arith}
+use Rattle.std.proofs.Common.{◌≡◌, ◌+◌, Some, length, drop, refl, ap, sym, ◌∙◌, arith}
+use Rattle.tw_rows.specs.declared.schema.ColumnDef.{ColumnDef}
 use Rattle.row_reader.specs.Fields.{left}
 use Rattle.row_reader.specs.declared.fields.Fields.TheVariants.{Plain}
 use Rattle.row_reader.specs.Drafted.{value_in}
@@ -26,7 +27,7 @@ loop-i-preserved c =
     let more = c.in-Ok.ensures.items in
     record {
       read = AreRead-next _ _ _ _ c.loop-i.i c.index-columns-i.result (value_in first.field c.in-Some-split_value.datum) (Some (value_in first.field c.in-Some-split_value.datum)) _ _ c.loop-i.invariant.read c.loop-i-test.true
-          c.index-columns-i.is (sym first.spells ∙ ap (value_of c.index-columns-i.result.kind) off.0) refl (pushed _ _ c.loop-i.row.items _ c.in-Some-split_value.datum _ more c.loop-i.invariant.behind off.0) off.1;
+          c.index-columns-i.is (sym first.spells ∙ ap (λ (k : ColumnDef). value_of k.kind first.field) (sym c.index-columns-i.is) ∙ ap (value_of c.index-columns-i.result.kind) off.0) refl (pushed _ _ c.loop-i.row.items _ c.in-Some-split_value.datum _ more c.loop-i.invariant.behind off.0) off.1;
       behind = left_behind _ _ _ c.loop-i.row.items _ c.in-Some-split_value.datum more c.loop-i.invariant.behind off.1;
       many = omega (arith, c.loop-i.invariant.many, ap (λ l. length l) here);
     }
