@@ -1,6 +1,6 @@
 -- Intervals that are read in one pass.
-use Rattle.std.proofs.Common.{◌≡◌, ◌<◌, ◌≤◌, ◌+◌, ◌*◌, ◌^◌, ℕ, ℤ, zero, suc, List, [], ◌∷◌, ◌++◌, length, take, drop, get_or, true, Option, Some, Ok, Err, refl, sym, ◌∙◌, ap, subst, arith, inl, inr}
-use Rattle.std.specs.Prelude.{◌==◌, ◌≢◌, decimal, codes, pos, option_map, None, MatchOption, IfSome}
+use Rattle.std.proofs.Common.{◌≡◌, ◌<◌, ◌≤◌, ◌+◌, ◌*◌, ◌^◌, ℕ, ℤ, zero, suc, List, [], ◌∷◌, ◌++◌, length, take, drop, get_or, Option, Some, Ok, Err, refl, sym, ◌∙◌, ap, subst, arith, inl, inr}
+use Rattle.std.specs.Prelude.{◌≢◌, decimal, codes, pos, option_map, None, MatchOption, IfSome}
 use Rattle.std.specs.Borrow.{Bor}
 use Rattle.std.specs.Char.{digit_value}
 use Rattle.std.specs.Str.Parse.{AllDigits, digits_value_after}
@@ -22,7 +22,7 @@ use Rattle.line_text.specs.declared.form.Form.TheVariants as forms
 use Rattle.row_reader.specs.Fields.{commas}
 use Rattle.row_reader.specs.Record.{field_of}
 use Rattle.row_reader.specs.Values.{value_of, form_of, times_of}
-use Rattle.row_reader.specs.Drafted.{value_in, row_in, IsFirst, IsInterval}
+use Rattle.row_reader.specs.Drafted.{row_in, IsFirst, IsInterval}
 use Rattle.row_reader.specs.Entry.{event, of_stream}
 use Rattle.row_reader.specs.Interned.{IsReadIn}
 use Rattle.row_reader.specs.declared.entry.Said.TheVariants.{Event as SaidEvent}

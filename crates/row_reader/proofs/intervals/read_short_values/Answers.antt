@@ -1,4 +1,4 @@
-use Rattle.std.proofs.Common.{◌≡◌, ◌+◌, Some, length, drop, refl, ap, sym, ◌∙◌, arith}
+use Rattle.std.proofs.Common.{Some, length, drop, refl, ap, sym, ◌∙◌, arith}
 use Rattle.tw_rows.specs.declared.schema.ColumnDef.{ColumnDef}
 use Rattle.row_reader.specs.Fields.{left}
 use Rattle.row_reader.specs.declared.fields.Fields.TheVariants.{Plain}

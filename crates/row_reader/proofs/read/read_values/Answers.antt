@@ -1,10 +1,8 @@
-use Rattle.std.proofs.Common.{◌≡◌, ◌<◌, ◌≤◌, ◌+◌, Err, ℕ, List, length, drop, get_or, length-append, ap, sym, subst, ◌∙◌, arith}
-use Rattle.std.specs.Prelude.{option_map, [], ◌∷◌, ◌++◌}
+use Rattle.std.proofs.Common.{◌≡◌, ◌<◌, ◌≤◌, ◌+◌, Err, ℕ, List, length, drop, get_or, ap, sym, subst, ◌∙◌, arith}
+use Rattle.std.specs.Prelude.{option_map}
 use Rattle.tw_rows.specs.declared.schema.ColumnDef.{ColumnDef}
-use Rattle.tw_rows.specs.declared.cells.Datum.{Datum}
 use Rattle.row_reader.specs.Fields.{left}
-use Rattle.row_reader.specs.Record.{field_of}
-use Rattle.row_reader.specs.Drafted.{value_in, row_in}
+use Rattle.row_reader.specs.Drafted.{value_in}
 use Rattle.row_reader.proofs.Drafting.{row_in-none, pushed, left_behind}
 use Rattle.row_reader.specs.Values.{value_of}
 use Rattle.row_reader.specs.declared.entry.BadLine.{BadLine}
