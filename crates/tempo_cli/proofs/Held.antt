@@ -16,6 +16,22 @@ use Rattle.tempo_cli.specs.declared.status.Status.TheVariants.{WriteFault}
 use Rattle.tempo_cli.proofs.Fed.{took_final}
 use Rattle.tempo_cli.proofs.Moves.{some_written}
 
+-- what was held went out, and then what was due
+pub both_out : (held due : List ℕ) (O K : List Entry) → SentAll held O → SentAll due K → HoldsOn held due [] (O ++ K)
+both_out held due O K s t = record {
+  outs_alone = All-append IsOut O K s.outs_alone t.outs_alone;
+  all = append-nil (outs (O ++ K)) ∙ (outs-append O K ∙ (ap (λ x. x ++ outs K) s.all ∙ ap (λ x. held ++ x) t.all));
+}
+
+-- or first bytes of what was due
+pub due_front : (held due : List ℕ) (O K : List Entry) → SentAll held O → SentFront due K → SentFront (held ++ due) (O ++ K)
+due_front held due O K s t = record {
+  outs_alone = All-append IsOut O K s.outs_alone t.outs_alone;
+  after = t.after;
+  front = ap (λ x. held ++ x) t.front ∙ (ap (λ x. x ++ (outs K ++ t.after)) (sym s.all)
+      ∙ (sym (append_assoc (outs O) (outs K) t.after) ∙ ap (λ x. x ++ t.after) (sym (outs-append O K))));
+}
+
 -- after the lines given, more lines of the bytes were taken, and of what the text grew by some was written, and the rest is held
 pub record Holding (q : Asked) (bytes : List ℕ) (given : List (List ℕ)) (s : Answering) (held : List ℕ) (O : List Entry) : Type 0 where
   pub outs_alone : All IsOut O
