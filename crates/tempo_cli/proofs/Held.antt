@@ -40,8 +40,13 @@ pub record Holding (q : Asked) (bytes : List ℕ) (given : List (List ℕ)) (s :
   pub grown : (answers_to q).text more false ≡ (answers_to q).text given false ++ (outs O ++ held)
 
 -- before the first line
-pub none_held : (q : Asked) (bytes : List ℕ) (given : List (List ℕ)) (s : Answering) → Holds q bytes given s → Holding q bytes given s [] []
-none_held q bytes given s h = record { outs_alone = All-nil IsOut; more = given; holds = h; grown = sym (append-nil ((answers_to q).text given false)) }
+pub none_held : (q : Asked) (bytes : List ℕ) (given : List (List ℕ)) (s : Answering) (held : List ℕ) → held ≡ [] → Holds q bytes given s → Holding q bytes given s held []
+none_held q bytes given s held none h = record {
+  outs_alone = All-nil IsOut;
+  more = given;
+  holds = h;
+  grown = sym (ap (λ x. (answers_to q).text given false ++ x) none ∙ append-nil ((answers_to q).text given false));
+}
 
 -- what was held went out
 pub held_out : (a : List ℕ) (held : List ℕ) (O K : List Entry) → outs K ≡ held → a ++ (outs O ++ held) ≡ a ++ outs (O ++ K)
