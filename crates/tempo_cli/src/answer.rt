@@ -93,8 +93,8 @@ fn end<R: Threads + Sync, W: Wire, G: Gate>(
     Ok(())
 }
 
-// Reads the input to its end, so many bytes at most, and writes what is answered as it becomes due. A last line that no LF ends
-// is still to be taken.
+// Reads the input to its end, so many bytes at most, and writes before each read what is due. A last line that no LF ends is still
+// to be taken.
 pub(crate) fn read_on<R: Threads + Sync, W: Wire, G: Gate>(
     rt: &R,
     answering: &mut Answering,
