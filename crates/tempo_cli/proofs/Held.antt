@@ -9,7 +9,8 @@ use Rattle.wire_lines.proofs.Growth.{outs-append}
 use Rattle.tempo_cli.specs.Answers.{IsFront}
 use Rattle.tempo_cli.specs.Feeding.{Asked, answers_to, Holds}
 use Rattle.tempo_cli.specs.Table.{IsEnd}
-use Rattle.tempo_cli.specs.Working.{Worked, Stopped, HoldsOn}
+use Rattle.tempo_cli.specs.Holding.{HoldsOn}
+use Rattle.tempo_cli.specs.Working.{Worked, Stopped}
 use Rattle.tempo_cli.specs.declared.answering.Answering.{Answering}
 use Rattle.tempo_cli.specs.declared.status.Status.{Status}
 use Rattle.tempo_cli.specs.declared.status.Status.TheVariants.{WriteFault}

@@ -26,11 +26,6 @@ pub record Stopped (q : Asked) (bytes : List ℕ) (given : List (List ℕ)) (sta
   pub outs_alone : All IsOut O
   pub end : (ended : Bool) → IsEnd (answers_to q) status bytes ((answers_to q).text given false ++ outs O) ended
 
--- what was due stands behind what was held: some of both went out, in that order, and the rest is held
-pub record HoldsOn (before due after : List ℕ) (O : List Entry) : Type 0 where
-  pub outs_alone : All IsOut O
-  pub all : outs O ++ after ≡ before ++ due
-
 -- all whole lines that came in are worked through, and the journal tells what was written for them
 abbrev pub WorksThrough : Option (List Entry) → Option (List Entry) → Answering → Answering → Type 0
 WorksThrough before now old new = (q : Asked) (bytes : List ℕ) (given : List (List ℕ)) → Holds q bytes given old → length bytes ≤ limit + 1 →

@@ -2,7 +2,7 @@
 ghost use Rattle.std.specs.Prelude.{◌≡◌, ◌++◌, if◌then◌else◌, OnOk, OnErr};
 ghost use Rattle.wire_lines.specs.Journal.{Grows, SentFront};
 ghost use Rattle.wire_lines.specs.Faults.{HasCause, IsOther};
-ghost use Rattle.tempo_cli.specs.Working.{HoldsOn};
+ghost use Rattle.tempo_cli.specs.Holding.{HoldsOn};
 
 use wire_lines::{Wire, WriteFailed, send};
 
