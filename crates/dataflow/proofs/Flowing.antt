@@ -18,7 +18,8 @@ use Rattle.node_laws.specs.Standing.{StandsRead, SourcesStandRead, AllStandRead}
 use Rattle.node_laws.proofs.Through.{left_stands, right_stands, node_stands, all_more}
 use Rattle.tw_rows.proofs.Bags.{total_same, total_zero}
 use Rattle.dataflow.specs.declared.stage.Stage.{Stage}
-use Rattle.dataflow.specs.Lists.{longer, AreFrom}
+use Rattle.edge_stream.specs.Lists.{longer}
+use Rattle.dataflow.specs.Lists.{AreFrom}
 use Rattle.dataflow.specs.Stages.{reached, left_closing, right_closing, MayComeUpTo, IsReady, StageKeeps, Takes, KeepsOn, StaysReady, IsUndefinedAt, first_undefined_read}
 use Rattle.dataflow.proofs.Rules.{stage_stands}
 use Rattle.dataflow.proofs.Undefining.{first_as_read}

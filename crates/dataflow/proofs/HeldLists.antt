@@ -21,7 +21,8 @@ use Rattle.plan_model.specs.Shape.{Shape, Stream, One, Two, shape, left_in, read
 use Rattle.plan_model.proofs.Kept.{IsNodeAt}
 use Rattle.node_laws.specs.Places.{EdgesArePlaced}
 use Rattle.row_stage.proofs.Nodes.{stream_there, one_node}
-use Rattle.dataflow.specs.Lists.{edges_at, IsListOf, AreGiven}
+use Rattle.edge_stream.specs.Lists.{edges_at}
+use Rattle.dataflow.specs.Lists.{IsListOf, AreGiven}
 use Rattle.dataflow.specs.Stages.{left_kinds, right_kinds}
 use Rattle.dataflow.specs.Held.{IsListWith, IsNeeded, IsNeededRight, IsNeededStream, AreHeld, HeldBefore, HeldBetween}
 

@@ -12,7 +12,7 @@ use Rattle.node_laws.specs.Standing.{SourcesStandRead}
 use Rattle.admission.specs.Admission.{rows}
 use Rattle.dataflow.specs.declared.fault.PlanFault.{PlanFault}
 use Rattle.dataflow.specs.declared.fault.PlanFault.TheVariants.{Overflow, Memory}
-use Rattle.dataflow.specs.Lists.{edges_at, longer}
+use Rattle.edge_stream.specs.Lists.{edges_at, longer}
 use Rattle.tempo_engine.specs.Output.{result_kinds}
 use Rattle.ingress.proofs.Reading.{follows_stand}
 use Rattle.tempo_engine.proofs.Giving.{given_are}
