@@ -13,7 +13,7 @@ ghost use Rattle.dataflow.specs.Lists.{AreOfStreams, IsListOf};
 ghost use Rattle.dataflow.specs.declared.stage.Stage.{Stage as Kept};
 ghost use Rattle.dataflow.specs.Stages.{StandsAsMade};
 ghost use Rattle.dataflow.specs.Shards.{RunAll};
-ghost use Rattle.dataflow.specs.Flows.{CanStep, MayStep, StepsOn, Flows, GivesOn, OverflowsAt, held_from};
+ghost use Rattle.dataflow.specs.Flows.{CanStep, MayStep, SameRun, StepsOn, Flows, GivesOn, OverflowsAt, held_from};
 ghost use Rattle.dataflow.specs.Below.{MayStepBelow, StopsAt, UnderNone, OverflowsUnder};
 ghost use Rattle.dataflow.specs.Saving.{SavesAll, AreStates, AreStored, FlowsResume};
 ghost use Rattle.dataflow.specs.Held.{AreFresh, nodes_in_all};
@@ -239,10 +239,7 @@ impl Dataflow {
         ensures again { (fault : PlanFault) → self.old.fault ≡ Some fault → result ≡ Err fault }
         ensures list { IfOk result (λ out. IsListOf texts.now self.old.capacity
             (kinds_at self.old.plan.schemas self.old.plan.root) out) }
-        ensures plan { self.new.plan ≡ self.old.plan }
-        ensures capacity { self.new.capacity ≡ self.old.capacity }
-        ensures workers { self.new.workers ≡ self.old.workers }
-        ensures thawed { self.new.thawed ≡ self.old.thawed }
+        ensures same { SameRun self.old self.new }
         ensures pools { pools.new.capacity ≡ pools.old.capacity }
         ensures limit { pools.new.limit ≡ pools.old.limit }
     {
@@ -296,10 +293,7 @@ impl Dataflow {
             OverflowsUnder texts.now p node (edges_at given.items) self.old lower time) }
         ensures kept { IfErr result (λ fault. self.new.fault ≡ Some fault) }
         ensures stays { OnOk result (self.new.fault ≡ self.old.fault) }
-        ensures plan { self.new.plan ≡ self.old.plan }
-        ensures capacity { self.new.capacity ≡ self.old.capacity }
-        ensures workers { self.new.workers ≡ self.old.workers }
-        ensures thawed { self.new.thawed ≡ self.old.thawed }
+        ensures same { SameRun self.old self.new }
         ensures pools { pools.new.capacity ≡ pools.old.capacity }
         ensures limit { pools.new.limit ≡ pools.old.limit }
     {
