@@ -24,14 +24,6 @@ pub record DataflowView : Type 0 where
   pub thawed : Bool
   pub fault : Option PlanFault
 
--- a step leaves the plan, how many rows each batch has room for, the number of shards, and whether the stages took up what was
--- saved
-pub record SameRun (old new : DataflowView) : Type 0 where
-  pub plan : new.plan ≡ old.plan
-  pub capacity : new.capacity ≡ old.capacity
-  pub workers : new.workers ≡ old.workers
-  pub thawed : new.thawed ≡ old.thawed
-
 -- so much of a plan with these stages, of which no step failed. What follows asks of no number of workers, and here it is 1
 abbrev pub parts_of : PlanParts → List Stage → ℕ → Bool → DataflowView
 parts_of plan stages capacity thawed = record { plan = plan; stages = stages; capacity = capacity; workers = 1; thawed = thawed; fault = None }

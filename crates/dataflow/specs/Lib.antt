@@ -7,6 +7,7 @@ pub mod Stages
 pub mod Shards
 pub mod Making
 pub mod Flows
+pub mod SameRun
 pub mod Slices
 pub mod Below
 pub mod Held

@@ -1,5 +1,5 @@
 -- Several rounds of edges, each with the times up to which the sides are closed, taken in turn.
-use Rattle.std.specs.Prelude.{◌≡◌, ℕ, suc, ◌<◌, Option, Some, None, is_some, IfNone, IfSome, Result, Ok, Err, IsOk, IfOk, IfErr, OnOk}
+use Rattle.std.specs.Prelude.{◌≡◌, ℕ, suc, ◌<◌, Option, Some, None, Result, Ok, Err, IsOk, IfOk, IfErr, OnOk}
 use Rattle.std.specs.Prelude.{List, [], ◌∷◌, ◌++◌, map, fold, flat_map, length, take, All, slice_index_or}
 use Rattle.tw_rows.specs.Bag.{SameBag}
 use Rattle.edge_history.specs.Order.{KeepsOrder}
@@ -9,9 +9,7 @@ use Rattle.edge_stream.specs.declared.saved.StepFault.{StepFault}
 use Rattle.edge_stream.specs.declared.saved.StepFault.TheVariants.{Overflow, Memory}
 use Rattle.operator.specs.Standing.{Standing, Keeping}
 use Rattle.shard_apply.specs.declared.round.Round.{Round}
-use Rattle.shard_apply.specs.declared.round.Steps.{Steps}
 use Rattle.shard_apply.specs.Stepping.{CanTake, CanStep, HasStepped, edges_answered, IsLeastOverflow}
-use Rattle.shard_apply.specs.Whole.{Whole, standing_in, ShardsKeep}
 
 abbrev pub Answer : Type 0
 Answer = Result EdgeListView StepFault
@@ -71,16 +69,6 @@ told lists (Some fault) = map Ok lists ++ Err fault ∷ []
 abbrev pub GoesOver : {S : Type 0} → (S → Standing) → (S → Keeping) → S → S → List Round → List EdgeListView → Option StepFault → Type 0
 GoesOver standing keeps old new rounds answers fault =
     LeadsOver (TakesRound standing keeps) old new (take (length (told answers fault)) rounds) (told answers fault)
-
--- a node in shards takes the rounds up to the first fault, after which it has failed: all are answered where there is none, and
--- else fewer. Of three rounds of which the second faults, one is answered
-pub record TakesRounds {O : Type 0} (standing : O → Standing) (keeps : O → Keeping) (old new : Whole O) (rounds : List Round)
-    (steps : Steps) : Type 0 where
-  pub over : GoesOver (standing_in standing) (ShardsKeep standing keeps) old new rounds steps.answers.items steps.fault
-  pub all : IfNone steps.fault (length steps.answers.items ≡ length rounds)
-  pub few : IfSome steps.fault (λ fault. length steps.answers.items < length rounds)
-  pub failed : (standing_in standing new).has_failed ≡ is_some steps.fault
-  pub shards : length new.operators ≡ length old.operators
 
 -- a list has all edges of the answers, in order, in columns as theirs, with such room; and a fault is an overflow only where
 -- it is the least of them

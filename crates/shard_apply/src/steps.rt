@@ -1,7 +1,8 @@
 // Several rounds of a node in shards, with one fork.
 ghost use Rattle.std.specs.Prelude.{◌≡◌, ◌≤◌, ◌<◌, true, false, is_some, length, map, All, IfNone, IfSome};
 ghost use Rattle.operator.specs.Standing.{IsLike};
-ghost use Rattle.shard_apply.specs.Rounds.{CanTakeAll, GoesOver, TakesRounds};
+ghost use Rattle.shard_apply.specs.Rounds.{CanTakeAll, GoesOver};
+ghost use Rattle.shard_apply.specs.Together.{TakesRounds};
 ghost use Rattle.shard_apply.specs.Whole.{first_of, side_by_side, standing_in, AreInStep, ShardsKeep};
 ghost use Rattle.shard_apply.specs.Shards.{operators_of, rooms_of};
 

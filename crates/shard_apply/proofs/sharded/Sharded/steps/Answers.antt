@@ -1,7 +1,8 @@
 use Rattle.std.proofs.Common.{None, List, length, take, refl, sym, subst, arith}
 use Rattle.std.proofs.lemmas.Grind.{common_steps}
 use Rattle.edge_stream.specs.Listing.{EdgeListView}
-use Rattle.shard_apply.specs.Rounds.{told, CanTakeAll, TakesRound, LeadsOver, TakesRounds}
+use Rattle.shard_apply.specs.Rounds.{told, CanTakeAll, TakesRound, LeadsOver}
+use Rattle.shard_apply.specs.Together.{TakesRounds}
 use Rattle.shard_apply.specs.Whole.{standing_in, ShardsKeep}
 use Rattle.shard_apply.proofs.Leads.{no_rounds, leads_like}
 use Rattle.shard_apply.proofs.sharded.Sharded.steps.Goals as goal
