@@ -38,6 +38,7 @@ use Rattle.node_laws.proofs.Standing.{no_history, placed_longer}
 use Rattle.node_laws.proofs.StepsAhead.{ahead_read}
 use Rattle.life_laws.specs.Answers.{has_known_lives}
 use Rattle.life_laws.specs.Keeping.{KeepsLives}
+use Rattle.life_laws.proofs.Sides.{sides_first, sides_longer}
 use Rattle.life_laws.proofs.Telling.{weight, Answers, answers_tell}
 
 -- DELAYS
