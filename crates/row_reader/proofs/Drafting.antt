@@ -1,6 +1,6 @@
 -- Rows whose texts are still in the fields of their line.
-use Rattle.std.proofs.Common.{◌≡◌, ◌<◌, ℕ, zero, suc, List, [], ◌∷◌, ◌++◌, length, take, drop, get_or, refl, sym, ◌∙◌, ap, arith, subst}
-use Rattle.std.proofs.lemmas.List.{take-append-drop, map-append}
+use Rattle.std.proofs.Common.{◌≡◌, ◌<◌, ◌+◌, ℕ, zero, suc, List, [], ◌∷◌, ◌++◌, length, take, drop, get_or, refl, sym, ◌∙◌, ap, arith, subst}
+use Rattle.std.proofs.lemmas.List.{take-append-drop, map-append, length-append}
 use Rattle.std.proofs.lemmas.List.Sums.{fold-append}
 use Rattle.tw_rows.specs.Cells.{ArePlaced, read_datum, read_cells, with_value, with_row}
 use Rattle.tw_rows.specs.declared.row.Value.{Value}
@@ -10,6 +10,7 @@ use Rattle.tw_rows.specs.declared.cells.Datum.TheVariants.{Int, Bool, Text}
 use Rattle.tw_rows.proofs.CellReads.{IsTaken}
 use Rattle.row_reader.specs.Record.{field_of}
 use Rattle.row_reader.specs.Drafted.{value_in, row_in, HaveNoText}
+use Rattle.row_reader.proofs.Steps.{drop_again}
 
 pub row_in-none : (fields : List (List ℕ)) (ds : List Datum) → ds ≡ [] → row_in fields ds ≡ []
 unfolding row_in
@@ -31,6 +32,19 @@ unfolding row_in
 row_in-push fields [] d = refl
 row_in-push fields (x ∷ xs) d = ap (λ r. value_in (field_of fields 0) x ∷ r)
     (row_in-push (drop 1 fields) xs d ∙ ap (λ f. row_in (drop 1 fields) xs ++ value_in (field_of f 0) d ∷ []) (sym (drop_behind (length xs) fields)))
+
+-- a datum more, of the field at hand
+pub pushed : (fields rest : List (List ℕ)) (ds more : List Datum) (d : Datum) (f : List ℕ) → more ≡ ds ++ d ∷ [] → rest ≡ drop (length ds) fields → f ≡ field_of rest 0 →
+    row_in fields more ≡ row_in fields ds ++ value_in f d ∷ []
+pushed fields rest ds more d f is behind here =
+    ap (row_in fields) is ∙ row_in-push fields ds d ∙ ap (λ g. row_in fields ds ++ value_in g d ∷ []) (ap (λ l. field_of l 0) (sym behind) ∙ sym here)
+
+-- as many fields are behind as there are data
+pub left_behind : (fields rest after : List (List ℕ)) (ds more : List Datum) (d : Datum) → more ≡ ds ++ d ∷ [] → rest ≡ drop (length ds) fields → after ≡ drop 1 rest →
+    after ≡ drop (length more) fields
+left_behind fields rest after ds more d is behind next =
+    let long : length more ≡ length ds + 1 = ap (λ l. length l) is ∙ length-append ds (d ∷ []) in
+    next ∙ ap (drop 1) behind ∙ drop_again (length ds) fields ∙ ap (λ n. drop n fields) (sym long)
 
 -- the value of that number
 pub row_in-at : (fields : List (List ℕ)) (ds : List Datum) (n : ℕ) (d : Datum) (v : Value) → n < length ds → value_in (field_of (drop n fields) 0) (get_or ds n d) ≡ get_or (row_in fields ds) n v

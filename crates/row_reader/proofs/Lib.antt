@@ -15,4 +15,5 @@ pub mod Steps
 pub mod Celled
 pub mod Drafting
 pub mod Printing
+pub mod OnePass
 pub mod Examples

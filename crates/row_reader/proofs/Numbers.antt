@@ -8,7 +8,7 @@ use Rattle.std.specs.Prelude.{Option, IfSome, IfNone, decimal, nat_lt, nat_eq, �
 use Rattle.std.specs.Str.Parse.{digits_value}
 use Rattle.row_reader.specs.Number.{number_of, same_text}
 
-nat_eq-Decides : (a b : ℕ) → Decides (nat_eq a b) (a ≡ b)
+pub nat_eq-Decides : (a b : ℕ) → Decides (nat_eq a b) (a ≡ b)
 nat_eq-Decides a b = grind (arith, nat_tests)
 
 pub same_text-Decides : (a b : List ℕ) → Decides (same_text a b) (a ≡ b)

@@ -65,13 +65,13 @@ form_back forms.Interval = refl
 form_back forms.Start = refl
 form_back forms.End = refl
 
-times_back : (form : Form) (sync other : ℕ) → AreTimes form sync other → times_of form (time_text sync) (time_text other) ≡ Some (sync, other)
+pub times_back : (form : Form) (sync other : ℕ) → AreTimes form sync other → times_of form (time_text sync) (time_text other) ≡ Some (sync, other)
 unfolding times_of
 times_back forms.Interval sync other h = rw (time_back sync h.0, end_back other h.1) refl
 times_back forms.Start sync other h = rw (time_back sync h.0, inf_back other h.1) refl
 times_back forms.End sync other h = rw (time_back sync h.0, time_back other (omega (arith, h.0, h.1))) refl
 
-alive_back : (form : Form) (sync other : ℕ) → AreTimes form sync other → is_alive form sync other ≡ true
+pub alive_back : (form : Form) (sync other : ℕ) → AreTimes form sync other → is_alive form sync other ≡ true
 alive_back forms.Interval sync other h = (Decides-ltb sync other).1 h.2
 alive_back forms.Start sync other h = (Decides-ltb sync other).1 (omega (arith, inf-is, h.0, h.1))
 alive_back forms.End sync other h = (Decides-ltb other sync).1 h.1

@@ -1,11 +1,15 @@
 -- A row whose texts are still in the fields of their line.
-use Rattle.std.specs.Prelude.{ℕ, List, [], ◌∷◌, drop}
+use Rattle.std.specs.Prelude.{◌≡◌, ◌<◌, ◌^◌, ℕ, List, [], ◌∷◌, Some, Ok, drop, codes, decimal}
 use Rattle.tw_rows.specs.Rows.{Row}
 use Rattle.tw_rows.specs.declared.row.Value.{Value}
 use Rattle.tw_rows.specs.declared.row.Value.TheVariants.{Int, Bool as Flag, Text}
 use Rattle.tw_rows.specs.declared.cells.Datum.{Datum}
 use Rattle.tw_rows.specs.declared.cells.Datum.TheVariants as data_of
+use Rattle.tw_rows.specs.declared.kind.Kind.{Kind}
+use Rattle.tw_rows.specs.declared.schema.ColumnDef.{ColumnDef}
 use Rattle.row_reader.specs.Record.{field_of}
+use Rattle.row_reader.specs.Values.{value_of}
+use Rattle.row_reader.specs.Answers.{values_of}
 
 -- the value of a datum that was read of this field, which is the text of one of a text
 abbrev pub value_in : List ℕ → Datum → Value
@@ -24,3 +28,18 @@ HaveNoText [] = Unit {0}
 HaveNoText (data_of.Int x ∷ ds) = HaveNoText ds
 HaveNoText (data_of.Bool b ∷ ds) = HaveNoText ds
 HaveNoText (data_of.Text place ∷ ds) = ⊥
+
+-- the first of the fields spells a value of the kind, of which this datum was read, and these are the others: of an int the first of
+-- the fields `7` and `a` spells 7
+pub record IsFirst (kind : Kind) (fields : List (List ℕ)) (datum : Datum) (rest : List (List ℕ)) : Type 0 where
+  pub field : List ℕ
+  pub first : fields ≡ field ∷ rest
+  pub spells : value_of kind field ≡ Some (value_in field datum)
+
+-- the fields are those of an interval from start to end with these fields of its values, of which this row of data was read: `interval`,
+-- `1`, `5` and `7` are those of an interval from 1 to 5 with the row of 7
+pub record IsInterval (columns : List ColumnDef) (fields : List (List ℕ)) (start stop : ℕ) (values : List (List ℕ)) (row : List Datum) : Type 0 where
+  pub spelled : fields ≡ codes "interval" ∷ decimal start ∷ decimal stop ∷ values
+  pub life : start < stop
+  pub instant : stop < 2 ^ 60
+  pub read : values_of columns values ≡ Ok (row_in values row)

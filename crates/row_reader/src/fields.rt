@@ -2,6 +2,7 @@
 ghost use Rattle.std.specs.Prelude.{◌≡◌, ◌∷◌, [], IfSome, IfNone, length, drop, count_by, ◌==◌};
 ghost use Rattle.row_reader.specs.Record.{field_of};
 ghost use Rattle.row_reader.specs.Fields.{commas, left};
+ghost use Rattle.row_reader.specs.declared.fields.Fields.TheVariants.{Plain};
 
 use csv::StringRecord;
 
@@ -15,9 +16,8 @@ pub enum Fields<'a> {
 }
 
 // The bytes before the first comma, and what stands behind that comma.
-fn split_field(text: &[u8]) -> (&[u8], Option<&[u8]>)
-    ensures none { IfNone result.1 (commas text.now ≡ result.0.now ∷ []) }
-    ensures some { IfSome result.1 (λ rest. commas text.now ≡ result.0.now ∷ commas rest.now) }
+pub(crate) fn split_field(text: &[u8]) -> (&[u8], Option<&[u8]>)
+    ensures { commas text.now ≡ result.0.now ∷ left (Plain result.1) }
 {
     match text.iter().position(|byte| *byte == b',') {
         Some(comma) => (&text[..comma], Some(&text[comma + 1..])),

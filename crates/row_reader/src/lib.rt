@@ -3,6 +3,7 @@
 
 mod entry;
 mod fields;
+mod intervals;
 mod laws;
 mod line;
 mod number;

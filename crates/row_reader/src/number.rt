@@ -1,5 +1,5 @@
 // Numbers as they are spelled.
-ghost use Rattle.std.specs.Prelude.{◌≡◌, ◌++◌, ◌∷◌, ◌^◌, ◌<◌, ◌≤◌, ℕ, List, IfSome, IfNone, length, decimal, IsTrue, false};
+ghost use Rattle.std.specs.Prelude.{◌≡◌, ◌++◌, ◌∷◌, ◌^◌, ◌<◌, ◌≤◌, ℕ, List, IfSome, IfNone, length, take, decimal, IsTrue, false};
 ghost use Rattle.std.specs.Char.{digit_value};
 ghost use Rattle.std.specs.Str.Parse.{AllDigits, digits_value_after};
 ghost use Rattle.line_text.specs.Number.{units_text};
@@ -41,6 +41,29 @@ fn read_short(bytes: &[u8]) -> Option<u64>
         number = number * 10 + digit_of(*byte);
     }
     Some(number)
+}
+
+// So few digits have a number below 2^60, whatever they are.
+const FEW: usize = 18;
+
+// How many digits the text begins with, of which 18 are looked at, and their number.
+#[tactic(auto, using(crate::proofs::Whole::digit_fits, crate::proofs::Whole::one_digit_more))]
+pub(crate) fn leading_number(text: &[u8]) -> (usize, u64)
+    ensures within { result.0 ≤ length text.now }
+    ensures digits { AllDigits 10 (take result.0 text.now) }
+    ensures value { result.1 ≡ digits_value_after 10 0 (take result.0 text.now) }
+    ensures small { result.1 < 2 ^ 60 }
+{
+    let most = text.len().min(FEW);
+    let mut number: u64 = 0;
+    for i in 0..most {
+        let byte = text[i];
+        if !is_digit(byte) {
+            return (i, number);
+        }
+        number = number * 10 + digit_of(byte);
+    }
+    (most, number)
 }
 
 // The number that the digits add to one: to 12 the digits `05` add 1205. `None` where another byte is among them, or the

@@ -17,6 +17,7 @@ ghost use Rattle.row_reader.specs.Answers.{AnswersIn, IsCause, IsNamed, unless_w
 
 use crate::entry::{BadLine, RowFault, Said};
 use crate::fields::Fields;
+use crate::intervals::{place_interval, read_interval};
 use crate::line::{has_byte_order_mark, has_special, text_of_line};
 use crate::quotes::has_odd_quotes;
 use crate::record::read_record;
@@ -177,6 +178,9 @@ fn read_of_stream(
         (of_stream number stream.now.schema (left fields.entry)) }
     ensures begins { BeginsWith texts.new texts.old }
 {
+    if let Some(found) = read_interval(stream.schema.items(), fields, row) {
+        return place_interval(number, found, texts, row);
+    }
     let word = fields.take_field();
     if is_punct(word) {
         read_punctuation(Some(number), fields)

@@ -8,15 +8,15 @@ use Rattle.row_reader.proofs.Whole.{rest_all}
 use Rattle.row_reader.proofs.Commas.{cut_here, cut_nowhere, found, missed}
 use Rattle.row_reader.proofs.fields.split_field.Goals as goal
 
-pub returns-in-None-clause-none : goal.returns-in-None-clause-none
-returns-in-None-clause-none c =
+pub returns-in-None : goal.returns-in-None
+returns-in-None c =
     let text = c.args.text.now in
     let asked : c.position.result ≡ cond (ltb (position_or_len (λ b. b == 44) text) (length text)) (Some (position_or_len (λ b. b == 44) text)) None =
     position_from_yields_List (λ b. b == 44) _ _ c.position.result c.position.ensures.ran (YieldsList-from_slice text cc) (λ x b q k. search (rules, tests)) in
     cut_nowhere text (missed text c.position.result asked c.in-None.is)
 
-pub returns-in-Some-clause-some : goal.returns-in-Some-clause-some
-returns-in-Some-clause-some c =
+pub returns-in-Some : goal.returns-in-Some
+returns-in-Some c =
     let text = c.args.text.now in
     let asked : c.position.result ≡ cond (ltb (position_or_len (λ b. b == 44) text) (length text)) (Some (position_or_len (λ b. b == 44) text)) None =
     position_from_yields_List (λ b. b == 44) _ _ c.position.result c.position.ensures.ran (YieldsList-from_slice text cc) (λ x b q k. search (rules, tests)) in

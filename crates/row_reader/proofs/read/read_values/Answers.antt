@@ -1,30 +1,17 @@
-use Rattle.std.proofs.Common.{◌≡◌, ◌<◌, ◌≤◌, ◌+◌, Err, ℕ, List, length, drop, get_or, length-append, ap, sym, subst, ◌∙◌, arith}
-use Rattle.std.specs.Prelude.{option_map, [], ◌∷◌, ◌++◌}
+use Rattle.std.proofs.Common.{◌≡◌, ◌<◌, ◌≤◌, ◌+◌, Err, ℕ, List, length, drop, get_or, ap, sym, subst, ◌∙◌, arith}
+use Rattle.std.specs.Prelude.{option_map}
 use Rattle.tw_rows.specs.declared.schema.ColumnDef.{ColumnDef}
-use Rattle.tw_rows.specs.declared.cells.Datum.{Datum}
 use Rattle.row_reader.specs.Fields.{left}
-use Rattle.row_reader.specs.Record.{field_of}
-use Rattle.row_reader.specs.Drafted.{value_in, row_in}
-use Rattle.row_reader.proofs.Drafting.{row_in-none, row_in-push}
+use Rattle.row_reader.specs.Drafted.{value_in}
+use Rattle.row_reader.proofs.Drafting.{row_in-none, pushed, left_behind}
 use Rattle.row_reader.specs.Values.{value_of}
 use Rattle.row_reader.specs.declared.entry.BadLine.{BadLine}
 use Rattle.row_reader.proofs.Reading.{AreRead-none, AreRead-next, AreRead-bad, AreRead-end}
-use Rattle.row_reader.proofs.Steps.{drop_again, taken_off, values_short, values_bad, values_read, as_many}
+use Rattle.row_reader.proofs.Steps.{taken_off, values_short, values_bad, values_read, as_many}
 use Rattle.row_reader.proofs.read.read_values.Goals as goal
 
 item_of : (xs columns : List ColumnDef) (n : ℕ) (d : ColumnDef) → xs ≡ columns → d ≡ get_or xs n d → d ≡ get_or columns n d
 item_of xs columns n d same h = h ∙ ap (λ l. get_or l n d) same
-
-pushed : (fields rest : List (List ℕ)) (ds more : List Datum) (d : Datum) (f : List ℕ) → more ≡ ds ++ d ∷ [] → rest ≡ drop (length ds) fields → f ≡ field_of rest 0 →
-    row_in fields more ≡ row_in fields ds ++ value_in f d ∷ []
-pushed fields rest ds more d f is behind here =
-    ap (row_in fields) is ∙ row_in-push fields ds d ∙ ap (λ g. row_in fields ds ++ value_in g d ∷ []) (ap (λ l. field_of l 0) (sym behind) ∙ sym here)
-
-left_behind : (fields rest after : List (List ℕ)) (ds more : List Datum) (d : Datum) → more ≡ ds ++ d ∷ [] → rest ≡ drop (length ds) fields → after ≡ drop 1 rest →
-    after ≡ drop (length more) fields
-left_behind fields rest after ds more d is behind next =
-    let long : length more ≡ length ds + 1 = ap (λ l. length l) is ∙ length-append ds (d ∷ []) in
-    next ∙ ap (drop 1) behind ∙ drop_again (length ds) fields ∙ ap (λ n. drop n fields) (sym long)
 
 pub loop-i-init : goal.loop-i-init
 loop-i-init c =
