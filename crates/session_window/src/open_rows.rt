@@ -65,7 +65,8 @@ fn take_rows(
     sessions: &mut IndexMap<Vec<Datum>, OneSession>,
     key: &[Datum],
 ) -> Vec<HeldRow>
-    ensures taken { GiveUp (rows_in sessions.old.entries) (rows_in sessions.new.entries) result.items }
+    ensures taken { GiveUp
+        (rows_in sessions.old.entries) (rows_in sessions.new.entries) result.items }
     ensures own { (columns : List ℕ) → AreKeyed columns sessions.old.entries →
         result.items ≡ filter (is_of_key columns key.now) (rows_in sessions.old.entries) }
     ensures keyed { (columns : List ℕ) → AreKeyed columns sessions.old.entries →
