@@ -1,5 +1,5 @@
 // Lines answered as they come, and checkpoints kept where they are due.
-ghost use Rattle.std.specs.Prelude.{◌≡◌, ◌+◌, ◌++◌, ◌∷◌, [], ℕ, List, min, nat_le, false, length};
+ghost use Rattle.std.specs.Prelude.{◌≡◌, ◌≤◌, ◌+◌, ◌++◌, ◌∷◌, [], ℕ, List, min, nat_le, false, length};
 ghost use Rattle.std.specs.Prelude.{IfOk, OnOk, OnErr, IfErr};
 ghost use Rattle.wire_lines.specs.Journal.{Entry, Grows};
 ghost use Rattle.checkpoint.specs.Text.{checkpoint_lines};
