@@ -1,5 +1,5 @@
 // The rows of the sessions that go on, by their keys.
-ghost use Rattle.std.specs.Prelude.{◌≡◌, ◌<◌, ℕ, nat_eq, List, [], filter, flat_map};
+ghost use Rattle.std.specs.Prelude.{◌≡◌, ◌+◌, ◌<◌, ℕ, nat_eq, List, [], filter, flat_map};
 ghost use Rattle.std.specs.Prelude.{length, slice_get, Some, IfOk, OnOk, OnErr, IfSome, IfNone};
 ghost use Rattle.tw_rows.specs.Bag.{total};
 ghost use Rattle.tw_rows.specs.declared.edge.HeldRow.{HeldRow};

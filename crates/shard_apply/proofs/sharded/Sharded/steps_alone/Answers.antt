@@ -1,5 +1,6 @@
 use Rattle.std.proofs.Common.{◌≡◌, ◌+◌, ◌++◌, ◌∷◌, [], ◌<◌, ◌∙◌, Ok, Err, List, Some, map, length, take, drop, get_or, refl, ap, sym, subst, arith}
 use Rattle.std.specs.Prelude.{is_err, is_ok, true}
+use Rattle.std.proofs.lemmas.Grind.{common_steps}
 use Rattle.std.proofs.lemmas.List.{length-map, length_push, map-append}
 use Rattle.edge_stream.specs.Listing.{EdgeListView}
 use Rattle.edge_stream.specs.declared.saved.StepFault.TheVariants.{Memory}
@@ -113,7 +114,7 @@ returns-clause-taken g c =
     record {
       over = subst (λ m. LeadsOver (TakesRound (standing_in g.O.Operator.standing) (ShardsKeep g.O.Operator.standing g.O.Operator.keeps)) c.args.self.now c.loop-round.self (take m c.args.rounds.items) (map Ok lists))
           (sym (length-map lists ok)) inv.leads;
-      all = omega arith;
+      all = grind (arith, common_steps);
       few = tt;
       failed = inv.works;
       shards = inv.one ∙ sym c.requires.one;
