@@ -45,9 +45,14 @@ impl Model for Synopsis {
 
     ghost Value = { KeyedRows };
 
-    ghost view = { λ s. record { key = s.key.columns; rows = rows_in s.buckets.entries; blocks = blocks_in s.buckets.entries } };
+    ghost view = { λ s. record {
+      key = s.key.columns;
+      rows = rows_in s.buckets.entries;
+      blocks = blocks_in s.buckets.entries;
+    } };
 
-    ghost invariant = { λ s. AreKeyed s.key.columns s.buckets.entries × (s.count ≡ length (rows_in s.buckets.entries)) };
+    ghost invariant = { λ s. AreKeyed s.key.columns s.buckets.entries
+        × (s.count ≡ length (rows_in s.buckets.entries)) };
 }
 
 impl Synopsis {
