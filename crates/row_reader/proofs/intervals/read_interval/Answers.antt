@@ -7,5 +7,5 @@ use Rattle.row_reader.proofs.intervals.read_interval.Goals as goal
 
 pub read_short_values-requires : goal.read_short_values-requires
 read_short_values-requires c =
-    let is : left c.args.fields ≡ commas c.in-Plain-Some.text.now = ap left c.in-Plain-Some.is ∙ ap (λ o. left (Plain o)) c.in-Plain-Some.field-0-is in
-    texts_behind _ _ _ (texts_behind _ _ _ (texts_behind _ _ _ (subst AllText is c.requires) c.in-Some.ensures) c.in-Some-split_times.ensures.fields) refl
+    let is : left c.args.fields ≡ commas c.in-Some.text.now = ap left c.in-Plain.is ∙ ap (λ o. left (Plain o)) c.in-Some.is in
+    texts_behind _ _ _ (texts_behind _ _ _ (texts_behind _ _ _ (subst AllText is c.requires) c.in-Some-behind_word.ensures) c.in-Some-split_times.ensures.fields) refl

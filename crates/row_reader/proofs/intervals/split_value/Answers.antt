@@ -1,4 +1,3 @@
-use Rattle.row_reader.proofs.OnePass.{value_first}
 use Rattle.row_reader.proofs.TextFields.{text_first}
 use Rattle.row_reader.proofs.intervals.split_value.Goals as goal
 
