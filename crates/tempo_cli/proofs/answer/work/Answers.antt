@@ -1,4 +1,4 @@
-use Rattle.std.proofs.Common.{◌≡◌, ◌++◌, ◌∷◌, [], List, ℕ, false, refl, sym, ◌∙◌, ap, append_assoc, subst}
+use Rattle.std.proofs.Common.{◌≡◌, ◌++◌, ◌∷◌, [], List, ℕ, refl, sym, ◌∙◌, ap}
 use Rattle.std.proofs.lemmas.List.Elements.{All-append, All-nil}
 use Rattle.std.proofs.lemmas.Result.{err_from_is_err_and}
 use Rattle.wire_lines.specs.Journal.{Entry, IsOut, SentAll, SentFront}
@@ -6,7 +6,7 @@ use Rattle.wire_lines.proofs.Growth.{Grows-none}
 use Rattle.tempo_cli.proofs.Journals.{Grows-then, own_counts}
 use Rattle.tempo_cli.proofs.Jobs.{own_asked}
 use Rattle.tempo_cli.proofs.Halting.{stays_on}
-use Rattle.tempo_cli.proofs.Held.{Holding, none_held, hold_more, all_out, stop_out, front_out, front_more}
+use Rattle.tempo_cli.proofs.Held.{none_held, hold_more, all_out, stop_out, front_out, front_more}
 use Rattle.tempo_cli.proofs.answer.work.Goals as goal
 
 pub loop-wire-init : goal.loop-wire-init
@@ -96,7 +96,7 @@ loop-wire-preserved g c = (
   λ q bytes given h few. Grows-then (c.loop-wire.invariant.3 q bytes given h few) (λ O w. c.in_ok-hold-in-Out.ensures.ok) (λ O K w s.
       let comes = c.in-Out.ensures.comes q bytes w.more w.holds few in
       hold_more O K w _ comes.0 c.in-Out.out.items _ comes.1 comes.2
-          (record { outs_alone = s.outs_alone; all = s.all ∙ ap (λ x. c.loop-wire.held.items ++ x) c.deref-in-Out.ensures.value })),
+      (record { outs_alone = s.outs_alone; all = s.all ∙ ap (λ x. c.loop-wire.held.items ++ x) c.deref-in-Out.ensures.value })),
   λ k bytes given h few. Grows-then (c.loop-wire.invariant.4 k bytes given h few) (λ O o. c.in_ok-hold-in-Out.ensures.ok) (λ O K o s.
       let comes = c.in-Out.ensures.gives k bytes o.more o.gives few in
       record { outs_alone = All-append IsOut O K o.outs_alone s.outs_alone; more = o.more ++ comes.0 ∷ []; gives = comes.1 }),
