@@ -1,5 +1,5 @@
 // What an operator keeps, for a checkpoint and back, and how a step or a load can fail.
-ghost use Rattle.std.specs.Prelude.{◌≡◌, [], ◌∷◌, ◌++◌, OnOk, OnErr};
+ghost use Rattle.std.specs.Prelude.{◌≡◌, [], ◌∷◌, ◌++◌, IfOk, OnOk, OnErr};
 ghost use Rattle.edge_stream.specs.declared.saved.LoadFault.TheVariants as loads;
 ghost use Rattle.edge_stream.specs.declared.saved.StepFault.TheVariants as steps;
 
@@ -60,6 +60,15 @@ impl Saved {
         Saved {
             entries: Vec::new(alloc),
         }
+    }
+
+    /// No entry, with room for so many.
+    pub fn with_capacity(alloc: Global, count: usize) -> Result<Saved, Memory>
+        ensures { IfOk result (λ saved. saved ≡ []) }
+    {
+        Ok(Saved {
+            entries: Vec::with_capacity(alloc, count)?,
+        })
     }
 
     /// Adds the entry last. Out of memory the entries are as they were.

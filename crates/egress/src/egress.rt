@@ -162,7 +162,8 @@ impl Egress {
         ensures few { IfOk result (λ saved. AreOpenRows self.now saved) }
     {
         let (_, last) = Time::bounds();
-        let mut saved = Saved::new(self.rows.alloc);
+        // Most rows have one start.
+        let mut saved = Saved::with_capacity(self.rows.alloc, self.rows.starts.len())?;
         // Where no end is known no start is taken out, and no copy is made to take them from.
         if self.waiting.is_empty() {
             save_rest(&mut saved, &self.rows.starts, last)?;

@@ -161,7 +161,7 @@ impl Ingress {
         ensures few { IfOk result (λ saved. WhateverFollowed self.now (λ texts a given.
             length saved ≤ may_hold (length self.now.kinds.items) self.now.released a)) }
     {
-        let mut saved = Saved::new(self.alloc);
+        let mut saved = Saved::with_capacity(self.alloc, self.held() as usize)?;
         self.held.save(&mut saved)?;
         Ok(saved)
     }

@@ -1,5 +1,5 @@
 // Lines answered as they come, and checkpoints kept where they are due.
-ghost use Rattle.std.specs.Prelude.{◌≡◌, ◌≤◌, ◌+◌, ◌++◌, ◌∷◌, [], ℕ, List, min, nat_le, false, length};
+ghost use Rattle.std.specs.Prelude.{◌≡◌, ◌+◌, ◌++◌, ◌∷◌, [], ℕ, List, min, nat_le, false, length};
 ghost use Rattle.std.specs.Prelude.{IfOk, OnOk, OnErr, IfErr};
 ghost use Rattle.wire_lines.specs.Journal.{Entry, Grows};
 ghost use Rattle.checkpoint.specs.Text.{checkpoint_lines};
@@ -15,7 +15,7 @@ ghost use Rattle.kept_run.specs.Status.{kept_of, KeptCounts, StaysCounted, IsKep
 use crate::status::KeptStatus;
 use checkpoint::{Form, Place, write_entries, write_line};
 use checkpoint_lines::{push_input_line, push_output_line};
-use frozen_state::Frozen;
+use frozen_state::{Frozen, FrozenPart};
 use kept_wire::KeptWire;
 use shard_apply::Gate;
 use std::alloc::Global;
@@ -37,8 +37,6 @@ pub struct Keeper {
     pub output: u64,
     /// The last punctuation of the last checkpoint.
     pub kept_at: Time,
-    /// How much room the bytes of the next checkpoint begin with, by those of the last one.
-    pub room: usize,
 }
 
 // The most bytes that one read asks for.
@@ -51,11 +49,27 @@ fn piece(left: u64) -> usize
     left.min(PIECE) as usize
 }
 
-// Room for a checkpoint behind one of so many bytes: an eighth more.
-fn room_behind(bytes: usize) -> usize
-    ensures { bytes ≤ result }
+// How many bytes of room the text has for an entry, of which lines of four cells mostly take a third. It is more than an entry
+// takes in memory, so the text is the largest block of a checkpoint: the C library then keeps the memory that a checkpoint gives
+// back, and the next one finds its pages there. Room that is not written to costs nothing.
+const ROOM_OF_ENTRY: usize = 128;
+
+// How many entries the parts have, or the greatest number that there is room for.
+fn count_entries(parts: &[FrozenPart]) -> usize {
+    let mut count: usize = 0;
+    for part in parts {
+        count = count.saturating_add(part.saved.entries().len());
+    }
+    count
+}
+
+// Makes room for the lines of the entries, where there is memory for it: the text then grows once. Where there is none it grows
+// as it is written.
+fn reserve_for(frozen: &Frozen, text: &mut Vec<u8>)
+    ensures { text.new.items ≡ text.old.items }
 {
-    bytes.saturating_add(bytes / 8)
+    let room = count_entries(frozen.parts()).saturating_mul(ROOM_OF_ENTRY);
+    let _made = text.reserve(room);
 }
 
 // Appends the lines of the checkpoint.
@@ -99,7 +113,7 @@ impl Keeper {
             return Err(Memory);
         };
         let mut text = buffer_for(self.answering.alloc, &frozen)?;
-        text.reserve(self.room)?;
+        reserve_for(&frozen, &mut text);
         push_places(input, self.output, &mut text)?;
         push_lines(&self.form, &frozen, &mut text)?;
         Ok(text)
@@ -127,7 +141,6 @@ impl Keeper {
         let text = self.text()?;
         wire.keep(&text)?;
         self.kept_at = self.answering.engine.last_punctuation();
-        self.room = room_behind(text.len());
         Ok(())
     }
 

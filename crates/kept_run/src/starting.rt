@@ -57,7 +57,6 @@ pub(crate) fn start_first<W: KeptWire>(
         input: 0,
         output,
         kept_at: Time::ZERO,
-        room: 0,
     })
 }
 
@@ -145,6 +144,5 @@ pub(crate) fn start_again<W: KeptWire>(
         input,
         output,
         kept_at: Time::ZERO,
-        room: 0,
     })
 }

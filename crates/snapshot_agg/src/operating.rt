@@ -61,7 +61,12 @@ impl Operator for Grouped {
     }
 
     fn save(&self) -> Result<Saved, Memory> {
-        let mut saved = Saved::new(self.alloc);
+        let rows = self.groups.rows.len();
+        let waiting = self.waiting.len() as usize;
+        let count = rows
+            .saturating_add(waiting)
+            .saturating_add(self.running.len());
+        let mut saved = Saved::with_capacity(self.alloc, count)?;
         self.groups.rows.save(&mut saved, 0)?;
         self.waiting.save(self.alloc, &mut saved, 1)?;
         save_runs(&mut saved, 2, &self.running)?;

@@ -141,7 +141,7 @@ impl Sweep for JoinSides {
 
     fn save(&self) -> Result<Saved, Memory> {
         let alloc = self.rows.alloc;
-        let mut saved = Saved::new(alloc);
+        let mut saved = Saved::with_capacity(alloc, self.held() as usize)?;
         save_rows(&mut saved, 0, &self.rows.left)?;
         save_rows(&mut saved, 1, &self.rows.right)?;
         save_waiting(alloc, &mut saved, 2, &self.left_waiting)?;

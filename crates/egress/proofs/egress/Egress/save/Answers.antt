@@ -23,7 +23,7 @@ at_once c = λ texts h closed at.
     let began = ends_first texts kinds (of h) closed closed settled waiting [] since o.rows.lines.items at.holds.high at.holds.swept (waits_placed texts h closed closed o at.placed at.holds) in
     let ends = ends_last texts kinds (of h) closed closed settled waiting [] since [] since waiting (λ t low. none t) began in
     save_resumes texts at.distinct h closed o at.holds at.placed at.typed [] c.save_rest.new.saved since ends
-    (subst (λ old. TakenRest old c.save_rest.new.saved since) c.new-saved.ensures c.in_ok-save_rest.ensures)
+    (subst (λ old. TakenRest old c.save_rest.new.saved since) c.in_ok-saved.ensures c.in_ok-save_rest.ensures)
 
 pub returns-then-is_empty-clause-resumes : goal.returns-then-is_empty-clause-resumes
 returns-then-is_empty-clause-resumes c = at_once c
@@ -47,7 +47,7 @@ resumes c = λ texts h closed at.
     save_resumes texts at.distinct h closed o at.holds at.placed at.typed _ c.save_rest-2.new.saved (since_at c.save_waiting.new.starts)
     (subst (λ s. TakenEnds (of h) closed (waiting_in o.waiting) [] c.save_waiting.new.saved s (since_at c.save_waiting.new.starts)) starts
     (subst (λ w. TakenEnds (of h) closed w [] c.save_waiting.new.saved (since_at c.in_ok-starts.starts) (since_at c.save_waiting.new.starts)) waits
-    (subst (λ old. TakenEnds (of h) closed (waiting_in c.in_ok-waiting.waiting) old c.save_waiting.new.saved (since_at c.in_ok-starts.starts) (since_at c.save_waiting.new.starts)) c.new-saved.ensures ends)))
+    (subst (λ old. TakenEnds (of h) closed (waiting_in c.in_ok-waiting.waiting) old c.save_waiting.new.saved (since_at c.in_ok-starts.starts) (since_at c.save_waiting.new.starts)) c.in_ok-saved.ensures ends)))
     c.in_ok-save_rest-2.ensures
 
 pub returns-clause-resumes : goal.returns-clause-resumes

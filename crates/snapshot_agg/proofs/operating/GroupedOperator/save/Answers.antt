@@ -13,8 +13,8 @@ use Rattle.snapshot_agg.proofs.operating.GroupedOperator.save.Goals as goal
 pub returns-clause-few : goal.returns-clause-few
 returns-clause-few c =
     let s = c.args.self.now in
-    let none = ap length c.new-saved.ensures in
-    let rows = saved_length c.new-saved.result c.save.new.saved 0 (starts_of s.groups.rows.rows) c.in_ok-save.ensures in
+    let none = ap length c.in_ok-saved.ensures in
+    let rows = saved_length c.in_ok-saved.saved c.save.new.saved 0 (starts_of s.groups.rows.rows) c.in_ok-save.ensures in
     let waiting = saved_length c.save.new.saved c.save-2.new.saved 1 (queued s.waiting) c.in_ok-save-2.ensures in
     let told = saved_length c.save-2.new.saved c.save_runs.new.saved 2 (map (λ e. start_of e.1) s.running.entries) c.in_ok-save_runs.ensures in
     let a = length_map start_of s.groups.rows.rows in
@@ -29,7 +29,7 @@ returns-clause-sound c =
     saved_sound g.key.items g.aggs.items (map cell_kind_of s.left_kinds.items) (map cell_kind_of s.kinds.items) s.left_to g.rows.rows s.running s.waiting
     (starts_of g.rows.rows) (queued s.waiting) (map (λ e. start_of e.1) s.running.entries) refl refl refl
     c.save.new.saved c.save-2.new.saved c.save_runs.new.saved
-    (c.in_ok-save.ensures ∙ ap (λ l. l ++ entries_of 0 (starts_of g.rows.rows)) c.new-saved.ensures) c.in_ok-save-2.ensures c.in_ok-save_runs.ensures s.few.once
+    (c.in_ok-save.ensures ∙ ap (λ l. l ++ entries_of 0 (starts_of g.rows.rows)) c.in_ok-saved.ensures) c.in_ok-save-2.ensures c.in_ok-save_runs.ensures s.few.once
     (s.side c.requires) (s.runs c.requires)
 
 pub returns-clause-resumes : goal.returns-clause-resumes
@@ -39,5 +39,5 @@ returns-clause-resumes c = λ texts hl hr out k.
     saved_resumes g.key.items g.aggs.items (map cell_kind_of s.left_kinds.items) (map cell_kind_of s.kinds.items) s.left_to g.rows.rows s.running s.waiting
     (starts_of g.rows.rows) (queued s.waiting) (map (λ e. start_of e.1) s.running.entries) refl refl refl
     c.save.new.saved c.save-2.new.saved c.save_runs.new.saved
-    (c.in_ok-save.ensures ∙ ap (λ l. l ++ entries_of 0 (starts_of g.rows.rows)) c.new-saved.ensures) c.in_ok-save-2.ensures c.in_ok-save_runs.ensures s.few.once
+    (c.in_ok-save.ensures ∙ ap (λ l. l ++ entries_of 0 (starts_of g.rows.rows)) c.in_ok-saved.ensures) c.in_ok-save-2.ensures c.in_ok-save_runs.ensures s.few.once
     texts hl hr out (returns-clause-sound c) k
