@@ -7,7 +7,8 @@ ghost use Rattle.command_line.specs.Words.{AreWithin, asked_by};
 ghost use Rattle.tempo_cli.specs.Jobs.{HasPlan, HasFault, query_status};
 ghost use Rattle.admission.specs.Entries.{Told as Said};
 ghost use Rattle.kept_run.specs.Keeping.{Places, RunsOn, RunsFirst, RunsByFile, task_from, IsStartOf, HasState};
-ghost use Rattle.kept_run.specs.Status.{kept_of, KeptCounts, IsKeptNoted, HasKeptReason, IsKeptAsked, IsRefusal};
+ghost use Rattle.kept_run.specs.Status.{kept_of, KeptCounts, IsKeptNoted, HasKeptReason, IsRefusal};
+ghost use Rattle.kept_run.specs.Status.{TellsEnd};
 
 use crate::starting::{start_again, start_first};
 use crate::status::KeptStatus;
@@ -34,8 +35,7 @@ fn run_first<R: Threads + Sync, W: KeptWire, G: Gate>(
     requires within { AreWithin (asked_by asked.now) }
     ensures runs { Grows (W.journal wire.old) (W.journal wire.new)
         (RunsFirst (asked_by asked.now) plan every (kept_of result)) }
-    ensures asked { IsKeptAsked (kept_of result) }
-    ensures counts { KeptCounts (W.read_faults wire.old) (W.read_faults wire.new)
+    ensures tells { TellsEnd (W.read_faults wire.old) (W.read_faults wire.new)
         (W.write_faults wire.old) (W.write_faults wire.new) (kept_of result) }
 {
     let mut keeper = start_first(alloc, asked, every, plan, wire)?;
@@ -60,8 +60,7 @@ fn run_again<R: Threads + Sync, W: KeptWire, G: Gate>(
     ensures refused { (HasState (asked_by asked.now) plan bytes.now → ⊥) →
         Grows (W.journal wire.old) (W.journal wire.new)
         (λ J. (J ≡ []) × IsRefusal (kept_of result)) }
-    ensures asked { IsKeptAsked (kept_of result) }
-    ensures counts { KeptCounts (W.read_faults wire.old) (W.read_faults wire.new)
+    ensures tells { TellsEnd (W.read_faults wire.old) (W.read_faults wire.new)
         (W.write_faults wire.old) (W.write_faults wire.new) (kept_of result) }
 {
     let mut keeper = start_again(alloc, asked, every, plan, bytes, wire)?;
@@ -81,8 +80,7 @@ fn run_plan<R: Threads + Sync, W: KeptWire, G: Gate>(
     requires within { AreWithin (asked_by asked.now) }
     ensures does { RunsByFile (asked_by asked.now) plan every (W.told wire.old) (kept_of result)
         (W.journal wire.old) (W.journal wire.new) }
-    ensures asked { IsKeptAsked (kept_of result) }
-    ensures counts { KeptCounts (W.read_faults wire.old) (W.read_faults wire.new)
+    ensures tells { TellsEnd (W.read_faults wire.old) (W.read_faults wire.new)
         (W.write_faults wire.old) (W.write_faults wire.new) (kept_of result) }
 {
     match wire.open(alloc) {
