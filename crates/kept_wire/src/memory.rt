@@ -1,10 +1,6 @@
 // A wire over files that are in memory, which crashes where it is told to.
-ghost use Rattle.std.specs.Prelude.{◌≡◌};
-ghost use Rattle.std.specs.Result.{result_ok};
-ghost use Rattle.wire_lines.specs.Faults.{HasCause};
-
 use crate::KeptWire;
-use durable_file::{MediumFailed, MemoryMedium, ReadFault, open, replace};
+use durable_file::{MediumFailed, MemoryMedium, ReadFault, counted, open, replace};
 use std::alloc::Global;
 use std::marker::Model;
 use wire_lines::{ReadFailed, Wire, WriteFailed};
@@ -213,20 +209,6 @@ impl MemoryFileWire {
     }
 }
 
-// One fault more, where there is one.
-fn counted<T: Drop>(faults: &mut u64, done: Option<T>) -> Result<T, MediumFailed>
-    ensures cause { HasCause faults.old faults.new result }
-    ensures value { result_ok result ≡ done }
-{
-    match done {
-        Some(value) => Ok(value),
-        None => {
-            *faults = faults.saturating_add(1);
-            Err(MediumFailed)
-        }
-    }
-}
-
 impl Wire for MemoryFileWire {
     ghost use Rattle.std.specs.Prelude.{Some, ◌≡◌, ◌≤◌, ◌<◌, ◌+◌, ◌++◌, length, take, drop, IfOk};
     ghost use Rattle.wire_lines.specs.Journal.{Reads, Writes};
@@ -355,7 +337,7 @@ impl KeptWire for MemoryFileWire {
     {
         let output = self.output.len() as u64;
         let started = self.start(0, output, Done::StartNew(output));
-        counted(&mut self.write_faults, started)?;
+        counted(&mut self.write_faults, started.ok_or(MediumFailed))?;
         Ok(output)
     }
 
@@ -371,7 +353,7 @@ impl KeptWire for MemoryFileWire {
         ensures input { OnOk result (self.new.taken ≡ input) }
     {
         let started = self.start(input, output, Done::StartAt(input, output));
-        counted(&mut self.write_faults, started)
+        counted(&mut self.write_faults, started.ok_or(MediumFailed))
     }
 
     fn sync_output(&mut self) -> Result<(), MediumFailed>
@@ -386,7 +368,7 @@ impl KeptWire for MemoryFileWire {
         ensures output { self.new.output ≡ self.old.output }
     {
         let synced = self.sync();
-        counted(&mut self.write_faults, synced)
+        counted(&mut self.write_faults, synced.ok_or(MediumFailed))
     }
 
     fn keep(&mut self, bytes: &[u8]) -> Result<(), MediumFailed> {
