@@ -100,34 +100,9 @@ impl MemoryFileWire {
         self.output.as_slice()
     }
 
-    /// What the next process finds after a crash: FILE as the medium's `crash` leaves it, and of the output's file the bytes that
-    /// are kept and so many more. No call of it fails.
-    pub fn crash(self, back: usize, torn: Vec<u8>, more: usize) -> Option<MemoryFileWire>
-        ensures { result ≡ option_map (crashed self more)
-            (left_back self.file.told.now back torn.items) }
-    {
-        let MemoryFileWire {
-            alloc,
-            input,
-            step,
-            taken: _,
-            mut output,
-            kept,
-            medium,
-            calls: _,
-            journal: _,
-            read_faults: _,
-            write_faults: _,
-        } = self;
-        let more = more.min(output.len() - kept);
-        output.truncate(kept + more);
-        let medium = medium.crash(back, torn)?;
-        Some(MemoryFileWire::new(alloc, input, step, output, medium, u64::MAX))
-    }
-
-    /// What the next process finds where this one was ended and the machine went on. No call of it fails.
-    pub fn killed(self) -> MemoryFileWire
-        ensures { result ≡ killed self }
+    // What the next process finds where nothing is done to the files. No call of it fails.
+    fn reopened(self) -> MemoryFileWire
+        ensures { result ≡ opened self.input self.step self.output self.kept self.file (2 ^ 64 - 1) }
     {
         let MemoryFileWire {
             alloc,
@@ -149,12 +124,35 @@ impl MemoryFileWire {
             taken: 0,
             output,
             kept,
-            medium: medium.killed(),
+            medium,
             calls: u64::MAX,
             journal: Vec::new(alloc),
             read_faults: 0,
             write_faults: 0,
         }
+    }
+
+    /// What the next process finds after a crash: FILE as the medium's `crash` leaves it, and of the output's file the bytes that
+    /// are kept and so many more. No call of it fails.
+    pub fn crash(self, back: usize, torn: Vec<u8>, more: usize) -> Option<MemoryFileWire>
+        ensures { result ≡ option_map (crashed self more)
+            (left_back self.file.told.now back torn.items) }
+    {
+        let mut next = self.reopened();
+        let more = more.min(next.output.len() - next.kept);
+        next.output.truncate(next.kept + more);
+        next.kept = next.output.len();
+        next.medium = next.medium.crash(back, torn)?;
+        Some(next)
+    }
+
+    /// What the next process finds where this one was ended and the machine went on. No call of it fails.
+    pub fn killed(self) -> MemoryFileWire
+        ensures { result ≡ killed self }
+    {
+        let mut next = self.reopened();
+        next.medium = next.medium.killed();
+        next
     }
 
     // One call fewer may go on. None where none may, or out of memory for its entry.
