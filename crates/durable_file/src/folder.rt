@@ -1,9 +1,8 @@
 // A medium over the files of the system.
 ghost use Rattle.std.specs.Prelude.{◌≡◌, ◌++◌, IfOk, codes, string_bytes};
-ghost use Rattle.wire_lines.specs.Faults.{HasCause};
 ghost use Rattle.durable_file.specs.Calls.{HasReadCause};
 
-use crate::{Medium, MediumFailed, Name, ReadFault};
+use crate::{Medium, MediumFailed, Name, ReadFault, counted};
 use std::alloc::{AllocError, Global};
 use std::fs::OpenFile;
 use std::io::{ErrorKind, Read, Write};
@@ -56,19 +55,6 @@ fn sync_file<R: Files>(rt: &R, open: Option<R::File>, path: &str) -> io::Result<
     match open {
         Some(file) => file.sync_all(),
         None => fs::open(rt, path)?.sync_all(),
-    }
-}
-
-// One fault more, where there is one.
-fn counted<T: Drop>(faults: &mut u64, answer: io::Result<T>) -> Result<T, MediumFailed>
-    ensures { HasCause faults.old faults.new result }
-{
-    match answer {
-        Ok(value) => Ok(value),
-        Err(_) => {
-            *faults = faults.saturating_add(1);
-            Err(MediumFailed)
-        }
     }
 }
 

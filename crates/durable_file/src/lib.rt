@@ -10,7 +10,7 @@ mod replacing;
 
 pub use folder::{FolderMedium, folder_of};
 pub use laws::{crashes_in_memory_may_be, replacements_stay_whole};
-pub use medium::{Medium, MediumFailed, Name, ReadFault};
+pub use medium::{Medium, MediumFailed, Name, ReadFault, counted};
 pub use memory::MemoryMedium;
 pub use opening::open;
 pub use replacing::replace;

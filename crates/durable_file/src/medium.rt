@@ -1,5 +1,6 @@
 // A medium: FILE, and FILE.new beside it in the same folder.
 ghost use Rattle.std.specs.Prelude.{◌≡◌, ℕ, Option};
+ghost use Rattle.std.specs.Result.{result_ok};
 ghost use Rattle.wire_lines.specs.Faults.{HasCause};
 ghost use Rattle.durable_file.specs.Calls.{Told, Goes, HasRead, HasReadCause};
 ghost use Rattle.durable_file.specs.Calls.{HasWritten, HasSynced, HasRenamed, HasSyncedFolder};
@@ -19,6 +20,23 @@ pub enum Name {
 /// A call of a medium failed.
 #[derive(Clone, Copy, Debug, PartialEq, Eq)]
 pub struct MediumFailed;
+
+/// One fault more where the answer is an error.
+pub fn counted<T: Drop, E: Drop>(
+    faults: &mut u64,
+    answer: Result<T, E>,
+) -> Result<T, MediumFailed>
+    ensures cause { HasCause faults.old faults.new result }
+    ensures value { result_ok result ≡ result_ok answer }
+{
+    match answer {
+        Ok(value) => Ok(value),
+        Err(_) => {
+            *faults = faults.saturating_add(1);
+            Err(MediumFailed)
+        }
+    }
+}
 
 /// Why FILE was not read.
 #[derive(Clone, Copy, Debug, PartialEq, Eq)]

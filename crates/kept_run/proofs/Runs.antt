@@ -9,7 +9,7 @@ use Rattle.plan_model.specs.IsPlan.{PlanParts}
 use Rattle.command_line.specs.Words.{Asked as Words}
 use Rattle.tempo_cli.proofs.Journals.{Grows-then}
 use Rattle.kept_run.specs.Keeping.{Task, Places, Keeps, RunsFrom, RunsOn, RunsFirst, RunsByFile, HasBytes, HasState, IsStartOf, first_start, first_task, next_start, task_from}
-use Rattle.kept_run.specs.Status.{IsRefusal}
+use Rattle.kept_run.specs.Status.{HasKeptReason, IsKeptAsked, IsRefusal}
 use Rattle.kept_run.specs.Standing.{Begun, StartsWith, IsWanting}
 use Rattle.plan_model.specs.declared.fault.QueryFault.{QueryFault}
 use Rattle.plan_model.specs.declared.fault.QueryError.{QueryError}
@@ -17,10 +17,10 @@ use Rattle.plan_model.specs.declared.fault.QueryError.TheVariants as errors
 use Rattle.tempo_cli.specs.Jobs.{HasPlan, IsPlanned, query_status}
 use Rattle.tempo_cli.specs.declared.status.Status.{Status}
 use Rattle.tempo_cli.specs.declared.status.Status.TheVariants as statuses
-use Rattle.tempo_cli.proofs.Jobs.{never_both}
+use Rattle.tempo_cli.proofs.Jobs.{never_both, asked_reason}
 use Rattle.kept_run.specs.declared.keeping.Keeper.{Keeper}
 use Rattle.kept_run.proofs.Adding.{adds_grows}
-use Rattle.kept_run.specs.declared.status.KeptStatus.TheVariants.{Ended}
+use Rattle.kept_run.specs.declared.status.KeptStatus.TheVariants.{Ended, CheckpointFailed}
 use Rattle.kept_run.specs.declared.status.KeptStatus.{KeptStatus}
 
 runs_as : (mark : Mark) (t : Task) (every : ℕ) (status : KeptStatus) (J K : List Entry) → J ≡ Did mark ∷ [] → Keeps t every status K → RunsFrom mark t every status (J ++ K)
@@ -106,3 +106,7 @@ by_error text errors.Memory asked plan told is h = by_failure told (Ended status
 pub ended_so : (s : Status) (fault : QueryFault) → (s ≡ statuses.BadQuery fault) ⊎ (s ≡ statuses.Memory) → (Ended s ≡ Ended (statuses.BadQuery fault)) ⊎ (Ended s ≡ Ended statuses.Memory)
 ended_so s fault (inl e) = inl (ap Ended e)
 ended_so s fault (inr e) = inr (ap Ended e)
+
+pub kept_reason : (query : List ℕ) (status : KeptStatus) → IsKeptAsked status → HasKeptReason query status
+kept_reason query (Ended status) is = asked_reason query status is
+kept_reason query CheckpointFailed is = tt

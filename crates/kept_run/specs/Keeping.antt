@@ -3,6 +3,7 @@ use Rattle.std.specs.Prelude.{◌≡◌, ◌⊎◌, ◌<◌, ◌^◌, ◌+◌, �
 use Rattle.wire_lines.specs.Journal.{Entry, In, Out, Did, Mark, Start, AtEnd, CutAt, Sync, Keep, Grows, ins, outs, ended}
 use Rattle.wire_lines.specs.Lines.{whole, joined}
 use Rattle.plan_model.specs.IsPlan.{PlanParts}
+use Rattle.plan_model.specs.declared.fault.QueryFault.{QueryFault}
 use Rattle.admission.specs.Entries.{Told}
 use Rattle.admission.specs.Progress.{progress}
 use Rattle.command_line.specs.Words.{Asked as Words}
@@ -14,14 +15,14 @@ use Rattle.durable_file.specs.Calls.{Told as Disks}
 use Rattle.durable_file.specs.Disk.{Content, Absent, Written, Synced}
 use Rattle.tempo_engine.specs.Frozen.{IsState}
 use Rattle.tempo_cli.specs.Answers.{Answers, IsFront}
-use Rattle.tempo_cli.specs.Jobs.{IsCheckpointOf, form_asked}
+use Rattle.tempo_cli.specs.Jobs.{IsCheckpointOf, HasPlan, HasFault, form_asked}
 use Rattle.tempo_cli.specs.Restoring.{AreFront}
 use Rattle.tempo_cli.specs.Table.{IsPrompt}
 use Rattle.tempo_cli.specs.Feeding.{Asked, answers_to, fed_by}
 use Rattle.tempo_cli.specs.declared.status.Status.TheVariants as statuses
 use Rattle.kept_run.specs.declared.status.KeptStatus.{KeptStatus}
 use Rattle.kept_run.specs.declared.status.KeptStatus.TheVariants.{Ended, CheckpointFailed}
-use Rattle.kept_run.specs.Status.{IsKeptEnd, IsRefusal}
+use Rattle.kept_run.specs.Status.{HasKeptReason, IsKeptEnd, IsRefusal}
 
 -- how many bytes of the input, and of the output's file, are behind a run
 pub record Places : Type 0 where
@@ -209,6 +210,16 @@ pub record RunsByFile (asked : Words) (plan : PlanParts) (every : ℕ) (told : O
       IsStartOf (task_from asked plan lines start) bytes → Grows before now (RunsOn (task_from asked plan lines start) every status)
   pub refused : (d : Disks) → told ≡ Some d → (bytes : List ℕ) → HasBytes d.now.file bytes → (HasState asked plan bytes → ⊥) →
       Grows before now (λ J. (J ≡ []) × IsRefusal status)
+
+-- the query has this fault: nothing came in or went out
+abbrev pub RunsNot : QueryFault → KeptStatus → List Entry → Type 0
+RunsNot fault status J = (J ≡ []) × ((status ≡ Ended (statuses.BadQuery fault)) ⊎ (status ≡ Ended statuses.Memory))
+
+-- what a run of these words has done, by whether their query has a plan, and how it ended
+pub record RunsAsked (asked : Words) (every : ℕ) (told : Option Disks) (status : KeptStatus) (before now : Option (List Entry)) : Type 0 where
+  pub reason : HasKeptReason asked.query status
+  pub planned : (plan : PlanParts) → HasPlan asked.query plan → RunsByFile asked plan every told status before now
+  pub unplanned : (fault : QueryFault) → HasFault asked.query fault → Grows before now (RunsNot fault status)
 
 -- in a crash once a run did this, FILE with these bytes can be gone on from: a start reads them as a checkpoint after the first whole
 -- lines that came in, and what these call for had gone out, and nothing else, when it was brought to the disk

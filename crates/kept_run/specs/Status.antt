@@ -63,6 +63,10 @@ abbrev pub IsKeptAsked : KeptStatus → Type 0
 IsKeptAsked (Ended status) = IsAsked status
 IsKeptAsked CheckpointFailed = Unit {0}
 
+-- the status tells nothing of the words or of the query, and of a failed call only where a count of faults rose
+abbrev pub TellsEnd : ℕ → ℕ → ℕ → ℕ → KeptStatus → Type 0
+TellsEnd reads reads' writes writes' status = IsKeptAsked status × KeptCounts reads reads' writes writes' status
+
 -- FILE was refused, or the run was out of memory before that was known
 abbrev pub IsRefused : Status → Type 0
 IsRefused (statuses.BadCheckpoint line) = Unit {0}

@@ -10,7 +10,7 @@ ghost use Rattle.kept_run.specs.Keeping.{Task, task_after, place_lines, StartsTa
 ghost use Rattle.kept_run.specs.Keeping.{last_behind, Keeps};
 ghost use Rattle.kept_run.specs.Standing.{Stands, Begun, MayRead, Fails, IsWanting, IsAsBefore};
 ghost use Rattle.kept_run.specs.Standing.{SaysSame, WhateverStands, TakesOn, EndsAt, HasFewer};
-ghost use Rattle.kept_run.specs.Status.{kept_of, KeptCounts, StaysCounted, IsKeptAsked};
+ghost use Rattle.kept_run.specs.Status.{kept_of, KeptCounts, StaysCounted, TellsEnd};
 
 use crate::status::KeptStatus;
 use checkpoint::{Form, Place, write_entries, write_line};
@@ -169,10 +169,9 @@ impl Keeper {
         ensures ok { OnOk result
             (TakesOn (W.journal wire.old) (W.journal wire.new) self.old self.new) }
         ensures err { IfErr result (EndsAt (W.journal wire.old) (W.journal wire.new) self.old) }
-        ensures asked { IfErr result IsKeptAsked }
         ensures counted { OnOk result (StaysCounted (W.read_faults wire.old)
             (W.read_faults wire.new) (W.write_faults wire.old) (W.write_faults wire.new)) }
-        ensures counts { IfErr result (KeptCounts (W.read_faults wire.old) (W.read_faults wire.new)
+        ensures tells { IfErr result (TellsEnd (W.read_faults wire.old) (W.read_faults wire.new)
             (W.write_faults wire.old) (W.write_faults wire.new)) }
     {
         match self.answering.next_step(rt, gate) {
@@ -203,10 +202,9 @@ impl Keeper {
         ensures ok { OnOk result
             (TakesOn (W.journal wire.old) (W.journal wire.new) self.old self.new) }
         ensures err { IfErr result (EndsAt (W.journal wire.old) (W.journal wire.new) self.old) }
-        ensures asked { IfErr result IsKeptAsked }
         ensures counted { OnOk result (StaysCounted (W.read_faults wire.old)
             (W.read_faults wire.new) (W.write_faults wire.old) (W.write_faults wire.new)) }
-        ensures counts { IfErr result (KeptCounts (W.read_faults wire.old) (W.read_faults wire.new)
+        ensures tells { IfErr result (TellsEnd (W.read_faults wire.old) (W.read_faults wire.new)
             (W.write_faults wire.old) (W.write_faults wire.new)) }
     {
         'lines: loop {
@@ -230,8 +228,7 @@ impl Keeper {
             MayRead t every self.old (limit + 1) J →
             Grows (W.journal wire.old) (W.journal wire.new)
             (λ K. Keeps t every (kept_of result) (J ++ K)) }
-        ensures asked { IsKeptAsked (kept_of result) }
-        ensures counts { KeptCounts (W.read_faults wire.old) (W.read_faults wire.new)
+        ensures tells { TellsEnd (W.read_faults wire.old) (W.read_faults wire.new)
             (W.write_faults wire.old) (W.write_faults wire.new) (kept_of result) }
     {
         let mut left = LIMIT + 1;
@@ -258,8 +255,7 @@ impl Keeper {
         requires going { self.old.answering.engine.ended ≡ false }
         ensures ends { (t : Task) (every : ℕ) → Begun t every self.old →
             Grows (W.journal wire.old) (W.journal wire.new) (Keeps t every (kept_of result)) }
-        ensures asked { IsKeptAsked (kept_of result) }
-        ensures counts { KeptCounts (W.read_faults wire.old) (W.read_faults wire.new)
+        ensures tells { TellsEnd (W.read_faults wire.old) (W.read_faults wire.new)
             (W.write_faults wire.old) (W.write_faults wire.new) (kept_of result) }
     {
         self.take_checkpoint(wire)?;

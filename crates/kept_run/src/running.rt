@@ -1,13 +1,11 @@
 // The whole run.
-ghost use Rattle.std.specs.Prelude.{◌≡◌, ◌⊎◌, [], List};
+ghost use Rattle.std.specs.Prelude.{◌≡◌, [], List};
 ghost use Rattle.wire_lines.specs.Journal.{Grows};
-ghost use Rattle.plan_model.specs.IsPlan.{PlanParts};
-ghost use Rattle.plan_model.specs.declared.fault.QueryFault.{QueryFault as SomeFault};
 ghost use Rattle.command_line.specs.Words.{AreWithin, asked_by};
-ghost use Rattle.tempo_cli.specs.Jobs.{HasPlan, HasFault, query_status};
 ghost use Rattle.admission.specs.Entries.{Told as Said};
-ghost use Rattle.kept_run.specs.Keeping.{Places, RunsOn, RunsFirst, RunsByFile, task_from, IsStartOf, HasState};
-ghost use Rattle.kept_run.specs.Status.{kept_of, KeptCounts, IsKeptNoted, HasKeptReason, IsKeptAsked, IsRefusal};
+ghost use Rattle.kept_run.specs.Keeping.{Places, RunsOn, RunsFirst, RunsByFile, RunsAsked};
+ghost use Rattle.kept_run.specs.Keeping.{task_from, IsStartOf, HasState};
+ghost use Rattle.kept_run.specs.Status.{kept_of, KeptCounts, IsKeptNoted, IsRefusal, TellsEnd};
 
 use crate::starting::{start_again, start_first};
 use crate::status::KeptStatus;
@@ -34,8 +32,7 @@ fn run_first<R: Threads + Sync, W: KeptWire, G: Gate>(
     requires within { AreWithin (asked_by asked.now) }
     ensures runs { Grows (W.journal wire.old) (W.journal wire.new)
         (RunsFirst (asked_by asked.now) plan every (kept_of result)) }
-    ensures asked { IsKeptAsked (kept_of result) }
-    ensures counts { KeptCounts (W.read_faults wire.old) (W.read_faults wire.new)
+    ensures tells { TellsEnd (W.read_faults wire.old) (W.read_faults wire.new)
         (W.write_faults wire.old) (W.write_faults wire.new) (kept_of result) }
 {
     let mut keeper = start_first(alloc, asked, every, plan, wire)?;
@@ -60,8 +57,7 @@ fn run_again<R: Threads + Sync, W: KeptWire, G: Gate>(
     ensures refused { (HasState (asked_by asked.now) plan bytes.now → ⊥) →
         Grows (W.journal wire.old) (W.journal wire.new)
         (λ J. (J ≡ []) × IsRefusal (kept_of result)) }
-    ensures asked { IsKeptAsked (kept_of result) }
-    ensures counts { KeptCounts (W.read_faults wire.old) (W.read_faults wire.new)
+    ensures tells { TellsEnd (W.read_faults wire.old) (W.read_faults wire.new)
         (W.write_faults wire.old) (W.write_faults wire.new) (kept_of result) }
 {
     let mut keeper = start_again(alloc, asked, every, plan, bytes, wire)?;
@@ -81,8 +77,7 @@ fn run_plan<R: Threads + Sync, W: KeptWire, G: Gate>(
     requires within { AreWithin (asked_by asked.now) }
     ensures does { RunsByFile (asked_by asked.now) plan every (W.told wire.old) (kept_of result)
         (W.journal wire.old) (W.journal wire.new) }
-    ensures asked { IsKeptAsked (kept_of result) }
-    ensures counts { KeptCounts (W.read_faults wire.old) (W.read_faults wire.new)
+    ensures tells { TellsEnd (W.read_faults wire.old) (W.read_faults wire.new)
         (W.write_faults wire.old) (W.write_faults wire.new) (kept_of result) }
 {
     match wire.open(alloc) {
@@ -103,14 +98,8 @@ fn perform<R: Threads + Sync, W: KeptWire, G: Gate>(
     gate: &G,
 ) -> KeptStatus
     requires within { AreWithin (asked_by asked.now) }
-    ensures reason { HasKeptReason asked.now.query.now result }
-    ensures does { (plan : PlanParts) → HasPlan asked.now.query.now plan →
-        RunsByFile (asked_by asked.now) plan every (W.told wire.old) result
+    ensures does { RunsAsked (asked_by asked.now) every (W.told wire.old) result
         (W.journal wire.old) (W.journal wire.new) }
-    ensures unplanned { (fault : SomeFault) → HasFault asked.now.query.now fault →
-        Grows (W.journal wire.old) (W.journal wire.new) (λ J. (J ≡ [])
-        × ((result ≡ KeptStatus.Ended (Status.BadQuery fault))
-        ⊎ (result ≡ KeptStatus.Ended Status.Memory))) }
     ensures counts { KeptCounts (W.read_faults wire.old) (W.read_faults wire.new)
         (W.write_faults wire.old) (W.write_faults wire.new) result }
 {
@@ -153,16 +142,10 @@ pub fn run_kept<R: Threads + Sync, W: KeptWire, N: Wire, G: Gate>(
     gate: &G,
 ) -> KeptStatus
     requires within { AreWithin (asked_by asked.now) }
-    ensures reason { HasKeptReason asked.now.query.now result }
 
-    // What came in, went out, was brought to the disk and kept, by what FILE has.
-    ensures does { (plan : PlanParts) → HasPlan asked.now.query.now plan →
-        RunsByFile (asked_by asked.now) plan every (W.told wire.old) result
+    // What came in, went out, was brought to the disk and kept, by what the query is and what FILE has.
+    ensures does { RunsAsked (asked_by asked.now) every (W.told wire.old) result
         (W.journal wire.old) (W.journal wire.new) }
-    ensures unplanned { (fault : SomeFault) → HasFault asked.now.query.now fault →
-        Grows (W.journal wire.old) (W.journal wire.new) (λ J. (J ≡ [])
-        × ((result ≡ KeptStatus.Ended (Status.BadQuery fault))
-        ⊎ (result ≡ KeptStatus.Ended Status.Memory))) }
     ensures counts { KeptCounts (W.read_faults wire.old) (W.read_faults wire.new)
         (W.write_faults wire.old) (W.write_faults wire.new) result }
 

@@ -7,7 +7,8 @@ ghost use Rattle.tempo_engine.specs.Frozen.{IsState};
 ghost use Rattle.kept_run.specs.Keeping.{Places, first_start, first_task, task_from};
 ghost use Rattle.kept_run.specs.Keeping.{IsStartOf, HasState};
 ghost use Rattle.kept_run.specs.Standing.{Begun, StartsWith, IsWanting, HasThawed, IsFresh};
-ghost use Rattle.kept_run.specs.Status.{KeptCounts, StaysCounted, IsKeptAsked, IsEndedOwn, IsRefusal};
+ghost use Rattle.kept_run.specs.Status.{KeptCounts, StaysCounted, TellsEnd, IsKeptAsked, IsEndedOwn};
+ghost use Rattle.kept_run.specs.Status.{IsRefusal};
 
 use crate::keeping::Keeper;
 use crate::reading::{KeptState, read_state};
@@ -123,10 +124,9 @@ pub(crate) fn start_again<W: KeptWire>(
         IsWanting status) }
     ensures state { OnOk result (HasState (asked_by asked.now) plan bytes.now) }
     ensures refusal { IfErr result IsRefusal }
-    ensures asked { IfErr result IsKeptAsked }
     ensures counted { OnOk result (StaysCounted (W.read_faults wire.old) (W.read_faults wire.new)
         (W.write_faults wire.old) (W.write_faults wire.new)) }
-    ensures counts { IfErr result (KeptCounts (W.read_faults wire.old) (W.read_faults wire.new)
+    ensures tells { IfErr result (TellsEnd (W.read_faults wire.old) (W.read_faults wire.new)
         (W.write_faults wire.old) (W.write_faults wire.new)) }
 {
     let workers = asked.workers as u64;

@@ -1,9 +1,8 @@
 // A wire over the system's files.
 ghost use Rattle.std.specs.Prelude.{◌≡◌, ◌≤◌, ◌<◌, length, IfOk};
-ghost use Rattle.wire_lines.specs.Faults.{HasCause};
 
 use crate::KeptWire;
-use durable_file::{FolderMedium, MediumFailed, ReadFault, folder_of, open, replace};
+use durable_file::{FolderMedium, MediumFailed, ReadFault, counted, folder_of, open, replace};
 use std::alloc::Global;
 use std::fs::{OpenFile, OpenOptions};
 use std::io::{ErrorKind, Read, Seek, SeekFrom, Write};
@@ -71,19 +70,6 @@ fn write_to<S: Write + Drop, F: Write + Drop>(
         return Err(io::Error::from(ErrorKind::WriteZero));
     }
     Ok(count)
-}
-
-// One fault more, where there is one.
-fn counted<T: Drop>(faults: &mut u64, answer: io::Result<T>) -> Result<T, MediumFailed>
-    ensures { HasCause faults.old faults.new result }
-{
-    match answer {
-        Ok(value) => Ok(value),
-        Err(_) => {
-            *faults = faults.saturating_add(1);
-            Err(MediumFailed)
-        }
-    }
 }
 
 impl<'a, R: Files, I: Read + Drop, O: Write + Drop> FileWire<'a, R, I, O> {

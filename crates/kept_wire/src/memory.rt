@@ -1,10 +1,6 @@
 // A wire over files that are in memory, which crashes where it is told to.
-ghost use Rattle.std.specs.Prelude.{◌≡◌};
-ghost use Rattle.std.specs.Result.{result_ok};
-ghost use Rattle.wire_lines.specs.Faults.{HasCause};
-
 use crate::KeptWire;
-use durable_file::{MediumFailed, MemoryMedium, ReadFault, open, replace};
+use durable_file::{MediumFailed, MemoryMedium, ReadFault, counted, open, replace};
 use std::alloc::Global;
 use std::marker::Model;
 use wire_lines::{ReadFailed, Wire, WriteFailed};
@@ -104,34 +100,9 @@ impl MemoryFileWire {
         self.output.as_slice()
     }
 
-    /// What the next process finds after a crash: FILE as the medium's `crash` leaves it, and of the output's file the bytes that
-    /// are kept and so many more. No call of it fails.
-    pub fn crash(self, back: usize, torn: Vec<u8>, more: usize) -> Option<MemoryFileWire>
-        ensures { result ≡ option_map (crashed self more)
-            (left_back self.file.told.now back torn.items) }
-    {
-        let MemoryFileWire {
-            alloc,
-            input,
-            step,
-            taken: _,
-            mut output,
-            kept,
-            medium,
-            calls: _,
-            journal: _,
-            read_faults: _,
-            write_faults: _,
-        } = self;
-        let more = more.min(output.len() - kept);
-        output.truncate(kept + more);
-        let medium = medium.crash(back, torn)?;
-        Some(MemoryFileWire::new(alloc, input, step, output, medium, u64::MAX))
-    }
-
-    /// What the next process finds where this one was ended and the machine went on. No call of it fails.
-    pub fn killed(self) -> MemoryFileWire
-        ensures { result ≡ killed self }
+    // What the next process finds where nothing is done to the files. No call of it fails.
+    fn reopened(self) -> MemoryFileWire
+        ensures { result ≡ opened self.input self.step self.output self.kept self.file (2 ^ 64 - 1) }
     {
         let MemoryFileWire {
             alloc,
@@ -153,12 +124,35 @@ impl MemoryFileWire {
             taken: 0,
             output,
             kept,
-            medium: medium.killed(),
+            medium,
             calls: u64::MAX,
             journal: Vec::new(alloc),
             read_faults: 0,
             write_faults: 0,
         }
+    }
+
+    /// What the next process finds after a crash: FILE as the medium's `crash` leaves it, and of the output's file the bytes that
+    /// are kept and so many more. No call of it fails.
+    pub fn crash(self, back: usize, torn: Vec<u8>, more: usize) -> Option<MemoryFileWire>
+        ensures { result ≡ option_map (crashed self more)
+            (left_back self.file.told.now back torn.items) }
+    {
+        let mut next = self.reopened();
+        let more = more.min(next.output.len() - next.kept);
+        next.output.truncate(next.kept + more);
+        next.kept = next.output.len();
+        next.medium = next.medium.crash(back, torn)?;
+        Some(next)
+    }
+
+    /// What the next process finds where this one was ended and the machine went on. No call of it fails.
+    pub fn killed(self) -> MemoryFileWire
+        ensures { result ≡ killed self }
+    {
+        let mut next = self.reopened();
+        next.medium = next.medium.killed();
+        next
     }
 
     // One call fewer may go on. None where none may, or out of memory for its entry.
@@ -209,20 +203,6 @@ impl MemoryFileWire {
         match self.output.extend_from_slice(piece) {
             Ok(()) => Some(()),
             Err(_) => unreachable!(),
-        }
-    }
-}
-
-// One fault more, where there is one.
-fn counted<T: Drop>(faults: &mut u64, done: Option<T>) -> Result<T, MediumFailed>
-    ensures cause { HasCause faults.old faults.new result }
-    ensures value { result_ok result ≡ done }
-{
-    match done {
-        Some(value) => Ok(value),
-        None => {
-            *faults = faults.saturating_add(1);
-            Err(MediumFailed)
         }
     }
 }
@@ -355,7 +335,7 @@ impl KeptWire for MemoryFileWire {
     {
         let output = self.output.len() as u64;
         let started = self.start(0, output, Done::StartNew(output));
-        counted(&mut self.write_faults, started)?;
+        counted(&mut self.write_faults, started.ok_or(MediumFailed))?;
         Ok(output)
     }
 
@@ -371,7 +351,7 @@ impl KeptWire for MemoryFileWire {
         ensures input { OnOk result (self.new.taken ≡ input) }
     {
         let started = self.start(input, output, Done::StartAt(input, output));
-        counted(&mut self.write_faults, started)
+        counted(&mut self.write_faults, started.ok_or(MediumFailed))
     }
 
     fn sync_output(&mut self) -> Result<(), MediumFailed>
@@ -386,7 +366,7 @@ impl KeptWire for MemoryFileWire {
         ensures output { self.new.output ≡ self.old.output }
     {
         let synced = self.sync();
-        counted(&mut self.write_faults, synced)
+        counted(&mut self.write_faults, synced.ok_or(MediumFailed))
     }
 
     fn keep(&mut self, bytes: &[u8]) -> Result<(), MediumFailed> {
