@@ -1,4 +1,4 @@
--- Finality: what is written for lines is a front of what is written for more lines.
+-- Finality: what is written for lines is a prefix of what is written for more lines.
 use Rattle.std.specs.Prelude.{◌≡◌, ℕ, suc, zero, ◌-◌, ◌<◌, ◌≤◌, max, nat_lt, Bool, true, false, cond, List, [], ◌∷◌, ◌++◌, length, map, flat_map, Option, Some, None, Ok, Err, refl}
 use Rattle.std.proofs.Common.{sym, ◌∙◌, ap, arith, inl, inr, append_assoc}
 use Rattle.std.proofs.lemmas.Bool.{ltb-true, cases_lt}
@@ -198,7 +198,7 @@ module _ (plan : PlanParts) (ordered : IsOrdered plan.nodes) (levelled : IsLevel
         go None true (Some fault) = front_same _ _ refl
         go None true None = (written_from (rows w.after) plan (closed_up plan 0 w.dues) (inf ∷ []), written_more (rows w.after) 0 w.dues (inf ∷ []))
 
-    -- what is written for lines is a front of what is written for these and more
+    -- what is written for lines is a prefix of what is written for these and more
     pub items_final : (lines more : List Told) (ended : Bool) → AreRead (length plan.streams) lines → AreRead (length plan.streams) more → IsFront (items plan policy lines false) (items plan policy (lines ++ more) ended)
     items_final lines more ended valid more_valid =
         let a = steps_grow start lines valid (start_going (length plan.streams)) in
@@ -215,7 +215,7 @@ module _ (plan : PlanParts) (ordered : IsOrdered plan.nodes) (levelled : IsLevel
         let e : (progress plan policy (lines ++ more) ended).after ≡ (steps plan policy (steps plan policy start lines) more).after = end_rows plan (steps plan policy start (lines ++ more)) ended ∙ ap (λ w. w.after) (steps-append plan policy start lines more) in
         (rw e (b.known s))
 
-    -- the bytes of a front are a front of the bytes
+    -- the bytes of a prefix are a prefix of the bytes
     pub text_final : (print : Item → List ℕ) (lines more : List Told) (ended : Bool) → AreRead (length plan.streams) lines → AreRead (length plan.streams) more →
         IsFront (text print plan policy lines false) (text print plan policy (lines ++ more) ended)
     text_final print lines more ended valid more_valid =

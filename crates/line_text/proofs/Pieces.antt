@@ -96,7 +96,7 @@ end_pieces a b c d e x y x' y' p q r s k l = rw (s, r, q, p, k, l) (simp (append
 rest_pieces : (d e v : List ℕ) → e ≡ d ++ (v ++ 10 ∷ []) → e ≡ (d ++ v) ++ 10 ∷ []
 rest_pieces d e v p = p ∙ sym (append_assoc d v (10 ∷ []))
 
--- the front of the line in one piece, the time, its infinite end, and the values
+-- the beginning of the line in one piece, the time, its infinite end, and the values
 pub start_text : (kinds : List Kind) (at : ℕ) (row : List Value) (a b c d e : List ℕ) → b ≡ a ++ codes "out,start," → c ≡ b ++ time_text at → d ≡ c ++ codes ",inf" →
     EndsLine kinds row d e → e ≡ a ++ record_text (start_fields kinds at row)
 unfolding fields_text inf
