@@ -67,7 +67,7 @@ bare_read texts fields (Int x ∷ ds) h = let more = bare_read texts (drop 1 fie
 bare_read texts fields (Bool b ∷ ds) h = let more = bare_read texts (drop 1 fields) ds h in (ap (λ r. FlagValue b ∷ r) more.0, (tt, more.1), more.2)
 bare_read texts fields (Text place ∷ ds) h = absurd h
 
-ArePlaced-both : (texts : List (List ℕ)) (xs ys : List Datum) → ArePlaced texts xs → ArePlaced texts ys → ArePlaced texts (xs ++ ys)
+pub ArePlaced-both : (texts : List (List ℕ)) (xs ys : List Datum) → ArePlaced texts xs → ArePlaced texts ys → ArePlaced texts (xs ++ ys)
 ArePlaced-both texts [] ys h k = k
 ArePlaced-both texts (x ∷ xs) ys h k = (h.0, ArePlaced-both texts xs ys h.1 k)
 

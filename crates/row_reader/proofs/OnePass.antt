@@ -1,20 +1,23 @@
 -- Intervals that are read in one pass.
 use Rattle.std.proofs.Common.{◌≡◌, ◌<◌, ◌≤◌, ◌+◌, ◌*◌, ◌^◌, ℕ, ℤ, zero, suc, List, [], ◌∷◌, ◌++◌, length, take, drop, get_or, Option, Some, Ok, Err, refl, sym, ◌∙◌, ap, subst, arith, inl, inr}
-use Rattle.std.specs.Prelude.{◌≢◌, decimal, codes, pos, option_map, None, MatchOption, IfSome}
+use Rattle.std.specs.Prelude.{◌≢◌, ◌&&◌, Bool as Truth, true, false, slice_get, decimal, codes, pos, option_map, None, MatchOption, IfSome}
 use Rattle.std.specs.Borrow.{Bor}
 use Rattle.std.specs.Char.{digit_value}
 use Rattle.std.specs.Str.Parse.{AllDigits, digits_value_after}
 use Rattle.std.proofs.lemmas.Bool.Decides.{Decides-ltb, eqb_tells}
 use Rattle.std.proofs.lemmas.Fmt.{decimal-digits_value}
-use Rattle.std.proofs.lemmas.List.{take_more, length-take-le, take-append-drop}
+use Rattle.std.proofs.lemmas.List.{take_more, length-take-le, take-append-drop, map-append}
+use Rattle.std.proofs.lemmas.List.Sums.{fold-append}
+use Rattle.std.proofs.lemmas.Option.{slice_get_within, get_or_from_slice_get}
 use Rattle.std.proofs.Math.Seq.{take-length}
 use Rattle.csv.specs.Records.{field_at, AllText}
-use Rattle.tw_rows.specs.Cells.{ArePlaced, read_cells, with_row}
+use Rattle.tw_rows.specs.Cells.{ArePlaced, read_datum, read_cells, with_value, with_row}
+use Rattle.tw_rows.proofs.TextTables.{interned-known}
 use Rattle.tw_rows.specs.declared.cells.Datum.{Datum}
 use Rattle.tw_rows.specs.declared.cells.Datum.TheVariants as data_of
 use Rattle.tw_rows.specs.declared.kind.Kind.{Kind}
 use Rattle.tw_rows.specs.declared.kind.Kind.TheVariants as kinds
-use Rattle.tw_rows.specs.declared.row.Value.TheVariants.{Int}
+use Rattle.tw_rows.specs.declared.row.Value.TheVariants.{Int, Text}
 use Rattle.tw_rows.specs.declared.schema.ColumnDef.{ColumnDef}
 use Rattle.line_text.proofs.Digits.{own, value-append, AllDigits-append}
 use Rattle.line_text.specs.Fields.{time_text}
@@ -22,7 +25,8 @@ use Rattle.line_text.specs.declared.form.Form.TheVariants as forms
 use Rattle.row_reader.specs.Fields.{commas}
 use Rattle.row_reader.specs.Record.{field_of}
 use Rattle.row_reader.specs.Values.{value_of, form_of, times_of}
-use Rattle.row_reader.specs.Drafted.{row_in, IsFirst, IsInterval}
+use Rattle.row_reader.specs.Drafted.{value_in, row_in, IsFirst, IsInterval, IsKnown, AreKnown}
+use Rattle.row_reader.proofs.Drafting.{pushed, ArePlaced-both}
 use Rattle.row_reader.specs.Entry.{event, of_stream}
 use Rattle.row_reader.specs.Interned.{IsReadIn}
 use Rattle.row_reader.specs.declared.entry.Said.TheVariants.{Event as SaidEvent}
@@ -86,14 +90,54 @@ number_before bs k n h low comma =
     let cut : bs ≡ take k bs ++ 44 ∷ rest = sym (take-append-drop k bs) ∙ ap (λ l. take k bs ++ l) (drop_at bs k low ∙ ap (λ b. b ∷ rest) comma) in
     ap commas cut ∙ commas-more (take k bs) rest (no_commas (take k bs) h.digits) ∙ ap (λ (f : List ℕ). f ∷ commas rest) (digits_are bs k n h)
 
--- the first of ints
-pub int_first : (kind : Kind) (fields rest : List (List ℕ)) (n : ℕ) (x : ℤ) → kind ≡ kinds.Int → fields ≡ decimal n ∷ rest → n < 2 ^ 60 → x ≡ pos n → IsFirst kind fields (data_of.Int x) rest
+-- a text that the table has
+pub known_text : (texts : List (List ℕ)) (field : List ℕ) (place : ℕ) → slice_get texts place ≡ Some field → IsKnown texts field (data_of.Text place)
+known_text texts field place at =
+    let low = slice_get_within texts place field at in
+    record {
+      placed = low;
+      read = ap (λ t. Text t) (get_or_from_slice_get texts place field [] at);
+      table = interned-known texts field (place, low, get_or_from_slice_get texts place field field at);
+    }
+
+-- the first value
+pub int_first : (texts : List (List ℕ)) (kind : Kind) (fields rest : List (List ℕ)) (n : ℕ) (x : ℤ) → kind ≡ kinds.Int → fields ≡ decimal n ∷ rest → n < 2 ^ 60 → x ≡ pos n →
+    IsFirst texts kind fields (data_of.Int x) true rest
 unfolding value_of
-int_first kind fields rest n x is e low same = record {
+int_first texts kind fields rest n x is e low same = record {
   field = decimal n;
   first = e;
   spells = ap (λ k. value_of k (decimal n)) is ∙ ap (option_map Int) (units_of-spelled 0 (decimal n) (pos n) ((Decides-ltb n (2 ^ 63)).1 (omega (arith, low))) refl) ∙ ap (λ z. Some (Int z)) (sym same);
+  is_known = λ _. record { placed = tt; read = refl; table = refl };
 }
+
+pub value_first : (texts : List (List ℕ)) (kind : Kind) (fields rest : List (List ℕ)) (field : List ℕ) (read : Option Datum) (d datum : Datum) (known : Truth) → fields ≡ field ∷ rest →
+    option_map (value_in field) read ≡ value_of kind field → read ≡ Some d → value_in field datum ≡ value_in field d → (known ≡ true → IsKnown texts field datum) → IsFirst texts kind fields datum known rest
+value_first texts kind fields rest field read d datum known e told is same h = record {
+  field = field;
+  first = e;
+  spells = sym told ∙ ap (option_map (value_in field)) is ∙ ap (λ v. Some v) (sym same);
+  is_known = h;
+}
+
+-- the data of a row that are known
+pub known_none : (texts fields : List (List ℕ)) (row : List Datum) → row ≡ [] → AreKnown texts fields row
+unfolding row_in
+known_none texts fields row e = rw e (record { placed = tt; read = refl; table = refl })
+
+pub known_more : (texts fields rest : List (List ℕ)) (ds more : List Datum) (d : Datum) (f : List ℕ) → more ≡ ds ++ d ∷ [] → rest ≡ drop (length ds) fields → f ≡ field_of rest 0 →
+    AreKnown texts fields ds → IsKnown texts f d → AreKnown texts fields more
+known_more texts fields rest ds more d f is behind here h k =
+    let row = pushed fields rest ds more d f is behind here in
+    record {
+      placed = subst (ArePlaced texts) (sym is) (ArePlaced-both texts ds (d ∷ []) h.placed (k.placed, tt));
+      read = ap (read_cells texts) is ∙ map-append (read_datum texts) ds (d ∷ []) ∙ ap (λ r. r ++ read_datum texts d ∷ []) h.read ∙ ap (λ v. row_in fields ds ++ v ∷ []) k.read ∙ sym row;
+      table = ap (with_row texts) row ∙ fold-append with_value texts (row_in fields ds) (value_in f d ∷ []) ∙ ap (λ t. with_value t (value_in f d)) h.table ∙ k.table;
+    }
+
+pub both_true : (a b : Truth) → (a && b) ≡ true → (a ≡ true) × (b ≡ true)
+both_true true b e = (refl, e)
+both_true false b e = absurd (cc)
 
 -- the word of an interval
 pub word_behind : (text rest : List ℕ) → text ≡ codes "interval," ++ rest → commas text ≡ codes "interval" ∷ commas rest

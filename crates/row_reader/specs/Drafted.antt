@@ -1,6 +1,7 @@
 -- A row whose texts are still in the fields of their line.
-use Rattle.std.specs.Prelude.{◌≡◌, ◌<◌, ◌^◌, ℕ, List, [], ◌∷◌, Some, Ok, drop, codes, decimal}
+use Rattle.std.specs.Prelude.{◌≡◌, ◌<◌, ◌^◌, ℕ, Bool as Truth, true, List, [], ◌∷◌, Some, Ok, drop, codes, decimal}
 use Rattle.tw_rows.specs.Rows.{Row}
+use Rattle.tw_rows.specs.Cells.{IsPlaced, ArePlaced, read_datum, read_cells, with_value, with_row}
 use Rattle.tw_rows.specs.declared.row.Value.{Value}
 use Rattle.tw_rows.specs.declared.row.Value.TheVariants.{Int, Bool as Flag, Text}
 use Rattle.tw_rows.specs.declared.cells.Datum.{Datum}
@@ -29,12 +30,25 @@ HaveNoText (data_of.Int x ∷ ds) = HaveNoText ds
 HaveNoText (data_of.Bool b ∷ ds) = HaveNoText ds
 HaveNoText (data_of.Text place ∷ ds) = ⊥
 
+-- the datum is that of the value of the field in the table, and the table has its text
+pub record IsKnown (texts : List (List ℕ)) (field : List ℕ) (datum : Datum) : Type 0 where
+  pub placed : IsPlaced texts datum
+  pub read : read_datum texts datum ≡ value_in field datum
+  pub table : with_value texts (value_in field datum) ≡ texts
+
+-- the same of all data of a row that were read of these fields: in the table of `a` the row of the place 0 is known of the field `a`
+pub record AreKnown (texts fields : List (List ℕ)) (row : List Datum) : Type 0 where
+  pub placed : ArePlaced texts row
+  pub read : read_cells texts row ≡ row_in fields row
+  pub table : with_row texts (row_in fields row) ≡ texts
+
 -- the first of the fields spells a value of the kind, of which this datum was read, and these are the others: of an int the first of
 -- the fields `7` and `a` spells 7
-pub record IsFirst (kind : Kind) (fields : List (List ℕ)) (datum : Datum) (rest : List (List ℕ)) : Type 0 where
+pub record IsFirst (texts : List (List ℕ)) (kind : Kind) (fields : List (List ℕ)) (datum : Datum) (known : Truth) (rest : List (List ℕ)) : Type 0 where
   pub field : List ℕ
   pub first : fields ≡ field ∷ rest
   pub spells : value_of kind field ≡ Some (value_in field datum)
+  pub is_known : known ≡ true → IsKnown texts field datum
 
 -- the fields are those of an interval from start to end with these fields of its values, of which this row of data was read: `interval`,
 -- `1`, `5` and `7` are those of an interval from 1 to 5 with the row of 7

@@ -1,11 +1,12 @@
 // Intervals as most lines have them: without quotes, and with numbers of few digits as times and ints. Such a line is read in one
 // pass. Of any other nothing is told here, and its fields are read one after the other.
-ghost use Rattle.std.specs.Prelude.{◌≡◌, ◌<◌, ◌≤◌, ◌^◌, ◌∷◌, ℕ, true, List, Ok, length, get_or, decimal, codes, IfSome};
+ghost use Rattle.std.specs.Prelude.{◌≡◌, ◌<◌, ◌≤◌, ◌^◌, ◌∷◌, ℕ, true, List, Some, Ok, length, get_or, decimal, codes, IfSome};
+ghost use Rattle.std.specs.Str.{IsUtf8};
 ghost use Rattle.csv.specs.Records.{AllText};
 ghost use Rattle.tw_rows.specs.Texts.{BeginsWith};
 ghost use Rattle.tw_rows.specs.declared.schema.ColumnDef.{ColumnDef};
 ghost use Rattle.row_reader.specs.Answers.{values_of};
-ghost use Rattle.row_reader.specs.Drafted.{row_in, IsFirst, IsInterval};
+ghost use Rattle.row_reader.specs.Drafted.{value_in, row_in, IsFirst, IsInterval, IsKnown, AreKnown};
 ghost use Rattle.row_reader.specs.Entry.{of_stream};
 ghost use Rattle.row_reader.specs.Fields.{commas, left};
 ghost use Rattle.row_reader.specs.Interned.{IsReadIn};
@@ -14,7 +15,7 @@ ghost use Rattle.row_reader.specs.declared.fields.Fields.TheVariants.{Plain};
 use crate::entry::{RowFault, Said};
 use crate::fields::{Fields, split_field};
 use crate::number::leading_number;
-use crate::value::{place_texts, read_value};
+use crate::value::{as_text, place_texts, read_value};
 use line_text::Form;
 use tw_rows::{ColumnDef, Datum, Kind, Memory, TextTable, Time};
 
@@ -24,6 +25,16 @@ pub(crate) struct Interval<'a> {
     pub(crate) start: Time,
     pub(crate) end: Time,
     pub(crate) values: Option<&'a [u8]>,
+    // Each of its texts is in the table, and the row has its place.
+    pub(crate) known: bool,
+}
+
+// A value of a line and what stands behind its comma. A text that is not known is none of the table.
+#[derive(Clone, Copy)]
+struct First<'a> {
+    datum: Datum,
+    rest: Option<&'a [u8]>,
+    known: bool,
 }
 
 // Whether so many digits, with which the text begins, are some, without a zero in front of others.
@@ -58,7 +69,8 @@ fn split_number(text: &[u8]) -> Option<(u64, Option<&[u8]>)>
 
 // The first value of ints, where it is such a number, and what stands behind its comma.
 fn split_int(kind: Kind, text: &[u8]) -> Option<(Datum, Option<&[u8]>)>
-    ensures { IfSome result (λ p. IsFirst kind (commas text.now) p.0 (left (Plain p.1))) }
+    ensures { (texts : List (List ℕ)) →
+        IfSome result (λ p. IsFirst texts kind (commas text.now) p.0 true (left (Plain p.1))) }
 {
     match kind {
         Kind::Int => {
@@ -69,40 +81,74 @@ fn split_int(kind: Kind, text: &[u8]) -> Option<(Datum, Option<&[u8]>)>
     }
 }
 
-// The first value, and what stands behind its comma.
-fn split_value(kind: Kind, text: &[u8]) -> Option<(Datum, Option<&[u8]>)>
-    ensures { IfSome result (λ p. IsFirst kind (commas text.now) p.0 (left (Plain p.1))) }
+// The datum of that field with the place of its text, and whether the table has the text.
+fn look_up(datum: Datum, field: &[u8], texts: &TextTable) -> (Datum, bool)
+    requires { IsUtf8 field.now }
+    ensures value { value_in field.now result.0 ≡ value_in field.now datum }
+    ensures known { result.1 ≡ true → IsKnown texts.now field.now result.0 }
 {
-    if let Some(first) = split_int(kind, text) {
-        return Some(first);
+    match datum {
+        Datum::Int(number) => (Datum::Int(number), true),
+        Datum::Bool(flag) => (Datum::Bool(flag), true),
+        Datum::Text(place) => match texts.find(as_text(field)) {
+            Some(place) => (Datum::Text(place), true),
+            None => (Datum::Text(place), false),
+        },
     }
-    let (field, rest) = split_field(text);
-    let datum = read_value(kind, field)?;
-    Some((datum, rest))
 }
 
-// Reads the values into the row, but for its texts, and tells whether each column has one and no field is left.
-fn read_short_values(columns: &[ColumnDef], values: Option<&[u8]>, row: &mut Vec<Datum>) -> bool
-    ensures { result ≡ true → values_of columns.now (left (Plain values.entry))
-        ≡ Ok (row_in (left (Plain values.entry)) row.new.items) }
+// The first value, and what stands behind its comma.
+fn split_value<'a>(kind: Kind, text: &'a [u8], texts: &TextTable) -> Option<First<'a>>
+    requires { AllText (commas text.now) }
+    ensures { IfSome result (λ f. IsFirst texts.now kind (commas text.now) f.datum f.known (left (Plain f.rest))) }
+{
+    if let Some((datum, rest)) = split_int(kind, text) {
+        return Some(First {
+            datum,
+            rest,
+            known: true,
+        });
+    }
+    let (field, rest) = split_field(text);
+    let Some(read) = read_value(kind, field) else {
+        return None;
+    };
+    let (datum, known) = look_up(read, field, texts);
+    Some(First { datum, rest, known })
+}
+
+// Reads the values into the row, where each column has one and no field is left, and tells whether each text is known.
+fn read_short_values(
+    columns: &[ColumnDef],
+    values: Option<&[u8]>,
+    texts: &TextTable,
+    row: &mut Vec<Datum>,
+) -> Option<bool>
+    requires { AllText (left (Plain values)) }
+    ensures read { IfSome result (λ _. values_of columns.now (left (Plain values.entry))
+        ≡ Ok (row_in (left (Plain values.entry)) row.new.items)) }
+    ensures known { result ≡ Some true →
+        AreKnown texts.now (left (Plain values.entry)) row.new.items }
 {
     row.clear();
     let mut rest = values;
+    let mut known = true;
     for i in 0..columns.len() {
         let Some(text) = rest else {
-            return false;
+            return None;
         };
-        let Some((datum, after)) = split_value(columns[i].kind, text) else {
-            return false;
+        let Some(first) = split_value(columns[i].kind, text, texts) else {
+            return None;
         };
-        let Ok(()) = row.push(datum) else {
-            return false;
+        let Ok(()) = row.push(first.datum) else {
+            return None;
         };
-        rest = after;
+        rest = first.rest;
+        known &= first.known;
     }
     match rest {
-        Some(_) => false,
-        None => true,
+        Some(_) => None,
+        None => Some(known),
     }
 }
 
@@ -125,6 +171,7 @@ fn split_times(text: &[u8]) -> Option<Interval<'_>>
         start: Time::from_word(start),
         end: Time::from_word(end),
         values,
+        known: false,
     })
 }
 
@@ -135,15 +182,19 @@ fn behind_word(text: &[u8]) -> Option<&[u8]>
     text.strip_prefix(b"interval,".as_slice())
 }
 
-// The interval that these fields tell, where they are such a line's behind its name. Its values are in the row then, but for its
-// texts.
+// The interval that these fields tell, where they are such a line's behind its name. Its values are in the row then, but for the
+// texts that are not known.
 pub(crate) fn read_interval<'a>(
     columns: &[ColumnDef],
     fields: Fields<'a>,
+    texts: &TextTable,
     row: &mut Vec<Datum>,
 ) -> Option<Interval<'a>>
-    ensures { IfSome result (λ i. IsInterval columns.now (left fields.entry)
+    requires { AllText (left fields) }
+    ensures told { IfSome result (λ i. IsInterval columns.now (left fields.entry)
         i.start i.end (left (Plain i.values)) row.new.items) }
+    ensures known { IfSome result (λ i. i.known ≡ true →
+        AreKnown texts.now (left (Plain i.values)) row.new.items) }
 {
     let Fields::Plain(Some(text)) = fields else {
         return None;
@@ -154,14 +205,18 @@ pub(crate) fn read_interval<'a>(
     let Some(found) = split_times(times) else {
         return None;
     };
-    if read_short_values(columns, found.values, row) {
-        Some(found)
-    } else {
-        None
-    }
+    let Some(known) = read_short_values(columns, found.values, texts, row) else {
+        return None;
+    };
+    Some(Interval {
+        start: found.start,
+        end: found.end,
+        values: found.values,
+        known,
+    })
 }
 
-// The interval of a stream whose values are in the row. Its texts come into the table.
+// The interval of a stream whose values are in the row. The texts that are not known come into the table.
 pub(crate) fn place_interval(
     stream: usize,
     found: Interval,
@@ -171,16 +226,22 @@ pub(crate) fn place_interval(
     requires { AllText (left (Plain found.values)) }
     ensures entry { (columns : List ColumnDef) (fields : List (List ℕ)) → IsInterval columns fields
         found.entry.start found.entry.end (left (Plain found.entry.values)) row.old.items →
+        (found.entry.known ≡ true →
+        AreKnown texts.old (left (Plain found.entry.values)) row.old.items) →
         IsReadIn texts.old texts.new row.new.items result (of_stream stream columns fields) }
     ensures begins { BeginsWith texts.new texts.old }
 {
+    let said = Said::Event {
+        stream,
+        form: Form::Interval,
+        sync: found.start,
+        other: found.end,
+    };
+    if found.known {
+        return Ok(said);
+    }
     match place_texts(Fields::Plain(found.values), row, texts) {
-        Ok(()) => Ok(Said::Event {
-            stream,
-            form: Form::Interval,
-            sync: found.start,
-            other: found.end,
-        }),
+        Ok(()) => Ok(said),
         Err(Memory) => Err(RowFault::Memory),
     }
 }

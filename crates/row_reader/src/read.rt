@@ -178,7 +178,7 @@ fn read_of_stream(
         (of_stream number stream.now.schema (left fields.entry)) }
     ensures begins { BeginsWith texts.new texts.old }
 {
-    if let Some(found) = read_interval(stream.schema.items(), fields, row) {
+    if let Some(found) = read_interval(stream.schema.items(), fields, texts, row) {
         return place_interval(number, found, texts, row);
     }
     let word = fields.take_field();

@@ -104,7 +104,7 @@ fn read_flag(text: &[u8]) -> Option<bool>
 }
 
 // The text of these bytes.
-fn as_text(bytes: &[u8]) -> &str
+pub(crate) fn as_text(bytes: &[u8]) -> &str
     requires { IsUtf8 bytes.now }
     ensures { result.now ≡ bytes.now }
 {

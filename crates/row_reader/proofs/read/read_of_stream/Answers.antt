@@ -19,9 +19,9 @@ returns-then-is_punct-clause-entry c =
     rw test (c.read_punctuation.ensures c.args.texts.now _ _ c.take_field-word.ensures.left)
 
 pub place_interval-requires : goal.place_interval-requires
-place_interval-requires c = interval_texts _ _ _ _ _ _ c.in-Some.ensures c.requires
+place_interval-requires c = interval_texts _ _ _ _ _ _ c.in-Some.ensures.told c.requires
 
 pub returns-in-Some-clause-entry : goal.returns-in-Some-clause-entry
 returns-in-Some-clause-entry c =
     subst (λ (columns : List ColumnDef). IsReadIn c.args.texts.now c.place_interval.new.texts c.place_interval.new.row.items c.place_interval.result (of_stream c.args.number columns (left c.args.fields)))
-    c.items.ensures (c.place_interval.ensures.entry _ _ c.in-Some.ensures)
+    c.items.ensures (c.place_interval.ensures.entry _ _ c.in-Some.ensures.told c.in-Some.ensures.known)
