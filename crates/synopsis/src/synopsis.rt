@@ -8,7 +8,7 @@ ghost use Rattle.synopsis.specs.Held.{is_of_key};
 ghost use Rattle.synopsis.specs.Buckets.{rows_in, AreKeyed};
 
 use crate::buckets::{KeyBuckets, put_row, rows_with, take_row};
-use crate::few::{few_with, put_few, take_few};
+use crate::few::{FEW, Few};
 use crate::key_room::{KeyRoom, lone_key};
 use crate::spares::Spares;
 use indexmap::IndexMap;
@@ -23,14 +23,11 @@ pub struct Synopsis {
     alloc: Global,
     key: KeyRoom,
     // A few rows stand in a list, which costs less than buckets. Where one more comes all go into buckets, until none is left.
-    few: Vec<HeldRow>,
+    few: Few,
     buckets: KeyBuckets,
     spares: Spares,
     count: usize,
 }
-
-// So many rows are a few.
-const FEW: usize = 16;
 
 // By hand, so that crates that let one go cite this and not the destructors of its parts.
 impl Drop for Synopsis {
@@ -54,9 +51,9 @@ impl Model for Synopsis {
 
     ghost Value = { KeyedRows };
 
-    ghost view = { λ s. record { key = s.key.columns; rows = s.few.items ++ rows_in s.buckets.entries; blocks = few_block s.few.items ++ blocks_in s.buckets.entries } };
+    ghost view = { λ s. record { key = s.key.columns; rows = s.few.rows ++ rows_in s.buckets.entries; blocks = few_block s.few.rows ++ blocks_in s.buckets.entries } };
 
-    ghost invariant = { λ s. AreHeld s.key.columns s.few.items s.buckets.entries s.count };
+    ghost invariant = { λ s. AreHeld s.key.columns s.few s.buckets.entries s.count };
 }
 
 // The rows in buckets by that key.
@@ -114,7 +111,7 @@ impl Synopsis {
         Ok(Synopsis {
             alloc,
             key: KeyRoom::new(alloc, key)?,
-            few: Vec::new(alloc),
+            few: Few::new(alloc, key)?,
             buckets: IndexMap::with_hasher(alloc, BuildHasherDefault::new()),
             spares: Spares::new(alloc)?,
             count: 0,
@@ -139,14 +136,13 @@ impl Synopsis {
             self.count = count;
             return Ok(());
         }
-        if self.few.len() < FEW {
+        if self.few.rows().len() < FEW {
             self.key.write(cells.items());
-            let key = self.key.values();
-            put_few(&mut self.few, self.key.columns(), key, cells, start)?;
+            self.few.put(self.key.values(), cells, start);
             self.count = count;
             return Ok(());
         }
-        let few = self.few.as_slice();
+        let few = self.few.rows();
         let mut buckets = in_buckets(self.alloc, &mut self.key, &mut self.spares, few)?;
         self.key.write(cells.items());
         let key = self.key.values();
@@ -166,7 +162,7 @@ impl Synopsis {
         ensures key { self.new.key ≡ self.old.key }
     {
         if self.buckets.is_empty() {
-            if !take_few(&mut self.few, cells, start) {
+            if !self.few.take(cells, start) {
                 return false;
             }
             self.count -= 1;
@@ -196,7 +192,7 @@ impl Synopsis {
     {
         let _ = &self.count;
         if self.buckets.is_empty() {
-            return few_with(self.few.as_slice(), self.key.columns(), key);
+            return self.few.rows_with(key);
         }
         rows_with(&self.buckets, key)
     }
@@ -214,7 +210,7 @@ impl Synopsis {
         ensures rows { self.now.rows ≡ flat_map (λ b. b) self.now.blocks }
         ensures few { result ≤ length self.now.rows }
     {
-        if self.few.is_empty() {
+        if self.few.rows().is_empty() {
             return self.buckets.len();
         }
         1
@@ -225,10 +221,10 @@ impl Synopsis {
         requires { k < length self.now.blocks }
         ensures { slice_get self.now.blocks k ≡ Some result.now }
     {
-        if self.few.is_empty() {
+        if self.few.rows().is_empty() {
             return self.buckets[k].rows();
         }
-        self.few.as_slice()
+        self.few.rows()
     }
 
     /// The row at that place. It passes the blocks before that of the row one by one.
@@ -236,8 +232,8 @@ impl Synopsis {
         requires { i < length self.now.rows }
         ensures { slice_get self.now.rows i ≡ Some result.now }
     {
-        if !self.few.is_empty() {
-            return &self.few[i];
+        if !self.few.rows().is_empty() {
+            return &self.few.rows()[i];
         }
         let mut left = i;
         for k in 0..self.buckets.len() {
