@@ -8,9 +8,12 @@ in a group: the seconds of the processor that a frozen run takes beyond a run ov
 begin, each wanted below 0.5 s, and the memory beside that of the run, wanted at most 3 times; and the bytes of an entry, wanted
 at most 120. (Both runs end at a line that is refused, so the end of the input costs nothing.) Then what a restart takes behind
 LINES trades (3,000,000): from a checkpoint, wanted below 1 s, and from the first line on.
-Then with --checkpoint, over files in a new folder below FOLDER (that of temporary files): what a checkpoint with ROWS rows alive
-takes of the processor, wanted below 50 ms, and how long it holds the run up by the clock, which the disk has a part in; and what
-a run over the trades takes in which none is due, beside one without, wanted at most 1.01 times the processor.
+Then with --checkpoint, over files in a new folder below FOLDER (that of temporary files): what a checkpoint takes of the
+processor, and how long it holds the run up by the clock, which the disk has a part in; once with ROWS rows alive, and once with
+ROWS held rows, wanted below 50 ms of the processor. A held row is an entry that admission or an operator keeps (`Engine::held`
+counts them): of a row in a join there are two, the row and its end, and of a row in this group six, the row, a state for each of
+two aggregates, its key, the row that was emitted, and its end. And what a run over the trades takes in which no checkpoint is
+due, beside one without, wanted at most 1.01 times the processor.
 Ends with status 1 where a run that was cut in two, or that kept checkpoints, writes other bytes than one run.
 """
 import subprocess
@@ -29,6 +32,7 @@ HELD = {
     "a join": (f"{TWO}s | join r on id", "interval"),
     "a group": (f"{ONE}s | group by id : count as n, sum px as t", "interval"),
 }
+HELD_EACH = {"open starts": 1, "a join": 2, "a group": 6}
 COUNTED = f"{TRADES} | tumble 60 | group by sym : count as n, sum qty as q"
 END = 1 << 40
 STOP = b'"!\n'
@@ -142,19 +146,21 @@ def kept(read, folder, query, lines, every):
     return run, out.read_bytes()
 
 
-def measure_pause(read, name, folder):
-    """Prints what a checkpoint with many rows alive takes, and returns whether the run wrote the bytes of one run."""
+def measure_pause(read, name, rows, folder):
+    """Prints what a checkpoint with so many rows alive takes, and returns whether the run wrote the bytes of one run."""
     query, kind = HELD[name]
     lines = folder / "lines"
-    write_held(lines, read.rows, kind)
+    write_held(lines, rows, kind)
     with open(lines, "a") as out:
-        out.writelines(f"*,punct,{read.rows + 1 + i}\n" for i in range(PAUSES))
+        out.writelines(f"*,punct,{rows + 1 + i}\n" for i in range(PAUSES))
     # (Due at each of the last punctuations, or at none.)
     runs = [[kept(read, folder, query, lines, every) for _ in range(ROUNDS)] for every in (1, NEVER)]
     # (With --every 1 one is due at the punctuation behind the rows too.)
     processor, wall = ((min(each) - min(none)) / (PAUSES + 1) for each, none in (
         [[run.processor for run, _ in of] for of in runs], [[run.wall for run, _ in of] for of in runs]))
-    print(f"{read.rows} rows alive, {name}: a checkpoint takes {1000 * processor:.0f} ms of the processor {told(processor, PAUSE)}, "
+    held = rows * HELD_EACH[name]
+    limit = f" {told(processor, PAUSE)}" if held <= read.rows else ""
+    print(f"{rows} rows alive, {held} held, {name}: a checkpoint takes {1000 * processor:.1f} ms of the processor{limit}, "
           f"and holds the run up for {1000 * wall:.0f} ms", flush=True)
     text, _ = parted(written([read.program, "--query", query, "--mode", "freeze"], [lines]))
     same = all(out == text for of in runs for _, out in of)
@@ -191,8 +197,9 @@ def main(read):
         for held in HELD:
             good = measure_held(read, held, Path(name)) and good
         good = measure_restart(read, Path(name)) and good
-        for held in HELD:
-            good = measure_pause(read, held, Path(name)) and good
+        for held, each in HELD_EACH.items():
+            for rows in sorted({read.rows, read.rows // each}):
+                good = measure_pause(read, held, rows, Path(name)) and good
         good = measure_between(read, Path(name)) and good
     sys.exit(0 if good else 1)
 

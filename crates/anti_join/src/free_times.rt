@@ -33,7 +33,8 @@ impl Model for FreeTimes {
 
     ghost view = { λ f. record { key = f.rows.key; rows = f.rows.rows } };
 
-    ghost invariant = { λ f. (f.room.columns ≡ f.rows.key) × ((key : List Datum) → many (is_of_key f.rows.key key) f.rows.rows ≤ 1) };
+    ghost invariant = { λ f. (f.room.columns ≡ f.rows.key)
+        × ((key : List Datum) → many (is_of_key f.rows.key key) f.rows.rows ≤ 1) };
 }
 
 // Takes out the row with this key, if there is one.

@@ -1,3 +1,4 @@
--- Callers read Entries; Few is cited by private contracts alone.
+-- Callers read Entries; Few and Together are cited by private contracts alone.
 pub mod Entries
 pub mod Few
+pub mod Together

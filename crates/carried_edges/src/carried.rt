@@ -6,6 +6,7 @@ ghost use Rattle.batch.specs.Rows.{edges_of};
 ghost use Rattle.edge_history.specs.Order.{failing, is_below, is_from, KeepsOrder};
 ghost use Rattle.edge_stream.specs.Listing.{cells_of, SameShape};
 ghost use Rattle.carried_edges.specs.Few.{may_stay};
+ghost use Rattle.carried_edges.specs.Together.{AreTogether};
 
 use batch::{Batch, Pools};
 use edge_stream::EdgeList;
@@ -97,10 +98,7 @@ fn in_order(pools: &mut Pools, carried: EdgeList, new: EdgeList) -> Result<EdgeL
     requires kinds { cells_of carried ≡ cells_of new }
     requires capacity { carried.capacity ≡ new.capacity }
     requires pools { pools.old.capacity ≡ carried.capacity }
-    ensures edges { IfOk result (λ all. SameBag all.edges (carried.edges ++ new.edges)) }
-    ensures order { IfOk result (λ all. KeepsOrder all.edges) }
-    ensures kinds { IfOk result (λ all. cells_of all ≡ cells_of carried) }
-    ensures capacity { IfOk result (λ all. all.capacity ≡ carried.capacity) }
+    ensures all { IfOk result (AreTogether carried new) }
     ensures pools { pools.new.capacity ≡ pools.old.capacity }
     ensures limit { pools.new.limit ≡ pools.old.limit }
 {
@@ -130,10 +128,7 @@ fn with_new(pools: &mut Pools, carried: EdgeList, new: EdgeList) -> Result<EdgeL
     requires kinds { cells_of carried ≡ cells_of new }
     requires capacity { carried.capacity ≡ new.capacity }
     requires pools { pools.old.capacity ≡ carried.capacity }
-    ensures edges { IfOk result (λ all. SameBag all.edges (carried.edges ++ new.edges)) }
-    ensures order { IfOk result (λ all. KeepsOrder all.edges) }
-    ensures kinds { IfOk result (λ all. cells_of all ≡ cells_of carried) }
-    ensures capacity { IfOk result (λ all. all.capacity ≡ carried.capacity) }
+    ensures all { IfOk result (AreTogether carried new) }
     ensures pools { pools.new.capacity ≡ pools.old.capacity }
     ensures limit { pools.new.limit ≡ pools.old.limit }
 {

@@ -10,7 +10,7 @@ use Rattle.checkpoint_lines.specs.Lines.{end_line, time_line, text_line, entry_l
 use Rattle.checkpoint.specs.declared.writing.Place.TheVariants.{Head}
 use Rattle.checkpoint.specs.Form.{FormView}
 use Rattle.checkpoint.specs.Text.{bound_lines, entry_lines, checkpoint_lines}
-use Rattle.checkpoint.specs.Writing.{entries_left, lines_left, bytes_of, Appends, LacksRoomFor, LacksRoomToFeed}
+use Rattle.checkpoint.specs.Writing.{entries_left, ends_left, lines_left, bytes_of, Appends, LacksRoomFor, LacksRoomToFeed}
 
 pub dropped_all : {X : Type 0} (xs : List X) (n : ℕ) → length xs ≤ n → drop n xs ≡ []
 dropped_all [] zero low = refl
@@ -96,3 +96,16 @@ lacks_last left rest old mid a room full = record {
   next = a.next;
   lacks = omega (arith, room, full, mid.ok.0, ap length a.bytes, length-append old.items a.line, length-append a.line (10 ∷ []));
 }
+
+-- a line of an entry was appended with its line feed, and those behind it are left
+pub entry_fed : (f : FrozenView) (ps : List FrozenPart) (es : List SavedEntry) (part at : ℕ) (p : FrozenPart) (e : SavedEntry) (old mid new : List ℕ) → ps ≡ f.parts → es ≡ p.saved →
+    part < length ps → p ≡ get_or ps part p → at < length es → e ≡ get_or es at e → mid ≡ old ++ entry_line p.owner p.shard e → new ≡ mid ++ 10 ∷ [] →
+    (new ++ bytes_of (ends_left f part (at + 1)) ≡ old ++ bytes_of (ends_left f part at)) × (length (ends_left f part (at + 1)) ≤ length (ends_left f part at))
+entry_fed f ps es part at p e old mid new parts saved low is e_low e_is line feed =
+    let there : slice_get f.parts part ≡ Some p = subst (λ (l : List FrozenPart). slice_get l part ≡ Some p) parts (slice_get_read ps _ part p refl low is) in
+    let here : slice_get p.saved at ≡ Some e = subst (λ (l : List SavedEntry). slice_get l at ≡ Some e) saved (slice_get_read es _ at e refl e_low e_is) in
+    let next : ends_left f part at ≡ entry_line p.owner p.shard e ∷ ends_left f part (at + 1) = ap (λ (l : List (List ℕ)). l ++ end_line ∷ []) (next_of_part f.parts part p at e there here) in (
+      bytes_more (ends_left f part at) (ends_left f part (at + 1)) old new (entry_line p.owner p.shard e) next
+          (feed ∙ ap (λ (l : List ℕ). l ++ 10 ∷ []) line ∙ append_assoc old (entry_line p.owner p.shard e) (10 ∷ [])),
+      omega (arith, ap length next),
+    )

@@ -4,7 +4,7 @@ ghost use Rattle.std.specs.Prelude.{IfOk, OnErr, IfSome, IfNone, vec_capacity};
 ghost use Rattle.frozen_state.specs.declared.frozen.FrozenPart.{FrozenPart as OnePart};
 ghost use Rattle.checkpoint.specs.Form.{FormView};
 ghost use Rattle.checkpoint.specs.Writing.{entries_left, ends_left, texts_left, bounds_left};
-ghost use Rattle.checkpoint.specs.Writing.{lines_left, Appends, WritesLine};
+ghost use Rattle.checkpoint.specs.Writing.{lines_left, Appends, WritesLine, WritesUpTo};
 ghost use Rattle.checkpoint.specs.Writing.{LacksRoomFor, LacksRoomToFeed};
 
 use crate::form::Form;
@@ -166,4 +166,26 @@ pub fn write_line(
     let next = push_line(form, frozen, place, out)?;
     out.push(b'\n')?;
     Ok(Some(next))
+}
+
+/// Where a place stands behind an entry, appends the lines of the entries behind it in its part, each with its line feed, and
+/// answers the place behind them. At another place it appends nothing. So a part is written in one call, where nothing is done
+/// between its lines.
+pub fn write_entries(frozen: &Frozen, place: Place, out: &mut Vec<u8>) -> Result<Place, Memory>
+    ensures { IfOk result (WritesUpTo frozen.now place out.old.items out.new.items) }
+{
+    let Place::Entries { part, entry } = place else {
+        return Ok(place);
+    };
+    let Some(of) = frozen.parts().get(part) else {
+        return Ok(place);
+    };
+    let entries = of.saved.entries();
+    let mut at = entry;
+    'rest: while at < entries.len() {
+        push_entry_line(out, of.owner, of.shard, &entries[at])?;
+        out.push(b'\n')?;
+        at += 1;
+    }
+    Ok(Place::Entries { part, entry: at })
 }

@@ -17,7 +17,7 @@ static MODES: [&str; 6] = ["run", "freeze", "resume", "explain", "cut", "sample"
 
 static WAYS: [&str; 3] = ["refuse", "drop", "adjust"];
 
-/// The greatest time of an event.
+// The greatest time of an event.
 const LATEST: u64 = (1 << 60) - 1;
 
 fn query_option<'a>(alloc: Global) -> Arg<'a>

@@ -65,7 +65,7 @@ HasRenamed result old new = Passes (λ d. (d ≡ old.now) ⊎ (d ≡ renamed old
 abbrev pub HasSyncedFolder : {T E : Type 0} → Result T E → Told → Told → Type 0
 HasSyncedFolder result old new = Passes (λ d. (d ≡ old.now) ⊎ (d ≡ settled old.now)) (settled old.now) result old new
 
--- Failed comes only where the count of faults rose; at Ok and where memory was wanting it is what it was
+-- Failed comes only where the count of faults rose; at Ok and out of memory it is what it was
 pub record HasReadCause {T : Type 0} (before now : ℕ) (result : Result T ReadFault) : Type 0 where
   pub later : before ≤ now
   pub failed : IsErrOf result Failed → Rose before now

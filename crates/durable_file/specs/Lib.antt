@@ -1,3 +1,5 @@
+-- Callers read Disk and Calls, a disk and what each call does to it, Opened and Replaced, what is then known of FILE, and of Memory what
+-- a medium in memory is seen as.
 pub mod Calls
 pub mod Disk
 pub mod Memory

@@ -154,7 +154,7 @@ impl Moments {
     ghost use Rattle.durable_file.specs.Calls.{moved};
     ghost use Rattle.durable_file.specs.Calls.{HasWritten, HasSynced, HasRenamed, HasSyncedFolder};
 
-    // The disk as it is is one that was, unless no call goes on any more, or for want of memory.
+    // The disk as it is is one that was, unless no call goes on any more, or there is no memory.
     fn pass(&mut self) -> Result<(), MediumFailed>
         ensures ok { OnOk result (told_of self.new ≡ moved (told_of self.old)) }
         ensures fewer { OnOk result (self.old.calls ≡ self.new.calls + 1) }

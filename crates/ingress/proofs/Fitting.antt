@@ -12,14 +12,14 @@ use Rattle.tw_rows.specs.declared.edge.Edge.{Edge}
 use Rattle.tw_rows.specs.declared.kind.CellKind.{CellKind}
 use Rattle.tw_rows.specs.declared.kind.CellKind.TheVariants.{Whole, Bit, Place}
 use Rattle.tw_rows.specs.Bag.{SameBag}
-use Rattle.batch.specs.PoolsView.{PoolsView, batch_taken, IsPartTaken}
+use Rattle.batch.specs.PoolsView.{PoolsView, IsPartTaken}
 use Rattle.edge_history.specs.Order.{rank, failing, is_real, is_from, Rises, KeepsOrder}
 use Rattle.edge_history.proofs.Keeping.{KeepsOrder-front}
 use Rattle.edge_history.proofs.Rising.{Rises-less}
 use Rattle.edge_history.proofs.Sums.{weaker, failing-parts}
 use Rattle.edge_stream.specs.Listing.{EdgeListView, cells_of, appended, SameShape}
 use Rattle.edge_stream.specs.Taking.{room_taken, batches_taken, AreBatchesTaken}
-use Rattle.edge_stream.proofs.Filling.{room_taken-capacity, batches_taken-capacity, appended-kinds, appended-capacity}
+use Rattle.edge_stream.proofs.Filling.{room_taken-capacity, batches_taken-capacity, taken_after, appended-kinds, appended-capacity}
 use Rattle.carried_edges.proofs.Pools.{part-capacity, part-limit, room_taken-limit, some-capacity, some-limit, batches_taken-limit}
 use Rattle.ingress.specs.Fits.{is_stored, are_stored, is_fit, AreFit}
 use Rattle.ingress.specs.Keeping.{Changed}
@@ -147,18 +147,12 @@ pools_copied (Ok x) before after n ks took some = record {
 }
 pools_copied (Err x) before after n ks took some = record { capacity = some-capacity before after ks some; limit = some-limit before after ks some }
 
-taken_more : (m n : ℕ) (s : PoolsView) (ks : List CellKind) → batches_taken n (batches_taken m s ks) ks ≡ batches_taken (m + n) s ks
-taken_more m zero s ks = ap (λ k. batches_taken k s ks) (let e : m ≡ m + 0 = omega arith in e)
-taken_more m (suc n) s ks =
-    ap (λ p. batch_taken p ks) (taken_more m n s ks) ∙ ap (λ k. batches_taken k s ks) (let e : suc (m + n) ≡ m + suc n = omega arith in e)
-
 pub takes_copied : (old new : EdgeListView) (before after : PoolsView) (ks : List CellKind) → cells_of old ≡ ks → old.batches ≤ new.batches →
     after ≡ batches_taken (new.batches - old.batches) before ks → TakesBatches old before new after
 takes_copied old new before after ks of more took first kinds same so_far =
-    let k : ks ≡ kinds = sym of ∙ same in
-    took ∙ ap (λ s. batches_taken (new.batches - old.batches) s ks) so_far ∙ ap (λ q. batches_taken (new.batches - old.batches) (batches_taken old.batches first kinds) q) k
-    ∙ taken_more old.batches (new.batches - old.batches) first kinds
-    ∙ ap (λ n. batches_taken n first kinds) (let e : old.batches + (new.batches - old.batches) ≡ new.batches = omega (arith, more) in e)
+    let whole : (n : ℕ) → n - 0 ≡ n = λ n. omega arith in
+    taken_after 0 old.batches new.batches first before after kinds ks (omega arith) more (sym of ∙ same) (so_far ∙ ap (λ n. batches_taken n first kinds) (sym (whole old.batches))) took
+    ∙ ap (λ n. batches_taken n first kinds) (whole new.batches)
 
 pub shape_next : (first before after : EdgeListView) (e : Edge) → SameShape first before → after ≡ appended before e → SameShape first after
 shape_next first before after e so_far one = record {

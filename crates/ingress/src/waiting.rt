@@ -41,7 +41,8 @@ impl Model for Waiting {
 fn is_real(edge: &Edge) -> bool
     ensures { IsTrue result → IsReal edge.now }
 {
-    edge.sync < Time::INF && edge.other != edge.sync
+    let other = edge.other.word();
+    edge.sync < Time::INF && other != edge.sync.word()
 }
 
 // Whether the edge can be put last in the list.

@@ -1,5 +1,5 @@
 -- What one call or two added to a journal.
-use Rattle.std.proofs.Common.{◌≡◌, ◌++◌, List, ◌∷◌, Option, Some, ◌∙◌, ap, append_assoc}
+use Rattle.std.proofs.Common.{◌++◌, List, Option, Some, ◌∙◌, ap, append_assoc}
 use Rattle.wire_lines.specs.Journal.{Entry, Adds, Grows}
 
 pub adds_grows : {a b : Option (List Entry)} {P : List Entry → Type 0} {K : List Entry} → Adds a b K → P K → Grows a b P

@@ -1,23 +1,23 @@
 -- A run between its reads, at its start and at the end of its input.
-use Rattle.std.proofs.Common.{◌≡◌, ◌<◌, ◌≤◌, ◌+◌, ◌-◌, ◌++◌, ℕ, min, List, [], ◌∷◌, length, true, false, refl, sym, ◌∙◌, ap, subst, arith, append_assoc, append-nil}
+use Rattle.std.proofs.Common.{◌≡◌, ◌<◌, ◌≤◌, ◌+◌, ◌-◌, ◌++◌, ℕ, min, List, [], ◌∷◌, length, true, false, refl, sym, ◌∙◌, ap, subst, arith, append-nil}
 use Rattle.std.specs.Prelude.{◌||◌}
 use Rattle.std.proofs.lemmas.List.{length-append}
-use Rattle.wire_lines.specs.Journal.{Entry, In, Out, Did, Start, Sync, Keep, ins, outs, ended}
+use Rattle.wire_lines.specs.Journal.{Entry, In, ins, outs, ended}
 use Rattle.wire_lines.specs.Lines.{whole}
 use Rattle.wire_lines.proofs.CutsFacts.{whole_are_given}
 use Rattle.wire_lines.proofs.Growth.{ins-append, outs-append}
-use Rattle.tempo_cli.specs.Answers.{Answers, IsFront}
+use Rattle.tempo_cli.specs.Answers.{IsFront}
 use Rattle.tempo_cli.specs.Table.{limit, IsCutOff}
-use Rattle.tempo_cli.specs.Feeding.{Asked, answers_to, Holds, WantsBytes}
+use Rattle.tempo_cli.specs.Feeding.{Holds, WantsBytes}
 use Rattle.tempo_cli.specs.Working.{Reading}
 use Rattle.tempo_cli.specs.declared.status.Status.TheVariants as statuses
 use Rattle.tempo_cli.proofs.Journals.{ended-append, prompt_in, ready, read_on}
 use Rattle.tempo_cli.proofs.Moves.{cut_off, few_bytes}
-use Rattle.kept_run.specs.Keeping.{Task, query_of, answers_of, KeepsAfter, Keeps, IsTimelyAfter, due_in, last_behind, all_counts}
+use Rattle.kept_run.specs.Keeping.{Task, query_of, answers_of, Keeps, IsTimelyAfter, due_in, last_behind, all_counts}
 use Rattle.kept_run.specs.Standing.{Stands, Begun, Under, MayRead, Fails, IsWanting, SaysSame}
 use Rattle.kept_run.specs.declared.keeping.Keeper.{Keeper}
 use Rattle.kept_run.specs.declared.status.KeptStatus.{KeptStatus}
-use Rattle.kept_run.specs.declared.status.KeptStatus.TheVariants.{Ended, CheckpointFailed}
+use Rattle.kept_run.specs.declared.status.KeptStatus.TheVariants.{Ended}
 use Rattle.kept_run.proofs.Counting.{given_front}
 use Rattle.kept_run.proofs.Standing.{is_for_again, keeps_more, kept_count, timely_on, line_stops, fails_keeps}
 

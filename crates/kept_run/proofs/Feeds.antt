@@ -1,5 +1,5 @@
 -- No line of a checkpoint has an LF, so what is kept is read back line by line.
-use Rattle.std.proofs.Common.{◌≡◌, ◌≢◌, ◌<◌, ◌≤◌, ◌^◌, ◌/◌, ◌%◌, ◌++◌, ℕ, ℤ, pos, negsuc, zero, suc, List, [], ◌∷◌, length, map, get_or, slice_index, true, false, refl, sym, ◌∙◌, ap, subst, arith, append-nil}
+use Rattle.std.proofs.Common.{◌≡◌, ◌≢◌, ◌<◌, ◌^◌, ◌/◌, ◌%◌, ◌++◌, ℕ, ℤ, pos, negsuc, zero, suc, List, [], ◌∷◌, length, map, get_or, slice_index, true, false, refl, sym, ◌∙◌, ap, subst, arith, append-nil}
 use Rattle.std.specs.Prelude.{codes, decimal, flat_map, All}
 use Rattle.std.specs.List.{list_any}
 use Rattle.std.proofs.lemmas.List.Elements.{All-nil, All-cons, All-append, All-map}
@@ -26,11 +26,10 @@ use Rattle.frozen_state.specs.declared.frozen.FrozenPart.{FrozenPart}
 use Rattle.frozen_state.specs.Frozen.{FrozenView}
 use Rattle.frozen_state.specs.Forms.{PartFormView}
 use Rattle.command_line.specs.Words.{AreWithin}
-use Rattle.checkpoint_lines.specs.Lines.{line_of, form_line, end_line, query_line, options_line, late_text, time_line, bound_line, input_line, output_line, text_line, entry_line, entry_fields, owner_text, datum_text, IsOwner, IsCell, AreCells, IsText, IsEntry}
+use Rattle.checkpoint_lines.specs.Lines.{line_of, form_line, end_line, query_line, options_line, late_text, time_line, bound_line, input_line, output_line, text_line, entry_line, entry_fields, owner_text, datum_text, IsOwner, IsCell, AreCells, IsText}
 use Rattle.checkpoint_lines.proofs.Commas.{neither}
 use Rattle.checkpoint.specs.Form.{FormView, pieces, query_lines, head_lines}
 use Rattle.checkpoint.specs.Text.{bound_lines, part_lines, entry_lines, body_lines, checkpoint_lines, HasLine, ArePartsWith, IsOfForm}
-use Rattle.checkpoint.specs.Writing.{bytes_of}
 use Rattle.tempo_cli.specs.Jobs.{form_asked}
 use Rattle.kept_run.specs.Keeping.{Task, place_lines, StartsTask, IsStartOf}
 

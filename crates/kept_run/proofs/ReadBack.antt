@@ -1,6 +1,5 @@
 -- FILE read back.
-use Rattle.std.proofs.Common.{◌≡◌, ◌<◌, ◌+◌, ◌^◌, ◌++◌, ℕ, List, [], ◌∷◌, Option, Some, None, Result, Ok, Err, refl, sym, ◌∙◌, ap, subst, arith, append_assoc, append-nil}
-use Rattle.wire_lines.specs.Lines.{whole}
+use Rattle.std.proofs.Common.{◌≡◌, ◌<◌, ◌+◌, ◌^◌, ◌++◌, ℕ, List, [], ◌∷◌, Option, Some, None, Err, refl, sym, ◌∙◌, ap, subst, append_assoc, append-nil}
 use Rattle.frozen_state.specs.Frozen.{FrozenView}
 use Rattle.frozen_state.specs.Forms.{AreApart}
 use Rattle.checkpoint.specs.Form.{FormView}

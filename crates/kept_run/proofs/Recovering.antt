@@ -1,7 +1,7 @@
 -- What was kept can be gone on from.
-use Rattle.std.proofs.Common.{◌≡◌, ◌++◌, ℕ, List, [], ◌∷◌, refl, sym, ◌∙◌, ap, subst, append_assoc, append-nil}
+use Rattle.std.proofs.Common.{◌≡◌, ◌++◌, ℕ, List, [], ◌∷◌, sym, ◌∙◌, ap, subst, append_assoc, append-nil}
 use Rattle.wire_lines.specs.Journal.{Entry, In, Out, Did, Start, Sync, Keep, ins, outs}
-use Rattle.wire_lines.specs.Lines.{whole, rest, joined}
+use Rattle.wire_lines.specs.Lines.{whole}
 use Rattle.wire_lines.proofs.Growth.{ins-append, outs-append}
 use Rattle.tempo_cli.specs.Restoring.{AreFront}
 use Rattle.tempo_cli.proofs.Fronts.{front_again}

@@ -1,14 +1,14 @@
 -- A run from its start on.
 use Rattle.std.proofs.Common.{◌≡◌, ◌⊎◌, ◌++◌, Err, ℕ, List, [], ◌∷◌, Option, Some, None, inl, inr, refl, sym, ◌∙◌, ap, subst, append-nil}
-use Rattle.wire_lines.specs.Journal.{Entry, Did, Start, Adds, Grows}
+use Rattle.wire_lines.specs.Journal.{Entry, Did, Mark, Adds, Grows}
 use Rattle.admission.specs.Entries.{Told}
 use Rattle.durable_file.specs.Calls.{Told as Disks}
-use Rattle.durable_file.specs.Disk.{Content, Absent, Written, Synced, IsSeen}
+use Rattle.durable_file.specs.Disk.{Content, Absent, IsSeen}
 use Rattle.wire_lines.proofs.Growth.{Grows-weaker}
 use Rattle.plan_model.specs.IsPlan.{PlanParts}
 use Rattle.command_line.specs.Words.{Asked as Words}
 use Rattle.tempo_cli.proofs.Journals.{Grows-then}
-use Rattle.kept_run.specs.Keeping.{Task, Places, Keeps, Runs, RunsFirst, RunsByFile, HasBytes, HasState, IsStartOf, first_task, task_from}
+use Rattle.kept_run.specs.Keeping.{Task, Places, Keeps, RunsFrom, RunsOn, RunsFirst, RunsByFile, HasBytes, HasState, IsStartOf, first_start, first_task, next_start, task_from}
 use Rattle.kept_run.specs.Status.{IsRefusal}
 use Rattle.kept_run.specs.Standing.{Begun, StartsWith, IsWanting}
 use Rattle.plan_model.specs.declared.fault.QueryFault.{QueryFault}
@@ -19,21 +19,24 @@ use Rattle.tempo_cli.specs.declared.status.Status.{Status}
 use Rattle.tempo_cli.specs.declared.status.Status.TheVariants as statuses
 use Rattle.tempo_cli.proofs.Jobs.{never_both}
 use Rattle.kept_run.specs.declared.keeping.Keeper.{Keeper}
+use Rattle.kept_run.proofs.Adding.{adds_grows}
 use Rattle.kept_run.specs.declared.status.KeptStatus.TheVariants.{Ended}
 use Rattle.kept_run.specs.declared.status.KeptStatus.{KeptStatus}
 
-runs_as : (t : Task) (every : ℕ) (status : KeptStatus) (J K : List Entry) → J ≡ Did (Start t.start.input t.start.output) ∷ [] → Keeps t every status K → Runs t every status (J ++ K)
-runs_as t every status J K is keeps = inr (K, ap (λ x. x ++ K) is, keeps)
+runs_as : (mark : Mark) (t : Task) (every : ℕ) (status : KeptStatus) (J K : List Entry) → J ≡ Did mark ∷ [] → Keeps t every status K → RunsFrom mark t every status (J ++ K)
+runs_as mark t every status J K is keeps = inr (K, ap (λ x. x ++ K) is, keeps)
 
 module _ {a b c : Option (List Entry)} {every : ℕ} {k : Keeper} (status : KeptStatus) where
-  pub runs_first : {asked : Words} {plan : PlanParts} → Grows a b (λ J. (output : ℕ) × StartsWith (first_task asked plan output) every k J) → ((t : Task) → Begun t every k → Grows b c (Keeps t every status)) →
+  pub runs_first : {asked : Words} {plan : PlanParts} → Adds a b (Did (first_start k.output) ∷ []) → Begun (first_task asked plan k.output) every k → ((t : Task) → Begun t every k → Grows b c (Keeps t every status)) →
       Grows a c (RunsFirst asked plan every status)
-  runs_first {asked} {plan} starts go = Grows-then {P = λ J. (output : ℕ) × StartsWith (first_task asked plan output) every k J} starts
-      (λ (J : List Entry) (p : (output : ℕ) × StartsWith (first_task asked plan output) every k J). go (first_task asked plan p.0) p.1.1)
-      (λ J K p q. (p.0, runs_as (first_task asked plan p.0) every status J K p.1.0 q))
+  runs_first {asked} {plan} starts begun go =
+      let t = first_task asked plan k.output in
+      Grows-then {P = λ J. J ≡ Did (first_start k.output) ∷ []} (adds_grows starts refl)
+      (λ (J : List Entry) (e : J ≡ Did (first_start k.output) ∷ []). go t begun)
+      (λ J K e q. (k.output, runs_as (first_start k.output) t every status J K e q))
 
-  pub runs_on : (t : Task) → Grows a b (StartsWith t every k) → ((u : Task) → Begun u every k → Grows b c (Keeps u every status)) → Grows a c (Runs t every status)
-  runs_on t starts go = Grows-then {P = StartsWith t every k} starts (λ (J : List Entry) (p : StartsWith t every k J). go t p.1) (λ J K p q. runs_as t every status J K p.0 q)
+  pub runs_on : (t : Task) → Grows a b (StartsWith t every k) → ((u : Task) → Begun u every k → Grows b c (Keeps u every status)) → Grows a c (RunsOn t every status)
+  runs_on t starts go = Grows-then {P = StartsWith t every k} starts (λ (J : List Entry) (p : StartsWith t every k J). go t p.1) (λ J K p q. runs_as (next_start t.start) t every status J K p.0 q)
 
 -- it failed before
 pub runs_not_first : {a b : Option (List Entry)} {asked : Words} {plan : PlanParts} {every : ℕ} (status : KeptStatus) → Grows a b (λ J. J ≡ []) → IsWanting status → Grows a b (RunsFirst asked plan every status)
@@ -78,7 +81,7 @@ module _ {a b c : Option (List Entry)} {asked : Words} {plan : PlanParts} {every
   }
 
   pub by_bytes : (found : List ℕ) → ((d : Disks) → told ≡ Some d → IsSeen d.now.file (Some found)) →
-      ((lines : List Told) (start : Places) → IsStartOf (task_from asked plan lines start) found → Grows b c (Runs (task_from asked plan lines start) every status)) →
+      ((lines : List Told) (start : Places) → IsStartOf (task_from asked plan lines start) found → Grows b c (RunsOn (task_from asked plan lines start) every status)) →
       ((HasState asked plan found → ⊥) → Grows b c (λ J. (J ≡ []) × IsRefusal status)) → RunsByFile asked plan every told status a c
   by_bytes found seen runs refused = record {
     first = λ d e absent. absurd (read_absent d.now.file found absent (seen d e));

@@ -1,5 +1,5 @@
 -- A run that goes on from a checkpoint says and writes what the run before it would have.
-use Rattle.std.proofs.Common.{◌≡◌, ◌<◌, ◌≤◌, ◌+◌, ◌++◌, ℕ, zero, suc, List, [], ◌∷◌, length, drop, Bool, true, false, cond, Option, Some, None, Ok, Err, inl, inr, refl, sym, ◌∙◌, ap, subst, arith, append_assoc, append-nil}
+use Rattle.std.proofs.Common.{◌≡◌, ◌<◌, ◌≤◌, ◌+◌, ◌++◌, ℕ, suc, List, [], ◌∷◌, length, drop, Bool, true, false, cond, Option, Some, None, Ok, Err, inl, inr, refl, sym, ◌∙◌, ap, arith, append_assoc, append-nil}
 use Rattle.std.specs.Prelude.{nat_eq, nat_lt, ◌&&◌, fold}
 use Rattle.std.specs.List.{All}
 use Rattle.std.proofs.Math.Seq.{drop-append_seam}

@@ -1,31 +1,28 @@
 -- A run in the midst of its lines.
-use Rattle.std.proofs.Common.{◌≡◌, ◌⊎◌, ◌<◌, ◌≤◌, ◌+◌, ◌++◌, ℕ, suc, min, List, [], ◌∷◌, length, Bool, true, false, Option, inl, inr, refl, sym, ◌∙◌, ap, subst, arith, append_assoc, append-nil}
+use Rattle.std.proofs.Common.{◌≡◌, ◌⊎◌, ◌+◌, ◌++◌, ℕ, suc, min, List, [], ◌∷◌, length, Bool, true, false, Option, inl, inr, refl, sym, ◌∙◌, ap, subst, arith, append_assoc, append-nil}
 use Rattle.std.specs.Prelude.{◌||◌, nat_le}
 use Rattle.std.specs.List.{All}
 use Rattle.std.proofs.lemmas.List.{length-append}
 use Rattle.wire_lines.specs.Journal.{Entry, In, Out, Did, Start, Sync, Keep, Adds, Grows, SentAll, SentFront, IsOut, ins, outs, ended}
 use Rattle.wire_lines.specs.Lines.{whole, lines}
-use Rattle.wire_lines.proofs.CutsFacts.{whole_are_given}
 use Rattle.wire_lines.proofs.Growth.{ins-append, outs-append}
 use Rattle.tempo_cli.specs.Answers.{Answers, IsFront}
 use Rattle.tempo_cli.specs.Restoring.{AreFront}
-use Rattle.tempo_cli.specs.Table.{limit, IsReady, IsPiece, IsPromptAfter, IsEnd, IsShort, IsCutOff}
-use Rattle.tempo_cli.specs.Feeding.{Asked, answers_to, Holds, WantsBytes}
-use Rattle.tempo_cli.specs.Working.{Reading}
+use Rattle.tempo_cli.specs.Table.{IsPromptAfter, IsEnd, IsShort}
+use Rattle.tempo_cli.specs.Feeding.{Holds}
 use Rattle.tempo_cli.specs.Halting.{IsFormFor}
 use Rattle.tempo_cli.specs.declared.answering.Answering.{Answering}
 use Rattle.tempo_cli.specs.declared.status.Status.{Status}
 use Rattle.tempo_cli.specs.declared.status.Status.TheVariants as statuses
 use Rattle.tempo_cli.proofs.Fed.{took_final}
-use Rattle.tempo_cli.proofs.Journals.{ended-append, ins_outs, prompt_outs, ready}
-use Rattle.tempo_cli.proofs.Moves.{short, some_written, cut_off, few_bytes}
-use Rattle.checkpoint.specs.Form.{FormView}
+use Rattle.tempo_cli.proofs.Journals.{ended-append, ins_outs, prompt_outs}
+use Rattle.tempo_cli.proofs.Moves.{short, some_written}
 use Rattle.kept_run.specs.Keeping.{Task, Marks, query_of, answers_of, task_after, StartsTask, KeepsAfter, Keeps, IsTimelyAfter, kept_in, due_in, last_behind, all_counts, IsPunctual}
-use Rattle.kept_run.specs.Standing.{IsFor, Stands, Begun, Under, MayRead, Fails, IsWanting, IsAsBefore, SaysSame}
+use Rattle.kept_run.specs.Standing.{IsFor, Stands, Under, Fails, IsWanting, IsAsBefore, SaysSame}
 use Rattle.kept_run.specs.Status.{IsKeptEnd}
 use Rattle.kept_run.specs.declared.keeping.Keeper.{Keeper}
 use Rattle.kept_run.specs.declared.status.KeptStatus.{KeptStatus}
-use Rattle.kept_run.specs.declared.status.KeptStatus.TheVariants.{Ended, CheckpointFailed}
+use Rattle.kept_run.specs.declared.status.KeptStatus.TheVariants.{Ended}
 use Rattle.durable_file.specs.Calls.{Told}
 use Rattle.kept_wire.specs.Kept.{HasNotKept}
 use Rattle.kept_run.proofs.Adding.{adds_both}

@@ -1,5 +1,5 @@
 -- Where a run starts.
-use Rattle.std.proofs.Common.{◌≡◌, ◌≤◌, ◌<◌, ◌+◌, ◌^◌, ◌++◌, ℕ, List, [], ◌∷◌, length, Option, false, None, Result, Ok, Err, inr, refl, sym, ◌∙◌, ap, subst, arith, append-nil}
+use Rattle.std.proofs.Common.{◌≡◌, ◌≤◌, ◌+◌, ◌^◌, ◌++◌, ℕ, List, [], ◌∷◌, Option, false, Result, Ok, Err, inr, refl, sym, ◌∙◌, ap, subst, arith, append-nil}
 use Rattle.std.specs.Prelude.{◌&&◌, nat_eq}
 use Rattle.plan_model.specs.IsPlan.{PlanParts}
 use Rattle.admission.specs.Entries.{Told}
@@ -8,7 +8,7 @@ use Rattle.tempo_engine.specs.Went.{EngineView}
 use Rattle.tempo_engine.specs.declared.engine.Options.{Options}
 use Rattle.wire_lines.specs.Cuts.{Cuts}
 use Rattle.wire_lines.specs.Lines.{whole}
-use Rattle.wire_lines.specs.Journal.{Entry, Did, Start, Adds, Grows}
+use Rattle.wire_lines.specs.Journal.{Entry, Did, Start, CutAt, Adds, Grows}
 use Rattle.checkpoint.specs.Text.{checkpoint_lines, IsOfForm}
 use Rattle.tempo_cli.specs.declared.status.Status.{Status}
 use Rattle.kept_run.specs.declared.reading.KeptState.{KeptState}
@@ -19,7 +19,7 @@ use Rattle.admission.specs.Progress.{start, steps, fault}
 use Rattle.frozen_state.specs.Frozen.{FrozenView}
 use Rattle.checkpoint.specs.Form.{FormView, form_of}
 use Rattle.command_line.specs.Words.{Asked as Words, AreWithin}
-use Rattle.tempo_engine.specs.Fed.{Fed, last_number}
+use Rattle.tempo_engine.specs.Fed.{Fed}
 use Rattle.tempo_engine.specs.Frozen.{Fits, IsState}
 use Rattle.tempo_cli.specs.Table.{limit}
 use Rattle.tempo_cli.specs.Feeding.{answers_to, Holds}
@@ -114,8 +114,8 @@ module _ {t : Task} {bytes : List ℕ} {form : FormView} (is : IsStartOf t bytes
   pub unread_wants : (status : Status) → IsReadAs t.start is.froze.frozen (Err status) → IsWanting (Ended status)
   unread_wants status e = inr (ap Ended e)
 
-same_start : (i o i' o' : ℕ) → i ≡ i' → o ≡ o' → Did (Start i o) ∷ [] ≡ Did (Start i' o') ∷ []
-same_start i o i' o' e f = ap (λ x. Did (Start x o) ∷ []) e ∙ ap (λ y. Did (Start i' y) ∷ []) f
+same_start : (i o i' o' : ℕ) → i ≡ i' → o ≡ o' → Did (Start i (CutAt o)) ∷ [] ≡ Did (Start i' (CutAt o')) ∷ []
+same_start i o i' o' e f = ap (λ x. Did (Start x (CutAt o)) ∷ []) e ∙ ap (λ y. Did (Start i' (CutAt y)) ∷ []) f
 
-pub starts_again : {a b : Option (List Entry)} {i o : ℕ} (t : Task) (every : ℕ) (k : Keeper) → Adds a b (Did (Start i o) ∷ []) → i ≡ t.start.input → o ≡ t.start.output → Begun t every k → Grows a b (StartsWith t every k)
+pub starts_again : {a b : Option (List Entry)} {i o : ℕ} (t : Task) (every : ℕ) (k : Keeper) → Adds a b (Did (Start i (CutAt o)) ∷ []) → i ≡ t.start.input → o ≡ t.start.output → Begun t every k → Grows a b (StartsWith t every k)
 starts_again {a} {b} {i} {o} t every k adds e f b0 = adds_grows adds (same_start i o t.start.input t.start.output e f, b0)

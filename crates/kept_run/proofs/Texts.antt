@@ -1,7 +1,7 @@
 -- The text of a checkpoint.
-use Rattle.std.proofs.Common.{◌≡◌, ◌<◌, ◌+◌, ◌^◌, ◌++◌, ℕ, List, [], ◌∷◌, length, false, refl, sym, ◌∙◌, ap, subst, arith}
+use Rattle.std.proofs.Common.{◌≡◌, ◌<◌, ◌+◌, ◌^◌, ◌++◌, ℕ, List, [], ◌∷◌, length, false, sym, ◌∙◌, ap, subst, arith}
 use Rattle.std.proofs.lemmas.Grind.{flat_map-append}
-use Rattle.wire_lines.specs.Journal.{Entry, outs}
+use Rattle.wire_lines.specs.Journal.{Entry}
 use Rattle.wire_lines.specs.Lines.{joined}
 use Rattle.plan_model.specs.IsPlan.{PlanParts, IsPlan}
 use Rattle.admission.specs.Entries.{Told}

@@ -1,11 +1,11 @@
 -- However many crashes come, the output's file has the text of one run.
-use Rattle.std.proofs.Common.{◌≡◌, ◌≤◌, ◌+◌, ◌++◌, ℕ, List, [], ◌∷◌, length, take, drop, Option, Some, None, true, false, refl, sym, ◌∙◌, ap, subst, arith, append_assoc, append-nil, length-append, length-take}
+use Rattle.std.proofs.Common.{◌≡◌, ◌≤◌, ◌+◌, ◌++◌, ℕ, List, [], ◌∷◌, length, take, drop, Option, Some, None, false, refl, sym, ◌∙◌, ap, subst, arith, append_assoc, append-nil, length-append, length-take}
 use Rattle.std.specs.List.{All}
 use Rattle.std.proofs.lemmas.Grind.{flat_map-append}
 use Rattle.std.proofs.lemmas.List.{drop_all}
 use Rattle.std.proofs.lemmas.List.Elements.{All-nil, All-append}
 use Rattle.std.proofs.Math.Seq.{take-append_seam}
-use Rattle.wire_lines.specs.Journal.{Entry, ins, outs, ended}
+use Rattle.wire_lines.specs.Journal.{Entry, ins, outs}
 use Rattle.wire_lines.specs.Lines.{HasNoLf, whole, lines, joined}
 use Rattle.wire_lines.proofs.Cutting.{cut_is_free, lines_go_on, IsOneLine-free}
 use Rattle.tempo_engine.specs.Output.{plan_text}
@@ -16,7 +16,7 @@ use Rattle.tempo_cli.proofs.Final.{front_low}
 use Rattle.tempo_cli.proofs.Fronts.{front_all}
 use Rattle.tempo_cli.proofs.Lines.{lines_are_free}
 use Rattle.kept_run.specs.Keeping.{Task, query_of, answers_of, task_after, Keeps, IsRecovered}
-use Rattle.kept_run.specs.Unbroken.{Crash, HasLeft, IsNoHeader, GoesBehind, GoesOn, AreGoneOn, IsUnbroken}
+use Rattle.kept_run.specs.Unbroken.{Crash, HasLeft, IsNoHeader, GoesOn, AreGoneOn, IsUnbroken}
 use Rattle.kept_run.specs.declared.status.KeptStatus.TheVariants.{Ended}
 use Rattle.kept_run.proofs.Splitting.{fault_on, text_on}
 

@@ -1,10 +1,9 @@
 -- The whole lines of bytes, and of more bytes.
-use Rattle.std.proofs.Common.{◌≡◌, ◌<◌, ◌≤◌, ◌+◌, ◌-◌, ◌++◌, ℕ, suc, List, [], ◌∷◌, length, take, drop, refl, sym, ◌∙◌, ap, subst, arith, append_assoc}
+use Rattle.std.proofs.Common.{◌≡◌, ◌<◌, ◌+◌, ◌-◌, ◌++◌, ℕ, suc, List, [], ◌∷◌, length, take, drop, sym, ◌∙◌, ap, arith, append_assoc}
 use Rattle.std.specs.List.{All}
 use Rattle.std.proofs.lemmas.List.{length-drop, take_all}
-use Rattle.wire_lines.specs.Lines.{line_len, IsOneLine, cut, whole, rest, joined}
+use Rattle.wire_lines.specs.Lines.{line_len, IsOneLine, whole, rest, joined}
 use Rattle.wire_lines.specs.Cutter.{CutterState}
-use Rattle.wire_lines.specs.Cuts.{Cuts}
 use Rattle.wire_lines.proofs.Cutting.{cut_go_on, cut_first, cut_free, cut_is_free, joined-whole, IsOneLine-free}
 use Rattle.tempo_cli.specs.Answers.{Answers}
 use Rattle.tempo_cli.specs.Feeding.{Within}

@@ -1,6 +1,6 @@
 -- What a run has done that keeps checkpoints while its input goes on.
 use Rattle.std.specs.Prelude.{◌≡◌, ◌⊎◌, ◌<◌, ◌^◌, ◌+◌, ◌++◌, ◌&&◌, ℕ, zero, suc, nat_le, nat_eq, cond, false, Option, Some, None, List, [], ◌∷◌, length, take}
-use Rattle.wire_lines.specs.Journal.{Entry, In, Out, Did, Mark, Start, Sync, Keep, Grows, ins, outs, ended}
+use Rattle.wire_lines.specs.Journal.{Entry, In, Out, Did, Mark, Start, AtEnd, CutAt, Sync, Keep, Grows, ins, outs, ended}
 use Rattle.wire_lines.specs.Lines.{whole, joined}
 use Rattle.plan_model.specs.IsPlan.{PlanParts}
 use Rattle.admission.specs.Entries.{Told}
@@ -154,9 +154,21 @@ pub record Keeps (t : Task) (every : ℕ) (status : KeptStatus) (J : List Entry)
 abbrev pub IsUnstarted : KeptStatus → List Entry → Type 0
 IsUnstarted status J = (J ≡ []) × ((status ≡ CheckpointFailed) ⊎ (status ≡ Ended statuses.Memory))
 
--- the run started where its task says, and then did this; or it failed before
-abbrev pub Runs : Task → ℕ → KeptStatus → List Entry → Type 0
-Runs t every status J = IsUnstarted status J ⊎ ((K : List Entry) × (J ≡ Did (Start t.start.input t.start.output) ∷ K) × Keeps t every status K)
+-- the run started so, and then did this; or it failed before
+abbrev pub RunsFrom : Mark → Task → ℕ → KeptStatus → List Entry → Type 0
+RunsFrom mark t every status J = IsUnstarted status J ⊎ ((K : List Entry) × (J ≡ Did mark ∷ K) × Keeps t every status K)
+
+-- the start of a first run, behind all of the output's file, which has so many bytes: nothing of it is cut
+abbrev pub first_start : ℕ → Mark
+first_start output = Start 0 (AtEnd output)
+
+-- the start of a run that goes on at these places: the output's file is cut there
+abbrev pub next_start : Places → Mark
+next_start p = Start p.input (CutAt p.output)
+
+-- a run that goes on where its task says
+abbrev pub RunsOn : Task → ℕ → KeptStatus → List Entry → Type 0
+RunsOn t every status J = RunsFrom (next_start t.start) t every status J
 
 -- the bytes of FILE are those of a checkpoint from which a run of this task starts
 pub record IsStartOf (t : Task) (bytes : List ℕ) : Type 0 where
@@ -175,7 +187,7 @@ task_from asked plan before start = record { asked = asked; plan = plan; before 
 
 -- a first run, behind all that the output's file has
 abbrev pub RunsFirst : Words → PlanParts → ℕ → KeptStatus → List Entry → Type 0
-RunsFirst asked plan every status J = (output : ℕ) × Runs (first_task asked plan output) every status J
+RunsFirst asked plan every status J = (output : ℕ) × RunsFrom (first_start output) (first_task asked plan output) every status J
 
 -- a read gives these bytes of the file
 abbrev pub HasBytes : Content → List ℕ → Type 0
@@ -194,7 +206,7 @@ pub record HasState (asked : Words) (plan : PlanParts) (bytes : List ℕ) : Type
 pub record RunsByFile (asked : Words) (plan : PlanParts) (every : ℕ) (told : Option Disks) (status : KeptStatus) (before now : Option (List Entry)) : Type 0 where
   pub first : (d : Disks) → told ≡ Some d → d.now.file ≡ Absent → Grows before now (RunsFirst asked plan every status)
   pub again : (d : Disks) → told ≡ Some d → (bytes : List ℕ) → HasBytes d.now.file bytes → (lines : List Told) (start : Places) →
-      IsStartOf (task_from asked plan lines start) bytes → Grows before now (Runs (task_from asked plan lines start) every status)
+      IsStartOf (task_from asked plan lines start) bytes → Grows before now (RunsOn (task_from asked plan lines start) every status)
   pub refused : (d : Disks) → told ≡ Some d → (bytes : List ℕ) → HasBytes d.now.file bytes → (HasState asked plan bytes → ⊥) →
       Grows before now (λ J. (J ≡ []) × IsRefusal status)
 

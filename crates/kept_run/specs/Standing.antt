@@ -1,6 +1,6 @@
 -- What private contracts say of a run in the midst of its lines.
 use Rattle.std.specs.Prelude.{◌<◌, ◌^◌, Bool, Option, ◌≡◌, ◌⊎◌, ◌≤◌, ◌+◌, ◌++◌, ℕ, min, true, false, List, [], ◌∷◌, length, Result, Ok, Err}
-use Rattle.wire_lines.specs.Journal.{Entry, Did, Start, Grows, ins, outs, ended}
+use Rattle.wire_lines.specs.Journal.{Entry, Did, Grows, ins, outs, ended}
 use Rattle.wire_lines.specs.Cutter.{CutterState}
 use Rattle.wire_lines.specs.Lines.{whole}
 use Rattle.frozen_state.specs.Frozen.{FrozenView}
@@ -17,7 +17,7 @@ use Rattle.tempo_cli.specs.Feeding.{Holds, WantsBytes}
 use Rattle.tempo_cli.specs.Halting.{IsFormFor}
 use Rattle.tempo_cli.specs.declared.status.Status.{Status}
 use Rattle.tempo_cli.specs.declared.status.Status.TheVariants as statuses
-use Rattle.kept_run.specs.Keeping.{Task, query_of, answers_of, KeepsAfter, Keeps, IsTimelyAfter, due_in, Places, place_lines}
+use Rattle.kept_run.specs.Keeping.{Task, query_of, answers_of, KeepsAfter, Keeps, IsTimelyAfter, due_in, Places, place_lines, next_start}
 use Rattle.kept_run.specs.declared.keeping.Keeper.{Keeper}
 use Rattle.kept_run.specs.declared.reading.KeptState.{KeptState}
 use Rattle.kept_run.specs.declared.status.KeptStatus.{KeptStatus}
@@ -58,7 +58,7 @@ pub record MayRead (t : Task) (every : ℕ) (k : Keeper) (left : ℕ) (J : List 
   pub under : Under t every k J
   pub count : length (ins J) + left ≡ limit + 1
 
--- the last checkpoint failed, or memory was wanting for it
+-- the last checkpoint failed, or there was no memory for it
 abbrev pub IsWanting : KeptStatus → Type 0
 IsWanting status = (status ≡ CheckpointFailed) ⊎ (status ≡ Ended statuses.Memory)
 
@@ -71,9 +71,9 @@ pub record Fails (t : Task) (given : List (List ℕ)) (counts : List ℕ) (J : L
   pub keeps : KeepsAfter t [] all J
   pub one_more : (all ≡ counts) ⊎ (all ≡ counts ++ length given ∷ [])
 
--- the run started so, or it failed before
+-- a run started where its task says, and went on
 abbrev pub StartsWith : Task → ℕ → Keeper → List Entry → Type 0
-StartsWith t every k J = (J ≡ Did (Start t.start.input t.start.output) ∷ []) × Begun t every k
+StartsWith t every k J = (J ≡ Did (next_start t.start) ∷ []) × Begun t every k
 
 -- the places that a run goes on from, and what was frozen
 abbrev pub IsReadAs : Places → FrozenView → Result KeptState Status → Type 0

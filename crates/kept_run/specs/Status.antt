@@ -63,7 +63,7 @@ abbrev pub IsKeptAsked : KeptStatus → Type 0
 IsKeptAsked (Ended status) = IsAsked status
 IsKeptAsked CheckpointFailed = Unit {0}
 
--- FILE was refused, or memory was wanting before that was known
+-- FILE was refused, or the run was out of memory before that was known
 abbrev pub IsRefused : Status → Type 0
 IsRefused (statuses.BadCheckpoint line) = Unit {0}
 IsRefused statuses.Memory = Unit {0}

@@ -1,5 +1,5 @@
 -- Runs that crashes ended, each gone on with by the next one.
-use Rattle.std.specs.Prelude.{◌≡◌, ◌+◌, ◌++◌, ℕ, true, false, Option, Some, None, List, [], ◌∷◌, length, take}
+use Rattle.std.specs.Prelude.{◌≡◌, ◌+◌, ◌++◌, ℕ, true, Option, Some, None, List, [], ◌∷◌, length, take}
 use Rattle.wire_lines.specs.Journal.{Entry, Did, Sync, ins, outs, ended}
 use Rattle.wire_lines.specs.Lines.{joined}
 use Rattle.tempo_cli.specs.Answers.{IsFront}

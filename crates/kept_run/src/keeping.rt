@@ -13,7 +13,7 @@ ghost use Rattle.kept_run.specs.Standing.{SaysSame, WhateverStands, TakesOn, End
 ghost use Rattle.kept_run.specs.Status.{kept_of, KeptCounts, StaysCounted, IsKeptAsked};
 
 use crate::status::KeptStatus;
-use checkpoint::{Form, Place, write_line};
+use checkpoint::{Form, Place, write_entries, write_line};
 use checkpoint_lines::{push_input_line, push_output_line};
 use frozen_state::Frozen;
 use kept_wire::KeptWire;
@@ -37,6 +37,8 @@ pub struct Keeper {
     pub output: u64,
     /// The last punctuation of the last checkpoint.
     pub kept_at: Time,
+    /// How much room the bytes of the next checkpoint begin with, by those of the last one.
+    pub room: usize,
 }
 
 // The most bytes that one read asks for.
@@ -49,6 +51,13 @@ fn piece(left: u64) -> usize
     left.min(PIECE) as usize
 }
 
+// Room for a checkpoint behind one of so many bytes: an eighth more.
+fn room_behind(bytes: usize) -> usize
+    ensures { bytes ≤ result }
+{
+    bytes.saturating_add(bytes / 8)
+}
+
 // Appends the lines of the checkpoint.
 fn push_lines(form: &Form, frozen: &Frozen, out: &mut Vec<u8>) -> Result<(), Memory>
     ensures { OnOk result (out.new.items ≡ out.old.items
@@ -56,7 +65,7 @@ fn push_lines(form: &Form, frozen: &Frozen, out: &mut Vec<u8>) -> Result<(), Mem
 {
     let mut place = Place::Head(0);
     'lines: while let Some(next) = write_line(form, frozen, place, out)? {
-        place = next;
+        place = write_entries(frozen, next, out)?;
     }
     Ok(())
 }
@@ -90,6 +99,7 @@ impl Keeper {
             return Err(Memory);
         };
         let mut text = buffer_for(self.answering.alloc, &frozen)?;
+        text.reserve(self.room)?;
         push_places(input, self.output, &mut text)?;
         push_lines(&self.form, &frozen, &mut text)?;
         Ok(text)
@@ -117,6 +127,7 @@ impl Keeper {
         let text = self.text()?;
         wire.keep(&text)?;
         self.kept_at = self.answering.engine.last_punctuation();
+        self.room = room_behind(text.len());
         Ok(())
     }
 

@@ -6,7 +6,7 @@ ghost use Rattle.plan_model.specs.declared.fault.QueryFault.{QueryFault as SomeF
 ghost use Rattle.command_line.specs.Words.{AreWithin, asked_by};
 ghost use Rattle.tempo_cli.specs.Jobs.{HasPlan, HasFault, query_status};
 ghost use Rattle.admission.specs.Entries.{Told as Said};
-ghost use Rattle.kept_run.specs.Keeping.{Places, Runs, RunsFirst, RunsByFile, task_from, IsStartOf, HasState};
+ghost use Rattle.kept_run.specs.Keeping.{Places, RunsOn, RunsFirst, RunsByFile, task_from, IsStartOf, HasState};
 ghost use Rattle.kept_run.specs.Status.{kept_of, KeptCounts, IsKeptNoted, HasKeptReason, IsKeptAsked, IsRefusal};
 
 use crate::starting::{start_again, start_first};
@@ -56,7 +56,7 @@ fn run_again<R: Threads + Sync, W: KeptWire, G: Gate>(
     requires within { AreWithin (asked_by asked.now) }
     ensures runs { (before : List Said) (start : Places) →
         let t = task_from (asked_by asked.now) plan before start in IsStartOf t bytes.now →
-        Grows (W.journal wire.old) (W.journal wire.new) (Runs t every (kept_of result)) }
+        Grows (W.journal wire.old) (W.journal wire.new) (RunsOn t every (kept_of result)) }
     ensures refused { (HasState (asked_by asked.now) plan bytes.now → ⊥) →
         Grows (W.journal wire.old) (W.journal wire.new)
         (λ J. (J ≡ []) × IsRefusal (kept_of result)) }

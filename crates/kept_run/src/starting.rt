@@ -1,11 +1,12 @@
 // Where a run starts: at the beginning, or from FILE.
-ghost use Rattle.std.specs.Prelude.{◌≡◌, ◌&&◌, nat_eq, [], ℕ, List, IfOk, IfErr, OnOk, OnErr};
-ghost use Rattle.wire_lines.specs.Journal.{Grows};
+ghost use Rattle.std.specs.Prelude.{◌≡◌, ◌&&◌, nat_eq, [], ◌∷◌, List, IfOk, IfErr, OnOk, OnErr};
+ghost use Rattle.wire_lines.specs.Journal.{Did, Adds, Grows};
 ghost use Rattle.command_line.specs.Words.{AreWithin, asked_by};
 ghost use Rattle.admission.specs.Entries.{Told};
 ghost use Rattle.tempo_engine.specs.Frozen.{IsState};
-ghost use Rattle.kept_run.specs.Keeping.{Places, first_task, task_from, IsStartOf, HasState};
-ghost use Rattle.kept_run.specs.Standing.{StartsWith, IsWanting, HasThawed, IsFresh};
+ghost use Rattle.kept_run.specs.Keeping.{Places, first_start, first_task, task_from};
+ghost use Rattle.kept_run.specs.Keeping.{IsStartOf, HasState};
+ghost use Rattle.kept_run.specs.Standing.{Begun, StartsWith, IsWanting, HasThawed, IsFresh};
 ghost use Rattle.kept_run.specs.Status.{KeptCounts, StaysCounted, IsKeptAsked, IsEndedOwn, IsRefusal};
 
 use crate::keeping::Keeper;
@@ -34,8 +35,10 @@ pub(crate) fn start_first<W: KeptWire>(
 ) -> Result<Keeper, KeptStatus>
     requires within { AreWithin (asked_by asked.now) }
     ensures fresh { IfOk result (λ k. IsFresh (asked_by asked.now) k.answering) }
-    ensures starts { IfOk result (λ k. Grows (W.journal wire.old) (W.journal wire.new)
-        (λ J. (output : ℕ) × StartsWith (first_task (asked_by asked.now) plan output) every k J)) }
+    ensures starts { IfOk result (λ k. Adds (W.journal wire.old) (W.journal wire.new)
+        (Did (first_start k.output) ∷ [])) }
+    ensures begun { IfOk result (λ k.
+        Begun (first_task (asked_by asked.now) plan k.output) every k) }
     ensures silent { OnErr result (Grows (W.journal wire.old) (W.journal wire.new) (λ J. J ≡ [])) }
     ensures wanting { IfErr result IsWanting }
     ensures counted { OnOk result (StaysCounted (W.read_faults wire.old) (W.read_faults wire.new)
@@ -54,6 +57,7 @@ pub(crate) fn start_first<W: KeptWire>(
         input: 0,
         output,
         kept_at: Time::ZERO,
+        room: 0,
     })
 }
 
@@ -141,5 +145,6 @@ pub(crate) fn start_again<W: KeptWire>(
         input,
         output,
         kept_at: Time::ZERO,
+        room: 0,
     })
 }

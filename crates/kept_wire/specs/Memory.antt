@@ -1,6 +1,6 @@
 -- A wire over files in memory.
-use Rattle.std.specs.Prelude.{ℕ, ◌+◌, ◌-◌, ◌^◌, min, List, [], length, take, Option}
-use Rattle.wire_lines.specs.Journal.{Entry, In, Out, Did, Start, Sync, Keep}
+use Rattle.std.specs.Prelude.{ℕ, ◌+◌, ◌-◌, ◌^◌, ◌++◌, min, List, [], ◌∷◌, length, take, Option}
+use Rattle.wire_lines.specs.Journal.{Entry, In, Out, Did, Start, AtEnd, CutAt, Sync, Keep}
 use Rattle.durable_file.specs.Memory.{MemoryView, started, restarted}
 use Rattle.kept_wire.specs.declared.memory.Done.{Done}
 use Rattle.kept_wire.specs.declared.memory.Done.TheVariants as done
@@ -24,9 +24,14 @@ pub record WireView : Type 0 where
 abbrev pub entry_of : Done → Entry
 entry_of (done.In v) = In v.items
 entry_of (done.Out v) = Out v.items
-entry_of (done.Start input output) = Did (Start input output)
+entry_of (done.StartNew output) = Did (Start 0 (AtEnd output))
+entry_of (done.StartAt input output) = Did (Start input (CutAt output))
 entry_of done.Sync = Did Sync
 entry_of (done.Keep v) = Did (Keep v.items)
+
+-- the journal once FILE was replaced by these bytes, or a crash may leave them there
+abbrev pub with_keep : WireView → List ℕ → List Entry
+with_keep w bytes = w.journal ++ Did (Keep bytes) ∷ []
 
 -- nothing has come in or gone out; `output` stands in the output's file, and a crash leaves `kept` bytes of it
 abbrev pub opened : List ℕ → ℕ → List ℕ → ℕ → MemoryView → ℕ → WireView

@@ -14,7 +14,8 @@ use wire_lines::{ReadFailed, Wire, WriteFailed};
 enum Done {
     In(Vec<u8>),
     Out(Vec<u8>),
-    Start(u64, u64),
+    StartNew(u64),
+    StartAt(u64, u64),
     Sync,
     Keep(Vec<u8>),
 }
@@ -56,7 +57,9 @@ impl Model for MemoryFileWire {
       write_faults = w.write_faults;
     } };
 
-    ghost invariant = { λ w. (0 < w.step) × (w.taken ≤ length w.input.items) × (w.kept ≤ length w.output.items) };
+    ghost invariant = { λ w. (0 < w.step)
+        × (w.taken ≤ length w.input.items)
+        × (w.kept ≤ length w.output.items) };
 }
 
 impl MemoryFileWire {
@@ -158,7 +161,7 @@ impl MemoryFileWire {
         }
     }
 
-    // One call fewer may go on. None where none may, or for want of memory for its entry.
+    // One call fewer may go on. None where none may, or out of memory for its entry.
     fn pass(&mut self) -> Option<()>
         ensures rest { self.new ≡ record self.old { calls = self.new.calls } }
         ensures fewer { OnSome result (self.old.calls ≡ self.new.calls + 1) }
@@ -169,8 +172,10 @@ impl MemoryFileWire {
 
     // The next bytes of the input.
     fn take_in(&mut self, into: &mut [u8]) -> Option<usize>
-        ensures count { IfSome result (λ n. n ≡ min (min self.old.step (length into.old)) (length self.old.input - self.old.taken)) }
-        ensures bytes { IfSome result (λ n. into.new ≡ take n (drop self.old.taken self.old.input) ++ drop n into.old) }
+        ensures count { IfSome result (λ n.
+            n ≡ min (min self.old.step (length into.old)) (length self.old.input - self.old.taken)) }
+        ensures bytes { IfSome result (λ n.
+            into.new ≡ take n (drop self.old.taken self.old.input) ++ drop n into.old) }
         ensures some { IfSome result (λ n. self.new ≡ record self.old {
           taken = self.old.taken + n;
           calls = self.old.calls - 1;
@@ -278,16 +283,17 @@ impl Wire for MemoryFileWire {
 
 impl MemoryFileWire {
     ghost use Rattle.std.specs.Prelude.{◌≡◌, ◌-◌, ◌++◌, ◌∷◌, [], length, take, OnSome, IfNone};
-    ghost use Rattle.wire_lines.specs.Journal.{Did, Start, Sync};
+    ghost use Rattle.wire_lines.specs.Journal.{Did, Sync};
+    ghost use Rattle.kept_wire.specs.Memory.{entry_of};
 
-    // The input goes on there, and the output behind so many bytes of its file.
-    fn start(&mut self, input: u64, output: u64) -> Option<()>
+    // The input goes on there, and the output behind so many bytes of its file. That stands in the journal so.
+    fn start(&mut self, input: u64, output: u64, done: Done) -> Option<()>
         ensures some { OnSome result (self.new ≡ record self.old {
           taken = input;
           output = take output self.old.output;
           kept = output;
           calls = self.old.calls - 1;
-          journal = self.old.journal ++ Did (Start input output) ∷ [];
+          journal = self.old.journal ++ entry_of done ∷ [];
         }) }
         ensures none { IfNone result (self.new ≡ record self.old { calls = self.new.calls }) }
     {
@@ -295,7 +301,7 @@ impl MemoryFileWire {
         if (self.input.len() as u64) < input || (self.output.len() as u64) < output {
             return None;
         }
-        self.journal.push(Done::Start(input, output)).ok()?;
+        self.journal.push(done).ok()?;
         self.taken = input as usize;
         self.output.truncate(output as usize);
         self.kept = output as usize;
@@ -320,7 +326,7 @@ impl MemoryFileWire {
 
 impl KeptWire for MemoryFileWire {
     ghost use Rattle.std.specs.Prelude.{Some, ◌≡◌, ◌∷◌, [], length, take, IfOk, OnOk, OnErr};
-    ghost use Rattle.wire_lines.specs.Journal.{Did, Start, Sync, Keep, Adds};
+    ghost use Rattle.wire_lines.specs.Journal.{Did, Start, AtEnd, CutAt, Sync, Keep, Adds};
     ghost use Rattle.wire_lines.specs.Faults.{HasCause, IsOther};
     ghost use Rattle.durable_file.specs.Calls.{Goes};
     ghost use Rattle.durable_file.specs.Replaced.{HasReplaced};
@@ -337,8 +343,8 @@ impl KeptWire for MemoryFileWire {
     }
 
     fn start_new(&mut self) -> Result<u64, MediumFailed>
-        ensures ok { IfOk result (λ output.
-            Adds (Some self.old.journal) (Some self.new.journal) (Did (Start 0 output) ∷ [])) }
+        ensures ok { IfOk result (λ output. Adds (Some self.old.journal) (Some self.new.journal)
+            (Did (Start 0 (AtEnd output)) ∷ [])) }
         ensures err { OnErr result (Adds (Some self.old.journal) (Some self.new.journal) []) }
         ensures cause { HasCause self.old.write_faults self.new.write_faults result }
         ensures other { IsOther self.old.read_faults self.new.read_faults result }
@@ -348,14 +354,14 @@ impl KeptWire for MemoryFileWire {
         ensures output { self.new.output ≡ self.old.output }
     {
         let output = self.output.len() as u64;
-        let started = self.start(0, output);
+        let started = self.start(0, output, Done::StartNew(output));
         counted(&mut self.write_faults, started)?;
         Ok(output)
     }
 
     fn start_at(&mut self, input: u64, output: u64) -> Result<(), MediumFailed>
-        ensures ok { OnOk result
-            (Adds (Some self.old.journal) (Some self.new.journal) (Did (Start input output) ∷ [])) }
+        ensures ok { OnOk result (Adds (Some self.old.journal) (Some self.new.journal)
+            (Did (Start input (CutAt output)) ∷ [])) }
         ensures err { OnErr result (Adds (Some self.old.journal) (Some self.new.journal) []) }
         ensures cause { HasCause self.old.write_faults self.new.write_faults result }
         ensures other { IsOther self.old.read_faults self.new.read_faults result }
@@ -364,12 +370,13 @@ impl KeptWire for MemoryFileWire {
         ensures output { OnOk result (self.new.output ≡ take output self.old.output) }
         ensures input { OnOk result (self.new.taken ≡ input) }
     {
-        let started = self.start(input, output);
+        let started = self.start(input, output, Done::StartAt(input, output));
         counted(&mut self.write_faults, started)
     }
 
     fn sync_output(&mut self) -> Result<(), MediumFailed>
-        ensures ok { OnOk result (Adds (Some self.old.journal) (Some self.new.journal) (Did Sync ∷ [])) }
+        ensures ok { OnOk result
+            (Adds (Some self.old.journal) (Some self.new.journal) (Did Sync ∷ [])) }
         ensures err { OnErr result (Adds (Some self.old.journal) (Some self.new.journal) []) }
         ensures cause { HasCause self.old.write_faults self.new.write_faults result }
         ensures other { IsOther self.old.read_faults self.new.read_faults result }
@@ -392,16 +399,16 @@ impl KeptWire for MemoryFileWire {
 }
 
 impl MemoryFileWire {
-    ghost use Rattle.std.specs.Prelude.{◌≡◌, ◌⊎◌, ◌++◌, ◌∷◌, [], OnOk, OnErr};
-    ghost use Rattle.wire_lines.specs.Journal.{Did, Keep};
+    ghost use Rattle.std.specs.Prelude.{◌≡◌, ◌⊎◌, OnOk, OnErr};
     ghost use Rattle.durable_file.specs.Replaced.{HasReplaced};
+    ghost use Rattle.kept_wire.specs.Memory.{with_keep};
 
-    // FILE is replaced, and that stands in the journal. For want of memory nothing is done.
+    // FILE is replaced, and that stands in the journal. Out of memory nothing is done.
     fn keep_bytes(&mut self, bytes: &[u8]) -> Result<(), MediumFailed>
         ensures told { HasReplaced bytes.now result self.old.file.told self.new.file.told }
-        ensures ok { OnOk result (self.new.journal ≡ self.old.journal ++ Did (Keep bytes.now) ∷ []) }
-        ensures err { OnErr result ((self.new.journal ≡ self.old.journal ++ Did (Keep bytes.now) ∷ [])
-            ⊎ (self.new ≡ self.old)) }
+        ensures ok { OnOk result (self.new.journal ≡ with_keep self.old bytes.now) }
+        ensures err { OnErr result
+            ((self.new.journal ≡ with_keep self.old bytes.now) ⊎ (self.new ≡ self.old)) }
         ensures faults { (self.new.read_faults ≡ self.old.read_faults)
             × (self.new.write_faults ≡ self.old.write_faults) }
     {

@@ -1,6 +1,6 @@
 // A wire over files.
 ghost use Rattle.std.specs.Prelude.{◌≡◌, ℕ, List, [], ◌∷◌, Option, IfOk, OnOk, OnErr};
-ghost use Rattle.wire_lines.specs.Journal.{Did, Start, Sync, Keep, Adds};
+ghost use Rattle.wire_lines.specs.Journal.{Did, Start, AtEnd, CutAt, Sync, Keep, Adds};
 ghost use Rattle.wire_lines.specs.Faults.{HasCause, IsOther};
 ghost use Rattle.durable_file.specs.Calls.{Told, Goes, HasReadCause};
 ghost use Rattle.durable_file.specs.Replaced.{HasReplaced};
@@ -31,8 +31,8 @@ pub trait KeptWire: Wire {
     /// Before the first read: the input comes from its first byte on, and the output goes behind all that its file has, which is
     /// made where there is none. Answers how long it is.
     fn start_new(&mut self) -> Result<u64, MediumFailed>
-        ensures ok { IfOk result (λ output.
-            Adds (Self.journal self.old) (Self.journal self.new) (Did (Start 0 output) ∷ [])) }
+        ensures ok { IfOk result (λ output. Adds (Self.journal self.old) (Self.journal self.new)
+            (Did (Start 0 (AtEnd output)) ∷ [])) }
         ensures err { OnErr result (Adds (Self.journal self.old) (Self.journal self.new) []) }
         ensures cause { HasCause (Self.write_faults self.old) (Self.write_faults self.new) result }
         ensures other { IsOther (Self.read_faults self.old) (Self.read_faults self.new) result };
@@ -40,15 +40,16 @@ pub trait KeptWire: Wire {
     /// Before the first read: the input comes from that byte on, and the output goes behind so many bytes of its file, which is
     /// cut there. It is an error where either has fewer.
     fn start_at(&mut self, input: u64, output: u64) -> Result<(), MediumFailed>
-        ensures ok { OnOk result
-            (Adds (Self.journal self.old) (Self.journal self.new) (Did (Start input output) ∷ [])) }
+        ensures ok { OnOk result (Adds (Self.journal self.old) (Self.journal self.new)
+            (Did (Start input (CutAt output)) ∷ [])) }
         ensures err { OnErr result (Adds (Self.journal self.old) (Self.journal self.new) []) }
         ensures cause { HasCause (Self.write_faults self.old) (Self.write_faults self.new) result }
         ensures other { IsOther (Self.read_faults self.old) (Self.read_faults self.new) result };
 
     /// Brings all that went out to the disk.
     fn sync_output(&mut self) -> Result<(), MediumFailed>
-        ensures ok { OnOk result (Adds (Self.journal self.old) (Self.journal self.new) (Did Sync ∷ [])) }
+        ensures ok { OnOk result
+            (Adds (Self.journal self.old) (Self.journal self.new) (Did Sync ∷ [])) }
         ensures err { OnErr result (Adds (Self.journal self.old) (Self.journal self.new) []) }
         ensures cause { HasCause (Self.write_faults self.old) (Self.write_faults self.new) result }
         ensures other { IsOther (Self.read_faults self.old) (Self.read_faults self.new) result };

@@ -69,11 +69,11 @@ waiting_bound z events waiting valid real late among =
 
 pub carried_bound : (n : Node) (texts : List (List ℕ)) (x y : ℕ) (carried left right out : List Edge) → KeepsLives n texts x y carried left right out →
     length carried ≤ 2 * reaching (answered_below n x) (of left)
-carried_bound n texts x y carried left right out k = late_bound (answered_below n x) left carried k.left_history k.waits
+carried_bound n texts x y carried left right out k = late_bound (answered_below n x) left carried k.sides.left_history k.waits
 
 pub extended_bound : (by : ℕ) (texts : List (List ℕ)) (x y : ℕ) (carried waiting left right out : List Edge) → failing is_real waiting ≡ 0 → KeepsExtended by texts x y carried waiting left right out →
     length carried + length waiting ≤ 2 * reaching x (of left) + 2 * reaching x (extended by (of left))
 extended_bound by texts x y carried waiting left right out real k =
-    let a = late_bound x left carried k.left_history k.waits in
-    let b = waiting_bound x (extended by (of left)) waiting (extended_valid by left k.left_history) real k.late (λ w. waiting_among by texts x y carried waiting left right out w k) in
+    let a = late_bound x left carried k.sides.left_history k.waits in
+    let b = waiting_bound x (extended by (of left)) waiting (extended_valid by left k.sides.left_history) real k.late (λ w. waiting_among by texts x y carried waiting left right out w k) in
     omega (arith, a, b)

@@ -28,7 +28,8 @@ use Rattle.node_laws.proofs.Standing.{no_history, placed_longer}
 use Rattle.node_laws.proofs.StepsAhead.{ahead_read}
 use Rattle.life_laws.specs.Extending.{extended_edge, is_extended, extended_edges, extended_starts, extended_ends, KeepsExtended}
 use Rattle.life_laws.proofs.Telling.{weight, Answers, waiting_shown, waiting_tell}
-use Rattle.life_laws.proofs.Steps.{below_later, parted_below, parted_from}
+use Rattle.life_laws.proofs.Sides.{sides_first, sides_longer, sides_step}
+use Rattle.life_laws.proofs.Steps.{parted_below, parted_from}
 
 -- EDGE BY EDGE
 extend_parts : (by : ℕ) (w : Edge → ℕ) (e : Edge) → is_real e ≡ true →
@@ -105,24 +106,16 @@ starts_in_order by h order =
 pub extended_ahead : (by : ℕ) (texts : List (List ℕ)) (x y : ℕ) (carried waiting left right out : List Edge) →
     KeepsExtended by texts x y carried waiting left right out → KeepsAhead plain_cells (Extend 0 by) texts x y left right out
 extended_ahead by texts x y carried waiting left right out k = record {
-  left_history = k.left_history;
-  right_history = k.right_history;
-  left_placed = k.left_placed;
-  right_placed = k.right_placed;
-  told = waiting_tell (is_extended by) (extended_edge by) (extended_one by) x x (extend_answers by x k.left_low) k.left_low left out waiting k.left_history k.order k.real k.below k.late k.made;
+  left_history = k.sides.left_history;
+  right_history = k.sides.right_history;
+  left_placed = k.sides.left_placed;
+  right_placed = k.sides.right_placed;
+  told = waiting_tell (is_extended by) (extended_edge by) (extended_one by) x x (extend_answers by x k.sides.left_low) k.sides.left_low left out waiting k.sides.left_history k.sides.order k.sides.real k.sides.below k.late k.made;
 }
 
 pub extended_first : (by : ℕ) (texts : List (List ℕ)) → KeepsExtended by texts 0 0 [] [] [] [] []
 extended_first by texts = record {
-  left_history = no_history;
-  right_history = no_history;
-  left_placed = All-nil (λ (e : Edge). ArePlaced texts e.cells);
-  right_placed = All-nil (λ (e : Edge). ArePlaced texts e.cells);
-  left_low = omega arith;
-  right_low = omega arith;
-  order = tt;
-  real = refl;
-  below = refl;
+  sides = sides_first texts _;
   late = refl;
   made = SameBag-refl [];
   waits = SameBag-refl [];
@@ -134,15 +127,7 @@ extended_opening by texts x y carried waiting empty none left right = rw (empty,
 pub extended_longer : (by : ℕ) (new old : List (List ℕ)) (x y : ℕ) (carried waiting left right out : List Edge) → BeginsWith new old →
     KeepsExtended by old x y carried waiting left right out → KeepsExtended by new x y carried waiting left right out
 extended_longer by new old x y carried waiting left right out b k = record {
-  left_history = k.left_history;
-  right_history = k.right_history;
-  left_placed = placed_longer new old b left k.left_placed;
-  right_placed = placed_longer new old b right k.right_placed;
-  left_low = k.left_low;
-  right_low = k.right_low;
-  order = k.order;
-  real = k.real;
-  below = k.below;
+  sides = sides_longer new old x y x left right out b k.sides;
   late = k.late;
   made = k.made;
   waits = k.waits;
@@ -151,7 +136,7 @@ extended_longer by new old x y carried waiting left right out b k = record {
 pub extended_rows : (by : ℕ) (texts : List (List ℕ)) (x y : ℕ) (carried waiting left right out : List Edge) → AreDistinct texts →
     KeepsExtended by texts x y carried waiting left right out → StandsRead texts x out (node_events (Extend 0 by) (read_of texts left) (read_of texts right))
 extended_rows by texts x y carried waiting left right out apart k =
-    ahead_read (λ test row. false) (λ items row. row) (Extend 0 by) texts x y left right out refl apart k.left_low k.right_low (extended_ahead by texts x y carried waiting left right out k)
+    ahead_read (λ test row. false) (λ items row. row) (Extend 0 by) texts x y left right out refl apart k.sides.left_low k.sides.right_low (extended_ahead by texts x y carried waiting left right out k)
 
 -- the events of the node are events, and what waits is shown of them
 pub extended_valid : (by : ℕ) (h : List Edge) → IsHistory h → failing is_event (extended by (of h)) ≡ 0
@@ -162,7 +147,7 @@ extended_valid by h history =
 pub waiting_among : (by : ℕ) (texts : List (List ℕ)) (x y : ℕ) (carried waiting left right out : List Edge) (w : Edge → ℕ) →
     KeepsExtended by texts x y carried waiting left right out → total w (singles waiting) ≤ total w (news 0 inf (extended by (of left)))
 waiting_among by texts x y carried waiting left right out w k =
-    let s = waiting_shown (is_extended by) (extended_edge by) (extended_one by) x x (extend_answers by x k.left_low) left out waiting k.left_history k.made w in
+    let s = waiting_shown (is_extended by) (extended_edge by) (extended_one by) x x (extend_answers by x k.sides.left_low) left out waiting k.sides.left_history k.made w in
     omega (arith, s)
 
 -- A STEP
@@ -201,17 +186,9 @@ extended_step by texts x y u v carried waiting left right out l r all answer wai
     let front : List Edge = filter (is_below u) all in
     let old = (same_order answer).0 ordered in
     let carried_late : failing (is_from x) carried ≡ 0 = failing-same (is_from x) carried (filter (is_from x) left) k.waits (failing-kept (is_from x) left) in
-    let from : failing (is_from x) answer ≡ 0 = extended_from by x u carried l all answer waiting waiting2 k.left_low same carried_late come k.late moved in
+    let from : failing (is_from x) answer ≡ 0 = extended_from by x u carried l all answer waiting waiting2 k.sides.left_low same carried_late come k.late moved in
     record {
-      left_history = hl;
-      right_history = hr;
-      left_placed = pl;
-      right_placed = pr;
-      left_low = lu;
-      right_low = lv;
-      order = order_from x out answer k.below k.order from old.0;
-      real = failing-append is_real out answer k.real old.1;
-      below = failing-append (is_below u) out answer (weaker (is_below x) (is_below u) out (λ e low. below_later x u e xu low) k.below) below;
+      sides = sides_step texts x y u v x u left right out l r answer lu lv xu k.sides hl hr pl pr old.0 old.1 from below;
       late = late;
       made = record {
         weigh = λ w.

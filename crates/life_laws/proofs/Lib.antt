@@ -1,4 +1,5 @@
 pub mod Telling
+pub mod Sides
 pub mod Lives
 pub mod Steps
 pub mod Extending

@@ -38,6 +38,7 @@ use Rattle.node_laws.proofs.Standing.{no_history, placed_longer}
 use Rattle.node_laws.proofs.StepsAhead.{ahead_read}
 use Rattle.life_laws.specs.Answers.{has_known_lives}
 use Rattle.life_laws.specs.Keeping.{KeepsLives}
+use Rattle.life_laws.proofs.Sides.{sides_first, sides_longer}
 use Rattle.life_laws.proofs.Telling.{weight, Answers, answers_tell}
 
 -- DELAYS
@@ -206,24 +207,16 @@ new_lives (Follow a b c d e) k = absurd (cc)
 pub lives_ahead : (n : Node) (texts : List (List ℕ)) (x y : ℕ) (carried left right out : List Edge) → has_known_lives n ≡ true →
     KeepsLives n texts x y carried left right out → KeepsAhead plain_cells n texts x y left right out
 lives_ahead n texts x y carried left right out k l = record {
-  left_history = l.left_history;
-  right_history = l.right_history;
-  left_placed = l.left_placed;
-  right_placed = l.right_placed;
-  told = (new_lives n k).tells x y l.left_low left right out l.left_history l.order l.real l.below l.told;
+  left_history = l.sides.left_history;
+  right_history = l.sides.right_history;
+  left_placed = l.sides.left_placed;
+  right_placed = l.sides.right_placed;
+  told = (new_lives n k).tells x y l.sides.left_low left right out l.sides.left_history l.sides.order l.sides.real l.sides.below l.told;
 }
 
 pub lives_first : (n : Node) (texts : List (List ℕ)) → KeepsLives n texts 0 0 [] [] [] []
 lives_first n texts = record {
-  left_history = no_history;
-  right_history = no_history;
-  left_placed = All-nil (λ (e : Edge). ArePlaced texts e.cells);
-  right_placed = All-nil (λ (e : Edge). ArePlaced texts e.cells);
-  left_low = omega arith;
-  right_low = omega arith;
-  order = tt;
-  real = refl;
-  below = refl;
+  sides = sides_first texts _;
   told = SameBag-refl [];
   waits = SameBag-refl [];
 }
@@ -234,15 +227,7 @@ lives_opening n texts x y carried empty left right = rw (empty, left, right) (li
 pub lives_longer : (n : Node) (new old : List (List ℕ)) (x y : ℕ) (carried left right out : List Edge) → BeginsWith new old →
     KeepsLives n old x y carried left right out → KeepsLives n new x y carried left right out
 lives_longer n new old x y carried left right out b k = record {
-  left_history = k.left_history;
-  right_history = k.right_history;
-  left_placed = placed_longer new old b left k.left_placed;
-  right_placed = placed_longer new old b right k.right_placed;
-  left_low = k.left_low;
-  right_low = k.right_low;
-  order = k.order;
-  real = k.real;
-  below = k.below;
+  sides = sides_longer new old x y (node_closes n x y) left right out b k.sides;
   told = k.told;
   waits = k.waits;
 }
@@ -269,4 +254,4 @@ plain (Follow a b c d e) k = refl
 pub lives_rows : (n : Node) (texts : List (List ℕ)) (x y : ℕ) (carried left right out : List Edge) → has_known_lives n ≡ true → AreDistinct texts →
     KeepsLives n texts x y carried left right out → StandsRead texts (node_closes n x y) out (node_events n (read_of texts left) (read_of texts right))
 lives_rows n texts x y carried left right out k apart l =
-    ahead_read (λ test row. false) (λ items row. row) n texts x y left right out (plain n k) apart l.left_low l.right_low (lives_ahead n texts x y carried left right out k l)
+    ahead_read (λ test row. false) (λ items row. row) n texts x y left right out (plain n k) apart l.sides.left_low l.sides.right_low (lives_ahead n texts x y carried left right out k l)

@@ -17,6 +17,7 @@ use Rattle.node_laws.proofs.Steps.{node_rises}
 use Rattle.life_laws.specs.Answers.{new_edge, is_answered, answered, answered_below}
 use Rattle.life_laws.specs.Keeping.{KeepsLives}
 use Rattle.life_laws.proofs.Lives.{NewLives}
+use Rattle.life_laws.proofs.Sides.{sides_step}
 
 -- a test that holds of each edge that is answered
 answered_pass : (n : Node) (p q : Edge → Bool) (h : List Edge) → ((e : Edge) → q e ≡ true → is_answered n e ≡ true → p (new_edge n e) ≡ true) →
@@ -62,9 +63,6 @@ below_parts w z t e h = grind (arith, nat_tests)
 
 from_part : (w : Edge → ℕ) (z t : ℕ) (e : Edge) → z ≤ t → cond (is_from z e) (cond (is_from t e) (w e) 0) 0 ≡ cond (is_from t e) (w e) 0
 from_part w z t e h = grind (arith, nat_tests)
-
-pub below_later : (c d : ℕ) (e : Edge) → c ≤ d → is_below c e ≡ true → is_below d e ≡ true
-below_later c d e h k = grind (arith, nat_tests)
 
 pub from_earlier : (z x : ℕ) (e : Edge) → z ≤ x → is_from x e ≡ true → is_from z e ≡ true
 from_earlier z x e h k = grind (arith, nat_tests)
@@ -131,21 +129,13 @@ lives_step n lives texts x y u v carried left right out l r all xu lu yv lv k hl
     let answer : List Edge = answered n front in
     let rising : z ≤ t = lives.cut_rises x u xu lu in
     let all_real : failing is_real all ≡ 0 = failing-same is_real all (carried ++ l) same (failing-append is_real carried l
-    (failing-same is_real carried (filter (is_from z) left) k.waits (failing-filter (is_from z) is_real left k.left_history.real))
+    (failing-same is_real carried (filter (is_from z) left) k.waits (failing-filter (is_from z) is_real left k.sides.left_history.real))
     (failing-parts is_real left l hl.real).1) in
     let late : failing (is_from z) carried ≡ 0 = failing-same (is_from z) carried (filter (is_from z) left) k.waits (failing-kept (is_from z) left) in
     let ordered = answered_in_order n lives front (rises_filter (is_below t) 0 all up) (failing-filter (is_below t) is_real all all_real) in
     record {
-      left_history = hl;
-      right_history = hr;
-      left_placed = pl;
-      right_placed = pr;
-      left_low = lu;
-      right_low = lv;
-      order = order_from c out answer k.below k.order (lives_from n lives x y u carried l all xu lu same late come) ordered.0;
-      real = failing-append is_real out answer k.real ordered.1;
-      below = failing-append (is_below d) out answer (weaker (is_below c) (is_below d) out (λ e low. below_later c d e (node_rises n x y u v xu yv lu) low) k.below)
-          (lives_below n lives u v all lu);
+      sides = sides_step texts x y u v c d left right out l r answer lu lv (node_rises n x y u v xu yv lu) k.sides hl hr pl pr ordered.0 ordered.1
+          (lives_from n lives x y u carried l all xu lu same late come) (lives_below n lives u v all lu);
       told = record {
         weigh = λ w.
             let A : Edge → ℕ = λ e. cond (is_answered n e) (w (new_edge n e)) 0 in

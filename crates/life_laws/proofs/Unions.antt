@@ -28,7 +28,8 @@ use Rattle.node_laws.specs.Standing.{StandsRead}
 use Rattle.node_laws.proofs.Standing.{no_history, placed_longer}
 use Rattle.node_laws.proofs.StepsAhead.{ahead_read}
 use Rattle.life_laws.proofs.Bound.{late_bound}
-use Rattle.life_laws.proofs.Steps.{below_later, from_earlier, parted_below, parted_from}
+use Rattle.life_laws.proofs.Sides.{sides_first, sides_longer, sides_step}
+use Rattle.life_laws.proofs.Steps.{from_earlier, parted_below, parted_from}
 use Rattle.life_laws.proofs.Telling.{shown_tells, singles_late}
 use Rattle.life_laws.specs.Uniting.{KeepsUnion}
 
@@ -47,17 +48,17 @@ pub union_ahead : (texts : List (List ℕ)) (x y : ℕ) (left_carried right_carr
 union_ahead texts x y left_carried right_carried left right out k =
     let c : ℕ = min x y in
     record {
-      left_history = k.left_history;
-      right_history = k.right_history;
-      left_placed = k.left_placed;
-      right_placed = k.right_placed;
-      told = shown_tells c (let l = k.left_low in omega (arith, l)) (of left ++ of right) out (λ w. total w (singles (filter (is_from c) left)) + total w (singles (filter (is_from c) right))) k.order k.real k.below
+      left_history = k.sides.left_history;
+      right_history = k.sides.right_history;
+      left_placed = k.sides.left_placed;
+      right_placed = k.sides.right_placed;
+      told = shown_tells c (let l = k.sides.left_low in omega (arith, l)) (of left ++ of right) out (λ w. total w (singles (filter (is_from c) left)) + total w (singles (filter (is_from c) right))) k.sides.order k.sides.real k.sides.below
           (λ w.
           let a1 = total-flat_map w singles_of out in
           let a2 = k.told.weigh (λ e. total w (singles_of e)) in
           let a3 = total-append (λ (e : Edge). total w (singles_of e)) (filter (is_below c) left) (filter (is_below c) right) in
-          let a4 = history_shown c left k.left_history w in
-          let a5 = history_shown c right k.right_history w in
+          let a4 = history_shown c left k.sides.left_history w in
+          let a5 = history_shown c right k.sides.right_history w in
           let a6 = total-flat_map w (news_of 0 inf) (of left ++ of right) in
           let a7 = total-append (λ v. total w (news_of 0 inf v)) (of left) (of right) in
           let a8 = total-flat_map w (news_of 0 inf) (of left) in
@@ -71,15 +72,7 @@ union_ahead texts x y left_carried right_carried left right out k =
 
 union_first : (texts : List (List ℕ)) → KeepsUnion texts 0 0 [] [] [] [] []
 union_first texts = record {
-  left_history = no_history;
-  right_history = no_history;
-  left_placed = All-nil (λ (e : Edge). ArePlaced texts e.cells);
-  right_placed = All-nil (λ (e : Edge). ArePlaced texts e.cells);
-  left_low = omega arith;
-  right_low = omega arith;
-  order = tt;
-  real = refl;
-  below = refl;
+  sides = sides_first texts _;
   told = SameBag-refl [];
   left_waits = SameBag-refl [];
   right_waits = SameBag-refl [];
@@ -91,15 +84,7 @@ union_opening texts x y left_carried right_carried a b c d = rw (a, b, c, d) (un
 pub union_longer : (new old : List (List ℕ)) (x y : ℕ) (left_carried right_carried left right out : List Edge) → BeginsWith new old →
     KeepsUnion old x y left_carried right_carried left right out → KeepsUnion new x y left_carried right_carried left right out
 union_longer new old x y left_carried right_carried left right out b k = record {
-  left_history = k.left_history;
-  right_history = k.right_history;
-  left_placed = placed_longer new old b left k.left_placed;
-  right_placed = placed_longer new old b right k.right_placed;
-  left_low = k.left_low;
-  right_low = k.right_low;
-  order = k.order;
-  real = k.real;
-  below = k.below;
+  sides = sides_longer new old x y (min x y) left right out b k.sides;
   told = k.told;
   left_waits = k.left_waits;
   right_waits = k.right_waits;
@@ -108,14 +93,14 @@ union_longer new old x y left_carried right_carried left right out b k = record 
 pub union_rows : (texts : List (List ℕ)) (x y : ℕ) (left_carried right_carried left right out : List Edge) → AreDistinct texts →
     KeepsUnion texts x y left_carried right_carried left right out → StandsRead texts (min x y) out (node_events (Union 0 1) (read_of texts left) (read_of texts right))
 union_rows texts x y left_carried right_carried left right out apart k =
-    ahead_read (λ test row. false) (λ items row. row) (Union 0 1) texts x y left right out refl apart k.left_low k.right_low (union_ahead texts x y left_carried right_carried left right out k)
+    ahead_read (λ test row. false) (λ items row. row) (Union 0 1) texts x y left right out refl apart k.sides.left_low k.sides.right_low (union_ahead texts x y left_carried right_carried left right out k)
 
 -- at most two edges are carried for each event that does not end before the lesser time
 pub union_bound : (texts : List (List ℕ)) (x y n : ℕ) (left_carried right_carried left right out : List Edge) → n ≤ length left_carried + length right_carried →
     KeepsUnion texts x y left_carried right_carried left right out → n ≤ may_hold (Union 0 1) x (min x y) (of left) (of right) (node_in plain_cells (Union 0 1) (of left) (of right))
 union_bound texts x y n left_carried right_carried left right out few k =
-    let a = late_bound (min x y) left left_carried k.left_history k.left_waits in
-    let b = late_bound (min x y) right right_carried k.right_history k.right_waits in
+    let a = late_bound (min x y) left left_carried k.sides.left_history k.left_waits in
+    let b = late_bound (min x y) right right_carried k.sides.right_history k.right_waits in
     omega (arith, a, b, few)
 
 -- all edges of one side, those that were carried and new ones, come at the closing or later
@@ -157,15 +142,7 @@ union_step texts x y u v left_carried right_carried left right out l r left_all 
     let right_late = failing-same (is_from c) right_carried (filter (is_from c) right) k.right_waits (failing-kept (is_from c) right) in
     let between = union_between x y u v left_carried right_carried l r left_all right_all answer left_same right_same parts left_late right_late come_left come_right in
     record {
-      left_history = hl;
-      right_history = hr;
-      left_placed = pl;
-      right_placed = pr;
-      left_low = lu;
-      right_low = lv;
-      order = order_from c out answer k.below k.order between.0 old.0;
-      real = failing-append is_real out answer k.real old.1;
-      below = failing-append (is_below d) out answer (weaker (is_below c) (is_below d) out (λ e low. below_later c d e rising low) k.below) between.1;
+      sides = sides_step texts x y u v c d left right out l r answer lu lv rising k.sides hl hr pl pr old.0 old.1 between.0 between.1;
       told = record {
         weigh = λ w.
             let a1 = total-append w out answer in

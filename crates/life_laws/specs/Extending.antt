@@ -1,11 +1,11 @@
 -- What an Extend answers, and what its operator keeps.
-use Rattle.std.specs.Prelude.{◌≡◌, ℕ, ◌≤◌, ◌||◌, ◌&&◌, nat_lt, not, Bool, cond, List, ◌++◌, map, filter}
+use Rattle.std.specs.Prelude.{◌≡◌, ℕ, ◌||◌, ◌&&◌, nat_lt, not, Bool, cond, List, ◌++◌, map, filter}
 use Rattle.tw_rows.specs.Instant.{inf, later}
 use Rattle.tw_rows.specs.Bag.{SameBag}
 use Rattle.tw_rows.specs.declared.edge.Edge.{Edge}
-use Rattle.edge_history.specs.Order.{is_end, Rises, failing, is_real, is_below, is_from, IsHistory}
+use Rattle.edge_history.specs.Order.{is_end, failing, is_below, is_from}
 use Rattle.edge_history.specs.Opens.{is_start}
-use Rattle.node_laws.specs.Places.{EdgesArePlaced}
+use Rattle.life_laws.specs.Sides.{KeepsSides}
 
 -- the edge that is made of an edge: its end comes later. For 4, the interval edge from 3 to 5 becomes one from 3 to 9, and an
 -- end at 5 one at 9
@@ -30,15 +30,7 @@ extended_ends by h = map (extended_edge by) (filter (λ e. is_end e && nat_lt (l
 -- answered, and the rest waits for its times; the others are carried. Of an Extend of 4, closed up to 7, an end at 5 waits as
 -- one at 9, and a start at 7 is carried
 pub record KeepsExtended (by : ℕ) (texts : List (List ℕ)) (x y : ℕ) (carried waiting left right out : List Edge) : Type 0 where
-  pub left_history : IsHistory left
-  pub right_history : IsHistory right
-  pub left_placed : EdgesArePlaced texts left
-  pub right_placed : EdgesArePlaced texts right
-  pub left_low : x ≤ inf
-  pub right_low : y ≤ inf
-  pub order : Rises 0 out
-  pub real : failing is_real out ≡ 0
-  pub below : failing (is_below x) out ≡ 0
+  pub sides : KeepsSides texts x y x left right out
   pub late : failing (is_from x) waiting ≡ 0
   pub made : SameBag (out ++ waiting) (extended_edges by (filter (is_below x) left))
   pub waits : SameBag carried (filter (is_from x) left)

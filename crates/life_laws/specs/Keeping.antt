@@ -1,26 +1,16 @@
 -- What an operator of a node with known lives keeps.
-use Rattle.std.specs.Prelude.{◌≡◌, ℕ, ◌≤◌, List}
-use Rattle.tw_rows.specs.Instant.{inf}
+use Rattle.std.specs.Prelude.{ℕ, List}
 use Rattle.tw_rows.specs.Bag.{SameBag}
 use Rattle.tw_rows.specs.declared.edge.Edge.{Edge}
-use Rattle.edge_history.specs.Order.{Rises, failing, is_real, is_below, IsHistory}
 use Rattle.plan_model.specs.declared.node.Node.{Node}
 use Rattle.plan_model.specs.Meaning.{node_closes}
-use Rattle.node_laws.specs.Places.{EdgesArePlaced}
 use Rattle.life_laws.specs.Answers.{answered_at, carried_at}
+use Rattle.life_laws.specs.Sides.{KeepsSides}
 
 -- of the edges that came in, on the left below x and on the right below y, those that came early enough have been answered,
 -- and the others are carried. Of a Delay of 2, closed up to 4, a start at 3 has been answered as one at 5, and one at 4
 -- is carried
 pub record KeepsLives (n : Node) (texts : List (List ℕ)) (x y : ℕ) (carried left right out : List Edge) : Type 0 where
-  pub left_history : IsHistory left
-  pub right_history : IsHistory right
-  pub left_placed : EdgesArePlaced texts left
-  pub right_placed : EdgesArePlaced texts right
-  pub left_low : x ≤ inf
-  pub right_low : y ≤ inf
-  pub order : Rises 0 out
-  pub real : failing is_real out ≡ 0
-  pub below : failing (is_below (node_closes n x y)) out ≡ 0
+  pub sides : KeepsSides texts x y (node_closes n x y) left right out
   pub told : SameBag out (answered_at n x left)
   pub waits : SameBag carried (carried_at n x left)

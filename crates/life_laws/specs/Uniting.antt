@@ -1,25 +1,15 @@
 -- What the operator of a Union keeps.
-use Rattle.std.specs.Prelude.{ℕ, ◌≤◌, min, List, ◌++◌, filter}
-use Rattle.std.specs.Prelude.{◌≡◌}
-use Rattle.tw_rows.specs.Instant.{inf}
+use Rattle.std.specs.Prelude.{ℕ, min, List, ◌++◌, filter}
 use Rattle.tw_rows.specs.Bag.{SameBag}
 use Rattle.tw_rows.specs.declared.edge.Edge.{Edge}
-use Rattle.edge_history.specs.Order.{Rises, failing, is_real, is_below, is_from, IsHistory}
-use Rattle.node_laws.specs.Places.{EdgesArePlaced}
+use Rattle.edge_history.specs.Order.{is_below, is_from}
+use Rattle.life_laws.specs.Sides.{KeepsSides}
 
 -- of the edges that came in, on the left below x and on the right below y, those below the lesser of both have been answered as
 -- they came, and the others are carried, each side by itself. Where the left is closed up to 4 and the right up to 7, a right
 -- start at 3 has been answered, and one at 5 is carried
 pub record KeepsUnion (texts : List (List ℕ)) (x y : ℕ) (left_carried right_carried left right out : List Edge) : Type 0 where
-  pub left_history : IsHistory left
-  pub right_history : IsHistory right
-  pub left_placed : EdgesArePlaced texts left
-  pub right_placed : EdgesArePlaced texts right
-  pub left_low : x ≤ inf
-  pub right_low : y ≤ inf
-  pub order : Rises 0 out
-  pub real : failing is_real out ≡ 0
-  pub below : failing (is_below (min x y)) out ≡ 0
+  pub sides : KeepsSides texts x y (min x y) left right out
   pub told : SameBag out (filter (is_below (min x y)) left ++ filter (is_below (min x y)) right)
   pub left_waits : SameBag left_carried (filter (is_from (min x y)) left)
   pub right_waits : SameBag right_carried (filter (is_from (min x y)) right)

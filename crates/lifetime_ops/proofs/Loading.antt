@@ -88,15 +88,7 @@ ends_are_real kinds (p ∷ ps) all =
 pub extended_same : (by : ℕ) (texts : List (List ℕ)) (x y : ℕ) (carried carried2 waiting waiting2 left right out : List Edge) → carried2 ≡ carried → SameBag waiting waiting2 →
     KeepsExtended by texts x y carried waiting left right out → KeepsExtended by texts x y carried2 waiting2 left right out
 extended_same by texts x y carried carried2 waiting waiting2 left right out is same k = rw is (record {
-  left_history = k.left_history;
-  right_history = k.right_history;
-  left_placed = k.left_placed;
-  right_placed = k.right_placed;
-  left_low = k.left_low;
-  right_low = k.right_low;
-  order = k.order;
-  real = k.real;
-  below = k.below;
+  sides = k.sides;
   late = failing-same (is_from x) waiting2 waiting (record { weigh = λ w. sym (same.weigh w) }) k.late;
   made = record {
     weigh = λ w.

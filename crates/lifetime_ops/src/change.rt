@@ -40,7 +40,7 @@ fn floor(time: Time, period: u64) -> Time
 }
 
 impl Change {
-    /// The start of the new life.
+    // The start of the new life.
     fn start(&self, sync: Time) -> Time
         ensures { result ≡ new_start (node_of self.now) sync }
     {
@@ -51,7 +51,7 @@ impl Change {
         }
     }
 
-    /// The other time of the new edge.
+    // The other time of the new edge.
     fn other(&self, sync: Time, other: Time) -> Time
         ensures { result ≡ new_other (node_of self.now) sync other }
     {
@@ -63,7 +63,7 @@ impl Change {
         }
     }
 
-    /// Whether an edge of these times is answered.
+    // Whether an edge of these times is answered.
     fn answers(&self, sync: Time, other: Time) -> bool
         ensures { (e : Edge) → e.sync ≡ sync → e.other ≡ other →
             result ≡ is_answered (node_of self.now) e }

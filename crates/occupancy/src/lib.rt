@@ -28,7 +28,8 @@ impl Model for Occupancy {
 
     ghost view = { λ o. record { items = bits_of o.words.items o.len; capacity = o.capacity } };
 
-    ghost invariant = { λ o. IsRoomy (vec_len o.words) (vec_capacity o.words) o.len o.capacity × IsClean o.words.items o.len };
+    ghost invariant = { λ o. IsRoomy (vec_len o.words) (vec_capacity o.words) o.len o.capacity
+        × IsClean o.words.items o.len };
 }
 
 impl Occupancy {

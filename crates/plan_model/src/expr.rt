@@ -40,12 +40,12 @@ pub enum ExprNode {
         left: usize,
         right: usize,
     },
-    /// The quotient rounded so that the rest is never negative: -7 by 2 is -4.
+    /// The quotient rounded so that the remainder is never negative: -7 by 2 is -4.
     Div {
         of: usize,
         by: u64,
     },
-    /// The rest of that division, from 0 to `by` - 1: of -7 by 2 it is 1.
+    /// The remainder of that division, from 0 to `by` - 1: of -7 by 2 it is 1.
     Mod {
         of: usize,
         by: u64,

@@ -1,4 +1,4 @@
--- The first run of words that is too long, and the fronts of queries that end with the 201st token of an expression.
+-- The first run of words that is too long, and the prefixes of queries that end with the 201st token of an expression.
 use Rattle.std.proofs.Common.{◌≡◌, ℕ, zero, suc, ◌+◌, ◌<◌, ◌≤◌, Bool, true, false, if◌then◌else◌, nat_lt, Option, Some, None, option_map, List, [], ◌∷◌, ◌++◌, length, take, drop, map, get_or, inl, inr, refl, ap, sym, subst, ◌∙◌, arith, append_assoc, length-append, take-append-drop, length-take-le, length-drop}
 use Rattle.std.proofs.lemmas.Bool.Decides.{nat_tests}
 use Rattle.std.proofs.Math.Seq.{take-append_seam}
@@ -126,7 +126,7 @@ within_short q ts e h = λ k d i.
     let near = near_at (query_places q) (runs 0 (query_tokens q)) k (query_agree q) in
     rw (same_default (query_places q) k d 0 i) (at_most _ _ near (rw e (h k)))
 
--- a front of a front begins a query too
+-- a prefix of a prefix begins a query too
 pub front_less : (xs ys : List Token) → IsFront (xs ++ ys) → IsFront xs
 front_less xs ys f = record { query = f.query; rest = ys ++ f.rest; begins = f.begins ∙ append_assoc xs ys f.rest }
 

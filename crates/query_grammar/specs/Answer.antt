@@ -15,7 +15,7 @@ offset_of end (spot ∷ spots) zero = spot.at
 offset_of end (spot ∷ spots) (suc i) = offset_of end spots i
 
 -- At this offset stands the first token with which no query begins, or the text ends there too early;
--- and no front of its tokens ends with the 201st token of an expression.
+-- and no prefix of its tokens ends with the 201st token of an expression.
 pub record IsSyntaxAt (text : List ℕ) (at : ℕ) : Type 0 where
   pub index : ℕ
   pub within : index ≤ length (tokens_of text)

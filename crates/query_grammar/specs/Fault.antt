@@ -1,4 +1,4 @@
--- Where a list of tokens stops being the front of a query.
+-- Where a list of tokens stops being a prefix of a query.
 use Rattle.std.specs.Prelude.{◌≡◌, List, [], ◌∷◌, ◌++◌}
 use Rattle.query_grammar.specs.Token.{Token}
 use Rattle.query_grammar.specs.Grammar.{Query, query_tokens}

@@ -54,7 +54,7 @@ IsWithin q = All (λ n. n ≤ 200) (query_places q)
 abbrev pub IsShortQuery : List Token → Type 0
 IsShortQuery tokens = (q : Query) × (query_tokens q ≡ tokens) × IsWithin q
 
--- Some query, the limit left aside, begins so, and the last token of the front is there the 201st of an expression.
+-- Some query, the limit left aside, begins so, and the last token of the prefix is there the 201st of an expression.
 pub record IsLong (front : List Token) : Type 0 where
   pub query : Query
   pub rest : List Token

@@ -17,6 +17,10 @@ Did skip _ old new = ⊥
 Did no R.Stop old new = Unit {0}
 Did no _ old new = ⊥
 
+-- a word was taken, and this stack is left
+abbrev pub TookWord : Taken → List Symbol → List Symbol → Type 0
+TookWord taken new left = (taken ≡ R.Word) × (new ≡ left)
+
 -- whether the token was read, and the stack after it
 abbrev pub Reads : Bool → Option (List Symbol) → List Symbol → Type 0
 Reads true found new = found ≡ Some new

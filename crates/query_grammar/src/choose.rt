@@ -18,13 +18,13 @@ use crate::symbol::Symbol;
 use query_words::Sign;
 use tw_rows::Memory;
 
-/// What may follow the first operand of `or` in a list of items, and the name of the item.
+// What may follow the first operand of `or` in a list of items, and the name of the item.
 const AFTER_ORS: [Symbol; 2] = [Symbol::Word(Sign::As), Symbol::Named];
 
-/// Likewise of `and`.
+// Likewise of `and`.
 const AFTER_ANDS: [Symbol; 3] = [Symbol::Ors, Symbol::Word(Sign::As), Symbol::Named];
 
-/// Likewise of a comparison.
+// Likewise of a comparison.
 const AFTER_TEST: [Symbol; 4] = [
     Symbol::Ands,
     Symbol::Ors,
@@ -32,7 +32,7 @@ const AFTER_TEST: [Symbol; 4] = [
     Symbol::Named,
 ];
 
-/// Likewise of a sum.
+// Likewise of a sum.
 const AFTER_TERMS: [Symbol; 5] = [
     Symbol::Test,
     Symbol::Ands,
@@ -41,7 +41,7 @@ const AFTER_TERMS: [Symbol; 5] = [
     Symbol::Named,
 ];
 
-/// Likewise of a product.
+// Likewise of a product.
 const AFTER_FACTORS: [Symbol; 6] = [
     Symbol::Terms,
     Symbol::Test,

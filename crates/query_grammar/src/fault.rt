@@ -12,7 +12,7 @@ use query_words::Spot;
 use std::alloc::Global;
 use tw_rows::Memory;
 
-/// How many words an expression may have.
+// How many words an expression may have.
 const LONGEST: usize = 200;
 
 /// Why a text spells no query. `at` is an offset in bytes.
@@ -111,7 +111,7 @@ fn long_fault(alloc: Global, text: &str, words: &[Spot], index: usize) -> Result
     Ok(Fault::LongExpr { at })
 }
 
-/// The fault of a text, whose words these are: where it stops being the front of a query, or where an expression
+/// The fault of a text, whose words these are: where it stops being a prefix of a query, or where an expression
 /// becomes too long, whichever comes first. None where the text spells a query; the limit on its length is left aside.
 pub fn first_fault(alloc: Global, text: &str, words: &[Spot]) -> Result<Option<Fault>, Memory>
     requires { words.now ≡ words_of text.now }

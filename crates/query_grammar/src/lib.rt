@@ -1,4 +1,4 @@
-//! The grammar of query texts, and where a list of words stops being the front of a query.
+//! The grammar of query texts, and where a list of words stops being a prefix of a query.
 #![tactic(auto)]
 
 mod choose;

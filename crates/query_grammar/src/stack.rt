@@ -1,7 +1,7 @@
 // The symbols that are still to be read.
-ghost use Rattle.std.specs.Prelude.{◌≡◌, List, [], ◌∷◌, ◌++◌, IfOk, MatchOption};
+ghost use Rattle.std.specs.Prelude.{◌≡◌, List, [], ◌∷◌, ◌++◌, IfOk, IfNone, IfSome};
 ghost use Rattle.query_grammar.specs.Machine.{after, all_may_end};
-ghost use Rattle.query_grammar.specs.Reading.{Reads};
+ghost use Rattle.query_grammar.specs.Reading.{Reads, TookWord};
 
 use crate::kind::Kind;
 use crate::symbol::Symbol;
@@ -55,14 +55,15 @@ impl Stack {
 
     /// The next symbol, taken.
     pub(crate) fn next(&mut self) -> Option<Symbol>
-        ensures { MatchOption result ((self.old ≡ []) × (self.new ≡ [])) (λ s. self.old ≡ s ∷ self.new) }
+        ensures none { IfNone result ((self.old ≡ []) × (self.new ≡ [])) }
+        ensures some { IfSome result (λ s. self.old ≡ s ∷ self.new) }
     {
         self.symbols.pop()
     }
 
     /// Takes the word, and puts the symbols on the stack.
     pub(crate) fn take(&mut self, symbols: &[Symbol]) -> Result<Taken, Memory>
-        ensures { IfOk result (λ r. (r ≡ Taken.Word) × (self.new ≡ symbols.now ++ self.old)) }
+        ensures { IfOk result (λ r. TookWord r self.new (symbols.now ++ self.old)) }
     {
         self.put(symbols)?;
         Ok(Taken::Word)
@@ -74,7 +75,7 @@ impl Stack {
         symbols: &[Symbol],
         below: &[Symbol],
     ) -> Result<Taken, Memory>
-        ensures { IfOk result (λ r. (r ≡ Taken.Word) × (self.new ≡ symbols.now ++ below.now ++ self.old)) }
+        ensures { IfOk result (λ r. TookWord r self.new (symbols.now ++ below.now ++ self.old)) }
     {
         self.put(below)?;
         self.take(symbols)

@@ -14,7 +14,7 @@ use std::alloc::Global;
 use std::marker::Model;
 use tw_rows::{Memory, StreamDef};
 
-/// What is planned after an item, and the node whose rows the next step works on.
+// What is planned after an item, and the node whose rows the next step works on.
 #[derive(Drop)]
 struct Reached {
     draft: Draft,

@@ -52,7 +52,9 @@ impl<'a> Model for Cursor<'a> {
 
     ghost view = { λ c. map (token_of c.text.now) (drop c.at c.words.now) };
 
-    ghost invariant = { λ c. (c.at ≤ length c.words.now) × (c.words.now ≡ words_of c.text.now) × IsUtf8 c.text.now };
+    ghost invariant = { λ c. (c.at ≤ length c.words.now)
+        × (c.words.now ≡ words_of c.text.now)
+        × IsUtf8 c.text.now };
 }
 
 impl<'a> Cursor<'a> {

@@ -20,7 +20,7 @@ use query_words::{Sign, words};
 use std::alloc::Global;
 use tw_rows::{ColumnDef, Kind, Schema, StreamDef};
 
-/// How many bytes a query text may have.
+// How many bytes a query text may have.
 const LARGEST: usize = 65_536;
 
 impl<'a> Parser<'a> {

@@ -77,7 +77,7 @@ decimal_alone bs w fs p n s h =
     ∙ ap (λ z. (decimal_word w z, suc (length w) + length fs)) g
     ∙ ap (λ k. (decimal_word w fs, k)) m
 
--- the front of n bytes is a number, and no longer front is one
+-- the prefix of n bytes is a number, and no longer prefix is one
 abbrev pub Numbered : List ℕ → ℕ → Type 0
 Numbered bs n = (n ≤ length bs) × IsNumberForm (take n bs) × ((m : ℕ) → IsNumberForm (take m bs) → length (take m bs) ≤ n)
 

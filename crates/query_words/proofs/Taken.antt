@@ -190,7 +190,7 @@ held_spelled : (bs : List ℕ) (w : Word) → IsWord bs w ⊎ ((w ≡ W.Bad) × 
 held_spelled bs w (inl h) = is_spelled bs w h
 held_spelled bs w (inr h) = h.0 ∙ sym (past_is_bad bs h.1)
 
--- two longest fronts are one
+-- two longest prefixes are one
 longest_same : (bs : List ℕ) (x y : Word × ℕ) → x.1 ≤ length bs → IsLongest bs x.1 → IsWord (take x.1 bs) x.0 ⊎ ((x.0 ≡ W.Bad) × IsPastLimit (take x.1 bs)) → IsFormed bs y.0 y.1 → x ≡ y
 longest_same bs x y l long h f =
     let low = f.2 x.1 (held_form (take x.1 bs) x.0 h) in

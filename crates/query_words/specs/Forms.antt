@@ -92,15 +92,15 @@ abbrev pub IsPastLimit : List ℕ → Type 0
 IsPastLimit bs =
     (IsNameForm bs × (64 < length bs)) ⊎ (IsNumberForm bs × (2 ^ 63 ≤ decimal_from 0 bs)) ⊎ IsPastDecimal bs ⊎ IsOpenForm bs
 
--- no front of more than n bytes looks like a word
+-- no prefix of more than n bytes looks like a word
 abbrev pub IsLongest : List ℕ → ℕ → Type 0
 IsLongest bs n = (m : ℕ) → n < m → m ≤ length bs → HasForm (take m bs) → ⊥
 
--- no front looks like a word
+-- no prefix looks like a word
 abbrev pub IsFormless : List ℕ → Type 0
 IsFormless bs = (m : ℕ) → HasForm (take m bs) → ⊥
 
--- The first n bytes are past their limit or a text without its end, and no longer front looks like a word;
+-- The first n bytes are past their limit or a text without its end, and no longer prefix looks like a word;
 -- or no front looks like a word, and n is 1.
 abbrev pub IsBadFront : List ℕ → ℕ → Type 0
 IsBadFront bs n = ((n ≤ length bs) × IsPastLimit (take n bs) × IsLongest bs n) ⊎ ((n ≡ 1) × IsFormless bs)

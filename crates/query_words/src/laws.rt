@@ -15,7 +15,7 @@ pub fn spots_keep_their_form()
     ensures cut { (text : List ℕ) → IsUtf8 text → All (IsSpotCut text) (words_of text) }
 {}
 
-/// The word that is taken at a place is the longest: its bytes are that word, and no longer front of the bytes is a
+/// The word that is taken at a place is the longest: its bytes are that word, and no longer prefix of the bytes is a
 /// word. Where none is taken, what stands first is past its limit or a text without its end, or looks like no word.
 pub fn words_are_longest()
     ensures word { (bs : List ℕ) → (front_of bs).0 ≢ W.Bad →

@@ -15,10 +15,10 @@ use crate::word::{RESERVED, SIGNS, Sign, Spot, Word};
 use std::alloc::Global;
 use tw_rows::Memory;
 
-/// The greatest number of a query text.
+// The greatest number of a query text.
 const GREATEST: u64 = 9_223_372_036_854_775_807;
 
-/// How many digits may follow a point.
+// How many digits may follow a point.
 const MOST_PLACES: usize = 18;
 
 fn is_space(b: u8) -> bool

@@ -157,11 +157,6 @@ module _ (plan : PlanParts) (i : ℕ) (n : Node) (at : IsNodeAt plan i n) where
   pub child_read : (child : ℕ) → left_child n ≡ Some child → (m : Node) → slice_get plan.nodes i ≡ Some m → kinds_at plan.schemas child ≡ kinds_read plan m
   child_read child is m e = sym (kinds_of_child plan n child is) ∙ ap (kinds_read plan) (one_node m e)
 
--- what is said of a result, and what follows from it
-pub IfOk-weaker : {A E : Type 0} (P Q : A → Type 0) → ((x : A) → P x → Q x) → (r : Result A E) → IfOk r P → IfOk r Q
-IfOk-weaker P Q f (Ok x) h = f x h
-IfOk-weaker P Q f (Err e) h = tt
-
 -- how the columns of these kinds are stored
 pub stored_kinds : (columns : List ColumnDef) → map cell_kind_of (map (λ c. c.kind) columns) ≡ kinds_of_schema columns
 stored_kinds [] = refl

@@ -34,7 +34,7 @@ impl RowStage {
         alloc: Global,
         pools: &mut Pools,
         texts: &TextTable,
-        left: EdgeList,
+        mut left: EdgeList,
     ) -> Result<EdgeList, Memory>
         requires stage { IsStage texts.now left.capacity (cells_of left) self.old }
         requires pools { pools.old.capacity ≡ left.capacity }
@@ -55,37 +55,9 @@ impl RowStage {
         ensures limit { pools.new.limit ≡ pools.old.limit }
         ensures same { self.new ≡ self.old }
     {
-        match self {
-            RowStage::Source => Ok(left),
-            _ => self.over_batches(alloc, pools, texts, left),
+        if let RowStage::Source = self {
+            return Ok(left);
         }
-    }
-
-    // The same, batch by batch.
-    fn over_batches(
-        &mut self,
-        alloc: Global,
-        pools: &mut Pools,
-        texts: &TextTable,
-        mut left: EdgeList,
-    ) -> Result<EdgeList, Memory>
-        requires stage { IsStage texts.now left.capacity (cells_of left) self.old }
-        requires pools { pools.old.capacity ≡ left.capacity }
-        requires limit { most_columns ≤ pools.old.limit }
-        requires placed { EdgesArePlaced texts.now left.edges }
-        ensures made { IfOk result (λ out. (n : Node) →
-            IsStageOf texts.now left.capacity (cells_of left) n self.old →
-            IsMade texts.now n left.edges out.edges) }
-        ensures kinds { IfOk result (λ out. (n : Node) →
-            IsStageOf texts.now left.capacity (cells_of left) n self.old → cells_of out
-            ≡ node_kinds n (cells_of left) []) }
-        ensures plain { IfOk result (λ out. ArePlain left.kinds → ArePlain out.kinds) }
-        ensures placed { IfOk result (λ out. EdgesArePlaced texts.now out.edges) }
-        ensures capacity { IfOk result (λ out. out.capacity ≡ left.capacity) }
-        ensures pools { pools.new.capacity ≡ pools.old.capacity }
-        ensures limit { pools.new.limit ≡ pools.old.limit }
-        ensures same { self.new ≡ self.old }
-    {
         let mut made = self.empty_list(alloc, &left)?;
         left.cursor();
         while let Some(batch) = left.take_batch() {

@@ -9,7 +9,7 @@ use itoa::Buffer;
 use std::alloc::Global;
 use tw_rows::Memory;
 
-/// How many bytes tell what a line is.
+// How many bytes tell what a line is.
 const TELLING: usize = 10;
 
 /// How many start lines, end lines and punctuations a text has so far, and the first bytes of its last line, which goes on.

@@ -105,7 +105,8 @@ impl Model for OpenRows {
       blocks = blocks_in s.sessions.entries;
     } };
 
-    ghost invariant = { λ s. AreKeyed s.key.columns s.sessions.entries × (s.count ≡ length (rows_in s.sessions.entries)) };
+    ghost invariant = { λ s. AreKeyed s.key.columns s.sessions.entries
+        × (s.count ≡ length (rows_in s.sessions.entries)) };
 }
 
 impl OpenRows {

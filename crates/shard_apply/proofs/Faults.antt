@@ -124,7 +124,7 @@ fold_told time w (r ∷ rs) h =
     place (inl is) = split (one_of_two time w (fault_of r) is)
     place (inr at) = inr (later at)
 
--- an overflow that is told is the least, and none wanted memory
+-- an overflow that is told is the least, and none is out of memory
 pub least_told : (time : ℕ) (rs : List Answer) → worst_of rs ≡ Some (Overflow time) → IsLeastOverflow time rs
 least_told time rs h = take told.at
   where

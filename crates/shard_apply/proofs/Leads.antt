@@ -1,4 +1,4 @@
--- Rounds in turn: one more, and those that wanted memory.
+-- Rounds in turn: one more, and those that were out of memory.
 use Rattle.std.specs.Prelude.{◌≡◌, ℕ, zero, suc, ◌+◌, ◌<◌, ◌≤◌, ◌⊎◌, nat_le, Bool, true, false, List, [], ◌∷◌, ◌++◌, length, take, Err, refl}
 use Rattle.std.proofs.Common.{◌∙◌, sym, ap, subst, arith, get_or, inl, inr, length-append}
 use Rattle.std.proofs.lemmas.Bool.{cases_lt}
@@ -41,7 +41,7 @@ like_back a b p = record {
   batch_rows = sym p.batch_rows;
 }
 
--- what wants memory stays like it was
+-- what is out of memory stays like it was
 pub wants_memory : (old new : Standing) (before after : Keeping) (left right : List Edge) (u v : ℕ) → IsLike old new → HasStepped old new before after left right u v (Err Memory)
 wants_memory old new before after left right u v like = record {
   kept = tt;
@@ -124,7 +124,7 @@ module _ {S : Type 0} (step : S → S → Round → Answer → Type 0) where
             (sym over.last ∙ ap over.states (sym is) ∙ sym (early (length xs) over.states new i (omega (arith, is)))) (sym (late (length xs) over.states new (suc i) (omega (arith, more))))
             (sym (get_or_push xs r d i (sym is))) (sym (get_or_push gs a (Err Memory) i (as_many ∙ sym is))) here
 
-  -- rounds more that wanted memory
+  -- rounds more that were out of memory
   pub stay : (old new : S) (xs ys : List Round) (gs : List Answer) (over : LeadsOver step old new xs gs) → length gs ≤ length xs → ((r : Round) → step new new r (Err Memory)) →
       LeadsOver step old new (xs ++ ys) gs
   stay old new xs ys gs over few waits = record {

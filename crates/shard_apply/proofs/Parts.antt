@@ -16,7 +16,7 @@ use Rattle.shard_apply.proofs.Faults.{with_item}
 use Rattle.shard_apply.proofs.Leads.{like_self, like_along, behind_more, wants_memory, one_more, stay}
 use Rattle.shard_apply.proofs.WholeSteps.{standing_is, on_answer}
 
--- what stays as it is may want memory
+-- what stays as it is may be out of memory
 pub part_waits : {O : Type 0} (standing : O → Standing) (keeps : O → Keeping) (count : ℕ) (left_key right_key : List ℕ) (number : ℕ) (o : O) (r : Round) →
     TakesPart standing keeps count left_key right_key number o o r (Err Memory)
 part_waits standing keeps count left_key right_key number o r =
@@ -53,7 +53,7 @@ module _ (s : Standing) (rounds : List Round) (i : ℕ) (x : Round) (low : i < l
       (subst (λ l. LeadsOver step old new (take i rounds ++ x ∷ []) l) (sym is_more)
       (one_more step old mid new (take i rounds) gs over x a (long ∙ sym (length-take-le i rounds (omega (arith, low)))) here))
 
--- the rounds that are left wanted memory
+-- the rounds that are left were out of memory
 pub leads_no_more : {S : Type 0} (step : S → S → Round → Answer → Type 0) (old new : S) (rounds : List Round) (k : ℕ) (gs : List Answer) → LeadsOver step old new (take k rounds) gs →
     length gs ≤ k → k ≤ length rounds → ((r : Round) → step new new r (Err Memory)) → LeadsOver step old new rounds gs
 leads_no_more step old new rounds k gs over few low waits =

@@ -10,7 +10,7 @@ use Rattle.shard_apply.specs.Rounds.{stands_after, answer_at, told}
 behind_two : (s : Standing) (a b : Round) → stands_after s (a ∷ b ∷ []) ≡ record s { left_closed = b.left_to; right_closed = b.right_to }
 behind_two s a b = refl
 
--- of two answers and a fault the fault is told last, and behind it memory was wanted
+-- of two answers and a fault the fault is told last, and behind it comes out of memory
 told_of_two : (a b : EdgeListView) → told (a ∷ b ∷ []) (Some Memory) ≡ Ok a ∷ Ok b ∷ Err Memory ∷ []
 told_of_two a b = refl
 

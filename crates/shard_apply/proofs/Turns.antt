@@ -99,7 +99,7 @@ of_told P lists (Some fault) each last n low = by_place (cases_lt n (length list
         let at : length lists ≡ n = omega (arith, low, more, length-map lists answered, length_push (map answered lists) (Err fault)) in
         subst (P n) (sym (get_or_push (map answered lists) (Err fault) (Err Memory) n (length-map lists answered ∙ at))) (subst (λ m. P m (Err fault)) at last)
 
--- where memory is wanted nothing else is asked
+-- out of memory nothing else is asked
 pub gathered_none : (room : ℕ) (row : List Answer) → IsGathered room row (Err Memory)
 gathered_none room row = record {
   ok = tt;

@@ -14,7 +14,7 @@ use Rattle.shard_apply.specs.Stepping.{CanTake, CanStep, HasStepped, edges_answe
 abbrev pub Answer : Type 0
 Answer = Result EdgeListView StepFault
 
--- what was answered of the round of that number. Where nothing was, memory was wanted
+-- what was answered of the round of that number. Where nothing was, it is out of memory
 abbrev pub answer_at : List Answer → ℕ → Answer
 answer_at answers n = slice_index_or answers n (Err Memory)
 
@@ -49,7 +49,7 @@ TakesPart standing keeps count left_key right_key number old new r answer =
     (edges_in_shard count left_key number r.left.edges) (edges_in_shard count right_key number r.right.edges) r.left_to r.right_to answer
 
 -- the rounds lead from old to new, through a state behind each; each is a step from the state before it, with the answer at
--- its place. A round with no answer wanted memory
+-- its place. A round with no answer was out of memory
 pub record LeadsOver {S : Type 0} (step : S → S → Round → Answer → Type 0) (old new : S) (rounds : List Round)
     (answers : List Answer) : Type 0 where
   pub states : ℕ → S

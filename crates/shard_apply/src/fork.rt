@@ -1,8 +1,7 @@
 // All shards, at once or in turn.
 ghost use Rattle.std.specs.Prelude.{◌≡◌, ℕ, ◌≤◌, ◌<◌, false, is_err, length, slice_index_or, All};
-ghost use Rattle.edge_stream.specs.Shards.{edges_in_shard};
-ghost use Rattle.shard_apply.specs.Stepping.{CanStep, HasStepped};
 ghost use Rattle.shard_apply.specs.Rounds.{CanStepAll, TakesPart, LeadsOver};
+ghost use Rattle.shard_apply.specs.Shards.{CanTakeNews, TakesNews, EachTakesNews, KeepRooms};
 
 use crate::gate::Gate;
 use crate::round::Round;
@@ -20,20 +19,9 @@ pub(crate) fn step_shards<R: Threads + Sync, G: Gate, O: Operator>(
     cut: &Cut<'_>,
     news: &News<'_>,
 )
-    requires can { All (λ s. CanStep (O.standing s.operator) s.pools.capacity
-        cut.now.count cut.now.left_key.now cut.now.right_key.now
-        news.now.left.now news.now.right.now news.now.left_to news.now.right_to) shards.old }
-    ensures stepped { (i : ℕ) (d : Shard O) → i < length shards.old →
-        HasStepped (O.standing (slice_index_or shards.old i d).operator)
-        (O.standing (slice_index_or shards.new i d).operator)
-        (O.keeps (slice_index_or shards.old i d).operator)
-        (O.keeps (slice_index_or shards.new i d).operator)
-        (edges_in_shard cut.now.count cut.now.left_key.now i news.now.left.now.edges)
-        (edges_in_shard cut.now.count cut.now.right_key.now i news.now.right.now.edges)
-        news.now.left_to news.now.right_to (slice_index_or shards.new i d).answer }
-    ensures pools { (i : ℕ) (d : Shard O) → i < length shards.old →
-        (slice_index_or shards.new i d).pools.capacity
-        ≡ (slice_index_or shards.old i d).pools.capacity }
+    requires can { All (CanTakeNews O.standing cut.now news.now) shards.old }
+    ensures stepped { EachTakesNews O.standing O.keeps cut.now news.now shards.old shards.new }
+    ensures pools { KeepRooms shards.old shards.new }
 {
     let edges = news.left.len().saturating_add(news.right.len());
     if edges < gate.fewest_edges() {
@@ -50,20 +38,9 @@ fn step_in_turn<G: Gate, O: Operator>(
     cut: &Cut<'_>,
     news: &News<'_>,
 )
-    requires can { All (λ s. CanStep (O.standing s.operator) s.pools.capacity
-        cut.now.count cut.now.left_key.now cut.now.right_key.now
-        news.now.left.now news.now.right.now news.now.left_to news.now.right_to) shards.old }
-    ensures stepped { (i : ℕ) (d : Shard O) → i < length shards.old →
-        HasStepped (O.standing (slice_index_or shards.old i d).operator)
-        (O.standing (slice_index_or shards.new i d).operator)
-        (O.keeps (slice_index_or shards.old i d).operator)
-        (O.keeps (slice_index_or shards.new i d).operator)
-        (edges_in_shard cut.now.count cut.now.left_key.now i news.now.left.now.edges)
-        (edges_in_shard cut.now.count cut.now.right_key.now i news.now.right.now.edges)
-        news.now.left_to news.now.right_to (slice_index_or shards.new i d).answer }
-    ensures pools { (i : ℕ) (d : Shard O) → i < length shards.old →
-        (slice_index_or shards.new i d).pools.capacity
-        ≡ (slice_index_or shards.old i d).pools.capacity }
+    requires can { All (CanTakeNews O.standing cut.now news.now) shards.old }
+    ensures stepped { EachTakesNews O.standing O.keeps cut.now news.now shards.old shards.new }
+    ensures pools { KeepRooms shards.old shards.new }
 {
     for i in 0..shards.len() {
         gate.enter(i);
@@ -79,36 +56,18 @@ fn step_beside<R: Threads + Sync, G: Gate, O: Operator>(
     cut: &Cut<'_>,
     news: &News<'_>,
 )
-    requires can { All (λ s. CanStep (O.standing s.operator) s.pools.capacity
-        cut.now.count cut.now.left_key.now cut.now.right_key.now
-        news.now.left.now news.now.right.now news.now.left_to news.now.right_to) shards.old }
-    ensures stepped { (i : ℕ) (d : Shard O) → i < length shards.old →
-        HasStepped (O.standing (slice_index_or shards.old i d).operator)
-        (O.standing (slice_index_or shards.new i d).operator)
-        (O.keeps (slice_index_or shards.old i d).operator)
-        (O.keeps (slice_index_or shards.new i d).operator)
-        (edges_in_shard cut.now.count cut.now.left_key.now i news.now.left.now.edges)
-        (edges_in_shard cut.now.count cut.now.right_key.now i news.now.right.now.edges)
-        news.now.left_to news.now.right_to (slice_index_or shards.new i d).answer }
-    ensures pools { (i : ℕ) (d : Shard O) → i < length shards.old →
-        (slice_index_or shards.new i d).pools.capacity
-        ≡ (slice_index_or shards.old i d).pools.capacity }
+    requires can { All (CanTakeNews O.standing cut.now news.now) shards.old }
+    ensures stepped { EachTakesNews O.standing O.keeps cut.now news.now shards.old shards.new }
+    ensures pools { KeepRooms shards.old shards.new }
 {
     thread::for_each_mut(
         rt,
         shards,
         16,
         &|i, shard: &mut Shard<O>|
-            requires { CanStep (O.standing shard.old.operator) shard.old.pools.capacity
-                cut.now.count cut.now.left_key.now cut.now.right_key.now
-                news.now.left.now news.now.right.now news.now.left_to news.now.right_to }
-            ensures stepped { HasStepped (O.standing shard.old.operator)
-                (O.standing shard.new.operator) (O.keeps shard.old.operator)
-                (O.keeps shard.new.operator) (edges_in_shard cut.entry.now.count
-                cut.entry.now.left_key.now i news.entry.now.left.now.edges)
-                (edges_in_shard cut.entry.now.count cut.entry.now.right_key.now i
-                news.entry.now.right.now.edges) news.entry.now.left_to news.entry.now.right_to
-                shard.new.answer }
+            requires { CanTakeNews O.standing cut.now news.now shard.old }
+            ensures stepped { TakesNews O.standing O.keeps cut.entry.now news.entry.now i
+                shard.old.operator shard.new.operator shard.new.answer }
             ensures pools { shard.new.pools.capacity ≡ shard.old.pools.capacity }
         {
             gate.enter(i);
@@ -132,9 +91,7 @@ pub(crate) fn step_rounds<R: Threads + Sync, G: Gate, O: Operator>(
         (TakesPart O.standing O.keeps cut.now.count cut.now.left_key.now cut.now.right_key.now i)
         (slice_index_or shards.old i d).operator (slice_index_or shards.new i d).operator
         rounds.now (slice_index_or shards.new i d).answers.items }
-    ensures pools { (i : ℕ) (d : Shard O) → i < length shards.old →
-        (slice_index_or shards.new i d).pools.capacity
-        ≡ (slice_index_or shards.old i d).pools.capacity }
+    ensures pools { KeepRooms shards.old shards.new }
 {
     thread::for_each_mut(
         rt,

@@ -2,7 +2,7 @@
 ghost use Rattle.std.specs.Prelude.{◌≡◌, ℕ, ◌≤◌, ◌<◌, false, is_err, length, All, IfOk};
 ghost use Rattle.edge_stream.specs.Listing.{cells_of};
 ghost use Rattle.edge_stream.specs.Shards.{edges_in_shard};
-ghost use Rattle.shard_apply.specs.Stepping.{CanStep, HasStepped, fault_of};
+ghost use Rattle.shard_apply.specs.Stepping.{fault_of};
 ghost use Rattle.shard_apply.specs.Rounds.{answer_at, CanStepAll, TakesPart, LeadsOver};
 
 use crate::round::Round;
@@ -59,6 +59,8 @@ fn part_of(
 }
 
 impl<O: Operator> Shard<O> {
+    ghost use Rattle.shard_apply.specs.Shards.{CanTakeNews, TakesNews};
+
     /// Moves out what it answered, and leaves a fault.
     pub(crate) fn take_answer(&mut self) -> Result<EdgeList, StepFault>
         ensures answer { result ≡ self.old.answer }
@@ -96,14 +98,9 @@ impl<O: Operator> Shard<O> {
         cut: &Cut<'_>,
         news: &News<'_>,
     ) -> Result<EdgeList, StepFault>
-        requires can { CanStep (O.standing self.old.operator) self.old.pools.capacity
-            cut.now.count cut.now.left_key.now cut.now.right_key.now
-            news.now.left.now news.now.right.now news.now.left_to news.now.right_to }
-        ensures stepped { HasStepped (O.standing self.old.operator) (O.standing self.new.operator)
-            (O.keeps self.old.operator) (O.keeps self.new.operator)
-            (edges_in_shard cut.now.count cut.now.left_key.now number news.now.left.now.edges)
-            (edges_in_shard cut.now.count cut.now.right_key.now number news.now.right.now.edges)
-            news.now.left_to news.now.right_to result }
+        requires can { CanTakeNews O.standing cut.now news.now self.old }
+        ensures stepped { TakesNews O.standing O.keeps cut.now news.now number
+            self.old.operator self.new.operator result }
         ensures pools { self.new.pools.capacity ≡ self.old.pools.capacity }
     {
         let left = part_of(news.left, &mut self.pools, number, cut.count, cut.left_key)?;
@@ -120,14 +117,9 @@ impl<O: Operator> Shard<O> {
 
     /// The same, and keeps what it answered.
     pub(crate) fn step(&mut self, number: usize, cut: &Cut<'_>, news: &News<'_>)
-        requires can { CanStep (O.standing self.old.operator) self.old.pools.capacity
-            cut.now.count cut.now.left_key.now cut.now.right_key.now
-            news.now.left.now news.now.right.now news.now.left_to news.now.right_to }
-        ensures stepped { HasStepped (O.standing self.old.operator) (O.standing self.new.operator)
-            (O.keeps self.old.operator) (O.keeps self.new.operator)
-            (edges_in_shard cut.now.count cut.now.left_key.now number news.now.left.now.edges)
-            (edges_in_shard cut.now.count cut.now.right_key.now number news.now.right.now.edges)
-            news.now.left_to news.now.right_to self.new.answer }
+        requires can { CanTakeNews O.standing cut.now news.now self.old }
+        ensures stepped { TakesNews O.standing O.keeps cut.now news.now number
+            self.old.operator self.new.operator self.new.answer }
         ensures pools { self.new.pools.capacity ≡ self.old.pools.capacity }
     {
         self.answer = self.take(number, cut, news);
@@ -168,7 +160,7 @@ impl<O: Operator> Shard<O> {
         answers
     }
 
-    /// Takes for its answer what it answered of the round of that number; where it answered nothing of it, it wants memory.
+    /// Takes for its answer what it answered of the round of that number, and out of memory where it answered nothing of it.
     pub(crate) fn turn_to(&mut self, round: usize)
         ensures answer { self.new.answer ≡ answer_at self.old.answers.items round }
         ensures later { (n : ℕ) → round < n → answer_at self.new.answers.items n

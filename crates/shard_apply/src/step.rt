@@ -24,8 +24,8 @@ use tw_rows::Time;
 impl<O: Operator> Sharded<O> {
     /// Takes the new edges of both sides, which are closed up to the two times, and answers what the node has to tell up to its
     /// new closing. Each shard passes the gate, and takes the edges of its number in a thread of its own where one can be made.
-    /// Where a shard wants memory the answer is Memory, and else the earliest overflow. After a failure no further step may be
-    /// taken.
+    /// Where a shard is out of memory the answer is Memory, and else the earliest overflow. After a failure no further step may
+    /// be taken.
     pub fn step<R: Threads + Sync, G: Gate>(
         &mut self,
         rt: &R,

@@ -3,7 +3,7 @@ use Rattle.std.specs.Prelude.{◌≡◌, ℕ, ◌+◌, ◌<◌, ◌≤◌, nat_e
 use Rattle.std.proofs.Common.{sym, ◌∙◌, ap, arith}
 use Rattle.std.proofs.lemmas.Bool.{and_parts}
 use Rattle.std.proofs.lemmas.Bool.Decides.{nat_tests}
-use Rattle.std.proofs.lemmas.List.{take_more, map-append}
+use Rattle.std.proofs.lemmas.List.{take_more, map-append, append_assoc}
 use Rattle.tw_rows.specs.Bag.{SameBag, total}
 use Rattle.tw_rows.specs.SameCells.{same_cells, cells_are_same}
 use Rattle.tw_rows.specs.declared.cells.Datum.{Datum}
@@ -13,6 +13,8 @@ use Rattle.tw_rows.proofs.Bags.{total-append}
 use Rattle.edge_history.specs.Order.{many}
 use Rattle.edge_history.specs.Opens.{is_held}
 use Rattle.plan_laws.proofs.Holding.{length_total}
+use Rattle.edge_stream.specs.declared.saved.SavedEntry.{SavedEntry}
+use Rattle.carried_edges.specs.Entries.{entry_of, entries_of}
 
 equal_of : (a b : ℕ) → nat_eq a b ≡ true → a ≡ b
 equal_of a b h = grind (arith, nat_tests)
@@ -106,13 +108,14 @@ module _ (found line found2 line2 found3 : List HeldRow) (x : HeldRow) (same : (
       let a = one_longer found3 line2 found line x (λ w. let a = same w in let b = taken e w in omega (arith, a, b)) in
       omega (arith, a, is)
 
--- rows as starts
-pub start_more : (f : HeldRow → Edge) (old now next : List Edge) (rows : List HeldRow) (i : ℕ) (x : HeldRow) → i < length rows → x ≡ get_or rows i x →
-    now ≡ old ++ map f (take i rows) → next ≡ now ++ f x ∷ [] → next ≡ old ++ map f (take (i + 1) rows)
-start_more f old now next rows i x low is so_far pushed =
-    pushed ∙ ap (λ l. l ++ f x ∷ []) so_far ∙ append_later old (map f (take i rows)) (f x)
-    ∙ ap (λ l. old ++ l) (sym (map-append f (take i rows) (x ∷ []))) ∙ ap (λ l. old ++ map f l) (ap (λ y. take i rows ++ y ∷ []) is ∙ sym (take_more rows i x low))
-  where
-    append_later : (xs ys : List Edge) (y : Edge) → (xs ++ ys) ++ (y ∷ []) ≡ xs ++ (ys ++ (y ∷ []))
-    append_later [] ys y = refl
-    append_later (z ∷ xs) ys y = ap (λ l. z ∷ l) (append_later xs ys y)
+-- one more of a line was saved
+pub saved_more : {X : Type 0} (f : X → SavedEntry) (old now next : List SavedEntry) (xs : List X) (i : ℕ) (x : X) → i < length xs → x ≡ get_or xs i x →
+    now ≡ old ++ map f (take i xs) → next ≡ now ++ f x ∷ [] → next ≡ old ++ map f (take (i + 1) xs)
+saved_more f old now next xs i x low is so_far pushed =
+    pushed ∙ ap (λ l. l ++ f x ∷ []) so_far ∙ append_assoc old (map f (take i xs)) (f x ∷ [])
+    ∙ ap (λ l. old ++ l) (sym (map-append f (take i xs) (x ∷ []))) ∙ ap (λ l. old ++ map f l) (ap (λ y. take i xs ++ y ∷ []) is ∙ sym (take_more xs i x low))
+
+-- what two parts of a queue were saved as is what the whole is
+pub saved_both : (part : ℕ) (old mid new : List SavedEntry) (xs ys : List Edge) → mid ≡ old ++ entries_of part xs → new ≡ mid ++ entries_of part ys → new ≡ old ++ entries_of part (xs ++ ys)
+saved_both part old mid new xs ys first second =
+    second ∙ ap (λ l. l ++ entries_of part ys) first ∙ append_assoc old (entries_of part xs) (entries_of part ys) ∙ ap (λ l. old ++ l) (sym (map-append (entry_of part) xs ys))

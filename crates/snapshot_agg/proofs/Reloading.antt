@@ -1,5 +1,5 @@
 -- What a group saves, and what is loaded again.
-use Rattle.std.specs.Prelude.{◌≡◌, ℕ, zero, suc, ◌+◌, ◌<◌, ◌&&◌, nat_eq, nat_lt, Bool, true, false, cond, Option, Some, None, List, [], ◌∷◌, ◌++◌, length, map, filter, flat_map, take, get_or, slice_get, All, refl}
+use Rattle.std.specs.Prelude.{◌≡◌, ℕ, zero, suc, ◌+◌, ◌<◌, ◌&&◌, nat_eq, nat_lt, Bool, true, false, cond, Option, Some, None, List, [], ◌∷◌, ◌++◌, length, map, filter, take, get_or, slice_get, All, refl}
 use Rattle.std.specs.List.{list_all, IsDistinct, AllByRecursion}
 use Rattle.std.specs.Map.{keys_of, lookup}
 use Rattle.std.proofs.Common.{sym, ◌∙◌, ap, subst, arith}
@@ -239,31 +239,6 @@ told_passes kinds x (e ∷ es) h =
     same_inf = grind (arith, nat_tests)
 
 -- ITEM BY ITEM
-blocks_more : (blocks : List (List HeldRow)) (k : ℕ) (b : List HeldRow) → slice_get blocks k ≡ Some b →
-    map start_of (flat_map (λ b. b) (take (suc k) blocks)) ≡ map start_of (flat_map (λ b. b) (take k blocks)) ++ map start_of b
-blocks_more [] k b h = absurd (cc)
-blocks_more (x ∷ blocks) zero b h = ap (map start_of) (ends x) ∙ ap (map start_of) (some_is x b h)
-  where
-    ends : {X : Type 0} (xs : List X) → xs ++ [] ≡ xs
-    ends [] = refl
-    ends (x ∷ xs) = ap (λ l. x ∷ l) (ends xs)
-blocks_more (x ∷ blocks) (suc k) b h =
-    starts_append x (flat_map (λ b. b) (take (suc k) blocks)) ∙ ap (λ l. map start_of x ++ l) (blocks_more blocks k b h)
-    ∙ sym (starts_assoc (map start_of x) (map start_of (flat_map (λ b. b) (take k blocks))) (map start_of b))
-    ∙ ap (λ l. l ++ map start_of b) (sym (starts_append x (flat_map (λ b. b) (take k blocks))))
-  where
-    starts_append : (xs ys : List HeldRow) → map start_of (xs ++ ys) ≡ map start_of xs ++ map start_of ys
-    starts_append [] ys = refl
-    starts_append (x ∷ xs) ys = ap (λ l. start_of x ∷ l) (starts_append xs ys)
-
-    starts_assoc : (xs ys zs : List Edge) → (xs ++ ys) ++ zs ≡ xs ++ (ys ++ zs)
-    starts_assoc [] ys zs = refl
-    starts_assoc (x ∷ xs) ys zs = ap (λ l. x ∷ l) (starts_assoc xs ys zs)
-
-pub blocks_next : (blocks : List (List HeldRow)) (k : ℕ) (b : List HeldRow) → slice_get blocks k ≡ Some b →
-    map start_of (flat_map (λ b. b) (take (k + 1) blocks)) ≡ map start_of (flat_map (λ b. b) (take k blocks)) ++ map start_of b
-blocks_next blocks k b h = let e : k + 1 ≡ suc k = omega arith in ap (λ n. map start_of (flat_map (λ b. b) (take n blocks))) e ∙ blocks_more blocks k b h
-
 pub groups_next : (starts : List Edge) (i : ℕ) (e : Edge) (old new : List HeldRow) → i < length starts → e ≡ get_or starts i e →
     ((w : HeldRow → ℕ) → total w new ≡ total w old + w (record { cells = e.cells; start = e.sync })) →
     SameBag old (rows_of (take i starts)) → SameBag new (rows_of (take (i + 1) starts))

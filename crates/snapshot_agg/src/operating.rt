@@ -2,9 +2,8 @@
 use crate::emitting::keys_are_few;
 use crate::grouped::Grouped;
 use crate::loading::load_parts;
-use crate::saving::starts_of_runs;
+use crate::saving::save_runs;
 use batch::Pools;
-use carried_edges::save_edges;
 use edge_stream::{EdgeList, LoadFault, PartRow, Saved, StepFault};
 use operator::Operator;
 use tw_rows::{Memory, Time};
@@ -63,12 +62,9 @@ impl Operator for Grouped {
 
     fn save(&self) -> Result<Saved, Memory> {
         let mut saved = Saved::new(self.alloc);
-        let rows = self.groups.rows.starts(self.alloc)?;
-        save_edges(&mut saved, 0, &rows)?;
-        let waiting = self.waiting.edges(self.alloc)?;
-        save_edges(&mut saved, 1, &waiting)?;
-        let emitted = starts_of_runs(self.alloc, &self.running)?;
-        save_edges(&mut saved, 2, &emitted)?;
+        self.groups.rows.save(&mut saved, 0)?;
+        self.waiting.save(self.alloc, &mut saved, 1)?;
+        save_runs(&mut saved, 2, &self.running)?;
         Ok(saved)
     }
 

@@ -2,15 +2,19 @@
 ghost use Rattle.std.specs.Prelude.{◌≡◌, ◌^◌, ◌-◌, ◌≤◌, ◌++◌, ◌∷◌, ℕ, true, [], map, take, drop, length, min, IfOk, OnOk};
 ghost use Rattle.tw_rows.specs.declared.edge.Edge.{Edge};
 ghost use Rattle.edge_history.specs.Order.{failing, is_below, is_from};
+ghost use Rattle.carried_edges.specs.Entries.{entries_of};
 ghost use Rattle.sweep_laws.specs.Sweeps.{SyncsRise};
 ghost use Rattle.sweep_sides.specs.Waiting.{queued, AreTimed};
 ghost use Rattle.snapshot_agg.specs.Changing.{Gains, StayTogether};
 ghost use Rattle.snapshot_agg.specs.Waiting.{own_pending};
 
+use crate::saving::save_edge_line;
+use edge_stream::Saved;
 use end_queue::EndQueue;
 use std::alloc::Global;
 use std::collections::VecDeque;
 use std::marker::Model;
+use sweep_sides::save_waiting;
 use tw_rows::{Edge, Memory, Time};
 
 // Pending edges, each for its own sync.
@@ -76,16 +80,6 @@ fn move_first(line: &mut VecDeque<Edge>, due: &mut Vec<Edge>, count: usize) -> R
     Ok(())
 }
 
-// Adds copies of the edges.
-fn push_clones(copy: &mut Vec<Edge>, line: &VecDeque<Edge>) -> Result<(), Memory>
-    ensures { OnOk result (copy.new.items ≡ copy.old.items ++ line.now.items) }
-{
-    for i in 0..line.len() {
-        copy.push(line[i].clone()?)?;
-    }
-    Ok(())
-}
-
 impl Queue {
     // No edge is pending.
     pub(crate) fn new(alloc: Global) -> Queue
@@ -142,12 +136,12 @@ impl Queue {
         others.saturating_add(self.line.len() as u64)
     }
 
-    // A copy of the edges.
-    pub(crate) fn edges(&self, alloc: Global) -> Result<Vec<Edge>, Memory>
-        ensures { IfOk result (λ copy. copy.items ≡ queued self.now) }
+    // Adds the edges as entries of that part.
+    pub(crate) fn save(&self, alloc: Global, saved: &mut Saved, part: u64) -> Result<(), Memory>
+        ensures { OnOk result (saved.new ≡ saved.old ++ entries_of part (queued self.now)) }
     {
-        let mut copy = self.others.edges(alloc)?;
-        push_clones(&mut copy, &self.line)?;
-        Ok(copy)
+        save_waiting(alloc, saved, part, &self.others)?;
+        save_edge_line(saved, part, &self.line)?;
+        Ok(())
     }
 }

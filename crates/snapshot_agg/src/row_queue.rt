@@ -1,18 +1,21 @@
 // The rows that are alive.
-ghost use Rattle.std.specs.Prelude.{◌≡◌, ◌+◌, ◌≤◌, ◌∷◌, true, false, [], List, map, length, IfOk, OnOk, OnErr};
+ghost use Rattle.std.specs.Prelude.{◌≡◌, ◌+◌, ◌≤◌, ◌∷◌, ◌++◌, true, false, [], List, map, length, IfOk, OnOk, OnErr};
 ghost use Rattle.tw_rows.specs.Bag.{SameBag};
 ghost use Rattle.tw_rows.specs.declared.edge.HeldRow.{HeldRow};
 ghost use Rattle.edge_history.specs.Order.{many};
 ghost use Rattle.edge_history.specs.Opens.{is_held};
+ghost use Rattle.carried_edges.specs.Entries.{entries_of};
 ghost use Rattle.sweep_laws.specs.Saving.{starts_of};
 ghost use Rattle.snapshot_agg.specs.Changing.{Gains, GainTogether, StayTogether, row_since};
 
-use crate::saving::{push_line, starts_of_rows};
+use crate::saving::save_line;
+use edge_stream::Saved;
 use std::alloc::Global;
 use std::collections::VecDeque;
 use std::marker::Model;
+use sweep_sides::save_rows;
 use synopsis::Synopsis;
-use tw_rows::{Cells, Datum, Edge, HeldRow, Memory, Time};
+use tw_rows::{Cells, Datum, HeldRow, Memory, Time};
 
 // Rows that are alive, each with its start.
 #[derive(Drop)]
@@ -152,12 +155,12 @@ impl RowQueue {
         self.count
     }
 
-    // The rows as starts.
-    pub(crate) fn starts(&self, alloc: Global) -> Result<Vec<Edge>, Memory>
-        ensures { IfOk result (λ starts. starts.items ≡ starts_of self.now.rows) }
+    // Adds the rows as entries of that part, each as its start.
+    pub(crate) fn save(&self, saved: &mut Saved, part: u64) -> Result<(), Memory>
+        ensures { OnOk result (saved.new ≡ saved.old ++ entries_of part (starts_of self.now.rows)) }
     {
-        let mut starts = starts_of_rows(alloc, &self.found)?;
-        push_line(&mut starts, &self.line)?;
-        Ok(starts)
+        save_rows(saved, part, &self.found)?;
+        save_line(saved, part, &self.line)?;
+        Ok(())
     }
 }

@@ -44,7 +44,8 @@ impl Model for Few {
 
     ghost view = { λ f. record { columns = f.columns.items; rows = f.rows.items } };
 
-    ghost invariant = { λ f. AreFew f.columns.items f.rows.items f.words.items (vec_capacity f.rows) (vec_capacity f.words) };
+    ghost invariant = { λ f. AreFew f.columns.items f.rows.items f.words.items
+        (vec_capacity f.rows) (vec_capacity f.words) };
 }
 
 // The word of a key. Keys with the same data have the same word.

@@ -51,7 +51,11 @@ impl Model for Synopsis {
 
     ghost Value = { KeyedRows };
 
-    ghost view = { λ s. record { key = s.key.columns; rows = s.few.rows ++ rows_in s.buckets.entries; blocks = few_block s.few.rows ++ blocks_in s.buckets.entries } };
+    ghost view = { λ s. record {
+      key = s.key.columns;
+      rows = s.few.rows ++ rows_in s.buckets.entries;
+      blocks = few_block s.few.rows ++ blocks_in s.buckets.entries;
+    } };
 
     ghost invariant = { λ s. AreHeld s.key.columns s.few s.buckets.entries s.count };
 }

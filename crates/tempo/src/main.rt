@@ -1,21 +1,19 @@
 // tempo: a query over streams of events, from standard input to standard output, or from a file to a file.
 #![tactic(auto)]
 
-ghost use Rattle.std.specs.Prelude.{◌≡◌, IfOk, map};
-
-use command_line::{Keeping, WordsFault, read_words};
+use command_line::{Keeping, WordsFault, as_texts, read_words};
 use durable_file::FolderMedium;
 use kept_run::run_kept;
 use kept_wire::FileWire;
 use shard_apply::OpenGate;
-use std::alloc::{AllocError, Global};
+use std::alloc::AllocError;
 use std::io::{ErrorKind, Stderr, Stdin, Stdout};
 use std::process::ExitCode;
 use std::{env, fs};
 use tempo_cli::{Status, note, run};
 use wire_lines::{ErrWire, StdWire};
 
-/// The words of the command line. Where one is not UTF-8 none of them is ours, and there are none.
+// The words of the command line. Where one is not UTF-8 none of them is ours, and there are none.
 fn words_given(rt: &HostRuntime) -> Result<Vec<String>, AllocError> {
     match env::args(rt) {
         Ok(args) => args.collect::<Vec<String>>(rt.alloc()),
@@ -24,23 +22,12 @@ fn words_given(rt: &HostRuntime) -> Result<Vec<String>, AllocError> {
     }
 }
 
-/// The texts of the words, all of them and in order.
-fn as_texts(alloc: Global, words: &[String]) -> Result<Vec<&str>, AllocError>
-    ensures { IfOk result (λ texts. map (λ t. t.now) texts.items ≡ map (λ w. w.bytes.items) words.now) }
-{
-    let mut texts = Vec::new(alloc);
-    for word in words {
-        texts.push(word.as_str())?;
-    }
-    Ok(texts)
-}
-
-/// The file of this path; `-` stands for the standard stream.
+// The file of this path; `-` stands for the standard stream.
 fn file_named(path: &str) -> Option<&str> {
     if path == "-" { None } else { Some(path) }
 }
 
-/// The wire of a run that keeps its state in a file.
+// The wire of a run that keeps its state in a file.
 fn wire_over_files<'a>(
     rt: &'a HostRuntime,
     keeping: Keeping<'a>,
@@ -51,7 +38,7 @@ fn wire_over_files<'a>(
     Ok(FileWire::new(rt, medium, rt.stdin(), rt.stdout(), input, output))
 }
 
-/// There was no memory to begin with.
+// There was no memory to begin with.
 fn out_of_memory(notes: &mut ErrWire<Stderr>) -> ExitCode {
     note(notes, &Status::Memory);
     ExitCode::from(Status::Memory.number())

@@ -2,7 +2,7 @@
 use admission::{Lateness, Policy};
 use command_line::{CommandLine, Keeping, Mode, read_words};
 
-/// What the query `q` alone asks for.
+// What the query `q` alone asks for.
 const PLAIN: CommandLine<'static> = CommandLine {
     query: "q",
     mode: Mode::Run,
@@ -19,7 +19,7 @@ const PLAIN: CommandLine<'static> = CommandLine {
     keeping: None,
 };
 
-/// What the query `q` with the checkpoint `state` asks for.
+// What the query `q` with the checkpoint `state` asks for.
 const KEPT: Keeping<'static> = Keeping {
     checkpoint: "state",
     every: 1,
@@ -27,7 +27,7 @@ const KEPT: Keeping<'static> = Keeping {
     output: "-",
 };
 
-/// Words, with `|` between each two, with what they ask for, or nothing where they are refused.
+// Words, with `|` between each two, with what they ask for, or nothing where they are refused.
 static WORDS: [(&str, Option<CommandLine<'static>>); 60] = [
     ("tempo|--query|q", Some(PLAIN)),
     ("tempo|--query|", Some(CommandLine { query: "", ..PLAIN })),

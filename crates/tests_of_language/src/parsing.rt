@@ -5,7 +5,7 @@ use query_text::parse;
 use std::alloc::Global;
 use tw_rows::Memory;
 
-/// Why a text has no plan.
+// Why a text has no plan.
 fn fault(alloc: Global, text: &str) -> Option<QueryError> {
     match parse(alloc, text) {
         Ok(query) => plan(alloc, &query).err(),
@@ -17,8 +17,8 @@ fn syntax_at(at: usize) -> QueryError {
     QueryError::Fault(QueryFault::Syntax { at })
 }
 
-/// Texts that stop being a query, each with the place: in their streams, lets or tests, in another step, or at a word that is no
-/// name.
+// Texts that stop being a query, each with the place: in their streams, lets or tests, in another step, or at a word that is no
+// name.
 const SYNTAX: &str = "\
 s -> 0
  -> 0
@@ -212,7 +212,7 @@ fn texts_are_read_as_the_grammar_says(rt: HostRuntime) {
     }
 }
 
-/// Queries of each production, with the faults of those that have no plan.
+// Queries of each production, with the faults of those that have no plan.
 static QUERIES: [(&str, Option<QueryFault>); 103] = [
     (
         "stream s(v int); s | where v = 'a\nb'",
@@ -537,7 +537,7 @@ fn queries_have_a_plan_or_a_fault(rt: HostRuntime) {
     }
 }
 
-/// A text of three parts, of which the second stands so many times.
+// A text of three parts, of which the second stands so many times.
 fn repeated(
     alloc: Global,
     front: &str,
@@ -553,7 +553,7 @@ fn repeated(
     Ok(text)
 }
 
-/// Long texts in three parts, the second of which stands so many times, with their faults.
+// Long texts in three parts, the second of which stands so many times, with their faults.
 static LONG: [(&str, &str, usize, &str, Option<QueryFault>); 17] = [
     (
         "stream s(v int); s | where ",

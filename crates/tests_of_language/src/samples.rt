@@ -2,7 +2,7 @@
 use sample_trades::Sample;
 use tw_rows::Memory;
 
-/// The lines of the sample of number 7.
+// The lines of the sample of number 7.
 static SAMPLE: [&str; 2] = [
     "trades,interval,1,4,0,S0,107,7",
     "trades,interval,3,16,1,S0,117,2",

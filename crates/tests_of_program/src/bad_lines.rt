@@ -5,11 +5,11 @@ use std::process::Abort;
 use std::thread::Threads;
 use tw_rows::Memory;
 
-/// Streams with columns of each kind.
+// Streams with columns of each kind.
 const MORE: &str =
     "stream s(k text, v int); stream b(f bool, g bool, h text); stream d(p dec(2), q int); s";
 
-/// Lines that are refused, each with its cause.
+// Lines that are refused, each with its cause.
 const BAD: &str = "\
 s,interval,1152921504606846976,inf,a,1 -> bad time
 s,interval,1,1152921504606846976,a,1 -> bad time
@@ -95,7 +95,7 @@ s,interval,9,2,a,x -> bad life
 t,interval,1,2,a,1 -> unknown stream
 s,interval,1,2,a\r,1 -> stray return";
 
-/// Other bytes that are refused, each with the note.
+// Other bytes that are refused, each with the note.
 static BYTES: [(&[u8], &str); 10] = [
     (b"\n\xEF\xBB\xBF", "line 2: unknown stream\n"),
     (
@@ -115,7 +115,7 @@ static BYTES: [(&[u8], &str); 10] = [
     (b"s,interval,1,2,\xff,1", "line 1: not utf-8\n"),
 ];
 
-/// Runs over one bad line.
+// Runs over one bad line.
 fn expect_bad<R: Threads + Sync + AllocGlobal + Abort>(
     rt: &R,
     input: &[u8],
@@ -146,7 +146,7 @@ fn bad_lines_are_told(rt: HostRuntime) -> Result<(), Memory> {
     Ok(())
 }
 
-/// A text, and then so many times `x`, and another text.
+// A text, and then so many times `x`, and another text.
 fn with_long(
     alloc: Global,
     before: &str,
@@ -160,7 +160,7 @@ fn with_long(
     Ok(bytes)
 }
 
-/// Runs over a text, and then so many times `x`, and another text.
+// Runs over a text, and then so many times `x`, and another text.
 fn run_long<R: Threads + Sync + AllocGlobal>(
     rt: &R,
     before: &str,
@@ -188,10 +188,10 @@ fn a_line_has_65536_bytes_at_most(rt: HostRuntime) -> Result<(), Memory> {
     Ok(())
 }
 
-/// What stands around the `x` of lines that are too long, and how many there are.
+// What stands around the `x` of lines that are too long, and how many there are.
 static TOO_LONG: [(&str, usize, &str); 2] = [("s,interval,1,5,", 65520, ",1\n"), ("", 65537, "")];
 
-/// What is read of a line that is too long is refused, and no byte is read behind that.
+// What is read of a line that is too long is refused, and no byte is read behind that.
 #[test]
 fn a_longer_line_is_not_read_to_its_end(rt: HostRuntime) -> Result<(), Memory> {
     for &(before, count, after) in TOO_LONG.iter() {

@@ -27,7 +27,7 @@ const OPTIONS: Options = Options {
     },
 };
 
-/// Feeds the line of that number, to which the engine answers with a text.
+// Feeds the line of that number, to which the engine answers with a text.
 fn feed<R: Threads + Sync + Abort>(
     rt: &R,
     engine: &mut Engine,
@@ -42,7 +42,7 @@ fn feed<R: Threads + Sync + Abort>(
     }
 }
 
-/// Feeds one row a second, each of the second after the one before.
+// Feeds one row a second, each of the second after the one before.
 fn feed_rows<R: Threads + Sync + Abort>(
     rt: &R,
     alloc: Global,
@@ -55,7 +55,7 @@ fn feed_rows<R: Threads + Sync + Abort>(
     Ok(())
 }
 
-/// Asserts that the source and the group hold so many, at least and at most.
+// Asserts that the source and the group hold so many, at least and at most.
 fn check_held<R: Abort>(
     rt: &R,
     engine: &Engine,

@@ -14,7 +14,7 @@ const OUTPUT: &str = "tests_of_program_files/output";
 
 const STATE: &str = "tests_of_program_files/state";
 
-/// A wire over the files, with no byte in its streams.
+// A wire over the files, with no byte in its streams.
 fn over_files(
     rt: &HostRuntime,
 ) -> Result<FileWire<'_, HostRuntime, &'static [u8], Vec<u8>>, AllocError> {

@@ -11,7 +11,7 @@ use std::thread::Threads;
 use tw_rows::Memory;
 use wire_lines::MemoryWire;
 
-/// A run of the worked example over these files: its exit number.
+// A run of the worked example over these files: its exit number.
 fn run_on<R: Threads + Sync + AllocGlobal>(
     rt: &R,
     files: &mut MemoryFileWire,
@@ -25,8 +25,8 @@ fn run_on<R: Threads + Sync + AllocGlobal>(
     Ok(run_kept(rt, alloc, &asked, 1, files, &mut notes, &OpenGate).number())
 }
 
-/// Asserts that a run of which so many calls of the wire, and of FILE's medium, go on, and one that goes on from what a crash left of
-/// it, write what one run does.
+// Asserts that a run of which so many calls of the wire, and of FILE's medium, go on, and one that goes on from what a crash left of
+// it, write what one run does.
 fn expect_whole<R: Threads + Sync + AllocGlobal + Abort>(
     rt: &R,
     calls: u64,

@@ -3,7 +3,7 @@ use crate::rows::row_of;
 use crate::runs::{Given, expect};
 use tw_rows::Memory;
 
-/// Runs with options and in other modes.
+// Runs with options and in other modes.
 const CASES: &str = "
 stream l(k text, w int); stream r(k text, x int); l | union r
 --punctuate 10
@@ -364,7 +364,7 @@ s,end,4,1,a,1
 !> line 2: not a checkpoint
 ";
 
-/// The sizes of the pieces in which the input comes.
+// The sizes of the pieces in which the input comes.
 static STEPS: [usize; 2] = [1, 65536];
 
 #[test]

@@ -37,7 +37,7 @@ pub(crate) fn row_of(text: &'static str) -> Option<Row> {
     })
 }
 
-/// Runs of each kind of node and of fault, which come out so for any number of workers and any size of batches.
+// Runs of each kind of node and of fault, which come out so for any number of workers and any size of batches.
 const ROWS: &str = "
 stream s(k text, v int); s | group : count as n
 s,interval,1,5,a,1
@@ -584,7 +584,7 @@ out,end,99,4,b,5
 *,punct,inf
 ";
 
-/// The sizes of the pieces in which the input comes, of batches, and the numbers of workers.
+// The sizes of the pieces in which the input comes, of batches, and the numbers of workers.
 static WAYS: [(usize, &str, &str); 3] = [
     (1, "1024", "1"),
     (65536, "1", "4"),
@@ -618,7 +618,7 @@ fn worked_rows_come_out(rt: HostRuntime) -> Result<(), Memory> {
     Ok(())
 }
 
-/// Runs what is given in another mode, over another input.
+// Runs what is given in another mode, over another input.
 fn run_in<R: Threads + Sync + AllocGlobal>(
     rt: &R,
     given: Given,

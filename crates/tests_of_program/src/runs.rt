@@ -93,7 +93,7 @@ pub(crate) fn expect<R: Threads + Sync + AllocGlobal + Abort>(
     Ok(ran.steps)
 }
 
-/// A query, its input, the number of a call that fails, and what the run comes to then.
+// A query, its input, the number of a call that fails, and what the run comes to then.
 static FAILING: [(&str, &[u8], u64, Wanted<'static>); 8] = [
     (FILTER, TWO_INTERVALS, 0, (8, "", "read failed\n")),
     (FILTER, TWO_INTERVALS, 1, (8, "", "read failed\n")),
@@ -131,7 +131,7 @@ const ADJUSTING: [&str; 9] = [
     "10",
 ];
 
-/// Four lines, of which the last is late where a line may be 5 older than the newest: it says 6, and the bound is 7.
+// Four lines, of which the last is late where a line may be 5 older than the newest: it says 6, and the bound is 7.
 const LATE_LINES: &[u8] =
     b"s,interval,3,20,a,1\ns,interval,12,20,a,2\ns,interval,8,20,a,3\ns,interval,6,20,a,4\n";
 
@@ -150,8 +150,8 @@ const FOUR_LIVES: &str = "out,start,3,inf,a,1\nout,start,7,inf,a,4\nout,start,8,
     out,start,12,inf,a,2\nout,end,20,3,a,1\nout,end,20,12,a,2\n\
     out,end,20,8,a,3\nout,end,20,7,a,4\n*,punct,inf\n";
 
-/// What the first bytes of these lines come to, where they are fewer than so many: the exit number, what goes out, and the note.
-/// A line that is cut off has no kind yet, or too few fields, or no value in column 2, or is whole but for its LF.
+// What the first bytes of these lines come to, where they are fewer than so many: the exit number, what goes out, and the note.
+// A line that is cut off has no kind yet, or too few fields, or no value in column 2, or is whole but for its LF.
 static FRONTS: [(usize, Wanted<'static>); 17] = [
     (1, (0, NOTHING, "")),
     (10, (4, "", "line 1: unknown kind\n")),
@@ -172,7 +172,7 @@ static FRONTS: [(usize, Wanted<'static>); 17] = [
     (82, (0, FOUR_LIVES, "")),
 ];
 
-/// The first bytes of these lines, one by one, where a late line starts at the bound.
+// The first bytes of these lines, one by one, where a late line starts at the bound.
 fn front(count: usize, failing: Option<u64>) -> Given<'static, 'static> {
     Given {
         words: &ADJUSTING,
@@ -211,7 +211,7 @@ fn each_call_fails_in_turn(rt: HostRuntime) -> Result<(), Memory> {
     Ok(())
 }
 
-/// Words that are refused, with what the text of their refusal names, and the help, which names each option.
+// Words that are refused, with what the text of their refusal names, and the help, which names each option.
 static REFUSED: [(&[&str], &[&str]); 4] = [
     (&[], &["--query"]),
     (&["tempo", "--query"], &["--query"]),

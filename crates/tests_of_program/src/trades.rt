@@ -10,7 +10,7 @@ const MINUTES: &str = "stream trades(sym text, px int, qty int); \
     let g = trades | tumble 60 | group by sym : count as n, sum qty as q; \
     let old = g | delay 60 | select sym, q as q0; g | join old on sym";
 
-/// A header, and so many trades, one every 3 seconds, of five symbols in turn; each minute has four of each.
+// A header, and so many trades, one every 3 seconds, of five symbols in turn; each minute has four of each.
 fn input(alloc: Global, count: u64) -> Result<Vec<u8>, AllocError> {
     let mut text = Vec::from_slice(alloc, b"stream,kind,start,end,sym,px,qty\n")?;
     for i in 0..count.min(200) {
@@ -25,11 +25,11 @@ fn input(alloc: Global, count: u64) -> Result<Vec<u8>, AllocError> {
     Ok(text)
 }
 
-/// The first lines that go out: all others are told by the stored run of the program.
+// The first lines that go out: all others are told by the stored run of the program.
 const FIRST: &[u8] =
     b"*,punct,34200\n*,punct,34260\nout,start,34260,inf,S0,4,8,4\nout,start,34260,inf,S1,4,8,4\n";
 
-/// The words of a run with batches of this size and so many workers.
+// The words of a run with batches of this size and so many workers.
 fn words_for<'a>(batch: &'a str, workers: &'a str) -> [&'a str; 10] {
     [
         "tempo",
@@ -45,7 +45,7 @@ fn words_for<'a>(batch: &'a str, workers: &'a str) -> [&'a str; 10] {
     ]
 }
 
-/// What is given to a run over the trades.
+// What is given to a run over the trades.
 fn given<'a, 'b>(words: &'a [&'a str], input: &'b [u8]) -> Given<'a, 'b> {
     Given {
         words,
@@ -55,7 +55,7 @@ fn given<'a, 'b>(words: &'a [&'a str], input: &'b [u8]) -> Given<'a, 'b> {
     }
 }
 
-/// Sizes of batches with numbers of workers.
+// Sizes of batches with numbers of workers.
 static WAYS: [(&str, &str); 5] = [
     ("1", "1"),
     ("7", "2"),
@@ -80,7 +80,7 @@ fn minutes_are_joined_with_those_before(rt: HostRuntime) -> Result<(), Memory> {
     Ok(())
 }
 
-/// The run is frozen after 100 trades, and then resumed.
+// The run is frozen after 100 trades, and then resumed.
 #[test]
 fn minutes_are_cut_in_two(rt: HostRuntime) -> Result<(), Memory> {
     let (first, input) = (input(rt.alloc(), 100)?, input(rt.alloc(), 200)?);
@@ -91,7 +91,7 @@ fn minutes_are_cut_in_two(rt: HostRuntime) -> Result<(), Memory> {
     expect_cut(&rt, given, first.len(), (0, output, ""))
 }
 
-/// A gate at which each of two shards, as it first comes, waits for the other, but not without end.
+// A gate at which each of two shards, as it first comes, waits for the other, but not without end.
 #[derive(Drop)]
 struct Meeting {
     came: [AtomicBool; 2],
@@ -112,7 +112,7 @@ impl Gate for Meeting {
     }
 }
 
-/// Of two shards that ran one after the other, the first would wait in vain.
+// Of two shards that ran one after the other, the first would wait in vain.
 #[test]
 fn two_shards_meet(rt: HostRuntime) -> Result<(), Memory> {
     let gate = Meeting {

@@ -54,7 +54,8 @@ impl Model for Project {
 
     ghost view = { λ p. p.items.items };
 
-    ghost invariant = { λ p. (length p.items.items ≤ 32) × (p.kinds.items ≡ map (λ k. kind_for (result_kind k)) p.items.items) };
+    ghost invariant = { λ p. (length p.items.items ≤ 32)
+        × (p.kinds.items ≡ map (λ k. kind_for (result_kind k)) p.items.items) };
 }
 
 impl Project {

@@ -52,7 +52,7 @@ ins-append (Out bytes ∷ J) K = ins-append J K
 ins-append (Did mark ∷ J) K = ins-append J K
 ins-append (In bytes ∷ J) K = ap (λ x. bytes ++ x) (ins-append J K) ∙ sym (append_assoc bytes (ins J) (ins K))
 
--- a front of the bytes went out, and the rest is still to come
+-- a prefix of the bytes went out, and the rest is still to come
 pub record SentBefore (bytes rest : List ℕ) (entries : List Entry) : Type 0 where
   pub outs_alone : All IsOut entries
   pub so_far : bytes ≡ outs entries ++ rest
@@ -69,7 +69,7 @@ sent_more {bytes} {rest} n J s = rw (between_to_end rest n (length rest) (omega 
       ∙ ap (λ x. x ++ drop n rest) (sym (outs-append J (Out (take n rest) ∷ []) ∙ ap (λ x. outs J ++ x) (append-nil (take n rest))));
 })
 
--- what went out is a front of the bytes
+-- what went out is a prefix of the bytes
 pub sent_front : {bytes rest : List ℕ} (J : List Entry) → SentBefore bytes rest J → SentFront bytes J
 sent_front {bytes} {rest} J s = record { outs_alone = s.outs_alone; after = rest; front = s.so_far }
 

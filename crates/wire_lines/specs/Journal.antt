@@ -2,10 +2,16 @@
 use Rattle.std.specs.Prelude.{◌≡◌, ℕ, List, [], ◌∷◌, ◌++◌, take, Bool, true, false, Option, Some, Result, MatchResult}
 use Rattle.std.specs.List.{All}
 
--- what a wire over files does beside reads and writes: the input goes on from that byte, and the output behind so many bytes of its
--- file; all that went out so far is brought to the disk; or the file of a run's state is replaced by these bytes, from here on
+-- where the output goes on in its file: behind all that it has, which are so many bytes; or behind so many bytes, and what stood
+-- behind them is cut off. Of a file of 25 bytes AtEnd 25 leaves all, and CutAt 20 the first 20
+pub data OutputStart : Type 0 where
+  AtEnd : ℕ → OutputStart
+  CutAt : ℕ → OutputStart
+
+-- what a wire over files does beside reads and writes: the input goes on from that byte, and the output there in its file; all that
+-- went out so far is brought to the disk; or the file of a run's state is replaced by these bytes, from here on
 pub data Mark : Type 0 where
-  Start : ℕ → ℕ → Mark
+  Start : ℕ → OutputStart → Mark
   Sync : Mark
   Keep : List ℕ → Mark
 
@@ -47,7 +53,7 @@ IsOut (Did mark) = ⊥
 pub record Adds (before now : Option (List Entry)) (entries : List Entry) : Type 0 where
   pub added : (told : List Entry) → before ≡ Some told → now ≡ Some (told ++ entries)
 
--- what a read does to the journal: Ok n adds an In of the n bytes now in front of the slice, also where n is 0, and a failure adds nothing
+-- what a read does to the journal: Ok n adds an In of the first n bytes of the slice, also where n is 0, and a failure adds nothing
 abbrev pub Reads : {E : Type 0} → Option (List Entry) → Option (List Entry) → Result ℕ E → List ℕ → Type 0
 Reads before now result into = MatchResult result (λ n. Adds before now (In (take n into) ∷ [])) (λ _. Adds before now [])
 
@@ -55,7 +61,7 @@ Reads before now result into = MatchResult result (λ n. Adds before now (In (ta
 abbrev pub Writes : {E : Type 0} → Option (List Entry) → Option (List Entry) → Result ℕ E → List ℕ → Type 0
 Writes before now result piece = MatchResult result (λ n. Adds before now (Out (take n piece) ∷ [])) (λ _. Adds before now [])
 
--- a front of the bytes went out, in some Outs and nothing else
+-- a prefix of the bytes went out, in some Outs and nothing else
 pub record SentFront (bytes : List ℕ) (entries : List Entry) : Type 0 where
   pub outs_alone : All IsOut entries
   pub after : List ℕ

@@ -26,7 +26,7 @@ pub trait Wire {
     /// How often a write has failed.
     ghost write_faults: { Self → ℕ };
 
-    /// Takes the next bytes into the front of the slice. 0 is the end of the input.
+    /// Takes the next bytes into the first places of the slice. 0 is the end of the input.
     fn read(&mut self, into: &mut [u8]) -> Result<usize, ReadFailed>
         requires { 0 < length into.old }
         ensures bound { IfOk result (λ n. n ≤ length into.new) }

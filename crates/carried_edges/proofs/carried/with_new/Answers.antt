@@ -1,4 +1,4 @@
-use Rattle.std.proofs.Common.{◌∙◌, ◌+◌, ◌-◌, ◌++◌, ap, sym, subst}
+use Rattle.std.proofs.Common.{◌∙◌, ◌+◌, ◌-◌, ◌++◌, ap, sym, subst, rules}
 use Rattle.tw_rows.specs.Bag.{SameBag}
 use Rattle.edge_stream.specs.Listing.{cells_of}
 use Rattle.edge_stream.proofs.Filling.{batches_given-capacity, batches_taken-capacity}
@@ -43,13 +43,17 @@ joined-requires-clause-pools c =
 pub joined-requires-clause-order : goal.joined-requires-clause-order
 joined-requires-clause-order c =
     all_in_order c.in-Some.first c.args.carried.edges c.in_ok-earlier.earlier.edges c.split_below.new.self.edges c.args.new.edges c.in_ok-rest.rest.edges
-    c.in_ok-earlier.ensures.whole c.in_ok-rest.ensures.edges c.cursor.ensures.order c.in_ok-rest.ensures.order c.in_ok-earlier.ensures.below c.in_ok-earlier.ensures.rest c.in-Some.ensures.first
+    c.in_ok-earlier.ensures.whole c.in_ok-rest.ensures.all.edges c.cursor.ensures.order c.in_ok-rest.ensures.all.order c.in_ok-earlier.ensures.below c.in_ok-earlier.ensures.rest c.in-Some.ensures.first
 
-pub returns-clause-edges : goal.returns-clause-edges
-returns-clause-edges c =
-    subst (λ l. SameBag l (c.args.carried.edges ++ c.args.new.edges)) (sym c.in_ok-all.ensures.edges)
-    (all_same c.in-Some.first c.args.carried.edges c.in_ok-earlier.earlier.edges c.split_below.new.self.edges c.args.new.edges c.in_ok-rest.rest.edges
-    c.in_ok-earlier.ensures.whole c.in_ok-rest.ensures.edges)
+pub returns-clause-all : goal.returns-clause-all
+returns-clause-all c = record {
+  edges = subst (λ l. SameBag l (c.args.carried.edges ++ c.args.new.edges)) (sym c.in_ok-all.ensures.edges)
+      (all_same c.in-Some.first c.args.carried.edges c.in_ok-earlier.earlier.edges c.split_below.new.self.edges c.args.new.edges c.in_ok-rest.rest.edges
+      c.in_ok-earlier.ensures.whole c.in_ok-rest.ensures.all.edges);
+  order = search rules;
+  kinds = search rules;
+  capacity = search rules;
+}
 
 pub returns-clause-pools : goal.returns-clause-pools
 returns-clause-pools c =

@@ -1,4 +1,4 @@
-use Rattle.std.proofs.Common.{◌≡◌, ◌∙◌, ◌++◌, ◌∷◌, List, sym}
+use Rattle.std.proofs.Common.{◌∷◌}
 use Rattle.wire_lines.specs.Lines.{whole}
 use Rattle.checkpoint.specs.Text.{checkpoint_lines}
 use Rattle.checkpoint_lines.specs.Lines.{output_line}

@@ -1,4 +1,4 @@
-use Rattle.std.proofs.Common.{inl, inr, refl, sym, subst}
+use Rattle.std.proofs.Common.{inr, refl, sym, subst}
 use Rattle.command_line.specs.Words.{asked_by}
 use Rattle.kept_run.specs.Keeping.{IsStartOf, HasState, task_from}
 use Rattle.kept_run.proofs.Runs.{by_none, by_bytes, by_failure}

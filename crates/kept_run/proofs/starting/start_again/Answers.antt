@@ -1,4 +1,4 @@
-use Rattle.std.proofs.Common.{◌≡◌, ◌∙◌, Ok, Err, inl, refl, sym, ap, arith, subst}
+use Rattle.std.proofs.Common.{Ok, Err, refl, sym, arith, subst}
 use Rattle.std.proofs.lemmas.Result.{err_from_is_err_and}
 use Rattle.command_line.specs.Words.{asked_by}
 use Rattle.frozen_state.proofs.Names.{parts_apart}

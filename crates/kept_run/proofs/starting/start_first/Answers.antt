@@ -1,19 +1,15 @@
-use Rattle.std.proofs.Common.{◌≡◌, ◌∙◌, [], refl, sym, ap, arith, subst}
-use Rattle.std.proofs.lemmas.Result.{err_from_is_err_and}
+use Rattle.std.proofs.Common.{◌≡◌, ◌∙◌, [], refl, ap, arith, subst}
 use Rattle.command_line.specs.Words.{asked_by}
 use Rattle.admission.specs.declared.policy.Policy.{Policy}
 use Rattle.tempo_engine.specs.declared.engine.Options.{Options}
 use Rattle.tempo_cli.specs.Feeding.{from_start, Holds}
-use Rattle.kept_run.specs.Keeping.{first_task}
-use Rattle.kept_run.proofs.Adding.{adds_grows}
 use Rattle.kept_run.proofs.Starts.{is_for_words, begun}
 use Rattle.kept_run.proofs.starting.start_first.Goals as goal
 
-pub returns-clause-starts : goal.returns-clause-starts
-returns-clause-starts g c =
+pub returns-clause-begun : goal.returns-clause-begun
+returns-clause-begun g c =
     let asked = asked_by c.args.asked.now in
-    let t = first_task asked c.args.plan c.in_ok-output.output in
     let policy : c.options_of.result.policy ≡ asked.policy = ap (λ (o : Options). o.policy) c.options_of.ensures in
     let workers : c.in_ok-answering.answering.engine.parts.dataflow.workers ≡ asked.workers = c.in_ok-answering.ensures.workers ∙ ap (λ (o : Options). o.workers) c.options_of.ensures in
     let holds = subst (λ (p : Policy). Holds (from_start c.args.plan p asked.header) [] [] c.in_ok-answering.answering) policy c.in_ok-answering.ensures.holds in
-    adds_grows c.in_ok-output.ensures.ok (c.in_ok-output.output, (refl, begun t c.args.every _ (is_for_words t _ c.requires.within workers c.in_ok-form.ensures refl) holds refl refl (omega arith)))
+    begun _ c.args.every _ (is_for_words _ _ c.requires.within workers c.in_ok-form.ensures refl) holds refl refl (omega arith)

@@ -1,4 +1,4 @@
-use Rattle.std.proofs.Common.{◌≡◌, ◌∙◌, refl, sym, ap}
+use Rattle.std.proofs.Common.{◌∙◌, refl, sym, ap}
 use Rattle.wire_lines.specs.Cutter.{CutterState}
 use Rattle.command_line.specs.Words.{asked_by}
 use Rattle.tempo_cli.proofs.Journals.{limit-is}

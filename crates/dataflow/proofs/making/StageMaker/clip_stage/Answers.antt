@@ -25,7 +25,7 @@ kinds_told-requires c =
     clip_right plan c.nodes.ensures.kept c.args.self.now.node is.0 c.args.right c.args.left_key.now c.args.right_key.now (there ∙ ap Some is.1)
 
 pub shards-requires-clause-makes : goal.shards-requires-clause-makes
-shards-requires-clause-makes c κs =
+shards-requires-clause-makes c κs _ =
     let plan = c.args.self.now.plan.now in
     let n = get_or plan.nodes c.args.self.now.node (Source 0) in
     let there = slice_get-get_or plan.nodes c.args.self.now.node (Source 0) c.args.self.now.inside in

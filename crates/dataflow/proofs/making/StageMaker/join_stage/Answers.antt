@@ -39,7 +39,7 @@ shards-requires-clause-callable c κs =
     grind (serving, width, room)
 
 pub shards-requires-clause-makes : goal.shards-requires-clause-makes
-shards-requires-clause-makes c κs =
+shards-requires-clause-makes c κs _ =
     let plan = c.args.self.now.plan.now in
     let n = get_or plan.nodes c.args.self.now.node (Source 0) in
     let there = slice_get-get_or plan.nodes c.args.self.now.node (Source 0) c.args.self.now.inside in

@@ -7,10 +7,10 @@ pub in_shards-requires-clause-few : goal.in_shards-requires-clause-few
 in_shards-requires-clause-few g c κs = let few = c.args.self.now.few in let count = c.in_ok-operators.ensures.count in omega (arith, few, count)
 
 pub in_shards-requires-clause-opening : goal.in_shards-requires-clause-opening
-in_shards-requires-clause-opening g c κs = λ k d low. c.requires.makes.new _ (c.in_ok-operators.ensures.each k d low)
+in_shards-requires-clause-opening g c κs = λ _ k d low. c.requires.makes.new _ (c.in_ok-operators.ensures.each k d low)
 
 pub in_shards-requires-clause-in_step : goal.in_shards-requires-clause-in_step
-in_shards-requires-clause-in_step g c κs =
+in_shards-requires-clause-in_step g c κs _ =
     let m = c.requires.makes in
     let os = c.in_ok-operators.operators.items in
     let some : 1 ≤ length os = (let some = c.args.self.now.some in let count = c.in_ok-operators.ensures.count in omega (arith, some, count)) in
@@ -18,7 +18,7 @@ in_shards-requires-clause-in_step g c κs =
     m.works m.keyed m.left_key_is m.right_key_is m.left_columns m.right_columns
 
 pub in_shards-requires-clause-capacity : goal.in_shards-requires-clause-capacity
-in_shards-requires-clause-capacity g c κs =
+in_shards-requires-clause-capacity g c κs _ =
     let m = c.requires.makes in
     let os = c.in_ok-operators.operators.items in
     let some : 1 ≤ length os = (let some = c.args.self.now.some in let count = c.in_ok-operators.ensures.count in omega (arith, some, count)) in

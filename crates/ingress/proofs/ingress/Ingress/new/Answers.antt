@@ -6,8 +6,8 @@ use Rattle.ingress.specs.Fits.{stream_kinds}
 use Rattle.ingress.proofs.FirstShape.{plain_cells, shape_first, width_at, all_narrow}
 use Rattle.ingress.proofs.ingress.Ingress.new.Goals as goal
 
-pub new-held-requires-clause-width : goal.new-held-requires-clause-width
-new-held-requires-clause-width c =
+pub new-requires-clause-width : goal.new-requires-clause-width
+new-requires-clause-width c =
     let streams = c.args.streams.now in
     let all = c.loop-stream.invariant ∙ ap stream_kinds (take_all c.loop-stream.stream-index streams c.loop-stream-test.false) in
     subst (λ ks. All (λ k. length k.items ≤ 32) ks) (sym c.deref.ensures.value)

@@ -1,9 +1,9 @@
-use Rattle.std.specs.Prelude.{◌≡◌, [], ◌++◌, filter, map}
-use Rattle.std.proofs.Common.{◌∙◌, ap, sym, subst, arith, refl}
+use Rattle.std.specs.Prelude.{◌≡◌, ◌++◌, filter, map}
+use Rattle.std.proofs.Common.{◌∙◌, ap, sym, subst}
 use Rattle.std.proofs.lemmas.List.{append-nil}
 use Rattle.std.proofs.lemmas.List.Elements.{filter-append}
 use Rattle.tw_rows.specs.Kinds.{cell_kind_of}
-use Rattle.tw_rows.specs.Bag.{total, SameBag}
+use Rattle.tw_rows.specs.Bag.{total}
 use Rattle.edge_history.specs.Order.{is_below, Rises}
 use Rattle.edge_stream.specs.Listing.{cells_of}
 use Rattle.ingress.proofs.Fitting.{rises_filter, pools_copied, takes_copied}

@@ -1,15 +1,7 @@
-use Rattle.std.specs.Prelude.{◌≡◌, ℕ, Bool, false, IsTrue, ◌↔◌, ◌<◌, ◌≤◌}
-use Rattle.std.proofs.Common.{arith, inl, inr}
-use Rattle.std.proofs.lemmas.Bool.{cases_lt}
-use Rattle.ingress.proofs.Below.{queue_first, queue_over, queue_none, queue_some, others_some}
+use Rattle.std.specs.Prelude.{◌<◌, ◌≤◌}
+use Rattle.std.proofs.Common.{arith}
+use Rattle.ingress.proofs.Below.{queue_first, queue_over, queue_none, queue_some, others_some, not_before}
 use Rattle.ingress.proofs.waiting.Waiting.first_between.Goals as goal
-
--- where the test does not hold
-no_less : (a b : ℕ) (r : Bool) → (IsTrue r ↔ (a < b)) → r ≡ false → b ≤ a
-no_less a b r tells no = elim (cases_lt a b) [
-  | inl less ↦ absurd (let yes = tells.1 less in cc)
-  | inr more ↦ more
-]
 
 pub returns-in_default-clause-none : goal.returns-in_default-clause-none
 returns-in_default-clause-none c =
@@ -55,7 +47,7 @@ returns-clause-none c =
     let w = c.first_between-other.ensures.within in
     let other = c.first_between-other.result in
     let s = c.in-Some.sync in
-    let late : other ≤ s = no_less s other c.is_before.result c.is_before.ensures.test c.if-is_before.false in
+    let late : other ≤ s = not_before c.is_before.result s other c.is_before.ensures.test.1 c.if-is_before.false in
     let first = queue_first c.args.from 0 q s c.in-Some.ensures.order.rises c.in-Some.ensures.sync in
     queue_none q c.self.inside.others c.args.self.now c.self.view_is c.args.from other w.0 c.first_between-other.ensures.none other w.0 (omega arith)
     (first.none other w.0 late)

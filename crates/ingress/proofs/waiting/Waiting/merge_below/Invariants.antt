@@ -9,7 +9,7 @@ use Rattle.ingress.proofs.waiting.Waiting.merge_below.Given as goal
 
 abbrev pub invariant-edges : goal.invariant-edges
 invariant-edges l = record {
-  merged : Merged l.self-inside.queue.edges l.self-inside.others l.cursor.edges l.t l.low l.list.edges;
+  merged : Merged l.self-inside.queue.edges l.self-inside.others l.cursor.edges l.fn.t l.low l.list.edges;
   fit : failing (is_fit (cells_of l.fn.list)) l.cursor.edges ≡ 0;
   shape : SameShape l.fn.list l.list;
   taken : TakesBatches l.fn.list l.fn.pools l.list l.pools;

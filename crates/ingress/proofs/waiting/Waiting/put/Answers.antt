@@ -1,4 +1,4 @@
-use Rattle.std.specs.Prelude.{[], ◌∷◌, ◌++◌}
+use Rattle.std.specs.Prelude.{◌∷◌, ◌++◌}
 use Rattle.std.proofs.Common.{ap, subst}
 use Rattle.tw_rows.specs.Bag.{SameBag}
 use Rattle.ingress.proofs.Fitting.{pools_put}

@@ -1,11 +1,8 @@
-use Rattle.std.proofs.Common.{◌≡◌, ◌∙◌, ◌++◌, List, [], true, false, refl, sym, ap, subst, append_assoc, append-nil}
+use Rattle.std.proofs.Common.{true, false, refl, subst}
 use Rattle.std.proofs.lemmas.Result.{err_from_is_err_and}
-use Rattle.wire_lines.specs.Journal.{Entry, SentAll, SentFront}
+use Rattle.wire_lines.specs.Journal.{SentAll, SentFront}
 use Rattle.wire_lines.proofs.Growth.{Grows-none, Grows-weaker}
-use Rattle.tempo_cli.proofs.Journals.{Grows-then}
-use Rattle.kept_run.specs.Keeping.{Keeps}
-use Rattle.kept_run.specs.Standing.{Under}
-use Rattle.std.proofs.Common.{min, ◌+◌, arith}
+use Rattle.std.proofs.Common.{◌+◌, arith}
 use Rattle.kept_run.specs.declared.keeping.Keeper.{Keeper}
 use Rattle.kept_run.proofs.Standing.{no_more, line_ends, write_ends, after_line}
 use Rattle.kept_run.proofs.Walks.{line_not_due, line_kept, line_failed}

@@ -1,4 +1,4 @@
-use Rattle.std.proofs.Common.{◌≡◌, ◌∙◌, true, false, refl, sym, subst}
+use Rattle.std.proofs.Common.{◌∙◌, true, false, refl, subst}
 use Rattle.std.proofs.lemmas.Result.{err_from_is_err_and}
 use Rattle.kept_run.specs.Standing.{HasFewer}
 use Rattle.kept_run.proofs.Walks.{none_taken, more_taken, taken_ends}

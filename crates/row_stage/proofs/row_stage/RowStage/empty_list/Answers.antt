@@ -1,27 +1,27 @@
 use Rattle.std.proofs.Common.{◌≡◌, ◌∙◌, ℕ, List, [], map, ap, sym, subst}
+use Rattle.std.proofs.lemmas.Result.{IfOk-weaker}
 use Rattle.tw_rows.specs.Kinds.{cell_kind_of}
 use Rattle.plan_model.specs.declared.node.Node.{Node}
 use Rattle.plan_model.specs.IsPlan.{node_kinds}
 use Rattle.edge_stream.specs.Listing.{EdgeListView, cells_of}
 use Rattle.row_stage.specs.Stages.{ArePlain, IsStageOf}
 use Rattle.row_stage.proofs.Batches.{results_stored, results_plain, project_kinds}
-use Rattle.row_stage.proofs.Nodes.{IfOk-weaker}
 use Rattle.row_stage.proofs.row_stage.RowStage.empty_list.Goals as goal
 
 pub returns-in-Select-clause-kinds : goal.returns-in-Select-clause-kinds
 returns-in-Select-clause-kinds c =
     let left = c.args.left.now in
     let ks = c.in-Select.project in
-    IfOk-weaker (λ (l : EdgeListView). l ≡ record { edges = []; kinds = c.kinds.result.now; capacity = c.capacity.result; batches = 0; room = 0 })
+    IfOk-weaker c.new.result (λ (l : EdgeListView). l ≡ record { edges = []; kinds = c.kinds.result.now; capacity = c.capacity.result; batches = 0; room = 0 })
     (λ (l : EdgeListView). (n : Node) → (texts : List (List ℕ)) → IsStageOf texts left.capacity (cells_of left) n c.args.self.now → cells_of l ≡ node_kinds n (cells_of left) [])
     (λ l h n texts is. ap cells_of h ∙ ap (map cell_kind_of) c.kinds.ensures ∙ results_stored ks
     ∙ project_kinds texts left.capacity (cells_of left) n ks (subst (IsStageOf texts left.capacity (cells_of left) n) c.in-Select.is is))
-    c.new.result c.new.ensures
+    c.new.ensures
 
 pub returns-in-Select-clause-plain : goal.returns-in-Select-clause-plain
 returns-in-Select-clause-plain c =
     let left = c.args.left.now in
-    IfOk-weaker (λ (l : EdgeListView). l ≡ record { edges = []; kinds = c.kinds.result.now; capacity = c.capacity.result; batches = 0; room = 0 })
+    IfOk-weaker c.new.result (λ (l : EdgeListView). l ≡ record { edges = []; kinds = c.kinds.result.now; capacity = c.capacity.result; batches = 0; room = 0 })
     (λ (l : EdgeListView). ArePlain left.kinds → ArePlain l.kinds)
     (λ l h plain. subst ArePlain (sym (ap (λ x. x.kinds) h ∙ c.kinds.ensures)) (results_plain c.in-Select.project))
-    c.new.result c.new.ensures
+    c.new.ensures

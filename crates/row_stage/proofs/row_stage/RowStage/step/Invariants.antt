@@ -8,7 +8,7 @@ use Rattle.plan_model.specs.IsPlan.{node_kinds}
 use Rattle.node_laws.specs.Places.{EdgesArePlaced}
 use Rattle.row_stage.specs.Made.{IsMade}
 use Rattle.row_stage.specs.Stages.{ArePlain, IsStageOf}
-use Rattle.row_stage.proofs.row_stage.RowStage.over_batches.Given as goal
+use Rattle.row_stage.proofs.row_stage.RowStage.step.Given as goal
 
 abbrev pub invariant-loop-batch : goal.invariant-loop-batch
 invariant-loop-batch l = record {
