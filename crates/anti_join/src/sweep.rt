@@ -1,6 +1,6 @@
 // The rows of both sides, and the passes over the edges of an instant.
 ghost use Rattle.std.specs.Prelude.{◌≡◌, ◌+◌, ◌<◌, ◌≤◌, ◌++◌, ℕ, suc, nat_eq, true, false, Some, None, List, [], ◌∷◌, map, filter, flat_map, OnOk};
-ghost use Rattle.tw_rows.specs.Bag.{SameBag, total};
+ghost use Rattle.tw_rows.specs.Bag.{SameBag};
 ghost use Rattle.tw_rows.specs.Event.{AreEvents};
 ghost use Rattle.tw_rows.specs.Instant.{inf};
 ghost use Rattle.tw_rows.specs.declared.cells.Datum.{Datum};
@@ -11,6 +11,7 @@ ghost use Rattle.edge_history.specs.History.{CellEvent};
 ghost use Rattle.edge_history.specs.Balance.{news};
 ghost use Rattle.edge_history.specs.Opens.{ended_of, started_of, ended_rows, started_rows};
 ghost use Rattle.synopsis.specs.Held.{is_of_key};
+ghost use Rattle.sweep_laws.specs.Changes.{TakeIn, GiveUp, NoMore, TakeAtMost};
 ghost use Rattle.sweep_laws.specs.Moves.{Adds, HoldsEnded};
 ghost use Rattle.sweep_laws.specs.Saving.{HaveBegun};
 ghost use Rattle.sweep_laws.specs.Sweeps.{IsDue, Tells};
@@ -116,10 +117,9 @@ impl Rows {
 
     // Takes out the left row that an end edge ends, and tells the end of its run.
     fn end_left_one(&mut self, answer: &mut Vec<Edge>, t: Time, edge: &Edge) -> Result<(), Memory>
-        ensures ended { OnOk result (HoldsEnded edge.now self.old.left.rows → (w : HeldRow → ℕ) →
-            total w self.old.left.rows ≡ total w self.new.left.rows + total w (ended_of edge.now)) }
-        ensures fewer { OnOk result ((w : HeldRow → ℕ) →
-            total w self.new.left.rows ≤ total w self.old.left.rows) }
+        ensures ended { OnOk result (HoldsEnded edge.now self.old.left.rows →
+            GiveUp self.old.left.rows self.new.left.rows (ended_of edge.now)) }
+        ensures fewer { OnOk result (NoMore self.old.left.rows self.new.left.rows) }
         ensures told { OnOk result (AreByKey self.old → HoldsEnded edge.now self.old.left.rows →
             Adds answer.old.items answer.new.items (flat_map (λ r. end_of (status self.old
             (left_key_of self.old r)) t r) (ended_of edge.now))) }
@@ -140,16 +140,13 @@ impl Rows {
 
     // Takes out the left rows that end, and tells the ends of their runs.
     fn end_left(&mut self, answer: &mut Vec<Edge>, t: Time, now: &[Edge]) -> Result<(), Memory>
-        ensures ended { OnOk result (((w : HeldRow → ℕ) →
-            total w (ended_rows now.now) ≤ total w self.old.left.rows) → (w : HeldRow → ℕ) →
-            total w self.old.left.rows ≡ total w self.new.left.rows + total w
-            (ended_rows now.now)) }
-        ensures fewer { OnOk result ((w : HeldRow → ℕ) →
-            total w self.new.left.rows ≤ total w self.old.left.rows) }
+        ensures ended { OnOk result (NoMore self.old.left.rows (ended_rows now.now) →
+            GiveUp self.old.left.rows self.new.left.rows (ended_rows now.now)) }
+        ensures fewer { OnOk result (NoMore self.old.left.rows self.new.left.rows) }
         ensures told { OnOk result (AreByKey self.old →
-            ((w : HeldRow → ℕ) → total w (ended_rows now.now) ≤ total w self.old.left.rows) →
-            Adds answer.old.items answer.new.items (flat_map
-            (λ r. end_of (status self.old (left_key_of self.old r)) t r) (ended_rows now.now))) }
+            NoMore self.old.left.rows (ended_rows now.now) → Adds answer.old.items answer.new.items
+            (flat_map (λ r. end_of (status self.old (left_key_of self.old r)) t r)
+            (ended_rows now.now))) }
         ensures right { self.new.right ≡ self.old.right }
         ensures times { self.new.times ≡ self.old.times }
         ensures keys { SameKeys self.old self.new }
@@ -191,9 +188,8 @@ impl Rows {
         t: Time,
         edge: &Edge,
     ) -> Result<(), Memory>
-        ensures started { OnOk result ((w : HeldRow → ℕ) →
-            total w self.new.right.rows ≡ total w self.old.right.rows + total w
-            (started_of edge.now)) }
+        ensures started { OnOk result
+            (TakeIn self.old.right.rows self.new.right.rows (started_of edge.now)) }
         ensures told { OnOk result (AreByKey self.old → Adds answer.old.items answer.new.items
             (flat_map (ends_told t self.old self.new) self.old.left.rows)) }
         ensures left { self.new.left ≡ self.old.left }
@@ -211,9 +207,8 @@ impl Rows {
 
     // Puts in the right rows that start, and tells the ends of the runs of the keys that are free no more.
     fn start_right(&mut self, answer: &mut Vec<Edge>, t: Time, now: &[Edge]) -> Result<(), Memory>
-        ensures started { OnOk result ((w : HeldRow → ℕ) →
-            total w self.new.right.rows ≡ total w self.old.right.rows + total w
-            (started_rows now.now)) }
+        ensures started { OnOk result
+            (TakeIn self.old.right.rows self.new.right.rows (started_rows now.now)) }
         ensures told { OnOk result (AreByKey self.old → Adds answer.old.items answer.new.items
             (flat_map (ends_told t self.old self.new) self.old.left.rows)) }
         ensures left { self.new.left ≡ self.old.left }
@@ -248,11 +243,9 @@ impl Rows {
 
     // Takes out the right row that an end edge ends. Where its key is free then, the starts of the key's runs are told.
     fn end_right_one(&mut self, answer: &mut Vec<Edge>, t: Time, edge: &Edge) -> Result<(), Memory>
-        ensures ended { OnOk result (HoldsEnded edge.now self.old.right.rows → (w : HeldRow → ℕ) →
-            total w self.old.right.rows ≡ total w self.new.right.rows + total w
-            (ended_of edge.now)) }
-        ensures fewer { OnOk result ((w : HeldRow → ℕ) →
-            total w self.new.right.rows ≤ total w self.old.right.rows) }
+        ensures ended { OnOk result (HoldsEnded edge.now self.old.right.rows →
+            GiveUp self.old.right.rows self.new.right.rows (ended_of edge.now)) }
+        ensures fewer { OnOk result (NoMore self.old.right.rows self.new.right.rows) }
         ensures told { OnOk result (AreByKey self.old → Adds answer.old.items answer.new.items
             (flat_map (starts_told t self.old self.new) self.old.left.rows)) }
         ensures times { OnOk result (AreByKey self.old → SetsTimes t self.old self.new) }
@@ -276,11 +269,9 @@ impl Rows {
 
     // Takes out the right rows that end, and tells the starts of the runs of the keys that are free again.
     fn end_right(&mut self, answer: &mut Vec<Edge>, t: Time, now: &[Edge]) -> Result<(), Memory>
-        ensures ended { OnOk result (((w : HeldRow → ℕ) → total w (ended_rows now.now)
-            ≤ total w self.old.right.rows) → (w : HeldRow → ℕ) → total w self.old.right.rows
-            ≡ total w self.new.right.rows + total w (ended_rows now.now)) }
-        ensures fewer { OnOk result ((w : HeldRow → ℕ) →
-            total w self.new.right.rows ≤ total w self.old.right.rows) }
+        ensures ended { OnOk result (NoMore self.old.right.rows (ended_rows now.now) →
+            GiveUp self.old.right.rows self.new.right.rows (ended_rows now.now)) }
+        ensures fewer { OnOk result (NoMore self.old.right.rows self.new.right.rows) }
         ensures told { OnOk result (AreByKey self.old → Adds answer.old.items answer.new.items
             (flat_map (starts_told t self.old self.new) self.old.left.rows)) }
         ensures times { OnOk result (AreByKey self.old → SetsTimes t self.old self.new) }
@@ -313,9 +304,8 @@ impl Rows {
 
     // Puts in the left row that a start edge starts, and tells its start if its key is free.
     fn start_left_one(&mut self, answer: &mut Vec<Edge>, t: Time, edge: &Edge) -> Result<(), Memory>
-        ensures started { OnOk result ((w : HeldRow → ℕ) →
-            total w self.new.left.rows ≡ total w self.old.left.rows + total w
-            (started_of edge.now)) }
+        ensures started { OnOk result
+            (TakeIn self.old.left.rows self.new.left.rows (started_of edge.now)) }
         ensures told { OnOk result (AreByKey self.old →
             Adds answer.old.items answer.new.items (flat_map
             (λ r. begin_of (free self.old (left_key_of self.old r)) t r) (started_of edge.now))) }
@@ -334,9 +324,8 @@ impl Rows {
 
     // Puts in the left rows that start, and tells the starts of those whose key is free.
     fn start_left(&mut self, answer: &mut Vec<Edge>, t: Time, now: &[Edge]) -> Result<(), Memory>
-        ensures started { OnOk result ((w : HeldRow → ℕ) →
-            total w self.new.left.rows ≡ total w self.old.left.rows + total w
-            (started_rows now.now)) }
+        ensures started { OnOk result
+            (TakeIn self.old.left.rows self.new.left.rows (started_rows now.now)) }
         ensures told { OnOk result (AreByKey self.old →
             Adds answer.old.items answer.new.items (flat_map
             (λ r. begin_of (free self.old (left_key_of self.old r)) t r) (started_rows now.now))) }
@@ -356,8 +345,7 @@ impl Rows {
         ensures gone { OnOk result (AreByKey self.old → (k : List Datum) → lefts_of self.old k ≡ 0 →
             1 ≤ many (is_of_key self.old.left.key k) (ended_of edge.now) →
             times_of self.old self.new k ≡ 0) }
-        ensures fewer { OnOk result ((w : HeldRow → ℕ) →
-            total w self.new.times.rows ≤ total w self.old.times.rows) }
+        ensures fewer { OnOk result (NoMore self.old.times.rows self.new.times.rows) }
         ensures left { self.new.left ≡ self.old.left }
         ensures right { self.new.right ≡ self.old.right }
         ensures keys { SameKeys self.old self.new }
@@ -379,8 +367,7 @@ impl Rows {
         ensures gone { OnOk result (AreByKey self.old → (k : List Datum) → lefts_of self.old k ≡ 0 →
             1 ≤ many (is_of_key self.old.left.key k) (ended_rows now.now) →
             times_of self.old self.new k ≡ 0) }
-        ensures fewer { OnOk result ((w : HeldRow → ℕ) →
-            total w self.new.times.rows ≤ total w self.old.times.rows) }
+        ensures fewer { OnOk result (NoMore self.old.times.rows self.new.times.rows) }
         ensures left { self.new.left ≡ self.old.left }
         ensures right { self.new.right ≡ self.old.right }
         ensures keys { SameKeys self.old self.new }
@@ -410,11 +397,10 @@ impl Rows {
             self.new.right.rows self.new.times.rows
             × Tells (antis self.old.left.key self.old.right.key a b) t (suc t) answer.old.items
             answer.new.items) }
-        ensures left_rows { OnOk result ((w : HeldRow → ℕ) →
-            total w self.new.left.rows ≤ total w self.old.left.rows + total w
-            (started_rows now_left.now)) }
-        ensures right_rows { OnOk result ((w : HeldRow → ℕ) → total w self.new.right.rows
-            ≤ total w self.old.right.rows + total w (started_rows now_right.now)) }
+        ensures left_rows { OnOk result
+            (TakeAtMost self.old.left.rows self.new.left.rows (started_rows now_left.now)) }
+        ensures right_rows { OnOk result
+            (TakeAtMost self.old.right.rows self.new.right.rows (started_rows now_right.now)) }
         ensures begun { OnOk result (TimesBegin t self.old self.new) }
         ensures keys { SameKeys self.old self.new }
     {
@@ -441,11 +427,10 @@ impl Rows {
             self.new.right.rows self.new.times.rows
             × Tells (antis self.old.left.key self.old.right.key a b) from to answer.old.items
             answer.new.items) }
-        ensures left_rows { OnOk result ((w : HeldRow → ℕ) →
-            total w self.new.left.rows ≤ total w self.old.left.rows + total w
-            (started_rows left_due.now)) }
-        ensures right_rows { OnOk result ((w : HeldRow → ℕ) → total w self.new.right.rows
-            ≤ total w self.old.right.rows + total w (started_rows right_due.now)) }
+        ensures left_rows { OnOk result
+            (TakeAtMost self.old.left.rows self.new.left.rows (started_rows left_due.now)) }
+        ensures right_rows { OnOk result
+            (TakeAtMost self.old.right.rows self.new.right.rows (started_rows right_due.now)) }
         ensures begun { OnOk result ((kinds : List CellKind) (to : ℕ) →
             failing (is_below to) left_due.now ≡ 0 → failing (is_below to) right_due.now ≡ 0 →
             HaveBegun kinds to (started_rows left_due.now) → HaveBegun kinds to self.old.left.rows →

@@ -1,6 +1,6 @@
 // The left rows that are open, and the passes over the edges of an instant.
-ghost use Rattle.std.specs.Prelude.{◌≡◌, ◌+◌, ◌<◌, ◌≤◌, ◌++◌, ℕ, suc, not, Bool, true, false, List, map, filter, OnOk};
-ghost use Rattle.tw_rows.specs.Bag.{SameBag, total};
+ghost use Rattle.std.specs.Prelude.{◌≡◌, ◌+◌, ◌<◌, ◌++◌, ℕ, suc, not, Bool, true, false, List, map, filter, OnOk};
+ghost use Rattle.tw_rows.specs.Bag.{SameBag};
 ghost use Rattle.tw_rows.specs.Event.{AreEvents};
 ghost use Rattle.tw_rows.specs.Instant.{inf};
 ghost use Rattle.tw_rows.specs.declared.edge.HeldRow.{HeldRow};
@@ -8,6 +8,7 @@ ghost use Rattle.edge_history.specs.History.{CellEvent};
 ghost use Rattle.edge_history.specs.Balance.{news};
 ghost use Rattle.edge_history.specs.Opens.{ended_of, started_of, ended_rows, started_rows};
 ghost use Rattle.synopsis.specs.Held.{is_of_key};
+ghost use Rattle.sweep_laws.specs.Changes.{TakeIn, GiveUp, NoMore, TakeAtMost};
 ghost use Rattle.sweep_laws.specs.Moves.{Adds, told_at};
 ghost use Rattle.sweep_laws.specs.Sweeps.{IsDue, Tells};
 ghost use Rattle.sweep_laws.specs.Unending.{unending};
@@ -44,9 +45,8 @@ fn tell_ends(answer: &mut Vec<Edge>, t: Time, rows: &[HeldRow]) -> Result<(), Me
 
 // Takes out the rows that end edges name.
 fn take_out(rows: &mut Synopsis, ends: &[Edge])
-    ensures taken { ((w : HeldRow → ℕ) → total w (map row_named ends.now) ≤ total w rows.old.rows) →
-        (w : HeldRow → ℕ) → total w rows.old.rows ≡ total w rows.new.rows
-        + total w (map row_named ends.now) }
+    ensures taken { NoMore rows.old.rows (map row_named ends.now) →
+        GiveUp rows.old.rows rows.new.rows (map row_named ends.now) }
     ensures key { rows.new.key ≡ rows.old.key }
 {
     for end in ends {
@@ -90,8 +90,7 @@ impl Rows {
             EndsHeld clipped (ended_of edge.now) self.old.left.rows →
             Leave (filter (λ r. not (clipped r)) (ended_of edge.now)) t self.old.left.rows
             self.new.left.rows answer.old.items answer.new.items) }
-        ensures fewer { OnOk result ((w : HeldRow → ℕ) →
-            total w self.new.left.rows ≤ total w self.old.left.rows) }
+        ensures fewer { OnOk result (NoMore self.old.left.rows self.new.left.rows) }
         ensures keys { SameKeys self.old self.new }
     {
         if !edge.is_end() {
@@ -114,8 +113,7 @@ impl Rows {
             EndsHeld clipped (ended_rows now.now) self.old.left.rows →
             Leave (filter (λ r. not (clipped r)) (ended_rows now.now)) t self.old.left.rows
             self.new.left.rows answer.old.items answer.new.items) }
-        ensures fewer { OnOk result ((w : HeldRow → ℕ) →
-            total w self.new.left.rows ≤ total w self.old.left.rows) }
+        ensures fewer { OnOk result (NoMore self.old.left.rows self.new.left.rows) }
         ensures keys { SameKeys self.old self.new }
     {
         for edge in now {
@@ -126,9 +124,8 @@ impl Rows {
 
     // Puts in the left row that a start edge starts, and tells its start.
     fn start_one(&mut self, answer: &mut Vec<Edge>, t: Time, edge: &Edge) -> Result<(), Memory>
-        ensures started { OnOk result ((w : HeldRow → ℕ) →
-            total w self.new.left.rows ≡ total w self.old.left.rows + total w
-            (started_of edge.now)) }
+        ensures started { OnOk result
+            (TakeIn self.old.left.rows self.new.left.rows (started_of edge.now)) }
         ensures told { OnOk result (Adds answer.old.items answer.new.items
             (map (told_at true t) (started_of edge.now))) }
         ensures keys { SameKeys self.old self.new }
@@ -147,9 +144,8 @@ impl Rows {
 
     // Puts in the left rows that start, and tells their starts.
     fn start_rows(&mut self, answer: &mut Vec<Edge>, t: Time, now: &[Edge]) -> Result<(), Memory>
-        ensures started { OnOk result ((w : HeldRow → ℕ) →
-            total w self.new.left.rows ≡ total w self.old.left.rows + total w
-            (started_rows now.now)) }
+        ensures started { OnOk result
+            (TakeIn self.old.left.rows self.new.left.rows (started_rows now.now)) }
         ensures told { OnOk result (Adds answer.old.items answer.new.items
             (map (told_at true t) (started_rows now.now))) }
         ensures keys { SameKeys self.old self.new }
@@ -177,9 +173,8 @@ impl Rows {
             ClipHeld self.old.left.key self.old.right_key.columns a (map unending b)
             (suc t) self.new.left.rows × Tells (clips self.old.left.key self.old.right_key.columns a
             (map unending b)) t (suc t) answer.old.items answer.new.items) }
-        ensures rows { OnOk result ((w : HeldRow → ℕ) →
-            total w self.new.left.rows ≤ total w self.old.left.rows + total w
-            (started_rows now_left.now)) }
+        ensures rows { OnOk result
+            (TakeAtMost self.old.left.rows self.new.left.rows (started_rows now_left.now)) }
         ensures keys { SameKeys self.old self.new }
     {
         self.clip_rows(answer, t, now_right)?;
@@ -203,9 +198,8 @@ impl Rows {
             (map unending b) to self.new.left.rows × Tells
             (clips self.old.left.key self.old.right_key.columns a
             (map unending b)) from to answer.old.items answer.new.items) }
-        ensures rows { OnOk result ((w : HeldRow → ℕ) →
-            total w self.new.left.rows ≤ total w self.old.left.rows + total w
-            (started_rows left_due.now)) }
+        ensures rows { OnOk result
+            (TakeAtMost self.old.left.rows self.new.left.rows (started_rows left_due.now)) }
         ensures keys { SameKeys self.old self.new }
     {
         let mut i = 0;

@@ -1,15 +1,15 @@
 // The passes over the edges of an instant.
 ghost use Rattle.std.specs.Prelude.{◌≡◌, ◌+◌, ◌<◌, ◌≤◌, ℕ, suc, [], take, drop, length, List, IfOk, OnOk};
-ghost use Rattle.tw_rows.specs.Bag.{SameBag, total};
+ghost use Rattle.tw_rows.specs.Bag.{SameBag};
 ghost use Rattle.tw_rows.specs.Event.{alive, AreEvents};
 ghost use Rattle.tw_rows.specs.Instant.{inf};
-ghost use Rattle.tw_rows.specs.declared.edge.HeldRow.{HeldRow};
 ghost use Rattle.edge_history.specs.Order.{failing};
 ghost use Rattle.edge_history.specs.History.{CellEvent};
 ghost use Rattle.edge_history.specs.Balance.{news};
 ghost use Rattle.edge_history.specs.Opens.{started_rows};
 ghost use Rattle.row_queues.specs.Holding.{AreApart};
 ghost use Rattle.row_queues.specs.Queued.{AreQueues};
+ghost use Rattle.sweep_laws.specs.Changes.{TakeAtMost};
 ghost use Rattle.sweep_laws.specs.Sweeps.{is_at, IsDue, Tells};
 ghost use Rattle.coalesce_op.specs.Coalesces.{coalesces};
 ghost use Rattle.coalesce_op.specs.Holding.{CoalesceReached};
@@ -24,8 +24,8 @@ fn pass(queues: &mut RowQueues, answer: &mut Vec<Edge>, t: Time, now: &[Edge]) -
         SameBag now.now (news t (suc t) a) → AreQueues (alive a) t queues.old →
         AreQueues (alive a) (suc t) queues.new × Tells (coalesces a) t (suc t) answer.old.items
         answer.new.items) }
-    ensures rows { OnOk result (failing (is_at t) now.now ≡ 0 → (w : HeldRow → ℕ) →
-        total w queues.new ≤ total w queues.old + total w (started_rows now.now)) }
+    ensures rows { OnOk result (failing (is_at t) now.now ≡ 0 →
+        TakeAtMost queues.old queues.new (started_rows now.now)) }
 {
     queues.move_edges(answer, t, now)?;
     Ok(())
@@ -37,8 +37,8 @@ fn pass_in_place(queues: &mut RowQueues, t: Time, now: &mut [Edge]) -> Result<()
     ensures swept { OnOk result ((a : List CellEvent) → t < inf → AreEvents a →
         SameBag now.old (news t (suc t) a) → AreQueues (alive a) t queues.old →
         AreQueues (alive a) (suc t) queues.new × Tells (coalesces a) t (suc t) [] now.new) }
-    ensures rows { OnOk result (failing (is_at t) now.old ≡ 0 → (w : HeldRow → ℕ) →
-        total w queues.new ≤ total w queues.old + total w (started_rows now.old)) }
+    ensures rows { OnOk result (failing (is_at t) now.old ≡ 0 →
+        TakeAtMost queues.old queues.new (started_rows now.old)) }
 {
     queues.move_in_place(t, now)?;
     Ok(())
@@ -49,8 +49,7 @@ fn sweep(queues: &mut RowQueues, answer: &mut Vec<Edge>, due: &[Edge]) -> Result
     ensures swept { OnOk result ((a : List CellEvent) (from to : ℕ) → IsDue a from to due.now →
         AreQueues (alive a) from queues.old → AreQueues (alive a) to queues.new
         × Tells (coalesces a) from to answer.old.items answer.new.items) }
-    ensures rows { OnOk result ((w : HeldRow → ℕ) →
-        total w queues.new ≤ total w queues.old + total w (started_rows due.now)) }
+    ensures rows { OnOk result (TakeAtMost queues.old queues.new (started_rows due.now)) }
 {
     let mut done = 0;
     while done < due.len() {
@@ -70,8 +69,8 @@ fn sweep_in_place(queues: &mut RowQueues, due: &mut [Edge]) -> Result<usize, Mem
     ensures swept { IfOk result (λ done. (a : List CellEvent) (from to : ℕ) →
         IsDue a from to due.old → AreQueues (alive a) from queues.old → (u : ℕ)
         × CoalesceReached a from u to (drop done due.old) queues.new [] (take done due.new)) }
-    ensures rows { IfOk result (λ done. (w : HeldRow → ℕ) →
-        total w queues.new ≤ total w queues.old + total w (started_rows (take done due.old))) }
+    ensures rows { IfOk result (λ done. TakeAtMost queues.old queues.new
+        (started_rows (take done due.old))) }
 {
     let mut done = 0;
     while done < due.len() {
@@ -93,8 +92,7 @@ pub(crate) fn tell_due(queues: &mut RowQueues, mut due: Vec<Edge>) -> Result<Vec
     ensures swept { IfOk result (λ told. (a : List CellEvent) (from to : ℕ) →
         IsDue a from to due.items → AreQueues (alive a) from queues.old →
         AreQueues (alive a) to queues.new × Tells (coalesces a) from to [] told.items) }
-    ensures rows { OnOk result ((w : HeldRow → ℕ) →
-        total w queues.new ≤ total w queues.old + total w (started_rows due.items)) }
+    ensures rows { OnOk result (TakeAtMost queues.old queues.new (started_rows due.items)) }
 {
     let done = sweep_in_place(queues, &mut due)?;
     let left = due.split_off(done)?;

@@ -24,7 +24,11 @@ impl<T: Cell> Model for Pool<T> {
 
     ghost use Rattle.std.specs.Prelude.{◌≡◌, ◌≤◌, [], All, vec_len, vec_capacity};
 
-    ghost view = { λ p. record { free = vec_len p.columns; limit = p.limit; capacity = p.capacity } };
+    ghost view = { λ p. record {
+      free = vec_len p.columns;
+      limit = p.limit;
+      capacity = p.capacity;
+    } };
 
     ghost invariant = { λ p. (vec_len p.columns ≤ p.limit) × (p.limit ≤ vec_capacity p.columns)
         × All (λ c. c ≡ record { items = []; capacity = p.capacity }) p.columns.items };

@@ -6,7 +6,7 @@ use Rattle.tw_rows.specs.declared.edge.Edge.{Edge}
 use Rattle.plan_model.specs.declared.node.Node.{Node}
 use Rattle.plan_model.specs.declared.node.Node.TheVariants.{Source, Union, Delay}
 use Rattle.plan_model.specs.IsPlan.{PlanParts}
-use Rattle.dataflow.specs.Lists.{edges_at, longer}
+use Rattle.edge_stream.specs.Lists.{edges_at, longer}
 use Rattle.dataflow.specs.Stages.{reached, left_closing, right_closing}
 use Rattle.dataflow.specs.Held.{IsNeeded, IsNeededRight}
 

@@ -1,11 +1,11 @@
 -- One step of each node of a plan, node by node.
-use Rattle.std.specs.Prelude.{◌≡◌, ℕ, zero, suc, ◌<◌, ◌≤◌, cond, Option, Some, None, List, [], ◌++◌, get_or, slice_get}
+use Rattle.std.specs.Prelude.{◌≡◌, ℕ, zero, suc, ◌<◌, ◌≤◌, Option, Some, None, List, [], ◌++◌, get_or, slice_get}
 use Rattle.std.proofs.Common.{refl, sym, ap, subst, ◌∙◌, arith, inl, inr}
 use Rattle.std.proofs.lemmas.Bool.{cases_lt}
-use Rattle.std.proofs.lemmas.Bool.Decides.{nat_tests}
 use Rattle.tw_rows.specs.Instant.{inf}
 use Rattle.tw_rows.specs.declared.edge.Edge.{Edge}
 use Rattle.edge_history.specs.Order.{is_from, failing}
+use Rattle.edge_history.proofs.Retaining.{from_zero}
 use Rattle.edge_stream.specs.Listing.{EdgeListView, cells_of}
 use Rattle.plan_model.specs.declared.node.Node.{Node}
 use Rattle.plan_model.specs.IsPlan.{PlanParts, IsPlan}
@@ -16,16 +16,12 @@ use Rattle.plan_laws.specs.Undefined.{first_undefined}
 use Rattle.node_laws.specs.Places.{AreDistinct}
 use Rattle.node_laws.specs.Standing.{StandsRead, SourcesStandRead, AllStandRead}
 use Rattle.node_laws.proofs.Through.{left_stands, right_stands, node_stands, all_more}
-use Rattle.tw_rows.proofs.Bags.{total_same, total_zero}
 use Rattle.dataflow.specs.declared.stage.Stage.{Stage}
-use Rattle.dataflow.specs.Lists.{longer, AreFrom}
+use Rattle.edge_stream.specs.Lists.{longer}
+use Rattle.dataflow.specs.Lists.{AreFrom}
 use Rattle.dataflow.specs.Stages.{reached, left_closing, right_closing, MayComeUpTo, IsReady, StageKeeps, Takes, KeepsOn, StaysReady, IsUndefinedAt, first_undefined_read}
 use Rattle.dataflow.proofs.Rules.{stage_stands}
 use Rattle.dataflow.proofs.Undefining.{first_as_read}
-
--- all edges come at 0 or later
-from_zero : (h : List Edge) → failing (is_from 0) h ≡ 0
-from_zero h = total_same _ (λ x. 0) h (λ x. (let e : cond {A = ℕ} (is_from 0 x) 0 1 ≡ 0 = grind (arith, nat_tests) in e)) ∙ total_zero h
 
 reached_same : (last : ℕ) → reached last last ≡ last
 reached_same zero = refl

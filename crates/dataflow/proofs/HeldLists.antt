@@ -21,7 +21,8 @@ use Rattle.plan_model.specs.Shape.{Shape, Stream, One, Two, shape, left_in, read
 use Rattle.plan_model.proofs.Kept.{IsNodeAt}
 use Rattle.node_laws.specs.Places.{EdgesArePlaced}
 use Rattle.row_stage.proofs.Nodes.{stream_there, one_node}
-use Rattle.dataflow.specs.Lists.{edges_at, IsListOf, AreGiven}
+use Rattle.edge_stream.specs.Lists.{edges_at, no_edges}
+use Rattle.dataflow.specs.Lists.{IsListOf, AreGiven}
 use Rattle.dataflow.specs.Stages.{left_kinds, right_kinds}
 use Rattle.dataflow.specs.Held.{IsListWith, IsNeeded, IsNeededRight, IsNeededStream, AreHeld, HeldBefore, HeldBetween}
 
@@ -213,7 +214,7 @@ module _ (texts : List (List ℕ)) (capacity : ℕ) (plan : PlanParts) (i : ℕ)
       (subst (λ es. IsListWith texts capacity (kinds_at plan.schemas k) es l) (sym (right_of-child [] more node k is))
       (same_list texts capacity (kinds_at plan.schemas k) (more k) (get_or made k l) l (held.of_nodes k l (omega (arith, low, count)) (inl (node, (at.here, is)))) (edges l) (kinds l) (rows l))))
 
-  pub right_no_list : right_child node ≡ None → l ≡ record { edges = []; kinds = []; capacity = capacity; batches = 0; room = 0 } →
+  pub right_no_list : right_child node ≡ None → l ≡ no_edges [] capacity →
       IsListWith texts capacity (right_kinds plan n) (right_of [] more n) l
   right_no_list is e =
       subst (λ m. IsListWith texts capacity (right_kinds plan m) (right_of [] more m) l) same_node

@@ -10,6 +10,7 @@ use Rattle.tw_rows.specs.declared.kind.CellKind.{CellKind}
 use Rattle.tw_rows.specs.declared.kind.CellKind.TheVariants.{Whole}
 use Rattle.tw_rows.specs.declared.schema.StreamDef.{StreamDef}
 use Rattle.edge_stream.specs.Listing.{EdgeListView, cells_of}
+use Rattle.edge_stream.specs.Lists.{no_edges}
 use Rattle.plan_model.specs.declared.node.Node.{Node}
 use Rattle.plan_model.specs.declared.node.Node.TheVariants.{Source, Union as UnionNode, Extend as ExtendNode, Session as SessionNode, Clip as ClipNode, Group as GroupNode, Join as JoinNode, Anti as AntiNode, Follow as FollowNode, Top as TopNode}
 use Rattle.plan_model.specs.IsPlan.{PlanParts, IsPlan, IsSoundOver, kinds_at, kinds_of_schema, kinds_of_stream, node_kinds}
@@ -71,10 +72,6 @@ module _ (plan : PlanParts) (whole : IsPlan plan) where
       let narrow = left_narrow i n there in
       omega (arith, count, same, narrow)
 
--- a list that was just made
-abbrev pub fresh_list : List Kind → ℕ → EdgeListView
-fresh_list kinds capacity = record { edges = []; kinds = kinds; capacity = capacity; batches = 0; room = 0 }
-
 changes_alike : (of : ℕ) (change : Change) → MeanAlike (changing of change) (node_of change)
 changes_alike of (Delay by) = record { events = λ l r. refl; closes = λ x y. refl; undefined = λ rows. refl; held = λ x y hl hr. refl }
 changes_alike of (Hop size period) = record { events = λ l r. refl; closes = λ x y. refl; undefined = λ rows. refl; held = λ x y hl hr. refl }
@@ -113,7 +110,7 @@ change_divides plan whole i of change there =
     changes_divide of change (left_kinds plan (changing of change)) (right_kinds plan (changing of change)) (whole.nodes_are.each i (changing of change) there).sound
 
 module _ (plan : PlanParts) (capacity : ℕ) (kinds : List Kind) (texts : List (List ℕ)) where
-  pub life_starts : (of : ℕ) (change : Change) (o : AlterLifetime) → o.change ≡ change → o.carried ≡ fresh_list kinds capacity → o.left_to ≡ 0 → o.right_to ≡ 0 → o.failed ≡ false →
+  pub life_starts : (of : ℕ) (change : Change) (o : AlterLifetime) → o.change ≡ change → o.carried ≡ no_edges kinds capacity → o.left_to ≡ 0 → o.right_to ≡ 0 → o.failed ≡ false →
       map cell_kind_of kinds ≡ left_kinds plan (changing of change) → StartsFor texts capacity plan (changing of change) (Life o)
   life_starts of change o same carried left_to right_to works read = record {
     ready = record {
@@ -137,7 +134,7 @@ module _ (plan : PlanParts) (capacity : ℕ) (kinds : List Kind) (texts : List (
       own of (Duration by) = refl
       own of (Mean at) = refl
 
-  pub extend_starts : (of by : ℕ) (o : ExtendLifetime) → o.by ≡ by → o.carried ≡ fresh_list kinds capacity → o.ends ≡ [] → o.left_to ≡ 0 → o.right_to ≡ 0 → o.failed ≡ false →
+  pub extend_starts : (of by : ℕ) (o : ExtendLifetime) → o.by ≡ by → o.carried ≡ no_edges kinds capacity → o.ends ≡ [] → o.left_to ≡ 0 → o.right_to ≡ 0 → o.failed ≡ false →
       map cell_kind_of kinds ≡ left_kinds plan (ExtendNode of by) → StartsFor texts capacity plan (ExtendNode of by) (Extend o)
   extend_starts of by o same carried none left_to right_to works read = record {
     ready = record {
@@ -155,7 +152,7 @@ module _ (plan : PlanParts) (capacity : ℕ) (kinds : List Kind) (texts : List (
     made = record { empty = ap (λ l. l.edges) carried; none = none; left = left_to; right = right_to; works = works };
   }
 
-  pub union_starts : (left right : ℕ) (o : UnionOperator) → o.left ≡ fresh_list kinds capacity → o.right ≡ o.left → o.left_to ≡ 0 → o.right_to ≡ 0 → o.failed ≡ false →
+  pub union_starts : (left right : ℕ) (o : UnionOperator) → o.left ≡ no_edges kinds capacity → o.right ≡ o.left → o.left_to ≡ 0 → o.right_to ≡ 0 → o.failed ≡ false →
       map cell_kind_of kinds ≡ left_kinds plan (UnionNode left right) → left_kinds plan (UnionNode left right) ≡ right_kinds plan (UnionNode left right) → StartsFor texts capacity plan (UnionNode left right) (Union o)
   union_starts left right o made like left_to right_to works read alike = record {
     ready = record {

@@ -20,7 +20,8 @@ use Rattle.plan_model.proofs.Plans.{left_of_below, at_child_below}
 use Rattle.node_laws.specs.Places.{AreDistinct, EdgesArePlaced}
 use Rattle.node_laws.specs.Standing.{SourcesStandRead}
 use Rattle.dataflow.specs.declared.stage.Stage.{Stage}
-use Rattle.dataflow.specs.Lists.{longer, AreFrom, IsListOf}
+use Rattle.edge_stream.specs.Lists.{longer}
+use Rattle.dataflow.specs.Lists.{AreFrom, IsListOf}
 use Rattle.dataflow.specs.Stages.{reached, left_closing, right_closing, left_kinds, right_kinds, IsReady, CanTake, StageKeeps, KeepsOn, StaysReady, IsUndefinedAt, IsAnswerOf}
 use Rattle.dataflow.specs.Slices.{overflow_under}
 use Rattle.dataflow.specs.Flows.{parts_of}

@@ -13,7 +13,8 @@ use Rattle.dataflow.specs.declared.fault.PlanFault.{PlanFault}
 use Rattle.dataflow.specs.declared.fault.PlanFault.TheVariants as faults
 use Rattle.dataflow.specs.Faults.{fault_at}
 use Rattle.plan_model.specs.IsPlan.{PlanParts}
-use Rattle.dataflow.specs.Lists.{edges_at, AreOfStreams, AreGiven}
+use Rattle.edge_stream.specs.Lists.{edges_at}
+use Rattle.dataflow.specs.Lists.{AreOfStreams, AreGiven}
 use Rattle.dataflow.specs.declared.stage.Stage.{Stage}
 use Rattle.dataflow.specs.Flows.{DataflowView, StepsOn, GivesOn, parts_of}
 use Rattle.dataflow.proofs.Workers.{with_workers}

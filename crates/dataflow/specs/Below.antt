@@ -9,7 +9,8 @@ use Rattle.plan_model.specs.Meaning.{Sources, closes, left_of, right_of}
 use Rattle.node_laws.specs.Places.{AreDistinct}
 use Rattle.node_laws.specs.Standing.{SourcesStandRead, AllStandRead}
 use Rattle.dataflow.specs.declared.stage.Stage.{Stage}
-use Rattle.dataflow.specs.Lists.{longer, AreFrom, IsListOf}
+use Rattle.edge_stream.specs.Lists.{longer}
+use Rattle.dataflow.specs.Lists.{AreFrom, IsListOf}
 use Rattle.dataflow.specs.Stages.{reached, left_closing, right_closing, left_kinds, right_kinds, IsReady, StageKeeps}
 use Rattle.dataflow.specs.Slices.{overflow_under}
 use Rattle.dataflow.specs.Flows.{DataflowView, CanStep, Flows}

@@ -10,7 +10,8 @@ use Rattle.node_laws.specs.Places.{AreDistinct}
 use Rattle.node_laws.specs.Standing.{SourcesStandRead, AllStandRead}
 use Rattle.dataflow.specs.declared.fault.PlanFault.{PlanFault}
 use Rattle.dataflow.specs.declared.stage.Stage.{Stage}
-use Rattle.dataflow.specs.Lists.{longer, AreFrom}
+use Rattle.edge_stream.specs.Lists.{longer}
+use Rattle.dataflow.specs.Lists.{AreFrom}
 use Rattle.dataflow.specs.Stages.{reached, left_closing, right_closing, left_kinds, right_kinds, IsReady, StageKeeps, entries_in}
 
 -- what contracts see of a plan at work: the plan, its stages, how many rows each batch has room for, in how many shards a node

@@ -1,5 +1,5 @@
--- Callers read Faults, Lists, Stages, Shards, Flows, Slices, Below and Saving; private contracts alone cite Operating, Making,
--- Held, Readers and Closings.
+-- Callers read Faults, Lists, Stages, Shards, Flows, SameRun, Slices, Below and Saving; private contracts alone cite Operating,
+-- Making, Held, Readers and Closings.
 pub mod Faults
 pub mod Lists
 pub mod Operating
@@ -7,6 +7,7 @@ pub mod Stages
 pub mod Shards
 pub mod Making
 pub mod Flows
+pub mod SameRun
 pub mod Slices
 pub mod Below
 pub mod Held

@@ -1,21 +1,11 @@
--- Lists of edges by number: those of streams and those of nodes.
-use Rattle.std.specs.Prelude.{◌≡◌, ℕ, zero, suc, List, [], ◌∷◌, ◌++◌, length, slice_get, Some}
+-- Lists of edges by number, as a step is given them.
+use Rattle.std.specs.Prelude.{◌≡◌, ℕ, List, length, slice_get, Some}
 use Rattle.tw_rows.specs.declared.edge.Edge.{Edge}
 use Rattle.tw_rows.specs.declared.kind.CellKind.{CellKind}
 use Rattle.edge_history.specs.Order.{is_from, failing}
 use Rattle.edge_stream.specs.Listing.{EdgeListView, cells_of}
 use Rattle.plan_model.specs.IsPlan.{PlanParts, kinds_of_stream}
 use Rattle.node_laws.specs.Places.{EdgesArePlaced}
-
--- the edges of the list of that number, and none past the lists
-abbrev pub edges_at : List EdgeListView → ℕ → List Edge
-edges_at [] k = []
-edges_at (l ∷ ls) zero = l.edges
-edges_at (l ∷ ls) (suc k) = edges_at ls k
-
--- the lists by number, each with more edges last
-abbrev pub longer : (ℕ → List Edge) → (ℕ → List Edge) → ℕ → List Edge
-longer lists more k = lists k ++ more k
 
 -- the edges of each list come at c or later
 abbrev pub AreFrom : ℕ → (ℕ → List Edge) → Type 0

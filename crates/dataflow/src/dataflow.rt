@@ -8,11 +8,13 @@ ghost use Rattle.plan_model.specs.IsPlan.{IsPlan, kinds_at, most_columns};
 ghost use Rattle.node_laws.specs.Places.{EdgesArePlaced};
 ghost use Rattle.lane_expr.specs.Steps.{with_texts};
 ghost use Rattle.row_stage.specs.Texts.{HasFirstTexts};
-ghost use Rattle.dataflow.specs.Lists.{edges_at, AreOfStreams, IsListOf};
+ghost use Rattle.edge_stream.specs.Lists.{edges_at};
+ghost use Rattle.dataflow.specs.Lists.{AreOfStreams, IsListOf};
 ghost use Rattle.dataflow.specs.declared.stage.Stage.{Stage as Kept};
 ghost use Rattle.dataflow.specs.Stages.{StandsAsMade};
 ghost use Rattle.dataflow.specs.Shards.{RunAll};
 ghost use Rattle.dataflow.specs.Flows.{CanStep, MayStep, StepsOn, Flows, GivesOn, OverflowsAt, held_from};
+ghost use Rattle.dataflow.specs.SameRun.{SameRun};
 ghost use Rattle.dataflow.specs.Below.{MayStepBelow, StopsAt, UnderNone, OverflowsUnder};
 ghost use Rattle.dataflow.specs.Saving.{SavesAll, AreStates, AreStored, FlowsResume};
 ghost use Rattle.dataflow.specs.Held.{AreFresh, nodes_in_all};
@@ -238,10 +240,7 @@ impl Dataflow {
         ensures again { (fault : PlanFault) → self.old.fault ≡ Some fault → result ≡ Err fault }
         ensures list { IfOk result (λ out. IsListOf texts.now self.old.capacity
             (kinds_at self.old.plan.schemas self.old.plan.root) out) }
-        ensures plan { self.new.plan ≡ self.old.plan }
-        ensures capacity { self.new.capacity ≡ self.old.capacity }
-        ensures workers { self.new.workers ≡ self.old.workers }
-        ensures thawed { self.new.thawed ≡ self.old.thawed }
+        ensures same { SameRun self.old self.new }
         ensures pools { pools.new.capacity ≡ pools.old.capacity }
         ensures limit { pools.new.limit ≡ pools.old.limit }
     {
@@ -295,10 +294,7 @@ impl Dataflow {
             OverflowsUnder texts.now p node (edges_at given.items) self.old lower time) }
         ensures kept { IfErr result (λ fault. self.new.fault ≡ Some fault) }
         ensures stays { OnOk result (self.new.fault ≡ self.old.fault) }
-        ensures plan { self.new.plan ≡ self.old.plan }
-        ensures capacity { self.new.capacity ≡ self.old.capacity }
-        ensures workers { self.new.workers ≡ self.old.workers }
-        ensures thawed { self.new.thawed ≡ self.old.thawed }
+        ensures same { SameRun self.old self.new }
         ensures pools { pools.new.capacity ≡ pools.old.capacity }
         ensures limit { pools.new.limit ≡ pools.old.limit }
     {

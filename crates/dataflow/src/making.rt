@@ -206,7 +206,8 @@ impl<'a> StageMaker<'a> {
 
     // The stage of a Union.
     fn union_stage(&self) -> Result<Stage, Memory>
-        requires is { IsOf self.now (λ n. (left : ℕ) × ((right : ℕ) × (n ≡ Node.Union left right))) }
+        requires is { IsOf self.now
+            (λ n. (left : ℕ) × ((right : ℕ) × (n ≡ Node.Union left right))) }
         ensures starts { IfOk result (StartsOf self.now) }
         ensures runs { IfOk result (RunsOf self.now) }
     {

@@ -89,7 +89,8 @@ pub(crate) fn left_list(
         IsListWith texts pools.old.capacity (left_kinds plan.now n) (left_of [] given more n) l) }
     ensures held { OnOk result ((texts : List (List ℕ)) (given more : ℕ → List Edge) →
         HeldBefore texts pools.old.capacity plan.now i given more streams.old.items made.old.items →
-        HeldBetween texts pools.old.capacity plan.now i given more streams.new.items made.new.items) }
+        HeldBetween texts pools.old.capacity plan.now i given more
+        streams.new.items made.new.items) }
     ensures streams { length streams.new.items ≡ length streams.old.items }
     ensures made { length made.new.items ≡ length made.old.items }
     ensures pools { pools.new.capacity ≡ pools.old.capacity }

@@ -3,7 +3,8 @@ ghost use Rattle.std.specs.Prelude.{◌≡◌, ◌<◌, ◌≤◌, ℕ, true, fa
 ghost use Rattle.plan_model.specs.IsPlan.{kinds_at, most_columns};
 ghost use Rattle.node_laws.specs.Places.{EdgesArePlaced};
 ghost use Rattle.dataflow.specs.Faults.{fault_at};
-ghost use Rattle.dataflow.specs.Lists.{edges_at, AreGiven, IsListOf};
+ghost use Rattle.edge_stream.specs.Lists.{edges_at};
+ghost use Rattle.dataflow.specs.Lists.{AreGiven, IsListOf};
 ghost use Rattle.dataflow.specs.Shards.{RunAll};
 ghost use Rattle.dataflow.specs.Flows.{parts_of, MayStep, StepsOn, GivesOn, OverflowsAt};
 ghost use Rattle.dataflow.specs.Below.{MayStepBelow, GivesBelow, StepsBelow, AreMade, StopsAt, StopsUnder, OverflowsUnder};

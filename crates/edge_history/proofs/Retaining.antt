@@ -169,7 +169,7 @@ retain_all h es are = record { weigh = λ w. are.weigh w ∙ sym ((zero_filter h
 pub all_retained : (h : List Edge) (es : List CellEvent) → Retains 0 es h → AreEventsOf h es
 all_retained h es k = record { weigh = λ w. k.weigh w ∙ (zero_filter h).weigh w }
 
-from_zero : (h : List Edge) → failing (is_from 0) h ≡ 0
+pub from_zero : (h : List Edge) → failing (is_from 0) h ≡ 0
 from_zero h =
     total_same _ (λ x. 0) h (λ x. (let e : cond {A = ℕ} (is_from 0 x) 0 1 ≡ 0 = grind (arith, nat_tests) in e))
     ∙ total_zero h

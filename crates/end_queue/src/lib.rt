@@ -83,7 +83,8 @@ impl EndQueue {
 
     /// Puts the edge behind all that are due at its time or earlier. Out of memory nothing changes.
     pub fn put(&mut self, at: Time, edge: Edge) -> Result<(), Memory>
-        ensures ok { OnOk result (self.new ≡ put_pending (record { at = at; edge = edge }) self.old) }
+        ensures ok { OnOk result
+            (self.new ≡ put_pending (record { at = at; edge = edge }) self.old) }
         ensures err { OnErr result (self.new ≡ self.old) }
     {
         // After 2^64 edges there is no number left, which is told as out of memory.

@@ -28,10 +28,12 @@ pub struct Follow {
     pub(crate) right_to: Time,
     pub(crate) failed: bool,
     pub ghost positive: { 1 ≤ sides.rows.within },
-    pub ghost own: { own_kinds.items ≡ paired_row sides.rows.right_key.columns left_kinds.items right_kinds.items },
+    pub ghost own: { own_kinds.items
+        ≡ paired_row sides.rows.right_key.columns left_kinds.items right_kinds.items },
     ghost by_key: { left_key.items ≡ sides.rows.left.key },
     ghost working: { failed ≡ false →
-        IsWorking sides left_kinds.items right_kinds.items own_kinds.items capacity (min left_to right_to) },
+        IsWorking sides left_kinds.items right_kinds.items own_kinds.items capacity
+        (min left_to right_to) },
 }
 
 // No rows and no starts, by these key columns, with this time.

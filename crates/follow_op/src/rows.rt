@@ -10,6 +10,7 @@ ghost use Rattle.edge_history.specs.History.{CellEvent};
 ghost use Rattle.edge_history.specs.Balance.{news};
 ghost use Rattle.edge_history.specs.Opens.{is_held, started_of, started_rows};
 ghost use Rattle.synopsis.specs.Held.{is_of_key};
+ghost use Rattle.sweep_laws.specs.Changes.{TakeIn, NoMore, TakeAtMost};
 ghost use Rattle.sweep_laws.specs.Sweeps.{IsDue, InOrder};
 ghost use Rattle.sweep_laws.specs.Unending.{unending};
 ghost use Rattle.follow_op.specs.Followed.{follows, match_told, is_met, is_followed};
@@ -135,8 +136,7 @@ fn drop_matched(left: &mut Synopsis, room: &mut KeyRoom, now: &[Edge]) -> Result
 
 // Puts in the row that a start edge starts.
 fn start_one(left: &mut Synopsis, queue: &mut VecDeque<HeldRow>, edge: &Edge) -> Result<(), Memory>
-    ensures rows { OnOk result ((w : Held → ℕ) →
-        total w left.new.rows ≡ total w left.old.rows + total w (started_of edge.now)) }
+    ensures rows { OnOk result (TakeIn left.old.rows left.new.rows (started_of edge.now)) }
     ensures queue { OnOk result (queue.new.items ≡ queue.old.items ++ started_of edge.now) }
     ensures key { left.new.key ≡ left.old.key }
 {
@@ -157,8 +157,7 @@ fn start_rows(
     queue: &mut VecDeque<HeldRow>,
     now: &[Edge],
 ) -> Result<(), Memory>
-    ensures rows { OnOk result ((w : Held → ℕ) →
-        total w left.new.rows ≡ total w left.old.rows + total w (started_rows now.now)) }
+    ensures rows { OnOk result (TakeIn left.old.rows left.new.rows (started_rows now.now)) }
     ensures queue { OnOk result (queue.new.items ≡ queue.old.items ++ started_rows now.now) }
     ensures key { left.new.key ≡ left.old.key }
 {
@@ -187,7 +186,7 @@ fn drop_over(left: &mut Synopsis, queue: &mut VecDeque<HeldRow>, within: u64, t:
         SameBag left.new.rows (filter p queue.new.items) }
     ensures queue { StartsRise 0 queue.old.items → StartsRise 0 queue.new.items
         × (queue.new.items ≡ filter (still_waits within t) queue.old.items) }
-    ensures fewer { (w : Held → ℕ) → total w left.new.rows ≤ total w left.old.rows }
+    ensures fewer { NoMore left.old.rows left.new.rows }
     ensures key { left.new.key ≡ left.old.key }
 {
     'over: while let Some(row) = pop_over(queue, within, t) {
@@ -216,9 +215,8 @@ impl Rows {
             self.new.left.rows self.new.queue.items
             × TellsAhead (follows self.old.left.key self.old.right_key.columns self.old.within a b)
             t (suc t) answer.old.items answer.new.items) }
-        ensures rows { OnOk result ((w : Held → ℕ) →
-            total w self.new.left.rows ≤ total w self.old.left.rows + total w
-            (started_rows now_left.now)) }
+        ensures rows { OnOk result
+            (TakeAtMost self.old.left.rows self.new.left.rows (started_rows now_left.now)) }
         ensures keys { SameKeys self.old self.new }
     {
         drop_over(&mut self.left, &mut self.queue, self.within, t);
@@ -253,9 +251,8 @@ impl Rows {
             self.new.left.rows self.new.queue.items
             × TellsAhead (follows self.old.left.key self.old.right_key.columns self.old.within a b)
             from to answer.old.items answer.new.items) }
-        ensures rows { OnOk result ((w : Held → ℕ) →
-            total w self.new.left.rows ≤ total w self.old.left.rows + total w
-            (started_rows left_due.now)) }
+        ensures rows { OnOk result
+            (TakeAtMost self.old.left.rows self.new.left.rows (started_rows left_due.now)) }
         ensures keys { SameKeys self.old self.new }
     {
         let mut i = 0;

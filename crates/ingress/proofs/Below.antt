@@ -16,7 +16,7 @@ use Rattle.edge_history.proofs.Sums.{failing-append, failing-kept}
 use Rattle.ingress.specs.Ranks.{is_between, AreRanked, edges_at as edges_of_ranks}
 use Rattle.edge_stream.specs.Listing.{EdgeListView}
 use Rattle.edge_stream.specs.Reading.{first_sync}
-use Rattle.ingress.specs.Admits.{edges_at}
+use Rattle.edge_stream.specs.Lists.{edges_at}
 use Rattle.ingress.specs.Slices.{count_below, all_below, edges_of}
 use Rattle.ingress.proofs.Ranked.{rank_low, rank_high}
 use Rattle.ingress.proofs.Merged.{between_held}

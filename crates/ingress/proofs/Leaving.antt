@@ -20,7 +20,8 @@ use Rattle.admission.specs.Admission.{Admission}
 use Rattle.ingress.specs.Held.{IsHeld}
 use Rattle.ingress.specs.Keeping.{cell_rows}
 use Rattle.ingress.specs.OpenKeys.{starts_in}
-use Rattle.ingress.specs.Admits.{SameFixed, IsStored, AreReleased, edges_at, longer, Follows}
+use Rattle.edge_stream.specs.Lists.{edges_at, longer}
+use Rattle.ingress.specs.Admits.{SameFixed, IsStored, AreReleased, Follows}
 use Rattle.ingress.specs.declared.ingress.Ingress.{Ingress}
 use Rattle.ingress.proofs.Holding.{given_held, held_stands}
 use Rattle.ingress.specs.Fits.{HasShape, is_fit}

@@ -1,5 +1,5 @@
 -- What the code keeps of the lines that were admitted.
-use Rattle.std.specs.Prelude.{◌≡◌, ℕ, zero, suc, ◌<◌, ◌≤◌, All, List, [], ◌∷◌, ◌++◌, length, get_or, map, take, filter, Result, Ok, Err}
+use Rattle.std.specs.Prelude.{◌≡◌, ℕ, ◌<◌, ◌≤◌, All, List, [], length, get_or, map, take, filter, Result, Ok, Err}
 use Rattle.tw_rows.specs.Instant.{inf}
 use Rattle.tw_rows.specs.Bag.{SameBag}
 use Rattle.tw_rows.specs.Cells.{ArePlaced, read_cells, datum_kind, with_row}
@@ -11,6 +11,7 @@ use Rattle.tw_rows.specs.declared.schema.StreamDef.{StreamDef}
 use Rattle.edge_history.specs.Order.{is_below, Rises}
 use Rattle.edge_history.specs.History.{CellEvent}
 use Rattle.edge_stream.specs.Listing.{EdgeListView}
+use Rattle.edge_stream.specs.Lists.{edges_at}
 use Rattle.node_laws.specs.Places.{read_events, EventsArePlaced}
 use Rattle.admission.specs.declared.policy.Policy.{Policy}
 use Rattle.row_reader.specs.Interned.{row_read}
@@ -48,16 +49,6 @@ pub record SameFixed (old new : Ingress) : Type 0 where
   pub policy : new.policy ≡ old.policy
   pub kinds : new.kinds ≡ old.kinds
   pub capacity : new.capacity ≡ old.capacity
-
--- the edges of the list of that number, and none past the lists
-abbrev pub edges_at : List EdgeListView → ℕ → List Edge
-edges_at [] k = []
-edges_at (l ∷ ls) zero = l.edges
-edges_at (l ∷ ls) (suc k) = edges_at ls k
-
--- the lists by number, each with more edges last
-abbrev pub longer : (ℕ → List Edge) → (ℕ → List Edge) → ℕ → List Edge
-longer lists more k = lists k ++ more k
 
 -- there is a list for each stream, of its kinds and of this capacity
 pub record AreListsOf (i : Ingress) (lists : List EdgeListView) : Type 0 where

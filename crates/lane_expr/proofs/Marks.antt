@@ -8,6 +8,7 @@ use mir.Val.{bool_byte}
 use Rattle.occupancy.specs.Bits.{test}
 use Rattle.occupancy.proofs.Test.{test-or, test-shl_high, test-shl_low, test-byte_zero, test-byte_suc, test-flip, bit_lt, shl}
 use Rattle.occupancy.proofs.Places.{test-zero, test_above}
+use Rattle.std.proofs.Math.Bool.{or-false}
 use Rattle.std.proofs.Math.Nat.{one-le-pow, mod-le}
 use Rattle.std.proofs.Common.{mod-lt}
 use lib.Pow.{field, mod-mod-pow}
@@ -15,10 +16,6 @@ use lib.Pow.{field, mod-mod-pow}
 pub test_is : (w k : ℕ) → (bit_and (w / 2 ^ k) 1 == 1) ≡ test w k
 unfolding test
 test_is w k = ap (λ x. x == 1) (shr_and_one w k)
-
-or_false : (b : Bool) → (b || false) ≡ b
-or_false true = refl
-or_false false = refl
 
 module _ (w j : ℕ) (b : Bool) (lt : j < 64) where
   pub marked_here : test w j ≡ false → test (bit_or w (shl j (bool_byte b))) j ≡ b
@@ -36,7 +33,7 @@ module _ (w j : ℕ) (b : Bool) (lt : j < 64) where
 
   pub marked_elsewhere : (k : ℕ) → k < 64 → k ≢ j → test (bit_or w (shl j (bool_byte b))) k ≡ test w k
   marked_elsewhere k less ne =
-      test-or w (shl j (bool_byte b)) k ∙ ap (λ y. test w k || y) (shifted_off k less ne (cases_lt k j)) ∙ or_false (test w k)
+      test-or w (shl j (bool_byte b)) k ∙ ap (λ y. test w k || y) (shifted_off k less ne (cases_lt k j)) ∙ or-false (test w k)
 
 -- each bit of the greatest word is set
 pub test-ones : (j : ℕ) → j < 64 → test (2 ^ 64 - 1) j ≡ true

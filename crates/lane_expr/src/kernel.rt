@@ -35,7 +35,11 @@ impl Model for Kernel {
 
     ghost Value = { Program };
 
-    ghost view = { λ k. record { steps = k.steps.items; kinds = k.kinds.items; capacity = k.capacity } };
+    ghost view = { λ k. record {
+      steps = k.steps.items;
+      kinds = k.kinds.items;
+      capacity = k.capacity;
+    } };
 
     ghost invariant = { λ k. AreSteps k.kinds.items k.steps.items
         × (kinds_in k.registers.items ≡ map (step_kind k.kinds.items) k.steps.items)

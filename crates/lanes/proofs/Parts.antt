@@ -3,6 +3,7 @@ use Rattle.std.proofs.Common.{◌≡◌, ℕ, ◌+◌, ◌-◌, ◌%◌, ◌^◌
 use Rattle.std.specs.Prelude.{bit_or}
 use Rattle.std.specs.Ordering.{int_eq}
 use Rattle.std.proofs.lemmas.Bool.{cases_lt}
+use Rattle.std.proofs.Math.Bool.{or-false}
 use Rattle.std.proofs.lemmas.List.{get_or-map, get_or-take, get_or-drop, take-take, length-take-le, length-drop}
 use Rattle.std.proofs.lemmas.Simd.{mask_l-lt, mask_l-mod, length-zip2, Each1-from_get_or}
 use mir.Val.{to_z, of_z, SFits}
@@ -16,14 +17,10 @@ use Rattle.lanes.specs.Lanes.{number, place}
 use Rattle.lanes.proofs.Signed.{IsWhole, AreWhole, marked, marked_equal, bits_equal}
 
 -- ---- a word to which the marks of a part are added
-or_false : (b : Bool) → (b || false) ≡ b
-or_false true = refl
-or_false false = refl
-
 -- the marks `q` of the lanes from `at` on, beside those of the lanes before
 module _ (w q n at : ℕ) (few : q < 2 ^ n) (clear : (k : ℕ) → at ≤ k → k < 64 → test w k ≡ false) where
   part_before : (k : ℕ) → k < at → k < 64 → test (bit_or w (shl at q)) k ≡ test w k
-  part_before k lt less = test-or w (shl at q) k ∙ ap (λ y. test w k || y) (test-shl_low at k q lt less) ∙ or_false (test w k)
+  part_before k lt less = test-or w (shl at q) k ∙ ap (λ y. test w k || y) (test-shl_low at k q lt less) ∙ or-false (test w k)
 
   part_here : (k : ℕ) → at + k < 64 → test (bit_or w (shl at q)) (at + k) ≡ test q k
   part_here k less = test-or w (shl at q) (at + k) ∙ ap₂ (λ x y. x || y) (clear (at + k) (omega arith) less) (test-shl_high at k q less)

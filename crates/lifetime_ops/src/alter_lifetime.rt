@@ -1,6 +1,7 @@
 // The operator of a node that changes lives.
 ghost use Rattle.std.specs.Prelude.{◌≡◌, ◌≤◌, true, false, map, [], length, IfOk};
 ghost use Rattle.edge_history.specs.Order.{failing, is_from};
+ghost use Rattle.edge_stream.specs.Lists.{no_edges};
 ghost use Rattle.edge_stream.specs.Listing.{SameShape, cells_of};
 ghost use Rattle.life_laws.specs.Answers.{answered, answered_below};
 ghost use Rattle.tw_rows.specs.Kinds.{cell_kind_of};
@@ -26,7 +27,8 @@ pub struct AlterLifetime {
     pub(crate) left_to: Time,
     pub(crate) right_to: Time,
     pub(crate) failed: bool,
-    ghost late: { failed ≡ false → failing (is_from (answered_below (node_of change) left_to)) carried.edges ≡ 0 },
+    ghost late: { failed ≡ false →
+        failing (is_from (answered_below (node_of change) left_to)) carried.edges ≡ 0 },
     ghost ints: { divides_ints change (cells_of carried) ≡ true },
 }
 
@@ -56,7 +58,8 @@ pub(crate) fn answer_of(
     requires capacity { pools.old.capacity ≡ due.capacity }
     requires ints { divides_ints change.now (cells_of due) ≡ true }
     ensures edges { IfOk result (λ answer. answer.edges ≡ answered (node_of change.now) due.edges) }
-    ensures kinds { IfOk result (λ answer. cells_of answer ≡ answer_kinds change.now (cells_of due)) }
+    ensures kinds { IfOk result (λ answer.
+        cells_of answer ≡ answer_kinds change.now (cells_of due)) }
     ensures capacity { IfOk result (λ answer. answer.capacity ≡ due.capacity) }
     ensures pools { pools.new.capacity ≡ pools.old.capacity }
     ensures limit { pools.new.limit ≡ pools.old.limit }
@@ -79,8 +82,7 @@ impl AlterLifetime {
         requires room { 1 ≤ capacity }
         requires ints { divides_ints change (map cell_kind_of kinds.now) ≡ true }
         ensures change { IfOk result (λ o. o.change ≡ change) }
-        ensures carried { IfOk result (λ o. o.carried
-            ≡ record { edges = []; kinds = kinds.now; capacity = capacity; batches = 0; room = 0 }) }
+        ensures carried { IfOk result (λ o. o.carried ≡ no_edges kinds.now capacity) }
         ensures times { IfOk result (λ o. (o.left_to ≡ 0) × (o.right_to ≡ 0)) }
         ensures works { IfOk result (λ o. o.failed ≡ false) }
     {

@@ -5,6 +5,7 @@ ghost use Rattle.tw_rows.specs.Cells.{datum_kind};
 ghost use Rattle.tw_rows.specs.declared.edge.Edge.{Edge};
 ghost use Rattle.tw_rows.specs.declared.kind.CellKind.{CellKind};
 ghost use Rattle.edge_history.specs.Order.{failing, is_end, is_below, is_from, IsReal};
+ghost use Rattle.edge_stream.specs.Lists.{no_edges};
 ghost use Rattle.edge_stream.specs.Listing.{cells_of};
 ghost use Rattle.life_laws.specs.Extending.{extended_starts, extended_ends};
 ghost use Rattle.lifetime_ops.specs.Waiting.{edges_of_pending, TakesIn, IsWaitingEnd};
@@ -135,8 +136,7 @@ impl ExtendLifetime {
         requires width { length kinds.now ≤ 32 }
         requires room { 1 ≤ capacity }
         ensures by { IfOk result (λ o. o.by ≡ by) }
-        ensures carried { IfOk result (λ o. o.carried
-            ≡ record { edges = []; kinds = kinds.now; capacity = capacity; batches = 0; room = 0 }) }
+        ensures carried { IfOk result (λ o. o.carried ≡ no_edges kinds.now capacity) }
         ensures ends { IfOk result (λ o. o.ends ≡ []) }
         ensures times { IfOk result (λ o. (o.left_to ≡ 0) × (o.right_to ≡ 0)) }
         ensures works { IfOk result (λ o. o.failed ≡ false) }

@@ -37,7 +37,8 @@ pub trait Operator: Send + Drop {
     ghost sound: { Self → List SavedEntry → ℕ → ℕ → Type 0 };
 
     /// Such entries are what it keeps after edges came in and were answered, as in `keeps`.
-    ghost resumes: { Self → List SavedEntry → ℕ → ℕ → List (List ℕ) → List Edge → List Edge → List Edge → Type 0 };
+    ghost resumes: { Self → List SavedEntry → ℕ → ℕ → List (List ℕ) →
+        List Edge → List Edge → List Edge → Type 0 };
 
     /// How many entries it keeps.
     ghost entries: { Self → ℕ };
@@ -65,8 +66,8 @@ pub trait Operator: Send + Drop {
         requires capacity { pools.old.capacity ≡ (standing self.old).batch_rows }
         ensures kept { IfOk result (λ answer. StaysKept (standing self.old) (keeps self.old)
             (keeps self.new) left.edges right.edges answer.edges) }
-        ensures between { IfOk result (λ answer.
-            AnswersBetween (standing self.old) left.edges right.edges left_to right_to answer.edges) }
+        ensures between { IfOk result (λ answer. AnswersBetween (standing self.old)
+            left.edges right.edges left_to right_to answer.edges) }
         ensures defined { OnOk result (IsFirstUndefined (standing self.old) (keeps self.old)
             left.edges left_to right_to None) }
         ensures overflow { IfErr result (λ fault. (time : ℕ) → fault ≡ StepFault.Overflow time →
@@ -75,7 +76,8 @@ pub trait Operator: Send + Drop {
         ensures group { IfErr result (λ fault. (time : ℕ) → fault ≡ StepFault.Overflow time →
             is_group (standing self.old).node ≡ true) }
         ensures kinds { IfOk result (λ answer. cells_of answer ≡ (standing self.old).own_kinds) }
-        ensures capacity { IfOk result (λ answer. answer.capacity ≡ (standing self.old).batch_rows) }
+        ensures capacity { IfOk result (λ answer.
+            answer.capacity ≡ (standing self.old).batch_rows) }
         ensures pools { pools.new.capacity ≡ pools.old.capacity }
         ensures limit { pools.new.limit ≡ pools.old.limit }
         ensures left_to { OnOk result ((standing self.new).left_closed ≡ left_to) }

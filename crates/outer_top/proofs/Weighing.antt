@@ -1,5 +1,5 @@
 -- What groups weigh where one is put in, or written anew.
-use Rattle.std.specs.Prelude.{◌≡◌, ℕ, suc, ◌+◌, ◌<◌, ◌==◌, nat_lt, Bool, true, false, cond, Option, Some, None, Result, Ok, Err, OnErr, List, [], ◌∷◌, ◌++◌, refl}
+use Rattle.std.specs.Prelude.{◌≡◌, ℕ, suc, ◌+◌, ◌<◌, ◌==◌, nat_lt, Bool, true, false, cond, Option, Some, None, unwrap_or, Result, Ok, Err, OnErr, List, [], ◌∷◌, ◌++◌, refl}
 use Rattle.std.specs.Map.{lookup, set_value, remove_entry}
 use Rattle.std.specs.declared.cmp.Ordering.{Ordering}
 use Rattle.std.specs.declared.cmp.Ordering.TheVariants.{Less, Equal, Greater}
@@ -13,10 +13,6 @@ use Rattle.tw_rows.specs.declared.edge.HeldRow.{HeldRow}
 use Rattle.tw_rows.proofs.Bags.{total-append, total-flat_map}
 use Rattle.edge_history.specs.Order.{failing}
 use Rattle.outer_top.specs.Ranks.{Group, rows_in, strays, AreRanked, AreBelow, AreFrom}
-
-abbrev value_or : {X : Type 0} → X → Option X → X
-value_or d None = d
-value_or d (Some x) = x
 
 pub at_same : (k q : ℕ) → is_eq (nat_cmp k q) ≡ true → q ≡ k
 at_same k q h = go (nat_lt k q) refl (k == q) refl h
@@ -47,7 +43,7 @@ written v (e ∷ es) k b c h = go (is_eq (nat_cmp k e.0)) refl h (written v es k
         let key = at_same k e.0 is in
         let x = ap (λ n. v (n, c)) key in
         let y = ap (λ n. v (n, e.1)) key in
-        let z = ap (λ l. v (k, l)) (ap (value_or b) h) in
+        let z = ap (λ l. v (k, l)) (ap (λ o. unwrap_or o b) h) in
         omega (arith, x, y, z)
     go false is h rest = let r = rest h in omega (arith, r)
 
@@ -89,7 +85,7 @@ set_again (e ∷ es) k b h = go (is_eq (nat_cmp k e.0)) h (set_again es k b)
   where
     go : (t : Bool) → cond t (Some e.1) (lookup (is_at (nat_cmp k)) es) ≡ Some b → (lookup (is_at (nat_cmp k)) es ≡ Some b → set_value (is_at (nat_cmp k)) es b ≡ es) →
         cond t ((e.0, b) ∷ es) (e ∷ set_value (is_at (nat_cmp k)) es b) ≡ e ∷ es
-    go true h rest = ap (λ l. (e.0, l) ∷ es) (sym (ap (value_or b) h))
+    go true h rest = ap (λ l. (e.0, l) ∷ es) (sym (ap (λ o. unwrap_or o b) h))
     go false h rest = ap (λ l. e ∷ l) (rest h)
 
 -- a group goes that has no row any more
@@ -108,7 +104,7 @@ removed v (e ∷ es) k b h = go (is_eq (nat_cmp k e.0)) refl h (removed v es k b
     go true is h rest =
         let key = at_same k e.0 is in
         let y = ap (λ n. v (n, e.1)) key in
-        let z = ap (λ l. v (k, l)) (ap (value_or b) h) in
+        let z = ap (λ l. v (k, l)) (ap (λ o. unwrap_or o b) h) in
         let a = ap (total v) (again true is (set_value (is_at (nat_cmp k)) es [])) in
         omega (arith, y, z, a)
     go false is h rest =

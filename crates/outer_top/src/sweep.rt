@@ -1,14 +1,14 @@
 // The passes over the edges of an instant.
 ghost use Rattle.std.specs.Prelude.{◌≡◌, ◌+◌, ◌<◌, ◌≤◌, ℕ, suc, Bool, List, [], map, IfOk, OnOk};
-ghost use Rattle.tw_rows.specs.Bag.{SameBag, total};
+ghost use Rattle.tw_rows.specs.Bag.{SameBag};
 ghost use Rattle.tw_rows.specs.Event.{AreEvents};
 ghost use Rattle.tw_rows.specs.Instant.{inf};
 ghost use Rattle.tw_rows.specs.declared.cells.Datum.{Datum};
-ghost use Rattle.tw_rows.specs.declared.edge.HeldRow.{HeldRow};
 ghost use Rattle.edge_history.specs.Order.{failing, is_below};
 ghost use Rattle.edge_history.specs.History.{CellEvent};
 ghost use Rattle.edge_history.specs.Balance.{news};
 ghost use Rattle.edge_history.specs.Opens.{started_rows};
+ghost use Rattle.sweep_laws.specs.Changes.{TakeAtMost};
 ghost use Rattle.sweep_laws.specs.Sweeps.{IsDue, Tells};
 ghost use Rattle.outer_top.specs.TopKeys.{kept_rows};
 ghost use Rattle.outer_top.specs.TopEvents.{tops as tops_of_events, AreSettled, TopHeld};
@@ -35,9 +35,9 @@ fn pass(
         tops.old.most a (suc t) tops.new.keys.entries queues.new
         × Tells (tops_of_events tops.old.key.columns tops.old.by tops.old.most a) t (suc t)
         answer.old.items answer.new.items) }
-    ensures rows { OnOk result ((w : HeldRow → ℕ) →
-        total w (kept_rows tops.new.keys.entries) ≤ total w (kept_rows tops.old.keys.entries)
-        + total w (started_rows now.now)) }
+    ensures rows { OnOk result
+        (TakeAtMost (kept_rows tops.old.keys.entries) (kept_rows tops.new.keys.entries)
+        (started_rows now.now)) }
     ensures queues { OnOk result (QueuesFit t
         (kept_rows tops.old.keys.entries) now.now queues.old queues.new) }
     ensures settled { OnOk result
@@ -66,9 +66,9 @@ pub(crate) fn sweep(
         tops.new.keys.entries queues.new × Tells
         (tops_of_events tops.old.key.columns tops.old.by tops.old.most a) from to answer.old.items
         answer.new.items) }
-    ensures rows { OnOk result ((w : HeldRow → ℕ) →
-        total w (kept_rows tops.new.keys.entries) ≤ total w (kept_rows tops.old.keys.entries)
-        + total w (started_rows due.now)) }
+    ensures rows { OnOk result
+        (TakeAtMost (kept_rows tops.old.keys.entries) (kept_rows tops.new.keys.entries)
+        (started_rows due.now)) }
     ensures queues { OnOk result ((to : ℕ) (p : List Datum → Bool) →
         failing (is_below to) due.now ≡ 0 → failing (λ x. p x.cells) due.now ≡ 0 →
         failing (λ r. p r.cells) (kept_rows tops.old.keys.entries) ≡ 0 →

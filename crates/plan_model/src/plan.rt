@@ -33,9 +33,19 @@ impl Model for Plan {
 
     ghost Value = { PlanParts };
 
-    ghost view = { λ p. record { streams = p.streams; nodes = p.nodes; schemas = p.schemas; root = p.root } };
+    ghost view = { λ p. record {
+      streams = p.streams;
+      nodes = p.nodes;
+      schemas = p.schemas;
+      root = p.root;
+    } };
 
-    ghost invariant = { λ p. IsPlan (record { streams = p.streams; nodes = p.nodes; schemas = p.schemas; root = p.root }) };
+    ghost invariant = { λ p. IsPlan (record {
+      streams = p.streams;
+      nodes = p.nodes;
+      schemas = p.schemas;
+      root = p.root;
+    }) };
 }
 
 impl Plan {

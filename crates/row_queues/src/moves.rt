@@ -5,6 +5,7 @@ ghost use Rattle.tw_rows.specs.Bag.{total};
 ghost use Rattle.tw_rows.specs.Instant.{inf};
 ghost use Rattle.tw_rows.specs.declared.cells.Datum.{Datum};
 ghost use Rattle.tw_rows.specs.declared.edge.Edge.{Edge as Told};
+ghost use Rattle.sweep_laws.specs.Changes.{TakeIn};
 ghost use Rattle.sweep_laws.specs.Queues.{queue_ends, queue_starts, queue_told, queue_after};
 ghost use Rattle.sweep_laws.specs.Sweeps.{InOrder};
 ghost use Rattle.row_queues.specs.Kept.{EachIsOpen, ends_of, starts_of, rows_of, AreOnce};
@@ -86,10 +87,9 @@ pub(crate) fn tell(
 ) -> Result<(), Memory>
     ensures since { OnOk result (AreOnce moves.now → (c : List Datum) → since_of held.new c
         ≡ queue_after at (ends_of moves.now) (starts_of moves.now) (since_of held.old) c) }
-    ensures told { OnOk result (AreOnce moves.now → (w : Told → ℕ) → total w answer.new.items
-        ≡ total w answer.old.items
-        + total w (flat_map (queue_told at (ends_of moves.now) (starts_of moves.now)
-        (since_of held.old)) (rows_of moves.now))) }
+    ensures told { OnOk result (AreOnce moves.now → TakeIn answer.old.items answer.new.items
+        (flat_map (queue_told at (ends_of moves.now) (starts_of moves.now) (since_of held.old))
+        (rows_of moves.now))) }
     ensures order { OnOk result (at < inf → AreEarly at (since_of held.old) →
         InOrder (2 * at) answer.old.items → InOrder (suc (2 * at)) answer.new.items) }
     ensures filled { EachIsOpen held.old.starts → EachIsOpen held.new.starts }

@@ -1,12 +1,12 @@
 // Rows with their open starts.
-ghost use Rattle.std.specs.Prelude.{◌≡◌, ◌<◌, ◌+◌, ◌-◌, ◌^◌, ◌≤◌, ◌++◌, ◌∷◌, [], ℕ, suc};
+ghost use Rattle.std.specs.Prelude.{◌≡◌, ◌<◌, ◌+◌, ◌-◌, ◌^◌, ◌++◌, ◌∷◌, [], ℕ, suc};
 ghost use Rattle.std.specs.Prelude.{cond, length, min, List, IfOk, OnOk};
-ghost use Rattle.tw_rows.specs.Bag.{total};
 ghost use Rattle.tw_rows.specs.Instant.{inf};
 ghost use Rattle.tw_rows.specs.SameCells.{same_cells as same};
 ghost use Rattle.tw_rows.specs.declared.edge.HeldRow.{HeldRow};
 ghost use Rattle.edge_history.specs.Opens.{bare, started_rows};
 ghost use Rattle.key_nodes.specs.Coalesced.{how_often, coalesced};
+ghost use Rattle.sweep_laws.specs.Changes.{TakeAtMost};
 ghost use Rattle.sweep_laws.specs.Queues.{Cells as Row, AreMoves};
 ghost use Rattle.sweep_laws.specs.Sweeps.{Tells};
 ghost use Rattle.sweep_laws.specs.Saving.{starts_of, rows_of};
@@ -95,8 +95,7 @@ impl RowQueues {
             AreMoves same f at (λ r. how_often same r lost.now) (λ r. how_often same r won.now) →
             AreQueues f at self.old → AreQueues f (suc at) self.new
             × Tells (coalesced same f) at (suc at) answer.old.items answer.new.items) }
-        ensures rows { OnOk result ((w : HeldRow → ℕ) →
-            total w self.new ≤ total w self.old + total w (rows_at at won.now)) }
+        ensures rows { OnOk result (TakeAtMost self.old self.new (rows_at at won.now)) }
     {
         // Their calls tell the proof that no row stands twice.
         let _ = self.held.starts.len();
@@ -115,8 +114,7 @@ impl RowQueues {
         ensures moved { OnOk result ((f : ℕ → List Row) → at < inf →
             EdgesLead f at now.now → AreQueues f at self.old → AreQueues f (suc at) self.new
             × Tells (coalesced same f) at (suc at) answer.old.items answer.new.items) }
-        ensures rows { OnOk result ((w : HeldRow → ℕ) →
-            total w self.new ≤ total w self.old + total w
+        ensures rows { OnOk result (TakeAtMost self.old self.new
             (rows_at at (bare (started_rows now.now)))) }
     {
         // Their calls tell the proof that no row stands twice.
@@ -132,8 +130,7 @@ impl RowQueues {
         ensures moved { OnOk result ((f : ℕ → List Row) → at < inf →
             EdgesLead f at now.old → AreQueues f at self.old → AreQueues f (suc at) self.new
             × Tells (coalesced same f) at (suc at) [] now.new) }
-        ensures rows { OnOk result ((w : HeldRow → ℕ) →
-            total w self.new ≤ total w self.old + total w
+        ensures rows { OnOk result (TakeAtMost self.old self.new
             (rows_at at (bare (started_rows now.old)))) }
     {
         // Their calls tell the proof that no row stands twice.

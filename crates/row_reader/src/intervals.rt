@@ -196,7 +196,10 @@ pub(crate) fn read_interval<'a>(
     ensures known { IfSome result (λ i. i.known ≡ true →
         AreKnown texts.now (left (Plain i.values)) row.new.items) }
 {
-    let Fields::Plain(Some(text)) = fields else {
+    let Fields::Plain(rest) = fields else {
+        return None;
+    };
+    let Some(text) = rest else {
         return None;
     };
     let Some(times) = behind_word(text) else {

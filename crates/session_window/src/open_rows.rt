@@ -1,5 +1,5 @@
 // The rows of the sessions that go on, by their keys.
-ghost use Rattle.std.specs.Prelude.{◌≡◌, ◌+◌, ◌<◌, ◌≤◌, ℕ, nat_eq, List, [], filter, flat_map};
+ghost use Rattle.std.specs.Prelude.{◌≡◌, ◌<◌, ℕ, nat_eq, List, [], filter, flat_map};
 ghost use Rattle.std.specs.Prelude.{length, slice_get, Some, IfOk, OnOk, OnErr, IfSome, IfNone};
 ghost use Rattle.tw_rows.specs.Bag.{total};
 ghost use Rattle.tw_rows.specs.declared.edge.HeldRow.{HeldRow};
@@ -7,6 +7,7 @@ ghost use Rattle.edge_history.specs.Order.{many};
 ghost use Rattle.synopsis.specs.Held.{key_of, is_of_key};
 ghost use Rattle.synopsis.specs.Buckets.{rows_in, AreKeyed};
 ghost use Rattle.session_window.specs.Lasts.{IsLastStart};
+ghost use Rattle.sweep_laws.specs.Changes.{GiveUp};
 
 use crate::one_session::OneSession;
 use indexmap::IndexMap;
@@ -64,8 +65,8 @@ fn take_rows(
     sessions: &mut IndexMap<Vec<Datum>, OneSession>,
     key: &[Datum],
 ) -> Vec<HeldRow>
-    ensures taken { (w : HeldRow → ℕ) → total w (rows_in sessions.old.entries)
-        ≡ total w (rows_in sessions.new.entries) + total w result.items }
+    ensures taken { GiveUp
+        (rows_in sessions.old.entries) (rows_in sessions.new.entries) result.items }
     ensures own { (columns : List ℕ) → AreKeyed columns sessions.old.entries →
         result.items ≡ filter (is_of_key columns key.now) (rows_in sessions.old.entries) }
     ensures keyed { (columns : List ℕ) → AreKeyed columns sessions.old.entries →
@@ -177,8 +178,7 @@ impl OpenRows {
 
     /// Takes out the rows of a key. It takes no memory.
     pub(crate) fn take(&mut self, key: &[Datum]) -> Vec<HeldRow>
-        ensures taken { (w : HeldRow → ℕ) → total w self.old.rows ≡ total w self.new.rows
-            + total w result.items }
+        ensures taken { GiveUp self.old.rows self.new.rows result.items }
         ensures own { result.items ≡ filter (is_of_key self.old.key key.now) self.old.rows }
         ensures key { self.new.key ≡ self.old.key }
     {

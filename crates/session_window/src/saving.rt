@@ -1,6 +1,6 @@
 // What is kept of sessions, as saved entries and back.
-ghost use Rattle.std.specs.Prelude.{◌≡◌, ◌↔◌, IsTrue, ◌+◌, ◌++◌, ℕ, List, map, IfOk, OnOk};
-ghost use Rattle.tw_rows.specs.Bag.{SameBag, total};
+ghost use Rattle.std.specs.Prelude.{◌≡◌, ◌↔◌, IsTrue, ◌+◌, ◌++◌, List, map, IfOk, OnOk};
+ghost use Rattle.tw_rows.specs.Bag.{SameBag};
 ghost use Rattle.tw_rows.specs.Kinds.{cell_kind_of};
 ghost use Rattle.tw_rows.specs.declared.edge.HeldRow.{HeldRow};
 ghost use Rattle.tw_rows.specs.declared.kind.CellKind.{CellKind};
@@ -9,6 +9,7 @@ ghost use Rattle.edge_history.specs.Opens.{is_start};
 ghost use Rattle.carried_edges.specs.Entries.{entries_of, part_of};
 ghost use Rattle.sweep_sides.specs.Waiting.{queued};
 ghost use Rattle.sweep_sides.specs.Sides.{IsSide};
+ghost use Rattle.sweep_laws.specs.Changes.{TakeIn};
 ghost use Rattle.sweep_laws.specs.Saving.{starts_of, rows_of};
 ghost use Rattle.session_window.specs.Kept.{HasOne, is_placed_at};
 ghost use Rattle.session_window.specs.Sessions.{IsLike};
@@ -37,8 +38,7 @@ pub(crate) fn save_open(saved: &mut Saved, part: u64, rows: &OpenRows) -> Result
 
 // Puts in rows; the end of the session of each key that comes with them is looked at then.
 fn put_block(sessions: &mut Sessions, rows: &[HeldRow], at: Time) -> Result<(), Memory>
-    ensures rows { OnOk result ((w : HeldRow → ℕ) →
-        total w sessions.new.rows.rows ≡ total w sessions.old.rows.rows + total w rows.now) }
+    ensures rows { OnOk result (TakeIn sessions.old.rows.rows sessions.new.rows.rows rows.now) }
     ensures one { OnOk result
         (HasOne sessions.old.rows.key sessions.old.rows.rows sessions.old.ends →
         HasOne sessions.old.rows.key sessions.new.rows.rows sessions.new.ends) }
@@ -53,8 +53,8 @@ fn put_block(sessions: &mut Sessions, rows: &[HeldRow], at: Time) -> Result<(), 
 }
 
 fn put_rows(sessions: &mut Sessions, rows: &Synopsis, at: Time) -> Result<(), Memory>
-    ensures rows { OnOk result ((w : HeldRow → ℕ) →
-        total w sessions.new.rows.rows ≡ total w sessions.old.rows.rows + total w rows.now.rows) }
+    ensures rows { OnOk result
+        (TakeIn sessions.old.rows.rows sessions.new.rows.rows rows.now.rows) }
     ensures one { OnOk result
         (HasOne sessions.old.rows.key sessions.old.rows.rows sessions.old.ends →
         HasOne sessions.old.rows.key sessions.new.rows.rows sessions.new.ends) }

@@ -10,6 +10,7 @@ ghost use Rattle.edge_history.specs.Balance.{news};
 ghost use Rattle.edge_history.specs.Opens.{started_of, started_rows};
 ghost use Rattle.end_queue.specs.Pending.{Pending};
 ghost use Rattle.synopsis.specs.Held.{key_of, is_of_key};
+ghost use Rattle.sweep_laws.specs.Changes.{TakeIn, TakeAtMost};
 ghost use Rattle.sweep_laws.specs.Moves.{Adds, told_at};
 ghost use Rattle.sweep_laws.specs.Sweeps.{IsDue, Tells};
 ghost use Rattle.session_window.specs.Kept.{Await, Ends, waits_from, waits_below};
@@ -98,9 +99,8 @@ impl Sessions {
 
     // Puts in the row that an edge starts, and tells its start at t.
     fn start_one(&mut self, answer: &mut Vec<Edge>, t: Time, edge: &Edge) -> Result<(), Memory>
-        ensures rows { OnOk result ((w : HeldRow → ℕ) →
-            total w self.new.rows.rows ≡ total w self.old.rows.rows + total w
-            (started_of edge.now)) }
+        ensures rows { OnOk result
+            (TakeIn self.old.rows.rows self.new.rows.rows (started_of edge.now)) }
         ensures told { OnOk result (Adds answer.old.items answer.new.items
             (map (told_at true t) (started_of edge.now))) }
         ensures awaits { OnOk result
@@ -125,9 +125,8 @@ impl Sessions {
 
     // Puts in the rows that start at t, and tells their starts.
     fn start_all(&mut self, answer: &mut Vec<Edge>, t: Time, now: &[Edge]) -> Result<(), Memory>
-        ensures rows { OnOk result ((w : HeldRow → ℕ) →
-            total w self.new.rows.rows ≡ total w self.old.rows.rows + total w
-            (started_rows now.now)) }
+        ensures rows { OnOk result
+            (TakeIn self.old.rows.rows self.new.rows.rows (started_rows now.now)) }
         ensures told { OnOk result (Adds answer.old.items answer.new.items
             (map (told_at true t) (started_rows now.now))) }
         ensures awaits { OnOk result
@@ -195,9 +194,8 @@ impl Sessions {
             (suc t) self.new.rows.rows self.new.ends
             × Tells (windows self.old.rows.key self.old.timeout a) t
             (suc t) answer.old.items answer.new.items) }
-        ensures rows { OnOk result ((w : HeldRow → ℕ) →
-            total w self.new.rows.rows ≤ total w self.old.rows.rows + total w
-            (started_rows now.now)) }
+        ensures rows { OnOk result
+            (TakeAtMost self.old.rows.rows self.new.rows.rows (started_rows now.now)) }
         ensures like { IsLike self.old self.new }
     {
         self.end_due(answer, t)?;
@@ -229,9 +227,8 @@ impl Sessions {
             self.old.rows.rows self.old.ends → SessionHeld self.old.rows.key self.old.timeout a to
             self.new.rows.rows self.new.ends × Tells (windows self.old.rows.key self.old.timeout a)
             from to answer.old.items answer.new.items) }
-        ensures rows { OnOk result ((w : HeldRow → ℕ) →
-            total w self.new.rows.rows ≤ total w self.old.rows.rows + total w
-            (started_rows due.now)) }
+        ensures rows { OnOk result
+            (TakeAtMost self.old.rows.rows self.new.rows.rows (started_rows due.now)) }
         ensures like { IsLike self.old self.new }
     {
         // Its call tells the proof that it is a time.

@@ -4,3 +4,4 @@ pub mod Rounds
 pub mod Whole
 pub mod Saving
 pub mod Shards
+pub mod Together

@@ -91,7 +91,8 @@ impl<O: Operator> Sharded<O> {
         requires one { length self.old.operators ≡ 1 }
         ensures stepped { HasStepped (standing_in O.standing self.old)
             (standing_in O.standing self.new) (ShardsKeep O.standing O.keeps self.old)
-            (ShardsKeep O.standing O.keeps self.new) left.edges right.edges left_to right_to result }
+            (ShardsKeep O.standing O.keeps self.new)
+            left.edges right.edges left_to right_to result }
         ensures failed { (standing_in O.standing self.new).has_failed ≡ is_err result }
         ensures pools { pools.new.capacity ≡ pools.old.capacity }
         ensures limit { pools.new.limit ≡ pools.old.limit }

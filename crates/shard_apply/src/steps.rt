@@ -2,6 +2,7 @@
 ghost use Rattle.std.specs.Prelude.{◌≡◌, ◌≤◌, ◌<◌, true, false, is_some, length, map, All, IfNone, IfSome};
 ghost use Rattle.operator.specs.Standing.{IsLike};
 ghost use Rattle.shard_apply.specs.Rounds.{CanTakeAll, GoesOver};
+ghost use Rattle.shard_apply.specs.Together.{TakesRounds};
 ghost use Rattle.shard_apply.specs.Whole.{first_of, side_by_side, standing_in, AreInStep, ShardsKeep};
 ghost use Rattle.shard_apply.specs.Shards.{operators_of, rooms_of};
 
@@ -32,16 +33,10 @@ impl<O: Operator> Sharded<O> {
         requires works { (standing_in O.standing self.old).has_failed ≡ false }
         requires can { CanTakeAll
             (standing_in O.standing self.old) pools.old.capacity rounds.items }
-        ensures over { GoesOver (standing_in O.standing) (ShardsKeep O.standing O.keeps) self.old
-            self.new rounds.items result.answers.items result.fault }
-        ensures all { IfNone result.fault (length result.answers.items ≡ length rounds.items) }
-        ensures few { IfSome result.fault (λ fault.
-            length result.answers.items < length rounds.items) }
+        ensures taken { TakesRounds O.standing O.keeps self.old self.new rounds.items result }
         ensures pools { pools.new.capacity ≡ pools.old.capacity }
         ensures limit { pools.new.limit ≡ pools.old.limit }
-        ensures failed { (standing_in O.standing self.new).has_failed ≡ is_some result.fault }
         ensures like { IsLike (standing_in O.standing self.old) (standing_in O.standing self.new) }
-        ensures shards { length self.new.operators ≡ length self.old.operators }
     {
         if rounds.is_empty() {
             return Steps {
@@ -65,15 +60,9 @@ impl<O: Operator> Sharded<O> {
             (standing_in O.standing self.old) pools.old.capacity rounds.items }
         requires some { 1 ≤ length rounds.items }
         requires one { length self.old.operators ≡ 1 }
-        ensures over { GoesOver (standing_in O.standing) (ShardsKeep O.standing O.keeps) self.old
-            self.new rounds.items result.answers.items result.fault }
-        ensures all { IfNone result.fault (length result.answers.items ≡ length rounds.items) }
-        ensures few { IfSome result.fault (λ fault.
-            length result.answers.items < length rounds.items) }
+        ensures taken { TakesRounds O.standing O.keeps self.old self.new rounds.items result }
         ensures pools { pools.new.capacity ≡ pools.old.capacity }
         ensures limit { pools.new.limit ≡ pools.old.limit }
-        ensures failed { (standing_in O.standing self.new).has_failed ≡ is_some result.fault }
-        ensures shards { length self.new.operators ≡ length self.old.operators }
     {
         let Ok(mut answers) = Vec::with_capacity(self.alloc, rounds.len()) else {
             self.failed = true;
@@ -117,15 +106,9 @@ impl<O: Operator> Sharded<O> {
         requires works { (standing_in O.standing self.old).has_failed ≡ false }
         requires can { CanTakeAll (standing_in O.standing self.old) pools.old.capacity rounds.now }
         requires some { 1 ≤ length rounds.now }
-        ensures over { GoesOver (standing_in O.standing) (ShardsKeep O.standing O.keeps) self.old
-            self.new rounds.now result.answers.items result.fault }
-        ensures all { IfNone result.fault (length result.answers.items ≡ length rounds.now) }
-        ensures few { IfSome result.fault (λ fault.
-            length result.answers.items < length rounds.now) }
+        ensures taken { TakesRounds O.standing O.keeps self.old self.new rounds.now result }
         ensures pools { pools.new.capacity ≡ pools.old.capacity }
         ensures limit { pools.new.limit ≡ pools.old.limit }
-        ensures failed { (standing_in O.standing self.new).has_failed ≡ is_some result.fault }
-        ensures shards { length self.new.operators ≡ length self.old.operators }
     {
         self.failed = true;
         let cut = Cut {

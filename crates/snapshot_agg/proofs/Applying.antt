@@ -12,7 +12,7 @@ use Rattle.edge_history.specs.Opens.{ended_of, started_of, ended_rows, started_r
 use Rattle.sweep_laws.specs.Moves.{HoldsEnded}
 use Rattle.sweep_laws.specs.Grouping.{keys_of}
 use Rattle.sweep_laws.proofs.Adding.{ended_itself}
-use Rattle.snapshot_agg.specs.Changing.{TakeAtMost}
+use Rattle.sweep_laws.specs.Changes.{TakeAtMost}
 use Rattle.snapshot_agg.specs.Words.{key_data}
 
 -- an edge stands before those behind it

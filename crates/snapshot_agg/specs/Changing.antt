@@ -1,5 +1,5 @@
 -- How lists change, in whatever order.
-use Rattle.std.specs.Prelude.{◌≡◌, ℕ, ◌+◌, ◌≤◌, List}
+use Rattle.std.specs.Prelude.{◌≡◌, ℕ, ◌+◌, List}
 use Rattle.tw_rows.specs.Bag.{total}
 use Rattle.tw_rows.specs.declared.cells.Datum.{Datum}
 use Rattle.tw_rows.specs.declared.edge.HeldRow.{HeldRow}
@@ -7,14 +7,6 @@ use Rattle.tw_rows.specs.declared.edge.HeldRow.{HeldRow}
 -- the list has one item more, somewhere. With 4, the list 3, 5 becomes 3, 4, 5
 abbrev pub Gains : {X : Type 0} → List X → List X → X → Type 0
 Gains {X} old new x = (w : X → ℕ) → total w new ≡ total w old + w x
-
--- no item stands in it more often than before
-abbrev pub NoMore : {X : Type 0} → List X → List X → Type 0
-NoMore {X} old new = (w : X → ℕ) → total w new ≤ total w old
-
--- nor than before and among these items
-abbrev pub TakeAtMost : {X : Type 0} → List X → List X → List X → Type 0
-TakeAtMost {X} old new xs = (w : X → ℕ) → total w new ≤ total w old + total w xs
 
 -- items go from one list to the other at most. Of 3 and 5, 7 the 5 may go: 3, 5 and 7
 abbrev pub StayTogether : {X : Type 0} → List X → List X → List X → List X → Type 0

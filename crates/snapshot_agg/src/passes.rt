@@ -11,7 +11,7 @@ ghost use Rattle.sweep_laws.specs.Sweeps.{InOrder};
 ghost use Rattle.sweep_laws.specs.Moves.{HoldsEnded};
 ghost use Rattle.sweep_laws.specs.Running.{end_part, start_part, kept, begun_at, has_row};
 ghost use Rattle.sweep_laws.specs.Grouping.{keys_of, IsEarly};
-ghost use Rattle.snapshot_agg.specs.Changing.{NoMore, TakeAtMost};
+ghost use Rattle.sweep_laws.specs.Changes.{NoMore, TakeAtMost};
 ghost use Rattle.snapshot_agg.specs.Counting.{IsCounted, key_by, row_now, is_undefined_now};
 ghost use Rattle.snapshot_agg.specs.Totaled.{run_of, Reruns};
 ghost use Rattle.snapshot_agg.specs.Touching.{EndsOfKeys, StartsOfKeys, Touches};

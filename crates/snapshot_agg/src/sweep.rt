@@ -9,7 +9,7 @@ ghost use Rattle.edge_history.specs.Order.{failing, is_from, is_below, Rises};
 ghost use Rattle.edge_history.specs.Balance.{news};
 ghost use Rattle.edge_history.specs.Opens.{started_rows};
 ghost use Rattle.sweep_laws.specs.Sweeps.{HeadFrom, IsDue};
-ghost use Rattle.snapshot_agg.specs.Changing.{TakeAtMost};
+ghost use Rattle.sweep_laws.specs.Changes.{TakeAtMost};
 ghost use Rattle.snapshot_agg.specs.Counting.{IsCounted, AreSwept, Emits, AreDefined, IsUndefinedFirst, AreEmitted};
 ghost use Rattle.snapshot_agg.specs.Answering.{is_stored};
 

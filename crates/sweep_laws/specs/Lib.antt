@@ -1,6 +1,7 @@
 -- Callers read all of these. JoinReached, JoinKeeps, GroupReached and GroupKeeps are what an operator carries from instant to instant
 -- and from step to step.
 pub mod Sweeps
+pub mod Changes
 pub mod Moves
 pub mod Pairs
 pub mod Meeting

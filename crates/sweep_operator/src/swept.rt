@@ -27,8 +27,10 @@ pub struct Swept<S: Sweep> {
     pub(crate) left_to: Time,
     pub(crate) right_to: Time,
     pub(crate) failed: bool,
-    ghost columns: { HasColumns (S.node sweep) left_kinds.items right_kinds.items own_kinds.items capacity },
-    ghost fits: { failed ≡ false → ∥ S.fits (map cell_kind_of left_kinds.items) (map cell_kind_of right_kinds.items)
+    ghost columns: { HasColumns (S.node sweep)
+        left_kinds.items right_kinds.items own_kinds.items capacity },
+    ghost fits: { failed ≡ false → ∥ S.fits
+        (map cell_kind_of left_kinds.items) (map cell_kind_of right_kinds.items)
         (node_closes (S.node sweep) left_to right_to) sweep ∥₁ },
 }
 
@@ -89,8 +91,8 @@ impl<S: Sweep> Swept<S> {
         requires capacity { pools.old.capacity ≡ self.old.capacity }
         ensures kept { IfOk result (λ answer. StaysKept (standing self.old)
             (IsKept self.old) (IsKept self.new) left.edges right.edges answer.edges) }
-        ensures between { IfOk result (λ answer.
-            AnswersBetween (standing self.old) left.edges right.edges left_to right_to answer.edges) }
+        ensures between { IfOk result (λ answer. AnswersBetween (standing self.old)
+            left.edges right.edges left_to right_to answer.edges) }
         ensures kinds { IfOk result (λ answer. cells_of answer
             ≡ map cell_kind_of self.old.own_kinds.items) }
         ensures capacity { IfOk result (λ answer. answer.capacity ≡ self.old.capacity) }

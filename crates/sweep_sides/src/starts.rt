@@ -1,12 +1,12 @@
 // Starts that wait until they are due.
-ghost use Rattle.std.specs.Prelude.{◌≡◌, ◌+◌, ℕ, All, map, OnOk};
-ghost use Rattle.tw_rows.specs.Bag.{total};
+ghost use Rattle.std.specs.Prelude.{◌≡◌, All, map, OnOk};
 ghost use Rattle.tw_rows.specs.Cells.{datum_kind};
 ghost use Rattle.tw_rows.specs.declared.edge.Edge.{Edge};
 ghost use Rattle.edge_history.specs.Order.{KeepsOrder};
 ghost use Rattle.edge_stream.specs.Listing.{cells_of};
 ghost use Rattle.sweep_sides.specs.Waiting.{queued, AreTimed};
 ghost use Rattle.sweep_sides.specs.Starts.{start_in, starts_in};
+ghost use Rattle.sweep_laws.specs.Changes.{TakeIn};
 
 use crate::waiting::put;
 use edge_stream::EdgeList;
@@ -15,8 +15,7 @@ use tw_rows::{Edge, Memory, Time};
 
 // Puts the start that an edge tells of.
 fn put_start(queue: &mut EndQueue, edge: Edge) -> Result<(), Memory>
-    ensures put { OnOk result ((w : Edge → ℕ) →
-        total w (queued queue.new) ≡ total w (queued queue.old) + total w (start_in edge)) }
+    ensures put { OnOk result (TakeIn (queued queue.old) (queued queue.new) (start_in edge)) }
     ensures timed { OnOk result (AreTimed queue.old → AreTimed queue.new) }
 {
     if edge.is_end() {
@@ -33,9 +32,8 @@ fn put_start(queue: &mut EndQueue, edge: Edge) -> Result<(), Memory>
 
 /// Puts the starts that the edges of a list tell of to those that wait, each for its sync. Ends are let go.
 pub fn put_starts(queue: &mut EndQueue, edges: &EdgeList) -> Result<(), Memory>
-    ensures put { OnOk result ((w : Edge → ℕ) →
-        total w (queued queue.new) ≡ total w (queued queue.old) + total w
-        (starts_in edges.now.edges)) }
+    ensures put { OnOk result
+        (TakeIn (queued queue.old) (queued queue.new) (starts_in edges.now.edges)) }
     ensures timed { OnOk result (AreTimed queue.old → AreTimed queue.new) }
     ensures order { KeepsOrder edges.now.edges }
     ensures cells { OnOk result (All (λ e. map datum_kind e.cells

@@ -7,6 +7,7 @@ ghost use Rattle.edge_history.specs.Order.{failing, is_below, is_from, KeepsOrde
 ghost use Rattle.edge_history.specs.Balance.{is_single as single};
 ghost use Rattle.edge_history.specs.Opens.{singles, singles_of};
 ghost use Rattle.edge_stream.specs.Listing.{cells_of};
+ghost use Rattle.sweep_laws.specs.Changes.{TakeIn};
 ghost use Rattle.sweep_laws.specs.Sweeps.{SyncsRise};
 ghost use Rattle.sweep_sides.specs.Waiting.{queued, AreTimed};
 
@@ -35,8 +36,7 @@ pub(crate) fn put(queue: &mut EndQueue, edge: Edge) -> Result<(), Memory>
 // Puts an edge: of an interval its start and its end.
 #[inline(never)]
 pub(crate) fn put_singles(queue: &mut EndQueue, edge: Edge) -> Result<(), Memory>
-    ensures put { OnOk result ((w : Edge → ℕ) →
-        total w (queued queue.new) ≡ total w (queued queue.old) + total w (singles_of edge)) }
+    ensures put { OnOk result (TakeIn (queued queue.old) (queued queue.new) (singles_of edge)) }
     ensures timed { OnOk result (AreTimed queue.old → AreTimed queue.new) }
 {
     if is_single(&edge) {
@@ -60,9 +60,8 @@ pub(crate) fn put_singles(queue: &mut EndQueue, edge: Edge) -> Result<(), Memory
 
 /// Puts the edges of a list to those that wait, each for its sync.
 pub fn put_all(queue: &mut EndQueue, edges: &EdgeList) -> Result<(), Memory>
-    ensures put { OnOk result ((w : Edge → ℕ) →
-        total w (queued queue.new) ≡ total w (queued queue.old) + total w
-        (singles edges.now.edges)) }
+    ensures put { OnOk result
+        (TakeIn (queued queue.old) (queued queue.new) (singles edges.now.edges)) }
     ensures timed { OnOk result (AreTimed queue.old → AreTimed queue.new) }
     ensures order { KeepsOrder edges.now.edges }
     ensures cells { OnOk result (All (λ e. map datum_kind e.cells

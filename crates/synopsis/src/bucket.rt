@@ -98,7 +98,8 @@ impl Model for Bucket {
 impl Bucket {
     /// A row alone, in the memory of a list.
     pub fn of_one(mut rows: Vec<HeldRow>, cells: Cells, start: Time) -> Result<Bucket, Memory>
-        ensures { IfOk result (λ b. b ≡ rows.items ++ record { cells = cells; start = start } ∷ []) }
+        ensures { IfOk result (λ b.
+            b ≡ rows.items ++ record { cells = cells; start = start } ∷ []) }
     {
         rows.push(HeldRow { cells, start })?;
         Ok(Bucket { rows, marks: None })

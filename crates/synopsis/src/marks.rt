@@ -33,7 +33,10 @@ impl Model for Marks {
 
     ghost Value = { MarkCount };
 
-    ghost view = { λ m. record { places = index_set_len m.marks; hashes = index_map_len m.counts } };
+    ghost view = { λ m. record {
+      places = index_set_len m.marks;
+      hashes = index_map_len m.counts;
+    } };
 }
 
 impl Marks {

@@ -19,3 +19,4 @@ pub mod Jobs
 pub mod Summed
 pub mod Halting
 pub mod Sending
+pub mod Held

@@ -1,5 +1,5 @@
 -- Callers read Answers, Told, Table, Resumed, Freezing, Restoring, Summing, Jobs and Status. Only private contracts cite Feeding, Working,
--- Sampled, Restored and Halting.
+-- Holding, Sampled, Restored and Halting.
 pub mod Answers
 pub mod Told
 pub mod Table
@@ -11,6 +11,7 @@ pub mod Status
 pub mod Jobs
 pub mod Feeding
 pub mod Working
+pub mod Holding
 pub mod Sampled
 pub mod Restored
 pub mod Halting

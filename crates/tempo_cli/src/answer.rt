@@ -10,6 +10,7 @@ ghost use Rattle.tempo_cli.specs.Working.{AfterGiven, GivesOn, GivesOut, Whateve
 ghost use Rattle.tempo_cli.specs.Halting.{StaysOpen};
 
 use crate::answering::{Answering, LIMIT, Step};
+use crate::holding::hold;
 use crate::status::Status;
 use plan_model::Plan;
 use shard_apply::Gate;
@@ -28,7 +29,7 @@ pub(crate) fn asked(left: u64) -> usize
     left.min(PIECE as u64) as usize
 }
 
-// Works through all whole lines that came in, and writes what is due for each before the next.
+// Works through all whole lines that came in, and writes what is due for them.
 pub(crate) fn work<R: Threads + Sync, W: Wire, G: Gate>(
     rt: &R,
     answering: &mut Answering,
@@ -52,11 +53,18 @@ pub(crate) fn work<R: Threads + Sync, W: Wire, G: Gate>(
     ensures counts { IfErr result (Counts (W.read_faults wire.old) (W.read_faults wire.new)
         (W.write_faults wire.old) (W.write_faults wire.new)) }
 {
+    let mut held = Vec::new(answering.alloc);
     loop {
         match answering.next_step(rt, gate) {
-            Step::More => return Ok(()),
-            Step::Stop(status) => return Err(status),
-            Step::Out(out) => send(wire, &out)?,
+            Step::More => {
+                send(wire, &held)?;
+                return Ok(());
+            }
+            Step::Stop(status) => {
+                send(wire, &held)?;
+                return Err(status);
+            }
+            Step::Out(out) => hold(wire, &mut held, &out)?,
         }
     }
 }
@@ -85,8 +93,8 @@ fn end<R: Threads + Sync, W: Wire, G: Gate>(
     Ok(())
 }
 
-// Reads the input to its end, so many bytes at most, and writes what is answered as it becomes due. A last line that no LF ends
-// is still to be taken.
+// Reads the input to its end, so many bytes at most, and writes before each read what is due. A last line that no LF ends is still
+// to be taken.
 pub(crate) fn read_on<R: Threads + Sync, W: Wire, G: Gate>(
     rt: &R,
     answering: &mut Answering,

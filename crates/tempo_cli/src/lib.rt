@@ -5,6 +5,7 @@
 mod answer;
 mod answering;
 mod freezing;
+mod holding;
 mod laws;
 mod notes;
 mod resuming;

@@ -37,7 +37,7 @@ use Rattle.ingress.specs.declared.ingress.Ingress.{Ingress}
 use Rattle.batch.specs.PoolsView.{PoolsView}
 use Rattle.dataflow.specs.Flows.{DataflowView, CanStep, StepsOn, Flows, HasFlowed}
 use Rattle.dataflow.specs.Below.{CanStepBelow, FlowsBelow}
-use Rattle.dataflow.specs.Lists.{longer}
+use Rattle.edge_stream.specs.Lists.{longer}
 use Rattle.dataflow.specs.Stages.{reached}
 use Rattle.dataflow.proofs.Growing.{can_longer, flows_longer}
 use Rattle.dataflow.proofs.Stepping.{reached_after}

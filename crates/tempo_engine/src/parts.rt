@@ -142,7 +142,10 @@ impl Parts {
             Ok(cells) => cells,
             Err(Memory) => return Err(EngineFault::Memory),
         };
-        match self.ingress.admit_cells(said, cells, &self.texts, &mut self.pools) {
+        match self
+            .ingress
+            .admit_cells(said, cells, &self.texts, &mut self.pools)
+        {
             Ok(_) => Ok(()),
             Err(refusal) => Err(EngineFault::of_refusal(number, &refusal)),
         }

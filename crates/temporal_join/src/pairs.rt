@@ -1,10 +1,10 @@
 // The pairs of the rows of two sides.
-ghost use Rattle.std.specs.Prelude.{◌≡◌, ◌+◌, ◌≤◌, ◌++◌, ◌∷◌, [], ℕ, max, map, true, false, cond, OnOk, IfOk};
-ghost use Rattle.tw_rows.specs.Bag.{total};
+ghost use Rattle.std.specs.Prelude.{◌≡◌, ◌++◌, ◌∷◌, [], max, map, true, false, cond, OnOk, IfOk};
 ghost use Rattle.tw_rows.specs.Instant.{inf};
 ghost use Rattle.tw_rows.specs.declared.edge.HeldRow.{HeldRow};
 ghost use Rattle.edge_history.specs.Opens.{ended_of, started_of, ended_rows, started_rows};
 ghost use Rattle.plan_model.specs.Keys.{paired_row};
+ghost use Rattle.sweep_laws.specs.Changes.{TakeIn, GiveUp, NoMore};
 ghost use Rattle.sweep_laws.specs.Moves.{Adds, told_at, HoldsEnded};
 ghost use Rattle.synopsis.specs.Held.{key_of as key_data, cell_or_zero};
 
@@ -155,10 +155,9 @@ impl<'a> Pairing<'a> {
         answer: &mut Vec<Edge>,
         edge: &Edge,
     ) -> Result<(), Memory>
-        ensures ended { OnOk result (HoldsEnded edge.now rows.old.rows → (w : HeldRow → ℕ) →
-            total w rows.old.rows ≡ total w rows.new.rows + total w (ended_of edge.now)) }
-        ensures fewer { OnOk result ((w : HeldRow → ℕ) →
-            total w rows.new.rows ≤ total w rows.old.rows) }
+        ensures ended { OnOk result (HoldsEnded edge.now rows.old.rows →
+            GiveUp rows.old.rows rows.new.rows (ended_of edge.now)) }
+        ensures fewer { OnOk result (NoMore rows.old.rows rows.new.rows) }
         ensures told { OnOk result (others.now.key ≡ other_key self.now →
             HoldsEnded edge.now rows.old.rows → Adds answer.old.items answer.new.items
             (told_pairs self.now false (ended_of edge.now) others.now.rows)) }
@@ -184,15 +183,12 @@ impl<'a> Pairing<'a> {
         answer: &mut Vec<Edge>,
         now: &[Edge],
     ) -> Result<(), Memory>
-        ensures ended { OnOk result (((w : HeldRow → ℕ) →
-            total w (ended_rows now.now) ≤ total w rows.old.rows) → (w : HeldRow → ℕ) →
-            total w rows.old.rows ≡ total w rows.new.rows + total w (ended_rows now.now)) }
-        ensures fewer { OnOk result ((w : HeldRow → ℕ) →
-            total w rows.new.rows ≤ total w rows.old.rows) }
+        ensures ended { OnOk result (NoMore rows.old.rows (ended_rows now.now) →
+            GiveUp rows.old.rows rows.new.rows (ended_rows now.now)) }
+        ensures fewer { OnOk result (NoMore rows.old.rows rows.new.rows) }
         ensures told { OnOk result (others.now.key ≡ other_key self.now →
-            ((w : HeldRow → ℕ) → total w (ended_rows now.now) ≤ total w rows.old.rows) →
-            Adds answer.old.items answer.new.items (told_pairs self.now false
-            (ended_rows now.now) others.now.rows)) }
+            NoMore rows.old.rows (ended_rows now.now) → Adds answer.old.items answer.new.items
+            (told_pairs self.now false (ended_rows now.now) others.now.rows)) }
         ensures key { rows.new.key ≡ rows.old.key }
     {
         for edge in now {
@@ -210,8 +206,7 @@ impl<'a> Pairing<'a> {
         answer: &mut Vec<Edge>,
         edge: &mut Edge,
     ) -> Result<(), Memory>
-        ensures started { OnOk result ((w : HeldRow → ℕ) →
-            total w rows.new.rows ≡ total w rows.old.rows + total w (started_of edge.old)) }
+        ensures started { OnOk result (TakeIn rows.old.rows rows.new.rows (started_of edge.old)) }
         ensures told { OnOk result (TellsPairs self.now others.now true
             (started_of edge.old) answer.old.items answer.new.items) }
         ensures key { rows.new.key ≡ rows.old.key }
@@ -234,8 +229,7 @@ impl<'a> Pairing<'a> {
         answer: &mut Vec<Edge>,
         now: &mut [Edge],
     ) -> Result<(), Memory>
-        ensures started { OnOk result ((w : HeldRow → ℕ) →
-            total w rows.new.rows ≡ total w rows.old.rows + total w (started_rows now.old)) }
+        ensures started { OnOk result (TakeIn rows.old.rows rows.new.rows (started_rows now.old)) }
         ensures told { OnOk result (TellsPairs self.now others.now true
             (started_rows now.old) answer.old.items answer.new.items) }
         ensures key { rows.new.key ≡ rows.old.key }

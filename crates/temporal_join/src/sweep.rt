@@ -1,12 +1,12 @@
 // The sweep over the instants of what is due on both sides.
-ghost use Rattle.std.specs.Prelude.{◌≡◌, ◌+◌, ◌<◌, ◌≤◌, ℕ, suc, List, OnOk};
-ghost use Rattle.tw_rows.specs.Bag.{SameBag, total};
+ghost use Rattle.std.specs.Prelude.{◌≡◌, ◌+◌, ◌<◌, ℕ, suc, List, OnOk};
+ghost use Rattle.tw_rows.specs.Bag.{SameBag};
 ghost use Rattle.tw_rows.specs.Event.{AreEvents};
 ghost use Rattle.tw_rows.specs.Instant.{inf};
 ghost use Rattle.edge_history.specs.History.{CellEvent};
 ghost use Rattle.edge_history.specs.Balance.{news};
 ghost use Rattle.edge_history.specs.Opens.{started_rows};
-ghost use Rattle.tw_rows.specs.declared.edge.HeldRow.{HeldRow};
+ghost use Rattle.sweep_laws.specs.Changes.{TakeAtMost};
 ghost use Rattle.sweep_laws.specs.Sweeps.{IsDue, Tells};
 ghost use Rattle.sweep_laws.specs.Pairs.{Held};
 ghost use Rattle.temporal_join.specs.Joined.{joins};
@@ -45,11 +45,10 @@ impl Rows {
             Held a b (suc t) self.new.left.rows self.new.right.rows
             × Tells (joins self.old.left_key.items self.old.right_key.items a b) t
             (suc t) answer.old.items answer.new.items) }
-        ensures left_rows { OnOk result ((w : HeldRow → ℕ) →
-            total w self.new.left.rows ≤ total w self.old.left.rows + total w
-            (started_rows now_left.old)) }
-        ensures right_rows { OnOk result ((w : HeldRow → ℕ) → total w self.new.right.rows
-            ≤ total w self.old.right.rows + total w (started_rows now_right.old)) }
+        ensures left_rows { OnOk result
+            (TakeAtMost self.old.left.rows self.new.left.rows (started_rows now_left.old)) }
+        ensures right_rows { OnOk result
+            (TakeAtMost self.old.right.rows self.new.right.rows (started_rows now_right.old)) }
         ensures keys { SameKeys self.old self.new }
     {
         let left = Pairing {
@@ -86,11 +85,10 @@ impl Rows {
             Held a b to self.new.left.rows self.new.right.rows
             × Tells (joins self.old.left_key.items self.old.right_key.items a b) from to
             answer.old.items answer.new.items) }
-        ensures left_rows { OnOk result ((w : HeldRow → ℕ) →
-            total w self.new.left.rows ≤ total w self.old.left.rows + total w
-            (started_rows left_due.old)) }
-        ensures right_rows { OnOk result ((w : HeldRow → ℕ) → total w self.new.right.rows
-            ≤ total w self.old.right.rows + total w (started_rows right_due.old)) }
+        ensures left_rows { OnOk result
+            (TakeAtMost self.old.left.rows self.new.left.rows (started_rows left_due.old)) }
+        ensures right_rows { OnOk result
+            (TakeAtMost self.old.right.rows self.new.right.rows (started_rows right_due.old)) }
         ensures keys { SameKeys self.old self.new }
     {
         let mut i = 0;

@@ -1,6 +1,7 @@
 // The operator of a Union.
 ghost use Rattle.std.specs.Prelude.{◌≡◌, ◌≤◌, min, false, [], length, IfOk};
 ghost use Rattle.edge_history.specs.Order.{failing, is_from};
+ghost use Rattle.edge_stream.specs.Lists.{no_edges};
 ghost use Rattle.edge_stream.specs.Listing.{cells_of};
 
 use edge_stream::EdgeList;
@@ -28,8 +29,7 @@ impl Union {
     pub fn new(alloc: Global, kinds: &[Kind], capacity: usize) -> Result<Union, Memory>
         requires width { length kinds.now ≤ 32 }
         requires room { 1 ≤ capacity }
-        ensures left { IfOk result (λ o. o.left
-            ≡ record { edges = []; kinds = kinds.now; capacity = capacity; batches = 0; room = 0 }) }
+        ensures left { IfOk result (λ o. o.left ≡ no_edges kinds.now capacity) }
         ensures right { IfOk result (λ o. o.right ≡ o.left) }
         ensures times { IfOk result (λ o. (o.left_to ≡ 0) × (o.right_to ≡ 0)) }
         ensures works { IfOk result (λ o. o.failed ≡ false) }

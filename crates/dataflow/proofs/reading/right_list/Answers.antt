@@ -3,6 +3,7 @@ use Rattle.std.specs.Prelude.{◌≢◌, ◌⊎◌, true, Some, slice_get, get_o
 use Rattle.std.proofs.lemmas.Result.{IfOk-weaker}
 use Rattle.tw_rows.specs.declared.edge.Edge.{Edge}
 use Rattle.edge_stream.specs.Listing.{EdgeListView}
+use Rattle.edge_stream.specs.Lists.{no_edges}
 use Rattle.plan_model.specs.declared.node.Node.{Node}
 use Rattle.plan_model.specs.Shape.{HasLower, right_of}
 use Rattle.plan_model.proofs.Kept.{node_at}
@@ -59,7 +60,7 @@ returns-in-None-clause-list c =
     let plan = c.args.plan.now in
     let old = c.args.made.now.items in
     let at = node_at plan _ c.args.i _ c.nodes-nodes.ensures.kept c.nodes-nodes.ensures.nodes c.requires.node c.index-nodes-i.is in
-    IfOk-weaker c.new.result (λ (l : EdgeListView). l ≡ record { edges = []; kinds = []; capacity = c.capacity.result; batches = 0; room = 0 })
+    IfOk-weaker c.new.result (λ (l : EdgeListView). l ≡ no_edges [] c.capacity.result)
     (λ (l : EdgeListView). (texts : List (List ℕ)) (given more : ℕ → List Edge) (streams : List EdgeListView) (n : Node) → HeldBetween texts c.args.pools.now.capacity plan c.args.i given more streams old → slice_get plan.nodes c.args.i ≡ Some n → IsListWith texts c.args.pools.now.capacity (right_kinds plan n) (right_of [] more n) l)
-    (λ l h texts given more streams n held there. right_no_list texts c.args.pools.now.capacity plan c.args.i c.index-nodes-i.result at given more streams old n there l (sym c.right_child.ensures ∙ c.in-None.is) (h ∙ ap (λ m. record { edges = []; kinds = []; capacity = m; batches = 0; room = 0 }) c.capacity.ensures))
+    (λ l h texts given more streams n held there. right_no_list texts c.args.pools.now.capacity plan c.args.i c.index-nodes-i.result at given more streams old n there l (sym c.right_child.ensures ∙ c.in-None.is) (h ∙ ap (no_edges []) c.capacity.ensures))
     c.new.ensures

@@ -1,7 +1,8 @@
 use Rattle.std.proofs.Common.{◌∙◌, length, ap, sym, subst, arith}
 use Rattle.std.specs.Prelude.{get_or}
 use Rattle.plan_model.specs.IsPlan.{kinds_at}
-use Rattle.dataflow.specs.Lists.{edges_at, IsListOf}
+use Rattle.edge_stream.specs.Lists.{edges_at}
+use Rattle.dataflow.specs.Lists.{IsListOf}
 use Rattle.dataflow.specs.Below.{MayStepBelow, GivesBelow, StepsBelow, StopsUnder, OverflowsUnder}
 use Rattle.dataflow.specs.Flows.{parts_of}
 use Rattle.dataflow.proofs.Below.{may_all, steps_whole, gives_whole, stops_whole, overflows_whole}

@@ -2,7 +2,7 @@ use Rattle.std.proofs.Common.{◌≡◌, ◌<◌, ◌∙◌, [], length, refl, a
 use Rattle.std.specs.Prelude.{◌+◌, Some, slice_set}
 use Rattle.std.proofs.lemmas.List.{length_push, get_or-set_other, length-set}
 use Rattle.node_laws.specs.Places.{EdgesArePlaced}
-use Rattle.dataflow.specs.Lists.{edges_at}
+use Rattle.edge_stream.specs.Lists.{edges_at}
 use Rattle.dataflow.specs.Flows.{parts_of}
 use Rattle.dataflow.specs.Below.{StopsUnder}
 use Rattle.dataflow.specs.Held.{HeldBefore}

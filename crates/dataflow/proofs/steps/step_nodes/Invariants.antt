@@ -7,7 +7,8 @@ use Rattle.plan_model.specs.Meaning.{Sources}
 use Rattle.node_laws.specs.Places.{AreDistinct}
 use Rattle.node_laws.specs.Standing.{SourcesStandRead}
 use Rattle.dataflow.specs.declared.stage.Stage.{Stage}
-use Rattle.dataflow.specs.Lists.{edges_at, longer, AreFrom}
+use Rattle.edge_stream.specs.Lists.{edges_at, longer}
+use Rattle.dataflow.specs.Lists.{AreFrom}
 use Rattle.dataflow.specs.Stages.{left_closing, right_closing, left_kinds, right_kinds, IsReady}
 use Rattle.dataflow.specs.Shards.{RunAll}
 use Rattle.dataflow.specs.Flows.{parts_of}

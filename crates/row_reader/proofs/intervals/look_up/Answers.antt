@@ -1,5 +1,5 @@
-use Rattle.std.proofs.Common.{ap, sym, ◌∙◌}
-use Rattle.std.specs.Prelude.{slice_get, Some}
+use Rattle.std.proofs.Common.{ap, ◌∙◌}
+use Rattle.std.specs.Prelude.{Some}
 use Rattle.row_reader.proofs.OnePass.{known_text}
 use Rattle.row_reader.proofs.intervals.look_up.Goals as goal
 

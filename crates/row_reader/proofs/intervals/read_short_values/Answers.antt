@@ -1,4 +1,4 @@
-use Rattle.std.proofs.Common.{◌≡◌, ◌+◌, Some, length, drop, refl, ap, subst, sym, ◌∙◌, arith}
+use Rattle.std.proofs.Common.{◌≡◌, true, Some, length, drop, refl, ap, subst, sym, ◌∙◌, arith}
 use Rattle.csv.specs.Records.{AllText}
 use Rattle.tw_rows.specs.declared.schema.ColumnDef.{ColumnDef}
 use Rattle.row_reader.specs.Fields.{left}
@@ -49,3 +49,6 @@ pub returns-in-None-clause-read : goal.returns-in-None-clause-read
 returns-in-None-clause-read c =
     let none = ap (λ r. left (Plain r)) c.in-None.is in
     values_read c.args.columns.now _ _ (omega (arith, c.loop-i.invariant.many, ap (λ l. length l) none, c.loop-i.auto.i-end, c.loop-i-test.false)) (AreRead-end _ _ _ c.loop-i.i _ c.loop-i.invariant.read c.loop-i-test.false)
+
+pub returns-in-None-clause-known : goal.returns-in-None-clause-known
+returns-in-None-clause-known c = λ e. let known : c.loop-i.known ≡ true = cc in c.loop-i.invariant.are_known known

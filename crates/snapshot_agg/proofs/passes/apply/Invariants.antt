@@ -7,7 +7,7 @@ use Rattle.tw_rows.specs.declared.cells.Datum.{Datum}
 use Rattle.edge_history.specs.Opens.{ended_rows, started_rows}
 use Rattle.sweep_laws.specs.Grouping.{keys_of}
 use Rattle.snapshot_agg.specs.Words.{key_data}
-use Rattle.snapshot_agg.specs.Changing.{TakeAtMost}
+use Rattle.sweep_laws.specs.Changes.{TakeAtMost}
 use Rattle.snapshot_agg.specs.Counting.{IsCounted}
 use Rattle.snapshot_agg.proofs.passes.apply.Given as goal
 

@@ -2,7 +2,8 @@ use Rattle.std.proofs.Common.{◌≡◌, ◌∙◌, ℕ, ap, sym, subst}
 use Rattle.std.specs.Prelude.{IfOk, IfErr, OnOk}
 use Rattle.node_laws.specs.Places.{EdgesArePlaced}
 use Rattle.dataflow.specs.declared.fault.PlanFault.TheVariants.{Overflow}
-use Rattle.dataflow.specs.Lists.{edges_at, AreOfStreams}
+use Rattle.edge_stream.specs.Lists.{edges_at}
+use Rattle.dataflow.specs.Lists.{AreOfStreams}
 use Rattle.dataflow.specs.Below.{StopsAt}
 use Rattle.dataflow.specs.Flows.{DataflowView, MayStep, StepsOn, GivesOn, OverflowsAt, parts_of}
 use Rattle.dataflow.proofs.Workers.{with_workers, may_with, all_step, all_give, all_overflow, all_stop, all_views}

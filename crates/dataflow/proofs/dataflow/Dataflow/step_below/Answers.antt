@@ -2,7 +2,8 @@ use Rattle.std.proofs.Common.{◌≡◌, ◌≤◌, ◌∙◌, ℕ, length, ap, 
 use Rattle.std.specs.Prelude.{Result, Ok, Err, IfOk, IfErr}
 use Rattle.node_laws.specs.Places.{EdgesArePlaced}
 use Rattle.dataflow.specs.declared.fault.PlanFault.TheVariants.{Overflow}
-use Rattle.dataflow.specs.Lists.{edges_at, AreOfStreams}
+use Rattle.edge_stream.specs.Lists.{edges_at}
+use Rattle.dataflow.specs.Lists.{AreOfStreams}
 use Rattle.dataflow.specs.Flows.{DataflowView, parts_of}
 use Rattle.dataflow.specs.Below.{MayStepBelow, UnderNone, OverflowsUnder, GivesBelow}
 use Rattle.dataflow.proofs.Below.{may_parts}

@@ -80,8 +80,8 @@ loop-round-preserved g c =
       limit = c.step_alone.ensures.limit ∙ inv.limit;
     }
 
-pub returns-in-Err-clause-over : goal.returns-in-Err-clause-over
-returns-in-Err-clause-over g c =
+pub returns-in-Err-clause-taken : goal.returns-in-Err-clause-taken
+returns-in-Err-clause-taken g c =
     let standing = standing_in g.O.Operator.standing in
     let keeps = ShardsKeep g.O.Operator.standing g.O.Operator.keeps in
     let step = TakesRound standing keeps in
@@ -95,19 +95,32 @@ returns-in-Err-clause-over g c =
     let low : k < length rounds = omega (arith, inv.few, cases.1) in
     let all : List Answer = map Ok lists ++ Err c.in-Err.fault ∷ [] in
     let more : k + 1 ≡ length all = sym (length_push (map ok lists) (Err c.in-Err.fault) ∙ ap (λ m. m + 1) (length-map lists ok)) in
-    subst (λ m. LeadsOver step c.args.self.now c.step_alone.new.self (take m rounds) all) more
-    (leads_on (standing c.args.self.now) rounds k x low (next_of rounds k x _ low (sym cases.0 ∙ inv.rest)) step c.args.self.now c.loop-round.self c.step_alone.new.self (map Ok lists) all (Err c.in-Err.fault)
-    inv.leads (length-map lists ok) refl (subst (λ r. step c.loop-round.self c.step_alone.new.self x r) c.in-Err.is c.step_alone.ensures.stepped))
+    record {
+      over = subst (λ m. LeadsOver step c.args.self.now c.step_alone.new.self (take m rounds) all) more
+          (leads_on (standing c.args.self.now) rounds k x low (next_of rounds k x _ low (sym cases.0 ∙ inv.rest)) step c.args.self.now c.loop-round.self c.step_alone.new.self (map Ok lists) all (Err c.in-Err.fault)
+          inv.leads (length-map lists ok) refl (subst (λ r. step c.loop-round.self c.step_alone.new.self x r) c.in-Err.is c.step_alone.ensures.stepped));
+      all = tt;
+      few = low;
+      failed = c.step_alone.ensures.failed ∙ ap is_err c.in-Err.is;
+      shards = c.step_alone.ensures.shards ∙ inv.one ∙ sym c.requires.one;
+    }
 
-pub returns-clause-over : goal.returns-clause-over
-returns-clause-over g c =
+pub returns-clause-taken : goal.returns-clause-taken
+returns-clause-taken g c =
     let ok : EdgeListView → Answer = λ l. Ok l in
     let lists = c.loop-round.answers.items in
-    subst (λ m. LeadsOver (TakesRound (standing_in g.O.Operator.standing) (ShardsKeep g.O.Operator.standing g.O.Operator.keeps)) c.args.self.now c.loop-round.self (take m c.args.rounds.items) (map Ok lists))
-    (sym (length-map lists ok)) c.loop-round.invariant.leads
+    let inv = c.loop-round.invariant in
+    record {
+      over = subst (λ m. LeadsOver (TakesRound (standing_in g.O.Operator.standing) (ShardsKeep g.O.Operator.standing g.O.Operator.keeps)) c.args.self.now c.loop-round.self (take m c.args.rounds.items) (map Ok lists))
+          (sym (length-map lists ok)) inv.leads;
+      all = omega arith;
+      few = tt;
+      failed = inv.works;
+      shards = inv.one ∙ sym c.requires.one;
+    }
 
-pub returns-in_default-clause-over : goal.returns-in_default-clause-over
-returns-in_default-clause-over g c =
+pub returns-in_default-clause-taken : goal.returns-in_default-clause-taken
+returns-in_default-clause-taken g c =
     let standing = standing_in g.O.Operator.standing in
     let keeps = ShardsKeep g.O.Operator.standing g.O.Operator.keeps in
     let step = TakesRound standing keeps in
@@ -118,8 +131,14 @@ returns-in_default-clause-over g c =
     let rounds = c.args.rounds.items in
     let like : IsLike (standing w) (standing now) = subst (λ v. IsLike (standing v) (standing now)) c.self.view_is
     (record { node = refl; left_kinds = refl; right_kinds = refl; own_kinds = refl; batch_rows = refl }) in
-    subst (λ (ls : List EdgeListView). LeadsOver step w now (take (length (told ls (Some Memory))) rounds) (told ls (Some Memory))) (sym c.new.ensures.items)
-    (with_item rounds c.requires.some (λ r.
-    let x = get_or rounds 0 r in
-    leads_on (standing w) rounds 0 x c.requires.some (get_or_same rounds 0 r x c.requires.some) step w w now [] (Err Memory ∷ []) (Err Memory) (no_rounds step w) refl refl
-    (wants_memory (standing w) (standing now) (keeps w) (keeps now) x.left.edges x.right.edges x.left_to x.right_to like)))
+    record {
+      over = subst (λ (ls : List EdgeListView). LeadsOver step w now (take (length (told ls (Some Memory))) rounds) (told ls (Some Memory))) (sym c.new.ensures.items)
+          (with_item rounds c.requires.some (λ r.
+          let x = get_or rounds 0 r in
+          leads_on (standing w) rounds 0 x c.requires.some (get_or_same rounds 0 r x c.requires.some) step w w now [] (Err Memory ∷ []) (Err Memory) (no_rounds step w) refl refl
+          (wants_memory (standing w) (standing now) (keeps w) (keeps now) x.left.edges x.right.edges x.left_to x.right_to like)));
+      all = tt;
+      few = omega (arith, ap length c.new.ensures.items, c.requires.some);
+      failed = refl;
+      shards = ap (λ v. length v.operators) c.self.view_is;
+    }

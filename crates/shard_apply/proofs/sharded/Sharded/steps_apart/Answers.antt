@@ -38,8 +38,8 @@ steps_together-steps-requires-clause-capacities g c κs within k d low =
     ∙ ap (λ w. (standing_in standing w).batch_rows) view
     ∙ sym own
 
-pub returns-clause-over : goal.returns-clause-over
-returns-clause-over g c =
+pub returns-clause-taken : goal.returns-clause-taken
+returns-clause-taken g c =
     let standing = g.O.Operator.standing in
     let keeps = g.O.Operator.keeps in
     let inside = c.self.inside in
@@ -52,10 +52,17 @@ returns-clause-over g c =
     let left_key = c.deref.ensures.value in
     let right_key = c.deref-2.ensures.value in
     let failed = sym c.is_some-self-inside.ensures in
-    leads_moved (TakesRound (standing_in standing) (ShardsKeep standing keeps)) _ _ _ _ _ _
-    ((λ i. side_by_side (map operator (value i)) (left_key i) (right_key i) false) ∙ ap (side_by_side (map operator inside.shards.items) inside.left_key.items inside.right_key.items) (sym works) ∙ view)
-    (whole_named (map operator now) _ _ _ _ _ _ _ (ap (map operator) (sym (written_back inside.shards.len now _ long))) left_key right_key failed)
-    c.steps_together-steps.ensures.over
+    record {
+      over = leads_moved (TakesRound (standing_in standing) (ShardsKeep standing keeps)) _ _ _ _ _ _
+          ((λ i. side_by_side (map operator (value i)) (left_key i) (right_key i) false) ∙ ap (side_by_side (map operator inside.shards.items) inside.left_key.items inside.right_key.items) (sym works) ∙ view)
+          (whole_named (map operator now) _ _ _ _ _ _ _ (ap (map operator) (sym (written_back inside.shards.len now _ long))) left_key right_key failed)
+          c.steps_together-steps.ensures.over;
+      all = c.steps_together-steps.ensures.all;
+      few = c.steps_together-steps.ensures.few;
+      failed = c.is_some-self-inside.ensures;
+      shards = length-map _ operator ∙ ap length (written_back inside.shards.len now _ long) ∙ c.steps_together-steps.auto.shards ∙ ap length value
+          ∙ sym (length-map inside.shards.items operator) ∙ ap (λ w. length w.operators) view;
+    }
 
 pub invariant_of-self : goal.invariant_of-self
 invariant_of-self g c =

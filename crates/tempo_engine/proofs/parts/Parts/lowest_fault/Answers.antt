@@ -4,7 +4,7 @@ use Rattle.plan_model.proofs.Kept.{IsPlan-ordered}
 use Rattle.plan_laws.specs.Undefined.{overflow}
 use Rattle.node_laws.specs.Standing.{SourcesStandRead}
 use Rattle.admission.specs.Admission.{rows}
-use Rattle.dataflow.specs.Lists.{edges_at, longer}
+use Rattle.edge_stream.specs.Lists.{edges_at, longer}
 use Rattle.dataflow.specs.Below.{FlowsBelow}
 use Rattle.dataflow.specs.Slices.{overflow_under, or_this}
 use Rattle.ingress.proofs.Reading.{follows_stand}

@@ -12,7 +12,7 @@ use Rattle.node_laws.specs.Standing.{SourcesStandRead}
 use Rattle.admission.specs.Admission.{rows}
 use Rattle.dataflow.specs.declared.fault.PlanFault.{PlanFault}
 use Rattle.dataflow.specs.declared.fault.PlanFault.TheVariants.{Overflow, Memory}
-use Rattle.dataflow.specs.Lists.{edges_at, longer}
+use Rattle.edge_stream.specs.Lists.{edges_at, longer}
 use Rattle.tempo_engine.specs.Output.{result_kinds}
 use Rattle.ingress.proofs.Reading.{follows_stand}
 use Rattle.tempo_engine.proofs.Giving.{given_are}
@@ -73,14 +73,14 @@ lowest_fault-requires-clause-can g c κs within = λ node time is.
     let e = c.args.self.now in
     let stops = c.in-Err-step.ensures.stopped c.requires.run.can.fine node time is in
     let kept = c.in-Err-step.ensures.kept in
-    can_rest e c.args.end c.release.new.self c.step.new.pools c.step.new.self c.in-Ok.ensures.released c.step.ensures.plan c.requires.run c.release.ensures.fixed
-    (c.step.ensures.pools ∙ c.release.ensures.pools.capacity) (c.step.ensures.limit ∙ c.release.ensures.pools.limit) c.step.ensures.capacity node (λ none. absurd (cc)) stops.low
+    can_rest e c.args.end c.release.new.self c.step.new.pools c.step.new.self c.in-Ok.ensures.released c.step.ensures.same.plan c.requires.run c.release.ensures.fixed
+    (c.step.ensures.pools ∙ c.release.ensures.pools.capacity) (c.step.ensures.limit ∙ c.release.ensures.pools.limit) c.step.ensures.same.capacity node (λ none. absurd (cc)) stops.low
     (stops.can e.ingress.released c.requires.run.can c.requires.later.0)
 
 pub lowest_fault-requires-clause-lines : goal.lowest_fault-requires-clause-lines
 lowest_fault-requires-clause-lines g c κs within = λ node time is thawed.
     let e = c.args.self.now in
-    let past = c.requires.lines (sym c.step.ensures.thawed ∙ thawed) in
+    let past = c.requires.lines (sym c.step.ensures.same.thawed ∙ thawed) in
     let w = past.1.1.0 in
     let given = past.1.1.1.0 in
     let lists = past.1.1.1.1.0 in
@@ -96,7 +96,7 @@ lowest_fault-requires-clause-lines g c κs within = λ node time is thawed.
       w.after,
       (
         longer given fresh,
-        (longer lists flow.more, overflowed e c.args.end c.release.new.self c.step.new.pools c.step.new.self c.in-Ok.ensures.released c.step.ensures.plan w.after (longer given fresh) (longer lists flow.more) follows node time found flow.flows),
+        (longer lists flow.more, overflowed e c.args.end c.release.new.self c.step.new.pools c.step.new.self c.in-Ok.ensures.released c.step.ensures.same.plan w.after (longer given fresh) (longer lists flow.more) follows node time found flow.flows),
       ),
     )
 
@@ -117,8 +117,8 @@ returns-in-Err-step-clause-overflow g c = λ lower at told plan policy w given l
     let found = c.in-Err-step.ensures.overflow fine node time is e.ingress.released given lists (rows w.after) c.each_text_once.ensures way.flows c.requires.later.0 from late in
     let flow = (c.in-Err-step.ensures.stopped fine node time is).flow e.ingress.released given lists (rows w.after) c.each_text_once.ensures way.flows c.requires.later.0 from late in
     let o = c.lowest_fault.ensures.overflow node time lower at is told w.after (longer given fresh) (longer lists flow.more)
-    (overflowed e c.args.end c.release.new.self c.step.new.pools c.step.new.self c.in-Ok.ensures.released c.step.ensures.plan w.after (longer given fresh) (longer lists flow.more) follows node time found flow.flows) in
-    subst (λ q. overflow (rows w.after) q.nodes c.args.p ≡ Some (record { node = lower; time = at })) (c.step.ensures.plan ∙ way.planned) o)
+    (overflowed e c.args.end c.release.new.self c.step.new.pools c.step.new.self c.in-Ok.ensures.released c.step.ensures.same.plan w.after (longer given fresh) (longer lists flow.more) follows node time found flow.flows) in
+    subst (λ q. overflow (rows w.after) q.nodes c.args.p ≡ Some (record { node = lower; time = at })) (c.step.ensures.same.plan ∙ way.planned) o)
     (λ none. absurd (let r = c.lowest_fault.ensures.memory none in cc))
 
 pub returns-in-Ok-take-clause-run : goal.returns-in-Ok-take-clause-run
@@ -126,7 +126,7 @@ returns-in-Ok-take-clause-run g c =
     let e = c.args.self.now in
     sliced_run c.args.end e c.requires.run c.requires.later.0 (let l = c.requires.later.1.0 in let m = c.requires.later.1.1 in omega (arith, l, m)) c.release.new.self c.take.new.pools c.step.new.self c.take.new.self
     c.release.ensures.fixed c.in-Ok.ensures.released (c.take.ensures.capacity ∙ c.step.ensures.pools ∙ c.release.ensures.pools.capacity) (c.take.ensures.limit ∙ c.step.ensures.limit ∙ c.release.ensures.pools.limit)
-    c.step.ensures.plan c.step.ensures.capacity c.in-Ok-step.ensures.can c.in-Ok-take.ensures.placed c.in-Ok-take.ensures.failed
+    c.step.ensures.same.plan c.step.ensures.same.capacity c.in-Ok-step.ensures.can c.in-Ok-take.ensures.placed c.in-Ok-take.ensures.failed
 
 pub returns-in-Ok-take-clause-underway : goal.returns-in-Ok-take-clause-underway
 returns-in-Ok-take-clause-underway g c = λ plan policy w given lists way.
@@ -139,7 +139,7 @@ returns-in-Ok-take-clause-underway g c = λ plan policy w given lists way.
     let late = c.in-Ok.ensures.later e.texts w.after given way.follows in
     let within : c.args.end ≤ inf = (let l = c.requires.later.1.0 in let m = c.requires.later.1.1 in omega (arith, l, m)) in
     let flowed = c.in-Ok-step.ensures.flowed e.ingress.released given lists (rows w.after) c.each_text_once.ensures way.flows c.requires.later.0 from late in
-    let planned : c.step.new.self.plan ≡ plan = c.step.ensures.plan ∙ way.planned in
+    let planned : c.step.new.self.plan ≡ plan = c.step.ensures.same.plan ∙ way.planned in
     let at_plan : c.plan-plan.result.now ≡ plan = c.plan-plan.ensures ∙ planned in
     let at_root : c.root.result ≡ plan.root = c.root.ensures.root ∙ ap (λ q. q.root) at_plan in
     let to_is : c.closes-to.result ≡ closes plan.nodes plan.root c.args.end = c.closes-to.ensures ∙ ap (λ q. closes q.nodes c.root.result c.args.end) at_plan ∙ ap (λ r. closes plan.nodes r c.args.end) at_root in
@@ -148,4 +148,4 @@ returns-in-Ok-take-clause-underway g c = λ plan policy w given lists way.
     c.in-Ok-step.ensures.list.cells ∙ ap (λ q. kinds_at q.schemas q.root) way.planned ∙ sym (stored_kinds (slice_index_or plan.schemas plan.root [])) in
     let typed : All (λ edge. map datum_kind edge.cells ≡ map cell_kind_of (result_kinds plan)) out = subst (λ ks. All (λ edge. map datum_kind edge.cells ≡ ks) out) kinds_of_root c.cells_are_of_kinds.ensures in
     further_underway plan policy w given lists e way c.args.end c.requires.later.0 within fresh c.step.new.self out planned flowed c.release.new.self c.take.new.pools c.take.new.self
-    c.release.ensures.fixed follows c.in-Ok.ensures.released c.step.ensures.capacity held c.take.ensures.kinds typed
+    c.release.ensures.fixed follows c.in-Ok.ensures.released c.step.ensures.same.capacity held c.take.ensures.kinds typed
