@@ -1,17 +1,18 @@
 -- A few rows in a list, those of a key side by side: what comes in and goes keeps them so, and which rows are those of a key.
-use Rattle.std.specs.Prelude.{◌≡◌, ℕ, zero, suc, ◌+◌, ◌<◌, ◌⊎◌, Bool, true, false, List, [], ◌∷◌, ◌++◌, filter, length, take, drop, get_or, refl}
-use Rattle.std.specs.List.{insert, remove}
+use Rattle.std.specs.Prelude.{◌≡◌, ℕ, zero, suc, ◌+◌, ◌<◌, ◌⊎◌, Bool, true, false, List, [], ◌∷◌, ◌++◌, filter, map, length, take, drop, get_or, refl}
+use Rattle.std.specs.List.{insert, remove, take-map, drop-map}
 use Rattle.std.proofs.Common.{sym, ◌∙◌, ap, subst, arith, inl, inr}
 use Rattle.std.proofs.Math.Seq.{drop-cons}
-use Rattle.std.proofs.lemmas.List.{take_more, take-append-drop}
+use Rattle.std.proofs.lemmas.List.{take_more, take-append-drop, length-map, get_or-map, map-append}
 use Rattle.std.proofs.lemmas.List.Elements.{filter-append}
 use Rattle.tw_rows.specs.Bag.{total}
 use Rattle.tw_rows.specs.SameCells.{same_cells, cells_are_same, same_itself}
 use Rattle.tw_rows.specs.declared.cells.Datum.{Datum}
 use Rattle.tw_rows.specs.declared.edge.HeldRow.{HeldRow}
 use Rattle.tw_rows.proofs.Bags.{total-append}
-use Rattle.synopsis.specs.Held.{key_of, is_of_key}
-use Rattle.synopsis.specs.Few.{same_key, NonePass, AllPass, IsOver, StandsHere, StandsFirst, AreTogether}
+use Rattle.tw_rows.specs.Words.{word_of_cells}
+use Rattle.synopsis.specs.Held.{cell_or_zero, key_of, is_of_key}
+use Rattle.synopsis.specs.Few.{same_key, key_word, NonePass, AllPass, IsOver, StandsHere, StandsFirst, AreTogether}
 
 NonePass-append : (p : HeldRow → Bool) (xs ys : List HeldRow) → NonePass p xs → NonePass p ys → NonePass p (xs ++ ys)
 NonePass-append p [] ys h k = k
@@ -84,6 +85,58 @@ rows_of_key columns key rs a n before here all over together =
     let p = is_of_key columns key in
     sym (ap (filter p) (sym (take-append-drop a rs)) ∙ filter-append p (take a rs) (drop a rs) ∙ ap (λ l. l ++ filter p (drop a rs)) (none_filter p (take a rs) before)
     ∙ found_rows columns key (drop a rs) n here all over (together_behind columns a rs together))
+
+-- whoever has not the data of a key fails its test, and whoever has them passes it
+pub not_same : (columns : List ℕ) (key : List Datum) (r : HeldRow) → (key_of columns r.cells ≡ key → ⊥) → is_of_key columns key r ≡ false
+not_same columns key r h = by (is_of_key columns key r) refl
+  where
+    by : (b : Bool) → is_of_key columns key r ≡ b → is_of_key columns key r ≡ false
+    by false e = e
+    by true e = absurd (h (cells_are_same (key_of columns r.cells) key e))
+
+pub is_same : (columns : List ℕ) (key : List Datum) (r : HeldRow) → key_of columns r.cells ≡ key → is_of_key columns key r ≡ true
+is_same columns key r e = ap (λ l. same_cells l key) e ∙ same_itself key
+
+-- keys of two words differ
+pub words_apart : (columns : List ℕ) (key : List Datum) (r : HeldRow) (own word : ℕ) → own ≡ key_word columns r → word ≡ word_of_cells key → (own ≡ word → ⊥) → is_of_key columns key r ≡ false
+words_apart columns key r own word own_is word_is h = not_same columns key r (λ e. h (own_is ∙ ap word_of_cells e ∙ sym word_is))
+
+-- one column more of a key
+pub column_more : (columns : List ℕ) (key cells : List Datum) (i c : ℕ) (d : Datum) → i < length columns → i < length key → take i (key_of columns cells) ≡ take i key →
+    cell_or_zero cells (get_or columns i c) ≡ get_or key i d → take (i + 1) (key_of columns cells) ≡ take (i + 1) key
+column_more columns key cells i c d low within h e =
+    let all = key_of columns cells in
+    let long : i < length all = omega (arith, low, length-map columns (cell_or_zero cells)) in
+    take_more all i d long ∙ ap (λ l. l ++ get_or all i d ∷ []) h ∙ ap (λ x. take i key ++ x ∷ []) (get_or-map (cell_or_zero cells) columns i c d low ∙ e) ∙ sym (take_more key i d within)
+
+pub columns_differ : (columns : List ℕ) (key : List Datum) (r : HeldRow) (i c : ℕ) (d : Datum) → i < length columns → (cell_or_zero r.cells (get_or columns i c) ≡ get_or key i d → ⊥) → is_of_key columns key r ≡ false
+columns_differ columns key r i c d low h = not_same columns key r (λ e. h (sym (get_or-map (cell_or_zero r.cells) columns i c d low) ∙ ap (λ l. get_or l i d) e))
+
+pub lengths_differ : (columns : List ℕ) (key : List Datum) (r : HeldRow) → (length columns ≡ length key → ⊥) → is_of_key columns key r ≡ false
+lengths_differ columns key r h = not_same columns key r (λ e. h (sym (length-map columns (cell_or_zero r.cells)) ∙ ap (λ l. length l) e))
+
+pub all_columns : (columns : List ℕ) (key : List Datum) (r : HeldRow) (n : ℕ) → length columns ≡ length key → n ≡ length columns → take n (key_of columns r.cells) ≡ take n key → is_of_key columns key r ≡ true
+all_columns columns key r n same all h =
+    let own = key_of columns r.cells in
+    let long : n ≡ length own = omega (arith, all, length-map columns (cell_or_zero r.cells)) in
+    let key_long : n ≡ length key = omega (arith, all, same) in
+    is_same columns key r (sym (take_none own) ∙ ap (λ k. take k own) (sym long) ∙ h ∙ ap (λ k. take k key) key_long ∙ take_none key)
+
+-- beside each row stands the word of its key
+pub marked_at : (columns : List ℕ) (rows : List HeldRow) (words : List ℕ) (i : ℕ) (d : HeldRow) → words ≡ map (key_word columns) rows → i < length rows → get_or words i 0 ≡ key_word columns (get_or rows i d)
+marked_at columns rows words i d e low = ap (λ l. get_or l i 0) e ∙ get_or-map (key_word columns) rows i d 0 low
+
+pub marked_put : (columns : List ℕ) (rows : List HeldRow) (words : List ℕ) (i word : ℕ) (r : HeldRow) → words ≡ map (key_word columns) rows → word ≡ key_word columns r →
+    insert words i word ≡ map (key_word columns) (insert rows i r)
+marked_put columns rows words i word r e is =
+    let f = key_word columns in
+    ap (λ l. insert l i word) e ∙ ap (λ x. insert (map f rows) i x) is
+    ∙ sym (map-append f (take i rows) (r ∷ drop i rows) ∙ ap (λ l. l ++ f r ∷ map f (drop i rows)) (sym (take-map f i rows)) ∙ ap (λ l. take i (map f rows) ++ f r ∷ l) (sym (drop-map f i rows)))
+
+pub marked_taken : (columns : List ℕ) (rows : List HeldRow) (words : List ℕ) (i : ℕ) → words ≡ map (key_word columns) rows → remove words i ≡ map (key_word columns) (remove rows i)
+marked_taken columns rows words i e =
+    let f = key_word columns in
+    ap (λ l. remove l i) e ∙ sym (map-append f (take i rows) (drop (suc i) rows) ∙ ap (λ l. l ++ map f (drop (suc i) rows)) (sym (take-map f i rows)) ∙ ap (λ l. take i (map f rows) ++ l) (sym (drop-map f (suc i) rows)))
 
 -- a row comes in in front of the first of its key
 none_insert : (p : HeldRow → Bool) (xs ys : List HeldRow) (r : HeldRow) → NonePass p (xs ++ ys) → p r ≡ false → NonePass p (xs ++ r ∷ ys)
