@@ -1,5 +1,7 @@
 // A few rows in a list, those of a key side by side.
 ghost use Rattle.std.specs.Prelude.{◌≡◌, ◌↔◌, ◌≤◌, ◌<◌, ◌+◌, [], ℕ, IsTrue, true, false, filter, map, take, drop, length, IfOk, IfSome, IfNone};
+ghost use Rattle.std.specs.List.{insert};
+ghost use Rattle.std.specs.Vec.{vec_len, vec_capacity};
 ghost use Rattle.tw_rows.specs.Bag.{total};
 ghost use Rattle.tw_rows.specs.Words.{word_of_cells};
 ghost use Rattle.tw_rows.specs.declared.edge.HeldRow.{HeldRow};
@@ -37,7 +39,7 @@ impl Drop for Few {
 }
 
 impl Model for Few {
-    ghost use Rattle.std.specs.Prelude.{vec_capacity};
+    ghost use Rattle.std.specs.Vec.{vec_capacity};
     ghost use Rattle.synopsis.specs.Few.{FewRows, AreFew};
 
     ghost Value = { FewRows };
@@ -142,6 +144,22 @@ fn place_of(rows: &[HeldRow], cells: &[Datum], start: Time) -> Option<usize>
     None
 }
 
+// Puts an item at the place, for which there is room. Mostly that is the end, where no other moves.
+fn put_at<T: Drop>(list: &mut Vec<T>, place: usize, item: T)
+    requires within { place ≤ vec_len list.old }
+    requires room { vec_len list.old < vec_capacity list.old }
+    ensures items { list.new.items ≡ insert list.old.items place item }
+    ensures capacity { vec_capacity list.old ≤ vec_capacity list.new }
+{
+    if place == list.len() {
+        let pushed = list.push(item).is_ok();
+        prove!(pushed);
+        return;
+    }
+    let stands = list.insert(place, item).is_ok();
+    prove!(stands);
+}
+
 impl Few {
     /// No rows, by these key columns. No later call takes memory.
     pub fn new(alloc: Global, columns: &[usize]) -> Result<Few, Memory>
@@ -189,10 +207,8 @@ impl Few {
             key,
             word,
         );
-        let marked = self.words.insert(place, word).is_ok();
-        prove!(marked);
-        let stands = self.rows.insert(place, HeldRow { cells, start }).is_ok();
-        prove!(stands);
+        put_at(&mut self.words, place, word);
+        put_at(&mut self.rows, place, HeldRow { cells, start });
     }
 
     /// Takes out a row with these cells that began then, if there is one.
