@@ -1,9 +1,9 @@
 -- A few rows in a list, those of a key side by side: what comes in and goes keeps them so, and which rows are those of a key.
-use Rattle.std.specs.Prelude.{◌≡◌, ℕ, zero, suc, ◌+◌, ◌<◌, ◌⊎◌, Bool, true, false, List, [], ◌∷◌, ◌++◌, filter, map, length, take, drop, get_or, refl}
+use Rattle.std.specs.Prelude.{◌≡◌, ℕ, zero, suc, ◌+◌, ◌-◌, ◌<◌, ◌⊎◌, Bool, true, false, List, [], ◌∷◌, ◌++◌, filter, map, length, take, drop, get_or, refl}
 use Rattle.std.specs.List.{insert, remove, take-map, drop-map}
 use Rattle.std.proofs.Common.{sym, ◌∙◌, ap, subst, arith, inl, inr}
-use Rattle.std.proofs.Math.Seq.{drop-cons}
-use Rattle.std.proofs.lemmas.List.{take_more, take-append-drop, length-map, get_or-map, map-append}
+use Rattle.std.proofs.Math.Seq.{drop-cons, take-length}
+use Rattle.std.proofs.lemmas.List.{take_more, take-append-drop, length-map, length-drop, get_or-map, map-append}
 use Rattle.std.proofs.lemmas.List.Elements.{filter-append}
 use Rattle.tw_rows.specs.Bag.{total}
 use Rattle.tw_rows.specs.SameCells.{same_cells, cells_are_same, same_itself}
@@ -40,15 +40,17 @@ pub none_behind : (xs : List HeldRow) → drop (length xs) xs ≡ []
 none_behind [] = refl
 none_behind (x ∷ xs) = none_behind xs
 
-pub take_none : (xs : List HeldRow) → take (length xs) xs ≡ xs
-take_none [] = refl
-take_none (x ∷ xs) = ap (λ l. x ∷ l) (take_none xs)
+pub rest_all : (xs : List HeldRow) (i : ℕ) → take (length xs - i) (drop i xs) ≡ drop i xs
+rest_all xs i = ap (λ n. take n (drop i xs)) (sym (length-drop i xs)) ∙ take-length (drop i xs)
 
 none_filter : (p : HeldRow → Bool) (xs : List HeldRow) → NonePass p xs → filter p xs ≡ []
 none_filter p [] h = refl
 none_filter p (x ∷ xs) h = rw h.0 (none_filter p xs h.1)
 
-none_taken : (n : ℕ) → [] ≡ take n []
+abbrev no_rows : List HeldRow
+no_rows = []
+
+none_taken : (n : ℕ) → no_rows ≡ take n no_rows
 none_taken zero = refl
 none_taken (suc n) = refl
 
@@ -120,7 +122,7 @@ all_columns columns key r n same all h =
     let own = key_of columns r.cells in
     let long : n ≡ length own = omega (arith, all, length-map columns (cell_or_zero r.cells)) in
     let key_long : n ≡ length key = omega (arith, all, same) in
-    is_same columns key r (sym (take_none own) ∙ ap (λ k. take k own) (sym long) ∙ h ∙ ap (λ k. take k key) key_long ∙ take_none key)
+    is_same columns key r (sym (take-length own) ∙ ap (λ k. take k own) (sym long) ∙ h ∙ ap (λ k. take k key) key_long ∙ take-length key)
 
 -- beside each row stands the word of its key
 pub marked_at : (columns : List ℕ) (rows : List HeldRow) (words : List ℕ) (i : ℕ) (d : HeldRow) → words ≡ map (key_word columns) rows → i < length rows → get_or words i 0 ≡ key_word columns (get_or rows i d)
