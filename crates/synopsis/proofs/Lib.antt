@@ -1,3 +1,4 @@
 pub mod Bags
 pub mod Keyed
+pub mod Together
 pub mod Examples
