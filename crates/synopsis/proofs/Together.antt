@@ -5,11 +5,12 @@ use Rattle.std.proofs.Common.{sym, ◌∙◌, ap, subst, arith, inl, inr}
 use Rattle.std.proofs.Math.Seq.{drop-cons, take-length}
 use Rattle.std.proofs.lemmas.List.{take_more, take-append-drop, length-map, length-drop, get_or-map, map-append}
 use Rattle.std.proofs.lemmas.List.Elements.{filter-append}
+use Rattle.std.proofs.lemmas.List.Sums.{sum_by-insert, sum_by-remove}
 use Rattle.tw_rows.specs.Bag.{total}
 use Rattle.tw_rows.specs.SameCells.{same_cells, cells_are_same, same_itself}
 use Rattle.tw_rows.specs.declared.cells.Datum.{Datum}
 use Rattle.tw_rows.specs.declared.edge.HeldRow.{HeldRow}
-use Rattle.tw_rows.proofs.Bags.{total-append}
+use Rattle.tw_rows.proofs.Bags.{total-is-sum_by}
 use Rattle.tw_rows.specs.Words.{word_of_cells}
 use Rattle.synopsis.specs.Held.{cell_or_zero, key_of, is_of_key}
 use Rattle.synopsis.specs.Few.{same_key, key_word, NonePass, AllPass, IsOver, StandsHere, StandsFirst, AreTogether}
@@ -28,17 +29,6 @@ none_more p xs i d low h e = subst (NonePass p) (sym (take_more xs i d low)) (No
 
 pub all_more : (p : HeldRow → Bool) (xs : List HeldRow) (i : ℕ) (d : HeldRow) → i < length xs → AllPass p (take i xs) → p (get_or xs i d) ≡ true → AllPass p (take (i + 1) xs)
 all_more p xs i d low h e = subst (AllPass p) (sym (take_more xs i d low)) (AllPass-append p (take i xs) (get_or xs i d ∷ []) h (e, tt))
-
--- the row at a place, and no row behind all of them
-pub here_at : (p : HeldRow → Bool) (xs : List HeldRow) (i : ℕ) (d : HeldRow) → i < length xs → p (get_or xs i d) ≡ true → StandsHere p (drop i xs)
-here_at p xs i d low e = subst (StandsHere p) (sym (drop-cons xs i d low)) e
-
-pub over_at : (p : HeldRow → Bool) (xs : List HeldRow) (i : ℕ) (d : HeldRow) → i < length xs → p (get_or xs i d) ≡ false → IsOver p (drop i xs)
-over_at p xs i d low e = subst (IsOver p) (sym (drop-cons xs i d low)) e
-
-pub none_behind : (xs : List HeldRow) → drop (length xs) xs ≡ []
-none_behind [] = refl
-none_behind (x ∷ xs) = none_behind xs
 
 pub rest_all : (xs : List HeldRow) (i : ℕ) → take (length xs - i) (drop i xs) ≡ drop i xs
 rest_all xs i = ap (λ n. take n (drop i xs)) (sym (length-drop i xs)) ∙ take-length (drop i xs)
@@ -125,9 +115,6 @@ all_columns columns key r n same all h =
     is_same columns key r (sym (take-length own) ∙ ap (λ k. take k own) (sym long) ∙ h ∙ ap (λ k. take k key) key_long ∙ take-length key)
 
 -- beside each row stands the word of its key
-pub marked_at : (columns : List ℕ) (rows : List HeldRow) (words : List ℕ) (i : ℕ) (d : HeldRow) → words ≡ map (key_word columns) rows → i < length rows → get_or words i 0 ≡ key_word columns (get_or rows i d)
-marked_at columns rows words i d e low = ap (λ l. get_or l i 0) e ∙ get_or-map (key_word columns) rows i d 0 low
-
 pub marked_put : (columns : List ℕ) (rows : List HeldRow) (words : List ℕ) (i word : ℕ) (r : HeldRow) → words ≡ map (key_word columns) rows → word ≡ key_word columns r →
     insert words i word ≡ map (key_word columns) (insert rows i r)
 marked_put columns rows words i word r e is =
@@ -180,9 +167,9 @@ together_put columns key r rs i own before here h = together_insert columns key 
 
 pub put_weighs : (w : HeldRow → ℕ) (rs : List HeldRow) (i : ℕ) (r : HeldRow) → total w (insert rs i r) ≡ total w rs + w r
 put_weighs w rs i r =
-    let a = total-append w (take i rs) (r ∷ drop i rs) in
-    let b = total-append w (take i rs) (drop i rs) in
-    let e = ap (total w) (take-append-drop i rs) in
+    let a = sum_by-insert w rs i r in
+    let b = total-is-sum_by w (insert rs i r) in
+    let e = total-is-sum_by w rs in
     omega (arith, a, b, e)
 
 -- a row goes
@@ -209,7 +196,7 @@ together_taken columns rs i d low h = together_remove columns (get_or rs i d) (t
 
 pub taken_weighs : (w : HeldRow → ℕ) (rs : List HeldRow) (i : ℕ) (d : HeldRow) → i < length rs → total w rs ≡ total w (remove rs i) + w (get_or rs i d)
 taken_weighs w rs i d low =
-    let a = total-append w (take i rs) (get_or rs i d ∷ drop (suc i) rs) in
-    let b = total-append w (take i rs) (drop (suc i) rs) in
-    let e = ap (total w) (cut_at rs i d low) in
+    let a = sum_by-remove w rs i d low in
+    let b = total-is-sum_by w (remove rs i) in
+    let e = total-is-sum_by w rs in
     omega (arith, a, b, e)

@@ -46,12 +46,10 @@ pub record FewRows : Type 0 where
   pub columns : List ℕ
   pub rows : List HeldRow
 
--- the rows of each key stand side by side, beside each row the word of its key, and there is room for sixteen
-pub record AreFew (columns : List ℕ) (rows : List HeldRow) (words : List ℕ) (room marks : ℕ) : Type 0 where
+-- the rows of each key stand side by side, and beside each row the word of its key
+pub record AreFew (columns : List ℕ) (rows : List HeldRow) (words : List ℕ) : Type 0 where
   pub together : AreTogether columns rows
   pub marked : words ≡ map (key_word columns) rows
-  pub room_rows : 16 ≤ room
-  pub room_words : 16 ≤ marks
 
 -- a few rows as one block, where there are some
 abbrev pub few_block : List HeldRow → List (List HeldRow)

@@ -1,5 +1,5 @@
 // A few rows in a list, those of a key side by side.
-ghost use Rattle.std.specs.Prelude.{◌≡◌, ◌↔◌, ◌≤◌, ◌<◌, ◌+◌, [], ℕ, IsTrue, true, false, filter, map, take, drop, length, IfOk, IfSome, IfNone};
+ghost use Rattle.std.specs.Prelude.{◌≡◌, ◌↔◌, ◌≤◌, ◌<◌, ◌+◌, [], ℕ, IsTrue, true, false, filter, map, take, drop, length, IfOk, IfSome, IfNone, OnOk, OnErr};
 ghost use Rattle.std.specs.List.{insert};
 ghost use Rattle.std.specs.Vec.{vec_len, vec_capacity};
 ghost use Rattle.tw_rows.specs.Bag.{total};
@@ -16,10 +16,10 @@ use std::alloc::Global;
 use std::marker::Model;
 use tw_rows::{Cells, Datum, HeldRow, Memory, Time, mix_words};
 
-/// So many rows are a few.
+/// The most rows that stand in a list. Among so few a walk costs less than a look-up by hash.
 pub const FEW: usize = 16;
 
-/// At most so many rows, of which no key has others between its own. A row is found by a word of its key.
+/// Rows in a list. Those with the same data in the key columns stand side by side; they are found by a walk.
 pub struct Few {
     columns: Vec<usize>,
     rows: Vec<HeldRow>,
@@ -39,15 +39,13 @@ impl Drop for Few {
 }
 
 impl Model for Few {
-    ghost use Rattle.std.specs.Vec.{vec_capacity};
     ghost use Rattle.synopsis.specs.Few.{FewRows, AreFew};
 
     ghost Value = { FewRows };
 
     ghost view = { λ f. record { columns = f.columns.items; rows = f.rows.items } };
 
-    ghost invariant = { λ f. AreFew f.columns.items f.rows.items f.words.items
-        (vec_capacity f.rows) (vec_capacity f.words) };
+    ghost invariant = { λ f. AreFew f.columns.items f.rows.items f.words.items };
 }
 
 // The word of a key. Keys with the same data have the same word.
@@ -161,15 +159,15 @@ fn put_at<T: Drop>(list: &mut Vec<T>, place: usize, item: T)
 }
 
 impl Few {
-    /// No rows, by these key columns. No later call takes memory.
+    /// No rows, by these key columns.
     pub fn new(alloc: Global, columns: &[usize]) -> Result<Few, Memory>
         ensures columns { IfOk result (λ f. f.columns ≡ columns.now) }
         ensures rows { IfOk result (λ f. f.rows ≡ []) }
     {
         Ok(Few {
             columns: Vec::from_slice(alloc, columns)?,
-            rows: Vec::with_capacity(alloc, FEW)?,
-            words: Vec::with_capacity(alloc, FEW)?,
+            rows: Vec::new(alloc),
+            words: Vec::new(alloc),
         })
     }
 
@@ -191,12 +189,12 @@ impl Few {
         &rows[first..first + count]
     }
 
-    /// Puts in a row of that key.
-    pub fn put(&mut self, key: &[Datum], cells: Cells, start: Time)
-        requires room { length self.old.rows < FEW }
-        requires key { key.now ≡ key_of self.old.columns cells }
-        ensures rows { (w : HeldRow → ℕ) → total w self.new.rows ≡ total w self.old.rows
-            + w (record { cells = cells; start = start }) }
+    /// Puts in a row of that key. Out of memory nothing changes.
+    pub fn put(&mut self, key: &[Datum], cells: Cells, start: Time) -> Result<(), Memory>
+        requires { key.now ≡ key_of self.old.columns cells }
+        ensures ok { OnOk result ((w : HeldRow → ℕ) → total w self.new.rows ≡ total w self.old.rows
+            + w (record { cells = cells; start = start })) }
+        ensures err { OnErr result (self.new.rows ≡ self.old.rows) }
         ensures columns { self.new.columns ≡ self.old.columns }
     {
         let word = word_of(key);
@@ -207,8 +205,11 @@ impl Few {
             key,
             word,
         );
+        self.rows.reserve(1)?;
+        self.words.reserve(1)?;
         put_at(&mut self.words, place, word);
         put_at(&mut self.rows, place, HeldRow { cells, start });
+        Ok(())
     }
 
     /// Takes out a row with these cells that began then, if there is one.

@@ -60,24 +60,28 @@ impl Model for Synopsis {
     ghost invariant = { λ s. AreHeld s.key.columns s.few s.buckets.entries s.count };
 }
 
-// The rows in buckets by that key.
+// The rows and one more, in buckets by that key.
 fn in_buckets(
     alloc: Global,
     key: &mut KeyRoom,
     spares: &mut Spares,
     rows: &[HeldRow],
+    cells: Cells,
+    start: Time,
 ) -> Result<KeyBuckets, Memory>
-    ensures rows { IfOk result (λ b. (w : HeldRow → ℕ) →
-        total w (rows_in b.entries) ≡ total w rows.now) }
+    ensures rows { IfOk result (λ b. (w : HeldRow → ℕ) → total w (rows_in b.entries)
+        ≡ total w rows.now + w (record { cells = cells; start = start })) }
     ensures keyed { IfOk result (λ b. AreKeyed key.old.columns b.entries) }
     ensures columns { key.new.columns ≡ key.old.columns }
 {
     let mut buckets = IndexMap::with_hasher(alloc, BuildHasherDefault::new());
     for row in rows {
-        let cells = row.cells.clone()?;
-        key.write(cells.items());
-        put_row(alloc, &mut buckets, spares, key.values(), cells, row.start)?;
+        let copy = row.cells.clone()?;
+        key.write(copy.items());
+        put_row(alloc, &mut buckets, spares, key.values(), copy, row.start)?;
     }
+    key.write(cells.items());
+    put_row(alloc, &mut buckets, spares, key.values(), cells, start)?;
     Ok(buckets)
 }
 
@@ -142,15 +146,12 @@ impl Synopsis {
         }
         if self.few.rows().len() < FEW {
             self.key.write(cells.items());
-            self.few.put(self.key.values(), cells, start);
+            self.few.put(self.key.values(), cells, start)?;
             self.count = count;
             return Ok(());
         }
         let few = self.few.rows();
-        let mut buckets = in_buckets(self.alloc, &mut self.key, &mut self.spares, few)?;
-        self.key.write(cells.items());
-        let key = self.key.values();
-        put_row(self.alloc, &mut buckets, &mut self.spares, key, cells, start)?;
+        let buckets = in_buckets(self.alloc, &mut self.key, &mut self.spares, few, cells, start)?;
         self.buckets = buckets;
         self.few.clear();
         self.count = count;
@@ -225,10 +226,11 @@ impl Synopsis {
         requires { k < length self.now.blocks }
         ensures { slice_get self.now.blocks k ≡ Some result.now }
     {
-        if self.few.rows().is_empty() {
+        let few = self.few.rows();
+        if few.is_empty() {
             return self.buckets[k].rows();
         }
-        self.few.rows()
+        few
     }
 
     /// The row at that place. It passes the blocks before that of the row one by one.
@@ -236,8 +238,9 @@ impl Synopsis {
         requires { i < length self.now.rows }
         ensures { slice_get self.now.rows i ≡ Some result.now }
     {
-        if !self.few.rows().is_empty() {
-            return &self.few.rows()[i];
+        let few = self.few.rows();
+        if !few.is_empty() {
+            return &few[i];
         }
         let mut left = i;
         for k in 0..self.buckets.len() {
