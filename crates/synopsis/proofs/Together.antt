@@ -1,5 +1,5 @@
 -- A few rows in a list, those of a key side by side: what comes in and goes keeps them so, and which rows are those of a key.
-use Rattle.std.specs.Prelude.{◌≡◌, ℕ, zero, suc, ◌+◌, ◌-◌, ◌<◌, ◌⊎◌, Bool, true, false, List, [], ◌∷◌, ◌++◌, filter, map, length, take, drop, get_or, refl}
+use Rattle.std.specs.Prelude.{◌≡◌, ℕ, zero, suc, ◌+◌, ◌-◌, ◌<◌, Bool, true, false, List, [], ◌∷◌, ◌++◌, filter, map, length, take, drop, get_or, refl}
 use Rattle.std.specs.List.{insert, remove, take-map, drop-map}
 use Rattle.std.proofs.Common.{sym, ◌∙◌, ap, subst, arith, inl, inr}
 use Rattle.std.proofs.Math.Seq.{drop-cons, take-length}

@@ -1,5 +1,6 @@
 // A few rows in a list, those of a key side by side.
-ghost use Rattle.std.specs.Prelude.{◌≡◌, ◌↔◌, ◌≤◌, ◌<◌, ◌+◌, [], ℕ, IsTrue, true, false, filter, map, take, drop, length, IfOk, IfSome, IfNone, OnOk, OnErr};
+ghost use Rattle.std.specs.Prelude.{◌≡◌, ◌↔◌, ◌≤◌, ◌<◌, ◌+◌, [], ℕ, IsTrue, true, false};
+ghost use Rattle.std.specs.Prelude.{IfOk, IfSome, IfNone, OnOk, OnErr, filter, map, take, drop, length};
 ghost use Rattle.std.specs.List.{insert};
 ghost use Rattle.std.specs.Vec.{vec_len, vec_capacity};
 ghost use Rattle.tw_rows.specs.Bag.{total};
@@ -16,14 +17,11 @@ use std::alloc::Global;
 use std::marker::Model;
 use tw_rows::{Cells, Datum, HeldRow, Memory, Time, mix_words};
 
-/// The most rows that stand in a list. Among so few a walk costs less than a look-up by hash.
-pub const FEW: usize = 16;
-
 /// Rows in a list. Those with the same data in the key columns stand side by side; they are found by a walk.
 pub struct Few {
     columns: Vec<usize>,
     rows: Vec<HeldRow>,
-    // Beside each row the word of its key.
+    // Beside each row the word of its key, which is compared before the key itself.
     words: Vec<u64>,
 }
 
@@ -59,6 +57,7 @@ fn word_of(key: &[Datum]) -> u64
     words
 }
 
+// Of one datum and another, as a call of its own, whose clause the loop cites.
 fn same_datum(a: Datum, b: Datum) -> bool
     ensures { IsTrue result ↔ (a ≡ b) }
 {
@@ -80,7 +79,7 @@ fn has_key(row: &HeldRow, columns: &[usize], key: &[Datum]) -> bool
     true
 }
 
-// The same of a row whose key has a word, and of a key that has one: keys of two words differ.
+// The same, where the words of both keys are known: these are compared first.
 #[inline(always)]
 fn is_found(row: &HeldRow, own: u64, columns: &[usize], key: &[Datum], word: u64) -> bool
     requires own { own ≡ key_word columns.now row.now }
@@ -93,14 +92,8 @@ fn is_found(row: &HeldRow, own: u64, columns: &[usize], key: &[Datum], word: u64
     has_key(row, columns, key)
 }
 
-// The place of the first row with that key, or how many rows there are.
-fn first_with(
-    rows: &[HeldRow],
-    words: &[u64],
-    columns: &[usize],
-    key: &[Datum],
-    word: u64,
-) -> usize
+// The place of the first row with that key. Where there is none, the place behind the last row.
+fn first_with(rows: &[HeldRow], words: &[u64], columns: &[usize], key: &[Datum], word: u64) -> usize
     requires words { words.now ≡ map (key_word columns.now) rows.now }
     requires word { word ≡ word_of_cells key.now }
     ensures within { result ≤ length rows.now }
@@ -142,7 +135,7 @@ fn place_of(rows: &[HeldRow], cells: &[Datum], start: Time) -> Option<usize>
     None
 }
 
-// Puts an item at the place, for which there is room. Mostly that is the end, where no other moves.
+// Puts an item at the place. There is room for it, and mostly the place is the end, where no other item moves.
 fn put_at<T: Drop>(list: &mut Vec<T>, place: usize, item: T)
     requires within { place ≤ vec_len list.old }
     requires room { vec_len list.old < vec_capacity list.old }

@@ -8,7 +8,7 @@ ghost use Rattle.synopsis.specs.Held.{is_of_key};
 ghost use Rattle.synopsis.specs.Buckets.{rows_in, AreKeyed};
 
 use crate::buckets::{KeyBuckets, put_row, rows_with, take_row};
-use crate::few::{FEW, Few};
+use crate::few::Few;
 use crate::key_room::{KeyRoom, lone_key};
 use crate::spares::Spares;
 use indexmap::IndexMap;
@@ -17,12 +17,15 @@ use std::hash::BuildHasherDefault;
 use std::marker::Model;
 use tw_rows::{Cells, Datum, HeldRow, Memory, Time};
 
+// The most rows that stand in a list. Among so few a walk costs less than a look-up by hash.
+const FEW: usize = 16;
+
 /// Rows that are alive, each with its start. A row is found by its cells and its start, and those with the same data in the
 /// key columns lie side by side; both take no longer where more rows are held.
 pub struct Synopsis {
     alloc: Global,
     key: KeyRoom,
-    // A few rows stand in a list, which costs less than buckets. Where one more comes all go into buckets, until none is left.
+    // The rows, where they are few. Where one more comes all go into buckets, and new ones too until none is left.
     few: Few,
     buckets: KeyBuckets,
     spares: Spares,
@@ -140,7 +143,14 @@ impl Synopsis {
         if !self.buckets.is_empty() {
             self.key.write(cells.items());
             let key = self.key.values();
-            put_row(self.alloc, &mut self.buckets, &mut self.spares, key, cells, start)?;
+            put_row(
+                self.alloc,
+                &mut self.buckets,
+                &mut self.spares,
+                key,
+                cells,
+                start,
+            )?;
             self.count = count;
             return Ok(());
         }
@@ -151,7 +161,14 @@ impl Synopsis {
             return Ok(());
         }
         let few = self.few.rows();
-        let buckets = in_buckets(self.alloc, &mut self.key, &mut self.spares, few, cells, start)?;
+        let buckets = in_buckets(
+            self.alloc,
+            &mut self.key,
+            &mut self.spares,
+            few,
+            cells,
+            start,
+        )?;
         self.buckets = buckets;
         self.few.clear();
         self.count = count;
@@ -173,7 +190,13 @@ impl Synopsis {
             self.count -= 1;
             return true;
         }
-        if !take_keyed(&mut self.key, &mut self.buckets, &mut self.spares, cells, start) {
+        if !take_keyed(
+            &mut self.key,
+            &mut self.buckets,
+            &mut self.spares,
+            cells,
+            start,
+        ) {
             return false;
         }
         self.count -= 1;

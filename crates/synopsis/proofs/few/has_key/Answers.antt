@@ -1,4 +1,4 @@
-use Rattle.std.proofs.Common.{◌≡◌, get_or, sym, ap, ◌∙◌, arith}
+use Rattle.std.proofs.Common.{get_or, sym, ap, ◌∙◌, arith}
 use Rattle.synopsis.specs.Held.{cell_or_zero}
 use Rattle.synopsis.proofs.Together.{lengths_differ, columns_differ, column_more, all_columns}
 use Rattle.synopsis.proofs.few.has_key.Goals as goal

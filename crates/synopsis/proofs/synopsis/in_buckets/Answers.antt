@@ -1,11 +1,9 @@
-use Rattle.std.proofs.Common.{◌≡◌, ◌∙◌, [], ◌∷◌, sym, ap, take, get_or, arith}
-use Rattle.std.proofs.Math.Seq.{take-length}
+use Rattle.std.proofs.Common.{◌∙◌, [], ◌∷◌, ap, take, get_or, arith}
 use Rattle.std.proofs.lemmas.List.{take_more}
 use Rattle.tw_rows.specs.Bag.{total}
 use Rattle.tw_rows.specs.declared.edge.HeldRow.{HeldRow}
 use Rattle.tw_rows.proofs.Bags.{total-append}
 use Rattle.synopsis.specs.Held.{key_of}
-use Rattle.synopsis.specs.Buckets.{rows_in}
 use Rattle.synopsis.proofs.synopsis.in_buckets.Goals as goal
 
 pub loop-row-preserved : goal.loop-row-preserved

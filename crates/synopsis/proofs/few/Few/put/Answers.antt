@@ -1,5 +1,5 @@
 use Rattle.std.specs.List.{insert}
-use Rattle.std.proofs.Common.{◌≡◌, ◌+◌, take, drop, map, true, sym, ap, subst, ◌∙◌, arith}
+use Rattle.std.proofs.Common.{◌≡◌, ◌+◌, take, drop, map, sym, ap, subst, ◌∙◌}
 use Rattle.tw_rows.specs.Bag.{total}
 use Rattle.tw_rows.specs.Words.{word_of_cells}
 use Rattle.tw_rows.specs.declared.edge.HeldRow.{HeldRow}
@@ -25,9 +25,9 @@ invariant_of-self-2 c =
     let is : key ≡ key_of columns c.args.cells = c.requires ∙ ap (λ (v : FewRows). key_of v.columns c.args.cells) (sym c.self.view_is) in
     let found = c.first_with-place.ensures in
     let before : NonePass (is_of_key columns key) (take place rows) =
-        subst (λ l. NonePass (is_of_key columns key) (take place l)) c.as_slice.ensures.value (subst (λ k. NonePass (is_of_key k key) (take place c.as_slice.result.now)) c.as_slice-3.ensures.value found.before) in
+    subst (λ l. NonePass (is_of_key columns key) (take place l)) c.as_slice.ensures.value (subst (λ k. NonePass (is_of_key k key) (take place c.as_slice.result.now)) c.as_slice-3.ensures.value found.before) in
     let here : StandsHere (is_of_key columns key) (drop place rows) =
-        subst (λ l. StandsHere (is_of_key columns key) (drop place l)) c.as_slice.ensures.value (subst (λ k. StandsHere (is_of_key k key) (drop place c.as_slice.result.now)) c.as_slice-3.ensures.value found.here) in
+    subst (λ l. StandsHere (is_of_key columns key) (drop place l)) c.as_slice.ensures.value (subst (λ k. StandsHere (is_of_key k key) (drop place c.as_slice.result.now)) c.as_slice-3.ensures.value found.here) in
     let put = c.put_at-2.ensures.items ∙ ap (λ l. insert l place row) c.reserve.ensures.items in
     record {
       together = subst (AreTogether columns) (sym put) (together_put columns key row rows place (own_key columns c.args.cells c.args.start key is) before here c.self.invariant.together);

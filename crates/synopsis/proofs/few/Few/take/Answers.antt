@@ -24,7 +24,7 @@ returns-clause-taken c = λ _ w.
     let d = c.remove-2.result in
     let low : place < length rows = subst (λ l. place < length l) c.as_slice.ensures.value c.in-Some.ensures.found.within in
     let held : is_held c.args.cells.now c.args.start (get_or rows place d) ≡ true =
-        subst (λ l. is_held c.args.cells.now c.args.start (get_or l place d) ≡ true) c.as_slice.ensures.value (c.in-Some.ensures.found.held d) in
+    subst (λ l. is_held c.args.cells.now c.args.start (get_or l place d) ≡ true) c.as_slice.ensures.value (c.in-Some.ensures.found.held d) in
     let a = taken_weighs w rows place d low in
     let b = is_that_row w (get_or rows place d) c.args.cells.now c.args.start held in
     let e = ap (total w) c.remove-2.ensures.items in

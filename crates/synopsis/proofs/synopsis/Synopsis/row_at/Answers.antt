@@ -12,8 +12,8 @@ returns-then-left-rows c =
     let at = c.index.ensures ∙ ap (λ (l : List HeldRow). Some l) (sym c.rows-rows.ensures) in
     let none = sym c.rows-few.ensures ∙ none_left c.rows-few.result.now (sym c.is_empty.ensures ∙ c.if-not-is_empty.false) in
     let found : slice_get (c.self.inside.few.rows ++ rows_in es) c.args.i ≡ Some d =
-        ap (λ (l : List HeldRow). slice_get (l ++ rows_in es) c.args.i) none
-        ∙ (walked es c.loop-k.k c.loop-k.left c.args.i b at c.loop-k.invariant.same d c.if-left-rows.true ∙ ap (λ (r : HeldRow). Some r) (sym c.index-rows-left.is)) in
+    ap (λ (l : List HeldRow). slice_get (l ++ rows_in es) c.args.i) none
+    ∙ (walked es c.loop-k.k c.loop-k.left c.args.i b at c.loop-k.invariant.same d c.if-left-rows.true ∙ ap (λ (r : HeldRow). Some r) (sym c.index-rows-left.is)) in
     rw (← c.self.view_is) found
 
 pub loop-k-preserved : goal.loop-k-preserved
