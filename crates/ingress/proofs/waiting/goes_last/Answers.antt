@@ -1,4 +1,4 @@
-use Rattle.std.specs.Prelude.{◌≡◌, IsTrue}
+use Rattle.std.specs.Prelude.{IsTrue}
 use Rattle.std.proofs.Common.{sym}
 use Rattle.ingress.specs.Held.{edge_with}
 use Rattle.ingress.proofs.waiting.goes_last.Goals as goal
