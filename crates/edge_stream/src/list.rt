@@ -1,4 +1,4 @@
-// A list of edges, in batches.
+// The list of edges in batches: made, added to, cut at a time, read and given back.
 ghost use Rattle.std.specs.Prelude.{◌≡◌, ◌+◌, ◌-◌, ◌^◌, min, ◌<◌, ◌≤◌, ◌↔◌, true, [], ◌∷◌, ◌++◌};
 ghost use Rattle.std.specs.Prelude.{length, map, filter, slice_get, Some, IsNone, IfNone, IfSome};
 ghost use Rattle.std.specs.Prelude.{IsErr, IfErr, IfOk, OnOk, OnErr};
