@@ -1,5 +1,5 @@
 // How many edges of a list come before a time, and which one comes first after it.
-ghost use Rattle.std.specs.Prelude.{◌≡◌, ◌+◌, ◌-◌, ◌<◌, ◌≤◌, true, false, List, [], ◌∷◌, take, drop, length};
+ghost use Rattle.std.specs.Prelude.{◌≡◌, ◌+◌, ◌-◌, ◌<◌, ◌≤◌, true, false, [], take, drop, length};
 ghost use Rattle.std.specs.Prelude.{filter, IfSome, IsNone, IsTrue};
 ghost use Rattle.std.specs.List.{list_all};
 ghost use Rattle.tw_rows.specs.declared.edge.Edge.{Edge};

@@ -177,28 +177,6 @@ impl<'a> Cursor<'a> {
         ensures end { self.old.edges ≡ [] → OnOk result
             ((to.new ≡ to.old) × (pools.new ≡ pools.old) × (self.new.edges ≡ [])) }
     {
-        if self.times().is_none() {
-            return Ok(());
-        }
-        self.copy_row_next(pools, to)
-    }
-
-    // The same where an edge is left.
-    fn copy_row_next(&mut self, pools: &mut Pools, to: &mut EdgeList) -> Result<(), Memory>
-        requires kinds { self.old.kinds ≡ cells_of to.old }
-        requires capacity { pools.old.capacity ≡ to.old.capacity }
-        requires order { (e : Edge) (rest : List Edge) → self.old.edges ≡ e ∷ rest →
-            KeepsOrder (to.old.edges ++ e ∷ []) }
-        ensures ok { OnOk result ((e : Edge) (rest : List Edge) → self.old.edges ≡ e ∷ rest →
-            to.new ≡ appended to.old e) }
-        ensures rest { OnOk result ((e : Edge) (rest : List Edge) → self.old.edges ≡ e ∷ rest →
-            self.new.edges ≡ rest) }
-        ensures pools { OnOk result ((e : Edge) (rest : List Edge) → self.old.edges ≡ e ∷ rest →
-            pools.new ≡ room_taken to.old pools.old) }
-        ensures err { OnErr result ((to.new ≡ to.old) × (self.new.edges ≡ self.old.edges)) }
-        ensures err_pools { OnErr result (IsPartTaken pools.old pools.new (cells_of to.old)) }
-        ensures kinds { self.new.kinds ≡ self.old.kinds }
-    {
         if self.place < self.batches.len() {
             to.append_row(pools, &self.batches[self.place], self.row)?;
             self.advance();

@@ -8,6 +8,7 @@ ghost use Rattle.batch.specs.Rows.{Row, edge_of, edges_of};
 ghost use Rattle.batch.specs.PoolsView.{batch_taken, IsPartTaken};
 ghost use Rattle.edge_history.specs.Order.{is_below, is_from, KeepsOrder};
 ghost use Rattle.edge_stream.specs.Listing.{cells_of, edges_in, opened, with_room, appended, SameShape};
+ghost use Rattle.edge_stream.specs.Lists.{no_edges};
 ghost use Rattle.edge_stream.specs.Taking.{room_taken, batches_taken, batches_given};
 
 use crate::cursor::Cursor;
@@ -98,8 +99,7 @@ impl EdgeList {
     pub fn new(alloc: Global, kinds: &[Kind], capacity: usize) -> Result<EdgeList, Memory>
         requires width { length kinds.now ≤ 32 }
         requires room { 1 ≤ capacity }
-        ensures { IfOk result (λ list. list ≡ record
-            { edges = []; kinds = kinds.now; capacity = capacity; batches = 0; room = 0 }) }
+        ensures { IfOk result (λ list. list ≡ no_edges kinds.now capacity) }
     {
         Ok(EdgeList {
             batches: VecDeque::new(alloc),

@@ -1,13 +1,14 @@
 // The edges of a list before a time: copies of them, and the list without them.
-ghost use Rattle.std.specs.Prelude.{◌≡◌, ◌+◌, ◌-◌, ◌<◌, ◌≤◌, true, ℕ, List, [], ◌∷◌, ◌++◌, take, drop, length};
+ghost use Rattle.std.specs.Prelude.{◌≡◌, ◌+◌, ◌-◌, ◌<◌, ◌≤◌, true, ℕ, List, [], ◌++◌, take, drop, length};
 ghost use Rattle.std.specs.Prelude.{filter, All, OnOk, OnErr};
 ghost use Rattle.std.specs.List.{list_all};
 ghost use Rattle.tw_rows.specs.declared.kind.CellKind.{CellKind};
 ghost use Rattle.batch.specs.Rows.{edges_of};
 ghost use Rattle.batch.specs.PoolsView.{IsPartTaken};
 ghost use Rattle.edge_history.specs.Order.{Rises, KeepsOrder, is_below, is_from};
-ghost use Rattle.edge_stream.specs.Listing.{IsOf, cells_of, edges_in, last_room, SameShape};
+ghost use Rattle.edge_stream.specs.Listing.{IsOf, cells_of, edges_in, SameShape};
 ghost use Rattle.edge_stream.specs.Taking.{batches_taken, AreBatchesTaken};
+ghost use Rattle.edge_stream.specs.Growing.{HasGrown};
 
 use crate::counted::{has_rest, row_from};
 use crate::last::{extend_last, room};
@@ -113,12 +114,9 @@ impl EdgeList {
     fn make_room_for(&mut self, pools: &mut Pools, rows: usize) -> Result<(), Memory>
         requires pools { pools.old.capacity ≡ self.old.capacity }
         requires rows { rows ≤ self.old.capacity }
-        ensures edges { self.new.edges ≡ self.old.edges }
+        ensures edges { OnOk result (self.new.edges ≡ self.old.edges) }
         ensures room { OnOk result (rows ≤ self.new.room) }
-        ensures batches { self.old.batches ≤ self.new.batches }
-        ensures pools { OnOk result (pools.new
-            ≡ batches_taken (self.new.batches - self.old.batches) pools.old (cells_of self.old)) }
-        ensures shape { SameShape self.old self.new }
+        ensures grown { OnOk result (HasGrown self.old self.new pools.old pools.new) }
         ensures err { OnErr result (self.new ≡ self.old) }
         ensures err_pools { OnErr result (IsPartTaken pools.old pools.new (cells_of self.old)) }
     {
@@ -138,10 +136,7 @@ impl EdgeList {
         requires order { KeepsOrder (self.old.edges ++ edges_of (take rows batch.now.rows)) }
         ensures ok { OnOk result (self.new.edges
             ≡ self.old.edges ++ edges_of (take rows batch.now.rows)) }
-        ensures batches { self.old.batches ≤ self.new.batches }
-        ensures pools { OnOk result (pools.new
-            ≡ batches_taken (self.new.batches - self.old.batches) pools.old (cells_of self.old)) }
-        ensures shape { SameShape self.old self.new }
+        ensures grown { OnOk result (HasGrown self.old self.new pools.old pools.new) }
         ensures err { OnErr result (self.new ≡ self.old) }
         ensures err_pools { OnErr result (IsPartTaken pools.old pools.new (cells_of self.old)) }
     {

@@ -62,7 +62,7 @@ impl Saved {
         }
     }
 
-    /// No entry, with room for so many.
+    /// No entry, with room for `count` of them, which are pushed without more memory.
     pub fn with_capacity(alloc: Global, count: usize) -> Result<Saved, Memory>
         ensures { IfOk result (λ saved. saved ≡ []) }
     {
@@ -78,6 +78,28 @@ impl Saved {
     {
         self.entries.push(entry)?;
         Ok(())
+    }
+
+    /// Adds an entry of that part last, with these times and a copy of the cells. Out of memory the
+    /// entries are as they were.
+    pub fn push_cells(
+        &mut self,
+        part: u64,
+        sync: Time,
+        other: Time,
+        cells: &Cells,
+    ) -> Result<(), Memory>
+        ensures ok { OnOk result (self.new ≡ self.old
+            ++ record { part = part; sync = sync; other = other; cells = cells.now } ∷ []) }
+        ensures err { OnErr result (self.new ≡ self.old) }
+    {
+        let cells = cells.clone()?;
+        self.push(SavedEntry {
+            part,
+            sync,
+            other,
+            cells,
+        })
     }
 
     /// The entries in order.

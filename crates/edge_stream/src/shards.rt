@@ -1,10 +1,9 @@
 // Lists of edges cut into shards by their keys, and put together again.
-ghost use Rattle.std.specs.Prelude.{◌≡◌, ◌/◌, ◌%◌, ◌^◌, ◌≤◌, ◌<◌, ◌↔◌, ℕ, List, [], ◌∷◌, length, map, slice_get, slice_index_or};
-ghost use Rattle.std.specs.Prelude.{pos, flat_map, All, Some, IsNone, IfNone, IfSome, IfOk, OnErr};
+ghost use Rattle.std.specs.Prelude.{◌≡◌, ◌/◌, ◌%◌, ◌^◌, ◌≤◌, ◌<◌, [], length, map, slice_get, slice_index_or};
+ghost use Rattle.std.specs.Prelude.{pos, flat_map, All, Some, IfNone, IfSome, IfOk, OnErr};
 ghost use Rattle.tw_rows.specs.Kinds.{cell_kind_of};
 ghost use Rattle.tw_rows.specs.Words.{word_of};
 ghost use Rattle.tw_rows.specs.Bag.{SameBag};
-ghost use Rattle.tw_rows.specs.declared.edge.Edge.{Edge};
 ghost use Rattle.batch.specs.Rows.{Row};
 ghost use Rattle.edge_history.specs.Order.{KeepsOrder};
 ghost use Rattle.edge_stream.specs.Listing.{cells_of, IsFilled, SameShape};

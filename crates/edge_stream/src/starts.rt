@@ -1,12 +1,12 @@
 // Start edges that are taken out of a list again.
-ghost use Rattle.std.specs.Prelude.{◌≡◌, ◌<◌, ℕ, List, [], ◌∷◌, false, true, slice_get, length, All};
+ghost use Rattle.std.specs.Prelude.{◌≡◌, ◌<◌, ℕ, List, ◌∷◌, false, true, slice_get, length, All};
 ghost use Rattle.std.specs.Prelude.{Some, IsTrue, IfSome, IsNone};
 ghost use Rattle.tw_rows.specs.Instant.{inf};
 ghost use Rattle.tw_rows.specs.Bag.{SameBag};
 ghost use Rattle.tw_rows.specs.declared.kind.CellKind.{CellKind};
 ghost use Rattle.batch.specs.Rows.{Row, edge_of, edges_of};
 ghost use Rattle.edge_history.specs.Order.{many, starts_it, KeepsOrder};
-ghost use Rattle.edge_stream.specs.Listing.{IsOf, edges_in, last_room, SameShape};
+ghost use Rattle.edge_stream.specs.Listing.{IsOf, edges_in, SameShape};
 
 use crate::list::EdgeList;
 use batch::Batch;
@@ -55,7 +55,8 @@ fn take_start_of(batches: &mut VecDeque<Batch>, cells: &[Datum], start: Time) ->
     ensures none { result ≡ false →
         many (starts_it cells.now start) (edges_in batches.old.items) ≡ 0 }
     ensures kept { result ≡ false → batches.new.items ≡ batches.old.items }
-    ensures order { KeepsOrder (edges_in batches.old.items) → KeepsOrder (edges_in batches.new.items) }
+    ensures order { KeepsOrder (edges_in batches.old.items) →
+        KeepsOrder (edges_in batches.new.items) }
     ensures alike { (kinds : List CellKind) (capacity : ℕ) →
         All (IsOf kinds capacity) batches.old.items → All (IsOf kinds capacity) batches.new.items }
 {
@@ -72,7 +73,8 @@ impl EdgeList {
     /// Takes out a start edge of these cells at that time, if there is one. Its row stays, unoccupied.
     pub fn take_start(&mut self, cells: &Cells, start: Time) -> bool
         ensures taken { IsTrue result → SameBag
-            (record { sync = start; other = inf; cells = cells.now } ∷ self.new.edges) self.old.edges }
+            (record { sync = start; other = inf; cells = cells.now } ∷ self.new.edges)
+            self.old.edges }
         ensures none { result ≡ false → many (starts_it cells.now start) self.old.edges ≡ 0 }
         ensures kept { result ≡ false → self.new ≡ self.old }
         ensures shape { SameShape self.old self.new }

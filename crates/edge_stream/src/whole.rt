@@ -1,5 +1,5 @@
 // Lists that are made whole: from edges, as a copy, and from two lists.
-ghost use Rattle.std.specs.Prelude.{◌≡◌, ◌≤◌, ◌+◌, ◌↔◌, true, false, ℕ, List, [], ◌∷◌, ◌++◌, map};
+ghost use Rattle.std.specs.Prelude.{◌≡◌, ◌≤◌, ◌+◌, ◌↔◌, true, false, ℕ, ◌++◌, map};
 ghost use Rattle.std.specs.Prelude.{length, All, Some, None, IsNone, IsSome, IfOk, OnErr};
 ghost use Rattle.tw_rows.specs.Kinds.{cell_kind_of};
 ghost use Rattle.tw_rows.specs.Cells.{datum_kind};

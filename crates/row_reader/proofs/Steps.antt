@@ -23,9 +23,11 @@ use Rattle.row_reader.specs.Values.{end_of, form_of, times_of, is_alive}
 use Rattle.row_reader.specs.Entry.{Read, text_fault, unless_bad, event, row_of, with_row, punctuation, record_entry, text_entry}
 use Rattle.row_reader.specs.Answers.{IsCause, unless_wrong, bad_value, values_of}
 use Rattle.row_reader.specs.Interned.{row_read, IsReadIn}
+use Rattle.row_reader.specs.TextRead.{ReadsText}
 use Rattle.row_reader.specs.declared.entry.BadLine.{BadLine}
 use Rattle.row_reader.specs.declared.entry.RowFault.{RowFault}
 use Rattle.row_reader.specs.declared.entry.RowFault.TheVariants.{Bad, Memory}
+use Rattle.row_reader.proofs.Celled.{same_table}
 use Rattle.row_reader.proofs.Spells.{no_return_found, not_empty}
 
 -- a bad line leaves the table as it was
@@ -239,9 +241,17 @@ as_many a b c d f g = elim (eqb_tells c d) [
 ]
 
 -- a text without a fault
-pub no_fault : (text : List ℕ) → is_utf8 text ≡ true → list_any (λ b. b == 13) text ≡ false → (odd_quotes text ≡ false) × (has_mark text ≡ false) → text_fault text ≡ None
+pub no_fault : (text : List ℕ) → IsUtf8 text → All (λ b. b ≢ 13) text → odd_quotes text ≡ false → has_mark text ≡ false → text_fault text ≡ None
 unfolding text_fault
-no_fault text u r h = rw (u, r, h.0, h.1) refl
+no_fault text u r even unmarked = rw (is_utf8-from_IsUtf8 text u, no_return_found text r, even, unmarked) refl
+
+-- a text with a fault leaves the table as it was
+pub refused : (streams : List StreamDef) (text : List ℕ) (texts : List (List ℕ)) (row : List Datum) (cause : BadLine) → text_entry streams text ≡ Err cause → ReadsText streams text texts texts row (Err (Bad cause))
+refused streams text texts row cause h = record { entry = bad_read texts row cause _ h; begins = same_table texts; memory = λ is. absurd (cc) }
+
+-- and so does one for whose fields there is no memory
+pub out_of_memory : (streams : List StreamDef) (text : List ℕ) (texts : List (List ℕ)) (row : List Datum) → text_fault text ≡ None → ReadsText streams text texts texts row (Err Memory)
+out_of_memory streams text texts row sound = record { entry = record { entry = tt; texts = (0, refl) }; begins = same_table texts; memory = λ _. sound }
 
 -- a text
 pub empty_text : (streams : List StreamDef) (text : List ℕ) → length text ≡ 0 → text_entry streams text ≡ Ok Skip

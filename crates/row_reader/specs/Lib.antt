@@ -1,6 +1,6 @@
 -- Callers read Entry with what it stands on (Number, Line, Quotes, Record, Values), and Spelled, Printed and Spells, of which
 -- the laws speak, Celled and Interned, and Fields with the reader of fields. Answers serves contracts, and only private contracts
--- cite Drafted.
+-- cite Drafted and TextRead.
 pub mod Number
 pub mod Line
 pub mod Quotes
@@ -11,6 +11,7 @@ pub mod Entry
 pub mod Celled
 pub mod Answers
 pub mod Interned
+pub mod TextRead
 pub mod Drafted
 pub mod Spelled
 pub mod Printed

@@ -1,5 +1,5 @@
 // A line to its entry.
-ghost use Rattle.std.specs.Prelude.{◌≡◌, ◌≢◌, ◌≤◌, ◌<◌, ℕ, List, Ok, Err, None, IfErr, OnOk, false, length, drop, codes};
+ghost use Rattle.std.specs.Prelude.{◌≡◌, ◌≢◌, ◌≤◌, ◌<◌, ℕ, List, Ok, Err, None, IfErr, OnOk, length, drop, codes};
 ghost use Rattle.std.specs.List.{All};
 ghost use Rattle.std.specs.Str.{IsUtf8, is_utf8};
 ghost use Rattle.csv.specs.Records.{AllText};
@@ -7,10 +7,10 @@ ghost use Rattle.tw_rows.specs.Texts.{BeginsWith};
 ghost use Rattle.tw_rows.specs.declared.cells.Datum.{Datum};
 ghost use Rattle.row_reader.specs.Fields.{left};
 ghost use Rattle.row_reader.specs.Drafted.{row_in};
-ghost use Rattle.row_reader.specs.Line.{has_mark, text_of};
-ghost use Rattle.row_reader.specs.Quotes.{odd_quotes};
+ghost use Rattle.row_reader.specs.Line.{text_of};
 ghost use Rattle.row_reader.specs.Interned.{Interns, IsReadIn};
-ghost use Rattle.row_reader.specs.Entry.{entry, punctuation, of_all, of_stream, event, named, record_entry, text_entry, text_fault};
+ghost use Rattle.row_reader.specs.TextRead.{ReadsText};
+ghost use Rattle.row_reader.specs.Entry.{entry, punctuation, of_all, of_stream, event, named, record_entry, text_fault};
 ghost use Rattle.row_reader.specs.Record.{field_of};
 ghost use Rattle.row_reader.specs.Number.{same_text};
 ghost use Rattle.row_reader.specs.Answers.{AnswersIn, IsCause, IsNamed, unless_wrong, values_of};
@@ -212,7 +212,6 @@ fn read_entry(
 }
 
 // The entry of a text without quotes.
-#[tactic(auto, using(crate::proofs::Celled::same_table))]
 fn read_plain(
     text: &[u8],
     streams: &[StreamDef],
@@ -224,10 +223,7 @@ fn read_plain(
     requires no_quote { All (λ b. b ≢ 34) text.now }
     requires no_return { All (λ b. b ≢ 13) text.now }
     requires no_feed { All (λ b. b ≢ 10) text.now }
-    ensures entry { IsReadIn texts.old texts.new row.new.items result (text_entry streams.now text.now) }
-    ensures begins { BeginsWith texts.new texts.old }
-    ensures memory { result ≡ Err RowFault.Memory → (odd_quotes text.now ≡ false)
-        × (has_mark text.now ≡ false) }
+    ensures { ReadsText streams.now text.now texts.old texts.new row.new.items result }
 {
     if has_byte_order_mark(text) {
         return Err(RowFault::Bad(BadLine::UnknownStream));
@@ -236,7 +232,6 @@ fn read_plain(
 }
 
 // The entry of a text that may have quotes.
-#[tactic(auto, using(crate::proofs::Celled::same_table))]
 fn read_quoted(
     alloc: Global,
     text: &[u8],
@@ -248,10 +243,7 @@ fn read_quoted(
     requires some { 0 < length text.now }
     requires no_return { All (λ b. b ≢ 13) text.now }
     requires no_feed { All (λ b. b ≢ 10) text.now }
-    ensures entry { IsReadIn texts.old texts.new row.new.items result (text_entry streams.now text.now) }
-    ensures begins { BeginsWith texts.new texts.old }
-    ensures memory { result ≡ Err RowFault.Memory → (odd_quotes text.now ≡ false)
-        × (has_mark text.now ≡ false) }
+    ensures { ReadsText streams.now text.now texts.old texts.new row.new.items result }
 {
     if has_odd_quotes(text) {
         return Err(RowFault::Bad(BadLine::OddQuotes));
@@ -270,7 +262,6 @@ fn is_text(bytes: &[u8]) -> bool
 }
 
 // The entry of bytes that may be no text, or have a CR or quotes.
-#[tactic(auto, using(crate::proofs::Celled::same_table))]
 fn read_special(
     alloc: Global,
     bytes: &[u8],
@@ -280,9 +271,7 @@ fn read_special(
 ) -> Result<Said, RowFault>
     requires some { 0 < length bytes.now }
     requires no_feed { All (λ b. b ≢ 10) bytes.now }
-    ensures entry { IsReadIn texts.old texts.new row.new.items result (text_entry streams.now bytes.now) }
-    ensures begins { BeginsWith texts.new texts.old }
-    ensures memory { result ≡ Err RowFault.Memory → text_fault bytes.now ≡ None }
+    ensures { ReadsText streams.now bytes.now texts.old texts.new row.new.items result }
 {
     if !is_text(bytes) {
         return Err(RowFault::Bad(BadLine::NotUtf8));

@@ -3,6 +3,7 @@
 
 mod bucket;
 mod buckets;
+mod few;
 mod key_room;
 mod marks;
 mod spares;

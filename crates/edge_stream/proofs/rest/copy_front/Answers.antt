@@ -49,7 +49,7 @@ pub returns-then-has_rest-clause-pools : goal.returns-then-has_rest-clause-pools
 returns-then-has_rest-clause-pools c =
     let inv = c.loop-place.invariant in
     taken_after c.args.to.now.batches c.loop-place.to.batches c.append_first.new.self.batches c.args.pools.now c.loop-place.pools c.append_first.new.pools (cells_of c.args.to.now) (cells_of c.loop-place.to)
-    inv.batches c.append_first.ensures.batches (ap (map cell_kind_of) inv.kinds) inv.pools c.in_ok-append_first.ensures.pools
+    inv.batches c.in_ok-append_first.ensures.grown.batches (ap (map cell_kind_of) inv.kinds) inv.pools c.in_ok-append_first.ensures.grown.pools
 
 pub loop-place-preserved : goal.loop-place-preserved
 loop-place-preserved c =
@@ -66,11 +66,11 @@ loop-place-preserved c =
     record {
       edges = copied_parts c.args.t k bs.items n b lt c.index-batch.ensures inv.below low out c.loop-place.to.edges inv.edges c.append_first.new.self.edges c.in_ok-append_first.ensures.ok ∙ ap (λ l. out ++ l) all;
       below = ap (list_all (is_below c.args.t)) (sym all) ∙ low_parts c.args.t k bs.items n b lt c.index-batch.ensures inv.below low;
-      kinds = c.append_first.ensures.shape.kinds ∙ inv.kinds;
-      capacity = c.append_first.ensures.shape.capacity ∙ inv.capacity;
-      batches = omega (arith, inv.batches, c.append_first.ensures.batches);
+      kinds = c.in_ok-append_first.ensures.grown.shape.kinds ∙ inv.kinds;
+      capacity = c.in_ok-append_first.ensures.grown.shape.capacity ∙ inv.capacity;
+      batches = omega (arith, inv.batches, c.in_ok-append_first.ensures.grown.batches);
       pools = taken_after c.args.to.now.batches c.loop-place.to.batches c.append_first.new.self.batches c.args.pools.now c.loop-place.pools c.append_first.new.pools (cells_of c.args.to.now) (cells_of c.loop-place.to)
-          inv.batches c.append_first.ensures.batches (ap (map cell_kind_of) inv.kinds) inv.pools c.in_ok-append_first.ensures.pools;
+          inv.batches c.in_ok-append_first.ensures.grown.batches (ap (map cell_kind_of) inv.kinds) inv.pools c.in_ok-append_first.ensures.grown.pools;
     }
 
 pub returns-clause-ok : goal.returns-clause-ok

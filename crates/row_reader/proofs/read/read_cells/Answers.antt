@@ -2,13 +2,12 @@ use Rattle.std.proofs.Common.{◌≡◌, ℕ, true, false, subst, sym, ◌∙◌
 use Rattle.std.specs.Prelude.{◌≢◌, ◌==◌}
 use Rattle.std.specs.List.{All}
 use Rattle.std.proofs.lemmas.Bool.Decides.{eqb_tells}
-use Rattle.std.proofs.lemmas.Str.{IsUtf8-from_ascii, is_utf8-from_IsUtf8}
+use Rattle.std.proofs.lemmas.Str.{IsUtf8-from_ascii}
 use Rattle.tw_rows.specs.Cells.{with_row}
 use Rattle.row_reader.specs.Entry.{Read, text_entry, text_fault}
 use Rattle.row_reader.specs.Interned.{row_read}
 use Rattle.row_reader.proofs.Lines.{without_text_of, simple_ascii, simple_no_return, simple_no_quote}
-use Rattle.row_reader.proofs.Spells.{no_return_found}
-use Rattle.row_reader.proofs.Steps.{empty_text, no_fault}
+use Rattle.row_reader.proofs.Steps.{empty_text}
 use Rattle.row_reader.proofs.read.read_cells.Goals as goal
 
 is_zero : (n : ℕ) → true ≡ (n == 0) → n ≡ 0
@@ -41,8 +40,4 @@ returns-then-is_empty-clause-texts c =
     ap (λ (r : Read). with_row c.args.texts.now (row_read r)) (sym is)
 
 pub returns-else-has_special-clause-memory : goal.returns-else-has_special-clause-memory
-returns-else-has_special-clause-memory c = λ is.
-    let text = c.text_of_line-bytes.result.now in
-    let simple = c.has_special.ensures c.if-has_special.false in
-    ap text_fault (sym c.text_of_line-bytes.ensures)
-    ∙ no_fault text (is_utf8-from_IsUtf8 text (IsUtf8-from_ascii _ (simple_ascii _ simple))) (no_return_found text (simple_no_return _ simple)) (c.read_plain.ensures.memory is)
+returns-else-has_special-clause-memory c = λ is. ap text_fault (sym c.text_of_line-bytes.ensures) ∙ c.read_plain.ensures.memory is

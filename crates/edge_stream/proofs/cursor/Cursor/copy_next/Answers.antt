@@ -5,7 +5,7 @@ use Rattle.batch.proofs.Keeping.{no_row}
 use Rattle.edge_history.specs.Order.{KeepsOrder}
 use Rattle.edge_stream.specs.Listing.{appended}
 use Rattle.edge_stream.proofs.Ahead.{stands, next_edge, row_within, row_occupied, head_is}
-use Rattle.edge_stream.proofs.cursor.Cursor.copy_row_next.Goals as goal
+use Rattle.edge_stream.proofs.cursor.Cursor.copy_next.Goals as goal
 
 pub append_row-requires-clause-place : goal.append_row-requires-clause-place
 append_row-requires-clause-place c =
@@ -44,3 +44,12 @@ returns-in_ok-append_row-clause-ok c e rest is =
     let set = stands bs.items s.place s.row b lt c.index.ensures c.self.invariant.at in
     let next = sym (ap (λ v. v.edges) c.self.view_is) ∙ next_edge bs.items s.place s.row b lt c.index.ensures c.self.invariant.at in
     c.in_ok-append_row.ensures.ok (get_or b.rows s.row no_row) (slice_get-get_or b.rows s.row no_row (row_within b.rows s.row set)) ∙ ap (appended c.args.to.now) (head_is _ _ _ _ (sym next ∙ is))
+
+pub returns-in_ok-append_row-clause-end : goal.returns-in_ok-append_row-clause-end
+returns-in_ok-append_row-clause-end c none =
+    let s = c.self.inside in
+    let bs = s.batches.now in
+    let lt : s.place < length bs.items = omega (arith, c.if-self-len.true, c.len.ensures, bs.ok.0) in
+    let b = c.index.result.now in
+    let next = sym (ap (λ v. v.edges) c.self.view_is) ∙ next_edge bs.items s.place s.row b lt c.index.ensures c.self.invariant.at in
+    absurd (cc)
