@@ -25,7 +25,7 @@ pub struct EventLine {
     pub dropped: bool,
 }
 
-// What becomes of a row of the life from `start` to `end`.
+// What becomes of a row of the lifetime from `start` to `end`.
 fn became(dropped: bool, start: Time, end: Time) -> Admitted
     ensures { (row : Row) → result ≡ became_of dropped (with_life row start end) }
 {

@@ -1,4 +1,4 @@
-// What is held of all streams: the edges that wait for a punctuation, and the open starts.
+// What is held of all streams: the pending edges, and the open starts.
 ghost use Rattle.std.specs.Prelude.{◌≡◌, ℕ, ◌+◌, ◌-◌, ◌^◌, ◌<◌, ◌≤◌, ◌↔◌, min, IsTrue, false, []};
 ghost use Rattle.std.specs.Prelude.{◌∷◌, length, get_or, filter, None, All, IfOk, OnOk, OnErr};
 ghost use Rattle.tw_rows.specs.Instant.{inf};
@@ -17,7 +17,7 @@ use batch::Pools;
 use std::alloc::Global;
 use tw_rows::{Cells, Datum, Kind, Memory, Time};
 
-/// The edges of all streams that wait for a punctuation, and the starts that wait for their ends.
+/// The edges of all streams that are pending until a punctuation, and the starts that have no end yet.
 #[derive(Drop)]
 pub struct HeldStreams {
     pub(crate) waiting: Vec<Waiting>,
@@ -159,7 +159,7 @@ impl HeldStreams {
         self.waiting[stream].take_out(cells, start)
     }
 
-    /// A row of a stream with its life, if that is not empty. It starts at the bound of the stream or later.
+    /// A row of a stream with its lifetime, if that is not empty. It starts at the bound of the stream or later.
     pub fn add_row(
         &mut self,
         pools: &mut Pools,

@@ -1,4 +1,4 @@
-// Starts that wait for their ends.
+// Open starts: those that came and have no end yet.
 ghost use Rattle.std.specs.Prelude.{◌≡◌, ◌<◌, ◌++◌, ◌-◌, ◌^◌, [], ◌∷◌, cond, length, min, drop, slice_get, IfOk, OnOk, OnErr};
 ghost use Rattle.std.specs.Cmp.{partial_equiv_from_equiv, decided};
 ghost use Rattle.std.specs.Hash as fed;

@@ -1,4 +1,4 @@
-// Edges that wait for their time.
+// The pending edges of a stream: those that come in order in batches, and the others by rank.
 ghost use Rattle.std.specs.Prelude.{◌≡◌, ◌-◌, ◌^◌, ◌<◌, ◌≤◌, min, length, map, filter, false, IsTrue};
 ghost use Rattle.std.specs.Prelude.{IfOk, OnOk, OnErr, List, [], ◌∷◌, ◌++◌};
 ghost use Rattle.tw_rows.specs.Instant.{inf};
@@ -20,8 +20,8 @@ use std::alloc::Global;
 use std::marker::Model;
 use tw_rows::{Cells, Datum, Edge, Kind, Memory, Time};
 
-/// Edges from which those before a time are taken first. One that comes in order and fits the columns is put last in a list of
-/// batches, and any other by its rank.
+/// Pending edges, from which those before a time are taken first. One that comes in order and fits the columns is put last in a
+/// list of batches, and any other by its rank.
 #[derive(Drop)]
 pub struct Waiting {
     pub(crate) queue: EdgeList,

@@ -1,4 +1,4 @@
-// The rows of one side of a node that are alive.
+// The rows of one side of a node that are alive: in a list while they are few, else in a bucket for each key.
 ghost use Rattle.std.specs.Prelude.{◌≡◌, ◌≤◌, ◌<◌, ◌+◌, ℕ, true, false, [], List, filter, flat_map, length, slice_get, Some, IfOk, OnOk, OnErr};
 ghost use Rattle.tw_rows.specs.Bag.{total};
 ghost use Rattle.tw_rows.specs.declared.edge.HeldRow.{HeldRow};

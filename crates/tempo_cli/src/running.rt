@@ -175,7 +175,8 @@ fn tell_refusal<N: Wire>(notes: &mut N, text: &Option<String>)
 ///
 /// A node with a key runs as so many shards as there are workers, in threads where `rt` can make them; each passes `gate`
 /// before it steps. Where `--batch` is below the fewest edges of the gate no step would fork, and a run that is neither frozen nor
-/// resumed makes one shard. No clause speaks of workers: bytes and status are the same for any number.
+/// resumed makes one shard. Of the number of workers only the clauses on checkpoints speak, whose text has it: for any number
+/// the same is written for the lines.
 pub fn run<'a, R: Threads + Sync, W: Wire, N: Wire, G: Gate>(
     rt: &R,
     alloc: Global,
