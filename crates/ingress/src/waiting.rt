@@ -165,7 +165,7 @@ impl Waiting {
     }
 
     /// Adds copies of the edges before `t` to an empty list, in order. Out of memory changes the list and the pools alone. Where
-    /// all of them came in order, whole columns are copied.
+    /// all of them came in order, whole columns are copied, and else edge by edge.
     pub fn copy_below(&self, pools: &mut Pools, t: Time, list: &mut EdgeList) -> Result<(), Memory>
         requires capacity { pools.old.capacity ≡ list.old.capacity }
         requires empty { list.old.edges ≡ [] }
@@ -179,20 +179,6 @@ impl Waiting {
         if are_alike(&self.queue, list) && !self.others.has_below(t) {
             return self.queue.copy_below(pools, t, list);
         }
-        self.merge_below(pools, t, list)
-    }
-
-    // The same, edge by edge.
-    fn merge_below(&self, pools: &mut Pools, t: Time, list: &mut EdgeList) -> Result<(), Memory>
-        requires capacity { pools.old.capacity ≡ list.old.capacity }
-        requires empty { list.old.edges ≡ [] }
-        requires fit { failing (is_fit (cells_of list.old)) self.now ≡ 0 }
-        ensures ok { OnOk result (SameBag list.new.edges (filter (is_below t) self.now)) }
-        ensures order { OnOk result (Rises 0 list.new.edges) }
-        ensures shape { SameShape list.old list.new }
-        ensures taken { OnOk result (TakesBatches list.old pools.old list.new pools.new) }
-        ensures pools { SamePools pools.old pools.new }
-    {
         let end = end_rank(t);
         let mut low = 0;
         let mut cursor = self.queue.cursor();
