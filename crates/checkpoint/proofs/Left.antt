@@ -111,10 +111,6 @@ entry_fed f ps es part at p e old mid new parts saved low is e_low e_is line fee
       omega (arith, ap length next),
     )
 
--- a place that stands in no part
-pub past_none : (f : FrozenView) (place : Place) → ((part entry : ℕ) → place ≡ Entries part entry → (p : FrozenPart) → slice_get f.parts part ≡ Some p → ⊥) → IsPast f place place
-past_none f place none = λ part entry e p at. absurd (none part entry e p at)
-
 -- behind all entries of this part
 pub past_all : (f : FrozenView) (ps : List FrozenPart) (es : List SavedEntry) (part entry at : ℕ) (p : FrozenPart) → ps ≡ f.parts → es ≡ p.saved → part < length ps → p ≡ get_or ps part p → length es ≤ at →
     IsPast f (Entries part entry) (Entries part at)
