@@ -2,15 +2,17 @@
 """Says what `--workers` costs and gives, beside one worker and beside programs written by hand, and that it changes no byte.
 
 usage: bench/workers.py [COUNT] [--query NAME ..] [--gap N ..] [--workers N ..] [--rounds N] [--no-instructions]
-                        [--before PATH] [--program PATH]
+                        [--batch N] [--before PATH] [--program PATH]
 
 Over COUNT lines (1,000,000 if not given), for a filter, windows with a group, a join, an anti-join and sessions, with a
 punctuation after each 100 lines, after each 10,000 and none until the end (a gap of 0): the time by the clock and by the
-processor of one worker beside the yardstick, of 2, 3, 4 and 16 workers beside one and beside the yardstick, and the most memory,
-all of them in turn. --query, --gap and --workers take some of these. --before names an earlier program, which is run beside one
-worker. Then the time from a line that makes a punctuation due to its bytes, over a pipe, at one and at four workers; and where
-valgrind is installed, the instructions of 20,000 lines, which depend on nothing else that the machine does: one worker is wanted
-at most 1.02 times the earlier program. The table at the end has the ratios by the clock, and what is wanted of them.
+processor of one worker beside the yardstick, of 2, 3, 4 and 16 workers beside one and beside the yardstick, and the most
+memory, all of them in turn. --query, --gap and --workers take some of these. With a --batch of 4,096 or more the program makes
+shards, and threads for a step of so many edges; with less, which is the default, any number of workers is as one. --before
+names an earlier program, which is run beside one worker. Then the time from a line that makes a punctuation due to its bytes,
+over a pipe, at one and at four workers; and where valgrind is installed, the instructions of 20,000 lines, which depend on
+nothing else that the machine does: one worker is wanted at most 1.02 times the earlier program. The table at the end has the
+ratios by the clock, and what is wanted of them.
 Ends with status 1 where two numbers of workers, the yardstick or the earlier program write different bytes.
 """
 import re
@@ -75,7 +77,8 @@ def words_of(read, query, name):
         return [yardstick(), query]
     if name == BEFORE:
         return [read.before, "--query", QUERIES[query]]
-    return [read.program, "--workers", str(name), "--query", QUERIES[query]]
+    batch = ["--batch", str(read.batch)] if read.batch else []
+    return [read.program, "--workers", str(name), *batch, "--query", QUERIES[query]]
 
 
 def titled(name):
@@ -174,6 +177,7 @@ if __name__ == "__main__":
                    ("--query", {"nargs": "+", "choices": QUERIES, "default": list(QUERIES)}),
                    ("--gap", {"nargs": "+", "type": int, "default": [NEAR, FAR, NONE], "help": "a multiple of 100, or 0 for none"}),
                    ("--workers", {"nargs": "+", "type": int, "default": WORKERS}),
+                   ("--batch", {"type": int, "help": "how many rows a batch of the program has, its own default if not given"}),
                    ("--rounds", {"type": int, "default": 5, "help": "runs of each, of which the least counts"}),
                    ("--no-instructions", {"action": "store_true"}),
                    ("--before", {"type": Path, "help": "an earlier program, run beside one worker"})))
