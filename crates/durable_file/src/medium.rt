@@ -22,10 +22,7 @@ pub enum Name {
 pub struct MediumFailed;
 
 /// One fault more where the answer is an error.
-pub fn counted<T: Drop, E: Drop>(
-    faults: &mut u64,
-    answer: Result<T, E>,
-) -> Result<T, MediumFailed>
+pub fn counted<T: Drop, E: Drop>(faults: &mut u64, answer: Result<T, E>) -> Result<T, MediumFailed>
     ensures cause { HasCause faults.old faults.new result }
     ensures value { result_ok result ≡ result_ok answer }
 {
