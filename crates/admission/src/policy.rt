@@ -28,6 +28,6 @@ pub enum Admitted {
     Kept,
     /// It is left out, or ends an event whose start was left out.
     Dropped,
-    /// It makes no event, as the life would be empty.
+    /// It makes no event, as the lifetime would be empty.
     Emptied,
 }

@@ -1,4 +1,4 @@
-// The operator of an anti-join.
+// An Anti: the `Swept` of its sides, and one that keeps nothing yet.
 ghost use Rattle.std.specs.Prelude.{◌≡◌, ◌≤◌, length, [], IfOk};
 ghost use Rattle.plan_model.specs.declared.node.Node.TheVariants.{Anti as AntiNode};
 ghost use Rattle.sweep_operator.specs.Operating.{standing, IsNew};

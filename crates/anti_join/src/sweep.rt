@@ -1,4 +1,5 @@
-// The rows of both sides, and the passes over the edges of an instant.
+// The rows of both sides of an Anti, and the passes over the edges of an instant, which emit the starts and the ends of runs: of
+// a left row the stretches of time over which no right row has its key.
 ghost use Rattle.std.specs.Prelude.{◌≡◌, ◌+◌, ◌<◌, ◌≤◌, ◌++◌, ℕ, suc, nat_eq, true, false, Some, None, List, [], ◌∷◌, map, filter, flat_map, OnOk};
 ghost use Rattle.tw_rows.specs.Bag.{SameBag};
 ghost use Rattle.tw_rows.specs.Event.{AreEvents};
@@ -37,6 +38,7 @@ pub(crate) struct Rows {
     pub(crate) times: FreeTimes,
 }
 
+// The other time of an edge of a run: of an end the time at which the run started, of a start infinity.
 fn other_time(since: Option<Time>, start: Time) -> Time
     ensures { result ≡ other_since since start }
 {
@@ -46,7 +48,7 @@ fn other_time(since: Option<Time>, start: Time) -> Time
     }
 }
 
-// Tells of rows that a run ends, whose key was free since then, or that one starts.
+// Emits of each row the end of its run, where a time is given since which its key was free, and else the start of one.
 fn tell(
     answer: &mut Vec<Edge>,
     t: Time,
@@ -95,7 +97,7 @@ impl Rows {
         Some(self.times.since(key))
     }
 
-    // Tells the end of the run of a row that ended, if its key is free.
+    // Emits the end of the run of a row that ended, if its key is free.
     fn tell_ended(&self, answer: &mut Vec<Edge>, t: Time, edge: &Edge) -> Result<(), Memory>
         ensures { OnOk result (self.now.times.key ≡ self.now.left.key →
             answer.new.items ≡ answer.old.items ++ end_of
@@ -115,7 +117,7 @@ impl Rows {
         }
     }
 
-    // Takes out the left row that an end edge ends, and tells the end of its run.
+    // Takes out the left row that an end edge ends, and emits the end of its run.
     fn end_left_one(&mut self, answer: &mut Vec<Edge>, t: Time, edge: &Edge) -> Result<(), Memory>
         ensures ended { OnOk result (HoldsEnded edge.now self.old.left.rows →
             GiveUp self.old.left.rows self.new.left.rows (ended_of edge.now)) }
@@ -138,7 +140,7 @@ impl Rows {
         Ok(())
     }
 
-    // Takes out the left rows that end, and tells the ends of their runs.
+    // Takes out the left rows that end, and emits the ends of their runs.
     fn end_left(&mut self, answer: &mut Vec<Edge>, t: Time, now: &[Edge]) -> Result<(), Memory>
         ensures ended { OnOk result (NoMore self.old.left.rows (ended_rows now.now) →
             GiveUp self.old.left.rows self.new.left.rows (ended_rows now.now)) }
@@ -157,7 +159,7 @@ impl Rows {
         Ok(())
     }
 
-    // Tells the ends of the runs of the key of a right row that comes, if it was free.
+    // Emits the ends of the runs of the key of a right row that comes, if it was free.
     fn tell_blocked(&self, answer: &mut Vec<Edge>, t: Time) -> Result<(), Memory>
         ensures free { OnOk result (self.now.times.key ≡ self.now.left.key →
             free self.now self.now.right_key.values ≡ true →
@@ -181,7 +183,7 @@ impl Rows {
         Ok(())
     }
 
-    // Puts in the right row that a start edge starts. Where its key was free, the ends of the key's runs are told.
+    // Puts in the right row that a start edge starts. Where its key was free, the ends of the key's runs are emitted.
     fn start_right_one(
         &mut self,
         answer: &mut Vec<Edge>,
@@ -205,7 +207,7 @@ impl Rows {
         Ok(())
     }
 
-    // Puts in the right rows that start, and tells the ends of the runs of the keys that are free no more.
+    // Puts in the right rows that start, and emits the ends of the runs of the keys that are free no more.
     fn start_right(&mut self, answer: &mut Vec<Edge>, t: Time, now: &[Edge]) -> Result<(), Memory>
         ensures started { OnOk result
             (TakeIn self.old.right.rows self.new.right.rows (started_rows now.now)) }
@@ -221,7 +223,7 @@ impl Rows {
         Ok(())
     }
 
-    // Tells the starts of the runs of the left rows whose key the room of right keys holds, and keeps the time for it.
+    // Emits the starts of the runs of the left rows whose key the room of right keys holds, and keeps the time for it.
     fn tell_free(&mut self, answer: &mut Vec<Edge>, t: Time) -> Result<(), Memory>
         ensures told { OnOk result (answer.new.items ≡ answer.old.items ++ map (told_since None t)
             (filter (is_of_key self.old.left.key self.old.right_key.values) self.old.left.rows)) }
@@ -241,7 +243,7 @@ impl Rows {
         Ok(())
     }
 
-    // Takes out the right row that an end edge ends. Where its key is free then, the starts of the key's runs are told.
+    // Takes out the right row that an end edge ends. Where its key is free then, the starts of the key's runs are emitted.
     fn end_right_one(&mut self, answer: &mut Vec<Edge>, t: Time, edge: &Edge) -> Result<(), Memory>
         ensures ended { OnOk result (HoldsEnded edge.now self.old.right.rows →
             GiveUp self.old.right.rows self.new.right.rows (ended_of edge.now)) }
@@ -267,7 +269,7 @@ impl Rows {
         Ok(())
     }
 
-    // Takes out the right rows that end, and tells the starts of the runs of the keys that are free again.
+    // Takes out the right rows that end, and emits the starts of the runs of the keys that are free again.
     fn end_right(&mut self, answer: &mut Vec<Edge>, t: Time, now: &[Edge]) -> Result<(), Memory>
         ensures ended { OnOk result (NoMore self.old.right.rows (ended_rows now.now) →
             GiveUp self.old.right.rows self.new.right.rows (ended_rows now.now)) }
@@ -285,7 +287,7 @@ impl Rows {
         Ok(())
     }
 
-    // Tells the start of a row, if its key, which the room of left keys holds, is free.
+    // Emits the start of a row, if its key, which the room of left keys holds, is free.
     fn tell_begun(&self, answer: &mut Vec<Edge>, t: Time, edge: &Edge) -> Result<(), Memory>
         ensures { OnOk result (answer.new.items ≡ answer.old.items
             ++ begin_of (free self.now self.now.left_key.values) t
@@ -302,7 +304,7 @@ impl Rows {
         Ok(())
     }
 
-    // Puts in the left row that a start edge starts, and tells its start if its key is free.
+    // Puts in the left row that a start edge starts, and emits its start if its key is free.
     fn start_left_one(&mut self, answer: &mut Vec<Edge>, t: Time, edge: &Edge) -> Result<(), Memory>
         ensures started { OnOk result
             (TakeIn self.old.left.rows self.new.left.rows (started_of edge.now)) }
@@ -322,7 +324,7 @@ impl Rows {
         Ok(())
     }
 
-    // Puts in the left rows that start, and tells the starts of those whose key is free.
+    // Puts in the left rows that start, and emits the starts of those whose key is free.
     fn start_left(&mut self, answer: &mut Vec<Edge>, t: Time, now: &[Edge]) -> Result<(), Memory>
         ensures started { OnOk result
             (TakeIn self.old.left.rows self.new.left.rows (started_rows now.now)) }
@@ -378,9 +380,9 @@ impl Rows {
         Ok(())
     }
 
-    // Goes on past one instant. The left rows that end leave first, told by the keys as they were. Of the right rows those
-    // that start come before those that end leave, so that a row that takes the place of another tells nothing; then the left
-    // rows that start come, told by the keys as they are.
+    // Goes on past one instant. The left rows that end leave first, whose runs end by the keys as they were. Of the right rows
+    // those that start come before those that end leave, so that for a row that takes the place of another nothing is emitted;
+    // then the left rows that start come, whose runs start by the keys as they are.
     fn pass(
         &mut self,
         answer: &mut Vec<Edge>,

@@ -7,10 +7,11 @@ use Rattle.edge_stream.specs.declared.saved.SavedEntry.{SavedEntry}
 use Rattle.frozen_state.specs.declared.frozen.FrozenPart.{FrozenPart}
 use Rattle.frozen_state.specs.Frozen.{FrozenView}
 use Rattle.checkpoint_lines.specs.Lines.{end_line, time_line, text_line, entry_line}
-use Rattle.checkpoint.specs.declared.writing.Place.TheVariants.{Head}
+use Rattle.checkpoint.specs.declared.writing.Place.{Place}
+use Rattle.checkpoint.specs.declared.writing.Place.TheVariants.{Head, Entries}
 use Rattle.checkpoint.specs.Form.{FormView}
 use Rattle.checkpoint.specs.Text.{bound_lines, entry_lines, checkpoint_lines}
-use Rattle.checkpoint.specs.Writing.{entries_left, ends_left, lines_left, bytes_of, Appends, LacksRoomFor, LacksRoomToFeed}
+use Rattle.checkpoint.specs.Writing.{entries_left, ends_left, lines_left, bytes_of, Appends, IsPast, LacksRoomFor, LacksRoomToFeed}
 
 pub dropped_all : {X : Type 0} (xs : List X) (n : ℕ) → length xs ≤ n → drop n xs ≡ []
 dropped_all [] zero low = refl
@@ -109,3 +110,17 @@ entry_fed f ps es part at p e old mid new parts saved low is e_low e_is line fee
           (feed ∙ ap (λ (l : List ℕ). l ++ 10 ∷ []) line ∙ append_assoc old (entry_line p.owner p.shard e) (10 ∷ [])),
       omega (arith, ap length next),
     )
+
+-- a place that stands in no part
+pub past_none : (f : FrozenView) (place : Place) → ((part entry : ℕ) → place ≡ Entries part entry → (p : FrozenPart) → slice_get f.parts part ≡ Some p → ⊥) → IsPast f place place
+past_none f place none = λ part entry e p at. absurd (none part entry e p at)
+
+-- behind all entries of this part
+pub past_all : (f : FrozenView) (ps : List FrozenPart) (es : List SavedEntry) (part entry at : ℕ) (p : FrozenPart) → ps ≡ f.parts → es ≡ p.saved → part < length ps → p ≡ get_or ps part p → length es ≤ at →
+    IsPast f (Entries part entry) (Entries part at)
+past_all f ps es part entry at p parts saved low is long = λ part' entry' e q there.
+    let same : part ≡ part' = cc in
+    let here : slice_get f.parts part ≡ Some p = subst (λ (l : List FrozenPart). slice_get l part ≡ Some p) parts (slice_get_read ps _ part p refl low is) in
+    let found : Some q ≡ Some p = sym there ∙ (ap (slice_get f.parts) (sym same) ∙ here) in
+    let one : q ≡ p = cc in
+    (at, ap (λ (n : ℕ). Entries n at) same, subst (λ (x : FrozenPart). length x.saved ≤ at) (sym one) (subst (λ (l : List SavedEntry). length l ≤ at) saved long))

@@ -1,5 +1,5 @@
 -- The lines that are still to be written.
-use Rattle.std.specs.Prelude.{◌≡◌, ◌≤◌, ℕ, Option, Some, None, List, [], ◌∷◌, ◌++◌, map, flat_map, drop, length, Vec}
+use Rattle.std.specs.Prelude.{◌≡◌, ◌≤◌, ℕ, Option, Some, None, List, [], ◌∷◌, ◌++◌, map, flat_map, drop, length, slice_get, Vec}
 use Rattle.frozen_state.specs.declared.frozen.FrozenPart.{FrozenPart}
 use Rattle.frozen_state.specs.Frozen.{FrozenView}
 use Rattle.checkpoint_lines.specs.Lines.{end_line, time_line, text_line, entry_line}
@@ -50,10 +50,16 @@ WritesLine form f place old new (Some next) =
     (line : List ℕ) × ((lines_left form f place ≡ line ∷ lines_left form f next) × (new ≡ old ++ (line ++ 10 ∷ [])))
 WritesLine form f place old new None = (lines_left form f place ≡ []) × (new ≡ old)
 
--- the lines from a place on up to another one were appended, each with its line feed
+-- behind all entries of the part that a place stands in, as behind 3 of 3 from behind the first on
+abbrev pub IsPast : FrozenView → Place → Place → Type 0
+IsPast f place next = (part entry : ℕ) → place ≡ Entries part entry → (p : FrozenPart) → slice_get f.parts part ≡ Some p →
+    (k : ℕ) × (next ≡ Entries part k) × (length p.saved ≤ k)
+
+-- the lines from a place on up to another one were appended, each with its line feed: all those of the part that it stands in
 pub record WritesUpTo (f : FrozenView) (place : Place) (old new : List ℕ) (next : Place) : Type 0 where
   pub bytes : (form : FormView) → new ++ bytes_of (lines_left form f next) ≡ old ++ bytes_of (lines_left form f place)
   pub fewer : (form : FormView) → length (lines_left form f next) ≤ length (lines_left form f place)
+  pub past : IsPast f place next
 
 -- a buffer has no room for the first of the lines
 pub record LacksRoomFor {Z : Type 0} (left : List (List ℕ)) (v : Vec ℕ Z) : Type 0 where

@@ -1,4 +1,4 @@
-// The operator of a Clip.
+// A Clip: the `Swept` of its sides, and one that keeps nothing yet.
 ghost use Rattle.std.specs.Prelude.{◌≡◌, ◌≤◌, [], length, IfOk};
 ghost use Rattle.sweep_operator.specs.Sweepers.{new_standing};
 ghost use Rattle.sweep_operator.specs.Operating.{standing, IsNew};

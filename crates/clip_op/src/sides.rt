@@ -1,4 +1,4 @@
-// The sweep of a clip.
+// The `impl Sweep` of a Clip: how its sides take new edges in, and their state saved and loaded.
 ghost use Rattle.std.specs.Prelude.{◌≡◌, ◌≤◌, ◌++◌, ◌↔◌, IsTrue, ℕ, All, map, List, OnOk, OnErr, IfOk};
 ghost use Rattle.tw_rows.specs.Bag.{SameBag};
 ghost use Rattle.tw_rows.specs.Cells.{datum_kind};
@@ -28,7 +28,7 @@ use sweep_sides::{
 };
 use tw_rows::{Edge, Kind, Memory, Time};
 
-/// The left rows that are open and not clipped, the left edges that wait, and the right starts that do.
+/// The left rows that are open and not clipped, the pending left edges, and the pending right starts.
 #[derive(Drop)]
 pub struct ClipSides {
     pub(crate) rows: Rows,

@@ -1,4 +1,4 @@
-// The left rows that are open, and the passes over the edges of an instant.
+// The left rows of a Clip that are open, and the passes over the edges of an instant.
 ghost use Rattle.std.specs.Prelude.{◌≡◌, ◌+◌, ◌<◌, ◌++◌, ℕ, suc, not, Bool, true, false, List, map, filter, OnOk};
 ghost use Rattle.tw_rows.specs.Bag.{SameBag};
 ghost use Rattle.tw_rows.specs.Event.{AreEvents};
@@ -29,7 +29,7 @@ pub(crate) struct Rows {
     pub(crate) left: Synopsis,
 }
 
-// Tells the ends of rows.
+// Emits the ends of rows.
 fn tell_ends(answer: &mut Vec<Edge>, t: Time, rows: &[HeldRow]) -> Result<(), Memory>
     ensures { OnOk result (answer.new.items ≡ answer.old.items ++ map (told_at false t) rows.now) }
 {
@@ -57,7 +57,7 @@ fn take_out(rows: &mut Synopsis, ends: &[Edge])
 impl Rows {
     ghost use Rattle.clip_op.specs.Keys.{SameKeys};
 
-    // Takes out all left rows of the key that the room holds, and tells their ends.
+    // Takes out all left rows of the key that the room holds, and emits their ends.
     fn clip_key(&mut self, answer: &mut Vec<Edge>, t: Time) -> Result<(), Memory>
         ensures left { OnOk result (Leave (filter
             (is_of_key self.old.left.key self.old.right_key.values) self.old.left.rows) t
@@ -70,7 +70,7 @@ impl Rows {
         Ok(())
     }
 
-    // Takes out the left rows that right starts meet, and tells their ends.
+    // Takes out the left rows that right starts meet, and emits their ends.
     fn clip_rows(&mut self, answer: &mut Vec<Edge>, t: Time, now: &[Edge]) -> Result<(), Memory>
         ensures left { OnOk result (Leave (filter
             (is_met self.old.left.key self.old.right_key.columns now.now) self.old.left.rows) t
@@ -84,7 +84,7 @@ impl Rows {
         Ok(())
     }
 
-    // Takes out the left row that an end edge ends, and tells its end. A row that was clipped is not there any more.
+    // Takes out the left row that an end edge ends, and emits its end. A row that was clipped is not there any more.
     fn end_one(&mut self, answer: &mut Vec<Edge>, t: Time, edge: &Edge) -> Result<(), Memory>
         ensures ended { OnOk result ((clipped : HeldRow → Bool) →
             EndsHeld clipped (ended_of edge.now) self.old.left.rows →
@@ -107,7 +107,7 @@ impl Rows {
         Ok(())
     }
 
-    // Takes out the left rows that end, and tells their ends.
+    // Takes out the left rows that end, and emits their ends.
     fn end_rows(&mut self, answer: &mut Vec<Edge>, t: Time, now: &[Edge]) -> Result<(), Memory>
         ensures ended { OnOk result ((clipped : HeldRow → Bool) →
             EndsHeld clipped (ended_rows now.now) self.old.left.rows →
@@ -122,7 +122,7 @@ impl Rows {
         Ok(())
     }
 
-    // Puts in the left row that a start edge starts, and tells its start.
+    // Puts in the left row that a start edge starts, and emits its start.
     fn start_one(&mut self, answer: &mut Vec<Edge>, t: Time, edge: &Edge) -> Result<(), Memory>
         ensures started { OnOk result
             (TakeIn self.old.left.rows self.new.left.rows (started_of edge.now)) }
@@ -142,7 +142,7 @@ impl Rows {
         Ok(())
     }
 
-    // Puts in the left rows that start, and tells their starts.
+    // Puts in the left rows that start, and emits their starts.
     fn start_rows(&mut self, answer: &mut Vec<Edge>, t: Time, now: &[Edge]) -> Result<(), Memory>
         ensures started { OnOk result
             (TakeIn self.old.left.rows self.new.left.rows (started_rows now.now)) }

@@ -1,4 +1,4 @@
-// The operator of a Coalesce.
+// A Coalesce: the `Swept` of its side, and one that keeps nothing yet.
 ghost use Rattle.std.specs.Prelude.{◌≡◌, ◌≤◌, [], length, IfOk};
 ghost use Rattle.plan_model.specs.declared.node.Node.TheVariants.{Coalesce as CoalesceNode};
 ghost use Rattle.sweep_operator.specs.Operating.{standing, IsNew};
@@ -12,8 +12,8 @@ use sweep_operator::Swept;
 use tw_rows::{Kind, Memory};
 
 /// A Coalesce: the rows of its child at each instant, put together into events that depend on those rows alone, whatever
-/// lives the child's events have. Of equal rows the one that started first ends first. What is kept is the starts of the
-/// rows that are told and have no end yet, and the edges of the child from the time on up to which it is closed.
+/// lifetimes the child's events have. Of equal rows the one that started first ends first. What is kept is the starts that were
+/// emitted and have no end yet, and the edges of the child from the time on up to which it is closed.
 pub type Coalesce = Swept<CoalesceSide>;
 
 /// A Coalesce of nothing yet, of rows with columns of these kinds, in batches of that capacity.

@@ -1,4 +1,4 @@
-// The sweep of a Coalesce.
+// The `impl Sweep` of a Coalesce: how its side takes new edges in, and its state saved and loaded.
 ghost use Rattle.std.specs.Prelude.{◌≡◌, ◌↔◌, IsTrue, ℕ, map, List, IfOk};
 ghost use Rattle.tw_rows.specs.Bag.{SameBag};
 ghost use Rattle.tw_rows.specs.Kinds.{cell_kind_of};
@@ -21,7 +21,7 @@ use sweep_operator::Sweep;
 use sweep_sides::{are_rows, can_wait, load_waiting, save_waiting, take_in};
 use tw_rows::{Edge, Kind, Memory, Time};
 
-/// The open starts of the rows that are told, and the edges of the child that wait.
+/// The starts that were emitted and have no end yet, and the pending edges of the child.
 #[derive(Drop)]
 pub struct CoalesceSide {
     pub(crate) alloc: Global,

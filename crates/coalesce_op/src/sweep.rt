@@ -1,4 +1,4 @@
-// The passes over the edges of an instant.
+// The passes of a Coalesce over the edges of an instant: in place where they are few and apart, else row by row.
 ghost use Rattle.std.specs.Prelude.{◌≡◌, ◌+◌, ◌<◌, ◌≤◌, ℕ, suc, [], take, drop, length, List, IfOk, OnOk};
 ghost use Rattle.tw_rows.specs.Bag.{SameBag};
 ghost use Rattle.tw_rows.specs.Event.{alive, AreEvents};
@@ -86,8 +86,8 @@ fn sweep_in_place(queues: &mut RowQueues, due: &mut [Edge]) -> Result<usize, Mem
     Ok(done)
 }
 
-/// Goes through what is due, and answers what it tells. The edges themselves tell it, as long as those of an instant are
-/// few and apart.
+/// Goes through what is due, and answers the edges to be emitted. They are written over the due ones, as long as those of an
+/// instant are few and apart.
 pub(crate) fn tell_due(queues: &mut RowQueues, mut due: Vec<Edge>) -> Result<Vec<Edge>, Memory>
     ensures swept { IfOk result (λ told. (a : List CellEvent) (from to : ℕ) →
         IsDue a from to due.items → AreQueues (alive a) from queues.old →

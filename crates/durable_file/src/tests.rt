@@ -1,3 +1,4 @@
+// A folder of the system, and a medium in memory that crashes at each step.
 use crate::{FolderMedium, Medium, MemoryMedium, Name, replace};
 use std::fs;
 use std::test::Fail;

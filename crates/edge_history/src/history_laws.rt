@@ -37,7 +37,7 @@ pub fn events_are_unique()
         SameBag a b }
 {}
 
-/// The events of a history have lives that begin before they end.
+/// The events of a history have lifetimes that begin before they end.
 pub fn events_have_lives()
     ensures plain { (h : List Edge) → IsHistory h → AreEvents (of h) }
     ensures balance { (h : List Edge) (a : List CellEvent) → IsHistory h → AreEventsOf h a →

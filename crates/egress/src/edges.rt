@@ -1,4 +1,5 @@
-// The instant that edges show.
+// The changelog lines of one instant, from its edges: which way they are made, by how many edges there are and how often a row
+// comes.
 ghost use Rattle.std.specs.Prelude.{◌≡◌, [], ◌∷◌, OnOk};
 ghost use Rattle.tw_rows.specs.Cells.{ArePlaced};
 ghost use Rattle.node_laws.specs.Places.{EdgesArePlaced};

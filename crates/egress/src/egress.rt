@@ -73,7 +73,7 @@ impl Egress {
         Ok(())
     }
 
-    // Shows what is due, and then puts the edge, which comes no earlier, to those that wait.
+    // Shows what is due, and then puts the edge, which comes no earlier, to the pending ones.
     fn take_one(&mut self, edge: Edge, due: Time, texts: &TextTable) -> Result<(), Memory>
         requires placed { ArePlaced texts.now edge.cells }
         requires waiting { IsPlacedIn texts.now self.old }

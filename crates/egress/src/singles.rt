@@ -1,5 +1,5 @@
-// One instant of output at which each row that is touched ends or starts once: its edges are shown as they are, and no
-// moves are gathered.
+// The changelog lines of one instant at which each row that is touched ends or starts once: its edges are shown as they are, and
+// no moves are gathered.
 ghost use Rattle.std.specs.Prelude.{◌≡◌, List, ℕ, map, IsTrue, OnOk};
 ghost use Rattle.std.specs.List.{dedup};
 ghost use Rattle.std.specs.List.Sorted.{IsStrictlySortedBy};

@@ -1,4 +1,4 @@
-// One instant of output: the ends of all rows that it touches, then their starts.
+// The changelog lines of one instant, from the moves of its rows: the end lines of all of them, then their start lines.
 ghost use Rattle.std.specs.Prelude.{◌≡◌, All, OnOk};
 ghost use Rattle.std.specs.List.Sorted.{IsStrictlySortedBy};
 ghost use Rattle.tw_rows.specs.Cells.{ArePlaced};
@@ -11,6 +11,7 @@ use crate::open_rows::OpenRows;
 use tw_rows::{Memory, TextTable, Time};
 
 impl OpenRows {
+    // Adds the end lines of the rows that end more often than they start.
     fn end_rows(&mut self, at: Time, touched: &[Moves], texts: &TextTable) -> Result<(), Memory>
         requires placed { All (λ m. ArePlaced texts.now m.cells) touched.now }
         requires ordered { IsStrictlySortedBy row_cmp (rows_of texts.now touched.now) }
@@ -26,6 +27,7 @@ impl OpenRows {
         Ok(())
     }
 
+    // Adds the start lines of the rows that start more often than they end.
     fn start_rows(&mut self, at: Time, touched: &[Moves], texts: &TextTable) -> Result<(), Memory>
         requires placed { All (λ m. ArePlaced texts.now m.cells) touched.now }
         requires ordered { IsStrictlySortedBy row_cmp (rows_of texts.now touched.now) }

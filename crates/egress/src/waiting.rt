@@ -1,4 +1,4 @@
-// The edges that wait until they are due.
+// Pending edges, each until its instant is shown.
 ghost use Rattle.std.specs.Prelude.{◌≡◌, ◌<◌, ◌≤◌, ◌+◌, ℕ, [], ◌∷◌, ◌++◌, IfOk, IfSome, IfNone};
 ghost use Rattle.std.specs.Prelude.{true, IsSome, is_some, if◌then◌else◌, nat_eq, cond, None, OnOk};
 ghost use Rattle.std.specs.Ordering.{nat_cmp};
@@ -11,7 +11,7 @@ use std::alloc::Global;
 use std::collections::BTreeMap;
 use tw_rows::{Edge, Memory, Time};
 
-// The edges that wait, each for its instant. Starts come in the order of their instants, so those of the instant at hand
+// The pending edges, each with its instant. Starts come in the order of their instants, so those of the instant at hand
 // are in a list, and the map has the ends, which are known ahead.
 #[derive(Drop)]
 pub(crate) struct Pending {
@@ -44,6 +44,7 @@ fn push_edge(edges: &mut Vec<Edge>, edge: Edge) -> Result<(), Memory>
     Ok(())
 }
 
+// Puts an edge to those of its instant in the map.
 fn put_later(later: &mut BTreeMap<u64, Vec<Edge>>, alloc: Global, edge: Edge) -> Result<(), Memory>
     ensures { OnOk result (ArePut (later_in later.old) (later_in later.new) (edge ∷ [])) }
 {
@@ -53,6 +54,7 @@ fn put_later(later: &mut BTreeMap<u64, Vec<Edge>>, alloc: Global, edge: Edge) ->
     Ok(())
 }
 
+// The first instant of the map, if it has one.
 fn first_instant(later: &BTreeMap<u64, Vec<Edge>>) -> Option<u64>
     ensures there { IfSome result (λ k. IsSome (get nat_cmp later.now k)) }
     ensures least { IfSome result (λ k. IsLowerBound nat_cmp later.now k) }
@@ -88,7 +90,7 @@ fn pop_later(later: &mut BTreeMap<u64, Vec<Edge>>, to: Time) -> Option<Due>
 }
 
 impl Pending {
-    // No edge waits.
+    // No edge is pending.
     pub(crate) fn new(alloc: Global) -> Pending
         ensures { (t : ℕ) → waiting_in result t ≡ None }
     {
@@ -100,7 +102,7 @@ impl Pending {
         }
     }
 
-    // Whether no edge waits.
+    // Whether no edge is pending.
     pub(crate) fn is_empty(&self) -> bool
         ensures { result ≡ true → (t : ℕ) → waiting_in self.now t ≡ None }
     {
@@ -110,7 +112,7 @@ impl Pending {
         }
     }
 
-    // A copy of what waits.
+    // A copy of what is pending.
     pub(crate) fn copy(&self) -> Result<Pending, Memory>
         ensures { IfOk result (λ copy. (t : ℕ) → waiting_in copy t ≡ waiting_in self.now t) }
     {
@@ -124,7 +126,7 @@ impl Pending {
         })
     }
 
-    // Puts an edge to those that wait for its instant.
+    // Puts an edge to the pending ones of its instant.
     pub(crate) fn put(&mut self, edge: Edge) -> Result<(), Memory>
         ensures { OnOk result (ArePut (waiting_in self.old) (waiting_in self.new) (edge ∷ [])) }
     {
@@ -170,7 +172,7 @@ impl Pending {
         self.put(end)
     }
 
-    // Takes out the edges of the instant at hand, after those of the map that wait for it.
+    // Takes out the edges of the instant at hand, after those of the map for it.
     fn pop_now(&mut self) -> Result<Vec<Edge>, Memory>
         ensures edges { IfOk result (λ edges. edges.items
             ≡ edges_if (later_in self.old.later self.old.at) ++ self.old.at_hand.items) }
@@ -189,7 +191,7 @@ impl Pending {
         Ok(edges)
     }
 
-    // Takes out the edges of the first instant for which some wait, if it is below `to`.
+    // Takes out the edges of the first instant for which some are pending, if it is below `to`.
     pub(crate) fn pop_due(&mut self, to: Time) -> Result<Option<Due>, Memory>
         ensures within { to ≤ inf }
         ensures some { IfOk result (λ due. IfSome due (λ d. ArePopped (waiting_in self.old)

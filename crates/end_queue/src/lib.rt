@@ -1,4 +1,4 @@
-//! Edges that wait for their times.
+//! Pending edges, each until a time of its own.
 #![tactic(auto)]
 
 ghost use Rattle.std.specs.Prelude.{◌≡◌, ◌<◌, ◌≤◌, ◌∷◌, ◌++◌, [], List, length, map, All, slice_get, Some, false, IfSome, IfNone, IfOk, OnOk, OnErr};
@@ -71,7 +71,7 @@ fn push_all(due: &mut Vec<Edge>, edges: BTreeMap<(u64, u64), Edge>) -> Result<()
 }
 
 impl EndQueue {
-    /// No edge waits.
+    /// No edge is pending.
     pub fn new(alloc: Global) -> EndQueue
         ensures { result ≡ [] }
     {
@@ -139,7 +139,7 @@ impl EndQueue {
         Ok(())
     }
 
-    /// How many edges wait.
+    /// How many edges are pending.
     pub fn len(&self) -> usize
         ensures len { result ≡ length self.now }
         ensures order { AreDueFrom 0 self.now }

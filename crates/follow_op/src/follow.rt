@@ -1,4 +1,4 @@
-// The operator of a Follow.
+// What a Follow keeps from one step to the next, and a Follow that keeps nothing yet.
 ghost use Rattle.std.specs.Prelude.{◌≡◌, ◌≤◌, min, length, false, [], IfOk};
 ghost use Rattle.plan_model.specs.Keys.{paired_row};
 ghost use Rattle.follow_op.specs.States.{IsWorking};
@@ -13,9 +13,9 @@ use synopsis::{KeyRoom, Synopsis};
 use tw_rows::{Kind, Memory, Time};
 
 /// A Follow: each row of the left side with the rows of the right side that start next after it, with the same data in their
-/// key columns, where they do so within a time from its start on. Such a pair lives from the start of the right row until the
-/// time is over. What is kept is the left rows that wait for a right row, and the starts of both sides from the lesser of the
-/// times on up to which they are closed. No end is kept: that of a pair is known at its start.
+/// key columns, where they do so within a time from its start on. The lifetime of such a pair is from the start of the right row
+/// until the time is over. What is kept is the left rows that wait for a right row, and the starts of both sides from the lesser
+/// of the times on up to which they are closed. No end is kept: that of a pair is known at its start.
 #[derive(Drop)]
 pub struct Follow {
     pub(crate) sides: Sides,

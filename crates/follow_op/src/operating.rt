@@ -1,4 +1,4 @@
-// The operator of a Follow, in its form for every node.
+// The `impl Operator` of a Follow: its step, how much it holds, and its state saved and loaded.
 ghost use Rattle.std.specs.Prelude.{◌≡◌, false, IfErr, OnOk, OnErr};
 
 use crate::follow::Follow;

@@ -34,7 +34,7 @@ pub(crate) struct Rows {
     pub(crate) queue: VecDeque<HeldRow>,
 }
 
-// Tells the events of left rows with a right row, from its start on until their time is over.
+// Emits the events of left rows with a right row, from its start on until their time is over.
 fn tell_rows(
     answer: &mut Vec<Edge>,
     alloc: Global,
@@ -57,7 +57,7 @@ fn tell_rows(
     Ok(())
 }
 
-// Tells the events that the left rows that wait give with the right rows that start.
+// Emits the events that the left rows that wait give with the right rows that start.
 fn tell_matches(
     answer: &mut Vec<Edge>,
     alloc: Global,

@@ -28,7 +28,7 @@ use sweep_sides::{are_rows, are_starts, can_wait, load_rows, load_waiting, put_s
 use synopsis::HeldRow;
 use tw_rows::{Edge, Kind, Memory, Time};
 
-/// The left rows that wait for a right row, and the starts of both sides that wait until they are due.
+/// The left rows that wait for a right row, and the pending starts of both sides.
 #[derive(Drop)]
 pub(crate) struct Sides {
     pub(crate) rows: Rows,
@@ -70,7 +70,7 @@ fn load_queue(alloc: Global, saved: &Saved, part: u64) -> Result<VecDeque<HeldRo
 impl Sides {
     ghost use Rattle.follow_op.specs.States.{SidesKeep, AreSides};
 
-    /// Takes the starts of both sides in, and tells the events that start before a time.
+    /// Takes the starts of both sides in, and answers the interval edges of the events that start before a time.
     pub(crate) fn advance(
         &mut self,
         left: &EdgeList,

@@ -519,8 +519,3 @@ module _ (key : OpenKey) (at p : ℕ) (w w2 : List (List Edge)) (starts starts2 
         go : (x : Option CellOpen) → first_of (is_named key) opens ≡ x → Some st ≡ option_map kept_of x → HasEnded key at p w2 starts2 made opens out (Some st) x
         go None f e = absurd (cc)
         go (Some o) f e = (e, one_ended o f (subst (HasEndedRow key at (get_or w key.stream []) (get_or w2 key.stream [])) (ap (state_or st) e) row))
-
-pub as_start : (x y : List Edge) (cells copy : List Datum) (start other : ℕ) → other ≡ inf → copy ≡ cells →
-    SameBag x (record { sync = start; other = other; cells = copy } ∷ y) → SameBag x (start_of cells start ∷ y)
-as_start x y cells copy start other e f bag =
-    subst (λ c. SameBag x (record { sync = start; other = inf; cells = c } ∷ y)) f (subst (λ o. SameBag x (record { sync = start; other = o; cells = copy } ∷ y)) e bag)

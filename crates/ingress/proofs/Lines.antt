@@ -1,13 +1,13 @@
 -- What is kept after a line, and what admission says of it.
-use Rattle.std.specs.Prelude.{◌≡◌, ℕ, ◌-◌, ◌<◌, ◌≤◌, max, nat_eq, nat_lt, Bool, true, false, cond, ◌&&◌, Option, Some, None, option_map, All, List, [], ◌∷◌, ◌++◌, length, get_or, map, filter, refl}
-use Rattle.std.proofs.Common.{sym, ◌∙◌, ap, subst, arith}
+use Rattle.std.specs.Prelude.{◌≡◌, ℕ, ◌-◌, ◌<◌, ◌≤◌, ◌⊎◌, max, nat_eq, nat_lt, Bool, true, false, cond, ◌&&◌, Option, Some, None, option_map, All, List, [], ◌∷◌, ◌++◌, length, get_or, map, filter, refl}
+use Rattle.std.proofs.Common.{sym, ◌∙◌, ap, subst, arith, inl, inr}
 use Rattle.std.proofs.lemmas.Bool.{eqb-true}
-use Rattle.std.proofs.lemmas.List.{map-append}
+use Rattle.std.proofs.lemmas.List.{map-append, length-map}
 use Rattle.std.proofs.lemmas.List.Elements.{All-nil, All-cons, All-head, All-tail, All-append}
 use Rattle.tw_rows.specs.Instant.{inf}
 use Rattle.tw_rows.specs.Event.{Event as Lived}
 use Rattle.tw_rows.specs.Rows.{Row}
-use Rattle.tw_rows.specs.Cells.{ArePlaced, read_cells, datum_kind}
+use Rattle.tw_rows.specs.Cells.{ArePlaced, read_cells, read_datum, datum_kind}
 use Rattle.tw_rows.specs.Kinds.{cell_kind_of}
 use Rattle.tw_rows.specs.declared.kind.Kind.{Kind}
 use Rattle.tw_rows.proofs.CellReads.{datum_kind-read}
@@ -436,7 +436,7 @@ event_unmatched policy texts distinct given a old k line cells placed own reads 
       r.1,
     )
 
--- an end line that names an open start, or another event line, is taken
+-- an end line that names an open start, or another event line, is taken. An end line of more than 4 cells may be unmatched
 found_first : (key : OpenKey) (xs : List CellOpen) → 0 < length (map kept_of (filter (is_named key) xs)) → (o : CellOpen) × (first_of (is_named key) xs ≡ Some o)
 found_first key [] some = absurd (omega (arith, some))
 found_first key (x ∷ xs) some = go (is_named key x) (found_first key xs) some
@@ -448,20 +448,40 @@ found_first key (x ∷ xs) some = go (is_named key x) (found_first key xs) some
 
 module _ (texts : List (List ℕ)) (distinct : AreDistinct texts) (given : ℕ → List Edge) (a : Admission) (old : Ingress) (f : Follows texts a given old)
     (line : EventLine) (cells : List Datum) (placed : ArePlaced texts cells) (low : line.stream < length old.kinds.items) (own_kinds : map datum_kind cells ≡ get_or (cells_of old) line.stream []) where
-  entered : (form : Form) → NamesStart form line cells old.held → (b : Admission) × (enter a line.stream form line.sync line.other (read_cells texts cells) line.at line.dropped ≡ Taken b)
-  entered Interval named = (_, refl)
-  entered Start named = (_, refl)
-  entered End named =
+  abbrev names_it : Open → Bool
+  names_it = closes_open line.stream (read_cells texts cells) line.other
+
+  ended : (0 < length (starts_in old.held.opens.starts (key_of line.stream line.other cells))) ⊎ (4 < length cells) →
+      IsTaken (length cells) (closed line.stream line.at names_it a (first names_it a.opens))
+  ended (inl named) =
       let key = key_of line.stream line.other cells in
-      let m = found_first key f.opens (subst (λ l. 0 < length l) (f.keeps.queued key) named) in (
-        _,
-        ap (closed line.stream line.at (closes_open line.stream (read_cells texts cells) line.other) a)
-            (first_same texts distinct given a old f old.held.waiting.items (starts_in old.held.opens.starts) line cells placed low own_kinds ∙ ap (option_map (read_open texts)) m.1),
-      )
+      let m = found_first key f.opens (subst (λ l. 0 < length l) (f.keeps.queued key) named) in
+      subst (λ o. IsTaken (length cells) (closed line.stream line.at names_it a o))
+      (sym (first_same texts distinct given a old f old.held.waiting.items (starts_in old.held.opens.starts) line cells placed low own_kinds ∙ ap (option_map (read_open texts)) m.1)) tt
+  ended (inr wide) = go (first names_it a.opens)
+    where
+      go : (m : Option Open) → IsTaken (length cells) (closed line.stream line.at names_it a m)
+      go None = wide
+      go (Some o) = tt
+
+  entered : (form : Form) → NamesStart form line cells old.held → IsTaken (length cells) (enter a line.stream form line.sync line.other (read_cells texts cells) line.at line.dropped)
+  entered Interval named = tt
+  entered Start named = tt
+  entered End named = ended named
+
+-- and with the bound of its stream raised
+bounded_taken : (values s t : ℕ) (o : Outcome) → IsTaken values o → IsTaken values (bounded s t o)
+bounded_taken values s t (Taken b) h = tt
+bounded_taken values s t (WasLate time bound) h = h
+bounded_taken values s t Unmatched h = h
 
 pub event_wanted : (policy : Policy) (texts : List (List ℕ)) → AreDistinct texts → (given : ℕ → List Edge) (a : Admission) (old : Ingress) (k : Admits texts a given old) (line : EventLine) (cells : List Datum) →
     ArePlaced texts cells → line.stream < length old.kinds.items → row_cells (read_cells texts cells) ≡ get_or (cells_of old) line.stream [] → Known policy a line → NamesStart line.form line cells old.held →
-    IsTaken (admit policy a (Event line.stream line.form line.sync line.other (read_cells texts cells)))
+    IsTaken (length (read_cells texts cells)) (admit policy a (Event line.stream line.form line.sync line.other (read_cells texts cells)))
 event_wanted policy texts distinct given a old k line cells placed low fits n named =
-    let e = entered texts distinct given a old k.follows line cells placed low (cells_kinds texts cells ∙ fits) line.form named in
-    subst IsTaken (sym (admit_entered policy a line.stream line.form line.sync line.other (read_cells texts cells) line.at line.dropped n.passes n.at_is n.dropped_is (Taken e.0) e.1)) tt
+    let row = read_cells texts cells in
+    let outcome = enter a line.stream line.form line.sync line.other row line.at line.dropped in
+    let e : IsTaken (length cells) outcome = entered texts distinct given a old k.follows line cells placed low (cells_kinds texts cells ∙ fits) line.form named in
+    subst (λ values. IsTaken values (admit policy a (Event line.stream line.form line.sync line.other row))) (sym (length-map cells (read_datum texts)))
+    (subst (IsTaken (length cells)) (sym (admit_entered policy a line.stream line.form line.sync line.other row line.at line.dropped n.passes n.at_is n.dropped_is outcome refl))
+    (bounded_taken (length cells) line.stream (line.sync - policy.lateness) outcome e))

@@ -121,18 +121,19 @@ Takes before after e old new x = (a : Admission) (given : ℕ → List Edge) →
 abbrev pub IsRefused : List (List ℕ) → Entry → Ingress → Refusal → Type 0
 IsRefused texts e old refusal = (a : Admission) (given : ℕ → List Edge) → Admits texts a given old → Refuses (admit old.policy a e) refusal
 
--- an event line that is neither late and refused nor an end without a start
-abbrev pub IsTaken : Outcome → Type 0
-IsTaken (Taken after) = Unit {0}
-IsTaken (WasLate time bound) = ⊥
-IsTaken Unmatched = ⊥
+-- an event line that is neither late and refused nor, with a row of at most 4 values, an end without a start
+abbrev pub IsTaken : ℕ → Outcome → Type 0
+IsTaken values (Taken after) = Unit {0}
+IsTaken values (WasLate time bound) = ⊥
+IsTaken values Unmatched = 4 < values
 
 abbrev pub IsTakenEvent : Policy → Admission → Entry → Type 0
 IsTakenEvent policy a Skip = ⊥
 IsTakenEvent policy a (Punct stream time) = ⊥
-IsTakenEvent policy a (Event s form sync other row) = IsTaken (admit policy a (Event s form sync other row))
+IsTakenEvent policy a (Event s form sync other row) = IsTaken (length row) (admit policy a (Event s form sync other row))
 
--- memory is taken for such a line alone: a late line is never told as one for which there was no memory
+-- memory is taken for such a line alone: a late line is never told as one for which there was no memory. What an end line of
+-- more than 4 values names takes memory, also where no start has it
 abbrev pub WantsMemory : List (List ℕ) → Entry → Ingress → Type 0
 WantsMemory texts e old = (a : Admission) (given : ℕ → List Edge) → Admits texts a given old → IsTakenEvent old.policy a e
 

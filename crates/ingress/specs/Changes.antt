@@ -1,5 +1,5 @@
 -- How a line changes what is held of all streams.
-use Rattle.std.specs.Prelude.{◌≡◌, ℕ, ◌<◌, ◌≤◌, Option, List, [], ◌∷◌, ◌++◌, length, get_or, map}
+use Rattle.std.specs.Prelude.{◌≡◌, ℕ, ◌<◌, ◌≤◌, ◌⊎◌, Option, List, [], ◌∷◌, ◌++◌, length, get_or, map}
 use Rattle.tw_rows.specs.Bag.{SameBag}
 use Rattle.tw_rows.specs.Cells.{datum_kind}
 use Rattle.tw_rows.specs.declared.cells.Datum.{Datum}
@@ -29,7 +29,7 @@ pub record SameHeld (old new : HeldStreams) : Type 0 where
   pub edges : (s : ℕ) → SameBag (get_or new.waiting.items s []) (get_or old.waiting.items s [])
   pub starts : (k : OpenKey) → starts_in new.opens.starts k ≡ starts_in old.opens.starts k
 
--- a row of stream s came, with its life
+-- a row of stream s came, with its lifetime
 abbrev pub AddsRow : ℕ → List Datum → ℕ → ℕ → HeldStreams → HeldStreams → Type 0
 AddsRow s cells start end old new = (p : ℕ) (made : ℕ → List CellEvent) (opens : List CellOpen) (given : ℕ → List Edge) → p ≤ start →
     KeepsIn p old made opens given → KeepsIn p new (more_rows s (with_life cells start end) made) opens given
@@ -57,8 +57,8 @@ abbrev pub StaysFit : ℕ → List Datum → HeldStreams → HeldStreams → Typ
 StaysFit s cells old new = (kinds : List (List CellKind)) →
     AreFit kinds old.waiting.items → map datum_kind cells ≡ get_or kinds s [] → AreFit kinds new.waiting.items
 
--- an end line names an open start; of other lines nothing is said
+-- an end line names an open start, or has more than 4 cells; of other lines nothing is said
 abbrev pub NamesStart : Form → EventLine → List Datum → HeldStreams → Type 0
-NamesStart End line cells h = 0 < length (starts_in h.opens.starts (key_of line.stream line.other cells))
+NamesStart End line cells h = (0 < length (starts_in h.opens.starts (key_of line.stream line.other cells))) ⊎ (4 < length cells)
 NamesStart Interval line cells h = Unit {0}
 NamesStart Start line cells h = Unit {0}

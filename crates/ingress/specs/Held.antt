@@ -16,6 +16,10 @@ pub record IsHeld (p : ℕ) (given held : List Edge) (rows : List CellEvent) : T
   pub below : failing (is_below p) given ≡ 0
   pub from : failing (is_from p) held ≡ 0
 
+-- the edge of these times and cells. With sync 3 and other 9 it is the interval edge of a row over [3, 9)
+abbrev pub edge_with : ℕ → ℕ → List Datum → Edge
+edge_with sync other cells = record { sync = sync; other = other; cells = cells }
+
 -- the edge of an open start, and the row that it is until its end comes
 abbrev pub start_of : List Datum → ℕ → Edge
 start_of cells start = record { sync = start; other = inf; cells = cells }

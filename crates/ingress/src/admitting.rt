@@ -30,7 +30,7 @@ use line_text::Form;
 use row_reader::{Entry, Said};
 use smallvec::SmallVec;
 use std::alloc::Global;
-use tw_rows::{Cells, Kind, Memory, Schema, StreamDef, TextTable, Time, to_cells};
+use tw_rows::{Cells, Datum, Kind, Memory, Schema, StreamDef, TextTable, Time, to_cells};
 
 // The kinds of the columns, as cells hold them.
 fn plain_kinds(alloc: Global, schema: &Schema) -> Result<Vec<Kind>, Memory>
@@ -175,25 +175,26 @@ impl Ingress {
             Ok(told) => told,
             Err(Memory) => return Err(Refusal::Memory),
         };
-        self.admit_cells(said, cells, texts, pools)
+        self.admit_row(said, cells.items(), texts, pools)
     }
 
-    /// One line more, whose values are cells: what is admitted is the entry that they stand for. A refusal changes nothing.
-    pub fn admit_cells(
+    /// One line more, whose values stand in a row: what is admitted is the entry that they stand for. An interval that comes in
+    /// order goes from the row into the columns of what waits. A refusal changes nothing.
+    pub fn admit_row(
         &mut self,
         said: Said,
-        cells: Cells,
+        row: &[Datum],
         texts: &TextTable,
         pools: &mut Pools,
     ) -> Result<Admitted, Refusal>
-        requires placed { IsPlacedIn texts.now said cells }
-        requires fits { Fits (cells_of self.old) (entry_in texts.now said cells) }
-        ensures ok { IfOk result (Takes texts.now texts.now (entry_in texts.now said cells)
+        requires placed { IsPlacedIn texts.now said row.now }
+        requires fits { Fits (cells_of self.old) (entry_in texts.now said row.now) }
+        ensures ok { IfOk result (Takes texts.now texts.now (entry_in texts.now said row.now)
             self.old self.new) }
-        ensures refused { IfErr result (IsRefused texts.now (entry_in texts.now said cells)
+        ensures refused { IfErr result (IsRefused texts.now (entry_in texts.now said row.now)
             self.old) }
         ensures memory { result ≡ Err Refusal.Memory →
-            WantsMemory texts.now (entry_in texts.now said cells) self.old }
+            WantsMemory texts.now (entry_in texts.now said row.now) self.old }
         ensures left { IfErr result (λ refusal. IsLeft refusal self.old self.new) }
         ensures err { OnErr result (StillAdmits texts.now texts.now self.old self.new) }
         ensures fixed { SameFixed self.old self.new }
@@ -211,7 +212,7 @@ impl Ingress {
                 form,
                 sync,
                 other,
-            } => self.admit_event(stream, form, sync, other, cells, texts, pools),
+            } => self.admit_event(stream, form, sync, other, row, texts, pools),
         }
     }
 
@@ -238,20 +239,20 @@ impl Ingress {
         form: Form,
         sync: Time,
         other: Time,
-        cells: Cells,
+        row: &[Datum],
         texts: &TextTable,
         pools: &mut Pools,
     ) -> Result<Admitted, Refusal>
-        requires placed { ArePlaced texts.now cells }
+        requires placed { ArePlaced texts.now row.now }
         requires stream { stream < length self.old.kinds.items }
-        requires cells { row_cells (read_cells texts.now cells)
+        requires cells { row_cells (read_cells texts.now row.now)
             ≡ get_or (cells_of self.old) stream [] }
         ensures ok { IfOk result (Takes texts.now texts.now
-            (entries.Event stream form sync other (read_cells texts.now cells)) self.old self.new) }
+            (entries.Event stream form sync other (read_cells texts.now row.now)) self.old self.new) }
         ensures refused { IfErr result (IsRefused texts.now
-            (entries.Event stream form sync other (read_cells texts.now cells)) self.old) }
+            (entries.Event stream form sync other (read_cells texts.now row.now)) self.old) }
         ensures memory { result ≡ Err Refusal.Memory → WantsMemory texts.now
-            (entries.Event stream form sync other (read_cells texts.now cells)) self.old }
+            (entries.Event stream form sync other (read_cells texts.now row.now)) self.old }
         ensures left { IfErr result (λ refusal. IsLeft refusal self.old self.new) }
         ensures err { OnErr result (StillAdmits texts.now texts.now self.old self.new) }
         ensures fixed { SameFixed self.old self.new }
@@ -272,7 +273,7 @@ impl Ingress {
         };
         // each text is in the table once
         let _count = texts.len();
-        let Ok(entered) = self.held.enter(pools, &line, cells) else {
+        let Ok(entered) = self.held.enter(pools, &line, row) else {
             return Err(Refusal::Memory);
         };
         let Some(answer) = entered else {

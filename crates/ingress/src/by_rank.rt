@@ -1,13 +1,15 @@
 // Edges by rank, each of which comes in logarithmic time wherever its place is.
 ghost use Rattle.std.specs.Prelude.{◌≡◌, ◌+◌, ◌-◌, ◌*◌, ◌^◌, ◌<◌, ◌≤◌, min, length, get_or};
-ghost use Rattle.std.specs.Prelude.{filter, true, false, IsTrue, IfSome, IsNone, OnOk, OnErr, []};
+ghost use Rattle.std.specs.Prelude.{filter, true, false, IsTrue, IfSome, IsNone, OnOk, OnErr, List, []};
 ghost use Rattle.std.specs.Prelude.{◌∷◌, ◌++◌};
 ghost use Rattle.tw_rows.specs.Instant.{inf};
 ghost use Rattle.tw_rows.specs.Bag.{SameBag};
+ghost use Rattle.tw_rows.specs.declared.cells.Datum.{Datum};
 ghost use Rattle.tw_rows.specs.declared.edge.Edge.{Edge};
 ghost use Rattle.edge_history.specs.Order.{rank, many, failing, starts_it, is_below, is_from, KeepsOrder};
 ghost use Rattle.edge_stream.specs.Listing.{cells_of, SameShape};
 ghost use Rattle.ingress.specs.Fits.{is_fit};
+ghost use Rattle.ingress.specs.Held.{edge_with};
 ghost use Rattle.ingress.specs.Ranks.{is_up_to, is_between, TakesBatches, SamePools, IsShorterBelow, StartsFrom};
 
 use batch::Pools;
@@ -45,12 +47,19 @@ pub(crate) fn end_rank(t: Time) -> u64
     t.word() * 2
 }
 
-// The rank of an edge: by its time, and at one time the ends first.
+// The rank of an edge of these times: by its sync, and at one sync the ends first.
+pub(crate) fn rank_between(sync: Time, other: Time) -> u64
+    ensures { (cells : List Datum) → result ≡ rank (edge_with sync other cells) }
+{
+    let ends = end_rank(sync);
+    if other < sync { ends } else { ends + 1 }
+}
+
+// The rank of an edge.
 pub(crate) fn rank_of(edge: &Edge) -> u64
     ensures { result ≡ rank edge.now }
 {
-    let ends = end_rank(edge.sync);
-    if edge.is_end() { ends } else { ends + 1 }
+    rank_between(edge.sync, edge.other)
 }
 
 // Whether it is the start edge of these cells at that time.

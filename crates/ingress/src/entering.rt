@@ -8,11 +8,11 @@ ghost use Rattle.ingress.specs.Changes.{SameHeld, Enters, StaysFit, NamesStart};
 ghost use Rattle.ingress.specs.Ranks.{SamePools};
 
 use crate::held_streams::{HeldStreams, infinity, is_before};
-use crate::opens::{OpenKey, OpenStart};
+use crate::opens::OpenStart;
 use admission::Admitted;
 use batch::Pools;
 use line_text::Form;
-use tw_rows::{Cells, Memory, Time};
+use tw_rows::{Datum, Memory, Time};
 
 /// An event line without its row: the times that it says, when it takes effect, and whether it is dropped.
 #[derive(Clone, Copy)]
@@ -25,7 +25,7 @@ pub struct EventLine {
     pub dropped: bool,
 }
 
-// What becomes of a row of the life from `start` to `end`.
+// What becomes of a row of the lifetime from `start` to `end`.
 fn became(dropped: bool, start: Time, end: Time) -> Admitted
     ensures { (row : Row) → result ≡ became_of dropped (with_life row start end) }
 {
@@ -56,15 +56,15 @@ impl HeldStreams {
         &mut self,
         pools: &mut Pools,
         line: &EventLine,
-        cells: Cells,
+        cells: &[Datum],
     ) -> Result<Option<Admitted>, Memory>
         requires { line.now.stream < length self.old.waiting.items }
-        ensures ok { IfOk result (Enters line.now.form line.now cells self.old self.new) }
+        ensures ok { IfOk result (Enters line.now.form line.now cells.now self.old self.new) }
         ensures none { IfOk result (λ answer. answer ≡ None → self.new ≡ self.old) }
         ensures err { OnErr result (SameHeld self.old self.new) }
-        ensures named { OnErr result (NamesStart line.now.form line.now cells self.old) }
+        ensures named { OnErr result (NamesStart line.now.form line.now cells.now self.old) }
         ensures len { length self.new.waiting.items ≡ length self.old.waiting.items }
-        ensures fit { StaysFit line.now.stream cells self.old self.new }
+        ensures fit { StaysFit line.now.stream cells.now self.old self.new }
         ensures pools { SamePools pools.old pools.new }
     {
         match line.form {
@@ -74,20 +74,12 @@ impl HeldStreams {
                 Ok(Some(became(false, line.at, line.other)))
             }
             Form::Start => {
-                let key = OpenKey {
-                    stream: line.stream,
-                    given: line.sync,
-                    cells,
-                };
+                let key = self.opens.key(line.stream, line.sync, cells)?;
                 self.open_start(pools, key, open_state(line))?;
                 Ok(Some(became(line.dropped, line.at, infinity())))
             }
             Form::End => {
-                let key = OpenKey {
-                    stream: line.stream,
-                    given: line.other,
-                    cells,
-                };
+                let key = self.opens.key(line.stream, line.other, cells)?;
                 let Some(state) = self.end_start(pools, &key, line.at)? else {
                     return Ok(None);
                 };

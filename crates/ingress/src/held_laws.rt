@@ -15,7 +15,7 @@ pub fn given_edges_stand()
         IsHeld p given held rows → StandsBelow p given rows }
 {}
 
-/// The held edges follow the rows: a new row or an end puts an edge, and a row whose life turns out to be empty takes its
+/// The held edges follow the rows: a new row or an end puts an edge, and a row whose lifetime turns out to be empty takes its
 /// start edge out again, which is there. The order of what is held is free.
 pub fn held_edges_follow_the_rows()
     ensures none { IsHeld 0 [] [] [] }

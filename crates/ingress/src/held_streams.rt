@@ -1,12 +1,11 @@
-// What is held of all streams: the edges that wait for a punctuation, and the open starts.
+// What is held of all streams: the pending edges, and the open starts.
 ghost use Rattle.std.specs.Prelude.{◌≡◌, ℕ, ◌+◌, ◌-◌, ◌^◌, ◌<◌, ◌≤◌, ◌↔◌, min, IsTrue, false, []};
 ghost use Rattle.std.specs.Prelude.{◌∷◌, length, get_or, filter, None, All, IfOk, OnOk, OnErr};
 ghost use Rattle.tw_rows.specs.Instant.{inf};
 ghost use Rattle.tw_rows.specs.Bag.{total, SameBag};
 ghost use Rattle.indexmap.specs.IndexMap.{IsUnique};
-ghost use Rattle.tw_rows.specs.declared.edge.Edge.{Edge};
 ghost use Rattle.edge_history.specs.Order.{many, starts_it, is_from};
-ghost use Rattle.ingress.specs.Held.{start_of};
+ghost use Rattle.ingress.specs.Held.{edge_with, start_of};
 ghost use Rattle.ingress.specs.OpenKeys.{same_key, starts_in};
 ghost use Rattle.ingress.specs.Keeping.{Changed, HasEndedRow, opens_in};
 ghost use Rattle.ingress.specs.Changes.{KeepsIn, SameHeld, AddsRow, AddsStart, EndsStart, StaysFit};
@@ -16,9 +15,9 @@ use crate::opens::{OpenKey, OpenStart, OpenStarts};
 use crate::waiting::Waiting;
 use batch::Pools;
 use std::alloc::Global;
-use tw_rows::{Cells, Edge, Kind, Memory, Time};
+use tw_rows::{Cells, Datum, Kind, Memory, Time};
 
-/// The edges of all streams that wait for a punctuation, and the starts that wait for their ends.
+/// The edges of all streams that are pending until a punctuation, and the starts that have no end yet.
 #[derive(Drop)]
 pub struct HeldStreams {
     pub(crate) waiting: Vec<Waiting>,
@@ -78,31 +77,44 @@ impl HeldStreams {
         held
     }
 
-    // Adds an edge of a stream.
-    pub(crate) fn put(&mut self, pools: &mut Pools, stream: usize, edge: Edge) -> Result<(), Memory>
+    // Adds the edge of a stream of these times and cells.
+    pub(crate) fn put(
+        &mut self,
+        pools: &mut Pools,
+        stream: usize,
+        sync: Time,
+        other: Time,
+        cells: &[Datum],
+    ) -> Result<(), Memory>
         requires { stream < length self.old.waiting.items }
         ensures changed { Changed stream self.old.waiting.items self.new.waiting.items }
         ensures ok { OnOk result (SameBag (get_or self.new.waiting.items stream [])
-            (edge ∷ get_or self.old.waiting.items stream [])) }
+            (edge_with sync other cells.now ∷ get_or self.old.waiting.items stream [])) }
         ensures err { OnErr result (get_or self.new.waiting.items stream []
             ≡ get_or self.old.waiting.items stream []) }
         ensures opens { self.new.opens ≡ self.old.opens }
         ensures pools { SamePools pools.old pools.new }
     {
-        self.waiting[stream].put(pools, edge)
+        self.waiting[stream].put(pools, sync, other, cells)
     }
 
     // Adds an edge of a stream that may be taken out again.
-    pub(crate) fn put_by_rank(&mut self, stream: usize, edge: Edge) -> Result<(), Memory>
+    pub(crate) fn put_by_rank(
+        &mut self,
+        stream: usize,
+        sync: Time,
+        other: Time,
+        cells: &[Datum],
+    ) -> Result<(), Memory>
         requires { stream < length self.old.waiting.items }
         ensures changed { Changed stream self.old.waiting.items self.new.waiting.items }
         ensures ok { OnOk result (SameBag (get_or self.new.waiting.items stream [])
-            (edge ∷ get_or self.old.waiting.items stream [])) }
+            (edge_with sync other cells.now ∷ get_or self.old.waiting.items stream [])) }
         ensures err { OnErr result (get_or self.new.waiting.items stream []
             ≡ get_or self.old.waiting.items stream []) }
         ensures opens { self.new.opens ≡ self.old.opens }
     {
-        self.waiting[stream].put_by_rank(edge)
+        self.waiting[stream].put_by_rank(sync, other, cells)
     }
 
     // Adds the start edge of an open start that was given. Where it was moved to a later bound its end may come no later.
@@ -110,22 +122,24 @@ impl HeldStreams {
         &mut self,
         pools: &mut Pools,
         stream: usize,
-        edge: Edge,
+        start: Time,
+        cells: &[Datum],
         given: Time,
     ) -> Result<(), Memory>
         requires { stream < length self.old.waiting.items }
         ensures changed { Changed stream self.old.waiting.items self.new.waiting.items }
         ensures ok { OnOk result (SameBag (get_or self.new.waiting.items stream [])
-            (edge ∷ get_or self.old.waiting.items stream [])) }
+            (start_of cells.now start ∷ get_or self.old.waiting.items stream [])) }
         ensures err { OnErr result (get_or self.new.waiting.items stream []
             ≡ get_or self.old.waiting.items stream []) }
         ensures opens { self.new.opens ≡ self.old.opens }
         ensures pools { SamePools pools.old pools.new }
     {
-        if edge.sync == given {
-            self.put(pools, stream, edge)
+        let end = infinity();
+        if start == given {
+            self.put(pools, stream, start, end, cells)
         } else {
-            self.put_by_rank(stream, edge)
+            self.put_by_rank(stream, start, end, cells)
         }
     }
 
@@ -145,29 +159,24 @@ impl HeldStreams {
         self.waiting[stream].take_out(cells, start)
     }
 
-    /// A row of a stream with its life, if that is not empty. It starts at the bound of the stream or later.
+    /// A row of a stream with its lifetime, if that is not empty. It starts at the bound of the stream or later.
     pub fn add_row(
         &mut self,
         pools: &mut Pools,
         stream: usize,
-        cells: Cells,
+        cells: &[Datum],
         start: Time,
         end: Time,
     ) -> Result<(), Memory>
         requires { stream < length self.old.waiting.items }
-        ensures ok { OnOk result (AddsRow stream cells start end self.old self.new) }
+        ensures ok { OnOk result (AddsRow stream cells.now start end self.old self.new) }
         ensures err { OnErr result (SameHeld self.old self.new) }
         ensures len { length self.new.waiting.items ≡ length self.old.waiting.items }
-        ensures fit { StaysFit stream cells self.old self.new }
+        ensures fit { StaysFit stream cells.now self.old self.new }
         ensures pools { SamePools pools.old pools.new }
     {
         if is_before(start, end) {
-            let edge = Edge {
-                sync: start,
-                other: end,
-                cells,
-            };
-            self.put(pools, stream, edge)?;
+            self.put(pools, stream, start, end, cells)?;
             return Ok(());
         }
         Ok(())
@@ -194,12 +203,7 @@ impl HeldStreams {
         let (stream, given) = (key.stream, key.given);
         let start = state.start;
         let cells = key.cells.clone()?;
-        let edge = Edge {
-            sync: start,
-            other: infinity(),
-            cells: cells.clone()?,
-        };
-        self.put_start(pools, stream, edge, given)?;
+        self.put_start(pools, stream, start, cells.items(), given)?;
         if let Err(memory) = self.opens.open(key, state) {
             self.take_out(stream, &cells, start);
             return Err(memory);
@@ -234,12 +238,7 @@ impl HeldStreams {
             if !is_before(at, infinity()) {
                 return Ok(());
             }
-            let edge = Edge {
-                sync: at,
-                other: state.start,
-                cells: key.cells.clone()?,
-            };
-            self.put(pools, key.stream, edge)?;
+            self.put(pools, key.stream, at, state.start, key.cells.items())?;
             return Ok(());
         }
         if is_before(state.start, infinity()) {

@@ -17,7 +17,7 @@ use crate::watermarks::{Watermark, Watermarks};
 use carried_edges::is_stored_as;
 use edge_stream::{LoadFault, Saved, SavedEntry};
 use std::alloc::Global;
-use tw_rows::{Cells, Edge, Kind, Memory, Time};
+use tw_rows::{Kind, Memory, Time};
 
 // Whether the time is an event time, or infinity.
 #[tactic(auto, unfolding(tw_rows::specs::Instant::inf))]
@@ -88,13 +88,7 @@ impl HeldStreams {
         ensures ok { OnOk result (TakesUp entry.now self.old self.new) }
         ensures len { length self.new.waiting.items ≡ length self.old.waiting.items }
     {
-        let edge = Edge {
-            sync: entry.sync,
-            other: entry.other,
-            cells: entry.cells.clone()?,
-        };
-        self.put_by_rank(stream, edge)?;
-        Ok(())
+        self.put_by_rank(stream, entry.sync, entry.other, entry.cells.items())
     }
 
     // Takes up the open start of an entry.

@@ -1,5 +1,5 @@
-// Starts that wait for their ends.
-ghost use Rattle.std.specs.Prelude.{◌≡◌, ◌++◌, ◌-◌, ◌^◌, [], ◌∷◌, cond, length, min, drop, slice_get, OnOk, OnErr};
+// Open starts: those that came and have no end yet.
+ghost use Rattle.std.specs.Prelude.{◌≡◌, ◌<◌, ◌++◌, ◌-◌, ◌^◌, [], ◌∷◌, cond, length, min, drop, slice_get, IfOk, OnOk, OnErr};
 ghost use Rattle.std.specs.Cmp.{partial_equiv_from_equiv, decided};
 ghost use Rattle.std.specs.Hash as fed;
 ghost use Rattle.std.specs.Hash.{same_Alike};
@@ -7,13 +7,14 @@ ghost use Rattle.tw_rows.specs.contracts.cells.CellsHash.TheImpl as cells_hash;
 ghost use Rattle.ingress.specs.declared.opens.OpenKey.{OpenKey as Key};
 ghost use Rattle.ingress.specs.OpenKeys.{same_key, same_key-Decides, starts_in, NoneIsEmpty};
 ghost use Rattle.ingress.specs.Keeping.{opens_in};
+ghost use Rattle.ingress.specs.Entering.{key_of};
 ghost use Rattle.indexmap.specs.IndexMap.{IsUnique};
 
 use indexmap::IndexMap;
 use std::alloc::Global;
 use std::collections::VecDeque;
 use std::hash::{Hash, Hasher};
-use tw_rows::{Cells, Memory, Time};
+use tw_rows::{Cells, Datum, Memory, Time};
 
 /// What the end line of an open start names: its stream, its start as it was given, and its cells.
 #[derive(Drop)]
@@ -80,6 +81,19 @@ impl OpenStarts {
             starts: IndexMap::new(alloc),
             alloc,
         }
+    }
+
+    /// The key of an event of these cells. Memory is taken only for more than 4.
+    pub fn key(&self, stream: usize, given: Time, cells: &[Datum]) -> Result<OpenKey, Memory>
+        ensures ok { IfOk result (λ key. key ≡ key_of stream given cells.now) }
+        ensures err { OnErr result (4 < length cells.now) }
+    {
+        let cells = Cells::from_slice(self.alloc, cells)?;
+        Ok(OpenKey {
+            stream,
+            given,
+            cells,
+        })
     }
 
     /// Adds an open start, after those that are alike.

@@ -1,25 +1,27 @@
-// Edges that wait for their time.
+// The pending edges of a stream: those that come in order in batches, and the others by rank.
 ghost use Rattle.std.specs.Prelude.{◌≡◌, ◌-◌, ◌^◌, ◌<◌, ◌≤◌, min, length, map, filter, false, IsTrue};
 ghost use Rattle.std.specs.Prelude.{IfOk, OnOk, OnErr, List, [], ◌∷◌, ◌++◌};
 ghost use Rattle.tw_rows.specs.Instant.{inf};
 ghost use Rattle.tw_rows.specs.Bag.{SameBag};
 ghost use Rattle.tw_rows.specs.Cells.{datum_kind};
+ghost use Rattle.tw_rows.specs.declared.cells.Datum.{Datum};
 ghost use Rattle.tw_rows.specs.declared.edge.Edge.{Edge};
 ghost use Rattle.edge_history.specs.Order.{rank as edge_rank, many, failing, starts_it, is_below, is_from, Rises, IsReal, KeepsOrder};
 ghost use Rattle.edge_stream.specs.Listing.{cells_of, SameShape};
 ghost use Rattle.ingress.specs.Fits.{is_fit};
+ghost use Rattle.ingress.specs.Held.{edge_with};
 ghost use Rattle.ingress.specs.Ranks.{TakesBatches, SamePools};
 
-use crate::by_rank::{ByRank, end_rank, rank_of};
+use crate::by_rank::{ByRank, end_rank, rank_between, rank_of};
 use batch::Pools;
 use carried_edges::is_stored_as;
 use edge_stream::{Cursor, EdgeList};
 use std::alloc::Global;
 use std::marker::Model;
-use tw_rows::{Cells, Edge, Kind, Memory, Time};
+use tw_rows::{Cells, Datum, Edge, Kind, Memory, Time};
 
-/// Edges from which those before a time are taken first. One that comes in order and fits the columns is put last in a list of
-/// batches, and any other by its rank.
+/// Pending edges, from which those before a time are taken first. One that comes in order and fits the columns is put last in a
+/// list of batches, and any other by its rank.
 #[derive(Drop)]
 pub struct Waiting {
     pub(crate) queue: EdgeList,
@@ -36,23 +38,24 @@ impl Model for Waiting {
     ghost view = { λ w. w.queue.edges ++ w.others };
 }
 
-// Whether the edge comes at an instant, and its other time is another one.
+// Whether an edge of these times comes at an instant, and its other time is another one.
 #[tactic(auto, unfolding(tw_rows::specs::Instant::inf))]
-fn is_real(edge: &Edge) -> bool
-    ensures { IsTrue result → IsReal edge.now }
+fn is_real(sync: Time, other: Time) -> bool
+    ensures { IsTrue result → (cells : List Datum) → IsReal (edge_with sync other cells) }
 {
-    let other = edge.other.word();
-    edge.sync < Time::INF && other != edge.sync.word()
+    let instant = other.word();
+    sync < Time::INF && instant != sync.word()
 }
 
-// Whether the edge can be put last in the list.
-fn goes_last(queue: &EdgeList, edge: &Edge) -> bool
-    ensures kinds { IsTrue result → map datum_kind edge.now.cells ≡ cells_of queue.now }
-    ensures order { IsTrue result → KeepsOrder (queue.now.edges ++ edge.now ∷ []) }
+// Whether the edge of these times and cells can be put last in the list.
+fn goes_last(queue: &EdgeList, sync: Time, other: Time, cells: &[Datum]) -> bool
+    ensures kinds { IsTrue result → map datum_kind cells.now ≡ cells_of queue.now }
+    ensures order { IsTrue result →
+        KeepsOrder (queue.now.edges ++ edge_with sync other cells.now ∷ []) }
 {
-    is_real(edge)
-        && is_stored_as(edge.cells.items(), queue.kinds())
-        && comes_last(queue, rank_of(edge))
+    is_real(sync, other)
+        && is_stored_as(cells, queue.kinds())
+        && comes_last(queue, rank_between(sync, other))
 }
 
 // Whether an edge of that rank comes after those of the list.
@@ -108,24 +111,35 @@ impl Waiting {
         })
     }
 
-    /// Adds an edge.
-    pub fn put(&mut self, pools: &mut Pools, edge: Edge) -> Result<(), Memory>
-        ensures ok { OnOk result (SameBag self.new (edge ∷ self.old)) }
+    /// Adds the edge of these times and cells. Where it comes in order its cells go into the columns at once.
+    pub fn put(
+        &mut self,
+        pools: &mut Pools,
+        sync: Time,
+        other: Time,
+        cells: &[Datum],
+    ) -> Result<(), Memory>
+        ensures ok { OnOk result (SameBag self.new (edge_with sync other cells.now ∷ self.old)) }
         ensures err { OnErr result (self.new ≡ self.old) }
         ensures pools { SamePools pools.old pools.new }
     {
-        if pools.capacity() == self.queue.capacity() && goes_last(&self.queue, &edge) {
-            return self.queue.append(pools, &edge);
+        if pools.capacity() == self.queue.capacity() && goes_last(&self.queue, sync, other, cells) {
+            return self.queue.append_cells(pools, sync, other, cells);
         }
-        self.put_by_rank(edge)
+        self.put_by_rank(sync, other, cells)
     }
 
     /// Adds an edge that may be taken out again before its time: it is found by its rank then.
-    pub fn put_by_rank(&mut self, edge: Edge) -> Result<(), Memory>
-        ensures ok { OnOk result (SameBag self.new (edge ∷ self.old)) }
+    pub fn put_by_rank(&mut self, sync: Time, other: Time, cells: &[Datum]) -> Result<(), Memory>
+        ensures ok { OnOk result (SameBag self.new (edge_with sync other cells.now ∷ self.old)) }
         ensures err { OnErr result (self.new ≡ self.old) }
     {
-        self.others.put(edge)
+        let own = Cells::from_slice(self.alloc, cells)?;
+        self.others.put(Edge {
+            sync,
+            other,
+            cells: own,
+        })
     }
 
     /// How many edges wait, or the greatest number where there are more. It goes through the batches and through the times of
@@ -151,7 +165,7 @@ impl Waiting {
     }
 
     /// Adds copies of the edges before `t` to an empty list, in order. Out of memory changes the list and the pools alone. Where
-    /// all of them came in order, whole columns are copied.
+    /// all of them came in order, whole columns are copied, and else edge by edge.
     pub fn copy_below(&self, pools: &mut Pools, t: Time, list: &mut EdgeList) -> Result<(), Memory>
         requires capacity { pools.old.capacity ≡ list.old.capacity }
         requires empty { list.old.edges ≡ [] }
@@ -165,20 +179,6 @@ impl Waiting {
         if are_alike(&self.queue, list) && !self.others.has_below(t) {
             return self.queue.copy_below(pools, t, list);
         }
-        self.merge_below(pools, t, list)
-    }
-
-    // The same, edge by edge.
-    fn merge_below(&self, pools: &mut Pools, t: Time, list: &mut EdgeList) -> Result<(), Memory>
-        requires capacity { pools.old.capacity ≡ list.old.capacity }
-        requires empty { list.old.edges ≡ [] }
-        requires fit { failing (is_fit (cells_of list.old)) self.now ≡ 0 }
-        ensures ok { OnOk result (SameBag list.new.edges (filter (is_below t) self.now)) }
-        ensures order { OnOk result (Rises 0 list.new.edges) }
-        ensures shape { SameShape list.old list.new }
-        ensures taken { OnOk result (TakesBatches list.old pools.old list.new pools.new) }
-        ensures pools { SamePools pools.old pools.new }
-    {
         let end = end_rank(t);
         let mut low = 0;
         let mut cursor = self.queue.cursor();

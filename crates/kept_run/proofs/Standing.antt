@@ -10,6 +10,7 @@ use Rattle.tempo_cli.specs.Answers.{Answers, IsFront}
 use Rattle.tempo_cli.specs.Restoring.{AreFront}
 use Rattle.tempo_cli.specs.Table.{IsPromptAfter, IsEnd, IsShort}
 use Rattle.tempo_cli.specs.Feeding.{Holds}
+use Rattle.tempo_cli.specs.Holding.{HoldsOn}
 use Rattle.tempo_cli.specs.Halting.{IsFormFor}
 use Rattle.tempo_cli.specs.declared.answering.Answering.{Answering}
 use Rattle.tempo_cli.specs.declared.status.Status.{Status}
@@ -18,7 +19,7 @@ use Rattle.tempo_cli.proofs.Fed.{took_final}
 use Rattle.tempo_cli.proofs.Journals.{ended-append, ins_outs, prompt_outs}
 use Rattle.tempo_cli.proofs.Moves.{short, some_written}
 use Rattle.kept_run.specs.Keeping.{Task, Marks, query_of, answers_of, task_after, StartsTask, KeepsAfter, Keeps, IsTimelyAfter, kept_in, due_in, last_behind, all_counts, IsPunctual}
-use Rattle.kept_run.specs.Standing.{IsFor, Stands, Under, Fails, IsWanting, IsAsBefore, SaysSame}
+use Rattle.kept_run.specs.Standing.{IsFor, StandsAt, Stands, UnderAt, Under, Owes, Fails, IsWanting, IsAsBefore, SaysSame}
 use Rattle.kept_run.specs.Status.{IsKeptEnd}
 use Rattle.kept_run.specs.declared.keeping.Keeper.{Keeper}
 use Rattle.kept_run.specs.declared.status.KeptStatus.{KeptStatus}
@@ -228,113 +229,178 @@ fails_keeps {t} {given} {counts} {J} every status f w before after timely = reco
     front (inl e) = subst (λ c. IsFront c (all_counts t every (whole (ins J)))) (sym e) before
     front (inr e) = subst (λ c. IsFront c (all_counts t every (whole (ins J)))) (sym e) after
 
--- a line was taken, and what it calls for is written; a checkpoint may be due
-pub record AfterLine (t : Task) (every : ℕ) (k : Keeper) (J M : List Entry) : Type 0 where
+-- what went out brought nothing in
+ins_same : (J O : List Entry) → All IsOut O → ins (J ++ O) ≡ ins J
+ins_same J O alone = ins-append J O ∙ (ap (λ x. ins J ++ x) (ins_outs O alone) ∙ append-nil (ins J))
+
+-- what was held went out
+pub all_sent : (J O : List Entry) {held : List ℕ} → SentAll held O → outs (J ++ O) ≡ outs J ++ held
+all_sent J O s = outs-append J O ∙ ap (λ x. outs J ++ x) s.all
+
+-- or some of it, and of what was due behind it
+pub some_sent : (J O : List Entry) (held due after : List ℕ) → HoldsOn held due after O → outs (J ++ O) ++ after ≡ (outs J ++ held) ++ due
+some_sent J O held due after s =
+    ap (λ x. x ++ after) (outs-append J O) ∙ (append_assoc (outs J) (outs O) after ∙ (ap (λ x. outs J ++ x) s.all ∙ sym (append_assoc (outs J) held due)))
+
+module _ {t : Task} {k : Keeper} {text : List ℕ} {J : List Entry} {given : List (List ℕ)} {counts : List ℕ} (s : StandsAt t k text J given counts) where
+  -- more of the text was written
+  stands_out : (O : List Entry) (now : List ℕ) → All IsOut O → now ≡ text → StandsAt t k now (J ++ O) given counts
+  stands_out O now alone same =
+      let came = ins_same J O alone in
+      record {
+        is_for = s.is_for;
+        prompt = prompt_outs (answers_of t) [] J O alone s.prompt;
+        holds = subst (λ b. Holds (query_of t) b given k.answering) (sym came) s.holds;
+        written = same ∙ s.written;
+        keeps = keeps_more t counts J O s.keeps (keeps_outs t J O alone);
+        few = omega (arith, ap length came, s.few);
+        output = s.output ∙ ap (λ (x : List ℕ). min (t.start.output + length x) 18446744073709551615) (sym same);
+      }
+
+  -- a write of what is held failed
+  stands_cut : (every : ℕ) (held : List ℕ) → text ≡ outs J ++ held → IsTimelyAfter t every [] J → IsFront counts (all_counts t every (whole (ins J))) → (O : List Entry) → SentFront held O →
+      Keeps t every (Ended statuses.WriteFault) (J ++ O)
+  stands_cut every held is timely punctual O sent =
+      let same = ins_same J O sent.outs_alone in
+      let front = some_written s.holds.within (took_final (query_of t) given k.answering.engine s.holds.engine) (outs J) held (outs O) (sym s.written ∙ is) (sent.after, sent.front) false in
+      record {
+        prompt = prompt_outs (answers_of t) [] J O sent.outs_alone s.prompt;
+        end = subst (λ b. IsFront (outs (J ++ O)) ((answers_of t).text (lines b false) false)) (sym same) (subst (λ o. IsFront o ((answers_of t).text (lines (ins J) false) false)) (sym (outs-append J O)) front);
+        counts = counts;
+        keeps = keeps_more t counts J O s.keeps (keeps_outs t J O sent.outs_alone);
+        punctual = subst (λ b. IsFront counts (all_counts t every (whole b))) (sym same) punctual;
+        timely = timely_on t every [] J O timely (timely_outs t every J O sent.outs_alone);
+      }
+
+-- a line was taken, and what it calls for is written or held; a checkpoint may be due
+pub record AfterLine (t : Task) (every : ℕ) (k : Keeper) (text : List ℕ) (J M : List Entry) : Type 0 where
   pub given : List (List ℕ)
   pub line : List ℕ
-  pub stands : Stands t k M (given ++ line ∷ []) (due_in t every given (length given)).counts
+  pub stands : StandsAt t k text M (given ++ line ∷ []) (due_in t every given (length given)).counts
   pub at : k.kept_at ≡ (due_in t every given (length given)).punct
   pub goes_on : ended M ≡ false
   pub every_is : k.every ≡ every
   pub same : ins M ≡ ins J
   pub timely : IsTimelyAfter t every [] M
 
-module _ {t : Task} {every : ℕ} {k : Keeper} {J : List Entry} (u : Under t every k J) where
-  -- the lines that came in were taken
-  pub no_more : (k' : Keeper) → Holds (query_of t) (ins J) u.given k'.answering → k'.answering.engine.parts.dataflow.workers ≡ k.answering.engine.parts.dataflow.workers → k'.form ≡ k.form → k'.every ≡ k.every →
-      k'.input ≡ k.input → k'.output ≡ k.output → k'.kept_at ≡ k.kept_at → Under t every k' (J ++ []) × (ins (J ++ []) ≡ ins J)
-  no_more k' holds workers form each input output at = subst (λ K. Under t every k' K × (ins K ≡ ins J)) (sym (append-nil J)) (
+-- a line ended the run
+pub line_stops : {t : Task} {every : ℕ} {k : Keeper} {J : List Entry} (u : Under t every k J) (status : Status) → IsEnd (answers_of t) status (ins J) ((answers_of t).text u.given false) false → Keeps t every (Ended status) J
+line_stops {t} {every} {k} {J} u status end =
+    let now = subst (λ o. IsEnd (answers_of t) status (ins J) o false) (sym u.stands.written) end in
+    record {
+      prompt = u.stands.prompt;
+      end = ends_kept (answers_of t) status (ins J) (outs J) (ended J) now;
+      counts = (due_in t every u.given (length u.given)).counts;
+      keeps = u.stands.keeps;
+      punctual = ends_punctual t every (answers_of t) status (ins J) (outs J) _ (whole (ins J)) now (given_front t every u.given (whole (ins J)) (taken_front u.stands.holds.within));
+      timely = u.timely;
+    }
+
+module _ {t : Task} {every : ℕ} {k : Keeper} {text : List ℕ} {J : List Entry} (u : UnderAt t every k text J) where
+  -- all lines that came in were taken
+  under_again : (k' : Keeper) → Holds (query_of t) (ins J) u.given k'.answering → k'.answering.engine.parts.dataflow.workers ≡ k.answering.engine.parts.dataflow.workers → k'.form ≡ k.form → k'.every ≡ k.every →
+      k'.input ≡ k.input → k'.output ≡ k.output → k'.kept_at ≡ k.kept_at → UnderAt t every k' text J
+  under_again k' holds workers form each input output at = record {
+    given = u.given;
+    stands = record {
+      is_for = is_for_again u.stands.is_for workers form input;
+      prompt = u.stands.prompt;
+      holds = holds;
+      written = u.stands.written;
+      keeps = u.stands.keeps;
+      few = u.stands.few;
+      output = output ∙ u.stands.output;
+    };
+    at = at ∙ u.at;
+    goes_on = u.goes_on;
+    every_is = each ∙ u.every_is;
+    timely = u.timely;
+  }
+
+  -- more of the text was written
+  pub under_out : (O : List Entry) (now : List ℕ) → All IsOut O → now ≡ text → UnderAt t every k now (J ++ O) × (ins (J ++ O) ≡ ins J)
+  under_out O now alone same = (
     record {
       given = u.given;
-      stands = record {
-        is_for = is_for_again u.stands.is_for workers form input;
-        prompt = u.stands.prompt;
-        holds = holds;
-        written = u.stands.written;
-        keeps = u.stands.keeps;
-        few = u.stands.few;
-        output = output ∙ u.stands.output;
-      };
-      at = at ∙ u.at;
-      goes_on = u.goes_on;
-      every_is = each ∙ u.every_is;
-      timely = u.timely;
+      stands = stands_out u.stands O now alone same;
+      at = u.at;
+      goes_on = ended-append J O ∙ (ap (λ x. x || ended O) u.goes_on ∙ ended_outs O alone);
+      every_is = u.every_is;
+      timely = timely_on t every [] J O u.timely (timely_outs t every J O alone);
     },
-    refl,
+    ins_same J O alone,
   )
 
-  -- a line ended the run
-  pub line_stops : (status : Status) → IsEnd (answers_of t) status (ins J) ((answers_of t).text u.given false) false → Keeps t every (Ended status) J
-  line_stops status end =
-      let now = subst (λ o. IsEnd (answers_of t) status (ins J) o false) (sym u.stands.written) end in
-      record {
-        prompt = u.stands.prompt;
-        end = ends_kept (answers_of t) status (ins J) (outs J) (ended J) now;
-        counts = (due_in t every u.given (length u.given)).counts;
-        keeps = u.stands.keeps;
-        punctual = ends_punctual t every (answers_of t) status (ins J) (outs J) _ (whole (ins J)) now (given_front t every u.given (whole (ins J)) (taken_front u.stands.holds.within));
-        timely = u.timely;
-      }
+  -- a write of what is held failed
+  pub under_cut : (held : List ℕ) → text ≡ outs J ++ held → (O : List Entry) → SentFront held O → Keeps t every (Ended statuses.WriteFault) (J ++ O)
+  under_cut held is O sent = stands_cut u.stands every held is u.timely (given_front t every u.given (whole (ins J)) (taken_front u.stands.holds.within)) O sent
 
-  pub line_ends : (status : Status) → IsEnd (answers_of t) status (ins J) ((answers_of t).text u.given false) false → Keeps t every (Ended status) (J ++ [])
-  line_ends status end = subst (Keeps t every (Ended status)) (sym (append-nil J)) (line_stops status end)
+  -- a line more was taken
+  pub after_line : (k' : Keeper) (due : List ℕ) (line : List ℕ) → Holds (query_of t) (ins J) (u.given ++ line ∷ []) k'.answering →
+      (answers_of t).text (u.given ++ line ∷ []) false ≡ (answers_of t).text u.given false ++ due → k'.answering.engine.parts.dataflow.workers ≡ k.answering.engine.parts.dataflow.workers → k'.form ≡ k.form →
+      k'.every ≡ k.every → k'.input ≡ k.input → k'.output ≡ min (k.output + length due) 18446744073709551615 → k'.kept_at ≡ k.kept_at → AfterLine t every k' (text ++ due) J J
+  after_line k' due line holds grows workers form each input output at = record {
+    given = u.given;
+    line = line;
+    stands = record {
+      is_for = is_for_again u.stands.is_for workers form input;
+      prompt = u.stands.prompt;
+      holds = holds;
+      written = ap (λ x. x ++ due) u.stands.written ∙ sym grows;
+      keeps = u.stands.keeps;
+      few = u.stands.few;
+      output = omega (arith, output, u.stands.output, length-append text due);
+    };
+    at = at ∙ u.at;
+    goes_on = u.goes_on;
+    every_is = each ∙ u.every_is;
+    same = refl;
+    timely = u.timely;
+  }
 
-  -- a write failed
-  pub write_ends : (O : List Entry) (out : List ℕ) (line : List ℕ) (s : Answering) → Holds (query_of t) (ins J) (u.given ++ line ∷ []) s → (answers_of t).text (u.given ++ line ∷ []) false ≡ (answers_of t).text u.given false ++ out →
-      SentFront out O → Keeps t every (Ended statuses.WriteFault) (J ++ O)
-  write_ends O out line s holds grows sent =
-      let same : ins (J ++ O) ≡ ins J = ins-append J O ∙ (ap (λ x. ins J ++ x) (ins_outs O sent.outs_alone) ∙ append-nil (ins J)) in
-      let text : outs (J ++ O) ≡ (answers_of t).text u.given false ++ outs O = outs-append J O ∙ ap (λ x. x ++ outs O) u.stands.written in
-      let front = some_written holds.within (took_final (query_of t) (u.given ++ line ∷ []) s.engine holds.engine) ((answers_of t).text u.given false) out (outs O) grows (sent.after, sent.front) false in
-      record {
-        prompt = prompt_outs (answers_of t) [] J O sent.outs_alone u.stands.prompt;
-        end = subst (λ b. IsFront (outs (J ++ O)) ((answers_of t).text (lines b false) false)) (sym same) (subst (λ o. IsFront o ((answers_of t).text (lines (ins J) false) false)) (sym text) front);
-        counts = (due_in t every u.given (length u.given)).counts;
-        keeps = keeps_more t _ J O u.stands.keeps (keeps_outs t J O sent.outs_alone);
-        punctual = given_front t every u.given (whole (ins (J ++ O))) (subst (λ b. AreFront u.given (whole b)) (sym same) (taken_front u.stands.holds.within));
-        timely = timely_on t every [] J O u.timely (timely_outs t every J O sent.outs_alone);
-      }
+-- nothing is held
+pub none_held : {t : Task} {every : ℕ} {k : Keeper} (J : List Entry) → Under t every k J → Owes t every k [] J
+none_held {t} {every} {k} J u = subst (λ x. UnderAt t every k x J) (sym (append-nil (outs J))) u
 
-  -- it was written
-  pub after_line : (k' : Keeper) (O : List Entry) (out : List ℕ) (line : List ℕ) → Holds (query_of t) (ins J) (u.given ++ line ∷ []) k'.answering →
-      (answers_of t).text (u.given ++ line ∷ []) false ≡ (answers_of t).text u.given false ++ out → SentAll out O → k'.answering.engine.parts.dataflow.workers ≡ k.answering.engine.parts.dataflow.workers → k'.form ≡ k.form →
-      k'.every ≡ k.every → k'.input ≡ k.input → k'.output ≡ min (k.output + length out) 18446744073709551615 → k'.kept_at ≡ k.kept_at → AfterLine t every k' J (J ++ O)
-  after_line k' O out line holds grows sent workers form each input output at =
-      let same : ins (J ++ O) ≡ ins J = ins-append J O ∙ (ap (λ x. ins J ++ x) (ins_outs O sent.outs_alone) ∙ append-nil (ins J)) in
-      let text : outs (J ++ O) ≡ outs J ++ out = outs-append J O ∙ ap (λ x. outs J ++ x) sent.all in
-      record {
-        given = u.given;
-        line = line;
-        stands = record {
-          is_for = is_for_again u.stands.is_for workers form input;
-          prompt = prompt_outs (answers_of t) [] J O sent.outs_alone u.stands.prompt;
-          holds = subst (λ b. Holds (query_of t) b (u.given ++ line ∷ []) k'.answering) (sym same) holds;
-          written = text ∙ (ap (λ x. x ++ out) u.stands.written ∙ sym grows);
-          keeps = keeps_more t _ J O u.stands.keeps (keeps_outs t J O sent.outs_alone);
-          few = omega (arith, ap length same, u.stands.few);
-          output = omega (arith, output, u.stands.output, ap length text, length-append (outs J) out);
-        };
-        at = at ∙ u.at;
-        goes_on = ended-append J O ∙ (ap (λ x. x || ended O) u.goes_on ∙ ended_outs O sent.outs_alone);
-        every_is = each ∙ u.every_is;
-        same = same;
-        timely = timely_on t every [] J O u.timely (timely_outs t every J O sent.outs_alone);
-      }
+-- all lines that came in were taken, and what was held still is
+pub no_more : {t : Task} {every : ℕ} {k : Keeper} {J : List Entry} (held : List ℕ) (u : Owes t every k held J) (k' : Keeper) → Holds (query_of t) (ins J) u.given k'.answering → k'.answering.engine.parts.dataflow.workers ≡ k.answering.engine.parts.dataflow.workers →
+    k'.form ≡ k.form → k'.every ≡ k.every → k'.input ≡ k.input → k'.output ≡ k.output → k'.kept_at ≡ k.kept_at → Owes t every k' held (J ++ []) × (ins (J ++ []) ≡ ins J)
+no_more {t} {every} {k} {J} held u k' holds workers form each input output at =
+    subst (λ K. Owes t every k' held K × (ins K ≡ ins J)) (sym (append-nil J)) (under_again u k' holds workers form each input output at, refl)
 
-module _ {t : Task} {every : ℕ} {k : Keeper} {J M : List Entry} (l : AfterLine t every k J M) where
+module _ {t : Task} {every : ℕ} {k : Keeper} {text : List ℕ} {J M : List Entry} (l : AfterLine t every k text J M) where
   abbrev given' : List (List ℕ)
   given' = l.given ++ l.line ∷ []
+
+  -- more of the text was written
+  pub line_out : (O : List Entry) (now : List ℕ) → All IsOut O → now ≡ text → AfterLine t every k now J (M ++ O)
+  line_out O now alone same = record {
+    given = l.given;
+    line = l.line;
+    stands = stands_out l.stands O now alone same;
+    at = l.at;
+    goes_on = ended-append M O ∙ (ap (λ x. x || ended O) l.goes_on ∙ ended_outs O alone);
+    every_is = l.every_is;
+    same = ins_same M O alone ∙ l.same;
+    timely = timely_on t every [] M O l.timely (timely_outs t every M O alone);
+  }
+
+  -- a write of what is held failed
+  pub line_cut : (held : List ℕ) → text ≡ outs M ++ held → (O : List Entry) → SentFront held O → Keeps t every (Ended statuses.WriteFault) (M ++ O)
+  line_cut held is O sent =
+      let came = taken_front l.stands.holds.within in
+      stands_cut l.stands every held is l.timely (given_front t every l.given (whole (ins M)) (l.line ∷ came.0, came.1 ∙ append_assoc l.given (l.line ∷ []) came.0)) O sent
 
   -- the test tells whether a checkpoint is due
   due_as : (b : Bool) → b ≡ nat_le (k.kept_at + k.every) (last_behind t (l.given ++ l.line ∷ [])) → nat_le ((due_in t every l.given (length l.given)).punct + every) (last_behind t (l.given ++ l.line ∷ [])) ≡ b
   due_as b is = ap (λ (n : ℕ). nat_le (n + every) (last_behind t (l.given ++ l.line ∷ []))) (sym l.at) ∙ (ap (λ (n : ℕ). nat_le (k.kept_at + n) (last_behind t (l.given ++ l.line ∷ []))) (sym l.every_is) ∙ sym is)
 
-  pub none_due : (b : Bool) → b ≡ nat_le (k.kept_at + k.every) (last_behind t (l.given ++ l.line ∷ [])) → b ≡ false → Under t every k M × (ins M ≡ ins J)
+  pub none_due : (b : Bool) → b ≡ nat_le (k.kept_at + k.every) (last_behind t (l.given ++ l.line ∷ [])) → b ≡ false → UnderAt t every k text M × (ins M ≡ ins J)
   none_due b is isnt =
       let d = due_not_yet t every l.given l.line (due_as b is ∙ isnt) in (
         record {
           given = l.given ++ l.line ∷ [];
-          stands = subst (λ (m : Marks). Stands t k M (l.given ++ l.line ∷ []) m.counts) (sym d) l.stands;
+          stands = subst (λ (m : Marks). StandsAt t k text M (l.given ++ l.line ∷ []) m.counts) (sym d) l.stands;
           at = l.at ∙ ap (λ (m : Marks). m.punct) (sym d);
           goes_on = l.goes_on;
           every_is = l.every_is;

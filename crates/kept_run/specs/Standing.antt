@@ -29,29 +29,41 @@ pub record IsFor (t : Task) (k : Keeper) : Type 0 where
   pub workers : k.answering.engine.parts.dataflow.workers ≡ t.asked.workers
   pub input : k.input ≡ t.start.input
 
--- these lines were taken of what came in, and what they call for is written; and so many lines were taken before each checkpoint.
--- Its count of the output's bytes is exact where it is one of 64 bits
-pub record Stands (t : Task) (k : Keeper) (J : List Entry) (given : List (List ℕ)) (counts : List ℕ) : Type 0 where
+-- these lines were taken of what came in, what they call for is the text, and so many lines were taken before each checkpoint. Its
+-- count of the output's bytes counts all of the text, and is exact where it is one of 64 bits
+pub record StandsAt (t : Task) (k : Keeper) (text : List ℕ) (J : List Entry) (given : List (List ℕ)) (counts : List ℕ) : Type 0 where
   pub is_for : IsFor t k
   pub prompt : IsPrompt (answers_of t) J
   pub holds : Holds (query_of t) (ins J) given k.answering
-  pub written : outs J ≡ (answers_of t).text given false
+  pub written : text ≡ (answers_of t).text given false
   pub keeps : KeepsAfter t [] counts J
   pub few : length (ins J) ≤ limit + 1
-  pub output : k.output ≡ min (t.start.output + length (outs J)) 18446744073709551615
+  pub output : k.output ≡ min (t.start.output + length text) 18446744073709551615
+
+-- all that they call for is written
+abbrev pub Stands : Task → Keeper → List Entry → List (List ℕ) → List ℕ → Type 0
+Stands t k J given counts = StandsAt t k (outs J) J given counts
 
 -- nothing came in yet
 abbrev pub Begun : Task → ℕ → Keeper → Type 0
 Begun t every k = Stands t k [] [] [] × (k.every ≡ every)
 
--- the input goes on, and checkpoints were kept where they were due
-pub record Under (t : Task) (every : ℕ) (k : Keeper) (J : List Entry) : Type 0 where
+-- the input goes on, what the lines taken call for is the text, and checkpoints were kept where they were due
+pub record UnderAt (t : Task) (every : ℕ) (k : Keeper) (text : List ℕ) (J : List Entry) : Type 0 where
   pub given : List (List ℕ)
-  pub stands : Stands t k J given (due_in t every given (length given)).counts
+  pub stands : StandsAt t k text J given (due_in t every given (length given)).counts
   pub at : k.kept_at ≡ (due_in t every given (length given)).punct
   pub goes_on : ended J ≡ false
   pub every_is : k.every ≡ every
   pub timely : IsTimelyAfter t every [] J
+
+-- all that they call for is written
+abbrev pub Under : Task → ℕ → Keeper → List Entry → Type 0
+Under t every k J = UnderAt t every k (outs J) J
+
+-- or these last bytes of it are held, and all others are written
+abbrev pub Owes : Task → ℕ → Keeper → List ℕ → List Entry → Type 0
+Owes t every k held J = UnderAt t every k (outs J ++ held) J
 
 -- before a read, where so many bytes may still come
 pub record MayRead (t : Task) (every : ℕ) (k : Keeper) (left : ℕ) (J : List Entry) : Type 0 where
@@ -106,6 +118,10 @@ IsAsBefore old new = (new.answering ≡ old.answering) × (new.form ≡ old.form
 abbrev pub WhateverStands : Keeper → (Task → List Entry → List (List ℕ) → List ℕ → Type 0) → Type 0
 WhateverStands k P = (t : Task) (J : List Entry) (given : List (List ℕ)) (counts : List ℕ) → Stands t k J given counts → P t J given counts
 
+-- whatever of the text is written
+abbrev pub WhateverText : Keeper → (Task → List Entry → List (List ℕ) → List ℕ → Type 0) → Type 0
+WhateverText k P = (t : Task) (text : List ℕ) (J : List Entry) (given : List (List ℕ)) (counts : List ℕ) → StandsAt t k text J given counts → P t J given counts
+
 -- whatever it is for, and what was done before
 abbrev pub WhateverUnder : Keeper → (Task → ℕ → List Entry → Type 0) → Type 0
 WhateverUnder k P = (t : Task) (every : ℕ) (J : List Entry) → Under t every k J → P t every J
@@ -117,6 +133,15 @@ TakesOn before now old new = WhateverUnder old (λ t every J. Grows before now (
 -- or one of them, or what it made due, ended the run
 abbrev pub EndsAt : Option (List Entry) → Option (List Entry) → Keeper → KeptStatus → Type 0
 EndsAt before now old status = WhateverUnder old (λ t every J. Grows before now (λ K. Keeps t every status (J ++ K)))
+
+-- a line that came in was taken, or none is left: so much was held before, and so much is now
+abbrev pub TakesHeld : Option (List Entry) → Option (List Entry) → Keeper → List ℕ → Keeper → List ℕ → Type 0
+TakesHeld before now old held new after =
+    (t : Task) (every : ℕ) (J : List Entry) → Owes t every old held J → Grows before now (λ K. Owes t every new after (J ++ K) × (ins (J ++ K) ≡ ins J))
+
+-- or it ended the run
+abbrev pub EndsHeld : Option (List Entry) → Option (List Entry) → Keeper → List ℕ → KeptStatus → Type 0
+EndsHeld before now old held status = (t : Task) (every : ℕ) (J : List Entry) → Owes t every old held J → Grows before now (λ K. Keeps t every status (J ++ K))
 
 -- a line was taken, and fewer bytes are left
 abbrev pub HasFewer : CutterState → CutterState → Bool → Type 0

@@ -9,7 +9,8 @@ ghost use Rattle.tempo_cli.specs.Feeding.{WantsBytes};
 ghost use Rattle.kept_run.specs.Keeping.{Task, task_after, place_lines, StartsTask};
 ghost use Rattle.kept_run.specs.Keeping.{last_behind, Keeps};
 ghost use Rattle.kept_run.specs.Standing.{Stands, Begun, MayRead, Fails, IsWanting, IsAsBefore};
-ghost use Rattle.kept_run.specs.Standing.{SaysSame, WhateverStands, TakesOn, EndsAt, HasFewer};
+ghost use Rattle.kept_run.specs.Standing.{SaysSame, WhateverStands, WhateverText, TakesOn, EndsAt};
+ghost use Rattle.kept_run.specs.Standing.{TakesHeld, EndsHeld, HasFewer};
 ghost use Rattle.kept_run.specs.Status.{kept_of, KeptCounts, StaysCounted, TellsEnd};
 
 use crate::status::KeptStatus;
@@ -20,7 +21,7 @@ use kept_wire::KeptWire;
 use shard_apply::Gate;
 use std::alloc::Global;
 use std::thread::Threads;
-use tempo_cli::{Answering, LIMIT, Status, Step, buffer_for};
+use tempo_cli::{Answering, LIMIT, Status, Step, buffer_for, hold};
 use tw_rows::{Memory, Time};
 use wire_lines::send;
 
@@ -33,7 +34,7 @@ pub struct Keeper {
     pub every: u64,
     /// At which byte of the input its lines begin.
     pub input: u64,
-    /// How many bytes the output's file has.
+    /// How many bytes the output's file has, those that are held and not written yet counted with them.
     pub output: u64,
     /// The last punctuation of the last checkpoint.
     pub kept_at: Time,
@@ -147,28 +148,31 @@ impl Keeper {
     // Whether a checkpoint is due.
     #[tactic(auto, unfolding(tw_rows::specs::Instant::inf))]
     fn is_due(&self) -> bool
-        ensures { WhateverStands self.now (λ t J given counts.
+        ensures { WhateverText self.now (λ t J given counts.
             result ≡ nat_le (self.now.kept_at + self.now.every) (last_behind t given)) }
     {
         let last = self.answering.engine.last_punctuation();
         self.kept_at.word().saturating_add(self.every) <= last.word()
     }
 
-    // Takes the next line, and keeps a checkpoint where one is due: false where no whole line is left.
+    // Takes the next line, and keeps a checkpoint where one is due: false where no whole line is left. What the line makes due is
+    // held, and all that is held is written before a checkpoint is kept, and before the run ends.
     fn take_line<R: Threads + Sync, W: KeptWire, G: Gate>(
         &mut self,
         rt: &R,
         wire: &mut W,
         gate: &G,
+        held: &mut Vec<u8>,
     ) -> Result<bool, KeptStatus>
         requires longest { self.old.answering.cutter.longest ≡ 65536 }
         requires going { self.old.answering.engine.ended ≡ false }
         ensures longest { self.new.answering.cutter.longest ≡ 65536 }
         ensures going { self.new.answering.engine.ended ≡ false }
         ensures fewer { IfOk result (HasFewer self.old.answering.cutter self.new.answering.cutter) }
-        ensures ok { OnOk result
-            (TakesOn (W.journal wire.old) (W.journal wire.new) self.old self.new) }
-        ensures err { IfErr result (EndsAt (W.journal wire.old) (W.journal wire.new) self.old) }
+        ensures ok { OnOk result (TakesHeld (W.journal wire.old) (W.journal wire.new) self.old
+            held.old.items self.new held.new.items) }
+        ensures err { IfErr result
+            (EndsHeld (W.journal wire.old) (W.journal wire.new) self.old held.old.items) }
         ensures counted { OnOk result (StaysCounted (W.read_faults wire.old)
             (W.read_faults wire.new) (W.write_faults wire.old) (W.write_faults wire.new)) }
         ensures tells { IfErr result (TellsEnd (W.read_faults wire.old) (W.read_faults wire.new)
@@ -176,11 +180,16 @@ impl Keeper {
     {
         match self.answering.next_step(rt, gate) {
             Step::More => Ok(false),
-            Step::Stop(status) => Err(KeptStatus::Ended(status)),
+            Step::Stop(status) => {
+                send(wire, held)?;
+                Err(KeptStatus::Ended(status))
+            }
             Step::Out(out) => {
-                send(wire, &out)?;
+                hold(wire, held, &out)?;
                 self.output = self.output.saturating_add(out.len() as u64);
                 if self.is_due() {
+                    send(wire, held)?;
+                    held.clear();
                     self.take_checkpoint(wire)?;
                 }
                 Ok(true)
@@ -188,7 +197,7 @@ impl Keeper {
         }
     }
 
-    // Takes all whole lines that came in.
+    // Takes all whole lines that came in, and writes what they make due.
     fn take_lines<R: Threads + Sync, W: KeptWire, G: Gate>(
         &mut self,
         rt: &R,
@@ -207,9 +216,11 @@ impl Keeper {
         ensures tells { IfErr result (TellsEnd (W.read_faults wire.old) (W.read_faults wire.new)
             (W.write_faults wire.old) (W.write_faults wire.new)) }
     {
+        let mut held = Vec::new(self.answering.alloc);
         'lines: loop {
-            let more = self.take_line(rt, wire, gate)?;
+            let more = self.take_line(rt, wire, gate, &mut held)?;
             if !more {
+                send(wire, &held)?;
                 return Ok(());
             }
         }

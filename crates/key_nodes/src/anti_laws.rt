@@ -26,7 +26,7 @@ pub fn antis_are_causal<L, R>()
         Known (min x y) (alone same_row meets a b) (alone same_row meets c d) }
 {}
 
-/// The events of an anti-join have lives that begin before they end, and end at infinity at the latest.
+/// The events of an anti-join have lifetimes that begin before they end, and end at infinity at the latest.
 pub fn antis_have_lives<L, R>()
     ensures { (same_row : L → L → Bool) (meets : L → R → Bool)
         (left : List (Event L)) (right : List (Event R)) →

@@ -28,7 +28,7 @@ pub fn coalesced_events_are_causal<R>()
         Known c a b → Known c (coalesced same (alive a)) (coalesced same (alive b)) }
 {}
 
-/// Coalesced events have lives that begin before they end, and end at infinity at the latest.
+/// Coalesced events have lifetimes that begin before they end, and end at infinity at the latest.
 pub fn coalesced_events_have_lives<R>()
     ensures { (same : R → R → Bool) (rows : ℕ → List R) → Tells same →
         AreEvents (coalesced same rows) }
@@ -69,7 +69,7 @@ pub fn followed_events_are_causal<L, R, P>()
         Known (min x y) (followed meets pair within a b) (followed meets pair within c d) }
 {}
 
-/// Followed events have lives that begin before they end, and end at infinity at the latest.
+/// Followed events have lifetimes that begin before they end, and end at infinity at the latest.
 pub fn followed_events_have_lives<L, R, P>()
     ensures { (meets : L → R → Bool) (pair : L → R → P) (within : ℕ)
         (left : List (Event L)) (right : List (Event R)) → AreEvents right →

@@ -38,7 +38,7 @@ pub fn groups_are_causal<R, K, S>()
         Known c (grouped key same same_row tell a) (grouped key same same_row tell b) }
 {}
 
-/// The events of groups have lives that begin before they end, and end at infinity at the latest.
+/// The events of groups have lifetimes that begin before they end, and end at infinity at the latest.
 pub fn groups_have_lives<R, K, S>()
     ensures { (key : R → K) (same : K → K → Bool) (same_row : S → S → Bool)
         (tell : K → List R → Option S) (events : List (Event R)) →

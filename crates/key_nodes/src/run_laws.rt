@@ -28,7 +28,7 @@ pub fn runs_depend_on_earlier_rows<R>()
         cut c (runs same_row f n) ≡ cut c (runs same_row g n) }
 {}
 
-/// Runs have lives that begin before they end, and end at infinity at the latest.
+/// Runs have lifetimes that begin before they end, and end at infinity at the latest.
 pub fn runs_have_lives<R>()
     ensures { (same_row : R → R → Bool) (f : ℕ → Option R) (n : ℕ) → n ≤ inf →
         AreEvents (runs same_row f n) }

@@ -29,7 +29,7 @@ pub fn sessions_are_causal<R, K>()
         Known c (sessions key same timeout a) (sessions key same timeout b) }
 {}
 
-/// Sessions have lives that begin before they end, and end at infinity at the latest, where the timeout is at least 1.
+/// Sessions have lifetimes that begin before they end, and end at infinity at the latest, where the timeout is at least 1.
 pub fn sessions_have_lives<R, K>()
     ensures { (key : R → K) (same : K → K → Bool) (timeout : ℕ) → 1 ≤ timeout →
         (events : List (Event R)) → AreEvents events →
@@ -44,7 +44,7 @@ pub fn clips_are_causal<L, R>()
         Known (min x y) (clipped meets a b) (clipped meets c d) }
 {}
 
-/// Clipped events have lives that begin before they end, and end at infinity at the latest.
+/// Clipped events have lifetimes that begin before they end, and end at infinity at the latest.
 pub fn clips_have_lives<L, R>()
     ensures { (meets : L → R → Bool) (left : List (Event L)) (right : List (Event R)) →
         AreEvents left → AreEvents (clipped meets left right) }

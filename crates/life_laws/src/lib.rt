@@ -1,4 +1,4 @@
-//! The laws of operators whose nodes know the new life of an event at its start: a Delay, a Hop, a Duration and a Mean.
+//! The laws of operators whose nodes know the new lifetime of an event at its start: a Delay, a Hop, a Duration and a Mean.
 //! Those of an Extend and of a Union stand among the proofs, for the operators' own contracts.
 #![tactic(auto)]
 

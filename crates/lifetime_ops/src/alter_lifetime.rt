@@ -1,4 +1,4 @@
-// The operator of a node that changes lives.
+// What a Delay, a Hop, a Duration or a Mean keeps from one step to the next, and what it answers of the edges that come.
 ghost use Rattle.std.specs.Prelude.{◌≡◌, ◌≤◌, true, false, map, [], length, IfOk};
 ghost use Rattle.edge_history.specs.Order.{failing, is_from};
 ghost use Rattle.edge_stream.specs.Lists.{no_edges};

@@ -1,4 +1,4 @@
-// Changes of events that are known at their starts.
+// The changes of events by a Delay, a Hop, a Duration and a Mean, and how they are made in a batch.
 ghost use Rattle.std.specs.Prelude.{◌≡◌, ◌<◌, ◌≤◌, OnOk, IfOk, length, map, true};
 ghost use Rattle.tw_rows.specs.Instant.{inf, floor_to};
 ghost use Rattle.tw_rows.specs.declared.edge.Edge.{Edge};
@@ -40,7 +40,7 @@ fn floor(time: Time, period: u64) -> Time
 }
 
 impl Change {
-    // The start of the new life.
+    // The start of the new lifetime.
     fn start(&self, sync: Time) -> Time
         ensures { result ≡ new_start (node_of self.now) sync }
     {

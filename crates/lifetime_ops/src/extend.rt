@@ -1,4 +1,4 @@
-// The operator of a node that moves the ends of lives.
+// What an Extend keeps from one step to the next, and how the ends of lifetimes are moved.
 ghost use Rattle.std.specs.Prelude.{◌≡◌, ◌≤◌, ◌+◌, nat_lt, true, false, List, [], ◌∷◌, ◌++◌, map, length, All, IfOk, OnOk};
 ghost use Rattle.tw_rows.specs.Instant.{inf};
 ghost use Rattle.tw_rows.specs.Cells.{datum_kind};

@@ -1,4 +1,4 @@
-// The operator of an Extend, in its form for every node.
+// The `impl Operator` of an Extend: its step, how much it holds, and its state saved and loaded.
 ghost use Rattle.std.specs.Prelude.{◌≡◌, ◌≤◌, ◌↔◌, ℕ, true, List, IsTrue, map, All, IfOk, OnOk};
 ghost use Rattle.std.specs.List.{list_all};
 ghost use Rattle.tw_rows.specs.Bag.{SameBag};

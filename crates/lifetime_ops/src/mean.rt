@@ -1,4 +1,4 @@
-// Averages, from sums and the count that stands in the last column.
+// The averages of a Mean, from sums and the count that stands in the last column.
 ghost use Rattle.std.specs.Prelude.{◌≡◌, nat_eq, true, cond, IfOk};
 ghost use Rattle.std.specs.List.{list_any};
 ghost use Rattle.edge_stream.specs.Listing.{cells_of};

@@ -1,4 +1,4 @@
-// The operator of a node that changes lives, in its form for every node.
+// The `impl Operator` of a Delay, a Hop, a Duration and a Mean: a step, how much is held, and the state saved and loaded.
 ghost use Rattle.std.specs.Prelude.{◌≡◌};
 ghost use Rattle.edge_stream.specs.Listing.{cells_of};
 

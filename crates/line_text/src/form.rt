@@ -1,6 +1,6 @@
 // What a line says of an event.
 
-/// What a line says of an event: its whole life, that it starts, or that it ends.
+/// What a line says of an event: its whole lifetime, that it starts, or that it ends.
 #[derive(Clone, Copy, Debug, PartialEq, Eq)]
 pub enum Form {
     Interval,

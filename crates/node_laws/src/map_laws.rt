@@ -15,7 +15,7 @@ ghost use Rattle.key_nodes.specs.Follows.{followed};
 ghost use Rattle.plan_model.specs.Lives.{moved, hopped, lasting, extended};
 ghost use Rattle.plan_model.specs.Nodes.{events_to};
 
-/// Lives do not depend on rows: what is alive, what is known, and each change of lives.
+/// Lifetimes do not depend on rows: what is alive, what is known, and each change of lifetimes.
 pub fn lives_do_not_depend_on_rows<R, S>()
     ensures alive { (f : R → S) (es : List (Event R)) (t : ℕ) →
         alive (events_to f es) t ≡ map f (alive es t) }

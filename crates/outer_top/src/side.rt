@@ -1,4 +1,4 @@
-// The sweep of a Top.
+// The `impl Sweep` of a Top: how its side takes new edges in, and its state saved and loaded.
 ghost use Rattle.std.specs.Prelude.{◌≤◌};
 
 use crate::saving::{is_sound, load_side, row_count, save_keys};
@@ -12,7 +12,7 @@ use sweep_operator::Sweep;
 use sweep_sides::{save_waiting, take_in};
 use tw_rows::{Edge, Kind, Memory, Time};
 
-/// The rows that are alive, the open starts of those that are shown, and the edges of the child that wait.
+/// The rows that are alive, the open starts of those that are shown, and the pending edges of the child.
 #[derive(Drop)]
 pub struct TopSide {
     pub(crate) alloc: Global,

@@ -1,4 +1,4 @@
-// The passes over the edges of an instant.
+// The passes of a Top over the edges of an instant.
 ghost use Rattle.std.specs.Prelude.{◌≡◌, ◌+◌, ◌<◌, ◌≤◌, ℕ, suc, Bool, List, [], map, IfOk, OnOk};
 ghost use Rattle.tw_rows.specs.Bag.{SameBag};
 ghost use Rattle.tw_rows.specs.Event.{AreEvents};

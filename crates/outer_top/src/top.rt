@@ -1,4 +1,4 @@
-// The operator of a Top.
+// A Top: the `Swept` of its side, and one that keeps nothing yet.
 ghost use Rattle.std.specs.Prelude.{◌≡◌, ◌≤◌, [], length, IfOk};
 ghost use Rattle.plan_model.specs.declared.node.Node.TheVariants.{Top as TopNode};
 ghost use Rattle.sweep_operator.specs.Operating.{standing, IsNew};

@@ -21,7 +21,7 @@ pub enum QueryFault {
     /// An operator, a test, an aggregate, a key, a union or the column of a top meets values of the wrong kind, or the
     /// literals of a left join are not as many and of the kinds as the columns that they stand for.
     TypeClash { item: usize },
-    /// A step that changes lives has a side whose rows are no events.
+    /// A step that changes lifetimes has a side whose rows are no events.
     NotEventLevel { item: usize },
     /// A size, period, duration or timeout is 0, a period does not divide its size, or a top asks for more than 1,000 rows.
     BadWindow { item: usize },

@@ -118,7 +118,7 @@ pub fn delay_is()
         closes nodes i p ≡ later by (closes nodes child p) }
 {}
 
-/// A Hop has the events of its child, each over a life of that size from a multiple of the period on, its rows are those
+/// A Hop has the events of its child, each over a lifetime of that size from a multiple of the period on, its rows are those
 /// that are alive, and it is closed up to a multiple of the period.
 pub fn hop_is()
     ensures events { (source : Sources) (nodes : List Node) (i child size period : ℕ) →
@@ -133,7 +133,7 @@ pub fn hop_is()
         closes nodes i p ≡ floor_to period (closes nodes child p) }
 {}
 
-/// A Duration has the events of its child, each over a life that lasts so long, its rows are those that are alive, and it
+/// A Duration has the events of its child, each over a lifetime that lasts so long, its rows are those that are alive, and it
 /// is closed where the child is.
 pub fn duration_is()
     ensures events { (source : Sources) (nodes : List Node) (i child by : ℕ) →
@@ -260,7 +260,7 @@ pub fn join_is()
         (key_values left_key a ≡ key_values right_key b) }
 {}
 
-/// An Anti has for each left event an event for each maximal run of instants of its life at which no right event with an
+/// An Anti has for each left event an event for each maximal run of instants of its lifetime at which no right event with an
 /// equal key is alive; at each instant it has the left rows to whose key no right row is there; and it is closed up to the
 /// lesser of its children's closings.
 pub fn anti_is()
@@ -360,7 +360,7 @@ pub fn follow_is()
         closes nodes i p ≡ min (closes nodes left p) (closes nodes right p) }
 {}
 
-/// A change of lives makes one event of each event, where a size or a duration is at least 1; only one that would start at
+/// A change of lifetimes makes one event of each event, where a size or a duration is at least 1; only one that would start at
 /// infinity is none. A time rounded down is the greatest multiple of the period that is not above it.
 pub fn lives_change()
     ensures moved { (by : ℕ) (e : Event Row) → e.start < e.end → e.start + by < inf →
@@ -403,7 +403,7 @@ pub fn result_is()
         (right_of inf (λ j. closes nodes j p) n) }
 {}
 
-/// The events of each node have lives that begin before they end, where those of the sources have.
+/// The events of each node have lifetimes that begin before they end, where those of the sources have.
 pub fn events_have_lives()
     ensures { (source : Sources) (nodes : List Node) → IsOrdered nodes →
         ((s : ℕ) → AreEvents (source s)) → (n : ℕ) → AreEvents (events source nodes n) }

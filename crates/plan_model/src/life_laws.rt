@@ -1,4 +1,4 @@
-// The laws of joins and of changes of lives, for rows of any type. Each is a function that does nothing; its clauses are
+// The laws of joins and of changes of lifetimes, for rows of any type. Each is a function that does nothing; its clauses are
 // the law.
 ghost use Rattle.std.specs.Prelude.{ℕ, ◌-◌, ◌<◌, min, nat_le, Bool, cond, List, []};
 ghost use Rattle.tw_rows.specs.Bag.{SameBag};
@@ -30,7 +30,7 @@ pub fn moved_events_have_the_rows<R>()
         SameBag (alive (moved by es) t) (cond (nat_le by t) (rows (t - by)) []) }
 {}
 
-/// Causality of each change of lives: what is known of the changed events below a time depends only on what is known of the
+/// Causality of each change of lifetimes: what is known of the changed events below a time depends only on what is known of the
 /// events below theirs.
 pub fn lives_are_causal<R, K>()
     ensures moved { (by c : ℕ) (a b : List (Event R)) → Known c a b →

@@ -81,7 +81,7 @@ fn next_level(node: &Node, done: &[bool; MOST_NODES]) -> bool
     level_over(node, left, right)
 }
 
-/// Whether the rows of the node of that number are events. Where they are not, no step that changes lives may stand over
+/// Whether the rows of the node of that number are events. Where they are not, no step that changes lifetimes may stand over
 /// it.
 pub fn event_level(plan: &Plan, node: usize) -> bool
     requires { node < length plan.now.nodes }

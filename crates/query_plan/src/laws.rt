@@ -9,7 +9,7 @@ ghost use Rattle.query_plan.specs.Planned.{planned};
 ghost use Rattle.query_plan.specs.Steps.{step_nodes};
 
 /// What is planned for a query is a plan. Its nodes read nodes of lower numbers, its sources streams of the query, and
-/// expressions, keys and aggregates fit the columns that they are over. Windows repeat and divide, what changes lives
+/// expressions, keys and aggregates fit the columns that they are over. Windows repeat and divide, what changes lifetimes
 /// stands over events, and no plan reaches too far or is too large. The root is one of the nodes.
 pub fn plans_keep_their_rules()
     ensures { (q : Query) (p : PlanParts) → planned q ≡ Ok p → IsPlan p }

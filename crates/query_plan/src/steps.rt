@@ -98,7 +98,7 @@ impl<'a> StepContext<'a> {
         Ok(nodes)
     }
 
-    /// A step that changes lives stands over events, as the rows of that node.
+    /// A step that changes lifetimes stands over events, as the rows of that node.
     pub(crate) fn over_events(&self, node: usize) -> Result<(), QueryError>
         ensures { Is (λ _. tt) result (over_events self.now.item self.now.draft.now node) }
     {

@@ -1,4 +1,4 @@
-// The edges of one instant.
+// The edges of one instant in a queue: those of different rows are moved one by one, and others are counted by row.
 ghost use Rattle.std.specs.Prelude.{◌≡◌, ◌↔◌, ◌<◌, ◌≤◌, ◌+◌, ◌*◌, ◌++◌, ℕ, suc, IsTrue, length, drop, flat_map, OnOk};
 ghost use Rattle.std.specs.List.{list_all};
 ghost use Rattle.tw_rows.specs.Bag.{total};
@@ -153,7 +153,7 @@ fn move_together(
     Ok(())
 }
 
-/// Ends the rows of the end edges of an instant and starts those of the others, and tells the difference.
+/// Ends the rows of the end edges of an instant and starts those of the others, and emits the difference.
 pub(crate) fn tell_edges(
     held: &mut Held,
     answer: &mut Vec<Edge>,

@@ -1,4 +1,4 @@
-// Few rows are compared with each other.
+// The moves of few rows, which are compared with each other and not hashed.
 ghost use Rattle.std.specs.Prelude.{◌≡◌, ◌≤◌, ◌++◌, List, length, drop, not, IsTrue, OnOk, IfOk, IfSome};
 ghost use Rattle.std.specs.List.{list_all};
 ghost use Rattle.tw_rows.specs.declared.cells.Datum.{Datum};

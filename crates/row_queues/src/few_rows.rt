@@ -1,4 +1,4 @@
-// Few rows that are open, one by one.
+// A few open rows in a list, looked at one by one.
 ghost use Rattle.std.specs.Prelude.{◌≡◌, ◌<◌, ◌++◌, ◌∷◌, [], List, length, drop, cond, OnOk, IfSome, IfNone};
 ghost use Rattle.tw_rows.specs.declared.cells.Datum.{Datum};
 ghost use Rattle.tw_rows.specs.SameCells.{same_cells as same};

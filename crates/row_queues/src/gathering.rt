@@ -1,4 +1,4 @@
-// Moves are gathered row by row.
+// How often each row ends and starts at an instant, counted in a map.
 ghost use Rattle.std.specs.Prelude.{◌≡◌, ◌+◌, ◌++◌, ◌∷◌, [], ℕ, List, cond, map, option_to_list, OnOk, IfOk, IfSome};
 ghost use Rattle.tw_rows.specs.declared.cells.Datum.{Datum};
 ghost use Rattle.tw_rows.specs.SameCells.{same_cells as same};

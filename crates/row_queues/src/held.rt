@@ -1,4 +1,4 @@
-// The rows that are open.
+// The rows that are open, few in a list and others in a map: how they end and start.
 ghost use Rattle.std.specs.Prelude.{◌≡◌, ◌++◌, [], List, false, drop, cond, replicate, IsTrue, IfOk, OnOk};
 ghost use Rattle.std.specs.Option.{option_to_list};
 ghost use Rattle.tw_rows.specs.declared.cells.Datum.{Datum};
@@ -76,7 +76,7 @@ pub(crate) fn put_start(
     Ok(())
 }
 
-/// Ends the first open start of a row, and tells it.
+/// Ends the first open start of a row, and emits the end.
 pub(crate) fn end_one(
     held: &mut Held,
     answer: &mut Vec<Edge>,
@@ -97,7 +97,7 @@ pub(crate) fn end_one(
     Ok(())
 }
 
-/// Starts a row, and tells it.
+/// Starts a row, and emits the start.
 pub(crate) fn start_one(
     held: &mut Held,
     answer: &mut Vec<Edge>,

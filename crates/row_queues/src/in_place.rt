@@ -1,4 +1,4 @@
-// Edges of one instant that tell in place what they show.
+// The edges of one instant, made in place into those to be emitted.
 ghost use Rattle.std.specs.Prelude.{◌≡◌, ◌<◌, ◌*◌, ℕ, suc, [], flat_map, OnOk};
 ghost use Rattle.tw_rows.specs.Bag.{total};
 ghost use Rattle.tw_rows.specs.Instant.{inf};
@@ -12,7 +12,7 @@ use crate::held::{Held, put_start, take_start};
 use std::alloc::Global;
 use tw_rows::{Edge, Memory, Time};
 
-// Ends or starts the row of an edge. The edge then tells that: an end names the first open start of its row.
+// Ends or starts the row of an edge, and makes of it the edge to be emitted: an end names the first open start of its row.
 #[tactic(auto, unfolding(tw_rows::specs::Instant::inf))]
 fn move_row(held: &mut Held, alloc: Global, at: Time, edge: &mut Edge) -> Result<(), Memory>
     ensures moved { OnOk result (MovesInPlace at edge.old edge.new held.old held.new) }
@@ -33,7 +33,7 @@ fn move_row(held: &mut Held, alloc: Global, at: Time, edge: &mut Edge) -> Result
     Ok(())
 }
 
-// Ends and starts the rows of edges that are apart, which then tell that.
+// Does so with each of edges that are apart.
 fn move_each(held: &mut Held, alloc: Global, at: Time, now: &mut [Edge]) -> Result<(), Memory>
     ensures since { OnOk result (AreApart now.old → (c : Row) →
         since_of held.new c ≡ queue_after at (ends_of (moves_of now.old))
@@ -52,7 +52,7 @@ fn move_each(held: &mut Held, alloc: Global, at: Time, now: &mut [Edge]) -> Resu
     Ok(())
 }
 
-/// Ends and starts the rows of edges that are apart, which then tell the difference.
+/// Ends and starts the rows of edges that are apart, and makes of these the edges to be emitted, in order.
 pub(crate) fn tell_in_place(
     held: &mut Held,
     alloc: Global,

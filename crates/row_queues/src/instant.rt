@@ -1,4 +1,4 @@
-// One instant of coalesced events.
+// One instant of coalesced events, from the rows that were lost and those that were won.
 ghost use Rattle.std.specs.Prelude.{◌≡◌, ◌<◌, ◌+◌, ℕ, suc, List, OnOk};
 ghost use Rattle.tw_rows.specs.Instant.{inf};
 ghost use Rattle.tw_rows.specs.declared.cells.Datum.{Datum};
@@ -15,7 +15,7 @@ use crate::moves::tell;
 use std::alloc::Global;
 use tw_rows::{Cells, Edge, Memory, Time};
 
-/// Ends the rows that were lost at an instant and starts those that were won, and tells the difference.
+/// Ends the rows that were lost at an instant and starts those that were won, and emits the difference.
 pub(crate) fn tell_instant(
     held: &mut Held,
     answer: &mut Vec<Edge>,

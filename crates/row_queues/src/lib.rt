@@ -1,5 +1,5 @@
-//! The open starts of rows in queues, and what an instant tells of the rows that moved. It is how a Coalesce and a Top
-//! answer: a row that ends ends its first open start.
+//! The open starts of rows, in queues: at each instant rows move, and the edges of those that come to stand more or less often
+//! are made. So a Coalesce and a Top answer: an end names the first open start of its row.
 #![tactic(auto)]
 
 mod edges;

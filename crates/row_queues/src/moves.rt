@@ -1,4 +1,4 @@
-// What the moves of an instant tell.
+// The edges that the moves of an instant give.
 ghost use Rattle.std.specs.Prelude.{◌≡◌, ◌<◌, ◌++◌, ◌+◌, ◌-◌, ◌*◌, ℕ, suc, List};
 ghost use Rattle.std.specs.Prelude.{drop, flat_map, replicate, OnOk};
 ghost use Rattle.tw_rows.specs.Bag.{total};
@@ -77,7 +77,7 @@ fn start_all(
     Ok(())
 }
 
-/// Tells what an instant shows of the rows that moved, ends first, and keeps their open starts.
+/// Emits what an instant shows of the rows that moved, ends first, and keeps their open starts.
 pub(crate) fn tell(
     held: &mut Held,
     answer: &mut Vec<Edge>,

@@ -1,4 +1,4 @@
-// Queues of starts.
+// The open starts of rows, a queue for each row.
 ghost use Rattle.std.specs.Prelude.{◌≡◌, ◌<◌, ◌≤◌, ◌++◌, ◌∷◌, [], ◌+◌, ◌-◌, List, Some};
 ghost use Rattle.std.specs.Prelude.{drop, cond, length, replicate, IfOk, OnOk};
 ghost use Rattle.std.specs.Option.{option_to_list};
@@ -16,7 +16,7 @@ use tw_rows::{Cells, Edge, Memory, Time};
 /// The open starts of each row, the first to end first.
 pub type Starts = IndexMap<Cells, VecDeque<Time>>;
 
-/// Tells a start.
+/// Emits a start.
 #[tactic(auto, unfolding(tw_rows::specs::Instant::inf))]
 pub(crate) fn push_start(answer: &mut Vec<Edge>, at: Time, cells: &Cells) -> Result<(), Memory>
     ensures { OnOk result (answer.new.items ≡ answer.old.items
@@ -30,7 +30,7 @@ pub(crate) fn push_start(answer: &mut Vec<Edge>, at: Time, cells: &Cells) -> Res
     Ok(())
 }
 
-/// Tells an end.
+/// Emits an end.
 pub(crate) fn push_end(
     answer: &mut Vec<Edge>,
     at: Time,

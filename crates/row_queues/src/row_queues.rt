@@ -83,7 +83,7 @@ impl RowQueues {
     }
 
     /// Ends each row that was lost at an instant, for its first open start, and starts each that was won. What ends and
-    /// starts as well shows nothing. Told are the news of the coalesced events of whatever rows these moves lead to.
+    /// starts as well shows nothing. The edges are the news of the coalesced events of whatever rows these moves lead to.
     pub fn move_rows(
         &mut self,
         answer: &mut Vec<Edge>,
@@ -124,7 +124,7 @@ impl RowQueues {
         Ok(())
     }
 
-    /// Takes the edges of one instant, which then tell what they show: an end names the first open start of its row.
+    /// Takes the edges of one instant, and makes of them those to be emitted: an end names the first open start of its row.
     pub fn move_in_place(&mut self, at: Time, now: &mut [Edge]) -> Result<(), Memory>
         requires { AreApart now.old }
         ensures moved { OnOk result ((f : ℕ → List Row) → at < inf →

@@ -44,7 +44,7 @@ fn entry_of(alloc: Global, key: &[Datum], at: Time) -> Result<Edge, Memory>
     })
 }
 
-// Tells that rows end at t.
+// Emits the ends of rows at t.
 fn tell_ends(answer: &mut Vec<Edge>, t: Time, rows: &[HeldRow]) -> Result<(), Memory>
     ensures { OnOk result (Adds answer.old.items answer.new.items
         (map (told_at false t) rows.now)) }
@@ -97,7 +97,7 @@ impl Sessions {
         Ok(())
     }
 
-    // Puts in the row that an edge starts, and tells its start at t.
+    // Puts in the row that an edge starts, and emits its start at t.
     fn start_one(&mut self, answer: &mut Vec<Edge>, t: Time, edge: &Edge) -> Result<(), Memory>
         ensures rows { OnOk result
             (TakeIn self.old.rows.rows self.new.rows.rows (started_of edge.now)) }
@@ -123,7 +123,7 @@ impl Sessions {
         Ok(())
     }
 
-    // Puts in the rows that start at t, and tells their starts.
+    // Puts in the rows that start at t, and emits their starts.
     fn start_all(&mut self, answer: &mut Vec<Edge>, t: Time, now: &[Edge]) -> Result<(), Memory>
         ensures rows { OnOk result
             (TakeIn self.old.rows.rows self.new.rows.rows (started_rows now.now)) }

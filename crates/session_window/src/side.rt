@@ -1,4 +1,4 @@
-// The sweep of a Session.
+// The `impl Sweep` of a Session: how its side takes new edges in, and its state saved and loaded.
 ghost use Rattle.std.specs.Prelude.{◌≡◌};
 
 use crate::saving::{is_sound, load_side, save_open};
@@ -9,7 +9,7 @@ use sweep_operator::Sweep;
 use sweep_sides::{put_starts, save_waiting, take_due};
 use tw_rows::{Edge, Kind, Memory, Time};
 
-/// The sessions that go on, and the starts that wait.
+/// The sessions that go on, and the pending starts.
 #[derive(Drop)]
 pub struct SessionSide {
     pub(crate) sessions: Sessions,

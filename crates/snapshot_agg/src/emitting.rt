@@ -1,4 +1,4 @@
-// What happens to the groups up to a time.
+// New edges taken in, and the changes of the groups up to a time emitted.
 ghost use Rattle.std.specs.Prelude.{◌≡◌, ◌≤◌, ◌++◌, ℕ, None, Some, List, OnOk, IfOk, IfErr, All, map};
 ghost use Rattle.tw_rows.specs.Cells.{datum_kind};
 ghost use Rattle.tw_rows.specs.declared.edge.Edge.{Edge};

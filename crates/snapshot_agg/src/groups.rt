@@ -1,4 +1,4 @@
-// The rows that are alive, and the totals of those of each key.
+// The rows of a Group that are alive, with the totals of each key, as rows come and go.
 ghost use Rattle.std.specs.Prelude.{◌≡◌, ◌<◌, ◌≤◌, ◌^◌, false, Bool, Option, List, [], ◌∷◌, length, IfOk, OnOk};
 ghost use Rattle.std.specs.Option.{option_copied};
 ghost use Rattle.tw_rows.specs.Bag.{SameBag};

@@ -1,4 +1,4 @@
-// What a group kept, from saved entries.
+// What a Group kept, taken up from saved entries.
 ghost use Rattle.std.specs.Prelude.{◌≡◌, ◌↔◌, IsTrue, List, length, map, take, Err, IfOk, IfErr, OnOk};
 ghost use Rattle.tw_rows.specs.Bag.{SameBag};
 ghost use Rattle.tw_rows.specs.Kinds.{cell_kind_of};

@@ -1,4 +1,4 @@
-// The operator of a Group, in its form for every node.
+// The `impl Operator` of a Group: its step, how much it holds, and its state saved and loaded.
 use crate::emitting::keys_are_few;
 use crate::grouped::Grouped;
 use crate::loading::load_parts;

@@ -1,4 +1,4 @@
-// Pending edges, which wait for their times.
+// The pending edges of the child of a Group: in a line while they come in the order of their syncs.
 ghost use Rattle.std.specs.Prelude.{◌≡◌, ◌^◌, ◌-◌, ◌≤◌, ◌++◌, ◌∷◌, ℕ, true, [], map, take, drop, length, min, IfOk, OnOk};
 ghost use Rattle.tw_rows.specs.declared.edge.Edge.{Edge};
 ghost use Rattle.edge_history.specs.Order.{failing, is_below, is_from};
@@ -88,7 +88,7 @@ impl Queue {
         Queue::of(alloc, EndQueue::new(alloc))
     }
 
-    // The edges that wait in the other queue.
+    // The edges that are pending in the other queue.
     pub(crate) fn of(alloc: Global, others: EndQueue) -> Queue
         ensures { result ≡ others }
     {
@@ -98,7 +98,7 @@ impl Queue {
         }
     }
 
-    // Puts in an edge, which waits for its sync.
+    // Puts in an edge, which is pending until its sync is due.
     pub(crate) fn put(&mut self, edge: Edge) -> Result<(), Memory>
         ensures parts { OnOk result (Gains self.old self.new (own_pending edge)) }
         ensures edges { OnOk result (Gains (queued self.old) (queued self.new) edge) }

@@ -1,4 +1,5 @@
-// The rows that are alive.
+// The rows of a Group that are alive: in a line while they end in the order in which they came, and from the first end out of
+// turn on found by their cells and starts.
 ghost use Rattle.std.specs.Prelude.{◌≡◌, ◌+◌, ◌≤◌, ◌∷◌, ◌++◌, true, false, [], List, map, length, IfOk, OnOk, OnErr};
 ghost use Rattle.tw_rows.specs.Bag.{SameBag};
 ghost use Rattle.tw_rows.specs.declared.edge.HeldRow.{HeldRow};

@@ -1,4 +1,4 @@
-// What a group keeps, as entries.
+// What a Group keeps, as saved entries.
 ghost use Rattle.std.specs.Prelude.{◌≡◌, ◌∷◌, ◌++◌, [], map, OnOk};
 ghost use Rattle.carried_edges.specs.Entries.{entry_of, entries_of};
 ghost use Rattle.sweep_laws.specs.Moves.{start_of};

@@ -1,4 +1,4 @@
-// Edges that are not due yet.
+// New edges of the child of a Group taken in, and all that are due taken out, in order.
 ghost use Rattle.std.specs.Prelude.{◌≡◌, ◌+◌, ◌<◌, ◌≤◌, ◌↔◌, IsTrue, ℕ, All, map, OnOk, IfOk};
 ghost use Rattle.tw_rows.specs.Bag.{SameBag, total};
 ghost use Rattle.tw_rows.specs.Cells.{datum_kind};

@@ -1,4 +1,4 @@
-// The operator of a sweep, in its form for every node.
+// The `impl Operator` of every sweep: its step, how much it holds, and its state saved and loaded.
 
 use crate::sweep::Sweep;
 use crate::swept::Swept;

@@ -1,4 +1,4 @@
-// A sweep over the edges of up to two sides.
+// The trait of sweeps: what a node keeps of its sides, and how it takes new edges in.
 ghost use Rattle.std.specs.Prelude.{◌≡◌, ℕ, ◌-◌, ◌^◌, ◌≤◌, ◌++◌, false, List, [], map, length, min, Option, IfOk, IfErr, OnOk, OnErr};
 ghost use Rattle.tw_rows.specs.Kinds.{cell_kind_of};
 ghost use Rattle.tw_rows.specs.Instant.{inf};

@@ -1,4 +1,4 @@
-// The operator of a sweep.
+// A sweep at work: its columns, the times up to which its sides are closed, and one step of it.
 ghost use Rattle.std.specs.Prelude.{◌≡◌, ◌≤◌, map, length, false, is_err, IfOk, OnOk};
 ghost use Rattle.tw_rows.specs.Kinds.{cell_kind_of};
 ghost use Rattle.edge_stream.specs.Listing.{cells_of};

@@ -1,4 +1,4 @@
-// What was told, as a list.
+// What was emitted, as a list of edges.
 ghost use Rattle.std.specs.Prelude.{◌≡◌, ◌≤◌, length, map, IfOk};
 ghost use Rattle.std.specs.List.{list_all};
 ghost use Rattle.tw_rows.specs.Kinds.{cell_kind_of};
@@ -23,6 +23,7 @@ fn comes_between(edge: &Edge, from: Time, to: Time) -> bool
     edge.sync < to
 }
 
+// Whether all edges do so.
 fn come_between(edges: &[Edge], from: Time, to: Time) -> bool
     ensures { result ≡ list_all (is_between from to) edges.now }
 {

@@ -1,4 +1,4 @@
-// Ends that come, of starts that are due.
+// The ends of intervals whose starts are due, in the order of their times.
 ghost use Rattle.std.specs.Prelude.{◌≡◌, ◌≤◌, ◌<◌, length, drop, [], ◌∷◌, IfSome, IfNone, IfOk, OnOk};
 ghost use Rattle.std.specs.List.Sorted.{IsPermutation};
 ghost use Rattle.sweep_sides.specs.Ends.{falls_at, is_near_end};
@@ -7,7 +7,7 @@ use std::alloc::Global;
 use std::marker::Model;
 use tw_rows::{Memory, Time};
 
-/// The end of a life whose start is due: the start stands at that place of the edges that are, and has its cells.
+/// The end of a lifetime whose start is due: the start stands at that place of the due edges, and has its cells.
 #[derive(Clone, Copy)]
 pub(crate) struct Ending {
     pub(crate) sync: Time,

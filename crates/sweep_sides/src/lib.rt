@@ -1,5 +1,5 @@
-//! What every sweep over edges does with its sides: new edges wait until they are due, those that are due are cut at the
-//! instants, and what was told becomes a list.
+//! What every sweep over edges does with its sides: new edges are pending until they are due, those that are due are cut at the
+//! instants, and what is emitted becomes a list.
 #![tactic(auto)]
 
 mod answer;

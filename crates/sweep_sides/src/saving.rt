@@ -18,7 +18,7 @@ use std::alloc::Global;
 use synopsis::Synopsis;
 use tw_rows::{Edge, HeldRow, Kind, Memory, Time};
 
-/// How many rows are kept of a side and edges wait, or the greatest number that there is room for.
+/// How many rows are kept of a side and edges are pending, or the greatest number that there is room for.
 pub fn kept_count(rows: &Synopsis, waiting: &EndQueue) -> u64
     ensures { result ≡ min (length rows.now.rows + length waiting.now) (2 ^ 64 - 1) }
 {
@@ -45,7 +45,7 @@ pub fn save_rows(saved: &mut Saved, part: u64, rows: &Synopsis) -> Result<(), Me
     Ok(())
 }
 
-/// Adds the edges that wait as entries of that part.
+/// Adds the pending edges as entries of that part.
 pub fn save_waiting(
     alloc: Global,
     saved: &mut Saved,
@@ -137,7 +137,7 @@ fn has_real_times(entry: &SavedEntry) -> bool
     entry.other != entry.sync
 }
 
-// Whether the entry may wait from the time on, with such cells.
+// Whether the entry may be pending from the time on, with such cells.
 fn waits(entry: &SavedEntry, kinds: &[Kind], from: Time) -> bool
     ensures { result ≡ may_wait (map cell_kind_of kinds.now) from (saved_edge entry.now) }
 {
@@ -153,7 +153,7 @@ fn waits(entry: &SavedEntry, kinds: &[Kind], from: Time) -> bool
     stores(entry, kinds)
 }
 
-/// Whether the entries of that part can wait: each is a start or an end of such cells, at the time or later.
+/// Whether the entries of that part can be pending: each is a start or an end of such cells, at the time or later.
 pub fn can_wait(saved: &Saved, part: u64, kinds: &[Kind], from: Time) -> bool
     ensures { result ≡ may_all_wait (map cell_kind_of kinds.now) from (part_of part saved.now) }
 {
@@ -212,7 +212,7 @@ fn queue_of(alloc: Global, edges: &[Edge]) -> Result<EndQueue, Memory>
     Ok(queue)
 }
 
-/// The edges of that part, as they wait.
+/// The edges of that part, pending again.
 pub fn load_waiting(alloc: Global, saved: &Saved, part: u64) -> Result<EndQueue, Memory>
     ensures edges { IfOk result (λ queue. SameBag (queued queue) (part_of part saved.now)) }
     ensures timed { IfOk result AreTimed }

@@ -1,4 +1,4 @@
-// Starts that wait until they are due.
+// Pending starts, of a side of which no end is asked.
 ghost use Rattle.std.specs.Prelude.{◌≡◌, All, map, OnOk};
 ghost use Rattle.tw_rows.specs.Cells.{datum_kind};
 ghost use Rattle.tw_rows.specs.declared.edge.Edge.{Edge};
@@ -30,7 +30,7 @@ fn put_start(queue: &mut EndQueue, edge: Edge) -> Result<(), Memory>
     Ok(())
 }
 
-/// Puts the starts that the edges of a list tell of to those that wait, each for its sync. Ends are let go.
+/// Puts the starts that the edges of a list tell of to the pending ones, each until its sync is due. Ends are let go.
 pub fn put_starts(queue: &mut EndQueue, edges: &EdgeList) -> Result<(), Memory>
     ensures put { OnOk result
         (TakeIn (queued queue.old) (queued queue.new) (starts_in edges.now.edges)) }

@@ -1,4 +1,4 @@
-// Edges that are taken in, and taken out again when they are due.
+// New edges of a side taken in and all that are due taken out, in one call.
 ghost use Rattle.std.specs.Prelude.{◌≡◌, ◌+◌, ◌<◌, ◌≤◌, ◌∷◌, ℕ, All, map, length, cond, IsTrue, OnOk, IfOk, IfSome, IfNone};
 ghost use Rattle.tw_rows.specs.Bag.{SameBag, total};
 ghost use Rattle.tw_rows.specs.Cells.{datum_kind};
@@ -301,8 +301,9 @@ fn room_for(edges: &EdgeList) -> usize
     edges.len().min(SOME) as usize
 }
 
-/// Puts the edges of a list to those that wait, each for its sync, and takes out those that are due before a time, in the
-/// order of their syncs. An edge of the list that is due does not wait at all.
+/// Puts the edges of a list to the pending ones, each until its sync is due, and takes out those that are due before a time, in
+/// the order of their syncs. A start of the list that is due at once is not put in at all, and an end only where it comes far
+/// before others.
 pub fn take_in(
     queue: &mut EndQueue,
     alloc: Global,

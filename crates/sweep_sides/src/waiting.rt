@@ -1,4 +1,4 @@
-// Edges that wait until they are due.
+// Pending edges of a side: new ones are put in, and those that are due taken out.
 ghost use Rattle.std.specs.Prelude.{◌≡◌, ◌+◌, ℕ, All, map, OnOk, IfOk};
 ghost use Rattle.tw_rows.specs.Bag.{total};
 ghost use Rattle.tw_rows.specs.Cells.{datum_kind};
@@ -24,6 +24,7 @@ pub(crate) fn is_single(edge: &Edge) -> bool
     edge.is_end() || edge.other == Time::INF
 }
 
+// Puts an edge, which is pending until its sync is due.
 pub(crate) fn put(queue: &mut EndQueue, edge: Edge) -> Result<(), Memory>
     ensures put { OnOk result ((w : Edge → ℕ) →
         total w (queued queue.new) ≡ total w (queued queue.old) + w edge) }
@@ -58,7 +59,7 @@ pub(crate) fn put_singles(queue: &mut EndQueue, edge: Edge) -> Result<(), Memory
     Ok(())
 }
 
-/// Puts the edges of a list to those that wait, each for its sync.
+/// Puts the edges of a list to the pending ones, each until its sync is due.
 pub fn put_all(queue: &mut EndQueue, edges: &EdgeList) -> Result<(), Memory>
     ensures put { OnOk result
         (TakeIn (queued queue.old) (queued queue.new) (singles edges.now.edges)) }

@@ -1,3 +1,5 @@
 pub mod Bags
 pub mod Keyed
+pub mod Together
+pub mod Places
 pub mod Examples

@@ -54,7 +54,7 @@ fn fitting(marks: Option<Box<Marks>>, rows: usize) -> Option<Box<Marks>>
 }
 
 // Whether the row has these cells and this start.
-fn is_row(row: &HeldRow, cells: &[Datum], start: Time) -> bool
+pub(crate) fn is_row(row: &HeldRow, cells: &[Datum], start: Time) -> bool
     ensures { result ≡ is_held cells.now start row.now }
 {
     row.start == start && row.cells.items() == cells

@@ -36,7 +36,7 @@ impl Model for KeyRoom {
 }
 
 // The datum of a row in a column.
-fn cell_at(cells: &[Datum], column: usize) -> Datum
+pub(crate) fn cell_at(cells: &[Datum], column: usize) -> Datum
     ensures { result ≡ cell_or_zero cells.now column }
 {
     cells.get(column).copied().unwrap_or(Datum::Int(0))

@@ -1,8 +1,9 @@
-//! Rows that are alive, by the data in their key columns.
+//! Rows that are alive, found by the data in their key columns, or by their cells and starts.
 #![tactic(auto)]
 
 mod bucket;
 mod buckets;
+mod few;
 mod key_room;
 mod marks;
 mod spares;

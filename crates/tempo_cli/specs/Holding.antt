@@ -1,4 +1,4 @@
--- What private contracts say of text that is held.
+-- Text that is held while lines of a read are still to be taken.
 use Rattle.std.specs.Prelude.{◌≡◌, ℕ, List, ◌++◌}
 use Rattle.std.specs.List.{All}
 use Rattle.wire_lines.specs.Journal.{Entry, outs, IsOut}

@@ -1,5 +1,5 @@
--- Callers read Answers, Told, Table, Resumed, Freezing, Restoring, Summing, Jobs and Status. Only private contracts cite Feeding, Working,
--- Holding, Sampled, Restored and Halting.
+-- Callers read Answers, Told, Table, Resumed, Freezing, Restoring, Summing, Jobs, Holding and Status. Only private contracts cite Feeding,
+-- Working, Sampled, Restored and Halting.
 pub mod Answers
 pub mod Told
 pub mod Table

@@ -16,8 +16,8 @@ fn add(held: &mut Vec<u8>, due: &[u8]) -> bool
     held.len() <= MOST && held.extend_from_slice(due).is_ok()
 }
 
-// Holds what is due behind what is held already, or writes both.
-pub(crate) fn hold<W: Wire>(wire: &mut W, held: &mut Vec<u8>, due: &[u8]) -> Result<(), WriteFailed>
+/// Holds what is due behind what is held already, or writes both: where much is held, or memory is out.
+pub fn hold<W: Wire>(wire: &mut W, held: &mut Vec<u8>, due: &[u8]) -> Result<(), WriteFailed>
     ensures ok { OnOk result (Grows (W.journal wire.old) (W.journal wire.new)
         (HoldsOn held.old.items due.now held.new.items)) }
     ensures err { OnErr result (Grows (W.journal wire.old) (W.journal wire.new)

@@ -15,6 +15,7 @@ mod status;
 
 pub use answering::{Answering, LIMIT, Step};
 pub use freezing::buffer_for;
+pub use holding::hold;
 pub use laws::{
     both_runs_write_all, resumed_runs_are_final, runs_are_complete, runs_in_two_write_as_one,
     words_ask_for_one_job,

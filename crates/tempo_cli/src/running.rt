@@ -68,6 +68,20 @@ pub fn options_of(asked: &CommandLine<'_>) -> Options
     }
 }
 
+// In how many shards a node with a key runs where nothing is kept for a later run: one where no step has so many edges that
+// threads pay, since in turn shards only cost.
+fn shards_for<G: Gate>(asked: &CommandLine<'_>, gate: &G) -> usize
+    requires within { AreWithin (asked_by asked.now) }
+    ensures some { 1 ≤ result }
+    ensures few { result ≤ 16 }
+{
+    if (asked.batch as u64) < gate.fewest_edges() {
+        1
+    } else {
+        asked.workers
+    }
+}
+
 // Does what the mode says with the plan.
 fn do_mode<R: Threads + Sync, W: Wire, G: Gate>(
     rt: &R,
@@ -85,15 +99,19 @@ fn do_mode<R: Threads + Sync, W: Wire, G: Gate>(
         (W.write_faults wire.old) (W.write_faults wire.new) result }
 {
     let options = options_of(asked);
+    let once = Options {
+        workers: shards_for(asked, gate),
+        ..options
+    };
     match asked.mode {
-        Mode::Run => answer(rt, alloc, plan, options, asked.header, wire, gate),
+        Mode::Run => answer(rt, alloc, plan, once, asked.header, wire, gate),
         Mode::Freeze => answer_frozen(rt, alloc, asked, plan, wire, gate),
         Mode::Resume => resume(rt, alloc, asked.query, plan, options, wire, gate),
         Mode::Explain => tell(explain(alloc, &plan), wire),
         Mode::Cut => tell(cut_text(alloc, &plan), wire),
         Mode::Sample => {
             let sample = Sample::new(asked.number, asked.events);
-            sum_up(rt, alloc, plan, options, asked.header, sample, wire, gate)
+            sum_up(rt, alloc, plan, once, asked.header, sample, wire, gate)
         }
     }
 }
@@ -156,7 +174,9 @@ fn tell_refusal<N: Wire>(notes: &mut N, text: &Option<String>)
 /// wire tells its journal; over the standard streams no contract can say what came or went.
 ///
 /// A node with a key runs as so many shards as there are workers, in threads where `rt` can make them; each passes `gate`
-/// before it steps. No clause speaks of workers: bytes and status are the same for any number.
+/// before it steps. Where `--batch` is below the fewest edges of the gate no step would fork, and a run that is neither frozen nor
+/// resumed makes one shard. Of the number of workers only the clauses on checkpoints speak, whose text has it: for any number
+/// the same is written for the lines.
 pub fn run<'a, R: Threads + Sync, W: Wire, N: Wire, G: Gate>(
     rt: &R,
     alloc: Global,

@@ -22,7 +22,7 @@ use row_stage::column_kinds;
 use shard_apply::Gate;
 use std::alloc::Global;
 use std::thread::Threads;
-use tw_rows::{Cells, Datum, Kind, Memory, TextTable, Time};
+use tw_rows::{Datum, Kind, Memory, TextTable, Time};
 
 /// The parts of an engine: lines come in at the ingress, their edges go through the dataflow of the plan, and the egress shows
 /// what the root changes. `closed` is how far the text goes, and `row` has the values of the last event that was read.
@@ -138,13 +138,10 @@ impl Parts {
             Ok(said) => said,
             Err(fault) => return Err(EngineFault::of_row(number, &fault)),
         };
-        let cells = match Cells::from_slice(self.alloc, self.row.as_slice()) {
-            Ok(cells) => cells,
-            Err(Memory) => return Err(EngineFault::Memory),
-        };
+        let row = self.row.as_slice();
         match self
             .ingress
-            .admit_cells(said, cells, &self.texts, &mut self.pools)
+            .admit_row(said, row, &self.texts, &mut self.pools)
         {
             Ok(_) => Ok(()),
             Err(refusal) => Err(EngineFault::of_refusal(number, &refusal)),

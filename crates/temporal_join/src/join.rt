@@ -1,4 +1,4 @@
-// The operator of a Join.
+// A Join: the `Swept` of its sides, and one that keeps nothing yet.
 ghost use Rattle.std.specs.Prelude.{◌≡◌, ◌≤◌, length, [], IfOk};
 ghost use Rattle.plan_model.specs.Keys.{paired_row};
 ghost use Rattle.plan_model.specs.declared.node.Node.TheVariants.{Join as JoinNode};

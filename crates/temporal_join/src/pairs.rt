@@ -15,7 +15,7 @@ use sweep_sides::pair_cells;
 use synopsis::{HeldRow, Synopsis, lone_key};
 use tw_rows::{Cells, Datum, Edge, Memory, Time};
 
-/// How rows of one side are paired with those of the other at an instant. `right` tells that they are right rows.
+/// How rows of one side are paired with those of the other at an instant: left rows, or right ones where `right` is set.
 #[derive(Drop)]
 pub(crate) struct Pairing<'a> {
     pub(crate) alloc: Global,
@@ -69,7 +69,7 @@ impl<'a> Pairing<'a> {
         }
     }
 
-    // Tells the start or the end of the pair of a row with each of some rows of the other side.
+    // Emits the start or the end of the pair of a row with each of some rows of the other side.
     fn tell(
         &self,
         answer: &mut Vec<Edge>,
@@ -92,6 +92,7 @@ impl<'a> Pairing<'a> {
         Ok(())
     }
 
+    // The key columns of the side of the rows.
     fn key(&self) -> &[usize]
         ensures { result.now ≡ own_key self.now }
     {
@@ -102,7 +103,7 @@ impl<'a> Pairing<'a> {
         }
     }
 
-    // Tells the start or the end of each pair of a row, whose key is copied.
+    // Emits the start or the end of each pair of a row, whose key is copied.
     fn tell_by_copy(
         &self,
         answer: &mut Vec<Edge>,
@@ -119,7 +120,7 @@ impl<'a> Pairing<'a> {
         Ok(())
     }
 
-    // Tells the start or the end of each pair of a row: with those rows of the other side that have its key.
+    // Emits the start or the end of each pair of a row: with those rows of the other side that have its key.
     #[inline(always)]
     fn tell_row(
         &self,
@@ -146,7 +147,7 @@ impl<'a> Pairing<'a> {
         Ok(())
     }
 
-    // Takes out the row that an end edge ends, and tells the ends of its pairs.
+    // Takes out the row that an end edge ends, and emits the ends of its pairs.
     #[inline(always)]
     fn end_one(
         &self,
@@ -174,7 +175,7 @@ impl<'a> Pairing<'a> {
         Ok(())
     }
 
-    /// Takes out the rows of one side that end, and tells the ends of their pairs. Of many instants one side has no edges.
+    /// Takes out the rows of one side that end, and emits the ends of their pairs. Of many instants one side has no edges.
     #[inline(always)]
     pub(crate) fn end_rows(
         &self,
@@ -197,7 +198,7 @@ impl<'a> Pairing<'a> {
         Ok(())
     }
 
-    // Tells the starts of the pairs of the row that a start edge starts, and puts it in: its cells move out of the edge.
+    // Emits the starts of the pairs of the row that a start edge starts, and puts it in: its cells move out of the edge.
     #[inline(always)]
     fn start_one(
         &self,
@@ -220,7 +221,7 @@ impl<'a> Pairing<'a> {
         Ok(())
     }
 
-    /// Puts in the rows of one side that start, and tells the starts of their pairs. Of many instants one side has no edges.
+    /// Puts in the rows of one side that start, and emits the starts of their pairs. Of many instants one side has no edges.
     #[inline(always)]
     pub(crate) fn start_rows(
         &self,

@@ -1,4 +1,4 @@
-// The sweep of a join.
+// The `impl Sweep` of a Join: how its sides take new edges in, and their state saved and loaded.
 ghost use Rattle.std.specs.Prelude.{◌≡◌, ◌≤◌, ◌++◌, ◌↔◌, IsTrue, ℕ, All, map, List, OnOk, OnErr, IfOk};
 ghost use Rattle.tw_rows.specs.Bag.{SameBag};
 ghost use Rattle.tw_rows.specs.Cells.{datum_kind};
@@ -27,7 +27,7 @@ use sweep_sides::{
 };
 use tw_rows::{Edge, Kind, Memory, Time};
 
-/// The rows of both sides that are alive, and the edges of both sides that wait.
+/// The rows of both sides that are alive, and the pending edges of both sides.
 #[derive(Drop)]
 pub struct JoinSides {
     pub(crate) rows: Rows,

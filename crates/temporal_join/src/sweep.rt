@@ -1,4 +1,4 @@
-// The sweep over the instants of what is due on both sides.
+// The rows of both sides of a Join, and the sweep over the instants of what is due.
 ghost use Rattle.std.specs.Prelude.{◌≡◌, ◌+◌, ◌<◌, ℕ, suc, List, OnOk};
 ghost use Rattle.tw_rows.specs.Bag.{SameBag};
 ghost use Rattle.tw_rows.specs.Event.{AreEvents};

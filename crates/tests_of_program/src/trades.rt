@@ -55,12 +55,12 @@ fn given<'a, 'b>(words: &'a [&'a str], input: &'b [u8]) -> Given<'a, 'b> {
     }
 }
 
-// Sizes of batches with numbers of workers.
+// Sizes of batches with numbers of workers. With a batch of 4096 or more there are shards.
 static WAYS: [(&str, &str); 5] = [
     ("1", "1"),
     ("7", "2"),
-    ("1024", "8"),
-    ("1024", "16"),
+    ("4096", "8"),
+    ("8192", "16"),
     ("4096", "1"),
 ];
 
@@ -120,7 +120,7 @@ fn two_shards_meet(rt: HostRuntime) -> Result<(), Memory> {
         met: [AtomicBool::new(false), AtomicBool::new(false)],
     };
     let input = input(rt.alloc(), 200)?;
-    let ran = run_past(&rt, given(&words_for("1024", "2"), &input), &gate)?;
+    let ran = run_past(&rt, given(&words_for("7", "2"), &input), &gate)?;
     assert_eq!(rt; ran.number, 0);
     assert!(rt; gate.met[0].load(Ordering::SeqCst) && gate.met[1].load(Ordering::SeqCst));
     Ok(())

@@ -1,12 +1,12 @@
-// Edges: where lives begin and end.
+// Edges: where lifetimes begin and end.
 ghost use Rattle.std.specs.Prelude.{◌≡◌, ◌<◌, ◌≤◌, ◌↔◌, IsTrue, length};
 
 use crate::cells::Cells;
 use crate::time::Time;
 use std::alloc::AllocError;
 
-/// An edge of an event. A whole event has its start as `sync` and its end as `other`. A start that waits for its end has
-/// infinity as `other`. An end has the event's end as `sync` and its start as `other`.
+/// An edge of an event. An interval has the event's start as `sync` and its end as `other`, a start edge the start and infinity,
+/// and an end edge the end as `sync` and the start as `other`.
 #[derive(Drop)]
 pub struct Edge {
     pub sync: Time,
@@ -38,7 +38,7 @@ impl Clone for Edge {
     }
 }
 
-/// A row of cells that is alive, with the start of its life.
+/// A row of cells that is alive, with the start of its lifetime.
 #[derive(Drop)]
 pub struct HeldRow {
     pub cells: Cells,

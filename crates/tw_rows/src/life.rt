@@ -1,17 +1,17 @@
-// Lives, and times rounded down.
+// Lifetimes, and times rounded down.
 ghost use Rattle.std.specs.Prelude.{◌≡◌, ◌<◌, ◌≤◌, IsTrue, ◌↔◌};
 ghost use Rattle.tw_rows.specs.Instant.{inf, floor_to as floor_of};
 
 use crate::time::Time;
 
-/// The life [start, end) of an event: it is alive from `start` on and before `end`, which may be infinity.
+/// The lifetime [start, end) of an event: it is alive from `start` on and before `end`, which may be infinity.
 #[derive(Clone, Copy, Debug, PartialEq, Eq)]
 pub struct Life {
     pub start: Time,
     pub end: Time,
 }
 
-/// Whether an event of this life is alive at the time.
+/// Whether an event of this lifetime is alive at the time.
 pub fn in_life(life: &Life, t: Time) -> bool
     ensures { IsTrue result ↔ ((life.now.start ≤ t) × (t < life.now.end)) }
 {

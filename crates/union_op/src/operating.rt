@@ -1,4 +1,4 @@
-// The operator of a Union, in its form for every node.
+// The `impl Operator` of a Union: its step, how much it holds, and its state saved and loaded.
 ghost use Rattle.std.specs.Prelude.{◌≡◌};
 ghost use Rattle.edge_stream.specs.Listing.{cells_of};
 

@@ -1,4 +1,4 @@
-// The operator of a Union.
+// What a Union keeps from one step to the next, and a Union that keeps nothing yet.
 ghost use Rattle.std.specs.Prelude.{◌≡◌, ◌≤◌, min, false, [], length, IfOk};
 ghost use Rattle.edge_history.specs.Order.{failing, is_from};
 ghost use Rattle.edge_stream.specs.Lists.{no_edges};

@@ -11,8 +11,8 @@ returns-then-is_before-clause-fit c = λ kinds fit is.
     let h = c.infinity.ensures in
     let s = c.args.key.now.stream in
     put_fits kinds s c.args.self.now.waiting.items c.put.new.self.waiting.items c.put.ensures.changed fit c.put.result _ c.put.ensures.ok c.put.ensures.err
-    (edge_fits (get_or kinds s []) c.in_ok-clone.field-0 c.args.at c.args.state.now.start (omega (arith, late, h)) (omega (arith, less, late, h)) (λ e. omega (arith, e, less))
-    (ap (map datum_kind) c.in_ok-clone.ensures.cases ∙ is))
+    (edge_fits (get_or kinds s []) c.items.result.now c.args.at c.args.state.now.start (omega (arith, late, h)) (omega (arith, less, late, h)) (λ e. omega (arith, e, less))
+    (ap (map datum_kind) c.items.ensures ∙ is))
 
 pub returns-then-is_before-2-clause-fit : goal.returns-then-is_before-2-clause-fit
 returns-then-is_before-2-clause-fit c = λ kinds fit is.

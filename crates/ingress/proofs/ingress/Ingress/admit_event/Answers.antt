@@ -12,14 +12,14 @@ use Rattle.ingress.proofs.ingress.Ingress.admit_event.Goals as goal
 pub invariant_of-self : goal.invariant_of-self
 invariant_of-self c = let i = c.args.self.now in record {
   shape = shape_entered _ i.capacity _ _ i.held.waiting.items c.enter.new.self.waiting.items refl c.enter.ensures.len
-      (c.enter.ensures.fit (cells_of i) i.shape.fit (cells_kinds c.args.texts.now c.args.cells ∙ c.requires.cells)) i.shape;
+      (c.enter.ensures.fit (cells_of i) i.shape.fit (cells_kinds c.args.texts.now c.args.row.now ∙ c.requires.cells)) i.shape;
   above = i.above;
 }
 
 pub invariant_of-self-in_default-entered : goal.invariant_of-self-in_default-entered
 invariant_of-self-in_default-entered c = let i = c.args.self.now in record {
   shape = shape_entered _ i.capacity _ _ i.held.waiting.items c.enter.new.self.waiting.items refl c.enter.ensures.len
-      (c.enter.ensures.fit (cells_of i) i.shape.fit (cells_kinds c.args.texts.now c.args.cells ∙ c.requires.cells)) i.shape;
+      (c.enter.ensures.fit (cells_of i) i.shape.fit (cells_kinds c.args.texts.now c.args.row.now ∙ c.requires.cells)) i.shape;
   above = i.above;
 }
 
@@ -39,7 +39,7 @@ returns-in_default-entered-clause-refused c = λ a given k.
     let n : Known i.policy a line = known_line i.policy a line c.bound-bound.result (k.follows.bounds c.args.stream c.requires.stream ∙ sym c.bound-bound.ensures)
     c.is_refused.result c.is_refused.ensures c.if-is_refused.false c.later.ensures c.is_dropped.ensures in
     let h = c.in-Ok.ensures.ok i.released k.follows.made k.follows.opens given (line_late i.policy texts given a i line n c.requires.stream k) k.follows.keeps in
-    (event_unmatched i.policy texts c.len-count.ensures.distinct given a i k line c.args.cells c.requires.placed (read_cells texts c.args.cells) refl c.requires.stream c.requires.cells n
+    (event_unmatched i.policy texts c.len-count.ensures.distinct given a i k line c.args.row.now c.requires.placed (read_cells texts c.args.row.now) refl c.requires.stream c.requires.cells n
     c.in-Ok.entered c.in_default-entered.is c.enter.new.self.waiting.items (starts_in c.enter.new.self.opens.starts) h).0
 
 pub returns-in_default-entered-clause-err : goal.returns-in_default-entered-clause-err
@@ -50,7 +50,7 @@ returns-in_default-entered-clause-err c = λ a given k.
     let n : Known i.policy a line = known_line i.policy a line c.bound-bound.result (k.follows.bounds c.args.stream c.requires.stream ∙ sym c.bound-bound.ensures)
     c.is_refused.result c.is_refused.ensures c.if-is_refused.false c.later.ensures c.is_dropped.ensures in
     let h = c.in-Ok.ensures.ok i.released k.follows.made k.follows.opens given (line_late i.policy texts given a i line n c.requires.stream k) k.follows.keeps in
-    let u = event_unmatched i.policy texts c.len-count.ensures.distinct given a i k line c.args.cells c.requires.placed (read_cells texts c.args.cells) refl c.requires.stream c.requires.cells n
+    let u = event_unmatched i.policy texts c.len-count.ensures.distinct given a i k line c.args.row.now c.requires.placed (read_cells texts c.args.row.now) refl c.requires.stream c.requires.cells n
     c.in-Ok.entered c.in_default-entered.is c.enter.new.self.waiting.items (starts_in c.enter.new.self.opens.starts) h in
     record {
       follows = follows_kept texts given a i k.follows _ refl refl refl u.1;
@@ -60,7 +60,7 @@ returns-in_default-entered-clause-err c = λ a given k.
 pub invariant_of-self-2 : goal.invariant_of-self-2
 invariant_of-self-2 c = let i = c.args.self.now in record {
   shape = shape_entered _ i.capacity _ _ i.held.waiting.items c.enter.new.self.waiting.items c.raise_bound.ensures.len c.enter.ensures.len
-      (c.enter.ensures.fit (cells_of i) i.shape.fit (cells_kinds c.args.texts.now c.args.cells ∙ c.requires.cells)) i.shape;
+      (c.enter.ensures.fit (cells_of i) i.shape.fit (cells_kinds c.args.texts.now c.args.row.now ∙ c.requires.cells)) i.shape;
   above = λ s.
       let a = i.above s in
       let b = c.raise_bound.ensures.bounds s in
@@ -77,7 +77,7 @@ returns-clause-ok c = λ a given k.
     let n : Known i.policy a line = known_line i.policy a line c.bound-bound.result (k.follows.bounds c.args.stream c.requires.stream ∙ sym c.bound-bound.ensures)
     c.is_refused.result c.is_refused.ensures c.if-is_refused.false c.later.ensures c.is_dropped.ensures in
     let h = c.in-Ok.ensures.ok i.released k.follows.made k.follows.opens given (line_late i.policy texts given a i line n c.requires.stream k) k.follows.keeps in
-    event_taken i.policy texts c.len-count.ensures.distinct given a i _ k line c.args.cells c.requires.placed (read_cells texts c.args.cells) refl c.requires.stream c.requires.cells n
+    event_taken i.policy texts c.len-count.ensures.distinct given a i _ k line c.args.row.now c.requires.placed (read_cells texts c.args.row.now) refl c.requires.stream c.requires.cells n
     c.in-Ok.entered c.in-Some.answer c.in-Some.is h refl refl
     (λ j. c.raise_bound.ensures.bounds j ∙ ap (λ t. raised c.args.stream t (bound_in i.watermarks.streams.items) j) c.reduced.ensures)
     c.raise_bound.ensures.marks
@@ -89,4 +89,4 @@ returns-in_default-clause-memory c = λ is a given k.
     let line : EventLine = record { stream = c.args.stream; form = c.args.form; sync = c.args.sync; other = c.args.other; at = c.later.result; dropped = c.is_dropped.result } in
     let n : Known i.policy a line = known_line i.policy a line c.bound-bound.result (k.follows.bounds c.args.stream c.requires.stream ∙ sym c.bound-bound.ensures)
     c.is_refused.result c.is_refused.ensures c.if-is_refused.false c.later.ensures c.is_dropped.ensures in
-    event_wanted i.policy texts c.len-count.ensures.distinct given a i k line c.args.cells c.requires.placed c.requires.stream c.requires.cells n c.in_default.ensures.named
+    event_wanted i.policy texts c.len-count.ensures.distinct given a i k line c.args.row.now c.requires.placed c.requires.stream c.requires.cells n c.in_default.ensures.named

@@ -1,5 +1,5 @@
-use Rattle.std.proofs.Common.{◌≡◌, false, length}
-use Rattle.kept_run.specs.Standing.{TakesOn}
+use Rattle.std.proofs.Common.{◌≡◌, [], false, length}
+use Rattle.kept_run.specs.Standing.{TakesHeld}
 use Rattle.kept_run.specs.Status.{StaysCounted}
 use Rattle.kept_run.proofs.keeping.Keeper.take_lines.Given as goal
 
@@ -7,7 +7,7 @@ abbrev pub invariant-lines : goal.invariant-lines
 invariant-lines g l =
     (l.self.answering.cutter.longest ≡ 65536)
     × (l.self.answering.engine.ended ≡ false)
-    × TakesOn (g.W.Wire.journal l.fn.wire) (g.W.Wire.journal l.wire) l.fn.self l.self
+    × TakesHeld (g.W.Wire.journal l.fn.wire) (g.W.Wire.journal l.wire) l.fn.self [] l.self l.held.items
     × StaysCounted (g.W.Wire.read_faults l.fn.wire) (g.W.Wire.read_faults l.wire) (g.W.Wire.write_faults l.fn.wire) (g.W.Wire.write_faults l.wire)
 
 abbrev pub decreases-lines : goal.decreases-lines

@@ -5,7 +5,7 @@ use Rattle.edge_stream.specs.Listing.{cells_of, SameShape}
 use Rattle.ingress.specs.Fits.{is_fit}
 use Rattle.ingress.specs.Ranks.{TakesBatches, SamePools}
 use Rattle.ingress.proofs.Merged.{Merged}
-use Rattle.ingress.proofs.waiting.Waiting.merge_below.Given as goal
+use Rattle.ingress.proofs.waiting.Waiting.copy_below.Given as goal
 
 abbrev pub invariant-edges : goal.invariant-edges
 invariant-edges l = record {
