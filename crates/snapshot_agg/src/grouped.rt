@@ -45,8 +45,7 @@ pub struct Grouped {
         IsSide (map cell_kind_of left_kinds.items) left_to groups.rows.rows waiting },
     ghost runs: { failed ≡ false →
         AreRunsOf (map cell_kind_of kinds.items) left_to (run_of running) },
-    ghost few: { HasFewKeys groups.rows.rows groups.totals running }
-        by { few_prop groups.rows.rows groups.totals running },
+    ghost few: { HasFewKeys groups.rows.rows groups.totals running } by { few_prop groups.rows.rows groups.totals running },
     ghost like: { map cell_kind_of kinds.items
         ≡ kinds_over groups (map cell_kind_of left_kinds.items) },
     ghost width: { length kinds.items ≤ 32 },
