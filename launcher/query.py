@@ -379,6 +379,19 @@ def streams_of(text):
     return {item.words[1].text: declared(item.words) for item in items_of(text) if item.what == "stream"}
 
 
+def of_sql(before, word, after):
+    """What to write in place of a word of SQL or of another language, given the words beside it; or None."""
+    if word == "!":
+        return "unequal is <>" if after == "=" else "not stands before a test"
+    if before == word == "=":
+        return "equal is ="
+    if before in AGGREGATES and word == "(":
+        return "a count stands alone, and sum, min, max and avg before a column: count as n, sum v as total"
+    if before == "select" and word == "*":
+        return "without a select all columns are kept"
+    return None
+
+
 def wrong_word(text, place):
     """What is wrong with the word at the place where no query goes on, or None."""
     words = words_of(text)
@@ -386,6 +399,9 @@ def wrong_word(text, place):
     if at is None or not at:
         return None
     word, before = words[at], words[at - 1].text
+    told = of_sql(before, word.text, words[at + 1].text if at + 1 < len(words) else "")
+    if told:
+        return Wrong(told, [word])
     if word.what == "text" or word.what == "bad":
         told = "a text stands between single quotes on one line, and a quote in it is doubled"
         return Wrong(told, [word]) if word.text[0] in "'\"" else None

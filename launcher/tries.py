@@ -34,6 +34,21 @@ stream s(v integer);
            ^^^^^^^
 no kind is called integer; did you mean int? Those here are int, text, dec, bool
 """),
+    ("stream s(v int); s | where v != 3", None, "query: syntax at 29", """
+stream s(v int); s | where v != 3
+                             ^
+unequal is <>
+"""),
+    ("stream s(v int); s | where v == 3", None, "query: syntax at 30", """
+stream s(v int); s | where v == 3
+                              ^
+equal is =
+"""),
+    ("stream s(v int); s | group : count(v) as n", None, "query: syntax at 34", """
+stream s(v int); s | group : count(v) as n
+                                  ^
+a count stands alone, and sum, min, max and avg before a column: count as n, sum v as total
+"""),
     (NESTED, None, "query: expression too long at 227", f"""
 ...{NESTED[136:]}
 {' ' * 94}^

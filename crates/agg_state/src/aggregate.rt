@@ -1,4 +1,4 @@
-// An aggregate of a bag of ints.
+// The trait of aggregates, which are kept of a bag of ints as ints come and go.
 ghost use Rattle.std.specs.Prelude.{◌≡◌, ℕ, ◌^◌, ◌<◌, ℤ, Bool, Option, List, [], ◌∷◌, length, OnOk, OnErr};
 ghost use Rattle.tw_rows.specs.Bag.{SameBag};
 ghost use Rattle.agg_state.specs.Amounts.{told};

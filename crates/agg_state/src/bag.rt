@@ -28,6 +28,7 @@ fn times(counts: &BTreeMap<i64, u64>, value: i64) -> u64
 }
 
 impl Bag {
+    /// No ints.
     pub(crate) fn new(alloc: Global) -> Bag
         ensures { IsBag result.counts result.len [] }
     {
@@ -37,12 +38,14 @@ impl Bag {
         }
     }
 
+    /// How many ints there are, equal ones too.
     pub(crate) fn len(&self) -> u64
         ensures { result ≡ self.now.len }
     {
         self.len
     }
 
+    /// Takes in an int. Out of memory the bag is as it was.
     pub(crate) fn add(&mut self, value: i64) -> Result<(), Memory>
         requires { (bag : List ℤ) × IsBag self.old.counts self.old.len bag × (length bag < 2 ^ 63) }
         ensures ok { OnOk result ((bag : List ℤ) → IsBag self.old.counts self.old.len bag →
@@ -56,6 +59,7 @@ impl Bag {
         Ok(())
     }
 
+    /// Gives up an int that is there.
     pub(crate) fn remove(&mut self, value: i64)
         requires { (bag : List ℤ) × (rest : List ℤ) × IsBag self.old.counts self.old.len bag
             × SameBag bag (value ∷ rest) }
@@ -72,6 +76,7 @@ impl Bag {
         self.counts.remove(&value);
     }
 
+    /// The least int, if there is one.
     pub(crate) fn least(&self) -> Option<i64>
         ensures { (bag : List ℤ) → IsBag self.now.counts self.now.len bag → 0 < length bag →
             result ≡ Some (least_int bag) }
@@ -80,6 +85,7 @@ impl Bag {
         Some(*value)
     }
 
+    /// The greatest int, if there is one.
     pub(crate) fn greatest(&self) -> Option<i64>
         ensures { (bag : List ℤ) → IsBag self.now.counts self.now.len bag → 0 < length bag →
             result ≡ Some (greatest_int bag) }

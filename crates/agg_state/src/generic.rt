@@ -1,4 +1,4 @@
-// What holds of every aggregate.
+// What any aggregate makes of one int, and of a bag in which one int is replaced, known from the trait alone.
 ghost use Rattle.std.specs.Prelude.{◌≡◌, ℤ, ◌<◌, ◌≤◌, ◌^◌, List, [], ◌∷◌, length, IfOk};
 ghost use Rattle.tw_rows.specs.Bag.{SameBag};
 ghost use Rattle.agg_state.specs.Amounts.{told};

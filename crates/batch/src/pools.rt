@@ -1,4 +1,4 @@
-// Columns that are made ahead of their use, of each sort.
+// The pools of an engine or a shard: one of columns for each sort of cell, and free bit vectors.
 ghost use Rattle.std.specs.Prelude.{◌≡◌, ◌+◌, ◌-◌, ◌<◌, ◌≤◌, ◌↔◌, [], max, min, length, IsNone, IfSome, IfOk, OnOk, OnErr};
 ghost use Rattle.batch.specs.Payloads.{payload_kind, payload_data, payload_capacity};
 ghost use Rattle.batch.specs.PoolsView.{PoolsView, free_of, with_free, taken, given, NoMore};

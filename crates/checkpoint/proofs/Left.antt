@@ -7,7 +7,6 @@ use Rattle.edge_stream.specs.declared.saved.SavedEntry.{SavedEntry}
 use Rattle.frozen_state.specs.declared.frozen.FrozenPart.{FrozenPart}
 use Rattle.frozen_state.specs.Frozen.{FrozenView}
 use Rattle.checkpoint_lines.specs.Lines.{end_line, time_line, text_line, entry_line}
-use Rattle.checkpoint.specs.declared.writing.Place.{Place}
 use Rattle.checkpoint.specs.declared.writing.Place.TheVariants.{Head, Entries}
 use Rattle.checkpoint.specs.Form.{FormView}
 use Rattle.checkpoint.specs.Text.{bound_lines, entry_lines, checkpoint_lines}
@@ -110,10 +109,6 @@ entry_fed f ps es part at p e old mid new parts saved low is e_low e_is line fee
           (feed ∙ ap (λ (l : List ℕ). l ++ 10 ∷ []) line ∙ append_assoc old (entry_line p.owner p.shard e) (10 ∷ [])),
       omega (arith, ap length next),
     )
-
--- a place that stands in no part
-pub past_none : (f : FrozenView) (place : Place) → ((part entry : ℕ) → place ≡ Entries part entry → (p : FrozenPart) → slice_get f.parts part ≡ Some p → ⊥) → IsPast f place place
-past_none f place none = λ part entry e p at. absurd (none part entry e p at)
 
 -- behind all entries of this part
 pub past_all : (f : FrozenView) (ps : List FrozenPart) (es : List SavedEntry) (part entry at : ℕ) (p : FrozenPart) → ps ≡ f.parts → es ≡ p.saved → part < length ps → p ≡ get_or ps part p → length es ≤ at →

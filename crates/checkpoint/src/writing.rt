@@ -157,7 +157,7 @@ pub fn write_line(
 ) -> Result<Option<Place>, Memory>
     ensures ok { IfOk result (WritesLine form.now frozen.now place out.old.items out.new.items) }
     ensures room { vec_capacity out.old ≤ vec_capacity out.new }
-    // It wants no memory while the buffer has room for the line.
+    // It takes no memory while the buffer has room for the line.
     ensures full { OnErr result (LacksRoomToFeed (lines_left form.now frozen.now place) out.old) }
 {
     if matches!(place, Place::Done) {

@@ -1,4 +1,4 @@
-// Columns that are made ahead of their use.
+// A pool of free columns of one kind and one capacity, made ahead of their use.
 ghost use Rattle.std.specs.Prelude.{◌≡◌, ◌+◌, ◌-◌, ◌<◌, ◌≤◌, ◌↔◌, [], max, IsNone, IsSome, IfSome, IfNone, IfOk, OnOk, OnErr};
 
 use crate::cell::Cell;

@@ -59,7 +59,7 @@ pub struct CommandLine<'a> {
     pub header: bool,
     /// How late lines and punctuations are taken.
     pub policy: Policy,
-    /// The number that generated events are drawn from.
+    /// The seed of the generated events.
     pub number: u64,
     /// How many events are generated.
     pub events: u64,
@@ -77,12 +77,14 @@ pub enum WordsFault {
     Memory,
 }
 
+// The value of an option that is a text.
 fn text_of<'a>(matches: &ArgMatches<'a>, name: &str) -> &'a str
     ensures { (t : Text) → first_value (found_of matches.now) name.now ≡ Some t → result.now ≡ t }
 {
     matches.get_str(name).unwrap_or("")
 }
 
+// Whether --header is given.
 fn header_of(matches: &ArgMatches<'_>) -> bool
     ensures { (b : Bool) → one_text (found_of matches.now) (codes "header") ≡ Some (bool_text b) →
         result ≡ b }
@@ -90,6 +92,7 @@ fn header_of(matches: &ArgMatches<'_>) -> bool
     matches.get_flag("header")
 }
 
+// The mode that --mode names.
 fn mode_of(matches: &ArgMatches<'_>) -> Mode
     ensures { (m : Mode) → first_value (found_of matches.now) (codes "mode") ≡ Some (mode_text m) →
         result ≡ m }
@@ -104,6 +107,7 @@ fn mode_of(matches: &ArgMatches<'_>) -> Mode
     }
 }
 
+// The value of an option that is a size.
 fn size_of(matches: &ArgMatches<'_>, name: &str) -> usize
     ensures { (least most n : ℕ) → ShowsNumber (found_of matches.now) name.now least most n →
         result ≡ n }
@@ -111,6 +115,7 @@ fn size_of(matches: &ArgMatches<'_>, name: &str) -> usize
     matches.get_one::<usize>(name).unwrap_or(0)
 }
 
+// What --late says of late lines.
 fn late_of(matches: &ArgMatches<'_>) -> Lateness
     ensures { (l : SomeLateness) → first_value (found_of matches.now) (codes "late")
         ≡ Some (late_text l) → result ≡ l }
@@ -122,6 +127,7 @@ fn late_of(matches: &ArgMatches<'_>) -> Lateness
     }
 }
 
+// The value of an option that is a number of 64 bits.
 fn number_of(matches: &ArgMatches<'_>, name: &str) -> u64
     ensures { (least most n : ℕ) → ShowsNumber (found_of matches.now) name.now least most n →
         result ≡ n }
@@ -129,6 +135,7 @@ fn number_of(matches: &ArgMatches<'_>, name: &str) -> u64
     matches.get_one::<u64>(name).unwrap_or(0)
 }
 
+// How lines are admitted, by --lateness, --late and --punctuate.
 fn policy_of(matches: &ArgMatches<'_>) -> Policy
     ensures { (a : Asked) → ShowsCommand (found_of matches.now) a → result ≡ a.policy }
 {
@@ -139,6 +146,7 @@ fn policy_of(matches: &ArgMatches<'_>) -> Policy
     }
 }
 
+// Where the state of the run is kept, where --checkpoint is given.
 fn keeping_of<'a>(matches: &ArgMatches<'a>) -> Option<Keeping<'a>>
     ensures { (k : Option Kept) → ShowsKeeping (found_of matches.now) k →
         option_map kept_by result ≡ k }
@@ -169,6 +177,7 @@ fn command_of<'a>(matches: &ArgMatches<'a>) -> CommandLine<'a>
     }
 }
 
+// The words as clap reads them by the options of the command.
 fn match_words<'a>(alloc: Global, words: &'a [&'a str]) -> Result<ArgMatches<'a>, Error>
     ensures taken { IfOk result (λ _. are_read (map (λ w. w.now) words.now) ≡ true) }
     ensures matches { IfOk result (λ m. rows_of (found_of m)
@@ -193,6 +202,7 @@ fn fault_of(alloc: Global, error: &Error) -> WordsFault
     }
 }
 
+// Whether the value of an option stands in the words, and is not its default.
 fn is_said(source: Option<ValueSource>) -> bool
     ensures { result ≡ is_said source }
 {
@@ -210,6 +220,7 @@ fn stands(matches: &ArgMatches<'_>, name: &str) -> bool
     is_said(matches.value_source(name))
 }
 
+// Whether the mode is run.
 fn is_run(matches: &ArgMatches<'_>) -> bool
     ensures { result ≡ is_run (first_value (found_of matches.now) (codes "mode")) }
 {

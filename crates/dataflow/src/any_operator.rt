@@ -10,7 +10,7 @@ use shard_apply::{Gate, Sharded};
 use std::thread::Threads;
 use tw_rows::Time;
 
-/// What the node of the operator has to tell once the new edges of its sides came in, which are then closed up to the two
+/// The edges that the node of the operator emits once the new edges of its sides came in, which are then closed up to the two
 /// times.
 pub(crate) fn step_operator<O: Operator>(
     operator: &mut O,

@@ -1,4 +1,4 @@
-// A plan at work.
+// A plan at work: a stage for each node, a step of all of them, and what they keep, saved and loaded.
 ghost use Rattle.std.specs.Prelude.{◌≡◌, ◌≢◌, ◌<◌, ◌≤◌, ℕ, true, false, Some, None, Err, List, [], map, length, slice_get};
 ghost use Rattle.std.specs.Prelude.{IfOk, IfErr, OnOk, OnErr};
 ghost use Rattle.tw_rows.specs.Texts.{BeginsWith};

@@ -1,4 +1,4 @@
-// One node of a plan at work.
+// The stage of a node, whole or in shards, by its kind: its step, and how much it holds.
 ghost use Rattle.std.specs.Prelude.{◌≡◌, ◌-◌, ◌^◌, ◌<◌, ◌≤◌, ℕ, min, true, Some, None, length, IfOk, IfErr, OnOk, OnErr};
 ghost use Rattle.tw_rows.specs.Texts.{BeginsWith};
 ghost use Rattle.plan_model.specs.declared.node.Node.{Node};
@@ -100,7 +100,7 @@ impl Stage {
         }
     }
 
-    /// What the node has to tell once the new edges of its sides came in, which are then closed up to the two times. Of a
+    /// The edges that the node emits once the new edges of its sides came in, which are then closed up to the two times. Of a
     /// node with one child the right list has no columns. Shards pass the gate, and run beside each other where threads can be
     /// made. Out of memory the lists are lost.
     pub fn step<R: Threads + Sync, G: Gate>(

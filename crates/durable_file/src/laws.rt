@@ -1,4 +1,4 @@
-// Of many replacements, and of crashes in memory.
+// The laws of many replacements in a row, and of crashes of a medium in memory.
 ghost use Rattle.std.specs.Prelude.{◌≡◌, ℕ, List, ◌++◌, Option, Some};
 ghost use Rattle.durable_file.specs.Disk.{Disk, MayLeave};
 ghost use Rattle.durable_file.specs.Memory.{left_back};

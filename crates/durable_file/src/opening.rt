@@ -1,4 +1,4 @@
-// The file is opened.
+// FILE brought to the disk and read, which a process does first.
 ghost use Rattle.durable_file.specs.Calls.{Goes, HasReadCause};
 ghost use Rattle.durable_file.specs.Opened.{HasOpened};
 

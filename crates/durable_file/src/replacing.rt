@@ -1,4 +1,4 @@
-// The file is replaced.
+// FILE replaced whole, by a file that is written beside it.
 ghost use Rattle.wire_lines.specs.Faults.{HasCause};
 ghost use Rattle.durable_file.specs.Calls.{Goes};
 ghost use Rattle.durable_file.specs.Replaced.{HasReplaced};

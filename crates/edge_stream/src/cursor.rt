@@ -99,7 +99,7 @@ impl<'a> Cursor<'a> {
         }
     }
 
-    /// The next edge. Memory is taken only for more than 4 cells; want of it leaves the cursor where it was.
+    /// The next edge. Memory is taken only for more than 4 cells; out of memory the cursor stays where it was.
     pub fn next(&mut self) -> Result<Option<Edge>, Memory>
         ensures edges { IfOk result (λ item. self.old.edges ≡ option_to_list item
             ++ self.new.edges) }
@@ -158,8 +158,8 @@ impl<'a> Cursor<'a> {
     }
 
     /// Adds the next edge last to a list of the same kinds, and goes past it. Memory is taken only
-    /// where the list's last batch is full; want of it changes nothing but the pools. Where no edge is
-    /// left, nothing changes.
+    /// where the list's last batch is full; out of memory nothing changes but the pools. Where no edge
+    /// is left, nothing changes.
     pub fn copy_next(&mut self, pools: &mut Pools, to: &mut EdgeList) -> Result<(), Memory>
         requires kinds { self.old.kinds ≡ cells_of to.old }
         requires capacity { pools.old.capacity ≡ to.old.capacity }

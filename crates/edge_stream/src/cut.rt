@@ -28,7 +28,7 @@ pub(crate) enum Side {
 }
 
 impl Side {
-    // Whether the sync time is_on_side on this side of `t`.
+    // Whether the sync time lies on this side of `t`.
     fn has(self, sync: Time, t: Time) -> bool
         ensures { (e : Edge) → e.sync ≡ sync → result ≡ is_on_side self t e }
     {
@@ -39,7 +39,7 @@ impl Side {
     }
 }
 
-// Whether each edge of the batch is_on_side on that side of `t`.
+// Whether each edge of the batch lies on that side of `t`.
 fn all_on_side(batch: &Batch, side: Side, t: Time) -> bool
     ensures all { result ≡ list_all (is_on_side side t) (edges_of batch.now.rows) }
     ensures within { length batch.now.rows ≤ batch.now.capacity }

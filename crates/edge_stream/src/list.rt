@@ -1,4 +1,4 @@
-// A list of edges, in batches.
+// The list of edges in batches: made, added to, cut at a time, read and given back.
 ghost use Rattle.std.specs.Prelude.{◌≡◌, ◌+◌, ◌-◌, ◌^◌, min, ◌<◌, ◌≤◌, ◌↔◌, true, [], ◌∷◌, ◌++◌};
 ghost use Rattle.std.specs.Prelude.{length, map, filter, slice_get, Some, IsNone, IfNone, IfSome};
 ghost use Rattle.std.specs.Prelude.{IsErr, IfErr, IfOk, OnOk, OnErr};
@@ -172,8 +172,8 @@ impl EdgeList {
         Ok(())
     }
 
-    /// Adds the edge last. Memory is taken only where the last batch is full; want of it changes
-    /// nothing but the pools.
+    /// Adds the edge last. Memory is taken only where the last batch is full; out of memory nothing
+    /// changes but the pools.
     pub fn append(&mut self, pools: &mut Pools, edge: &Edge) -> Result<(), Memory>
         requires capacity { pools.old.capacity ≡ self.old.capacity }
         requires kinds { map datum_kind edge.now.cells ≡ cells_of self.old }

@@ -134,7 +134,7 @@ pub enum LoadFault {
 /// Why a step gave no edges.
 #[derive(Clone, Copy, Debug, PartialEq, Eq)]
 pub enum StepFault {
-    /// A total has passed its limits at this time.
+    /// A group is undefined at this time: it has more than 2^62 rows, or a sum that is no number of 64 bits.
     Overflow { time: Time },
     Memory,
 }

@@ -1,4 +1,4 @@
-// Output while the input goes on.
+// The output of an engine: the edges of the root come in, and the text of their changelog lines is rendered.
 ghost use Rattle.std.specs.Prelude.{◌≡◌, ℕ, false, List, [], ◌++◌, IfOk, IfErr, OnOk, OnErr, is_err};
 ghost use Rattle.tw_rows.specs.Cells.{ArePlaced};
 ghost use Rattle.edge_stream.specs.Listing.{cells_of};
@@ -105,8 +105,8 @@ impl Egress {
     }
 
     /// Takes the next edges, which come from the time up to which edges were taken before, and works out the changes up to
-    /// `to`. Ends that are known ahead wait. The columns go to the pools, which are of the list's capacity. Out of memory is
-    /// an end: `failed` is then true.
+    /// `to`. Ends that are known ahead are pending. The columns go to the pools, which are of the list's capacity. Out of memory
+    /// is an end: `failed` is then true.
     pub fn take(
         &mut self,
         pools: &mut Pools,

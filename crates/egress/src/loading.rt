@@ -1,4 +1,4 @@
-// Saved entries, taken up again.
+// What an output kept, taken up from saved entries.
 ghost use Rattle.std.specs.Prelude.{◌≡◌, ◌↔◌, ℕ, List, [], ◌∷◌, ◌++◌, None, nat_lt, IsTrue, IfOk, IfErr, OnOk};
 ghost use Rattle.std.specs.List.Sorted.{IsNonDecreasing};
 ghost use Rattle.tw_rows.specs.Instant.{inf};

@@ -25,6 +25,7 @@ pub(crate) struct Counts {
     pub(crate) starts: usize,
 }
 
+// The counts of one edge: an end, or a start.
 pub(crate) fn counts_of(edge: &Edge) -> Counts
     ensures ends { result.ends ≡ length (ended_of edge.now) }
     ensures starts { result.starts ≡ length (started_of edge.now) }

@@ -1,4 +1,4 @@
-// What is kept, as entries.
+// What an output keeps, as saved entries.
 ghost use Rattle.std.specs.Prelude.{◌≡◌, ◌≤◌, ℕ, List, ◌++◌, cond, map, take, drop, IfOk, OnOk};
 ghost use Rattle.std.specs.Option.{option_to_list};
 ghost use Rattle.tw_rows.specs.Instant.{inf};
@@ -56,7 +56,7 @@ fn save_ends(saved: &mut Saved, starts: &mut Starts, edges: &[Edge], at: Time) -
     Ok(())
 }
 
-// Adds an entry for each edge that waits, in the order of their instants, with the first open start of its row, which is
+// Adds an entry for each pending edge, in the order of their instants, with the first open start of its row, which is
 // taken out.
 pub(crate) fn save_waiting(
     saved: &mut Saved,

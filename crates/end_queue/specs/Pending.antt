@@ -1,4 +1,4 @@
--- Pending edges, each until a time of its own.
+-- Edges that wait for their times.
 use Rattle.std.specs.Prelude.{ℕ, nat_lt, cond, ◌≤◌, List, [], ◌∷◌}
 use Rattle.tw_rows.specs.declared.edge.Edge.{Edge}
 

@@ -123,8 +123,8 @@ impl EndQueue {
         key.0 < below.word()
     }
 
-    /// Takes out all edges that are due before `below`, and puts them last, in the order in which they come due. After want
-    /// of memory edges that were due may be lost.
+    /// Takes out all edges that are due before `below`, and puts them last, in the order in which they come due. Out of
+    /// memory, edges that were due may be lost.
     pub fn pop_all(&mut self, below: Time, due: &mut Vec<Edge>) -> Result<(), Memory>
         ensures { OnOk result ((taken : List Pending) × (self.old ≡ taken ++ self.new)
             × (due.new.items ≡ due.old.items ++ map (λ p. p.edge) taken) × All

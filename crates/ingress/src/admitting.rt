@@ -179,7 +179,7 @@ impl Ingress {
     }
 
     /// One line more, whose values stand in a row: what is admitted is the entry that they stand for. An interval that comes in
-    /// order goes from the row into the columns of what waits. A refusal changes nothing.
+    /// order goes from the row into the columns of the pending edges. A refusal changes nothing.
     pub fn admit_row(
         &mut self,
         said: Said,
@@ -317,7 +317,7 @@ impl Ingress {
         self.watermarks.mark(stream)
     }
 
-    /// How many edges wait and how many starts are open, dropped ones too, or the greatest number where there are more. It
+    /// How many edges are pending and how many starts are open, dropped ones too, or the greatest number where there are more. It
     /// goes through them.
     pub fn held(&self) -> u64
         ensures count { WhateverFollowed self.now

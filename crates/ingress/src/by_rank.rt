@@ -138,7 +138,7 @@ impl ByRank {
         Ok(())
     }
 
-    /// How many edges wait, or the greatest number where there are more. It goes through their times.
+    /// How many edges are pending, or the greatest number where there are more. It goes through their times.
     pub fn len(&self) -> u64
         ensures { result ≡ min (length self.now) (2 ^ 64 - 1) }
     {

@@ -1,4 +1,4 @@
-// Event lines in cells.
+// Event lines in cells, and what each of them changes of the edges that are held and of the open starts.
 ghost use Rattle.std.specs.Prelude.{◌≡◌, ◌<◌, None, length, IfOk, OnErr};
 ghost use Rattle.tw_rows.specs.Rows.{Row};
 ghost use Rattle.key_nodes.specs.Joins.{with_life};

@@ -64,7 +64,7 @@ impl HeldStreams {
         })
     }
 
-    /// How many edges wait and how many starts are open, or the greatest number where there are more. It goes through them.
+    /// How many edges are pending and how many starts are open, or the greatest number where there are more. It goes through them.
     pub fn held(&self) -> u64
         ensures count { result ≡ min (length (opens_in self.now.opens.starts.entries) + total
             (λ l. length l) self.now.waiting.items) (2 ^ 64 - 1) }

@@ -1,5 +1,5 @@
-//! Admission at work: the bounds and the marks of streams, and the punctuations that they make due. What lines mean is defined
-//! in `admission`.
+//! Admission at work: the bounds and the marks of streams, the punctuations that they make due, and the edges that are held until
+//! one of these releases them. What lines mean is defined in `admission`.
 #![tactic(auto)]
 
 mod admitting;

@@ -79,8 +79,8 @@ fn last_within(lists: &[EdgeList], from: Time, p: Time, batch: usize) -> Result<
     Ok(low)
 }
 
-/// Where the first slice of the edges of these lists ends, which all come before `p`. An engine finds this time in what waits
-/// (`Ingress::slice_end`), before the lists are made. Memory is taken only for edges of more than 4 cells.
+/// Where the first slice of the edges of these lists ends, which all come before `p`. An engine finds this time in the pending
+/// edges (`Ingress::slice_end`), before the lists are made. Memory is taken only for edges of more than 4 cells.
 pub fn slice_end(lists: &[EdgeList], p: Time, batch: usize) -> Result<Time, Memory>
     requires { failing (is_below p) (edges_of lists.now) ≡ 0 }
     ensures { IfOk result (λ end. end ≡ end_of_slice batch p (edges_of lists.now)) }

@@ -1,4 +1,4 @@
-// Saved entries, taken up again.
+// What admission kept, taken up from saved entries.
 ghost use Rattle.std.specs.Prelude.{◌≡◌, ◌↔◌, ◌%◌, ◌<◌, ◌≤◌, ℕ, List, ◌&&◌, true, false, nat_le, get_or, length, All, Err, IsTrue, IfOk, OnOk, OnErr};
 ghost use Rattle.tw_rows.specs.declared.edge.Edge.{Edge as EdgeOf};
 ghost use Rattle.edge_history.specs.Order.{is_real};

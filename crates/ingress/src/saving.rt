@@ -1,4 +1,4 @@
-// What is kept, as entries.
+// What admission keeps, as saved entries.
 ghost use Rattle.std.specs.Prelude.{◌≡◌, ◌+◌, ◌*◌, ◌^◌, ◌<◌, ◌≤◌, ℕ, List, ◌∷◌, ◌++◌, [], cond, map, length, IfOk, OnOk};
 ghost use Rattle.indexmap.specs.IndexMap.{IsUnique};
 ghost use Rattle.tw_rows.specs.declared.edge.Edge.{Edge};

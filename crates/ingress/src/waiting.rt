@@ -142,8 +142,8 @@ impl Waiting {
         })
     }
 
-    /// How many edges wait, or the greatest number where there are more. It goes through the batches and through the times of
-    /// those that did not come in order.
+    /// How many edges are pending, or the greatest number where there are more. It goes through the batches and through the times
+    /// of those that did not come in order.
     pub fn len(&self) -> u64
         ensures { result ≡ min (length self.now) (2 ^ 64 - 1) }
     {

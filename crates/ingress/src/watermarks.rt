@@ -20,12 +20,14 @@ pub struct Watermarks {
     pub(crate) streams: Vec<Watermark>,
 }
 
+// The later of two times.
 pub(crate) fn later(a: Time, b: Time) -> Time
     ensures { result ≡ max a b }
 {
     if a < b { b } else { a }
 }
 
+// The earlier of two times.
 fn earlier(a: Time, b: Time) -> Time
     ensures { result ≡ min a b }
 {

@@ -1,4 +1,4 @@
-// FILE read back.
+// What FILE has, read back: the places that a run goes on from, and what was frozen.
 ghost use Rattle.std.specs.Prelude.{◌≡◌, ◌<◌, ◌∷◌, ◌++◌, [], ℕ, List, length, IfSome, IfNone, IfOk, IfErr};
 ghost use Rattle.wire_lines.specs.Lines.{whole};
 ghost use Rattle.frozen_state.specs.Forms.{AreApart};

@@ -1,4 +1,4 @@
-// The whole run.
+// A whole run that keeps checkpoints: from what is asked for and what FILE has to how it ends.
 ghost use Rattle.std.specs.Prelude.{◌≡◌, [], List};
 ghost use Rattle.wire_lines.specs.Journal.{Grows};
 ghost use Rattle.command_line.specs.Words.{AreWithin, asked_by};

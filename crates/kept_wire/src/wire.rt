@@ -1,4 +1,4 @@
-// A wire over files.
+// The trait of wires whose output is a file, beside FILE, which keeps the state of a run.
 ghost use Rattle.std.specs.Prelude.{◌≡◌, ℕ, List, [], ◌∷◌, Option, IfOk, OnOk, OnErr};
 ghost use Rattle.wire_lines.specs.Journal.{Did, Start, AtEnd, CutAt, Sync, Keep, Adds};
 ghost use Rattle.wire_lines.specs.Faults.{HasCause, IsOther};

@@ -1,4 +1,4 @@
-// Blocks of numbers.
+// Blocks of 64 numbers, with their arithmetic and their comparisons.
 ghost use Rattle.std.specs.Prelude.{◌≡◌, ◌+◌, ◌≤◌, ◌<◌, ◌^◌, ◌+ℤ◌, ◌-ℤ◌, ◌*ℤ◌, neg_ℤ, ℕ, pos, length, int_lt};
 ghost use Rattle.std.specs.Int.RustNames.{FitsSigned};
 ghost use Rattle.std.specs.Int.{int_wrap, int_div_euclid, int_rem_euclid, w64};

@@ -1,4 +1,4 @@
-// Blocks of places.
+// Blocks of 64 places of texts, and which lanes of two have the same.
 ghost use Rattle.std.specs.Prelude.{◌≡◌, ◌+◌, ◌≤◌, ◌<◌, ◌^◌, ◌==◌, ℕ, length};
 ghost use Rattle.occupancy.specs.Bits.{test};
 ghost use Rattle.lanes.specs.Lanes.{place};

@@ -1,4 +1,4 @@
--- Pending ends, each until the time to which it moves.
+-- Ends that wait for the times to which they move.
 use Rattle.std.specs.Prelude.{◌≡◌, ℕ, ◌+◌, true, List, map}
 use Rattle.tw_rows.specs.Bag.{total}
 use Rattle.tw_rows.specs.Cells.{datum_kind}

@@ -1,4 +1,4 @@
-// Fields: values, times and texts.
+// Fields of a line: values, times, and texts, between double quotes where they need them.
 ghost use Rattle.std.specs.Prelude.{◌≡◌, ◌++◌, ◌∷◌, [], OnOk, OnErr};
 ghost use Rattle.csv.specs.Writing.{default_writer, field_text, needs_byte, escaped};
 ghost use Rattle.tw_rows.specs.Cells.{IsPlaced, read_datum};

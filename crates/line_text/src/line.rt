@@ -1,4 +1,4 @@
-// Lines of the output, and of punctuations.
+// Changelog lines and punctuation lines, appended to a text.
 ghost use Rattle.std.specs.Prelude.{◌≡◌, ◌++◌, ◌∷◌, [], List, ℕ, OnOk, OnErr, map};
 ghost use Rattle.tw_rows.specs.Cells.{ArePlaced, read_cells};
 ghost use Rattle.csv.specs.Writing.{default_writer, field_text, fields_text};

@@ -1,4 +1,4 @@
-// Numbers as they are spelled.
+// Numbers as they are spelled: -5 with 2 places as `-0.05`.
 ghost use Rattle.std.specs.Prelude.{◌≡◌, ◌++◌, ◌^◌, ◌<◌, OnOk, OnErr};
 ghost use Rattle.csv.specs.Writing.{default_writer, field_text};
 ghost use Rattle.line_text.specs.Number.{number_text, units_text, pointed};

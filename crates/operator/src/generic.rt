@@ -1,4 +1,4 @@
-// What holds of every operator.
+// What a step of any operator answers, known from the trait alone.
 ghost use Rattle.std.specs.Prelude.{◌≡◌, ℕ, ◌≤◌, false, Some, None, List, ◌++◌, IfOk, IfErr, OnOk};
 ghost use Rattle.edge_stream.specs.Listing.{cells_of};
 ghost use Rattle.operator.specs.Steps.{StandsAfter, IsFirstUndefined};

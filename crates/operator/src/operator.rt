@@ -1,4 +1,4 @@
-// One node of a plan at work.
+// The trait of operators: a step of a node over new edges, and what it keeps, saved and loaded.
 ghost use Rattle.std.specs.Prelude.{◌≡◌, ℕ, ◌-◌, ◌^◌, ◌≤◌, true, false, is_err, Option, Some};
 ghost use Rattle.std.specs.Prelude.{None, IsErr, List, [], length, min, IfOk, IfErr, OnOk, OnErr};
 ghost use Rattle.tw_rows.specs.Texts.{BeginsWith};

@@ -1,4 +1,4 @@
-// Rows in groups of equal rank.
+// The rows of one key of a Top, in groups of equal rank.
 ghost use Rattle.std.specs.Prelude.{◌≡◌, ◌+◌, ◌-◌, ◌^◌, ◌++◌, ℕ, Bool, true, false, List, OnOk, OnErr, length, map, min};
 ghost use Rattle.tw_rows.specs.Bag.{total};
 ghost use Rattle.tw_rows.specs.declared.cells.Datum.{Datum as Item};

@@ -1,4 +1,4 @@
-// The rows of each key.
+// The rows of a Top by key: how they come and go, and when a key is let go.
 ghost use Rattle.std.specs.Prelude.{◌≡◌, ◌≤◌, Some, OnOk};
 ghost use Rattle.std.specs.Map.{lookup};
 ghost use Rattle.tw_rows.specs.SameCells.{same_cells as same};

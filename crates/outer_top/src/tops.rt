@@ -1,4 +1,4 @@
-// The rows of a top, instant by instant.
+// The rows of a Top by key, and one instant of them.
 ghost use Rattle.std.specs.Prelude.{◌≡◌, ◌≤◌, ℕ, true, [], IfOk, OnOk};
 ghost use Rattle.outer_top.specs.Ranks.{has_rank};
 ghost use Rattle.outer_top.specs.TopKeys.{value_of, ChangesKey, SettlesKey, HasPassed};

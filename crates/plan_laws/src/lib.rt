@@ -1,6 +1,6 @@
 //! Laws of what plans mean, for those who run them: when groups are undefined, how late times get, how much a node may
-//! keep, how wide rows are, which rows an anti-join meets, and what a left join is. The definitions stand in `specs/`; each function here
-//! does nothing, and its clauses are a law of them.
+//! keep, how wide rows are, which rows an anti-join meets, and what a left join is. The definitions stand in `specs/`; each
+//! function here does nothing, and its clauses are a law of them.
 #![tactic(auto)]
 
 mod held_laws;

@@ -1,4 +1,4 @@
-// The laws of the times of events.
+// The laws of how late the times of a node's events may be.
 ghost use Rattle.std.specs.Prelude.{ℕ, ◌+◌, ◌-◌, ◌^◌, ◌<◌, List, length};
 ghost use Rattle.tw_rows.specs.Event.{Event, AreEvents};
 ghost use Rattle.tw_rows.specs.Instant.{inf};

@@ -1,4 +1,4 @@
-// Aggregates of groups.
+// The aggregates that a Group may have.
 
 /// What a Group tells of the rows of a key: a whole number, which counts rows, or units of the kind of its column.
 #[derive(Clone, Copy, Debug, PartialEq, Eq)]

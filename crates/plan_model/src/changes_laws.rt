@@ -1,4 +1,4 @@
-// The laws of changes.
+// The laws of changelog lines: they follow the rows from instant to instant, stand in order, and are final.
 ghost use Rattle.std.specs.Prelude.{◌≡◌, ℕ, suc, ◌+◌, ◌-◌, ◌<◌, ◌≤◌, List, [], ◌∷◌, ◌++◌, length, IsSorted};
 ghost use Rattle.tw_rows.specs.Bag.{SameBag};
 ghost use Rattle.tw_rows.specs.Rows.{Row};
@@ -24,7 +24,8 @@ pub fn lines_follow_rows()
         ≡ how_often r (before rows t) - how_often r (rows t) }
 {}
 
-/// The lines stand in order of their instants; at one instant the ends before the starts, and each of these in the order of their rows.
+/// The lines stand in order of their instants; at one instant the end lines before the start lines, and each of these in the
+/// order of their rows.
 pub fn lines_stand_in_order()
     ensures { (rows : ℕ → List Row) (a n : ℕ) → IsSorted line_cmp (changes rows a n) }
 {}
@@ -35,7 +36,8 @@ pub fn ends_name_first_open_start()
         changes rows 0 n ≡ done ++ Ended t s r ∷ after → IsFirstOpen r done t s }
 {}
 
-/// What is written is final: where the rows below an instant are the same as multisets, the changes below it are the same, line by line.
+/// What is written is final: where the rows below an instant are the same as multisets, the changes below it are the same, line
+/// by line.
 pub fn same_rows_same_changes()
     ensures { (f g : ℕ → List Row) (c : ℕ) → ((t : ℕ) → t < c → SameBag (f t) (g t)) → (a n : ℕ) →
         a + n ≤ c → changes f a n ≡ changes g a n }

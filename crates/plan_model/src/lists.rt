@@ -1,4 +1,4 @@
-// Lists that plans and their nodes hold.
+// The lists that plans and nodes hold, each a type of its own: expressions, keys, aggregates, streams, nodes and schemas.
 ghost use Rattle.std.specs.Prelude.{◌≡◌};
 
 use crate::agg::Agg;

@@ -1,4 +1,4 @@
-// Nodes of plans.
+// The kinds of nodes that a plan may have, their children, and how far each looks back.
 ghost use Rattle.std.specs.Prelude.{◌≡◌};
 ghost use Rattle.plan_model.specs.Meaning.{left_child as left_child_of, right_child as right_child_of};
 ghost use Rattle.plan_model.specs.Reach.{own_duration as own_duration_of};

@@ -1,4 +1,4 @@
-// Plans of queries.
+// A plan: its streams, its nodes with their schemas, and the node whose rows are the result.
 ghost use Rattle.std.specs.Prelude.{◌≡◌, ◌<◌, length};
 ghost use Rattle.plan_model.specs.IsPlan.{AreNodes, IsPlan};
 

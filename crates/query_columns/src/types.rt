@@ -1,4 +1,4 @@
-// The kinds of expressions.
+// The kind of the values of an expression over the columns of a schema, where it has one.
 ghost use Rattle.std.specs.Prelude.{◌≡◌, ◌-◌, IfOk, Some, option_map, length, slice_get};
 ghost use Rattle.query_columns.specs.Types.{same_kind, is_number, kinds, if_kind, if_alike};
 ghost use Rattle.query_columns.specs.Types.{number, if_number, sum_kind, product_kind, arith_kind};
@@ -167,6 +167,7 @@ fn product_kind(left: Kind, right: Kind) -> Option<Kind>
     }
 }
 
+// The kind of what is computed of values of these two kinds.
 fn arith_kind(op: ArithOp, left: Kind, right: Kind) -> Option<Kind>
     ensures { result ≡ arith_kind op left right }
 {

@@ -1,4 +1,4 @@
-// Plans that are being made.
+// A plan that is being made: the names that are known, the nodes so far, and how the next ones are admitted or refused.
 ghost use Rattle.std.specs.Prelude.{◌≡◌, ◌<◌, ◌^◌, ◌++◌, map, length, IfOk, OnOk};
 ghost use Rattle.plan_model.specs.Reach.{event_level};
 ghost use Rattle.query_plan.specs.Answer.{Is};

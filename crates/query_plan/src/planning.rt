@@ -1,4 +1,4 @@
-// The plan of a query.
+// The planning of a whole query, item by item: its streams, its lets and its body, up to the first fault.
 ghost use Rattle.std.specs.Prelude.{◌≡◌, ◌+◌, [], IfOk};
 ghost use Rattle.query_plan.specs.Answer.{Is};
 ghost use Rattle.query_plan.specs.Draft.{no_draft};

@@ -211,6 +211,7 @@ impl<'a> Parser<'a> {
         })
     }
 
+    // An aggregate of a group, with its name.
     fn agg(&mut self) -> Result<QueryAgg, Stop>
         ensures reads { Reads result agg_then Any
             (λ a v. v ≡ agg_of a) self.old.cursor self.new.cursor }
@@ -367,6 +368,7 @@ impl<'a> Parser<'a> {
         Ok(QueryStep::Follow { right, key, within })
     }
 
+    // A step, by its first word.
     fn step(&mut self) -> Result<QueryStep, Stop>
         ensures reads { Reads result step_then (λ z. ends_step z ≡ true)
             (λ s v. v ≡ step_of s) self.old.cursor self.new.cursor }

@@ -1,4 +1,4 @@
-// Queries, as texts spell them.
+// A query as its text spells it: streams, lets, pipes and steps, with names that are not looked up yet.
 ghost use Rattle.std.specs.Prelude.{◌≡◌};
 
 use crate::tree::Tree;

@@ -1,4 +1,4 @@
-// The bytes of a line that are read.
+// Which bytes of a line are read, and whether one of them is beyond ASCII, a CR or a double quote.
 ghost use Rattle.std.specs.Prelude.{◌≡◌, ◌≢◌, ◌≤◌, ◌<◌, IsTrue, false, length};
 ghost use Rattle.row_reader.specs.Line.{stripped, has_mark, text_of, AreSimple};
 

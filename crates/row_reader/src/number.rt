@@ -1,4 +1,4 @@
-// Numbers as they are spelled.
+// The numbers that texts spell, whole ones and ones with places.
 ghost use Rattle.std.specs.Prelude.{◌≡◌, ◌++◌, ◌∷◌, ◌^◌, ◌<◌, ◌≤◌, ℕ, List, IfSome, IfNone, length, take, decimal, IsTrue, false};
 ghost use Rattle.std.specs.Char.{digit_value};
 ghost use Rattle.std.specs.Str.Parse.{AllDigits, digits_value_after};

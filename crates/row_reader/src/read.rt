@@ -1,4 +1,4 @@
-// A line to its entry.
+// A line read into cells: what it says, the values of an event as data, and their texts in a table.
 ghost use Rattle.std.specs.Prelude.{◌≡◌, ◌≢◌, ◌≤◌, ◌<◌, ℕ, List, Ok, Err, None, IfErr, OnOk, length, drop, codes};
 ghost use Rattle.std.specs.List.{All};
 ghost use Rattle.std.specs.Str.{IsUtf8, is_utf8};

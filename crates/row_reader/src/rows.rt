@@ -1,4 +1,4 @@
-// A line to its entry with a row.
+// A line read into its entry: what it says, with the values of an event.
 ghost use Rattle.std.specs.Prelude.{◌≡◌, ◌≢◌, ◌≤◌, IfOk, length};
 ghost use Rattle.std.specs.List.{All};
 ghost use Rattle.tw_rows.specs.Cells.{IsPlaced, ArePlaced, read_datum, read_cells as row_at};

@@ -1,4 +1,4 @@
-// Times, values and words of a line.
+// What a field spells: a time, a value, or the word that says what the line tells of an event.
 ghost use Rattle.std.specs.Prelude.{◌≡◌, ◌≤◌, ◌∷◌, ℕ, List, false, length, take, drop, IfOk, OnOk, OnErr, option_map};
 ghost use Rattle.std.specs.Str.{IsUtf8};
 ghost use Rattle.csv.specs.Records.{AllText};

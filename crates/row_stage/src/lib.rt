@@ -1,4 +1,4 @@
-//! Stages: what computes one node of a plan over lists of edges in batches.
+//! Row stages: what computes a Source, a Where or a Select over lists of edges in batches, row by row.
 #![tactic(auto)]
 
 mod laws;

@@ -1,4 +1,4 @@
-// The making of stages from the nodes of a plan.
+// Row stages made of nodes of a plan, and the kinds of the columns that nodes read.
 ghost use Rattle.std.specs.Prelude.{◌≡◌, ◌<◌, ◌≤◌, true, Some, length, map, slice_get, All, IfOk, OnOk, OnErr};
 ghost use Rattle.tw_rows.specs.Kinds.{cell_kind_of};
 ghost use Rattle.tw_rows.specs.Texts.{BeginsWith};

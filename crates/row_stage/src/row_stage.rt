@@ -1,4 +1,4 @@
-// Stages, and what they make of lists of edges.
+// A row stage, and what it makes of a list of edges.
 ghost use Rattle.std.specs.Prelude.{◌≡◌, ◌≤◌, ℕ, List, [], ◌++◌, IfOk, OnOk};
 ghost use Rattle.batch.specs.Rows.{edges_of};
 ghost use Rattle.edge_history.specs.Order.{KeepsOrder, is_from, failing};
@@ -15,7 +15,7 @@ use std::alloc::Global;
 use tw_rows::{Memory, TextTable};
 use where_select::{Filter, Project};
 
-/// What computes one node of a plan over lists of edges. It keeps nothing of one list for the next.
+/// What computes a Source, a Where or a Select over lists of edges. It keeps nothing of one list for the next.
 #[derive(Drop)]
 pub enum RowStage {
     /// The edges as they come.

@@ -74,8 +74,8 @@ impl LineCounts {
         Ok(())
     }
 
-    /// The text goes on with these bytes. Out of memory nothing is said of the counts; a count that no u64 holds is such
-    /// a want.
+    /// The text goes on with these bytes. Out of memory nothing is said of the counts; a count that no u64 holds is answered
+    /// so too.
     pub fn add(&mut self, bytes: &[u8]) -> Result<(), Memory>
         ensures { OnOk result ((text : List ℕ) → Counted text self.old →
             Counted (text ++ bytes.now) self.new) }

@@ -1,4 +1,4 @@
-//! Trades that are generated from a number, line by line, and the count of the lines of an answer to them. The definitions stand
+//! Trades that are generated from a seed, line by line, and the count of the lines of an answer to them. The definitions stand
 //! in `specs/`.
 #![tactic(auto)]
 

@@ -1,4 +1,4 @@
-// A generated line.
+// The text of a generated line: a trade, which is an interval, or a punctuation.
 ghost use Rattle.std.specs.Prelude.{◌≡◌, ◌≤◌, OnOk, length};
 ghost use Rattle.sample_trades.specs.Lines.{line_of, trade_text};
 
@@ -24,6 +24,7 @@ pub enum SampleLine {
     Punctuated { time: u64 },
 }
 
+// Writes the interval of a trade.
 fn write_trade(trade: Trade, text: &mut Vec<u8>) -> Result<(), Memory>
     ensures text { OnOk result (text.new.items ≡ trade_text trade) }
     ensures short { OnOk result (length text.new.items ≤ 300) }
@@ -53,6 +54,7 @@ fn write_trade(trade: Trade, text: &mut Vec<u8>) -> Result<(), Memory>
     )
 }
 
+// Writes the punctuation of all streams at the time.
 fn write_punctuation(time: u64, text: &mut Vec<u8>) -> Result<(), Memory>
     ensures text { OnOk result (text.new.items ≡ line_of (SampleLine.Punctuated time)) }
     ensures short { OnOk result (length text.new.items ≤ 300) }

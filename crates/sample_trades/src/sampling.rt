@@ -1,4 +1,4 @@
-// The generated lines, one after the other.
+// The trades drawn from a seed, and the lines that they give, one after the other.
 ghost use Rattle.std.specs.Prelude.{◌≡◌, ◌≤◌, ◌<◌, ◌+◌, ◌*◌, ◌∷◌, [], IfSome, IfNone, length};
 ghost use Rattle.sample_trades.specs.Words.{word_of, words_after, words_of};
 
@@ -35,7 +35,7 @@ impl Sample {
     ghost use Rattle.sample_trades.specs.Trades.{after_trade, sample, trade_of};
     ghost use Rattle.sample_trades.specs.ToCome.{draws, to_come};
 
-    /// The lines of so many trades, drawn from the number.
+    /// The lines of so many trades, drawn from the number as the seed.
     pub fn new(number: u64, events: u64) -> Sample
         requires { events ≤ 1000000 }
         ensures lines { to_come result ≡ sample number events }

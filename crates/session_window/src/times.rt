@@ -1,4 +1,4 @@
-// Times beside each other.
+// Which of two times comes first.
 ghost use Rattle.std.specs.Prelude.{◌≡◌, nat_lt};
 
 use tw_rows::Time;

@@ -18,11 +18,11 @@ use Rattle.edge_stream.specs.declared.saved.StepFault.{StepFault}
 use Rattle.edge_stream.specs.declared.saved.StepFault.TheVariants.{Overflow, Memory}
 use Rattle.operator.specs.Standing.{Standing, Keeping}
 use Rattle.shard_apply.specs.Stepping.{CanTake, CanStep, HasStepped, edges_answered, is_fine_before, IsLeastOverflow}
+use Rattle.shard_apply.specs.Shards.{Answer}
 use Rattle.shard_apply.specs.Whole.{Whole, side_by_side, first_of, standing_in, AreInStep, IsWhole, ShardsKeep}
 use Rattle.shard_apply.proofs.Faults.{edges_of_shards}
 use Rattle.shard_apply.proofs.Stepped.{stepped_with}
 use Rattle.shard_apply.proofs.WholeSteps.{shard_low, over_list, stands_as, in_step_now, stepped_ok, stepped_err}
-use Rattle.shard_apply.specs.Rounds.{Answer}
 
 pub both_of : {R : Type 0} (r : Answer) (P Q : EdgeListView → Type 0) → IsOk r → IfOk r P → IfOk r Q → ((a : EdgeListView) → P a → Q a → R) → R
 both_of (Ok a) P Q ok p q f = f a p q

@@ -8,7 +8,7 @@ use Rattle.std.proofs.lemmas.List.Elements.{All-nil, All-cons}
 use Rattle.edge_stream.specs.Listing.{EdgeListView, cells_of}
 use Rattle.edge_stream.specs.declared.saved.StepFault.{StepFault}
 use Rattle.edge_stream.specs.declared.saved.StepFault.TheVariants.{Overflow, Memory}
-use Rattle.shard_apply.specs.Rounds.{Answer}
+use Rattle.shard_apply.specs.Shards.{Answer}
 use Rattle.shard_apply.specs.Stepping.{edges_answered, first_list, is_fine_before, IsLeastOverflow, fault_of, worse_of, worst_of}
 
 abbrev step : Option StepFault → Answer → Option StepFault

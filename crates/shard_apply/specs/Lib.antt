@@ -1,7 +1,5 @@
 -- Callers read all of these.
 pub mod Stepping
-pub mod Rounds
 pub mod Whole
 pub mod Saving
 pub mod Shards
-pub mod Together

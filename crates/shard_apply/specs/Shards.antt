@@ -1,12 +1,17 @@
 -- Several shards: what is read of them, and how each takes its part of what comes in.
-use Rattle.std.specs.Prelude.{◌≡◌, ℕ, ◌<◌, List, map, length, slice_index_or}
+use Rattle.std.specs.Prelude.{◌≡◌, ℕ, ◌<◌, List, Result, map, length, slice_index_or}
+use Rattle.edge_stream.specs.Listing.{EdgeListView}
 use Rattle.edge_stream.specs.Shards.{edges_in_shard}
+use Rattle.edge_stream.specs.declared.saved.StepFault.{StepFault}
 use Rattle.operator.specs.Standing.{Standing, Keeping}
 use Rattle.shard_apply.specs.Stepping.{CanStep, HasStepped}
-use Rattle.shard_apply.specs.Rounds.{Answer}
 use Rattle.shard_apply.specs.declared.shard.Cut.{Cut}
 use Rattle.shard_apply.specs.declared.shard.News.{News}
 use Rattle.shard_apply.specs.declared.shard.Shard.{Shard}
+
+-- what is answered of a step
+abbrev pub Answer : Type 0
+Answer = Result EdgeListView StepFault
 
 -- their operators, in order
 abbrev pub operators_of : {O : Type 0} → List (Shard O) → List O

@@ -1,13 +1,10 @@
 // All shards, at once or in turn.
-ghost use Rattle.std.specs.Prelude.{◌≡◌, ℕ, ◌≤◌, ◌<◌, false, is_err, length, slice_index_or, All};
-ghost use Rattle.shard_apply.specs.Rounds.{CanStepAll, TakesPart, LeadsOver};
+ghost use Rattle.std.specs.Prelude.{◌≡◌, ◌≤◌, ◌<◌, false, is_err, length, All};
 ghost use Rattle.shard_apply.specs.Shards.{CanTakeNews, TakesNews, EachTakesNews, KeepRooms};
 
 use crate::gate::Gate;
-use crate::round::Round;
 use crate::shard::{Cut, News, Shard};
 use operator::Operator;
-use std::alloc::Global;
 use std::thread;
 use std::thread::Threads;
 
@@ -72,41 +69,6 @@ fn step_beside<R: Threads + Sync, G: Gate, O: Operator>(
         {
             gate.enter(i);
             shard.step(i, cut, news);
-        },
-    );
-}
-
-/// The rounds in turn at all shards, each shard in a thread where one can be made.
-pub(crate) fn step_rounds<R: Threads + Sync, G: Gate, O: Operator>(
-    rt: &R,
-    gate: &G,
-    alloc: Global,
-    shards: &mut [Shard<O>],
-    cut: &Cut<'_>,
-    rounds: &[Round],
-)
-    requires can { All (λ s. CanStepAll (O.standing s.operator) s.pools.capacity
-        cut.now.count cut.now.left_key.now cut.now.right_key.now rounds.now) shards.old }
-    ensures leads { (i : ℕ) (d : Shard O) → i < length shards.old → LeadsOver
-        (TakesPart O.standing O.keeps cut.now.count cut.now.left_key.now cut.now.right_key.now i)
-        (slice_index_or shards.old i d).operator (slice_index_or shards.new i d).operator
-        rounds.now (slice_index_or shards.new i d).answers.items }
-    ensures pools { KeepRooms shards.old shards.new }
-{
-    thread::for_each_mut(
-        rt,
-        shards,
-        16,
-        &|i, shard: &mut Shard<O>|
-            requires { CanStepAll (O.standing shard.old.operator) shard.old.pools.capacity
-                cut.now.count cut.now.left_key.now cut.now.right_key.now rounds.now }
-            ensures leads { LeadsOver (TakesPart O.standing O.keeps
-                cut.entry.now.count cut.entry.now.left_key.now cut.entry.now.right_key.now i)
-                shard.old.operator shard.new.operator rounds.entry.now shard.new.answers.items }
-            ensures pools { shard.new.pools.capacity ≡ shard.old.pools.capacity }
-        {
-            gate.enter(i);
-            shard.answers = shard.take_rounds(alloc, i, cut, rounds);
         },
     );
 }

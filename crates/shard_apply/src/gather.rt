@@ -2,15 +2,13 @@
 ghost use Rattle.std.specs.Prelude.{◌≡◌, ℕ, ◌+◌, ◌<◌, [], ◌∷◌, ◌++◌, vec_len, vec_capacity, ◌≤◌};
 ghost use Rattle.std.specs.Prelude.{min, Some, Ok, Err, length, map, flat_map};
 ghost use Rattle.std.specs.Prelude.{slice_index_or};
-ghost use Rattle.std.specs.Prelude.{All, IsOk, IfNone, IfSome, IfOk, IfErr, OnOk};
+ghost use Rattle.std.specs.Prelude.{All, IsOk, IfOk, IfErr, OnOk};
 ghost use Rattle.tw_rows.specs.Bag.{SameBag};
 ghost use Rattle.edge_history.specs.Order.{KeepsOrder};
 ghost use Rattle.edge_stream.specs.Listing.{EdgeListView, cells_of};
 ghost use Rattle.shard_apply.specs.Stepping.{edges_answered, first_list, worse_of, worst_of, IsLeastOverflow};
-ghost use Rattle.shard_apply.specs.Rounds.{answer_at, told, IsGathered};
 ghost use Rattle.shard_apply.specs.Shards.{operators_of, rooms_of};
 
-use crate::round::Steps;
 use crate::shard::Shard;
 use batch::Pools;
 use edge_stream::{EdgeList, StepFault};
@@ -86,7 +84,6 @@ fn take_answers<O: Operator>(
     ensures lists { IfOk result (λ lists. map Ok lists.items ≡ map (λ s. s.answer) shards.old) }
     ensures operators { operators_of shards.new ≡ operators_of shards.old }
     ensures capacities { rooms_of shards.new ≡ rooms_of shards.old }
-    ensures answers { map (λ s. s.answers) shards.new ≡ map (λ s. s.answers) shards.old }
 {
     let mut lists = Vec::with_capacity(alloc, shards.len())?;
     for i in 0..shards.len() {
@@ -103,7 +100,6 @@ fn give_back<O: Operator>(mut lists: Vec<EdgeList>, shards: &mut [Shard<O>])
         (slice_index_or lists.items i d).capacity ≡ (slice_index_or shards.old i e).pools.capacity }
     ensures operators { operators_of shards.new ≡ operators_of shards.old }
     ensures capacities { rooms_of shards.new ≡ rooms_of shards.old }
-    ensures answers { map (λ s. s.answers) shards.new ≡ map (λ s. s.answers) shards.old }
 {
     while let Some(list) = lists.pop() {
         shards[lists.len()].give_back(list);
@@ -133,7 +129,6 @@ pub(crate) fn gathered<O: Operator>(
         IsLeastOverflow time (map (λ s. s.answer) shards.old)) }
     ensures operators { operators_of shards.new ≡ operators_of shards.old }
     ensures capacities { rooms_of shards.new ≡ rooms_of shards.old }
-    ensures answers { map (λ s. s.answers) shards.new ≡ map (λ s. s.answers) shards.old }
     ensures pools { pools.new.capacity ≡ pools.old.capacity }
     ensures limit { pools.new.limit ≡ pools.old.limit }
 {
@@ -159,70 +154,4 @@ fn merged(alloc: Global, pools: &mut Pools, lists: &[EdgeList]) -> Result<EdgeLi
     ensures limit { pools.new.limit ≡ pools.old.limit }
 {
     EdgeList::merged(alloc, pools, lists[0].kinds(), lists)
-}
-
-// Each shard takes for its answer what it answered of the round of that number.
-fn turn_all<O: Operator>(shards: &mut [Shard<O>], round: usize)
-    ensures answers { map (λ s. s.answer) shards.new ≡ map
-        (λ s. answer_at s.answers.items round) shards.old }
-    ensures later { (k n : ℕ) (d : Shard O) → k < length shards.old → round < n →
-        answer_at (slice_index_or shards.new k d).answers.items n
-        ≡ answer_at (slice_index_or shards.old k d).answers.items n }
-    ensures operators { operators_of shards.new ≡ operators_of shards.old }
-    ensures capacities { rooms_of shards.new ≡ rooms_of shards.old }
-{
-    for i in 0..shards.len() {
-        shards[i].turn_to(round);
-    }
-}
-
-// All that the shards answered of so many rounds, round by round, up to the first at which a shard answered a fault.
-pub(crate) fn gathered_rounds<O: Operator>(
-    alloc: Global,
-    pools: &mut Pools,
-    shards: &mut [Shard<O>],
-    count: usize,
-) -> Steps
-    requires some { 1 ≤ length shards.old }
-    requires rounds { 1 ≤ count }
-    requires room { 1 ≤ pools.old.capacity }
-    requires alike { (n i j : ℕ) (d : Shard O) → n < count → i < length shards.old →
-        j < length shards.old → IfOk (answer_at (slice_index_or shards.old i d).answers.items n)
-        (λ a. IfOk (answer_at (slice_index_or shards.old j d).answers.items n)
-        (λ b. cells_of a ≡ cells_of b)) }
-    requires capacities { (n : ℕ) → n < count →
-        All (λ s. IfOk (answer_at s.answers.items n)
-        (λ a. a.capacity ≡ s.pools.capacity)) shards.old }
-    ensures gathered { (n : ℕ) → n < length (told result.answers.items result.fault) →
-        IsGathered pools.old.capacity (map (λ s. answer_at s.answers.items n) shards.old)
-        (answer_at (told result.answers.items result.fault) n) }
-    ensures all { IfNone result.fault (length result.answers.items ≡ count) }
-    ensures few { IfSome result.fault (λ fault. length result.answers.items < count) }
-    ensures operators { operators_of shards.new ≡ operators_of shards.old }
-    ensures capacities { rooms_of shards.new ≡ rooms_of shards.old }
-    ensures pools { pools.new.capacity ≡ pools.old.capacity }
-    ensures limit { pools.new.limit ≡ pools.old.limit }
-{
-    let Ok(mut answers) = Vec::with_capacity(alloc, count) else {
-        return Steps {
-            answers: Vec::new(alloc),
-            fault: Some(StepFault::Memory),
-        };
-    };
-    for round in 0..count {
-        turn_all(shards, round);
-        match gathered(alloc, pools, shards) {
-            Ok(answer) => answers.push_reserved(answer),
-            Err(fault) => {
-                return Steps {
-                    answers,
-                    fault: Some(fault),
-                };
-            }
-        }
-    }
-    Steps {
-        answers,
-        fault: None,
-    }
 }

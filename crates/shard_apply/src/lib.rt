@@ -6,13 +6,10 @@ mod gate;
 mod gather;
 mod laws;
 mod loading;
-mod round;
 mod saving;
 mod shard;
 mod sharded;
 mod step;
-mod steps;
 
 pub use gate::{Gate, OpenGate};
-pub use round::{Round, Steps};
 pub use sharded::Sharded;

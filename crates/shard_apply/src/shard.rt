@@ -1,24 +1,20 @@
 // One shard: an operator, and what it works on.
-ghost use Rattle.std.specs.Prelude.{◌≡◌, ℕ, ◌≤◌, ◌<◌, false, is_err, length, All, IfOk};
+ghost use Rattle.std.specs.Prelude.{◌≡◌, ◌≤◌, ◌<◌, false, is_err, length, All, IfOk};
 ghost use Rattle.edge_stream.specs.Listing.{cells_of};
 ghost use Rattle.edge_stream.specs.Shards.{edges_in_shard};
 ghost use Rattle.shard_apply.specs.Stepping.{fault_of};
-ghost use Rattle.shard_apply.specs.Rounds.{answer_at, CanStepAll, TakesPart, LeadsOver};
 
-use crate::round::Round;
 use batch::Pools;
 use edge_stream::{EdgeList, StepFault};
 use operator::Operator;
-use std::alloc::Global;
 use tw_rows::{Memory, Time};
 
-/// An operator with pools of its own, what it answered at its last step, and at each of the rounds that it took together.
+/// An operator with pools of its own, and what it answered at its last step.
 #[derive(Drop)]
 pub struct Shard<O: Operator> {
     pub(crate) operator: O,
     pub(crate) pools: Pools,
     pub(crate) answer: Result<EdgeList, StepFault>,
-    pub(crate) answers: Vec<Result<EdgeList, StepFault>>,
 }
 
 /// New edges of both sides of a node, and the times up to which the sides are closed with them.
@@ -66,7 +62,6 @@ impl<O: Operator> Shard<O> {
         ensures answer { result ≡ self.old.answer }
         ensures operator { self.new.operator ≡ self.old.operator }
         ensures pools { self.new.pools ≡ self.old.pools }
-        ensures answers { self.new.answers ≡ self.old.answers }
     {
         std::mem::replace(&mut self.answer, Err(StepFault::Memory))
     }
@@ -76,7 +71,6 @@ impl<O: Operator> Shard<O> {
         requires { self.old.pools.capacity ≡ list.capacity }
         ensures operator { self.new.operator ≡ self.old.operator }
         ensures capacity { self.new.pools.capacity ≡ self.old.pools.capacity }
-        ensures answers { self.new.answers ≡ self.old.answers }
     {
         list.give_back(&mut self.pools);
     }
@@ -123,55 +117,5 @@ impl<O: Operator> Shard<O> {
         ensures pools { self.new.pools.capacity ≡ self.old.pools.capacity }
     {
         self.answer = self.take(number, cut, news);
-    }
-
-    /// Takes the edges of the rounds that belong to the shard of that number, in turn, up to the first fault.
-    pub(crate) fn take_rounds(
-        &mut self,
-        alloc: Global,
-        number: usize,
-        cut: &Cut<'_>,
-        rounds: &[Round],
-    ) -> Vec<Result<EdgeList, StepFault>>
-        requires can { CanStepAll (O.standing self.old.operator) self.old.pools.capacity
-            cut.now.count cut.now.left_key.now cut.now.right_key.now rounds.now }
-        ensures leads { LeadsOver (TakesPart O.standing O.keeps cut.now.count cut.now.left_key.now
-            cut.now.right_key.now number) self.old.operator self.new.operator rounds.now
-            result.items }
-        ensures pools { self.new.pools.capacity ≡ self.old.pools.capacity }
-    {
-        let Ok(mut answers) = Vec::with_capacity(alloc, rounds.len()) else {
-            return Vec::new(alloc);
-        };
-        for round in rounds {
-            let news = News {
-                left: &round.left,
-                right: &round.right,
-                left_to: round.left_to,
-                right_to: round.right_to,
-            };
-            let answer = self.take(number, cut, &news);
-            let failed = answer.is_err();
-            answers.push_reserved(answer);
-            if failed {
-                return answers;
-            }
-        }
-        answers
-    }
-
-    /// Takes for its answer what it answered of the round of that number, and out of memory where it answered nothing of it.
-    pub(crate) fn turn_to(&mut self, round: usize)
-        ensures answer { self.new.answer ≡ answer_at self.old.answers.items round }
-        ensures later { (n : ℕ) → round < n → answer_at self.new.answers.items n
-            ≡ answer_at self.old.answers.items n }
-        ensures operator { self.new.operator ≡ self.old.operator }
-        ensures pools { self.new.pools ≡ self.old.pools }
-    {
-        self.answer = if round < self.answers.len() {
-            std::mem::replace(&mut self.answers[round], Err(StepFault::Memory))
-        } else {
-            Err(StepFault::Memory)
-        };
     }
 }

@@ -56,18 +56,13 @@ fn shards_of<O: Operator>(
     let mut shards = Vec::with_capacity(alloc, operators.len())?;
     let mut rest = operators.into_iter();
     while let Some(operator) = rest.next() {
-        add_shard(alloc, &mut shards, operator, &mut pools);
+        add_shard(&mut shards, operator, &mut pools);
     }
     Ok(shards)
 }
 
 // Adds a shard of the operator, with pools out of these.
-fn add_shard<O: Operator>(
-    alloc: Global,
-    shards: &mut Vec<Shard<O>>,
-    operator: O,
-    pools: &mut Vec<Pools>,
-)
+fn add_shard<O: Operator>(shards: &mut Vec<Shard<O>>, operator: O, pools: &mut Vec<Pools>)
     requires some { 0 < vec_len pools.old }
     requires room { vec_len shards.old < vec_capacity shards.old }
     ensures operators { operators_of shards.new.items ≡ operators_of shards.old.items
@@ -86,7 +81,6 @@ fn add_shard<O: Operator>(
             operator,
             pools: own,
             answer: Err(StepFault::Memory),
-            answers: Vec::new(alloc),
         });
     }
 }

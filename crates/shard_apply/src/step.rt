@@ -78,7 +78,7 @@ impl<O: Operator> Sharded<O> {
     }
 
     // The step of a node in one shard, which takes all edges.
-    pub(crate) fn step_alone(
+    fn step_alone(
         &mut self,
         pools: &mut Pools,
         left: EdgeList,
@@ -197,7 +197,7 @@ fn step_together<R: Threads + Sync, G: Gate, O: Operator>(
 }
 
 // Gives the columns of both lists back.
-pub(crate) fn give_back_both(pools: &mut Pools, left: EdgeList, right: EdgeList)
+fn give_back_both(pools: &mut Pools, left: EdgeList, right: EdgeList)
     requires left { pools.old.capacity ≡ left.capacity }
     requires right { pools.old.capacity ≡ right.capacity }
     ensures capacity { pools.new.capacity ≡ pools.old.capacity }

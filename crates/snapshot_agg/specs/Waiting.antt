@@ -1,4 +1,4 @@
--- Pending edges, each until its own sync.
+-- Edges that wait for their times.
 use Rattle.tw_rows.specs.declared.edge.Edge.{Edge}
 use Rattle.end_queue.specs.Pending.{Pending}
 

@@ -1,4 +1,4 @@
-// The rows of one key.
+// The rows of one key, and once they are many an index of them.
 ghost use Rattle.std.specs.Prelude.{◌≡◌, ◌+◌, ◌≤◌, ◌<◌, ◌++◌, ◌∷◌, [], ℕ, true, false, OnOk};
 ghost use Rattle.std.specs.Prelude.{OnErr, IfOk, IfSome, IfNone, IsPermutation, length, get_or};
 ghost use Rattle.std.specs.Vec.{vec_capacity};
@@ -16,10 +16,12 @@ use std::hash::{BuildHasher, BuildHasherDefault};
 use std::marker::Model;
 use tw_rows::{Cells, Datum, HeldRow, Memory, Time};
 
+// The hash of a row, by which an index has its mark.
 fn hash_of(cells: &[Datum], start: Time) -> u64 {
     BuildHasherDefault::<WordHasher>::default().hash_one((cells, start.word()))
 }
 
+// An index of these rows.
 fn marks_of(alloc: Global, rows: &[HeldRow]) -> Result<Marks, Memory> {
     let mut marks = Marks::new(alloc);
     for row in rows {

@@ -230,6 +230,7 @@ impl Answering {
     }
 }
 
+// The status where the line of that number has more bytes than a line may have.
 fn too_long(number: u64) -> Status
     ensures { result ≡ Status.Malformed number BadLine.TooLong }
 {

@@ -94,6 +94,7 @@ impl Sampling {
         Ok(true)
     }
 
+    // Feeds all lines that are to come.
     fn feed_all<R: Threads + Sync, G: Gate>(&mut self, rt: &R, gate: &G) -> Result<(), Status>
         requires few { self.old.number + length (to_come self.old.sample) ≤ 2000000 }
         ensures sampled { OnOk result ((q : Asked) (all : List (List ℕ)) → Sampled q all self.old →

@@ -120,8 +120,8 @@ impl Engine {
         self.parts.dataflow.stages()
     }
 
-    /// For each node, in order, its number and how many entries it keeps for later lines. What waits for the Sources is told of
-    /// the first of them. The numbers are as exact as there is room for.
+    /// For each node, in order, its number and how many entries it keeps for later lines. What is pending for the Sources is
+    /// counted at the first of them. The numbers are as exact as there is room for.
     pub fn held(&self) -> Result<Vec<(usize, u64)>, Memory>
         ensures { IfOk result (λ held. (plan : PlanParts) (policy : Admitting) (lines : List Told)
             (ended : Bool) → Holds plan policy lines ended self.now →

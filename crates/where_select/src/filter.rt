@@ -1,4 +1,4 @@
-// Filters.
+// Filters: a row of a batch at which the test is not true is no more occupied.
 ghost use Rattle.std.specs.Prelude.{◌≡◌, ◌≤◌, length, IfOk};
 ghost use Rattle.lane_expr.specs.Steps.{expr_of};
 ghost use Rattle.lane_expr.specs.Kernels.{CanRead, result_kind};

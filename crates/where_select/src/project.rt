@@ -1,4 +1,4 @@
-// Projections.
+// Projections: the columns of a batch made anew, one for each item.
 ghost use Rattle.std.specs.Prelude.{◌≡◌, ◌<◌, ◌≤◌, ◌↔◌, [], length, map, All, IsTrue, IsErr, IfOk, IfErr, OnOk, OnErr};
 ghost use Rattle.tw_rows.specs.Kinds.{cell_kind_of};
 ghost use Rattle.batch.specs.Payloads.{payload_kind, payload_data, payload_capacity};

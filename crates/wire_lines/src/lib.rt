@@ -1,4 +1,4 @@
-//! Wires, which bytes come from and go to, and the lines of the bytes.
+//! Wires, from which bytes are read and to which they are written, and the bytes that were read cut into lines.
 #![tactic(auto)]
 
 mod cutter;

@@ -1,4 +1,4 @@
-// A wire in memory.
+// A wire in memory: its input is given, its output kept, and its calls fail where they are told to.
 ghost use Rattle.std.specs.Prelude.{◌==◌, ◌≡◌, ◌≤◌, ◌<◌, length, IfOk, vec_capacity};
 ghost use Rattle.std.specs.List.{list_any};
 ghost use Rattle.wire_lines.specs.Memory.{fresh, call_fails};

@@ -1,4 +1,4 @@
-// Bytes written in full.
+// Bytes written in full, by as many writes as that takes.
 ghost use Rattle.std.specs.Prelude.{OnOk, OnErr};
 ghost use Rattle.wire_lines.specs.Journal.{Grows, SentAll, SentFront};
 ghost use Rattle.wire_lines.specs.Faults.{HasCause, IsOther};

@@ -1,4 +1,4 @@
-// A wire: bytes come in and go out.
+// The trait of wires: reads and writes, the counts of their faults, and the journal of what came in and went out.
 ghost use Rattle.std.specs.Prelude.{◌≡◌, ◌≤◌, ◌<◌, ℕ, List, Option, length, IfOk};
 ghost use Rattle.wire_lines.specs.Journal.{Entry, Reads, Writes};
 ghost use Rattle.wire_lines.specs.Faults.{HasCause, IsOther};

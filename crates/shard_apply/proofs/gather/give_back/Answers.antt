@@ -34,5 +34,4 @@ loop-list-preserved g c =
       few = omega (arith, inv.few, more);
       operators = map-set_same (λ s. s.operator) shards i c.give_back.new.self shard c.give_back.ensures.operator ∙ inv.operators;
       capacities = map-set_same (λ s. s.pools.capacity) shards i c.give_back.new.self shard c.give_back.ensures.capacity ∙ inv.capacities;
-      answers = map-set_same (λ s. s.answers) shards i c.give_back.new.self shard c.give_back.ensures.answers ∙ inv.answers;
     }

@@ -10,7 +10,6 @@ invariant-loop-list g l = record {
   few : length l.lists.items ≤ length l.fn.shards;
   operators : map (λ s. s.operator) l.shards ≡ map (λ s. s.operator) l.fn.shards;
   capacities : map (λ s. s.pools.capacity) l.shards ≡ map (λ s. s.pools.capacity) l.fn.shards;
-  answers : map (λ s. s.answers) l.shards ≡ map (λ s. s.answers) l.fn.shards;
 }
 
 abbrev pub decreases-loop-list : goal.decreases-loop-list

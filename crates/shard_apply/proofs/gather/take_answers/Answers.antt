@@ -29,5 +29,4 @@ loop-i-preserved g c =
       room = omega (arith, inv.room, c.push_answer.ensures.capacity);
       operators = map-set_same (λ x. x.operator) c.loop-i.shards i c.take_answer-answer.new.self s c.take_answer-answer.ensures.operator ∙ inv.operators;
       capacities = map-set_same (λ x. x.pools.capacity) c.loop-i.shards i c.take_answer-answer.new.self s (ap (λ p. p.capacity) c.take_answer-answer.ensures.pools) ∙ inv.capacities;
-      answers = map-set_same (λ x. x.answers) c.loop-i.shards i c.take_answer-answer.new.self s c.take_answer-answer.ensures.answers ∙ inv.answers;
     }

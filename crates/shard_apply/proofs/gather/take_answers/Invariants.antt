@@ -12,5 +12,4 @@ invariant-loop-i g l = record {
   room : length l.fn.shards ≤ vec_capacity l.lists;
   operators : map (λ s. s.operator) l.shards ≡ map (λ s. s.operator) l.fn.shards;
   capacities : map (λ s. s.pools.capacity) l.shards ≡ map (λ s. s.pools.capacity) l.fn.shards;
-  answers : map (λ s. s.answers) l.shards ≡ map (λ s. s.answers) l.fn.shards;
 }

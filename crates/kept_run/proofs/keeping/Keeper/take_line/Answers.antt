@@ -6,6 +6,7 @@ use Rattle.tempo_cli.specs.Holding.{HoldsOn}
 use Rattle.kept_run.specs.declared.keeping.Keeper.{Keeper}
 use Rattle.kept_run.proofs.Standing.{no_more}
 use Rattle.kept_run.proofs.Walks.{held_cut, sent_stops, line_held, line_unheld, line_not_due, line_sent, line_unsent, line_kept, line_failed}
+use Rattle.kept_run.proofs.keeping.Keeper.take_line.Goals.{then-is_due+in_ok-send-in-Out+in_ok-take_checkpoint-in-Out, else-is_due}
 use Rattle.kept_run.proofs.keeping.Keeper.take_line.Goals as goal
 
 pub returns-in-More-clause-ok : goal.returns-in-More-clause-ok
@@ -29,10 +30,30 @@ returns-in_err-hold-in-Out-clause-err g c =
     (subst (λ x. Grows (g.W.Wire.journal c.args.wire.now) (g.W.Wire.journal c.hold.new.wire) (SentFront (c.args.held.now.items ++ x))) c.deref-in-Out.ensures.value c.in_err-hold-in-Out.ensures.err))
 
 pub returns-in_err-send-in-Out-clause-err : goal.returns-in_err-send-in-Out-clause-err
-returns-in_err-send-in-Out-clause-err g c = ?
+returns-in_err-send-in-Out-clause-err g c =
+    let l : Keeper = record c.args.self.now { answering = c.next_step.new.self; output = c.saturating_add-self.result } in
+    let on = subst (λ x. Grows (g.W.Wire.journal c.args.wire.now) (g.W.Wire.journal c.hold.new.wire) (HoldsOn c.args.held.now.items x c.hold.new.held.items)) c.deref-in-Out.ensures.value c.in_ok-hold-in-Out.ensures.ok in
+    let holds = line_held {k = c.args.self.now} {l = l} (λ t every J u. c.in-Out.ensures.comes _ _ u.given u.stands.holds u.stands.few) c.in-Out.ensures.open.0 refl refl refl (omega (arith, c.saturating_add-self.ensures, c.len.ensures)) refl on in
+    let p = err_from_is_err_and c.from_residual-in_err-send-in-Out.result c.from_residual-in_err-send-in-Out.ensures.1 in rw (p.1, p.2)
+    (line_unsent holds (subst (λ x. Grows (g.W.Wire.journal c.hold.new.wire) (g.W.Wire.journal c.send-then-is_due.new.wire) (SentFront x)) c.deref-then-is_due.ensures.value c.in_err-send-in-Out.ensures.err))
 
 pub returns-in_err-take_checkpoint-in-Out-clause-err : goal.returns-in_err-take_checkpoint-in-Out-clause-err
-returns-in_err-take_checkpoint-in-Out-clause-err g c = ?
+returns-in_err-take_checkpoint-in-Out-clause-err g c =
+    let l : Keeper = record c.args.self.now { answering = c.next_step.new.self; output = c.saturating_add-self.result } in
+    let on = subst (λ x. Grows (g.W.Wire.journal c.args.wire.now) (g.W.Wire.journal c.hold.new.wire) (HoldsOn c.args.held.now.items x c.hold.new.held.items)) c.deref-in-Out.ensures.value c.in_ok-hold-in-Out.ensures.ok in
+    let holds = line_held {k = c.args.self.now} {l = l} (λ t every J u. c.in-Out.ensures.comes _ _ u.given u.stands.holds u.stands.few) c.in-Out.ensures.open.0 refl refl refl (omega (arith, c.saturating_add-self.ensures, c.len.ensures)) refl on in
+    let writes = line_sent holds (subst (λ x. Grows (g.W.Wire.journal c.hold.new.wire) (g.W.Wire.journal c.send-then-is_due.new.wire) (SentAll x)) c.deref-then-is_due.ensures.value c.in_ok-send-in-Out.ensures.ok) in
+    let p = err_from_is_err_and c.from_residual-in_err-take_checkpoint-in-Out.result c.from_residual-in_err-take_checkpoint-in-Out.ensures.1 in rw (p.1, p.2)
+    (line_failed c.is_due.result _ writes c.is_due.ensures c.if-is_due.true c.in_err-take_checkpoint-in-Out.ensures.wanting c.in_err-take_checkpoint-in-Out.ensures.err)
 
 pub returns-after-is_due-clause-ok : goal.returns-after-is_due-clause-ok
-returns-after-is_due-clause-ok g c = let h = c.if-is_due.branch in ?
+returns-after-is_due-clause-ok g c =
+    let l : Keeper = record c.args.self.now { answering = c.next_step.new.self; output = c.saturating_add-self.result } in
+    let on = subst (λ x. Grows (g.W.Wire.journal c.args.wire.now) (g.W.Wire.journal c.hold.new.wire) (HoldsOn c.args.held.now.items x c.hold.new.held.items)) c.deref-in-Out.ensures.value c.in_ok-hold-in-Out.ensures.ok in
+    let holds = line_held {k = c.args.self.now} {l = l} (λ t every J u. c.in-Out.ensures.comes _ _ u.given u.stands.holds u.stands.few) c.in-Out.ensures.open.0 refl refl refl (omega (arith, c.saturating_add-self.ensures, c.len.ensures)) refl on in
+    elim c.if-is_due.branch [
+      | then-is_due+in_ok-send-in-Out+in_ok-take_checkpoint-in-Out w ↦ rw (w.self-is, w.wire-is, w.held-is) (line_kept c.is_due.result
+          (line_sent holds (subst (λ x. Grows (g.W.Wire.journal c.hold.new.wire) (g.W.Wire.journal w.send-then-is_due.new.wire) (SentAll x)) w.deref-then-is_due.ensures.value w.in_ok-send-in-Out.ensures.ok))
+          c.is_due.ensures w.if-is_due.true w.clear.ensures.items w.in_ok-take_checkpoint-in-Out.ensures.same.2 w.in_ok-take_checkpoint-in-Out.ensures.at w.in_ok-take_checkpoint-in-Out.ensures.ok)
+      | else-is_due w ↦ rw (w.self-is, w.wire-is, w.held-is) (line_not_due c.is_due.result holds c.is_due.ensures w.if-is_due.false)
+    ]

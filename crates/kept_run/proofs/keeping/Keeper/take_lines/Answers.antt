@@ -22,14 +22,14 @@ lines-smaller g c = subst (HasFewer c.lines.self.answering.cutter c.take_line.ne
 pub returns-in_err-more-clause-err : goal.returns-in_err-more-clause-err
 returns-in_err-more-clause-err g c = let p = err_from_is_err_and c.from_residual.result c.from_residual.ensures.1 in rw (p.1, p.2) (ends_at _ (held_ends c.lines.invariant.2 _ c.in_err-more.ensures.err))
 
-pub returns-in_ok-send-clause-ok : goal.returns-in_ok-send-clause-ok
-returns-in_ok-send-clause-ok g c = taken_sent (more_taken c.lines.invariant.2 c.in_ok-more.ensures.ok) refl
+pub returns-then-not-more-clause-ok : goal.returns-then-not-more-clause-ok
+returns-then-not-more-clause-ok g c = taken_sent (more_taken c.lines.invariant.2 c.in_ok-more.ensures.ok) refl
     (subst (λ x. Grows (g.W.Wire.journal c.take_line.new.wire) (g.W.Wire.journal c.send.new.wire) (SentAll x)) c.deref.ensures.value c.in_ok-send.ensures.ok)
 
-pub returns-in_ok-send-clause-wants : goal.returns-in_ok-send-clause-wants
-returns-in_ok-send-clause-wants g c = subst (HasFewer c.lines.self.answering.cutter c.take_line.new.self.answering.cutter) c.if-not-more.true c.in_ok-more.ensures.fewer
+pub returns-then-not-more-clause-wants : goal.returns-then-not-more-clause-wants
+returns-then-not-more-clause-wants g c = subst (HasFewer c.lines.self.answering.cutter c.take_line.new.self.answering.cutter) c.if-not-more.true c.in_ok-more.ensures.fewer
 
 pub returns-in_err-send-clause-err : goal.returns-in_err-send-clause-err
-returns-in_err-send-clause-err g c = let p = err_from_is_err_and c.from_residual-2.result c.from_residual-2.ensures.1 in rw (p.1, p.2)
+returns-in_err-send-clause-err g c = let p = err_from_is_err_and c.from_residual-in_err-send.result c.from_residual-in_err-send.ensures.1 in rw (p.1, p.2)
     (ends_at _ (sent_ends (more_taken c.lines.invariant.2 c.in_ok-more.ensures.ok)
     (subst (λ x. Grows (g.W.Wire.journal c.take_line.new.wire) (g.W.Wire.journal c.send.new.wire) (SentFront x)) c.deref.ensures.value c.in_err-send.ensures.err)))

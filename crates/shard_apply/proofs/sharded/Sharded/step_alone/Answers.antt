@@ -30,7 +30,7 @@ returns-clause-stepped g c =
     let shards = inside.shards.items in
     let operator : Shard g.row.O.Denot → g.row.O.Denot = λ z. z.operator in
     let s = c.index_mut.result.now in
-    let x : Shard g.row.O.Denot = record { operator = c.step-answer.new.self; pools = s.pools; answer = s.answer; answers = s.answers } in
+    let x : Shard g.row.O.Denot = record { operator = c.step-answer.new.self; pools = s.pools; answer = s.answer } in
     let view = c.self.view_is in
     let works = ap (λ w. w.failed) view ∙ c.requires.can.works in
     let one = ap (λ w. length w.operators) view ∙ c.requires.one in
@@ -71,7 +71,7 @@ invariant_of-self g c =
     let shards = inside.shards.items in
     let operator : Shard g.row.O.Denot → g.row.O.Denot = λ z. z.operator in
     let s = c.index_mut.result.now in
-    let x : Shard g.row.O.Denot = record { operator = c.step-answer.new.self; pools = s.pools; answer = s.answer; answers = s.answers } in
+    let x : Shard g.row.O.Denot = record { operator = c.step-answer.new.self; pools = s.pools; answer = s.answer } in
     let view = c.self.view_is in
     let works = ap (λ w. w.failed) view ∙ c.requires.can.works in
     let one = ap (λ w. length w.operators) view ∙ c.requires.one in
