@@ -9,7 +9,7 @@ use Rattle.tw_rows.specs.declared.kind.Kind.{Kind}
 use Rattle.tw_rows.specs.declared.kind.CellKind.{CellKind}
 use Rattle.tw_rows.specs.declared.kind.CellKind.TheVariants.{Whole}
 use Rattle.tw_rows.specs.declared.schema.StreamDef.{StreamDef}
-use Rattle.edge_stream.specs.Listing.{cells_of}
+use Rattle.edge_stream.specs.Listing.{EdgeListView, cells_of}
 use Rattle.edge_stream.specs.Lists.{no_edges}
 use Rattle.plan_model.specs.declared.node.Node.{Node}
 use Rattle.plan_model.specs.declared.node.Node.TheVariants.{Source, Union as UnionNode, Extend as ExtendNode, Session as SessionNode, Clip as ClipNode, Group as GroupNode, Join as JoinNode, Anti as AntiNode, Follow as FollowNode, Top as TopNode}

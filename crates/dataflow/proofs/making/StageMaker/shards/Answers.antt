@@ -1,4 +1,5 @@
-use Rattle.std.proofs.Common.{◌≤◌, length, ap, ◌∙◌, arith}
+use Rattle.std.proofs.Common.{◌≡◌, ◌≤◌, length, ap, ◌∙◌, arith}
+use Rattle.std.specs.Prelude.{All}
 use Rattle.dataflow.proofs.MadeShards.{first_is, in_step}
 use Rattle.dataflow.proofs.making.StageMaker.shards.Goals as goal
 
