@@ -1,4 +1,4 @@
-use Rattle.std.proofs.Common.{◌≢◌, ◌⊎◌, inl, inr, ℕ, zero, suc, List, ◌≡◌, ◌∙◌, ◌+◌, ◌*◌, ◌-◌, ◌<◌, ◌≤◌, [], pos, true, false, length, map, take, get_or, ap, sym, subst, arith, ◌++◌, ◌∷◌}
+use Rattle.std.proofs.Common.{◌≢◌, ◌⊎◌, inl, inr, ℕ, zero, suc, List, ◌≡◌, ◌∙◌, ◌+◌, ◌*◌, ◌<◌, ◌≤◌, [], pos, true, false, length, map, take, get_or, ap, sym, subst, arith, ◌++◌, ◌∷◌}
 use Rattle.std.proofs.lemmas.List.{take-map, take_more, take_all, length-map, get_or-map}
 use Rattle.occupancy.specs.Bits.{is_set_at, test}
 use Rattle.occupancy.proofs.Places.{test-zero}

@@ -1,4 +1,4 @@
-use Rattle.std.proofs.Common.{◌∙◌, sym, ap, arith, true, false, get_or}
+use Rattle.std.proofs.Common.{◌∙◌, sym, ap, arith, get_or}
 use Rattle.tw_rows.specs.Kinds.{cell_kind_of}
 use Rattle.tw_rows.specs.declared.kind.Kind.TheVariants.{Int}
 use Rattle.where_select.specs.Projects.{is_same_kind}
