@@ -19,18 +19,18 @@ saved_append part xs ys =
     ap (map (entry_of part)) (map-append f xs ys) ∙ map-append (entry_of part) (map f xs) (map f ys)
 
 -- one more start of a row
-pub start_saved : (part : ℕ) (cells : List Datum) (since : List ℕ) (i s sync other : ℕ) (saved0 saved1 saved2 : List SavedEntry) → i < length since → sync ≡ get_or since i s → other ≡ inf →
+pub start_saved : (part : ℕ) (cells copy : List Datum) (since : List ℕ) (i s sync other : ℕ) (saved0 saved1 saved2 : List SavedEntry) → i < length since → sync ≡ get_or since i s → other ≡ inf → copy ≡ cells →
     saved1 ≡ saved0 ++ entries_of part (starts_of (held_with cells (take i since))) →
-    saved2 ≡ saved1 ++ record { part = part; sync = sync; other = other; cells = cells } ∷ [] →
+    saved2 ≡ saved1 ++ record { part = part; sync = sync; other = other; cells = copy } ∷ [] →
     saved2 ≡ saved0 ++ entries_of part (starts_of (held_with cells (take (i + 1) since)))
-start_saved part cells since i s sync other saved0 saved1 saved2 low at no_end so more =
+start_saved part cells copy since i s sync other saved0 saved1 saved2 low at no_end same so more =
     let g : ℕ → HeldRow = λ x. record { cells = cells; start = x } in
     let here = held_with cells (take i since) in
     more
-    ∙ (ap (λ l. l ++ record { part = part; sync = sync; other = other; cells = cells } ∷ []) so
-    ∙ (append_assoc saved0 (entries_of part (starts_of here)) (record { part = part; sync = sync; other = other; cells = cells } ∷ [])
+    ∙ (ap (λ l. l ++ record { part = part; sync = sync; other = other; cells = copy } ∷ []) so
+    ∙ (append_assoc saved0 (entries_of part (starts_of here)) (record { part = part; sync = sync; other = other; cells = copy } ∷ [])
     ∙ ap (λ l. saved0 ++ l)
-    ((λ j. entries_of part (starts_of here) ++ record { part = part; sync = at j; other = no_end j; cells = cells } ∷ [])
+    ((λ j. entries_of part (starts_of here) ++ record { part = part; sync = at j; other = no_end j; cells = same j } ∷ [])
     ∙ sym (ap (λ l. entries_of part (starts_of (held_with cells l))) (take_more since i s low)
     ∙ (ap (λ l. entries_of part (starts_of l)) (map-append g (take i since) (get_or since i s ∷ [])) ∙ saved_append part here (g (get_or since i s) ∷ []))))))
 

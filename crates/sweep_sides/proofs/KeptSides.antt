@@ -99,10 +99,10 @@ module _ (p : Edge → Bool) (part : ℕ) where
 parted : (part : ℕ) (xs ys : List HeldRow) → entries_of part (starts_of (xs ++ ys)) ≡ entries_of part (starts_of xs) ++ entries_of part (starts_of ys)
 parted part xs ys = ap (entries_of part) (map-append _ xs ys) ∙ map-append _ (starts_of xs) (starts_of ys)
 
-pub row_next : (part : ℕ) (rows : List HeldRow) (i : ℕ) (r : HeldRow) (other : ℕ) (saved0 saved1 saved2 : List SavedEntry) → i < length rows → r ≡ get_or rows i r → other ≡ inf →
-    saved2 ≡ saved1 ++ record { part = part; sync = r.start; other = other; cells = r.cells } ∷ [] → saved1 ≡ saved0 ++ entries_of part (starts_of (take i rows)) → saved2 ≡ saved0 ++ entries_of part (starts_of (take (i + 1) rows))
-row_next part rows i r other saved0 saved1 saved2 low is far more so_far =
-    let it : ◌≡◌ {A = List SavedEntry} (record { part = part; sync = r.start; other = other; cells = r.cells } ∷ []) (entries_of part (starts_of (r ∷ []))) = λ k. record { part = part; sync = r.start; other = far k; cells = r.cells } ∷ [] in
+pub row_next : (part : ℕ) (rows : List HeldRow) (i : ℕ) (r : HeldRow) (other : ℕ) (cells : List Datum) (saved0 saved1 saved2 : List SavedEntry) → i < length rows → r ≡ get_or rows i r → other ≡ inf → cells ≡ r.cells →
+    saved2 ≡ saved1 ++ record { part = part; sync = r.start; other = other; cells = cells } ∷ [] → saved1 ≡ saved0 ++ entries_of part (starts_of (take i rows)) → saved2 ≡ saved0 ++ entries_of part (starts_of (take (i + 1) rows))
+row_next part rows i r other cells saved0 saved1 saved2 low is far same more so_far =
+    let it : ◌≡◌ {A = List SavedEntry} (record { part = part; sync = r.start; other = other; cells = cells } ∷ []) (entries_of part (starts_of (r ∷ []))) = λ k. record { part = part; sync = r.start; other = far k; cells = same k } ∷ [] in
     let next : entries_of part (starts_of (take (i + 1) rows)) ≡ entries_of part (starts_of (take i rows)) ++ entries_of part (starts_of (r ∷ [])) =
     ap (λ l. entries_of part (starts_of l)) (take_more rows i r low ∙ ap (λ x. take i rows ++ x ∷ []) (sym is)) ∙ parted part (take i rows) (r ∷ []) in
     more ∙ ((λ k. so_far k ++ it k) ∙ (append_assoc saved0 (entries_of part (starts_of (take i rows))) (entries_of part (starts_of (r ∷ []))) ∙ ap (λ l. saved0 ++ l) (sym next)))
