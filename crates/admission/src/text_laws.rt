@@ -39,7 +39,8 @@ pub fn text_is_final()
     ensures { (print : Item → List ℕ) (plan : PlanParts) → IsPlan plan →
         (policy : Policy) (lines more : List Told) (ended : Bool) →
         AreRead (length plan.streams) lines → AreRead (length plan.streams) more →
-        IsFront (text print plan policy lines false) (text print plan policy (lines ++ more) ended) }
+        IsFront (text print plan policy lines false)
+        (text print plan policy (lines ++ more) ended) }
 {}
 
 /// Later lines leave what is known of the rows of each stream below the last punctuation, and so the rows of each node at

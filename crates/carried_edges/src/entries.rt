@@ -17,12 +17,7 @@ pub fn save_edges(saved: &mut Saved, part: u64, edges: &[Edge]) -> Result<(), Me
     ensures { OnOk result (saved.new ≡ saved.old ++ entries_of part edges.now) }
 {
     for edge in edges {
-        saved.push(SavedEntry {
-            part,
-            sync: edge.sync,
-            other: edge.other,
-            cells: edge.cells.clone()?,
-        })?;
+        saved.push_cells(part, edge.sync, edge.other, &edge.cells)?;
     }
     Ok(())
 }

@@ -232,7 +232,11 @@ impl Model for MemoryMedium {
 
     ghost Value = { MemoryView };
 
-    ghost view = { λ m. record { told = told_of m.moments; calls = m.moments.calls; faults = m.faults } };
+    ghost view = { λ m. record {
+      told = told_of m.moments;
+      calls = m.moments.calls;
+      faults = m.faults;
+    } };
 }
 
 impl MemoryMedium {
@@ -323,7 +327,8 @@ impl Medium for MemoryMedium {
     }
 
     fn write(&mut self, name: Name, bytes: &[u8]) -> Result<(), MediumFailed>
-        ensures told { Goes (Some self.old.told) (Some self.new.told) (HasWritten name bytes.now result) }
+        ensures told { Goes (Some self.old.told) (Some self.new.told)
+            (HasWritten name bytes.now result) }
         ensures cause { HasCause self.old.faults self.new.faults result }
         ensures fewer { OnOk result (self.old.calls ≡ self.new.calls + 1) }
     {

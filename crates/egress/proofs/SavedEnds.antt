@@ -256,13 +256,13 @@ first_taken None (x ∷ xs) ys e f = absurd (let a = ap length e in let b = ap l
 first_taken (Some v) xs ys e f = sym (ap (take 1) e)
 
 -- one more start of a row
-pub starts_more : (other : ℕ) (cells copy : List Datum) (since : List ℕ) (i s sync : ℕ) (saved0 saved1 saved2 : List SavedEntry) → i < length since → sync ≡ get_or since i s → copy ≡ cells →
-    saved1 ≡ saved0 ++ map (entry_at other cells) (take i since) → saved2 ≡ saved1 ++ record { part = 0; sync = sync; other = other; cells = copy } ∷ [] →
+pub starts_more : (other : ℕ) (cells : List Datum) (since : List ℕ) (i s sync : ℕ) (saved0 saved1 saved2 : List SavedEntry) → i < length since → sync ≡ get_or since i s →
+    saved1 ≡ saved0 ++ map (entry_at other cells) (take i since) → saved2 ≡ saved1 ++ record { part = 0; sync = sync; other = other; cells = cells } ∷ [] →
     saved2 ≡ saved0 ++ map (entry_at other cells) (take (i + 1) since)
-starts_more other cells copy since i s sync saved0 saved1 saved2 low at same so more =
+starts_more other cells since i s sync saved0 saved1 saved2 low at so more =
     let f : ℕ → SavedEntry = entry_at other cells in
-    more ∙ ap (λ l. l ++ record { part = 0; sync = sync; other = other; cells = copy } ∷ []) so
-    ∙ append_assoc saved0 (map f (take i since)) (record { part = 0; sync = sync; other = other; cells = copy } ∷ [])
+    more ∙ ap (λ l. l ++ record { part = 0; sync = sync; other = other; cells = cells } ∷ []) so
+    ∙ append_assoc saved0 (map f (take i since)) (record { part = 0; sync = sync; other = other; cells = cells } ∷ [])
     ∙ ap (λ l. saved0 ++ l)
-    ((λ j. map f (take i since) ++ record { part = 0; sync = at j; other = other; cells = same j } ∷ [])
+    ((λ j. map f (take i since) ++ record { part = 0; sync = at j; other = other; cells = cells } ∷ [])
     ∙ sym (map-append f (take i since) (get_or since i s ∷ [])) ∙ sym (ap (map f) (take_more since i s low)))

@@ -1,4 +1,4 @@
--- Callers read Instants, Print, Reached, Waiting, Output and Saving. The words of Kept, Gathering, Saved and Showing, and `ArePut` and
+-- Callers read Instants, Print, Reached, Waiting, Output and Saving. The words of Kept, Gathering, Saved, Loading and Showing, and `ArePut` and
 -- `ArePopped` of Waiting, are used inside the crate.
 pub mod Instants
 pub mod Print
@@ -10,3 +10,4 @@ pub mod Showing
 pub mod Output
 pub mod Saving
 pub mod Saved
+pub mod Loading

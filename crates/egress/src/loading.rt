@@ -4,9 +4,9 @@ ghost use Rattle.std.specs.List.Sorted.{IsNonDecreasing};
 ghost use Rattle.tw_rows.specs.Instant.{inf};
 ghost use Rattle.tw_rows.specs.declared.cells.Datum.{Datum as DatumOf};
 ghost use Rattle.row_queues.specs.Kept.{since_at, EachIsOpen};
-ghost use Rattle.egress.specs.Kept.{HasAdded};
 ghost use Rattle.egress.specs.Waiting.{waiting_in, ArePut};
 ghost use Rattle.egress.specs.Saving.{starts_of, end_of, ends_of, IsKept, IsSound, MayFollow};
+ghost use Rattle.egress.specs.Loading.{HasTaken};
 
 use crate::waiting::Pending;
 use carried_edges::is_stored_as;
@@ -101,13 +101,7 @@ fn put_end(waiting: &mut Pending, entry: &SavedEntry) -> Result<(), Memory>
 
 // Keeps what one more entry tells.
 fn keep_entry(loaded: &mut Loaded, alloc: Global, entry: &SavedEntry) -> Result<(), Memory>
-    ensures starts { OnOk result
-        (HasAdded entry.now.cells entry.now.sync 1 loaded.old.starts loaded.new.starts) }
-    ensures ends { OnOk result
-        (HasAdded entry.now.cells entry.now.other 1 loaded.old.ends loaded.new.ends) }
-    ensures open { OnOk result (EachIsOpen loaded.old.starts → EachIsOpen loaded.new.starts) }
-    ensures waiting { OnOk result (ArePut (waiting_in loaded.old.waiting)
-        (waiting_in loaded.new.waiting) (end_of entry.now)) }
+    ensures { OnOk result (HasTaken entry.now loaded.old loaded.new) }
 {
     open_row(&mut loaded.starts, alloc, &entry.cells, entry.sync, 1)?;
     open_row(&mut loaded.ends, alloc, &entry.cells, entry.other, 1)?;
@@ -125,13 +119,7 @@ fn load_entry(
 ) -> Result<(), LoadFault>
     requires starts_rise { (c : List DatumOf) → IsNonDecreasing (since_at loaded.old.starts c) }
     requires ends_rise { (c : List DatumOf) → IsNonDecreasing (since_at loaded.old.ends c) }
-    ensures starts { OnOk result
-        (HasAdded entry.now.cells entry.now.sync 1 loaded.old.starts loaded.new.starts) }
-    ensures ends { OnOk result
-        (HasAdded entry.now.cells entry.now.other 1 loaded.old.ends loaded.new.ends) }
-    ensures open { OnOk result (EachIsOpen loaded.old.starts → EachIsOpen loaded.new.starts) }
-    ensures waiting { OnOk result (ArePut (waiting_in loaded.old.waiting)
-        (waiting_in loaded.new.waiting) (end_of entry.now)) }
+    ensures taken { OnOk result (HasTaken entry.now loaded.old loaded.new) }
     ensures follows { OnOk result
         (MayFollow kinds.now closed loaded.old.starts loaded.old.ends entry.now) }
     ensures refused { IfErr result (λ fault. fault ≡ LoadFault.NotState →

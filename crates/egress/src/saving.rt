@@ -8,7 +8,7 @@ ghost use Rattle.egress.specs.Waiting.{waiting_in};
 ghost use Rattle.egress.specs.Saved.{entry_at, HasDropped, Taken, TakenRest, TakesWaiting};
 
 use crate::waiting::Pending;
-use edge_stream::{Saved, SavedEntry};
+use edge_stream::Saved;
 use row_queues::Starts;
 use std::collections::VecDeque;
 use tw_rows::{Cells, Edge, Memory, Time};
@@ -41,13 +41,7 @@ fn save_end(saved: &mut Saved, starts: &mut Starts, edge: &Edge, at: Time) -> Re
     let Some(sync) = take_first(starts, &edge.cells) else {
         return Ok(());
     };
-    let cells = edge.cells.clone()?;
-    saved.push(SavedEntry {
-        part: 0,
-        sync,
-        other: at,
-        cells,
-    })?;
+    saved.push_cells(0, sync, at, &edge.cells)?;
     Ok(())
 }
 
@@ -90,12 +84,7 @@ fn save_starts(
     ensures { OnOk result (saved.new ≡ saved.old ++ map (entry_at last cells.now) since.now.items) }
 {
     for i in 0..since.len() {
-        saved.push(SavedEntry {
-            part: 0,
-            sync: since[i],
-            other: last,
-            cells: cells.clone()?,
-        })?;
+        saved.push_cells(0, since[i], last, cells)?;
     }
     Ok(())
 }

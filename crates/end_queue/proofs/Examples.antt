@@ -1,6 +1,5 @@
 -- The definitions, worked out on a few entries.
-use Rattle.std.specs.Prelude.{◌≡◌, ℕ, List, [], ◌∷◌, map, refl}
-use Rattle.tw_rows.specs.declared.edge.Edge.{Edge}
+use Rattle.std.specs.Prelude.{◌≡◌, ℕ, [], ◌∷◌, refl}
 use Rattle.end_queue.specs.Pending.{Pending, put_pending}
 
 abbrev at_time : ℕ → ℕ → Pending

@@ -28,7 +28,11 @@ impl Model for PartForm {
 
     ghost Value = { PartFormView };
 
-    ghost view = { λ f. record { owner = f.owner; shard = f.shard; rows = map (λ row. row.items) f.rows.items } };
+    ghost view = { λ f. record {
+      owner = f.owner;
+      shard = f.shard;
+      rows = map (λ row. row.items) f.rows.items;
+    } };
 }
 
 impl PartForm {

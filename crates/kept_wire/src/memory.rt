@@ -102,7 +102,8 @@ impl MemoryFileWire {
 
     // What the next process finds where nothing is done to the files. No call of it fails.
     fn reopened(self) -> MemoryFileWire
-        ensures { result ≡ opened self.input self.step self.output self.kept self.file (2 ^ 64 - 1) }
+        ensures { result
+            ≡ opened self.input self.step self.output self.kept self.file (2 ^ 64 - 1) }
     {
         let MemoryFileWire {
             alloc,
@@ -167,7 +168,8 @@ impl MemoryFileWire {
     // The next bytes of the input.
     fn take_in(&mut self, into: &mut [u8]) -> Option<usize>
         ensures count { IfSome result (λ n.
-            n ≡ min (min self.old.step (length into.old)) (length self.old.input - self.old.taken)) }
+            n ≡ min (min self.old.step (length into.old))
+            (length self.old.input - self.old.taken)) }
         ensures bytes { IfSome result (λ n.
             into.new ≡ take n (drop self.old.taken self.old.input) ++ drop n into.old) }
         ensures some { IfSome result (λ n. self.new ≡ record self.old {

@@ -25,7 +25,8 @@ pub trait KeptWire: Wire {
     fn open(&mut self, alloc: Global) -> Result<Option<Vec<u8>>, ReadFault>
         ensures told { Goes (told self.old) (told self.new) (HasOpened result) }
         ensures same { Adds (Self.journal self.old) (Self.journal self.new) [] }
-        ensures cause { HasReadCause (Self.read_faults self.old) (Self.read_faults self.new) result }
+        ensures cause { HasReadCause (Self.read_faults self.old) (Self.read_faults self.new)
+            result }
         ensures other { Self.write_faults self.new ≡ Self.write_faults self.old };
 
     /// Before the first read: the input comes from its first byte on, and the output goes behind all that its file has, which is

@@ -1,5 +1,5 @@
 -- The registers of constants.
-use Rattle.std.proofs.Common.{◌≡◌, ℕ, zero, suc, ◌+◌, ◌<◌, List, [], ◌∷◌, ◌++◌, map, length, get_or, pos, refl, ap, sym, ◌∙◌, subst, arith}
+use Rattle.std.proofs.Common.{◌≡◌, ℕ, zero, suc, ◌<◌, List, [], ◌∷◌, ◌++◌, length, refl, ap, sym, ◌∙◌, subst, arith}
 use Rattle.tw_rows.specs.declared.cells.Datum.{Datum}
 use Rattle.tw_rows.specs.declared.cells.Datum.TheVariants.{Int, Bool as Flag, Text}
 use Rattle.tw_rows.specs.declared.kind.CellKind.{CellKind}
@@ -9,8 +9,8 @@ use Rattle.tw_rows.specs.Rows.{Row}
 use Rattle.plan_model.specs.Expr.{node_value}
 use Rattle.lane_expr.specs.declared.registers.Register.{Register}
 use Rattle.lane_expr.specs.declared.step.Step.{Step}
-use Rattle.lane_expr.specs.declared.step.Step.TheVariants.{Column, Constant}
-use Rattle.lane_expr.specs.Steps.{node_of, step_kind, IsStepPlaced}
+use Rattle.lane_expr.specs.declared.step.Step.TheVariants.{Constant}
+use Rattle.lane_expr.specs.Steps.{node_of, step_kind}
 use Rattle.lane_expr.specs.Registers.{datum_of, datum_at, AreFilled}
 
 -- a register more, which holds its constant if its step is one

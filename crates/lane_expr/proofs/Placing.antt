@@ -1,7 +1,6 @@
 -- The places of the rows of batches.
 use Rattle.std.proofs.Common.{◌≡◌, ℕ, ◌&&◌, Bool, true, false, List, [], ◌∷◌, ◌++◌, Result, Ok, Err, OnOk, OnErr, refl, ap, sym, subst}
 use Rattle.std.proofs.lemmas.List.Elements.{All-push, All-nil, All-cons, All-head, All-tail}
-use Rattle.std.specs.Prelude.{All}
 use Rattle.tw_rows.specs.Cells.{ArePlaced}
 use Rattle.batch.specs.Rows.{Row, Table, kept}
 use Rattle.lane_expr.specs.Kernels.{HoldsPlaces}

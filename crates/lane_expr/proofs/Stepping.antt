@@ -1,19 +1,17 @@
 -- The data of the steps, one after another.
-use Rattle.std.proofs.Common.{◌≡◌, ℕ, zero, suc, ◌+◌, ◌-◌, ◌<◌, ◌≤◌, List, [], ◌∷◌, ◌++◌, map, take, length, get_or, pos, refl, ap, sym, ◌∙◌, subst, arith, append-nil, append_assoc}
+use Rattle.std.proofs.Common.{◌≡◌, ℕ, zero, suc, ◌+◌, ◌-◌, ◌<◌, ◌≤◌, List, [], ◌∷◌, ◌++◌, map, take, length, get_or, pos, refl, ap, sym, ◌∙◌, arith, append-nil, append_assoc}
 use Rattle.std.proofs.lemmas.List.{length-map, map-append, take_more, take_all}
 use Rattle.tw_rows.specs.declared.cells.Datum.{Datum}
 use Rattle.tw_rows.specs.declared.cells.Datum.TheVariants.{Int as IntDatum}
 use Rattle.tw_rows.specs.declared.row.Value.{Value}
 use Rattle.tw_rows.specs.declared.kind.CellKind.{CellKind}
-use Rattle.tw_rows.specs.declared.kind.CellKind.TheVariants.{Whole}
 use Rattle.tw_rows.specs.Cells.{datum_kind, read_datum, read_cells, IsPlaced, ArePlaced}
 use Rattle.plan_model.specs.Fold.{results_from, by_number}
 use Rattle.plan_model.specs.Expr.{node_value, zero_value, value}
 use Rattle.lane_expr.specs.declared.step.Step.{Step}
-use Rattle.plan_model.specs.Typed.{node_kind, kind_of}
 use Rattle.lane_expr.specs.Steps.{node_of, expr_of, step_kind}
 use Rattle.lane_expr.specs.Running.{operand}
-use Rattle.lane_expr.proofs.Typing.{kinds-texts, length-expr_of}
+use Rattle.lane_expr.proofs.Typing.{length-expr_of}
 
 pub ArePlaced-at : (texts : List (List ℕ)) (ds : List Datum) (i : ℕ) (d : Datum) → ArePlaced texts ds → i < length ds → IsPlaced texts (get_or ds i d)
 ArePlaced-at texts [] i d h lt = absurd (omega arith)

@@ -1,5 +1,5 @@
 -- The marks of parts of a block.
-use Rattle.std.proofs.Common.{◌≡◌, ℕ, ◌+◌, ◌-◌, ◌%◌, ◌^◌, ◌<◌, ◌≤◌, inl, inr, Bool, true, false, cond, eqb, ◌||◌, List, map, take, drop, length, refl, sym, ap, ap₂, ◌∙◌, subst, arith, w64, ℤ, pos}
+use Rattle.std.proofs.Common.{◌≡◌, ℕ, ◌+◌, ◌-◌, ◌%◌, ◌^◌, ◌<◌, ◌≤◌, inl, inr, Bool, false, cond, eqb, ◌||◌, List, map, take, drop, length, sym, ap, ap₂, ◌∙◌, subst, arith, w64, ℤ, pos}
 use Rattle.std.specs.Prelude.{bit_or}
 use Rattle.std.specs.Ordering.{int_eq}
 use Rattle.std.proofs.lemmas.Bool.{cases_lt}

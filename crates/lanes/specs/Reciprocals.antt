@@ -1,5 +1,5 @@
 -- Reciprocals of divisors. Callers read nothing of this: only the field of `Divisor` and its private calls cite it.
-use Rattle.std.specs.Prelude.{ℤ, pos, negsuc, ◌≡◌, ℕ, ◌+◌, ◌*◌, ◌^◌, ◌<◌, ◌≤◌}
+use Rattle.std.specs.Prelude.{ℤ, pos, negsuc, ℕ, ◌+◌, ◌*◌, ◌^◌, ◌<◌, ◌≤◌}
 
 -- factor / 2 ^ (63 + shift) is the reciprocal of `by`, rounded up by so little that no quotient of a number below 2 ^ 63 is off.
 -- The divisor 3 has the shift 2 and the factor 2 ^ 65 / 3, rounded up

@@ -77,8 +77,9 @@ impl Tops {
     ) -> Result<(), Memory>
         ensures changes { OnOk result ((rank : ℕ)
             × (has_rank (value_of self.old.by) edge.now.cells rank ≡ true)
-            × ChangesKey (key_of self.old.key.columns edge.now.cells) rank edge.now lost.old.items
-            lost.new.items won.old.items won.new.items self.old.keys.entries self.new.keys.entries) }
+            × ChangesKey (key_of self.old.key.columns edge.now.cells) rank edge.now
+            lost.old.items lost.new.items won.old.items won.new.items
+            self.old.keys.entries self.new.keys.entries) }
         ensures like { IsLike self.old self.new }
     {
         let key = self.key_of(&edge.cells)?;

@@ -56,7 +56,8 @@ fn put_cut(out: &mut Vec<u8>, plan: &Plan, columns: &[usize]) -> Result<(), Memo
 // The greatest of the nodes at which choices end.
 fn furthest(alloc: Global, plan: &Plan) -> Result<usize, Memory>
     requires { count_of (stream_widths plan.now.streams) ≤ most_choices }
-    ensures { IfOk result (λ n. n ≡ furthest_below plan.now (count_of (stream_widths plan.now.streams))) }
+    ensures { IfOk result (λ n.
+        n ≡ furthest_below plan.now (count_of (stream_widths plan.now.streams))) }
 {
     let widths = widths_of(alloc, plan)?;
     let mut most = 0;

@@ -97,7 +97,8 @@ impl Stack {
 
     // A comparison, or a sum alone.
     fn cmp(&mut self, kind: Kind) -> Result<Taken, Memory>
-        ensures { IfOk result (λ r. Did (before (at_sum kind) (Symbol.Test ∷ [])) r self.old self.new) }
+        ensures { IfOk result (λ r.
+            Did (before (at_sum kind) (Symbol.Test ∷ [])) r self.old self.new) }
     {
         self.put(&[Symbol::Test])?;
         self.sum(kind)
@@ -394,7 +395,8 @@ impl Stack {
 
     // An expression and its name.
     fn named_item(&mut self, kind: Kind) -> Result<Taken, Memory>
-        ensures { IfOk result (λ r. Did (before (at_expr kind) (Symbol.Word Sign.As ∷ Symbol.Named ∷ [])) r self.old self.new) }
+        ensures { IfOk result (λ r. Did
+            (before (at_expr kind) (Symbol.Word Sign.As ∷ Symbol.Named ∷ [])) r self.old self.new) }
     {
         self.put(&[Symbol::Word(Sign::As), Symbol::Named])?;
         self.expr(kind)

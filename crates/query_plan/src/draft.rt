@@ -58,7 +58,11 @@ impl Model for Draft {
 
     ghost Value = { Drafted };
 
-    ghost view = { λ d. record { names = d.names.items; nodes = d.nodes.items; schemas = d.schemas.items } };
+    ghost view = { λ d. record {
+      names = d.names.items;
+      nodes = d.nodes.items;
+      schemas = d.schemas.items;
+    } };
 
     ghost invariant = { λ d. AreFound d.levels.items d.reaches.items d.nodes.items };
 }

@@ -27,7 +27,11 @@ impl Model for Sides {
 
     ghost Value = { Found };
 
-    ghost view = { λ s. record { right = s.right; left_key = s.left_key; right_key = s.right_key } };
+    ghost view = { λ s. record {
+      right = s.right;
+      left_key = s.left_key;
+      right_key = s.right_key;
+    } };
 }
 
 /// A copy of the key.

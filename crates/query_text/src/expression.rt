@@ -227,8 +227,8 @@ impl<'a> Parser<'a> {
     #[cycle(expression)]
     fn or(&mut self) -> Result<bool, Stop>
         requires { 0 < length self.old.nodes }
-        ensures reads { ReadsOne result ors_then
-            (λ z. rank z < 1) ors_onto self.old.cursor self.new.cursor self.old.nodes self.new.nodes }
+        ensures reads { ReadsOne result ors_then (λ z. rank z < 1) ors_onto
+            self.old.cursor self.new.cursor self.old.nodes self.new.nodes }
         ensures grows { IfOk result (λ _. length self.old.nodes ≤ length self.new.nodes) }
         ensures shrinks { IfOk result (λ more. Shrinks more self.old.cursor self.new.cursor) }
     {

@@ -41,5 +41,6 @@ pub fn bytes_are_one_word()
 /// A text falls into spaces and its words, each the longest at its place, and into no other words.
 pub fn texts_fall_into_words()
     ensures falls { (text : List ℕ) → FallsInto 0 text (words_of text) }
-    ensures only { (text : List ℕ) (spots : List Spot) → FallsInto 0 text spots → spots ≡ words_of text }
+    ensures only { (text : List ℕ) (spots : List Spot) → FallsInto 0 text spots →
+        spots ≡ words_of text }
 {}

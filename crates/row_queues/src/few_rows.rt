@@ -8,7 +8,7 @@ ghost use Rattle.sweep_laws.specs.Saving.{starts_of};
 ghost use Rattle.row_queues.specs.Queued.{queue_of};
 ghost use Rattle.row_queues.specs.Marked.{is_marked, held_rows, AreMarked, HasNone, IsFirst};
 
-use edge_stream::{Saved, SavedEntry};
+use edge_stream::Saved;
 use std::alloc::Global;
 use std::marker::Model;
 use tw_rows::{Cells, Memory, Time, mix_words, same_cells};
@@ -81,12 +81,7 @@ fn save_row(saved: &mut Saved, part: u64, row: &MarkedRow) -> Result<(), Memory>
     ensures { OnOk result (saved.new ≡ saved.old ++ entries_of part
         (starts_of (record { cells = row.now.cells; start = row.now.start } ∷ []))) }
 {
-    saved.push(SavedEntry {
-        part,
-        sync: row.start,
-        other: Time::bounds().1,
-        cells: row.cells.clone()?,
-    })?;
+    saved.push_cells(part, row.start, Time::bounds().1, &row.cells)?;
     Ok(())
 }
 

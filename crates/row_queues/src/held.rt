@@ -107,7 +107,8 @@ pub(crate) fn start_one(
 ) -> Result<(), Memory>
     ensures since { OnOk result ((c : List Datum) → since_of held.new c
         ≡ cond (same cells.now c) (since_of held.old c ++ replicate 1 at) (since_of held.old c)) }
-    ensures told { OnOk result (answer.new.items ≡ answer.old.items ++ queue_starts at 1 cells.now) }
+    ensures told { OnOk result (answer.new.items
+        ≡ answer.old.items ++ queue_starts at 1 cells.now) }
     ensures filled { EachIsOpen held.old.starts → EachIsOpen held.new.starts }
 {
     push_start(answer, at, cells)?;

@@ -6,7 +6,7 @@ ghost use Rattle.sweep_laws.specs.Saving.{starts_of};
 ghost use Rattle.row_queues.specs.Kept.{rows_in};
 
 use crate::queues::Starts;
-use edge_stream::{Saved, SavedEntry};
+use edge_stream::Saved;
 use std::collections::VecDeque;
 use tw_rows::{Cells, Memory, Time};
 
@@ -38,12 +38,7 @@ fn save_queue(
         (starts_of (held_with cells.now since.now.items))) }
 {
     for i in 0..since.len() {
-        saved.push(SavedEntry {
-            part,
-            sync: since[i],
-            other: Time::bounds().1,
-            cells: cells.clone()?,
-        })?;
+        saved.push_cells(part, since[i], Time::bounds().1, cells)?;
     }
     Ok(())
 }

@@ -100,7 +100,8 @@ fn look_up(datum: Datum, field: &[u8], texts: &TextTable) -> (Datum, bool)
 // The first value, and what stands behind its comma.
 fn split_value<'a>(kind: Kind, text: &'a [u8], texts: &TextTable) -> Option<First<'a>>
     requires { AllText (commas text.now) }
-    ensures { IfSome result (λ f. IsFirst texts.now kind (commas text.now) f.datum f.known (left (Plain f.rest))) }
+    ensures { IfSome result (λ f. IsFirst texts.now kind (commas text.now) f.datum f.known
+        (left (Plain f.rest))) }
 {
     if let Some((datum, rest)) = split_int(kind, text) {
         return Some(First {

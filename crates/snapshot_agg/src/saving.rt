@@ -5,7 +5,7 @@ ghost use Rattle.sweep_laws.specs.Moves.{start_of};
 ghost use Rattle.sweep_laws.specs.Saving.{starts_of};
 
 use crate::passes::Running;
-use edge_stream::{Saved, SavedEntry};
+use edge_stream::Saved;
 use std::collections::VecDeque;
 use tw_rows::{Edge, HeldRow, Memory, Time};
 
@@ -13,12 +13,7 @@ use tw_rows::{Edge, HeldRow, Memory, Time};
 fn save_row(saved: &mut Saved, part: u64, row: &HeldRow) -> Result<(), Memory>
     ensures { OnOk result (saved.new ≡ saved.old ++ entry_of part (start_of row.now) ∷ []) }
 {
-    saved.push(SavedEntry {
-        part,
-        sync: row.start,
-        other: Time::bounds().1,
-        cells: row.cells.clone()?,
-    })?;
+    saved.push_cells(part, row.start, Time::bounds().1, &row.cells)?;
     Ok(())
 }
 
@@ -46,12 +41,7 @@ pub(crate) fn save_edge_line(
 {
     for i in 0..line.len() {
         let edge = &line[i];
-        saved.push(SavedEntry {
-            part,
-            sync: edge.sync,
-            other: edge.other,
-            cells: edge.cells.clone()?,
-        })?;
+        saved.push_cells(part, edge.sync, edge.other, &edge.cells)?;
     }
     Ok(())
 }

@@ -30,12 +30,7 @@ pub fn save_block(saved: &mut Saved, part: u64, rows: &[HeldRow]) -> Result<(), 
     ensures { OnOk result (saved.new ≡ saved.old ++ entries_of part (starts_of rows.now)) }
 {
     for row in rows {
-        saved.push(SavedEntry {
-            part,
-            sync: row.start,
-            other: Time::bounds().1,
-            cells: row.cells.clone()?,
-        })?;
+        saved.push_cells(part, row.start, Time::bounds().1, &row.cells)?;
     }
     Ok(())
 }

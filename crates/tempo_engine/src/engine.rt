@@ -60,7 +60,12 @@ impl Model for Engine {
 
     ghost coded = { Prim.hlevel (codes, pieces.the_row.coded) };
 
-    ghost view = { λ e. record { parts = e.parts; lines = e.lines; fault = e.fault; ended = e.ended } };
+    ghost view = { λ e. record {
+      parts = e.parts;
+      lines = e.lines;
+      fault = e.fault;
+      ended = e.ended;
+    } };
 
     ghost invariant = { λ e. GoesOn e.fault e.ended e.parts };
 }
@@ -139,7 +144,8 @@ impl Engine {
         requires no_feed { All (λ b. b ≢ 10) line.now }
         ensures fed { OnOk result (WhateverTook self.old (λ plan policy lines.
             Fed plan policy (lines ++ told plan number line.now ∷ []) self.new)) }
-        ensures lists { OnOk result (FeedsOn self.old (λ plan. told plan number line.now) self.new) }
+        ensures lists { OnOk result (FeedsOn self.old (λ plan. told plan number line.now)
+            self.new) }
         ensures holds { OnOk result (WhateverTook self.old (λ plan policy lines.
             Holds plan policy (lines ++ told plan number line.now ∷ []) false self.new)) }
         ensures text { IfOk result (λ bytes. WhateverTook self.old

@@ -83,7 +83,8 @@ fn has_form(
     texts: &TextTable,
 ) -> Result<bool, Memory>
     requires named { AreNamed (forms_of workers plan.now) frozen.now.parts }
-    ensures { IfOk result (λ b. IsTrue b ↔ HasForm (forms_of workers plan.now) texts.now frozen.now) }
+    ensures { IfOk result (λ b.
+        IsTrue b ↔ HasForm (forms_of workers plan.now) texts.now frozen.now) }
 {
     let forms = part_forms(alloc, plan, workers)?;
     Ok(
@@ -238,8 +239,10 @@ impl Parts {
             FitsProgress self.now.dataflow.workers plan w given lists self.now.texts k)) }
         ensures shards { IfOk result (λ k. map (λ shards. length shards) k.nodes ≡
             node_counts self.now.dataflow.workers self.now.dataflow.plan) }
-        ensures bounds { IfOk result (λ k. length k.bounds ≡ length self.now.dataflow.plan.streams) }
-        ensures marks { IfOk result (λ k. length k.marks ≡ length self.now.dataflow.plan.streams) }
+        ensures bounds { IfOk result (λ k.
+            length k.bounds ≡ length self.now.dataflow.plan.streams) }
+        ensures marks { IfOk result (λ k.
+            length k.marks ≡ length self.now.dataflow.plan.streams) }
         ensures few { IfOk result (λ k. WhateverWent self.now (λ plan policy w given lists.
             entries_of (parts_of k) ≤ kept_at_most plan w lists self.now)) }
     {

@@ -92,7 +92,8 @@ impl Engine {
         requires batch { 1 ≤ options.batch }
         requires workers { (1 ≤ options.workers) × (options.workers ≤ 16) }
         ensures fed { IfOk result (λ e. (lines : List Told) →
-            Fits options.workers plan options.policy lines frozen → Fed plan options.policy lines e) }
+            Fits options.workers plan options.policy lines frozen →
+            Fed plan options.policy lines e) }
         ensures lists { IfOk result (λ e. (lines : List Told) (given lists : ℕ → List Edge) →
             FitsBy options.workers plan options.policy lines given lists frozen →
             FedBy plan options.policy lines given lists e) }

@@ -22,7 +22,8 @@ pub(crate) struct Run {
 }
 
 fn two_streams(alloc: Global, policy: Policy) -> Result<Ingress, Memory>
-    ensures cells { IfOk result (λ i. cells_of i ≡ (CellKind.Whole ∷ []) ∷ (CellKind.Whole ∷ []) ∷ []) }
+    ensures cells { IfOk result (λ i.
+        cells_of i ≡ (CellKind.Whole ∷ []) ∷ (CellKind.Whole ∷ []) ∷ []) }
     ensures count { IfOk result (λ i. length i.kinds.items ≡ 2) }
     ensures capacity { IfOk result (λ i. i.capacity ≡ 4) }
 {

@@ -1,5 +1,5 @@
-use Rattle.std.proofs.Common.{arith}
+use Rattle.std.proofs.Common.{arith, rules}
 use Rattle.egress.proofs.loading.keep_entry.Goals as goal
 
-pub returns-clause-open : goal.returns-clause-open
-returns-clause-open c = c.open_row.ensures.filled (omega arith)
+pub returns : goal.returns
+returns c = record { starts = search rules; ends = search rules; kept = c.open_row.ensures.filled (omega arith); waiting = search rules }

@@ -30,7 +30,7 @@ loop-entry-preserved c =
     subst (λ xs. Loads c.args.kinds.now c.args.closed xs c.load_entry.new.loaded)
     (front_is c.args.entries.now c.loop-entry.entry-index c.entry-item.result c.loop-entry-test.true c.entry-item.is)
     (loads_next c.args.kinds.now c.args.closed (take c.loop-entry.entry-index c.args.entries.now) c.loop-entry.loaded c.load_entry.new.loaded c.entry-item.result c.loop-entry.invariant
-    is.starts is.ends is.waiting is.follows is.open)
+    is.taken.starts is.taken.ends is.taken.waiting is.follows is.taken.kept)
 
 pub returns-in_err-load_entry-clause-refused : goal.returns-in_err-load_entry-clause-refused
 returns-in_err-load_entry-clause-refused c = let p = err_from_is_err_and c.from_residual.result c.from_residual.ensures.1 in rw (p.1, p.2) (λ is sound.

@@ -1,4 +1,4 @@
-use Rattle.std.specs.Prelude.{[], ◌∷◌, ◌++◌, map}
+use Rattle.std.specs.Prelude.{◌++◌, map}
 use Rattle.std.proofs.Common.{sym, ◌∙◌, ap}
 use Rattle.std.proofs.lemmas.List.{append-nil}
 use Rattle.egress.specs.Saved.{entry_at}
@@ -10,6 +10,5 @@ returns-in_default-clause-entries c =
 
 pub returns-clause-entries : goal.returns-clause-entries
 returns-clause-entries c =
-    c.in_ok-push.ensures.ok
-    ∙ ap (λ k. c.args.saved.now ++ entry_at c.args.at k c.in-Some.sync ∷ []) c.in_ok-cells.ensures.cases
+    c.in_ok-push_cells.ensures.ok
     ∙ ap (λ l. c.args.saved.now ++ map (entry_at c.args.at c.args.edge.now.cells) l) c.in-Some.ensures.first

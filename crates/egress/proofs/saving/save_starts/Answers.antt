@@ -9,8 +9,8 @@ loop-i-preserved c =
     let e = c.len-i-end.ensures in
     let t = c.loop-i-test.true in
     let k = c.args.since.now.ok in
-    starts_more c.args.last c.args.cells.now c.in_ok-clone.field-0 c.args.since.now.items c.loop-i.i c.index.result.now c.index.result.now
-    c.args.saved.now c.loop-i.saved c.push.new.self (omega (arith, e, t, k)) c.index.ensures c.in_ok-clone.ensures.cases c.loop-i.invariant c.in_ok-push.ensures.ok
+    starts_more c.args.last c.args.cells.now c.args.since.now.items c.loop-i.i c.index.result.now c.index.result.now
+    c.args.saved.now c.loop-i.saved c.push_cells.new.self (omega (arith, e, t, k)) c.index.ensures c.loop-i.invariant c.in_ok-push_cells.ensures.ok
 
 pub returns : goal.returns
 returns c =

@@ -1,7 +1,7 @@
 use Rattle.std.specs.Prelude.{◌≡◌, ◌++◌, List, map}
 use Rattle.tw_rows.specs.declared.edge.Edge.{Edge}
-use Rattle.std.proofs.Common.{◌∙◌, sym, ap, subst}
-use Rattle.end_queue.specs.Stored.{Stored, pending_of, IsQueue}
+use Rattle.std.proofs.Common.{◌∙◌, sym, ap}
+use Rattle.end_queue.specs.Stored.{Stored, pending_of}
 use Rattle.end_queue.proofs.Putting.{all_past, all_later, shown_parts, queue_left, edges_shown}
 use Rattle.end_queue.proofs.EndQueue.pop_all.Goals as goal
 

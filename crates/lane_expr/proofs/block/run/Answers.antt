@@ -1,10 +1,10 @@
-use Rattle.std.proofs.Common.{◌≢◌, ◌⊎◌, inl, inr, ℕ, zero, suc, List, ◌≡◌, ◌∙◌, ◌+◌, ◌*◌, ◌-◌, ◌<◌, ◌≤◌, [], pos, true, false, length, map, take, get_or, ap, sym, subst, refl, arith, ◌++◌, ◌∷◌}
+use Rattle.std.proofs.Common.{◌≢◌, ◌⊎◌, inl, inr, ℕ, zero, suc, List, ◌≡◌, ◌∙◌, ◌+◌, ◌*◌, ◌<◌, ◌≤◌, [], pos, true, false, length, map, take, get_or, ap, sym, subst, arith, ◌++◌, ◌∷◌}
 use Rattle.std.proofs.lemmas.List.{take-map, take_more, take_all, length-map, get_or-map}
 use Rattle.occupancy.specs.Bits.{is_set_at, test}
 use Rattle.occupancy.proofs.Places.{test-zero}
 use Rattle.tw_rows.specs.declared.cells.Datum.TheVariants.{Int}
 use Rattle.tw_rows.specs.declared.kind.CellKind.TheVariants.{Whole}
-use Rattle.tw_rows.specs.Cells.{read_datum, read_cells, IsPlaced}
+use Rattle.tw_rows.specs.Cells.{read_cells}
 use Rattle.plan_model.specs.IsExpr.{IsExprNode}
 use Rattle.plan_model.specs.Expr.{node_value}
 use Rattle.plan_model.specs.Typed.{IsTypedNode}

@@ -1,6 +1,6 @@
-use Rattle.std.proofs.Common.{◌≡◌, ◌∙◌, ◌+◌, ◌*◌, ◌<◌, ◌&&◌, ◌||◌, true, not, pos, neg_ℤ, length, map, get_or, ap, ap₂, sym, subst, arith}
+use Rattle.std.proofs.Common.{◌∙◌, ◌+◌, ◌*◌, ◌&&◌, ◌||◌, not, pos, neg_ℤ, get_or, ap, ap₂, sym, subst, arith}
 use Rattle.std.specs.Int.{int_div_euclid, int_rem_euclid}
-use Rattle.occupancy.specs.Bits.{test, is_set_at}
+use Rattle.occupancy.specs.Bits.{is_set_at}
 use Rattle.occupancy.proofs.Test.{test-and, test-or, test-flip}
 use Rattle.tw_rows.specs.declared.kind.CellKind.TheVariants.{Whole, Bit}
 use Rattle.tw_rows.specs.declared.cells.Datum.TheVariants.{Int as IntDatum}

@@ -1,6 +1,4 @@
-use Rattle.std.proofs.Common.{◌∙◌, ◌&&◌, ◌||◌, not, ap, ap₂, sym}
-use Rattle.plan_model.specs.Expr.{is_met}
-use Rattle.std.specs.Ordering.{bool_cmp}
+use Rattle.std.proofs.Common.{◌∙◌, ◌&&◌, ◌||◌, not, ap}
 use Rattle.occupancy.specs.Bits.{test}
 use Rattle.occupancy.proofs.Test.{test-and, test-or, test-xor, test-flip, flip}
 use lib.Bits.{bit_xor, xor_lt}

@@ -1,4 +1,4 @@
-use Rattle.std.proofs.Common.{◌≡◌, ℕ, ◌+◌, ◌<◌, ◌≤◌, ◌∙◌, [], true, false, sym, ap, ap₂, arith, get_or, length, below_more}
+use Rattle.std.proofs.Common.{◌≡◌, ◌∙◌, [], true, false, sym, ap, ap₂, arith, below_more}
 use Rattle.std.specs.Ordering.{nat_cmp}
 use Rattle.std.specs.Cmp.Lexicographic.{slice_cmp}
 use Rattle.occupancy.specs.Bits.{test}

@@ -1,7 +1,5 @@
-use Rattle.std.proofs.Common.{◌≡◌, ◌+◌, ◌<◌, ◌∙◌, [], ◌∷◌, ◌++◌, map, take, length, get_or, ap, sym, subst}
+use Rattle.std.proofs.Common.{◌≡◌, ◌+◌, ◌∙◌, [], ◌∷◌, ◌++◌, map, take, ap, sym, subst}
 use Rattle.std.proofs.lemmas.List.{map-append, take_more}
-use Rattle.tw_rows.specs.Cells.{datum_kind}
-use Rattle.lane_expr.specs.declared.step.Step.TheVariants.{Column}
 use Rattle.lane_expr.specs.declared.registers.Register.{Register}
 use Rattle.lane_expr.specs.Steps.{IsStepWithin, step_kind}
 use Rattle.lane_expr.specs.Registers.{datum_of, AreFilled}

@@ -1,4 +1,4 @@
-use Rattle.std.proofs.Common.{◌≡◌, ◌∙◌, ◌+◌, ◌*◌, ◌-◌, ◌<◌, ◌&&◌, ℕ, Bool, true, false, [], pos, length, map, get_or, ap, ap₂, sym, subst, refl, arith}
+use Rattle.std.proofs.Common.{◌≡◌, ◌∙◌, ◌+◌, ◌*◌, ◌-◌, ◌&&◌, ℕ, Bool, true, false, length, get_or, ap, sym, refl, arith}
 use Rattle.occupancy.specs.Bits.{is_set_at, test}
 use Rattle.occupancy.proofs.Test.{test-and}
 use Rattle.tw_rows.specs.declared.kind.CellKind.TheVariants.{Bit}
@@ -6,7 +6,6 @@ use Rattle.tw_rows.specs.Cells.{read_datum, read_cells}
 use Rattle.plan_model.specs.Expr.{flag_of, holds}
 use Rattle.lane_expr.specs.Steps.{expr_of}
 use Rattle.lane_expr.specs.Running.{no_row}
-use Rattle.lane_expr.specs.Kernels.{IsResult}
 use Rattle.lane_expr.proofs.Typing.{AreSteps-some}
 use Rattle.lane_expr.proofs.Operands.{occupied_at, datum_is, last_kind, as_many}
 use Rattle.lane_expr.proofs.kernel.test_block.Goals as goal

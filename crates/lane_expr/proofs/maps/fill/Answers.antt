@@ -1,4 +1,4 @@
-use Rattle.std.proofs.Common.{◌≡◌, ◌∙◌, ◌+◌, ◌*◌, ◌-◌, ◌<◌, ◌≤◌, ℕ, pos, length, map, get_or, ap, sym, arith, min}
+use Rattle.std.proofs.Common.{◌≡◌, ◌∙◌, ◌*◌, ◌-◌, ◌<◌, ℕ, pos, length, map, get_or, ap, sym, arith}
 use Rattle.tw_rows.specs.declared.cells.Datum.TheVariants.{Int}
 use Rattle.lane_expr.specs.Steps.{expr_of}
 use Rattle.lane_expr.specs.Registers.{datum_at}

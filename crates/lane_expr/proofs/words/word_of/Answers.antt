@@ -1,7 +1,5 @@
-use Rattle.std.proofs.Common.{◌≡◌, ℕ, ◌+◌, ◌<◌, ◌≤◌, ◌∙◌, sym, ap, arith, false, get_or, length, below_more}
-use Rattle.std.specs.Prelude.{slice_index_or}
+use Rattle.std.proofs.Common.{◌+◌, ◌∙◌, arith, false, below_more}
 use Rattle.std.proofs.lemmas.List.{get_or_read}
-use Rattle.occupancy.specs.Bits.{test}
 use Rattle.occupancy.proofs.Places.{test-zero}
 use Rattle.lane_expr.proofs.words.word_of.Goals as goal
 

@@ -1,4 +1,4 @@
-use Rattle.std.proofs.Common.{◌∙◌, ◌++◌, ap, arith}
+use Rattle.std.proofs.Common.{◌∙◌, ◌++◌, refl, ap, arith}
 use Rattle.std.proofs.lemmas.List.{take_all}
 use Rattle.carried_edges.specs.Entries.{entries_of}
 use Rattle.sweep_laws.specs.Queues.{held_with}
@@ -11,8 +11,8 @@ loop-i-preserved c =
     let e = c.len-i-end.ensures in
     let t = c.loop-i-test.true in
     let k = c.args.since.now.ok in
-    start_saved c.args.part c.args.cells.now c.in_ok-clone.field-0 c.args.since.now.items c.loop-i.i c.index.result.now c.index.result.now c.bounds.result.1
-    c.args.saved.now c.loop-i.saved c.push.new.self (omega (arith, e, t, k)) c.index.ensures c.bounds.ensures.infinity c.in_ok-clone.ensures.cases c.loop-i.invariant c.in_ok-push.ensures.ok
+    start_saved c.args.part c.args.cells.now c.args.cells.now c.args.since.now.items c.loop-i.i c.index.result.now c.index.result.now c.bounds.result.1
+    c.args.saved.now c.loop-i.saved c.push_cells.new.self (omega (arith, e, t, k)) c.index.ensures c.bounds.ensures.infinity refl c.loop-i.invariant c.in_ok-push_cells.ensures.ok
 
 pub returns : goal.returns
 returns c =

@@ -1,4 +1,4 @@
-use Rattle.std.specs.Prelude.{◌++◌, ◌∷◌, []}
+use Rattle.std.specs.Prelude.{◌++◌}
 use Rattle.std.proofs.Common.{◌∙◌, ap, arith}
 use Rattle.std.proofs.lemmas.List.{take_all}
 use Rattle.carried_edges.specs.Entries.{entry_of, entries_of}
@@ -11,10 +11,8 @@ loop-i-preserved c =
     let e = c.len-i-end.ensures in
     let t = c.loop-i-test.true in
     let k = q.ok in
-    let x = c.index-edge.result.now in
-    saved_more (entry_of c.args.part) c.args.saved.now c.loop-i.saved c.push.new.self q.items c.loop-i.i x
-    (omega (arith, e, t, k)) c.index-edge.ensures c.loop-i.invariant
-    (c.in_ok-push.ensures.ok ∙ ap (λ cells. c.loop-i.saved ++ record { part = c.args.part; sync = x.sync; other = x.other; cells = cells } ∷ []) c.in_ok-clone.ensures.cases)
+    saved_more (entry_of c.args.part) c.args.saved.now c.loop-i.saved c.push_cells.new.self q.items c.loop-i.i c.index-edge.result.now
+    (omega (arith, e, t, k)) c.index-edge.ensures c.loop-i.invariant c.in_ok-push_cells.ensures.ok
 
 pub returns : goal.returns
 returns c =

@@ -1,8 +1,8 @@
-use Rattle.std.proofs.Common.{◌≡◌, ◌≤◌, ◌+◌, ◌∙◌, sym, ap, arith, true, false, Fits, w64, length, get_or}
+use Rattle.std.proofs.Common.{◌∙◌, sym, ap, arith, get_or}
 use Rattle.tw_rows.specs.Kinds.{cell_kind_of}
 use Rattle.tw_rows.specs.declared.kind.Kind.TheVariants.{Int}
 use Rattle.where_select.specs.Projects.{is_same_kind}
-use Rattle.where_select.proofs.Lacking.{many-next, one-same, one-other, one}
+use Rattle.where_select.proofs.Lacking.{many-next, one-same, one-other}
 use Rattle.where_select.proofs.project.count_of.Goals as goal
 use Rattle.where_select.proofs.project.count_of.Goals.{then-is_same, else-is_same}
 

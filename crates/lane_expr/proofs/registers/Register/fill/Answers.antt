@@ -1,4 +1,4 @@
-use Rattle.std.proofs.Common.{◌≡◌, ◌<◌, ℕ, Bool, true, false, ap, sym, ◌∙◌, refl}
+use Rattle.std.proofs.Common.{ap, sym, ◌∙◌}
 use Rattle.occupancy.specs.Bits.{test}
 use Rattle.occupancy.proofs.Places.{test-zero}
 use Rattle.tw_rows.specs.declared.cells.Datum.TheVariants.{Bool as Flag}

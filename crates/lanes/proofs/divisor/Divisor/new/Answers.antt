@@ -1,4 +1,4 @@
-use Rattle.std.proofs.Common.{◌≡◌, ◌+◌, ◌-◌, ◌*◌, ◌^◌, ◌≤◌, ◌<◌, ap₂, ◌∙◌, arith}
+use Rattle.std.proofs.Common.{arith}
 use Rattle.lanes.proofs.Dividing.{power, power_rounded}
 use Rattle.lanes.proofs.divisor.Divisor.new.Goals as goal
 

@@ -1,4 +1,4 @@
-use Rattle.std.proofs.Common.{◌≤◌, ◌*◌, ◌^◌, ◌/◌, ap₂, ◌∙◌, arith}
+use Rattle.std.proofs.Common.{◌*◌, ◌^◌, ◌/◌, ap₂, ◌∙◌, arith}
 use Rattle.std.proofs.Math.Nat.{one-le-pow}
 use Rattle.lanes.proofs.Dividing.{by_reciprocal}
 use Rattle.lanes.proofs.divisor.Divisor.quotient_of_size.Goals as goal

@@ -1,6 +1,5 @@
 use Rattle.std.proofs.Common.{◌≡◌, ◌∙◌, map, ap, sym, subst, refl, true, false}
 use Rattle.tw_rows.specs.Kinds.{cell_kind_of}
-use Rattle.batch.specs.PoolsView.{PoolsView}
 use Rattle.batch.proofs.PoolLaws.{NoMore-all}
 use Rattle.lane_expr.specs.Kernels.{result_kind}
 use Rattle.where_select.specs.Projects.{exprs_of, AreColumns, AreProjected, Lacks}
