@@ -1,7 +1,7 @@
-use Rattle.std.proofs.Common.{◌++◌, ◌+◌, min, length, true, false, refl, subst, ap, sym, ◌∙◌, arith, List, ℕ}
+use Rattle.std.proofs.Common.{◌++◌, ◌+◌, min, length, false, refl, subst, arith}
 use Rattle.std.proofs.lemmas.Result.{err_from_is_err_and}
 use Rattle.wire_lines.specs.Journal.{Grows, SentAll, SentFront}
-use Rattle.wire_lines.proofs.Growth.{Grows-none, Grows-weaker}
+use Rattle.wire_lines.proofs.Growth.{Grows-none}
 use Rattle.tempo_cli.specs.Holding.{HoldsOn}
 use Rattle.kept_run.specs.declared.keeping.Keeper.{Keeper}
 use Rattle.kept_run.proofs.Standing.{no_more}
