@@ -62,7 +62,7 @@ abbrev pub without_first : (Open → Bool) → List Open → List Open
 without_first p [] = []
 without_first p (o ∷ os) = cond (p o) os (o ∷ without_first p os)
 
--- the event of an open start that ends at that time: none where it was dropped, or where its life is empty
+-- the event of an open start that ends at that time: none where it was dropped, or where its lifetime is empty
 abbrev pub ended_at : ℕ → Open → List (Lived Row)
 ended_at end o = cond o.dropped [] (with_life o.row o.start end)
 

@@ -13,7 +13,7 @@ use Rattle.admission.specs.declared.policy.Admitted.TheVariants.{Skipped, Kept, 
 use Rattle.admission.specs.declared.policy.Policy.{Policy}
 use Rattle.admission.specs.Admission.{Admission, Open, closes_open, first, drops}
 
--- what became of a line: it is dropped or not, and the event that it makes otherwise is none, as its life is empty, or there
+-- what became of a line: it is dropped or not, and the event that it makes otherwise is none, as its lifetime is empty, or there
 abbrev pub became : Bool → List (Lived Row) → Admitted
 became true events = Dropped
 became false [] = Emptied

@@ -7,7 +7,7 @@ use Rattle.row_reader.specs.declared.entry.Entry.TheVariants.{Punct, Event}
 use Rattle.admission.specs.Admission.{Admission, rows}
 use Rattle.admission.specs.Progress.{Progress}
 
--- the events have lives, no mark is above its bound, and no bound above infinity
+-- the events have lifetimes, no mark is above its bound, and no bound above infinity
 pub record IsSound (a : Admission) : Type 0 where
   pub made : (s : ℕ) → AreEvents (a.made s)
   pub marks : (s : ℕ) → a.mark s ≤ a.bound s

@@ -11,7 +11,7 @@ use Rattle.plan_model.specs.RowOps.{keys_equal_in}
 abbrev pub anti_meets : List ℕ → List ℕ → List Datum → List Datum → Bool
 anti_meets left_key right_key a b = keys_equal_in plain_cells left_key right_key a b
 
--- for each left event one event for each run of instants at which no right row of its key is alive. Of a left life [2, 9)
--- and right ones [4, 6) and [6, 8): the lives [2, 4) and [8, 9)
+-- for each left event one event for each run of instants at which no right row of its key is alive. Of a left lifetime
+-- [2, 9) and right ones [4, 6) and [6, 8): the lifetimes [2, 4) and [8, 9)
 abbrev pub antis : List ℕ → List ℕ → List CellEvent → List CellEvent → List CellEvent
 antis left_key right_key a b = alone same_cells (anti_meets left_key right_key) a b

@@ -10,7 +10,7 @@ use Rattle.plan_model.specs.RowOps.{keys_equal_in}
 abbrev pub clip_meets : List ℕ → List ℕ → List Datum → List Datum → Bool
 clip_meets left_key right_key a b = keys_equal_in plain_cells left_key right_key a b
 
--- each left event, up to the first start of a right event of its key that comes after its own. Of a left life [3, 20) and
--- right starts at 3 and 8: the life [3, 8)
+-- each left event, up to the first start of a right event of its key that comes after its own. Of a left lifetime [3, 20) and
+-- right starts at 3 and 8: the lifetime [3, 8)
 abbrev pub clips : List ℕ → List ℕ → List CellEvent → List CellEvent → List CellEvent
 clips left_key right_key a b = clipped (clip_meets left_key right_key) a b

@@ -19,7 +19,7 @@ is_met left_key right_key edges r = list_any (λ x. clip_meets left_key right_ke
 abbrev pub row_named : Edge → HeldRow
 row_named e = record { cells = e.cells; start = e.other }
 
--- the rows `gone` were taken out, and their ends at t were told. Of a row from 3 on that leaves at 8 an end at 8 that names 3
+-- the rows `gone` were taken out, and their ends at t were emitted. Of a row from 3 on that leaves at 8 an end at 8 that names 3
 pub record Leave (gone : List HeldRow) (t : ℕ) (old new : List HeldRow) (before after : List Edge) : Type 0 where
   pub rows : (w : HeldRow → ℕ) → total w old ≡ total w new + total w gone
   pub told : Adds before after (map (told_at false t) gone)

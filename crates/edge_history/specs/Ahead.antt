@@ -9,7 +9,7 @@ use Rattle.edge_history.specs.Balance.{news}
 use Rattle.edge_history.specs.Opens.{singles}
 
 -- the edges in order come below c, and tell of the events what happens below c; what they tell ahead are ends of the events.
--- Of the life [3, 9) the interval edge from 3 to 9 tells below 5 the start, and the end at 9 ahead
+-- Of the lifetime [3, 9) the interval edge from 3 to 9 tells below 5 the start, and the end at 9 ahead
 pub record ToldAhead (c : ℕ) (h : List Edge) (events : List CellEvent) : Type 0 where
   pub order : Rises 0 h
   pub real : failing is_real h ≡ 0

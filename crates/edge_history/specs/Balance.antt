@@ -48,7 +48,7 @@ abbrev pub end_edge : CellEvent → Edge
 end_edge e = record { sync = e.end; other = e.start; cells = e.row }
 
 -- the edges that tell of an event what happens from c on and below d: its start, and its end.
--- Of the life [3, 5) from 4 on and below 9: its end at 5
+-- Of the lifetime [3, 5) from 4 on and below 9: its end at 5
 abbrev pub news_of : ℕ → ℕ → CellEvent → List Edge
 news_of c d e =
     cond (nat_le c e.start && nat_lt e.start d) (start_edge e ∷ []) []

@@ -45,7 +45,7 @@ abbrev pub of : List Edge → List CellEvent
 of h = end_all h (begun h)
 
 -- the edges stand for the events below c: they are a history with syncs below c alone, and of their own events the same
--- is known below c as of these. Below 4 a start at 3 stands for the life [3, 5), and below 6 it needs an end at 5
+-- is known below c as of these. Below 4 a start at 3 stands for the lifetime [3, 5), and below 6 it needs an end at 5
 pub record StandsBelow (c : ℕ) (h : List Edge) (events : List CellEvent) : Type 0 where
   pub history : IsHistory h
   pub below : failing (is_below c) h ≡ 0

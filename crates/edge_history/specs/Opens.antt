@@ -21,7 +21,7 @@ abbrev pub is_start : Edge → Bool
 is_start e = not (is_end e)
 
 -- the row of an event with its start, where it began before c and does not end before c: what is open just before c.
--- The life [3, 5) is open at 4 and at 5, and neither at 3 nor at 6
+-- The lifetime [3, 5) is open at 4 and at 5, and neither at 3 nor at 6
 abbrev pub open_of : ℕ → CellEvent → List HeldRow
 open_of c e = cond (nat_lt e.start c && nat_le c e.end) (record { cells = e.row; start = e.start } ∷ []) []
 

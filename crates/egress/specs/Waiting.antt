@@ -1,4 +1,4 @@
--- The edges that wait for their instants, and how far the output has come.
+-- The pending edges of each instant, and how far the output has come.
 use Rattle.std.specs.Prelude.{◌≡◌, ℕ, suc, ◌+◌, ◌<◌, ◌≤◌, nat_eq, Bool, cond, Option, Some, None, List, [], ◌∷◌, ◌++◌, filter, length, Vec}
 use Rattle.std.specs.Ordering.{nat_cmp}
 use Rattle.std.specs.BTreeMap.{get, btree_map_len, BTreeMap}
@@ -69,7 +69,7 @@ pub record ArePopped (old new : Waiting) (at : ℕ) (es : List Edge) : Type 0 wh
 abbrev pub WaitingArePlaced : List (List ℕ) → Waiting → Type 0
 WaitingArePlaced texts waiting = (t : ℕ) → EdgesArePlaced texts (edges_if (waiting t))
 
--- the edges end the same rows, each as often, and start the same rows: the end at 9 of the life [1, 9) moves what that of
+-- the edges end the same rows, each as often, and start the same rows: the end at 9 of the lifetime [1, 9) moves what that of
 -- [3, 9) of the same row moves
 pub record SameMoves (xs ys : List Edge) : Type 0 where
   pub ended : SameBag (bare (ended_rows xs)) (bare (ended_rows ys))
@@ -80,8 +80,8 @@ pub record HavePassed (p : List Datum → Bool) (since : List Datum → List ℕ
   pub opens : OpensPass p since
   pub waits : (t : ℕ) → failing (λ e. p e.cells) (edges_if (waiting t)) ≡ 0
 
--- the text has the changes of the events, read, from a up to t, t not, and all that happens from t on waits. With the life
--- [3, 5), from 0 to 4: the text has the start line, and the end edge waits for 5
+-- the text has the changes of the events, read, from a up to t, t not, and all that happens from t on is pending. With the
+-- lifetime [3, 5), from 0 to 4: the text has the start line, and the end edge is pending until 5
 pub record Swept (texts : List (List ℕ)) (kinds : List Kind) (events : List CellEvent) (a t : ℕ)
     (since : Row → List ℕ) (waiting : Waiting) (text : List ℕ) : Type 0 where
   pub waits : (v : ℕ) → t ≤ v → v < inf → SameMoves (edges_if (waiting v)) (news v (suc v) events)

@@ -1,4 +1,4 @@
--- Edges that wait for their times.
+-- Pending edges, each until a time of its own.
 use Rattle.std.specs.Prelude.{ℕ, nat_lt, cond, ◌≤◌, List, [], ◌∷◌}
 use Rattle.tw_rows.specs.declared.edge.Edge.{Edge}
 

@@ -1,4 +1,4 @@
--- Events that are told at their starts, by interval edges.
+-- Events that are emitted at their starts, as interval edges.
 use Rattle.std.specs.Prelude.{◌≡◌, ℕ, ◌+◌, ◌*◌, ◌&&◌, nat_le, nat_lt, Bool, cond, List}
 use Rattle.tw_rows.specs.Bag.{total}
 use Rattle.tw_rows.specs.declared.edge.Edge.{Edge}
@@ -14,7 +14,7 @@ starts_between c d e = nat_le c e.start && nat_lt e.start d
 abbrev pub intervals : (Edge → ℕ) → ℕ → ℕ → List CellEvent → ℕ
 intervals w c d events = total (λ e. cond (starts_between c d e) (w (as_interval e)) 0) events
 
--- between the two answers the events were told that start at one time or later, and before another, in order
+-- between the two answers the events were emitted that start at one time or later, and before another, in order
 pub record TellsAhead (events : List CellEvent) (from to : ℕ) (before after : List Edge) : Type 0 where
   pub weigh : (w : Edge → ℕ) → total w after ≡ total w before + intervals w from to events
   pub order : InOrder (2 * from) before → InOrder (2 * to) after

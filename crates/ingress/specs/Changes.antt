@@ -29,7 +29,7 @@ pub record SameHeld (old new : HeldStreams) : Type 0 where
   pub edges : (s : ℕ) → SameBag (get_or new.waiting.items s []) (get_or old.waiting.items s [])
   pub starts : (k : OpenKey) → starts_in new.opens.starts k ≡ starts_in old.opens.starts k
 
--- a row of stream s came, with its life
+-- a row of stream s came, with its lifetime
 abbrev pub AddsRow : ℕ → List Datum → ℕ → ℕ → HeldStreams → HeldStreams → Type 0
 AddsRow s cells start end old new = (p : ℕ) (made : ℕ → List CellEvent) (opens : List CellOpen) (given : ℕ → List Edge) → p ≤ start →
     KeepsIn p old made opens given → KeepsIn p new (more_rows s (with_life cells start end) made) opens given

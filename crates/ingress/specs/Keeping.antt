@@ -46,11 +46,11 @@ abbrev pub without_first_of : {X : Type 0} → (X → Bool) → List X → List 
 without_first_of p [] = []
 without_first_of p (x ∷ xs) = cond (p x) xs (x ∷ without_first_of p xs)
 
--- a row of cells with its life
+-- a row of cells with its lifetime
 abbrev pub cell_row : List Datum → ℕ → ℕ → CellEvent
 cell_row cells start end = record { row = cells; start = start; end = end }
 
--- the row of an open start that ends at that time: none where it was dropped, or where its life is empty
+-- the row of an open start that ends at that time: none where it was dropped, or where its lifetime is empty
 abbrev pub ended_row : ℕ → CellOpen → List CellEvent
 ended_row end o = cond o.state.dropped [] (with_life o.key.cells o.state.start end)
 

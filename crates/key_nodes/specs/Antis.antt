@@ -13,7 +13,7 @@ meets_none meets rs l = not (list_any (meets l) rs)
 abbrev pub alone_rows : {L R : Type 0} → (L → R → Bool) → List L → List R → List L
 alone_rows meets ls rs = filter (meets_none meets rs) ls
 
--- the row of a left event, at an instant of its life at which no right row that it meets is alive
+-- the row of a left event, at an instant of its lifetime at which no right row that it meets is alive
 abbrev pub alone_at : {L R : Type 0} → (L → R → Bool) → List (Event R) → Event L → ℕ → Option L
 alone_at meets rs e t = cond (lives_at t e && meets_none meets (alive rs t) e.row) (Some e.row) None
 

@@ -1,9 +1,9 @@
--- Pairs of rows that meet, and of events whose rows and lives meet. L and R are the types of the left and of the right rows,
+-- Pairs of rows that meet, and of events whose rows and lifetimes meet. L and R are the types of the left and of the right rows,
 -- and P is the type of the rows that their pairs make.
 use Rattle.std.specs.Prelude.{ℕ, min, max, nat_lt, Bool, cond, List, [], ◌∷◌, flat_map}
 use Rattle.tw_rows.specs.Event.{Event}
 
--- the row over the life [start, end), and no event where that life is empty. As no life ends after infinity, there is
+-- the row over the life [start, end), and no event where that lifetime is empty. As no lifetime ends after infinity, there is
 -- none that would start at infinity
 abbrev pub with_life : {R : Type 0} → R → ℕ → ℕ → List (Event R)
 with_life row start end = cond (nat_lt start end) (record { row = row; start = start; end = end } ∷ []) []

@@ -9,7 +9,7 @@ use Rattle.plan_model.specs.declared.node.Node.TheVariants.{Delay, Hop, Duration
 use Rattle.plan_model.specs.Means.{mean_row}
 use Rattle.node_laws.specs.Keeping.{plain_cells}
 
--- a Delay, a Hop, a Duration or a Mean: what such a node makes of a life is known at its start
+-- a Delay, a Hop, a Duration or a Mean: what such a node makes of a lifetime is known at its start
 abbrev pub has_known_lives : Node → Bool
 has_known_lives (Delay of by) = true
 has_known_lives (Hop of size period) = true
@@ -17,14 +17,14 @@ has_known_lives (Duration of by) = true
 has_known_lives (Mean of at) = true
 has_known_lives n = false
 
--- the start of the new life, from that of the old one. A hop of period 10 makes 10 of 17
+-- the start of the new lifetime, from that of the old one. A hop of period 10 makes 10 of 17
 abbrev pub new_start : Node → ℕ → ℕ
 new_start (Delay of by) t = later by t
 new_start (Hop of size period) t = floor_to period t
 new_start n t = t
 
 -- the other time of the edge that is answered, from both times of the edge that came: a Delay moves it, a Mean keeps it, and
--- the others make it the end of the new life, which they know
+-- the others make it the end of the new lifetime, which they know
 abbrev pub new_other : Node → ℕ → ℕ → ℕ
 new_other (Delay of by) t other = later by other
 new_other (Hop of size period) t other = later size (floor_to period t)
@@ -41,7 +41,7 @@ abbrev pub new_edge : Node → Edge → Edge
 new_edge n e = record { sync = new_start n e.sync; other = new_other n e.sync e.other; cells = new_cells n e.cells }
 
 -- an edge is answered: by a Delay where it does not move to infinity, by a Mean always, and by the others where it is no end
--- and the new life is not empty
+-- and the new lifetime is not empty
 abbrev pub is_answered : Node → Edge → Bool
 is_answered (Delay of by) e = nat_lt (later by e.sync) inf
 is_answered (Hop of size period) e = not (is_end e) && nat_lt (floor_to period e.sync) (later size (floor_to period e.sync))

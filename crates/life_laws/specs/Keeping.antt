@@ -1,4 +1,4 @@
--- What an operator of a node with known lives keeps.
+-- What an operator keeps whose node knows a new lifetime at its start.
 use Rattle.std.specs.Prelude.{ℕ, List}
 use Rattle.tw_rows.specs.Bag.{SameBag}
 use Rattle.tw_rows.specs.declared.edge.Edge.{Edge}

@@ -17,7 +17,7 @@ node_of (Hop size period) = HopNode 0 size period
 node_of (Duration by) = DurationNode 0 by
 node_of (Mean at) = MeanNode 0 at
 
--- what it makes of a life is known at its start
+-- what it makes of a lifetime is known at its start
 pub known : (change : Change) → has_known_lives (node_of change) ≡ true
 known (Delay by) = refl
 known (Hop size period) = refl

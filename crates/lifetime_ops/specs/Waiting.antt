@@ -1,4 +1,4 @@
--- Ends that wait for the times to which they move.
+-- Pending ends, each until the time to which it moves.
 use Rattle.std.specs.Prelude.{◌≡◌, ℕ, ◌+◌, true, List, map}
 use Rattle.tw_rows.specs.Bag.{total}
 use Rattle.tw_rows.specs.Cells.{datum_kind}

@@ -109,7 +109,7 @@ abbrev pub ReadsStream : List StreamDef → Node → Type 0
 ReadsStream streams (Source stream) = stream < length streams
 ReadsStream streams n = Unit {0}
 
--- a node that changes the lives of events has event-level children, on both sides where it has two
+-- a node that changes the lifetimes of events has event-level children, on both sides where it has two
 pub record IsOverEvents (nodes : List Node) (n : Node) : Type 0 where
   pub on_left : reads_events n ≡ true → left_of true (λ s. true) (event_level nodes) n ≡ true
   pub on_right : reads_right_events n ≡ true → right_of true (event_level nodes) n ≡ true

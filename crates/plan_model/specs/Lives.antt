@@ -1,4 +1,4 @@
--- Changes of the lives of events. R is the type of the rows.
+-- Changes of the lifetimes of events. R is the type of the rows.
 use Rattle.std.specs.Prelude.{ℕ, nat_lt, Bool, cond, List, [], flat_map}
 use Rattle.tw_rows.specs.Instant.{later, floor_to}
 use Rattle.tw_rows.specs.Event.{Event}
@@ -12,7 +12,7 @@ moved_one by e = with_life e.row (later by e.start) (later by e.end)
 abbrev pub moved : {R : Type 0} → ℕ → List (Event R) → List (Event R)
 moved by events = flat_map (moved_one by) events
 
--- the life starts at the greatest multiple of the period that is not above the start, and lasts for the size. With size 10
+-- the lifetime starts at the greatest multiple of the period that is not above the start, and lasts for the size. With size 10
 -- and period 5, [13, 14) becomes [10, 20)
 abbrev pub hopped_one : {R : Type 0} → ℕ → ℕ → Event R → List (Event R)
 hopped_one size period e = with_life e.row (floor_to period e.start) (later size (floor_to period e.start))
@@ -20,7 +20,7 @@ hopped_one size period e = with_life e.row (floor_to period e.start) (later size
 abbrev pub hopped : {R : Type 0} → ℕ → ℕ → List (Event R) → List (Event R)
 hopped size period events = flat_map (hopped_one size period) events
 
--- the life lasts for so long, whatever its end was: for 4, [3, 5) becomes [3, 7)
+-- the lifetime lasts for so long, whatever its end was: for 4, [3, 5) becomes [3, 7)
 abbrev pub lasting_one : {R : Type 0} → ℕ → Event R → List (Event R)
 lasting_one by e = with_life e.row e.start (later by e.start)
 

@@ -15,7 +15,7 @@ use Rattle.plan_model.specs.Lives.{moved, hopped, lasting, extended, in_sessions
 use Rattle.plan_model.specs.Means.{mean_row}
 use Rattle.plan_model.specs.RowOps.{RowOps, key_in, keys_equal_in, int_in, row_of_group_in}
 
--- the event with its row replaced, and the same life
+-- the event with its row replaced, and the same lifetime
 abbrev pub event_to : {R S : Type 0} → (R → S) → Event R → Event S
 event_to f e = record { row = f e.row; start = e.start; end = e.end }
 

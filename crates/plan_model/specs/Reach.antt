@@ -23,7 +23,7 @@ abbrev pub reach : List Node → ℕ → ℕ
 reach nodes n = over_nodes 0 (λ s. 0) node_reach nodes n
 
 -- whether the rows of a node are events, from whether those of its children are. Where they are not, the node has rows at
--- each instant alone, and no step that changes lives may stand over it
+-- each instant alone, and no step that changes lifetimes may stand over it
 abbrev pub node_is_event_level : Node → Bool → Bool → Bool
 node_is_event_level (Where of test) a b = a
 node_is_event_level (Select of items) a b = a

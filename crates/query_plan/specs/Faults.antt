@@ -92,7 +92,7 @@ has_clash d at s = false
 abbrev pub lacks_events : Draft → ℕ → ℕ → Bool
 lacks_events d at right = not (event_level d.nodes at) || not (event_level d.nodes right)
 
--- NotEventLevel: the step changes lives, and a side is not of events
+-- NotEventLevel: the step changes lifetimes, and a side is not of events
 abbrev pub has_no_events : Draft → ℕ → QueryStep → Bool
 has_no_events d at (S.Duration by) = not (event_level d.nodes at)
 has_no_events d at (S.Extend by) = not (event_level d.nodes at)

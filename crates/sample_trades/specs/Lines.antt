@@ -6,7 +6,7 @@ use Rattle.sample_trades.specs.declared.line.SampleLine.{SampleLine}
 use Rattle.sample_trades.specs.declared.line.SampleLine.TheVariants.{Traded, Punctuated}
 use Rattle.sample_trades.specs.Trades.{sample}
 
--- `trades,interval,1,4,0,S0,107,7`: its life, and then number, symbol, price and quantity
+-- `trades,interval,1,4,0,S0,107,7`: its lifetime, and then number, symbol, price and quantity
 abbrev pub trade_text : Trade → List ℕ
 trade_text t = concat (codes "trades,interval," ∷ decimal t.start ∷ codes "," ∷ decimal t.end ∷ codes "," ∷ decimal t.id ∷ codes ",S" ∷ decimal t.symbol
     ∷ codes "," ∷ decimal t.price ∷ codes "," ∷ decimal t.quantity ∷ [])

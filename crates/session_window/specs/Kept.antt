@@ -53,7 +53,7 @@ abbrev pub waits_below : ℕ → Pending → Bool
 waits_below t p = nat_lt p.at t
 
 -- the rows became others as sessions ended at t: all rows of their keys were taken out, none of which keeps its session open
--- after t, and their ends were told. With timeout 5, of rows of one key from 1 and 4 on: at 9 both ends, and no row is left
+-- after t, and their ends were emitted. With timeout 5, of rows of one key from 1 and 4 on: at 9 both ends, and no row is left
 pub record Ends (timeout : ℕ) (columns : List ℕ) (t : ℕ) (before after : List HeldRow) (answer0 answer1 : List Edge) : Type 0 where
   pub ended : List HeldRow
   pub split : (w : HeldRow → ℕ) → total w before ≡ total w after + total w ended

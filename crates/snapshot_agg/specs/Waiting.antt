@@ -1,4 +1,4 @@
--- Edges that wait for their times.
+-- Pending edges, each until its own sync.
 use Rattle.tw_rows.specs.declared.edge.Edge.{Edge}
 use Rattle.end_queue.specs.Pending.{Pending}
 

@@ -1,4 +1,4 @@
--- What waits in a queue.
+-- What is pending in a queue.
 use Rattle.std.specs.Prelude.{◌≡◌, nat_eq, List, map}
 use Rattle.tw_rows.specs.declared.edge.Edge.{Edge}
 use Rattle.edge_history.specs.Order.{failing}
