@@ -11,7 +11,7 @@ ghost use Rattle.row_queues.specs.Marked.{is_marked, held_rows, AreMarked, HasNo
 use edge_stream::Saved;
 use std::alloc::Global;
 use std::marker::Model;
-use tw_rows::{Cells, Memory, Time, mix_words, same_cells};
+use tw_rows::{Cells, Memory, Time, mixed_words, same_cells};
 
 // How many rows are few: so many words are looked at sooner than a map.
 const FEW: usize = 16;
@@ -42,17 +42,6 @@ impl Model for FewRows {
     ghost invariant = { λ f. AreMarked f.rows.items };
 }
 
-// The word of the cells.
-fn word_of(cells: &Cells) -> u64
-    ensures { result ≡ word_of_cells cells.now }
-{
-    let mut words = 0;
-    for datum in cells.items() {
-        words = mix_words(words, datum.word());
-    }
-    words
-}
-
 // Whether the row has these cells, whose word is given.
 fn is_row(row: &MarkedRow, word: u64, cells: &Cells) -> bool
     ensures { is_marked row.now → word ≡ word_of_cells cells.now →
@@ -67,7 +56,7 @@ fn place_of(rows: &[MarkedRow], cells: &Cells) -> Option<usize>
     ensures first { IfSome result (λ i. AreMarked rows.now → IsFirst cells.now rows.now i) }
     ensures none { IfNone result (AreMarked rows.now → HasNone cells.now rows.now) }
 {
-    let word = word_of(cells);
+    let word = mixed_words(cells.items());
     for i in 0..rows.len() {
         if is_row(&rows[i], word, cells) {
             return Some(i);
@@ -123,7 +112,7 @@ impl FewRows {
         ensures { OnOk result (self.new ≡ self.old
             ++ record { cells = cells.now; start = start } ∷ []) }
     {
-        let word = word_of(cells);
+        let word = mixed_words(cells.items());
         let kept = cells.clone()?;
         self.rows.push(MarkedRow {
             word,

@@ -15,7 +15,7 @@ use crate::bucket::is_row;
 use crate::key_room::cell_at;
 use std::alloc::Global;
 use std::marker::Model;
-use tw_rows::{Cells, Datum, HeldRow, Memory, Time, mix_words};
+use tw_rows::{Cells, Datum, HeldRow, Memory, Time, mixed_words};
 
 /// Rows in a list. Those with the same data in the key columns stand side by side; they are found by a walk.
 pub struct Few {
@@ -44,17 +44,6 @@ impl Model for Few {
     ghost view = { λ f. record { columns = f.columns.items; rows = f.rows.items } };
 
     ghost invariant = { λ f. AreFew f.columns.items f.rows.items f.words.items };
-}
-
-// The word of a key. Keys with the same data have the same word.
-fn word_of(key: &[Datum]) -> u64
-    ensures { result ≡ word_of_cells key.now }
-{
-    let mut words = 0;
-    for datum in key {
-        words = mix_words(words, datum.word());
-    }
-    words
 }
 
 // Of one datum and another, as a call of its own, whose clause the loop cites.
@@ -177,7 +166,7 @@ impl Few {
     {
         let rows = self.rows.as_slice();
         let columns = self.columns.as_slice();
-        let first = first_with(rows, self.words.as_slice(), columns, key, word_of(key));
+        let first = first_with(rows, self.words.as_slice(), columns, key, mixed_words(key));
         let count = count_with(&rows[first..], columns, key);
         &rows[first..first + count]
     }
@@ -190,7 +179,7 @@ impl Few {
         ensures err { OnErr result (self.new.rows ≡ self.old.rows) }
         ensures columns { self.new.columns ≡ self.old.columns }
     {
-        let word = word_of(key);
+        let word = mixed_words(key);
         let place = first_with(
             self.rows.as_slice(),
             self.words.as_slice(),

@@ -163,8 +163,9 @@ impl Hash for Cells {
 /// What words are multiplied by as they are mixed: the prime of the FNV hash of 64 bits.
 const FACTOR: u64 = 1099511628211;
 
-// The word of the cells.
-fn mixed_words(cells: &[Datum]) -> u64
+/// The word of the cells: those of their data, mixed in one after the other. Equal cells have equal words, and data that
+/// are apart mostly have words that are apart: so a word is compared before the cells are.
+pub fn mixed_words(cells: &[Datum]) -> u64
     ensures { result ≡ word_of_cells cells.now }
 {
     let mut words = 0;

@@ -14,8 +14,8 @@ mod texts;
 mod time;
 
 pub use cells::{
-    Cells, Datum, SHORT_ROW, cells_keep_their_row, mix_words, same_cells, same_cells_are_equal,
-    to_cells, to_datum,
+    Cells, Datum, SHORT_ROW, cells_keep_their_row, mix_words, mixed_words, same_cells,
+    same_cells_are_equal, to_cells, to_datum,
 };
 pub use edge::{Edge, HeldRow};
 pub use kind::{CellKind, Kind, cell_of};

@@ -31,7 +31,7 @@ invariant_of-self-2 c =
     let put = c.put_at-2.ensures.items ∙ ap (λ l. insert l place row) c.reserve.ensures.items in
     record {
       together = subst (AreTogether columns) (sym put) (together_put columns key row rows place (own_key columns c.args.cells c.args.start key is) before here c.self.invariant.together);
-      marked = c.put_at.ensures.items ∙ ap (λ l. insert l place c.word_of-word.result) c.reserve-2.ensures.items ∙ marked_put columns rows c.self.inside.words.items place c.word_of-word.result row c.self.invariant.marked (c.word_of-word.ensures ∙ ap word_of_cells is)
+      marked = c.put_at.ensures.items ∙ ap (λ l. insert l place c.mixed_words-word.result) c.reserve-2.ensures.items ∙ marked_put columns rows c.self.inside.words.items place c.mixed_words-word.result row c.self.invariant.marked (c.mixed_words-word.ensures ∙ ap word_of_cells is)
           ∙ ap (map (key_word columns)) (sym put);
     }
 

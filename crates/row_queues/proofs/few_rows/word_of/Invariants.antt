@@ -1,7 +1,0 @@
--- The words of the cells before this one are mixed.
-use Rattle.std.proofs.Common.{◌≡◌, take}
-use Rattle.tw_rows.specs.Words.{word_of_cells}
-use Rattle.row_queues.proofs.few_rows.word_of.Given as goal
-
-abbrev pub invariant-loop-datum : goal.invariant-loop-datum
-invariant-loop-datum l = l.words ≡ word_of_cells (take l.datum-index l.cells)
