@@ -13,8 +13,9 @@ named. What a process used after the last look at it is lost, so the sums are a 
 `rt ci` tries a crate's edits over a second proof of the crate, or a single edit from nothing. So does `rt must-fail`, but in
 the kits of KEEPING, where it begins with what a check kept: there the crate's check is added to what was seen.
 Figures are kept in bench/gate.json, with the commit at which each crate was measured last, with a line for each dear crate
-that says why, and with the pace of the machine: how many times as long it takes as the one that the goal is told by. Where a
-kit keeps what `rt ci` passed before on this machine, that costs nothing, and keeps the figure that it had.
+that says why, with notes that the table ends with, and with the pace of the machine: how many times as long it takes as the
+one that the goal is told by. Where a kit keeps what `rt ci` passed before on this machine, that costs nothing, and keeps the
+figure that it had.
 ./tempo --build says by these figures how long it takes yet. The variable TEMPO_RT has another command than `rt`.
 The status is that of what was run.
 """
@@ -152,7 +153,7 @@ def keep(sums):
         if name in named and new:
             rows[name] = {**rows.get(name, {}), **new, "at": commit()}
     sources = sums.get("sources", {}).get("check") or kept().get("sources")
-    told = {"machine": machine(), "kit": kit(), "pace": kept().get("pace", 1)}
+    told = {"machine": machine(), "kit": kit(), "pace": kept().get("pace", 1), "notes": kept().get("notes", [])}
     if sources:
         told["sources"] = round(sources, 2)
     maps = {"why": {name: why for name, why in kept().get("why", {}).items() if name in named},
@@ -212,7 +213,7 @@ def write_table():
         "The gate proves a crate with two edits or more a second time, since each of them begins with what that proof leaves; a "
         "single edit is tried from nothing. So about as much as `check` of what stands under `edits` is the same whatever the "
         "number of edits.\n\n"
-        + table(found["crates"]) + reasons(found)
+        + table(found["crates"]) + "".join(f"\n{note}\n" for note in found.get("notes", [])) + reasons(found)
         + "".join(f"\nNot measured by now, {part}: {', '.join(names)}.\n" for part, names in lacking.items() if names))
 
 
