@@ -65,7 +65,7 @@ pub(crate) fn apply(groups: &mut Groups, now: &[Edge]) -> Result<(), Memory>
     ensures key { groups.new.key ≡ groups.old.key }
     ensures aggs { groups.new.aggs ≡ groups.old.aggs }
 {
-    groups.touched.clear();
+    groups.begin()?;
     let mut next = now.len();
     while next > 0 {
         next -= 1;
