@@ -1,4 +1,3 @@
-use Rattle.std.specs.Prelude.{[]}
 use Rattle.snapshot_agg.specs.Totaled.{totals_of}
 use Rattle.snapshot_agg.proofs.Touching.{later_told}
 use Rattle.snapshot_agg.proofs.groups.Groups.begin.Goals as goal
