@@ -164,13 +164,13 @@ impl Groups {
     }
 
     // Puts in a row. Its key is touched.
-    pub(crate) fn add(&mut self, cells: &Cells, start: Time) -> Result<(), Memory>
+    pub(crate) fn add(&mut self, cells: Cells, start: Time) -> Result<(), Memory>
         requires counted { IsCounted self.old }
         ensures counted { OnOk result (IsCounted self.new) }
         ensures added { OnOk result (Gains self.old.rows.rows self.new.rows.rows
-            (row_since cells.now start)) }
+            (row_since cells start)) }
         ensures touched { OnOk result (Touches self.old.touched.items self.new.touched.items
-            (key_by self.old cells.now)) }
+            (key_by self.old cells)) }
         ensures key { self.new.key ≡ self.old.key }
         ensures aggs { self.new.aggs ≡ self.old.aggs }
     {
@@ -188,8 +188,7 @@ impl Groups {
             self.room.values(),
             cells.items(),
         )?;
-        let row = Cells::from_slice(self.alloc, cells.items())?;
-        self.rows.add(row, start)?;
+        self.rows.add(cells, start)?;
         Ok(())
     }
 
