@@ -1,4 +1,4 @@
-use Rattle.std.specs.Prelude.{◌<◌, ◌≤◌, length}
+use Rattle.std.specs.Prelude.{◌<◌, length}
 use Rattle.std.proofs.Common.{arith}
 use Rattle.std.proofs.lemmas.List.Sorted.{IsNonDecreasingBy-from_all_adjacent}
 use Rattle.edge_history.specs.Order.{rank}

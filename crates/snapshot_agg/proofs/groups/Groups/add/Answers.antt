@@ -1,9 +1,7 @@
-use Rattle.std.specs.Prelude.{◌≡◌, ◌+◌, ℕ, ◌∷◌, ◌||◌}
+use Rattle.std.specs.Prelude.{◌≡◌, ◌∷◌, ◌||◌}
 use Rattle.std.specs.List.{list_any}
 use Rattle.std.proofs.Common.{subst, sym, ◌∙◌, ap, arith}
-use Rattle.tw_rows.specs.Bag.{total}
 use Rattle.tw_rows.specs.SameCells.{same_cells}
-use Rattle.tw_rows.specs.declared.edge.HeldRow.{HeldRow}
 use Rattle.snapshot_agg.specs.Words.{key_data}
 use Rattle.synopsis.specs.Held.{key_of}
 use Rattle.snapshot_agg.specs.Totaled.{IsTotalOf, totals_of}
