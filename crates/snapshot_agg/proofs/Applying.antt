@@ -1,7 +1,8 @@
 -- The edges of an instant, applied from the last one on.
-use Rattle.std.specs.Prelude.{◌≡◌, ℕ, zero, suc, ◌+◌, ◌<◌, ◌≤◌, ◌||◌, Bool, true, false, cond, List, [], ◌∷◌, length, get_or, take, drop, flat_map, refl}
+use Rattle.std.specs.Prelude.{◌≡◌, ℕ, zero, suc, ◌+◌, ◌<◌, ◌≤◌, ◌||◌, Bool, true, false, cond, List, [], ◌∷◌, length, get_or, take, drop, slice_set, flat_map, refl}
 use Rattle.std.specs.List.{list_any}
 use Rattle.std.proofs.Common.{sym, ◌∙◌, ap, arith}
+use Rattle.std.proofs.lemmas.List.{get_or-take, take-take, take-set}
 use Rattle.tw_rows.specs.Bag.{total}
 use Rattle.tw_rows.specs.SameCells.{same_cells}
 use Rattle.tw_rows.specs.declared.cells.Datum.{Datum}
@@ -20,6 +21,15 @@ edge_first : (es : List Edge) (i : ℕ) (x : Edge) → i < length es → x ≡ g
 edge_first [] i x low is = absurd (omega (arith, low))
 edge_first (y ∷ es) zero x low is = ap (λ z. z ∷ es) (sym is)
 edge_first (y ∷ es) (suc i) x low is = edge_first es i x (omega (arith, low)) is
+
+-- lists whose first edges are the same, and once one behind them is another
+pub same_before : (xs ys : List Edge) (i j : ℕ) (d : Edge) → i < j → take j xs ≡ take j ys → get_or xs i d ≡ get_or ys i d
+same_before xs ys i j d low e = sym (get_or-take j xs i d low) ∙ ap (λ (l : List Edge). get_or l i d) e ∙ get_or-take j ys i d low
+
+pub first_written : (xs ys : List Edge) (i j : ℕ) (x : Edge) → i < j → take j xs ≡ take j ys → take i (slice_set xs i x) ≡ take i ys
+first_written xs ys i j x low e =
+    let le : i ≤ j = omega (arith, low) in
+    take-set xs i x ∙ sym (take-take i j xs le) ∙ ap (take i) e ∙ take-take i j ys le
 
 -- the rows of the last edges are among those of all
 pub fewer_rows : (rows_of : Edge → List HeldRow) (w : HeldRow → ℕ) (es : List Edge) (i : ℕ) → total w (flat_map rows_of (drop i es)) ≤ total w (flat_map rows_of es)

@@ -1,13 +1,16 @@
 -- Edges that are put to those that wait, and taken out again.
-use Rattle.std.specs.Prelude.{◌≡◌, ℕ, ◌+◌, ◌<◌, ◌≤◌, ◌⊎◌, ◌↔◌, IsTrue, nat_eq, nat_lt, nat_le, Bool, true, false, cond, List, [], ◌∷◌, ◌++◌, map, All, refl}
+use Rattle.std.specs.Prelude.{◌≡◌, ℕ, ◌+◌, ◌-◌, ◌<◌, ◌≤◌, ◌⊎◌, ◌↔◌, IsTrue, nat_eq, nat_lt, nat_le, Bool, true, false, cond, List, [], ◌∷◌, ◌++◌, map, length, get_or, All, refl}
 use Rattle.std.proofs.Common.{inl, inr, sym, ◌∙◌, ap, subst, arith}
 use Rattle.std.proofs.lemmas.Bool.{cases_lt}
 use Rattle.std.proofs.lemmas.Bool.Decides.{nat_tests}
+use Rattle.std.specs.List.{AllAdjacentBelow}
+use Rattle.std.proofs.lemmas.List.{get_or_default}
+use Rattle.std.proofs.lemmas.List.Sorted.{all_adjacent_more}
 use Rattle.std.proofs.lemmas.List.Elements.{All-head, All-tail}
 use Rattle.tw_rows.specs.Bag.{total}
 use Rattle.tw_rows.specs.declared.edge.Edge.{Edge}
 use Rattle.tw_rows.proofs.Bags.{total-append}
-use Rattle.edge_history.specs.Order.{failing, is_from, is_below}
+use Rattle.edge_history.specs.Order.{failing, is_from, is_below, is_end, rank}
 use Rattle.edge_history.proofs.Sums.{weaker}
 use Rattle.end_queue.specs.Pending.{Pending, put_pending}
 use Rattle.sweep_sides.specs.Waiting.{queued, AreTimed}
@@ -29,6 +32,30 @@ from_test t s h = grind (arith, nat_tests)
 
 below_test : (t s : ℕ) → s < t → cond {A = ℕ} (nat_lt s t) 0 1 ≡ 0
 below_test t s h = grind (arith, nat_tests)
+
+-- the ranks of an edge and of the next one
+one_at_most : (b : Bool) → cond {A = ℕ} b 0 1 ≤ 1
+one_at_most true = omega arith
+one_at_most false = omega arith
+
+pub later_behind : (x y : Edge) → x.sync < y.sync → rank x ≤ rank y
+later_behind x y low = let a = one_at_most (is_end x) in omega (arith, low, a)
+
+pub behind_end : (x y : Edge) → x.sync ≡ y.sync → is_end x ≡ true → rank x ≤ rank y
+behind_end x y same ends = let a = ap (λ b. cond {A = ℕ} b 0 1) ends in omega (arith, same, a)
+
+pub start_behind : (x y : Edge) → x.sync ≡ y.sync → is_end y ≡ false → rank x ≤ rank y
+start_behind x y same starts =
+    let a = one_at_most (is_end x) in
+    let b = ap (λ b. cond {A = ℕ} b 0 1) starts in
+    omega (arith, same, a, b)
+
+pub ranks_rise : (es : List Edge) (i : ℕ) (x last : Edge) → 0 < i → i < length es → x ≡ get_or es i x → last ≡ get_or es (i - 1) last → rank last ≤ rank x →
+    AllAdjacentBelow (λ x y. rank x ≤ rank y) es i → AllAdjacentBelow (λ x y. rank x ≤ rank y) es (i + 1)
+ranks_rise es i x last some low is before le h = all_adjacent_more es (λ x y. rank x ≤ rank y) i some h (λ d.
+    let a = ap rank (before ∙ get_or_default es (i - 1) last d (omega (arith, some, low))) in
+    let b = ap rank (is ∙ get_or_default es i x d low) in
+    omega (arith, a, b, le))
 
 pub pushed : {X : Type 0} (w : X → ℕ) (xs ys : List X) (x : X) → ys ≡ xs ++ x ∷ [] → total w ys ≡ total w xs + w x
 pushed w xs ys x e = let a = ap (total w) e in let b = total-append w xs (x ∷ []) in omega (arith, a, b)

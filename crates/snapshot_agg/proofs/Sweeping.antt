@@ -1,8 +1,8 @@
 -- One instant, and the way from instant to instant, in the form in which code has them.
 use Rattle.std.specs.Prelude.{◌≡◌, ℕ, suc, ◌+◌, ◌*◌, ◌<◌, ◌≤◌, true, false, Option, List, length, get_or, take, drop, refl}
 use Rattle.std.specs.List.{list_any}
-use Rattle.std.proofs.Common.{sym, ap, subst, arith, length-drop}
-use Rattle.std.proofs.lemmas.List.{drop-drop}
+use Rattle.std.proofs.Common.{sym, ◌∙◌, ap, subst, arith, length-drop}
+use Rattle.std.proofs.lemmas.List.{drop-drop, get_or-drop}
 use Rattle.tw_rows.specs.Instant.{inf}
 use Rattle.tw_rows.specs.Bag.{SameBag, total}
 use Rattle.tw_rows.specs.Event.{AreEvents}
@@ -68,6 +68,16 @@ instant_undefined key aggs t now rows rows2 run0 moved found a low lives is s =
 -- the same for equal keys and aggregates
 pub for_both : (P : List ℕ → List Agg → Type 0) (key key2 : List ℕ) (aggs aggs2 : List Agg) → key ≡ key2 → aggs ≡ aggs2 → P key aggs → P key2 aggs2
 for_both P key key2 aggs aggs2 e f h = subst (λ b. P key2 b) f (subst (λ k. P k aggs) e h)
+
+-- the same at an equal time, of an equal list
+pub for_part : (P : ℕ → List Edge → Type 0) (t u : ℕ) (xs ys : List Edge) → t ≡ u → xs ≡ ys → P t xs → P u ys
+for_part P t u xs ys e f h = subst (λ l. P u l) f (subst (λ v. P v xs) e h)
+
+-- lists that are the same from a place on have the same edge there
+pub same_at : (xs ys : List Edge) (i : ℕ) (d : Edge) → drop i xs ≡ drop i ys → get_or xs i d ≡ get_or ys i d
+same_at xs ys i d e =
+    let z : i + 0 ≡ i = omega arith in
+    ap (λ k. get_or xs k d) (sym z) ∙ sym (get_or-drop i xs 0 d) ∙ ap (λ (l : List Edge). get_or l 0 d) e ∙ get_or-drop i ys 0 d ∙ ap (λ k. get_or ys k d) z
 
 abbrev pub Reached : List ℕ → List Agg → List CellEvent → ℕ → ℕ → List Edge → List HeldRow → (List Datum → Option Run) → List Edge → List Edge → Type 0
 Reached key aggs a from to rest rows run before after =

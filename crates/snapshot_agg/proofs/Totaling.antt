@@ -38,6 +38,10 @@ none_left : {X : Type 0} (xs : List X) → length xs ≡ 0 → xs ≡ []
 none_left [] h = refl
 none_left (x ∷ xs) h = absurd (omega (arith, h))
 
+-- totals whose number of rows and states are the same
+pub totals_kept : (t t2 : Totals) (aggs : List Agg) (rows : List (List Datum)) → t2.count ≡ t.count → t2.states.items ≡ t.states.items → AreTotalsOf t aggs rows → AreTotalsOf t2 aggs rows
+totals_kept t t2 aggs rows count states h = subst (λ n. IsTotals n t2.states.items aggs rows) (sym count) (subst (λ l. IsTotals t.count l aggs rows) (sym states) h)
+
 pub total_of_same : (o : Option Totals) (aggs : List Agg) (xs ys : List (List Datum)) → SameBag xs ys → IsTotalOf o aggs xs → IsTotalOf o aggs ys
 total_of_same None aggs xs ys same h = none_left ys (sym (length_same xs ys same) ∙ ap length h)
 total_of_same (Some t) aggs xs ys same h = (totals_same _ _ aggs xs ys same h.0, h.1)

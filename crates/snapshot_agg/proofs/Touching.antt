@@ -1,17 +1,20 @@
 -- The keys that an instant touches, and the passes over them.
-use Rattle.std.specs.Prelude.{◌≡◌, ℕ, zero, suc, ◌+◌, ◌<◌, ◌||◌, Bool, true, false, Option, List, [], ◌∷◌, ◌++◌, map, length, get_or, take, refl}
+use Rattle.std.specs.Prelude.{◌≡◌, ℕ, zero, suc, ◌+◌, ◌<◌, ◌||◌, Bool, true, false, Option, Some, None, Vec, List, [], ◌∷◌, ◌++◌, map, length, get_or, take, refl}
 use Rattle.snapshot_agg.proofs.Kept.{or_last}
 use Rattle.std.specs.List.{list_any}
-use Rattle.std.proofs.Common.{sym, ◌∙◌, ap, arith}
+use Rattle.std.proofs.Common.{sym, ◌∙◌, ap, subst, arith}
 use Rattle.std.proofs.lemmas.List.{take_more, get_or-map}
 use Rattle.std.proofs.lemmas.List.Folds.{list_any_more}
+use Rattle.indexmap.specs.IndexMap.{IndexMap}
 use Rattle.tw_rows.specs.SameCells.{same_cells, cells_are_same, same_itself}
 use Rattle.tw_rows.specs.declared.cells.Datum.{Datum}
 use Rattle.tw_rows.specs.declared.edge.Edge.{Edge}
 use Rattle.sweep_laws.specs.Running.{Run, end_part, kept, start_part, begun_at}
 use Rattle.sweep_laws.specs.Grouping.{keys_of, PassTold, EndsTold, StartsTold}
 use Rattle.snapshot_agg.specs.Words.{key_data}
-use Rattle.snapshot_agg.specs.Touching.{edge_of_key, EndsOfKeys, StartsOfKeys}
+use Rattle.snapshot_agg.specs.declared.totals.Totals.{Totals}
+use Rattle.snapshot_agg.specs.Totaled.{TellTouched, totals_of}
+use Rattle.snapshot_agg.specs.Touching.{Touches, edge_of_key, EndsOfKeys, StartsOfKeys}
 
 or_none : (b : Bool) → (b || false) ≡ b
 or_none true = refl
@@ -38,13 +41,32 @@ key_stands ks k q there = pick (same_cells q k) refl
         z ∙ sym (or_last (list_any (same_cells q) ks) true refl)
     pick false e = sym (or_none (list_any (same_cells q) ks))
 
-pub key_there : (ks : List (List Datum)) (i : ℕ) (k : List Datum) → i < length ks → k ≡ get_or ks i k → list_any (same_cells k) ks ≡ true
-key_there [] i k low is = absurd (omega (arith, low))
-key_there (y ∷ ks) zero k low is = ap (λ x. same_cells k x || list_any (same_cells k) ks) (sym is) ∙ ap (λ b. b || list_any (same_cells k) ks) (same_itself k)
-key_there (y ∷ ks) (suc i) k low is = or_last (same_cells k y) (list_any (same_cells k) ks) (key_there ks i k (omega (arith, low)) is)
+-- the totals of a key that is touched now tell so, and those of the others still do, and do once the next instant begins
+pub now_told : (t : Totals) (n : ℕ) (ks ks2 : List (List Datum)) (k : List Datum) → t.instant ≡ n → Touches ks ks2 k → TellTouched (Some t) n ks2 k
+now_told t n ks ks2 k is more = record {
+  within = omega (arith, is);
+  there = λ e. more k ∙ or_last (list_any (same_cells k) ks) (same_cells k k) (same_itself k);
+}
 
-pub key_at : (ks : List (List Datum)) (i : ℕ) (k x : List Datum) → i < length ks → x ≡ get_or ks i x → same_cells k x ≡ true → list_any (same_cells k) ks ≡ true
-key_at ks i k x low is e = ap (λ y. list_any (same_cells y) ks) (cells_are_same k x e) ∙ key_there ks i x low is
+pub still_told : (o : Option Totals) (n : ℕ) (ks ks2 : List (List Datum)) (k q : List Datum) → Touches ks ks2 k → TellTouched o n ks q → TellTouched o n ks2 q
+still_told None n ks ks2 k q more h = tt
+still_told (Some t) n ks ks2 k q more h = record { within = h.within; there = λ e. more q ∙ ap (λ b. b || same_cells q k) (h.there e) }
+
+pub later_told : (o : Option Totals) (n m : ℕ) (ks ks2 : List (List Datum)) (k : List Datum) → m ≡ n + 1 → TellTouched o n ks k → TellTouched o m ks2 k
+later_told None n m ks ks2 k is h = tt
+later_told (Some t) n m ks ks2 k is h = record {
+  within = let a = h.within in omega (arith, is, a);
+  there = λ e. absurd (let a = h.within in omega (arith, is, a, e));
+}
+
+pub all_told : {S T : Type 0} (totals totals2 : IndexMap (Vec Datum S) Totals T) (n : ℕ) (ks ks2 : List (List Datum)) (k : List Datum) →
+    ((q : List Datum) → same_cells k q ≡ false → totals_of totals2 q ≡ totals_of totals q) → Touches ks ks2 k → TellTouched (totals_of totals2 k) n ks2 k →
+    ((q : List Datum) → TellTouched (totals_of totals q) n ks q) → (q : List Datum) → TellTouched (totals_of totals2 q) n ks2 q
+all_told totals totals2 n ks ks2 k others more own h q = pick (same_cells k q) refl
+  where
+    pick : (b : Bool) → same_cells k q ≡ b → TellTouched (totals_of totals2 q) n ks2 q
+    pick true e = subst (λ x. TellTouched (totals_of totals2 x) n ks2 x) (cells_are_same k q e) own
+    pick false e = subst (λ o. TellTouched o n ks2 q) (sym (others q e)) (still_told (totals_of totals q) n ks ks2 k q more (h q))
 
 -- one edge more
 pub edge_more : (key : List Datum → List Datum) (q : List Datum) (es : List Edge) (x : Edge) →

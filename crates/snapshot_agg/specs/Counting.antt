@@ -19,14 +19,16 @@ use Rattle.sweep_laws.specs.Grouping.{GroupSweeping, IsDefined, IsFirstUndefined
 use Rattle.sweep_laws.specs.Sweeps.{Tells}
 use Rattle.snapshot_agg.specs.declared.groups.Groups.{Groups}
 use Rattle.snapshot_agg.specs.Words.{key_data, tell, bad}
-use Rattle.snapshot_agg.specs.Totaled.{Totaled, run_of}
+use Rattle.snapshot_agg.specs.Totaled.{Totaled, TellTouched, totals_of, run_of}
 use Rattle.snapshot_agg.specs.Keeping.{KeepsGroup}
 use Rattle.snapshot_agg.specs.Answering.{group_kinds, IsSoFar}
 
--- each key has totals of its rows, and a key with no row has none; the room is for these keys
+-- each key has totals of its rows, and a key with no row has none; the room is for these keys; and the totals tell whether
+-- their key is touched
 pub record IsCounted (g : Groups) : Type 0 where
   pub totals : Totaled g.key.items g.aggs.items g.rows.rows g.totals
   pub room : g.room.columns ≡ g.key.items
+  pub touched : (k : List Datum) → TellTouched (totals_of g.totals k) g.instant g.touched.items k
 
 -- the key of a row. By the column 0, the key of (7, 2) is 7
 abbrev pub key_by : Groups → List Datum → List Datum

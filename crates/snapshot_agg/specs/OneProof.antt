@@ -14,7 +14,7 @@ use Rattle.snapshot_agg.specs.declared.state.State.{State}
 use Rattle.snapshot_agg.specs.declared.state.State.TheVariants.{Counted, Summed, Lowest, Highest}
 use Rattle.snapshot_agg.specs.declared.totals.Totals.{Totals}
 use Rattle.snapshot_agg.specs.States.{IsFor, StandsAs, IsStateOf, AreStatesOf, IsTotals}
-use Rattle.snapshot_agg.specs.Totaled.{IsTotalOf, Totaled}
+use Rattle.snapshot_agg.specs.Totaled.{IsTotalOf, TellTouched, Totaled}
 use Rattle.snapshot_agg.specs.declared.groups.Groups.{Groups}
 use Rattle.snapshot_agg.specs.Counting.{IsCounted}
 use Rattle.snapshot_agg.specs.Keeping.{HasFewKeys}
@@ -89,8 +89,15 @@ totaled_prop key aggs rows totals = hlevel total_prop
 columns_set : IsSet (List ℕ)
 columns_set = Coded-set (coded_list coded_ℕ)
 
+test_set : IsSet Bool
+test_set = Coded-set coded_bool
+
+touched_prop : (o : Option Totals) (n : ℕ) (touched : List (List Datum)) (key : List Datum) → IsProp (TellTouched o n touched key)
+touched_prop None n touched key = Unit-prop
+touched_prop (Some t) n touched key = hlevel (le_prop, test_set)
+
 pub counted_prop : (g : Groups) → IsProp (IsCounted g)
-counted_prop g = hlevel (totaled_prop, columns_set)
+counted_prop g = hlevel (totaled_prop, columns_set, touched_prop)
 
 others_prop : (k : List Datum) (ks : List (List Datum)) → IsProp (AllByRecursion (λ x. same_cells k x ≡ false) ks)
 others_prop k [] = Unit-prop

@@ -11,6 +11,7 @@ use Rattle.plan_model.specs.RowOps.{rows_of_key_in}
 use Rattle.sweep_laws.specs.Running.{Run}
 use Rattle.snapshot_agg.specs.declared.totals.Totals.{Totals}
 use Rattle.snapshot_agg.specs.States.{IsTotals}
+use Rattle.snapshot_agg.specs.Touching.{TellsTouched}
 
 -- they are totals of the rows: how many there are, and a state of each aggregate
 abbrev pub AreTotalsOf : Totals → List Agg → List (List Datum) → Type 0
@@ -20,6 +21,11 @@ AreTotalsOf t aggs rows = IsTotals t.count t.states.items aggs rows
 abbrev pub IsTotalOf : Option Totals → List Agg → List (List Datum) → Type 0
 IsTotalOf None aggs rows = rows ≡ []
 IsTotalOf (Some t) aggs rows = AreTotalsOf t aggs rows × (1 ≤ t.count)
+
+-- the number that the totals of a key carry tells whether the instant n touched the key, if it has totals
+abbrev pub TellTouched : Option Totals → ℕ → List (List Datum) → List Datum → Type 0
+TellTouched None n touched key = Unit {0}
+TellTouched (Some t) n touched key = TellsTouched t.instant n touched key
 
 -- the totals of the key with these data. Of the keys 7 and 8, those of 8
 abbrev pub totals_of : {S T : Type 0} → IndexMap (Vec Datum S) Totals T → List Datum → Option Totals

@@ -76,9 +76,9 @@ pub(crate) fn emit_due(
     ensures aggs { groups.new.aggs ≡ groups.old.aggs }
 {
     keys_are_few(groups, running);
-    let due = take_due(alloc, waiting, left, to)?;
+    let mut due = take_due(alloc, waiting, left, to)?;
     let mut answer = Vec::new(alloc);
-    match sweep_due(groups, running, &mut answer, &due, from) {
+    match sweep_due(groups, running, &mut answer, &mut due, from) {
         Ok(()) => {}
         Err(fault) => {
             give_up(groups, running);

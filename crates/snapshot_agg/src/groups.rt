@@ -10,7 +10,7 @@ ghost use Rattle.plan_model.specs.declared.agg.Agg.{Agg};
 ghost use Rattle.sweep_laws.specs.Changes.{NoMore};
 ghost use Rattle.snapshot_agg.specs.Changing.{Gains, row_since};
 ghost use Rattle.snapshot_agg.specs.Touching.{Touches};
-ghost use Rattle.snapshot_agg.specs.Totaled.{IsTotalOf, totals_of};
+ghost use Rattle.snapshot_agg.specs.Totaled.{IsTotalOf, TellTouched, totals_of};
 ghost use Rattle.snapshot_agg.specs.KeyRow.{IsKeyRow};
 
 use crate::row_queue::RowQueue;
@@ -42,59 +42,72 @@ pub(crate) struct Groups {
     pub(crate) aggs: Vec<Agg>,
     pub(crate) rows: RowQueue,
     pub(crate) totals: KeyTotals,
-    // The keys of the rows that came or went since the list was cleared.
+    // The keys of the rows that came or went at the instant, and its number.
     pub(crate) touched: Vec<Cells>,
+    pub(crate) instant: u64,
 }
 
-// Takes a row in among those of its key, which is touched.
+// Takes a row in among those of its key, which is touched at the instant of that number.
 fn add_to(
     totals: &mut KeyTotals,
     touched: &mut Vec<Cells>,
+    instant: u64,
     alloc: Global,
     aggs: &[Agg],
     key: &[Datum],
     cells: &[Datum],
 ) -> Result<(), Memory>
-    requires { (rows : List (List Datum))
+    requires few { (rows : List (List Datum))
         × IsTotalOf (totals_of totals.old key.now) aggs.now rows × (length rows < 2 ^ 63) }
+    requires tells { TellTouched (totals_of totals.old key.now) instant touched.old.items key.now }
     ensures others { OnOk result ((q : List Datum) → same_cells key.now q ≡ false →
         totals_of totals.new q ≡ totals_of totals.old q) }
     ensures own { OnOk result ((rows : List (List Datum)) →
         IsTotalOf (totals_of totals.old key.now) aggs.now rows →
         IsTotalOf (totals_of totals.new key.now) aggs.now (cells.now ∷ rows)) }
     ensures touched { OnOk result (Touches touched.old.items touched.new.items key.now) }
+    ensures tells { OnOk result (
+        TellTouched (totals_of totals.new key.now) instant touched.new.items key.now) }
 {
     if let Some(there) = totals.get_mut(key) {
-        there.add(alloc, touched, key, cells)?;
+        there.touch_at(alloc, touched, key, instant)?;
+        there.add(cells)?;
         return Ok(());
     }
-    let mut new = Totals::new(alloc, aggs)?;
-    new.add(alloc, touched, key, cells)?;
+    touch(alloc, touched, key)?;
+    let mut new = Totals::new(alloc, aggs, instant)?;
+    new.add(cells)?;
     let owned = Vec::from_slice(alloc, key)?;
     totals.insert(owned, new)?;
     Ok(())
 }
 
-// Gives up a row of a key that is there, which is touched. The last row takes the totals with it.
+// Gives up a row of a key that is there, which is touched at the instant of that number. The last row takes the totals
+// with it.
 fn take_from(
     totals: &mut KeyTotals,
     touched: &mut Vec<Cells>,
+    instant: u64,
     alloc: Global,
     key: &[Datum],
     cells: &[Datum],
 ) -> Result<(), Memory>
-    requires { (aggs : List Agg) × (rows : List (List Datum)) × (rest : List (List Datum))
+    requires there { (aggs : List Agg) × (rows : List (List Datum)) × (rest : List (List Datum))
         × IsTotalOf (totals_of totals.old key.now) aggs rows
         × SameBag rows (cells.now ∷ rest) }
+    requires tells { TellTouched (totals_of totals.old key.now) instant touched.old.items key.now }
     ensures others { OnOk result ((q : List Datum) → same_cells key.now q ≡ false →
         totals_of totals.new q ≡ totals_of totals.old q) }
     ensures own { OnOk result ((aggs : List Agg) (rows rest : List (List Datum)) →
         IsTotalOf (totals_of totals.old key.now) aggs rows →
         SameBag rows (cells.now ∷ rest) → IsTotalOf (totals_of totals.new key.now) aggs rest) }
     ensures touched { OnOk result (Touches touched.old.items touched.new.items key.now) }
+    ensures tells { OnOk result (
+        TellTouched (totals_of totals.new key.now) instant touched.new.items key.now) }
 {
     if let Some(there) = totals.get_mut(key) {
-        there.remove(alloc, touched, key, cells)?;
+        there.touch_at(alloc, touched, key, instant)?;
+        there.remove(cells);
         if there.count() > 0 {
             return Ok(());
         }
@@ -128,17 +141,36 @@ impl Groups {
             rows: RowQueue::new(alloc, key)?,
             totals: IndexMap::with_hasher(alloc, BuildHasherDefault::new()),
             touched: Vec::new(alloc),
+            instant: 0,
         })
     }
 
+    // Begins the next instant, at which no key is touched so far.
+    pub(crate) fn begin(&mut self) -> Result<(), Memory>
+        requires counted { IsCounted self.old }
+        ensures counted { OnOk result (IsCounted self.new) }
+        ensures none { OnOk result (self.new.touched.items ≡ []) }
+        ensures rows { self.new.rows ≡ self.old.rows }
+        ensures key { self.new.key ≡ self.old.key }
+        ensures aggs { self.new.aggs ≡ self.old.aggs }
+    {
+        // A number that no longer fits is answered as out of memory.
+        let Some(next) = self.instant.checked_add(1) else {
+            return Err(Memory);
+        };
+        self.touched.clear();
+        self.instant = next;
+        Ok(())
+    }
+
     // Puts in a row. Its key is touched.
-    pub(crate) fn add(&mut self, cells: &Cells, start: Time) -> Result<(), Memory>
+    pub(crate) fn add(&mut self, cells: Cells, start: Time) -> Result<(), Memory>
         requires counted { IsCounted self.old }
         ensures counted { OnOk result (IsCounted self.new) }
         ensures added { OnOk result (Gains self.old.rows.rows self.new.rows.rows
-            (row_since cells.now start)) }
+            (row_since cells start)) }
         ensures touched { OnOk result (Touches self.old.touched.items self.new.touched.items
-            (key_by self.old cells.now)) }
+            (key_by self.old cells)) }
         ensures key { self.new.key ≡ self.old.key }
         ensures aggs { self.new.aggs ≡ self.old.aggs }
     {
@@ -150,13 +182,13 @@ impl Groups {
         add_to(
             &mut self.totals,
             &mut self.touched,
+            self.instant,
             self.alloc,
             &self.aggs,
             self.room.values(),
             cells.items(),
         )?;
-        let row = Cells::from_slice(self.alloc, cells.items())?;
-        self.rows.add(row, start)?;
+        self.rows.add(cells, start)?;
         Ok(())
     }
 
@@ -179,13 +211,14 @@ impl Groups {
             take_from(
                 &mut self.totals,
                 &mut self.touched,
+                self.instant,
                 self.alloc,
                 key,
                 cells.items(),
             )?;
             return Ok(());
         }
-        touch(self.alloc, &mut self.touched, key, usize::MAX)?;
+        touch(self.alloc, &mut self.touched, key)?;
         Ok(())
     }
 

@@ -51,7 +51,7 @@ fn groups_of(alloc: Global, key: &[usize], aggs: &[Agg], starts: &[Edge]) -> Res
 {
     let mut groups = Groups::new(alloc, key, aggs)?;
     for start in starts {
-        groups.add(&start.cells, start.sync)?;
+        groups.add(start.cells.clone()?, start.sync)?;
     }
     Ok(groups)
 }

@@ -19,57 +19,60 @@ ghost use Rattle.snapshot_agg.specs.Touching.{EndsOfKeys, StartsOfKeys, Touches}
 use crate::groups::{Groups, KeyRow};
 use edge_stream::StepFault;
 use indexmap::IndexMap;
+use smallvec::SmallVec;
 use std::hash::BuildHasherDefault;
+use std::mem;
 use synopsis::WordHasher;
 use tw_rows::{Cells, Edge, HeldRow, Memory, Time, same_cells};
 
 // The emitted row of each key, and since when it goes on.
 pub(crate) type Running = IndexMap<Cells, HeldRow, BuildHasherDefault<WordHasher>>;
 
-// Takes out the row that the edge ends, or puts in the one that it starts.
-fn apply_one(groups: &mut Groups, edge: &Edge) -> Result<(), Memory>
+// Takes out the row that the edge ends, or puts in the one that it starts, whose cells are moved out of it.
+fn apply_one(groups: &mut Groups, edge: &mut Edge) -> Result<(), Memory>
     requires counted { IsCounted groups.old }
     ensures counted { OnOk result (IsCounted groups.new) }
-    ensures moved { OnOk result (HoldsEnded edge.now groups.old.rows.rows → (w : HeldRow → ℕ) →
-        total w groups.new.rows.rows + total w (ended_of edge.now)
-        ≡ total w groups.old.rows.rows + total w (started_of edge.now)) }
+    ensures moved { OnOk result (HoldsEnded edge.old groups.old.rows.rows → (w : HeldRow → ℕ) →
+        total w groups.new.rows.rows + total w (ended_of edge.old)
+        ≡ total w groups.old.rows.rows + total w (started_of edge.old)) }
     ensures fewer { OnOk result (TakeAtMost groups.old.rows.rows groups.new.rows.rows
-        (started_of edge.now)) }
+        (started_of edge.old)) }
     ensures touched { OnOk result (Touches groups.old.touched.items groups.new.touched.items
-        (key_by groups.old edge.now.cells)) }
+        (key_by groups.old edge.old.cells)) }
     ensures key { groups.new.key ≡ groups.old.key }
     ensures aggs { groups.new.aggs ≡ groups.old.aggs }
 {
     if edge.is_end() {
-        groups.take(&edge.cells, edge.other)
-    } else {
-        groups.add(&edge.cells, edge.sync)
+        return groups.take(&edge.cells, edge.other);
     }
+    let none = Cells::new(SmallVec::new(groups.alloc));
+    let cells = mem::replace(&mut edge.cells, none);
+    groups.add(cells, edge.sync)
 }
 
-// Takes out the rows that end and puts in those that start. The keys of the edges are touched then, and no other. It goes
-// from the last edge to the first, so that starts come in before ends: a key that has rows before and after the instant
-// keeps its totals, and stands among the touched ones once.
-pub(crate) fn apply(groups: &mut Groups, now: &[Edge]) -> Result<(), Memory>
+// Takes out the rows that end and puts in those that start, whose cells are moved out of the edges. The keys of the edges
+// are touched then, and no other. It goes from the last edge to the first, so that starts come in before ends: a key that
+// has rows before and after the instant keeps its totals, and stands among the touched ones once.
+pub(crate) fn apply(groups: &mut Groups, now: &mut [Edge]) -> Result<(), Memory>
     requires counted { IsCounted groups.old }
     ensures counted { OnOk result (IsCounted groups.new) }
-    ensures moved { OnOk result (NoMore groups.old.rows.rows (ended_rows now.now) →
+    ensures moved { OnOk result (NoMore groups.old.rows.rows (ended_rows now.old) →
         (w : HeldRow → ℕ) →
-        total w groups.new.rows.rows + total w (ended_rows now.now)
-        ≡ total w groups.old.rows.rows + total w (started_rows now.now)) }
+        total w groups.new.rows.rows + total w (ended_rows now.old)
+        ≡ total w groups.old.rows.rows + total w (started_rows now.old)) }
     ensures fewer { OnOk result (TakeAtMost groups.old.rows.rows groups.new.rows.rows
-        (started_rows now.now)) }
+        (started_rows now.old)) }
     ensures touched { OnOk result ((q : List Datum) →
         list_any (same_cells q) groups.new.touched.items
-        ≡ list_any (same_cells q) (keys_of (key_by groups.old) now.now)) }
+        ≡ list_any (same_cells q) (keys_of (key_by groups.old) now.old)) }
     ensures key { groups.new.key ≡ groups.old.key }
     ensures aggs { groups.new.aggs ≡ groups.old.aggs }
 {
-    groups.touched.clear();
+    groups.begin()?;
     let mut next = now.len();
     while next > 0 {
         next -= 1;
-        apply_one(groups, &now[next])?;
+        apply_one(groups, &mut now[next])?;
     }
     Ok(())
 }

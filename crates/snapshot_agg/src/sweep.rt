@@ -41,25 +41,25 @@ fn sweep_instant(
     running: &mut Running,
     answer: &mut Vec<Edge>,
     t: Time,
-    now: &[Edge],
+    now: &mut [Edge],
 ) -> Result<(), StepFault>
     requires counted { IsCounted groups.old }
     ensures counted { OnOk result (IsCounted groups.new) }
     ensures swept { OnOk result ((a : List CellEvent) → t < inf → AreEvents a →
-        SameBag now.now (news t (suc t) a) →
+        SameBag now.old (news t (suc t) a) →
         AreSwept groups.old a t groups.old.rows.rows running.old →
         AreSwept groups.old a (suc t) groups.new.rows.rows running.new
         × Emits groups.old a t (suc t) answer.old.items answer.new.items) }
     ensures overflow { IfErr result (λ fault. (v : ℕ) → fault ≡ StepFault.Overflow v → (v ≡ t)
-        × ((a : List CellEvent) → t < inf → AreEvents a → SameBag now.now (news t (suc t) a) →
+        × ((a : List CellEvent) → t < inf → AreEvents a → SameBag now.old (news t (suc t) a) →
         AreSwept groups.old a t groups.old.rows.rows running.old →
         IsUndefinedFirst groups.old a t (suc t) t)) }
     ensures so_far { OnOk result ((left : List CellKind) (from to : ℕ) →
-        from ≤ t → t < to → to ≤ inf → failing (is_stored left) now.now ≡ 0 →
+        from ≤ t → t < to → to ≤ inf → failing (is_stored left) now.old ≡ 0 →
         AreEmitted groups.old left from t to running.old answer.old.items →
         AreEmitted groups.old left from (suc t) to running.new answer.new.items) }
     ensures fewer { OnOk result (TakeAtMost groups.old.rows.rows groups.new.rows.rows
-        (started_rows now.now)) }
+        (started_rows now.old)) }
     ensures key { groups.new.key ≡ groups.old.key }
     ensures aggs { groups.new.aggs ≡ groups.old.aggs }
 {
@@ -77,26 +77,26 @@ pub(crate) fn sweep_due(
     groups: &mut Groups,
     running: &mut Running,
     answer: &mut Vec<Edge>,
-    due: &[Edge],
+    due: &mut [Edge],
     from: Time,
 ) -> Result<(), StepFault>
     requires counted { IsCounted groups.old }
     ensures counted { OnOk result (IsCounted groups.new) }
-    ensures swept { OnOk result ((a : List CellEvent) (to : ℕ) → IsDue a from to due.now →
+    ensures swept { OnOk result ((a : List CellEvent) (to : ℕ) → IsDue a from to due.old →
         AreSwept groups.old a from groups.old.rows.rows running.old →
         AreSwept groups.old a to groups.new.rows.rows running.new
         × Emits groups.old a from to answer.old.items answer.new.items
         × AreDefined groups.old a from to) }
     ensures overflow { IfErr result (λ fault. (v : ℕ) → fault ≡ StepFault.Overflow v →
-        (a : List CellEvent) (to : ℕ) → IsDue a from to due.now →
+        (a : List CellEvent) (to : ℕ) → IsDue a from to due.old →
         AreSwept groups.old a from groups.old.rows.rows running.old →
         IsUndefinedFirst groups.old a from to v) }
     ensures so_far { OnOk result ((left : List CellKind) (to : ℕ) → from ≤ to → to ≤ inf →
-        failing (is_stored left) due.now ≡ 0 → failing (is_below to) due.now ≡ 0 → Rises 0 due.now →
+        failing (is_stored left) due.old ≡ 0 → failing (is_below to) due.old ≡ 0 → Rises 0 due.old →
         AreEmitted groups.old left from from to running.old answer.old.items →
         AreEmitted groups.old left from to to running.new answer.new.items) }
     ensures fewer { OnOk result (TakeAtMost groups.old.rows.rows groups.new.rows.rows
-        (started_rows due.now)) }
+        (started_rows due.old)) }
     ensures key { groups.new.key ≡ groups.old.key }
     ensures aggs { groups.new.aggs ≡ groups.old.aggs }
 {
@@ -105,7 +105,7 @@ pub(crate) fn sweep_due(
         let t = due[done].sync;
         let left = rest(due, done);
         let n = first_instant(left, t);
-        sweep_instant(groups, running, answer, t, &left[..n])?;
+        sweep_instant(groups, running, answer, t, &mut due[done..done + n])?;
         done += n;
     }
     Ok(())

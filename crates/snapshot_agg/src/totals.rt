@@ -1,13 +1,11 @@
 // What is kept of the rows of one key.
-ghost use Rattle.std.specs.Prelude.{◌≡◌, ℕ, ◌<◌, ◌≤◌, ◌^◌, true, List, [], ◌∷◌, length, IfOk, OnOk};
-ghost use Rattle.std.specs.List.{list_any};
-ghost use Rattle.tw_rows.specs.SameCells.{same_cells};
+ghost use Rattle.std.specs.Prelude.{◌≡◌, ℕ, ◌<◌, ◌≤◌, ◌^◌, List, [], ◌∷◌, length, IfOk, OnOk};
 ghost use Rattle.tw_rows.specs.Bag.{SameBag};
 ghost use Rattle.tw_rows.specs.declared.cells.Datum.{Datum};
 ghost use Rattle.node_laws.specs.Keeping.{plain_cells};
 ghost use Rattle.plan_model.specs.declared.agg.Agg.{Agg};
 ghost use Rattle.snapshot_agg.specs.States.{AreStatesOf, IsTotals, told_row};
-ghost use Rattle.snapshot_agg.specs.Touching.{Touches};
+ghost use Rattle.snapshot_agg.specs.Touching.{Touches, TellsTouched};
 
 use crate::state::State;
 use plan_model::Agg;
@@ -23,35 +21,16 @@ const MOST_ROWS: u64 = 4611686018427387904;
 pub(crate) struct Totals {
     count: u64,
     states: Vec<State>,
-    // Where the key stood among the keys that are touched. It may stand there no longer.
-    place: usize,
+    // The number of the instant at which the key was touched last.
+    instant: u64,
 }
 
-// Whether the key stands at the place.
-fn stands_at(touched: &[Cells], key: &[Datum], place: usize) -> bool
-    ensures { result ≡ true → list_any (same_cells key.now) touched.now ≡ true }
-{
-    match touched.get(place) {
-        Some(there) => key == there.items(),
-        None => false,
-    }
-}
-
-// Puts the key to the touched ones, unless it stands at the place that is given, and answers its place.
-pub(crate) fn touch(
-    alloc: Global,
-    touched: &mut Vec<Cells>,
-    key: &[Datum],
-    place: usize,
-) -> Result<usize, Memory>
+// Puts the key to the touched ones.
+pub(crate) fn touch(alloc: Global, touched: &mut Vec<Cells>, key: &[Datum]) -> Result<(), Memory>
     ensures { OnOk result (Touches touched.old.items touched.new.items key.now) }
 {
-    if stands_at(touched, key, place) {
-        return Ok(place);
-    }
-    let next = touched.len();
     touched.push(Cells::from_slice(alloc, key)?)?;
-    Ok(next)
+    Ok(())
 }
 
 // Takes a row into each state.
@@ -83,9 +62,10 @@ fn remove_all(states: &mut [State], cells: &[Datum])
 impl Totals {
     ghost use Rattle.snapshot_agg.specs.Totaled.{AreTotalsOf};
 
-    // Of no rows.
-    pub(crate) fn new(alloc: Global, aggs: &[Agg]) -> Result<Totals, Memory>
-        ensures { IfOk result (λ t. AreTotalsOf t aggs.now []) }
+    // Of no rows of a key that is touched at the instant of that number.
+    pub(crate) fn new(alloc: Global, aggs: &[Agg], instant: u64) -> Result<Totals, Memory>
+        ensures none { IfOk result (λ t. AreTotalsOf t aggs.now []) }
+        ensures instant { IfOk result (λ t. t.instant ≡ instant) }
     {
         let mut states = Vec::new(alloc);
         for agg in aggs {
@@ -94,7 +74,7 @@ impl Totals {
         Ok(Totals {
             count: 0,
             states,
-            place: 0,
+            instant,
         })
     }
 
@@ -105,45 +85,52 @@ impl Totals {
         self.count
     }
 
-    // Takes in a row of the key, which is touched.
-    pub(crate) fn add(
+    // Touches the key at the instant of that number, unless it is touched there already.
+    pub(crate) fn touch_at(
         &mut self,
         alloc: Global,
         touched: &mut Vec<Cells>,
         key: &[Datum],
-        cells: &[Datum],
+        instant: u64,
     ) -> Result<(), Memory>
+        requires { TellsTouched self.old.instant instant touched.old.items key.now }
+        ensures touched { OnOk result (Touches touched.old.items touched.new.items key.now) }
+        ensures instant { OnOk result (self.new.instant ≡ instant) }
+        ensures count { self.new.count ≡ self.old.count }
+        ensures states { self.new.states ≡ self.old.states }
+    {
+        if self.instant == instant {
+            return Ok(());
+        }
+        touch(alloc, touched, key)?;
+        self.instant = instant;
+        Ok(())
+    }
+
+    // Takes in a row of the key.
+    pub(crate) fn add(&mut self, cells: &[Datum]) -> Result<(), Memory>
         requires { (aggs : List Agg) × (rows : List (List Datum))
             × AreTotalsOf self.old aggs rows × (length rows < 2 ^ 63) }
         ensures own { OnOk result ((aggs : List Agg) (rows : List (List Datum)) →
             AreTotalsOf self.old aggs rows → AreTotalsOf self.new aggs (cells.now ∷ rows)) }
-        ensures touched { OnOk result (Touches touched.old.items touched.new.items key.now) }
+        ensures instant { self.new.instant ≡ self.old.instant }
     {
-        self.place = touch(alloc, touched, key, self.place)?;
         self.count += 1;
         add_all(&mut self.states, cells)?;
         Ok(())
     }
 
-    // Gives up a row that is there, of the key, which is touched.
-    pub(crate) fn remove(
-        &mut self,
-        alloc: Global,
-        touched: &mut Vec<Cells>,
-        key: &[Datum],
-        cells: &[Datum],
-    ) -> Result<(), Memory>
+    // Gives up a row of the key that is there.
+    pub(crate) fn remove(&mut self, cells: &[Datum])
         requires { (aggs : List Agg) × (rows : List (List Datum)) × (rest : List (List Datum))
             × AreTotalsOf self.old aggs rows × SameBag rows (cells.now ∷ rest) }
-        ensures own { OnOk result ((aggs : List Agg) (rows rest : List (List Datum)) →
+        ensures own { (aggs : List Agg) (rows rest : List (List Datum)) →
             AreTotalsOf self.old aggs rows → SameBag rows (cells.now ∷ rest) →
-            AreTotalsOf self.new aggs rest) }
-        ensures touched { OnOk result (Touches touched.old.items touched.new.items key.now) }
+            AreTotalsOf self.new aggs rest }
+        ensures instant { self.new.instant ≡ self.old.instant }
     {
-        self.place = touch(alloc, touched, key, self.place)?;
         self.count -= 1;
         remove_all(&mut self.states, cells);
-        Ok(())
     }
 
     // The row of the group, unless it is undefined.

@@ -1,16 +1,16 @@
 // New edges of the child of a Group taken in, and all that are due taken out, in order.
-ghost use Rattle.std.specs.Prelude.{◌≡◌, ◌+◌, ◌<◌, ◌≤◌, ◌↔◌, IsTrue, ℕ, All, map, OnOk, IfOk};
+ghost use Rattle.std.specs.Prelude.{◌≡◌, ◌+◌, ◌<◌, ◌≤◌, ◌↔◌, IsTrue, true, ℕ, All, map, OnOk, IfOk};
 ghost use Rattle.tw_rows.specs.Bag.{SameBag, total};
 ghost use Rattle.tw_rows.specs.Cells.{datum_kind};
 ghost use Rattle.tw_rows.specs.declared.edge.Edge.{Edge};
-ghost use Rattle.edge_history.specs.Order.{failing, is_below, is_from, Rises, KeepsOrder};
+ghost use Rattle.edge_history.specs.Order.{failing, is_below, is_from, rank, Rises, KeepsOrder};
 ghost use Rattle.edge_history.specs.Opens.{singles_of, singles};
 ghost use Rattle.edge_stream.specs.Listing.{cells_of};
 ghost use Rattle.sweep_sides.specs.Waiting.{queued, AreTimed};
 ghost use Rattle.snapshot_agg.specs.Changing.{GainTogether, StayTogether, TakeTogether};
 
 use crate::queue::Queue;
-use edge_history::{in_order, keeps_order};
+use edge_history::in_order;
 use edge_stream::EdgeList;
 use std::alloc::Global;
 use tw_rows::{Edge, Memory, Time};
@@ -105,12 +105,37 @@ fn pop_before(
     Ok(sync)
 }
 
+// Whether the edge may stand behind another in a list: by its sync, and at one sync the ends first.
+fn comes_behind(edge: &Edge, last: &Edge) -> bool
+    ensures { result ≡ true → rank last.now ≤ rank edge.now }
+{
+    if edge.sync != last.sync {
+        return last.sync < edge.sync;
+    }
+    if last.is_end() {
+        return true;
+    }
+    !edge.is_end()
+}
+
+// Whether the edges are in order. That their times are real is known.
+fn are_in_order(due: &[Edge]) -> bool
+    ensures { result ≡ true → Rises 0 due.now }
+{
+    for i in 1..due.len() {
+        if !comes_behind(&due[i], &due[i - 1]) {
+            return false;
+        }
+    }
+    true
+}
+
 // Puts the edges in order. They mostly are.
 fn put_in_order(due: &mut Vec<Edge>) -> Result<(), Memory>
     ensures same { OnOk result (SameBag due.old.items due.new.items) }
     ensures order { OnOk result (Rises 0 due.new.items) }
 {
-    if keeps_order(due.as_slice()) {
+    if are_in_order(due.as_slice()) {
         return Ok(());
     }
     in_order(due)?;

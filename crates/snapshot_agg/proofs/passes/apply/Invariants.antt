@@ -1,4 +1,4 @@
-use Rattle.std.proofs.Common.{◌≡◌, ◌+◌, ◌≤◌, drop, ℕ, List, length}
+use Rattle.std.proofs.Common.{◌≡◌, ◌+◌, ◌≤◌, drop, take, ℕ, List, length}
 use Rattle.std.specs.List.{list_any}
 use Rattle.tw_rows.specs.Bag.{total}
 use Rattle.tw_rows.specs.declared.edge.HeldRow.{HeldRow}
@@ -16,12 +16,13 @@ decreases-loop-next l = l.next
 
 abbrev pub invariant-loop-next : goal.invariant-loop-next
 invariant-loop-next l = record {
-  within : l.next ≤ length l.now;
+  within : l.next ≤ length l.fn.now;
+  first : take l.next l.now ≡ take l.next l.fn.now;
   counted : IsCounted l.groups;
-  moved : ((w : HeldRow → ℕ) → total w (ended_rows l.now) ≤ total w l.fn.groups.rows.rows) → (w : HeldRow → ℕ) →
-      total w l.groups.rows.rows + total w (ended_rows (drop l.next l.now)) ≡ total w l.fn.groups.rows.rows + total w (started_rows (drop l.next l.now));
-  fewer : TakeAtMost l.fn.groups.rows.rows l.groups.rows.rows (started_rows (drop l.next l.now));
-  touched : (q : List Datum) → list_any (same_cells q) l.groups.touched.items ≡ list_any (same_cells q) (keys_of (key_data l.fn.groups.key.items) (drop l.next l.now));
+  moved : ((w : HeldRow → ℕ) → total w (ended_rows l.fn.now) ≤ total w l.fn.groups.rows.rows) → (w : HeldRow → ℕ) →
+      total w l.groups.rows.rows + total w (ended_rows (drop l.next l.fn.now)) ≡ total w l.fn.groups.rows.rows + total w (started_rows (drop l.next l.fn.now));
+  fewer : TakeAtMost l.fn.groups.rows.rows l.groups.rows.rows (started_rows (drop l.next l.fn.now));
+  touched : (q : List Datum) → list_any (same_cells q) l.groups.touched.items ≡ list_any (same_cells q) (keys_of (key_data l.fn.groups.key.items) (drop l.next l.fn.now));
   same_key : l.groups.key ≡ l.fn.groups.key;
   same_aggs : l.groups.aggs ≡ l.fn.groups.aggs;
 }

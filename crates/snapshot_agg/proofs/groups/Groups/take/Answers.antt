@@ -9,6 +9,8 @@ use Rattle.edge_history.specs.Opens.{is_held}
 use Rattle.synopsis.specs.Held.{key_of}
 use Rattle.snapshot_agg.specs.Words.{key_data}
 use Rattle.snapshot_agg.proofs.Totaling.{of_key, own_key, totaled_taken, totaled_same}
+use Rattle.snapshot_agg.specs.Totaled.{totals_of}
+use Rattle.snapshot_agg.proofs.Touching.{all_told, still_told}
 use Rattle.snapshot_agg.proofs.groups.Groups.take.Goals as goal
 
 pub take_from-requires : goal.take_from-requires
@@ -20,14 +22,18 @@ take_from-requires c =
     let is : k ≡ key_data g.key.items cells =
     c.values-key.ensures ∙ c.write.ensures.values ∙ ap (λ l. key_of l c.items.result.now) c.requires.counted.room ∙ ap (key_of g.key.items) c.items.ensures in
     let more : (w : HeldRow → ℕ) → total w g.rows.rows ≡ total w rows2 + w (record { cells = cells; start = c.args.start }) =
-    λ w. c.in_ok-taken.ensures.taken c.if-taken.true w ∙ ap (λ l. total w rows2 + w (record { cells = l; start = c.args.start })) c.items-2.ensures in (
-      g.aggs.items,
-      of_key g.key.items k g.rows.rows,
-      of_key g.key.items k rows2,
-      c.requires.counted.totals.of_key k,
-      subst (λ l. SameBag (of_key g.key.items k g.rows.rows) (l ∷ of_key g.key.items k rows2)) (sym c.items-then-taken.ensures)
-          (own_key g.key.items rows2 g.rows.rows cells c.args.start more k is),
-    )
+    λ w. c.in_ok-taken.ensures.taken c.if-taken.true w ∙ ap (λ l. total w rows2 + w (record { cells = l; start = c.args.start })) c.items-2.ensures in
+    record {
+      there = (
+        g.aggs.items,
+        of_key g.key.items k g.rows.rows,
+        of_key g.key.items k rows2,
+        c.requires.counted.totals.of_key k,
+        subst (λ l. SameBag (of_key g.key.items k g.rows.rows) (l ∷ of_key g.key.items k rows2)) (sym c.items-then-taken.ensures)
+            (own_key g.key.items rows2 g.rows.rows cells c.args.start more k is),
+      );
+      tells = c.requires.counted.touched k;
+    }
 
 pub returns-then-taken-clause-counted : goal.returns-then-taken-clause-counted
 returns-then-taken-clause-counted c =
@@ -41,6 +47,8 @@ returns-then-taken-clause-counted c =
     λ w. c.in_ok-taken.ensures.taken c.if-taken.true w ∙ ap (λ l. total w rows2 + w (record { cells = l; start = c.args.start })) c.items-2.ensures in
     record {
       room = c.write.ensures.columns ∙ c.requires.counted.room;
+      touched = all_told g.totals c.take_from.new.totals g.instant g.touched.items c.take_from.new.touched.items k c.in_ok-take_from.ensures.others c.in_ok-take_from.ensures.touched
+          c.in_ok-take_from.ensures.tells c.requires.counted.touched;
       totals =
           totaled_taken g.key.items rows2 g.rows.rows cells c.args.start more g.aggs.items g.totals c.take_from.new.totals k is c.requires.counted.totals c.in_ok-take_from.ensures.others
           (λ rs rest h same. c.in_ok-take_from.ensures.own g.aggs.items rs rest h (subst (λ l. SameBag rs (l ∷ rest)) (sym c.items-then-taken.ensures) same));
@@ -67,6 +75,7 @@ returns-clause-counted c =
     let g = c.args.self.now in
     record {
       room = c.write.ensures.columns ∙ c.requires.counted.room;
+      touched = λ q. still_told (totals_of g.totals q) g.instant g.touched.items c.touch.new.touched.items c.values-key.result.now q c.in_ok-touch.ensures (c.requires.counted.touched q);
       totals = totaled_same g.key.items g.aggs.items g.rows.rows c.take.new.self.rows g.totals (c.in_ok-taken.ensures.same c.if-taken.false) c.requires.counted.totals;
     }
 
