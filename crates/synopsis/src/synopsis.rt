@@ -64,6 +64,7 @@ impl Model for Synopsis {
 }
 
 // The rows and one more, in buckets by that key.
+#[inline(never)]
 fn in_buckets(
     alloc: Global,
     key: &mut KeyRoom,
