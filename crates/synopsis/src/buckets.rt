@@ -29,7 +29,6 @@ fn copy_key(owned: &mut Vec<Datum>, key: &[Datum]) -> Result<(), Memory>
 }
 
 /// Puts a row into the bucket of its key, which is made where there is none.
-#[inline(never)]
 pub fn put_row(
     alloc: Global,
     buckets: &mut KeyBuckets,

@@ -64,7 +64,6 @@ impl Model for Synopsis {
 }
 
 // The rows and one more, in buckets by that key.
-#[inline(never)]
 fn in_buckets(
     alloc: Global,
     key: &mut KeyRoom,
