@@ -56,21 +56,6 @@ fn other_time(starts: bool, a: Time, b: Time) -> Time
 impl<'a> Pairing<'a> {
     ghost use Rattle.temporal_join.specs.Pairing.{own_key, other_key, pair_with, told_pairs, TellsPairs};
 
-    // A copy, for a call that is rare. It is the copy that has to lie in memory then, and so it is written there only if the
-    // call is made.
-    #[inline(always)]
-    fn copied(&self) -> Pairing<'a>
-        ensures { result ≡ self.now }
-    {
-        Pairing {
-            alloc: self.alloc,
-            left_key: self.left_key,
-            right_key: self.right_key,
-            right: self.right,
-            at: self.at,
-        }
-    }
-
     // The row of a pair.
     fn cells(&self, cells: &[Datum], other: &[Datum]) -> Result<Cells, Memory>
         ensures { IfOk result (λ row. row
@@ -150,8 +135,7 @@ impl<'a> Pairing<'a> {
     {
         // A key of one column needs no copy.
         let Some(key) = lone_key(self.key(), cells) else {
-            self.copied()
-                .tell_by_copy(answer, starts, cells, start, others)?;
+            self.tell_by_copy(answer, starts, cells, start, others)?;
             return Ok(());
         };
         let partners = others.rows_of(key);
@@ -159,7 +143,7 @@ impl<'a> Pairing<'a> {
         if partners.is_empty() {
             return Ok(());
         }
-        self.copied().tell(answer, starts, cells, start, partners)?;
+        self.tell(answer, starts, cells, start, partners)?;
         Ok(())
     }
 

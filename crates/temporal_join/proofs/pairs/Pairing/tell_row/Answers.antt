@@ -1,4 +1,4 @@
-use Rattle.std.proofs.Common.{◌≡◌, ◌∙◌, ◌++◌, [], ap, length, map, sym, subst}
+use Rattle.std.proofs.Common.{◌≡◌, ◌∙◌, ◌++◌, [], ap, length, map, sym}
 use Rattle.std.proofs.lemmas.Bool.{eqb-true}
 use Rattle.std.proofs.lemmas.List.{nil_from_length}
 use Rattle.tw_rows.specs.declared.edge.Edge.{Edge}
@@ -6,7 +6,6 @@ use Rattle.tw_rows.specs.declared.edge.HeldRow.{HeldRow}
 use Rattle.synopsis.specs.Held.{key_of}
 use Rattle.sweep_laws.specs.Moves.{told_at}
 use Rattle.sweep_laws.proofs.Adding.{append_none}
-use Rattle.temporal_join.specs.declared.pairs.Pairing.{Pairing}
 use Rattle.temporal_join.specs.Pairing.{pair_with}
 use Rattle.temporal_join.proofs.Partners.{row_told}
 use Rattle.temporal_join.proofs.pairs.Pairing.tell_row.Goals as goal
@@ -26,9 +25,7 @@ pub returns : goal.returns
 returns c = λ by.
     let p = c.args.self.now in
     let x : HeldRow = record { cells = c.args.cells.now; start = c.args.start } in
-    let partners = c.rows_of-partners.result.now in
     let f : HeldRow → Edge = λ r. told_at c.args.starts p.at (pair_with p x r) in
     row_told p.left_key.now p.right_key.now p.right c.args.starts p.at x c.args.others.now.rows c.args.others.now.key c.in-Some.key.now c.args.answer.now.items c.tell.new.answer.items
     by (c.in-Some.ensures ∙ ap (λ k. key_of k c.args.cells.now) c.key.ensures)
-    (subst (λ (q : Pairing). c.tell.new.answer.items ≡ c.args.answer.now.items ++ map (λ y. told_at c.args.starts q.at (pair_with q x y)) partners) c.copied.ensures
-    c.in_ok-tell.ensures ∙ ap (λ l. c.args.answer.now.items ++ map f l) c.rows_of-partners.ensures)
+    (c.in_ok-tell.ensures ∙ ap (λ l. c.args.answer.now.items ++ map f l) c.rows_of-partners.ensures)
