@@ -18,6 +18,26 @@ use std::alloc::Global;
 use std::collections::VecDeque;
 use tw_rows::{Edge, Memory, Time};
 
+// So many edges are taken out one by one. To split the queue costs more than that.
+const FEW: usize = 8;
+
+// Takes out edges that are due before a time, at most a few of them, and puts them last.
+fn pop_few(queue: &mut EndQueue, due: &mut Vec<Edge>, below: Time) -> Result<(), Memory>
+    ensures parts { OnOk result ((w : Edge → ℕ) → total w due.new.items + total w (queued queue.new)
+        ≡ total w due.old.items + total w (queued queue.old)) }
+    ensures early { OnOk result ((to : ℕ) → below ≤ to → AreTimed queue.old →
+        failing (is_below to) due.old.items ≡ 0 → failing (is_below to) due.new.items ≡ 0) }
+    ensures timed { OnOk result (AreTimed queue.old → AreTimed queue.new) }
+{
+    for _ in 0..FEW {
+        let Some(edge) = queue.pop_due(below) else {
+            return Ok(());
+        };
+        due.push(edge)?;
+    }
+    Ok(())
+}
+
 // Takes out all edges that are due before a time, and puts them last.
 fn pop_before(queue: &mut EndQueue, due: &mut Vec<Edge>, below: Time) -> Result<(), Memory>
     ensures parts { OnOk result ((w : Edge → ℕ) → total w due.new.items + total w (queued queue.new)
@@ -28,6 +48,7 @@ fn pop_before(queue: &mut EndQueue, due: &mut Vec<Edge>, below: Time) -> Result<
         failing (is_from below) (queued queue.new) ≡ 0) }
     ensures timed { OnOk result (AreTimed queue.old → AreTimed queue.new) }
 {
+    pop_few(queue, due, below)?;
     queue.pop_all(below, due)?;
     Ok(())
 }
