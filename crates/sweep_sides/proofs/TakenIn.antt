@@ -5,7 +5,7 @@ use Rattle.std.specs.List.Sorted.{IsNonDecreasingBy}
 use Rattle.std.proofs.Common.{sym, ◌∙◌, ap, subst, arith}
 use Rattle.std.proofs.lemmas.Bool.{eqb-true}
 use Rattle.std.proofs.lemmas.Bool.Decides.{nat_tests}
-use Rattle.std.proofs.lemmas.List.Elements.{All-head, All-tail}
+use Rattle.std.proofs.lemmas.List.Elements.{All-nil, All-cons, All-head, All-tail}
 use Rattle.std.proofs.lemmas.List.{drop_more}
 use Rattle.tw_rows.specs.Bag.{SameBag, total}
 use Rattle.tw_rows.specs.declared.edge.Edge.{Edge}
@@ -70,16 +70,26 @@ early_taken below to (p ∷ taken) le timed low =
     let r = early_taken below to taken le (omega (arith, timed)) (All-tail (λ (r : Pending). r.at < below) p taken low) in
     omega (arith, z, r)
 
--- what was popped of a queue q, of which q2 is left: those that were due before a time, put last
-pub record Popped (below : ℕ) (q q2 : List Pending) (due due2 : List Edge) : Type 0 where
+-- what was taken out of a queue q, of which q2 is left: entries that were due before a time, put last
+pub record TakenOut (below : ℕ) (q q2 : List Pending) (due due2 : List Edge) : Type 0 where
   pub parts : (w : Edge → ℕ) → total w due2 + total w (queued q2) ≡ total w due + total w (queued q)
   pub early : (to : ℕ) → below ≤ to → AreTimed q → failing (is_below to) due ≡ 0 → failing (is_below to) due2 ≡ 0
-  pub rest : AreTimed q → failing (is_from below) (queued q2) ≡ 0
   pub timed : AreTimed q → AreTimed q2
 
-pub popped : (below : ℕ) (q q2 taken : List Pending) (due due2 : List Edge) → q ≡ taken ++ q2 → due2 ≡ due ++ queued taken →
-    All (λ p. p.at < below) taken → All (λ p. below ≤ p.at) q2 → Popped below q q2 due due2
-popped below q q2 taken due due2 is more low late =
+pub taken_none : (below : ℕ) (q : List Pending) (due : List Edge) → TakenOut below q q due due
+taken_none below q due = record { parts = λ w. refl; early = λ to le timed h. h; timed = λ timed. timed }
+
+pub taken_more : (below : ℕ) (q q1 q2 : List Pending) (due due1 due2 : List Edge) → TakenOut below q q1 due due1 → TakenOut below q1 q2 due1 due2 →
+    TakenOut below q q2 due due2
+taken_more below q q1 q2 due due1 due2 a b = record {
+  parts = λ w. b.parts w ∙ a.parts w;
+  early = λ to le timed h. b.early to le (a.timed timed) (a.early to le timed h);
+  timed = λ timed. b.timed (a.timed timed);
+}
+
+pub taken_out : (below : ℕ) (q q2 taken : List Pending) (due due2 : List Edge) → q ≡ taken ++ q2 → due2 ≡ due ++ queued taken →
+    All (λ p. p.at < below) taken → TakenOut below q q2 due due2
+taken_out below q q2 taken due due2 is more low =
     let v : Pending → ℕ = λ p. cond (nat_eq p.at p.edge.sync) 0 1 in
     let whole = ap (total v) is ∙ total-append v taken q2 in
     record {
@@ -92,9 +102,25 @@ popped below q q2 taken due due2 is more low late =
           let a = ap (total f) more ∙ total-append f due (queued taken) in
           let e = early_taken below to taken le (omega (arith, whole, timed)) low in
           omega (arith, a, e, h);
-      rest = λ timed. rest_waits below q2 late (omega (arith, whole, timed));
       timed = λ timed. omega (arith, whole, timed);
     }
+
+-- one entry
+pub one_out : (below : ℕ) (q q2 : List Pending) (p : Pending) (e : Edge) (due due2 : List Edge) → p.edge ≡ e → p.at < below → q ≡ p ∷ q2 →
+    due2 ≡ due ++ e ∷ [] → TakenOut below q q2 due due2
+one_out below q q2 p e due due2 same low is more =
+    taken_out below q q2 (p ∷ []) due due2 is (more ∙ ap (λ (x : Edge). due ++ x ∷ []) (sym same)) (All-cons (λ (r : Pending). r.at < below) p [] low (All-nil (λ (r : Pending). r.at < below)))
+
+-- all that were due before the time
+pub record Popped (below : ℕ) (q q2 : List Pending) (due due2 : List Edge) : Type 0 where
+  pub out : TakenOut below q q2 due due2
+  pub rest : AreTimed q → failing (is_from below) (queued q2) ≡ 0
+
+pub popped : (below : ℕ) (q q2 taken : List Pending) (due due2 : List Edge) → q ≡ taken ++ q2 → due2 ≡ due ++ queued taken →
+    All (λ p. p.at < below) taken → All (λ p. below ≤ p.at) q2 → Popped below q q2 due due2
+popped below q q2 taken due due2 is more low late =
+    let out = taken_out below q q2 taken due due2 is more low in
+    record { out = out; rest = λ timed. rest_waits below q2 late (out.timed timed) }
 
 -- the order that a sort leaves
 syncs_from : (r : ℕ) (xs : List Edge) → IsNonDecreasingBy (λ e. e.sync) xs → ((d : Edge) → 0 < length xs → r ≤ (get_or xs 0 d).sync) → SyncsRise r xs

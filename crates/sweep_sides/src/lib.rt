@@ -19,5 +19,5 @@ pub use saving::{
     save_waiting,
 };
 pub use starts::put_starts;
-pub use taking::take_in;
+pub use taking::{let_go, take_in, take_into};
 pub use waiting::{put_all, take_due};

@@ -1,5 +1,5 @@
 // New edges of a side taken in and all that are due taken out, in one call.
-ghost use Rattle.std.specs.Prelude.{◌≡◌, ◌+◌, ◌<◌, ◌≤◌, ◌∷◌, ℕ, All, map, length, cond, IsTrue, OnOk, IfOk, IfSome, IfNone};
+ghost use Rattle.std.specs.Prelude.{◌≡◌, ◌+◌, ◌<◌, ◌≤◌, ◌∷◌, [], ℕ, All, map, length, cond, IsTrue, OnOk, IfOk, IfSome, IfNone};
 ghost use Rattle.tw_rows.specs.Bag.{SameBag, total};
 ghost use Rattle.tw_rows.specs.Cells.{datum_kind};
 ghost use Rattle.tw_rows.specs.declared.edge.Edge.{Edge};
@@ -18,6 +18,26 @@ use std::alloc::Global;
 use std::collections::VecDeque;
 use tw_rows::{Edge, Memory, Time};
 
+// So many edges are taken out one by one. To split the queue costs more than that.
+const FEW: usize = 8;
+
+// Takes out edges that are due before a time, at most a few of them, and puts them last.
+fn pop_few(queue: &mut EndQueue, due: &mut Vec<Edge>, below: Time) -> Result<(), Memory>
+    ensures parts { OnOk result ((w : Edge → ℕ) → total w due.new.items + total w (queued queue.new)
+        ≡ total w due.old.items + total w (queued queue.old)) }
+    ensures early { OnOk result ((to : ℕ) → below ≤ to → AreTimed queue.old →
+        failing (is_below to) due.old.items ≡ 0 → failing (is_below to) due.new.items ≡ 0) }
+    ensures timed { OnOk result (AreTimed queue.old → AreTimed queue.new) }
+{
+    for _ in 0..FEW {
+        let Some(edge) = queue.pop_due(below) else {
+            return Ok(());
+        };
+        due.push(edge)?;
+    }
+    Ok(())
+}
+
 // Takes out all edges that are due before a time, and puts them last.
 fn pop_before(queue: &mut EndQueue, due: &mut Vec<Edge>, below: Time) -> Result<(), Memory>
     ensures parts { OnOk result ((w : Edge → ℕ) → total w due.new.items + total w (queued queue.new)
@@ -28,6 +48,7 @@ fn pop_before(queue: &mut EndQueue, due: &mut Vec<Edge>, below: Time) -> Result<
         failing (is_from below) (queued queue.new) ≡ 0) }
     ensures timed { OnOk result (AreTimed queue.old → AreTimed queue.new) }
 {
+    pop_few(queue, due, below)?;
     queue.pop_all(below, due)?;
     Ok(())
 }
@@ -302,8 +323,43 @@ fn room_for(edges: &EdgeList) -> usize
 }
 
 /// Puts the edges of a list to the pending ones, each until its sync is due, and takes out those that are due before a time, in
-/// the order of their syncs. A start of the list that is due at once is not put in at all, and an end only where it comes far
-/// before others.
+/// the order of their syncs, in place of what `due` held: its room is used again. A start of the list that is due at once is not
+/// put in at all, and an end only where it comes far before others.
+pub fn take_into(
+    queue: &mut EndQueue,
+    alloc: Global,
+    due: &mut Vec<Edge>,
+    edges: &EdgeList,
+    to: Time,
+) -> Result<(), Memory>
+    ensures parts { OnOk result ((w : Edge → ℕ) →
+        total w due.new.items + total w (queued queue.new)
+        ≡ total w (queued queue.old) + total w (singles edges.now.edges)) }
+    ensures below { OnOk result (AreTimed queue.old → failing (is_below to) due.new.items ≡ 0) }
+    ensures order { OnOk result (SyncsRise 0 due.new.items) }
+    ensures rest { OnOk result (AreTimed queue.old → failing (is_from to) (queued queue.new) ≡ 0) }
+    ensures timed { OnOk result (AreTimed queue.old → AreTimed queue.new) }
+    ensures list { KeepsOrder edges.now.edges }
+    ensures cells { OnOk result (All (λ e. map datum_kind e.cells
+        ≡ cells_of edges.now) edges.now.edges) }
+{
+    let mut cursor = edges.cursor();
+    // What waited comes in order, and so do the edges of the list. So each end goes to its place, mostly near the back.
+    let mut waited = popped(queue, alloc, to)?;
+    let mut ends = Endings::new(alloc, room_for(edges))?;
+    due.clear();
+    due.reserve(2 * room_for(edges))?;
+    while let Some(edge) = cursor.next()? {
+        take_edge(queue, due, &mut ends, &mut waited, to, edge)?;
+    }
+    release_all(ends, waited, due)?;
+    // Ends that came far before the last ones.
+    pop_before(queue, due, to)?;
+    by_sync(due)?;
+    Ok(())
+}
+
+/// The same, in a list of its own.
 pub fn take_in(
     queue: &mut EndQueue,
     alloc: Global,
@@ -321,17 +377,21 @@ pub fn take_in(
     ensures cells { OnOk result (All (λ e. map datum_kind e.cells
         ≡ cells_of edges.now) edges.now.edges) }
 {
-    let mut cursor = edges.cursor();
-    // What waited comes in order, and so do the edges of the list. So each end goes to its place, mostly near the back.
-    let mut waited = popped(queue, alloc, to)?;
-    let mut ends = Endings::new(alloc, room_for(edges))?;
-    let mut due = Vec::with_capacity(alloc, 2 * room_for(edges))?;
-    while let Some(edge) = cursor.next()? {
-        take_edge(queue, &mut due, &mut ends, &mut waited, to, edge)?;
-    }
-    release_all(ends, waited, &mut due)?;
-    // Ends that came far before the last ones.
-    pop_before(queue, &mut due, to)?;
-    by_sync(&mut due)?;
+    let mut due = Vec::new(alloc);
+    take_into(queue, alloc, &mut due, edges, to)?;
     Ok(due)
+}
+
+// The room of so many edges is kept, and not that of more.
+const KEPT: usize = 4096;
+
+/// Lets the edges go. Their room is kept for the next ones, unless it is that of very many.
+pub fn let_go(due: &mut Vec<Edge>, alloc: Global)
+    ensures { due.new.items ≡ [] }
+{
+    if due.capacity() > KEPT {
+        *due = Vec::new(alloc);
+        return;
+    }
+    due.clear();
 }

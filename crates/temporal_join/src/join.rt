@@ -37,6 +37,8 @@ fn no_sides(alloc: Global, left_key: &[usize], right_key: &[usize]) -> Result<Jo
         },
         left_waiting: EndQueue::new(alloc),
         right_waiting: EndQueue::new(alloc),
+        left_due: Vec::new(alloc),
+        right_due: Vec::new(alloc),
     })
 }
 

@@ -23,7 +23,8 @@ use edge_stream::{EdgeList, LoadFault, PartRow, Saved};
 use end_queue::EndQueue;
 use sweep_operator::Sweep;
 use sweep_sides::{
-    are_rows, can_wait, kept_count, load_rows, load_waiting, save_rows, save_waiting, take_in,
+    are_rows, can_wait, kept_count, let_go, load_rows, load_waiting, save_rows, save_waiting,
+    take_into,
 };
 use tw_rows::{Edge, Kind, Memory, Time};
 
@@ -33,6 +34,10 @@ pub struct JoinSides {
     pub(crate) rows: Rows,
     pub(crate) left_waiting: EndQueue,
     pub(crate) right_waiting: EndQueue,
+    // Room for the edges that are due in a step, kept from one to the next: a large list that is made and let go at each step
+    // is given back to the system each time. What stands in them has no say.
+    pub(crate) left_due: Vec<Edge>,
+    pub(crate) right_due: Vec<Edge>,
 }
 
 impl JoinSides {
@@ -122,14 +127,23 @@ impl Sweep for JoinSides {
         _from: Time,
         to: Time,
     ) -> Result<Vec<Edge>, Memory> {
-        let mut left_due = take_in(&mut self.left_waiting, self.rows.alloc, left, to)?;
-        let mut right_due = take_in(&mut self.right_waiting, self.rows.alloc, right, to)?;
-        let mut answer = Vec::new(self.rows.alloc);
+        let alloc = self.rows.alloc;
+        take_into(&mut self.left_waiting, alloc, &mut self.left_due, left, to)?;
+        take_into(
+            &mut self.right_waiting,
+            alloc,
+            &mut self.right_due,
+            right,
+            to,
+        )?;
+        let mut answer = Vec::new(alloc);
         self.rows.sweep(
             &mut answer,
-            left_due.as_mut_slice(),
-            right_due.as_mut_slice(),
+            self.left_due.as_mut_slice(),
+            self.right_due.as_mut_slice(),
         )?;
+        let_go(&mut self.left_due, alloc);
+        let_go(&mut self.right_due, alloc);
         Ok(answer)
     }
 
