@@ -6,3 +6,4 @@ pub mod NextFacts
 pub mod CutsFacts
 pub mod Limits
 pub mod Window
+pub mod Blocks
