@@ -2,7 +2,7 @@
 use Rattle.std.proofs.Common.{◌⊎◌, inl, inr, ◌≡◌, ◌≤◌, ◌<◌, ◌==◌, ◌+◌, ◌-◌, min, ℕ, zero, suc, List, [], ◌∷◌, ◌++◌, length, take, drop, Bool, true, false, refl, sym, ◌∙◌, ap, subst, arith, append_assoc}
 use Rattle.std.proofs.lemmas.Bool.{cases_lt, eqb-true}
 use Rattle.std.proofs.lemmas.Bool.Decides.{nat_tests, eqb_tells}
-use Rattle.std.proofs.lemmas.List.{append-nil, length-append, length-take, take-append-drop, take-take, drop-take, drop-drop, get_or-drop}
+use Rattle.std.proofs.lemmas.List.{append-nil, length-append, length-take, length-drop, take-append-drop, take-take, drop-take, drop-drop, get_or-drop}
 use Rattle.std.proofs.lemmas.List.Elements.{All-nil, All-cons}
 use Rattle.std.proofs.lemmas.List.Splits.{length-slice_split}
 use Rattle.std.proofs.lemmas.List.Sums.{sum_by-append}
@@ -146,11 +146,15 @@ lines_short [] most few = All-nil (λ l. length l ≤ most)
 lines_short (line ∷ more) most few =
     All-cons (λ l. length l ≤ most) line more (omega (arith, joined_length line more)) (lines_short more most (omega (arith, joined_length line more)))
 
+-- the bytes of a block
+joined_within : (s : CutterState) → length (joined (block_lines s)) ≤ min (min (s.longest + 1) (s.total - s.passed)) (length s.rest)
+joined_within s =
+    let front : List ℕ = take (min (s.longest + 1) (s.total - s.passed)) s.rest in
+    omega (arith, ap length (joined-whole front), length-append (joined (block_lines s)) (Lines.rest front), length-take (min (s.longest + 1) (s.total - s.passed)) s.rest)
+
 -- no line of a block is too long
 pub block_short : (s : CutterState) → All (λ l. length l ≤ s.longest) (block_lines s)
-block_short s =
-    let w = min (s.longest + 1) (s.total - s.passed) in
-    lines_short (block_lines s) s.longest (omega (arith, ap length (joined-whole (take w s.rest)), length-append (joined (block_lines s)) (Lines.rest (take w s.rest)), length-take w s.rest))
+block_short s = lines_short (block_lines s) s.longest (omega (arith, joined_within s))
 
 lines_cut : (bytes : List ℕ) (s : CutterState) (given more : List (List ℕ)) → GivesLines s more → Cuts bytes s given → Cuts bytes (after_answers (length more) s) (given ++ more)
 lines_cut bytes s given [] g c = rw (append-nil given) c
@@ -200,7 +204,8 @@ at_last xs k h at = sym (take-append-drop k xs) ∙ ap (λ (l : List ℕ). take 
 -- the last LF is found
 pub whole-found : (xs : List ℕ) (k : ℕ) → k < length xs → Passes (is_byte 10) xs k → Nowhere (Passes (is_byte 10) xs) (k + 1) (length xs) → slice_split (λ b. b == 10) (take k xs) ≡ whole xs
 whole-found xs k h at after =
-    let free : IsOneLine (drop (suc k) xs) = line_len-all (drop (suc k) xs) (λ i low high there. ?) in
+    let free : IsOneLine (drop (suc k) xs) = line_len-all (drop (suc k) xs) (λ i low high there.
+        after (suc k + i) (omega arith) (omega (arith, length-drop (suc k) xs)) (subst (λ b. (b == 10) ≡ true) (get_or-drop (suc k) xs i 0) there)) in
     sym (ap whole (at_last xs k h at) ∙ ap (λ (p : List (List ℕ) × List ℕ). p.0) (cut_last (take k xs) (drop (suc k) xs) free))
 
 -- there is none
@@ -226,9 +231,16 @@ after_block-some s n within e =
     ∙ after_some s (block_lines s) (omega (arith, count, ap length e))
     ∙ behind-same s _ _ _ _ (omega (arith, ap (λ ls. length (joined ls)) e, split_length (take n s.rest), length-take n s.rest)) (sym (ap length e) ∙ count)
 
--- a line leaves fewer bytes
+joined_some : (given : List (List ℕ)) → 0 < length given → 0 < length (joined given)
+joined_some [] some = absurd (omega arith)
+joined_some (line ∷ more) some = omega (arith, joined_length line more)
+
+-- lines leave fewer bytes
 pub after_block-less : (s : CutterState) → 0 < length (block_lines s) → length (after_block s).rest < length s.rest
-after_block-less s some = ?
+after_block-less s some =
+    let n = length (joined (block_lines s)) in
+    let after : after_block s ≡ behind s n (length (block_lines s)) = (block_runs s).after ∙ after_some s (block_lines s) some in
+    omega (arith, ap (λ (t : CutterState). length t.rest) after, length-drop n s.rest, joined_some (block_lines s) some, joined_within s)
 
 -- bytes that are counted in two parts
 pub count_parts : (n : ℕ) (xs : List ℕ) → count_by (λ b. b == 10) (take n xs) + count_by (λ b. b == 10) (drop n xs) ≡ count_by (λ b. b == 10) xs
