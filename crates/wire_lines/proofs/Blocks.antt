@@ -8,8 +8,8 @@ use Rattle.std.proofs.lemmas.List.Splits.{length-slice_split}
 use Rattle.std.proofs.lemmas.List.Sums.{sum_by-append}
 use Rattle.std.proofs.Math.Seq.{drop-cons}
 use Rattle.std.specs.List.{All, count_by, slice_split, onto_first}
-use Rattle.std.specs.Prelude.{nat_lt}
-use Rattle.memchr.specs.Find.{Nowhere, Passes, is_byte}
+use Rattle.std.specs.Prelude.{nat_lt, Option, None, Some, IfSome, IfNone}
+use Rattle.memchr.specs.Find.{IsLastByte, Nowhere, Passes, is_byte}
 use Rattle.wire_lines.specs.Lines.{line_len, IsOneLine, cut, whole, lines, joined}
 use Rattle.wire_lines.specs.Lines as Lines
 use Rattle.wire_lines.specs.Cutter.{CutterState, Given}
@@ -211,6 +211,17 @@ whole-found xs k h at after =
 -- there is none
 pub whole-none : (xs : List ℕ) → Nowhere (Passes (is_byte 10) xs) 0 (length xs) → whole xs ≡ []
 whole-none xs none = ap (λ (p : List (List ℕ) × List ℕ). p.0) (cut_free xs (line_len-all xs none))
+
+-- the search for the last LF among the next bytes
+pub feeds_some : (xs front : List ℕ) (w : ℕ) (r : Option ℕ) → front ≡ take w xs → IsLastByte (is_byte 10) front r → IfSome r (λ n. slice_split (λ b. b == 10) (take n xs) ≡ whole (take w xs))
+feeds_some xs front w None e last = tt
+feeds_some xs front w (Some n) e last =
+    ap (slice_split (λ b. b == 10)) (sym (ap (take n) e ∙ take-take n w xs (omega (arith, last.0.high, ap length e, length-take w xs))))
+    ∙ whole-found front n last.0.high last.1 last.0.after ∙ ap whole e
+
+pub feeds_none : (xs front : List ℕ) (w : ℕ) (r : Option ℕ) → front ≡ take w xs → IsLastByte (is_byte 10) front r → IfNone r (whole (take w xs) ≡ [])
+feeds_none xs front w None e last = ap whole (sym e) ∙ whole-none front last
+feeds_none xs front w (Some n) e last = tt
 
 -- so many bytes they have with the LF that ends the last
 split_length : (xs : List ℕ) → length (joined (slice_split (λ b. b == 10) xs)) ≡ length xs + 1
