@@ -8,7 +8,7 @@ use Rattle.std.proofs.lemmas.List.Splits.{length-slice_split}
 use Rattle.std.proofs.lemmas.List.Sums.{sum_by-append}
 use Rattle.std.proofs.Math.Seq.{drop-cons}
 use Rattle.std.specs.List.{All, count_by, slice_split, onto_first}
-use Rattle.std.specs.Prelude.{nat_lt, Option, None, Some, IfSome, IfNone}
+use Rattle.std.specs.Prelude.{nat_lt, Option, None, Some, IfSome, IfNone, ◌↔◌}
 use Rattle.memchr.specs.Find.{IsLastByte, Nowhere, Passes, is_byte}
 use Rattle.wire_lines.specs.Lines.{line_len, IsOneLine, cut, whole, lines, joined}
 use Rattle.wire_lines.specs.Lines as Lines
@@ -241,6 +241,19 @@ after_block-some s n within e =
     (block_runs s).after
     ∙ after_some s (block_lines s) (omega (arith, count, ap length e))
     ∙ behind-same s _ _ _ _ (omega (arith, ap (λ ls. length (joined ls)) e, split_length (take n s.rest), length-take n s.rest)) (sym (ap length e) ∙ count)
+
+-- the same of a cutter that is told field by field
+pub block_after : (s : CutterState) (after : List ℕ) (n number : ℕ) → n ≤ length s.rest → slice_split (λ b. b == 10) (take n s.rest) ≡ block_lines s →
+    number ≡ s.number + 1 + count_by (λ b. b == 10) (take n s.rest) → after ≡ drop (n + 1) s.rest →
+    record s { passed = s.passed + (n + 1); number = number; rest = after; wants_bytes = false } ≡ after_block s
+block_after s after n number within e count left =
+    let total : number ≡ s.number + (count_by (λ b. b == 10) (take n s.rest) + 1) = omega arith in
+    rw (total, left) (sym (after_block-some s n within e))
+
+-- lines between which LFs stand are some
+pub some_line : (xs : List ℕ) (given : List (List ℕ)) → slice_split (λ b. b == 10) xs ≡ given → (true ≡ false) ↔ (given ≡ [])
+some_line xs [] e = absurd (omega (arith, ap length e, length-slice_split (λ b. b == 10) xs))
+some_line xs (line ∷ more) e = (λ none. cc, λ no_line. cc)
 
 joined_some : (given : List (List ℕ)) → 0 < length given → 0 < length (joined given)
 joined_some [] some = absurd (omega arith)
