@@ -21,7 +21,7 @@ use kept_wire::KeptWire;
 use shard_apply::Gate;
 use std::alloc::Global;
 use std::thread::Threads;
-use tempo_cli::{Answering, LIMIT, Status, Step, buffer_for, hold};
+use tempo_cli::{Answering, LIMIT, PIECE, Status, Step, buffer_for, hold};
 use tw_rows::{Memory, Time};
 use wire_lines::send;
 
@@ -39,9 +39,6 @@ pub struct Keeper {
     /// The last punctuation of the last checkpoint.
     pub kept_at: Time,
 }
-
-// The most bytes that one read asks for.
-const PIECE: u64 = 65536;
 
 // How many bytes the next read asks for, where so many more may come.
 fn piece(left: u64) -> usize

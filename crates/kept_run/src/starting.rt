@@ -18,13 +18,10 @@ use command_line::CommandLine;
 use kept_wire::KeptWire;
 use plan_model::Plan;
 use std::alloc::Global;
-use tempo_cli::{Answering, LIMIT, Status, options_of};
+use tempo_cli::{Answering, LIMIT, LONGEST, Status, options_of};
 use tempo_engine::{Engine, ThawFault, what_fits_is_a_state};
 use tw_rows::Time;
 use wire_lines::LineCutter;
-
-// The most bytes of a line, its LF not counted.
-const LONGEST: usize = 65536;
 
 // A first run, behind all that the output's file has.
 pub(crate) fn start_first<W: KeptWire>(

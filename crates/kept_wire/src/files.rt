@@ -228,9 +228,6 @@ impl<'a, R: Files, I: Read + Drop, O: Write + Drop> KeptWire for FileWire<'a, R,
 
     fn keep(&mut self, bytes: &[u8]) -> Result<(), MediumFailed> {
         let kept = replace(&mut self.medium, bytes);
-        if kept.is_err() {
-            self.write_faults = self.write_faults.saturating_add(1);
-        }
-        kept
+        counted(&mut self.write_faults, kept)
     }
 }

@@ -9,7 +9,7 @@ ghost use Rattle.tempo_cli.specs.Working.{WorksThrough, StopsWith, WhateverRead,
 ghost use Rattle.tempo_cli.specs.Working.{AfterGiven, GivesOn, GivesOut, WhateverCame, HasAllCome, EndsFor};
 ghost use Rattle.tempo_cli.specs.Halting.{StaysOpen};
 
-use crate::answering::{Answering, LIMIT, Step};
+use crate::answering::{Answering, LIMIT, PIECE, Step};
 use crate::holding::hold;
 use crate::status::Status;
 use plan_model::Plan;
@@ -19,14 +19,11 @@ use std::thread::Threads;
 use tempo_engine::Options;
 use wire_lines::{Wire, send};
 
-// The most bytes that one read asks for.
-const PIECE: usize = 65536;
-
 // How many bytes the next read asks for, where so many more may come.
 pub(crate) fn asked(left: u64) -> usize
     ensures { result ≡ min left 65536 }
 {
-    left.min(PIECE as u64) as usize
+    left.min(PIECE) as usize
 }
 
 // Works through all whole lines that came in, and writes what is due for them.

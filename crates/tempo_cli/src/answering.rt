@@ -21,8 +21,11 @@ use tempo_engine::{Engine, EngineFault, Options};
 use tw_rows::Memory;
 use wire_lines::{Cut, LineCutter, ReadFailed, Wire};
 
-// The most bytes of a line, its LF not counted.
-pub(crate) const LONGEST: usize = 65536;
+/// The most bytes of a line, its LF not counted.
+pub const LONGEST: usize = 65536;
+
+/// The most bytes that one read asks for.
+pub const PIECE: u64 = 65536;
 
 /// The most bytes of the input.
 pub const LIMIT: u64 = 1 << 40;

@@ -13,7 +13,7 @@ mod running;
 mod sampling;
 mod status;
 
-pub use answering::{Answering, LIMIT, Step};
+pub use answering::{Answering, LIMIT, LONGEST, PIECE, Step};
 pub use freezing::buffer_for;
 pub use holding::hold;
 pub use laws::{

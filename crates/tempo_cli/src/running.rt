@@ -69,14 +69,17 @@ pub fn options_of(asked: &CommandLine<'_>) -> Options
 }
 
 // In how many shards a node with a key runs where nothing is kept for a later run: one where no step has so many edges that
-// threads pay, since in turn shards only cost.
+// threads pay, since in turn shards only cost. Else an odd number: with an even one most keys are in the same shard.
 fn shards_for<G: Gate>(asked: &CommandLine<'_>, gate: &G) -> usize
     requires within { AreWithin (asked_by asked.now) }
     ensures some { 1 ≤ result }
     ensures few { result ≤ 16 }
 {
-    if (asked.batch as u64) < gate.fewest_edges() {
+    let fewest = gate.fewest_edges();
+    if (asked.batch as u64) < fewest {
         1
+    } else if fewest > 0 && asked.workers % 2 == 0 {
+        asked.workers - 1
     } else {
         asked.workers
     }
