@@ -1,5 +1,5 @@
 -- Lines that a cutter gives together.
-use Rattle.std.proofs.Common.{◌⊎◌, inl, inr, ◌≡◌, ◌≤◌, ◌<◌, ◌==◌, ◌+◌, ◌-◌, min, ℕ, zero, suc, List, [], ◌∷◌, ◌++◌, length, take, drop, Bool, true, false, refl, sym, ◌∙◌, ap, subst, arith, append_assoc}
+use Rattle.std.proofs.Common.{inl, inr, ◌≡◌, ◌≤◌, ◌<◌, ◌==◌, ◌+◌, ◌-◌, min, ℕ, zero, suc, List, [], ◌∷◌, ◌++◌, length, take, drop, Bool, true, false, refl, sym, ◌∙◌, ap, subst, arith, append_assoc}
 use Rattle.std.proofs.lemmas.Bool.{cases_lt, eqb-true}
 use Rattle.std.proofs.lemmas.Bool.Decides.{nat_tests, eqb_tells}
 use Rattle.std.proofs.lemmas.List.{append-nil, length-append, length-take, length-drop, take-append-drop, take-take, drop-take, drop-drop, get_or-drop}
@@ -58,7 +58,7 @@ first_in xs w line more e =
     let low : n < w = omega (arith, line_len-take w xs, length-take w xs) in
     let same : line_len front ≡ n = omega (arith, line_len-take w xs) in
     let both : line ∷ more ≡ take (line_len front) front ∷ whole (drop (suc (line_len front)) front) =
-        sym e ∙ ap (λ (p : List (List ℕ) × List ℕ). p.0) (cut_first front inside) in
+    sym e ∙ ap (λ (p : List (List ℕ) × List ℕ). p.0) (cut_first front inside) in
     let the_line : line ≡ take (line_len front) front = cc in
     let the_more : more ≡ whole (drop (suc (line_len front)) front) = cc in
     let place : suc (line_len front) ≡ n + 1 = omega arith in
@@ -205,7 +205,7 @@ at_last xs k h at = sym (take-append-drop k xs) ∙ ap (λ (l : List ℕ). take 
 pub whole-found : (xs : List ℕ) (k : ℕ) → k < length xs → Passes (is_byte 10) xs k → Nowhere (Passes (is_byte 10) xs) (k + 1) (length xs) → slice_split (λ b. b == 10) (take k xs) ≡ whole xs
 whole-found xs k h at after =
     let free : IsOneLine (drop (suc k) xs) = line_len-all (drop (suc k) xs) (λ i low high there.
-        after (suc k + i) (omega arith) (omega (arith, length-drop (suc k) xs)) (subst (λ b. (b == 10) ≡ true) (get_or-drop (suc k) xs i 0) there)) in
+    after (suc k + i) (omega arith) (omega (arith, length-drop (suc k) xs)) (subst (λ b. (b == 10) ≡ true) (get_or-drop (suc k) xs i 0) there)) in
     sym (ap whole (at_last xs k h at) ∙ ap (λ (p : List (List ℕ) × List ℕ). p.0) (cut_last (take k xs) (drop (suc k) xs) free))
 
 -- there is none

@@ -7,3 +7,4 @@ pub mod CutsFacts
 pub mod Limits
 pub mod Window
 pub mod Blocks
+mod Examples

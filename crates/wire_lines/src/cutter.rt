@@ -1,7 +1,7 @@
 // Bytes in pieces of any size, cut into lines.
-ghost use Rattle.std.specs.Prelude.{◌≡◌, ◌≤◌, ◌<◌, ◌+◌, ◌-◌, ◌++◌, ◌∷◌, [], ℕ, List, length, take, drop, slice_range, IfOk, IfSome, IfNone, MatchResult, min};
+ghost use Rattle.std.specs.Prelude.{◌≡◌, ◌≤◌, ◌<◌, ◌+◌, ◌-◌, ◌++◌, ◌∷◌, [], ℕ, List, length, take, drop, slice_range, IfOk, MatchResult};
+ghost use Rattle.std.specs.Prelude.{◌==◌, min, IfSome, IfNone};
 ghost use Rattle.std.specs.List.{count_by, slice_split};
-ghost use Rattle.std.specs.Prelude.{◌==◌};
 ghost use Rattle.wire_lines.specs.Lines.{line_len, whole};
 ghost use Rattle.wire_lines.specs.Found.{found, FoundFits};
 ghost use Rattle.wire_lines.specs.Journal.{In, Adds};
@@ -130,10 +130,11 @@ fn block_length(rest: &[u8], longest: usize, room: u64) -> Option<usize>
     memrchr(b'\n', &rest[..most])
 }
 
-// So many bytes are counted in one loop of vectors, whose lanes are bytes.
+// How many bytes are counted at once: so few that a byte holds the count, and the loop is one over
+// vectors of bytes.
 const COUNTED: usize = 128;
 
-// How many LFs stand among so few bytes that a byte holds the count.
+// How many LFs stand among so few bytes.
 fn count_few(bytes: &[u8]) -> u8
     requires { length bytes.now < 256 }
     ensures { result ≡ count_by (λ b. b == 10) bytes.now }
@@ -318,8 +319,8 @@ impl LineCutter {
         }
     }
 
-    /// The next lines, as many as have no more bytes together than the longest line with its LF,
-    /// each with its LF. None where `next_line` gives no line; nothing changes then.
+    /// The next lines, as many of them as have together, each with its LF, no more bytes than the
+    /// longest line has with its own. None where `next_line` gives no line; nothing changes then.
     /// `blocks_are_lines` is the law that ties a block to `next_line`. It takes no memory.
     pub fn next_block(&mut self) -> Option<Block<'_>>
         // Once the answer is let go, the cutter is the one after the block.

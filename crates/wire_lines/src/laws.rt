@@ -52,8 +52,8 @@ pub fn blocks_are_lines()
         All (λ line. length line ≤ cutter.longest) (block_lines cutter) }
     ensures after { (bytes : List ℕ) (cutter : CutterState) (given : List (List ℕ)) →
         Cuts bytes cutter given → Cuts bytes (after_block cutter) (given ++ block_lines cutter) }
-    ensures lines { (bytes : List ℕ) (cutter : CutterState) (given : List (List ℕ)) (at_end : Bool) →
-        Cuts bytes cutter given →
+    ensures lines { (bytes : List ℕ) (cutter : CutterState) (given : List (List ℕ))
+        (at_end : Bool) → Cuts bytes cutter given →
         (others : List (List ℕ)) × (lines bytes at_end ≡ given ++ block_lines cutter ++ others) }
 {}
 
