@@ -7,4 +7,4 @@ pub mod CutsFacts
 pub mod Limits
 pub mod Window
 pub mod Blocks
-mod Examples
+pub mod Examples
