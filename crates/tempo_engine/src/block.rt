@@ -1,0 +1,92 @@
+// Lines that stand one behind the other, taken together.
+ghost use Rattle.std.specs.Prelude.{◌≡◌, ◌≢◌, ◌<◌, ◌≤◌, ◌∷◌, ◌++◌, [], List, ℕ, All, length};
+ghost use Rattle.std.specs.Prelude.{IfSome, IfNone, IfErr, OnOk};
+ghost use Rattle.plan_model.specs.IsPlan.{PlanParts};
+ghost use Rattle.admission.specs.Entries.{Told};
+ghost use Rattle.tempo_engine.specs.Fed.{last_number};
+ghost use Rattle.tempo_engine.specs.Block.{between_feeds, told_block, GrowsWith, StopsIn, BadIn};
+
+use crate::fault::EngineFault;
+use crate::parts::Parts;
+use memchr::memchr;
+use shard_apply::Gate;
+use std::thread::Threads;
+
+/// What the lines of a block come to: the bytes by which the text grows, and the fault of the first line that has one. The bytes
+/// are then those of the lines before it.
+#[derive(Drop)]
+pub struct FedBlock {
+    pub text: Vec<u8>,
+    pub fault: Option<EngineFault>,
+}
+
+// The first of the lines between which LFs stand, and those behind it, where there are more.
+fn split_line(lines: &[u8]) -> (&[u8], Option<&[u8]>)
+    ensures no_feed { All (λ b. b ≢ 10) result.0.now }
+    ensures short { length result.0.now ≤ length lines.now }
+    ensures first { (more : List (List ℕ)) × (between_feeds lines.now ≡ result.0.now ∷ more) }
+    ensures more { IfSome result.1 (λ more. (length more.now < length lines.now)
+        × (between_feeds lines.now ≡ result.0.now ∷ between_feeds more.now)) }
+    ensures none { IfNone result.1 (between_feeds lines.now ≡ result.0.now ∷ []) }
+{
+    match memchr(b'\n', lines) {
+        Some(at) => (&lines[..at], Some(&lines[at + 1..])),
+        None => (lines, None),
+    }
+}
+
+impl Parts {
+    ghost use Rattle.tempo_engine.specs.Went.{HasFed, Further, WhateverFed, CanRun, TookLines};
+
+    // Takes the lines between which LFs stand, of which the first has the number; it is that of the last one then. The bytes by
+    // which the text grows come into `text`, which is empty before.
+    pub(crate) fn feed_lines<R: Threads + Sync, G: Gate>(
+        &mut self,
+        rt: &R,
+        gate: &G,
+        number: &mut u64,
+        lines: &[u8],
+        text: &mut Vec<u8>,
+    ) -> Result<(), EngineFault>
+        requires short { length lines.now ≤ 65536 }
+        requires run { CanRun self.old }
+        requires took { TookLines self.old }
+        requires empty { text.old.items ≡ [] }
+        ensures run { OnOk result (CanRun self.new) }
+        ensures thawed { self.new.dataflow.thawed ≡ self.old.dataflow.thawed }
+        ensures plan { self.new.dataflow.plan ≡ self.old.dataflow.plan }
+        ensures workers { self.new.dataflow.workers ≡ self.old.dataflow.workers }
+        ensures last { OnOk result ((plan : PlanParts) (before : List Told) → number.new
+            ≡ last_number (before ++ told_block plan number.old lines.now)) }
+        ensures fed { OnOk result (WhateverFed self.old (λ plan policy before given lists.
+            Further given lists (λ more_given more_lists. HasFed plan policy
+            (before ++ told_block plan number.old lines.now) more_given more_lists self.new))) }
+        ensures text { OnOk result (WhateverFed self.old (λ plan policy before given lists.
+            GrowsWith plan policy before (told_block plan number.old lines.now) text.new.items)) }
+        ensures fault { IfErr result (λ f. WhateverFed self.old
+            (λ plan policy before given lists. StopsIn plan policy before number.old
+            (between_feeds lines.now) text.new.items f)) }
+        ensures bad { IfErr result (BadIn self.old.dataflow.plan number.old
+            (between_feeds lines.now)) }
+    {
+        let mut rest = lines;
+        'lines: loop {
+            let (line, more) = split_line(rest);
+            let bytes = match self.feed_line(rt, gate, *number, line) {
+                Ok(bytes) => bytes,
+                Err(fault) => return Err(fault),
+            };
+            match text.extend_from_slice(&bytes) {
+                Ok(()) => {}
+                Err(_) => return Err(EngineFault::Memory),
+            }
+            match more {
+                None => return Ok(()),
+                Some(behind) => {
+                    rest = behind;
+                    *number = number.saturating_add(1);
+                }
+            }
+        }
+    }
+}
