@@ -23,7 +23,6 @@ pub struct FedBlock {
 // The first of the lines between which LFs stand, and those behind it, where there are more.
 fn split_line(lines: &[u8]) -> (&[u8], Option<&[u8]>)
     ensures no_feed { All (λ b. b ≢ 10) result.0.now }
-    ensures short { length result.0.now ≤ length lines.now }
     ensures first { (more : List (List ℕ)) × (between_feeds lines.now ≡ result.0.now ∷ more) }
     ensures more { IfSome result.1 (λ more. (length more.now < length lines.now)
         × (between_feeds lines.now ≡ result.0.now ∷ between_feeds more.now)) }
@@ -48,7 +47,7 @@ impl Parts {
         lines: &[u8],
         text: &mut Vec<u8>,
     ) -> Result<(), EngineFault>
-        requires short { length lines.now ≤ 65536 }
+        requires short { All (λ l. length l ≤ 65536) (between_feeds lines.now) }
         requires run { CanRun self.old }
         requires took { TookLines self.old }
         requires empty { text.old.items ≡ [] }

@@ -144,7 +144,7 @@ impl Engine {
         first: u64,
         lines: &[u8],
     ) -> FedBlock
-        requires short { length lines.now ≤ 65536 }
+        requires short { All (λ l. length l ≤ 65536) (between_feeds lines.now) }
         ensures fed { result.fault ≡ None → WhateverTook self.old (λ plan policy before.
             Fed plan policy (before ++ told_block plan first lines.now) self.new) }
         ensures lists { result.fault ≡ None →
@@ -167,10 +167,10 @@ impl Engine {
         ensures workers { self.new.parts.dataflow.workers ≡ self.old.parts.dataflow.workers }
     {
         let mut text = Vec::new(self.parts.alloc);
-        if self.fault.is_some() {
+        if let Some(fault) = self.fault {
             return FedBlock {
                 text,
-                fault: self.fault,
+                fault: Some(fault),
             };
         }
         if self.ended {
