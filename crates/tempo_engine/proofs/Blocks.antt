@@ -91,6 +91,9 @@ module _ (old : Parts) (n : ℕ) (block : List (List ℕ)) (e : Parts) (number :
   block_is : block ≡ front.before ++ line ∷ after
   block_is = front.all ∙ ap (λ l. front.before ++ l) rest_is
 
+  block_all : after ≡ [] → block ≡ front.before ++ line ∷ []
+  block_all last = block_is ∙ ap (λ l. front.before ++ line ∷ l) last
+
   lines_next : (plan : PlanParts) (lines : List Told) → (lines ++ told_from plan n front.before) ++ told plan number line ∷ [] ≡ lines ++ told_from plan n (front.before ++ line ∷ [])
   lines_next plan lines = append_assoc lines (told_from plan n front.before) (told plan number line ∷ []) ∙ ap (λ l. lines ++ l) (sym (told_next plan))
 
@@ -134,32 +137,28 @@ module _ (old : Parts) (n : ℕ) (block : List (List ℕ)) (e : Parts) (number :
           number_next = (let l = length-append front.before (line ∷ []) in omega (arith, l))
 
       -- and it is the last one
-      module _ (last : after ≡ []) where
-        block_all : block ≡ front.before ++ line ∷ []
-        block_all = block_is ∙ ap (λ l. front.before ++ line ∷ l) last
+      pub all_grown : after ≡ [] → WhateverFed old (λ plan policy lines given lists. GrowsWith plan policy lines (told_from plan n block) text)
+      all_grown last = subst (λ b. WhateverFed old (λ plan policy lines given lists. GrowsWith plan policy lines (told_from plan n b) text)) (sym (block_all last)) grown_next
 
-        pub all_fed : TakesLines (λ plan. told_from plan n block) old new
-        all_fed = subst (λ b. TakesLines (λ plan. told_from plan n b) old new) (sym block_all) fed_next
-
-        pub all_grown : WhateverFed old (λ plan policy lines given lists. GrowsWith plan policy lines (told_from plan n block) text)
-        all_grown = subst (λ b. WhateverFed old (λ plan policy lines given lists. GrowsWith plan policy lines (told_from plan n b) text)) (sym block_all) grown_next
+    pub all_fed : after ≡ [] → TakesLines (λ plan. told_from plan n block) old new
+    all_fed last = subst (λ b. TakesLines (λ plan. told_from plan n b) old new) (sym (block_all last)) fed_next
 
   pub last_told : after ≡ [] → (plan : PlanParts) (lines : List Told) → number ≡ last_number (lines ++ told_from plan n block)
   last_told last plan lines =
       number_is (lines ++ told_from plan n front.before) (told plan number line)
-      ∙ ap last_number (lines_next plan lines ∙ ap (λ b. lines ++ told_from plan n b) (sym (block_is ∙ ap (λ l. front.before ++ line ∷ l) last)))
+      ∙ ap last_number (lines_next plan lines ∙ ap (λ b. lines ++ told_from plan n b) (sym (block_all last)))
 
   -- the line has a fault
-  pub stops : (f : EngineFault) → WhateverFed e (λ plan policy lines given lists. IsFaultOf f (fault plan policy (lines ++ told plan number line ∷ []) false)) →
-      WhateverFed old (λ plan policy lines given lists. StopsIn plan policy lines n block bytes f)
-  stops f tells plan policy lines given lists fed =
+  pub stops : (text : List ℕ) → text ≡ bytes → (f : EngineFault) → WhateverFed e (λ plan policy lines given lists. IsFaultOf f (fault plan policy (lines ++ told plan number line ∷ []) false)) →
+      WhateverFed old (λ plan policy lines given lists. StopsIn plan policy lines n block text f)
+  stops text text_is f tells plan policy lines given lists fed =
       let there = front.fed plan policy lines given lists fed in
       record {
         before = front.before;
         line = line;
         after = after;
         all = block_is;
-        grown = front.grown plan policy lines given lists fed;
+        grown = front.grown plan policy lines given lists fed ∙ ap (λ t. plan_text plan policy lines false ++ t) (sym text_is);
         first = subst (λ l. IsFaultOf f (fault plan policy l false)) (lines_next plan lines)
             (tells plan policy (lines ++ told_from plan n front.before) there.more_given there.more_lists there.there);
       }

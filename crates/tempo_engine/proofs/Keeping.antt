@@ -1,6 +1,7 @@
 -- An engine from one line to the next.
-use Rattle.std.specs.Prelude.{◌≡◌, ℕ, zero, suc, Bool, true, false, ◌&&◌, Option, Some, None, Result, Ok, Err, OnOk, IfErr, List, [], ◌∷◌, ◌++◌, slice_get, refl}
+use Rattle.std.specs.Prelude.{◌≡◌, ℕ, zero, suc, Bool, true, false, ◌&&◌, Option, Some, None, Result, Ok, Err, OnOk, IfOk, IfErr, List, [], ◌∷◌, ◌++◌, slice_get, refl}
 use Rattle.std.specs.List.{list_all}
+use Rattle.std.specs.Result.{result_unwrap_or}
 use Rattle.std.proofs.Common.{sym, subst, ◌∙◌}
 use Rattle.std.proofs.lemmas.List.Sums.{fold-append}
 use Rattle.std.proofs.lemmas.Result.{on_ok_weaker}
@@ -27,7 +28,7 @@ all_there p (y ∷ ys) (suc i) x all there = all_there p ys i x (rest (p y) (lis
     rest false b h = absurd (let z = h in cc)
 
 -- a line's number is the last one
-number_is : (lines : List Told) (line : Told) → line.number ≡ last_number (lines ++ line ∷ [])
+pub number_is : (lines : List Told) (line : Told) → line.number ≡ last_number (lines ++ line ∷ [])
 number_is lines line = sym (fold-append (λ (n : ℕ) (l : Told). l.number) 0 lines (line ∷ []))
 
 -- of whatever edges the streams gave
@@ -100,7 +101,12 @@ fault_none (Ok x) fault err p none = p
 fault_none (Err f) fault err p none = absurd (let e = err in cc)
 
 -- and where one is kept, the answer was this one
-pub fault_some : {X : Type 0} {P : EngineFault → Type 0} (answer : Result X EngineFault) (fault : Option EngineFault) → OnOk answer (fault ≡ None) → IfErr answer (λ f. fault ≡ Some f) →
+pub fault_some : {X : Type 0} (P : EngineFault → Type 0) (answer : Result X EngineFault) (fault : Option EngineFault) → OnOk answer (fault ≡ None) → IfErr answer (λ f. fault ≡ Some f) →
     IfErr answer P → (f : EngineFault) → fault ≡ Some f → P f
-fault_some (Ok x) fault ok err p f is = absurd (let e = ok in cc)
-fault_some {P = P} (Err g) fault ok err p f is = (let e : g ≡ f = (let h = err in cc) in subst P e p)
+fault_some P (Ok x) fault ok err p f is = absurd (let e = ok in cc)
+fault_some P (Err g) fault ok err p f is = (let e : g ≡ f = (let h = err in cc) in subst P e p)
+
+-- the number that is kept is the one of the answer
+pub last_kept : (P : ℕ → Type 0) (answer : Result ℕ EngineFault) (kept other : ℕ) → IfOk answer P → kept ≡ result_unwrap_or answer other → OnOk answer (P kept)
+last_kept P (Ok last) kept other p is = subst P (sym is) p
+last_kept P (Err f) kept other p is = tt

@@ -1,6 +1,6 @@
 // Lines that stand one behind the other, taken together.
 ghost use Rattle.std.specs.Prelude.{◌≡◌, ◌≢◌, ◌<◌, ◌≤◌, ◌∷◌, ◌++◌, [], List, ℕ, All, length};
-ghost use Rattle.std.specs.Prelude.{IfSome, IfNone, IfErr, OnOk};
+ghost use Rattle.std.specs.Prelude.{IfSome, IfNone, IfOk, IfErr, OnOk};
 ghost use Rattle.plan_model.specs.IsPlan.{PlanParts};
 ghost use Rattle.admission.specs.Entries.{Told};
 ghost use Rattle.tempo_engine.specs.Fed.{last_number};
@@ -37,16 +37,16 @@ fn split_line(lines: &[u8]) -> (&[u8], Option<&[u8]>)
 impl Parts {
     ghost use Rattle.tempo_engine.specs.Went.{HasFed, Further, WhateverFed, CanRun, TookLines};
 
-    // Takes the lines between which LFs stand, of which the first has the number; it is that of the last one then. The bytes by
-    // which the text grows come into `text`, which is empty before.
+    // Takes the lines between which LFs stand, of which the first has that number, and answers the number of the last one. The
+    // bytes by which the text grows come into `text`, which is empty before.
     pub(crate) fn feed_lines<R: Threads + Sync, G: Gate>(
         &mut self,
         rt: &R,
         gate: &G,
-        number: &mut u64,
+        first: u64,
         lines: &[u8],
         text: &mut Vec<u8>,
-    ) -> Result<(), EngineFault>
+    ) -> Result<u64, EngineFault>
         requires short { All (λ l. length l ≤ 65536) (between_feeds lines.now) }
         requires run { CanRun self.old }
         requires took { TookLines self.old }
@@ -55,23 +55,24 @@ impl Parts {
         ensures thawed { self.new.dataflow.thawed ≡ self.old.dataflow.thawed }
         ensures plan { self.new.dataflow.plan ≡ self.old.dataflow.plan }
         ensures workers { self.new.dataflow.workers ≡ self.old.dataflow.workers }
-        ensures last { OnOk result ((plan : PlanParts) (before : List Told) → number.new
-            ≡ last_number (before ++ told_block plan number.old lines.now)) }
+        ensures last { IfOk result (λ last. (plan : PlanParts) (before : List Told) →
+            last ≡ last_number (before ++ told_block plan first lines.now)) }
         ensures fed { OnOk result (WhateverFed self.old (λ plan policy before given lists.
             Further given lists (λ more_given more_lists. HasFed plan policy
-            (before ++ told_block plan number.old lines.now) more_given more_lists self.new))) }
+            (before ++ told_block plan first lines.now) more_given more_lists self.new))) }
         ensures text { OnOk result (WhateverFed self.old (λ plan policy before given lists.
-            GrowsWith plan policy before (told_block plan number.old lines.now) text.new.items)) }
+            GrowsWith plan policy before (told_block plan first lines.now) text.new.items)) }
         ensures fault { IfErr result (λ f. WhateverFed self.old
-            (λ plan policy before given lists. StopsIn plan policy before number.old
+            (λ plan policy before given lists. StopsIn plan policy before first
             (between_feeds lines.now) text.new.items f)) }
-        ensures bad { IfErr result (BadIn self.old.dataflow.plan number.old
+        ensures bad { IfErr result (BadIn self.old.dataflow.plan first
             (between_feeds lines.now)) }
     {
+        let mut number = first;
         let mut rest = lines;
         'lines: loop {
             let (line, more) = split_line(rest);
-            let bytes = match self.feed_line(rt, gate, *number, line) {
+            let bytes = match self.feed_line(rt, gate, number, line) {
                 Ok(bytes) => bytes,
                 Err(fault) => return Err(fault),
             };
@@ -80,10 +81,10 @@ impl Parts {
                 Err(_) => return Err(EngineFault::Memory),
             }
             match more {
-                None => return Ok(()),
+                None => return Ok(number),
                 Some(behind) => {
                     rest = behind;
-                    *number = number.saturating_add(1);
+                    number = number.saturating_add(1);
                 }
             }
         }

@@ -176,12 +176,11 @@ impl Engine {
         if self.ended {
             return FedBlock { text, fault: None };
         }
-        let mut number = first;
         let fed = self
             .parts
-            .feed_lines(rt, gate, &mut number, lines, &mut text);
-        self.lines = number;
+            .feed_lines(rt, gate, first, lines, &mut text);
         self.fault = fault_in(&fed);
+        self.lines = fed.unwrap_or(self.lines);
         // These calls tell the proof how much the nodes may keep.
         each_text_once(&self.parts.texts);
         plans_keep_at_most();

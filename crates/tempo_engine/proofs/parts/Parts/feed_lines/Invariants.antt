@@ -12,7 +12,7 @@ invariant-lines g l = record {
   thawed : l.self.dataflow.thawed ≡ l.fn.self.dataflow.thawed;
   plan : l.self.dataflow.plan ≡ l.fn.self.dataflow.plan;
   workers : l.self.dataflow.workers ≡ l.fn.self.dataflow.workers;
-  front : TookFront l.fn.self l.fn.number (between_feeds l.fn.lines) l.self l.number (between_feeds l.rest) l.text.items;
+  front : TookFront l.fn.self l.fn.first (between_feeds l.fn.lines) l.self l.number (between_feeds l.rest) l.text.items;
 }
 
 abbrev pub decreases-lines : goal.decreases-lines
