@@ -55,6 +55,10 @@ first_line bytes at low none is =
       ap between_feeds all ∙ slice_split_at (λ b. b == 10) (take at bytes) 10 (drop (suc at) bytes) (no_feed (take at bytes) free) refl ∙ ap (λ l. take at bytes ∷ between_feeds l) (sym tail),
     )
 
+-- a piece is put behind
+pub appended : (bytes out piece text : List ℕ) → text ≡ bytes ++ piece → piece ≡ out → text ≡ bytes ++ out
+appended bytes out piece text is same = is ∙ ap (λ p. bytes ++ p) same
+
 -- some lines of a block are taken, of which the first has the number n: these parts took them behind whatever the old ones took, and
 -- the text grew by the bytes. The line behind them has the number `number`
 pub record TookFront (old : Parts) (n : ℕ) (block : List (List ℕ)) (new : Parts) (number : ℕ) (rest : List (List ℕ)) (bytes : List ℕ) : Type 0 where

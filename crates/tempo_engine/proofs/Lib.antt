@@ -13,3 +13,4 @@ pub mod Thawing
 pub mod Fitting
 pub mod Counting
 mod FrozenExamples
+mod BlockExamples

@@ -1,4 +1,5 @@
 use Rattle.std.proofs.Common.{◌++◌, false}
+use Rattle.std.proofs.Math.Facts.{Fits-lt-pow}
 use Rattle.tempo_engine.specs.Block.{GrowsWith}
 use Rattle.tempo_engine.specs.Fed.{Fed}
 use Rattle.tempo_engine.specs.Held.{Holds}
@@ -6,7 +7,7 @@ use Rattle.tempo_engine.proofs.Blocks.{one_short, one_more, one_on, one_fault, o
 use Rattle.tempo_engine.proofs.engine.Engine.feed_line.Goals as goal
 
 pub feed_block-fed-requires : goal.feed_block-fed-requires
-feed_block-fed-requires g c κs within = one_short c.args.line.now c.requires.no_feed c.requires.short
+feed_block-fed-requires g c = one_short c.args.line.now c.requires.no_feed c.requires.short
 
 pub returns-in-None-clause-fed : goal.returns-in-None-clause-fed
 returns-in-None-clause-fed g c =
@@ -29,4 +30,4 @@ returns-in-Some-clause-fault g c = λ plan policy lines took.
 
 pub returns-in-Some-clause-bad : goal.returns-in-Some-clause-bad
 returns-in-Some-clause-bad g c = λ none.
-    one_bad c.args.line.now c.requires.no_feed c.args.number c.ranges.number _ c.in-Some.fault (c.feed_block-fed.ensures.bad none c.in-Some.fault c.in-Some.is)
+    one_bad c.args.line.now c.requires.no_feed c.args.number (Fits-lt-pow c.ranges.number) _ c.in-Some.fault (c.feed_block-fed.ensures.bad none c.in-Some.fault c.in-Some.is)

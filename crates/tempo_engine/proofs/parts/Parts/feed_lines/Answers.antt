@@ -1,11 +1,12 @@
-use Rattle.std.proofs.Common.{◌≡◌, ◌++◌, ◌∙◌, ◌≤◌, [], ◌∷◌, All, length, refl, ap, subst}
+use Rattle.std.proofs.Common.{◌∙◌, ◌≤◌, [], ◌∷◌, All, length, refl, subst}
+use Rattle.std.proofs.Math.Facts.{Fits-lt-pow}
 use Rattle.std.proofs.lemmas.List.Elements.{All-head, All-tail}
 use Rattle.tempo_engine.specs.Block.{between_feeds}
 use Rattle.tempo_engine.specs.Output.{told}
 use Rattle.tempo_engine.specs.Faults.{IsBadOf}
 use Rattle.tempo_engine.specs.declared.fault.EngineFault.TheVariants.{Memory}
 use Rattle.tempo_engine.proofs.Keeping.{took_on}
-use Rattle.tempo_engine.proofs.Blocks.{no_line, line_more, all_fed, all_grown, last_told, stops, bad_there}
+use Rattle.tempo_engine.proofs.Blocks.{appended, no_line, line_more, all_fed, all_grown, last_told, stops, bad_there}
 use Rattle.tempo_engine.proofs.parts.Parts.feed_lines.Goals as goal
 
 pub lines-init : goal.lines-init
@@ -16,7 +17,7 @@ lines-init g c = record {
   thawed = refl;
   plan = refl;
   workers = refl;
-  front = no_line c.args.self.now c.args.first (between_feeds c.args.lines.now) c.ranges.first c.args.text.now.items c.requires.empty;
+  front = no_line c.args.self.now c.args.first (between_feeds c.args.lines.now) (Fits-lt-pow c.ranges.first) c.args.text.now.items c.requires.empty;
 }
 
 pub feed_line-requires-clause-short : goal.feed_line-requires-clause-short
@@ -64,7 +65,7 @@ returns-in-None-clause-text g c =
     let last = (rw c.in-None.is at c.split_line.ensures.none) in
     all_grown c.args.self.now c.args.first (between_feeds c.args.lines.now) c.lines.self c.lines.number (between_feeds c.lines.rest.now) c.lines.text.items c.lines.invariant.front c.split_line.result.0.now [] last
     c.feed_line.new.self c.in-Ok.ensures.fed c.in-Ok.bytes.items c.in-Ok.ensures.text c.extend_from_slice.new.self.items
-    (c.in-Ok-extend_from_slice.ensures.items ∙ ap (λ bytes. c.lines.text.items ++ bytes) c.deref.ensures.value) refl
+    (appended c.lines.text.items c.in-Ok.bytes.items c.deref.result.now c.extend_from_slice.new.self.items c.in-Ok-extend_from_slice.ensures.items c.deref.ensures.value) refl
 
 pub lines-preserved : goal.lines-preserved
 lines-preserved g c =
@@ -80,5 +81,5 @@ lines-preserved g c =
       front =
           line_more c.args.self.now c.args.first (between_feeds c.args.lines.now) c.lines.self c.lines.number (between_feeds c.lines.rest.now) c.lines.text.items before.front c.split_line.result.0.now
           (between_feeds c.in-Some.behind.now) more.1 c.feed_line.new.self c.in-Ok.ensures.fed c.in-Ok.bytes.items c.in-Ok.ensures.text c.extend_from_slice.new.self.items
-          (c.in-Ok-extend_from_slice.ensures.items ∙ ap (λ bytes. c.lines.text.items ++ bytes) c.deref.ensures.value) c.saturating_add.result c.saturating_add.ensures;
+          (appended c.lines.text.items c.in-Ok.bytes.items c.deref.result.now c.extend_from_slice.new.self.items c.in-Ok-extend_from_slice.ensures.items c.deref.ensures.value) c.saturating_add-number.result c.saturating_add-number.ensures;
     }
