@@ -36,7 +36,8 @@ GrowsWith plan policy lines more bytes = plan_text plan policy (lines ++ more) f
 
 -- one line of the block has the fault, and with those before it the text grows by the bytes. Where the second of three lines is
 -- late: by what the first one makes due. Out of memory says nothing of the line
-pub record StopsIn (plan : PlanParts) (policy : Policy) (lines : List Told) (n : ℕ) (block : List (List ℕ)) (bytes : List ℕ) (f : EngineFault) : Type 0 where
+pub record StopsIn (plan : PlanParts) (policy : Policy) (lines : List Told) (n : ℕ) (block : List (List ℕ)) (bytes : List ℕ)
+    (f : EngineFault) : Type 0 where
   pub before : List (List ℕ)
   pub line : List ℕ
   pub after : List (List ℕ)
@@ -54,5 +55,6 @@ pub record BadIn (plan : PlanParts) (n : ℕ) (block : List (List ℕ)) (f : Eng
 
 -- the streams give more edges, and the nodes answer with more, with these lines more
 abbrev pub FeedsAllOn : EngineView → (PlanParts → List Told) → EngineView → Type 0
-FeedsAllOn old more new = (plan : PlanParts) (policy : Policy) (lines : List Told) (given lists : ℕ → List Edge) → FedBy plan policy lines given lists old →
+FeedsAllOn old more new =
+    (plan : PlanParts) (policy : Policy) (lines : List Told) (given lists : ℕ → List Edge) → FedBy plan policy lines given lists old →
     Further given lists (λ more_given more_lists. FedBy plan policy (lines ++ more plan) more_given more_lists new)

@@ -176,9 +176,7 @@ impl Engine {
         if self.ended {
             return FedBlock { text, fault: None };
         }
-        let fed = self
-            .parts
-            .feed_lines(rt, gate, first, lines, &mut text);
+        let fed = self.parts.feed_lines(rt, gate, first, lines, &mut text);
         self.fault = fault_in(&fed);
         self.lines = fed.unwrap_or(self.lines);
         // These calls tell the proof how much the nodes may keep.
