@@ -6,8 +6,8 @@ use Rattle.tempo_engine.specs.Held.{Holds}
 use Rattle.tempo_engine.proofs.Blocks.{one_short, one_more, one_on, one_fault, one_bad}
 use Rattle.tempo_engine.proofs.engine.Engine.feed_line.Goals as goal
 
-pub feed_block-fed-requires : goal.feed_block-fed-requires
-feed_block-fed-requires g c = one_short c.args.line.now c.requires.no_feed c.requires.short
+pub feed_block-fed-requires-clause-short : goal.feed_block-fed-requires-clause-short
+feed_block-fed-requires-clause-short g c κs within = one_short c.args.line.now c.requires.no_feed c.requires.short
 
 pub returns-in-None-clause-fed : goal.returns-in-None-clause-fed
 returns-in-None-clause-fed g c =
