@@ -219,9 +219,9 @@ impl Engine {
         ensures plan { self.new.parts.dataflow.plan ≡ self.old.parts.dataflow.plan }
         ensures workers { self.new.parts.dataflow.workers ≡ self.old.parts.dataflow.workers }
     {
-        let fed = self.feed_block(rt, gate, number, line);
-        match fed.fault {
-            None => Ok(fed.text),
+        let FedBlock { text, fault } = self.feed_block(rt, gate, number, line);
+        match fault {
+            None => Ok(text),
             Some(fault) => Err(fault),
         }
     }
