@@ -16,7 +16,7 @@ use Rattle.tempo_engine.specs.Output.{plan_text, told}
 use Rattle.tempo_engine.specs.Faults.{IsFaultOf, IsBadOf}
 use Rattle.tempo_engine.specs.Went.{HasFed, Further, WhateverFed, EngineView}
 use Rattle.tempo_engine.specs.Fed.{FedBy, WhateverTook, FeedsOn, last_number}
-use Rattle.tempo_engine.specs.Block.{between_feeds, number_at, told_from, told_block, GrowsWith, StopsIn, BadIn, FeedsAllOn}
+use Rattle.tempo_engine.specs.Block.{between_feeds, number_at, told_from, told_block, Appends, GrowsWith, StopsIn, BadIn, FeedsAllOn}
 use Rattle.tempo_engine.specs.declared.fault.EngineFault.{EngineFault}
 use Rattle.tempo_engine.specs.declared.parts.Parts.{Parts}
 use Rattle.tempo_engine.proofs.Punctuating.{further_on}
@@ -107,15 +107,15 @@ module _ (old : Parts) (n : ℕ) (block : List (List ℕ)) (e : Parts) (number :
         subst (λ l. Further more_given more_lists (λ g l'. HasFed plan policy l g l' new)) (lines_next plan lines)
         (takes plan policy (lines ++ told_from plan n front.before) more_given more_lists there))
 
-    module _ (out : List ℕ) (grows : WhateverFed e (λ plan policy lines given lists. GrowsWith plan policy lines (told plan number line ∷ []) out)) (text : List ℕ) (text_is : text ≡ bytes ++ out) where
+    module _ (text : List ℕ) (put : Appends bytes text (λ out. WhateverFed e (λ plan policy lines given lists. GrowsWith plan policy lines (told plan number line ∷ []) out))) where
       grown_next : WhateverFed old (λ plan policy lines given lists. GrowsWith plan policy lines (told_from plan n (front.before ++ line ∷ [])) text)
       grown_next plan policy lines given lists fed =
           let there = front.fed plan policy lines given lists fed in
           ap (λ l. plan_text plan policy l false) (sym (lines_next plan lines))
-          ∙ grows plan policy (lines ++ told_from plan n front.before) there.more_given there.more_lists there.there
-          ∙ ap (λ t. t ++ out) (front.grown plan policy lines given lists fed)
-          ∙ append_assoc (plan_text plan policy lines false) bytes out
-          ∙ ap (λ t. plan_text plan policy lines false ++ t) (sym text_is)
+          ∙ put.holds plan policy (lines ++ told_from plan n front.before) there.more_given there.more_lists there.there
+          ∙ ap (λ t. t ++ put.bytes) (front.grown plan policy lines given lists fed)
+          ∙ append_assoc (plan_text plan policy lines false) bytes put.bytes
+          ∙ ap (λ t. plan_text plan policy lines false ++ t) (sym put.all)
 
       follow_next : (plan : PlanParts) (more : List (List ℕ)) →
           told_from plan n ((front.before ++ line ∷ []) ++ more) ≡ told_from plan n (front.before ++ line ∷ []) ++ told_from plan (number_at number 1) more

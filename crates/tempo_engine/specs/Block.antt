@@ -34,6 +34,12 @@ told_block plan n bytes = told_from plan n (between_feeds bytes)
 abbrev pub GrowsWith : PlanParts → Policy → List Told → List Told → List ℕ → Type 0
 GrowsWith plan policy lines more bytes = plan_text plan policy (lines ++ more) false ≡ plan_text plan policy lines false ++ bytes
 
+-- bytes of which it holds were put behind others: `c` behind `ab` gives `abc`
+pub record Appends (old new : List ℕ) (P : List ℕ → Type 0) : Type 0 where
+  pub bytes : List ℕ
+  pub all : new ≡ old ++ bytes
+  pub holds : P bytes
+
 -- one line of the block has the fault, and with those before it the text grows by the bytes. Where the second of three lines is
 -- late: by what the first one makes due. Out of memory says nothing of the line
 pub record StopsIn (plan : PlanParts) (policy : Policy) (lines : List Told) (n : ℕ) (block : List (List ℕ)) (bytes : List ℕ)

@@ -1,10 +1,13 @@
-// Lines that stand one behind the other, taken together.
-ghost use Rattle.std.specs.Prelude.{◌≡◌, ◌≢◌, ◌<◌, ◌≤◌, ◌∷◌, ◌++◌, [], List, ℕ, All, length};
-ghost use Rattle.std.specs.Prelude.{IfSome, IfNone, IfOk, IfErr, OnOk};
+// A line, and lines that stand one behind the other, through the parts of an engine.
+ghost use Rattle.std.specs.Prelude.{◌≡◌, ◌≢◌, ◌<◌, ◌≤◌, ◌∷◌, ◌++◌, [], List, ℕ, All, false, length};
+ghost use Rattle.std.specs.Prelude.{IfSome, IfNone, IfOk, IfErr, OnOk, OnErr};
 ghost use Rattle.plan_model.specs.IsPlan.{PlanParts};
 ghost use Rattle.admission.specs.Entries.{Told};
+ghost use Rattle.admission.specs.Progress.{fault as fault_of};
+ghost use Rattle.tempo_engine.specs.Output.{told};
+ghost use Rattle.tempo_engine.specs.Faults.{IsFaultOf, IsBadOf};
 ghost use Rattle.tempo_engine.specs.Fed.{last_number};
-ghost use Rattle.tempo_engine.specs.Block.{between_feeds, told_block, GrowsWith, StopsIn, BadIn};
+ghost use Rattle.tempo_engine.specs.Block.{between_feeds, told_block, Appends, GrowsWith, StopsIn, BadIn};
 
 use crate::fault::EngineFault;
 use crate::parts::Parts;
@@ -36,6 +39,52 @@ fn split_line(lines: &[u8]) -> (&[u8], Option<&[u8]>)
 
 impl Parts {
     ghost use Rattle.tempo_engine.specs.Went.{HasFed, Further, WhateverFed, CanRun, TookLines};
+
+    // Takes the line of that number, and works through the punctuation that it makes due: the bytes by which the text grows are
+    // put behind it.
+    fn feed_line<R: Threads + Sync, G: Gate>(
+        &mut self,
+        rt: &R,
+        gate: &G,
+        number: u64,
+        line: &[u8],
+        text: &mut Vec<u8>,
+    ) -> Result<(), EngineFault>
+        requires short { length line.now ≤ 65536 }
+        requires no_feed { All (λ b. b ≢ 10) line.now }
+        requires run { CanRun self.old }
+        requires took { TookLines self.old }
+        ensures run { OnOk result (CanRun self.new) }
+        ensures thawed { self.new.dataflow.thawed ≡ self.old.dataflow.thawed }
+        ensures plan { self.new.dataflow.plan ≡ self.old.dataflow.plan }
+        ensures workers { self.new.dataflow.workers ≡ self.old.dataflow.workers }
+        ensures fed { OnOk result (WhateverFed self.old
+            (λ plan policy lines given lists. Further given lists
+            (λ more_given more_lists. HasFed plan policy (lines ++ told plan number line.now ∷ [])
+            more_given more_lists self.new))) }
+        ensures text { OnOk result (Appends text.old.items text.new.items
+            (λ bytes. WhateverFed self.old (λ plan policy lines given lists.
+            GrowsWith plan policy lines (told plan number line.now ∷ []) bytes))) }
+        ensures kept { OnErr result (text.new.items ≡ text.old.items) }
+        ensures fault { IfErr result (λ f. WhateverFed self.old (λ plan policy lines given lists.
+            IsFaultOf f (fault_of plan policy (lines ++ told plan number line.now ∷ []) false))) }
+        ensures bad { IfErr result (IsBadOf self.old.dataflow.plan number line.now) }
+    {
+        match self.take_line(number, line) {
+            Ok(()) => {}
+            Err(fault) => return Err(fault),
+        }
+        match self.ingress.due() {
+            None => Ok(()),
+            Some(p) => match self.punctuate(rt, gate, p) {
+                Ok(bytes) => match text.extend_from_slice(&bytes) {
+                    Ok(()) => Ok(()),
+                    Err(_) => Err(EngineFault::Memory),
+                },
+                Err(fault) => Err(EngineFault::of_plan(p, &fault)),
+            },
+        }
+    }
 
     // Takes the lines between which LFs stand, of which the first has that number, and answers the number of the last one. The
     // bytes by which the text grows come into `text`, which is empty before.
@@ -72,13 +121,9 @@ impl Parts {
         let mut rest = lines;
         'lines: loop {
             let (line, more) = split_line(rest);
-            let bytes = match self.feed_line(rt, gate, number, line) {
-                Ok(bytes) => bytes,
-                Err(fault) => return Err(fault),
-            };
-            match text.extend_from_slice(&bytes) {
+            match self.feed_line(rt, gate, number, line, text) {
                 Ok(()) => {}
-                Err(_) => return Err(EngineFault::Memory),
+                Err(fault) => return Err(fault),
             }
             match more {
                 None => return Ok(number),

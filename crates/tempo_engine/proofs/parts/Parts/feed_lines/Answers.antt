@@ -4,9 +4,8 @@ use Rattle.std.proofs.lemmas.List.Elements.{All-head, All-tail}
 use Rattle.tempo_engine.specs.Block.{between_feeds}
 use Rattle.tempo_engine.specs.Output.{told}
 use Rattle.tempo_engine.specs.Faults.{IsBadOf}
-use Rattle.tempo_engine.specs.declared.fault.EngineFault.TheVariants.{Memory}
 use Rattle.tempo_engine.proofs.Keeping.{took_on}
-use Rattle.tempo_engine.proofs.Blocks.{appended, no_line, line_more, all_fed, all_grown, last_told, stops, bad_there}
+use Rattle.tempo_engine.proofs.Blocks.{no_line, line_more, all_fed, all_grown, last_told, stops, bad_there}
 use Rattle.tempo_engine.proofs.parts.Parts.feed_lines.Goals as goal
 
 pub lines-init : goal.lines-init
@@ -29,25 +28,13 @@ pub returns-in-Err-clause-fault : goal.returns-in-Err-clause-fault
 returns-in-Err-clause-fault g c =
     let first = c.split_line.ensures.first in
     stops c.args.self.now c.args.first (between_feeds c.args.lines.now) c.lines.self c.lines.number (between_feeds c.lines.rest.now) c.lines.text.items c.lines.invariant.front c.split_line.result.0.now first.0 first.1
-    c.lines.text.items refl c.in-Err.fault c.in-Err.ensures.fault
+    c.feed_line.new.text.items c.in-Err.ensures.kept c.in-Err.fault c.in-Err.ensures.fault
 
 pub returns-in-Err-clause-bad : goal.returns-in-Err-clause-bad
 returns-in-Err-clause-bad g c =
     let first = c.split_line.ensures.first in
     bad_there c.args.self.now c.args.first (between_feeds c.args.lines.now) c.lines.self c.lines.number (between_feeds c.lines.rest.now) c.lines.text.items c.lines.invariant.front c.split_line.result.0.now first.0 first.1
     c.args.self.now.dataflow.plan c.in-Err.fault (subst (λ plan. IsBadOf plan c.lines.number c.split_line.result.0.now c.in-Err.fault) c.lines.invariant.plan c.in-Err.ensures.bad)
-
-pub returns-in-Err-extend_from_slice-clause-fault : goal.returns-in-Err-extend_from_slice-clause-fault
-returns-in-Err-extend_from_slice-clause-fault g c =
-    let first = c.split_line.ensures.first in
-    stops c.args.self.now c.args.first (between_feeds c.args.lines.now) c.lines.self c.lines.number (between_feeds c.lines.rest.now) c.lines.text.items c.lines.invariant.front c.split_line.result.0.now first.0 first.1
-    c.extend_from_slice.new.self.items c.in-Err-extend_from_slice.ensures.items Memory (λ plan policy lines given lists fed. tt)
-
-pub returns-in-Err-extend_from_slice-clause-bad : goal.returns-in-Err-extend_from_slice-clause-bad
-returns-in-Err-extend_from_slice-clause-bad g c =
-    let first = c.split_line.ensures.first in
-    bad_there c.args.self.now c.args.first (between_feeds c.args.lines.now) c.lines.self c.lines.number (between_feeds c.lines.rest.now) c.lines.text.items c.lines.invariant.front c.split_line.result.0.now first.0 first.1
-    c.args.self.now.dataflow.plan Memory tt
 
 pub returns-in-None-clause-last : goal.returns-in-None-clause-last
 returns-in-None-clause-last g c =
@@ -64,8 +51,7 @@ pub returns-in-None-clause-text : goal.returns-in-None-clause-text
 returns-in-None-clause-text g c =
     let last = (rw c.in-None.is at c.split_line.ensures.none) in
     all_grown c.args.self.now c.args.first (between_feeds c.args.lines.now) c.lines.self c.lines.number (between_feeds c.lines.rest.now) c.lines.text.items c.lines.invariant.front c.split_line.result.0.now [] last
-    c.feed_line.new.self c.in-Ok.ensures.fed c.in-Ok.bytes.items c.in-Ok.ensures.text c.extend_from_slice.new.self.items
-    (appended c.lines.text.items c.in-Ok.bytes.items c.deref.result.now c.extend_from_slice.new.self.items c.in-Ok-extend_from_slice.ensures.items c.deref.ensures.value) refl
+    c.feed_line.new.self c.in-Ok.ensures.fed c.feed_line.new.text.items c.in-Ok.ensures.text refl
 
 pub lines-preserved : goal.lines-preserved
 lines-preserved g c =
@@ -80,6 +66,5 @@ lines-preserved g c =
       workers = c.feed_line.ensures.workers ∙ before.workers;
       front =
           line_more c.args.self.now c.args.first (between_feeds c.args.lines.now) c.lines.self c.lines.number (between_feeds c.lines.rest.now) c.lines.text.items before.front c.split_line.result.0.now
-          (between_feeds c.in-Some.behind.now) more.1 c.feed_line.new.self c.in-Ok.ensures.fed c.in-Ok.bytes.items c.in-Ok.ensures.text c.extend_from_slice.new.self.items
-          (appended c.lines.text.items c.in-Ok.bytes.items c.deref.result.now c.extend_from_slice.new.self.items c.in-Ok-extend_from_slice.ensures.items c.deref.ensures.value) c.saturating_add-number.result c.saturating_add-number.ensures;
+          (between_feeds c.in-Some.behind.now) more.1 c.feed_line.new.self c.in-Ok.ensures.fed c.feed_line.new.text.items c.in-Ok.ensures.text c.saturating_add-number.result c.saturating_add-number.ensures;
     }
