@@ -79,8 +79,8 @@ returns-in-Ok-extend_from_slice-clause-text g c = record {
       (c.in-Ok-punctuate.ensures.shown plan policy after given lists due);
 }
 
-pub returns-in-Err-punctuate-clause-fault : goal.returns-in-Err-punctuate-clause-fault
-returns-in-Err-punctuate-clause-fault g c = λ plan policy lines given lists fed.
+pub returns-clause-fault : goal.returns-clause-fault
+returns-clause-fault g c = λ plan policy lines given lists fed.
     let taken = c.in-Ok.ensures.taken plan policy lines given lists fed in
     let d = c.in-Some.ensures.allowed c.take_line.new.self.texts taken.after given taken.went.took.follows in
     let valid = line_read plan.streams (nat_eq c.args.number 1) c.args.line.now c.requires.no_feed in
@@ -89,5 +89,5 @@ returns-in-Err-punctuate-clause-fault g c = λ plan policy lines given lists fed
     rw c.of_plan.ensures (fault_told plan policy lines (told plan c.args.number c.args.line.now) valid given lists c.args.self.now fed c.take_line.new.self taken c.in-Some.p d.0 d.1 c.in-Err-punctuate.fault
     (λ node time is. c.in-Err-punctuate.ensures.overflow node time is plan policy after given lists due))
 
-pub returns-in-Err-punctuate-clause-bad : goal.returns-in-Err-punctuate-clause-bad
-returns-in-Err-punctuate-clause-bad g c = rw c.of_plan.ensures (bad_undefined c.args.self.now.dataflow.plan c.args.number c.args.line.now c.in-Some.p c.in-Err-punctuate.fault)
+pub returns-clause-bad : goal.returns-clause-bad
+returns-clause-bad g c = rw c.of_plan.ensures (bad_undefined c.args.self.now.dataflow.plan c.args.number c.args.line.now c.in-Some.p c.in-Err-punctuate.fault)
