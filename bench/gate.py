@@ -12,8 +12,9 @@ A process counts for the crate that its words name by --crate-name, as those tha
 named. What a process used after the last look at it is lost, so the sums are a few per cent too low.
 `rt ci` tries a crate's edits over a second proof of the crate, or a single edit from nothing. So does `rt must-fail`, but in
 the kits of KEEPING, where it begins with what a check kept: there the crate's check is added to what was seen.
-Figures are kept in bench/gate.json, with the commit at which each crate was measured last, and with a line for each dear crate
-that says why. Where a kit keeps what `rt ci` passed before on this machine, that costs nothing, and keeps the figure that it had.
+Figures are kept in bench/gate.json, with the commit at which each crate was measured last, with a line for each dear crate
+that says why, and with the pace of the machine: how many times as long it takes as the one that the goal is told by. Where a
+kit keeps what `rt ci` passed before on this machine, that costs nothing, and keeps the figure that it had.
 ./tempo --build says by these figures how long it takes yet. The variable TEMPO_RT has another command than `rt`.
 The status is that of what was run.
 """
@@ -34,8 +35,9 @@ TICK = os.sysconf("SC_CLK_TCK")
 PARTS = ("check", "tests", "edits")
 # Less is a look at what was kept.
 LEAST = 0.02
-# A crate that takes more has a line that says why.
-DEAR = 8
+# What the gate is to take at most on the machine that the figures are told by, and a crate that takes more than this has a line
+# that says why. On another machine both are so many times as much as `pace` of gate.json says.
+GOAL, DEAR = 260, 8
 
 
 def children(root):
@@ -143,13 +145,16 @@ def kept():
 def keep(sums):
     """Puts the new figures in place of the old ones, each part by itself, and drops crates that are no more."""
     named = crates()
-    rows = {name: row for name, row in kept()["crates"].items() if name in named}
+    rows = {name: {key: it for key, it in row.items() if key != "edits" or edits(name)}
+            for name, row in kept()["crates"].items() if name in named}
     for name, parts in sums.items():
         new = {part: round(minutes, 2) for part, minutes in parts.items() if minutes >= LEAST}
         if name in named and new:
             rows[name] = {**rows.get(name, {}), **new, "at": commit()}
     sources = sums.get("sources", {}).get("check") or kept().get("sources")
-    told = {"machine": machine(), "kit": kit(), **({"sources": round(sources, 2)} if sources else {})}
+    told = {"machine": machine(), "kit": kit(), "pace": kept().get("pace", 1)}
+    if sources:
+        told["sources"] = round(sources, 2)
     maps = {"why": {name: why for name, why in kept().get("why", {}).items() if name in named},
             "crates": {name: rows[name] for name in named if name in rows}}
     lines = [f"  {json.dumps(key)}: {json.dumps(value)}" for key, value in told.items()]
@@ -188,9 +193,10 @@ def table(rows):
 
 def reasons(found):
     """A line for each dear crate, the dearest one first."""
-    dear = sorted((name for name, row in found["crates"].items() if whole(row) > DEAR), key=lambda it: -whole(found["crates"][it]))
+    most = DEAR * found.get("pace", 1)
+    dear = sorted((name for name, row in found["crates"].items() if whole(row) > most), key=lambda it: -whole(found["crates"][it]))
     lines = [f"- `{name}`: {found.get('why', {}).get(name, 'nobody has said why yet.')}" for name in dear]
-    return f"\n## Why a crate takes more than {DEAR} minutes\n\n" + "\n".join(lines) + "\n" if lines else ""
+    return f"\n## Why a crate takes more than {most:.0f} minutes\n\n" + "\n".join(lines) + "\n" if lines else ""
 
 
 def write_table():
@@ -201,7 +207,8 @@ def write_table():
                "edits": [name for name in crates() if edits(name) and not has(name, "edits")]}
     TABLE.write_text(
         "# What the gate takes\n\nProcessor minutes from nothing, by `bench/gate.py`, on "
-        f"{found.get('machine', '?')}, with {found.get('kit', '?')}. An empty place was not measured, or takes less than a second.\n\n"
+        f"{found.get('machine', '?')}, with {found.get('kit', '?')}. An empty place was not measured, or takes less than a second. "
+        f"The goal is {GOAL} minutes on a machine that takes 1/{found.get('pace', 1)} of the time of this one.\n\n"
         "The gate proves a crate with two edits or more a second time, since each of them begins with what that proof leaves; a "
         "single edit is tried from nothing. So about as much as `check` of what stands under `edits` is the same whatever the "
         "number of edits.\n\n"

@@ -95,7 +95,7 @@ fn kinds_at(forms: &[PartForm], number: usize, part: u64) -> Option<&[CellKind]>
 }
 
 impl Reading {
-    // Before the first line.
+    /// Before the first line.
     pub fn new(alloc: Global, form: Form) -> Result<Reading, Memory>
         ensures form { IfOk result (λ r. r.form ≡ form) }
         ensures stage { IfOk result (λ r. r.stage ≡ Stage.Head 0) }
@@ -119,7 +119,7 @@ impl Reading {
         })
     }
 
-    // Whether all was read.
+    /// Whether all was read.
     pub fn has_ended(&self) -> bool
         ensures yes { result ≡ true → self.now.stage ≡ Stage.Ended }
         ensures no { result ≡ false → self.now.stage ≢ Stage.Ended }
@@ -216,7 +216,7 @@ impl Reading {
         Ok(())
     }
 
-    // Takes a line.
+    /// Takes a line: the one after those that it took.
     pub fn take(&mut self, line: &[u8]) -> Result<(), TakeFault>
         requires { length self.old.frozen.parts ≡ length self.old.form.parts }
         ensures ok { OnOk result (

@@ -42,7 +42,9 @@ fn mode_option<'a>(alloc: Global) -> Arg<'a>
         .value_parser(MODES.as_slice())
         .default_value("run")
         .help(
-            "What is done with the query: freeze ends with a checkpoint, and resume begins with one",
+            "What is done with the query: run answers it, freeze ends with a checkpoint, resume \
+             begins with one, explain prints the plan, cut prints by which columns the input may \
+             be cut, sample answers generated trades",
         )
 }
 
@@ -102,7 +104,7 @@ fn lateness_option<'a>(alloc: Global) -> Arg<'a>
         .action(ArgAction::Set)
         .value_parser(ValueParser::unsigned(0, LATEST))
         .default_value("0")
-        .help("How much older than the newest line a line may be")
+        .help("How much older than the newest line of its stream a line may be and not be late")
 }
 
 fn punctuate_option<'a>(alloc: Global) -> Arg<'a>
@@ -114,7 +116,10 @@ fn punctuate_option<'a>(alloc: Global) -> Arg<'a>
         .action(ArgAction::Set)
         .value_parser(ValueParser::unsigned(0, LATEST))
         .default_value("0")
-        .help("The period of punctuations, or 0 for none")
+        .help(
+            "A punctuation at each multiple of this number that all streams have passed, or 0 for \
+             none",
+        )
 }
 
 fn number_option<'a>(alloc: Global) -> Arg<'a>
@@ -126,7 +131,7 @@ fn number_option<'a>(alloc: Global) -> Arg<'a>
         .action(ArgAction::Set)
         .value_parser(ValueParser::unsigned(0, 4294967295))
         .default_value("0")
-        .help("The number that the generated events are drawn from")
+        .help("The seed of the generated events")
 }
 
 fn events_option<'a>(alloc: Global) -> Arg<'a>

@@ -1,12 +1,12 @@
 -- A run that writes a checkpoint at the end of its input.
-use Rattle.std.proofs.Common.{◌≡◌, ◌++◌, List, ℕ, [], Bool, true, false, Option, inl, inr, refl, sym, ◌∙◌, ap, append_assoc, append-nil, subst}
+use Rattle.std.proofs.Common.{◌≡◌, ◌++◌, List, ℕ, [], Bool, true, false, Option, inl, inr, refl, sym, ◌∙◌, ap, ap₂, arith, append_assoc, append-nil, subst}
 use Rattle.std.specs.Prelude.{◌||◌}
 use Rattle.std.proofs.lemmas.List.Elements.{All-append}
 use Rattle.wire_lines.specs.Journal.{Entry, Grows, IsOut, SentAll, ins, outs, ended}
 use Rattle.wire_lines.specs.Lines.{lines}
 use Rattle.wire_lines.proofs.Growth.{Grows-grows, ins-append, outs-append}
 use Rattle.frozen_state.specs.Frozen.{FrozenView}
-use Rattle.checkpoint.specs.Form.{FormView}
+use Rattle.checkpoint.specs.Form.{FormView, form_of}
 use Rattle.checkpoint.specs.Text.{checkpoint_lines}
 use Rattle.checkpoint.specs.Writing.{bytes_of}
 use Rattle.tempo_engine.specs.Frozen.{Fits}
@@ -18,12 +18,12 @@ use Rattle.tempo_cli.specs.Resumed.{going_on}
 use Rattle.tempo_cli.specs.Freezing.{HasText, Froze, IsFrozen, IsFrontFrozen, IsFreezeEnd, Freezes}
 use Rattle.plan_model.specs.IsPlan.{PlanParts}
 use Rattle.admission.specs.declared.policy.Policy.{Policy}
-use Rattle.command_line.specs.Words.{Asked as Words}
+use Rattle.command_line.specs.Words.{Asked as Words, AreWithin}
 use Rattle.tempo_cli.specs.Told.{answers}
 use Rattle.tempo_cli.specs.Jobs.{form_asked, HasFroze}
 use Rattle.tempo_cli.specs.Feeding.{Asked, from_start, answers_to, fed_by, status_at, Ended, IsAsked}
 use Rattle.tempo_cli.specs.Working.{AtEnd, Stops}
-use Rattle.tempo_cli.specs.Halting.{StopsGoing, SendsLines, FrozeAfter, FreezesWith}
+use Rattle.tempo_cli.specs.Halting.{StopsGoing, SendsLines, IsFormFor, FrozeAfter, FreezesWith}
 use Rattle.tempo_cli.specs.declared.answering.Answering.{Answering}
 use Rattle.tempo_cli.specs.declared.status.Status.{Status}
 use Rattle.tempo_cli.specs.declared.status.Status.TheVariants.{Done, BadWords, BadQuery, Malformed, Late, Overflow, InputTooLong, ReadFault, WriteFault, Memory, BadCheckpoint}
@@ -152,6 +152,16 @@ pub sends_asked : (lines : List (List ℕ)) (before now : Option (List Entry)) (
 sends_asked lines before now BadWords ends = ends
 sends_asked lines before now (BadQuery fault) ends = ends
 sends_asked lines before now status ends = tt
+
+-- the form of the words is that of the run
+pub form_for : (asked : Words) (plan : PlanParts) (policy : Policy) (workers : ℕ) (form : FormView) → AreWithin asked → policy ≡ asked.policy → workers ≡ asked.workers → form ≡ form_asked asked plan →
+    IsFormFor asked.query workers (from_start plan policy asked.header) form
+form_for asked plan policy workers form within p w is = record {
+  form_is = is ∙ sym (ap₂ (λ n x. form_of asked.query n x plan) w p);
+  workers_fit = omega (arith, w, within.workers);
+  lateness_fits = omega (arith, ap (λ (x : Policy). x.lateness) p, within.lateness);
+  period_fits = omega (arith, ap (λ (x : Policy). x.period) p, within.period);
+}
 
 -- what a run has done is what the words ask for, where plan, policy, workers and form are those of the words
 pub frozen_asked : (asked : Words) (plan : PlanParts) (policy : Policy) (workers : ℕ) (form : FormView) (status : Status) (K : List Entry) → policy ≡ asked.policy → workers ≡ asked.workers → form ≡ form_asked asked plan →

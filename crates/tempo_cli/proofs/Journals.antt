@@ -1,5 +1,5 @@
 -- From read to read, and to the end.
-use Rattle.std.proofs.Common.{◌≡◌, ◌≤◌, ◌<◌, ℕ, suc, ◌+◌, ◌-◌, List, [], ◌∷◌, ◌++◌, length, Bool, true, false, Option, Some, refl, sym, ◌∙◌, ap, arith, append_assoc, subst}
+use Rattle.std.proofs.Common.{◌≡◌, ◌≢◌, ◌≤◌, ◌<◌, ℕ, suc, min, ◌+◌, ◌-◌, List, [], ◌∷◌, ◌++◌, length, Bool, true, false, Option, Some, refl, sym, ◌∙◌, ap, arith, append_assoc, subst}
 use Rattle.std.specs.Prelude.{◌||◌, ◌^◌}
 use Rattle.std.specs.List.{All}
 use Rattle.std.proofs.lemmas.List.{append-nil, append_cancel_left, length-append}
@@ -211,6 +211,17 @@ no_memory a silent = record { prompt = tt; end = record { k = 0; few = omega ari
 -- more bytes are never wanted than may come
 pub never_full : {q : Asked} {s : Answering} {J : List Entry} (left : ℕ) → left ≡ 0 → WantsBytes s.cutter → Reading q s left J → ⊥
 never_full {q} {s} {J} left e wants r = omega (arith, r.count, few_bytes r.holds.within wants.wants_bytes)
+
+-- a read gave these bytes: some, no more than it asked for, and no more than may come
+pub record IsRead (n left : ℕ) (b : List ℕ) : Type 0 where
+  pub is : n ≡ length b
+  pub some : 0 < n
+  pub few : n ≤ left
+  pub piece : length b ≤ 65536
+  pub within : length b ≤ left
+
+pub some_read : (n left most : ℕ) (b : List ℕ) → length b ≡ n → n ≢ 0 → n ≤ most → most ≡ min left 65536 → IsRead n left b
+some_read n left most b is some low asked = record { is = sym is; some = omega (arith, some); few = omega arith; piece = omega arith; within = omega arith }
 
 -- a read of 0 bytes
 pub no_bytes : (piece : List ℕ) (n : ℕ) → length piece ≡ n → n ≡ 0 → piece ≡ []

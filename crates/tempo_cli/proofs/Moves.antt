@@ -57,27 +57,43 @@ module _ {a : Answers} {bytes : List ℕ} {given : List (List ℕ)} {c : CutterS
   pub within_going : Within (going_on a) bytes given c
   within_going = record { longest = w.longest; total = w.total; cuts = w.cuts; fine = w.fine }
 
+  -- a line more leaves no more bytes than the input may have
+  low_more : (number : ℕ) (line : List ℕ) → GivesLine bytes c given number line → length (joined (given ++ line ∷ [])) ≤ limit
+  low_more number line g = omega (arith, g.after.passed_is, g.after.fits, after_next-total c, w.total)
+
   -- the lines up to the next one are the first ones, of all bytes and of those that the input may have
   pub line_fronts : (number : ℕ) (line : List ℕ) → GivesLine bytes c given number line → (ended : Bool) → AreFront (given ++ line ∷ []) (lines bytes ended) × AreFront (given ++ line ∷ []) (lines (take limit bytes) ended)
   line_fronts number line g ended =
-      let others = g.among_lines ended in
-      let cuts = g.after in
-      let low : length (joined (given ++ line ∷ [])) ≤ limit = omega (arith, cuts.passed_is, cuts.fits, after_next-total c, w.total) in
-      ((others.0, others.1 ∙ sym (append_assoc given (line ∷ []) others.0)), (_, lines_within bytes (after_next c).rest (given ++ line ∷ []) ended cuts.all cuts.each low))
+      let others = g.among_lines ended in (
+        (others.0, others.1 ∙ sym (append_assoc given (line ∷ []) others.0)),
+        (_, lines_within bytes (after_next c).rest (given ++ line ∷ []) ended g.after.all g.after.each (low_more number line g)),
+      )
 
-  -- and where the next one is too long it is so in both
+  -- where the next one is too long, there is room for as much of it as shows that
+  long_room : (number : ℕ) → Overlong number ≡ next c → (65536 < limit - length (joined given)) × (65536 < line_len c.rest)
+  long_room number is = let over = overlong c number is in (omega (arith, over.long, w.longest, w.total, w.cuts.passed_is), omega (arith, over.long, w.longest))
+
+  -- it stands behind the lines given, among all lines
+  long_among : (number : ℕ) → Overlong number ≡ next c → (ended : Bool) → (line : List ℕ) × (others : List (List ℕ)) × (lines bytes ended ≡ given ++ line ∷ others) × (65536 < length line)
+  long_among number is ended =
+      let found = tells_too_long bytes c given number is w.cuts in
+      let others = found.among_lines (omega (arith, w.longest)) ended in
+      (found.line, others.0, others.1, omega (arith, found.long, w.longest))
+
+  -- and among those of the bytes that the input may have
+  long_within : (number : ℕ) → Overlong number ≡ next c → (ended : Bool) → (line : List ℕ) × (others : List (List ℕ)) × (lines (take limit bytes) ended ≡ given ++ line ∷ others) × (65536 < length line)
+  long_within number is ended =
+      let room = long_room number is in
+      let here = lines_long_within c.rest (limit - length (joined given)) ended room.0 room.1 in
+      (here.0, here.1, lines_within bytes c.rest given ended w.cuts.all w.cuts.each given_low ∙ ap (λ ls. given ++ ls) here.2, here.3)
+
+  -- so it is too long in both
   pub long_fronts : (number : ℕ) → Overlong number ≡ next c → (ended : Bool) →
       ((line : List ℕ) × AreFront (given ++ line ∷ []) (lines bytes ended) × (65536 < length line)) × ((line : List ℕ) × AreFront (given ++ line ∷ []) (lines (take limit bytes) ended) × (65536 < length line))
   long_fronts number is ended =
-      let over = overlong c number is in
-      let found = tells_too_long bytes c given number is w.cuts in
-      let others = found.among_lines (omega (arith, w.longest)) ended in
-      let room : 65536 < limit - length (joined given) = omega (arith, over.long, w.longest, w.total, w.cuts.passed_is) in
-      let line_long : 65536 < line_len c.rest = omega (arith, over.long, w.longest) in
-      let here = lines_long_within c.rest (limit - length (joined given)) ended room line_long in (
-        (found.line, (others.0, others.1 ∙ sym (append_assoc given (found.line ∷ []) others.0)), omega (arith, found.long, w.longest)),
-        (here.0, (here.1, lines_within bytes c.rest given ended w.cuts.all w.cuts.each given_low ∙ (ap (λ ls. given ++ ls) here.2 ∙ sym (append_assoc given (here.0 ∷ []) here.1))), here.3),
-      )
+      let x = long_among number is ended in
+      let y = long_within number is ended in
+      ((x.0, (x.1, x.2 ∙ sym (append_assoc given (x.0 ∷ []) x.1)), x.3), (y.0, (y.1, y.2 ∙ sym (append_assoc given (y.0 ∷ []) y.1)), y.3))
 
   -- it was out of memory
   pub short : (ended : Bool) → IsShort a bytes (a.text given false) ended
@@ -126,23 +142,16 @@ module _ {a : Answers} {bytes : List ℕ} {given : List (List ℕ)} {c : CutterS
     pub refused : (number : ℕ) (line : List ℕ) (f : Fault) → GivesLine bytes c given number line → a.fault (given ++ line ∷ []) false ≡ Some f → (ended : Bool) → IsRefused a bytes (a.text given false) ended f
     refused number line f g is ended =
         let others = g.among_lines ended in
-        let cuts = g.after in
-        let low : length (joined (given ++ line ∷ [])) ≤ limit = omega (arith, cuts.passed_is, cuts.fits, after_next-total c, w.total) in
-        let within = lines_within bytes (after_next c).rest (given ++ line ∷ []) ended cuts.all cuts.each low in
-        refused_by line line others.0 _ ended f others.1 (within ∙ append_assoc given (line ∷ []) _) is is
+        let more = lines (take (limit - length (joined (given ++ line ∷ []))) (after_next c).rest) ended in
+        let within = lines_within bytes (after_next c).rest (given ++ line ∷ []) ended g.after.all g.after.each (low_more number line g) in
+        refused_by line line others.0 more ended f others.1 (within ∙ append_assoc given (line ∷ []) more) is is
 
     pub refused_long : (number : ℕ) (f : Fault) → Overlong number ≡ next c → ((line : List ℕ) → 65536 < length line → a.fault (given ++ line ∷ []) false ≡ Some f) →
         (ended : Bool) → IsRefused a bytes (a.text given false) ended f
     refused_long number f is bad ended =
-        let over = overlong c number is in
-        let found = tells_too_long bytes c given number is w.cuts in
-        let others = found.among_lines (omega (arith, w.longest)) ended in
-        let room : 65536 < limit - length (joined given) = omega (arith, over.long, w.longest, w.total, w.cuts.passed_is) in
-        let line_long : 65536 < line_len c.rest = omega (arith, over.long, w.longest) in
-        let here = lines_long_within c.rest (limit - length (joined given)) ended room line_long in
-        refused_by found.line here.0 others.0 here.1 ended f others.1
-        (lines_within bytes c.rest given ended w.cuts.all w.cuts.each given_low ∙ ap (λ ls. given ++ ls) here.2)
-        (bad found.line (omega (arith, found.long, w.longest))) (bad here.0 here.3)
+        let x = long_among number is ended in
+        let y = long_within number is ended in
+        refused_by x.0 y.0 x.1 y.1 ended f x.2 y.2 (bad x.0 x.3) (bad y.0 y.3)
 
     -- a prefix of what became due last went out
     pub some_written : (before out front : List ℕ) → a.text given false ≡ before ++ out → IsFront front out → (ended : Bool) → IsFront (before ++ front) (a.text (lines bytes ended) ended)

@@ -18,6 +18,10 @@ lines_low (l ∷ ls) = omega (arith, lines_low ls, length-append (l ++ 10 ∷ []
 pub given_few : {a : Answers} {bytes : List ℕ} {given : List (List ℕ)} {c : CutterState} → Within a bytes given c → length given ≤ limit
 given_few {a} {bytes} {given} {c} w = omega (arith, given_low w, lines_low given)
 
+-- the number of a line is that of the next one
+pub line_number : {a : Answers} {bytes : List ℕ} {given : List (List ℕ)} {c : CutterState} → Within a bytes given c → (number : ℕ) → number ≡ c.number + 1 → number ≡ length given + 1
+line_number {a} {bytes} {given} {c} w number is = omega (arith, is, w.cuts.number_is)
+
 -- the engine's number of the next line
 pub next_number : {q : Asked} {bytes : List ℕ} {given : List (List ℕ)} {s : Answering} → Holds q bytes given s → (line number : ℕ) → line ≡ length given + 1 → IsNumbered s.base s.skipped line number → IsNext q given number
 next_number {q} {bytes} {given} {s} h line number is numbered =

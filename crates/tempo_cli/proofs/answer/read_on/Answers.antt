@@ -5,7 +5,7 @@ use Rattle.wire_lines.specs.Journal.{Entry, In, Adds, ins}
 use Rattle.wire_lines.proofs.Growth.{Grows-none, Grows-adds, Grows-same, Grows-weaker}
 use Rattle.tempo_cli.specs.Feeding.{Holds, HasGiven}
 use Rattle.tempo_cli.specs.Working.{Reading, AtEnd, MayCome}
-use Rattle.tempo_cli.proofs.Journals.{Grows-then, came_last, came_on, came_off, came_all, AfterRead, after_read, all_read, few_at, after_on, after_stop, read_failed, never_full, no_bytes, risen, counts_after}
+use Rattle.tempo_cli.proofs.Journals.{Grows-then, came_last, came_on, came_off, came_all, AfterRead, after_read, all_read, few_at, after_on, after_stop, read_failed, never_full, no_bytes, some_read, risen, counts_after}
 use Rattle.tempo_cli.proofs.Halting.{stays_on}
 use Rattle.tempo_cli.proofs.answer.read_on.Goals as goal
 
@@ -45,18 +45,14 @@ pub loop-left-preserved : goal.loop-left-preserved
 loop-left-preserved g c =
     let taken = c.in_ok-count.ensures.taken in
     let b : List ℕ = taken.piece in
-    let n : c.in_ok-count.count ≡ length b = sym taken.count in
-    let some : 0 < c.in_ok-count.count = omega (arith, c.if-count-eq0.false) in
-    let few : c.in_ok-count.count ≤ c.loop-left.left = omega (arith, c.in_ok-count.ensures.bound, c.asked.ensures) in
-    let piece : length b ≤ 65536 = omega (arith, n, c.in_ok-count.ensures.bound, c.asked.ensures) in
-    let within : length b ≤ c.loop-left.left = omega (arith, n, few) in (
+    let r = some_read c.in_ok-count.count c.loop-left.left c.asked.result b taken.count c.if-count-eq0.false c.in_ok-count.ensures.bound c.asked.ensures in (
       λ q J h. Grows-then {P = λ K. AfterRead q c.loop-left.answering c.loop-left.left b (J ++ K)} (Grows-adds (c.loop-left.invariant.0 q J h) taken.told (λ K r. after_read J K b r))
-          (λ (K : List Entry) (p : AfterRead q c.loop-left.answering c.loop-left.left b (J ++ K)). c.in_ok-work.ensures.ok _ (ins p.before ++ b) p.reading.given (taken.holds _ (ins p.before) p.reading.given p.reading.holds) (few_at b within p.reading))
-          (λ K O p w. after_on J K O b c.in_ok-count.count n some piece few c.loop-left.invariant.3 p w),
+          (λ (K : List Entry) (p : AfterRead q c.loop-left.answering c.loop-left.left b (J ++ K)). c.in_ok-work.ensures.ok _ (ins p.before ++ b) p.reading.given (taken.holds _ (ins p.before) p.reading.given p.reading.holds) (few_at b r.within p.reading))
+          (λ K O p w. after_on J K O b c.in_ok-count.count r.is r.some r.piece r.few c.loop-left.invariant.3 p w),
       c.in_ok-work.ensures.same.0 ∙ c.in_ok-count.ensures.cause.same ∙ c.loop-left.invariant.1,
       c.in_ok-work.ensures.same.1 ∙ c.in_ok-count.ensures.other.same ∙ c.loop-left.invariant.2,
       c.in_ok-work.ensures.wants,
-      λ k J h. Grows-then {P = λ K. MayCome k c.read.new.self (c.loop-left.left - c.in_ok-count.count) (J ++ K)} (Grows-adds (c.loop-left.invariant.4 k J h) taken.told (λ K m. came_last J K b c.in_ok-count.count n some few m (taken.gives k)))
+      λ k J h. Grows-then {P = λ K. MayCome k c.read.new.self (c.loop-left.left - c.in_ok-count.count) (J ++ K)} (Grows-adds (c.loop-left.invariant.4 k J h) taken.told (λ K m. came_last J K b c.in_ok-count.count r.is r.some r.few m (taken.gives k)))
           (λ (K : List Entry) (p : MayCome k c.read.new.self (c.loop-left.left - c.in_ok-count.count) (J ++ K)). c.in_ok-work.ensures.gives k (ins (J ++ K)) p.given p.gives (omega (arith, p.count)))
           (λ K O p o. came_on J K O p o),
       stays_on c.loop-left.invariant.5 (stays_on c.in_ok-count.ensures.open c.in_ok-work.ensures.open),
@@ -66,14 +62,10 @@ pub returns-in_err-work-clause-err : goal.returns-in_err-work-clause-err
 returns-in_err-work-clause-err g c =
     let taken = c.in_ok-count.ensures.taken in
     let b : List ℕ = taken.piece in
-    let n : c.in_ok-count.count ≡ length b = sym taken.count in
-    let some : 0 < c.in_ok-count.count = omega (arith, c.if-count-eq0.false) in
-    let few : c.in_ok-count.count ≤ c.loop-left.left = omega (arith, c.in_ok-count.ensures.bound, c.asked.ensures) in
-    let piece : length b ≤ 65536 = omega (arith, n, c.in_ok-count.ensures.bound, c.asked.ensures) in
-    let within : length b ≤ c.loop-left.left = omega (arith, n, few) in
+    let r = some_read c.in_ok-count.count c.loop-left.left c.asked.result b taken.count c.if-count-eq0.false c.in_ok-count.ensures.bound c.asked.ensures in
     let p = err_from_is_err_and c.from_residual-in_err-work.result c.from_residual-in_err-work.ensures.1 in rw (p.1, p.2) (λ q J h. Grows-then {P = λ K. AfterRead q c.loop-left.answering c.loop-left.left b (J ++ K)} (Grows-adds (c.loop-left.invariant.0 q J h) taken.told (λ K r. after_read J K b r))
-    (λ (K : List Entry) (p : AfterRead q c.loop-left.answering c.loop-left.left b (J ++ K)). c.in_err-work.ensures.err _ (ins p.before ++ b) p.reading.given (taken.holds _ (ins p.before) p.reading.given p.reading.holds) (few_at b within p.reading))
-    (λ K O p w. after_stop J K O b c.in_ok-count.count c.in_err-work.field-0.0 n some piece few c.loop-left.invariant.3 p w))
+    (λ (K : List Entry) (p : AfterRead q c.loop-left.answering c.loop-left.left b (J ++ K)). c.in_err-work.ensures.err _ (ins p.before ++ b) p.reading.given (taken.holds _ (ins p.before) p.reading.given p.reading.holds) (few_at b r.within p.reading))
+    (λ K O p w. after_stop J K O b c.in_ok-count.count c.in_err-work.field-0.0 r.is r.some r.piece r.few c.loop-left.invariant.3 p w))
 
 pub returns-in_err-work-clause-asked : goal.returns-in_err-work-clause-asked
 returns-in_err-work-clause-asked g c = let p = err_from_is_err_and c.from_residual-in_err-work.result c.from_residual-in_err-work.ensures.1 in rw (p.1, p.2) c.in_err-work.ensures.asked
@@ -99,11 +91,9 @@ pub returns-in_err-work-clause-reason : goal.returns-in_err-work-clause-reason
 returns-in_err-work-clause-reason g c =
     let taken = c.in_ok-count.ensures.taken in
     let b : List ℕ = taken.piece in
-    let n : c.in_ok-count.count ≡ length b = sym taken.count in
-    let some : 0 < c.in_ok-count.count = omega (arith, c.if-count-eq0.false) in
-    let few : c.in_ok-count.count ≤ c.loop-left.left = omega (arith, c.in_ok-count.ensures.bound, c.asked.ensures) in
+    let r = some_read c.in_ok-count.count c.loop-left.left c.asked.result b taken.count c.if-count-eq0.false c.in_ok-count.ensures.bound c.asked.ensures in
     let p = err_from_is_err_and c.from_residual-in_err-work.result c.from_residual-in_err-work.ensures.1 in rw (p.1, p.2) (λ k J h.
-    Grows-then {P = λ K. MayCome k c.read.new.self (c.loop-left.left - c.in_ok-count.count) (J ++ K)} (Grows-adds (c.loop-left.invariant.4 k J h) taken.told (λ K m. came_last J K b c.in_ok-count.count n some few m (taken.gives k)))
+    Grows-then {P = λ K. MayCome k c.read.new.self (c.loop-left.left - c.in_ok-count.count) (J ++ K)} (Grows-adds (c.loop-left.invariant.4 k J h) taken.told (λ K m. came_last J K b c.in_ok-count.count r.is r.some r.few m (taken.gives k)))
     (λ (K : List Entry) (p : MayCome k c.read.new.self (c.loop-left.left - c.in_ok-count.count) (J ++ K)). c.in_err-work.ensures.reason k (ins (J ++ K)) p.given p.gives (omega (arith, p.count)))
     (λ K O p o. came_off J K O c.in_err-work.field-0.0 o))
 

@@ -11,7 +11,7 @@ use Rattle.tempo_cli.specs.Table.{limit}
 use Rattle.tempo_cli.specs.Feeding.{Asked, answers_to, Took, Within, WantsBytes, Ended}
 use Rattle.tempo_cli.specs.declared.answering.Answering.{Answering}
 use Rattle.tempo_cli.proofs.Fed.{took_fine, took_final}
-use Rattle.tempo_cli.proofs.Numbers.{next_number}
+use Rattle.tempo_cli.proofs.Numbers.{line_number, next_number}
 use Rattle.tempo_cli.proofs.Moves.{few_bytes, short, within_going}
 use Rattle.tempo_cli.proofs.Stopping.{last_stops, own_at, going_final}
 use Rattle.tempo_cli.proofs.Giving.{stops_at}
@@ -52,7 +52,7 @@ pub returns-clause-ok : goal.returns-clause-ok
 returns-clause-ok g c = λ q bytes given h.
     let line = c.in-Some.line.bytes.now in
     let all = with_last line h.within c.requires.wants (λ e. never (c.in-Some.ensures.none.1 e)) c.in-Some.ensures.some.1 in
-    let number : c.in-Some.line.number ≡ length given + 1 = omega (arith, c.in-Some.ensures.some.0, h.within.cuts.number_is) in
+    let number = line_number h.within c.in-Some.line.number c.in-Some.ensures.some.0 in
     let next = next_number h c.in-Some.line.number c.engine_number.result number c.engine_number.ensures in
     let took = c.in_ok-out.ensures.took q given (sym h.header) next h.engine in
     ended_by q bytes _ (given ++ line ∷ []) _ (few_bytes h.within c.requires.wants.wants_bytes) all took (sym (c.in_ok-out.ensures.text q given (sym h.header) next h.engine))
@@ -61,7 +61,7 @@ pub returns-in_err-out-clause-err : goal.returns-in_err-out-clause-err
 returns-in_err-out-clause-err g c = let p = err_from_is_err_and c.from_residual.result c.from_residual.ensures.1 in rw (p.1, p.2) (λ q bytes given h.
     let line = c.in-Some.line.bytes.now in
     let all = with_last line h.within c.requires.wants (λ e. never (c.in-Some.ensures.none.1 e)) c.in-Some.ensures.some.1 in
-    let number : c.in-Some.line.number ≡ length given + 1 = omega (arith, c.in-Some.ensures.some.0, h.within.cuts.number_is) in
+    let number = line_number h.within c.in-Some.line.number c.in-Some.ensures.some.0 in
     let next = next_number h c.in-Some.line.number c.engine_number.result number c.engine_number.ensures in
     last_stops (answers_to q) (took_final q given c.args.self.now.engine h.engine) bytes given line _ (few_bytes h.within c.requires.wants.wants_bytes) all h.within.fine
     (c.in_err-out.ensures.fault q given (sym h.header) next h.engine) (short h.within true))
@@ -73,7 +73,7 @@ pub returns-in_err-out-clause-err_frozen : goal.returns-in_err-out-clause-err_fr
 returns-in_err-out-clause-err_frozen g c = let p = err_from_is_err_and c.from_residual.result c.from_residual.ensures.1 in rw (p.1, p.2) (λ q bytes given h.
     let line = c.in-Some.line.bytes.now in
     let all = with_last line h.within c.requires.wants (λ e. never (c.in-Some.ensures.none.1 e)) c.in-Some.ensures.some.1 in
-    let number : c.in-Some.line.number ≡ length given + 1 = omega (arith, c.in-Some.ensures.some.0, h.within.cuts.number_is) in
+    let number = line_number h.within c.in-Some.line.number c.in-Some.ensures.some.0 in
     let next = next_number h c.in-Some.line.number c.engine_number.result number c.engine_number.ensures in
     record {
       fault = c.in_err-out.field-0.0;
@@ -86,5 +86,5 @@ pub returns-in_err-out-clause-reason : goal.returns-in_err-out-clause-reason
 returns-in_err-out-clause-reason g c = let p = err_from_is_err_and c.from_residual.result c.from_residual.ensures.1 in rw (p.1, p.2) (λ k bytes given h.
     let line = c.in-Some.line.bytes.now in
     let all = with_last line h.cut c.requires.wants (λ e. never (c.in-Some.ensures.none.1 e)) c.in-Some.ensures.some.1 in
-    let number : c.in-Some.line.number ≡ length given + 1 = omega (arith, c.in-Some.ensures.some.0, h.cut.cuts.number_is) in
+    let number = line_number h.cut c.in-Some.line.number c.in-Some.ensures.some.0 in
     stops_at h _ true c.in-Some.line.number c.engine_number.result line ([], all ∙ sym (append-nil (given ++ line ∷ []))) number c.engine_number.ensures (c.in_err-out.ensures.bad h.fine))
