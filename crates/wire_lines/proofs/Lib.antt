@@ -6,3 +6,5 @@ pub mod NextFacts
 pub mod CutsFacts
 pub mod Limits
 pub mod Window
+pub mod Blocks
+pub mod Examples

@@ -9,3 +9,4 @@ pub mod Found
 pub mod Next
 pub mod Cuts
 pub mod Reading
+pub mod Block

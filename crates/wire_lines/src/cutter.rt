@@ -1,12 +1,14 @@
 // Bytes in pieces of any size, cut into lines.
 ghost use Rattle.std.specs.Prelude.{◌≡◌, ◌≤◌, ◌<◌, ◌+◌, ◌-◌, ◌++◌, ◌∷◌, [], ℕ, List, length, take, drop, slice_range, IfOk, MatchResult};
-ghost use Rattle.wire_lines.specs.Lines.{line_len};
+ghost use Rattle.std.specs.Prelude.{◌==◌, min, IfSome, IfNone};
+ghost use Rattle.std.specs.List.{count_by, slice_split};
+ghost use Rattle.wire_lines.specs.Lines.{line_len, whole};
 ghost use Rattle.wire_lines.specs.Found.{found, FoundFits};
 ghost use Rattle.wire_lines.specs.Journal.{In, Adds};
 ghost use Rattle.wire_lines.specs.Faults.{HasCause, IsOther};
 
 use crate::{ReadFailed, Wire};
-use memchr::memchr;
+use memchr::{memchr, memrchr};
 use std::alloc::Global;
 use std::marker::Model;
 use tw_rows::Memory;
@@ -14,6 +16,14 @@ use tw_rows::Memory;
 /// A line without the LF that ends it; a CR before that LF is still there. Numbers count from 1.
 #[derive(Clone, Copy)]
 pub struct Line<'a> {
+    pub number: u64,
+    pub bytes: &'a [u8],
+}
+
+/// Lines with an LF between each two, and the number of the first. The LF that ends the last one
+/// is none of the bytes.
+#[derive(Clone, Copy)]
+pub struct Block<'a> {
     pub number: u64,
     pub bytes: &'a [u8],
 }
@@ -108,6 +118,50 @@ fn look(rest: &[u8], longest: usize, room: u64) -> Found
     Found::More
 }
 
+// How many bytes stand before the LF that ends a block's last line, where the block has a line.
+fn block_length(rest: &[u8], longest: usize, room: u64) -> Option<usize>
+    ensures some { IfSome result (λ n. slice_split (λ b. b == 10) (take n rest.now)
+        ≡ whole (take (min (longest + 1) room) rest.now)) }
+    ensures within { IfSome result (λ n. (n < room) × (n < length rest.now)) }
+    ensures none { IfNone result (whole (take (min (longest + 1) room) rest.now) ≡ []) }
+{
+    let most = rest.len().min(longest.saturating_add(1));
+    let most = room.min(most as u64) as usize;
+    memrchr(b'\n', &rest[..most])
+}
+
+// How many bytes are counted at once: so few that a byte holds the count, and the loop is one over
+// vectors of bytes.
+const COUNTED: usize = 128;
+
+// How many LFs stand among so few bytes.
+fn count_few(bytes: &[u8]) -> u8
+    requires { length bytes.now < 256 }
+    ensures { result ≡ count_by (λ b. b == 10) bytes.now }
+{
+    let mut count = 0;
+    for byte in bytes {
+        if *byte == b'\n' {
+            count += 1;
+        }
+    }
+    count
+}
+
+// How many LFs stand among the bytes.
+fn count_feeds(bytes: &[u8]) -> u64
+    ensures { result ≡ count_by (λ b. b == 10) bytes.now }
+{
+    let mut count = 0;
+    let mut rest = bytes;
+    while rest.len() > COUNTED {
+        let (few, more) = rest.split_at(COUNTED);
+        count += count_few(few) as u64;
+        rest = more;
+    }
+    count + count_few(rest) as u64
+}
+
 // Moves the bytes from one place up to another to the front, and answers how many they are.
 fn move_to_front(buffer: &mut Vec<u8>, from: usize, to: usize) -> usize
     requires order { from ≤ to }
@@ -161,6 +215,7 @@ impl LineCutter {
     ghost use Rattle.wire_lines.specs.Cut.{cut_view};
     ghost use Rattle.wire_lines.specs.Cuts.{Cuts};
     ghost use Rattle.wire_lines.specs.Reading.{HasRead};
+    ghost use Rattle.wire_lines.specs.Block.{block_lines, after_block};
     ghost use Rattle.wire_lines.specs.contracts.cutter.LineCutter.{the_row};
 
     /// Takes all the memory that it will use: `longest` and 65,536 bytes. Where the two together
@@ -262,6 +317,32 @@ impl LineCutter {
                 Cut::More
             }
         }
+    }
+
+    /// The next lines, as many of them as have together, each with its LF, no more bytes than the
+    /// longest line has with its own. None where `next_line` gives no line; nothing changes then.
+    /// `blocks_are_lines` is the law that ties a block to `next_line`. It takes no memory.
+    pub fn next_block(&mut self) -> Option<Block<'_>>
+        // Once the answer is let go, the cutter is the one after the block.
+        ensures* after { sem 𝓛 (follows_so the_row the_row self.entry.ghost_name none
+            (λ _ _. ⊤) (λ c. c ≡ after_block self.old)) }
+        ensures some { IfSome result (λ b. (b.number ≡ self.old.number + 1)
+            × (slice_split (λ byte. byte == 10) b.bytes.now ≡ block_lines self.old)) }
+        ensures none { IsNone result ↔ (block_lines self.old ≡ []) }
+    {
+        let from = self.from;
+        let room = self.total - self.passed;
+        let length = block_length(&self.buffer[from..self.to], self.longest, room)?;
+        let number = self.number + 1;
+        self.from = from + length + 1;
+        self.passed += length as u64 + 1;
+        self.number = number + count_feeds(&self.buffer[from..from + length]);
+        self.wants_bytes = false;
+        let block = Block {
+            number,
+            bytes: &self.buffer[from..from + length],
+        };
+        Some(block)
     }
 
     /// How many bytes the lines given so far had, their LFs counted.

@@ -1,10 +1,11 @@
 // Laws of the line cutter over all bytes that it was fed. They run nothing.
-ghost use Rattle.std.specs.Prelude.{◌≡◌, ◌++◌, ℕ, List, IsTrue, true};
+ghost use Rattle.std.specs.Prelude.{◌≡◌, ◌≢◌, ◌≤◌, ◌++◌, [], ℕ, Bool, List, length, IsTrue, true};
 ghost use Rattle.std.specs.List.{All};
 ghost use Rattle.wire_lines.specs.Lines.{HasNoLf, joined, whole, rest, lines, last_of};
-ghost use Rattle.wire_lines.specs.Cutter.{CutterState, IsRefusal};
+ghost use Rattle.wire_lines.specs.Cutter.{CutterState, Given, IsRefusal};
 ghost use Rattle.wire_lines.specs.Next.{next, after_next};
 ghost use Rattle.wire_lines.specs.Cuts.{Cuts, Tells};
+ghost use Rattle.wire_lines.specs.Block.{block_lines, after_block, GivesLines};
 
 /// Bytes are their whole lines, each with an LF after it, and then their rest, where no line and
 /// no rest holds an LF; and they are so in one way only.
@@ -38,6 +39,22 @@ pub fn pieces_make_no_difference()
     ensures rest { (bytes : List ℕ) (one other : CutterState) (given given' : List (List ℕ)) →
         Cuts bytes one given → Cuts bytes other given' →
         IsTrue one.wants_bytes → IsTrue other.wants_bytes → one.rest ≡ other.rest }
+{}
+
+/// A block is the lines that `next_line` gives one after the other, so the next lines of the
+/// bytes, whatever follows and whether or not the input has ended. Where it has no line,
+/// `next_line` gives none.
+pub fn blocks_are_lines()
+    ensures given { (cutter : CutterState) → GivesLines cutter (block_lines cutter) }
+    ensures none { (cutter : CutterState) (number : ℕ) (line : List ℕ) →
+        block_lines cutter ≡ [] → next cutter ≢ Given number line }
+    ensures short { (cutter : CutterState) →
+        All (λ line. length line ≤ cutter.longest) (block_lines cutter) }
+    ensures after { (bytes : List ℕ) (cutter : CutterState) (given : List (List ℕ)) →
+        Cuts bytes cutter given → Cuts bytes (after_block cutter) (given ++ block_lines cutter) }
+    ensures lines { (bytes : List ℕ) (cutter : CutterState) (given : List (List ℕ))
+        (at_end : Bool) → Cuts bytes cutter given →
+        (others : List (List ℕ)) × (lines bytes at_end ≡ given ++ block_lines cutter ++ others) }
 {}
 
 /// After `TooLong` and after `TooMany` the answer is the same again.

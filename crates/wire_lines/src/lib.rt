@@ -8,10 +8,10 @@ mod sending;
 mod standard;
 mod wire;
 
-pub use cutter::{Cut, Line, LineCutter};
+pub use cutter::{Block, Cut, Line, LineCutter};
 pub use laws::{
-    answers_tell_lines, bytes_are_their_lines, pieces_make_no_difference, refusals_stay,
-    rest_is_last_line,
+    answers_tell_lines, blocks_are_lines, bytes_are_their_lines, pieces_make_no_difference,
+    refusals_stay, rest_is_last_line,
 };
 pub use memory::{MemoryWire, WireStep};
 pub use sending::send;
