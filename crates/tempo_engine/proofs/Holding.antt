@@ -23,11 +23,10 @@ use Rattle.ingress.proofs.Reading.{follows_stand}
 use Rattle.dataflow.specs.declared.stage.Stage.{Stage}
 use Rattle.dataflow.specs.Flows.{DataflowView, Flows, held_from}
 use Rattle.dataflow.specs.Stages.{entries_in}
-use Rattle.tempo_engine.specs.Output.{told}
 use Rattle.tempo_engine.specs.Went.{Went, HasFed, WhateverFed, EngineView}
 use Rattle.tempo_engine.specs.Fed.{WhateverTook}
 use Rattle.tempo_engine.specs.Texts.{texts_of}
-use Rattle.tempo_engine.proofs.Keeping.{TakesLine}
+use Rattle.tempo_engine.proofs.Keeping.{TakesLines}
 use Rattle.tempo_engine.specs.Held.{HasWorked, MadeDue, Holds, AreHeld, with_first}
 use Rattle.tempo_engine.specs.declared.fault.EngineFault.{EngineFault}
 use Rattle.tempo_engine.specs.declared.parts.Parts.{Parts}
@@ -111,7 +110,7 @@ is_held plan policy lines ended v h n pairs first count bound is told = record {
   told = told ∙ ap (with_first n) is;
 }
 
--- the parts took a line, or told a fault
+-- the parts took lines, or told a fault
 module _ {X : Type 0} (keep : PlansKeep) (answer : Result X EngineFault) (old new : Parts) (distinct : AreDistinct new.texts) (fault_now : Option EngineFault) (ok : OnOk answer (fault_now ≡ None)) (before now : ℕ) (first : Option EngineFault) (was ended : Bool) where
   abbrev view_then : EngineView
   view_then = record { parts = old; lines = before; fault = first; ended = was }
@@ -119,14 +118,14 @@ module _ {X : Type 0} (keep : PlansKeep) (answer : Result X EngineFault) (old ne
   abbrev view_now : EngineView
   view_now = record { parts = new; lines = now; fault = fault_now; ended = ended }
 
-  pub line_holds : (number : ℕ) (line : List ℕ) → OnOk answer (TakesLine number line old new) →
-      OnOk answer (WhateverTook view_then (λ plan policy lines. Holds plan policy (lines ++ told plan number line ∷ []) false view_now))
-  line_holds number line fed = go answer fed ok
+  pub lines_hold : (more : PlanParts → List Told) → OnOk answer (TakesLines more old new) →
+      OnOk answer (WhateverTook view_then (λ plan policy lines. Holds plan policy (lines ++ more plan) false view_now))
+  lines_hold more fed = go answer fed ok
     where
-      go : (a : Result X EngineFault) → OnOk a (TakesLine number line old new) → OnOk a (fault_now ≡ None) →
-          OnOk a (WhateverTook view_then (λ plan policy lines. Holds plan policy (lines ++ told plan number line ∷ []) false view_now))
+      go : (a : Result X EngineFault) → OnOk a (TakesLines more old new) → OnOk a (fault_now ≡ None) →
+          OnOk a (WhateverTook view_then (λ plan policy lines. Holds plan policy (lines ++ more plan) false view_now))
       go (Ok x) takes none = λ plan policy lines is.
-          let all = lines ++ told plan number line ∷ [] in
+          let all = lines ++ more plan in
           let next = takes plan policy lines is.given is.lists (record { sound = is.by.sound; read = is.by.read; fine = is.by.fine; texts = is.by.texts; went = is.by.went }) in
           holds keep plan policy all false next.there.sound next.there.read new distinct (worked_of plan policy (progress plan policy all false) next.more_given next.more_lists new next.there.went) next.there.fine next.there.texts view_now refl none
       go (Err f) takes none = tt

@@ -5,6 +5,7 @@ pub mod Telling
 pub mod Punctuating
 pub mod Lines
 pub mod Keeping
+pub mod Blocks
 mod Examples
 pub mod Holding
 pub mod Sources
@@ -12,3 +13,4 @@ pub mod Thawing
 pub mod Fitting
 pub mod Counting
 mod FrozenExamples
+mod BlockExamples

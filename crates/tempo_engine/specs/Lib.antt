@@ -1,4 +1,4 @@
--- Callers read Output, Texts, Faults, Fed, Held, Frozen and Entries. Of Went they read what `Fed` says of the parts of an engine;
+-- Callers read Output, Texts, Faults, Fed, Block, Held, Frozen and Entries. Of Went they read what `Fed` says of the parts of an engine;
 -- Working, Underway, Freezing, and the other words of Went and Faults, are cited by private contracts alone.
 pub mod Output
 pub mod Texts
@@ -11,3 +11,4 @@ pub mod Underway
 pub mod Frozen
 pub mod Entries
 pub mod Freezing
+pub mod Block

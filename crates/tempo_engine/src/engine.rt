@@ -1,5 +1,5 @@
 // An engine: lines in, text out.
-ghost use Rattle.std.specs.Prelude.{◌≡◌, ◌≢◌, ◌≤◌, Bool, List, [], ◌∷◌, ◌++◌, true, false, None, length, All, IfOk, IfErr, OnOk};
+ghost use Rattle.std.specs.Prelude.{◌≡◌, ◌≢◌, ◌≤◌, Bool, List, [], ◌∷◌, ◌++◌, true, false, None, Some, length, All, IfOk, IfErr, OnOk};
 ghost use Rattle.plan_model.specs.IsPlan.{PlanParts};
 ghost use Rattle.admission.specs.declared.policy.Policy.{Policy as Admitting};
 ghost use Rattle.admission.specs.Entries.{Told};
@@ -9,6 +9,7 @@ ghost use Rattle.tempo_engine.specs.Faults.{IsFaultOf, IsBadOf, IsFaultAtEnd};
 ghost use Rattle.tempo_engine.specs.Held.{with_first};
 ghost use Rattle.tempo_engine.specs.Output.{plan_text, told};
 
+use crate::block::FedBlock;
 use crate::fault::EngineFault;
 use crate::parts::{Parts, each_text_once};
 use admission::Policy;
@@ -71,7 +72,7 @@ impl Model for Engine {
 }
 
 // The fault of an answer, where it is one.
-fn fault_in(answer: &Result<Vec<u8>, EngineFault>) -> Option<EngineFault>
+fn fault_in<T>(answer: &Result<T, EngineFault>) -> Option<EngineFault>
     ensures ok { OnOk answer.now (result ≡ None) }
     ensures err { IfErr answer.now (λ fault. result ≡ Some fault) }
 {
@@ -93,6 +94,8 @@ fn tell_first(pairs: &mut Vec<(usize, u64)>, number: u64)
 impl Engine {
     ghost use Rattle.tempo_engine.specs.Fed.{Fed, WhateverTook, FeedsOn};
     ghost use Rattle.tempo_engine.specs.Held.{Holds, AreHeld};
+    ghost use Rattle.tempo_engine.specs.Block.{between_feeds, told_block, GrowsWith, StopsIn};
+    ghost use Rattle.tempo_engine.specs.Block.{BadIn, FeedsAllOn};
 
     /// An engine that took no line.
     pub fn new(alloc: Global, plan: Plan, options: Options) -> Result<Engine, Memory>
@@ -132,6 +135,59 @@ impl Engine {
         Ok(held)
     }
 
+    /// Takes the lines between which LFs stand, of which the first has that number: the bytes by which the text grows, up to the
+    /// first line that has a fault. One line without its line feed is a block of one.
+    pub fn feed_block<R: Threads + Sync, G: Gate>(
+        &mut self,
+        rt: &R,
+        gate: &G,
+        first: u64,
+        lines: &[u8],
+    ) -> FedBlock
+        requires short { All (λ l. length l ≤ 65536) (between_feeds lines.now) }
+        ensures fed { result.fault ≡ None → WhateverTook self.old (λ plan policy before.
+            Fed plan policy (before ++ told_block plan first lines.now) self.new) }
+        ensures lists { result.fault ≡ None →
+            FeedsAllOn self.old (λ plan. told_block plan first lines.now) self.new }
+        ensures holds { result.fault ≡ None → WhateverTook self.old (λ plan policy before.
+            Holds plan policy (before ++ told_block plan first lines.now) false self.new) }
+        ensures text { result.fault ≡ None → WhateverTook self.old (λ plan policy before.
+            GrowsWith plan policy before (told_block plan first lines.now) result.text.items) }
+        ensures fault { (f : EngineFault) → result.fault ≡ Some f → WhateverTook self.old
+            (λ plan policy before. StopsIn plan policy before first (between_feeds lines.now)
+            result.text.items f) }
+        ensures kept { self.new.fault ≡ result.fault }
+        ensures again { (f : EngineFault) → self.old.fault ≡ Some f →
+            (result.fault ≡ Some f) × (result.text.items ≡ []) }
+        ensures over { self.old.ended ≡ true → result.text.items ≡ [] }
+        ensures ended { self.new.ended ≡ self.old.ended }
+        ensures bad { self.old.fault ≡ None → (f : EngineFault) → result.fault ≡ Some f →
+            BadIn self.old.parts.dataflow.plan first (between_feeds lines.now) f }
+        ensures plan { self.new.parts.dataflow.plan ≡ self.old.parts.dataflow.plan }
+        ensures workers { self.new.parts.dataflow.workers ≡ self.old.parts.dataflow.workers }
+    {
+        let mut text = Vec::new(self.parts.alloc);
+        if let Some(fault) = self.fault {
+            return FedBlock {
+                text,
+                fault: Some(fault),
+            };
+        }
+        if self.ended {
+            return FedBlock { text, fault: None };
+        }
+        let fed = self.parts.feed_lines(rt, gate, first, lines, &mut text);
+        self.fault = fault_in(&fed);
+        self.lines = fed.unwrap_or(self.lines);
+        // These calls tell the proof how much the nodes may keep.
+        each_text_once(&self.parts.texts);
+        plans_keep_at_most();
+        FedBlock {
+            text,
+            fault: self.fault,
+        }
+    }
+
     /// Takes the line of that number, which stands without its line feed: the bytes by which the text grows.
     pub fn feed_line<R: Threads + Sync, G: Gate>(
         &mut self,
@@ -163,19 +219,11 @@ impl Engine {
         ensures plan { self.new.parts.dataflow.plan ≡ self.old.parts.dataflow.plan }
         ensures workers { self.new.parts.dataflow.workers ≡ self.old.parts.dataflow.workers }
     {
-        if let Some(fault) = self.fault {
-            return Err(fault);
+        let FedBlock { text, fault } = self.feed_block(rt, gate, number, line);
+        match fault {
+            None => Ok(text),
+            Some(fault) => Err(fault),
         }
-        if self.ended {
-            return Ok(Vec::new(self.parts.alloc));
-        }
-        let fed = self.parts.feed_line(rt, gate, number, line);
-        self.lines = number;
-        self.fault = fault_in(&fed);
-        // These calls tell the proof how much the nodes may keep.
-        each_text_once(&self.parts.texts);
-        plans_keep_at_most();
-        fed
     }
 
     /// The input ends here: the bytes by which the text grows.

@@ -1,6 +1,7 @@
 //! A plan at work over lines of input: what is written for each line, and the first fault. The definitions stand in `specs/`.
 #![tactic(auto)]
 
+mod block;
 mod engine;
 mod epoch;
 mod fault;
@@ -9,6 +10,7 @@ mod frozen_engine;
 mod laws;
 mod parts;
 
+pub use block::FedBlock;
 pub use engine::{Engine, Options};
 pub use fault::EngineFault;
 pub use frozen_engine::ThawFault;

@@ -109,7 +109,7 @@ impl Parts {
     }
 
     // Admits the line of that number.
-    fn take_line(&mut self, number: u64, line: &[u8]) -> Result<(), EngineFault>
+    pub(crate) fn take_line(&mut self, number: u64, line: &[u8]) -> Result<(), EngineFault>
         requires short { length line.now ≤ 65536 }
         requires no_feed { All (λ b. b ≢ 10) line.now }
         requires run { CanRun self.old }
@@ -145,47 +145,6 @@ impl Parts {
         {
             Ok(_) => Ok(()),
             Err(refusal) => Err(EngineFault::of_refusal(number, &refusal)),
-        }
-    }
-
-    // Takes the line of that number, and works through the punctuation that it makes due.
-    pub(crate) fn feed_line<R: Threads + Sync, G: Gate>(
-        &mut self,
-        rt: &R,
-        gate: &G,
-        number: u64,
-        line: &[u8],
-    ) -> Result<Vec<u8>, EngineFault>
-        requires short { length line.now ≤ 65536 }
-        requires no_feed { All (λ b. b ≢ 10) line.now }
-        requires run { CanRun self.old }
-        requires took { TookLines self.old }
-        ensures run { OnOk result (CanRun self.new) }
-        ensures thawed { self.new.dataflow.thawed ≡ self.old.dataflow.thawed }
-        ensures plan { self.new.dataflow.plan ≡ self.old.dataflow.plan }
-        ensures workers { self.new.dataflow.workers ≡ self.old.dataflow.workers }
-        ensures fed { OnOk result (WhateverFed self.old
-            (λ plan policy lines given lists. Further given lists
-            (λ more_given more_lists. HasFed plan policy (lines ++ told plan number line.now ∷ [])
-            more_given more_lists self.new))) }
-        ensures text { IfOk result (λ bytes. WhateverFed self.old
-            (λ plan policy lines given lists. plan_text plan policy
-            (lines ++ told plan number line.now ∷ []) false ≡ plan_text plan policy lines false
-            ++ bytes.items)) }
-        ensures fault { IfErr result (λ f. WhateverFed self.old (λ plan policy lines given lists.
-            IsFaultOf f (fault_of plan policy (lines ++ told plan number line.now ∷ []) false))) }
-        ensures bad { IfErr result (IsBadOf self.old.dataflow.plan number line.now) }
-    {
-        match self.take_line(number, line) {
-            Ok(()) => {}
-            Err(fault) => return Err(fault),
-        }
-        match self.ingress.due() {
-            None => Ok(Vec::new(self.alloc)),
-            Some(p) => match self.punctuate(rt, gate, p) {
-                Ok(bytes) => Ok(bytes),
-                Err(fault) => Err(EngineFault::of_plan(p, &fault)),
-            },
         }
     }
 

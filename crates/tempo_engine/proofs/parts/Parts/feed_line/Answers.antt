@@ -1,8 +1,10 @@
-use Rattle.std.proofs.Common.{◌∙◌, false, nat_eq, sym}
+use Rattle.std.proofs.Common.{◌∙◌, [], false, nat_eq, refl, sym}
+use Rattle.std.proofs.lemmas.List.{append-nil}
 use Rattle.admission.specs.Progress.{progress}
 use Rattle.admission.proofs.Growing.{line_read}
 use Rattle.tempo_engine.specs.Output.{told}
 use Rattle.tempo_engine.proofs.Lines.{is_due, below, quiet_fed, quiet_grows, loud_fed, loud_grows, fault_told}
+use Rattle.tempo_engine.proofs.Blocks.{appended}
 use Rattle.tempo_engine.proofs.Telling.{bad_undefined}
 use Rattle.tempo_engine.proofs.parts.Parts.feed_line.Goals as goal
 
@@ -42,14 +44,18 @@ returns-in-None-clause-fed g c = λ plan policy lines given lists fed.
     quiet_fed plan policy lines (told plan c.args.number c.args.line.now) valid given lists c.args.self.now fed c.take_line.new.self taken low
 
 pub returns-in-None-clause-text : goal.returns-in-None-clause-text
-returns-in-None-clause-text g c = λ plan policy lines given lists fed.
-    let taken = c.in-Ok.ensures.taken plan policy lines given lists fed in
-    let low = c.in-None.ensures.allowed c.take_line.new.self.texts taken.after given taken.went.took.follows in
-    let valid = line_read plan.streams (nat_eq c.args.number 1) c.args.line.now c.requires.no_feed in
-    quiet_grows plan policy lines (told plan c.args.number c.args.line.now) valid given lists c.args.self.now fed c.take_line.new.self taken low c.new.result.items c.new.ensures.items
+returns-in-None-clause-text g c = record {
+  bytes = [];
+  all = sym (append-nil c.args.text.now.items);
+  holds = λ plan policy lines given lists fed.
+      let taken = c.in-Ok.ensures.taken plan policy lines given lists fed in
+      let low = c.in-None.ensures.allowed c.take_line.new.self.texts taken.after given taken.went.took.follows in
+      let valid = line_read plan.streams (nat_eq c.args.number 1) c.args.line.now c.requires.no_feed in
+      quiet_grows plan policy lines (told plan c.args.number c.args.line.now) valid given lists c.args.self.now fed c.take_line.new.self taken low [] refl;
+}
 
-pub returns-in-Ok-punctuate-clause-fed : goal.returns-in-Ok-punctuate-clause-fed
-returns-in-Ok-punctuate-clause-fed g c = λ plan policy lines given lists fed.
+pub returns-in-Ok-extend_from_slice-clause-fed : goal.returns-in-Ok-extend_from_slice-clause-fed
+returns-in-Ok-extend_from_slice-clause-fed g c = λ plan policy lines given lists fed.
     let taken = c.in-Ok.ensures.taken plan policy lines given lists fed in
     let d = c.in-Some.ensures.allowed c.take_line.new.self.texts taken.after given taken.went.took.follows in
     let valid = line_read plan.streams (nat_eq c.args.number 1) c.args.line.now c.requires.no_feed in
@@ -59,15 +65,19 @@ returns-in-Ok-punctuate-clause-fed g c = λ plan policy lines given lists fed.
     loud_fed plan policy lines (told plan c.args.number c.args.line.now) valid given lists c.args.self.now fed c.take_line.new.self taken c.in-Some.p d.0 d.1 c.in-Ok-punctuate.bytes.items
     (c.in-Ok-punctuate.ensures.shown plan policy after given lists due) c.punctuate.new.self c.punctuate.ensures.texts (c.in-Ok-punctuate.ensures.went plan policy after given lists due high)
 
-pub returns-in-Ok-punctuate-clause-text : goal.returns-in-Ok-punctuate-clause-text
-returns-in-Ok-punctuate-clause-text g c = λ plan policy lines given lists fed.
-    let taken = c.in-Ok.ensures.taken plan policy lines given lists fed in
-    let d = c.in-Some.ensures.allowed c.take_line.new.self.texts taken.after given taken.went.took.follows in
-    let valid = line_read plan.streams (nat_eq c.args.number 1) c.args.line.now c.requires.no_feed in
-    let after = record (progress plan policy lines false) { after = taken.after } in
-    let due = is_due plan policy lines (told plan c.args.number c.args.line.now) valid given lists c.args.self.now fed c.take_line.new.self taken c.in-Some.p d.0 d.1 in
-    loud_grows plan policy lines (told plan c.args.number c.args.line.now) valid given lists c.args.self.now fed c.take_line.new.self taken c.in-Some.p d.0 d.1 c.in-Ok-punctuate.bytes.items
-    (c.in-Ok-punctuate.ensures.shown plan policy after given lists due)
+pub returns-in-Ok-extend_from_slice-clause-text : goal.returns-in-Ok-extend_from_slice-clause-text
+returns-in-Ok-extend_from_slice-clause-text g c = record {
+  bytes = c.in-Ok-punctuate.bytes.items;
+  all = appended c.args.text.now.items c.in-Ok-punctuate.bytes.items c.deref.result.now c.extend_from_slice.new.self.items c.in-Ok-extend_from_slice.ensures.items c.deref.ensures.value;
+  holds = λ plan policy lines given lists fed.
+      let taken = c.in-Ok.ensures.taken plan policy lines given lists fed in
+      let d = c.in-Some.ensures.allowed c.take_line.new.self.texts taken.after given taken.went.took.follows in
+      let valid = line_read plan.streams (nat_eq c.args.number 1) c.args.line.now c.requires.no_feed in
+      let after = record (progress plan policy lines false) { after = taken.after } in
+      let due = is_due plan policy lines (told plan c.args.number c.args.line.now) valid given lists c.args.self.now fed c.take_line.new.self taken c.in-Some.p d.0 d.1 in
+      loud_grows plan policy lines (told plan c.args.number c.args.line.now) valid given lists c.args.self.now fed c.take_line.new.self taken c.in-Some.p d.0 d.1 c.in-Ok-punctuate.bytes.items
+      (c.in-Ok-punctuate.ensures.shown plan policy after given lists due);
+}
 
 pub returns-in-Err-punctuate-clause-fault : goal.returns-in-Err-punctuate-clause-fault
 returns-in-Err-punctuate-clause-fault g c = λ plan policy lines given lists fed.
