@@ -1,15 +1,16 @@
 -- Lines that an engine takes together.
 use Rattle.std.proofs.Common.{◌≡◌, ◌≤◌, ◌<◌, ◌+◌, ◌-◌, ◌^◌, min, ℕ, zero, suc, List, [], ◌∷◌, ◌++◌, length, take, Bool, true, false, Option, Some, None, refl, sym, ◌∙◌, ap, arith, append_assoc, append-nil, subst}
-use Rattle.std.specs.Prelude.{◌&&◌, ◌||◌, nat_eq, nat_lt}
-use Rattle.std.specs.List.{All}
+use Rattle.std.specs.Prelude.{◌&&◌, ◌||◌, ◌==◌, nat_eq, nat_lt}
+use Rattle.std.specs.List.{All, slice_split}
 use Rattle.std.proofs.lemmas.Bool.Decides.{nat_tests}
 use Rattle.std.proofs.lemmas.List.{length-append}
 use Rattle.std.proofs.lemmas.List.Elements.{All-take}
+use Rattle.std.proofs.lemmas.List.Splits.{length-slice_split}
 use Rattle.std.proofs.Math.Seq.{take-append_seam}
 use Rattle.wire_lines.specs.Lines.{HasNoLf, lines, joined}
 use Rattle.wire_lines.specs.Cutter.{CutterState}
-use Rattle.wire_lines.specs.Block.{block_lines, after_block}
-use Rattle.wire_lines.proofs.Blocks.{block_short, block_cuts, after_block-longest, after_block-total}
+use Rattle.wire_lines.specs.Block.{block_lines, after_answers, after_block}
+use Rattle.wire_lines.proofs.Blocks.{block_short, block_cuts, after_block-longest, after_block-total, after_block-less}
 use Rattle.plan_model.specs.IsPlan.{PlanParts}
 use Rattle.admission.specs.Entries.{Told}
 use Rattle.admission.specs.Progress.{Fault, start, steps, fault}
@@ -299,3 +300,27 @@ gives_block {k} {bytes} {given} {s} h number n is numbered t base skipped plan c
           (told_bad s.engine.parts.dataflow.plan (number_at n (length b.before)) b.line f
           (omega (arith, h.cut.longest, at_middle (λ l. length l ≤ s.cutter.longest) b.before b.line b.after (subst (All (λ l. length l ≤ s.cutter.longest)) b.all (block_short s.cutter)))) b.bad);
     }
+
+-- the same where the lines are told by their bytes
+pub comes_lines : {q : Asked} {bytes : List ℕ} {given : List (List ℕ)} {s : Answering} (h : Holds q bytes given s) (n : ℕ) → AreNext q given n (block_lines s.cutter) →
+    (t : Answering) → t.header ≡ s.header → t.base ≡ s.base → t.skipped ≡ s.skipped → t.cutter ≡ after_block s.cutter → (block : FedBlock) → (ls : List (List ℕ)) → ls ≡ block_lines s.cutter →
+    (block.fault ≡ None → Fed q.plan q.policy (h.engine.fed ++ told_from q.plan n ls) t.engine) → (block.fault ≡ None → GrowsWith q.plan q.policy h.engine.fed (told_from q.plan n ls) block.text.items) →
+    ((f : EngineFault) → block.fault ≡ Some f → StopsIn q.plan q.policy h.engine.fed n ls block.text.items f) → BlockComes q bytes given t block
+comes_lines {q} {bytes} {given} {s} h n are t header base skipped cutter block ls is fed grows stops = comes_block h n are t header base skipped cutter block
+    (λ none. subst (λ x. Fed q.plan q.policy (h.engine.fed ++ told_from q.plan n x) t.engine) is (fed none))
+    (λ none. subst (λ x. GrowsWith q.plan q.policy h.engine.fed (told_from q.plan n x) block.text.items) is (grows none))
+    (λ f e. subst (λ x. StopsIn q.plan q.policy h.engine.fed n x block.text.items f) is (stops f e))
+
+pub gives_lines : {k : LineRules} {bytes : List ℕ} {given : List (List ℕ)} {s : Answering} (h : HasGiven k bytes given s) (number n : ℕ) → number ≡ s.cutter.number + 1 → IsNumbered s.base s.skipped number n →
+    (t : Answering) → t.base ≡ s.base → t.skipped ≡ s.skipped → t.engine.parts.dataflow.plan ≡ s.engine.parts.dataflow.plan → t.cutter ≡ after_block s.cutter → (block : FedBlock) → (ls : List (List ℕ)) → ls ≡ block_lines s.cutter →
+    (block.fault ≡ None → t.engine.fault ≡ None) → ((f : EngineFault) → block.fault ≡ Some f → BadIn s.engine.parts.dataflow.plan n ls f) → BlockGives k bytes t block
+gives_lines {k} {bytes} {given} {s} h number n at numbered t base skipped plan cutter block ls is fine bad = gives_block h number n at numbered t base skipped plan cutter block fine
+    (λ f e. subst (λ x. BadIn s.engine.parts.dataflow.plan n x f) is (bad f e))
+
+-- where there is a line fewer bytes are left
+pub fewer_left : (c : CutterState) (xs : List ℕ) → slice_split (λ b. b == 10) xs ≡ block_lines c → length (after_block c).rest < length c.rest
+fewer_left c xs is = after_block-less c (omega (arith, length-slice_split (λ b. b == 10) xs, ap length is))
+
+-- where there is none nothing has changed
+pub none_taken : (s : Answering) (c : CutterState) → c ≡ after_block s.cutter → block_lines s.cutter ≡ [] → record s { cutter = c } ≡ s
+none_taken s c is none = ap (λ x. record s { cutter = x }) (is ∙ ap (λ ls. after_answers (length ls) s.cutter) none)

@@ -68,8 +68,8 @@ held_front {held} {due} O K on sent = record {
 }
 
 -- a text that grew by what is due, behind what was written and held
-all_grown : {now before written held : List ℕ} → now ≡ before ++ (written ++ held) → (due : List ℕ) → now ++ due ≡ before ++ (written ++ (held ++ due))
-all_grown {now} {before} {written} {held} grown due =
+all_grown : (now before written held due : List ℕ) → now ≡ before ++ (written ++ held) → now ++ due ≡ before ++ (written ++ (held ++ due))
+all_grown now before written held due grown =
     ap (λ x. x ++ due) grown ∙ (append_assoc before (written ++ held) due ∙ ap (λ x. before ++ x) (append_assoc written held due))
 
 -- first bytes of a prefix of a text are first bytes of the text
@@ -135,7 +135,7 @@ module _ {q : Asked} {bytes : List ℕ} {given : List (List ℕ)} {s : Answering
   stop_more more due status grows end sent = record {
     outs_alone = All-append IsOut O K w.outs_alone sent.outs_alone;
     end = λ ended. subst (λ x. IsEnd (answers_to q) status bytes x ended)
-        (grows ∙ (all_grown w.grown due ∙ ap (λ x. (answers_to q).text given false ++ x) (ap (λ x. outs O ++ x) (sym sent.all) ∙ sym (outs-append O K)))) (end ended);
+        (grows ∙ (all_grown ((answers_to q).text w.more false) ((answers_to q).text given false) (outs O) held due w.grown ∙ ap (λ x. (answers_to q).text given false ++ x) (ap (λ x. outs O ++ x) (sym sent.all) ∙ sym (outs-append O K)))) (end ended);
   }
 
   -- a write failed, and first bytes of that went out
@@ -143,5 +143,5 @@ module _ {q : Asked} {bytes : List ℕ} {given : List (List ℕ)} {s : Answering
       ((ended : Bool) → IsFront ((answers_to q).text more false) ((answers_to q).text (lines bytes ended) ended)) → SentFront (held ++ due) K → Stopped q bytes given WriteFault (O ++ K)
   front_block more due grows stays sent = record {
     outs_alone = All-append IsOut O K w.outs_alone sent.outs_alone;
-    end = λ ended. front_of_all ((answers_to q).text given false) (outs O) (outs K) sent.after (held ++ due) _ _ (outs (O ++ K)) (grows ∙ all_grown w.grown due) sent.front (outs-append O K) (stays ended);
+    end = λ ended. front_of_all ((answers_to q).text given false) (outs O) (outs K) sent.after (held ++ due) _ _ (outs (O ++ K)) (grows ∙ all_grown ((answers_to q).text w.more false) ((answers_to q).text given false) (outs O) held due w.grown) sent.front (outs-append O K) (stays ended);
   }

@@ -51,7 +51,7 @@ pub(crate) fn work<R: Threads + Sync, W: Wire, G: Gate>(
         (W.write_faults wire.old) (W.write_faults wire.new)) }
 {
     let mut held = Vec::new(answering.alloc);
-    loop {
+    'lines: loop {
         if let Some(fed) = answering.next_block(rt, gate) {
             hold(wire, &mut held, &fed.text)?;
             if let Some(fault) = fed.fault {

@@ -166,7 +166,9 @@ impl Answering {
         if may_be_header(self.header, self.skipped, self.cutter.passed()) {
             return None;
         }
-        let block = self.cutter.next_block()?;
+        let Some(block) = self.cutter.next_block() else {
+            return None;
+        };
         let first = engine_number(self.base, self.skipped, block.number);
         Some(self.engine.feed_block(rt, gate, first, block.bytes))
     }
