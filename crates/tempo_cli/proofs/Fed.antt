@@ -24,7 +24,7 @@ use Rattle.tempo_engine.specs.Went.{EngineView}
 use Rattle.tempo_engine.specs.declared.fault.EngineFault.{EngineFault}
 use Rattle.tempo_cli.specs.Answers.{IsFinal}
 use Rattle.tempo_cli.specs.Told.{entry_at, told_at}
-use Rattle.tempo_cli.specs.Feeding.{Asked, answers_to, said, fed_by, IsNext, Took}
+use Rattle.tempo_cli.specs.Feeding.{Asked, answers_to, said, fed_by, IsNext, IsNoHeader, Took}
 use Rattle.tempo_cli.proofs.Said.{said_pushed, fed_pushed, read_parts}
 use Rattle.tempo_cli.proofs.Final.{front_low, cut_grows, text_before, answers_final}
 
@@ -105,24 +105,31 @@ before_low q given e t =
 pub took_final : (q : Asked) (given : List (List ℕ)) (e : EngineView) → Took q given e → IsFinal (answers_to q)
 took_final q given e t = answers_final q t.took.by.sound (before_read q given e t)
 
-module _ (q : Asked) (given : List (List ℕ)) (line : List ℕ) (number : ℕ) (e : EngineView) (t : Took q given e) (next : IsNext q given number)
-    (not_first : (q.header && nat_eq number 1) ≡ false) (short : length line ≤ 65536) where
-  more_steps : steps q.plan q.policy start (t.fed ++ read_at q.plan number line ∷ []) ≡ steps q.plan q.policy start (said q (given ++ line ∷ []))
-  more_steps =
-      steps-append q.plan q.policy start t.fed (read_at q.plan number line ∷ [])
-      ∙ ap (λ w. step q.plan q.policy w (read_at q.plan number line)) t.same
+-- a line more, which is no header, is said as it is fed
+module _ (q : Asked) (given : List (List ℕ)) (line : List ℕ) (number : ℕ) (fed : List Told) (next : IsNext q given number)
+    (not_first : IsNoHeader q number) (short : length line ≤ 65536) where
+  pub same_more : steps q.plan q.policy start fed ≡ steps q.plan q.policy start (said q given) →
+      steps q.plan q.policy start (fed ++ read_at q.plan number line ∷ []) ≡ steps q.plan q.policy start (said q (given ++ line ∷ []))
+  same_more same =
+      steps-append q.plan q.policy start fed (read_at q.plan number line ∷ [])
+      ∙ ap (λ w. step q.plan q.policy w (read_at q.plan number line)) same
       ∙ ap (λ r. step q.plan q.policy (steps q.plan q.policy start (said q given)) (record { number = number; read = r })) (sym (plain q.plan.streams q.header number line not_first short))
       ∙ sym (steps_pushed q given line number next)
 
-  more_fed : t.fed ++ read_at q.plan number line ∷ [] ≡ fed_by q (given ++ line ∷ [])
-  more_fed =
-      ap (λ x. x ++ read_at q.plan number line ∷ []) t.is
+  pub fed_more : fed ≡ fed_by q given → fed ++ read_at q.plan number line ∷ [] ≡ fed_by q (given ++ line ∷ [])
+  fed_more is =
+      ap (λ x. x ++ read_at q.plan number line ∷ []) is
       ∙ (ap (λ r. fed_by q given ++ record { number = number; read = r } ∷ []) (sym (plain q.plan.streams false number line refl short))
       ∙ (ap (λ b. fed_by q given ++ cond b [] (told_at q.plan.streams false number line ∷ [])) (sym not_first) ∙ sym (fed_pushed q given line number next)))
 
+module _ (q : Asked) (given : List (List ℕ)) (line : List ℕ) (number : ℕ) (e : EngineView) (t : Took q given e) (next : IsNext q given number)
+    (not_first : IsNoHeader q number) (short : length line ≤ 65536) where
+  more_steps : steps q.plan q.policy start (t.fed ++ read_at q.plan number line ∷ []) ≡ steps q.plan q.policy start (said q (given ++ line ∷ []))
+  more_steps = same_more q given line number t.fed next not_first short t.same
+
   -- a line was fed
   pub took_more : (e' : EngineView) → Fed q.plan q.policy (t.fed ++ read_at q.plan number line ∷ []) e' → Took q (given ++ line ∷ []) e'
-  took_more e' f = record { fed = t.fed ++ read_at q.plan number line ∷ []; is = more_fed; took = f; same = more_steps }
+  took_more e' f = record { fed = t.fed ++ read_at q.plan number line ∷ []; is = fed_more q given line number t.fed next not_first short t.is; took = f; same = more_steps }
 
   pub text_more : (out : List ℕ) → plan_text q.plan q.policy (t.fed ++ read_at q.plan number line ∷ []) false ≡ plan_text q.plan q.policy t.fed false ++ out →
       (answers_to q).text (given ++ line ∷ []) false ≡ (answers_to q).text given false ++ out

@@ -43,30 +43,49 @@ told_bad plan number line (Late n time bound) short h = tt
 told_bad plan number line (Overflow punctuation node time) short h = tt
 told_bad plan number line Memory short h = tt
 
+-- a line is bad behind others, of which some more than were given may be
+pub bad_behind_more : {k : LineRules} {bytes : List ℕ} {given : List (List ℕ)} {s : Answering} → HasGiven k bytes given s → (before ls : List (List ℕ)) (n : ℕ) (line : List ℕ) (cause : BadLine) →
+    AreFront (before ++ line ∷ []) ls → length given ≤ length before → n + s.skipped ≡ s.base + length before + 1 → IsCause s.engine.parts.dataflow.plan.streams n line cause → HasBad k ls n cause
+bad_behind_more {k} {bytes} {given} {s} h before ls n line cause front more number why =
+    let base : s.base ≡ k.base = ap (λ (x : LineRules). x.base) h.rules in
+    let skipped : s.skipped ≡ k.skipped = ap (λ (x : LineRules). x.skipped) h.rules in
+    record {
+      before = before;
+      line = line;
+      front = front;
+      passed = omega (arith, h.passed, more);
+      number = omega (arith, number, base, skipped);
+      cause_is = subst (λ (x : LineRules). IsCause x.streams n line cause) h.rules why;
+    }
+
+-- where it is told as bad it is so
+pub stops_behind : {k : LineRules} {bytes : List ℕ} {given : List (List ℕ)} {s : Answering} → HasGiven k bytes given s → (f : EngineFault) (ended : Bool) (before : List (List ℕ)) (n : ℕ) (line : List ℕ) →
+    AreFront (before ++ line ∷ []) (lines bytes ended) → length given ≤ length before → n + s.skipped ≡ s.base + length before + 1 →
+    TellsLine s.engine.parts.dataflow.plan.streams n line f → StopsFor k (status_at f) bytes ended
+stops_behind {k} {bytes} h (Bad m cause) ended before n line front more number why =
+    subst (λ x. HasBad k (lines bytes ended) x cause) (sym why.0) (bad_behind_more h before (lines bytes ended) n line cause front more number why.1)
+stops_behind h (Late m time bound) ended before n line front more number why = tt
+stops_behind h (Overflow punctuation node time) ended before n line front more number why = tt
+stops_behind h Memory ended before n line front more number why = tt
+
 module _ {k : LineRules} {bytes : List ℕ} {given : List (List ℕ)} {s : Answering} (h : HasGiven k bytes given s) where
-  -- the next line is bad
-  pub bad_next : (ls : List (List ℕ)) (at n : ℕ) (line : List ℕ) (cause : BadLine) → AreFront (given ++ line ∷ []) ls → at ≡ length given + 1 → IsNumbered s.base s.skipped at n →
-      IsCause s.engine.parts.dataflow.plan.streams n line cause → HasBad k ls n cause
-  bad_next ls at n line cause front is numbered why =
+  -- the engine's number of a line, the first of some behind those given
+  pub numbered_behind : (at n : ℕ) → at ≡ length given + 1 → IsNumbered s.base s.skipped at n → n + s.skipped ≡ s.base + length given + 1
+  numbered_behind at n is numbered =
       let base : s.base ≡ k.base = ap (λ (x : LineRules). x.base) h.rules in
       let skipped : s.skipped ≡ k.skipped = ap (λ (x : LineRules). x.skipped) h.rules in
       let few = given_few h.cut in
       let number : n + s.skipped ≡ s.base + at = numbered (omega (arith, skipped, h.passed, is)) (omega (arith, base, h.low, few, limit-is, is)) in
-      record {
-        before = given;
-        line = line;
-        front = front;
-        passed = h.passed;
-        number = omega (arith, number, base, skipped, is);
-        cause_is = subst (λ (x : LineRules). IsCause x.streams n line cause) h.rules why;
-      }
+      omega (arith, number, is)
+
+  -- the next line is bad
+  pub bad_next : (ls : List (List ℕ)) (at n : ℕ) (line : List ℕ) (cause : BadLine) → AreFront (given ++ line ∷ []) ls → at ≡ length given + 1 → IsNumbered s.base s.skipped at n →
+      IsCause s.engine.parts.dataflow.plan.streams n line cause → HasBad k ls n cause
+  bad_next ls at n line cause front is numbered why = bad_behind_more h given ls n line cause front (omega arith) (numbered_behind at n is numbered) why
 
   pub stops_at : (f : EngineFault) (ended : Bool) (at n : ℕ) (line : List ℕ) → AreFront (given ++ line ∷ []) (lines bytes ended) → at ≡ length given + 1 → IsNumbered s.base s.skipped at n →
       TellsLine s.engine.parts.dataflow.plan.streams n line f → StopsFor k (status_at f) bytes ended
-  stops_at (Bad m cause) ended at n line front is numbered why = subst (λ x. HasBad k (lines bytes ended) x cause) (sym why.0) (bad_next (lines bytes ended) at n line cause front is numbered why.1)
-  stops_at (Late m time bound) ended at n line front is numbered why = tt
-  stops_at (Overflow punctuation node time) ended at n line front is numbered why = tt
-  stops_at Memory ended at n line front is numbered why = tt
+  stops_at f ended at n line front is numbered why = stops_behind h f ended given n line front (omega arith) (numbered_behind at n is numbered) why
 
   -- or it is too long
   pub stops_long : (at n : ℕ) (ended : Bool) → Overlong at ≡ next s.cutter → at ≡ length given + 1 → IsNumbered s.base s.skipped at n → HasBad k (lines bytes ended) n TooLong

@@ -20,3 +20,4 @@ pub mod Summed
 pub mod Halting
 pub mod Sending
 pub mod Held
+pub mod Blocks

@@ -1,6 +1,6 @@
 -- What private contracts say of an engine and of a query that lines were fed to.
-use Rattle.std.specs.Prelude.{◌≡◌, ◌+◌, ◌^◌, ◌≤◌, ◌<◌, ℕ, suc, Bool, true, false, IsTrue, List, [], ◌∷◌, ◌++◌, Option}
-use Rattle.std.specs.Prelude.{None, Result, MatchResult, length, drop}
+use Rattle.std.specs.Prelude.{◌≡◌, ◌+◌, ◌^◌, ◌≤◌, ◌<◌, ◌&&◌, nat_eq, ℕ, suc, Bool, true, false, IsTrue, List, [], ◌∷◌, ◌++◌, Option}
+use Rattle.std.specs.Prelude.{None, Some, Result, MatchResult, length, drop}
 use Rattle.wire_lines.specs.Cutter.{CutterState}
 use Rattle.wire_lines.specs.Cuts.{Cuts}
 use Rattle.wire_lines.specs.Journal.{Entry, In, Adds}
@@ -13,12 +13,13 @@ use Rattle.admission.specs.declared.policy.Policy.{Policy}
 use Rattle.tempo_engine.specs.Fed.{Fed, last_number}
 use Rattle.tempo_engine.specs.Output.{plan_text}
 use Rattle.tempo_engine.specs.Went.{EngineView}
-use Rattle.tempo_cli.specs.Answers.{Answers}
+use Rattle.tempo_cli.specs.Answers.{Answers, IsFront}
 use Rattle.tw_rows.specs.declared.schema.StreamDef.{StreamDef}
 use Rattle.row_reader.specs.declared.entry.BadLine.{BadLine}
 use Rattle.tempo_cli.specs.Restoring.{AreFront, IsCause}
 use Rattle.tempo_cli.specs.Table.{limit, IsEnd}
 use Rattle.tempo_cli.specs.Told.{told_from, fed_from}
+use Rattle.tempo_engine.specs.declared.block.FedBlock.{FedBlock}
 use Rattle.tempo_engine.specs.declared.fault.EngineFault.{EngineFault}
 use Rattle.tempo_engine.specs.declared.fault.EngineFault.TheVariants as faults
 use Rattle.tempo_cli.specs.declared.status.Status.{Status}
@@ -123,6 +124,10 @@ pub record IsNext (q : Asked) (given : List (List ℕ)) (number : ℕ) : Type 0 
   pub passed : q.passed ≤ length given
   pub number_is : number + q.passed ≡ last_number q.before + length given + 1
 
+-- the line of that number is no header: line 2, or any line where there is none
+abbrev pub IsNoHeader : Asked → ℕ → Type 0
+IsNoHeader q number = (q.header && nat_eq number 1) ≡ false
+
 -- whatever is asked for, and whichever lines the engine took, of which the next has this number
 abbrev pub WhateverGiven : Bool → ℕ → EngineView → (Asked → List (List ℕ) → Type 0) → Type 0
 WhateverGiven header number e P = (q : Asked) (given : List (List ℕ)) → q.header ≡ header → IsNext q given number → Took q given e → P q given
@@ -188,6 +193,22 @@ status_at (faults.Bad line cause) = statuses.Malformed line cause
 status_at (faults.Late line time bound) = statuses.Late line time bound
 status_at (faults.Overflow punctuation node time) = statuses.Overflow punctuation node time
 status_at faults.Memory = statuses.Memory
+
+-- what lines that are taken together come to. With `more` the text has grown by the bytes of the block, and it stays whatever follows.
+-- Where none of them has a fault these are all lines that were taken; else those before it, and the run ends there. Of three lines of
+-- which the second is late: with the bytes that the first one makes due
+pub record BlockComes (q : Asked) (bytes : List ℕ) (given : List (List ℕ)) (s : Answering) (block : FedBlock) : Type 0 where
+  pub more : List (List ℕ)
+  pub grown : (answers_to q).text more false ≡ (answers_to q).text given false ++ block.text.items
+  pub front : (ended : Bool) → IsFront ((answers_to q).text more false) ((answers_to q).text (lines bytes ended) ended)
+  pub holds : block.fault ≡ None → Holds q bytes more s
+  pub ends : (f : EngineFault) → block.fault ≡ Some f → (ended : Bool) → IsEnd (answers_to q) (status_at f) bytes ((answers_to q).text more false) ended
+
+-- the same, whatever the engine is
+pub record BlockGives (k : LineRules) (bytes : List ℕ) (s : Answering) (block : FedBlock) : Type 0 where
+  pub more : List (List ℕ)
+  pub gives : block.fault ≡ None → HasGiven k bytes more s
+  pub stops : (f : EngineFault) → block.fault ≡ Some f → (ended : Bool) → StopsFor k (status_at f) bytes ended
 
 -- after a line fewer bytes are left
 abbrev pub HasLess : CutterState → CutterState → Step → Type 0

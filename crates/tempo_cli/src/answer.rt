@@ -51,7 +51,15 @@ pub(crate) fn work<R: Threads + Sync, W: Wire, G: Gate>(
         (W.write_faults wire.old) (W.write_faults wire.new)) }
 {
     let mut held = Vec::new(answering.alloc);
-    loop {
+    'lines: loop {
+        if let Some(fed) = answering.next_block(rt, gate) {
+            hold(wire, &mut held, &fed.text)?;
+            if let Some(fault) = fed.fault {
+                send(wire, &held)?;
+                return Err(Status::from(fault));
+            }
+            continue;
+        }
         match answering.next_step(rt, gate) {
             Step::More => {
                 send(wire, &held)?;

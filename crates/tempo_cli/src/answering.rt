@@ -1,5 +1,5 @@
 // The lines of an input, fed to an engine as their bytes come.
-ghost use Rattle.std.specs.Prelude.{◌≡◌, ◌≤◌, ◌<◌, ◌+◌, ◌++◌, ◌∷◌, ◌&&◌, IfOk, IfErr, OnOk, Bool, List, ℕ, [], None, true, false, nat_eq, length};
+ghost use Rattle.std.specs.Prelude.{◌≡◌, ◌≤◌, ◌<◌, ◌+◌, ◌++◌, ◌∷◌, ◌&&◌, ◌||◌, IfOk, IfErr, IfSome, IfNone, OnOk, Bool, List, ℕ, [], None, true, false, nat_eq, nat_lt, length};
 ghost use Rattle.wire_lines.specs.Lines.{HasNoLf};
 ghost use Rattle.wire_lines.specs.Cutter.{Overlong};
 ghost use Rattle.wire_lines.specs.Next.{next};
@@ -8,6 +8,7 @@ ghost use Rattle.tempo_cli.specs.Table.{limit, IsDone, IsEnd};
 ghost use Rattle.wire_lines.specs.Faults.{HasCause, IsOther};
 ghost use Rattle.tempo_cli.specs.Feeding.{from_start, answers_to, Took, Holds, HasTaken, IsNumbered, WhateverGiven};
 ghost use Rattle.tempo_cli.specs.Feeding.{WhateverHeld, WhateverEnded, GrowsBy, WantsBytes, Comes};
+ghost use Rattle.tempo_cli.specs.Feeding.{BlockComes, BlockGives};
 ghost use Rattle.tempo_cli.specs.Feeding.{Ended, HasLess, LineRules, WhateverGave, StepGives, StopsFor, TellsLine, IsOwn, StopsOwn};
 ghost use Rattle.tempo_cli.specs.Halting.{StaysOpen, StopsGoing};
 
@@ -17,7 +18,7 @@ use row_reader::BadLine;
 use shard_apply::Gate;
 use std::alloc::Global;
 use std::thread::Threads;
-use tempo_engine::{Engine, EngineFault, Options};
+use tempo_engine::{Engine, EngineFault, FedBlock, Options};
 use tw_rows::Memory;
 use wire_lines::{Cut, LineCutter, ReadFailed, Wire};
 
@@ -59,6 +60,14 @@ fn is_header(header: bool, number: u64) -> bool
     ensures { result ≡ (header && nat_eq number 1) }
 {
     header && number == 1
+}
+
+// Whether the next line may be a header, where so many bytes of lines were given: it stands in front of all other lines, and none
+// stands behind a checkpoint.
+fn may_be_header(header: bool, skipped: u64, passed: u64) -> bool
+    ensures { result ≡ (header && (nat_lt 0 skipped || nat_eq passed 0)) }
+{
+    header && (skipped > 0 || passed == 0)
 }
 
 // The number that the engine has for the line of that number of the input: it goes on from those of a run before this one.
@@ -138,6 +147,30 @@ impl Answering {
         ensures other { IsOther (W.write_faults wire.old) (W.write_faults wire.new) result }
     {
         self.cutter.read_from(wire, most)
+    }
+
+    /// What the next lines come to, as many of them as are taken together. None where the next one is taken alone, or no whole
+    /// line is left.
+    pub fn next_block<R: Threads + Sync, G: Gate>(&mut self, rt: &R, gate: &G) -> Option<FedBlock>
+        requires longest { self.old.cutter.longest ≡ 65536 }
+        ensures longest { self.new.cutter.longest ≡ 65536 }
+        ensures comes { IfSome result (λ block. WhateverHeld self.old
+            (λ q bytes given. BlockComes q bytes given self.new block)) }
+        ensures gives { IfSome result (λ block. WhateverGave self.old
+            (λ k bytes given. BlockGives k bytes self.new block)) }
+        ensures less { IfSome result (λ _.
+            length self.new.cutter.rest < length self.old.cutter.rest) }
+        ensures none { IfNone result (self.new ≡ self.old) }
+        ensures open { StaysOpen self.old.engine self.new.engine }
+    {
+        if may_be_header(self.header, self.skipped, self.cutter.passed()) {
+            return None;
+        }
+        let Some(block) = self.cutter.next_block() else {
+            return None;
+        };
+        let first = engine_number(self.base, self.skipped, block.number);
+        Some(self.engine.feed_block(rt, gate, first, block.bytes))
     }
 
     /// What the next line comes to.

@@ -7,8 +7,8 @@ use Rattle.tempo_cli.specs.Halting.{StaysOpen}
 use Rattle.tempo_cli.proofs.Held.{Holding}
 use Rattle.tempo_cli.proofs.answer.work.Given as goal
 
-abbrev pub invariant-loop-wire : goal.invariant-loop-wire
-invariant-loop-wire g l =
+abbrev pub invariant-lines : goal.invariant-lines
+invariant-lines g l =
     (l.answering.cutter.longest ≡ 65536)
     × (g.W.Wire.read_faults l.wire ≡ g.W.Wire.read_faults l.fn.wire)
     × (g.W.Wire.write_faults l.wire ≡ g.W.Wire.write_faults l.fn.wire)
@@ -16,5 +16,5 @@ invariant-loop-wire g l =
     × AfterGiven (g.W.Wire.journal l.fn.wire) (g.W.Wire.journal l.wire) l.fn.answering (λ k bytes. GivesOn k bytes l.answering)
     × StaysOpen l.fn.answering.engine l.answering.engine
 
-abbrev pub decreases-loop-wire : goal.decreases-loop-wire
-decreases-loop-wire g l = length l.answering.cutter.rest
+abbrev pub decreases-lines : goal.decreases-lines
+decreases-lines g l = length l.answering.cutter.rest
