@@ -15,7 +15,7 @@ use Rattle.synopsis.specs.Held.{KeyedRows, key_of, is_of_key}
 use Rattle.sweep_laws.specs.Moves.{Adds}
 use Rattle.sweep_laws.specs.Sweeps.{Tells}
 use Rattle.sweep_laws.specs.Antijoining.{end_of, flip_end, flip_start, begin_of}
-use Rattle.anti_join.specs.declared.sweep.Rows.{Rows}
+use Rattle.anti_join.specs.declared.sweep.AntiRows.{AntiRows}
 use Rattle.anti_join.specs.AntiJoined.{antis}
 use Rattle.anti_join.specs.Free.{KeyTimes, is_free_key, free_since, status_of}
 use Rattle.anti_join.specs.Holding.{AntiHeld}
@@ -45,7 +45,7 @@ begins_at t lk k rk j right now a0 a1 e f h =
     subst (λ (x : List ℕ). Adds a0 a1 (flat_map (λ r. begin_of (is_free_key rk right (key_of x r.cells)) t r) now)) e
     (subst (λ (x : List ℕ). Adds a0 a1 (flat_map (λ r. begin_of (is_free_key x right (key_of k r.cells)) t r) now)) f h)
 
-module _ (s0 s1 s2 s3 s4 s5 : Rows) (t : ℕ) (now_left now_right : List Edge) (a0 a1 a2 a3 a4 : List Edge) (k1 : SameKeys s0 s1) (k2 : SameKeys s0 s2) (k3 : SameKeys s0 s3) (k4 : SameKeys s0 s4)
+module _ (s0 s1 s2 s3 s4 s5 : AntiRows) (t : ℕ) (now_left now_right : List Edge) (a0 a1 a2 a3 a4 : List Edge) (k1 : SameKeys s0 s1) (k2 : SameKeys s0 s2) (k3 : SameKeys s0 s3) (k4 : SameKeys s0 s4)
     (right1 : s1.right ≡ s0.right) (times1 : s1.times ≡ s0.times) (left2 : s2.left ≡ s1.left) (times2 : s2.times ≡ s1.times) (left3 : s3.left ≡ s2.left)
     (right4 : s4.right ≡ s3.right) (times4 : s4.times ≡ s3.times) (left5 : s5.left ≡ s4.left) (right5 : s5.right ≡ s4.right)
     (ended1 : ((w : HeldRow → ℕ) → total w (ended_rows now_left) ≤ total w s0.left.rows) → (w : HeldRow → ℕ) → total w s0.left.rows ≡ total w s1.left.rows + total w (ended_rows now_left))

@@ -7,7 +7,7 @@ ghost use Rattle.anti_join.specs.Rows.{AreByKey};
 
 use crate::free_times::FreeTimes;
 use crate::sides::AntiSides;
-use crate::sweep::Rows;
+use crate::sweep::AntiRows;
 use end_queue::EndQueue;
 use std::alloc::Global;
 use sweep_operator::Swept;
@@ -29,7 +29,7 @@ fn no_sides(alloc: Global, left_key: &[usize], right_key: &[usize]) -> Result<An
     ensures waiting { IfOk result (λ s. (s.left_waiting ≡ []) × (s.right_waiting ≡ [])) }
 {
     Ok(AntiSides {
-        rows: Rows {
+        rows: AntiRows {
             alloc,
             left_key: KeyRoom::new(alloc, left_key)?,
             right_key: KeyRoom::new(alloc, right_key)?,

@@ -19,7 +19,7 @@ ghost use Rattle.anti_join.specs.Times.{HaveOneTime};
 ghost use Rattle.anti_join.specs.States.{AntiStored};
 
 use crate::free_times::FreeTimes;
-use crate::sweep::Rows;
+use crate::sweep::AntiRows;
 use carried_edges::{are_of_parts, edges_of_part};
 use edge_stream::{EdgeList, LoadFault, PartRow, Saved};
 use end_queue::EndQueue;
@@ -33,7 +33,7 @@ use tw_rows::{Edge, Kind, Memory, Time};
 /// The rows of both sides that are alive, and the pending edges of both sides.
 #[derive(Drop)]
 pub struct AntiSides {
-    pub(crate) rows: Rows,
+    pub(crate) rows: AntiRows,
     pub(crate) left_waiting: EndQueue,
     pub(crate) right_waiting: EndQueue,
 }

@@ -29,7 +29,7 @@ use tw_rows::{Datum, Edge, Memory, Time};
 
 /// The rows of both sides that are alive, by their keys, and the times since which keys of left rows are free.
 #[derive(Drop)]
-pub(crate) struct Rows {
+pub(crate) struct AntiRows {
     pub(crate) alloc: Global,
     pub(crate) left_key: KeyRoom,
     pub(crate) right_key: KeyRoom,
@@ -68,7 +68,7 @@ fn tell(
     Ok(())
 }
 
-impl Rows {
+impl AntiRows {
     ghost use Rattle.anti_join.specs.Rows.{AreByKey, SameKeys, SetsTime, SetsTimes, ForgetsTimes};
     ghost use Rattle.anti_join.specs.Rows.{left_key_of, status, free, ends_told, starts_told};
     ghost use Rattle.anti_join.specs.Rows.{lefts_of, times_of, TimesBegin};

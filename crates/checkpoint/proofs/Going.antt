@@ -7,8 +7,8 @@ use Rattle.std.proofs.lemmas.Bool.Decides.{Decides-ltb}
 use Rattle.tw_rows.specs.Instant.{inf}
 use Rattle.frozen_state.specs.Frozen.{FrozenView}
 use Rattle.checkpoint_lines.specs.Lines.{end_line, time_line, bound_line, text_line, IsText}
-use Rattle.checkpoint.specs.declared.reading.Stage.{Stage}
-use Rattle.checkpoint.specs.declared.reading.Stage.TheVariants.{Head, Texts, Entries, Ended}
+use Rattle.checkpoint.specs.declared.reading.ReadingStage.{ReadingStage}
+use Rattle.checkpoint.specs.declared.reading.ReadingStage.TheVariants.{Head, Texts, Entries, Ended}
 use Rattle.checkpoint.specs.Form.{FormView}
 use Rattle.checkpoint.specs.Text.{bound_lines, entry_lines, body_lines, IsOfForm, BeginsText}
 use Rattle.checkpoint.specs.Steps.{opening}
@@ -95,7 +95,7 @@ texts_go_on form f at false lt =
     let not_low : length f.bounds < form.streams → ⊥ = λ low. (let e = (Decides-ltb (length f.bounds) form.streams).1 low in absurd (cc)) in
     whole_goes_on form f (record { read = at.read; all = omega (arith, at.read.few, not_low) })
 
-pub goes_on : (form : FormView) (f : FrozenView) (stage : Stage) → (stage ≡ Ended → ⊥) → IsAt form f stage → BeginsText form (lines_at form f stage)
+pub goes_on : (form : FormView) (f : FrozenView) (stage : ReadingStage) → (stage ≡ Ended → ⊥) → IsAt form f stage → BeginsText form (lines_at form f stage)
 goes_on form f (Head n) going at = head_goes_on form n
 goes_on form f Texts going at = texts_go_on form f at (nat_lt (length f.bounds) form.streams) refl
 goes_on form f (Entries k) going at = whole_goes_on form f at.of_form

@@ -16,8 +16,8 @@ use Rattle.checkpoint_lines.specs.declared.entry.EntryLine.{EntryLine}
 use Rattle.checkpoint_lines.specs.Lines.{end_line, time_line, bound_line, text_line, entry_line, part_of_entry, IsText, IsEntry}
 use Rattle.checkpoint_lines.specs.Reading.{time_of, bound_of, text_of, part_of, entry_of}
 use Rattle.checkpoint_lines.proofs.Both.{time_both, bound_both, text_both, entry_both, part_back}
-use Rattle.checkpoint.specs.declared.reading.Stage.{Stage}
-use Rattle.checkpoint.specs.declared.reading.Stage.TheVariants.{Head, Texts, Entries, Ended}
+use Rattle.checkpoint.specs.declared.reading.ReadingStage.{ReadingStage}
+use Rattle.checkpoint.specs.declared.reading.ReadingStage.TheVariants.{Head, Texts, Entries, Ended}
 use Rattle.checkpoint.specs.Form.{FormView}
 use Rattle.checkpoint.specs.Text.{bound_lines, entry_lines, body_lines, HasLine, IsOfForm}
 use Rattle.checkpoint.specs.Steps.{State, standing, opening, head_step, bound_step, kinds_in, place_of, entry_step, text_step, step_at}
@@ -25,7 +25,7 @@ use Rattle.checkpoint.specs.Taking.{lines_at, IsBeforeEntries, IsAmongEntries, I
 use Rattle.checkpoint.proofs.Entries.{one, lines_with_entry, parts_with_entry, behind_entry, none_later, empty_lines, parts_empty, named, found_at}
 
 -- a state is reached with that line
-pub record Grows (form : FormView) (f : FrozenView) (stage : Stage) (line : List ℕ) (s : State) : Type 0 where
+pub record Grows (form : FormView) (f : FrozenView) (stage : ReadingStage) (line : List ℕ) (s : State) : Type 0 where
   pub at : IsAt form s.frozen s.stage
   pub lines : lines_at form s.frozen s.stage ≡ lines_at form f stage ++ line ∷ []
 
@@ -38,7 +38,7 @@ map_is f None y h = absurd (cc)
 map_is f (Some x) y h = (x, (refl, let e : f x ≡ y = cc in e))
 
 -- what is reached is that state
-reached : (form : FormView) (f : FrozenView) (stage : Stage) (line : List ℕ) (s t : State) → t ≡ s → Grows form f stage line t → Grows form f stage line s
+reached : (form : FormView) (f : FrozenView) (stage : ReadingStage) (line : List ℕ) (s t : State) → t ≡ s → Grows form f stage line t → Grows form f stage line s
 reached form f stage line s t e g = subst (Grows form f stage line) e g
 
 -- THE FIRST LINES
@@ -208,7 +208,7 @@ entry_grows form f from line s of none h =
     let all = entry_by form f line k found.found kinds p d.0 of found.at name.0 name.1 rows a.1.0 d.1.0 (none_later f.parts (from + 1) (k + 1) low none) in
     subst (λ (t : State). IsAt form t.frozen t.stage × (lines_at form t.frozen t.stage ≡ body_lines form.head f ++ line ∷ [])) d.1.1 all
 
-entries_grow : (form : FormView) (f : FrozenView) (stage : Stage) (from : ℕ) (line : List ℕ) (s : State) → IsOfForm form f → entry_lines (drop (from + 1) f.parts) ≡ [] →
+entries_grow : (form : FormView) (f : FrozenView) (stage : ReadingStage) (from : ℕ) (line : List ℕ) (s : State) → IsOfForm form f → entry_lines (drop (from + 1) f.parts) ≡ [] →
     lines_at form f stage ≡ body_lines form.head f → entry_step form f from line ≡ Some s → Grows form f stage line s
 entries_grow form f stage from line s of none is h =
     let g = entry_grows form f from line s of none h in
@@ -252,7 +252,7 @@ text_grows form f line s at all None of h =
     entries_grow form f Texts 0 line s (record { read = at.read; all = all }) (none_later f.parts 0 (0 + 1) (omega arith) none) refl h
 
 -- the end
-ends : (form : FormView) (f : FrozenView) (stage : Stage) (line : List ℕ) (s : State) → IsOfForm form f → lines_at form f stage ≡ body_lines form.head f → same_text line end_line ≡ true →
+ends : (form : FormView) (f : FrozenView) (stage : ReadingStage) (line : List ℕ) (s : State) → IsOfForm form f → lines_at form f stage ≡ body_lines form.head f → same_text line end_line ≡ true →
     Some (standing Ended f) ≡ Some s → Grows form f stage line s
 ends form f stage line s of is same h =
     let to : standing Ended f ≡ s = cc in
@@ -279,7 +279,7 @@ end_or_entry : (form : FormView) (f : FrozenView) (k : ℕ) (line : List ℕ) (s
 end_or_entry form f k line s at true same h = ends form f (Entries k) line s at.of_form refl same h
 end_or_entry form f k line s at false same h = entries_grow form f (Entries k) k line s at.of_form at.none_behind refl h
 
-pub grows : (form : FormView) (f : FrozenView) (stage : Stage) (line : List ℕ) (s : State) → IsAt form f stage → step_at form f line stage ≡ Some s → Grows form f stage line s
+pub grows : (form : FormView) (f : FrozenView) (stage : ReadingStage) (line : List ℕ) (s : State) → IsAt form f stage → step_at form f line stage ≡ Some s → Grows form f stage line s
 grows form f (Head n) line s at h =
     subst (λ (g : FrozenView). step_at form g line (Head n) ≡ Some s → Grows form g (Head n) line s) (sym at.1) (head_grows form n line s at.0 (slice_get form.head n) refl) h
 grows form f Texts line s at h = bound_or_more form f line s at (nat_lt (length f.bounds) form.streams) refl h

@@ -17,8 +17,8 @@ use Rattle.checkpoint_lines.specs.declared.entry.EntryLine.{EntryLine}
 use Rattle.checkpoint_lines.specs.Lines.{end_line, time_line, bound_line, text_line, entry_line, part_of_entry, IsTimes, IsText}
 use Rattle.checkpoint_lines.specs.Reading.{bound_of, text_of, part_of, entry_of}
 use Rattle.checkpoint_lines.proofs.Both.{time_both, bound_both, text_both, entry_both, part_back}
-use Rattle.checkpoint.specs.declared.reading.Stage.{Stage}
-use Rattle.checkpoint.specs.declared.reading.Stage.TheVariants.{Head, Texts, Entries, Ended}
+use Rattle.checkpoint.specs.declared.reading.ReadingStage.{ReadingStage}
+use Rattle.checkpoint.specs.declared.reading.ReadingStage.TheVariants.{Head, Texts, Entries, Ended}
 use Rattle.checkpoint.specs.Form.{FormView}
 use Rattle.checkpoint.specs.Text.{bound_lines, part_lines, entry_lines, body_lines, checkpoint_lines, HasLine, ArePartsWith, IsOfForm}
 use Rattle.checkpoint.specs.Steps.{State, standing, empty_parts, opening, head_step, bound_step, kinds_in, cells_step, placed_step, place_of, entry_step, text_step, step, reads}
@@ -105,7 +105,7 @@ texts_lead form f (t ∷ ts) is all =
 
 -- ENTRIES
 -- a stage from which an entry of the part of number n may come
-abbrev MayEnter : ℕ → Stage → Type 0
+abbrev MayEnter : ℕ → ReadingStage → Type 0
 MayEnter n (Head k) = ⊥
 MayEnter n Texts = Unit {0}
 MayEnter n (Entries k) = k ≤ n
@@ -129,7 +129,7 @@ entry_told form f from k g e at has placed =
     ∙ ap (option_and_then (cells_step f k line)) kinds
     ∙ ap (option_map (λ (y : EntryLine). standing (Entries k) (record f { parts = with_entry k y.entry f.parts }))) told
 
-entry_leads : (form : FormView) (f : FrozenView) (stage : Stage) (done : List PartFormView) (g : PartFormView) (rest : List PartFormView) (e : SavedEntry) → form.parts ≡ done ++ g ∷ rest →
+entry_leads : (form : FormView) (f : FrozenView) (stage : ReadingStage) (done : List PartFormView) (g : PartFormView) (rest : List PartFormView) (e : SavedEntry) → form.parts ≡ done ++ g ∷ rest →
     All (λ h. is_form_of g.owner g.shard h ≡ false) done → MayEnter (length done) stage → length f.bounds ≡ form.streams → HasLine g e →
     step form (entry_line g.owner g.shard e) (standing stage f) ≡ Some (standing (Entries (length done)) (record f { parts = with_entry (length done) e f.parts }))
 entry_leads form f stage done g rest e parts others may all has = by stage may
@@ -148,7 +148,7 @@ entry_leads form f stage done g rest e parts others may all has = by stage may
     line : List ℕ
     line = entry_line g.owner g.shard e
 
-    by : (s : Stage) → MayEnter (length done) s → step form line (standing s f) ≡ Some (standing (Entries (length done)) (record f { parts = with_entry (length done) e f.parts }))
+    by : (s : ReadingStage) → MayEnter (length done) s → step form line (standing s f) ≡ Some (standing (Entries (length done)) (record f { parts = with_entry (length done) e f.parts }))
     by (Head k) m = absurd m
     by Texts m = behind_streams form f line all refl ∙ ap (text_step form f line) (no_text g.owner g.shard e) ∙ entry_told form f 0 (length done) g e at has (placed 0 (omega arith))
     by (Entries k) m = entry_told form f k (length done) g e at has (placed k m)
@@ -156,7 +156,7 @@ entry_leads form f stage done g rest e parts others may all has = by stage may
 
 -- lines lead to this, at some stage from which an entry of the part of number n may come
 record Leads (form : FormView) (s : Option State) (lines : List (List ℕ)) (f : FrozenView) (n : ℕ) : Type 0 where
-  stage : Stage
+  stage : ReadingStage
   may : MayEnter n stage
   led : reads form s lines ≡ Some (standing stage f)
 
@@ -165,7 +165,7 @@ entry_put [] p rest e = refl
 entry_put (d ∷ done) p rest e = ap (λ (l : List FrozenPart). d ∷ l) (entry_put done p rest e)
 
 -- the entries of one part
-part_leads : (form : FormView) (f : FrozenView) (stage : Stage) (done : List PartFormView) (g : PartFormView) (rest : List PartFormView) (before : List FrozenPart) (saved : List SavedEntry)
+part_leads : (form : FormView) (f : FrozenView) (stage : ReadingStage) (done : List PartFormView) (g : PartFormView) (rest : List PartFormView) (before : List FrozenPart) (saved : List SavedEntry)
     (behind : List FrozenPart) (es : List SavedEntry) → form.parts ≡ done ++ g ∷ rest → All (λ h. is_form_of g.owner g.shard h ≡ false) done → MayEnter (length done) stage →
     length f.bounds ≡ form.streams → length before ≡ length done → All (HasLine g) es → f.parts ≡ before ++ record { owner = g.owner; shard = g.shard; saved = saved } ∷ behind →
     Leads form (Some (standing stage f)) (map (entry_line g.owner g.shard) es) (record f { parts = before ++ record { owner = g.owner; shard = g.shard; saved = saved ++ es } ∷ behind }) (length done)
@@ -187,7 +187,7 @@ part_leads form f stage done g rest before saved behind (e ∷ es) parts others 
           ∙ (λ i. Some (standing more.stage (record f { parts = before ++ record { owner = g.owner; shard = g.shard; saved = append_assoc saved (e ∷ []) es i } ∷ behind })));
     }
 
-may_later : (a b : ℕ) (stage : Stage) → a ≤ b → MayEnter a stage → MayEnter b stage
+may_later : (a b : ℕ) (stage : ReadingStage) → a ≤ b → MayEnter a stage → MayEnter b stage
 may_later a b (Head k) low m = absurd m
 may_later a b Texts low m = tt
 may_later a b (Entries k) low m = omega (arith, low, m)
@@ -219,7 +219,7 @@ others_before (d ∷ done) g rest apart =
     All-append (λ h. is_form_of g.owner g.shard h ≡ false) (d ∷ []) done (one (λ h. is_form_of g.owner g.shard h ≡ false) d (turned d g (unnamed d done g rest apart.0))) (others_before done g rest apart.1)
 
 -- the entries of all parts
-parts_lead : (form : FormView) (f : FrozenView) (stage : Stage) (done : List PartFormView) (todo : List PartFormView) (before : List FrozenPart) (ps : List FrozenPart) → form.parts ≡ done ++ todo →
+parts_lead : (form : FormView) (f : FrozenView) (stage : ReadingStage) (done : List PartFormView) (todo : List PartFormView) (before : List FrozenPart) (ps : List FrozenPart) → form.parts ≡ done ++ todo →
     AreApart form.parts → MayEnter (length done) stage → length f.bounds ≡ form.streams → length before ≡ length done → ArePartsWith todo ps → f.parts ≡ before ++ empty_parts todo →
     Leads form (Some (standing stage f)) (entry_lines ps) (record f { parts = before ++ ps }) (length form.parts)
 parts_lead form f stage done [] before [] parts apart may all same are is = record {
@@ -249,7 +249,7 @@ parts_lead form f stage done (g ∷ todo) before (p ∷ ps) parts apart may all 
     }
 
 -- the end
-end_leads : (form : FormView) (f : FrozenView) (n : ℕ) (stage : Stage) → MayEnter n stage → length f.bounds ≡ form.streams → step form end_line (standing stage f) ≡ Some (standing Ended f)
+end_leads : (form : FormView) (f : FrozenView) (n : ℕ) (stage : ReadingStage) → MayEnter n stage → length f.bounds ≡ form.streams → step form end_line (standing stage f) ≡ Some (standing Ended f)
 end_leads form f n (Head k) may all = absurd may
 end_leads form f n Texts may all =
     ap (λ (c : Bool). cond c (bound_step f end_line) (cond (same_text end_line end_line) (Some (standing Ended f)) (text_step form f end_line (text_of end_line)))) (no_lower (length f.bounds) form.streams all)

@@ -2,8 +2,8 @@
 use Rattle.std.proofs.Common.{◌≡◌, ℕ, List, [], ◌∷◌, ◌++◌, Option, Some, None, sym, ◌∙◌, ap}
 use Rattle.frozen_state.specs.Frozen.{FrozenView}
 use Rattle.frozen_state.specs.Forms.{AreApart}
-use Rattle.checkpoint.specs.declared.reading.Stage.{Stage}
-use Rattle.checkpoint.specs.declared.reading.Stage.TheVariants.{Head, Ended}
+use Rattle.checkpoint.specs.declared.reading.ReadingStage.{ReadingStage}
+use Rattle.checkpoint.specs.declared.reading.ReadingStage.TheVariants.{Head, Ended}
 use Rattle.checkpoint.specs.Form.{FormView}
 use Rattle.checkpoint.specs.Text.{checkpoint_lines, IsOfForm, IsUnfinished}
 use Rattle.checkpoint.specs.Steps.{State, standing, opening, reads}
@@ -11,16 +11,16 @@ use Rattle.checkpoint.specs.Taking.{lines_at, IsTaking}
 use Rattle.checkpoint.proofs.Going.{goes_on}
 use Rattle.checkpoint.proofs.Leading.{text_leads, reads_append, reads_none}
 
-abbrev stage_of : Option State → Stage
+abbrev stage_of : Option State → ReadingStage
 stage_of (Some s) = s.stage
 stage_of None = Ended
 
 -- after the last line none is read
-ends : (form : FormView) (f g : FrozenView) (stage : Stage) (rest : List (List ℕ)) → (stage ≡ Ended → ⊥) → Some (standing stage f) ≡ reads form (Some (standing Ended g)) rest → ⊥
+ends : (form : FormView) (f g : FrozenView) (stage : ReadingStage) (rest : List (List ℕ)) → (stage ≡ Ended → ⊥) → Some (standing stage f) ≡ reads form (Some (standing Ended g)) rest → ⊥
 ends form f g stage [] going e = going (ap stage_of e)
 ends form f g stage (line ∷ rest) going e = going (ap stage_of (e ∙ reads_none form rest))
 
-pub unfinished : (form : FormView) (f : FrozenView) (stage : Stage) → (stage ≡ Ended → ⊥) → IsTaking form f stage → IsUnfinished form (lines_at form f stage)
+pub unfinished : (form : FormView) (f : FrozenView) (stage : ReadingStage) → (stage ≡ Ended → ⊥) → IsTaking form f stage → IsUnfinished form (lines_at form f stage)
 unfinished form f stage going t = record {
   begins = goes_on form f stage going t.stands;
   none_whole = λ g rest of e. ends form f g stage rest going

@@ -10,16 +10,16 @@ use Rattle.frozen_state.specs.Forms.{PartFormView, is_form_of}
 use Rattle.checkpoint_lines.specs.declared.owner.EntryPart.{EntryPart}
 use Rattle.checkpoint_lines.specs.Lines.{end_line}
 use Rattle.checkpoint_lines.specs.Reading.{time_of, bound_of, text_of, part_of, entry_of}
-use Rattle.checkpoint.specs.declared.reading.Stage.{Stage}
-use Rattle.checkpoint.specs.declared.reading.Stage.TheVariants.{Head, Texts, Entries, Ended}
+use Rattle.checkpoint.specs.declared.reading.ReadingStage.{ReadingStage}
+use Rattle.checkpoint.specs.declared.reading.ReadingStage.TheVariants.{Head, Texts, Entries, Ended}
 use Rattle.checkpoint.specs.Form.{FormView}
 
 -- where a reader stands, and what it read
 pub record State : Type 0 where
-  pub stage : Stage
+  pub stage : ReadingStage
   pub frozen : FrozenView
 
-abbrev pub standing : Stage → FrozenView → State
+abbrev pub standing : ReadingStage → FrozenView → State
 standing stage f = record { stage = stage; frozen = f }
 
 -- parts without entries
@@ -64,7 +64,7 @@ text_step form f line (Some text) = Some (standing Texts (record f { texts = f.t
 text_step form f line None = entry_step form f 0 line
 
 -- one line more: None where no text of this form goes on so
-abbrev pub step_at : FormView → FrozenView → List ℕ → Stage → Option State
+abbrev pub step_at : FormView → FrozenView → List ℕ → ReadingStage → Option State
 step_at form f line (Head n) = head_step f n line (slice_get form.head n)
 step_at form f line Texts =
     if nat_lt (length f.bounds) form.streams then bound_step f line

@@ -2,8 +2,8 @@
 use Rattle.std.specs.Prelude.{◌≡◌, ◌<◌, ◌≤◌, ℕ, ◌+◌, Some, List, [], ◌∷◌, ◌++◌, length, take, drop}
 use Rattle.frozen_state.specs.Frozen.{FrozenView}
 use Rattle.frozen_state.specs.Forms.{AreApart}
-use Rattle.checkpoint.specs.declared.reading.Stage.{Stage}
-use Rattle.checkpoint.specs.declared.reading.Stage.TheVariants.{Head, Texts, Entries, Ended}
+use Rattle.checkpoint.specs.declared.reading.ReadingStage.{ReadingStage}
+use Rattle.checkpoint.specs.declared.reading.ReadingStage.TheVariants.{Head, Texts, Entries, Ended}
 use Rattle.checkpoint.specs.declared.reader.Taken.{Taken}
 use Rattle.checkpoint.specs.declared.reader.Taken.TheVariants.{More, Whole}
 use Rattle.checkpoint.specs.Form.{FormView}
@@ -13,11 +13,11 @@ use Rattle.checkpoint.specs.Steps.{standing, empty_parts, opening, reads}
 -- what contracts see of a reader: the form, where it stands, and what it read so far
 pub record ReaderView : Type 0 where
   pub form : FormView
-  pub stage : Stage
+  pub stage : ReadingStage
   pub frozen : FrozenView
 
 -- the lines that lead to it
-abbrev pub lines_at : FormView → FrozenView → Stage → List (List ℕ)
+abbrev pub lines_at : FormView → FrozenView → ReadingStage → List (List ℕ)
 lines_at form f (Head n) = take n form.head
 lines_at form f Texts = body_lines form.head f
 lines_at form f (Entries k) = body_lines form.head f
@@ -39,20 +39,20 @@ pub record IsAmongEntries (form : FormView) (f : FrozenView) (k : ℕ) : Type 0 
   pub none_behind : entry_lines (drop (k + 1) f.parts) ≡ []
 
 -- what was read can stand so
-abbrev pub IsAt : FormView → FrozenView → Stage → Type 0
+abbrev pub IsAt : FormView → FrozenView → ReadingStage → Type 0
 IsAt form f (Head n) = (n ≤ length form.head) × (f ≡ opening form)
 IsAt form f Texts = IsBeforeEntries form f
 IsAt form f (Entries k) = IsAmongEntries form f k
 IsAt form f Ended = IsOfForm form f
 
 -- the lines that lead to it do so
-pub record IsTaking (form : FormView) (f : FrozenView) (stage : Stage) : Type 0 where
+pub record IsTaking (form : FormView) (f : FrozenView) (stage : ReadingStage) : Type 0 where
   pub apart : AreApart form.parts
   pub stands : IsAt form f stage
   pub led : reads form (Some (standing (Head 0) (opening form))) (lines_at form f stage) ≡ Some (standing stage f)
 
 -- a reader that has not given all can go on
-abbrev pub CanTake : FormView → FrozenView → Stage → Type 0
+abbrev pub CanTake : FormView → FrozenView → ReadingStage → Type 0
 CanTake form f (Head n) = IsTaking form f (Head n)
 CanTake form f Texts = IsTaking form f Texts
 CanTake form f (Entries k) = IsTaking form f (Entries k)

@@ -4,7 +4,7 @@ ghost use Rattle.checkpoint.specs.Text.{BeginsText, IsUnfinished};
 ghost use Rattle.checkpoint.specs.Taking.{lines_taken, HasTaken};
 
 use crate::form::Form;
-use crate::reading::{Reading, Stage, TakeFault};
+use crate::reading::{Reading, ReadingStage, TakeFault};
 use frozen_state::Frozen;
 use std::alloc::Global;
 use std::marker::Model;
@@ -54,7 +54,7 @@ impl Reader {
     pub fn new(alloc: Global, form: Form) -> Result<Reader, Memory>
         ensures form { IfOk result (λ r. r.form ≡ form) }
         ensures taken { IfOk result (λ r. lines_taken r ≡ []) }
-        ensures going { IfOk result (λ r. r.stage ≢ Stage.Ended) }
+        ensures going { IfOk result (λ r. r.stage ≢ ReadingStage.Ended) }
     {
         Ok(Reader {
             reading: Reading::new(alloc, form)?,
@@ -63,7 +63,7 @@ impl Reader {
 
     /// The lines that it took begin a checkpoint and hold no whole one. The call does nothing but tell a proof of this.
     pub fn goes_on(&self)
-        requires { self.now.stage ≢ Stage.Ended }
+        requires { self.now.stage ≢ ReadingStage.Ended }
         ensures { IsUnfinished self.now.form (lines_taken self.now) }
     {
         let _ended = self.reading.has_ended();
@@ -71,11 +71,11 @@ impl Reader {
 
     /// Takes the next line, which stands without its line feed. Where it is refused the reader is as it was.
     pub fn take(&mut self, line: &[u8]) -> Result<Taken, TakeFault>
-        requires { self.old.stage ≢ Stage.Ended }
+        requires { self.old.stage ≢ ReadingStage.Ended }
         ensures taken { IfOk result (λ taken. HasTaken self.old line.now taken self.new) }
         ensures refused { IfErr result (λ fault. fault ≡ TakeFault.NotCheckpoint →
             ¬ (BeginsText self.old.form (lines_taken self.old ++ line.now ∷ []))) }
-        ensures going { result ≡ Ok Taken.More → self.new.stage ≢ Stage.Ended }
+        ensures going { result ≡ Ok Taken.More → self.new.stage ≢ ReadingStage.Ended }
         ensures same { OnErr result (self.new ≡ self.old) }
         ensures form { self.new.form ≡ self.old.form }
     {

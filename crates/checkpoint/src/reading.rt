@@ -18,7 +18,7 @@ use tw_rows::{CellKind, Label, Memory, Time};
 
 /// Where a reader stands.
 #[derive(Clone, Copy, Debug, PartialEq, Eq)]
-pub enum Stage {
+pub enum ReadingStage {
     /// So many of the lines in front of what was frozen were read, and the times not yet.
     Head(usize),
     /// The times were read, and streams and texts so far.
@@ -52,7 +52,7 @@ impl From<Memory> for TakeFault {
 pub(crate) struct Reading {
     pub alloc: Global,
     pub form: Form,
-    pub stage: Stage,
+    pub stage: ReadingStage,
     pub frozen: Frozen,
 }
 
@@ -98,7 +98,7 @@ impl Reading {
     /// Before the first line.
     pub fn new(alloc: Global, form: Form) -> Result<Reading, Memory>
         ensures form { IfOk result (λ r. r.form ≡ form) }
-        ensures stage { IfOk result (λ r. r.stage ≡ Stage.Head 0) }
+        ensures stage { IfOk result (λ r. r.stage ≡ ReadingStage.Head 0) }
         ensures frozen { IfOk result (λ r. r.frozen ≡ opening form) }
         ensures apart { AreApart form.parts }
     {
@@ -114,17 +114,17 @@ impl Reading {
         Ok(Reading {
             alloc,
             form,
-            stage: Stage::Head(0),
+            stage: ReadingStage::Head(0),
             frozen,
         })
     }
 
     /// Whether all was read.
     pub fn has_ended(&self) -> bool
-        ensures yes { result ≡ true → self.now.stage ≡ Stage.Ended }
-        ensures no { result ≡ false → self.now.stage ≢ Stage.Ended }
+        ensures yes { result ≡ true → self.now.stage ≡ ReadingStage.Ended }
+        ensures no { result ≡ false → self.now.stage ≢ ReadingStage.Ended }
     {
-        matches!(self.stage, Stage::Ended)
+        matches!(self.stage, ReadingStage::Ended)
     }
 
     // Takes a line behind so many of the first ones.
@@ -142,19 +142,19 @@ impl Reading {
                 return Err(TakeFault::NotCheckpoint);
             };
             self.frozen.set_times(lines, last);
-            self.stage = Stage::Texts;
+            self.stage = ReadingStage::Texts;
             return Ok(());
         };
         if line != expected {
             return Err(TakeFault::NotCheckpoint);
         }
-        self.stage = Stage::Head(passed + 1);
+        self.stage = ReadingStage::Head(passed + 1);
         Ok(())
     }
 
     // Takes the line of a stream.
     fn take_bound(&mut self, line: &[u8]) -> Result<(), TakeFault>
-        requires { self.old.stage ≡ Stage.Texts }
+        requires { self.old.stage ≡ ReadingStage.Texts }
         ensures ok { OnOk result (
             bound_step self.old.frozen line.now ≡ Some (standing self.new.stage self.new.frozen)) }
         ensures refused { IfErr result (λ fault. fault ≡ TakeFault.NotCheckpoint →
@@ -193,13 +193,13 @@ impl Reading {
             return Err(TakeFault::NotCheckpoint);
         };
         self.frozen.push_entry(number, read.entry)?;
-        self.stage = Stage::Entries(number);
+        self.stage = ReadingStage::Entries(number);
         Ok(())
     }
 
     // Takes the line of a text, or of the first entry.
     fn take_text(&mut self, line: &[u8]) -> Result<(), TakeFault>
-        requires stage { self.old.stage ≡ Stage.Texts }
+        requires stage { self.old.stage ≡ ReadingStage.Texts }
         requires parts { length self.old.frozen.parts ≡ length self.old.form.parts }
         ensures ok { OnOk result (
             text_step self.old.form self.old.frozen line.now (text_of line.now)
@@ -228,25 +228,25 @@ impl Reading {
         ensures form { self.new.form ≡ self.old.form }
     {
         match self.stage {
-            Stage::Head(passed) => self.take_head(passed, line),
-            Stage::Texts => {
+            ReadingStage::Head(passed) => self.take_head(passed, line),
+            ReadingStage::Texts => {
                 if self.frozen.bounds().len() < self.form.streams() {
                     return self.take_bound(line);
                 }
                 if is_end_line(line) {
-                    self.stage = Stage::Ended;
+                    self.stage = ReadingStage::Ended;
                     return Ok(());
                 }
                 self.take_text(line)
             }
-            Stage::Entries(from) => {
+            ReadingStage::Entries(from) => {
                 if is_end_line(line) {
-                    self.stage = Stage::Ended;
+                    self.stage = ReadingStage::Ended;
                     return Ok(());
                 }
                 self.take_entry(from, line)
             }
-            Stage::Ended => Err(TakeFault::NotCheckpoint),
+            ReadingStage::Ended => Err(TakeFault::NotCheckpoint),
         }
     }
 }

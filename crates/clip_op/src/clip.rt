@@ -5,7 +5,7 @@ ghost use Rattle.sweep_operator.specs.Operating.{standing, IsNew};
 ghost use Rattle.plan_model.specs.declared.node.Node.TheVariants.{Clip as ClipNode};
 
 use crate::sides::ClipSides;
-use crate::sweep::Rows;
+use crate::sweep::ClipRows;
 use end_queue::EndQueue;
 use std::alloc::Global;
 use sweep_operator::Swept;
@@ -27,7 +27,7 @@ fn no_sides(alloc: Global, left_key: &[usize], right_key: &[usize]) -> Result<Cl
     ensures waiting { IfOk result (λ s. (s.left_waiting ≡ []) × (s.right_waiting ≡ [])) }
 {
     Ok(ClipSides {
-        rows: Rows {
+        rows: ClipRows {
             alloc,
             right_key: KeyRoom::new(alloc, right_key)?,
             left: Synopsis::new(alloc, left_key)?,

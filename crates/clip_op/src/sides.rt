@@ -17,7 +17,7 @@ ghost use Rattle.clip_op.specs.Clipped.{clips};
 ghost use Rattle.clip_op.specs.Keys.{SameKeys};
 ghost use Rattle.clip_op.specs.States.{ClipSound};
 
-use crate::sweep::Rows;
+use crate::sweep::ClipRows;
 use carried_edges::are_of_parts;
 use edge_stream::{EdgeList, LoadFault, PartRow, Saved};
 use end_queue::EndQueue;
@@ -31,7 +31,7 @@ use tw_rows::{Edge, Kind, Memory, Time};
 /// The left rows that are open and not clipped, the pending left edges, and the pending right starts.
 #[derive(Drop)]
 pub struct ClipSides {
-    pub(crate) rows: Rows,
+    pub(crate) rows: ClipRows,
     pub(crate) left_key: Vec<usize>,
     pub(crate) left_waiting: EndQueue,
     pub(crate) right_waiting: EndQueue,

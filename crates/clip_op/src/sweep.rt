@@ -23,7 +23,7 @@ use tw_rows::{Edge, Memory, Time};
 
 /// The left rows that are open and not clipped, by their key, and room for the key of a right row.
 #[derive(Drop)]
-pub(crate) struct Rows {
+pub(crate) struct ClipRows {
     pub(crate) alloc: Global,
     pub(crate) right_key: KeyRoom,
     pub(crate) left: Synopsis,
@@ -54,7 +54,7 @@ fn take_out(rows: &mut Synopsis, ends: &[Edge])
     }
 }
 
-impl Rows {
+impl ClipRows {
     ghost use Rattle.clip_op.specs.Keys.{SameKeys};
 
     // Takes out all left rows of the key that the room holds, and emits their ends.

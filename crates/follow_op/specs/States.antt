@@ -23,10 +23,10 @@ use Rattle.sweep_laws.specs.Saving.{rows_of, are_row_starts, may_all_wait}
 use Rattle.sweep_laws.specs.Waits.{as_interval, starts_below}
 use Rattle.follow_op.specs.Followed.{follows}
 use Rattle.follow_op.specs.Waits.{FollowHeld}
-use Rattle.follow_op.specs.declared.sides.Sides.{Sides}
+use Rattle.follow_op.specs.declared.sides.FollowSides.{FollowSides}
 
 -- it can be what is left, swept up to a time, after the edges hl and hr came in
-pub record SidesKeep (s : Sides) (to : ℕ) (hl hr : List Edge) : Type 0 where
+pub record SidesKeep (s : FollowSides) (to : ℕ) (hl hr : List Edge) : Type 0 where
   pub left_timed : AreTimed s.left_waiting
   pub right_timed : AreTimed s.right_waiting
   pub left_history : IsHistory hl
@@ -36,14 +36,14 @@ pub record SidesKeep (s : Sides) (to : ℕ) (hl hr : List Edge) : Type 0 where
   pub now : FollowHeld s.rows.left.key s.rows.right_key.columns s.rows.within (of hl) (of hr) to to s.rows.left.rows s.rows.queue.items
 
 -- left rows that began before a time, and starts of both sides from it on, of such columns
-pub record AreSides (left_kinds right_kinds : List CellKind) (to : ℕ) (s : Sides) : Type 0 where
+pub record AreSides (left_kinds right_kinds : List CellKind) (to : ℕ) (s : FollowSides) : Type 0 where
   pub left : IsSide left_kinds to s.rows.left.rows s.left_waiting
   pub right : IsSide right_kinds to [] s.right_waiting
   pub left_starts : failing is_start (queued s.left_waiting) ≡ 0
   pub right_starts : failing is_start (queued s.right_waiting) ≡ 0
 
 -- the same of a Follow that works
-pub record IsWorking (s : Sides) (left_kinds right_kinds own_kinds : List Kind) (capacity to : ℕ) : Type 0 where
+pub record IsWorking (s : FollowSides) (left_kinds right_kinds own_kinds : List Kind) (capacity to : ℕ) : Type 0 where
   pub sides : AreSides (map cell_kind_of left_kinds) (map cell_kind_of right_kinds) to s
   pub width : length own_kinds ≤ 32
   pub room : 1 ≤ capacity

@@ -3,8 +3,8 @@ ghost use Rattle.std.specs.Prelude.{◌≡◌, ◌≤◌, min, length, false, []
 ghost use Rattle.plan_model.specs.Keys.{paired_row};
 ghost use Rattle.follow_op.specs.States.{IsWorking};
 
-use crate::rows::Rows;
-use crate::sides::Sides;
+use crate::rows::FollowRows;
+use crate::sides::FollowSides;
 use end_queue::EndQueue;
 use std::alloc::Global;
 use std::collections::VecDeque;
@@ -18,7 +18,7 @@ use tw_rows::{Kind, Memory, Time};
 /// of the times on up to which they are closed. No end is kept: that of a pair is known at its start.
 #[derive(Drop)]
 pub struct Follow {
-    pub(crate) sides: Sides,
+    pub(crate) sides: FollowSides,
     pub(crate) left_key: Vec<usize>,
     pub(crate) left_kinds: Vec<Kind>,
     pub(crate) right_kinds: Vec<Kind>,
@@ -42,7 +42,7 @@ fn no_sides(
     within: u64,
     left_key: &[usize],
     right_key: &[usize],
-) -> Result<Sides, Memory>
+) -> Result<FollowSides, Memory>
     ensures within { IfOk result (λ s. s.rows.within ≡ within) }
     ensures left_key { IfOk result (λ s. s.rows.left.key ≡ left_key.now) }
     ensures right_key { IfOk result (λ s. s.rows.right_key.columns ≡ right_key.now) }
@@ -50,8 +50,8 @@ fn no_sides(
     ensures queue { IfOk result (λ s. s.rows.queue.items ≡ []) }
     ensures waiting { IfOk result (λ s. (s.left_waiting ≡ []) × (s.right_waiting ≡ [])) }
 {
-    Ok(Sides {
-        rows: Rows {
+    Ok(FollowSides {
+        rows: FollowRows {
             alloc,
             within,
             right_key: KeyRoom::new(alloc, right_key)?,

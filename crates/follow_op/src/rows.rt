@@ -26,7 +26,7 @@ use tw_rows::{Datum, Edge, Memory, Time};
 /// The left rows that wait, by their key, and the same rows in the order of their starts, with some that were followed. A row
 /// waits within a time from its start on.
 #[derive(Drop)]
-pub(crate) struct Rows {
+pub(crate) struct FollowRows {
     pub(crate) alloc: Global,
     pub(crate) within: u64,
     pub(crate) right_key: KeyRoom,
@@ -194,7 +194,7 @@ fn drop_over(left: &mut Synopsis, queue: &mut VecDeque<HeldRow>, within: u64, t:
     }
 }
 
-impl Rows {
+impl FollowRows {
     ghost use Rattle.follow_op.specs.Keys.{SameKeys};
 
     // Goes on past one instant. The rows that start come last: a right row follows none that starts with it.

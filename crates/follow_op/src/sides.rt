@@ -18,7 +18,7 @@ ghost use Rattle.follow_op.specs.Intervals.{TellsAhead};
 ghost use Rattle.follow_op.specs.Keys.{SameKeys};
 ghost use Rattle.follow_op.specs.States.{FollowSound};
 
-use crate::rows::Rows;
+use crate::rows::FollowRows;
 use carried_edges::{are_of_parts, edges_of_part};
 use edge_stream::{EdgeList, Saved};
 use end_queue::EndQueue;
@@ -30,8 +30,8 @@ use tw_rows::{Edge, Kind, Memory, Time};
 
 /// The left rows that wait for a right row, and the pending starts of both sides.
 #[derive(Drop)]
-pub(crate) struct Sides {
-    pub(crate) rows: Rows,
+pub(crate) struct FollowSides {
+    pub(crate) rows: FollowRows,
     pub(crate) left_waiting: EndQueue,
     pub(crate) right_waiting: EndQueue,
 }
@@ -67,7 +67,7 @@ fn load_queue(alloc: Global, saved: &Saved, part: u64) -> Result<VecDeque<HeldRo
     Ok(queue)
 }
 
-impl Sides {
+impl FollowSides {
     ghost use Rattle.follow_op.specs.States.{SidesKeep, AreSides};
 
     /// Takes the starts of both sides in, and answers the interval edges of the events that start before a time.

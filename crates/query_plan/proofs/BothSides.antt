@@ -21,7 +21,7 @@ use Rattle.query_columns.specs.Names.{key_of}
 use Rattle.query_columns.proofs.Fitting.{key_of-is, keys_alike-same, kinds-group_schema, kinds-join_schema, no_aggs}
 use Rattle.query_columns.proofs.Typing.{option_map_some}
 use Rattle.query_plan.specs.Draft.{Named, Planned, Draft, and_then, needs, node_named, schema_at}
-use Rattle.query_plan.specs.Steps.{operand, Sides, named_sides, are_alike, sides, join_node, key_group, anti_node}
+use Rattle.query_plan.specs.Steps.{operand, PlannedSides, named_sides, are_alike, sides, join_node, key_group, anti_node}
 use Rattle.query_plan.proofs.Fits.{same_Ok, goes_on, takes, passes, IsFit, IsDraft, calm}
 
 -- the operand that a name gives is one of the nodes
@@ -46,15 +46,15 @@ pub operand_low : (streams : List StreamDef) (item : ℕ) (d : Draft) (name : Li
 operand_low streams item d name at kept h = named_low d name at kept.named (some_from (node_named d.names name) (F.UnknownName item) at h)
 
 -- what is known of the sides of a step with a right operand, before their kinds are
-record AreNamed (d : Draft) (at : ℕ) (s : Sides) : Type 0 where
+record AreNamed (d : Draft) (at : ℕ) (s : PlannedSides) : Type 0 where
   low : s.right < length d.nodes
   keys : are_alike d at s ≡ true → AreKeys (kinds_at d.schemas at) (kinds_at d.schemas s.right) s.left_key s.right_key
 
-pub record AreSides (d : Draft) (at : ℕ) (s : Sides) : Type 0 where
+pub record AreSides (d : Draft) (at : ℕ) (s : PlannedSides) : Type 0 where
   pub low : s.right < length d.nodes
   pub keys : AreKeys (kinds_at d.schemas at) (kinds_at d.schemas s.right) s.left_key s.right_key
 
-named_are : (streams : List StreamDef) (item : ℕ) (d : Draft) (at : ℕ) (name : List ℕ) (key : List (List ℕ)) (s : Sides) → IsDraft streams d → named_sides item d at name key ≡ Ok s → AreNamed d at s
+named_are : (streams : List StreamDef) (item : ℕ) (d : Draft) (at : ℕ) (name : List ℕ) (key : List (List ℕ)) (s : PlannedSides) → IsDraft streams d → named_sides item d at name key ≡ Ok s → AreNamed d at s
 named_are streams item d at name key s kept h =
     let reached = goes_on (operand item d name) (λ right.
     and_then (ok_or (key_of (schema_at d at) key) (F.UnknownName item)) (λ left_key.
@@ -77,12 +77,12 @@ named_are streams item d at name key s kept h =
     })
 
 -- sides that are named and alike
-pub named_sides_are : (streams : List StreamDef) (item : ℕ) (d : Draft) (at : ℕ) (name : List ℕ) (key : List (List ℕ)) (s : Sides) → IsDraft streams d → named_sides item d at name key ≡ Ok s → are_alike d at s ≡ true → AreSides d at s
+pub named_sides_are : (streams : List StreamDef) (item : ℕ) (d : Draft) (at : ℕ) (name : List ℕ) (key : List (List ℕ)) (s : PlannedSides) → IsDraft streams d → named_sides item d at name key ≡ Ok s → are_alike d at s ≡ true → AreSides d at s
 named_sides_are streams item d at name key s kept h alike =
     let are = named_are streams item d at name key s kept h in
     record { low = are.low; keys = are.keys alike }
 
-pub sides_are : (streams : List StreamDef) (item : ℕ) (d : Draft) (at : ℕ) (name : List ℕ) (key : List (List ℕ)) (s : Sides) → IsDraft streams d → sides item d at name key ≡ Ok s → AreSides d at s
+pub sides_are : (streams : List StreamDef) (item : ℕ) (d : Draft) (at : ℕ) (name : List ℕ) (key : List (List ℕ)) (s : PlannedSides) → IsDraft streams d → sides item d at name key ≡ Ok s → AreSides d at s
 sides_are streams item d at name key s kept h =
     let named = goes_on (named_sides item d at name key) (λ x. and_then (needs (are_alike d at x) (F.TypeClash item)) (λ u. Ok x)) s h in
     let alike = passes (are_alike d at named.0) (F.TypeClash item) (λ u. Ok named.0) s named.2 in
@@ -114,7 +114,7 @@ pub kinds_of_last : (schemas : List (List ColumnDef)) (schema : List ColumnDef) 
 kinds_of_last schemas schema i here = ap (kinds_at (schemas ++ schema ∷ [])) (sym here) ∙ kinds_of_new schemas schema
 
 -- a join over two nodes
-pub join_fit : (streams : List StreamDef) (d : Draft) (at : ℕ) (s : Sides) → at < length d.nodes → AreSides d at s → IsFit streams d.nodes d.schemas (join_node d at s).node (join_node d at s).schema
+pub join_fit : (streams : List StreamDef) (d : Draft) (at : ℕ) (s : PlannedSides) → at < length d.nodes → AreSides d at s → IsFit streams d.nodes d.schemas (join_node d at s).node (join_node d at s).schema
 join_fit streams d at s low are = record {
   left_lower = low;
   right_lower = are.low;
@@ -127,11 +127,11 @@ join_fit streams d at s low are = record {
 }
 
 -- the kinds of a group of keys alone
-key_group_kinds : (d : Draft) (s : Sides) → kinds_of_schema (key_group d s).schema ≡ key_kinds (kinds_at d.schemas s.right) s.right_key
+key_group_kinds : (d : Draft) (s : PlannedSides) → kinds_of_schema (key_group d s).schema ≡ key_kinds (kinds_at d.schemas s.right) s.right_key
 key_group_kinds d s = kinds-group_schema (schema_at d s.right) s.right_key [] [] (no_aggs (schema_at d s.right)) ∙ append-nil (key_kinds (kinds_at d.schemas s.right) s.right_key)
 
 -- the group of the right keys, behind nodes and schemas of which the right operand is one as in the draft
-pub group_fit : (streams : List StreamDef) (d : Draft) (at : ℕ) (s : Sides) (nodes : List Node) (schemas : List (List ColumnDef)) → AreSides d at s → s.right < length nodes → kinds_at schemas s.right ≡ kinds_at d.schemas s.right →
+pub group_fit : (streams : List StreamDef) (d : Draft) (at : ℕ) (s : PlannedSides) (nodes : List Node) (schemas : List (List ColumnDef)) → AreSides d at s → s.right < length nodes → kinds_at schemas s.right ≡ kinds_at d.schemas s.right →
     IsFit streams nodes schemas (key_group d s).node (key_group d s).schema
 group_fit streams d at s nodes schemas are low same = record {
   left_lower = low;
@@ -155,7 +155,7 @@ anti_keys l r left_key right_key keys =
     }
 
 -- the anti-join with that group, which is the last node before it
-pub anti_fit : (streams : List StreamDef) (d : Draft) (at : ℕ) (s : Sides) (group : ℕ) (nodes : List Node) (schemas : List (List ColumnDef)) → AreSides d at s → length nodes ≡ group → length schemas ≡ group →
+pub anti_fit : (streams : List StreamDef) (d : Draft) (at : ℕ) (s : PlannedSides) (group : ℕ) (nodes : List Node) (schemas : List (List ColumnDef)) → AreSides d at s → length nodes ≡ group → length schemas ≡ group →
     at < length nodes → kinds_at schemas at ≡ kinds_at d.schemas at →
     IsFit streams (nodes ++ (key_group d s).node ∷ []) (schemas ++ (key_group d s).schema ∷ []) (anti_node d at s group).node (anti_node d at s group).schema
 anti_fit streams d at s group nodes schemas are long as_long low same =

@@ -16,7 +16,7 @@ use Rattle.query_columns.specs.Schemas.{column_at, select_schema, same_kinds, ke
 use Rattle.query_plan.specs.Checked.{is_wide, has_twice}
 use Rattle.query_plan.specs.Draft.{Draft, Planned, and_then, needs, node_named, schema_at, with_nodes, reaches_too_far, admitted}
 use Rattle.query_plan.specs.Faults.{FaultRow, first_fault, fault_of, operand_or, key_or, unknown_sides, unlike_sides, is_test, lacks_events, step_rows, node_rows}
-use Rattle.query_plan.specs.Steps.{alone, over_events, Sides, named_sides, are_alike, sides, joined, is_window, is_top_count, join_node, key_group, anti_node, left_nodes, grouped, step_nodes}
+use Rattle.query_plan.specs.Steps.{alone, over_events, PlannedSides, named_sides, are_alike, sides, joined, is_window, is_top_count, join_node, key_group, anti_node, left_nodes, grouped, step_nodes}
 
 abbrev row : Bool → QueryFault → FaultRow
 row holds fault = record { holds = holds; fault = fault }
@@ -40,14 +40,14 @@ found : {A : Type 0} (o : Option A) (d a : A) → o ≡ Some a → a ≡ unwrap_
 found o d a e = sym (ap (λ x. unwrap_or x d) e)
 
 -- the right operand and the keys of a step
-key_cases : {B : Type 0} (right : ℕ) (left_key : List ℕ) (o : Option (List ℕ)) (f : QueryFault) (next : Sides → Result B QueryFault) (rest : List FaultRow) →
-    ((s : Sides) → s.right ≡ right → s.left_key ≡ left_key → s.right_key ≡ unwrap_or o [] → fault_of (next s) ≡ first_fault rest) →
+key_cases : {B : Type 0} (right : ℕ) (left_key : List ℕ) (o : Option (List ℕ)) (f : QueryFault) (next : PlannedSides → Result B QueryFault) (rest : List FaultRow) →
+    ((s : PlannedSides) → s.right ≡ right → s.left_key ≡ left_key → s.right_key ≡ unwrap_or o [] → fault_of (next s) ≡ first_fault rest) →
     fault_of (and_then (and_then (ok_or o f) (λ k. Ok (record { right = right; left_key = left_key; right_key = k }))) next) ≡ first_fault (row (is_none o) f ∷ rest)
 key_cases right left_key None f next rest h = refl
 key_cases right left_key (Some k) f next rest h = h (record { right = right; left_key = left_key; right_key = k }) refl refl refl
 
-named_cases : {B : Type 0} (a : Option ℕ) (b : Option (List ℕ)) (c : ℕ → Option (List ℕ)) (f : QueryFault) (next : Sides → Result B QueryFault) (rest : List FaultRow) →
-    ((s : Sides) → s.right ≡ unwrap_or a 0 → s.left_key ≡ unwrap_or b [] → s.right_key ≡ unwrap_or (c (unwrap_or a 0)) [] → fault_of (next s) ≡ first_fault rest) →
+named_cases : {B : Type 0} (a : Option ℕ) (b : Option (List ℕ)) (c : ℕ → Option (List ℕ)) (f : QueryFault) (next : PlannedSides → Result B QueryFault) (rest : List FaultRow) →
+    ((s : PlannedSides) → s.right ≡ unwrap_or a 0 → s.left_key ≡ unwrap_or b [] → s.right_key ≡ unwrap_or (c (unwrap_or a 0)) [] → fault_of (next s) ≡ first_fault rest) →
     fault_of (and_then (and_then (ok_or a f) (λ right. and_then (ok_or b f) (λ left_key. and_then (ok_or (c right) f) (λ k. Ok (record { right = right; left_key = left_key; right_key = k }))))) next)
     ≡ first_fault (row (is_none a || (is_none b || is_none (c (unwrap_or a 0)))) f ∷ rest)
 named_cases None b c f next rest h = refl
@@ -60,16 +60,16 @@ regroup (Err fault) f g = refl
 
 -- the rows of a step over the node of number `at`
 module _ (item : ℕ) (d : Draft) (at : ℕ) where
-  named_told : {B : Type 0} (name : List ℕ) (key : List (List ℕ)) (next : Sides → Result B QueryFault) (rest : List FaultRow) →
-      ((s : Sides) → s.right ≡ operand_or d name → s.left_key ≡ key_or (schema_at d at) key → s.right_key ≡ key_or (schema_at d (operand_or d name)) key → fault_of (next s) ≡ first_fault rest) →
+  named_told : {B : Type 0} (name : List ℕ) (key : List (List ℕ)) (next : PlannedSides → Result B QueryFault) (rest : List FaultRow) →
+      ((s : PlannedSides) → s.right ≡ operand_or d name → s.left_key ≡ key_or (schema_at d at) key → s.right_key ≡ key_or (schema_at d (operand_or d name)) key → fault_of (next s) ≡ first_fault rest) →
       fault_of (and_then (named_sides item d at name key) next) ≡ first_fault (row (unknown_sides d at name key) (F.UnknownName item) ∷ rest)
   named_told name key next rest h =
       named_cases (node_named d.names name) (key_of (schema_at d at) key) (λ right. key_of (schema_at d right) key) (F.UnknownName item) next rest h
 
-  unlike : (name : List ℕ) (key : List (List ℕ)) (s : Sides) → s.right ≡ operand_or d name → s.left_key ≡ key_or (schema_at d at) key → s.right_key ≡ key_or (schema_at d (operand_or d name)) key → not (are_alike d at s) ≡ unlike_sides d at name key
+  unlike : (name : List ℕ) (key : List (List ℕ)) (s : PlannedSides) → s.right ≡ operand_or d name → s.left_key ≡ key_or (schema_at d at) key → s.right_key ≡ key_or (schema_at d (operand_or d name)) key → not (are_alike d at s) ≡ unlike_sides d at name key
   unlike name key s r l k = λ i. not (keys_alike (schema_at d at) (schema_at d (r i)) (l i) (k i))
 
-  sides_told : {B : Type 0} (name : List ℕ) (key : List (List ℕ)) (next : Sides → Result B QueryFault) (rest : List FaultRow) → ((s : Sides) → s.right ≡ operand_or d name → fault_of (next s) ≡ first_fault rest) →
+  sides_told : {B : Type 0} (name : List ℕ) (key : List (List ℕ)) (next : PlannedSides → Result B QueryFault) (rest : List FaultRow) → ((s : PlannedSides) → s.right ≡ operand_or d name → fault_of (next s) ≡ first_fault rest) →
       fault_of (and_then (sides item d at name key) next) ≡ first_fault (row (unknown_sides d at name key) (F.UnknownName item) ∷ row (unlike_sides d at name key) (F.TypeClash item) ∷ rest)
   sides_told name key next rest h =
       ap fault_of (regroup (named_sides item d at name key) (λ s. and_then (needs (are_alike d at s) (F.TypeClash item)) (λ u. Ok s)) next)

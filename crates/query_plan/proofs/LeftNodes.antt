@@ -26,7 +26,7 @@ use Rattle.query_columns.specs.Schemas.{fills_fit}
 use Rattle.query_columns.proofs.Fitting.{kinds-join_schema, fills_fit-same}
 use Rattle.query_columns.proofs.Typing.{tree_types-typed}
 use Rattle.query_plan.specs.Draft.{Planned, Draft, schema_at}
-use Rattle.query_plan.specs.Steps.{Sides, joined, join_node, key_group, anti_node, columns_alone, filled_node, left_nodes}
+use Rattle.query_plan.specs.Steps.{PlannedSides, joined, join_node, key_group, anti_node, columns_alone, filled_node, left_nodes}
 use Rattle.query_plan.proofs.Fits.{IsFit, AllFit, calm}
 use Rattle.query_plan.proofs.BothSides.{AreSides, kinds_of_last, join_fit, group_fit, anti_fit}
 
@@ -53,11 +53,11 @@ columns_kinds before (k ∷ ks) a long =
     λ i. here i ∷ same i
 
 -- the columns of a schema, and literals of the kinds of the right columns outside the key
-record AreItems (d : Draft) (at : ℕ) (s : Sides) (fills : List (List ExprNode)) : Type 0 where
+record AreItems (d : Draft) (at : ℕ) (s : PlannedSides) (fills : List (List ExprNode)) : Type 0 where
   typed : All (IsExprOver (kinds_at d.schemas at)) (columns_alone (length (schema_at d at)) ++ fills)
   same : kinds_of_schema (joined d at s) ≡ map (λ e. kind_of e (kinds_at d.schemas at)) (columns_alone (length (schema_at d at)) ++ fills)
 
-items_are : (d : Draft) (at : ℕ) (s : Sides) (trees : List (List TreeNode)) (fills : List (List ExprNode)) (types : List Kind) → tree_exprs (schema_at d at) trees ≡ Some fills → tree_types (schema_at d at) trees ≡ Some types →
+items_are : (d : Draft) (at : ℕ) (s : PlannedSides) (trees : List (List TreeNode)) (fills : List (List ExprNode)) (types : List Kind) → tree_exprs (schema_at d at) trees ≡ Some fills → tree_types (schema_at d at) trees ≡ Some types →
     fills_fit (schema_at d s.right) s.right_key types ≡ true → AreItems d at s fills
 items_are d at s trees fills types named typed fit =
     let l = kinds_at d.schemas at in
@@ -72,7 +72,7 @@ items_are d at s trees fills types named typed fit =
           ∙ sym (map-append (λ e. kind_of e l) (columns_alone (length (schema_at d at))) fills)));
     }
 
-pub left_fit : (streams : List StreamDef) (d : Draft) (at : ℕ) (s : Sides) (trees : List (List TreeNode)) (fills : List (List ExprNode)) (types : List Kind) → at < length d.nodes → length d.schemas ≡ length d.nodes → AreSides d at s →
+pub left_fit : (streams : List StreamDef) (d : Draft) (at : ℕ) (s : PlannedSides) (trees : List (List TreeNode)) (fills : List (List ExprNode)) (types : List Kind) → at < length d.nodes → length d.schemas ≡ length d.nodes → AreSides d at s →
     tree_exprs (schema_at d at) trees ≡ Some fills → tree_types (schema_at d at) trees ≡ Some types → fills_fit (schema_at d s.right) s.right_key types ≡ true →
     AllFit streams d.nodes d.schemas (left_nodes d at s (length d.nodes) fills)
 left_fit streams d at s trees fills types low one_each are named typed fit =

@@ -37,13 +37,13 @@ abbrev pub alone : Draft → ℕ → Node → Result (List Planned) QueryFault
 alone d at node = Ok (record { node = node; schema = schema_at d at } ∷ [])
 
 -- a right operand, and its key on both sides: the node, the columns on the left and those on the right
-pub record Sides : Type 0 where
+pub record PlannedSides : Type 0 where
   pub right : ℕ
   pub left_key : List ℕ
   pub right_key : List ℕ
 
 -- an operand is there, and the columns of the key are there on both sides
-abbrev pub named_sides : ℕ → Draft → ℕ → List ℕ → List (List ℕ) → Result Sides QueryFault
+abbrev pub named_sides : ℕ → Draft → ℕ → List ℕ → List (List ℕ) → Result PlannedSides QueryFault
 named_sides item d at name key =
     and_then (operand item d name) (λ right.
     and_then (ok_or (key_of (schema_at d at) key) (F.UnknownName item)) (λ left_key.
@@ -51,11 +51,11 @@ named_sides item d at name key =
     Ok (record { right = right; left_key = left_key; right_key = right_key }))))
 
 -- the columns of the key are of the same kinds on both sides
-abbrev pub are_alike : Draft → ℕ → Sides → Bool
+abbrev pub are_alike : Draft → ℕ → PlannedSides → Bool
 are_alike d at s = keys_alike (schema_at d at) (schema_at d s.right) s.left_key s.right_key
 
 -- an operand and a key that are there, and are alike
-abbrev pub sides : ℕ → Draft → ℕ → List ℕ → List (List ℕ) → Result Sides QueryFault
+abbrev pub sides : ℕ → Draft → ℕ → List ℕ → List (List ℕ) → Result PlannedSides QueryFault
 sides item d at name key =
     and_then (named_sides item d at name key) (λ s.
     and_then (needs (are_alike d at s) (F.TypeClash item)) (λ u.
@@ -121,10 +121,10 @@ clip_step item d at name key =
     alone d at (Clip at s.right s.left_key s.right_key))))
 
 -- the columns of a join or of what stands for one: the left ones, and then the right ones outside the key
-abbrev pub joined : Draft → ℕ → Sides → List ColumnDef
+abbrev pub joined : Draft → ℕ → PlannedSides → List ColumnDef
 joined d at s = join_schema (schema_at d at) (schema_at d s.right) s.right_key
 
-abbrev pub join_node : Draft → ℕ → Sides → Planned
+abbrev pub join_node : Draft → ℕ → PlannedSides → Planned
 join_node d at s = record { node = Join at s.right s.left_key s.right_key; schema = joined d at s }
 
 abbrev pub join_step : ℕ → Draft → ℕ → List ℕ → List (List ℕ) → Result (List Planned) QueryFault
@@ -133,11 +133,11 @@ join_step item d at name key =
     Ok (join_node d at s ∷ []))
 
 -- the right keys that there are: a group of them alone
-abbrev pub key_group : Draft → Sides → Planned
+abbrev pub key_group : Draft → PlannedSides → Planned
 key_group d s = record { node = Group s.right s.right_key []; schema = group_schema (schema_at d s.right) s.right_key [] [] }
 
 -- the anti-join with that group, which has number `group`. Its right key is all of the group's columns
-abbrev pub anti_node : Draft → ℕ → Sides → ℕ → Planned
+abbrev pub anti_node : Draft → ℕ → PlannedSides → ℕ → Planned
 anti_node d at s group = record { node = Anti at group s.left_key (instants 0 (length s.right_key)); schema = schema_at d at }
 
 -- two nodes: a group of the right keys alone, and the anti-join with it
@@ -151,12 +151,12 @@ abbrev pub columns_alone : ℕ → List (List ExprNode)
 columns_alone n = map (λ c. E.Column c ∷ []) (instants 0 n)
 
 -- the left rows without a partner, which has number `of`: their columns, and a literal for each right column outside the key
-abbrev pub filled_node : Draft → ℕ → Sides → ℕ → List (List ExprNode) → Planned
+abbrev pub filled_node : Draft → ℕ → PlannedSides → ℕ → List (List ExprNode) → Planned
 filled_node d at s of fills = record { node = Select of (columns_alone (length (schema_at d at)) ++ fills); schema = joined d at s }
 
 -- the five nodes of a left join behind n nodes: the join, the group of the right keys, the left rows without a partner,
 -- these with the literals, and the union of the join and them
-abbrev pub left_nodes : Draft → ℕ → Sides → ℕ → List (List ExprNode) → List Planned
+abbrev pub left_nodes : Draft → ℕ → PlannedSides → ℕ → List (List ExprNode) → List Planned
 left_nodes d at s n fills =
     join_node d at s
     ∷ key_group d s

@@ -5,7 +5,7 @@ ghost use Rattle.query_plan.specs.Steps.{clip_step, join_node, join_step, anti_s
 
 use crate::checks::needs;
 use crate::draft::PlannedNode;
-use crate::sides::{Sides, key_copy};
+use crate::sides::{PlannedSides, key_copy};
 use crate::steps::StepContext;
 use plan_model::{Node, QueryError, QueryFault};
 use query_text::NameList;
@@ -33,7 +33,7 @@ impl<'a> StepContext<'a> {
     }
 
     /// The pairs of a left and a right row with equal keys.
-    pub(crate) fn join_node(&self, sides: &Sides) -> Result<PlannedNode, Memory>
+    pub(crate) fn join_node(&self, sides: &PlannedSides) -> Result<PlannedNode, Memory>
         ensures { IfOk result (λ p. p ≡ join_node self.now.draft.now self.now.at sides.now) }
     {
         let schema = self.joined_schema(sides)?;

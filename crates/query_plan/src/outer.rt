@@ -10,7 +10,7 @@ ghost use Rattle.query_plan.specs.Steps.{anti_node, columns_alone, filled_node, 
 
 use crate::checks::needs;
 use crate::draft::PlannedNode;
-use crate::sides::Sides;
+use crate::sides::PlannedSides;
 use crate::steps::StepContext;
 use plan_model::{Expr, ExprList, ExprNode, Node, QueryError, QueryFault};
 use query_columns::{fills_fit, tree_exprs, tree_types};
@@ -64,7 +64,12 @@ fn columns_alone(alloc: Global, count: usize) -> Result<Vec<Expr>, Memory>
 
 impl<'a> StepContext<'a> {
     // The left rows without a partner, which has number `of`, with the literals in place of the right columns.
-    fn filled_node(&self, sides: &Sides, of: usize, fills: Vec<Expr>) -> Result<PlannedNode, Memory>
+    fn filled_node(
+        &self,
+        sides: &PlannedSides,
+        of: usize,
+        fills: Vec<Expr>,
+    ) -> Result<PlannedNode, Memory>
         ensures { IfOk result
             (λ p. p ≡ filled_node self.now.draft.now self.now.at sides.now of fills.items) }
     {
@@ -80,7 +85,7 @@ impl<'a> StepContext<'a> {
     }
 
     // The union of the pairs, which have number `first`, and the filled rows three nodes behind them.
-    fn left_union(&self, sides: &Sides, first: usize) -> Result<PlannedNode, Memory>
+    fn left_union(&self, sides: &PlannedSides, first: usize) -> Result<PlannedNode, Memory>
         requires { first < 2 ^ 63 }
         ensures { IfOk result (λ p. p ≡ record {
           node = Node.Union first (first + 3);
@@ -96,7 +101,7 @@ impl<'a> StepContext<'a> {
     }
 
     // Puts the pairs of a left join last, and the keys of its right rows behind them.
-    fn push_pairs(&self, nodes: &mut Vec<PlannedNode>, sides: &Sides) -> Result<(), Memory>
+    fn push_pairs(&self, nodes: &mut Vec<PlannedNode>, sides: &PlannedSides) -> Result<(), Memory>
         ensures { OnOk result (nodes.new.items ≡ nodes.old.items
             ++ join_node self.now.draft.now self.now.at sides.now
             ∷ key_group self.now.draft.now sides.now ∷ []) }
@@ -111,7 +116,7 @@ impl<'a> StepContext<'a> {
     fn push_rest(
         &self,
         nodes: &mut Vec<PlannedNode>,
-        sides: &Sides,
+        sides: &PlannedSides,
         first: usize,
         filled: PlannedNode,
     ) -> Result<(), Memory>
@@ -133,7 +138,7 @@ impl<'a> StepContext<'a> {
     // The five nodes of a left join behind `first` nodes.
     fn left_nodes(
         &self,
-        sides: &Sides,
+        sides: &PlannedSides,
         first: usize,
         fills: Vec<Expr>,
     ) -> Result<Vec<PlannedNode>, Memory>

@@ -16,14 +16,14 @@ use tw_rows::{Label, Memory, Schema};
 
 /// A right operand, and the columns of a key on both sides.
 #[derive(Drop)]
-pub(crate) struct Sides {
+pub(crate) struct PlannedSides {
     pub(crate) right: usize,
     pub(crate) left_key: Key,
     pub(crate) right_key: Key,
 }
 
-impl Model for Sides {
-    ghost use Rattle.query_plan.specs.Steps.{Sides as Found};
+impl Model for PlannedSides {
+    ghost use Rattle.query_plan.specs.Steps.{PlannedSides as Found};
 
     ghost Value = { Found };
 
@@ -57,14 +57,18 @@ fn first_columns(alloc: Global, count: usize) -> Result<Key, Memory>
 
 impl<'a> StepContext<'a> {
     /// The right operand of a step by a key, and the key's columns on both sides.
-    pub(crate) fn named_sides(&self, name: &Label, names: &NameList) -> Result<Sides, QueryError>
+    pub(crate) fn named_sides(
+        &self,
+        name: &Label,
+        names: &NameList,
+    ) -> Result<PlannedSides, QueryError>
         ensures { Is (λ s. s) result
             (named_sides self.now.item self.now.draft.now self.now.at name.now names.now) }
     {
         let right = operand(self.item, self.draft, name)?;
         let left_key = self.key_columns(self.draft.schema_at(self.at), names)?;
         let right_key = self.key_columns(self.draft.schema_at(right), names)?;
-        Ok(Sides {
+        Ok(PlannedSides {
             right,
             left_key,
             right_key,
@@ -72,7 +76,7 @@ impl<'a> StepContext<'a> {
     }
 
     /// Whether the columns of the key are of the same kinds on both sides.
-    pub(crate) fn are_alike(&self, sides: &Sides) -> bool
+    pub(crate) fn are_alike(&self, sides: &PlannedSides) -> bool
         ensures { result ≡ are_alike self.now.draft.now self.now.at sides.now }
     {
         keys_alike(
@@ -84,7 +88,11 @@ impl<'a> StepContext<'a> {
     }
 
     /// The right operand of a step by a key, whose columns are of the same kinds on both sides.
-    pub(crate) fn find_sides(&self, name: &Label, names: &NameList) -> Result<Sides, QueryError>
+    pub(crate) fn find_sides(
+        &self,
+        name: &Label,
+        names: &NameList,
+    ) -> Result<PlannedSides, QueryError>
         ensures { Is (λ s. s) result
             (sides self.now.item self.now.draft.now self.now.at name.now names.now) }
     {
@@ -97,7 +105,7 @@ impl<'a> StepContext<'a> {
     }
 
     /// The left columns, and then the right ones outside the key.
-    pub(crate) fn joined_schema(&self, sides: &Sides) -> Result<Schema, Memory>
+    pub(crate) fn joined_schema(&self, sides: &PlannedSides) -> Result<Schema, Memory>
         ensures { IfOk result (λ s. s ≡ joined self.now.draft.now self.now.at sides.now) }
     {
         join_schema(
@@ -109,7 +117,7 @@ impl<'a> StepContext<'a> {
     }
 
     /// A group of the right keys alone.
-    pub(crate) fn key_group(&self, sides: &Sides) -> Result<PlannedNode, Memory>
+    pub(crate) fn key_group(&self, sides: &PlannedSides) -> Result<PlannedNode, Memory>
         ensures { IfOk result (λ p. p ≡ key_group self.now.draft.now sides.now) }
     {
         let key = sides.right_key.items();
@@ -123,7 +131,11 @@ impl<'a> StepContext<'a> {
     }
 
     /// The anti-join with the group of the right keys, which has number `group`. Its right key is all of the group's columns.
-    pub(crate) fn anti_node(&self, sides: &Sides, group: usize) -> Result<PlannedNode, Memory>
+    pub(crate) fn anti_node(
+        &self,
+        sides: &PlannedSides,
+        group: usize,
+    ) -> Result<PlannedNode, Memory>
         ensures { IfOk result (λ p. p ≡ anti_node self.now.draft.now self.now.at sides.now group) }
     {
         let schema = copied(self.alloc, self.draft.schema_at(self.at))?;

@@ -12,7 +12,7 @@ use Rattle.frozen_state.specs.Forms.{AreApart}
 use Rattle.checkpoint.specs.Form.{FormView}
 use Rattle.checkpoint.specs.Text.{checkpoint_lines, IsOfForm, BeginsText, IsUnfinished}
 use Rattle.checkpoint.specs.Taking.{ReaderView, lines_taken}
-use Rattle.checkpoint.specs.declared.reading.Stage.TheVariants.{Ended}
+use Rattle.checkpoint.specs.declared.reading.ReadingStage.TheVariants.{Ended}
 use Rattle.tempo_engine.specs.Fed.{last_number}
 use Rattle.tempo_cli.specs.Answers.{Answers}
 use Rattle.tempo_cli.specs.Table.{limit, IsPrompt}

@@ -16,7 +16,7 @@ ghost use Rattle.tempo_cli.specs.Restored.{StopsAt, CameIn, BreaksOff, GoesOnFro
 use crate::answer::{answer_on, asked, work};
 use crate::answering::{Answering, LIMIT, LONGEST};
 use crate::status::Status;
-use checkpoint::{Form, Reader, Stage, TakeFault, Taken};
+use checkpoint::{Form, Reader, ReadingStage, TakeFault, Taken};
 use frozen_state::Frozen;
 use plan_model::Plan;
 use shard_apply::Gate;
@@ -58,9 +58,9 @@ pub struct Restored {
 
 /// Gives the line of that number to the reader: what was frozen, where it is the last one.
 pub fn take_line(reader: &mut Reader, number: u64, line: &[u8]) -> Result<Option<Frozen>, Status>
-    requires going { reader.old.stage ≢ Stage.Ended }
+    requires going { reader.old.stage ≢ ReadingStage.Ended }
     ensures takes { TakesLine reader.old number line.now result reader.new }
-    ensures going { result ≡ Ok None → reader.new.stage ≢ Stage.Ended }
+    ensures going { result ≡ Ok None → reader.new.stage ≢ ReadingStage.Ended }
     ensures own { IfErr result IsOwn }
 {
     match reader.take(line) {
@@ -79,7 +79,7 @@ impl Restoring {
     pub fn new(alloc: Global, form: Form) -> Result<Restoring, Memory>
         ensures reads { IfOk result (λ r. Reads form [] [] r) }
         ensures wants { IfOk result (λ r. WantsBytes r.cutter) }
-        ensures going { IfOk result (λ r. r.reader.stage ≢ Stage.Ended) }
+        ensures going { IfOk result (λ r. r.reader.stage ≢ ReadingStage.Ended) }
     {
         let cutter = LineCutter::new(alloc, LONGEST, LIMIT)?;
         let reader = Reader::new(alloc, form)?;
@@ -94,7 +94,7 @@ impl Restoring {
     // What the next line comes to.
     fn next_part(&mut self) -> Part
         requires longest { self.old.cutter.longest ≡ 65536 }
-        requires going { self.old.reader.stage ≢ Stage.Ended }
+        requires going { self.old.reader.stage ≢ ReadingStage.Ended }
         ensures longest { self.new.cutter.longest ≡ 65536 }
         ensures going { TakesMore self.new result }
         ensures comes { WhateverTaken self.old
@@ -122,11 +122,11 @@ impl Restoring {
     // Takes all whole lines that came in, up to the last one of the checkpoint.
     fn take_lines(&mut self) -> Result<Option<Frozen>, Status>
         requires longest { self.old.cutter.longest ≡ 65536 }
-        requires going { self.old.reader.stage ≢ Stage.Ended }
+        requires going { self.old.reader.stage ≢ ReadingStage.Ended }
         ensures longest { self.new.cutter.longest ≡ 65536 }
         ensures comes { WhateverTaken self.old
             (λ form bytes given. PartsCome form bytes given self.new result) }
-        ensures going { result ≡ Ok None → self.new.reader.stage ≢ Stage.Ended }
+        ensures going { result ≡ Ok None → self.new.reader.stage ≢ ReadingStage.Ended }
         ensures wants { result ≡ Ok None → WantsBytes self.new.cutter }
         ensures own { IfErr result IsOwn }
     {
@@ -143,7 +143,7 @@ impl Restoring {
     // What was frozen, where the last line, which no LF ends, is the last one of the checkpoint. The input has ended.
     fn last_part(&mut self) -> Result<Frozen, Status>
         requires wants { WantsBytes self.old.cutter }
-        requires going { self.old.reader.stage ≢ Stage.Ended }
+        requires going { self.old.reader.stage ≢ ReadingStage.Ended }
         ensures whole { IfOk result (λ f.
             (form : FormView) (bytes : List ℕ) (given : List (List ℕ)) →
             Reads form bytes given self.old →
@@ -176,7 +176,7 @@ impl Restoring {
 // Reads a checkpoint back, up to its last line.
 fn read_back<W: Wire>(restoring: &mut Restoring, wire: &mut W) -> Result<Restored, Status>
     requires wants { WantsBytes restoring.old.cutter }
-    requires going { restoring.old.reader.stage ≢ Stage.Ended }
+    requires going { restoring.old.reader.stage ≢ ReadingStage.Ended }
     ensures came { IfOk result (λ d. (form : FormView) → Reads form [] [] restoring.old →
         Grows (W.journal wire.old) (W.journal wire.new)
         (CameIn form d.frozen restoring.new d.left d.ended)) }

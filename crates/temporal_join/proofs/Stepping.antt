@@ -23,7 +23,7 @@ use Rattle.sweep_laws.specs.Sweeps.{SyncsRise, IsDue, Tells}
 use Rattle.sweep_laws.proofs.Joins.{due_by_syncs}
 use Rattle.temporal_join.specs.Joined.{join_meets}
 use Rattle.temporal_join.specs.Kept.{AreByKey, SameKeys}
-use Rattle.temporal_join.specs.declared.sweep.Rows.{Rows}
+use Rattle.temporal_join.specs.declared.sweep.JoinRows.{JoinRows}
 
 -- what is kept by equal keys
 pub kept_by : (lk rk k r : List ℕ) (left right : List HeldRow) (lw rw : List Edge) (to : ℕ) (hl hr out : List Edge) → k ≡ lk → r ≡ rk →
@@ -32,7 +32,7 @@ kept_by lk rk k r left right lw rw to hl hr out e f h =
     subst (λ (l : List ℕ). JoinKeeps (join_meets l r) (paired_row r) left right lw rw to hl hr out) (sym e)
     (subst (λ (l : List ℕ). JoinKeeps (join_meets lk l) (paired_row l) left right lw rw to hl hr out) (sym f) h)
 
-pub by_keys : (old new : Rows) → SameKeys old new → AreByKey old → AreByKey new
+pub by_keys : (old new : JoinRows) → SameKeys old new → AreByKey old → AreByKey new
 by_keys old new same by = record {
   left = same.left ∙ (by.left ∙ sym (ap (λ v. v.items) same.left_key));
   right = same.right ∙ (by.right ∙ sym (ap (λ v. v.items) same.right_key));

@@ -6,7 +6,7 @@ ghost use Rattle.sweep_operator.specs.Operating.{standing, IsNew};
 ghost use Rattle.sweep_operator.specs.Sweepers.{new_standing};
 
 use crate::sides::JoinSides;
-use crate::sweep::Rows;
+use crate::sweep::JoinRows;
 use end_queue::EndQueue;
 use std::alloc::Global;
 use sweep_operator::Swept;
@@ -28,7 +28,7 @@ fn no_sides(alloc: Global, left_key: &[usize], right_key: &[usize]) -> Result<Jo
     ensures waiting { IfOk result (λ s. (s.left_waiting ≡ []) × (s.right_waiting ≡ [])) }
 {
     Ok(JoinSides {
-        rows: Rows {
+        rows: JoinRows {
             alloc,
             left_key: Vec::from_slice(alloc, left_key)?,
             right_key: Vec::from_slice(alloc, right_key)?,

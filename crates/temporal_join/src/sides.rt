@@ -17,7 +17,7 @@ ghost use Rattle.sweep_laws.specs.Saving.{rows_of};
 ghost use Rattle.temporal_join.specs.Kept.{SameKeys, AreByKey};
 ghost use Rattle.temporal_join.specs.States.{JoinSound};
 
-use crate::sweep::Rows;
+use crate::sweep::JoinRows;
 use carried_edges::are_of_parts;
 use edge_stream::{EdgeList, LoadFault, PartRow, Saved};
 use end_queue::EndQueue;
@@ -31,7 +31,7 @@ use tw_rows::{Edge, Kind, Memory, Time};
 /// The rows of both sides that are alive, and the pending edges of both sides.
 #[derive(Drop)]
 pub struct JoinSides {
-    pub(crate) rows: Rows,
+    pub(crate) rows: JoinRows,
     pub(crate) left_waiting: EndQueue,
     pub(crate) right_waiting: EndQueue,
     // Room for the edges that are due in a step, kept from one to the next: a large list that is made and let go at each step

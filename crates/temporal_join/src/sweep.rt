@@ -19,7 +19,7 @@ use tw_rows::{Edge, Memory, Time};
 
 /// The rows of both sides that are alive, by their keys.
 #[derive(Drop)]
-pub(crate) struct Rows {
+pub(crate) struct JoinRows {
     pub(crate) alloc: Global,
     pub(crate) left_key: Vec<usize>,
     pub(crate) right_key: Vec<usize>,
@@ -27,7 +27,7 @@ pub(crate) struct Rows {
     pub(crate) right: Synopsis,
 }
 
-impl Rows {
+impl JoinRows {
     ghost use Rattle.temporal_join.specs.Kept.{AreByKey, SameKeys};
 
     // Goes on past one instant: first the rows that end, and then those that start, whose cells move out of their edges.

@@ -1,6 +1,6 @@
 use Rattle.std.proofs.Common.{◌≡◌, Some, sym, ◌∙◌, ap}
 use Rattle.frozen_state.proofs.Names.{parts_apart}
-use Rattle.checkpoint.specs.declared.reading.Stage.TheVariants.{Head, Ended}
+use Rattle.checkpoint.specs.declared.reading.ReadingStage.TheVariants.{Head, Ended}
 use Rattle.checkpoint.specs.Form.{form_of}
 use Rattle.checkpoint.specs.Steps.{State, standing, opening, reads}
 use Rattle.checkpoint.proofs.Leading.{text_leads}

@@ -2,7 +2,7 @@
 use Rattle.std.proofs.Common.{◌≡◌, ◌++◌, length}
 use Rattle.wire_lines.specs.Lines.{whole}
 use Rattle.checkpoint.specs.Taking.{lines_taken}
-use Rattle.checkpoint.specs.declared.reading.Stage.TheVariants.{Ended}
+use Rattle.checkpoint.specs.declared.reading.ReadingStage.TheVariants.{Ended}
 use Rattle.kept_run.proofs.reading.read_frozen.Given as goal
 
 abbrev pub invariant-lines : goal.invariant-lines

@@ -1,7 +1,7 @@
 use Rattle.std.proofs.Common.{◌≡◌, []}
 use Rattle.wire_lines.specs.Journal.{Grows}
 use Rattle.checkpoint.specs.Form.{FormView}
-use Rattle.checkpoint.specs.declared.reading.Stage.TheVariants.{Ended}
+use Rattle.checkpoint.specs.declared.reading.ReadingStage.TheVariants.{Ended}
 use Rattle.tempo_cli.specs.Feeding.{WantsBytes}
 use Rattle.tempo_cli.specs.Restored.{Reads, Awaits}
 use Rattle.tempo_cli.proofs.resuming.read_back.Given as goal

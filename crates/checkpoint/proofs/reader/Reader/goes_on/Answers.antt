@@ -1,5 +1,5 @@
 use Rattle.std.proofs.Common.{◌≡◌, sym, ◌∙◌, ap, subst}
-use Rattle.checkpoint.specs.declared.reading.Stage.TheVariants.{Ended}
+use Rattle.checkpoint.specs.declared.reading.ReadingStage.TheVariants.{Ended}
 use Rattle.checkpoint.specs.Text.{IsUnfinished}
 use Rattle.checkpoint.specs.Taking.{ReaderView, lines_taken}
 use Rattle.checkpoint.proofs.Stepping.{is_taking}

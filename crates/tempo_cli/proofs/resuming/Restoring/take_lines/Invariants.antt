@@ -1,5 +1,5 @@
 use Rattle.std.proofs.Common.{◌≡◌, List, ℕ, length}
-use Rattle.checkpoint.specs.declared.reading.Stage.TheVariants.{Ended}
+use Rattle.checkpoint.specs.declared.reading.ReadingStage.TheVariants.{Ended}
 use Rattle.tempo_cli.specs.Restoring.{AreFront}
 use Rattle.tempo_cli.specs.Restored.{Reads, WhateverTaken}
 use Rattle.tempo_cli.proofs.resuming.Restoring.take_lines.Given as goal
