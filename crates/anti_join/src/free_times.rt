@@ -16,10 +16,19 @@ use synopsis::{KeyRoom, Synopsis};
 use tw_rows::{Cells, Datum, Edge, Memory, Time};
 
 /// For each of some keys the time since which it is free, as the start of a row with that key.
-#[derive(Drop)]
 pub(crate) struct FreeTimes {
     rows: Synopsis,
     room: KeyRoom,
+}
+
+// By hand, so that its users cite this and not the destructors of its parts.
+impl Drop for FreeTimes {
+    fn drop(self) {
+        let FreeTimes {
+            rows: _rows,
+            room: _room,
+        } = self;
+    }
 }
 
 impl Model for FreeTimes {
