@@ -1,5 +1,6 @@
 pub mod Bags
 pub mod Keyed
 pub mod Together
+pub mod Filling
 pub mod Places
 pub mod Examples

@@ -128,7 +128,7 @@ marked_taken columns rows words i e =
     ap (λ l. remove l i) e ∙ sym (map-append f (take i rows) (drop (suc i) rows) ∙ ap (λ l. l ++ map f (drop (suc i) rows)) (sym (take-map f i rows)) ∙ ap (λ l. take i (map f rows) ++ l) (sym (drop-map f (suc i) rows)))
 
 -- a row comes in in front of the first of its key
-none_insert : (p : HeldRow → Bool) (xs ys : List HeldRow) (r : HeldRow) → NonePass p (xs ++ ys) → p r ≡ false → NonePass p (xs ++ r ∷ ys)
+pub none_insert : (p : HeldRow → Bool) (xs ys : List HeldRow) (r : HeldRow) → NonePass p (xs ++ ys) → p r ≡ false → NonePass p (xs ++ r ∷ ys)
 none_insert p [] ys r h e = (e, h)
 none_insert p (x ∷ xs) ys r h e = (h.0, none_insert p xs ys r h.1 e)
 
@@ -173,7 +173,7 @@ put_weighs w rs i r =
     omega (arith, a, b, e)
 
 -- a row goes
-none_remove : (p : HeldRow → Bool) (xs ys : List HeldRow) (r : HeldRow) → NonePass p (xs ++ r ∷ ys) → NonePass p (xs ++ ys)
+pub none_remove : (p : HeldRow → Bool) (xs ys : List HeldRow) (r : HeldRow) → NonePass p (xs ++ r ∷ ys) → NonePass p (xs ++ ys)
 none_remove p [] ys r h = h.1
 none_remove p (x ∷ xs) ys r h = (h.0, none_remove p xs ys r h.1)
 
@@ -184,11 +184,11 @@ remove_first columns x r [] (y ∷ ys) (inr none) h = inr none.1
 remove_first columns x r (z ∷ zs) ys (inl e) h = inl e
 remove_first columns x r (z ∷ zs) ys (inr none) h = inr (none_remove (same_key columns x) (z ∷ zs) ys r none)
 
-together_remove : (columns : List ℕ) (r : HeldRow) (xs ys : List HeldRow) → AreTogether columns (xs ++ r ∷ ys) → AreTogether columns (xs ++ ys)
+pub together_remove : (columns : List ℕ) (r : HeldRow) (xs ys : List HeldRow) → AreTogether columns (xs ++ r ∷ ys) → AreTogether columns (xs ++ ys)
 together_remove columns r [] ys h = h.1
 together_remove columns r (x ∷ xs) ys h = (remove_first columns x r xs ys h.0 h.1, together_remove columns r xs ys h.1)
 
-cut_at : (rs : List HeldRow) (i : ℕ) (d : HeldRow) → i < length rs → take i rs ++ get_or rs i d ∷ drop (suc i) rs ≡ rs
+pub cut_at : (rs : List HeldRow) (i : ℕ) (d : HeldRow) → i < length rs → take i rs ++ get_or rs i d ∷ drop (suc i) rs ≡ rs
 cut_at rs i d low = ap (λ l. take i rs ++ l) (sym (drop-cons rs i d low)) ∙ take-append-drop i rs
 
 pub together_taken : (columns : List ℕ) (rs : List HeldRow) (i : ℕ) (d : HeldRow) → i < length rs → AreTogether columns rs → AreTogether columns (remove rs i)

@@ -1,5 +1,5 @@
 -- A few rows in a list, those of a key side by side.
-use Rattle.std.specs.Prelude.{◌≡◌, ◌+◌, ◌⊎◌, ℕ, map, Bool, true, false, List, [], ◌∷◌, length}
+use Rattle.std.specs.Prelude.{◌≡◌, ◌≢◌, ◌+◌, ◌-◌, ◌<◌, ◌⊎◌, ℕ, map, get_or, Bool, true, false, List, [], ◌∷◌, length}
 use Rattle.std.specs.List.{AllByRecursion}
 use Rattle.tw_rows.specs.Words.{word_of_cells}
 use Rattle.tw_rows.specs.declared.edge.HeldRow.{HeldRow}
@@ -39,6 +39,13 @@ AreTogether columns (r ∷ rs) = StandsFirst (same_key columns r) rs × AreToget
 -- the word of the key of a row: rows of two words have two keys
 abbrev pub key_word : List ℕ → HeldRow → ℕ
 key_word columns r = word_of_cells (key_of columns r.cells)
+
+-- the last two words differ, and so do those beside the place: where the row there goes, the last may take its place. By 1, 2, 3 it may
+-- take that of the row of 1; by 1, 2, 3, 3 it may not, as rows of 3 would part, nor by 1, 1, 1, 3 that of the second row
+pub record MayFill (words : List ℕ) (place : ℕ) : Type 0 where
+  pub before_last : place + 2 < length words
+  pub alone : get_or words (length words - 2) 0 ≢ get_or words (length words - 1) 0
+  pub border : (place ≡ 0) ⊎ (get_or words (place - 1) 0 ≢ get_or words (place + 1) 0)
 
 -- key columns and rows
 pub record FewRows : Type 0 where

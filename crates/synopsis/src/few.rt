@@ -9,7 +9,7 @@ ghost use Rattle.tw_rows.specs.declared.edge.HeldRow.{HeldRow};
 ghost use Rattle.edge_history.specs.Order.{many};
 ghost use Rattle.edge_history.specs.Opens.{is_held};
 ghost use Rattle.synopsis.specs.Held.{IsPlace, key_of, is_of_key};
-ghost use Rattle.synopsis.specs.Few.{key_word, NonePass, AllPass, IsOver, StandsHere};
+ghost use Rattle.synopsis.specs.Few.{key_word, NonePass, AllPass, IsOver, StandsHere, MayFill};
 
 use crate::bucket::is_row;
 use crate::key_room::cell_at;
@@ -140,6 +140,18 @@ fn put_at<T: Drop>(list: &mut Vec<T>, place: usize, item: T)
     prove!(stands);
 }
 
+// Whether the last row may take the place of that one, by their words. Where at most one row stands behind it nothing is gained.
+#[inline(always)]
+fn may_fill(words: &[u64], place: usize) -> bool
+    requires within { place < length words.now }
+    ensures { result ≡ true → MayFill words.now place }
+{
+    let last = words.len() - 1;
+    place + 1 < last
+        && words[last - 1] != words[last]
+        && (place == 0 || words[place - 1] != words[place + 1])
+}
+
 impl Few {
     /// No rows, by these key columns.
     pub fn new(alloc: Global, columns: &[usize]) -> Result<Few, Memory>
@@ -205,6 +217,12 @@ impl Few {
         let Some(place) = place_of(self.rows.as_slice(), cells, start) else {
             return false;
         };
+        // The last row moves, and not all those behind, where the rows of each key stay side by side.
+        if may_fill(self.words.as_slice(), place) {
+            self.words.swap_remove(place);
+            self.rows.swap_remove(place);
+            return true;
+        }
         self.words.remove(place);
         self.rows.remove(place);
         true

@@ -57,6 +57,7 @@ pub fn lone_key<'a>(columns: &[usize], cells: &'a [Datum]) -> Option<&'a [Datum]
 }
 
 // Writes the key of the cells into room that is there for it.
+#[inline]
 fn write_key(values: &mut Vec<Datum>, columns: &[usize], cells: &[Datum])
     requires room { length columns.now ≤ vec_capacity values.old }
     ensures room { length columns.now ≤ vec_capacity values.new }
@@ -97,6 +98,7 @@ impl KeyRoom {
     }
 
     /// Writes the data of a row in the key columns.
+    #[inline]
     pub fn write(&mut self, cells: &[Datum])
         ensures values { self.new.values ≡ key_of self.old.columns cells.now }
         ensures columns { self.new.columns ≡ self.old.columns }
