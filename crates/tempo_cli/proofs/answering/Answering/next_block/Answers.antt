@@ -24,7 +24,7 @@ pub returns-clause-comes : goal.returns-clause-comes
 returns-clause-comes g c = λ q bytes given h.
     let s = c.args.self.now in
     let none = ap (λ n. s.header && (nat_lt 0 s.skipped || nat_eq n 0)) (sym c.passed.ensures) ∙ (sym c.may_be_header.ensures ∙ c.if-may_be_header.false) in
-    comes_lines h c.engine_number.result (are_next h c.in-Some.block.number c.engine_number.result c.in-Some.ensures.some.0 c.engine_number.ensures none) _ refl refl refl c.next_block.follows.holds-at-none
+    comes_lines h c.engine_number-first.result (are_next h c.in-Some.block.number c.engine_number-first.result c.in-Some.ensures.some.0 c.engine_number-first.ensures none) _ refl refl refl c.next_block.follows.holds-at-none
     c.feed_block.result _ c.in-Some.ensures.some.1
     (λ fine. c.feed_block.ensures.fed fine q.plan q.policy h.engine.fed h.engine.took)
     (λ fine. c.feed_block.ensures.text fine q.plan q.policy h.engine.fed h.engine.took)
@@ -32,7 +32,7 @@ returns-clause-comes g c = λ q bytes given h.
 
 pub returns-clause-gives : goal.returns-clause-gives
 returns-clause-gives g c = λ k bytes given h.
-    gives_lines h c.in-Some.block.number c.engine_number.result c.in-Some.ensures.some.0 c.engine_number.ensures _ refl refl c.feed_block.ensures.plan c.next_block.follows.holds-at-none
+    gives_lines h c.in-Some.block.number c.engine_number-first.result c.in-Some.ensures.some.0 c.engine_number-first.ensures _ refl refl c.feed_block.ensures.plan c.next_block.follows.holds-at-none
     c.feed_block.result _ c.in-Some.ensures.some.1 (λ fine. c.feed_block.ensures.kept ∙ fine) (λ f is. c.feed_block.ensures.bad h.fine f is)
 
 pub returns-clause-less : goal.returns-clause-less
