@@ -1,5 +1,5 @@
 -- Lines that an engine takes together.
-use Rattle.std.proofs.Common.{◌≡◌, ◌≤◌, ◌<◌, ◌+◌, ◌-◌, ◌^◌, min, ℕ, zero, suc, List, [], ◌∷◌, ◌++◌, length, take, Bool, true, false, Option, Some, None, refl, sym, ◌∙◌, ap, arith, append_assoc, append-nil, subst}
+use Rattle.std.proofs.Common.{◌≡◌, ◌≤◌, ◌<◌, ◌+◌, ◌^◌, ℕ, suc, List, [], ◌∷◌, ◌++◌, length, take, Bool, true, false, Option, Some, None, refl, sym, ◌∙◌, ap, arith, append_assoc, append-nil, subst}
 use Rattle.std.specs.Prelude.{◌&&◌, ◌==◌, nat_eq}
 use Rattle.std.specs.List.{All, slice_split}
 use Rattle.std.proofs.lemmas.Bool.Decides.{nat_tests}
@@ -11,12 +11,11 @@ use Rattle.wire_lines.specs.Lines.{HasNoLf, lines, joined}
 use Rattle.wire_lines.specs.Cutter.{CutterState}
 use Rattle.wire_lines.specs.Block.{block_lines, after_answers, after_block}
 use Rattle.wire_lines.proofs.Blocks.{block_short, block_cuts, after_block-longest, after_block-total, after_block-less}
-use Rattle.plan_model.specs.IsPlan.{PlanParts}
 use Rattle.admission.specs.Entries.{Told}
 use Rattle.admission.specs.Progress.{Fault, start, steps, fault}
 use Rattle.tempo_engine.specs.Block.{number_at, told_from, GrowsWith, StopsIn, BadIn}
 use Rattle.tempo_engine.specs.Faults.{IsFaultOf}
-use Rattle.tempo_engine.specs.Fed.{Fed, last_number}
+use Rattle.tempo_engine.specs.Fed.{Fed}
 use Rattle.tempo_engine.specs.Output.{plan_text, told}
 use Rattle.tempo_engine.specs.Went.{EngineView}
 use Rattle.tempo_engine.specs.declared.block.FedBlock.{FedBlock}

@@ -1,4 +1,4 @@
-use Rattle.std.proofs.Common.{◌≡◌, ◌≤◌, ◌<◌, ◌∙◌, length, refl, sym, ap, subst}
+use Rattle.std.proofs.Common.{◌≤◌, ◌<◌, ◌∙◌, length, refl, sym, ap, subst}
 use Rattle.std.specs.List.{All}
 use Rattle.wire_lines.specs.Cutter.{CutterState}
 use Rattle.wire_lines.specs.Block.{block_lines}
