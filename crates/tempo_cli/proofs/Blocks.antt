@@ -1,6 +1,6 @@
 -- Lines that an engine takes together.
-use Rattle.std.proofs.Common.{◌≡◌, ◌≤◌, ◌<◌, ◌+◌, ◌-◌, ◌^◌, min, ℕ, zero, suc, List, [], ◌∷◌, ◌++◌, length, take, Bool, true, false, Option, Some, None, refl, sym, ◌∙◌, ap, arith, append_assoc, append-nil, subst}
-use Rattle.std.specs.Prelude.{◌&&◌, ◌||◌, ◌==◌, nat_eq, nat_lt}
+use Rattle.std.proofs.Common.{◌≡◌, ◌≤◌, ◌<◌, ◌+◌, ◌^◌, ℕ, suc, List, [], ◌∷◌, ◌++◌, length, take, Bool, true, false, Option, Some, None, refl, sym, ◌∙◌, ap, arith, append_assoc, append-nil, subst}
+use Rattle.std.specs.Prelude.{◌&&◌, ◌==◌, nat_eq}
 use Rattle.std.specs.List.{All, slice_split}
 use Rattle.std.proofs.lemmas.Bool.Decides.{nat_tests}
 use Rattle.std.proofs.lemmas.List.{length-append}
@@ -11,12 +11,11 @@ use Rattle.wire_lines.specs.Lines.{HasNoLf, lines, joined}
 use Rattle.wire_lines.specs.Cutter.{CutterState}
 use Rattle.wire_lines.specs.Block.{block_lines, after_answers, after_block}
 use Rattle.wire_lines.proofs.Blocks.{block_short, block_cuts, after_block-longest, after_block-total, after_block-less}
-use Rattle.plan_model.specs.IsPlan.{PlanParts}
 use Rattle.admission.specs.Entries.{Told}
 use Rattle.admission.specs.Progress.{Fault, start, steps, fault}
 use Rattle.tempo_engine.specs.Block.{number_at, told_from, GrowsWith, StopsIn, BadIn}
 use Rattle.tempo_engine.specs.Faults.{IsFaultOf}
-use Rattle.tempo_engine.specs.Fed.{Fed, last_number}
+use Rattle.tempo_engine.specs.Fed.{Fed}
 use Rattle.tempo_engine.specs.Output.{plan_text, told}
 use Rattle.tempo_engine.specs.Went.{EngineView}
 use Rattle.tempo_engine.specs.declared.block.FedBlock.{FedBlock}
@@ -25,7 +24,7 @@ use Rattle.tempo_engine.specs.declared.fault.EngineFault.TheVariants.{Bad, Late,
 use Rattle.tempo_cli.specs.Answers.{Answers, IsFinal, IsFront}
 use Rattle.tempo_cli.specs.Restoring.{AreFront}
 use Rattle.tempo_cli.specs.Feeding.{Asked, answers_to, said, fed_by, IsNext, IsNoHeader, IsNumbered, Took, Within, HasCut, Holds, status_at}
-use Rattle.tempo_cli.specs.Feeding.{LineRules, HasGiven, BlockComes, BlockGives}
+use Rattle.tempo_cli.specs.Feeding.{LineRules, HasGiven, BlockComes, BlockGives, header_may_come}
 use Rattle.tempo_cli.specs.declared.answering.Answering.{Answering}
 use Rattle.tempo_cli.specs.Table.{limit, IsEnd, IsRefused, IsShort}
 use Rattle.tempo_cli.proofs.Fed.{same_more, fed_more, same_fault, same_text, before_low, took_fine, took_final}
@@ -175,12 +174,17 @@ block_cut : {a : Answers} {bytes : List ℕ} {given : List (List ℕ)} {c : Cutt
 block_cut {a} {bytes} {given} {c} w = record { longest = after_block-longest c ∙ w.longest; total = after_block-total c ∙ w.total; cuts = block_cuts bytes c given w.cuts; fine = refl }
 
 -- no line of a block is a header where none may come
-header_passed : (header : Bool) (skipped passed number : ℕ) → (header && (nat_lt 0 skipped || nat_eq passed 0)) ≡ false → (skipped ≡ 0 → 0 < passed → 2 ≤ number) → (header && nat_eq number 1) ≡ false
+header_passed : (header : Bool) (skipped passed number : ℕ) → header_may_come header skipped passed ≡ false → (skipped ≡ 0 → 0 < passed → 2 ≤ number) → (header && nat_eq number 1) ≡ false
 header_passed false skipped passed number e late = refl
 header_passed true skipped passed number e late =
     let none : skipped ≡ 0 = grind (arith, nat_tests) in
     let some : 0 < passed = grind (arith, nat_tests) in
     late_line true number (late none some)
+
+-- it was asked whether the next line may be one, and it may not
+pub no_header_comes : (s : Answering) {passed : ℕ} {may : Bool} → passed ≡ s.cutter.passed → may ≡ header_may_come s.header s.skipped passed → may ≡ false →
+    header_may_come s.header s.skipped s.cutter.passed ≡ false
+no_header_comes s are is none = ap (header_may_come s.header s.skipped) (sym are) ∙ (sym is ∙ none)
 
 some_given : (given : List (List ℕ)) → 0 < length (joined given) → 0 < length given
 some_given [] some = absurd (omega arith)
@@ -188,7 +192,7 @@ some_given (line ∷ given) some = omega arith
 
 -- the lines of a block are the next ones
 pub are_next : {q : Asked} {bytes : List ℕ} {given : List (List ℕ)} {s : Answering} → Holds q bytes given s → (number n : ℕ) → number ≡ s.cutter.number + 1 → IsNumbered s.base s.skipped number n →
-    (s.header && (nat_lt 0 s.skipped || nat_eq s.cutter.passed 0)) ≡ false → AreNext q given n (block_lines s.cutter)
+    header_may_come s.header s.skipped s.cutter.passed ≡ false → AreNext q given n (block_lines s.cutter)
 are_next {q} {bytes} {given} {s} h number n is numbered passed =
     let next = next_number h number n (omega (arith, is, h.within.cuts.number_is)) numbered in
     let few = given_few (block_cut h.within) in

@@ -1,5 +1,5 @@
 -- What private contracts say of an engine and of a query that lines were fed to.
-use Rattle.std.specs.Prelude.{◌≡◌, ◌+◌, ◌^◌, ◌≤◌, ◌<◌, ◌&&◌, nat_eq, ℕ, suc, Bool, true, false, IsTrue, List, [], ◌∷◌, ◌++◌, Option}
+use Rattle.std.specs.Prelude.{◌≡◌, ◌+◌, ◌^◌, ◌≤◌, ◌<◌, ◌&&◌, ◌||◌, nat_eq, nat_lt, ℕ, suc, Bool, true, false, IsTrue, List, [], ◌∷◌, ◌++◌, Option}
 use Rattle.std.specs.Prelude.{None, Some, Result, MatchResult, length, drop}
 use Rattle.wire_lines.specs.Cutter.{CutterState}
 use Rattle.wire_lines.specs.Cuts.{Cuts}
@@ -127,6 +127,12 @@ pub record IsNext (q : Asked) (given : List (List ℕ)) (number : ℕ) : Type 0 
 -- the line of that number is no header: line 2, or any line where there is none
 abbrev pub IsNoHeader : Asked → ℕ → Type 0
 IsNoHeader q number = (q.header && nat_eq number 1) ≡ false
+
+-- whether the next line may be a header, where so many lines of the input tell a checkpoint and so many bytes of lines were given:
+-- where there is a header it stands before all bytes. With one and 0 bytes it may be it, with one and 5 bytes not; behind the lines
+-- of a checkpoint nothing is said
+abbrev pub header_may_come : Bool → ℕ → ℕ → Bool
+header_may_come header skipped passed = header && (nat_lt 0 skipped || nat_eq passed 0)
 
 -- whatever is asked for, and whichever lines the engine took, of which the next has this number
 abbrev pub WhateverGiven : Bool → ℕ → EngineView → (Asked → List (List ℕ) → Type 0) → Type 0

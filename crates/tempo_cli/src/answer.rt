@@ -16,7 +16,7 @@ use plan_model::Plan;
 use shard_apply::Gate;
 use std::alloc::Global;
 use std::thread::Threads;
-use tempo_engine::Options;
+use tempo_engine::{FedBlock, Options};
 use wire_lines::{Wire, send};
 
 // How many bytes the next read asks for, where so many more may come.
@@ -52,9 +52,9 @@ pub(crate) fn work<R: Threads + Sync, W: Wire, G: Gate>(
 {
     let mut held = Vec::new(answering.alloc);
     'lines: loop {
-        if let Some(fed) = answering.next_block(rt, gate) {
-            hold(wire, &mut held, &fed.text)?;
-            if let Some(fault) = fed.fault {
+        if let Some(FedBlock { text, fault }) = answering.next_block(rt, gate) {
+            hold(wire, &mut held, &text)?;
+            if let Some(fault) = fault {
                 send(wire, &held)?;
                 return Err(Status::from(fault));
             }

@@ -1,14 +1,15 @@
 // The lines of an input, fed to an engine as their bytes come.
-ghost use Rattle.std.specs.Prelude.{◌≡◌, ◌≤◌, ◌<◌, ◌+◌, ◌++◌, ◌∷◌, ◌&&◌, ◌||◌, IfOk, IfErr, IfSome, IfNone, OnOk, Bool, List, ℕ, [], None, true, false, nat_eq, nat_lt, length};
+ghost use Rattle.std.specs.Prelude.{◌≡◌, ◌≤◌, ◌<◌, ◌+◌, ◌++◌, ◌∷◌, ◌&&◌, IfOk, IfErr, IfSome, IfNone, OnOk, Bool, List, ℕ, [], None, true, false, nat_eq, length};
 ghost use Rattle.wire_lines.specs.Lines.{HasNoLf};
 ghost use Rattle.wire_lines.specs.Cutter.{Overlong};
+ghost use Rattle.wire_lines.specs.Block.{block_lines};
 ghost use Rattle.wire_lines.specs.Next.{next};
 ghost use Rattle.tempo_engine.specs.Faults.{IsFaultOf};
 ghost use Rattle.tempo_cli.specs.Table.{limit, IsDone, IsEnd};
 ghost use Rattle.wire_lines.specs.Faults.{HasCause, IsOther};
 ghost use Rattle.tempo_cli.specs.Feeding.{from_start, answers_to, Took, Holds, HasTaken, IsNumbered, WhateverGiven};
 ghost use Rattle.tempo_cli.specs.Feeding.{WhateverHeld, WhateverEnded, GrowsBy, WantsBytes, Comes};
-ghost use Rattle.tempo_cli.specs.Feeding.{BlockComes, BlockGives};
+ghost use Rattle.tempo_cli.specs.Feeding.{BlockComes, BlockGives, header_may_come};
 ghost use Rattle.tempo_cli.specs.Feeding.{Ended, HasLess, LineRules, WhateverGave, StepGives, StopsFor, TellsLine, IsOwn, StopsOwn};
 ghost use Rattle.tempo_cli.specs.Halting.{StaysOpen, StopsGoing};
 
@@ -65,7 +66,7 @@ fn is_header(header: bool, number: u64) -> bool
 // Whether the next line may be a header, where so many bytes of lines were given: it stands in front of all other lines, and none
 // stands behind a checkpoint.
 fn may_be_header(header: bool, skipped: u64, passed: u64) -> bool
-    ensures { result ≡ (header && (nat_lt 0 skipped || nat_eq passed 0)) }
+    ensures { result ≡ header_may_come header skipped passed }
 {
     header && (skipped > 0 || passed == 0)
 }
@@ -161,6 +162,9 @@ impl Answering {
         ensures less { IfSome result (λ _.
             length self.new.cutter.rest < length self.old.cutter.rest) }
         ensures none { IfNone result (self.new ≡ self.old) }
+        ensures alone { IfNone result
+            (header_may_come self.old.header self.old.skipped self.old.cutter.passed ≡ false →
+            block_lines self.old.cutter ≡ []) }
         ensures open { StaysOpen self.old.engine self.new.engine }
     {
         if may_be_header(self.header, self.skipped, self.cutter.passed()) {

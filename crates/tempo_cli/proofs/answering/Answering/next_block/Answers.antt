@@ -1,10 +1,9 @@
-use Rattle.std.proofs.Common.{◌≡◌, ◌≤◌, ◌<◌, ◌∙◌, length, refl, sym, ap, subst}
-use Rattle.std.specs.Prelude.{◌&&◌, ◌||◌, nat_eq, nat_lt}
+use Rattle.std.proofs.Common.{◌≤◌, ◌<◌, ◌∙◌, length, refl, sym, ap, subst}
 use Rattle.std.specs.List.{All}
 use Rattle.wire_lines.specs.Cutter.{CutterState}
 use Rattle.wire_lines.specs.Block.{block_lines}
 use Rattle.wire_lines.proofs.Blocks.{block_short, after_block-longest}
-use Rattle.tempo_cli.proofs.Blocks.{are_next, comes_lines, gives_lines, fewer_left, none_taken}
+use Rattle.tempo_cli.proofs.Blocks.{are_next, no_header_comes, comes_lines, gives_lines, fewer_left, none_taken}
 use Rattle.tempo_cli.proofs.answering.Answering.next_block.Goals as goal
 
 pub returns-in_default-clause-longest : goal.returns-in_default-clause-longest
@@ -23,8 +22,8 @@ returns-clause-longest g c = ap (λ (x : CutterState). x.longest) c.next_block.f
 pub returns-clause-comes : goal.returns-clause-comes
 returns-clause-comes g c = λ q bytes given h.
     let s = c.args.self.now in
-    let none = ap (λ n. s.header && (nat_lt 0 s.skipped || nat_eq n 0)) (sym c.passed.ensures) ∙ (sym c.may_be_header.ensures ∙ c.if-may_be_header.false) in
-    comes_lines h c.engine_number.result (are_next h c.in-Some.block.number c.engine_number.result c.in-Some.ensures.some.0 c.engine_number.ensures none) _ refl refl refl c.next_block.follows.holds-at-none
+    let none = no_header_comes s c.passed.ensures c.may_be_header.ensures c.if-may_be_header.false in
+    comes_lines h c.engine_number-first.result (are_next h c.in-Some.block.number c.engine_number-first.result c.in-Some.ensures.some.0 c.engine_number-first.ensures none) _ refl refl refl c.next_block.follows.holds-at-none
     c.feed_block.result _ c.in-Some.ensures.some.1
     (λ fine. c.feed_block.ensures.fed fine q.plan q.policy h.engine.fed h.engine.took)
     (λ fine. c.feed_block.ensures.text fine q.plan q.policy h.engine.fed h.engine.took)
@@ -32,7 +31,7 @@ returns-clause-comes g c = λ q bytes given h.
 
 pub returns-clause-gives : goal.returns-clause-gives
 returns-clause-gives g c = λ k bytes given h.
-    gives_lines h c.in-Some.block.number c.engine_number.result c.in-Some.ensures.some.0 c.engine_number.ensures _ refl refl c.feed_block.ensures.plan c.next_block.follows.holds-at-none
+    gives_lines h c.in-Some.block.number c.engine_number-first.result c.in-Some.ensures.some.0 c.engine_number-first.ensures _ refl refl c.feed_block.ensures.plan c.next_block.follows.holds-at-none
     c.feed_block.result _ c.in-Some.ensures.some.1 (λ fine. c.feed_block.ensures.kept ∙ fine) (λ f is. c.feed_block.ensures.bad h.fine f is)
 
 pub returns-clause-less : goal.returns-clause-less
