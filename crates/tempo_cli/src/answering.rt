@@ -1,5 +1,7 @@
 // The lines of an input, fed to an engine as their bytes come.
-ghost use Rattle.std.specs.Prelude.{◌≡◌, ◌≤◌, ◌<◌, ◌+◌, ◌++◌, ◌∷◌, ◌&&◌, IfOk, IfErr, IfSome, IfNone, OnOk, Bool, List, ℕ, [], None, true, false, nat_eq, length};
+ghost use Rattle.std.specs.Prelude.{◌≡◌, ◌≤◌, ◌<◌, ◌+◌, ◌++◌, ◌∷◌, ◌&&◌, IfOk, IfErr, IfSome};
+ghost use Rattle.std.specs.Prelude.{IfNone, OnOk, Bool, List, ℕ, [], None, true, false, nat_eq};
+ghost use Rattle.std.specs.Prelude.{length};
 ghost use Rattle.wire_lines.specs.Lines.{HasNoLf};
 ghost use Rattle.wire_lines.specs.Cutter.{Overlong};
 ghost use Rattle.wire_lines.specs.Block.{block_lines};
