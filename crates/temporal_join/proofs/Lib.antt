@@ -1,4 +1,12 @@
+pub mod Living
+pub mod Sided
+pub mod Steps
 pub mod Partners
+pub mod Ahead
+pub mod Going
+pub mod LiveTelling
+pub mod LivePassing
+pub mod LiveSwept
 pub mod Stepping
 pub mod Rowing
 pub mod Answering

@@ -1,7 +1,7 @@
 -- What is kept of a join at first, and after it was saved and loaded.
-use Rattle.std.specs.Prelude.{◌≡◌, ℕ, zero, suc, ◌+◌, ◌*◌, ◌<◌, ◌≤◌, All, true, List, [], ◌++◌, map, refl}
+use Rattle.std.specs.Prelude.{◌≡◌, ℕ, zero, suc, ◌+◌, ◌*◌, ◌<◌, ◌≤◌, All, true, length, List, [], ◌++◌, map, refl}
 use Rattle.std.proofs.Common.{sym, ◌∙◌, ap, subst, arith}
-use Rattle.std.proofs.lemmas.List.{append-nil}
+use Rattle.std.proofs.lemmas.List.{append-nil, length-append}
 use Rattle.tw_rows.specs.Bag.{SameBag}
 use Rattle.tw_rows.specs.Cells.{datum_kind}
 use Rattle.tw_rows.specs.declared.edge.Edge.{Edge}
@@ -24,13 +24,14 @@ use Rattle.sweep_sides.specs.Waiting.{queued}
 use Rattle.sweep_sides.proofs.KeptSides.{row_cells, waiting_cells, none_side}
 use Rattle.sweep_laws.specs.Saving.{starts_of, rows_of, is_row_start, may_wait, are_row_starts, may_all_wait}
 use Rattle.sweep_laws.proofs.Stored.{rows_of_starts}
-use Rattle.temporal_join.specs.Operating.{join_row}
+use Rattle.temporal_join.specs.Lives.{life_rows, life_waits}
+use Rattle.temporal_join.specs.Operating.{join_row, join_entries}
 use Rattle.plan_model.specs.Keys.{paired_row}
 use Rattle.sweep_laws.specs.Joining.{JoinKeeps}
 use Rattle.sweep_sides.specs.Waiting.{AreTimed}
 use Rattle.temporal_join.specs.Joined.{join_meets}
 use Rattle.temporal_join.specs.declared.sides.JoinSides.{JoinSides}
-use Rattle.temporal_join.specs.States.{SidesKeep, AreSides, IsEmpty, JoinSound}
+use Rattle.temporal_join.specs.States.{SidesKeep, AreSides, IsEmpty, JoinSound, left_rows, right_rows, left_pending, right_pending}
 
 -- of no edges nothing is kept, which fits any time
 kept_none : (lk rk : List ℕ) → JoinKeeps (join_meets lk rk) (paired_row rk) [] [] (queued []) (queued []) 0 [] [] []
@@ -53,9 +54,20 @@ join_opens s e = record {
 
 pub join_fits : (s : JoinSides) (lc rc : List CellKind) (to : ℕ) → IsEmpty s → AreSides lc rc to s
 join_fits s lc rc to e = record {
-  left = none_side lc to s.rows.left.rows s.left_waiting e.left e.none_left;
-  right = none_side rc to s.rows.right.rows s.right_waiting e.right e.none_right;
+  left = none_side lc to (left_rows s) (left_pending s) e.left e.none_left;
+  right = none_side rc to (right_rows s) (right_pending s) e.right e.none_right;
 }
+
+-- how many entries are kept of the rows by their keys, and of those with their ends
+pub entries_are : (s : JoinSides) → join_entries s
+    ≡ (length s.rows.left.rows + length s.left_waiting) + (length (life_rows s.few.left.lives) + length (life_waits s.few.left.lives))
+    + ((length s.rows.right.rows + length s.right_waiting) + (length (life_rows s.few.right.lives) + length (life_waits s.few.right.lives)))
+entries_are s =
+    let a : length (left_rows s) ≡ length s.rows.left.rows + length (life_rows s.few.left.lives) = length-append s.rows.left.rows (life_rows s.few.left.lives) in
+    let b : length (right_rows s) ≡ length s.rows.right.rows + length (life_rows s.few.right.lives) = length-append s.rows.right.rows (life_rows s.few.right.lives) in
+    let d : length (left_pending s) ≡ length s.left_waiting + length (life_waits s.few.left.lives) = length-append s.left_waiting (life_waits s.few.left.lives) in
+    let e : length (right_pending s) ≡ length s.right_waiting + length (life_waits s.few.right.lives) = length-append s.right_waiting (life_waits s.few.right.lives) in
+    omega (arith, a, b, d, e)
 
 -- LOADING: the same rows and edges in another order
 pub join_loaded : (lk rk lk2 rk2 : List ℕ) (to : ℕ) (left right left2 right2 : List HeldRow) (lw vw lw2 vw2 hl hr out : List Edge) → lk2 ≡ lk → rk2 ≡ rk →

@@ -12,13 +12,14 @@ use Rattle.sweep_laws.specs.Joining.{JoinKeeps}
 use Rattle.sweep_laws.specs.Saving.{rows_of}
 use Rattle.temporal_join.specs.declared.sides.JoinSides.{JoinSides}
 use Rattle.temporal_join.specs.Joined.{join_meets}
+use Rattle.temporal_join.specs.States.{left_rows, right_rows, left_pending, right_pending}
 
 abbrev pub join_node : JoinSides → Node
 join_node s = JoinNode 0 1 s.rows.left_key.items s.rows.right_key.items
 
--- how many entries it keeps: one for each row, and one for each edge that waits
+-- how many entries it keeps: one for each row, and one for each edge that is pending
 abbrev pub join_entries : JoinSides → ℕ
-join_entries s = (length s.rows.left.rows + length s.left_waiting) + (length s.rows.right.rows + length s.right_waiting)
+join_entries s = (length (left_rows s) + length (left_pending s)) + (length (right_rows s) + length (right_pending s))
 
 -- saved entries are what it keeps up to a time, after the edges hl and hr came in and out was answered
 abbrev pub Resumes : JoinSides → List SavedEntry → ℕ → List Edge → List Edge → List Edge → Type 0

@@ -5,6 +5,8 @@ ghost use Rattle.plan_model.specs.declared.node.Node.TheVariants.{Join as JoinNo
 ghost use Rattle.sweep_operator.specs.Operating.{standing, IsNew};
 ghost use Rattle.sweep_operator.specs.Sweepers.{new_standing};
 
+use crate::few::JoinLives;
+use crate::lives::Lives;
 use crate::sides::JoinSides;
 use crate::sweep::JoinRows;
 use end_queue::EndQueue;
@@ -24,7 +26,12 @@ fn no_sides(alloc: Global, left_key: &[usize], right_key: &[usize]) -> Result<Jo
     ensures right_key { IfOk result (λ s. s.rows.right_key.items ≡ right_key.now) }
     ensures by { IfOk result (λ s. (s.rows.left.key ≡ left_key.now)
         × (s.rows.right.key ≡ right_key.now)) }
+    ensures few_left { IfOk result (λ s. s.few.left_key.items ≡ left_key.now) }
+    ensures few_right { IfOk result (λ s. s.few.right_key.items ≡ right_key.now) }
+    ensures few_by { IfOk result (λ s. (s.few.left.columns ≡ left_key.now)
+        × (s.few.right.columns ≡ right_key.now)) }
     ensures rows { IfOk result (λ s. (s.rows.left.rows ≡ []) × (s.rows.right.rows ≡ [])) }
+    ensures few { IfOk result (λ s. (s.few.left.lives ≡ []) × (s.few.right.lives ≡ [])) }
     ensures waiting { IfOk result (λ s. (s.left_waiting ≡ []) × (s.right_waiting ≡ [])) }
 {
     Ok(JoinSides {
@@ -39,6 +46,13 @@ fn no_sides(alloc: Global, left_key: &[usize], right_key: &[usize]) -> Result<Jo
         right_waiting: EndQueue::new(alloc),
         left_due: Vec::new(alloc),
         right_due: Vec::new(alloc),
+        few: JoinLives {
+            alloc,
+            left_key: Vec::from_slice(alloc, left_key)?,
+            right_key: Vec::from_slice(alloc, right_key)?,
+            left: Lives::new(alloc, left_key)?,
+            right: Lives::new(alloc, right_key)?,
+        },
     })
 }
 

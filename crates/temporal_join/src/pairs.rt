@@ -26,14 +26,18 @@ pub(crate) struct Pairing<'a> {
 }
 
 // The datum of a row in a column.
-fn cell_at(cells: &[Datum], column: usize) -> Datum
+pub(crate) fn cell_at(cells: &[Datum], column: usize) -> Datum
     ensures { result ≡ cell_or_zero cells.now column }
 {
     cells.get(column).copied().unwrap_or(Datum::Int(0))
 }
 
 // The data of a row in key columns.
-fn key_of(alloc: Global, key: &[usize], cells: &[Datum]) -> Result<SmallVec<Datum, 4>, Memory>
+pub(crate) fn key_of(
+    alloc: Global,
+    key: &[usize],
+    cells: &[Datum],
+) -> Result<SmallVec<Datum, 4>, Memory>
     ensures { IfOk result (λ k. k.items ≡ key_data key.now cells.now) }
 {
     let mut data = SmallVec::<Datum, 4>::new(alloc);
@@ -44,7 +48,7 @@ fn key_of(alloc: Global, key: &[usize], cells: &[Datum]) -> Result<SmallVec<Datu
 }
 
 // The other time of the edge of a pair: infinity at its start, and at its end the later start of its rows.
-fn other_time(starts: bool, a: Time, b: Time) -> Time
+pub(crate) fn other_time(starts: bool, a: Time, b: Time) -> Time
     ensures { result ≡ cond starts inf (max a b) }
 {
     if starts {
@@ -57,7 +61,7 @@ impl<'a> Pairing<'a> {
     ghost use Rattle.temporal_join.specs.Pairing.{own_key, other_key, pair_with, told_pairs, TellsPairs};
 
     // The row of a pair.
-    fn cells(&self, cells: &[Datum], other: &[Datum]) -> Result<Cells, Memory>
+    pub(crate) fn cells(&self, cells: &[Datum], other: &[Datum]) -> Result<Cells, Memory>
         ensures { IfOk result (λ row. row
             ≡ cond self.now.right (paired_row self.now.right_key.now other.now cells.now)
             (paired_row self.now.right_key.now cells.now other.now)) }
@@ -93,7 +97,7 @@ impl<'a> Pairing<'a> {
     }
 
     // The key columns of the side of the rows.
-    fn key(&self) -> &[usize]
+    pub(crate) fn key(&self) -> &[usize]
         ensures { result.now ≡ own_key self.now }
     {
         if self.right {

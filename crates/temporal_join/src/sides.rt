@@ -1,5 +1,5 @@
 // The `impl Sweep` of a Join: how its sides take new edges in, and their state saved and loaded.
-ghost use Rattle.std.specs.Prelude.{◌≡◌, ◌≤◌, ◌++◌, ◌↔◌, IsTrue, ℕ, All, map, List, OnOk, OnErr, IfOk};
+ghost use Rattle.std.specs.Prelude.{◌≡◌, ◌≤◌, ◌+◌, ◌-◌, ◌^◌, min, length, ◌++◌, ◌↔◌, IsTrue, ℕ, All, map, List, OnOk, OnErr, IfOk};
 ghost use Rattle.tw_rows.specs.Bag.{SameBag};
 ghost use Rattle.tw_rows.specs.Cells.{datum_kind};
 ghost use Rattle.tw_rows.specs.Kinds.{cell_kind_of};
@@ -15,17 +15,18 @@ ghost use Rattle.carried_edges.specs.Entries.{part_of};
 ghost use Rattle.sweep_sides.specs.Waiting.{queued};
 ghost use Rattle.sweep_laws.specs.Saving.{rows_of};
 ghost use Rattle.temporal_join.specs.Kept.{SameKeys, AreByKey};
+ghost use Rattle.temporal_join.specs.Lives.{life_rows, life_waits};
 ghost use Rattle.temporal_join.specs.States.{JoinSound};
 
+use crate::few::JoinLives;
+use crate::lives::Lives;
+use crate::settling::{count_ends, save_side_rows, save_side_waiting};
 use crate::sweep::JoinRows;
 use carried_edges::are_of_parts;
 use edge_stream::{EdgeList, LoadFault, PartRow, Saved};
 use end_queue::EndQueue;
 use sweep_operator::Sweep;
-use sweep_sides::{
-    are_rows, can_wait, kept_count, let_go, load_rows, load_waiting, save_rows, save_waiting,
-    take_into,
-};
+use sweep_sides::{are_rows, can_wait, kept_count, load_rows, load_waiting};
 use tw_rows::{Edge, Kind, Memory, Time};
 
 /// The rows of both sides that are alive, and the pending edges of both sides.
@@ -38,23 +39,26 @@ pub struct JoinSides {
     // is given back to the system each time. What stands in them has no say.
     pub(crate) left_due: Vec<Edge>,
     pub(crate) right_due: Vec<Edge>,
+    // Rows with their ends. While they are few, all rows stand here, and none by their keys.
+    pub(crate) few: JoinLives,
 }
 
 impl JoinSides {
-    ghost use Rattle.temporal_join.specs.States.{AreSides};
+    ghost use Rattle.temporal_join.specs.States.{AreSides, AreKeyed, IsEmpty, left_rows, right_rows, left_pending, right_pending};
 
     // Takes up the rows and the edges that were saved. Out of memory nothing changes.
     fn take_up(&mut self, saved: &Saved) -> Result<(), Memory>
-        ensures left { OnOk result (SameBag self.new.rows.left.rows
+        ensures left { OnOk result (IsEmpty self.old → SameBag (left_rows self.new)
             (rows_of (part_of 0 saved.now))) }
-        ensures right { OnOk result (SameBag self.new.rows.right.rows
+        ensures right { OnOk result (IsEmpty self.old → SameBag (right_rows self.new)
             (rows_of (part_of 1 saved.now))) }
-        ensures left_waiting { OnOk result (SameBag (queued self.new.left_waiting)
-            (part_of 2 saved.now)) }
-        ensures right_waiting { OnOk result (SameBag (queued self.new.right_waiting)
-            (part_of 3 saved.now)) }
-        ensures by { OnOk result (AreByKey self.new.rows) }
-        ensures sides { OnOk result ((left_kinds right_kinds : List CellKind) (to : ℕ) →
+        ensures left_waiting { OnOk result (IsEmpty self.old →
+            SameBag (queued (left_pending self.new)) (part_of 2 saved.now)) }
+        ensures right_waiting { OnOk result (IsEmpty self.old →
+            SameBag (queued (right_pending self.new)) (part_of 3 saved.now)) }
+        ensures by { OnOk result (IsEmpty self.old → AreKeyed self.new) }
+        ensures sides { OnOk result (IsEmpty self.old →
+            (left_kinds right_kinds : List CellKind) (to : ℕ) →
             JoinSound left_kinds right_kinds to saved.now →
             AreSides left_kinds right_kinds to self.new) }
         ensures err { OnErr result (self.new ≡ self.old) }
@@ -94,6 +98,15 @@ fn is_sound(saved: &Saved, left_kinds: &[Kind], right_kinds: &[Kind], to: Time) 
     can_wait(saved, 3, right_kinds, to)
 }
 
+// How many rows with ends there are and ends are known, or the greatest number that there is room for.
+fn few_count(lives: &Lives) -> u64
+    ensures { result ≡ min (length (life_rows lives.now.lives)
+        + length (life_waits lives.now.lives)) (2 ^ 64 - 1) }
+{
+    let rows = lives.lives();
+    (rows.len() as u64).saturating_add(count_ends(rows) as u64)
+}
+
 impl Sweep for JoinSides {
     ghost use Rattle.temporal_join.specs.States.{SidesKeep, AreSides, IsEmpty};
     ghost use Rattle.temporal_join.specs.Operating.{join_node, join_entries, join_row, Resumes};
@@ -124,42 +137,32 @@ impl Sweep for JoinSides {
         &mut self,
         left: &EdgeList,
         right: &EdgeList,
-        _from: Time,
+        from: Time,
         to: Time,
     ) -> Result<Vec<Edge>, Memory> {
-        let alloc = self.rows.alloc;
-        take_into(&mut self.left_waiting, alloc, &mut self.left_due, left, to)?;
-        take_into(
-            &mut self.right_waiting,
-            alloc,
-            &mut self.right_due,
-            right,
-            to,
-        )?;
-        let mut answer = Vec::new(alloc);
-        self.rows.sweep(
-            &mut answer,
-            self.left_due.as_mut_slice(),
-            self.right_due.as_mut_slice(),
-        )?;
-        let_go(&mut self.left_due, alloc);
-        let_go(&mut self.right_due, alloc);
+        let mut answer = Vec::new(self.rows.alloc);
+        self.step(&mut answer, left, right, from, to)?;
         Ok(answer)
     }
 
     fn held(&self) -> u64 {
         let left = kept_count(&self.rows.left, &self.left_waiting);
         let right = kept_count(&self.rows.right, &self.right_waiting);
-        left.saturating_add(right)
+        let few_left = few_count(&self.few.left);
+        let few_right = few_count(&self.few.right);
+        left.saturating_add(few_left)
+            .saturating_add(right)
+            .saturating_add(few_right)
     }
 
     fn save(&self) -> Result<Saved, Memory> {
         let alloc = self.rows.alloc;
         let mut saved = Saved::with_capacity(alloc, self.held() as usize)?;
-        save_rows(&mut saved, 0, &self.rows.left)?;
-        save_rows(&mut saved, 1, &self.rows.right)?;
-        save_waiting(alloc, &mut saved, 2, &self.left_waiting)?;
-        save_waiting(alloc, &mut saved, 3, &self.right_waiting)?;
+        let few = &self.few;
+        save_side_rows(alloc, &mut saved, 0, &self.rows.left, &few.left)?;
+        save_side_rows(alloc, &mut saved, 1, &self.rows.right, &few.right)?;
+        save_side_waiting(alloc, &mut saved, 2, &self.left_waiting, &few.left)?;
+        save_side_waiting(alloc, &mut saved, 3, &self.right_waiting, &few.right)?;
         Ok(saved)
     }
 

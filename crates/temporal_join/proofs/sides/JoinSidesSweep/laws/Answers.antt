@@ -5,6 +5,7 @@ use Rattle.plan_model.specs.Nodes.{node_in}
 use Rattle.node_laws.specs.Keeping.{plain_cells}
 use Rattle.sweep_sides.proofs.KeptSides.{side_bounded}
 use Rattle.temporal_join.specs.Operating.{join_node}
+use Rattle.temporal_join.specs.States.{left_rows, right_rows, left_pending, right_pending}
 use Rattle.temporal_join.proofs.Answering.{joins_stored}
 use Rattle.temporal_join.proofs.Resuming.{join_opens, join_fits, join_bound, join_rows_stored}
 use Rattle.temporal_join.proofs.sides.JoinSidesSweep.laws.Goals as goal
@@ -33,10 +34,10 @@ pub returns-clause-bounded : goal.returns-clause-bounded
 returns-clause-bounded c = λ s x y hl hr out il ir k.
     let r = s.rows in
     let to = min x y in
-    join_bound r.left_key.items r.right_key.items x to (length r.left.rows + length s.left_waiting) (length r.right.rows + length s.right_waiting) (of hl) (of hr)
+    join_bound r.left_key.items r.right_key.items x to (length (left_rows s) + length (left_pending s)) (length (right_rows s) + length (right_pending s)) (of hl) (of hr)
     (node_in plain_cells (join_node s) (of hl) (of hr))
-    (side_bounded hl to r.left.rows s.left_waiting k.kept.left_history k.kept.now.left_rows k.kept.left_waits)
-    (side_bounded hr to r.right.rows s.right_waiting k.kept.right_history k.kept.now.right_rows k.kept.right_waits)
+    (side_bounded hl to (left_rows s) (left_pending s) k.kept.left_history k.kept.now.left_rows k.kept.left_waits)
+    (side_bounded hr to (right_rows s) (right_pending s) k.kept.right_history k.kept.now.right_rows k.kept.right_waits)
 
 pub returns-clause-rows : goal.returns-clause-rows
 returns-clause-rows c = λ s st saved to sound. join_rows_stored st saved to st.left_kinds st.right_kinds refl refl sound

@@ -3,7 +3,7 @@ use Rattle.tw_rows.specs.Kinds.{cell_kind_of}
 use Rattle.carried_edges.specs.Entries.{part_of}
 use Rattle.sweep_laws.specs.Saving.{rows_of}
 use Rattle.sweep_sides.specs.Waiting.{queued}
-use Rattle.temporal_join.specs.States.{JoinSound}
+use Rattle.temporal_join.specs.States.{JoinSound, left_rows, right_rows, left_pending, right_pending}
 use Rattle.temporal_join.proofs.Resuming.{join_loaded}
 use Rattle.temporal_join.proofs.sides.JoinSidesSweep.load.Goals as goal
 
@@ -16,14 +16,15 @@ returns-clause-resumed c = λ hl hr out r.
     let lc = map cell_kind_of c.args.left_kinds.now in
     let rc = map cell_kind_of c.args.right_kinds.now in
     let sound : JoinSound lc rc c.args.to entries = search rules in
-    let fits = t.sides lc rc c.args.to sound in
+    let e = c.requires in
+    let fits = t.sides e lc rc c.args.to sound in
     record {
-      by = t.by;
+      by = t.by e;
       left_timed = fits.left.timed;
       right_timed = fits.right.timed;
       kept = join_loaded old.left_key.items old.right_key.items new.rows.left_key.items new.rows.right_key.items c.args.to
-          (rows_of (part_of 0 entries)) (rows_of (part_of 1 entries)) new.rows.left.rows new.rows.right.rows (part_of 2 entries) (part_of 3 entries) (queued new.left_waiting) (queued new.right_waiting) hl hr out
-          (ap (λ v. v.items) t.left_key) (ap (λ v. v.items) t.right_key) t.left t.right t.left_waiting t.right_waiting r;
+          (rows_of (part_of 0 entries)) (rows_of (part_of 1 entries)) (left_rows new) (right_rows new) (part_of 2 entries) (part_of 3 entries) (queued (left_pending new)) (queued (right_pending new)) hl hr out
+          (ap (λ v. v.items) t.left_key) (ap (λ v. v.items) t.right_key) (t.left e) (t.right e) (t.left_waiting e) (t.right_waiting e) r;
     }
 
 pub returns-clause-fits : goal.returns-clause-fits
@@ -31,4 +32,4 @@ returns-clause-fits c =
     let lc = map cell_kind_of c.args.left_kinds.now in
     let rc = map cell_kind_of c.args.right_kinds.now in
     let sound : JoinSound lc rc c.args.to c.args.saved.now = search rules in
-    c.in_ok-take_up.ensures.sides lc rc c.args.to sound
+    c.in_ok-take_up.ensures.sides c.requires lc rc c.args.to sound
