@@ -257,11 +257,11 @@ so_far_later kinds from u v to run answer low s = record {
   answered = s.answered;
 }
 
-pub going_starts : (kinds : List CellKind) (from to n : ℕ) (due : List Edge) (run : List Datum → Option Run) (answer : List Edge) → from ≤ to → Rises 0 due → HeadFrom from (drop n due) →
-    IsSoFar kinds from from to run answer → Going kinds from to (drop n due) run answer
-going_starts kinds from to n due run answer low up head s = record {
+pub going_starts : (kinds : List CellKind) (lo from to n : ℕ) (due : List Edge) (run : List Datum → Option Run) (answer : List Edge) → lo ≤ from → from ≤ to → Rises 0 due → HeadFrom from (drop n due) →
+    IsSoFar kinds lo from to run answer → Going kinds lo to (drop n due) run answer
+going_starts kinds lo from to n due run answer under low up head s = record {
   at = from;
-  low = omega arith;
+  low = under;
   high = low;
   rise = rise_head from (drop n due) head (rise_drop n 0 due (syncs_rise due up));
   so_far = s;

@@ -12,8 +12,12 @@ pub mod Applying
 pub mod Stepping
 pub mod Standing
 pub mod Few
+pub mod Holding
 pub mod Lined
 pub mod Queueing
+pub mod Living
+pub mod Beginning
+pub mod Instants
 pub mod Reloading
 pub mod Faults
 pub mod Examples

@@ -67,7 +67,7 @@ pub only_rises : (xs : List Edge) (e : Edge) → (0 < length xs → false ≡ tr
 only_rises [] e none = (omega arith, tt)
 only_rises (x ∷ xs) e none = absurd (let f = none (omega arith) in cc)
 
-all_later : (t r : ℕ) (xs : List Edge) → t ≤ r → SyncsRise r xs → failing (is_from t) xs ≡ 0
+pub all_later : (t r : ℕ) (xs : List Edge) → t ≤ r → SyncsRise r xs → failing (is_from t) xs ≡ 0
 all_later t r [] low h = refl
 all_later t r (x ∷ xs) low h =
     let at : t ≤ x.sync = let a = h.0 in omega (arith, a, low) in
@@ -183,3 +183,20 @@ both_popped to n others others2 line line2 due0 due1 due2 p early late rest move
       omega (arith, a, b, d, late);
   own = own_whole others2 line2 p.own;
 }
+
+-- ends that are kept with their rows, and what waits
+pub pending_edges : (ends : List Edge) (waiting : List Pending) → queued (map own_pending ends ++ waiting) ≡ ends ++ queued waiting
+pending_edges [] waiting = refl
+pending_edges (e ∷ ends) waiting = ap (λ l. e ∷ l) (pending_edges ends waiting)
+
+pub pending_length : (ends : List Edge) (waiting : List Pending) → length (map own_pending ends ++ waiting) ≡ length ends + length waiting
+pending_length [] waiting = omega arith
+pending_length (e ∷ ends) waiting = let r = pending_length ends waiting in omega (arith, r)
+
+pub pending_timed : (ends : List Edge) (waiting : List Pending) → AreTimed waiting → AreTimed (map own_pending ends ++ waiting)
+pending_timed [] waiting h = h
+pending_timed (e ∷ ends) waiting h = let r = pending_timed ends waiting h in let z = own_test e.sync e.sync refl in omega (arith, r, z)
+
+pub pending_own : (ends : List Edge) (waiting : List Pending) → AreTimed (map own_pending ends ++ waiting) → AreTimed waiting
+pending_own [] waiting h = h
+pending_own (e ∷ ends) waiting h = pending_own ends waiting (omega (arith, h))

@@ -25,12 +25,15 @@ use Rattle.node_laws.specs.Keeping.{plain_cells}
 use Rattle.plan_model.specs.declared.agg.Agg.{Agg}
 use Rattle.plan_model.specs.RowOps.{group_row_in, agg_in}
 use Rattle.sweep_laws.specs.Running.{Run}
-use Rattle.sweep_laws.specs.Grouping.{GroupKeeps, row_of_run}
+use Rattle.edge_history.specs.History.{CellEvent}
+use Rattle.sweep_laws.specs.Grouping.{GroupKeeps, row_of_run, GroupSweeping}
 use Rattle.sweep_laws.proofs.GroupSweeps.{told_by_bag}
 use Rattle.carried_edges.specs.Entries.{entries_of, part_of, are_of_parts}
 use Rattle.carried_edges.proofs.Parts.{part_of_own, part_of_other, part_of_append, parts_own, parts_append, parts_pass}
 use Rattle.snapshot_agg.specs.Words.{key_data, tell, bad}
-use Rattle.snapshot_agg.specs.Keeping.{KeepsGrouped}
+use Rattle.snapshot_agg.specs.Keeping.{KeepsGroup, KeepsGrouped}
+use Rattle.snapshot_agg.specs.KeptRows.{RowsAndEnds}
+use Rattle.snapshot_agg.specs.Waiting.{all_pending}
 use Rattle.sweep_sides.specs.Waiting.{queued}
 use Rattle.snapshot_agg.specs.Totaled.{run_from, run_of}
 use Rattle.snapshot_agg.specs.Answering.{is_stored, IsRunOf, AreRunsOf}
@@ -47,6 +50,15 @@ use Rattle.tw_rows.proofs.Fronts.{total_more}
 use Rattle.snapshot_agg.proofs.Totaling.{tell_is_group, bad_by_key, of_key}
 
 -- THE SAME IN ANOTHER ORDER
+pub sweeping_same : (key : List ℕ) (aggs : List Agg) (a : List CellEvent) (t : ℕ) (rows rows2 : List HeldRow) (run : List Datum → Option Run) → SameBag rows2 rows →
+    GroupSweeping (tell key aggs) (bad key aggs) a t rows run → GroupSweeping (tell key aggs) (bad key aggs) a t rows2 run
+sweeping_same key aggs a t rows rows2 run same s = record {
+  swept = record { alive_rows = SameBag-trans _ _ _ same s.swept.alive_rows; open_runs = s.swept.open_runs };
+  steady = λ q. s.steady q
+      ∙ sym (told_by_bag (key_data key) same_cells (tell key aggs) (tell_is_group key aggs) q (bare rows2) (bare rows) (SameBag-map (λ (r : HeldRow). r.cells) rows2 rows same));
+  fine = λ q. bad_by_key key aggs q (bare rows2) (bare rows) (SameBag-filter (has_key (key_data key) same_cells q) (bare rows2) (bare rows) (SameBag-map (λ (r : HeldRow). r.cells) rows2 rows same)) ∙ s.fine q;
+}
+
 pub kept_same : (key : List ℕ) (aggs : List Agg) (rows rows2 : List HeldRow) (run run2 : List Datum → Option Run) (waiting waiting2 : List Edge) (x : ℕ) (came out : List Edge) →
     SameBag rows2 rows → ((k : List Datum) → run2 k ≡ run k) → SameBag waiting2 waiting →
     GroupKeeps (key_data key) same_cells (tell key aggs) (bad key aggs) rows run waiting x came out → GroupKeeps (key_data key) same_cells (tell key aggs) (bad key aggs) rows2 run2 waiting2 x came out
@@ -280,15 +292,17 @@ module _ {S : Type 0} (key : List ℕ) (aggs : List Agg) (left kinds : List Cell
       (ap (are_row_starts kinds x) is_told
       ∙ told_passes kinds x running.entries (λ i k r is. runs k (record { row = r.cells; start = r.start }) (run_there i k r is)))
 
-  pub saved_resumes : (texts : List (List ℕ)) (hl hr out : List Edge) → GroupSound left kinds x entries → KeepsGrouped key aggs left texts rows running waiting x hl hr out →
+  pub saved_resumes : (ends : List Edge) (own : List Pending) (texts : List (List ℕ)) (hl hr out : List Edge) → waiting ≡ all_pending ends own → GroupSound left kinds x entries →
+      KeepsGrouped key aggs left texts (record { held = rows; ends = ends }) running own x hl hr out →
       GroupResumes left kinds key aggs texts x entries hl hr out
-  saved_resumes texts hl hr out sound k = record {
+  saved_resumes ends own texts hl hr out is sound k = record {
     sound = sound;
     group = kept_same key aggs rows (rows_of (part_of 0 entries)) (run_of running) (run_among (length key) (part_of 2 entries)) (queued waiting) (part_of 1 entries) x hl out
         (subst (λ l. SameBag l rows) (sym (ap rows_of (rows_part starts queue told first second entries one two three ∙ is_starts) ∙ rows_of_starts rows)) (SameBag-refl rows))
         (λ q. ap (λ l. run_among (length key) l q) (told_part starts queue told first second entries one two three ∙ is_told)
         ∙ runs_saved (length key) running.entries once (λ i a r is. told_begins key aggs a r.cells rows (ap row_of_run (sym (run_there i a r is)) ∙ k.group.now.steady a)) q)
-        (subst (λ l. SameBag l (queued waiting)) (sym (waiting_part starts queue told first second entries one two three ∙ is_queue)) (SameBag-refl (queued waiting))) k.group;
+        (subst (λ l. SameBag l (queued waiting)) (sym (waiting_part starts queue told first second entries one two three ∙ is_queue)) (SameBag-refl (queued waiting)))
+        (subst (λ w. KeepsGroup key aggs rows running w x hl out) (sym is) k.group);
     low = k.low;
     left_placed = k.left_placed;
     left_cells = k.left_cells;
@@ -297,13 +311,13 @@ module _ {S : Type 0} (key : List ℕ) (aggs : List Agg) (left kinds : List Cell
   }
 
 -- WHAT IS LOADED
-pub loaded_keeps : {S : Type 0} (key : List ℕ) (aggs : List Agg) (left kinds : List CellKind) (x : ℕ) (rows : List HeldRow) (running : IndexMap (List Datum) HeldRow S) (waiting : List Pending)
-    (entries : List SavedEntry) → SameBag rows (rows_of (part_of 0 entries)) → SameBag (queued waiting) (part_of 1 entries) →
+pub loaded_keeps : {S : Type 0} (key : List ℕ) (aggs : List Agg) (left kinds : List CellKind) (x : ℕ) (rows : RowsAndEnds) (running : IndexMap (List Datum) HeldRow S) (waiting : List Pending)
+    (entries : List SavedEntry) → rows.ends ≡ [] → SameBag rows.held (rows_of (part_of 0 entries)) → SameBag (queued waiting) (part_of 1 entries) →
     ((k : List Datum) → run_of running k ≡ run_among (length key) (part_of 2 entries) k) →
     (texts : List (List ℕ)) (hl hr out : List Edge) → GroupResumes left kinds key aggs texts x entries hl hr out → KeepsGrouped key aggs left texts rows running waiting x hl hr out
-loaded_keeps key aggs left kinds x rows running waiting entries is_rows is_waiting is_runs texts hl hr out r = record {
-  group = kept_same key aggs (rows_of (part_of 0 entries)) rows (run_among (length key) (part_of 2 entries)) (run_of running) (part_of 1 entries) (queued waiting) x hl out
-      is_rows is_runs is_waiting r.group;
+loaded_keeps key aggs left kinds x rows running waiting entries none is_rows is_waiting is_runs texts hl hr out r = record {
+  group = subst (λ es. KeepsGroup key aggs rows.held running (all_pending es waiting) x hl out) (sym none) (kept_same key aggs (rows_of (part_of 0 entries)) rows.held (run_among (length key) (part_of 2 entries)) (run_of running) (part_of 1 entries) (queued waiting) x hl out
+      is_rows is_runs is_waiting r.group);
   low = r.low;
   left_placed = r.left_placed;
   left_cells = r.left_cells;

@@ -21,12 +21,13 @@ use Rattle.snapshot_agg.specs.declared.groups.Groups.{Groups}
 use Rattle.snapshot_agg.specs.Words.{key_data, tell, bad}
 use Rattle.snapshot_agg.specs.Totaled.{Totaled, TellTouched, totals_of, run_of}
 use Rattle.snapshot_agg.specs.Keeping.{KeepsGroup}
+use Rattle.snapshot_agg.specs.Waiting.{all_pending}
 use Rattle.snapshot_agg.specs.Answering.{group_kinds, IsSoFar}
 
 -- each key has totals of its rows, and a key with no row has none; the room is for these keys; and the totals tell whether
 -- their key is touched
 pub record IsCounted (g : Groups) : Type 0 where
-  pub totals : Totaled g.key.items g.aggs.items g.rows.rows g.totals
+  pub totals : Totaled g.key.items g.aggs.items g.rows.rows.held g.totals
   pub room : g.room.columns ≡ g.key.items
   pub touched : (k : List Datum) → TellTouched (totals_of g.totals k) g.instant g.touched.items k
 
@@ -36,10 +37,10 @@ key_by g cells = key_data g.key.items cells
 
 -- the row of the group of a key, if the key has rows, and whether that group is undefined
 abbrev pub row_now : Groups → List Datum → Option (List Datum)
-row_now g k = tell g.key.items g.aggs.items k (bare g.rows.rows)
+row_now g k = tell g.key.items g.aggs.items k (bare g.rows.rows.held)
 
 abbrev pub is_undefined_now : Groups → List Datum → Bool
-is_undefined_now g k = bad g.key.items g.aggs.items k (bare g.rows.rows)
+is_undefined_now g k = bad g.key.items g.aggs.items k (bare g.rows.rows.held)
 
 -- how the rows of the groups are stored, where those of the child are stored so
 abbrev pub kinds_over : Groups → List CellKind → List CellKind
@@ -68,9 +69,13 @@ IsUndefinedFirst g a from to t = IsFirstUndefined (bad g.key.items g.aggs.items)
 abbrev pub AreEmitted : {S : Type 0} → Groups → List CellKind → ℕ → ℕ → ℕ → IndexMap (List Datum) HeldRow S → List Edge → Type 0
 AreEmitted g left from u to running answer = IsSoFar (kinds_over g left) from u to (run_of running) answer
 
+-- all edges that are pending: the ends that the groups keep with their rows, and the others
+abbrev pub pending_of : Groups → List Pending → List Pending
+pending_of g waiting = all_pending g.rows.rows.ends waiting
+
 -- the groups, the emitted rows and the pending edges are what is left after the edges came and out was answered, closed up to x
 abbrev pub AreKept : {S : Type 0} → Groups → IndexMap (List Datum) HeldRow S → List Pending → ℕ → List Edge → List Edge → Type 0
-AreKept g running waiting x came out = KeepsGroup g.key.items g.aggs.items g.rows.rows running waiting x came out
+AreKept g running waiting x came out = KeepsGroup g.key.items g.aggs.items g.rows.rows.held running (pending_of g waiting) x came out
 
 -- the new edges come at x or later, and are a history behind those that came. Behind a start at 3, on a side closed up to 4,
 -- its end at 5 may come

@@ -14,6 +14,8 @@ use Rattle.node_laws.specs.Places.{EdgesArePlaced}
 use Rattle.plan_model.specs.declared.agg.Agg.{Agg}
 use Rattle.sweep_laws.specs.Grouping.{GroupKeeps}
 use Rattle.snapshot_agg.specs.declared.totals.Totals.{Totals}
+use Rattle.snapshot_agg.specs.KeptRows.{RowsAndEnds}
+use Rattle.snapshot_agg.specs.Waiting.{all_pending}
 use Rattle.snapshot_agg.specs.Words.{key_data, tell, bad}
 use Rattle.snapshot_agg.specs.Totaled.{run_of}
 use Rattle.sweep_sides.specs.Waiting.{queued}
@@ -26,9 +28,9 @@ KeepsGroup key aggs rows running waiting to came out =
 
 -- the same, closed up to x, of edges that columns of these kinds store, with places in a table, and beside a right side of
 -- which nothing is read. Of a count over two starts at 3, closed up to 4: both rows, and the row 2 since 3 as what was told
-pub record KeepsGrouped {S : Type 0} (key : List ℕ) (aggs : List Agg) (kinds : List CellKind) (texts : List (List ℕ)) (rows : List HeldRow)
+pub record KeepsGrouped {S : Type 0} (key : List ℕ) (aggs : List Agg) (kinds : List CellKind) (texts : List (List ℕ)) (rows : RowsAndEnds)
     (running : IndexMap (List Datum) HeldRow S) (waiting : List Pending) (x : ℕ) (left right out : List Edge) : Type 0 where
-  pub group : KeepsGroup key aggs rows running waiting x left out
+  pub group : KeepsGroup key aggs rows.held running (all_pending rows.ends waiting) x left out
   pub low : x ≤ inf
   pub left_placed : EdgesArePlaced texts left
   pub left_cells : All (λ e. map datum_kind e.cells ≡ kinds) left
@@ -36,9 +38,10 @@ pub record KeepsGrouped {S : Type 0} (key : List ℕ) (aggs : List Agg) (kinds :
   pub right_placed : EdgesArePlaced texts right
 
 -- no row is kept or was emitted, no edge is pending, no side is closed, and no step failed
-pub record IsOpening {S : Type 0} (rows : List HeldRow) (running : IndexMap (List Datum) HeldRow S) (waiting : List Pending)
+pub record IsOpening {S : Type 0} (rows : RowsAndEnds) (running : IndexMap (List Datum) HeldRow S) (waiting : List Pending)
     (x y : ℕ) (failed : Bool) : Type 0 where
-  pub no_rows : rows ≡ []
+  pub no_rows : rows.held ≡ []
+  pub no_ends : rows.ends ≡ []
   pub no_runs : running.entries ≡ []
   pub none : waiting ≡ []
   pub left : x ≡ 0

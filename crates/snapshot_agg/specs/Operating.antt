@@ -10,6 +10,7 @@ use Rattle.edge_stream.specs.Taking.{batches_taken, batches_given}
 use Rattle.operator.specs.Standing.{Standing}
 use Rattle.plan_model.specs.declared.node.Node.TheVariants.{Group}
 use Rattle.snapshot_agg.specs.declared.grouped.Grouped.{Grouped}
+use Rattle.snapshot_agg.specs.Counting.{pending_of}
 use Rattle.snapshot_agg.specs.Keeping.{KeepsGrouped}
 
 -- its node is a Group by its key columns with its aggregates, of whatever child
@@ -29,7 +30,7 @@ standing o = record {
 -- one aggregate, whose row was emitted, and an edge that waits: 2, 2, 1, 1 and 1
 abbrev pub entries : Grouped → ℕ
 entries o =
-    length o.groups.rows.rows + length o.groups.rows.rows * length o.groups.aggs.items + length o.groups.totals.entries + length o.running.entries + length o.waiting
+    length o.groups.rows.rows.held + length o.groups.rows.rows.held * length o.groups.aggs.items + length o.groups.totals.entries + length o.running.entries + length (pending_of o.groups o.waiting)
 
 -- whose row the cells of a part are: rows and pending edges are of the child, and emitted rows of the group, whose first data
 -- are the key. Part 1 has rows of the child

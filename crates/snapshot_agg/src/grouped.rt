@@ -5,7 +5,7 @@ ghost use Rattle.edge_stream.specs.Listing.{cells_of};
 ghost use Rattle.sweep_sides.specs.Sides.{IsSide};
 ghost use Rattle.operator.specs.Steps.{ComeBetween, StaysKept, IsFirstUndefined};
 ghost use Rattle.snapshot_agg.specs.Answering.{group_kinds, AreRunsOf};
-ghost use Rattle.snapshot_agg.specs.Counting.{IsCounted, kinds_over};
+ghost use Rattle.snapshot_agg.specs.Counting.{IsCounted, kinds_over, pending_of};
 ghost use Rattle.snapshot_agg.specs.Keeping.{IsOpening, HasFewKeys};
 ghost use Rattle.snapshot_agg.specs.OneProof.{counted_prop, few_prop, under};
 ghost use Rattle.snapshot_agg.specs.Totaled.{run_of};
@@ -42,10 +42,12 @@ pub struct Grouped {
     pub(crate) failed: bool,
     ghost counted: { failed ≡ false → IsCounted groups } by { under failed (counted_prop groups) },
     ghost side: { failed ≡ false →
-        IsSide (map cell_kind_of left_kinds.items) left_to groups.rows.rows waiting },
+        IsSide (map cell_kind_of left_kinds.items) left_to groups.rows.rows.held
+        (pending_of groups waiting) },
     ghost runs: { failed ≡ false →
         AreRunsOf (map cell_kind_of kinds.items) left_to (run_of running) },
-    ghost few: { HasFewKeys groups.rows.rows groups.totals running } by { few_prop groups.rows.rows groups.totals running },
+    ghost few: { HasFewKeys groups.rows.rows.held groups.totals running }
+        by { few_prop groups.rows.rows.held groups.totals running },
     ghost like: { map cell_kind_of kinds.items
         ≡ kinds_over groups (map cell_kind_of left_kinds.items) },
     ghost width: { length kinds.items ≤ 32 },

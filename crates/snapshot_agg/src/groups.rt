@@ -1,26 +1,30 @@
 // The rows of a Group that are alive, with the totals of each key, as rows come and go.
-ghost use Rattle.std.specs.Prelude.{◌≡◌, ◌<◌, ◌≤◌, ◌^◌, false, Bool, Option, List, [], ◌∷◌, length, IfOk, OnOk};
+ghost use Rattle.std.specs.Prelude.{◌≡◌, ◌<◌, ◌≤◌, ◌^◌, ℕ, suc, true, false, Bool, Option, List, [], ◌∷◌, length, IfOk, OnOk};
 ghost use Rattle.std.specs.Option.{option_copied};
 ghost use Rattle.tw_rows.specs.Bag.{SameBag};
 ghost use Rattle.tw_rows.specs.SameCells.{same_cells};
 ghost use Rattle.tw_rows.specs.declared.cells.Datum.{Datum};
-ghost use Rattle.edge_history.specs.Order.{many};
+ghost use Rattle.edge_history.specs.Order.{many, failing, is_end, is_from};
 ghost use Rattle.edge_history.specs.Opens.{is_held};
 ghost use Rattle.plan_model.specs.declared.agg.Agg.{Agg};
 ghost use Rattle.sweep_laws.specs.Changes.{NoMore};
-ghost use Rattle.snapshot_agg.specs.Changing.{Gains, row_since};
+ghost use Rattle.tw_rows.specs.declared.edge.Edge.{Edge};
+ghost use Rattle.sweep_sides.specs.Waiting.{queued, AreTimed};
+ghost use Rattle.snapshot_agg.specs.Changing.{Gains, GainTogether, StayTogether, row_since};
+ghost use Rattle.snapshot_agg.specs.KeptRows.{row_ended, IsEnded};
 ghost use Rattle.snapshot_agg.specs.Touching.{Touches};
 ghost use Rattle.snapshot_agg.specs.Totaled.{IsTotalOf, TellTouched, totals_of};
 ghost use Rattle.snapshot_agg.specs.KeyRow.{IsKeyRow};
 
-use crate::row_queue::RowQueue;
+use crate::lives::Lives;
+use crate::queue::Queue;
 use crate::totals::{Totals, touch};
 use indexmap::IndexMap;
 use plan_model::Agg;
 use std::alloc::Global;
 use std::hash::BuildHasherDefault;
 use synopsis::{KeyRoom, WordHasher};
-use tw_rows::{Cells, Datum, Memory, Time};
+use tw_rows::{Cells, Datum, Edge, Memory, Time};
 
 // The totals of each key that has rows.
 pub(crate) type KeyTotals = IndexMap<Vec<Datum>, Totals, BuildHasherDefault<WordHasher>>;
@@ -40,7 +44,7 @@ pub(crate) struct Groups {
     // Room for the key of a row, by the same columns.
     pub(crate) room: KeyRoom,
     pub(crate) aggs: Vec<Agg>,
-    pub(crate) rows: RowQueue,
+    pub(crate) rows: Lives,
     pub(crate) totals: KeyTotals,
     // The keys of the rows that came or went at the instant, and its number.
     pub(crate) touched: Vec<Cells>,
@@ -130,7 +134,8 @@ impl Groups {
     pub(crate) fn new(alloc: Global, key: &[usize], aggs: &[Agg]) -> Result<Groups, Memory>
         ensures key { IfOk result (λ g. g.key.items ≡ key.now) }
         ensures aggs { IfOk result (λ g. g.aggs.items ≡ aggs.now) }
-        ensures rows { IfOk result (λ g. g.rows.rows ≡ []) }
+        ensures rows { IfOk result (λ g. g.rows.rows.held ≡ []) }
+        ensures ends { IfOk result (λ g. g.rows.rows.ends ≡ []) }
         ensures counted { IfOk result IsCounted }
     {
         Ok(Groups {
@@ -138,7 +143,7 @@ impl Groups {
             key: Vec::from_slice(alloc, key)?,
             room: KeyRoom::new(alloc, key)?,
             aggs: Vec::from_slice(alloc, aggs)?,
-            rows: RowQueue::new(alloc, key)?,
+            rows: Lives::new(alloc, key)?,
             totals: IndexMap::with_hasher(alloc, BuildHasherDefault::new()),
             touched: Vec::new(alloc),
             instant: 0,
@@ -167,15 +172,16 @@ impl Groups {
     pub(crate) fn add(&mut self, cells: Cells, start: Time) -> Result<(), Memory>
         requires counted { IsCounted self.old }
         ensures counted { OnOk result (IsCounted self.new) }
-        ensures added { OnOk result (Gains self.old.rows.rows self.new.rows.rows
+        ensures added { OnOk result (Gains self.old.rows.rows.held self.new.rows.rows.held
             (row_since cells start)) }
+        ensures ends { OnOk result (self.new.rows.rows.ends ≡ self.old.rows.rows.ends) }
         ensures touched { OnOk result (Touches self.old.touched.items self.new.touched.items
             (key_by self.old cells)) }
         ensures key { self.new.key ≡ self.old.key }
         ensures aggs { self.new.aggs ≡ self.old.aggs }
     {
         // More rows have no room in any memory.
-        if self.rows.len() >= i64::MAX as usize {
+        if self.rows.len() >= i64::MAX as u64 {
             return Err(Memory);
         }
         self.room.write(cells.items());
@@ -192,13 +198,83 @@ impl Groups {
         Ok(())
     }
 
-    // Takes out a row that began then, if there is one. Its key is touched.
-    pub(crate) fn take(&mut self, cells: &Cells, start: Time) -> Result<(), Memory>
+    // Puts in a row that came with its end, which is then pending. Its key is touched.
+    pub(crate) fn keep(&mut self, waiting: &mut Queue, end: Edge) -> Result<(), Memory>
+        requires counted { IsCounted self.old }
+        requires end { is_end end ≡ true }
+        ensures counted { OnOk result (IsCounted self.new) }
+        ensures added { OnOk result (Gains self.old.rows.rows.held self.new.rows.rows.held
+            (row_ended end)) }
+        ensures pending { OnOk result (GainTogether self.old.rows.rows.ends (queued waiting.old)
+            self.new.rows.rows.ends (queued waiting.new) end) }
+        ensures own { OnOk result (AreTimed waiting.old → AreTimed waiting.new) }
+        ensures late { OnOk result ((t : ℕ) → t ≤ end.sync →
+            failing (is_from t) (queued waiting.old) ≡ 0 →
+            failing (is_from t) (queued waiting.new) ≡ 0) }
+        ensures touched { OnOk result (Touches self.old.touched.items self.new.touched.items
+            (key_by self.old end.cells)) }
+        ensures key { self.new.key ≡ self.old.key }
+        ensures aggs { self.new.aggs ≡ self.old.aggs }
+    {
+        // More rows have no room in any memory.
+        if self.rows.len() >= i64::MAX as u64 {
+            return Err(Memory);
+        }
+        self.room.write(end.cells.items());
+        add_to(
+            &mut self.totals,
+            &mut self.touched,
+            self.instant,
+            self.alloc,
+            &self.aggs,
+            self.room.values(),
+            end.cells.items(),
+        )?;
+        self.rows.keep(waiting, end)?;
+        Ok(())
+    }
+
+    // Takes out the first row that is kept with its end, if that comes at the time, and answers whether one was taken. Its key
+    // is touched.
+    pub(crate) fn end_first(&mut self, t: Time) -> Result<bool, Memory>
         requires counted { IsCounted self.old }
         ensures counted { OnOk result (IsCounted self.new) }
-        ensures taken { OnOk result (1 ≤ many (is_held cells.now start) self.old.rows.rows →
-            Gains self.new.rows.rows self.old.rows.rows (row_since cells.now start)) }
-        ensures fewer { OnOk result (NoMore self.old.rows.rows self.new.rows.rows) }
+        ensures ended { IfOk result (λ ended. ended ≡ true → (e : Edge)
+            × IsEnded e t self.old.rows.rows self.new.rows.rows
+            × Touches self.old.touched.items self.new.touched.items (key_by self.old e.cells)) }
+        ensures none { IfOk result (λ ended. ended ≡ false → (self.new.rows ≡ self.old.rows)
+            × (self.new.touched ≡ self.old.touched)) }
+        ensures late { IfOk result (λ ended. ended ≡ false →
+            failing (is_from t) self.old.rows.rows.ends ≡ 0 →
+            failing (is_from (suc t)) self.old.rows.rows.ends ≡ 0) }
+        ensures key { self.new.key ≡ self.old.key }
+        ensures aggs { self.new.aggs ≡ self.old.aggs }
+    {
+        let Some(end) = self.rows.end_first(t) else {
+            return Ok(false);
+        };
+        self.room.write(end.cells.items());
+        let key = self.room.values();
+        take_from(
+            &mut self.totals,
+            &mut self.touched,
+            self.instant,
+            self.alloc,
+            key,
+            end.cells.items(),
+        )?;
+        Ok(true)
+    }
+
+    // Takes out a row that began then, if there is one. Its key is touched. No row may be kept with its end.
+    pub(crate) fn take(&mut self, cells: &Cells, start: Time) -> Result<(), Memory>
+        requires counted { IsCounted self.old }
+        requires settled { self.old.rows.rows.ends ≡ [] }
+        ensures settled { self.new.rows.rows.ends ≡ [] }
+        ensures counted { OnOk result (IsCounted self.new) }
+        ensures taken { OnOk result (1 ≤ many (is_held cells.now start) self.old.rows.rows.held →
+            Gains self.new.rows.rows.held self.old.rows.rows.held (row_since cells.now start)) }
+        ensures fewer { OnOk result (NoMore self.old.rows.rows.held self.new.rows.rows.held) }
         ensures touched { OnOk result (Touches self.old.touched.items self.new.touched.items
             (key_by self.old cells.now)) }
         ensures key { self.new.key ≡ self.old.key }
@@ -220,6 +296,21 @@ impl Groups {
         }
         touch(self.alloc, &mut self.touched, key)?;
         Ok(())
+    }
+
+    // Moves the ends that are kept with their rows to the queue.
+    pub(crate) fn settle(&mut self, waiting: &mut Queue) -> Result<(), Memory>
+        requires counted { IsCounted self.old }
+        ensures counted { OnOk result (IsCounted self.new) }
+        ensures settled { OnOk result (self.new.rows.rows.ends ≡ []) }
+        ensures held { OnOk result (SameBag self.old.rows.rows.held self.new.rows.rows.held) }
+        ensures pending { OnOk result (StayTogether self.old.rows.rows.ends (queued waiting.old)
+            self.new.rows.rows.ends (queued waiting.new)) }
+        ensures own { OnOk result (AreTimed waiting.old → AreTimed waiting.new) }
+        ensures key { self.new.key ≡ self.old.key }
+        ensures aggs { self.new.aggs ≡ self.old.aggs }
+    {
+        self.rows.settle(waiting)
     }
 
     // What the group of a key is.

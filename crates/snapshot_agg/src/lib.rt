@@ -4,7 +4,9 @@
 mod emitting;
 mod grouped;
 mod groups;
+mod intervals;
 mod laws;
+mod lives;
 mod loading;
 mod operating;
 mod passes;

@@ -1,5 +1,5 @@
 // What a Group kept, taken up from saved entries.
-ghost use Rattle.std.specs.Prelude.{◌≡◌, ◌↔◌, IsTrue, List, length, map, take, Err, IfOk, IfErr, OnOk};
+ghost use Rattle.std.specs.Prelude.{◌≡◌, ◌↔◌, IsTrue, List, [], length, map, take, Err, IfOk, IfErr, OnOk};
 ghost use Rattle.tw_rows.specs.Bag.{SameBag};
 ghost use Rattle.tw_rows.specs.Kinds.{cell_kind_of};
 ghost use Rattle.tw_rows.specs.declared.cells.Datum.{Datum};
@@ -47,7 +47,8 @@ fn groups_of(alloc: Global, key: &[usize], aggs: &[Agg], starts: &[Edge]) -> Res
     ensures key { IfOk result (λ g. g.key.items ≡ key.now) }
     ensures aggs { IfOk result (λ g. g.aggs.items ≡ aggs.now) }
     ensures counted { IfOk result IsCounted }
-    ensures rows { IfOk result (λ g. SameBag g.rows.rows (rows_of starts.now)) }
+    ensures rows { IfOk result (λ g. SameBag g.rows.rows.held (rows_of starts.now)) }
+    ensures ends { IfOk result (λ g. g.rows.rows.ends ≡ []) }
 {
     let mut groups = Groups::new(alloc, key, aggs)?;
     for start in starts {
@@ -89,10 +90,11 @@ pub(crate) fn load_parts(
     ensures key { IfOk result (λ l. l.groups.key.items ≡ key.now) }
     ensures aggs { IfOk result (λ l. l.groups.aggs.items ≡ aggs.now) }
     ensures counted { IfOk result (λ l. IsCounted l.groups) }
-    ensures rows { IfOk result (λ l. SameBag l.groups.rows.rows (rows_of (part_of 0 saved.now))) }
+    ensures rows { IfOk result (λ l. SameBag l.groups.rows.rows.held (rows_of (part_of 0 saved.now))) }
+    ensures ends { IfOk result (λ l. l.groups.rows.rows.ends ≡ []) }
     ensures waiting { IfOk result (λ l. SameBag (queued l.waiting) (part_of 1 saved.now)) }
     ensures side { IfOk result (λ l.
-        IsSide (map cell_kind_of left_kinds.now) to l.groups.rows.rows l.waiting) }
+        IsSide (map cell_kind_of left_kinds.now) to l.groups.rows.rows.held l.waiting) }
     ensures runs { IfOk result (λ l. (k : List Datum) →
         run_of l.running k ≡ run_among (length key.now) (part_of 2 saved.now) k) }
     ensures sound { OnOk result (GroupSound (map cell_kind_of left_kinds.now)

@@ -45,14 +45,16 @@ impl Operator for Grouped {
     }
 
     fn held(&self) -> u64 {
-        let rows = self.groups.rows.len() as u64;
+        let rows = self.groups.rows.len();
         let keys = self.groups.totals.len() as u64;
         let runs = self.running.len() as u64;
         let waiting = self.waiting.len();
+        let ends = self.groups.rows.ends_len();
         let bags = rows.saturating_mul(self.groups.aggs.as_slice().len() as u64);
         rows.saturating_add(bags)
             .saturating_add(keys)
             .saturating_add(runs)
+            .saturating_add(ends)
             .saturating_add(waiting)
     }
 
@@ -61,13 +63,16 @@ impl Operator for Grouped {
     }
 
     fn save(&self) -> Result<Saved, Memory> {
-        let rows = self.groups.rows.len();
+        let rows = self.groups.rows.len() as usize;
+        let ends = self.groups.rows.ends_len() as usize;
         let waiting = self.waiting.len() as usize;
         let count = rows
+            .saturating_add(ends)
             .saturating_add(waiting)
             .saturating_add(self.running.len());
         let mut saved = Saved::with_capacity(self.alloc, count)?;
         self.groups.rows.save(&mut saved, 0)?;
+        self.groups.rows.save_ends(&mut saved, 1)?;
         self.waiting.save(self.alloc, &mut saved, 1)?;
         save_runs(&mut saved, 2, &self.running)?;
         Ok(saved)

@@ -31,11 +31,13 @@ pub(crate) type Running = IndexMap<Cells, HeldRow, BuildHasherDefault<WordHasher
 // Takes out the row that the edge ends, or puts in the one that it starts, whose cells are moved out of it.
 fn apply_one(groups: &mut Groups, edge: &mut Edge) -> Result<(), Memory>
     requires counted { IsCounted groups.old }
+    requires settled { groups.old.rows.rows.ends ≡ [] }
     ensures counted { OnOk result (IsCounted groups.new) }
-    ensures moved { OnOk result (HoldsEnded edge.old groups.old.rows.rows → (w : HeldRow → ℕ) →
-        total w groups.new.rows.rows + total w (ended_of edge.old)
-        ≡ total w groups.old.rows.rows + total w (started_of edge.old)) }
-    ensures fewer { OnOk result (TakeAtMost groups.old.rows.rows groups.new.rows.rows
+    ensures settled { OnOk result (groups.new.rows.rows.ends ≡ []) }
+    ensures moved { OnOk result (HoldsEnded edge.old groups.old.rows.rows.held → (w : HeldRow → ℕ) →
+        total w groups.new.rows.rows.held + total w (ended_of edge.old)
+        ≡ total w groups.old.rows.rows.held + total w (started_of edge.old)) }
+    ensures fewer { OnOk result (TakeAtMost groups.old.rows.rows.held groups.new.rows.rows.held
         (started_of edge.old)) }
     ensures touched { OnOk result (Touches groups.old.touched.items groups.new.touched.items
         (key_by groups.old edge.old.cells)) }
@@ -52,15 +54,17 @@ fn apply_one(groups: &mut Groups, edge: &mut Edge) -> Result<(), Memory>
 
 // Takes out the rows that end and puts in those that start, whose cells are moved out of the edges. The keys of the edges
 // are touched then, and no other. It goes from the last edge to the first, so that starts come in before ends: a key that
-// has rows before and after the instant keeps its totals, and stands among the touched ones once.
+// has rows before and after the instant keeps its totals, and stands among the touched ones once. No row may be kept with its end.
 pub(crate) fn apply(groups: &mut Groups, now: &mut [Edge]) -> Result<(), Memory>
     requires counted { IsCounted groups.old }
+    requires settled { groups.old.rows.rows.ends ≡ [] }
     ensures counted { OnOk result (IsCounted groups.new) }
-    ensures moved { OnOk result (NoMore groups.old.rows.rows (ended_rows now.old) →
+    ensures settled { OnOk result (groups.new.rows.rows.ends ≡ []) }
+    ensures moved { OnOk result (NoMore groups.old.rows.rows.held (ended_rows now.old) →
         (w : HeldRow → ℕ) →
-        total w groups.new.rows.rows + total w (ended_rows now.old)
-        ≡ total w groups.old.rows.rows + total w (started_rows now.old)) }
-    ensures fewer { OnOk result (TakeAtMost groups.old.rows.rows groups.new.rows.rows
+        total w groups.new.rows.rows.held + total w (ended_rows now.old)
+        ≡ total w groups.old.rows.rows.held + total w (started_rows now.old)) }
+    ensures fewer { OnOk result (TakeAtMost groups.old.rows.rows.held groups.new.rows.rows.held
         (started_rows now.old)) }
     ensures touched { OnOk result ((q : List Datum) →
         list_any (same_cells q) groups.new.touched.items

@@ -40,7 +40,7 @@ impl Model for Queue {
 }
 
 // Whether an edge of that sync may stand behind all others.
-fn comes_last(line: &VecDeque<Edge>, sync: Time) -> bool
+pub(crate) fn comes_last(line: &VecDeque<Edge>, sync: Time) -> bool
     ensures { result ≡ true → SyncsRise 0 line.now.items → (edge : Edge) → edge.sync ≡ sync →
         SyncsRise 0 (line.now.items ++ edge ∷ []) }
 {

@@ -3,15 +3,14 @@ ghost use Rattle.std.specs.Prelude.{◌≡◌, ◌+◌, ◌<◌, ◌≤◌, ◌�
 ghost use Rattle.tw_rows.specs.Bag.{SameBag, total};
 ghost use Rattle.tw_rows.specs.Cells.{datum_kind};
 ghost use Rattle.tw_rows.specs.declared.edge.Edge.{Edge};
-ghost use Rattle.edge_history.specs.Order.{failing, is_below, is_from, rank, Rises, KeepsOrder};
+ghost use Rattle.edge_history.specs.Order.{failing, is_below, is_from, rank, Rises};
 ghost use Rattle.edge_history.specs.Opens.{singles_of, singles};
-ghost use Rattle.edge_stream.specs.Listing.{cells_of};
 ghost use Rattle.sweep_sides.specs.Waiting.{queued, AreTimed};
 ghost use Rattle.snapshot_agg.specs.Changing.{GainTogether, StayTogether, TakeTogether};
 
 use crate::queue::Queue;
 use edge_history::in_order;
-use edge_stream::EdgeList;
+use edge_stream::Cursor;
 use std::alloc::Global;
 use tw_rows::{Edge, Memory, Time};
 
@@ -142,30 +141,28 @@ fn put_in_order(due: &mut Vec<Edge>) -> Result<(), Memory>
     Ok(())
 }
 
-// Takes in the starts and the ends of new edges, and takes out what comes below a time, in order.
+// Takes in the starts and the ends of the edges that are left, about so many, and takes out what comes below a time, in order.
 pub(crate) fn take_due(
     alloc: Global,
     waiting: &mut Queue,
-    new: &EdgeList,
+    cursor: &mut Cursor,
+    count: usize,
     to: Time,
 ) -> Result<Vec<Edge>, Memory>
     requires own { AreTimed waiting.old }
     ensures parts { IfOk result (λ due. (w : Edge → ℕ) →
         total w due.items + total w (queued waiting.new)
-        ≡ total w (queued waiting.old) + total w (singles new.now.edges)) }
+        ≡ total w (queued waiting.old) + total w (singles cursor.old.edges)) }
     ensures below { IfOk result (λ due. failing (is_below to) due.items ≡ 0) }
     ensures later { OnOk result (failing (is_from to) (queued waiting.new) ≡ 0) }
     ensures order { IfOk result (λ due. Rises 0 due.items) }
     ensures own { OnOk result (AreTimed waiting.new) }
-    ensures list { OnOk result (KeepsOrder new.now.edges) }
     ensures cells { OnOk result (
-        All (λ e. map datum_kind e.cells ≡ cells_of new.now) new.now.edges) }
+        All (λ e. map datum_kind e.cells ≡ cursor.old.kinds) cursor.old.edges) }
 {
     let mut last = Time::bounds().0;
     // Most new edges are intervals, which are two edges each.
-    let count = new.len() as usize;
     let mut due = Vec::with_capacity(alloc, count.saturating_mul(2))?;
-    let mut cursor = new.cursor();
     while let Some(edge) = cursor.next()? {
         let passed = pop_before(&mut due, waiting, to, last, edge.sync)?;
         place_singles(&mut due, waiting, to, edge)?;

@@ -4,4 +4,4 @@ use Rattle.snapshot_agg.proofs.emitting.keys_are_few.Goals as goal
 pub returns : goal.returns
 returns c =
     let g = c.args.groups.now in
-    record { keys = few_totals g.key.items g.aggs.items g.rows.rows g.totals c.len.ensures.unique c.requires.counted.totals; once = c.len-2.ensures.unique }
+    record { keys = few_totals g.key.items g.aggs.items g.rows.rows.held g.totals c.len.ensures.unique c.requires.counted.totals; once = c.len-2.ensures.unique }

@@ -10,11 +10,12 @@ loop-start-preserved c =
     let l = c.loop-start in
     let e = c.start-item.result in
     let same : c.in_ok-clone.field-0 ≡ e.cells = search rules in
-    let added : (w : HeldRow → ℕ) → total w c.add.new.self.rows.rows ≡ total w l.groups.rows.rows + w (record { cells = e.cells; start = e.sync }) =
-    λ w. c.in_ok-add.ensures.added w ∙ ap (λ x. total w l.groups.rows.rows + w (record { cells = x; start = e.sync })) same in
+    let added : (w : HeldRow → ℕ) → total w c.add.new.self.rows.rows.held ≡ total w l.groups.rows.rows.held + w (record { cells = e.cells; start = e.sync }) =
+    λ w. c.in_ok-add.ensures.added w ∙ ap (λ x. total w l.groups.rows.rows.held + w (record { cells = x; start = e.sync })) same in
     record {
       key = ap (λ v. v.items) c.add.ensures.key ∙ l.invariant.key;
       aggs = ap (λ v. v.items) c.add.ensures.aggs ∙ l.invariant.aggs;
       counted = c.in_ok-add.ensures.counted;
-      rows = groups_next c.args.starts.now l.start-index c.start-item.result l.groups.rows.rows c.add.new.self.rows.rows c.loop-start-test.true c.start-item.is added l.invariant.rows;
+      ends = c.in_ok-add.ensures.ends ∙ l.invariant.ends;
+      rows = groups_next c.args.starts.now l.start-index c.start-item.result l.groups.rows.rows.held c.add.new.self.rows.rows.held c.loop-start-test.true c.start-item.is added l.invariant.rows;
     }

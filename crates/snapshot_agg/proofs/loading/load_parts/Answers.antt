@@ -15,7 +15,7 @@ returns-clause-runs c = λ k.
 pub returns-clause-side : goal.returns-clause-side
 returns-clause-side c =
     let left = map cell_kind_of c.args.left_kinds.now in
-    let rows = c.in_ok-groups.groups.rows.rows in
+    let rows = c.in_ok-groups.groups.rows.rows.held in
     let state = c.is_state.ensures.0 c.if-not-is_state.false in
     subst (IsSide left c.args.to rows) (sym c.of.ensures)
     (side_loaded left c.args.to rows c.in_ok-waiting.waiting (part_of 0 c.args.saved.now) (part_of 1 c.args.saved.now)

@@ -23,9 +23,10 @@ loop-next-preserved c =
       within = omega (arith, within);
       first = first_written was now i j c.apply_one.new.edge (omega (arith, next)) first;
       counted = c.in_ok-apply_one.ensures.counted;
-      moved = moved_before now i j x next low is c.args.groups.now.rows.rows c.loop-next.groups.rows.rows c.apply_one.new.groups.rows.rows
+      settled = c.in_ok-apply_one.ensures.settled;
+      moved = moved_before now i j x next low is c.args.groups.now.rows.rows.held c.loop-next.groups.rows.rows.held c.apply_one.new.groups.rows.rows.held
           c.in_ok-apply_one.ensures.moved c.loop-next.invariant.moved;
-      fewer = fewer_before now i j x next low is c.args.groups.now.rows.rows c.loop-next.groups.rows.rows c.apply_one.new.groups.rows.rows
+      fewer = fewer_before now i j x next low is c.args.groups.now.rows.rows.held c.loop-next.groups.rows.rows.held c.apply_one.new.groups.rows.rows.held
           c.in_ok-apply_one.ensures.fewer c.loop-next.invariant.fewer;
       touched = touched_before now i j x next low is c.args.groups.now.key.items c.loop-next.groups.key.items c.loop-next.groups.touched.items c.apply_one.new.groups.touched.items
           (ap (λ v. v.items) c.loop-next.invariant.same_key) c.in_ok-apply_one.ensures.touched c.loop-next.invariant.touched;

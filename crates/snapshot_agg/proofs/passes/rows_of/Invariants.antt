@@ -9,6 +9,6 @@ use Rattle.snapshot_agg.proofs.passes.rows_of.Given as goal
 
 abbrev pub invariant-loop-key : goal.invariant-loop-key
 invariant-loop-key l = record {
-  rows : l.rows.items ≡ map (λ k. tell l.groups.key.items l.groups.aggs.items k (bare l.groups.rows.rows)) (take l.key-index l.keys);
+  rows : l.rows.items ≡ map (λ k. tell l.groups.key.items l.groups.aggs.items k (bare l.groups.rows.rows.held)) (take l.key-index l.keys);
   defined : (k : List Datum) → list_any (same_cells k) (take l.key-index l.keys) ≡ true → is_undefined_now l.groups k ≡ false;
 }

@@ -27,8 +27,9 @@ loop-done-init c =
       within = c.first_from-done.ensures.within;
       rest = refl;
       counted = c.requires.counted;
-      reached = λ a to d s. sweep_from g.key.items g.aggs.items a c.args.from to c.first_from-done.result c.args.due.now g.rows.rows (run_of c.args.running.now) c.args.answer.now.items c.first_from-done.ensures.none d s;
-      so_far = λ left to low high stored below up s. going_starts (group_kinds g.key.items g.aggs.items left) c.args.from to c.first_from-done.result c.args.due.now (run_of c.args.running.now) c.args.answer.now.items low up c.first_from-done.ensures.head s;
+      settled = c.requires.settled;
+      reached = λ a to d s. sweep_from g.key.items g.aggs.items a c.args.from to c.first_from-done.result c.args.due.now g.rows.rows.held (run_of c.args.running.now) c.args.answer.now.items c.first_from-done.ensures.none d s;
+      so_far = λ left lo to under low high stored below up s. going_starts (group_kinds g.key.items g.aggs.items left) lo c.args.from to c.first_from-done.result c.args.due.now (run_of c.args.running.now) c.args.answer.now.items under low up c.first_from-done.ensures.head s;
       fewer = λ w. let z = fewer_rows started_of w c.args.due.now c.first_from-done.result in omega (arith, z);
       same_key = refl;
       same_aggs = refl;
@@ -57,21 +58,22 @@ loop-done-preserved c =
       rest = rest_written was c.sweep_instant.new.now i n (within_rest g.key.items g.aggs.items was left i n d some c.rest-left.ensures c.first_instant-n.ensures.within) c.sweep_instant.auto.now due
           c.loop-done.invariant.rest;
       counted = c.in_ok-sweep_instant.ensures.counted;
+      settled = c.in_ok-sweep_instant.ensures.settled;
       reached = λ a to b s. sweep_more g.key.items g.aggs.items due left i n d more el
-          here past a c.args.from to g1.rows.rows c.sweep_instant.new.groups.rows.rows
+          here past a c.args.from to g1.rows.rows.held c.sweep_instant.new.groups.rows.rows.held
           (run_of c.loop-done.running) (run_of c.sweep_instant.new.running) c.args.answer.now.items c.loop-done.answer.items c.sweep_instant.new.answer.items
-          (for_both (InstantTold (get_or due i d).sync (take n left) g1.rows.rows c.sweep_instant.new.groups.rows.rows (run_of c.loop-done.running) (run_of c.sweep_instant.new.running) c.loop-done.answer.items c.sweep_instant.new.answer.items)
-          g1.key.items g.key.items g1.aggs.items g.aggs.items (ap (λ x. x.items) c.loop-done.invariant.same_key) (ap (λ x. x.items) c.loop-done.invariant.same_aggs) (for_part (λ t l. InstantTold t l g1.rows.rows c.sweep_instant.new.groups.rows.rows (run_of c.loop-done.running) (run_of c.sweep_instant.new.running) c.loop-done.answer.items c.sweep_instant.new.answer.items g1.key.items g1.aggs.items)
+          (for_both (InstantTold (get_or due i d).sync (take n left) g1.rows.rows.held c.sweep_instant.new.groups.rows.rows.held (run_of c.loop-done.running) (run_of c.sweep_instant.new.running) c.loop-done.answer.items c.sweep_instant.new.answer.items)
+          g1.key.items g.key.items g1.aggs.items g.aggs.items (ap (λ x. x.items) c.loop-done.invariant.same_key) (ap (λ x. x.items) c.loop-done.invariant.same_aggs) (for_part (λ t l. InstantTold t l g1.rows.rows.held c.sweep_instant.new.groups.rows.rows.held (run_of c.loop-done.running) (run_of c.sweep_instant.new.running) c.loop-done.answer.items c.sweep_instant.new.answer.items g1.key.items g1.aggs.items)
           _ _ _ _ at part c.in_ok-sweep_instant.ensures.swept))
           (c.loop-done.invariant.reached a to b s);
-      so_far = λ left to low high stored below up s.
-          going_more (group_kinds g.key.items g.aggs.items left) left c.args.from to i n due c.rest-left.result.now d (run_of c.loop-done.running) (run_of c.sweep_instant.new.running) c.loop-done.answer.items c.sweep_instant.new.answer.items
+      so_far = λ left lo to under low high stored below up s.
+          going_more (group_kinds g.key.items g.aggs.items left) left lo to i n due c.rest-left.result.now d (run_of c.loop-done.running) (run_of c.sweep_instant.new.running) c.loop-done.answer.items c.sweep_instant.new.answer.items
           more el past below stored
-          (for_both (InstantSoFar left c.args.from to (get_or due i d).sync (take n c.rest-left.result.now) (run_of c.loop-done.running) (run_of c.sweep_instant.new.running) c.loop-done.answer.items c.sweep_instant.new.answer.items)
+          (for_both (InstantSoFar left lo to (get_or due i d).sync (take n c.rest-left.result.now) (run_of c.loop-done.running) (run_of c.sweep_instant.new.running) c.loop-done.answer.items c.sweep_instant.new.answer.items)
           g1.key.items g.key.items g1.aggs.items g.aggs.items (ap (λ x. x.items) c.loop-done.invariant.same_key) (ap (λ x. x.items) c.loop-done.invariant.same_aggs)
-          (for_part (λ t l. InstantSoFar left c.args.from to t l (run_of c.loop-done.running) (run_of c.sweep_instant.new.running) c.loop-done.answer.items c.sweep_instant.new.answer.items g1.key.items g1.aggs.items)
-          _ _ _ _ at part (λ f b z k. c.in_ok-sweep_instant.ensures.so_far left c.args.from to f b high z k)))
-          (c.loop-done.invariant.so_far left to low high stored below up s);
+          (for_part (λ t l. InstantSoFar left lo to t l (run_of c.loop-done.running) (run_of c.sweep_instant.new.running) c.loop-done.answer.items c.sweep_instant.new.answer.items g1.key.items g1.aggs.items)
+          _ _ _ _ at part (λ f b z k. c.in_ok-sweep_instant.ensures.so_far left lo to f b high z k)))
+          (c.loop-done.invariant.so_far left lo to under low high stored below up s);
       fewer = λ w.
           let step = c.in_ok-sweep_instant.ensures.fewer w in
           let rest = c.loop-done.invariant.fewer w in
@@ -102,28 +104,28 @@ returns-in_err-sweep_instant-clause-overflow c =
     let here = subst (λ t. failing (is_at t) (take n left) ≡ 0) at c.first_instant-n.ensures.same in
     let past = subst (λ t. IsPast t (drop n left)) at c.first_instant-n.ensures.next in
     handed_on c.in_err-sweep_instant.field-0.0 c.from_residual.result
-    (λ f. (v : ℕ) → f ≡ Overflow v → (a : List CellEvent) (to : ℕ) → IsDue a c.args.from to due → AreSwept g a c.args.from g.rows.rows c.args.running.now → IsUndefinedFirst g a c.args.from to v)
+    (λ f. (v : ℕ) → f ≡ Overflow v → (a : List CellEvent) (to : ℕ) → IsDue a c.args.from to due → AreSwept g a c.args.from g.rows.rows.held c.args.running.now → IsUndefinedFirst g a c.args.from to v)
     c.from_residual.ensures.1
     (λ v e a to b s.
     let o = c.in_err-sweep_instant.ensures.overflow v e in
     subst (IsFirstUndefined (bad g.key.items g.aggs.items) a c.args.from to) (sym (o.0 ∙ at))
     (sweep_stops g.key.items g.aggs.items due left i n d more el
-    here past a c.args.from to g1.rows.rows (run_of c.loop-done.running) c.args.answer.now.items c.loop-done.answer.items
-    (for_both (InstantUndefined (get_or due i d).sync (take n left) g1.rows.rows (run_of c.loop-done.running))
+    here past a c.args.from to g1.rows.rows.held (run_of c.loop-done.running) c.args.answer.now.items c.loop-done.answer.items
+    (for_both (InstantUndefined (get_or due i d).sync (take n left) g1.rows.rows.held (run_of c.loop-done.running))
     g1.key.items g.key.items g1.aggs.items g.aggs.items (ap (λ x. x.items) c.loop-done.invariant.same_key) (ap (λ x. x.items) c.loop-done.invariant.same_aggs)
-    (for_part (λ t l. InstantUndefined t l g1.rows.rows (run_of c.loop-done.running) g1.key.items g1.aggs.items) _ _ _ _ at part o.1))
+    (for_part (λ t l. InstantUndefined t l g1.rows.rows.held (run_of c.loop-done.running) g1.key.items g1.aggs.items) _ _ _ _ at part o.1))
     (c.loop-done.invariant.reached a to b s)))
 
 pub returns-clause-swept : goal.returns-clause-swept
 returns-clause-swept c = λ a to d s.
     let g = c.args.groups.now in
-    sweep_ends g.key.items g.aggs.items a c.args.from to c.loop-done.done c.args.due.now c.loop-done.groups.rows.rows (run_of c.loop-done.running) c.args.answer.now.items c.loop-done.answer.items
+    sweep_ends g.key.items g.aggs.items a c.args.from to c.loop-done.done c.args.due.now c.loop-done.groups.rows.rows.held (run_of c.loop-done.running) c.args.answer.now.items c.loop-done.answer.items
     (let z = c.loop-done-test.false in let long = c.loop-done.auto.due in omega (arith, z, long)) (c.loop-done.invariant.reached a to d s)
 
 pub returns-clause-fewer : goal.returns-clause-fewer
 returns-clause-fewer c = λ w. let z = c.loop-done.invariant.fewer w in omega (arith, z)
 
 pub returns-clause-so_far : goal.returns-clause-so_far
-returns-clause-so_far c = λ left to low high stored below up s.
+returns-clause-so_far c = λ left lo to under low high stored below up s.
     let g = c.args.groups.now in
-    going_ends (group_kinds g.key.items g.aggs.items left) c.args.from to (drop c.loop-done.done c.args.due.now) (run_of c.loop-done.running) c.loop-done.answer.items (c.loop-done.invariant.so_far left to low high stored below up s)
+    going_ends (group_kinds g.key.items g.aggs.items left) lo to (drop c.loop-done.done c.args.due.now) (run_of c.loop-done.running) c.loop-done.answer.items (c.loop-done.invariant.so_far left lo to under low high stored below up s)

@@ -1,4 +1,4 @@
-use Rattle.std.proofs.Common.{◌≡◌, ◌≤◌, ◌+◌, ◌-◌, ℕ, List, drop, length}
+use Rattle.std.proofs.Common.{◌≡◌, ◌≤◌, ◌+◌, ◌-◌, ℕ, List, [], drop, length}
 use Rattle.tw_rows.specs.SameCells.{same_cells}
 use Rattle.edge_history.specs.History.{CellEvent}
 use Rattle.sweep_laws.specs.Sweeps.{IsDue}
@@ -24,14 +24,15 @@ invariant-loop-done l = record {
   within : l.done ≤ length l.fn.due;
   rest : drop l.done l.due ≡ drop l.done l.fn.due;
   counted : IsCounted l.groups;
+  settled : l.groups.rows.rows.ends ≡ [];
   reached : (a : List CellEvent) (to : ℕ) → IsDue a l.fn.from to l.fn.due →
-      AreSwept l.fn.groups a l.fn.from l.fn.groups.rows.rows l.fn.running →
+      AreSwept l.fn.groups a l.fn.from l.fn.groups.rows.rows.held l.fn.running →
       (u : ℕ) × GroupReached (key_data l.fn.groups.key.items) same_cells (tell l.fn.groups.key.items l.fn.groups.aggs.items) (bad l.fn.groups.key.items l.fn.groups.aggs.items)
-      a l.fn.from u to (drop l.done l.fn.due) l.groups.rows.rows (run_of l.running) l.fn.answer.items l.answer.items;
-  so_far : (left : List CellKind) (to : ℕ) → l.fn.from ≤ to → to ≤ inf → failing (is_stored left) l.fn.due ≡ 0 → failing (is_below to) l.fn.due ≡ 0 → Rises 0 l.fn.due →
-      AreEmitted l.fn.groups left l.fn.from l.fn.from to l.fn.running l.fn.answer.items →
-      Going (kinds_over l.fn.groups left) l.fn.from to (drop l.done l.fn.due) (run_of l.running) l.answer.items;
-  fewer : (w : HeldRow → ℕ) → total w l.groups.rows.rows + total w (started_rows (drop l.done l.fn.due)) ≤ total w l.fn.groups.rows.rows + total w (started_rows l.fn.due);
+      a l.fn.from u to (drop l.done l.fn.due) l.groups.rows.rows.held (run_of l.running) l.fn.answer.items l.answer.items;
+  so_far : (left : List CellKind) (lo to : ℕ) → lo ≤ l.fn.from → l.fn.from ≤ to → to ≤ inf → failing (is_stored left) l.fn.due ≡ 0 → failing (is_below to) l.fn.due ≡ 0 → Rises 0 l.fn.due →
+      AreEmitted l.fn.groups left lo l.fn.from to l.fn.running l.fn.answer.items →
+      Going (kinds_over l.fn.groups left) lo to (drop l.done l.fn.due) (run_of l.running) l.answer.items;
+  fewer : (w : HeldRow → ℕ) → total w l.groups.rows.rows.held + total w (started_rows (drop l.done l.fn.due)) ≤ total w l.fn.groups.rows.rows.held + total w (started_rows l.fn.due);
   same_key : l.groups.key ≡ l.fn.groups.key;
   same_aggs : l.groups.aggs ≡ l.fn.groups.aggs;
 }

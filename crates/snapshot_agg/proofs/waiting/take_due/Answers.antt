@@ -1,4 +1,4 @@
-use Rattle.std.specs.Prelude.{◌≡◌, ℕ, [], ◌∷◌, List, map, cond, All}
+use Rattle.std.specs.Prelude.{◌≡◌, ℕ, [], ◌∷◌, List, map, cond, All, refl}
 use Rattle.std.proofs.Common.{◌∙◌, sym, ap, subst, arith, rules}
 use Rattle.std.proofs.lemmas.List.Elements.{All-nil, All-cons, All-same}
 use Rattle.std.proofs.lemmas.Grind.{common_steps}
@@ -7,7 +7,6 @@ use Rattle.tw_rows.specs.Cells.{datum_kind}
 use Rattle.tw_rows.specs.declared.edge.Edge.{Edge}
 use Rattle.edge_history.specs.Opens.{singles}
 use Rattle.edge_history.specs.Order.{failing, is_below}
-use Rattle.edge_stream.specs.Listing.{cells_of}
 use Rattle.sweep_sides.proofs.TakenIn.{singles_next}
 use Rattle.snapshot_agg.proofs.waiting.take_due.Goals as goal
 
@@ -25,8 +24,8 @@ loop-due-preserved c =
           omega (arith, a, b, p, i);
       kinds = c.next.ensures.kinds ∙ c.loop-due.invariant.kinds;
       cells = λ h. c.loop-due.invariant.cells
-          (subst (λ (l : List Edge). All (λ e. map datum_kind e.cells ≡ cells_of c.args.new.now) l) (sym s)
-          (All-cons (λ (e : Edge). map datum_kind e.cells ≡ cells_of c.args.new.now) c.in-Some.edge c.next.new.self.edges (k ∙ c.loop-due.invariant.kinds) h));
+          (subst (λ (l : List Edge). All (λ e. map datum_kind e.cells ≡ c.args.cursor.now.kinds) l) (sym s)
+          (All-cons (λ (e : Edge). map datum_kind e.cells ≡ c.args.cursor.now.kinds) c.in-Some.edge c.next.new.self.edges (k ∙ c.loop-due.invariant.kinds) h));
       below = c.in_ok-place_singles.ensures.below (c.in_ok-passed.ensures.below c.loop-due.invariant.below);
     }
 
@@ -48,19 +47,17 @@ returns-clause-below c =
 
 pub loop-due-init : goal.loop-due-init
 loop-due-init c =
-    let k = c.cursor-cursor.ensures.cursor in
     record {
       own = c.requires.own;
       parts = λ w.
           let b = ap (λ (l : List Edge). total w l) c.in_ok-due.ensures.items in
-          let d = ap (λ u. total w (singles u.edges)) k in
-          omega (arith, b, d);
+          omega (arith, b);
       below = ap (failing (is_below c.args.to)) c.in_ok-due.ensures.items;
-      kinds = ap (λ u. u.kinds) k;
-      cells = λ h. subst (λ (l : List Edge). All (λ e. map datum_kind e.cells ≡ cells_of c.args.new.now) l) (ap (λ u. u.edges) k) h;
+      kinds = refl;
+      cells = λ h. h;
     }
 
 pub returns-clause-cells : goal.returns-clause-cells
 returns-clause-cells c =
     let none : c.loop-due.cursor.edges ≡ [] = first_of (search rules, grind (arith, common_steps)) in
-    c.loop-due.invariant.cells (All-same (λ (e : Edge). map datum_kind e.cells ≡ cells_of c.args.new.now) c.loop-due.cursor.edges [] none (All-nil (λ (e : Edge). map datum_kind e.cells ≡ cells_of c.args.new.now)))
+    c.loop-due.invariant.cells (All-same (λ (e : Edge). map datum_kind e.cells ≡ c.args.cursor.now.kinds) c.loop-due.cursor.edges [] none (All-nil (λ (e : Edge). map datum_kind e.cells ≡ c.args.cursor.now.kinds)))

@@ -12,7 +12,7 @@ use Rattle.edge_stream.specs.declared.saved.StepFault.TheVariants.{Overflow}
 use Rattle.operator.specs.Steps.{ComeBetween, IsFirstUndefined}
 use Rattle.sweep_sides.specs.Sides.{IsSide}
 use Rattle.snapshot_agg.specs.Answering.{group_kinds}
-use Rattle.snapshot_agg.specs.Counting.{AreKept}
+use Rattle.snapshot_agg.specs.Counting.{AreKept, pending_of}
 use Rattle.snapshot_agg.specs.Operating.{standing, IsKept}
 use Rattle.snapshot_agg.specs.Totaled.{run_of}
 use Rattle.snapshot_agg.proofs.Faults.{handed_on}
@@ -88,7 +88,7 @@ invariant_of-self-2 c =
     s.like c.requires.left_kinds (s.runs c.requires.works) c.in_ok-edges.ensures.so_far in
     record {
       counted = λ z. c.in_ok-edges.ensures.counted;
-      side = λ z. subst (λ k. IsSide k c.args.left_to c.emit_due-emitted.new.groups.rows.rows c.emit_due-emitted.new.waiting) c.requires.left_kinds c.in_ok-edges.ensures.side;
+      side = λ z. subst (λ k. IsSide k c.args.left_to c.emit_due-emitted.new.groups.rows.rows.held (pending_of c.emit_due-emitted.new.groups c.emit_due-emitted.new.waiting)) c.requires.left_kinds c.in_ok-edges.ensures.side;
       runs = λ z. f.runs;
       few = c.emit_due-emitted.ensures.few;
       like = s.like ∙ (λ i. group_kinds (sym k i).items (sym a i).items (map cell_kind_of s.left_kinds.items));

@@ -15,9 +15,9 @@ add_to-requires c =
     let k = c.values.result.now in
     record {
       few = (
-        of_key g.key.items k g.rows.rows,
-        subst (λ b. IsTotalOf (totals_of g.totals k) b (of_key g.key.items k g.rows.rows)) (sym c.deref.ensures.value) (c.requires.counted.totals.of_key k),
-        let f = few_of_key g.key.items k g.rows.rows in let e = c.len.ensures in let z = c.if-len.false in omega (arith, f, e, z),
+        of_key g.key.items k g.rows.rows.held,
+        subst (λ b. IsTotalOf (totals_of g.totals k) b (of_key g.key.items k g.rows.rows.held)) (sym c.deref.ensures.value) (c.requires.counted.totals.of_key k),
+        let f = few_of_key g.key.items k g.rows.rows.held in let e = c.len.ensures in let z = c.if-len.false in omega (arith, f, e, z),
       );
       tells = c.requires.counted.touched k;
     }
@@ -34,7 +34,7 @@ returns-clause-touched c = λ q.
 pub returns-clause-counted : goal.returns-clause-counted
 returns-clause-counted c =
     let g = c.args.self.now in
-    let rows2 = c.add.new.self.rows in
+    let rows2 = c.add.new.self.rows.held in
     let cells = c.args.cells in
     let k = c.values.result.now in
     let b = c.deref.result.now in
@@ -45,7 +45,7 @@ returns-clause-counted c =
       touched = all_told g.totals c.add_to.new.totals g.instant g.touched.items c.add_to.new.touched.items k c.in_ok-add_to.ensures.others c.in_ok-add_to.ensures.touched c.in_ok-add_to.ensures.tells
           c.requires.counted.touched;
       totals =
-          totaled_added g.key.items g.rows.rows rows2 cells c.args.start c.in_ok-add.ensures g.aggs.items g.totals c.add_to.new.totals k is c.requires.counted.totals c.in_ok-add_to.ensures.others
+          totaled_added g.key.items g.rows.rows.held rows2 cells c.args.start c.in_ok-add.ensures.held g.aggs.items g.totals c.add_to.new.totals k is c.requires.counted.totals c.in_ok-add_to.ensures.others
           (λ rs h. let z = c.in_ok-add_to.ensures.own rs (subst (λ x. IsTotalOf (totals_of g.totals k) x rs) (sym c.deref.ensures.value) h) in
           subst (λ x. IsTotalOf (totals_of c.add_to.new.totals k) x (cells ∷ rs)) c.deref.ensures.value
           (subst (λ l. IsTotalOf (totals_of c.add_to.new.totals k) b (l ∷ rs)) c.items-2.ensures z));

@@ -4,6 +4,7 @@ use Rattle.tw_rows.specs.Kinds.{cell_kind_of}
 use Rattle.edge_history.proofs.Waiting.{side_bound}
 use Rattle.edge_history.specs.History.{of}
 use Rattle.sweep_sides.specs.Waiting.{queued}
+use Rattle.snapshot_agg.specs.Counting.{pending_of}
 use Rattle.snapshot_agg.specs.Operating.{standing}
 use Rattle.snapshot_agg.proofs.Few.{few_runs, open_rows, group_held}
 use Rattle.snapshot_agg.proofs.Kept.{length_map}
@@ -29,11 +30,12 @@ returns-clause-grows c = λ s new old hl hr out b k.
 pub returns-clause-bounded : goal.returns-clause-bounded
 returns-clause-bounded c = λ s texts hl hr out k.
     let g = s.groups in
-    let rows = g.rows.rows in
+    let rows = g.rows.rows.held in
     let low = open_rows s.left_to rows (of hl) k.group.now.swept.alive_rows in
-    let both = side_bound hl rows (queued s.waiting) s.left_to k.group.history k.group.now.swept.alive_rows k.group.waits in
-    let w = length_map (λ p. p.edge) s.waiting in
-    group_held g.key.items g.aggs.items s.left_to (length rows) (length g.totals.entries) (length s.running.entries) (length s.waiting) hl hr low (omega (arith, both, w)) s.few.keys
+    let waiting = pending_of g s.waiting in
+    let both = side_bound hl rows (queued waiting) s.left_to k.group.history k.group.now.swept.alive_rows k.group.waits in
+    let w = length_map (λ p. p.edge) waiting in
+    group_held g.key.items g.aggs.items s.left_to (length rows) (length g.totals.entries) (length s.running.entries) (length waiting) hl hr low (omega (arith, both, w)) s.few.keys
     (few_runs g.key.items g.aggs.items rows s.running s.few.once k.group.now.steady)
 
 pub returns-clause-resumes_sound : goal.returns-clause-resumes_sound
