@@ -1,7 +1,7 @@
 -- Rows that start and rows that end at an instant, one after the other.
-use Rattle.std.specs.Prelude.{◌≡◌, ℕ, suc, ◌+◌, ◌*◌, ◌<◌, ◌≤◌, ◌||◌, nat_eq, nat_lt, not, Bool, true, false, cond, List, [], ◌∷◌, ◌++◌, map, length, flat_map, refl}
+use Rattle.std.specs.Prelude.{◌≡◌, ℕ, suc, ◌+◌, ◌*◌, ◌<◌, ◌≤◌, ◌||◌, nat_lt, not, Bool, true, false, cond, List, [], ◌∷◌, ◌++◌, map, flat_map, refl}
 use Rattle.std.specs.List.{list_any}
-use Rattle.std.proofs.Common.{sym, ◌∙◌, ap, subst, arith}
+use Rattle.std.proofs.Common.{sym, ◌∙◌, ap, arith}
 use Rattle.std.proofs.lemmas.Bool.Decides.{nat_tests}
 use Rattle.std.proofs.lemmas.List.{append_assoc}
 use Rattle.tw_rows.specs.Bag.{total}
@@ -11,15 +11,15 @@ use Rattle.tw_rows.specs.declared.cells.Datum.{Datum}
 use Rattle.tw_rows.specs.declared.edge.Edge.{Edge}
 use Rattle.tw_rows.specs.declared.edge.HeldRow.{HeldRow}
 use Rattle.tw_rows.proofs.Bags.{total-append}
-use Rattle.edge_history.specs.Order.{failing, is_end, is_from, rank, Rises, IsReal}
-use Rattle.edge_history.specs.Opens.{is_start, singles, singles_of, ended_of, started_of, ended_rows, started_rows}
+use Rattle.edge_history.specs.Order.{failing, is_end, is_from, rank, Rises}
+use Rattle.edge_history.specs.Opens.{is_start, singles, singles_of, ended_of, started_of}
 use Rattle.end_queue.specs.Pending.{Pending}
 use Rattle.sweep_laws.specs.Grouping.{keys_of}
 use Rattle.sweep_laws.specs.Sweeps.{is_at}
 use Rattle.sweep_sides.specs.Waiting.{queued}
 use Rattle.snapshot_agg.specs.KeptRows.{RowsAndEnds, IsEnded, row_ended}
 use Rattle.snapshot_agg.specs.Living.{AreEnded, AreBegun, TouchesAll, to_come, bare_start}
-use Rattle.snapshot_agg.proofs.Answering.{passes, first_passes}
+use Rattle.snapshot_agg.proofs.Answering.{passes}
 
 -- LISTS
 pub flat_both : {X Y : Type 0} (w : Y → ℕ) (f : X → List Y) (xs ys : List X) → total w (flat_map f (xs ++ ys)) ≡ total w (flat_map f xs) + total w (flat_map f ys)

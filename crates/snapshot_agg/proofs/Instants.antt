@@ -1,12 +1,11 @@
 -- An instant of rows that are kept with their ends, and instants one after the other.
-use Rattle.std.specs.Prelude.{◌≡◌, ℕ, zero, suc, ◌+◌, ◌*◌, ◌-◌, ◌^◌, min, ◌<◌, ◌≤◌, ◌⊎◌, ◌||◌, nat_eq, nat_lt, nat_le, not, Bool, true, false, cond, Option, Some, List, [], ◌∷◌, ◌++◌, length, take, drop, All, refl}
+use Rattle.std.specs.Prelude.{◌≡◌, ℕ, zero, suc, ◌+◌, ◌*◌, ◌-◌, ◌^◌, min, ◌<◌, ◌≤◌, ◌⊎◌, ◌||◌, nat_eq, nat_lt, nat_le, not, Bool, true, false, cond, Option, Some, List, [], ◌∷◌, ◌++◌, length, drop, refl}
 use Rattle.std.proofs.Common.{inl, inr, sym, ◌∙◌, ap, subst, arith}
 use Rattle.std.proofs.lemmas.Bool.{cases_lt}
 use Rattle.std.proofs.lemmas.Bool.Decides.{nat_tests}
 use Rattle.std.proofs.lemmas.List.{append_assoc}
-use Rattle.std.proofs.lemmas.List.Elements.{All-head, All-tail}
 use Rattle.tw_rows.specs.Bag.{SameBag, total}
-use Rattle.tw_rows.specs.Event.{AreEvents, alive}
+use Rattle.tw_rows.specs.Event.{alive}
 use Rattle.tw_rows.specs.Instant.{inf}
 use Rattle.tw_rows.specs.SameCells.{same_cells}
 use Rattle.tw_rows.specs.declared.cells.Datum.{Datum}
@@ -16,14 +15,14 @@ use Rattle.tw_rows.specs.declared.kind.CellKind.{CellKind}
 use Rattle.tw_rows.proofs.Bags.{total-append}
 use Rattle.edge_history.specs.History.{CellEvent}
 use Rattle.edge_history.specs.Balance.{news, given, start_edge, end_edge}
-use Rattle.edge_history.specs.Order.{failing, many, is_end, is_from, is_below, rank, Rises, IsReal}
+use Rattle.edge_history.specs.Order.{failing, many, is_end, is_from, is_below, rank, Rises}
 use Rattle.edge_history.specs.Opens.{is_start, singles, singles_of, ended_of, started_of, ended_rows, started_rows}
 use Rattle.edge_history.proofs.Sums.{weaker}
 use Rattle.end_queue.specs.Pending.{Pending}
 use Rattle.plan_model.specs.declared.agg.Agg.{Agg}
 use Rattle.sweep_laws.specs.Running.{Run}
-use Rattle.sweep_laws.specs.Sweeps.{is_at, IsPast, HeadFrom, StartsAt, IsDue}
-use Rattle.sweep_laws.specs.Grouping.{GroupSweeping, GroupReached, IsDefined, IsFirstUndefined}
+use Rattle.sweep_laws.specs.Sweeps.{is_at, IsPast, StartsAt, IsDue}
+use Rattle.sweep_laws.specs.Grouping.{GroupSweeping, GroupReached, IsDefined}
 use Rattle.sweep_laws.proofs.GroupReaching.{group_reach_start, group_reach_step, group_reach_undefined, group_reach_end}
 use Rattle.key_nodes.specs.Groups.{grouped}
 use Rattle.sweep_laws.proofs.Sides.{tells_parts}
@@ -37,7 +36,7 @@ use Rattle.snapshot_agg.specs.KeptRows.{RowsAndEnds}
 use Rattle.snapshot_agg.specs.Living.{AreEnded, AreBegun, AreLate, AreLived, AreRefused, AreTold, to_come}
 use Rattle.snapshot_agg.specs.Waiting.{all_pending}
 use Rattle.snapshot_agg.specs.Words.{key_data, tell, bad}
-use Rattle.snapshot_agg.proofs.Answering.{passes, first_passes, so_far_later}
+use Rattle.snapshot_agg.proofs.Answering.{first_passes, so_far_later}
 use Rattle.snapshot_agg.proofs.Beginning.{flat_both, come_total}
 use Rattle.snapshot_agg.proofs.Lists.{whole_items}
 use Rattle.snapshot_agg.proofs.PuttingOff.{from_test, below_later}
@@ -495,8 +494,7 @@ module _ (key : List ℕ) (aggs : List Agg) (rows0 rows1 : List HeldRow) (run0 r
     order = λ late. both_rise key aggs 0 u due1 due2 (omega arith) x.order x.below (y.order (still late)) (due_late (still late));
     swept = λ late a v due s.
         let r = x.reached a v due2 (due_late (still late)) due s in
-        let t = y.swept (still late) a v r.left r.now in
-        (
+        let t = y.swept (still late) a v r.left r.now in (
           t.0,
           tells_parts (grouped (key_data key) same_cells same_cells (tell key aggs) a) from u v answer0 answer1 answer2 x.rises r.left.low r.told t.1,
           still_defined key aggs a from u v r.defined t.2,

@@ -1,5 +1,5 @@
 -- What an instant does to rows that are kept with their ends.
-use Rattle.std.specs.Prelude.{◌≡◌, ℕ, suc, ◌+◌, ◌≤◌, ◌||◌, Option, List, ◌++◌}
+use Rattle.std.specs.Prelude.{◌≡◌, ℕ, ◌+◌, ◌≤◌, ◌||◌, Option, List, ◌++◌}
 use Rattle.std.specs.List.{list_any}
 use Rattle.tw_rows.specs.Bag.{total}
 use Rattle.tw_rows.specs.Instant.{inf}
@@ -40,7 +40,8 @@ TouchesAll old new keys = (q : List Datum) → list_any (same_cells q) new ≡ (
 abbrev pub to_come : List Edge → List Pending → List Edge → List Edge
 to_come ends waiting edges = ends ++ (queued waiting ++ singles edges)
 
--- the first rows that were kept with their ends were taken out, whose end edges are those of the instant
+-- the first rows that were kept with their ends were taken out, whose end edges are those of the instant. Of ends at 5, 5 and 8,
+-- at 5: the first two
 pub record AreEnded (gone : List Edge) (t : ℕ) (old new : RowsAndEnds) : Type 0 where
   pub first : old.ends ≡ gone ++ new.ends
   pub at : failing (is_at t) gone ≡ 0
@@ -51,19 +52,20 @@ pub record AreEnded (gone : List Edge) (t : ℕ) (old new : RowsAndEnds) : Type 
 abbrev pub bare_start : Edge → Edge
 bare_start e = record { sync = e.sync; other = inf; cells = e.cells }
 
--- rows came in that start at the instant, with these start edges
+-- rows came in that start at the instant, with these start edges: what was to come before is what is to come after and they. Of
+-- the interval [3, 5), at 3: its row, and its end at 5 is still to come
 pub record AreBegun (begun : List Edge) (t : ℕ) (old new : List HeldRow) (before after : List Edge) : Type 0 where
   pub at : failing (is_at t) begun ≡ 0
   pub starts : failing is_start begun ≡ 0
   pub rows : (w : HeldRow → ℕ) → total w new ≡ total w old + total w (started_rows begun)
   pub parts : (w : Edge → ℕ) → total w after + total w begun ≡ total w before
 
--- no edge comes before the time
+-- no edge comes before the time: edges at 4 and 6 are late for 4, and not for 5
 abbrev pub AreLate : ℕ → List Edge → Type 0
 AreLate t es = failing (is_from t) es ≡ 0
 
 -- of what was to come the edges `due` came, from one time on and before u, and were told: the rows and the runs are then those
--- at u. What comes later is still to come
+-- at u. What comes later is still to come. Of the interval [3, 5), from 3 on and before 4: its start, and its end is still to come
 pub record AreLived (key : List ℕ) (aggs : List Agg) (rows0 rows1 : List HeldRow) (run0 run1 : List Datum → Option Run)
     (come0 come1 : List Edge) (from u : ℕ) (answer0 answer1 due : List Edge) : Type 0 where
   pub rises : from ≤ u
@@ -78,7 +80,8 @@ pub record AreLived (key : List ℕ) (aggs : List Agg) (rows0 rows1 : List HeldR
       IsSoFar (group_kinds key aggs left) lo from to run0 answer0 → IsSoFar (group_kinds key aggs left) lo u to run1 answer1
   pub fewer : (w : HeldRow → ℕ) → total w rows1 ≤ total w rows0 + total w (started_rows due)
 
--- of what was to come the edges `due` came, from one time on and before d, and at t a group is undefined, for the first time
+-- of what was to come the edges `due` came, from one time on and before d, and at t a group is undefined, for the first time. Of two
+-- starts at 3 whose sum is no int, from 2 on and before 4: both, at 3
 pub record AreRefused (key : List ℕ) (aggs : List Agg) (rows : List HeldRow) (run : List Datum → Option Run)
     (come0 come1 : List Edge) (from d t : ℕ) (due : List Edge) : Type 0 where
   pub rises : from ≤ d
@@ -91,7 +94,8 @@ pub record AreRefused (key : List ℕ) (aggs : List Agg) (rows : List HeldRow) (
       IsFirstUndefined (bad key aggs) a from to t
 
 -- of what was to come the edges `due` came, from one time on and before another, and were told; what comes later is still to come.
--- If nothing was to come before the first time, the edges are in order, and the rows and the runs are those at the other time
+-- If nothing was to come before the first time, the edges are in order, and the rows and the runs are those at the other time. Of
+-- the interval [3, 5), from 3 on and before 9: its start and its end
 pub record AreTold (key : List ℕ) (aggs : List Agg) (rows0 rows1 : List HeldRow) (run0 run1 : List Datum → Option Run)
     (come0 come1 : List Edge) (from to : ℕ) (answer0 answer1 due : List Edge) : Type 0 where
   pub parts : (w : Edge → ℕ) → total w due + total w come1 ≡ total w come0

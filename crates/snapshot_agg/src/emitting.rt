@@ -58,7 +58,8 @@ fn emit_others(
     ensures counted { OnOk result (IsCounted groups.new) }
     ensures told { OnOk result ((due : List Edge)
         × AreTold groups.old.key.items groups.old.aggs.items
-        groups.old.rows.rows.held groups.new.rows.rows.held (run_of running.old) (run_of running.new)
+        groups.old.rows.rows.held groups.new.rows.rows.held
+        (run_of running.old) (run_of running.new)
         (to_come groups.old.rows.rows.ends waiting.old cursor.old.edges)
         (to_come groups.new.rows.rows.ends waiting.new [])
         from to answer.old.items answer.new.items due) }
@@ -99,7 +100,8 @@ fn emit_all(
     ensures counted { OnOk result (IsCounted groups.new) }
     ensures told { OnOk result ((due : List Edge)
         × AreTold groups.old.key.items groups.old.aggs.items
-        groups.old.rows.rows.held groups.new.rows.rows.held (run_of running.old) (run_of running.new)
+        groups.old.rows.rows.held groups.new.rows.rows.held
+        (run_of running.old) (run_of running.new)
         (to_come groups.old.rows.rows.ends waiting.old cursor.old.edges)
         (to_come groups.new.rows.rows.ends waiting.new [])
         from to answer.old.items answer.new.items due) }
@@ -168,7 +170,16 @@ pub(crate) fn emit_due(
     let mut answer = Vec::new(alloc);
     let mut cursor = left.cursor();
     let count = left.len() as usize;
-    match emit_all(groups, running, waiting, &mut answer, &mut cursor, count, from, to) {
+    match emit_all(
+        groups,
+        running,
+        waiting,
+        &mut answer,
+        &mut cursor,
+        count,
+        from,
+        to,
+    ) {
         Ok(()) => {}
         Err(fault) => {
             give_up(groups, running);

@@ -46,8 +46,7 @@ pub struct Grouped {
         (pending_of groups waiting) },
     ghost runs: { failed ≡ false →
         AreRunsOf (map cell_kind_of kinds.items) left_to (run_of running) },
-    ghost few: { HasFewKeys groups.rows.rows.held groups.totals running }
-        by { few_prop groups.rows.rows.held groups.totals running },
+    ghost few: { HasFewKeys groups.rows.rows.held groups.totals running } by { few_prop groups.rows.rows.held groups.totals running },
     ghost like: { map cell_kind_of kinds.items
         ≡ kinds_over groups (map cell_kind_of left_kinds.items) },
     ghost width: { length kinds.items ≤ 32 },

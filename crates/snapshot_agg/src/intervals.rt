@@ -145,7 +145,8 @@ pub(crate) fn live_instant(
     ensures counted { OnOk result (IsCounted groups.new) }
     ensures lived { OnOk result ((from : ℕ) → from ≤ t → (due : List Edge)
         × AreLived groups.old.key.items groups.old.aggs.items
-        groups.old.rows.rows.held groups.new.rows.rows.held (run_of running.old) (run_of running.new)
+        groups.old.rows.rows.held groups.new.rows.rows.held
+        (run_of running.old) (run_of running.new)
         (to_come groups.old.rows.rows.ends waiting.old cursor.old.edges)
         (to_come groups.new.rows.rows.ends waiting.new cursor.new.edges)
         from (suc t) answer.old.items answer.new.items due) }
@@ -219,7 +220,8 @@ pub(crate) fn live_on(
     ensures counted { OnOk result (IsCounted groups.new) }
     ensures lived { IfOk result (λ r. (r.0 ≤ to) × ((due : List Edge)
         × AreLived groups.old.key.items groups.old.aggs.items
-        groups.old.rows.rows.held groups.new.rows.rows.held (run_of running.old) (run_of running.new)
+        groups.old.rows.rows.held groups.new.rows.rows.held
+        (run_of running.old) (run_of running.new)
         (to_come groups.old.rows.rows.ends waiting.old cursor.old.edges)
         (to_come groups.new.rows.rows.ends waiting.new cursor.new.edges)
         from r.0 answer.old.items answer.new.items due)) }

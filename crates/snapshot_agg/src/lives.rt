@@ -39,10 +39,12 @@ impl Model for Lives {
 
     ghost Value = { KeptRows };
 
-    ghost view = { λ l. record { rows = record {
-      held = l.others.rows ++ map row_ended l.ends.items;
-      ends = l.ends.items;
-    } } };
+    ghost view = { λ l. record {
+      rows = record {
+        held = l.others.rows ++ map row_ended l.ends.items;
+        ends = l.ends.items;
+      };
+    } };
 
     ghost invariant = { λ l. SyncsRise 0 l.ends.items × (failing is_end l.ends.items ≡ 0) };
 }

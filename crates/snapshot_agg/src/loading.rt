@@ -90,7 +90,8 @@ pub(crate) fn load_parts(
     ensures key { IfOk result (λ l. l.groups.key.items ≡ key.now) }
     ensures aggs { IfOk result (λ l. l.groups.aggs.items ≡ aggs.now) }
     ensures counted { IfOk result (λ l. IsCounted l.groups) }
-    ensures rows { IfOk result (λ l. SameBag l.groups.rows.rows.held (rows_of (part_of 0 saved.now))) }
+    ensures rows { IfOk result (λ l. SameBag l.groups.rows.rows.held
+        (rows_of (part_of 0 saved.now))) }
     ensures ends { IfOk result (λ l. l.groups.rows.rows.ends ≡ []) }
     ensures waiting { IfOk result (λ l. SameBag (queued l.waiting) (part_of 1 saved.now)) }
     ensures side { IfOk result (λ l.

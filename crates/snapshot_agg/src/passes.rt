@@ -54,7 +54,8 @@ fn apply_one(groups: &mut Groups, edge: &mut Edge) -> Result<(), Memory>
 
 // Takes out the rows that end and puts in those that start, whose cells are moved out of the edges. The keys of the edges
 // are touched then, and no other. It goes from the last edge to the first, so that starts come in before ends: a key that
-// has rows before and after the instant keeps its totals, and stands among the touched ones once. No row may be kept with its end.
+// has rows before and after the instant keeps its totals, and stands among the touched ones once. No row may be
+// kept with its end.
 pub(crate) fn apply(groups: &mut Groups, now: &mut [Edge]) -> Result<(), Memory>
     requires counted { IsCounted groups.old }
     requires settled { groups.old.rows.rows.ends ≡ [] }

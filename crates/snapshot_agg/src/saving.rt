@@ -68,11 +68,7 @@ pub(crate) fn save_runs(saved: &mut Saved, part: u64, running: &Running) -> Resu
 }
 
 // Adds the rows of a line of end edges as entries of that part, each as its start.
-pub(crate) fn save_lives(
-    saved: &mut Saved,
-    part: u64,
-    ends: &VecDeque<Edge>,
-) -> Result<(), Memory>
+pub(crate) fn save_lives(saved: &mut Saved, part: u64, ends: &VecDeque<Edge>) -> Result<(), Memory>
     ensures { OnOk result (saved.new ≡ saved.old
         ++ entries_of part (map (λ e. start_of (row_ended e)) ends.now.items)) }
 {

@@ -22,8 +22,7 @@ returns-then-whole-clause-told c =
     let a0 = c.args.answer.now.items in
     let a1 = c.live_on.new.answer.items in
     let o = c.in_ok-done.ensures.lived in
-    let z = c.in_ok-done.ensures.whole c.if-whole.true in
-    (
+    let z = c.in_ok-done.ensures.whole c.if-whole.true in (
       o.1.0,
       subst (λ l. AreTold g.key.items g.aggs.items g.rows.rows.held g1.rows.rows.held run0 run1 come0 (to_come g1.rows.rows.ends w1 l) c.args.from c.args.to a0 a1 o.1.0) z.0
           (told_whole g.key.items g.aggs.items g.rows.rows.held g1.rows.rows.held run0 run1 come0 come1 c.args.from c.in_ok-done.done c.args.to a0 a1 o.1.0 o.1.1 o.0 z.1),
@@ -44,8 +43,7 @@ returns-clause-told c =
     let a1 = c.live_on.new.answer.items in
     let a2 = c.emit_others.new.answer.items in
     let o = c.in_ok-done.ensures.lived in
-    let y = c.in_ok-emit_others.ensures.told in
-    (
+    let y = c.in_ok-emit_others.ensures.told in (
       o.1.0 ++ y.0,
       told_more g.key.items g.aggs.items g.rows.rows.held g1.rows.rows.held run0 run1 come0 come1 c.args.from c.in_ok-done.done c.args.to a0 a1 o.1.0 o.1.1 o.0
           g2.rows.rows.held run2 come2 a2 y.0 c.in_ok-done.ensures.late
@@ -68,8 +66,7 @@ returns-in_err-emit_others-clause-refused c =
     c.from_residual-in_err-emit_others.ensures.1
     (λ v e late.
     let r = c.in_err-emit_others.ensures.refused v e (c.in_ok-done.ensures.late late) in
-    let low : to ≤ to = omega arith in
-    (
+    let low : to ≤ to = omega arith in (
       o.1.0 ++ r.0,
       r.1,
       to,

@@ -1,4 +1,4 @@
-use Rattle.std.specs.Prelude.{◌≡◌, ◌+◌, ◌≤◌, ◌++◌, ℕ, cond, [], List, All, map, refl}
+use Rattle.std.specs.Prelude.{◌≡◌, ◌+◌, ◌≤◌, ◌++◌, ℕ, cond, [], All, map, refl}
 use Rattle.std.proofs.Common.{sym, ap, subst, arith, rules}
 use Rattle.tw_rows.specs.Cells.{datum_kind}
 use Rattle.tw_rows.specs.Instant.{inf}
@@ -16,7 +16,7 @@ use Rattle.sweep_sides.proofs.TakenIn.{side_taken}
 use Rattle.snapshot_agg.specs.Answering.{group_kinds}
 use Rattle.snapshot_agg.specs.Counting.{pending_of}
 use Rattle.snapshot_agg.specs.Keeping.{KeepsGroup}
-use Rattle.snapshot_agg.specs.Living.{AreLate, AreTold, AreRefused, to_come}
+use Rattle.snapshot_agg.specs.Living.{AreLate}
 use Rattle.snapshot_agg.specs.Totaled.{run_of}
 use Rattle.snapshot_agg.proofs.Beginning.{come_total}
 use Rattle.snapshot_agg.proofs.Instants.{all_late, least_wider, pending_total}

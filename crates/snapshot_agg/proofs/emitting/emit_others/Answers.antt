@@ -1,6 +1,5 @@
-use Rattle.std.specs.Prelude.{◌≡◌, ◌+◌, ◌≤◌, ◌++◌, ℕ, cond, List, [], refl}
-use Rattle.std.proofs.Common.{sym, ap, subst, arith, rules}
-use Rattle.tw_rows.specs.Instant.{inf}
+use Rattle.std.specs.Prelude.{◌≡◌, ◌+◌, ℕ, cond, List, [], refl}
+use Rattle.std.proofs.Common.{sym, ap, subst, arith}
 use Rattle.tw_rows.specs.Bag.{total}
 use Rattle.tw_rows.specs.SameCells.{same_cells}
 use Rattle.tw_rows.specs.declared.edge.Edge.{Edge}
@@ -56,8 +55,7 @@ returns-clause-told c =
     let run2 = run_of c.sweep_due.new.running in
     let a0 = c.args.answer.now.items in
     let a1 = c.sweep_due.new.answer.items in
-    let y = c.in_ok-sweep_due.ensures in
-    (
+    let y = c.in_ok-sweep_due.ensures in (
       due,
       subst (λ es. AreTold g.key.items g.aggs.items rows0 rows2 run0 run2 come0 (to_come es w1 []) from to a0 a1 due) (sym y.settled) (record {
         parts = parts;

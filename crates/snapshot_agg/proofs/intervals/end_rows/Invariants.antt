@@ -1,4 +1,4 @@
-use Rattle.std.proofs.Common.{◌≡◌, ℕ, List, length}
+use Rattle.std.proofs.Common.{◌≡◌, List, length}
 use Rattle.tw_rows.specs.declared.edge.Edge.{Edge}
 use Rattle.sweep_laws.specs.Grouping.{keys_of}
 use Rattle.snapshot_agg.specs.Counting.{IsCounted}

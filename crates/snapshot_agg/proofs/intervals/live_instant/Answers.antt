@@ -7,16 +7,12 @@ use Rattle.tw_rows.specs.Instant.{inf}
 use Rattle.tw_rows.specs.SameCells.{same_cells}
 use Rattle.tw_rows.specs.declared.edge.Edge.{Edge}
 use Rattle.tw_rows.specs.declared.edge.HeldRow.{HeldRow}
-use Rattle.tw_rows.specs.declared.kind.CellKind.{CellKind}
 use Rattle.edge_history.specs.History.{CellEvent}
 use Rattle.edge_history.specs.Balance.{news}
-use Rattle.edge_history.specs.Order.{failing}
-use Rattle.edge_stream.specs.declared.saved.StepFault.{StepFault}
 use Rattle.edge_stream.specs.declared.saved.StepFault.TheVariants.{Overflow}
 use Rattle.sweep_laws.specs.Grouping.{keys_of}
 use Rattle.sweep_sides.specs.Waiting.{queued}
-use Rattle.snapshot_agg.specs.Answering.{group_kinds, is_stored, IsSoFar}
-use Rattle.snapshot_agg.specs.Counting.{AreSwept, Emits, IsUndefinedFirst}
+use Rattle.snapshot_agg.specs.Counting.{AreSwept, IsUndefinedFirst}
 use Rattle.snapshot_agg.specs.Living.{IsApplied, AreBegun, AreLate, AreLived, AreRefused, TouchesAll, to_come}
 use Rattle.snapshot_agg.specs.Totaled.{run_of}
 use Rattle.snapshot_agg.specs.Words.{key_data}

@@ -38,8 +38,7 @@ returns-then-le-clause-whole c = λ whole.
     let t = c.next_instant-t.result in
     let low : c.args.to ≤ t = grind (arith, nat_tests, c.le.ensures, c.if-le.true) in
     let none : c.loop-to.cursor.edges ≡ [] = search rules in
-    let queue = none_queued c.len.result c.loop-to.waiting c.len.ensures c.loop-to-test.true in
-    (
+    let queue = none_queued c.len.result c.loop-to.waiting c.len.ensures c.loop-to-test.true in (
       none,
       come_late c.args.to g1.rows.rows.ends c.loop-to.waiting c.loop-to.cursor.edges (later_late c.args.to t g1.rows.rows.ends low c.next_instant-t.ensures.ends)
           (ap (λ l. failing (is_from c.args.to) (queued l)) queue) (ap (λ l. failing (is_from c.args.to) (singles l)) none),
@@ -74,15 +73,16 @@ returns-in_err-live_instant-clause-refused c =
     (λ v e.
     let o = c.in_err-live_instant.ensures.refused v e in
     let r = o.1 done low in
-    let is = o.0 in
-    (
+    let is = o.0 in (
       omega (arith, is, under),
-      (i.0 ++ r.0,
-      r.1,
-      subst (λ n. AreRefused g.key.items g.aggs.items rows0 run0 come0 r.1 c.args.from (suc n) n (i.0 ++ r.0)) (sym is)
-          (refused_more g.key.items g.aggs.items rows0 rows1 run0 run1 come0 come1 c.args.from done c.args.answer.now.items c.loop-to.answer.items i.0 i.1 r.1 (suc t) t r.0
-          (for_both (λ key aggs. AreRefused key aggs rows1 run1 come1 r.1 done (suc t) t r.0) g1.key.items g.key.items g1.aggs.items g.aggs.items
-          (ap (λ k. k.items) c.loop-to.invariant.same_key) (ap (λ k. k.items) c.loop-to.invariant.same_aggs) r.2))),
+      (
+        i.0 ++ r.0,
+        r.1,
+        subst (λ n. AreRefused g.key.items g.aggs.items rows0 run0 come0 r.1 c.args.from (suc n) n (i.0 ++ r.0)) (sym is)
+            (refused_more g.key.items g.aggs.items rows0 rows1 run0 run1 come0 come1 c.args.from done c.args.answer.now.items c.loop-to.answer.items i.0 i.1 r.1 (suc t) t r.0
+            (for_both (λ key aggs. AreRefused key aggs rows1 run1 come1 r.1 done (suc t) t r.0) g1.key.items g.key.items g1.aggs.items g.aggs.items
+            (ap (λ k. k.items) c.loop-to.invariant.same_key) (ap (λ k. k.items) c.loop-to.invariant.same_aggs) r.2)),
+      ),
     ))
 
 pub loop-to-preserved : goal.loop-to-preserved

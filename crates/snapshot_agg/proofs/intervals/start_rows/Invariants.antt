@@ -1,5 +1,5 @@
 use Rattle.std.specs.Prelude.{All}
-use Rattle.std.proofs.Common.{◌≡◌, ◌*◌, ℕ, List, map, suc, length}
+use Rattle.std.proofs.Common.{◌≡◌, ◌*◌, List, map, suc, length}
 use Rattle.tw_rows.specs.Cells.{datum_kind}
 use Rattle.tw_rows.specs.declared.edge.Edge.{Edge}
 use Rattle.edge_history.specs.Order.{failing, is_from, Rises, IsReal}

@@ -1,4 +1,4 @@
-use Rattle.std.specs.Prelude.{◌≡◌, ◌∷◌, ◌+◌, List, map}
+use Rattle.std.specs.Prelude.{◌≡◌, ◌∷◌, List, map}
 use Rattle.std.proofs.Common.{ap, arith, rules}
 use Rattle.tw_rows.specs.Bag.{total}
 use Rattle.tw_rows.specs.declared.cells.Datum.{Datum}

@@ -1,6 +1,5 @@
-use Rattle.std.proofs.Common.{◌≡◌, ◌+◌, ℕ, List, map, length}
+use Rattle.std.proofs.Common.{◌≡◌, ◌+◌, ℕ, map, length}
 use Rattle.tw_rows.specs.Bag.{total}
-use Rattle.tw_rows.specs.declared.edge.Edge.{Edge}
 use Rattle.tw_rows.specs.declared.edge.HeldRow.{HeldRow}
 use Rattle.edge_history.specs.Order.{failing, is_end}
 use Rattle.sweep_laws.specs.Sweeps.{SyncsRise}

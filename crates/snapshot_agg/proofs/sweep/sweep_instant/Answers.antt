@@ -9,13 +9,12 @@ use Rattle.tw_rows.specs.Instant.{inf}
 use Rattle.edge_history.specs.History.{CellEvent}
 use Rattle.edge_history.specs.Balance.{news}
 use Rattle.edge_history.specs.Order.{failing}
-use Rattle.edge_stream.specs.declared.saved.StepFault.{StepFault}
 use Rattle.edge_stream.specs.declared.saved.StepFault.TheVariants.{Overflow}
 use Rattle.tw_rows.specs.declared.edge.Edge.{Edge}
 use Rattle.tw_rows.specs.declared.edge.HeldRow.{HeldRow}
 use Rattle.sweep_laws.specs.Grouping.{keys_of}
 use Rattle.snapshot_agg.specs.Answering.{is_stored}
-use Rattle.snapshot_agg.specs.Counting.{AreSwept, Emits, IsUndefinedFirst, AreEmitted}
+use Rattle.snapshot_agg.specs.Counting.{AreSwept, IsUndefinedFirst, AreEmitted}
 use Rattle.snapshot_agg.specs.Living.{IsApplied}
 use Rattle.snapshot_agg.specs.Words.{key_data}
 use Rattle.snapshot_agg.specs.Totaled.{run_of}

@@ -11,14 +11,14 @@ use Rattle.snapshot_agg.specs.Living.{IsApplied}
 use Rattle.edge_stream.specs.declared.saved.StepFault.TheVariants.{Overflow}
 use Rattle.snapshot_agg.proofs.Faults.{handed_on}
 use Rattle.std.specs.List.{list_any}
-use Rattle.std.proofs.Common.{◌∙◌, ap}
+use Rattle.std.proofs.Common.{◌∙◌}
 use Rattle.tw_rows.specs.SameCells.{same_cells}
 use Rattle.tw_rows.specs.declared.cells.Datum.{Datum}
 use Rattle.sweep_laws.specs.Grouping.{keys_of}
 use Rattle.snapshot_agg.specs.Words.{key_data, tell}
 use Rattle.snapshot_agg.proofs.Touching.{same_keys, ends_over, starts_over}
 use Rattle.snapshot_agg.specs.Totaled.{run_of}
-use Rattle.snapshot_agg.proofs.Sweeping.{InstantTold, InstantUndefined, InstantSoFar, instant_told, instant_undefined}
+use Rattle.snapshot_agg.proofs.Sweeping.{instant_told, instant_undefined}
 use Rattle.edge_history.specs.Opens.{bare}
 use Rattle.snapshot_agg.proofs.Answering.{instant_so_far}
 use Rattle.snapshot_agg.proofs.sweep.tell_touched.Goals as goal

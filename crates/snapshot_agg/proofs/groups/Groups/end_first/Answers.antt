@@ -1,16 +1,11 @@
-use Rattle.std.specs.Prelude.{◌≡◌, ◌+◌, ℕ, ◌∷◌, ◌||◌}
-use Rattle.std.specs.List.{list_any}
-use Rattle.std.proofs.Common.{subst, sym, ◌∙◌, ap, arith}
+use Rattle.std.specs.Prelude.{◌≡◌, ◌+◌, ℕ, ◌∷◌}
+use Rattle.std.proofs.Common.{subst, sym, ◌∙◌, ap}
 use Rattle.tw_rows.specs.Bag.{SameBag, total}
-use Rattle.tw_rows.specs.SameCells.{same_cells}
 use Rattle.tw_rows.specs.declared.edge.HeldRow.{HeldRow}
-use Rattle.edge_history.specs.Order.{many}
-use Rattle.edge_history.specs.Opens.{is_held}
 use Rattle.synopsis.specs.Held.{key_of}
 use Rattle.snapshot_agg.specs.Words.{key_data}
-use Rattle.snapshot_agg.proofs.Totaling.{of_key, own_key, totaled_taken, totaled_same}
-use Rattle.snapshot_agg.specs.Totaled.{totals_of}
-use Rattle.snapshot_agg.proofs.Touching.{all_told, still_told}
+use Rattle.snapshot_agg.proofs.Totaling.{of_key, own_key, totaled_taken}
+use Rattle.snapshot_agg.proofs.Touching.{all_told}
 use Rattle.snapshot_agg.proofs.groups.Groups.end_first.Goals as goal
 
 pub take_from-requires : goal.take_from-requires
@@ -55,4 +50,3 @@ returns-clause-counted c =
           totaled_taken g.key.items rows2 g.rows.rows.held cells e.other more g.aggs.items g.totals c.take_from.new.totals k is c.requires.counted.totals c.in_ok-take_from.ensures.others
           (λ rs rest h same. c.in_ok-take_from.ensures.own g.aggs.items rs rest h (subst (λ l. SameBag rs (l ∷ rest)) (sym c.items-2.ensures) same));
     }
-

@@ -1,5 +1,4 @@
 use Rattle.snapshot_agg.specs.Counting.{IsCounted}
-use Rattle.snapshot_agg.specs.declared.groups.Groups.{Groups}
 use Rattle.snapshot_agg.proofs.Faults.{on_ok}
 use Rattle.snapshot_agg.proofs.Totaling.{totaled_same}
 use Rattle.snapshot_agg.proofs.groups.Groups.settle.Goals as goal

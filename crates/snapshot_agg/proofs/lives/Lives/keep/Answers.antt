@@ -11,8 +11,7 @@ use Rattle.snapshot_agg.proofs.lives.Lives.keep.Goals as goal
 
 pub invariant_of-self-then-comes_last : goal.invariant_of-self-then-comes_last
 invariant_of-self-then-comes_last c =
-    let q = c.self.inside.ends.items in
-    (
+    let q = c.self.inside.ends.items in (
       subst (SyncsRise 0) (sym c.in_ok-push_back.ensures.items) (c.comes_last.ensures c.if-comes_last.true c.self.invariant.0 c.args.end refl),
       ends_more q c.push_back.new.self.items c.args.end c.in_ok-push_back.ensures.items c.requires.end c.self.invariant.1,
     )

@@ -1,5 +1,5 @@
 use Rattle.std.specs.Prelude.{◌++◌, map}
-use Rattle.std.proofs.Common.{ap, subst}
+use Rattle.std.proofs.Common.{subst}
 use Rattle.tw_rows.specs.Bag.{SameBag}
 use Rattle.snapshot_agg.specs.KeptRows.{row_ended}
 use Rattle.snapshot_agg.proofs.Faults.{on_ok}
