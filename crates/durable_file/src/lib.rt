@@ -14,6 +14,3 @@ pub use medium::{Medium, MediumFailed, Name, ReadFault, counted};
 pub use memory::MemoryMedium;
 pub use opening::open;
 pub use replacing::replace;
-
-#[cfg(test)]
-mod tests;

@@ -1,5 +1,5 @@
 // A folder of the system, and a medium in memory that crashes at each step.
-use crate::{FolderMedium, Medium, MemoryMedium, Name, replace};
+use durable_file::{FolderMedium, Medium, MemoryMedium, Name, replace};
 use std::fs;
 use std::test::Fail;
 
@@ -9,9 +9,9 @@ const NEW: &[u8] = b"new";
 
 const TORN: &[u8] = b"ne\0";
 
-const FOLDER: &str = "durable_file_test";
+const FOLDER: &str = "tests_of_files";
 
-const PATH: &str = "durable_file_test/state";
+const PATH: &str = "tests_of_files/state";
 
 #[test]
 fn a_crash_at_each_step_leaves_the_file_whole(rt: HostRuntime) -> Result<(), Fail> {
@@ -60,7 +60,7 @@ fn files_are_replaced(rt: HostRuntime) -> Result<(), Fail> {
     for bytes in [OLD, NEW] {
         assert!(rt; replace(&mut medium, bytes).is_ok());
         assert_eq!(rt; medium.read(alloc).ok().flatten().as_deref(), Some(bytes));
-        assert!(rt; !fs::exists(&rt, "durable_file_test/state.new")?);
+        assert!(rt; !fs::exists(&rt, "tests_of_files/state.new")?);
     }
     fs::remove_dir_all(&rt, FOLDER)?;
     assert!(rt; replace(&mut medium, OLD).is_err());
