@@ -3,9 +3,9 @@
 
 Usage: bench/more_edits.py [NAME ..]    with no name, every crate that has such edits
 
-The gate tries at most four edits a crate (six in the engine and the program), since each costs up to two minutes of one
-processor, and the first two of a crate a second proof of it. The others are kept in must-fail-more/ in the same form. This
-script copies the repository, puts them in the place of the gate's edits, and lets `rt must-fail` try them there. Its status
+The gate tries one edit a crate, or those that a promise names, since the first of a crate costs what its proof does, and each
+further one up to a minute and a half of one processor. The others are kept in must-fail-more/ in the same form. This script
+copies the repository, puts them in the place of the gate's edits, and lets `rt must-fail` try them there. Its status
 is that of `rt must-fail`.
 """
 import pathlib
