@@ -200,6 +200,12 @@ def reasons(found):
     return f"\n## Why a crate takes more than {most:.0f} minutes\n\n" + "\n".join(lines) + "\n" if lines else ""
 
 
+def goal(pace):
+    """What the gate is to take, in words."""
+    told = f"The goal is {GOAL} minutes"
+    return f"{told}." if pace == 1 else f"{told} on a machine that takes 1/{pace} of the time of this one."
+
+
 def write_table():
     found = kept()
     has = lambda name, part: found["crates"].get(name, {}).get(part)
@@ -209,10 +215,10 @@ def write_table():
     TABLE.write_text(
         "# What the gate takes\n\nProcessor minutes from nothing, by `bench/gate.py`, on "
         f"{found.get('machine', '?')}, with {found.get('kit', '?')}. An empty place was not measured, or takes less than a second. "
-        f"The goal is {GOAL} minutes on a machine that takes 1/{found.get('pace', 1)} of the time of this one.\n\n"
+        f"{goal(found.get('pace', 1))}\n\n"
         "The gate proves a crate with two edits or more a second time, since each of them begins with what that proof leaves; a "
         "single edit is tried from nothing. So about as much as `check` of what stands under `edits` is the same whatever the "
-        "number of edits.\n\n"
+        "number of edits. Each proof has one job (`.ci/run`).\n\n"
         + table(found["crates"]) + "".join(f"\n{note}\n" for note in found.get("notes", [])) + reasons(found)
         + "".join(f"\nNot measured by now, {part}: {', '.join(names)}.\n" for part, names in lacking.items() if names))
 
