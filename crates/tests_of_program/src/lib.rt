@@ -6,8 +6,6 @@ mod bad_lines;
 #[cfg(test)]
 mod engines;
 #[cfg(test)]
-mod files;
-#[cfg(test)]
 mod kept;
 #[cfg(test)]
 mod modes;

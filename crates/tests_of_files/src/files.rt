@@ -6,13 +6,13 @@ use std::fs;
 use std::test::Fail;
 use wire_lines::{Wire, send};
 
-const FOLDER: &str = "tests_of_program_files";
+const FOLDER: &str = "tests_of_files_of_a_wire";
 
-const INPUT: &str = "tests_of_program_files/input";
+const INPUT: &str = "tests_of_files_of_a_wire/input";
 
-const OUTPUT: &str = "tests_of_program_files/output";
+const OUTPUT: &str = "tests_of_files_of_a_wire/output";
 
-const STATE: &str = "tests_of_program_files/state";
+const STATE: &str = "tests_of_files_of_a_wire/state";
 
 // A wire over the files, with no byte in its streams.
 fn over_files(
