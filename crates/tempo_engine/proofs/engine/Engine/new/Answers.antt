@@ -15,3 +15,6 @@ invariant_of-result c = record {
   run = c.in_ok-parts.ensures.run;
   took = λ thawed. (c.args.plan, (c.args.options.policy, ([], (λ s. [], (λ k. [], c.in_ok-parts.ensures.fed)))));
 }
+
+pub returns-clause-workers : goal.returns-clause-workers
+returns-clause-workers c = c.in_ok-parts.ensures.workers
