@@ -31,11 +31,21 @@ use sweep_sides::{
 use tw_rows::{Edge, Kind, Memory, Time};
 
 /// The rows of both sides that are alive, and the pending edges of both sides.
-#[derive(Drop)]
 pub struct AntiSides {
     pub(crate) rows: AntiRows,
     pub(crate) left_waiting: EndQueue,
     pub(crate) right_waiting: EndQueue,
+}
+
+// By hand, so that its users cite this and not the destructors of its parts.
+impl Drop for AntiSides {
+    fn drop(self) {
+        let AntiSides {
+            rows: _rows,
+            left_waiting: _left_waiting,
+            right_waiting: _right_waiting,
+        } = self;
+    }
 }
 
 // The times of that part, of keys in these columns.

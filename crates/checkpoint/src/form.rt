@@ -12,11 +12,21 @@ use std::marker::Model;
 use tw_rows::Memory;
 
 /// The form of the checkpoints of a query: what whoever knows the query, the options and the plan knows of their text.
-#[derive(Drop)]
 pub struct Form {
     head: Vec<Vec<u8>>,
     streams: usize,
     parts: Vec<PartForm>,
+}
+
+// By hand, so that its users cite this and not the destructors of its parts.
+impl Drop for Form {
+    fn drop(self) {
+        let Form {
+            head: _head,
+            streams: _,
+            parts: _parts,
+        } = self;
+    }
 }
 
 impl Model for Form {

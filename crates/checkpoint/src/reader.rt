@@ -12,9 +12,15 @@ use std::mem;
 use tw_rows::{Memory, Time};
 
 /// A reader of a checkpoint of one form. `lines_taken` are the lines that it took.
-#[derive(Drop)]
 pub struct Reader {
     reading: Reading,
+}
+
+// By hand, so that its users cite this and not the destructors of its parts.
+impl Drop for Reader {
+    fn drop(self) {
+        let Reader { reading: _reading } = self;
+    }
 }
 
 impl Model for Reader {

@@ -29,12 +29,23 @@ use sweep_sides::{
 use tw_rows::{Edge, Kind, Memory, Time};
 
 /// The left rows that are open and not clipped, the pending left edges, and the pending right starts.
-#[derive(Drop)]
 pub struct ClipSides {
     pub(crate) rows: ClipRows,
     pub(crate) left_key: Vec<usize>,
     pub(crate) left_waiting: EndQueue,
     pub(crate) right_waiting: EndQueue,
+}
+
+// By hand, so that its users cite this and not the destructors of its parts.
+impl Drop for ClipSides {
+    fn drop(self) {
+        let ClipSides {
+            rows: _rows,
+            left_key: _left_key,
+            left_waiting: _left_waiting,
+            right_waiting: _right_waiting,
+        } = self;
+    }
 }
 
 impl ClipSides {

@@ -22,11 +22,21 @@ use sweep_sides::{are_rows, can_wait, load_waiting, save_waiting, take_in};
 use tw_rows::{Edge, Kind, Memory, Time};
 
 /// The starts that were emitted and have no end yet, and the pending edges of the child.
-#[derive(Drop)]
 pub struct CoalesceSide {
     pub(crate) alloc: Global,
     pub(crate) queues: RowQueues,
     pub(crate) waiting: EndQueue,
+}
+
+// By hand, so that its users cite this and not the destructors of its parts.
+impl Drop for CoalesceSide {
+    fn drop(self) {
+        let CoalesceSide {
+            alloc: _,
+            queues: _queues,
+            waiting: _waiting,
+        } = self;
+    }
 }
 
 // The open starts of the part 0, and the edges of the part 1 as they wait.

@@ -33,7 +33,6 @@ use tw_rows::{Memory, TextTable, Time};
 
 /// What computes one node of a plan: a node with a key in shards, every other as a whole. Contracts see it through `IsReady`,
 /// `StageKeeps` and `RunsNode` alone, which are by cases of what it is.
-#[derive(Drop)]
 pub enum Stage {
     /// Of a Source, a Where or a Select.
     Rows(row_stage::RowStage),
@@ -59,6 +58,26 @@ pub enum Stage {
     Follow(Follow),
     /// Of a Top.
     Top(Top),
+}
+
+// By hand, so that what lets a stage go cites this and not the destructors of each operator.
+impl Drop for Stage {
+    fn drop(self) {
+        match self {
+            Stage::Rows(_rows) => {}
+            Stage::Life(_operator) => {}
+            Stage::Union(_operator) => {}
+            Stage::Extend(_operator) => {}
+            Stage::Join(_operator) => {}
+            Stage::Group(_operator) => {}
+            Stage::Anti(_operator) => {}
+            Stage::Clip(_operator) => {}
+            Stage::Session(_operator) => {}
+            Stage::Coalesce(_operator) => {}
+            Stage::Follow(_operator) => {}
+            Stage::Top(_operator) => {}
+        }
+    }
 }
 
 impl Stage {

@@ -20,11 +20,21 @@ use tw_rows::{Edge, Kind, Memory, TextTable, Time};
 
 /// The changes of rows, from the edges that tell of them. `Holds` says of which edges they are, and what of them is
 /// rendered. Once it was out of memory nothing more is asked.
-#[derive(Drop)]
 pub struct Egress {
     rows: OpenRows,
     waiting: Pending,
     failed: bool,
+}
+
+// By hand, so that its users cite this and not the destructors of its parts.
+impl Drop for Egress {
+    fn drop(self) {
+        let Egress {
+            rows: _rows,
+            waiting: _waiting,
+            failed: _,
+        } = self;
+    }
 }
 
 fn push_punctuation_if(lines: &mut Vec<u8>, punctuation: Option<Time>) -> Result<(), Memory>

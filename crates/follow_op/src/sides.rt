@@ -29,11 +29,21 @@ use synopsis::HeldRow;
 use tw_rows::{Edge, Kind, Memory, Time};
 
 /// The left rows that wait for a right row, and the pending starts of both sides.
-#[derive(Drop)]
 pub(crate) struct FollowSides {
     pub(crate) rows: FollowRows,
     pub(crate) left_waiting: EndQueue,
     pub(crate) right_waiting: EndQueue,
+}
+
+// By hand, so that its users cite this and not the destructors of its parts.
+impl Drop for FollowSides {
+    fn drop(self) {
+        let FollowSides {
+            rows: _rows,
+            left_waiting: _left_waiting,
+            right_waiting: _right_waiting,
+        } = self;
+    }
 }
 
 fn sync_of(edge: &Edge) -> u64

@@ -14,7 +14,6 @@ use std::vec::IntoIter;
 use tw_rows::{Label, Memory, Time};
 
 /// What the parts of an engine keep, as entries, with the last punctuation and the bound and the mark of each stream.
-#[derive(Drop)]
 pub struct Kept {
     pub last: Time,
     pub bounds: Vec<Time>,
@@ -23,6 +22,20 @@ pub struct Kept {
     /// By number of the node, and by shard.
     pub nodes: Vec<Vec<Saved>>,
     pub output: Saved,
+}
+
+// By hand, so that its users cite this and not the destructors of its parts.
+impl Drop for Kept {
+    fn drop(self) {
+        let Kept {
+            last: _,
+            bounds: _bounds,
+            marks: _marks,
+            input: _input,
+            nodes: _nodes,
+            output: _output,
+        } = self;
+    }
 }
 
 impl Model for Kept {

@@ -19,7 +19,6 @@ pub struct FrozenPart {
 
 /// What an engine keeps once it took some lines: the number of the last line, which is 0 where there was none, the last
 /// punctuation, the bound and the mark of each stream, the texts by place, and the entries of its parts.
-#[derive(Drop)]
 pub struct Frozen {
     lines: u64,
     last: Time,
@@ -27,6 +26,20 @@ pub struct Frozen {
     marks: Vec<Time>,
     texts: Vec<Label>,
     parts: Vec<FrozenPart>,
+}
+
+// By hand, so that its users cite this and not the destructors of its parts.
+impl Drop for Frozen {
+    fn drop(self) {
+        let Frozen {
+            lines: _,
+            last: _,
+            bounds: _bounds,
+            marks: _marks,
+            texts: _texts,
+            parts: _parts,
+        } = self;
+    }
 }
 
 impl Model for Frozen {

@@ -11,7 +11,6 @@ use std::alloc::Global;
 use tw_rows::{Kind, Memory, Time};
 
 /// Lines are admitted one by one, and what they give is held until a punctuation, at which the edges before it are released.
-#[derive(Drop)]
 pub struct Ingress {
     pub(crate) policy: Policy,
     pub(crate) kinds: Vec<Vec<Kind>>,
@@ -22,6 +21,21 @@ pub struct Ingress {
     pub(crate) alloc: Global,
     ghost shape: { HasShape (map (λ k. k.items) kinds.items) capacity (length watermarks.streams.items) held.waiting.items },
     ghost above: { AreAbove watermarks.streams.items },
+}
+
+// By hand, so that its users cite this and not the destructors of its parts.
+impl Drop for Ingress {
+    fn drop(self) {
+        let Ingress {
+            policy: _,
+            kinds: _kinds,
+            capacity: _,
+            watermarks: _watermarks,
+            held: _held,
+            released: _,
+            alloc: _,
+        } = self;
+    }
 }
 
 /// Why an entry was refused.

@@ -17,11 +17,21 @@ use std::hash::{Hash, Hasher};
 use tw_rows::{Cells, Datum, Memory, Time};
 
 /// What the end line of an open start names: its stream, its start as it was given, and its cells.
-#[derive(Drop)]
 pub struct OpenKey {
     pub stream: usize,
     pub given: Time,
     pub cells: Cells,
+}
+
+// By hand, so that its users cite this and not the destructors of its parts.
+impl Drop for OpenKey {
+    fn drop(self) {
+        let OpenKey {
+            stream: _,
+            given: _,
+            cells: _cells,
+        } = self;
+    }
 }
 
 impl PartialEq for OpenKey {

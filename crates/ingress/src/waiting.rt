@@ -22,11 +22,21 @@ use tw_rows::{Cells, Datum, Edge, Kind, Memory, Time};
 
 /// Pending edges, from which those before a time are taken first. One that comes in order and fits the columns is put last in a
 /// list of batches, and any other by its rank.
-#[derive(Drop)]
 pub struct Waiting {
     pub(crate) queue: EdgeList,
     pub(crate) others: ByRank,
     pub(crate) alloc: Global,
+}
+
+// By hand, so that its users cite this and not the destructors of its parts.
+impl Drop for Waiting {
+    fn drop(self) {
+        let Waiting {
+            queue: _queue,
+            others: _others,
+            alloc: _,
+        } = self;
+    }
 }
 
 impl Model for Waiting {

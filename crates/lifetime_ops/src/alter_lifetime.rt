@@ -19,7 +19,6 @@ use tw_rows::{Kind, Memory, Time};
 /// The operator of a Delay, a Hop or a Duration: Trill's `AlterEventLifetime`, whose new start and duration follow from the
 /// start alone, or move both ends. It is that of a Mean too, which changes cells alone. It carries the edges that are not
 /// below the time up to which it answers.
-#[derive(Drop)]
 pub struct AlterLifetime {
     pub(crate) alloc: Global,
     pub(crate) change: Change,
@@ -30,6 +29,20 @@ pub struct AlterLifetime {
     ghost late: { failed ≡ false →
         failing (is_from (answered_below (node_of change) left_to)) carried.edges ≡ 0 },
     ghost ints: { divides_ints change (cells_of carried) ≡ true },
+}
+
+// By hand, so that its users cite this and not the destructors of its parts.
+impl Drop for AlterLifetime {
+    fn drop(self) {
+        let AlterLifetime {
+            alloc: _,
+            change: _change,
+            carried: _carried,
+            left_to: _,
+            right_to: _,
+            failed: _,
+        } = self;
+    }
 }
 
 // The edges of a list that are answered, with their new times, in place batch by batch.

@@ -18,7 +18,6 @@ use tw_rows::{Edge, Kind, Memory, Time};
 
 /// The operator of an Extend: Trill's `ExtendLifetime`. A start or an interval edge is answered at once, its known end moved; an
 /// end is pending until the time to which it moves. Edges that are not below the time up to which the side is closed are carried.
-#[derive(Drop)]
 pub struct ExtendLifetime {
     pub(crate) alloc: Global,
     pub(crate) by: u64,
@@ -30,6 +29,21 @@ pub struct ExtendLifetime {
     ghost late: { failed ≡ false → failing (is_from left_to) carried.edges ≡ 0 },
     ghost waiting: { All (IsWaitingEnd (cells_of carried)) ends },
     ghost due: { failed ≡ false → All (λ p. left_to ≤ p.at) ends },
+}
+
+// By hand, so that its users cite this and not the destructors of its parts.
+impl Drop for ExtendLifetime {
+    fn drop(self) {
+        let ExtendLifetime {
+            alloc: _,
+            by: _,
+            carried: _carried,
+            ends: _ends,
+            left_to: _,
+            right_to: _,
+            failed: _,
+        } = self;
+    }
 }
 
 // Whether the time is no infinity.

@@ -13,13 +13,24 @@ use sweep_sides::{save_waiting, take_in};
 use tw_rows::{Edge, Kind, Memory, Time};
 
 /// The rows that are alive, the open starts of those that are shown, and the pending edges of the child.
-#[derive(Drop)]
 pub struct TopSide {
     pub(crate) alloc: Global,
     pub(crate) tops: Tops,
     pub(crate) queues: RowQueues,
     pub(crate) waiting: EndQueue,
     ghost some: { 1 ≤ tops.most },
+}
+
+// By hand, so that its users cite this and not the destructors of its parts.
+impl Drop for TopSide {
+    fn drop(self) {
+        let TopSide {
+            alloc: _,
+            tops: _tops,
+            queues: _queues,
+            waiting: _waiting,
+        } = self;
+    }
 }
 
 impl Sweep for TopSide {

@@ -16,7 +16,6 @@ use tw_rows::{Memory, TextTable};
 use where_select::{Filter, Project};
 
 /// What computes a Source, a Where or a Select over lists of edges. It keeps nothing of one list for the next.
-#[derive(Drop)]
 pub enum RowStage {
     /// The edges as they come.
     Source,
@@ -24,6 +23,17 @@ pub enum RowStage {
     Where(Filter),
     /// The edges with their rows replaced by the values of the items.
     Select(Project),
+}
+
+// By hand, so that its users cite this and not the destructors of its parts.
+impl Drop for RowStage {
+    fn drop(self) {
+        match self {
+            RowStage::Source => {}
+            RowStage::Where(_filter) => {}
+            RowStage::Select(_project) => {}
+        }
+    }
 }
 
 impl RowStage {

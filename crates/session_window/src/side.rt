@@ -10,10 +10,19 @@ use sweep_sides::{put_starts, save_waiting, take_due};
 use tw_rows::{Edge, Kind, Memory, Time};
 
 /// The sessions that go on, and the pending starts.
-#[derive(Drop)]
 pub struct SessionSide {
     pub(crate) sessions: Sessions,
     pub(crate) waiting: EndQueue,
+}
+
+// By hand, so that its users cite this and not the destructors of its parts.
+impl Drop for SessionSide {
+    fn drop(self) {
+        let SessionSide {
+            sessions: _sessions,
+            waiting: _waiting,
+        } = self;
+    }
 }
 
 impl Sweep for SessionSide {

@@ -25,7 +25,6 @@ use tw_rows::{Kind, Memory, Time};
 
 /// The operator of a Group, which computes Trill's snapshot aggregates: at each instant one row for each key that has a row,
 /// of the key and of the aggregates over the rows alive then. That a sum outside the ints is an overflow is our profile.
-#[derive(Drop)]
 pub struct Grouped {
     pub(crate) alloc: Global,
     pub(crate) groups: Groups,
@@ -51,6 +50,24 @@ pub struct Grouped {
         ≡ kinds_over groups (map cell_kind_of left_kinds.items) },
     ghost width: { length kinds.items ≤ 32 },
     ghost room: { 1 ≤ capacity },
+}
+
+// By hand, so that its users cite this and not the destructors of its parts.
+impl Drop for Grouped {
+    fn drop(self) {
+        let Grouped {
+            alloc: _,
+            groups: _groups,
+            running: _running,
+            waiting: _waiting,
+            left_kinds: _left_kinds,
+            kinds: _kinds,
+            capacity: _,
+            left_to: _,
+            right_to: _,
+            failed: _,
+        } = self;
+    }
 }
 
 impl Grouped {

@@ -35,7 +35,6 @@ pub const PIECE: u64 = 65536;
 pub const LIMIT: u64 = 1 << 40;
 
 /// A query at work on an input: bytes come in to it from a wire, and it hands out what is to be written.
-#[derive(Drop)]
 pub struct Answering {
     pub alloc: Global,
     pub cutter: LineCutter,
@@ -45,6 +44,20 @@ pub struct Answering {
     pub base: u64,
     /// How many lines of the input tell what that run was frozen to.
     pub skipped: u64,
+}
+
+// By hand, so that its users cite this and not the destructors of its parts.
+impl Drop for Answering {
+    fn drop(self) {
+        let Answering {
+            alloc: _,
+            cutter: _cutter,
+            engine: _engine,
+            header: _,
+            base: _,
+            skipped: _,
+        } = self;
+    }
 }
 
 /// What the next line comes to.

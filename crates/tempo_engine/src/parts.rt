@@ -26,7 +26,6 @@ use tw_rows::{Datum, Kind, Memory, TextTable, Time};
 
 /// The parts of an engine: lines come in at the ingress, their edges go through the dataflow of the plan, and the egress shows
 /// what the root changes. `closed` is how far the text goes, and `row` has the values of the last event that was read.
-#[derive(Drop)]
 pub struct Parts {
     pub(crate) alloc: Global,
     pub(crate) texts: TextTable,
@@ -36,6 +35,22 @@ pub struct Parts {
     pub(crate) egress: Egress,
     pub(crate) closed: Time,
     pub(crate) row: Vec<Datum>,
+}
+
+// By hand, so that its users cite this and not the destructors of its parts.
+impl Drop for Parts {
+    fn drop(self) {
+        let Parts {
+            alloc: _,
+            texts: _texts,
+            ingress: _ingress,
+            pools: _pools,
+            dataflow: _dataflow,
+            egress: _egress,
+            closed: _,
+            row: _row,
+        } = self;
+    }
 }
 
 // No text stands twice in a table.

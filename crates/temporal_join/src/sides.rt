@@ -30,7 +30,6 @@ use sweep_sides::{are_rows, can_wait, kept_count, load_rows, load_waiting};
 use tw_rows::{Edge, Kind, Memory, Time};
 
 /// The rows of both sides that are alive, and the pending edges of both sides.
-#[derive(Drop)]
 pub struct JoinSides {
     pub(crate) rows: JoinRows,
     pub(crate) left_waiting: EndQueue,
@@ -41,6 +40,20 @@ pub struct JoinSides {
     pub(crate) right_due: Vec<Edge>,
     // Rows with their ends. While they are few, all rows stand here, and none by their keys.
     pub(crate) few: JoinLives,
+}
+
+// By hand, so that its users cite this and not the destructors of its parts.
+impl Drop for JoinSides {
+    fn drop(self) {
+        let JoinSides {
+            rows: _rows,
+            left_waiting: _left_waiting,
+            right_waiting: _right_waiting,
+            left_due: _left_due,
+            right_due: _right_due,
+            few: _few,
+        } = self;
+    }
 }
 
 impl JoinSides {

@@ -10,7 +10,6 @@ use tw_rows::{Kind, Memory, Time};
 
 /// The operator of a Union, Trill's: the edges of both sides in one order, equal ones as often as they come. Where one side is
 /// closed up to a later time than the other, the edges that are not below the lesser time are carried, each side by itself.
-#[derive(Drop)]
 pub struct Union {
     pub(crate) alloc: Global,
     pub(crate) left: EdgeList,
@@ -22,6 +21,20 @@ pub struct Union {
     ghost right_late: { failed ≡ false → failing (is_from (min left_to right_to)) right.edges ≡ 0 },
     ghost alike: { cells_of right ≡ cells_of left },
     ghost capacity: { right.capacity ≡ left.capacity },
+}
+
+// By hand, so that its users cite this and not the destructors of its parts.
+impl Drop for Union {
+    fn drop(self) {
+        let Union {
+            alloc: _,
+            left: _left,
+            right: _right,
+            left_to: _,
+            right_to: _,
+            failed: _,
+        } = self;
+    }
 }
 
 impl Union {
