@@ -25,10 +25,10 @@ KEYS = 1000
 PARTS = {
     "reading": "wire_lines row_reader",
     "admission": "ingress",
-    "the plan": "dataflow row_stage where_select lane_expr lifetime_ops union_op clip_op temporal_join anti_join session_window "
-    "snapshot_agg coalesce_op outer_top follow_op sweep_sides synopsis agg_state end_queue carried_edges",
+    "the plan": "dataflow where_select lane_expr lifetime_ops union_clip temporal_join anti_join session_window "
+    "snapshot_agg coalesce_op outer_top follow_op sweep_sides synopsis agg_state end_queue",
     "output": "egress",
-    "engine and program": "tempo tempo_cli tempo_engine command_line query_words query_grammar query_text query_columns query_plan",
+    "engine and program": "tempo tempo_cli tempo_engine command_line query_text query_plan",
 }
 PART_OF = {crate: part for part, crates in PARTS.items() for crate in crates.split()}
 QUERIES = {

@@ -13,7 +13,7 @@ use Rattle.key_nodes.specs.Antis.{alone_at}
 use Rattle.key_nodes.specs.Runs.{goes_on, runs}
 use Rattle.sweep_laws.specs.Saving.{store_all}
 use Rattle.sweep_sides.proofs.StoredRows.{row_stored}
-use Rattle.sweep_operator.specs.Sweeping.{AreStored}
+use Rattle.sweep_sides.specs.Sweeping.{AreStored}
 use Rattle.anti_join.specs.AntiJoined.{anti_meets, antis}
 
 module _ (lk rk : List ℕ) (own : List CellKind) where

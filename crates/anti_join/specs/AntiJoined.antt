@@ -4,7 +4,7 @@ use Rattle.tw_rows.specs.SameCells.{same_cells}
 use Rattle.tw_rows.specs.declared.cells.Datum.{Datum}
 use Rattle.edge_history.specs.History.{CellEvent}
 use Rattle.key_nodes.specs.Antis.{alone}
-use Rattle.node_laws.specs.Keeping.{plain_cells}
+use Rattle.plan_laws.specs.Keeping.{plain_cells}
 use Rattle.plan_model.specs.RowOps.{keys_equal_in}
 
 -- the rows have the same data in their key columns

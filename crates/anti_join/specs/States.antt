@@ -5,7 +5,7 @@ use Rattle.tw_rows.specs.declared.edge.Edge.{Edge}
 use Rattle.tw_rows.specs.declared.kind.CellKind.{CellKind}
 use Rattle.edge_history.specs.Order.{many}
 use Rattle.edge_stream.specs.declared.saved.SavedEntry.{SavedEntry}
-use Rattle.carried_edges.specs.Entries.{part_of, are_of_parts}
+use Rattle.edge_stream.specs.Entries.{part_of, are_of_parts}
 use Rattle.synopsis.specs.Held.{is_of_key}
 use Rattle.sweep_sides.specs.Waiting.{queued, AreTimed}
 use Rattle.sweep_sides.specs.Sides.{IsSide}

@@ -1,8 +1,8 @@
 // An Anti: the `Swept` of its sides, and one that keeps nothing yet.
 ghost use Rattle.std.specs.Prelude.{◌≡◌, ◌≤◌, length, [], IfOk};
 ghost use Rattle.plan_model.specs.declared.node.Node.TheVariants.{Anti as AntiNode};
-ghost use Rattle.sweep_operator.specs.Operating.{standing, IsNew};
-ghost use Rattle.sweep_operator.specs.Sweepers.{new_standing};
+ghost use Rattle.sweep_sides.specs.Operating.{standing, IsNew};
+ghost use Rattle.sweep_sides.specs.Sweepers.{new_standing};
 ghost use Rattle.anti_join.specs.Rows.{AreByKey};
 
 use crate::free_times::FreeTimes;
@@ -10,7 +10,7 @@ use crate::sides::AntiSides;
 use crate::sweep::AntiRows;
 use end_queue::EndQueue;
 use std::alloc::Global;
-use sweep_operator::Swept;
+use sweep_sides::Swept;
 use synopsis::{KeyRoom, Synopsis};
 use tw_rows::{Kind, Memory};
 

@@ -10,7 +10,7 @@ ghost use Rattle.edge_history.specs.Order.{failing, is_from, IsHistory};
 ghost use Rattle.edge_history.specs.History.{of};
 ghost use Rattle.edge_history.specs.Balance.{news};
 ghost use Rattle.edge_stream.specs.Listing.{cells_of};
-ghost use Rattle.carried_edges.specs.Entries.{part_of};
+ghost use Rattle.edge_stream.specs.Entries.{part_of};
 ghost use Rattle.sweep_sides.specs.Waiting.{queued};
 ghost use Rattle.sweep_laws.specs.Saving.{rows_of};
 ghost use Rattle.anti_join.specs.AntiJoined.{antis};
@@ -20,13 +20,12 @@ ghost use Rattle.anti_join.specs.States.{AntiStored};
 
 use crate::free_times::FreeTimes;
 use crate::sweep::AntiRows;
-use carried_edges::{are_of_parts, edges_of_part};
-use edge_stream::{EdgeList, LoadFault, PartRow, Saved};
+use edge_stream::{EdgeList, LoadFault, PartRow, Saved, are_of_parts, edges_of_part};
 use end_queue::EndQueue;
 use std::alloc::Global;
-use sweep_operator::Sweep;
 use sweep_sides::{
-    are_rows, can_wait, kept_count, load_rows, load_waiting, save_rows, save_waiting, take_in,
+    Sweep, are_rows, can_wait, kept_count, load_rows, load_waiting, save_rows, save_waiting,
+    take_in,
 };
 use tw_rows::{Edge, Kind, Memory, Time};
 

@@ -11,7 +11,7 @@ use Rattle.frozen_state.specs.declared.owner.Owner.TheVariants.{In, Node, Out}
 use Rattle.frozen_state.specs.declared.frozen.FrozenPart.{FrozenPart}
 use Rattle.frozen_state.specs.Frozen.{with_entry}
 use Rattle.frozen_state.specs.Forms.{PartFormView, is_owner, is_form_of}
-use Rattle.checkpoint_lines.specs.Lines.{entry_line}
+use Rattle.checkpoint.specs.Lines.{entry_line}
 use Rattle.checkpoint.specs.Text.{part_lines, entry_lines, HasLine, ArePartsWith}
 use Rattle.checkpoint.specs.Steps.{empty_parts}
 

@@ -6,7 +6,7 @@ use Rattle.std.proofs.lemmas.List.Elements.{All-append, All-nil}
 use Rattle.std.proofs.lemmas.Bool.Decides.{Decides-ltb}
 use Rattle.tw_rows.specs.Instant.{inf}
 use Rattle.frozen_state.specs.Frozen.{FrozenView}
-use Rattle.checkpoint_lines.specs.Lines.{end_line, time_line, bound_line, text_line, IsText}
+use Rattle.checkpoint.specs.Lines.{end_line, time_line, bound_line, text_line, IsText}
 use Rattle.checkpoint.specs.declared.reading.ReadingStage.{ReadingStage}
 use Rattle.checkpoint.specs.declared.reading.ReadingStage.TheVariants.{Head, Texts, Entries, Ended}
 use Rattle.checkpoint.specs.Form.{FormView}

@@ -11,11 +11,11 @@ use Rattle.row_reader.specs.Fields.{commas}
 use Rattle.row_reader.proofs.Numbers.{same_text-Decides}
 use Rattle.frozen_state.specs.Frozen.{FrozenView, with_entry}
 use Rattle.frozen_state.specs.Forms.{PartFormView, is_form_of}
-use Rattle.checkpoint_lines.specs.declared.owner.EntryPart.{EntryPart}
-use Rattle.checkpoint_lines.specs.declared.entry.EntryLine.{EntryLine}
-use Rattle.checkpoint_lines.specs.Lines.{end_line, time_line, bound_line, text_line, entry_line, part_of_entry, IsText, IsEntry}
-use Rattle.checkpoint_lines.specs.Reading.{time_of, bound_of, text_of, part_of, entry_of}
-use Rattle.checkpoint_lines.proofs.Both.{time_both, bound_both, text_both, entry_both, part_back}
+use Rattle.checkpoint.specs.declared.owner.EntryPart.{EntryPart}
+use Rattle.checkpoint.specs.declared.entry.EntryLine.{EntryLine}
+use Rattle.checkpoint.specs.Lines.{end_line, time_line, bound_line, text_line, entry_line, part_of_entry, IsText, IsEntry}
+use Rattle.checkpoint.specs.Reading.{time_of, bound_of, text_of, part_of, entry_of}
+use Rattle.checkpoint.proofs.Both.{time_both, bound_both, text_both, entry_both, part_back}
 use Rattle.checkpoint.specs.declared.reading.ReadingStage.{ReadingStage}
 use Rattle.checkpoint.specs.declared.reading.ReadingStage.TheVariants.{Head, Texts, Entries, Ended}
 use Rattle.checkpoint.specs.Form.{FormView}

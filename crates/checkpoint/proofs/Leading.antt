@@ -13,10 +13,10 @@ use Rattle.frozen_state.specs.declared.owner.Owner.{Owner}
 use Rattle.frozen_state.specs.declared.frozen.FrozenPart.{FrozenPart}
 use Rattle.frozen_state.specs.Frozen.{FrozenView, with_entry}
 use Rattle.frozen_state.specs.Forms.{PartFormView, is_form_of, is_named_in, AreApart}
-use Rattle.checkpoint_lines.specs.declared.entry.EntryLine.{EntryLine}
-use Rattle.checkpoint_lines.specs.Lines.{end_line, time_line, bound_line, text_line, entry_line, part_of_entry, IsTimes, IsText}
-use Rattle.checkpoint_lines.specs.Reading.{bound_of, text_of, part_of, entry_of}
-use Rattle.checkpoint_lines.proofs.Both.{time_both, bound_both, text_both, entry_both, part_back}
+use Rattle.checkpoint.specs.declared.entry.EntryLine.{EntryLine}
+use Rattle.checkpoint.specs.Lines.{end_line, time_line, bound_line, text_line, entry_line, part_of_entry, IsTimes, IsText}
+use Rattle.checkpoint.specs.Reading.{bound_of, text_of, part_of, entry_of}
+use Rattle.checkpoint.proofs.Both.{time_both, bound_both, text_both, entry_both, part_back}
 use Rattle.checkpoint.specs.declared.reading.ReadingStage.{ReadingStage}
 use Rattle.checkpoint.specs.declared.reading.ReadingStage.TheVariants.{Head, Texts, Entries, Ended}
 use Rattle.checkpoint.specs.Form.{FormView}

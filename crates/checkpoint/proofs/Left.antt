@@ -6,7 +6,7 @@ use Rattle.std.proofs.lemmas.Option.{slice_get_read}
 use Rattle.edge_stream.specs.declared.saved.SavedEntry.{SavedEntry}
 use Rattle.frozen_state.specs.declared.frozen.FrozenPart.{FrozenPart}
 use Rattle.frozen_state.specs.Frozen.{FrozenView}
-use Rattle.checkpoint_lines.specs.Lines.{end_line, time_line, text_line, entry_line}
+use Rattle.checkpoint.specs.Lines.{end_line, time_line, text_line, entry_line}
 use Rattle.checkpoint.specs.declared.writing.Place.TheVariants.{Head, Entries}
 use Rattle.checkpoint.specs.Form.{FormView}
 use Rattle.checkpoint.specs.Text.{bound_lines, entry_lines, checkpoint_lines}

@@ -1,5 +1,5 @@
 pub mod Pieces
-pub mod Places
+pub mod PartPlaces
 pub mod Entries
 pub mod Growing
 pub mod Going
@@ -10,3 +10,11 @@ pub mod Left
 pub mod Valued
 pub mod Short
 pub mod Examples
+pub mod Commas
+pub mod Spelling
+pub mod Both
+pub mod ShortLines
+pub mod Cells
+pub mod TextOf
+pub mod LineExamples
+pub mod Filling

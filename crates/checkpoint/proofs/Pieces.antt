@@ -3,7 +3,7 @@ use Rattle.std.proofs.Common.{◌≡◌, ◌<◌, ◌≤◌, ℕ, zero, suc, Lis
 use Rattle.std.specs.Prelude.{min, ◌==◌, true, false}
 use Rattle.std.proofs.lemmas.Bool.Decides.{eqb_tells}
 use Rattle.std.proofs.lemmas.List.{append-nil, take_all}
-use Rattle.checkpoint_lines.specs.Lines.{query_line}
+use Rattle.checkpoint.specs.Lines.{query_line}
 use Rattle.checkpoint.specs.Form.{most_of_query, pieces}
 
 -- the lines so far, and those of the pieces of the rest, are all

@@ -20,8 +20,8 @@ use Rattle.frozen_state.specs.declared.owner.Owner.TheVariants as owners
 use Rattle.frozen_state.specs.declared.frozen.FrozenPart.{FrozenPart}
 use Rattle.frozen_state.specs.Frozen.{FrozenView}
 use Rattle.frozen_state.specs.Forms.{PartFormView, part_rows, kinds_of_row, node_rows, stream_rows, shards_of, shard_forms, node_forms, part_forms}
-use Rattle.checkpoint_lines.specs.Lines.{end_line, form_line, query_line, options_line, time_line, bound_line, text_line, entry_line}
-use Rattle.checkpoint_lines.proofs.Short.{query_short, options_short, time_line_short, bound_short, text_short, entry_short}
+use Rattle.checkpoint.specs.Lines.{end_line, form_line, query_line, options_line, time_line, bound_line, text_line, entry_line}
+use Rattle.checkpoint.proofs.ShortLines.{query_short, options_short, time_line_short, bound_short, text_short, entry_short}
 use Rattle.checkpoint.specs.Form.{pieces, query_lines, head_lines, form_of, most_of_query}
 use Rattle.checkpoint.specs.Text.{bound_lines, part_lines, entry_lines, body_lines, checkpoint_lines, HasLine, ArePartsWith, IsOfForm}
 use Rattle.checkpoint.proofs.Entries.{one, first_of, others_of}

@@ -13,7 +13,7 @@ use Rattle.frozen_state.specs.declared.frozen.FrozenPart.{FrozenPart}
 use Rattle.frozen_state.specs.Frozen.{FrozenView}
 use Rattle.frozen_state.specs.Forms.{PartFormView, part_forms}
 use Rattle.frozen_state.specs.Formed.{IsStoredIn, ArePartsOf, IsFormed}
-use Rattle.checkpoint_lines.specs.Lines.{IsOwner, AreCells}
+use Rattle.checkpoint.specs.Lines.{IsOwner, AreCells}
 use Rattle.checkpoint.specs.Form.{form_of}
 use Rattle.checkpoint.specs.Text.{HasLine, ArePartsWith, IsOfForm}
 use Rattle.checkpoint.specs.Values.{IsDatum, IsEntryValue, IsPartValue, IsFrozenValue}

@@ -3,7 +3,7 @@ use Rattle.std.specs.Prelude.{ℕ, zero, suc, List, [], ◌∷◌, ◌++◌, len
 use Rattle.plan_model.specs.IsPlan.{PlanParts}
 use Rattle.admission.specs.declared.policy.Policy.{Policy}
 use Rattle.frozen_state.specs.Forms.{PartFormView, part_forms}
-use Rattle.checkpoint_lines.specs.Lines.{form_line, query_line, options_line}
+use Rattle.checkpoint.specs.Lines.{form_line, query_line, options_line}
 
 -- the first lines, how many streams there are, and the parts
 pub record FormView : Type 0 where

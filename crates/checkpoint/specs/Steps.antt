@@ -7,9 +7,9 @@ use Rattle.row_reader.specs.Fields.{commas}
 use Rattle.frozen_state.specs.declared.frozen.FrozenPart.{FrozenPart}
 use Rattle.frozen_state.specs.Frozen.{FrozenView, with_entry}
 use Rattle.frozen_state.specs.Forms.{PartFormView, is_form_of}
-use Rattle.checkpoint_lines.specs.declared.owner.EntryPart.{EntryPart}
-use Rattle.checkpoint_lines.specs.Lines.{end_line}
-use Rattle.checkpoint_lines.specs.Reading.{time_of, bound_of, text_of, part_of, entry_of}
+use Rattle.checkpoint.specs.declared.owner.EntryPart.{EntryPart}
+use Rattle.checkpoint.specs.Lines.{end_line}
+use Rattle.checkpoint.specs.Reading.{time_of, bound_of, text_of, part_of, entry_of}
 use Rattle.checkpoint.specs.declared.reading.ReadingStage.{ReadingStage}
 use Rattle.checkpoint.specs.declared.reading.ReadingStage.TheVariants.{Head, Texts, Entries, Ended}
 use Rattle.checkpoint.specs.Form.{FormView}

@@ -6,7 +6,7 @@ use Rattle.edge_stream.specs.declared.saved.SavedEntry.{SavedEntry}
 use Rattle.frozen_state.specs.declared.frozen.FrozenPart.{FrozenPart}
 use Rattle.frozen_state.specs.Frozen.{FrozenView}
 use Rattle.frozen_state.specs.Forms.{PartFormView}
-use Rattle.checkpoint_lines.specs.Lines.{end_line, time_line, bound_line, text_line, entry_line, IsTimes, IsText, IsEntry}
+use Rattle.checkpoint.specs.Lines.{end_line, time_line, bound_line, text_line, entry_line, IsTimes, IsText, IsEntry}
 use Rattle.checkpoint.specs.Form.{FormView}
 
 -- a line for each stream: its bound and its mark

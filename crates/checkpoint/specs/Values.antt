@@ -7,7 +7,7 @@ use Rattle.tw_rows.specs.declared.cells.Datum.{Datum}
 use Rattle.edge_stream.specs.declared.saved.SavedEntry.{SavedEntry}
 use Rattle.frozen_state.specs.declared.frozen.FrozenPart.{FrozenPart}
 use Rattle.frozen_state.specs.Frozen.{FrozenView}
-use Rattle.checkpoint_lines.specs.Lines.{IsOwner, IsCell}
+use Rattle.checkpoint.specs.Lines.{IsOwner, IsCell}
 
 -- an int of 64 bits, a place below 2^64
 abbrev pub IsDatum : Datum → Type 0

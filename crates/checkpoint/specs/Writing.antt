@@ -2,8 +2,8 @@
 use Rattle.std.specs.Prelude.{◌≡◌, ◌≤◌, ℕ, Option, Some, None, List, [], ◌∷◌, ◌++◌, map, flat_map, drop, length, slice_get, Vec}
 use Rattle.frozen_state.specs.declared.frozen.FrozenPart.{FrozenPart}
 use Rattle.frozen_state.specs.Frozen.{FrozenView}
-use Rattle.checkpoint_lines.specs.Lines.{end_line, time_line, text_line, entry_line}
-use Rattle.checkpoint_lines.specs.Room.{LacksRoom}
+use Rattle.checkpoint.specs.Lines.{end_line, time_line, text_line, entry_line}
+use Rattle.checkpoint.specs.Room.{LacksRoom}
 use Rattle.checkpoint.specs.declared.writing.Place.{Place}
 use Rattle.checkpoint.specs.declared.writing.Place.TheVariants.{Head, Bounds, Texts, Entries, Done}
 use Rattle.checkpoint.specs.Form.{FormView}

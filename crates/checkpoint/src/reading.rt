@@ -1,13 +1,13 @@
 // A checkpoint that is read line by line.
 ghost use Rattle.std.specs.Prelude.{◌≡◌, ◌≢◌, true, false, Some, None, length, slice_get, OnOk, OnErr, IfOk, IfErr, IfSome, IfNone};
 ghost use Rattle.row_reader.specs.Fields.{commas};
-ghost use Rattle.checkpoint_lines.specs.Reading.{text_of, part_of};
+ghost use Rattle.checkpoint.specs.Reading.{text_of, part_of};
 ghost use Rattle.frozen_state.specs.Forms.{AreApart};
 ghost use Rattle.checkpoint.specs.Steps.{State, standing, head_step, bound_step, cells_step, placed_step, place_of};
 ghost use Rattle.checkpoint.specs.Steps.{entry_step, text_step, step, opening, empty_parts, kinds_in};
 
 use crate::form::Form;
-use checkpoint_lines::{
+use crate::{
     EntryPart, is_end_line, read_bound_line, read_entry_line, read_entry_part, read_text_line,
     read_time_line,
 };

@@ -2,7 +2,7 @@
 ghost use Rattle.std.specs.Prelude.{◌<◌, ◌≤◌, ◌^◌, ℕ, List, All};
 ghost use Rattle.std.specs.Str.{IsUtf8};
 ghost use Rattle.tw_rows.specs.Instant.{inf};
-ghost use Rattle.checkpoint_lines.specs.Lines.{IsOwner};
+ghost use Rattle.checkpoint.specs.Lines.{IsOwner};
 ghost use Rattle.plan_model.specs.IsPlan.{PlanParts};
 ghost use Rattle.admission.specs.declared.policy.Policy.{Policy};
 ghost use Rattle.frozen_state.specs.Formed.{IsFormed};

@@ -8,9 +8,7 @@ ghost use Rattle.checkpoint.specs.Writing.{lines_left, Appends, WritesLine, Writ
 ghost use Rattle.checkpoint.specs.Writing.{LacksRoomFor, LacksRoomToFeed};
 
 use crate::form::Form;
-use checkpoint_lines::{
-    push_bound_line, push_end_line, push_entry_line, push_text_line, push_time_line,
-};
+use crate::{push_bound_line, push_end_line, push_entry_line, push_text_line, push_time_line};
 use frozen_state::{Frozen, FrozenPart};
 use tw_rows::Memory;
 

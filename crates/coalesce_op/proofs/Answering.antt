@@ -5,7 +5,7 @@ use Rattle.tw_rows.specs.SameCells.{same_cells}
 use Rattle.tw_rows.specs.declared.kind.CellKind.{CellKind}
 use Rattle.edge_history.specs.History.{CellEvent}
 use Rattle.plan_laws.proofs.RowsOf.{rows_alive, coalesced_rows_hold}
-use Rattle.sweep_operator.specs.Sweeping.{AreStored}
+use Rattle.sweep_sides.specs.Sweeping.{AreStored}
 use Rattle.sweep_sides.proofs.StoredRows.{Stored, rows_stored, stored_rows}
 use Rattle.coalesce_op.specs.Coalesces.{coalesces}
 

@@ -3,7 +3,7 @@ use Rattle.std.specs.Prelude.{◌≡◌, ℕ, true, List, []}
 use Rattle.tw_rows.specs.declared.edge.Edge.{Edge}
 use Rattle.tw_rows.specs.declared.kind.CellKind.{CellKind}
 use Rattle.edge_stream.specs.declared.saved.SavedEntry.{SavedEntry}
-use Rattle.carried_edges.specs.Entries.{part_of, are_of_parts}
+use Rattle.edge_stream.specs.Entries.{part_of, are_of_parts}
 use Rattle.sweep_sides.specs.Waiting.{queued, AreTimed}
 use Rattle.sweep_laws.specs.Saving.{are_row_starts, may_all_wait}
 use Rattle.coalesce_op.specs.declared.side.CoalesceSide.{CoalesceSide}

@@ -1,14 +1,14 @@
 // A Coalesce: the `Swept` of its side, and one that keeps nothing yet.
 ghost use Rattle.std.specs.Prelude.{◌≡◌, ◌≤◌, [], length, IfOk};
 ghost use Rattle.plan_model.specs.declared.node.Node.TheVariants.{Coalesce as CoalesceNode};
-ghost use Rattle.sweep_operator.specs.Operating.{standing, IsNew};
-ghost use Rattle.sweep_operator.specs.Sweepers.{new_standing};
+ghost use Rattle.sweep_sides.specs.Operating.{standing, IsNew};
+ghost use Rattle.sweep_sides.specs.Sweepers.{new_standing};
 
 use crate::side::CoalesceSide;
 use end_queue::EndQueue;
 use row_queues::RowQueues;
 use std::alloc::Global;
-use sweep_operator::Swept;
+use sweep_sides::Swept;
 use tw_rows::{Kind, Memory};
 
 /// A Coalesce: the rows of its child at each instant, put together into events that depend on those rows alone, whatever

@@ -12,9 +12,9 @@ use Rattle.plan_model.proofs.Closings.{closes_low}
 use Rattle.plan_model.proofs.Kept.{IsPlan-ordered}
 use Rattle.plan_model.proofs.Plans.{over_nodes-is}
 use Rattle.plan_laws.specs.Held.{node_may_hold}
-use Rattle.node_laws.specs.Places.{AreDistinct, read_of}
-use Rattle.node_laws.specs.Standing.{StandsRead, SourcesStandRead, AllStandRead}
-use Rattle.row_stage.specs.declared.row_stage.RowStage.TheVariants.{Source as SourceStage}
+use Rattle.plan_laws.specs.Places.{AreDistinct, read_of}
+use Rattle.plan_laws.specs.Standing.{StandsRead, SourcesStandRead, AllStandRead}
+use Rattle.where_select.specs.declared.row_stage.RowStage.TheVariants.{Source as SourceStage}
 use Rattle.dataflow.specs.declared.stage.Stage.{Stage}
 use Rattle.dataflow.specs.declared.stage.Stage.TheVariants.{Rows}
 use Rattle.dataflow.specs.Flows.{DataflowView, Flows}

@@ -13,9 +13,9 @@ use Rattle.plan_model.specs.Meaning.{Sources, left_of, right_of, right_child, no
 use Rattle.plan_model.proofs.Kept.{IsPlan-ordered}
 use Rattle.plan_model.proofs.Plans.{over_nodes-is, left_of_below, at_child_below, left_all, right_all, left_longer, right_longer}
 use Rattle.plan_laws.specs.Undefined.{first_undefined}
-use Rattle.node_laws.specs.Places.{AreDistinct}
-use Rattle.node_laws.specs.Standing.{StandsRead, SourcesStandRead, AllStandRead}
-use Rattle.node_laws.proofs.Through.{left_stands, right_stands, node_stands, all_more}
+use Rattle.plan_laws.specs.Places.{AreDistinct}
+use Rattle.plan_laws.specs.Standing.{StandsRead, SourcesStandRead, AllStandRead}
+use Rattle.plan_laws.proofs.Through.{left_stands, right_stands, node_stands, all_more}
 use Rattle.dataflow.specs.declared.stage.Stage.{Stage}
 use Rattle.edge_stream.specs.Lists.{longer}
 use Rattle.dataflow.specs.Lists.{AreFrom}

@@ -5,8 +5,8 @@ use Rattle.std.proofs.lemmas.Option.{slice_get-get_or}
 use Rattle.plan_model.specs.declared.node.Node.TheVariants.{Source}
 use Rattle.tw_rows.specs.Texts.{BeginsWith}
 use Rattle.tw_rows.specs.declared.edge.Edge.{Edge}
-use Rattle.node_laws.specs.Places.{AreDistinct, EdgesArePlaced}
-use Rattle.row_stage.specs.declared.row_stage.RowStage.TheVariants.{Source as SourceStage}
+use Rattle.plan_laws.specs.Places.{AreDistinct, EdgesArePlaced}
+use Rattle.where_select.specs.declared.row_stage.RowStage.TheVariants.{Source as SourceStage}
 use Rattle.dataflow.specs.declared.stage.Stage.TheVariants.{Rows}
 use Rattle.dataflow.specs.Stages.{reached, left_closing, right_closing, left_kinds, right_kinds}
 use Rattle.dataflow.specs.Flows.{DataflowView, CanStep, Flows}

@@ -19,8 +19,8 @@ use Rattle.plan_model.specs.declared.node.Node.TheVariants.{Source}
 use Rattle.plan_model.specs.IsPlan.{PlanParts, kinds_at, kinds_of_stream}
 use Rattle.plan_model.specs.Shape.{Shape, Stream, One, Two, shape, left_in, read_left, left_child, right_child, at_child, left_of, right_of, HasLower}
 use Rattle.plan_model.proofs.Kept.{IsNodeAt}
-use Rattle.node_laws.specs.Places.{EdgesArePlaced}
-use Rattle.row_stage.proofs.Nodes.{stream_there, one_node}
+use Rattle.plan_laws.specs.Places.{EdgesArePlaced}
+use Rattle.where_select.proofs.Nodes.{stream_there, one_node}
 use Rattle.edge_stream.specs.Lists.{edges_at, no_edges}
 use Rattle.dataflow.specs.Lists.{IsListOf, AreGiven}
 use Rattle.dataflow.specs.Stages.{left_kinds, right_kinds}

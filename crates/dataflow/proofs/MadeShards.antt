@@ -4,8 +4,8 @@ use Rattle.std.proofs.Common.{sym, ap, subst, ◌∙◌, arith}
 use Rattle.std.proofs.lemmas.List.{length-map, get_or-map}
 use Rattle.plan_model.specs.declared.node.Node.{Node}
 use Rattle.plan_model.specs.IsPlan.{PlanParts, IsKey}
-use Rattle.node_laws.specs.Shards.{is_keyed, left_key_of, right_key_of}
-use Rattle.operator.specs.Standing.{Standing, Keeping}
+use Rattle.plan_laws.specs.Shards.{is_keyed, left_key_of, right_key_of}
+use Rattle.edge_stream.specs.Standing.{Standing, Keeping}
 use Rattle.shard_apply.specs.Whole.{Whole, first_of, side_by_side, standing_in, AreInStep, AreNew, ShardsKeep}
 use Rattle.shard_apply.proofs.Faults.{with_item}
 use Rattle.shard_apply.proofs.WholeLaws.{opens_together}

@@ -20,14 +20,14 @@ use Rattle.plan_model.specs.Meaning.{node_events, node_closes, closes, right_of}
 use Rattle.plan_model.specs.Nodes.{event_to, node_in}
 use Rattle.plan_model.proofs.NodeLaws.{node_known}
 use Rattle.plan_laws.specs.Held.{reaching, agg_count, counts_answers, counted_from, waiting, may_hold}
-use Rattle.operator.specs.Standing.{own_kept}
-use Rattle.life_laws.proofs.Lives.{new_lives}
-use Rattle.node_laws.specs.Keeping.{plain_cells}
-use Rattle.node_laws.specs.Places.{AreDistinct, read_of}
-use Rattle.node_laws.specs.Readings.{has_expressions}
-use Rattle.node_laws.specs.Standing.{StandsRead}
-use Rattle.node_laws.proofs.Places.{place_law}
-use Rattle.node_laws.proofs.Standing.{placed_of}
+use Rattle.edge_stream.specs.Standing.{own_kept}
+use Rattle.plan_laws.proofs.Lives.{new_lives}
+use Rattle.plan_laws.specs.Keeping.{plain_cells}
+use Rattle.plan_laws.specs.Places.{AreDistinct, read_of}
+use Rattle.plan_laws.specs.Readings.{has_expressions}
+use Rattle.plan_laws.specs.Standing.{StandsRead}
+use Rattle.plan_laws.proofs.Places.{place_law}
+use Rattle.plan_laws.proofs.Standing.{placed_of}
 use Rattle.dataflow.proofs.CoalescedStarts.{coalesced_start, coalesced_none}
 use Rattle.dataflow.proofs.Counting.{StartBelow, known_le, start_steady, reach_known, reach_map, start_map, hop_known, lasting_known, extended_known, sessions_start, clip_known, of_start}
 

@@ -11,7 +11,7 @@ use Rattle.plan_model.specs.declared.node.Node.TheVariants.{Source as SourceNode
 use Rattle.plan_model.specs.IsPlan.{PlanParts}
 use Rattle.plan_model.specs.Shape.{Shape, Stream, One, Two, shape, read_left, right_of, at_child, right_child}
 use Rattle.std.specs.Prelude.{Option, None}
-use Rattle.row_stage.specs.Texts.{nodes_in}
+use Rattle.where_select.specs.Texts.{nodes_in}
 use Rattle.dataflow.specs.declared.stage.Stage.{Stage}
 use Rattle.dataflow.specs.Stages.{left_kinds, right_kinds, IsReady, StageKeeps, StandsAsMade, entries_in}
 use Rattle.dataflow.specs.Flows.{parts_of, Flows, held_from}

@@ -9,11 +9,11 @@ use Rattle.edge_stream.specs.Listing.{EdgeListView, cells_of}
 use Rattle.plan_model.specs.declared.node.Node.{Node}
 use Rattle.plan_model.specs.Meaning.{node_events, node_closes}
 use Rattle.plan_laws.specs.Undefined.{first_below}
-use Rattle.node_laws.specs.Places.{read_of}
-use Rattle.node_laws.specs.Standing.{StandsRead}
+use Rattle.plan_laws.specs.Places.{read_of}
+use Rattle.plan_laws.specs.Standing.{StandsRead}
 use Rattle.edge_stream.specs.declared.saved.StepFault.{StepFault}
-use Rattle.operator.specs.Standing.{Standing, IsLike, Keeping, may_keep}
-use Rattle.operator.specs.Steps.{MayCome, StaysKept, AnswersBetween, IsFirstUndefined}
+use Rattle.edge_stream.specs.Standing.{Standing, IsLike, Keeping, may_keep}
+use Rattle.edge_stream.specs.Steps.{MayCome, StaysKept, AnswersBetween, IsFirstUndefined}
 use Rattle.dataflow.specs.Operating.{MeanAlike, CanOperate, StaysOperating, KeepsOperating, first_undefined_read, OperatesUndefinedAt, OperatesOver}
 
 module _ (left right : EdgeListView) (old : Standing) (u v : ℕ) where

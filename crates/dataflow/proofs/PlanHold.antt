@@ -14,13 +14,13 @@ use Rattle.plan_model.specs.Keys.{value_ops}
 use Rattle.plan_model.specs.RowOps.{keys_equal_in, int_in}
 use Rattle.plan_model.specs.Shape.{Shape, Stream, One, Two, shape, at_child, right_child, read_left, IsOrdered}
 use Rattle.plan_model.specs.Meaning.{Sources, node_events, node_closes, closes, events, left_of, right_of}
-use Rattle.operator.specs.Standing.{own_kept}
+use Rattle.edge_stream.specs.Standing.{own_kept}
 use Rattle.plan_model.proofs.Plans.{over_nodes-is}
 use Rattle.plan_laws.specs.Held.{may_hold, may_hold_of, node_may_hold}
-use Rattle.node_laws.specs.Places.{AreDistinct, read_of}
-use Rattle.node_laws.specs.Standing.{StandsRead, SourcesStandRead, AllStandRead}
-use Rattle.node_laws.proofs.Standing.{none_stand}
-use Rattle.node_laws.proofs.Through.{left_stands, right_stands, node_stands, all_more}
+use Rattle.plan_laws.specs.Places.{AreDistinct, read_of}
+use Rattle.plan_laws.specs.Standing.{StandsRead, SourcesStandRead, AllStandRead}
+use Rattle.plan_laws.proofs.Standing.{none_stand}
+use Rattle.plan_laws.proofs.Through.{left_stands, right_stands, node_stands, all_more}
 use Rattle.dataflow.specs.Stages.{left_closing, right_closing}
 use Rattle.dataflow.proofs.CoalescedStarts.{coalesced_none}
 use Rattle.dataflow.proofs.MayHold.{closing_low, right_low, none_held, may_le}

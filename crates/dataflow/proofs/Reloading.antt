@@ -13,13 +13,13 @@ use Rattle.plan_model.specs.declared.node.Node.{Node}
 use Rattle.plan_model.specs.declared.node.Node.TheVariants as nodes
 use Rattle.plan_model.specs.IsPlan.{PlanParts, IsPlan, kinds_at, node_kinds}
 use Rattle.plan_model.specs.Meaning.{left_of, right_of}
-use Rattle.node_laws.specs.Places.{EdgesArePlaced}
-use Rattle.node_laws.proofs.Selecting.{tested_longer, selected_longer}
-use Rattle.node_laws.proofs.Standing.{placed_longer}
+use Rattle.plan_laws.specs.Places.{EdgesArePlaced}
+use Rattle.plan_laws.proofs.Selecting.{tested_longer, selected_longer}
+use Rattle.plan_laws.proofs.Standing.{placed_longer}
 use Rattle.frozen_state.specs.Forms.{shards_of, part_rows, node_rows}
 use Rattle.frozen_state.specs.Formed.{IsStoredIn}
-use Rattle.row_stage.specs.Made.{IsMade}
-use Rattle.row_stage.specs.declared.row_stage.RowStage.TheVariants.{Source as SourceStage}
+use Rattle.where_select.specs.Made.{IsMade}
+use Rattle.where_select.specs.declared.row_stage.RowStage.TheVariants.{Source as SourceStage}
 use Rattle.dataflow.specs.declared.fault.PlanFault.{PlanFault}
 use Rattle.dataflow.specs.declared.stage.Stage.{Stage}
 use Rattle.dataflow.specs.declared.stage.Stage.TheVariants.{Rows}

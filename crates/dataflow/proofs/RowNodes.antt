@@ -6,14 +6,14 @@ use Rattle.tw_rows.specs.declared.kind.CellKind.{CellKind}
 use Rattle.plan_model.specs.declared.agg.Agg.{Agg}
 use Rattle.plan_model.specs.declared.node.Node.{Node}
 use Rattle.plan_model.specs.declared.node.Node.TheVariants.{Source, Where, Select, Union as UnionNode, Delay as DelayNode, Hop as HopNode, Duration as DurationNode, Extend as ExtendNode, Session as SessionNode, Clip as ClipNode, Group as GroupNode, Join as JoinNode, Anti as AntiNode, Coalesce, Mean, Top, Follow}
-use Rattle.row_stage.specs.Stages.{is_of_rows}
-use Rattle.row_stage.specs.Texts.{nodes_in}
+use Rattle.where_select.specs.Stages.{is_of_rows}
+use Rattle.where_select.specs.Texts.{nodes_in}
 use Rattle.lifetime_ops.specs.Nodes.{node_of}
 use Rattle.lifetime_ops.specs.declared.change.Change.{Change}
 use Rattle.lifetime_ops.specs.declared.change.Change.TheVariants.{Delay, Hop, Duration, Mean as MeanChange}
-use Rattle.operator.specs.Standing.{Standing}
+use Rattle.edge_stream.specs.Standing.{Standing}
 use Rattle.snapshot_agg.specs.Operating.{standing as group_standing, entries as group_entries}
-use Rattle.sweep_operator.specs.Operating.{standing as swept_standing, entries as swept_entries}
+use Rattle.sweep_sides.specs.Operating.{standing as swept_standing, entries as swept_entries}
 use Rattle.shard_apply.specs.Whole.{first_of}
 use Rattle.dataflow.specs.declared.stage.Stage.{Stage}
 use Rattle.dataflow.specs.declared.stage.Stage.TheVariants.{Rows, Life, Union, Extend, Join, Group, Anti, Session, Clip, Coalesce as CoalesceStage, Follow as FollowStage, Top as TopStage}

@@ -8,37 +8,37 @@ use Rattle.plan_model.specs.declared.node.Node.{Node}
 use Rattle.plan_model.specs.IsPlan.{node_kinds}
 use Rattle.plan_model.specs.Meaning.{node_events, node_closes}
 use Rattle.plan_laws.specs.Undefined.{first_below}
-use Rattle.node_laws.specs.Places.{AreDistinct, EdgesArePlaced, read_of}
-use Rattle.node_laws.specs.Standing.{StandsRead}
-use Rattle.node_laws.proofs.Standing.{placed_longer, node_valid, no_history}
+use Rattle.plan_laws.specs.Places.{AreDistinct, EdgesArePlaced, read_of}
+use Rattle.plan_laws.specs.Standing.{StandsRead}
+use Rattle.plan_laws.proofs.Standing.{placed_longer, node_valid, no_history}
 use Rattle.tw_rows.proofs.Knowing.{Known-refl}
 use Rattle.plan_model.specs.declared.node.Node.TheVariants.{Source}
-use Rattle.row_stage.proofs.MadeEdges.{by_node, made_more, made_longer, made_later, made_stand}
-use Rattle.row_stage.proofs.Nodes.{stage-more}
+use Rattle.where_select.proofs.MadeEdges.{by_node, made_more, made_longer, made_later, made_stand}
+use Rattle.where_select.proofs.Nodes.{stage-more}
 use Rattle.dataflow.specs.declared.stage.Stage.{Stage}
 use Rattle.dataflow.specs.declared.stage.Stage.TheVariants.{Rows, Life, Union, Extend, Join, Group, Anti, Session, Clip, Coalesce, Follow, Top}
-use Rattle.life_laws.proofs.Lives.{lives_longer, lives_rows}
-use Rattle.life_laws.proofs.Unions.{union_longer, union_rows}
-use Rattle.life_laws.proofs.Extending.{extended_longer, extended_rows}
+use Rattle.plan_laws.proofs.Lives.{lives_longer, lives_rows}
+use Rattle.plan_laws.proofs.Unions.{union_longer, union_rows}
+use Rattle.plan_laws.proofs.Extending.{extended_longer, extended_rows}
 use Rattle.std.specs.Prelude.{map}
 use Rattle.tw_rows.specs.Kinds.{cell_kind_of}
 use Rattle.sweep_sides.specs.Waiting.{queued}
 use Rattle.snapshot_agg.proofs.Standing.{group_longer, group_stands}
 use Rattle.session_window.proofs.Resuming.{session_tells}
-use Rattle.sweep_operator.proofs.Kept.{kept_longer, kept_stands}
+use Rattle.sweep_sides.proofs.Kept.{kept_longer, kept_stands}
 use Rattle.follow_op.proofs.Resuming.{follow_longer, follow_stands}
 use Rattle.lifetime_ops.specs.Nodes.{node_of, known}
 use Rattle.lifetime_ops.specs.Waiting.{edges_of_pending}
-use Rattle.row_stage.specs.Made.{IsMade}
-use Rattle.row_stage.specs.Stages.{IsStageOf}
-use Rattle.row_stage.specs.declared.row_stage.RowStage.{RowStage}
+use Rattle.where_select.specs.Made.{IsMade}
+use Rattle.where_select.specs.Stages.{IsStageOf}
+use Rattle.where_select.specs.declared.row_stage.RowStage.{RowStage}
 use Rattle.lifetime_ops.specs.Operating.{standing as life_standing}
 use Rattle.lifetime_ops.specs.ExtendOperating.{standing as extend_standing}
-use Rattle.union_op.specs.Operating.{standing as union_standing}
+use Rattle.union_clip.specs.UnionOperating.{standing as union_standing}
 use Rattle.snapshot_agg.specs.Operating.{standing as group_standing, IsKept as IsGroupKept}
 use Rattle.snapshot_agg.specs.declared.grouped.Grouped.{Grouped}
-use Rattle.sweep_operator.specs.Operating.{standing as swept_standing, IsKept as IsSweptKept}
-use Rattle.operator.specs.Standing.{StandsFor}
+use Rattle.sweep_sides.specs.Operating.{standing as swept_standing, IsKept as IsSweptKept}
+use Rattle.edge_stream.specs.Standing.{StandsFor}
 use Rattle.shard_apply.specs.Whole.{standing_in}
 use Rattle.shard_apply.proofs.WholeLaws.{grows_together, stands_together}
 use Rattle.follow_op.specs.Operating.{standing as follow_standing}

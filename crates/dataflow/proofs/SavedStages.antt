@@ -19,13 +19,13 @@ use Rattle.edge_stream.specs.declared.saved.LoadFault.TheVariants.{NotState}
 use Rattle.plan_model.specs.declared.node.Node.{Node}
 use Rattle.plan_model.specs.declared.node.Node.TheVariants as nodes
 use Rattle.plan_model.specs.IsPlan.{node_kinds}
-use Rattle.node_laws.specs.Shards.{is_keyed, left_key_of, right_key_of}
+use Rattle.plan_laws.specs.Shards.{is_keyed, left_key_of, right_key_of}
 use Rattle.frozen_state.specs.Forms.{part_rows, shards_of}
 use Rattle.frozen_state.specs.Formed.{IsStoredIn}
-use Rattle.row_stage.specs.declared.row_stage.RowStage.{RowStage}
-use Rattle.row_stage.specs.Stages.{IsStageOf}
-use Rattle.row_stage.proofs.MadeEdges.{by_node}
-use Rattle.operator.specs.Standing.{Standing, Keeping, IsLike, Implies, kinds_of_row, IsStoredAs, AreStoredAs}
+use Rattle.where_select.specs.declared.row_stage.RowStage.{RowStage}
+use Rattle.where_select.specs.Stages.{IsStageOf}
+use Rattle.where_select.proofs.MadeEdges.{by_node}
+use Rattle.edge_stream.specs.Standing.{Standing, Keeping, IsLike, Implies, kinds_of_row, IsStoredAs, AreStoredAs}
 use Rattle.shard_apply.specs.Whole.{Whole, first_of, standing_in, AreInStep, ShardsKeep}
 use Rattle.shard_apply.specs.Saving.{is_row_of, AreRowsOf, AreSound, AreOwn, ShardsResume}
 use Rattle.shard_apply.proofs.WholeSteps.{stands_as}

@@ -9,28 +9,28 @@ use Rattle.edge_stream.specs.Listing.{cells_of}
 use Rattle.edge_stream.specs.declared.saved.PartRow.{PartRow}
 use Rattle.edge_stream.specs.declared.saved.PartRow.TheVariants.{Left, Right, KeyFirst}
 use Rattle.edge_stream.specs.declared.saved.SavedEntry.{SavedEntry}
-use Rattle.node_laws.specs.Shards.{is_keyed}
+use Rattle.plan_laws.specs.Shards.{is_keyed}
 use Rattle.lifetime_ops.specs.Nodes.{node_of}
 use Rattle.lifetime_ops.specs.Saving.{LifeSound, LifeResumes, row_of as life_row}
 use Rattle.lifetime_ops.specs.ExtendSaving.{row_of as extend_row}
-use Rattle.union_op.specs.Saving.{row_of as union_row}
+use Rattle.union_clip.specs.Saving.{row_of as union_row}
 use Rattle.lifetime_ops.specs.declared.change.Change.{Change}
 use Rattle.lifetime_ops.specs.declared.change.Change.TheVariants.{Delay, Hop, Duration, Mean}
 use Rattle.lifetime_ops.specs.Operating.{standing as life_standing, IsState as IsLifeState, IsResumed as IsLifeResumed}
 use Rattle.lifetime_ops.specs.ExtendOperating.{standing as extend_standing, IsState as IsExtendState, IsResumed as IsExtendResumed}
-use Rattle.union_op.specs.Operating.{standing as union_standing, IsState as IsUnionState, IsResumed as IsUnionResumed}
+use Rattle.union_clip.specs.UnionOperating.{standing as union_standing, IsState as IsUnionState, IsResumed as IsUnionResumed}
 use Rattle.coalesce_op.specs.Operating.{coalesce_row}
 use Rattle.follow_op.specs.Operating.{standing as follow_standing, IsSound as IsFollowSound, Resumes as FollowGoesOn, row_of_part as follow_row}
 use Rattle.outer_top.specs.Operating.{top_row}
 use Rattle.snapshot_agg.specs.Operating.{standing as group_standing, group_row}
 use Rattle.snapshot_agg.specs.Saving.{GroupSound, GroupResumes}
 use Rattle.snapshot_agg.specs.declared.grouped.Grouped.{Grouped}
-use Rattle.sweep_operator.specs.Operating.{standing as swept_standing, IsSound as IsSweptSound, Resumes as SweptGoesOn}
+use Rattle.sweep_sides.specs.Operating.{standing as swept_standing, IsSound as IsSweptSound, Resumes as SweptGoesOn}
 use Rattle.temporal_join.specs.Operating.{join_row}
 use Rattle.anti_join.specs.Operating.{anti_row}
-use Rattle.clip_op.specs.Operating.{clip_row}
+use Rattle.union_clip.specs.Operating.{clip_row}
 use Rattle.session_window.specs.Operating.{session_row}
-use Rattle.operator.specs.Standing.{Keeping}
+use Rattle.edge_stream.specs.Standing.{Keeping}
 use Rattle.dataflow.specs.declared.stage.Stage.TheVariants.{Life as LifeStage, Union as UnionStage, Extend as ExtendStage, Join as JoinStage, Group as GroupStage, Anti as AntiStage, Session as SessionStage, Clip as ClipStage, Coalesce as CoalesceStage, Follow as FollowStage, Top as TopStage}
 use Rattle.dataflow.specs.Saving.{NodeSound, NodeResumes, row_in}
 use Rattle.dataflow.proofs.SavedStages.{SavesAsOne, SavesApart}

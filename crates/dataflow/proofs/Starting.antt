@@ -15,14 +15,14 @@ use Rattle.plan_model.specs.declared.node.Node.{Node}
 use Rattle.plan_model.specs.declared.node.Node.TheVariants.{Source, Union as UnionNode, Extend as ExtendNode, Session as SessionNode, Clip as ClipNode, Group as GroupNode, Join as JoinNode, Anti as AntiNode, Follow as FollowNode, Top as TopNode}
 use Rattle.plan_model.specs.IsPlan.{PlanParts, IsPlan, IsSoundOver, kinds_at, kinds_of_schema, kinds_of_stream, node_kinds}
 use Rattle.plan_model.specs.Shape.{Shape, Stream, One, Two, shape, left_in, read_left, HasLower}
-use Rattle.life_laws.proofs.Lives.{lives_opening}
-use Rattle.life_laws.proofs.Unions.{union_opening}
-use Rattle.life_laws.proofs.Extending.{extended_opening}
+use Rattle.plan_laws.proofs.Lives.{lives_opening}
+use Rattle.plan_laws.proofs.Unions.{union_opening}
+use Rattle.plan_laws.proofs.Extending.{extended_opening}
 use Rattle.lifetime_ops.specs.Nodes.{node_of, answer_kinds, divides_ints}
 use Rattle.lifetime_ops.specs.declared.change.Change.{Change}
 use Rattle.lifetime_ops.specs.declared.change.Change.TheVariants.{Delay, Hop, Duration, Mean}
 use Rattle.lifetime_ops.specs.declared.alter_lifetime.AlterLifetime.{AlterLifetime}
-use Rattle.union_op.specs.declared.union.Union.{Union as UnionOperator}
+use Rattle.union_clip.specs.declared.union.Union.{Union as UnionOperator}
 use Rattle.lifetime_ops.specs.Waiting.{edges_of_pending}
 use Rattle.lifetime_ops.specs.declared.extend.ExtendLifetime.{ExtendLifetime}
 use Rattle.plan_model.specs.Keys.{paired_row}
@@ -32,7 +32,7 @@ use Rattle.snapshot_agg.specs.Answering.{group_kinds}
 use Rattle.follow_op.specs.Operating.{IsNew as IsFollowNew}
 use Rattle.follow_op.specs.declared.follow.Follow.{Follow as FollowOperator}
 use Rattle.follow_op.proofs.Resuming.{follow_opening}
-use Rattle.sweep_operator.specs.Sweepers.{new_standing}
+use Rattle.sweep_sides.specs.Sweepers.{new_standing}
 use Rattle.dataflow.specs.declared.stage.Stage.TheVariants.{Life, Union, Extend, Follow}
 use Rattle.dataflow.specs.Operating.{CanOperate, MeanAlike, over_two}
 use Rattle.dataflow.specs.Stages.{left_kinds, right_kinds, changing, StartsFor}

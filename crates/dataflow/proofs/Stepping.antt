@@ -17,8 +17,8 @@ use Rattle.plan_model.specs.Meaning.{Sources, left_of, right_of, right_child}
 use Rattle.plan_model.proofs.Closings.{left_rises, right_rises}
 use Rattle.plan_model.proofs.Kept.{IsPlan-ordered}
 use Rattle.plan_model.proofs.Plans.{left_of_below, at_child_below}
-use Rattle.node_laws.specs.Places.{AreDistinct, EdgesArePlaced}
-use Rattle.node_laws.specs.Standing.{SourcesStandRead}
+use Rattle.plan_laws.specs.Places.{AreDistinct, EdgesArePlaced}
+use Rattle.plan_laws.specs.Standing.{SourcesStandRead}
 use Rattle.dataflow.specs.declared.stage.Stage.{Stage}
 use Rattle.edge_stream.specs.Lists.{longer}
 use Rattle.dataflow.specs.Lists.{AreFrom, IsListOf}

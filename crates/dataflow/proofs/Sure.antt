@@ -8,7 +8,7 @@ use Rattle.tw_rows.specs.declared.edge.Edge.{Edge}
 use Rattle.edge_stream.specs.Listing.{EdgeListView}
 use Rattle.edge_stream.specs.declared.saved.StepFault.{StepFault}
 use Rattle.edge_stream.specs.declared.saved.StepFault.TheVariants as steps
-use Rattle.node_laws.specs.Places.{EdgesArePlaced}
+use Rattle.plan_laws.specs.Places.{EdgesArePlaced}
 use Rattle.dataflow.specs.declared.fault.PlanFault.{PlanFault}
 use Rattle.dataflow.specs.declared.fault.PlanFault.TheVariants as faults
 use Rattle.dataflow.specs.Faults.{fault_at}

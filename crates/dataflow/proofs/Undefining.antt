@@ -20,8 +20,8 @@ use Rattle.plan_model.proofs.PlanLaws.{events_agree}
 use Rattle.plan_model.proofs.Plans.{over_nodes-is, left_all}
 use Rattle.plan_laws.specs.Undefined.{is_group, undefined_over, left_rows, undefined_node, undefined_at, first_below, first_undefined, overflow_of, overflow_there}
 use Rattle.plan_laws.proofs.Undefinedness.{undefined_others, undefined_alike, undefined_known, first_below_same, IsFirst, first_below_is}
-use Rattle.node_laws.specs.Places.{read_of}
-use Rattle.node_laws.specs.Standing.{StandsRead}
+use Rattle.plan_laws.specs.Places.{read_of}
+use Rattle.plan_laws.specs.Standing.{StandsRead}
 use Rattle.dataflow.specs.Slices.{overflow_under}
 use Rattle.dataflow.specs.Stages.{left_closing, right_closing, first_undefined_read}
 

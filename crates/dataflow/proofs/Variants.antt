@@ -8,13 +8,13 @@ use Rattle.edge_stream.specs.Listing.{EdgeListView, cells_of}
 use Rattle.edge_stream.specs.declared.saved.StepFault.{StepFault}
 use Rattle.edge_stream.specs.declared.saved.StepFault.TheVariants.{Overflow}
 use Rattle.plan_model.specs.declared.node.Node.{Node}
-use Rattle.operator.specs.Standing.{Standing, Keeping, may_keep}
+use Rattle.edge_stream.specs.Standing.{Standing, Keeping, may_keep}
 use Rattle.lifetime_ops.specs.Operating.{standing as life_standing, IsKept as IsLifeKept}
 use Rattle.lifetime_ops.specs.ExtendOperating.{standing as extend_standing, IsKept as IsExtendKept}
-use Rattle.union_op.specs.Operating.{standing as union_standing, IsKept as IsUnionKept}
+use Rattle.union_clip.specs.UnionOperating.{standing as union_standing, IsKept as IsUnionKept}
 use Rattle.snapshot_agg.specs.Operating.{standing as group_standing, IsKept as IsGroupKept}
 use Rattle.dataflow.specs.declared.stage.Stage.{Stage}
-use Rattle.sweep_operator.specs.Operating.{standing as swept_standing, IsKept as IsSweptKept}
+use Rattle.sweep_sides.specs.Operating.{standing as swept_standing, IsKept as IsSweptKept}
 use Rattle.follow_op.specs.Operating.{standing as follow_standing, IsKept as IsFollowKept}
 use Rattle.shard_apply.specs.Whole.{standing_in, ShardsKeep}
 use Rattle.dataflow.specs.declared.stage.Stage.TheVariants.{Life, Union, Extend, Join, Group, Anti, Session, Clip, Coalesce, Follow, Top}

@@ -6,8 +6,8 @@ use Rattle.edge_stream.specs.Listing.{EdgeListView}
 use Rattle.plan_model.specs.declared.node.Node.{Node}
 use Rattle.plan_model.specs.IsPlan.{PlanParts, kinds_at}
 use Rattle.plan_model.specs.Meaning.{Sources, closes, left_of, right_of}
-use Rattle.node_laws.specs.Places.{AreDistinct}
-use Rattle.node_laws.specs.Standing.{SourcesStandRead, AllStandRead}
+use Rattle.plan_laws.specs.Places.{AreDistinct}
+use Rattle.plan_laws.specs.Standing.{SourcesStandRead, AllStandRead}
 use Rattle.dataflow.specs.declared.stage.Stage.{Stage}
 use Rattle.edge_stream.specs.Lists.{longer}
 use Rattle.dataflow.specs.Lists.{AreFrom, IsListOf}

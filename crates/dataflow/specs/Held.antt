@@ -8,7 +8,7 @@ use Rattle.plan_model.specs.declared.expr.ExprNode.{ExprNode}
 use Rattle.plan_model.specs.declared.node.Node.TheVariants.{Source, Union, Join, Anti, Clip, Follow}
 use Rattle.plan_model.specs.IsPlan.{PlanParts, kinds_of_stream, kinds_at}
 use Rattle.plan_model.specs.Meaning.{left_child, right_child}
-use Rattle.row_stage.specs.Texts.{nodes_of_items, nodes_in}
+use Rattle.where_select.specs.Texts.{nodes_of_items, nodes_in}
 use Rattle.dataflow.specs.declared.stage.Stage.{Stage}
 use Rattle.dataflow.specs.Lists.{IsListOf}
 use Rattle.dataflow.specs.Stages.{left_kinds, right_kinds, IsReady, StageKeeps, StandsAsMade}

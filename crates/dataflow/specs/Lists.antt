@@ -5,7 +5,7 @@ use Rattle.tw_rows.specs.declared.kind.CellKind.{CellKind}
 use Rattle.edge_history.specs.Order.{is_from, failing}
 use Rattle.edge_stream.specs.Listing.{EdgeListView, cells_of}
 use Rattle.plan_model.specs.IsPlan.{PlanParts, kinds_of_stream}
-use Rattle.node_laws.specs.Places.{EdgesArePlaced}
+use Rattle.plan_laws.specs.Places.{EdgesArePlaced}
 
 -- the edges of each list come at c or later
 abbrev pub AreFrom : ℕ → (ℕ → List Edge) → Type 0

@@ -2,8 +2,8 @@
 use Rattle.std.specs.Prelude.{◌≡◌, ℕ, true, false, List}
 use Rattle.plan_model.specs.declared.node.Node.{Node}
 use Rattle.plan_model.specs.IsPlan.{IsKey}
-use Rattle.node_laws.specs.Shards.{is_keyed, left_key_of, right_key_of}
-use Rattle.operator.specs.Standing.{Standing}
+use Rattle.plan_laws.specs.Shards.{is_keyed, left_key_of, right_key_of}
+use Rattle.edge_stream.specs.Standing.{Standing}
 use Rattle.dataflow.specs.Shards.{RunsAt}
 use Rattle.dataflow.specs.Stages.{AtNode, StartsAt}
 use Rattle.dataflow.specs.declared.making.StageMaker.{StageMaker}

@@ -13,9 +13,9 @@ use Rattle.plan_model.specs.IsPlan.{node_kinds}
 use Rattle.plan_model.specs.Keys.{value_ops}
 use Rattle.plan_model.specs.Meaning.{node_events, node_closes}
 use Rattle.plan_laws.specs.Undefined.{undefined_over, first_below}
-use Rattle.node_laws.specs.Places.{AreDistinct, read_of}
-use Rattle.operator.specs.Standing.{Standing, Keeping, may_keep}
-use Rattle.operator.specs.Steps.{MayCome}
+use Rattle.plan_laws.specs.Places.{AreDistinct, read_of}
+use Rattle.edge_stream.specs.Standing.{Standing, Keeping, may_keep}
+use Rattle.edge_stream.specs.Steps.{MayCome}
 
 -- both nodes mean the same of what they read, and may keep as much. A Delay by 5 over the node 0 means the same as one over the node 3
 pub record MeanAlike (n m : Node) : Type 0 where

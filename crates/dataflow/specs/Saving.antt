@@ -10,31 +10,31 @@ use Rattle.edge_stream.specs.Shards.{edges_in_shard}
 use Rattle.edge_stream.specs.declared.saved.PartRow.{PartRow}
 use Rattle.edge_stream.specs.declared.saved.PartRow.TheVariants.{Left, Right, Own, KeyFirst}
 use Rattle.edge_stream.specs.declared.saved.SavedEntry.{SavedEntry}
-use Rattle.carried_edges.specs.Entries.{part_of}
+use Rattle.edge_stream.specs.Entries.{part_of}
 use Rattle.plan_model.specs.declared.node.Node.{Node}
 use Rattle.plan_model.specs.declared.node.Node.TheVariants.{Union, Delay, Hop, Duration, Extend, Mean, Coalesce, Top, Follow}
 use Rattle.plan_model.specs.declared.node.Node.TheVariants.{Session, Clip, Group, Join, Anti}
 use Rattle.plan_model.specs.IsPlan.{PlanParts, node_kinds}
 use Rattle.plan_model.specs.Keys.{paired_row}
 use Rattle.plan_model.specs.Meaning.{left_of, right_of, node_closes}
-use Rattle.node_laws.specs.Places.{EdgesArePlaced}
-use Rattle.node_laws.specs.Shards.{is_keyed, left_key_of, right_key_of}
+use Rattle.plan_laws.specs.Places.{EdgesArePlaced}
+use Rattle.plan_laws.specs.Shards.{is_keyed, left_key_of, right_key_of}
 use Rattle.sweep_laws.specs.Joining.{JoinKeeps}
 use Rattle.sweep_laws.specs.Saving.{rows_of}
 use Rattle.frozen_state.specs.Forms.{part_rows, node_rows, shards_of}
 use Rattle.frozen_state.specs.Formed.{IsStoredIn}
-use Rattle.operator.specs.Standing.{Standing, Keeping, Implies, AreStoredAs}
+use Rattle.edge_stream.specs.Standing.{Standing, Keeping, Implies, AreStoredAs}
 use Rattle.lifetime_ops.specs.Saving.{LifeSound, LifeResumes}
 use Rattle.lifetime_ops.specs.ExtendSaving.{ExtendSound, ExtendResumes}
-use Rattle.union_op.specs.Saving.{UnionSound, UnionResumes}
-use Rattle.sweep_operator.specs.Sweeping.{Keeping as SweepKeeping}
-use Rattle.sweep_operator.specs.Sweepers.{SweptResumes}
+use Rattle.union_clip.specs.Saving.{UnionSound, UnionResumes}
+use Rattle.sweep_sides.specs.Sweeping.{Keeping as SweepKeeping}
+use Rattle.sweep_sides.specs.Sweepers.{SweptResumes}
 use Rattle.temporal_join.specs.States.{JoinSound}
 use Rattle.temporal_join.specs.Joined.{join_meets}
 use Rattle.anti_join.specs.States.{AntiSound}
 use Rattle.anti_join.specs.Holding.{AntiKeeps}
-use Rattle.clip_op.specs.States.{ClipSound}
-use Rattle.clip_op.specs.Holding.{ClipKeeps}
+use Rattle.union_clip.specs.States.{ClipSound}
+use Rattle.union_clip.specs.Holding.{ClipKeeps}
 use Rattle.session_window.specs.States.{SessionSound}
 use Rattle.session_window.specs.Holding.{SessionKeeps}
 use Rattle.end_queue.specs.Pending.{Pending}

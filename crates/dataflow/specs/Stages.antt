@@ -8,16 +8,16 @@ use Rattle.edge_stream.specs.Listing.{EdgeListView, cells_of}
 use Rattle.plan_model.specs.declared.node.Node.{Node}
 use Rattle.plan_model.specs.IsPlan.{PlanParts, kinds_of_stream, kinds_at, node_kinds}
 use Rattle.plan_model.specs.Meaning.{closes, node_closes, left_of, right_of}
-use Rattle.node_laws.specs.Places.{AreDistinct, EdgesArePlaced}
-use Rattle.row_stage.specs.Made.{IsMade}
-use Rattle.row_stage.specs.Stages.{IsStageOf}
-pub use Rattle.operator.specs.Standing.{may_keep}
-use Rattle.operator.specs.Steps.{MayCome}
+use Rattle.plan_laws.specs.Places.{AreDistinct, EdgesArePlaced}
+use Rattle.where_select.specs.Made.{IsMade}
+use Rattle.where_select.specs.Stages.{IsStageOf}
+pub use Rattle.edge_stream.specs.Standing.{may_keep}
+use Rattle.edge_stream.specs.Steps.{MayCome}
 use Rattle.lifetime_ops.specs.Operating.{standing as life_standing, entries as life_entries, IsKept as IsLifeKept}
 use Rattle.lifetime_ops.specs.ExtendOperating.{standing as extend_standing, entries as extend_entries, IsKept as IsExtendKept}
-use Rattle.union_op.specs.Operating.{standing as union_standing, entries as union_entries, IsKept as IsUnionKept}
+use Rattle.union_clip.specs.UnionOperating.{standing as union_standing, entries as union_entries, IsKept as IsUnionKept}
 use Rattle.lifetime_ops.specs.Saving.{IsOpening as IsLifeOpening}
-use Rattle.union_op.specs.Saving.{IsOpening as IsUnionOpening}
+use Rattle.union_clip.specs.Saving.{IsOpening as IsUnionOpening}
 use Rattle.lifetime_ops.specs.ExtendSaving.{IsOpening as IsExtendOpening}
 use Rattle.snapshot_agg.specs.Keeping.{IsOpening as IsGroupOpening}
 use Rattle.snapshot_agg.specs.declared.grouped.Grouped.{Grouped}
@@ -26,7 +26,7 @@ use Rattle.follow_op.specs.Operating.{standing as follow_standing, entries as fo
 use Rattle.lifetime_ops.specs.declared.change.Change.{Change}
 use Rattle.lifetime_ops.specs.declared.change.Change.TheVariants.{Delay, Hop, Duration, Mean}
 use Rattle.snapshot_agg.specs.Operating.{standing as group_standing, entries as group_entries, IsKept as IsGroupKept}
-use Rattle.sweep_operator.specs.Operating.{standing as swept_standing, entries as swept_entries, IsNew as IsSweptNew, IsKept as IsSweptKept}
+use Rattle.sweep_sides.specs.Operating.{standing as swept_standing, entries as swept_entries, IsNew as IsSweptNew, IsKept as IsSweptKept}
 use Rattle.dataflow.specs.declared.stage.Stage.{Stage}
 use Rattle.dataflow.specs.declared.stage.Stage.TheVariants.{Rows, Life, Union, Extend, Join, Group, Anti, Session, Clip, Coalesce, Follow, Top}
 use Rattle.plan_model.specs.declared.node.Node.TheVariants.{Delay as DelayNode, Hop as HopNode, Duration as DurationNode, Mean as MeanNode}

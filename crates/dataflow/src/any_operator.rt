@@ -4,8 +4,7 @@ ghost use Rattle.shard_apply.specs.Whole.{standing_in, ShardsKeep};
 ghost use Rattle.dataflow.specs.Operating.{CanOperateOn, StaysOperating, KeepsOperating, OperatesUndefinedAt, OperatesOver};
 
 use batch::Pools;
-use edge_stream::{EdgeList, StepFault};
-use operator::Operator;
+use edge_stream::{EdgeList, Operator, StepFault};
 use shard_apply::{Gate, Sharded};
 use std::thread::Threads;
 use tw_rows::Time;

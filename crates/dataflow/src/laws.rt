@@ -9,25 +9,25 @@ ghost use Rattle.plan_model.specs.IsPlan.{IsPlan};
 ghost use Rattle.plan_model.specs.Meaning.{Sources, IsOrdered};
 ghost use Rattle.plan_laws.specs.Held.{node_may_hold};
 ghost use Rattle.plan_laws.specs.Undefined.{Overflow, overflow};
-ghost use Rattle.node_laws.specs.Places.{AreDistinct, EdgesArePlaced};
-ghost use Rattle.node_laws.specs.Standing.{SourcesStandRead, AllStandRead};
-ghost use Rattle.row_stage.specs.Stages.{is_of_rows};
+ghost use Rattle.plan_laws.specs.Places.{AreDistinct, EdgesArePlaced};
+ghost use Rattle.plan_laws.specs.Standing.{SourcesStandRead, AllStandRead};
+ghost use Rattle.where_select.specs.Stages.{is_of_rows};
 ghost use Rattle.dataflow.specs.declared.stage.Stage.{Stage as Kept};
 ghost use Rattle.dataflow.specs.Stages.{IsReady, entries_in, KeepsAtMost};
 ghost use Rattle.dataflow.specs.Flows.{DataflowView, CanStep, Flows};
 ghost use Rattle.dataflow.specs.Slices.{overflow_under, or_this};
 
 use anti_join::Anti;
-use clip_op::Clip;
 use coalesce_op::Coalesce;
+use edge_stream::Operator;
 use follow_op::Follow;
 use lifetime_ops::{AlterLifetime, ExtendLifetime};
-use operator::Operator;
 use outer_top::Top;
 use session_window::Session;
 use shard_apply::Sharded;
 use snapshot_agg::Grouped;
 use temporal_join::Join;
+use union_clip::Clip;
 
 /// A table that grows changes nothing of a plan at work.
 pub fn plans_flow_on_with_longer_tables()
@@ -75,7 +75,7 @@ pub fn stages_keep_at_most()
     ensures { (s : Kept) → KeepsAtMost (entries_in s) s }
 {
     AlterLifetime::laws();
-    union_op::Union::laws();
+    union_clip::Union::laws();
     ExtendLifetime::laws();
     Sharded::<Join>::laws();
     Sharded::<Grouped>::laws();

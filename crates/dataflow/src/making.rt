@@ -5,8 +5,8 @@ ghost use Rattle.tw_rows.specs.Texts.{BeginsWith};
 ghost use Rattle.plan_model.specs.declared.node.Node.{Node};
 ghost use Rattle.plan_model.specs.IsPlan.{kinds_at};
 ghost use Rattle.lane_expr.specs.Steps.{with_texts};
-ghost use Rattle.row_stage.specs.Stages.{is_of_rows};
-ghost use Rattle.row_stage.specs.Texts.{nodes_in, HasFirstTexts};
+ghost use Rattle.where_select.specs.Stages.{is_of_rows};
+ghost use Rattle.where_select.specs.Texts.{nodes_in, HasFirstTexts};
 ghost use Rattle.dataflow.specs.Held.{has_two};
 ghost use Rattle.dataflow.specs.Stages.{left_kinds, changing, AtNode, StartsFor};
 ghost use Rattle.dataflow.specs.Shards.{RunsAt};
@@ -14,19 +14,19 @@ ghost use Rattle.dataflow.specs.Shards.{RunsAt};
 use crate::sharding::{in_shards, new_grouped, operators_of};
 use crate::stage::Stage;
 use anti_join::new_anti;
-use clip_op::new_clip;
 use coalesce_op::new_coalesce;
+use edge_stream::Operator;
 use follow_op::Follow;
 use lifetime_ops::{AlterLifetime, Change, ExtendLifetime};
-use operator::Operator;
 use outer_top::new_top;
 use plan_model::{Agg, Key, Node, Plan};
-use row_stage::{column_kinds, read_kinds};
 use session_window::new_session;
 use shard_apply::Sharded;
 use std::alloc::Global;
 use temporal_join::new_join;
 use tw_rows::{Kind, Memory, TextTable};
+use union_clip::new_clip;
+use where_select::{column_kinds, read_kinds};
 
 // The kinds of the columns of a node of the plan.
 fn kinds_told(alloc: Global, plan: &Plan, node: usize) -> Result<Vec<Kind>, Memory>
@@ -69,7 +69,7 @@ pub(crate) fn rows_stage(
         AtNode plan.now node (λ n. HasFirstTexts texts.new texts.old (nodes_in n))) }
     ensures begins { BeginsWith texts.new texts.old }
 {
-    let stage = row_stage::RowStage::new(alloc, plan, node, capacity, texts)?;
+    let stage = where_select::RowStage::new(alloc, plan, node, capacity, texts)?;
     Ok(Stage::Rows(stage))
 }
 
@@ -214,7 +214,7 @@ impl<'a> StageMaker<'a> {
         // Its call tells the proof what a plan keeps.
         let _ = self.plan.nodes();
         let kinds = self.kinds_read()?;
-        let operator = union_op::Union::new(self.alloc, &kinds, self.capacity)?;
+        let operator = union_clip::Union::new(self.alloc, &kinds, self.capacity)?;
         Ok(Stage::Union(operator))
     }
 

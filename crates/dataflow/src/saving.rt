@@ -11,8 +11,7 @@ ghost use Rattle.dataflow.specs.Saving.{SavesAlone, LoadsAlone, RefusesAlone, Sa
 
 use crate::closings::{closings_at, left_closing, right_closing};
 use crate::stage::Stage;
-use edge_stream::{LoadFault, Saved};
-use operator::Operator;
+use edge_stream::{LoadFault, Operator, Saved};
 use plan_model::Plan;
 use shard_apply::Sharded;
 use std::alloc::Global;

@@ -4,12 +4,12 @@ ghost use Rattle.tw_rows.specs.Kinds.{cell_kind_of};
 ghost use Rattle.plan_model.specs.declared.node.Node.{Node};
 ghost use Rattle.snapshot_agg.specs.Answering.{group_kinds};
 ghost use Rattle.snapshot_agg.specs.Operating.{standing as group_standing};
-ghost use Rattle.sweep_operator.specs.Sweepers.{new_standing};
+ghost use Rattle.sweep_sides.specs.Sweepers.{new_standing};
 ghost use Rattle.shard_apply.specs.Whole.{first_of, side_by_side, AreInStep, AreNew};
 ghost use Rattle.dataflow.specs.Stages.{IsNewGroup};
 
 use batch::Pools;
-use operator::Operator;
+use edge_stream::Operator;
 use plan_model::{Agg, MOST_COLUMNS};
 use shard_apply::Sharded;
 use snapshot_agg::Grouped;

@@ -3,9 +3,9 @@ ghost use Rattle.std.specs.Prelude.{◌≡◌, ◌-◌, ◌^◌, ◌<◌, ◌≤
 ghost use Rattle.tw_rows.specs.Texts.{BeginsWith};
 ghost use Rattle.plan_model.specs.declared.node.Node.{Node};
 ghost use Rattle.plan_model.specs.IsPlan.{most_columns};
-ghost use Rattle.node_laws.specs.Places.{EdgesArePlaced};
+ghost use Rattle.plan_laws.specs.Places.{EdgesArePlaced};
 ghost use Rattle.lane_expr.specs.Steps.{with_texts};
-ghost use Rattle.row_stage.specs.Texts.{nodes_in, HasFirstTexts};
+ghost use Rattle.where_select.specs.Texts.{nodes_in, HasFirstTexts};
 ghost use Rattle.dataflow.specs.Stages.{CanTake, StaysReady, KeepsOn, IsUndefinedAt, IsAnswerOf, HasStopped};
 ghost use Rattle.dataflow.specs.Stages.{entries_in, KeepsAtMost, AtNode, StartsFor};
 ghost use Rattle.dataflow.specs.Shards.{RunsNode, RunsAt};
@@ -15,12 +15,10 @@ use crate::laws::stages_keep_at_most;
 use crate::making::{StageMaker, reads_rows_alone, rows_stage};
 use anti_join::Anti;
 use batch::Pools;
-use clip_op::Clip;
 use coalesce_op::Coalesce;
-use edge_stream::{EdgeList, StepFault};
+use edge_stream::{EdgeList, Operator, StepFault};
 use follow_op::Follow;
 use lifetime_ops::{AlterLifetime, ExtendLifetime};
-use operator::Operator;
 use outer_top::Top;
 use plan_model::Plan;
 use session_window::Session;
@@ -30,16 +28,17 @@ use std::alloc::Global;
 use std::thread::Threads;
 use temporal_join::Join;
 use tw_rows::{Memory, TextTable, Time};
+use union_clip::Clip;
 
 /// What computes one node of a plan: a node with a key in shards, every other as a whole. Contracts see it through `IsReady`,
 /// `StageKeeps` and `RunsNode` alone, which are by cases of what it is.
 pub enum Stage {
     /// Of a Source, a Where or a Select.
-    Rows(row_stage::RowStage),
+    Rows(where_select::RowStage),
     /// Of a Delay, a Hop, a Duration or a Mean.
     Life(AlterLifetime),
     /// Of a Union.
-    Union(union_op::Union),
+    Union(union_clip::Union),
     /// Of an Extend.
     Extend(ExtendLifetime),
     /// Of a Join.
@@ -227,7 +226,7 @@ impl Stage {
 
 // The same of a Source, a Where or a Select, which read no right list.
 fn step_rows(
-    stage: &mut row_stage::RowStage,
+    stage: &mut where_select::RowStage,
     alloc: Global,
     pools: &mut Pools,
     texts: &TextTable,

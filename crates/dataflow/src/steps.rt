@@ -1,7 +1,7 @@
 // One step of each node of a plan.
 ghost use Rattle.std.specs.Prelude.{◌≡◌, ◌<◌, ◌≤◌, ℕ, true, false, List, length, IsTrue, IfOk, IfErr, OnOk};
 ghost use Rattle.plan_model.specs.IsPlan.{kinds_at, most_columns};
-ghost use Rattle.node_laws.specs.Places.{EdgesArePlaced};
+ghost use Rattle.plan_laws.specs.Places.{EdgesArePlaced};
 ghost use Rattle.dataflow.specs.Faults.{fault_at};
 ghost use Rattle.edge_stream.specs.Lists.{edges_at};
 ghost use Rattle.dataflow.specs.Lists.{AreGiven, IsListOf};

@@ -15,3 +15,8 @@ pub mod Merging
 pub mod Placed
 pub mod Together
 pub mod ShardCuts
+pub mod CarriedParts
+pub mod Pools
+pub mod Joining
+pub mod Carrying
+pub mod Examples

@@ -1,4 +1,5 @@
--- Callers read Listing, Lists, Taking, Reading and Shards; Sides and Growing are cited by private contracts alone.
+-- Callers read Listing, Lists, Taking, Reading, Shards, Standing, Steps and Entries; Sides, Growing, Few and Together are cited by private
+-- contracts alone.
 pub mod Sides
 pub mod Listing
 pub mod Lists
@@ -6,3 +7,8 @@ pub mod Taking
 pub mod Growing
 pub mod Reading
 pub mod Shards
+pub mod Standing
+pub mod Steps
+pub mod Entries
+pub mod Few
+pub mod Together

@@ -13,7 +13,7 @@ use Rattle.tw_rows.proofs.Bags.{total-map, total_same}
 use Rattle.edge_history.specs.Opens.{bare, ended_of, started_of, ended_rows, started_rows}
 use Rattle.edge_history.specs.Order.{failing}
 use Rattle.edge_history.proofs.Sums.{failing-All}
-use Rattle.node_laws.specs.Places.{AreDistinct, EdgesArePlaced}
+use Rattle.plan_laws.specs.Places.{AreDistinct, EdgesArePlaced}
 use Rattle.egress.specs.declared.moves.Moves.{Moves}
 use Rattle.egress.specs.Kept.{ends_in, starts_in, moves_of, rows_of, KeepCells}
 use Rattle.egress.proofs.Counted.{ended_by, started_by}

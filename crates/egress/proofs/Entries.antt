@@ -19,9 +19,9 @@ use Rattle.edge_history.specs.Order.{failing}
 use Rattle.edge_history.specs.History.{of}
 use Rattle.edge_history.specs.Balance.{news}
 use Rattle.edge_history.proofs.Sums.{failing-append, failing-filter}
-use Rattle.node_laws.specs.Places.{read_events, EdgesArePlaced}
+use Rattle.plan_laws.specs.Places.{read_events, EdgesArePlaced}
 use Rattle.row_queues.specs.Kept.{since_at, EachIsOpen}
-use Rattle.node_laws.specs.RowCells.{cells_of}
+use Rattle.plan_laws.specs.RowCells.{cells_of}
 use Rattle.egress.specs.Kept.{since_in, HasAdded}
 use Rattle.egress.specs.Waiting.{Waiting, edges_if, edges_at, waiting_in, ArePut, SameMoves, WaitingArePlaced}
 use Rattle.egress.specs.Output.{Holds}

@@ -6,7 +6,7 @@ use Rattle.tw_rows.specs.declared.cells.Datum.TheVariants.{Int as IntDatum, Text
 use Rattle.plan_model.specs.Changes.{Started, Ended}
 use Rattle.egress.specs.declared.moves.Moves.{Moves}
 use Rattle.egress.specs.Instants.{end_lines, start_lines, instant_lines, open_after}
-use Rattle.node_laws.specs.RowCells.{cells_of}
+use Rattle.plan_laws.specs.RowCells.{cells_of}
 use Rattle.egress.specs.Kept.{ends_in, starts_in, rows_of, are_placed, stand_for}
 
 abbrev seven : Row

@@ -10,12 +10,12 @@ use Rattle.std.proofs.lemmas.List.Elements.{All-nil, All-cons, All-head, All-tai
 use Rattle.tw_rows.specs.Cells.{ArePlaced, read_cells}
 use Rattle.tw_rows.specs.Rows.{Row, row_cmp}
 use Rattle.tw_rows.specs.declared.cells.Datum.{Datum}
-use Rattle.node_laws.specs.Places.{AreDistinct}
+use Rattle.plan_laws.specs.Places.{AreDistinct}
 use Rattle.plan_model.proofs.InOrder.{same_row, row_itself}
 use Rattle.egress.specs.declared.moves.Moves.{Moves}
-use Rattle.node_laws.specs.RowCells.{cells_of}
+use Rattle.plan_laws.specs.RowCells.{cells_of}
 use Rattle.egress.specs.Kept.{rows_of, KeepCells}
-use Rattle.node_laws.proofs.RowCells.{cells_again}
+use Rattle.plan_laws.proofs.RowCells.{cells_again}
 
 abbrev pub same : Row → Row → Bool
 same = eq_by_cmp row_cmp

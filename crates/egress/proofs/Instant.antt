@@ -16,7 +16,7 @@ use Rattle.tw_rows.proofs.Bags.{SameBag-from_IsPermutation, SameBag-sym, SameBag
 use Rattle.edge_history.specs.Balance.{news}
 use Rattle.edge_history.specs.History.{CellEvent}
 use Rattle.edge_history.specs.Order.{failing}
-use Rattle.node_laws.specs.Places.{read_events, EdgesArePlaced}
+use Rattle.plan_laws.specs.Places.{read_events, EdgesArePlaced}
 use Rattle.egress.specs.declared.moves.Moves.{Moves}
 use Rattle.egress.specs.Instants.{AreMoves}
 use Rattle.egress.specs.Kept.{are_placed, ends_in, starts_in, rows_of, KeepCells}

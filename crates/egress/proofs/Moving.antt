@@ -16,8 +16,8 @@ use Rattle.edge_history.specs.Balance.{news}
 use Rattle.edge_history.specs.Opens.{opens, bare, ended_of, started_of, ended_rows, started_rows}
 use Rattle.edge_history.proofs.Retaining.{AreEvents-none_fails}
 use Rattle.edge_history.proofs.Opening.{opens_step, alive_is_open}
-use Rattle.node_laws.specs.Places.{read_events}
-use Rattle.node_laws.proofs.Maps.{alive_to}
+use Rattle.plan_laws.specs.Places.{read_events}
+use Rattle.plan_laws.proofs.Maps.{alive_to}
 use Rattle.plan_model.specs.Opens.{how_often, before}
 use Rattle.egress.specs.Instants.{AreMoves}
 use Rattle.egress.specs.Waiting.{SameMoves}

@@ -8,7 +8,7 @@ use Rattle.tw_rows.specs.declared.edge.Edge.{Edge}
 use Rattle.edge_history.specs.Order.{is_end}
 use Rattle.edge_history.specs.Balance.{given, start_edge, end_edge}
 use Rattle.edge_history.specs.Opens.{singles_of, singles}
-use Rattle.node_laws.specs.Places.{EdgesArePlaced}
+use Rattle.plan_laws.specs.Places.{EdgesArePlaced}
 use Rattle.egress.specs.Waiting.{Waiting, edges_if, edges_at, ArePut, ArePopped, WaitingArePlaced}
 
 module _ (texts : List (List ℕ)) where

@@ -19,11 +19,11 @@ use Rattle.tw_rows.specs.declared.cells.Datum.TheVariants.{Int as IntDatum, Bool
 use Rattle.tw_rows.specs.Cells.{IsPlaced, ArePlaced, read_datum, read_cells}
 use Rattle.tw_rows.specs.SameCells.{same_cells, cells_are_same, same_itself}
 use Rattle.edge_history.specs.Order.{failing}
-use Rattle.node_laws.specs.Places.{AreDistinct, EdgesArePlaced}
-use Rattle.node_laws.proofs.RowCells.{cells_again}
+use Rattle.plan_laws.specs.Places.{AreDistinct, EdgesArePlaced}
+use Rattle.plan_laws.proofs.RowCells.{cells_again}
 use Rattle.plan_model.proofs.InOrder.{same_row, row_itself}
 use Rattle.row_queues.specs.Kept.{since_at}
-use Rattle.node_laws.specs.RowCells.{datum_of, cells_of}
+use Rattle.plan_laws.specs.RowCells.{datum_of, cells_of}
 use Rattle.egress.specs.Kept.{is_placed, are_placed, stand_for, since_in, OpensPass}
 
 pub both : (a b : Bool) → a ≡ true → b ≡ true → (a && b) ≡ true

@@ -24,11 +24,11 @@ use Rattle.edge_history.specs.Order.{failing, is_below}
 use Rattle.edge_history.specs.History.{of}
 use Rattle.edge_history.specs.Balance.{news}
 use Rattle.edge_history.proofs.Sums.{failing-append}
-use Rattle.node_laws.specs.Places.{read_events, AreDistinct, EdgesArePlaced}
-use Rattle.node_laws.proofs.Standing.{of_valid}
+use Rattle.plan_laws.specs.Places.{read_events, AreDistinct, EdgesArePlaced}
+use Rattle.plan_laws.proofs.Standing.{of_valid}
 use Rattle.plan_model.specs.Opens.{rise, starts_before, ends_before, open_before}
 use Rattle.row_queues.specs.Kept.{since_at}
-use Rattle.node_laws.specs.RowCells.{cells_of}
+use Rattle.plan_laws.specs.RowCells.{cells_of}
 use Rattle.egress.specs.Kept.{are_placed}
 use Rattle.egress.specs.Waiting.{edges_if, edges_at, waiting_in, SameMoves, WaitingArePlaced}
 use Rattle.egress.specs.Output.{Holds}
@@ -36,7 +36,7 @@ use Rattle.egress.specs.Saving.{entries_of, starts_of, end_of, ends_of, IsKept, 
 use Rattle.egress.specs.Saved.{EndAt, TakenEnds, TakenRest, IsSettled}
 use Rattle.egress.specs.declared.egress.Egress.{Egress}
 use Rattle.egress.proofs.Entries.{starts_append}
-use Rattle.node_laws.proofs.RowCells.{cells_again}
+use Rattle.plan_laws.proofs.RowCells.{cells_again}
 use Rattle.egress.proofs.Reading.{placed_if, placed_all, none_unplaced}
 use Rattle.egress.proofs.SavedEnds.{no_ends, order_more}
 use Rattle.egress.proofs.SavedInstants.{none_begun}

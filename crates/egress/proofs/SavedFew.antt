@@ -12,11 +12,11 @@ use Rattle.tw_rows.specs.declared.kind.Kind.{Kind}
 use Rattle.edge_stream.specs.declared.saved.SavedEntry.{SavedEntry}
 use Rattle.edge_history.specs.History.{of}
 use Rattle.edge_history.specs.Order.{failing}
-use Rattle.node_laws.specs.Places.{read_events, AreDistinct, EdgesArePlaced}
+use Rattle.plan_laws.specs.Places.{read_events, AreDistinct, EdgesArePlaced}
 use Rattle.plan_model.specs.Opens.{how_often, before}
 use Rattle.plan_model.proofs.Counting.{open_length}
 use Rattle.plan_model.proofs.InOrder.{same_row, row_itself}
-use Rattle.node_laws.specs.RowCells.{cells_of}
+use Rattle.plan_laws.specs.RowCells.{cells_of}
 use Rattle.egress.specs.Kept.{are_placed}
 use Rattle.egress.specs.Saving.{starts_of, Resumes}
 use Rattle.egress.proofs.Counted.{either_way}

@@ -28,12 +28,12 @@ use Rattle.edge_history.proofs.Sums.{failing-append, sum_eq}
 use Rattle.edge_history.proofs.Opening.{singles_are_news}
 use Rattle.edge_history.proofs.Waiting.{news_between}
 use Rattle.edge_history.proofs.Retaining.{events_of_are}
-use Rattle.node_laws.specs.Places.{read_events, AreDistinct, EdgesArePlaced}
+use Rattle.plan_laws.specs.Places.{read_events, AreDistinct, EdgesArePlaced}
 use Rattle.plan_model.specs.Opens.{how_often, before}
 use Rattle.plan_model.specs.Changes.{changes_at}
 use Rattle.plan_model.proofs.Counting.{open_length}
 use Rattle.egress.specs.Instants.{AreMoves, AreOpen}
-use Rattle.node_laws.specs.RowCells.{cells_of}
+use Rattle.plan_laws.specs.RowCells.{cells_of}
 use Rattle.egress.specs.Kept.{are_placed}
 use Rattle.egress.specs.Print.{print}
 use Rattle.egress.specs.Waiting.{Waiting, edges_if, edges_at, ArePopped, SameMoves, Swept, WaitingArePlaced}
@@ -43,7 +43,7 @@ use Rattle.egress.proofs.Counted.{either_way}
 use Rattle.egress.proofs.Entries.{starts_append}
 use Rattle.egress.proofs.Moving.{edges_move}
 use Rattle.egress.proofs.Placing.{popped_placed, rest_placed}
-use Rattle.node_laws.proofs.RowCells.{cells_again}
+use Rattle.plan_laws.proofs.RowCells.{cells_again}
 use Rattle.egress.proofs.Reading.{placed_if, placed_then, same_place, stands_itself}
 use Rattle.egress.proofs.SavedEnds.{order_more}
 use Rattle.egress.proofs.Sweeps.{swept_to, swept_next, now_are}

@@ -12,7 +12,7 @@ use Rattle.tw_rows.specs.Rows.{Row, row_cmp}
 use Rattle.tw_rows.specs.SameCells.{same_cells}
 use Rattle.tw_rows.specs.declared.cells.Datum.{Datum}
 use Rattle.tw_rows.specs.declared.kind.Kind.{Kind}
-use Rattle.node_laws.specs.Places.{AreDistinct}
+use Rattle.plan_laws.specs.Places.{AreDistinct}
 use Rattle.plan_model.specs.Changes.{Started, Ended, changes_at}
 use Rattle.egress.specs.declared.moves.Moves.{Moves}
 use Rattle.egress.specs.Instants.{end_lines, start_lines, instant_lines, AreMoves, AreOpen, AreTouched}

@@ -17,7 +17,7 @@ use Rattle.edge_history.specs.History.{CellEvent}
 use Rattle.edge_history.specs.Balance.{news}
 use Rattle.edge_history.specs.Order.{is_end}
 use Rattle.edge_history.specs.Opens.{bare, ended_of, started_of}
-use Rattle.node_laws.specs.Places.{read_events, AreDistinct}
+use Rattle.plan_laws.specs.Places.{read_events, AreDistinct}
 use Rattle.plan_model.specs.Opens.{how_often}
 use Rattle.plan_model.specs.Changes.{Started, Ended, changes_at}
 use Rattle.plan_model.proofs.InOrder.{row_itself}

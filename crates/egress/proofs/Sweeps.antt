@@ -15,8 +15,8 @@ use Rattle.edge_history.specs.Balance.{news}
 use Rattle.edge_history.specs.Opens.{opens, ended_rows, started_rows}
 use Rattle.edge_history.proofs.Retaining.{AreEvents-none_fails}
 use Rattle.edge_history.proofs.Opening.{alive_is_open, opens_step}
-use Rattle.node_laws.specs.Places.{read_events}
-use Rattle.node_laws.proofs.Maps.{alive_to}
+use Rattle.plan_laws.specs.Places.{read_events}
+use Rattle.plan_laws.proofs.Maps.{alive_to}
 use Rattle.plan_model.specs.Opens.{before}
 use Rattle.plan_model.specs.Changes.{changes_at}
 use Rattle.egress.specs.Instants.{AreOpen}

@@ -23,10 +23,10 @@ use Rattle.edge_history.proofs.Sums.{failing-parts, failing-append, failing-filt
 use Rattle.edge_history.proofs.Retaining.{events_of_are, same_below}
 use Rattle.edge_history.proofs.Opening.{singles_are_news}
 use Rattle.edge_history.proofs.Waiting.{news_between}
-use Rattle.node_laws.specs.Places.{read_events, EdgesArePlaced}
-use Rattle.node_laws.specs.Standing.{StandsRead}
-use Rattle.node_laws.proofs.Maps.{alive_to}
-use Rattle.node_laws.proofs.Standing.{placed_of, read_longer, rows_standing}
+use Rattle.plan_laws.specs.Places.{read_events, EdgesArePlaced}
+use Rattle.plan_laws.specs.Standing.{StandsRead}
+use Rattle.plan_laws.proofs.Maps.{alive_to}
+use Rattle.plan_laws.proofs.Standing.{placed_of, read_longer, rows_standing}
 use Rattle.plan_model.specs.Opens.{how_often, before, starts_before, ends_before, open_before}
 use Rattle.plan_model.specs.Changes.{changes}
 use Rattle.plan_model.specs.ChangeWords.{start_times}

@@ -8,7 +8,7 @@ use Rattle.tw_rows.specs.declared.cells.Datum.{Datum}
 use Rattle.tw_rows.specs.declared.edge.Edge.{Edge}
 use Rattle.edge_history.specs.Opens.{bare, ended_of, started_of, ended_rows, started_rows}
 use Rattle.plan_model.specs.Opens.{how_often}
-use Rattle.node_laws.specs.Places.{EdgesArePlaced}
+use Rattle.plan_laws.specs.Places.{EdgesArePlaced}
 use Rattle.egress.specs.Kept.{ends_in, starts_in, rows_of, KeepCells}
 use Rattle.egress.specs.declared.moves.Moves.{Moves}
 

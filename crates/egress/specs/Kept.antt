@@ -11,7 +11,7 @@ use Rattle.tw_rows.specs.SameCells.{same_cells}
 use Rattle.tw_rows.specs.declared.edge.Edge.{Edge}
 use Rattle.edge_history.specs.Opens.{ended_of, started_of}
 use Rattle.tw_rows.specs.Cells.{read_cells}
-use Rattle.node_laws.specs.RowCells.{cells_of}
+use Rattle.plan_laws.specs.RowCells.{cells_of}
 use Rattle.row_queues.specs.Kept.{since_at}
 use Rattle.egress.specs.declared.moves.Moves.{Moves}
 

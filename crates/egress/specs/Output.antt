@@ -7,7 +7,7 @@ use Rattle.tw_rows.specs.declared.cells.Datum.{Datum}
 use Rattle.tw_rows.specs.declared.edge.Edge.{Edge}
 use Rattle.edge_history.specs.Order.{failing, is_from, IsHistory}
 use Rattle.edge_history.specs.History.{CellEvent, of}
-use Rattle.node_laws.specs.Standing.{StandsRead}
+use Rattle.plan_laws.specs.Standing.{StandsRead}
 use Rattle.plan_model.specs.Changes.{changes}
 use Rattle.row_queues.specs.Kept.{since_at, EachIsOpen}
 use Rattle.egress.specs.Kept.{since_in}

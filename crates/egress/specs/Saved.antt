@@ -13,7 +13,7 @@ use Rattle.edge_history.specs.Order.{failing}
 use Rattle.edge_history.specs.History.{CellEvent}
 use Rattle.edge_history.specs.Balance.{news}
 use Rattle.edge_history.specs.Opens.{started_rows}
-use Rattle.node_laws.specs.Places.{AreDistinct}
+use Rattle.plan_laws.specs.Places.{AreDistinct}
 use Rattle.indexmap.specs.IndexMap.{IndexMap}
 use Rattle.std.specs.declared.collections.VecDeque.{VecDeque}
 use Rattle.tw_rows.specs.declared.kind.Kind.{Kind}

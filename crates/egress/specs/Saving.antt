@@ -13,13 +13,13 @@ use Rattle.edge_stream.specs.declared.saved.SavedEntry.{SavedEntry}
 use Rattle.edge_history.specs.Order.{failing, is_below, IsHistory}
 use Rattle.edge_history.specs.History.{of}
 use Rattle.edge_history.specs.Balance.{news}
-use Rattle.node_laws.specs.Places.{read_events, AreDistinct, EdgesArePlaced}
+use Rattle.plan_laws.specs.Places.{read_events, AreDistinct, EdgesArePlaced}
 use Rattle.plan_model.specs.Opens.{before}
 use Rattle.egress.specs.Instants.{AreOpen}
 use Rattle.indexmap.specs.IndexMap.{IndexMap}
 use Rattle.std.specs.declared.collections.VecDeque.{VecDeque}
 use Rattle.row_queues.specs.Kept.{since_at}
-use Rattle.node_laws.specs.RowCells.{cells_of}
+use Rattle.plan_laws.specs.RowCells.{cells_of}
 use Rattle.egress.specs.Output.{Holds}
 use Rattle.egress.specs.Showing.{AreNone}
 use Rattle.egress.specs.Waiting.{edges_at, waiting_in, SameMoves}

@@ -13,7 +13,7 @@ use Rattle.tw_rows.specs.declared.edge.Edge.{Edge}
 use Rattle.edge_history.specs.History.{CellEvent}
 use Rattle.edge_history.specs.Balance.{news}
 use Rattle.edge_history.specs.Order.{failing}
-use Rattle.node_laws.specs.Places.{read_events}
+use Rattle.plan_laws.specs.Places.{read_events}
 use Rattle.plan_model.specs.Changes.{Started, Ended, changes_at}
 use Rattle.egress.specs.Instants.{end_lines, start_lines, AreMoves, AreOpen}
 use Rattle.row_queues.specs.Kept.{since_at, EachIsOpen}

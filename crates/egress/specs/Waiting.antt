@@ -13,7 +13,7 @@ use Rattle.edge_history.specs.History.{CellEvent}
 use Rattle.edge_history.specs.Order.{failing}
 use Rattle.edge_history.specs.Balance.{news}
 use Rattle.edge_history.specs.Opens.{bare, ended_rows, started_rows}
-use Rattle.node_laws.specs.Places.{read_events, EdgesArePlaced}
+use Rattle.plan_laws.specs.Places.{read_events, EdgesArePlaced}
 use Rattle.egress.specs.Kept.{OpensPass}
 use Rattle.egress.specs.Reached.{Reached}
 use Rattle.egress.specs.declared.waiting.Pending.{Pending}

@@ -2,7 +2,7 @@
 // comes.
 ghost use Rattle.std.specs.Prelude.{◌≡◌, [], ◌∷◌, OnOk};
 ghost use Rattle.tw_rows.specs.Cells.{ArePlaced};
-ghost use Rattle.node_laws.specs.Places.{EdgesArePlaced};
+ghost use Rattle.plan_laws.specs.Places.{EdgesArePlaced};
 ghost use Rattle.egress.specs.Showing.{ShowsInstant};
 
 use crate::moves::gather;

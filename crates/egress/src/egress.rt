@@ -3,7 +3,7 @@ ghost use Rattle.std.specs.Prelude.{◌≡◌, ℕ, false, List, [], ◌++◌, I
 ghost use Rattle.tw_rows.specs.Cells.{ArePlaced};
 ghost use Rattle.edge_stream.specs.Listing.{cells_of};
 ghost use Rattle.edge_stream.specs.Taking.{batches_given};
-ghost use Rattle.node_laws.specs.Places.{EdgesArePlaced};
+ghost use Rattle.plan_laws.specs.Places.{EdgesArePlaced};
 ghost use Rattle.egress.specs.Output.{Holds, IsPlacedIn, IsText, IsRendered, GoesOn, GoesOnWith, ShowsTo};
 ghost use Rattle.egress.specs.Print.{punctuation_if};
 ghost use Rattle.egress.specs.Saving.{IsSound, EntriesArePlaced, IsOpening, AreOpenRows, LoadsAs, SavesAs};

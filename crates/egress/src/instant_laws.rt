@@ -8,7 +8,7 @@ ghost use Rattle.tw_rows.specs.declared.edge.Edge.{Edge};
 ghost use Rattle.edge_history.specs.History.{CellEvent};
 ghost use Rattle.edge_history.specs.Balance.{news};
 ghost use Rattle.edge_history.specs.Opens.{bare, ended_rows, started_rows};
-ghost use Rattle.node_laws.specs.Places.{read_events};
+ghost use Rattle.plan_laws.specs.Places.{read_events};
 ghost use Rattle.plan_model.specs.Opens.{how_often, before};
 ghost use Rattle.plan_model.specs.Changes.{changes_at};
 ghost use Rattle.tw_rows.specs.declared.kind.Kind.{Kind};

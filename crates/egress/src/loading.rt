@@ -9,8 +9,7 @@ ghost use Rattle.egress.specs.Saving.{starts_of, end_of, ends_of, IsKept, IsSoun
 ghost use Rattle.egress.specs.Loading.{HasTaken};
 
 use crate::waiting::Pending;
-use carried_edges::is_stored_as;
-use edge_stream::{LoadFault, SavedEntry};
+use edge_stream::{LoadFault, SavedEntry, is_stored_as};
 use indexmap::IndexMap;
 use row_queues::{Starts, open_row};
 use std::alloc::Global;

@@ -3,7 +3,7 @@ ghost use Rattle.std.specs.Prelude.{◌≡◌, ◌↔◌, ℕ, ◌+◌, Bool, Li
 ghost use Rattle.tw_rows.specs.declared.cells.Datum.{Datum};
 ghost use Rattle.edge_history.specs.Opens.{ended_of, started_of};
 ghost use Rattle.edge_history.specs.Order.{failing};
-ghost use Rattle.node_laws.specs.Places.{AreDistinct};
+ghost use Rattle.plan_laws.specs.Places.{AreDistinct};
 ghost use Rattle.egress.specs.Kept.{KeepCells};
 ghost use Rattle.egress.specs.Gathering.{with_counts, CountsEnds, CountsStarts, TouchesRow, AddsCells, AreEndsOf, AreStartsOf, AreRowsOf};
 

@@ -6,7 +6,7 @@ ghost use Rattle.std.specs.List.Sorted.{IsStrictlySortedBy};
 ghost use Rattle.std.specs.Ordering.{eq_by_cmp};
 ghost use Rattle.tw_rows.specs.Cells.{read_cells};
 ghost use Rattle.tw_rows.specs.Rows.{row_cmp};
-ghost use Rattle.node_laws.specs.Places.{AreDistinct, EdgesArePlaced};
+ghost use Rattle.plan_laws.specs.Places.{AreDistinct, EdgesArePlaced};
 ghost use Rattle.egress.specs.Kept.{moves_of, rows_of};
 ghost use Rattle.egress.specs.Showing.{StandOnce, EndsRows, StartsRows, ShowsMoves};
 

@@ -17,16 +17,16 @@ use Rattle.edge_history.specs.Opens.{is_start}
 use Rattle.edge_history.specs.Order.{failing}
 use Rattle.edge_stream.specs.declared.saved.SavedEntry.{SavedEntry}
 use Rattle.end_queue.specs.Pending.{Pending}
-use Rattle.carried_edges.specs.Entries.{entries_of, part_of, are_of_parts}
-use Rattle.carried_edges.proofs.Parts.{parts_pass, part_of_own, part_of_other, part_of_append, parts_own, parts_append, all_pass}
+use Rattle.edge_stream.specs.Entries.{entries_of, part_of, are_of_parts}
+use Rattle.edge_stream.proofs.CarriedParts.{parts_pass, part_of_own, part_of_other, part_of_append, parts_own, parts_append, all_pass}
 use Rattle.key_nodes.proofs.Bags.{total_le}
-use Rattle.node_laws.specs.Keeping.{KeepsAhead, plain_cells}
-use Rattle.node_laws.specs.Places.{AreDistinct, read_of}
-use Rattle.node_laws.specs.Standing.{StandsRead}
-use Rattle.node_laws.proofs.Standing.{placed_longer, no_history}
-use Rattle.node_laws.proofs.StepsAhead.{ahead_read}
-use Rattle.operator.specs.Standing.{Standing, IsStoredAs, AreStoredAs}
-use Rattle.operator.specs.Steps.{MayCome}
+use Rattle.plan_laws.specs.Keeping.{KeepsAhead, plain_cells}
+use Rattle.plan_laws.specs.Places.{AreDistinct, read_of}
+use Rattle.plan_laws.specs.Standing.{StandsRead}
+use Rattle.plan_laws.proofs.Standing.{placed_longer, no_history}
+use Rattle.plan_laws.proofs.StepsAhead.{ahead_read}
+use Rattle.edge_stream.specs.Standing.{Standing, IsStoredAs, AreStoredAs}
+use Rattle.edge_stream.specs.Steps.{MayCome}
 use Rattle.plan_model.specs.Keys.{paired_row}
 use Rattle.plan_model.specs.Meaning.{node_events}
 use Rattle.plan_model.specs.declared.node.Node.TheVariants.{Follow as FollowNode}

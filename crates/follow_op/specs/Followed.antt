@@ -7,7 +7,7 @@ use Rattle.tw_rows.specs.declared.edge.Edge.{Edge}
 use Rattle.tw_rows.specs.declared.edge.HeldRow.{HeldRow}
 use Rattle.edge_history.specs.History.{CellEvent}
 use Rattle.key_nodes.specs.Follows.{followed}
-use Rattle.node_laws.specs.Keeping.{plain_cells}
+use Rattle.plan_laws.specs.Keeping.{plain_cells}
 use Rattle.plan_model.specs.Keys.{paired_row}
 use Rattle.plan_model.specs.RowOps.{keys_equal_in}
 

@@ -6,7 +6,7 @@ use Rattle.edge_stream.specs.declared.saved.PartRow.{PartRow}
 use Rattle.edge_stream.specs.declared.saved.PartRow.TheVariants.{Left, Right}
 use Rattle.edge_stream.specs.declared.saved.SavedEntry.{SavedEntry}
 use Rattle.plan_model.specs.declared.node.Node.TheVariants.{Follow as FollowNode}
-use Rattle.operator.specs.Standing.{Standing, Keeping}
+use Rattle.edge_stream.specs.Standing.{Standing, Keeping}
 use Rattle.sweep_sides.specs.Waiting.{queued}
 use Rattle.follow_op.specs.declared.follow.Follow.{Follow}
 use Rattle.follow_op.specs.States.{KeepsFollow, IsOpening, FollowSound, FollowResumes}

@@ -14,8 +14,8 @@ use Rattle.edge_history.specs.History.{of}
 use Rattle.edge_history.specs.Opens.{is_start}
 use Rattle.edge_stream.specs.declared.saved.SavedEntry.{SavedEntry}
 use Rattle.end_queue.specs.Pending.{Pending}
-use Rattle.carried_edges.specs.Entries.{part_of, are_of_parts}
-use Rattle.node_laws.specs.Places.{EdgesArePlaced}
+use Rattle.edge_stream.specs.Entries.{part_of, are_of_parts}
+use Rattle.plan_laws.specs.Places.{EdgesArePlaced}
 use Rattle.sweep_sides.specs.Waiting.{queued, AreTimed}
 use Rattle.sweep_sides.specs.Sides.{IsSide}
 use Rattle.sweep_sides.specs.Starts.{starts_from}

@@ -4,13 +4,12 @@ ghost use Rattle.std.specs.Prelude.{◌≡◌, false, IfErr, OnOk, OnErr};
 use crate::follow::Follow;
 use crate::sides::is_sound;
 use batch::Pools;
-use edge_stream::{EdgeList, LoadFault, PartRow, Saved, StepFault};
-use operator::Operator;
+use edge_stream::{EdgeList, LoadFault, Operator, PartRow, Saved, StepFault};
 use sweep_sides::{kept_count, list_of, save_rows, save_waiting};
 use tw_rows::{Memory, Time};
 
 impl Operator for Follow {
-    ghost use Rattle.operator.specs.Standing.{Implies, IsLike};
+    ghost use Rattle.edge_stream.specs.Standing.{Implies, IsLike};
     ghost use Rattle.follow_op.specs.Operating.{standing as follow_standing, entries as follow_entries};
     ghost use Rattle.follow_op.specs.Operating.{IsNew, IsKept, IsSound, Resumes};
     ghost use Rattle.follow_op.specs.Operating.{row_of_part as follow_row};

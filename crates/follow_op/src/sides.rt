@@ -9,7 +9,7 @@ ghost use Rattle.tw_rows.specs.declared.kind.CellKind.{CellKind};
 ghost use Rattle.edge_history.specs.Order.{failing, is_from, IsHistory};
 ghost use Rattle.edge_history.specs.History.{of};
 ghost use Rattle.edge_stream.specs.Listing.{cells_of};
-ghost use Rattle.carried_edges.specs.Entries.{part_of};
+ghost use Rattle.edge_stream.specs.Entries.{part_of};
 ghost use Rattle.sweep_sides.specs.Waiting.{queued};
 ghost use Rattle.sweep_laws.specs.Saving.{rows_of};
 ghost use Rattle.follow_op.specs.Followed.{follows};
@@ -19,8 +19,7 @@ ghost use Rattle.follow_op.specs.Keys.{SameKeys};
 ghost use Rattle.follow_op.specs.States.{FollowSound};
 
 use crate::rows::FollowRows;
-use carried_edges::{are_of_parts, edges_of_part};
-use edge_stream::{EdgeList, Saved};
+use edge_stream::{EdgeList, Saved, are_of_parts, edges_of_part};
 use end_queue::EndQueue;
 use std::alloc::Global;
 use std::collections::VecDeque;

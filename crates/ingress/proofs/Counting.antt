@@ -16,8 +16,8 @@ use Rattle.edge_history.specs.Opens.{singles_of}
 use Rattle.edge_history.proofs.Opening.{singles_are_news}
 use Rattle.edge_history.proofs.Retaining.{valid_from}
 use Rattle.plan_laws.specs.Held.{reaching}
-use Rattle.life_laws.proofs.Bound.{waiting_bound}
-use Rattle.node_laws.specs.Places.{read_events}
+use Rattle.plan_laws.proofs.Bound.{waiting_bound}
+use Rattle.plan_laws.specs.Places.{read_events}
 use Rattle.admission.specs.Admission.{Admission, rows}
 use Rattle.ingress.specs.declared.opens.OpenKey.{OpenKey}
 use Rattle.ingress.specs.declared.opens.OpenStart.{OpenStart}

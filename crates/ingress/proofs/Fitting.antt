@@ -20,7 +20,7 @@ use Rattle.edge_history.proofs.Sums.{weaker, failing-parts}
 use Rattle.edge_stream.specs.Listing.{EdgeListView, cells_of, appended, SameShape}
 use Rattle.edge_stream.specs.Taking.{room_taken, batches_taken, AreBatchesTaken}
 use Rattle.edge_stream.proofs.Filling.{room_taken-capacity, batches_taken-capacity, taken_after, appended-kinds, appended-capacity}
-use Rattle.carried_edges.proofs.Pools.{part-capacity, part-limit, room_taken-limit, some-capacity, some-limit, batches_taken-limit}
+use Rattle.edge_stream.proofs.Pools.{part-capacity, part-limit, room_taken-limit, some-capacity, some-limit, batches_taken-limit}
 use Rattle.ingress.specs.Fits.{is_stored, are_stored, is_fit, AreFit}
 use Rattle.ingress.specs.Keeping.{Changed}
 use Rattle.ingress.proofs.Keep.{real_edge}

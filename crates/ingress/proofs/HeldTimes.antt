@@ -12,7 +12,7 @@ use Rattle.edge_history.specs.Balance.{given as event_of, taken, AreEventsOf}
 use Rattle.edge_history.specs.History.{CellEvent}
 use Rattle.edge_history.specs.Order.{failing, is_end, is_real}
 use Rattle.edge_history.proofs.Ending.{real_low}
-use Rattle.node_laws.specs.Places.{read_events}
+use Rattle.plan_laws.specs.Places.{read_events}
 use Rattle.plan_laws.specs.Times.{TimesUpTo}
 use Rattle.plan_laws.proofs.StepTimes.{up_to_append}
 use Rattle.row_reader.specs.Printed.{IsEnd}

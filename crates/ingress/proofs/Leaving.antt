@@ -14,8 +14,8 @@ use Rattle.tw_rows.proofs.Bags.{total-append, SameBag-refl}
 use Rattle.edge_history.specs.Order.{failing, is_below, is_from, Rises}
 use Rattle.edge_history.specs.History.{CellEvent}
 use Rattle.edge_stream.specs.Listing.{EdgeListView}
-use Rattle.node_laws.specs.Places.{EdgesArePlaced}
-use Rattle.node_laws.proofs.Answers.{answer_placed}
+use Rattle.plan_laws.specs.Places.{EdgesArePlaced}
+use Rattle.plan_laws.proofs.Answers.{answer_placed}
 use Rattle.admission.specs.Admission.{Admission}
 use Rattle.ingress.specs.Held.{IsHeld}
 use Rattle.ingress.specs.Keeping.{cell_rows}

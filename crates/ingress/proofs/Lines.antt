@@ -19,8 +19,8 @@ use Rattle.edge_history.specs.History.{CellEvent}
 use Rattle.line_text.specs.declared.form.Form.{Form}
 use Rattle.line_text.specs.declared.form.Form.TheVariants.{Interval, Start, End}
 use Rattle.plan_model.specs.Keys.{rows_equal}
-use Rattle.node_laws.specs.Places.{AreDistinct, read_event, read_events, EventsArePlaced}
-use Rattle.node_laws.proofs.Places.{wide_reads, cells_wide}
+use Rattle.plan_laws.specs.Places.{AreDistinct, read_event, read_events, EventsArePlaced}
+use Rattle.plan_laws.proofs.Places.{wide_reads, cells_wide}
 use Rattle.row_reader.specs.declared.entry.Entry.TheVariants.{Event}
 use Rattle.admission.specs.Admission.{Admission, Open, raised, more_of, closes_open, first, without_first, ended_at, closed, enter, bounded, admit, Outcome, Taken, WasLate, Unmatched, refuses, drops}
 use Rattle.admission.specs.Answers.{became_closed, event_answer, answer}

@@ -18,8 +18,8 @@ use Rattle.tw_rows.specs.declared.kind.Kind.{Kind}
 use Rattle.tw_rows.specs.declared.kind.CellKind.{CellKind}
 use Rattle.edge_history.specs.Order.{failing}
 use Rattle.edge_stream.specs.declared.saved.SavedEntry.{SavedEntry}
-use Rattle.carried_edges.specs.Entries.{saved_edge}
-use Rattle.carried_edges.proofs.Parts.{part_of_append}
+use Rattle.edge_stream.specs.Entries.{saved_edge}
+use Rattle.edge_stream.proofs.CarriedParts.{part_of_append}
 use Rattle.row_reader.specs.Printed.{IsEnd}
 use Rattle.admission.specs.Admission.{Admission}
 use Rattle.ingress.specs.declared.opens.OpenKey.{OpenKey}

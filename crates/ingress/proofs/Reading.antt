@@ -12,10 +12,10 @@ use Rattle.tw_rows.specs.declared.edge.Edge.{Edge}
 use Rattle.tw_rows.proofs.CellReads.{ArePlaced-begins, read_cells-begins}
 use Rattle.edge_history.specs.History.{CellEvent}
 use Rattle.edge_history.proofs.Retaining.{valid_from, AreEvents-from}
-use Rattle.node_laws.specs.Places.{read_event, read_events, EventsArePlaced}
-use Rattle.node_laws.specs.Standing.{StandsRead, SourcesStandRead}
-use Rattle.node_laws.proofs.Maps.{AreEvents-to}
-use Rattle.node_laws.proofs.Standing.{read_longer, stands_by, none_stand}
+use Rattle.plan_laws.specs.Places.{read_event, read_events, EventsArePlaced}
+use Rattle.plan_laws.specs.Standing.{StandsRead, SourcesStandRead}
+use Rattle.plan_laws.proofs.Maps.{AreEvents-to}
+use Rattle.plan_laws.proofs.Standing.{read_longer, stands_by, none_stand}
 use Rattle.admission.specs.Admission.{Admission, open_event, rows}
 use Rattle.ingress.specs.Keeping.{CellOpen, ended_row, row_of_open, cell_rows}
 use Rattle.ingress.specs.Admits.{read_open, Follows, Admits}

@@ -15,8 +15,8 @@ use Rattle.tw_rows.specs.declared.kind.CellKind.{CellKind}
 use Rattle.indexmap.specs.IndexMap.{IsUnique}
 use Rattle.edge_history.specs.Order.{failing, is_real, is_from}
 use Rattle.edge_stream.specs.declared.saved.SavedEntry.{SavedEntry}
-use Rattle.carried_edges.specs.Entries.{entry_of, saved_edge, entries_of, part_of}
-use Rattle.carried_edges.proofs.Parts.{part_of_own, part_of_other, part_of_append}
+use Rattle.edge_stream.specs.Entries.{entry_of, saved_edge, entries_of, part_of}
+use Rattle.edge_stream.proofs.CarriedParts.{part_of_own, part_of_other, part_of_append}
 use Rattle.row_reader.specs.Printed.{IsEnd}
 use Rattle.admission.specs.Admission.{Admission}
 use Rattle.ingress.specs.declared.opens.OpenKey.{OpenKey}

@@ -12,7 +12,7 @@ use Rattle.edge_history.specs.Order.{is_below, Rises}
 use Rattle.edge_history.specs.History.{CellEvent}
 use Rattle.edge_stream.specs.Listing.{EdgeListView}
 use Rattle.edge_stream.specs.Lists.{edges_at}
-use Rattle.node_laws.specs.Places.{read_events, EventsArePlaced}
+use Rattle.plan_laws.specs.Places.{read_events, EventsArePlaced}
 use Rattle.admission.specs.declared.policy.Policy.{Policy}
 use Rattle.row_reader.specs.Interned.{row_read}
 use Rattle.row_reader.specs.declared.entry.Entry.{Entry}

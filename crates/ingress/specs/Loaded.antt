@@ -7,7 +7,7 @@ use Rattle.tw_rows.specs.declared.edge.Edge.{Edge}
 use Rattle.tw_rows.specs.declared.kind.CellKind.{CellKind}
 use Rattle.edge_stream.specs.declared.saved.SavedEntry.{SavedEntry}
 use Rattle.edge_history.specs.Order.{is_real}
-use Rattle.carried_edges.specs.Entries.{entries_of, saved_edge}
+use Rattle.edge_stream.specs.Entries.{entries_of, saved_edge}
 use Rattle.ingress.specs.declared.opens.OpenKey.{OpenKey}
 use Rattle.ingress.specs.declared.opens.OpenStart.{OpenStart}
 use Rattle.ingress.specs.Fits.{AreFit}

@@ -7,8 +7,8 @@ use Rattle.tw_rows.specs.declared.kind.CellKind.{CellKind}
 use Rattle.edge_history.specs.Order.{is_real}
 use Rattle.edge_history.specs.History.{CellEvent}
 use Rattle.edge_stream.specs.declared.saved.SavedEntry.{SavedEntry}
-use Rattle.carried_edges.specs.Entries.{saved_edge, part_of}
-use Rattle.node_laws.specs.Places.{read_events, EventsArePlaced}
+use Rattle.edge_stream.specs.Entries.{saved_edge, part_of}
+use Rattle.plan_laws.specs.Places.{read_events, EventsArePlaced}
 use Rattle.row_reader.specs.Printed.{IsEnd}
 use Rattle.admission.specs.Admission.{Admission}
 use Rattle.ingress.specs.declared.opens.OpenKey.{OpenKey}

@@ -4,7 +4,7 @@ ghost use Rattle.std.specs.List.{All};
 ghost use Rattle.tw_rows.specs.Texts.{BeginsWith};
 ghost use Rattle.tw_rows.specs.declared.edge.Edge.{Edge};
 ghost use Rattle.tw_rows.specs.declared.schema.StreamDef.{StreamDef};
-ghost use Rattle.node_laws.specs.Standing.{SourcesStandRead};
+ghost use Rattle.plan_laws.specs.Standing.{SourcesStandRead};
 ghost use Rattle.row_reader.specs.Entry.{entry};
 ghost use Rattle.row_reader.specs.declared.entry.Entry.{Entry};
 ghost use Rattle.row_reader.specs.Printed.{IsEnd};

@@ -2,7 +2,7 @@
 ghost use Rattle.std.specs.Prelude.{◌≡◌, ◌↔◌, ◌%◌, ◌<◌, ◌≤◌, ℕ, List, ◌&&◌, true, false, nat_le, get_or, length, All, Err, IsTrue, IfOk, OnOk, OnErr};
 ghost use Rattle.tw_rows.specs.declared.edge.Edge.{Edge as EdgeOf};
 ghost use Rattle.edge_history.specs.Order.{is_real};
-ghost use Rattle.carried_edges.specs.Entries.{saved_edge};
+ghost use Rattle.edge_stream.specs.Entries.{saved_edge};
 ghost use Rattle.row_reader.specs.Printed.{IsEnd};
 ghost use Rattle.admission.specs.Admission.{Admission};
 ghost use Rattle.ingress.specs.Admits.{cells_of, SameFixed, Admits};
@@ -14,8 +14,7 @@ use crate::held_streams::HeldStreams;
 use crate::ingress::Ingress;
 use crate::opens::{OpenKey, OpenStart};
 use crate::watermarks::{Watermark, Watermarks};
-use carried_edges::is_stored_as;
-use edge_stream::{LoadFault, Saved, SavedEntry};
+use edge_stream::{LoadFault, Saved, SavedEntry, is_stored_as};
 use std::alloc::Global;
 use tw_rows::{Kind, Memory, Time};
 

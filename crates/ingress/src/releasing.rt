@@ -5,7 +5,7 @@ ghost use Rattle.tw_rows.specs.Bag.{SameBag};
 ghost use Rattle.edge_stream.specs.Listing.{cells_of as list_cells};
 ghost use Rattle.edge_stream.specs.Taking.{batches_taken};
 ghost use Rattle.edge_history.specs.Order.{failing, is_below, is_from, Rises};
-ghost use Rattle.node_laws.specs.Places.{EdgesArePlaced};
+ghost use Rattle.plan_laws.specs.Places.{EdgesArePlaced};
 ghost use Rattle.edge_stream.specs.Lists.{edges_at, longer};
 ghost use Rattle.ingress.specs.Admits.{kinds_of, SameFixed, Follows, Admits, WhateverFollowed, AreListsOf, AreReleased};
 ghost use Rattle.ingress.specs.Ranks.{SamePools, lists_taken};

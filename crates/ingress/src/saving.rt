@@ -2,7 +2,7 @@
 ghost use Rattle.std.specs.Prelude.{◌≡◌, ◌+◌, ◌*◌, ◌^◌, ◌<◌, ◌≤◌, ℕ, List, ◌∷◌, ◌++◌, [], cond, map, length, IfOk, OnOk};
 ghost use Rattle.indexmap.specs.IndexMap.{IsUnique};
 ghost use Rattle.tw_rows.specs.declared.edge.Edge.{Edge};
-ghost use Rattle.carried_edges.specs.Entries.{entries_of};
+ghost use Rattle.edge_stream.specs.Entries.{entries_of};
 ghost use Rattle.row_reader.specs.Printed.{IsEnd};
 ghost use Rattle.admission.specs.Admission.{Admission};
 ghost use Rattle.ingress.specs.Admits.{cells_of, Admits, WhateverFollowed, AreMarksOf};
@@ -18,8 +18,7 @@ use crate::held_streams::HeldStreams;
 use crate::ingress::Ingress;
 use crate::opens::{OpenKey, OpenStart, OpenStarts};
 use crate::waiting::Waiting;
-use carried_edges::save_edges;
-use edge_stream::{EdgeList, Saved, SavedEntry};
+use edge_stream::{EdgeList, Saved, SavedEntry, save_edges};
 use std::alloc::Global;
 use std::collections::VecDeque;
 use tw_rows::Memory;

@@ -14,8 +14,7 @@ ghost use Rattle.ingress.specs.Ranks.{TakesBatches, SamePools};
 
 use crate::by_rank::{ByRank, end_rank, rank_between, rank_of};
 use batch::Pools;
-use carried_edges::is_stored_as;
-use edge_stream::{Cursor, EdgeList};
+use edge_stream::{Cursor, EdgeList, is_stored_as};
 use std::alloc::Global;
 use std::marker::Model;
 use tw_rows::{Cells, Datum, Edge, Kind, Memory, Time};

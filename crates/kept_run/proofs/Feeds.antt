@@ -26,8 +26,8 @@ use Rattle.frozen_state.specs.declared.frozen.FrozenPart.{FrozenPart}
 use Rattle.frozen_state.specs.Frozen.{FrozenView}
 use Rattle.frozen_state.specs.Forms.{PartFormView}
 use Rattle.command_line.specs.Words.{AreWithin}
-use Rattle.checkpoint_lines.specs.Lines.{line_of, form_line, end_line, query_line, options_line, late_text, time_line, bound_line, input_line, output_line, text_line, entry_line, entry_fields, owner_text, datum_text, IsOwner, IsCell, AreCells, IsText}
-use Rattle.checkpoint_lines.proofs.Commas.{neither}
+use Rattle.checkpoint.specs.Lines.{line_of, form_line, end_line, query_line, options_line, late_text, time_line, bound_line, input_line, output_line, text_line, entry_line, entry_fields, owner_text, datum_text, IsOwner, IsCell, AreCells, IsText}
+use Rattle.checkpoint.proofs.Commas.{neither}
 use Rattle.checkpoint.specs.Form.{FormView, pieces, query_lines, head_lines}
 use Rattle.checkpoint.specs.Text.{bound_lines, part_lines, entry_lines, body_lines, checkpoint_lines, HasLine, ArePartsWith, IsOfForm}
 use Rattle.tempo_cli.specs.Jobs.{form_asked}

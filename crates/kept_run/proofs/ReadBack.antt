@@ -6,9 +6,9 @@ use Rattle.checkpoint.specs.Form.{FormView}
 use Rattle.checkpoint.specs.Text.{checkpoint_lines, IsOfForm, BeginsText, IsUnfinished}
 use Rattle.checkpoint.specs.Taking.{ReaderView, lines_taken}
 use Rattle.checkpoint.proofs.Unfinished.{one_front}
-use Rattle.checkpoint_lines.specs.Lines.{input_line, output_line}
-use Rattle.checkpoint_lines.specs.Reading.{input_of, output_of}
-use Rattle.checkpoint_lines.proofs.Both.{input_both, output_both}
+use Rattle.checkpoint.specs.Lines.{input_line, output_line}
+use Rattle.checkpoint.specs.Reading.{input_of, output_of}
+use Rattle.checkpoint.proofs.Both.{input_both, output_both}
 use Rattle.tempo_cli.specs.Restored.{TakesLine}
 use Rattle.tempo_cli.specs.declared.status.Status.{Status}
 use Rattle.tempo_cli.specs.declared.status.Status.TheVariants as statuses

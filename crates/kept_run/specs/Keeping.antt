@@ -7,7 +7,7 @@ use Rattle.plan_model.specs.declared.fault.QueryFault.{QueryFault}
 use Rattle.admission.specs.Entries.{Told}
 use Rattle.admission.specs.Progress.{progress}
 use Rattle.command_line.specs.Words.{Asked as Words}
-use Rattle.checkpoint_lines.specs.Lines.{input_line, output_line}
+use Rattle.checkpoint.specs.Lines.{input_line, output_line}
 use Rattle.checkpoint.specs.Writing.{bytes_of}
 use Rattle.checkpoint.specs.Text.{checkpoint_lines, IsOfForm}
 use Rattle.frozen_state.specs.Frozen.{FrozenView}

@@ -14,8 +14,7 @@ ghost use Rattle.kept_run.specs.Standing.{TakesHeld, EndsHeld, HasFewer};
 ghost use Rattle.kept_run.specs.Status.{kept_of, KeptCounts, StaysCounted, TellsEnd};
 
 use crate::status::KeptStatus;
-use checkpoint::{Form, Place, write_entries, write_line};
-use checkpoint_lines::{push_input_line, push_output_line};
+use checkpoint::{Form, Place, push_input_line, push_output_line, write_entries, write_line};
 use frozen_state::{Frozen, FrozenPart};
 use kept_wire::KeptWire;
 use shard_apply::Gate;

@@ -9,8 +9,7 @@ ghost use Rattle.kept_run.specs.Keeping.{Places, AreLow, place_lines};
 ghost use Rattle.kept_run.specs.Standing.{IsReadAs, IsFrozenAs, BeginsWith, BeginsState};
 ghost use Rattle.kept_run.specs.Status.{IsRefused};
 
-use checkpoint::{Form, Reader};
-use checkpoint_lines::{read_input_line, read_output_line};
+use checkpoint::{Form, Reader, read_input_line, read_output_line};
 use frozen_state::Frozen;
 use memchr::memchr;
 use std::alloc::Global;

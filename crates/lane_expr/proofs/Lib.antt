@@ -7,3 +7,7 @@ pub mod Placing
 pub mod Marks
 pub mod Comparing
 pub mod Filling
+pub mod Signed
+pub mod Parts
+mod Loads
+pub mod Dividing

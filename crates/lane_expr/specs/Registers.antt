@@ -4,7 +4,7 @@ use Rattle.std.specs.declared.cmp.Ordering.{Ordering}
 use Rattle.std.specs.Ordering.{nat_cmp}
 use Rattle.std.specs.Cmp.Lexicographic.{slice_cmp}
 use Rattle.occupancy.specs.Bits.{test}
-use Rattle.lanes.specs.Lanes.{number, place}
+use Rattle.lane_expr.specs.Lanes.{number, place}
 use Rattle.tw_rows.specs.declared.cells.Datum.{Datum}
 use Rattle.tw_rows.specs.declared.cells.Datum.TheVariants.{Int, Bool as Flag, Text}
 use Rattle.tw_rows.specs.declared.kind.CellKind.{CellKind}

@@ -1,6 +1,6 @@
 // The running of steps over a block of 64 rows.
 ghost use Rattle.std.specs.Prelude.{◌≡◌, ◌+◌, ◌*◌, ◌-◌, ◌<◌, ◌≢◌, ℕ, [], true, length, map, take, slice_index_or};
-ghost use Rattle.lanes.specs.Lanes.{number};
+ghost use Rattle.lane_expr.specs.Lanes.{number};
 ghost use Rattle.tw_rows.specs.Cells.{read_datum, read_cells, IsPlaced, ArePlaced};
 ghost use Rattle.plan_model.specs.IsExpr.{IsExprNode};
 ghost use Rattle.plan_model.specs.Expr.{node_value, value, arith_value};
@@ -10,11 +10,12 @@ ghost use Rattle.lane_expr.specs.Running.{operand, no_row, cells_of};
 ghost use Rattle.lane_expr.specs.Registers.{datum_of, datum_at, datum_in, kinds_in, IsOccupied, is_constant, AreFilled};
 ghost use Rattle.lane_expr.specs.Kernels.{HoldsPlaces, IsResult};
 
+use crate::BLOCK;
 use crate::compare::compare;
+use crate::numbers::{Numbers, differences, negations, products, quotients, rests, sums};
 use crate::registers::Register;
 use crate::step::Step;
 use batch::Batch;
-use lanes::{BLOCK, Numbers, differences, negations, products, quotients, rests, sums};
 use plan_model::ArithOp;
 use tw_rows::{CellKind, Datum, TextTable};
 

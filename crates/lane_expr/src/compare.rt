@@ -2,15 +2,17 @@
 ghost use Rattle.std.specs.Prelude.{◌≡◌, ◌<◌, ℕ, true, false, length};
 ghost use Rattle.std.specs.Ordering.{int_cmp, bool_cmp};
 ghost use Rattle.occupancy.specs.Bits.{test};
-ghost use Rattle.lanes.specs.Lanes.{number};
+ghost use Rattle.lane_expr.specs.Lanes.{number};
 ghost use Rattle.tw_rows.specs.Cells.{read_datum, IsPlaced};
 ghost use Rattle.tw_rows.specs.Rows.{value_cmp};
 ghost use Rattle.plan_model.specs.Expr.{is_met};
 ghost use Rattle.lane_expr.specs.Registers.{datum_at, AreTexts, text_order};
 
+use crate::BLOCK;
+use crate::numbers::{Numbers, marks_below, marks_same};
+use crate::places::{Places, marks_same_places};
 use crate::registers::Register;
 use crate::words::{is_marked, with_mark};
-use lanes::{BLOCK, Numbers, Places, marks_below, marks_same, marks_same_places};
 use plan_model::CompareOp;
 use std::cmp::Ordering;
 use tw_rows::{CellKind, TextTable};

@@ -9,10 +9,10 @@ ghost use Rattle.lane_expr.specs.Kernels.{IsKernelOf, result_kind};
 ghost use Rattle.tw_rows.specs.Cells.{datum_kind};
 ghost use Rattle.lane_expr.specs.Registers.{kinds_in, datum_of, AreFilled};
 
+use crate::divisor::Divisor;
 use crate::kernel::Kernel;
 use crate::registers::Register;
 use crate::step::{Step, kind_of};
-use lanes::Divisor;
 use plan_model::{Expr, ExprNode};
 use std::alloc::Global;
 use tw_rows::{CellKind, Datum, Kind, Memory, TextTable, cell_of};

@@ -7,11 +7,11 @@ ghost use Rattle.lane_expr.specs.Steps.{expr_of, step_kind, AreSteps, AreStepsPl
 ghost use Rattle.lane_expr.specs.Registers.{kinds_in, is_met_at, AreFilled};
 ghost use Rattle.lane_expr.specs.Kernels.{result_kind, kind_for, CanRead, HoldsPlaces, mask_of};
 
+use crate::BLOCK;
 use crate::block::run;
 use crate::registers::Register;
 use crate::step::{Step, kind_of};
 use batch::Batch;
-use lanes::BLOCK;
 use occupancy::Occupancy;
 use std::marker::Model;
 use tw_rows::{CellKind, Kind, TextTable};

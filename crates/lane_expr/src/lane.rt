@@ -32,7 +32,7 @@ pub(crate) trait Lane: Cell {
 
 impl Lane for i64 {
     ghost use Rattle.std.specs.Prelude.{pos, refl};
-    ghost use Rattle.lanes.specs.Lanes.{number};
+    ghost use Rattle.lane_expr.specs.Lanes.{number};
     ghost use Rattle.tw_rows.specs.declared.cells.Datum.TheVariants.{Int};
     ghost use Rattle.tw_rows.specs.declared.kind.CellKind.TheVariants.{Whole};
 
@@ -75,7 +75,7 @@ impl Lane for Bit {
 // A text is held by its place.
 impl Lane for u64 {
     ghost use Rattle.std.specs.Prelude.{refl};
-    ghost use Rattle.lanes.specs.Lanes.{place};
+    ghost use Rattle.lane_expr.specs.Lanes.{place};
     ghost use Rattle.tw_rows.specs.declared.cells.Datum.TheVariants.{Text};
     ghost use Rattle.tw_rows.specs.declared.kind.CellKind.TheVariants.{Place};
 

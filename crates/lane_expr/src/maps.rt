@@ -5,6 +5,7 @@ ghost use Rattle.lane_expr.specs.Steps.{expr_of, step_kind, AreSteps, AreStepsPl
 ghost use Rattle.lane_expr.specs.Registers.{kinds_in, AreFilled};
 ghost use Rattle.lane_expr.specs.Kernels.{result_kind, CanRead, HoldsPlaces, AreResults};
 
+use crate::BLOCK;
 use crate::block::run;
 use crate::kernel::Kernel;
 use crate::lane::Lane;
@@ -12,7 +13,6 @@ use crate::registers::Register;
 use crate::step::Step;
 use batch::Batch;
 use column_pool::{Bit, Column};
-use lanes::BLOCK;
 use tw_rows::{CellKind, Datum, TextTable};
 
 /// Each call adds a cell for each row of the batch. What stands at a row that is not occupied is free. They need a

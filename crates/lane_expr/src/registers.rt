@@ -4,9 +4,10 @@ ghost use Rattle.tw_rows.specs.Cells.{datum_kind};
 ghost use Rattle.batch.specs.Payloads.{payload_kind, payload_data};
 ghost use Rattle.lane_expr.specs.Registers.{datum_of};
 
+use crate::numbers::{Numbers, fill, load};
+use crate::places::{Places, fill_places, load_places};
 use crate::words::word_of;
 use batch::Payload;
-use lanes::{Numbers, Places, fill, fill_places, load, load_places};
 use tw_rows::{CellKind, Datum};
 
 /// The results of a step over the 64 rows of a block. Those that are stored as its kind says are of use.

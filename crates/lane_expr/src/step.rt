@@ -2,7 +2,7 @@
 ghost use Rattle.std.specs.Prelude.{◌≡◌, ◌<◌, length};
 ghost use Rattle.lane_expr.specs.Steps.{step_kind, IsStepWithin};
 
-use lanes::Divisor;
+use crate::divisor::Divisor;
 use plan_model::{ArithOp, CompareOp};
 use tw_rows::{CellKind, Datum};
 

@@ -10,11 +10,11 @@ use Rattle.edge_history.specs.Order.{KeepsOrder, failing, is_below, is_from}
 use Rattle.edge_history.proofs.Keeping.{KeepsOrder-front}
 use Rattle.edge_history.proofs.Agreeing.{same_order}
 use Rattle.plan_model.specs.Meaning.{node_closes}
-use Rattle.operator.specs.Steps.{MayCome, ComeBetween}
-use Rattle.life_laws.specs.Answers.{is_answered, answered, answered_below, answered_at}
-use Rattle.life_laws.specs.Keeping.{KeepsLives}
-use Rattle.life_laws.proofs.Lives.{new_lives}
-use Rattle.life_laws.proofs.Steps.{answered_in_order, lives_from, lives_below, lives_step}
+use Rattle.edge_stream.specs.Steps.{MayCome, ComeBetween}
+use Rattle.plan_laws.specs.Answers.{is_answered, answered, answered_below, answered_at}
+use Rattle.plan_laws.specs.LifeKeeping.{KeepsLives}
+use Rattle.plan_laws.proofs.Lives.{new_lives}
+use Rattle.plan_laws.proofs.LifeSteps.{answered_in_order, lives_from, lives_below, lives_step}
 use Rattle.lifetime_ops.specs.declared.change.Change.{Change}
 use Rattle.tw_rows.specs.declared.kind.CellKind.{CellKind}
 use Rattle.lifetime_ops.specs.declared.change.Change.TheVariants.{Delay, Hop, Duration, Mean}

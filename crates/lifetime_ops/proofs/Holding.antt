@@ -7,9 +7,9 @@ use Rattle.plan_model.specs.Meaning.{node_closes}
 use Rattle.plan_model.specs.declared.node.Node.TheVariants.{Delay as DelayNode, Hop as HopNode, Duration as DurationNode, Mean as MeanNode}
 use Rattle.plan_laws.specs.Held.{may_hold}
 use Rattle.plan_laws.specs.Undefined.{is_group}
-use Rattle.operator.specs.Standing.{own_kept}
-use Rattle.life_laws.specs.Keeping.{KeepsLives}
-use Rattle.life_laws.proofs.Bound.{carried_bound}
+use Rattle.edge_stream.specs.Standing.{own_kept}
+use Rattle.plan_laws.specs.LifeKeeping.{KeepsLives}
+use Rattle.plan_laws.proofs.Bound.{carried_bound}
 use Rattle.lifetime_ops.specs.declared.change.Change.{Change}
 use Rattle.lifetime_ops.specs.declared.change.Change.TheVariants.{Delay, Hop, Duration, Mean}
 use Rattle.lifetime_ops.specs.Nodes.{node_of}

@@ -18,13 +18,13 @@ use Rattle.end_queue.specs.Pending.{Pending, put_pending, AreDueFrom}
 use Rattle.plan_model.specs.declared.node.Node.TheVariants.{Extend}
 use Rattle.plan_model.specs.Nodes.{node_in}
 use Rattle.plan_laws.specs.Held.{may_hold}
-use Rattle.node_laws.specs.Keeping.{plain_cells}
-use Rattle.life_laws.specs.Extending.{KeepsExtended}
-use Rattle.life_laws.proofs.Bound.{extended_bound}
-use Rattle.carried_edges.specs.Entries.{saved_edge, entries_of, part_of, are_of_parts, IsEdgePart}
-use Rattle.carried_edges.proofs.Parts.{part_of_own, part_of_other, part_of_append, saved_length, parts_own, parts_append, parts_pass, none_fails}
+use Rattle.plan_laws.specs.Keeping.{plain_cells}
+use Rattle.plan_laws.specs.Extending.{KeepsExtended}
+use Rattle.plan_laws.proofs.Bound.{extended_bound}
+use Rattle.edge_stream.specs.Entries.{saved_edge, entries_of, part_of, are_of_parts, IsEdgePart}
+use Rattle.edge_stream.proofs.CarriedParts.{part_of_own, part_of_other, part_of_append, saved_length, parts_own, parts_append, parts_pass, none_fails}
 use Rattle.edge_stream.specs.Listing.{cells_of}
-use Rattle.operator.specs.Standing.{IsStoredAs, AreStoredAs}
+use Rattle.edge_stream.specs.Standing.{IsStoredAs, AreStoredAs}
 use Rattle.lifetime_ops.specs.declared.extend.ExtendLifetime.{ExtendLifetime}
 use Rattle.lifetime_ops.specs.ExtendOperating.{standing}
 use Rattle.lifetime_ops.specs.ExtendSaving.{is_end_in, ExtendSound, ExtendResumes, row_of}

@@ -21,8 +21,8 @@ use Rattle.plan_model.specs.CellOps.{datum_int}
 use Rattle.plan_model.specs.Means.{mean_of, means_from, mean_row}
 use Rattle.plan_model.specs.RowOps.{int_in}
 use Rattle.plan_model.proofs.Averages.{length_of_mean, column_of_mean}
-use Rattle.node_laws.specs.Keeping.{plain_cells}
-use Rattle.life_laws.specs.Answers.{new_edge, answered}
+use Rattle.plan_laws.specs.Keeping.{plain_cells}
+use Rattle.plan_laws.specs.Answers.{new_edge, answered}
 use Rattle.lifetime_ops.specs.declared.change.Change.TheVariants.{Mean}
 use Rattle.lifetime_ops.specs.Nodes.{node_of, answer_kinds, is_whole, divides_ints}
 use Rattle.lifetime_ops.proofs.Answering.{answered_order}

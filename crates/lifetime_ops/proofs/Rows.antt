@@ -6,7 +6,7 @@ use Rattle.std.proofs.lemmas.Option.{slice_get-map}
 use Rattle.std.proofs.Common.{sym, ◌∙◌, ap, arith, get_or, add-one}
 use Rattle.batch.specs.Rows.{Row, edge_of, edges_of, occupied_rows}
 use Rattle.batch.proofs.Keeping.{no_row}
-use Rattle.life_laws.specs.Answers.{new_start, new_other}
+use Rattle.plan_laws.specs.Answers.{new_start, new_other}
 use Rattle.lifetime_ops.specs.declared.change.Change.{Change}
 use Rattle.lifetime_ops.specs.Nodes.{node_of}
 use Rattle.lifetime_ops.specs.Times.{new_row, retimed_edge}

@@ -7,12 +7,12 @@ use Rattle.tw_rows.specs.declared.kind.CellKind.{CellKind}
 use Rattle.edge_history.specs.Order.{failing, is_from, KeepsOrder}
 use Rattle.edge_stream.specs.declared.saved.SavedEntry.{SavedEntry}
 use Rattle.plan_model.specs.declared.node.Node.{Node}
-use Rattle.life_laws.specs.Answers.{answered_below}
-use Rattle.life_laws.specs.Keeping.{KeepsLives}
-use Rattle.carried_edges.specs.Entries.{entries_of, part_of, are_of_parts, IsEdgePart}
-use Rattle.carried_edges.proofs.Parts.{part_of_own, parts_own, parts_pass}
+use Rattle.plan_laws.specs.Answers.{answered_below}
+use Rattle.plan_laws.specs.LifeKeeping.{KeepsLives}
+use Rattle.edge_stream.specs.Entries.{entries_of, part_of, are_of_parts, IsEdgePart}
+use Rattle.edge_stream.proofs.CarriedParts.{part_of_own, parts_own, parts_pass}
 use Rattle.edge_stream.specs.Listing.{cells_of}
-use Rattle.operator.specs.Standing.{IsStoredAs, AreStoredAs}
+use Rattle.edge_stream.specs.Standing.{IsStoredAs, AreStoredAs}
 use Rattle.lifetime_ops.specs.Nodes.{node_of}
 use Rattle.lifetime_ops.specs.Operating.{standing}
 use Rattle.lifetime_ops.specs.Saving.{LifeSound, LifeResumes, row_of}

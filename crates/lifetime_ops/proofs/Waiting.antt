@@ -16,9 +16,9 @@ use Rattle.edge_history.specs.Opens.{is_start}
 use Rattle.edge_history.proofs.Keeping.{KeepsOrder-front, KeepsOrder-back}
 use Rattle.edge_history.proofs.Sums.{sum_eq, failing-kept, failing-append, failing-same}
 use Rattle.end_queue.specs.Pending.{Pending, put_pending, AreDueFrom}
-use Rattle.operator.specs.Steps.{MayCome, ComeBetween}
-use Rattle.life_laws.specs.Extending.{extended_edge, extended_edges, extended_starts, extended_ends, KeepsExtended}
-use Rattle.life_laws.proofs.Extending.{made_of_both, extended_from, extended_step, starts_in_order}
+use Rattle.edge_stream.specs.Steps.{MayCome, ComeBetween}
+use Rattle.plan_laws.specs.Extending.{extended_edge, extended_edges, extended_starts, extended_ends, KeepsExtended}
+use Rattle.plan_laws.proofs.Extending.{made_of_both, extended_from, extended_step, starts_in_order}
 use Rattle.lifetime_ops.specs.Waiting.{edges_of_pending, IsWaitingEnd}
 
 -- PUTTING IN

@@ -4,8 +4,8 @@ use Rattle.tw_rows.specs.declared.edge.Edge.{Edge}
 use Rattle.edge_stream.specs.Listing.{cells_of}
 use Rattle.edge_stream.specs.declared.saved.SavedEntry.{SavedEntry}
 use Rattle.plan_model.specs.declared.node.Node.TheVariants.{Extend}
-use Rattle.operator.specs.Standing.{Standing}
-use Rattle.life_laws.specs.Extending.{KeepsExtended}
+use Rattle.edge_stream.specs.Standing.{Standing}
+use Rattle.plan_laws.specs.Extending.{KeepsExtended}
 use Rattle.lifetime_ops.specs.Waiting.{edges_of_pending}
 use Rattle.lifetime_ops.specs.ExtendSaving.{ExtendSound, ExtendResumes}
 use Rattle.lifetime_ops.specs.declared.extend.ExtendLifetime.{ExtendLifetime}

@@ -8,8 +8,8 @@ use Rattle.edge_stream.specs.declared.saved.PartRow.{PartRow}
 use Rattle.edge_stream.specs.declared.saved.PartRow.TheVariants.{Left}
 use Rattle.edge_stream.specs.declared.saved.SavedEntry.{SavedEntry}
 use Rattle.end_queue.specs.Pending.{Pending}
-use Rattle.life_laws.specs.Extending.{KeepsExtended}
-use Rattle.carried_edges.specs.Entries.{saved_edge, part_of, are_of_parts, IsEdgePart}
+use Rattle.plan_laws.specs.Extending.{KeepsExtended}
+use Rattle.edge_stream.specs.Entries.{saved_edge, part_of, are_of_parts, IsEdgePart}
 
 -- nothing is carried, no end waits, no side is closed, and no step failed
 pub record IsOpening (carried : List Edge) (ends : List Pending) (x y : ℕ) (failed : Bool) : Type 0 where

@@ -6,7 +6,7 @@ use Rattle.tw_rows.specs.declared.kind.CellKind.TheVariants.{Whole, Bit, Place}
 use Rattle.plan_model.specs.IsPlan.{node_kinds}
 use Rattle.plan_model.specs.declared.node.Node.{Node}
 use Rattle.plan_model.specs.declared.node.Node.TheVariants.{Delay as DelayNode, Hop as HopNode, Duration as DurationNode, Mean as MeanNode}
-use Rattle.life_laws.specs.Answers.{has_known_lives}
+use Rattle.plan_laws.specs.Answers.{has_known_lives}
 use Rattle.lifetime_ops.specs.declared.change.Change.{Change}
 use Rattle.lifetime_ops.specs.declared.change.Change.TheVariants.{Delay, Hop, Duration, Mean}
 

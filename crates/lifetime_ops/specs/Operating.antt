@@ -3,8 +3,8 @@ use Rattle.std.specs.Prelude.{ℕ, List, [], length}
 use Rattle.tw_rows.specs.declared.edge.Edge.{Edge}
 use Rattle.edge_stream.specs.Listing.{cells_of}
 use Rattle.edge_stream.specs.declared.saved.SavedEntry.{SavedEntry}
-use Rattle.operator.specs.Standing.{Standing}
-use Rattle.life_laws.specs.Keeping.{KeepsLives}
+use Rattle.edge_stream.specs.Standing.{Standing}
+use Rattle.plan_laws.specs.LifeKeeping.{KeepsLives}
 use Rattle.lifetime_ops.specs.Nodes.{node_of, answer_kinds}
 use Rattle.lifetime_ops.specs.Saving.{LifeSound, LifeResumes}
 use Rattle.lifetime_ops.specs.declared.alter_lifetime.AlterLifetime.{AlterLifetime}

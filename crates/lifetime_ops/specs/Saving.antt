@@ -6,9 +6,9 @@ use Rattle.edge_stream.specs.declared.saved.PartRow.{PartRow}
 use Rattle.edge_stream.specs.declared.saved.PartRow.TheVariants.{Left}
 use Rattle.edge_stream.specs.declared.saved.SavedEntry.{SavedEntry}
 use Rattle.plan_model.specs.declared.node.Node.{Node}
-use Rattle.life_laws.specs.Answers.{answered_below}
-use Rattle.life_laws.specs.Keeping.{KeepsLives}
-use Rattle.carried_edges.specs.Entries.{part_of, are_of_parts, IsEdgePart}
+use Rattle.plan_laws.specs.Answers.{answered_below}
+use Rattle.plan_laws.specs.LifeKeeping.{KeepsLives}
+use Rattle.edge_stream.specs.Entries.{part_of, are_of_parts, IsEdgePart}
 
 -- nothing is carried, no side is closed, and no step failed
 pub record IsOpening (carried : List Edge) (x y : ℕ) (failed : Bool) : Type 0 where

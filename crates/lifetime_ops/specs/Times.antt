@@ -3,7 +3,7 @@ use Rattle.std.specs.Prelude.{List, map, filter}
 use Rattle.tw_rows.specs.declared.edge.Edge.{Edge}
 use Rattle.batch.specs.Rows.{Row}
 use Rattle.plan_model.specs.declared.node.Node.{Node}
-use Rattle.life_laws.specs.Answers.{new_start, new_other, is_answered}
+use Rattle.plan_laws.specs.Answers.{new_start, new_other, is_answered}
 use Rattle.lifetime_ops.specs.declared.change.Change.{Change}
 use Rattle.lifetime_ops.specs.Nodes.{node_of}
 

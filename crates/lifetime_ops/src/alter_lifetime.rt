@@ -3,7 +3,7 @@ ghost use Rattle.std.specs.Prelude.{◌≡◌, ◌≤◌, true, false, map, [], 
 ghost use Rattle.edge_history.specs.Order.{failing, is_from};
 ghost use Rattle.edge_stream.specs.Lists.{no_edges};
 ghost use Rattle.edge_stream.specs.Listing.{SameShape, cells_of};
-ghost use Rattle.life_laws.specs.Answers.{answered, answered_below};
+ghost use Rattle.plan_laws.specs.Answers.{answered, answered_below};
 ghost use Rattle.tw_rows.specs.Kinds.{cell_kind_of};
 ghost use Rattle.lifetime_ops.specs.Nodes.{node_of, answer_kinds, divides_ints};
 ghost use Rattle.lifetime_ops.specs.Times.{retimed};
@@ -11,8 +11,7 @@ ghost use Rattle.lifetime_ops.specs.Times.{retimed};
 use crate::change::Change;
 use crate::mean::means_of;
 use batch::Pools;
-use carried_edges::put_last;
-use edge_stream::EdgeList;
+use edge_stream::{EdgeList, put_last};
 use std::alloc::Global;
 use tw_rows::{Kind, Memory, Time};
 

@@ -3,7 +3,7 @@ ghost use Rattle.std.specs.Prelude.{◌≡◌, ◌<◌, ◌≤◌, OnOk, IfOk, l
 ghost use Rattle.tw_rows.specs.Instant.{inf, floor_to};
 ghost use Rattle.tw_rows.specs.declared.edge.Edge.{Edge};
 ghost use Rattle.batch.specs.Rows.{edges_of, edge_of};
-ghost use Rattle.life_laws.specs.Answers.{new_start, new_other, is_answered, answered_below};
+ghost use Rattle.plan_laws.specs.Answers.{new_start, new_other, is_answered, answered_below};
 ghost use Rattle.lifetime_ops.specs.Nodes.{node_of};
 ghost use Rattle.lifetime_ops.specs.Times.{new_row, retimed};
 

@@ -7,7 +7,7 @@ ghost use Rattle.tw_rows.specs.declared.kind.CellKind.{CellKind};
 ghost use Rattle.edge_history.specs.Order.{failing, is_end, is_below, is_from, IsReal};
 ghost use Rattle.edge_stream.specs.Lists.{no_edges};
 ghost use Rattle.edge_stream.specs.Listing.{cells_of};
-ghost use Rattle.life_laws.specs.Extending.{extended_starts, extended_ends};
+ghost use Rattle.plan_laws.specs.Extending.{extended_starts, extended_ends};
 ghost use Rattle.lifetime_ops.specs.Waiting.{edges_of_pending, TakesIn, IsWaitingEnd};
 
 use batch::Pools;

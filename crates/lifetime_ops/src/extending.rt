@@ -6,18 +6,17 @@ ghost use Rattle.tw_rows.specs.Kinds.{cell_kind_of};
 ghost use Rattle.tw_rows.specs.declared.kind.CellKind.{CellKind};
 ghost use Rattle.edge_history.specs.Order.{is_end};
 ghost use Rattle.edge_stream.specs.Listing.{cells_of};
-ghost use Rattle.carried_edges.specs.Entries.{part_of, IsEdgePart};
+ghost use Rattle.edge_stream.specs.Entries.{part_of, IsEdgePart};
 ghost use Rattle.lifetime_ops.specs.ExtendSaving.{is_end_in};
 ghost use Rattle.lifetime_ops.specs.Waiting.{edges_of_pending, IsWaitingEnd};
 
 use crate::extend::{ExtendLifetime, part_due, take_due};
 use batch::Pools;
-use carried_edges::{
-    are_of_parts, edges_of_part, is_edge_part, load_part, save_edges, save_part, take_below,
+use edge_stream::{
+    EdgeList, LoadFault, Operator, PartRow, Saved, StepFault, are_of_parts, edges_of_part,
+    is_edge_part, load_part, save_edges, save_part, take_below,
 };
-use edge_stream::{EdgeList, LoadFault, PartRow, Saved, StepFault};
 use end_queue::EndQueue;
-use operator::Operator;
 use std::alloc::Global;
 use tw_rows::{Edge, Kind, Memory, Time};
 

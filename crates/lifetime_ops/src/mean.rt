@@ -2,8 +2,8 @@
 ghost use Rattle.std.specs.Prelude.{◌≡◌, nat_eq, true, cond, IfOk};
 ghost use Rattle.std.specs.List.{list_any};
 ghost use Rattle.edge_stream.specs.Listing.{cells_of};
-ghost use Rattle.life_laws.specs.Answers.{answered};
-ghost use Rattle.node_laws.specs.Keeping.{plain_cells};
+ghost use Rattle.plan_laws.specs.Answers.{answered};
+ghost use Rattle.plan_laws.specs.Keeping.{plain_cells};
 ghost use Rattle.plan_model.specs.CellOps.{datum_int};
 ghost use Rattle.plan_model.specs.Means.{mean_of as mean_of_int, mean_row as row_of_means};
 ghost use Rattle.lifetime_ops.specs.Nodes.{node_of, answer_kinds, divides_ints};

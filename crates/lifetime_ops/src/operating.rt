@@ -4,14 +4,15 @@ ghost use Rattle.edge_stream.specs.Listing.{cells_of};
 
 use crate::alter_lifetime::{AlterLifetime, answer_of};
 use batch::Pools;
-use carried_edges::{are_of_parts, is_edge_part, load_part, save_part, take_below};
-use edge_stream::{EdgeList, LoadFault, PartRow, Saved, StepFault};
-use operator::Operator;
+use edge_stream::{
+    EdgeList, LoadFault, Operator, PartRow, Saved, StepFault, are_of_parts, is_edge_part,
+    load_part, save_part, take_below,
+};
 use tw_rows::{Memory, Time};
 
 impl AlterLifetime {
     ghost use Rattle.std.specs.Prelude.{◌↔◌, IsTrue, Err, IfOk, IfErr, OnOk};
-    ghost use Rattle.carried_edges.specs.Entries.{part_of};
+    ghost use Rattle.edge_stream.specs.Entries.{part_of};
     ghost use Rattle.edge_stream.specs.Listing.{SameShape};
     ghost use Rattle.lifetime_ops.specs.Operating.{IsState};
 

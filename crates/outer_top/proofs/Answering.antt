@@ -6,7 +6,7 @@ use Rattle.tw_rows.specs.declared.kind.CellKind.{CellKind}
 use Rattle.edge_history.specs.History.{CellEvent}
 use Rattle.key_nodes.specs.Tops.{greater}
 use Rattle.plan_laws.proofs.RowsOf.{each_filter, rows_alive, coalesced_rows_hold}
-use Rattle.sweep_operator.specs.Sweeping.{AreStored}
+use Rattle.sweep_sides.specs.Sweeping.{AreStored}
 use Rattle.sweep_sides.proofs.StoredRows.{Stored, rows_stored, stored_rows}
 use Rattle.outer_top.specs.TopKeys.{value_of, meets}
 use Rattle.outer_top.specs.TopEvents.{tops_at, tops}

@@ -24,12 +24,12 @@ use Rattle.edge_history.proofs.Telling.{told_nothing}
 use Rattle.edge_history.proofs.Waiting.{side_bound}
 use Rattle.edge_stream.specs.declared.saved.SavedEntry.{SavedEntry}
 use Rattle.end_queue.specs.Pending.{Pending}
-use Rattle.carried_edges.specs.Entries.{entries_of, part_of, are_of_parts}
-use Rattle.carried_edges.proofs.Parts.{parts_pass, part_of_own, part_of_other, part_of_append, parts_own, parts_append, all_pass}
+use Rattle.edge_stream.specs.Entries.{entries_of, part_of, are_of_parts}
+use Rattle.edge_stream.proofs.CarriedParts.{parts_pass, part_of_own, part_of_other, part_of_append, parts_own, parts_append, all_pass}
 use Rattle.plan_model.specs.declared.node.Node.TheVariants.{Top as TopNode}
 use Rattle.plan_laws.specs.Held.{may_hold}
-use Rattle.node_laws.proofs.Standing.{no_history}
-use Rattle.operator.specs.Standing.{own_kept, Standing, IsStoredAs, AreStoredAs}
+use Rattle.plan_laws.proofs.Standing.{no_history}
+use Rattle.edge_stream.specs.Standing.{own_kept, Standing, IsStoredAs, AreStoredAs}
 use Rattle.row_queues.proofs.OpenRows.{queues_are_open}
 use Rattle.row_queues.proofs.Once.{cells_tell}
 use Rattle.row_queues.specs.Queued.{queue_of}

@@ -18,7 +18,7 @@ use Rattle.edge_history.specs.Opens.{singles, ended_rows, started_rows}
 use Rattle.edge_history.specs.Order.{failing, is_below, is_end, IsReal}
 use Rattle.edge_history.proofs.Opening.{opens_known}
 use Rattle.edge_history.proofs.Sums.{weaker}
-use Rattle.carried_edges.proofs.Parts.{none_fails}
+use Rattle.edge_stream.proofs.CarriedParts.{none_fails}
 use Rattle.key_nodes.specs.Coalesced.{how_often, rows_before}
 use Rattle.key_nodes.proofs.Topping.{top_rows_same}
 use Rattle.sweep_laws.specs.Queues.{Cells, rise, fall, open_starts}

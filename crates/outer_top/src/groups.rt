@@ -5,7 +5,7 @@ ghost use Rattle.tw_rows.specs.declared.cells.Datum.{Datum as Item};
 ghost use Rattle.tw_rows.specs.declared.edge.HeldRow.{HeldRow};
 ghost use Rattle.edge_history.specs.Opens.{bare, is_held};
 ghost use Rattle.edge_history.specs.Order.{failing, many};
-ghost use Rattle.carried_edges.specs.Entries.{entries_of};
+ghost use Rattle.edge_stream.specs.Entries.{entries_of};
 ghost use Rattle.sweep_laws.specs.Saving.{starts_of};
 ghost use Rattle.outer_top.specs.Ranks.{rows_in, AreRanked, IsOnlyRank};
 

@@ -58,7 +58,7 @@ fn sum_of(a: usize, b: usize) -> Result<usize, Memory>
 
 impl Ranked {
     ghost use Rattle.std.specs.Prelude.{IsTrue};
-    ghost use Rattle.carried_edges.specs.Entries.{entries_of};
+    ghost use Rattle.edge_stream.specs.Entries.{entries_of};
     ghost use Rattle.outer_top.specs.Shown.{rows_of, shown_of, weight_of, KeepsRanks, HasChanged, HasSettled, IsBare};
     ghost use Rattle.sweep_laws.specs.Saving.{starts_of};
 

@@ -8,8 +8,7 @@ use edge_stream::{EdgeList, LoadFault, PartRow, Saved};
 use end_queue::EndQueue;
 use row_queues::RowQueues;
 use std::alloc::Global;
-use sweep_operator::Sweep;
-use sweep_sides::{save_waiting, take_in};
+use sweep_sides::{Sweep, save_waiting, take_in};
 use tw_rows::{Edge, Kind, Memory, Time};
 
 /// The rows that are alive, the open starts of those that are shown, and the pending edges of the child.

@@ -1,15 +1,15 @@
 // A Top: the `Swept` of its side, and one that keeps nothing yet.
 ghost use Rattle.std.specs.Prelude.{◌≡◌, ◌≤◌, [], length, IfOk};
 ghost use Rattle.plan_model.specs.declared.node.Node.TheVariants.{Top as TopNode};
-ghost use Rattle.sweep_operator.specs.Operating.{standing, IsNew};
-ghost use Rattle.sweep_operator.specs.Sweepers.{new_standing};
+ghost use Rattle.sweep_sides.specs.Operating.{standing, IsNew};
+ghost use Rattle.sweep_sides.specs.Sweepers.{new_standing};
 
 use crate::side::TopSide;
 use crate::tops::Tops;
 use end_queue::EndQueue;
 use row_queues::RowQueues;
 use std::alloc::Global;
-use sweep_operator::Swept;
+use sweep_sides::Swept;
 use tw_rows::{Kind, Memory};
 
 /// A Top: of the rows of its child at each instant, for each key, those with the greatest ints in one column: so many of them,

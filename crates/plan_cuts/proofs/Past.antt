@@ -20,7 +20,7 @@ use Rattle.key_nodes.proofs.RunSteps.{runs_same}
 use Rattle.key_nodes.proofs.Shards.{filter_both, weighs_all}
 use Rattle.plan_model.proofs.Each.{Each, each_all}
 use Rattle.plan_laws.proofs.RowsOf.{Rows, or_else, each_flat_map, each_distinct, rows_with_life, rows_cond, runs_rows}
-use Rattle.node_laws.proofs.Maps.{filter_to}
+use Rattle.plan_laws.proofs.Maps.{filter_to}
 
 -- the events whose rows pass
 abbrev pub kept : {R : Type 0} → (R → Bool) → List (Event R) → List (Event R)

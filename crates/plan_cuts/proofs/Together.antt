@@ -31,8 +31,8 @@ use Rattle.plan_model.proofs.Plans.{over_nodes-is}
 use Rattle.plan_model.proofs.Steady.{often_same, row_ends_alike, row_starts_alike}
 use Rattle.plan_laws.specs.Undefined.{undefined_at, undefined_node, first_below}
 use Rattle.plan_laws.proofs.Undefinedness.{group_at, first_below_none}
-use Rattle.node_laws.specs.Shards.{any_shard}
-use Rattle.node_laws.proofs.Keys.{undefined_shards}
+use Rattle.plan_laws.specs.Shards.{any_shard}
+use Rattle.plan_laws.proofs.Keys.{undefined_shards}
 use Rattle.plan_cuts.specs.Cuts.{is_among, node_places, width_at, cut_places, is_uncut, first_uncut, may_be_cut}
 use Rattle.plan_cuts.specs.Parts.{passes_at, passing_sources, in_part, part_of, part_at, IsCutBy}
 use Rattle.plan_cuts.proofs.Past.{alive_past, often_past}

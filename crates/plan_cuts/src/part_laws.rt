@@ -10,7 +10,7 @@ ghost use Rattle.plan_model.specs.Changes.{row_ends, row_starts};
 ghost use Rattle.plan_model.specs.IsPlan.{PlanParts};
 ghost use Rattle.plan_model.specs.Meaning.{Sources, events, snapshots};
 ghost use Rattle.plan_laws.specs.Undefined.{undefined_at};
-ghost use Rattle.node_laws.specs.Shards.{any_shard};
+ghost use Rattle.plan_laws.specs.Shards.{any_shard};
 ghost use Rattle.plan_cuts.specs.Cuts.{is_among, cut_places, may_be_cut};
 ghost use Rattle.plan_cuts.specs.Choices.{choice_count, choice, number_of};
 ghost use Rattle.plan_cuts.specs.Parts.{passing_events, passing_sources, part_of, part_at, IsCutBy};

@@ -17,9 +17,9 @@ use Rattle.plan_model.specs.declared.node.Node.{Node}
 use Rattle.plan_model.specs.declared.node.Node.TheVariants.{Group, Join, Anti}
 use Rattle.plan_model.specs.IsPlan.{kinds_of_schema, kinds_at, key_kinds, AreKeys, IsAggOver, IsOfKeysAlone}
 use Rattle.plan_model.proofs.Growing.{get_of_new, kinds_grow, kinds_of_new}
-use Rattle.query_columns.specs.Names.{key_of}
-use Rattle.query_columns.proofs.Fitting.{key_of-is, keys_alike-same, kinds-group_schema, kinds-join_schema, no_aggs}
-use Rattle.query_columns.proofs.Typing.{option_map_some}
+use Rattle.query_plan.specs.Names.{key_of}
+use Rattle.query_plan.proofs.Fitting.{key_of-is, keys_alike-same, kinds-group_schema, kinds-join_schema, no_aggs}
+use Rattle.query_plan.proofs.Typing.{option_map_some}
 use Rattle.query_plan.specs.Draft.{Named, Planned, Draft, and_then, needs, node_named, schema_at}
 use Rattle.query_plan.specs.Steps.{operand, PlannedSides, named_sides, are_alike, sides, join_node, key_group, anti_node}
 use Rattle.query_plan.proofs.Fits.{same_Ok, goes_on, takes, passes, IsFit, IsDraft, calm}

@@ -20,7 +20,7 @@ use Rattle.query_text.specs.declared.query.QueryStep.{QueryStep}
 use Rattle.query_text.specs.declared.query.QueryStep.TheVariants as S
 use Rattle.query_text.specs.declared.tree.TreeNode.{TreeNode}
 use Rattle.query_text.specs.declared.tree.TreeNode.TheVariants as N
-use Rattle.query_columns.specs.Schemas.{count_column}
+use Rattle.query_plan.specs.Schemas.{count_column}
 use Rattle.query_plan.specs.Planned.{planned, streams_planned}
 use Rattle.query_plan.specs.Draft.{Draft, no_draft, with_nodes}
 use Rattle.query_plan.specs.Steps.{step_nodes}

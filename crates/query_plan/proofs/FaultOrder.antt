@@ -10,9 +10,9 @@ use Rattle.plan_model.specs.IsPlan.{most_nodes}
 use Rattle.plan_model.specs.Reach.{event_level}
 use Rattle.query_text.specs.declared.query.QueryStep.{QueryStep}
 use Rattle.query_text.specs.declared.query.QueryStep.TheVariants as S
-use Rattle.query_columns.specs.Names.{column_of, key_of, expr_of, exprs_of, tree_exprs, aggs_of}
-use Rattle.query_columns.specs.Types.{same_kind, is_number, type_of, types_of, tree_types}
-use Rattle.query_columns.specs.Schemas.{column_at, select_schema, same_kinds, keys_alike, aggs_fit, fills_fit}
+use Rattle.query_plan.specs.Names.{column_of, key_of, expr_of, exprs_of, tree_exprs, aggs_of}
+use Rattle.query_plan.specs.Types.{same_kind, is_number, type_of, types_of, tree_types}
+use Rattle.query_plan.specs.Schemas.{column_at, select_schema, same_kinds, keys_alike, aggs_fit, fills_fit}
 use Rattle.query_plan.specs.Checked.{is_wide, has_twice}
 use Rattle.query_plan.specs.Draft.{Draft, Planned, and_then, needs, node_named, schema_at, with_nodes, reaches_too_far, admitted}
 use Rattle.query_plan.specs.Faults.{FaultRow, first_fault, fault_of, operand_or, key_or, unknown_sides, unlike_sides, is_test, lacks_events, step_rows, node_rows}

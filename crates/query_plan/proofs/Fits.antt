@@ -15,7 +15,7 @@ use Rattle.plan_model.specs.IsPlan.{kinds_of_schema, kinds_at, kinds_of_stream, 
 use Rattle.plan_model.specs.Meaning.{left_child, right_child, left_of, right_of, HasLower, reads_events, reads_right_events}
 use Rattle.plan_model.specs.Reach.{reach, event_level}
 use Rattle.plan_model.proofs.Growing.{reach_grows, reach_of_new, nodes_grow}
-use Rattle.query_columns.specs.Schemas.{name_twice}
+use Rattle.query_plan.specs.Schemas.{name_twice}
 use Rattle.query_plan.specs.Draft.{Planned, Draft, and_then, needs, with_nodes, has_key_twice, reaches_too_far, admitted}
 
 -- what is answered where there is no fault

@@ -20,11 +20,11 @@ use Rattle.plan_model.specs.Keys.{outside_key}
 use Rattle.plan_model.specs.Typed.{kind_of}
 use Rattle.plan_model.proofs.Growing.{kinds_grow}
 use Rattle.query_text.specs.declared.tree.TreeNode.{TreeNode}
-use Rattle.query_columns.specs.Names.{tree_exprs}
-use Rattle.query_columns.specs.Types.{kinds, tree_types}
-use Rattle.query_columns.specs.Schemas.{fills_fit}
-use Rattle.query_columns.proofs.Fitting.{kinds-join_schema, fills_fit-same}
-use Rattle.query_columns.proofs.Typing.{tree_types-typed}
+use Rattle.query_plan.specs.Names.{tree_exprs}
+use Rattle.query_plan.specs.Types.{kinds, tree_types}
+use Rattle.query_plan.specs.Schemas.{fills_fit}
+use Rattle.query_plan.proofs.Fitting.{kinds-join_schema, fills_fit-same}
+use Rattle.query_plan.proofs.Typing.{tree_types-typed}
 use Rattle.query_plan.specs.Draft.{Planned, Draft, schema_at}
 use Rattle.query_plan.specs.Steps.{PlannedSides, joined, join_node, key_group, anti_node, columns_alone, filled_node, left_nodes}
 use Rattle.query_plan.proofs.Fits.{IsFit, AllFit, calm}

@@ -26,15 +26,15 @@ use Rattle.query_text.specs.declared.query.QueryAgg.{QueryAgg}
 use Rattle.query_text.specs.declared.query.QueryStep.{QueryStep}
 use Rattle.query_text.specs.declared.query.QueryStep.TheVariants as S
 use Rattle.query_text.specs.declared.tree.TreeNode.{TreeNode}
-use Rattle.query_columns.specs.Names.{column_of, key_of, expr_of, exprs_of, tree_exprs, aggs_of}
-use Rattle.query_columns.specs.Schemas.{column_at, select_schema, same_kinds, aggs_fit, fills_fit}
-use Rattle.query_columns.specs.Types.{same_kind, is_number, type_of, types_of, tree_types}
-use Rattle.query_columns.proofs.Fitting.{column_of_low, key_of-is, number_column, same_kinds-same, aggs_of-are, kinds-select_schema, kinds-join_schema}
-use Rattle.query_columns.proofs.Typing.{same_kind-same, number_is_whole, type_of-typed, types_of-typed}
+use Rattle.query_plan.specs.Names.{column_of, key_of, expr_of, exprs_of, tree_exprs, aggs_of}
+use Rattle.query_plan.specs.Schemas.{column_at, select_schema, same_kinds, aggs_fit, fills_fit}
+use Rattle.query_plan.specs.Types.{same_kind, is_number, type_of, types_of, tree_types}
+use Rattle.query_plan.proofs.Fitting.{column_of_low, key_of-is, number_column, same_kinds-same, aggs_of-are, kinds-select_schema, kinds-join_schema}
+use Rattle.query_plan.proofs.Typing.{same_kind-same, number_is_whole, type_of-typed, types_of-typed}
 use Rattle.query_plan.specs.Draft.{Named, Planned, Draft, no_draft, and_then, needs, is_taken, schema_at, with_nodes, with_name, admitted}
 use Rattle.query_plan.specs.Planned.{Reached, stream_planned, streams_planned, step_planned, steps_planned, let_planned, lets_planned, planned}
 use Rattle.query_plan.specs.Steps.{operand, over_events, alone, named_sides, are_alike, sides, joined, where_step, select_step, union_step, duration_step, extend_step, is_window, hop_step, session_step, clip_step, join_node, join_step, key_group, anti_node, anti_step, left_nodes, left_step, grouped, group_step, is_top_count, top_step, follow_step, step_nodes}
-use Rattle.query_plan.proofs.Averages.{grouped_fit}
+use Rattle.query_plan.proofs.Averaging.{grouped_fit}
 use Rattle.query_plan.proofs.BothSides.{operand_low, AreSides, named_sides_are, sides_are, join_fit, group_fit, anti_fit}
 use Rattle.query_plan.proofs.Fits.{same_Ok, goes_on, takes, passes, IsAdmitted, admitted_is, IsFit, IsDraft, calm, eventful, all_keep, one_keeps}
 use Rattle.query_plan.proofs.LeftNodes.{left_fit}

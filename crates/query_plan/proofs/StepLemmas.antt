@@ -9,8 +9,8 @@ use Rattle.plan_model.specs.declared.expr.ExprNode.TheVariants as E
 use Rattle.plan_model.specs.declared.fault.QueryFault.TheVariants as F
 use Rattle.plan_model.proofs.Counting.{instants-add}
 use Rattle.query_text.specs.declared.query.QueryAgg.{QueryAgg}
-use Rattle.query_columns.specs.Names.{key_of, aggs_of}
-use Rattle.query_columns.specs.Schemas.{aggs_fit}
+use Rattle.query_plan.specs.Names.{key_of, aggs_of}
+use Rattle.query_plan.specs.Schemas.{aggs_fit}
 use Rattle.query_plan.specs.Draft.{Draft, and_then, needs, schema_at}
 use Rattle.query_plan.specs.Steps.{columns_alone, grouped, group_step}
 use Rattle.query_plan.proofs.Answering.{goes_on}

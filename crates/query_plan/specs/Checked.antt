@@ -4,7 +4,7 @@ use Rattle.std.specs.List.{list_any}
 use Rattle.plan_model.specs.declared.fault.QueryFault.{QueryFault}
 use Rattle.plan_model.specs.declared.fault.QueryFault.TheVariants as F
 use Rattle.plan_model.specs.IsPlan.{most_nodes, most_columns}
-use Rattle.query_columns.specs.Schemas.{name_twice}
+use Rattle.query_plan.specs.Schemas.{name_twice}
 use Rattle.query_plan.specs.Draft.{Planned, has_key_twice, and_then, needs}
 
 -- one of the nodes has more columns than a node may have

@@ -10,7 +10,7 @@ use Rattle.plan_model.specs.declared.node.Node.{Node}
 use Rattle.plan_model.specs.declared.node.Node.TheVariants.{Source, Where, Select, Union, Delay, Hop, Duration, Extend, Session, Clip, Group, Join, Anti, Coalesce, Mean, Top, Follow}
 use Rattle.plan_model.specs.Reach.{reach}
 use Rattle.plan_model.specs.IsPlan.{most_reach, most_nodes, most_columns}
-use Rattle.query_columns.specs.Schemas.{name_twice, key_twice}
+use Rattle.query_plan.specs.Schemas.{name_twice, key_twice}
 
 -- a name of a stream or of a let, and the node whose rows it stands for
 pub record Named : Type 0 where

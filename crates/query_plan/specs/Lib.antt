@@ -7,3 +7,6 @@ pub mod Steps
 pub mod Faults
 pub mod Planned
 pub mod Explained
+pub mod Names
+pub mod Types
+pub mod Schemas

@@ -19,9 +19,9 @@ use Rattle.query_text.specs.declared.query.QueryStep.TheVariants as S
 use Rattle.query_text.specs.declared.query.Item.{Item}
 use Rattle.query_text.specs.declared.query.QueryAgg.{QueryAgg}
 use Rattle.query_text.specs.declared.tree.TreeNode.{TreeNode}
-use Rattle.query_columns.specs.Names.{column_of, key_of, expr_of, exprs_of, tree_exprs, aggs_of}
-use Rattle.query_columns.specs.Types.{same_kind, is_number, type_of, types_of, tree_types}
-use Rattle.query_columns.specs.Schemas.{column_at, select_schema, group_schema, count_column, join_schema, same_kinds, keys_alike, aggs_fit, is_avg, averages_from, fills_fit}
+use Rattle.query_plan.specs.Names.{column_of, key_of, expr_of, exprs_of, tree_exprs, aggs_of}
+use Rattle.query_plan.specs.Types.{same_kind, is_number, type_of, types_of, tree_types}
+use Rattle.query_plan.specs.Schemas.{column_at, select_schema, group_schema, count_column, join_schema, same_kinds, keys_alike, aggs_fit, is_avg, averages_from, fills_fit}
 use Rattle.query_plan.specs.Draft.{Draft, Planned, and_then, needs, node_named, schema_at}
 
 -- the node that an operand names

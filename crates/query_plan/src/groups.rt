@@ -2,19 +2,17 @@
 ghost use Rattle.std.specs.Prelude.{◌≡◌, ◌++◌, ◌∷◌, [], ok_or, Ok, IfOk, nat_le};
 ghost use Rattle.plan_model.specs.declared.agg.Agg.TheVariants as A;
 ghost use Rattle.plan_model.specs.declared.fault.QueryFault.TheVariants as F;
-ghost use Rattle.query_columns.specs.Names.{column_of as column_named, aggs_of};
-ghost use Rattle.query_columns.specs.Types.{is_number};
-ghost use Rattle.query_columns.specs.Schemas.{column_at, count_column, averages_from};
+ghost use Rattle.query_plan.specs.Names.{column_of as column_named, aggs_of};
+ghost use Rattle.query_plan.specs.Types.{is_number};
+ghost use Rattle.query_plan.specs.Schemas.{column_at, count_column, averages_from};
 ghost use Rattle.query_plan.specs.Answer.{Is};
 ghost use Rattle.query_plan.specs.Steps.{has_average, grouped, group_step, is_top_count, top_step};
 
 use crate::checks::needs;
 use crate::draft::PlannedNode;
 use crate::steps::{StepContext, found};
+use crate::{aggs_fit, aggs_of, averages, column_of, counted_schema, group_schema, is_number};
 use plan_model::{Agg, AggList, Key, Node, QueryError, QueryFault};
-use query_columns::{
-    aggs_fit, aggs_of, averages, column_of, counted_schema, group_schema, is_number,
-};
 use query_text::{AggFun, NameList, QueryAgg};
 use std::alloc::Global;
 use tw_rows::{ColumnDef, Kind, Label, Memory};

@@ -2,8 +2,8 @@
 ghost use Rattle.std.specs.Prelude.{◌≡◌, ◌∷◌, [], ok_or, Ok};
 ghost use Rattle.tw_rows.specs.declared.kind.Kind.TheVariants as K;
 ghost use Rattle.plan_model.specs.declared.fault.QueryFault.TheVariants as F;
-ghost use Rattle.query_columns.specs.Names.{key_of};
-ghost use Rattle.query_columns.specs.Types.{same_kind, types_of};
+ghost use Rattle.query_plan.specs.Names.{key_of};
+ghost use Rattle.query_plan.specs.Types.{same_kind, types_of};
 ghost use Rattle.query_plan.specs.Answer.{Is};
 ghost use Rattle.query_plan.specs.Steps.{operand, over_events, alone, where_step, select_step};
 ghost use Rattle.query_plan.specs.Steps.{union_step, duration_step, extend_step, is_window};
@@ -11,10 +11,8 @@ ghost use Rattle.query_plan.specs.Steps.{hop_step, session_step, step_nodes};
 
 use crate::checks::needs;
 use crate::draft::{Draft, PlannedNode};
+use crate::{copied, expr_of, exprs_of, key_of, same_kinds, select_schema, type_of, types_of};
 use plan_model::{Key, Node, QueryError, QueryFault};
-use query_columns::{
-    copied, expr_of, exprs_of, key_of, same_kinds, select_schema, type_of, types_of,
-};
 use query_text::{ItemList, NameList, QueryStep, Tree};
 use std::alloc::Global;
 use tw_rows::{ColumnDef, Kind, Label, Schema};

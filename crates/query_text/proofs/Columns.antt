@@ -1,10 +1,10 @@
 -- A column begins with its name.
 use Rattle.std.proofs.Common.{◌≡◌, ◌≤◌, ℕ, List, ◌∷◌, Bool, true, false, ◌&&◌, nat_le, refl, arith}
 use Rattle.std.proofs.lemmas.Bool.Decides.{nat_tests}
-use Rattle.query_words.specs.declared.word.Sign.TheVariants as S
-use Rattle.query_grammar.specs.Token.{Token, fixed}
-use Rattle.query_grammar.specs.Grammar as G
-use Rattle.query_grammar.specs.Grammar.{col_then}
+use Rattle.query_text.specs.declared.word.Sign.TheVariants as S
+use Rattle.query_text.specs.Token.{Token, fixed}
+use Rattle.query_text.specs.Grammar as G
+use Rattle.query_text.specs.Grammar.{col_then}
 use Rattle.query_text.specs.Reading.{name_then, places_then}
 
 pub col_free : {X : Type 0} (old : List Token) → ((n : List ℕ) (w : List Token) → old ≡ name_then n w → X) → (c : G.Col) (z : List Token) → old ≡ col_then c z → X

@@ -8,19 +8,19 @@ use Rattle.std.proofs.Math.Seq.{drop-cons}
 use Rattle.std.proofs.lemmas.Int.{to_z_pos}
 use denote.Enum.Bare.{sameb, same_true, true_same}
 use Rattle.plan_model.specs.IsExpr.{IsOneLine}
-use Rattle.query_words.specs.declared.word.Sign.{Sign}
-use Rattle.query_words.specs.declared.word.Sign.TheVariants as S
-use Rattle.query_words.specs.declared.word.Word.{Word}
-use Rattle.query_words.specs.declared.word.Spot.{Spot}
-use Rattle.query_words.specs.contracts.word.Sign.{the_type}
-use Rattle.query_words.specs.Words.{words_of}
-use Rattle.query_words.specs.Spots.{IsQuotedAt, IsSpotIn, IsSpotAt, IsSpotCut, IsSpotCutAt}
-use Rattle.query_words.proofs.Spots.{spots, spots_cut}
-use Rattle.query_grammar.specs.Token.{Token, name, int, str, fixed, token_at, token_of, unquoted}
-use Rattle.query_grammar.specs.TokenForm.{IsSound, IsLineText}
-use Rattle.query_grammar.proofs.TokenForm.{tokens_sound}
-use Rattle.query_grammar.specs.Grammar as G
-use Rattle.query_grammar.specs.Grammar.{atom_then}
+use Rattle.query_text.specs.declared.word.Sign.{Sign}
+use Rattle.query_text.specs.declared.word.Sign.TheVariants as S
+use Rattle.query_text.specs.declared.word.Word.{Word}
+use Rattle.query_text.specs.declared.word.Spot.{Spot}
+use Rattle.query_text.specs.contracts.word.Sign.{the_type}
+use Rattle.query_text.specs.Words.{words_of}
+use Rattle.query_text.specs.Spots.{IsQuotedAt, IsSpotIn, IsSpotAt, IsSpotCut, IsSpotCutAt}
+use Rattle.query_text.proofs.Spots.{spots, spots_cut}
+use Rattle.query_text.specs.Token.{Token, name, int, str, fixed, token_at, token_of, unquoted}
+use Rattle.query_text.specs.TokenForm.{IsSound, IsLineText}
+use Rattle.query_text.proofs.TokenForm.{tokens_sound}
+use Rattle.query_text.specs.Grammar as G
+use Rattle.query_text.specs.Grammar.{atom_then}
 use Rattle.query_text.specs.declared.tree.TreeNode.TheVariants as N
 use Rattle.query_text.specs.Reading.{Lacks, TakesValue, Any, IsSmall, IsSmallDec, dec_of, IsParens, TakesLeaf}
 

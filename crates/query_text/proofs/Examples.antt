@@ -3,7 +3,7 @@ use Rattle.std.specs.Prelude.{◌≡◌, ℕ, pos, Some, List, [], ◌∷◌, re
 use Rattle.tw_rows.specs.declared.kind.Kind.TheVariants as K
 use Rattle.plan_model.specs.declared.expr.ArithOp.TheVariants as A
 use Rattle.plan_model.specs.declared.expr.CompareOp.TheVariants as C
-use Rattle.query_grammar.specs.Grammar as G
+use Rattle.query_text.specs.Grammar as G
 use Rattle.query_text.specs.declared.tree.TreeNode.TheVariants as N
 use Rattle.query_text.specs.declared.query.AggFun.TheVariants as F
 use Rattle.query_text.specs.declared.query.QueryStep.TheVariants as T

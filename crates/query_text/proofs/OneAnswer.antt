@@ -5,10 +5,10 @@ use Rattle.query_text.specs.Spelling.{query_of}
 use Rattle.std.proofs.Common.{Bool, true, false, nat_le, sym, ◌∙◌, ap, arith, inl, inr}
 use Rattle.plan_model.specs.declared.fault.QueryFault.{QueryFault}
 use Rattle.plan_model.specs.declared.fault.QueryFault.TheVariants.{Syntax, LongExpr, TooLarge, UnknownName, TypeClash, NotEventLevel, BadWindow, ReachTooLong, TooManyNodes, TooManyColumns, NameTaken}
-use Rattle.query_grammar.specs.Answer.{IsAnswer}
-use Rattle.query_grammar.specs.declared.fault.Fault.{Fault}
-use Rattle.query_grammar.specs.declared.fault.Fault.TheVariants as F
-use Rattle.query_grammar.proofs.OneAnswer.{answered, one_answer}
+use Rattle.query_text.specs.Answer.{IsAnswer}
+use Rattle.query_text.specs.declared.fault.Fault.{Fault}
+use Rattle.query_text.specs.declared.fault.Fault.TheVariants as F
+use Rattle.query_text.proofs.OneReading.{answered, one_answer}
 use Rattle.query_text.specs.declared.query.Query.{Query}
 use Rattle.query_text.specs.IsParse.{Spells, IsSmallText, IsTextFault, fault_of}
 

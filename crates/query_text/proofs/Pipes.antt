@@ -1,14 +1,14 @@
 -- The steps of the parser of names, items, steps and pipes.
 use Rattle.std.proofs.Common.{◌≡◌, ℕ, ◌<◌, ◌≤◌, suc, length, true, false, Some, None, List, [], ◌∷◌, ◌++◌, refl, ap, sym, subst, ◌∙◌, append_assoc, append-nil, arith, true≢false, lit<}
-use Rattle.query_words.specs.declared.word.Sign.{Sign}
-use Rattle.query_words.specs.declared.word.Sign.TheVariants as S
-use Rattle.query_grammar.specs.Token.{Token, name, fixed}
-use Rattle.query_grammar.specs.Grammar as G
-use Rattle.query_grammar.specs.Grammar.{fun_sign, expr_then, unary_then, item_then, items_then, agg_then, lit_then, else_then, step_then, steps_then, pipe_then, lets_then}
-use Rattle.query_grammar.specs.Machine.{rank, binds}
-use Rattle.query_grammar.proofs.Queries.{low_end, ends_steps as steps_end}
-use Rattle.query_grammar.proofs.Unique.{one_fun, no_count, step_at, no_other_step}
-use Rattle.query_grammar.proofs.Complete.{low_as}
+use Rattle.query_text.specs.declared.word.Sign.{Sign}
+use Rattle.query_text.specs.declared.word.Sign.TheVariants as S
+use Rattle.query_text.specs.Token.{Token, name, fixed}
+use Rattle.query_text.specs.Grammar as G
+use Rattle.query_text.specs.Grammar.{fun_sign, expr_then, unary_then, item_then, items_then, agg_then, lit_then, else_then, step_then, steps_then, pipe_then, lets_then}
+use Rattle.query_text.specs.Machine.{rank, binds}
+use Rattle.query_text.proofs.Queries.{low_end, ends_steps as steps_end}
+use Rattle.query_text.proofs.Unique.{one_fun, no_count, step_at, no_other_step}
+use Rattle.query_text.proofs.Complete.{low_as}
 use Rattle.query_text.specs.declared.tree.TreeNode.{TreeNode}
 use Rattle.query_text.specs.Spelling.{tree_of, item_of, unary_of}
 use Rattle.query_text.specs.Reading.{Lacks, IsAhead, Listing, ends_pipe, ends_step, ends_item, name_then, int_then, as_then, computed_then, hop_then, session_then, operand_then, group_then, left_then, top_then, follow_then, lit_list_then, select_then}

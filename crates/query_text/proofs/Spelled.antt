@@ -1,6 +1,6 @@
 -- A text spells at most one query.
 use Rattle.std.proofs.Common.{◌≡◌, ℕ, List, ap, sym, ◌∙◌}
-use Rattle.query_grammar.proofs.Unique.{query_unique}
+use Rattle.query_text.proofs.Unique.{query_unique}
 use Rattle.query_text.specs.declared.query.Query.{Query}
 use Rattle.query_text.specs.Spelling.{query_of}
 use Rattle.query_text.specs.IsParse.{Spells}

@@ -5,13 +5,13 @@ use Rattle.std.proofs.lemmas.Result.{err_from_is_err_and}
 use Rattle.plan_model.specs.declared.expr.ArithOp.{ArithOp}
 use Rattle.plan_model.specs.declared.expr.ArithOp.TheVariants as A
 use Rattle.plan_model.specs.declared.expr.CompareOp.{CompareOp}
-use Rattle.query_words.specs.declared.word.Sign.TheVariants as S
-use Rattle.query_grammar.specs.Token.{Token, int, fixed}
-use Rattle.query_grammar.specs.Grammar as G
-use Rattle.query_grammar.specs.Grammar.{expr_then, ors_then, conj_then, ands_then, neg_then, test_then, sum_then, terms_then, prod_then, factors_then, unary_then, atom_then, comparison_sign}
-use Rattle.query_grammar.specs.Machine.{rank}
-use Rattle.query_grammar.proofs.Unique.{not_or, not_and, not_plus, not_minus, not_star, not_div, not_mod, not_test, one_sign, not_sum, not_atom}
-use Rattle.query_grammar.proofs.Complete.{low_ors, low_ands, low_test, low_terms, low_close}
+use Rattle.query_text.specs.declared.word.Sign.TheVariants as S
+use Rattle.query_text.specs.Token.{Token, int, fixed}
+use Rattle.query_text.specs.Grammar as G
+use Rattle.query_text.specs.Grammar.{expr_then, ors_then, conj_then, ands_then, neg_then, test_then, sum_then, terms_then, prod_then, factors_then, unary_then, atom_then, comparison_sign}
+use Rattle.query_text.specs.Machine.{rank}
+use Rattle.query_text.proofs.Unique.{not_or, not_and, not_plus, not_minus, not_star, not_div, not_mod, not_test, one_sign, not_sum, not_atom}
+use Rattle.query_text.proofs.Complete.{low_ors, low_ands, low_test, low_terms, low_close}
 use Rattle.query_text.specs.declared.stop.Stop.{Stop}
 use Rattle.query_text.specs.declared.stop.Stop.TheVariants.{Stuck, Memory}
 use Rattle.query_text.specs.declared.tree.TreeNode.{TreeNode}

@@ -4,12 +4,12 @@ use Rattle.plan_model.specs.declared.fault.QueryFault.{QueryFault}
 use Rattle.plan_model.specs.declared.fault.QueryFault.TheVariants.{Syntax, LongExpr, TooLarge}
 use Rattle.plan_model.specs.declared.fault.QueryError.{QueryError}
 use Rattle.plan_model.specs.declared.fault.QueryError.TheVariants as E
-use Rattle.query_grammar.specs.Token.{tokens_of}
-use Rattle.query_grammar.specs.Grammar as G
-use Rattle.query_grammar.specs.Limit.{IsWithin}
-use Rattle.query_grammar.specs.Answer.{IsAnswer}
-use Rattle.query_grammar.specs.declared.fault.Fault.{Fault}
-use Rattle.query_grammar.specs.declared.fault.Fault.TheVariants as F
+use Rattle.query_text.specs.Token.{tokens_of}
+use Rattle.query_text.specs.Grammar as G
+use Rattle.query_text.specs.Limit.{IsWithin}
+use Rattle.query_text.specs.Answer.{IsAnswer}
+use Rattle.query_text.specs.declared.fault.Fault.{Fault}
+use Rattle.query_text.specs.declared.fault.Fault.TheVariants as F
 use Rattle.query_text.specs.declared.query.Query.{Query}
 use Rattle.query_text.specs.Spelling.{query_of}
 

@@ -4,12 +4,12 @@ use Rattle.plan_model.specs.IsExpr.{IsDivisor}
 use Rattle.plan_model.specs.declared.expr.ArithOp.{ArithOp}
 use Rattle.plan_model.specs.declared.expr.ArithOp.TheVariants as A
 use Rattle.plan_model.specs.declared.expr.CompareOp.{CompareOp}
-use Rattle.query_words.specs.declared.word.Sign.{Sign}
-use Rattle.query_words.specs.declared.word.Sign.TheVariants as S
-use Rattle.query_grammar.specs.Token.{Token, name, int, dec, fixed}
-pub use Rattle.query_grammar.specs.Follows.{Lacks, ends_pipe, ends_step, ends_item, name_then, int_then, pos_then}
-use Rattle.query_grammar.specs.Grammar as G
-use Rattle.query_grammar.specs.Grammar.{atom_then, comparison_sign}
+use Rattle.query_text.specs.declared.word.Sign.{Sign}
+use Rattle.query_text.specs.declared.word.Sign.TheVariants as S
+use Rattle.query_text.specs.Token.{Token, name, int, dec, fixed}
+pub use Rattle.query_text.specs.Follows.{Lacks, ends_pipe, ends_step, ends_item, name_then, int_then, pos_then}
+use Rattle.query_text.specs.Grammar as G
+use Rattle.query_text.specs.Grammar.{atom_then, comparison_sign}
 use Rattle.query_text.specs.declared.stop.Stop.{Stop}
 use Rattle.query_text.specs.declared.stop.Stop.TheVariants.{Stuck, Memory}
 use Rattle.query_text.specs.declared.tree.TreeNode.{TreeNode}

@@ -6,7 +6,7 @@ use Rattle.tw_rows.specs.declared.schema.StreamDef.{StreamDef}
 use Rattle.plan_model.specs.declared.expr.ArithOp.TheVariants as A
 use Rattle.plan_model.specs.declared.expr.CompareOp.{CompareOp}
 use Rattle.plan_model.specs.declared.expr.CompareOp.TheVariants as C
-use Rattle.query_grammar.specs.Grammar as G
+use Rattle.query_text.specs.Grammar as G
 use Rattle.query_text.specs.declared.tree.TreeNode.{TreeNode}
 use Rattle.query_text.specs.declared.tree.TreeNode.TheVariants as N
 use Rattle.query_text.specs.declared.query.AggFun.{AggFun}

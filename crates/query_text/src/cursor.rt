@@ -1,15 +1,15 @@
 // The words of a query that are left. Only what stands here looks at a word.
 ghost use Rattle.std.specs.Prelude.{◌≡◌, ℕ, ◌<◌, ◌≤◌, length, IfOk, IfSome, IsUtf8};
 ghost use Rattle.plan_model.specs.IsExpr.{IsOneLine, IsDivisor};
-ghost use Rattle.query_words.specs.Words.{words_of};
-ghost use Rattle.query_grammar.specs.Token.{name, int, str, fixed, tokens_of, unquoted};
+ghost use Rattle.query_text.specs.Words.{words_of};
+ghost use Rattle.query_text.specs.Token.{name, int, str, fixed, tokens_of, unquoted};
 ghost use Rattle.query_text.specs.Reading.{Takes, IsAhead, TakesValue, TakesPos, Any, IsSmall};
 ghost use Rattle.query_text.specs.Reading.{IsSmallDec, dec_of, TakesCompare, TakesTerm, TakesLeaf};
 ghost use Rattle.query_text.specs.IsTree.{IsTreeNode};
 
 use crate::tree::TreeNode;
+use crate::{Sign, Spot, Word};
 use plan_model::{ArithOp, CompareOp};
-use query_words::{Sign, Spot, Word};
 use std::alloc::Global;
 use std::marker::Model;
 use std::str::from_utf8;
@@ -45,8 +45,8 @@ pub(crate) struct Cursor<'a> {
 
 impl<'a> Model for Cursor<'a> {
     ghost use Rattle.std.specs.Prelude.{◌≡◌, ◌≤◌, List, map, drop, length, IsUtf8};
-    ghost use Rattle.query_words.specs.Words.{words_of};
-    ghost use Rattle.query_grammar.specs.Token.{Token, token_of};
+    ghost use Rattle.query_text.specs.Words.{words_of};
+    ghost use Rattle.query_text.specs.Token.{Token, token_of};
 
     ghost Value = { List Token };
 

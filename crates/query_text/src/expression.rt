@@ -1,19 +1,19 @@
 // The parser of expressions.
 ghost use Rattle.std.specs.Prelude.{◌≡◌, ◌<◌, ◌≤◌, ◌-◌, length, Some, None, IfOk, IfErr};
-ghost use Rattle.query_grammar.specs.Grammar.{expr_then, ors_then, conj_then, ands_then, neg_then};
-ghost use Rattle.query_grammar.specs.Grammar.{test_then, sum_then, terms_then, prod_then};
-ghost use Rattle.query_grammar.specs.Grammar.{factors_then, unary_then, atom_then};
-ghost use Rattle.query_grammar.specs.Machine.{rank};
+ghost use Rattle.query_text.specs.Grammar.{expr_then, ors_then, conj_then, ands_then, neg_then};
+ghost use Rattle.query_text.specs.Grammar.{test_then, sum_then, terms_then, prod_then};
+ghost use Rattle.query_text.specs.Grammar.{factors_then, unary_then, atom_then};
+ghost use Rattle.query_text.specs.Machine.{rank};
 ghost use Rattle.query_text.specs.Spelling.{expr_onto, ors_onto, conj_onto, ands_onto, neg_onto};
 ghost use Rattle.query_text.specs.Spelling.{test_onto, sum_onto, terms_onto, prod_onto};
 ghost use Rattle.query_text.specs.Spelling.{factors_onto, unary_onto, atom_onto};
 ghost use Rattle.query_text.specs.Reading.{Reads, ReadsOne, Shrinks, TakesPos};
 
+use crate::Sign;
 use crate::cursor::Cursor;
 use crate::stop::Stop;
 use crate::tree::{Nodes, TreeNode};
 use plan_model::ArithOp;
-use query_words::Sign;
 use std::alloc::Global;
 
 /// The words of a query that are left, and the nodes of the expression that is being read. What reads a part of an

@@ -1,10 +1,10 @@
 // The parser of names, items, aggregates, steps and pipes.
 ghost use Rattle.std.specs.Prelude.{◌≡◌, ◌≤◌, ℕ, suc, List, [], ◌∷◌, length, map, ◌<◌, true, Some, None, IfOk};
-ghost use Rattle.query_words.specs.declared.word.Sign.TheVariants as S;
-ghost use Rattle.query_grammar.specs.Grammar.{expr_then, unary_then, names_then, by_then, on_then};
-ghost use Rattle.query_grammar.specs.Grammar.{per_then, else_then, item_then, agg_then, step_then};
-ghost use Rattle.query_grammar.specs.Grammar.{pipe_then};
-ghost use Rattle.query_grammar.specs.Machine.{rank};
+ghost use Rattle.query_text.specs.declared.word.Sign.TheVariants as S;
+ghost use Rattle.query_text.specs.Grammar.{expr_then, unary_then, names_then, by_then, on_then};
+ghost use Rattle.query_text.specs.Grammar.{per_then, else_then, item_then, agg_then, step_then};
+ghost use Rattle.query_text.specs.Grammar.{pipe_then};
+ghost use Rattle.query_text.specs.Machine.{rank};
 ghost use Rattle.query_text.specs.declared.query.AggFun.TheVariants as F;
 ghost use Rattle.query_text.specs.declared.query.QueryStep.TheVariants as T;
 ghost use Rattle.query_text.specs.Spelling.{tree_of, unary_onto, names_of, by_of, on_of, per_of, lit_of, fills_of, item_of, agg_of, step_of, pipe_of};
@@ -13,15 +13,15 @@ ghost use Rattle.query_text.specs.Reading.{sign_then, name_then, int_then, as_th
 ghost use Rattle.query_text.specs.Reading.{hop_then, session_then, operand_then, group_then};
 ghost use Rattle.query_text.specs.Reading.{pos_then, left_then, top_then, follow_then};
 ghost use Rattle.query_text.specs.Reading.{lit_list_then, select_then, agg_list_then};
-ghost use Rattle.query_grammar.specs.Token.{fixed};
+ghost use Rattle.query_text.specs.Token.{fixed};
 
+use crate::Sign;
 use crate::expression::Parser;
 use crate::query::{
     AggFun, AggList, Item, ItemList, NameList, Pipe, QueryAgg, QueryStep, StepList, TreeList,
 };
 use crate::stop::Stop;
 use crate::tree::{Nodes, Tree};
-use query_words::Sign;
 use std::mem::replace;
 use tw_rows::Label;
 

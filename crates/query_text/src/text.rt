@@ -1,8 +1,8 @@
 // The parser of streams, lets and whole queries.
 ghost use Rattle.std.specs.Prelude.{◌≡◌, ◌≤◌, ◌<◌, ℕ, List, [], ◌∷◌, length, map, true, IfOk};
-ghost use Rattle.query_words.specs.declared.word.Sign.TheVariants as S;
-ghost use Rattle.query_grammar.specs.Token.{fixed, tokens_of};
-ghost use Rattle.query_grammar.specs.Grammar.{col_then, query_then};
+ghost use Rattle.query_text.specs.declared.word.Sign.TheVariants as S;
+ghost use Rattle.query_text.specs.Token.{fixed, tokens_of};
+ghost use Rattle.query_text.specs.Grammar.{col_then, query_then};
 ghost use Rattle.query_text.specs.Spelling.{col_of, stream_of, let_of, query_of};
 ghost use Rattle.query_text.specs.Reading.{Reads, Lacks, Any, ends_pipe, places_then};
 ghost use Rattle.query_text.specs.Reading.{col_list_then, stream_rest_then, stream_list_then};
@@ -14,9 +14,8 @@ use crate::expression::Parser;
 use crate::query::{Let, LetList, Query};
 use crate::stop::Stop;
 use crate::tree::Nodes;
+use crate::{Fault, Sign, first_fault, words};
 use plan_model::{QueryError, QueryFault, StreamList};
-use query_grammar::{Fault, first_fault};
-use query_words::{Sign, words};
 use std::alloc::Global;
 use tw_rows::{ColumnDef, Kind, Schema, StreamDef};
 

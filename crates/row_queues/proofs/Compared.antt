@@ -5,7 +5,7 @@ use Rattle.std.proofs.Common.{sym, ◌∙◌, ap, subst, arith}
 use Rattle.tw_rows.specs.SameCells.{same_cells}
 use Rattle.tw_rows.specs.declared.cells.Datum.{Datum}
 use Rattle.tw_rows.proofs.Bags.{total-append}
-use Rattle.carried_edges.proofs.Parts.{none_fails}
+use Rattle.edge_stream.proofs.CarriedParts.{none_fails}
 use Rattle.key_nodes.specs.Coalesced.{how_often}
 use Rattle.row_queues.specs.declared.moves.Moves.{Moves}
 use Rattle.row_queues.specs.Kept.{ends_of, starts_of, AreOnce}

@@ -7,7 +7,7 @@ use Rattle.tw_rows.specs.declared.cells.Datum.{Datum}
 use Rattle.tw_rows.specs.declared.edge.Edge.{Edge}
 use Rattle.tw_rows.specs.declared.edge.HeldRow.{HeldRow}
 use Rattle.edge_stream.specs.declared.saved.SavedEntry.{SavedEntry}
-use Rattle.carried_edges.specs.Entries.{entry_of, entries_of}
+use Rattle.edge_stream.specs.Entries.{entry_of, entries_of}
 use Rattle.sweep_laws.specs.Queues.{held_with}
 use Rattle.sweep_laws.specs.Saving.{starts_of}
 use Rattle.row_queues.specs.declared.few_rows.MarkedRow.{MarkedRow}

@@ -3,7 +3,7 @@ ghost use Rattle.std.specs.Prelude.{◌≡◌, ◌<◌, ◌++◌, ◌∷◌, [],
 ghost use Rattle.tw_rows.specs.declared.cells.Datum.{Datum};
 ghost use Rattle.tw_rows.specs.SameCells.{same_cells as same};
 ghost use Rattle.tw_rows.specs.Words.{word_of_cells};
-ghost use Rattle.carried_edges.specs.Entries.{entries_of};
+ghost use Rattle.edge_stream.specs.Entries.{entries_of};
 ghost use Rattle.sweep_laws.specs.Saving.{starts_of};
 ghost use Rattle.row_queues.specs.Queued.{queue_of};
 ghost use Rattle.row_queues.specs.Marked.{is_marked, held_rows, AreMarked, HasNone, IsFirst};

@@ -10,7 +10,7 @@ ghost use Rattle.sweep_laws.specs.Changes.{TakeAtMost};
 ghost use Rattle.sweep_laws.specs.Queues.{Cells as Row, AreMoves};
 ghost use Rattle.sweep_laws.specs.Sweeps.{Tells};
 ghost use Rattle.sweep_laws.specs.Saving.{starts_of, rows_of};
-ghost use Rattle.carried_edges.specs.Entries.{entries_of, part_of};
+ghost use Rattle.edge_stream.specs.Entries.{entries_of, part_of};
 ghost use Rattle.row_queues.specs.Holding.{AreApart};
 ghost use Rattle.row_queues.specs.Queued.{queue_of, rows_at, AreQueues, EdgesLead};
 
@@ -21,8 +21,7 @@ use crate::in_place::tell_in_place;
 use crate::instant::tell_instant;
 use crate::queues::open_row;
 use crate::saving::{save_starts, start_count};
-use carried_edges::edges_of_part;
-use edge_stream::Saved;
+use edge_stream::{Saved, edges_of_part};
 use indexmap::IndexMap;
 use std::alloc::Global;
 use std::marker::Model;

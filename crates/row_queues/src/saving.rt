@@ -1,6 +1,6 @@
 // Open starts as saved entries, and how many they are.
 ghost use Rattle.std.specs.Prelude.{◌≡◌, ◌-◌, ◌^◌, ◌++◌, length, min, OnOk};
-ghost use Rattle.carried_edges.specs.Entries.{entries_of};
+ghost use Rattle.edge_stream.specs.Entries.{entries_of};
 ghost use Rattle.sweep_laws.specs.Queues.{held_with};
 ghost use Rattle.sweep_laws.specs.Saving.{starts_of};
 ghost use Rattle.row_queues.specs.Kept.{rows_in};

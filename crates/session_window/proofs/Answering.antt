@@ -9,9 +9,9 @@ use Rattle.edge_history.specs.History.{CellEvent}
 use Rattle.key_nodes.specs.Sessions.{session}
 use Rattle.plan_model.specs.declared.node.Node.TheVariants.{Session}
 use Rattle.plan_model.specs.Nodes.{node_in}
-use Rattle.node_laws.specs.Keeping.{plain_cells}
+use Rattle.plan_laws.specs.Keeping.{plain_cells}
 use Rattle.sweep_laws.specs.Saving.{store_all}
-use Rattle.sweep_operator.specs.Sweeping.{AreStored}
+use Rattle.sweep_sides.specs.Sweeping.{AreStored}
 use Rattle.synopsis.specs.Held.{key_of}
 use Rattle.session_window.specs.Windows.{windows}
 

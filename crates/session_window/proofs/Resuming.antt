@@ -22,24 +22,24 @@ use Rattle.edge_history.specs.Side.{reaches}
 use Rattle.edge_history.proofs.Sums.{sum_le, weaker}
 use Rattle.edge_stream.specs.declared.saved.SavedEntry.{SavedEntry}
 use Rattle.end_queue.specs.Pending.{Pending}
-use Rattle.carried_edges.specs.Entries.{entries_of, part_of, are_of_parts}
-use Rattle.carried_edges.proofs.Parts.{parts_pass, part_of_own, part_of_other, part_of_append, parts_own, parts_append, all_pass as all_of_list}
+use Rattle.edge_stream.specs.Entries.{entries_of, part_of, are_of_parts}
+use Rattle.edge_stream.proofs.CarriedParts.{parts_pass, part_of_own, part_of_other, part_of_append, parts_own, parts_append, all_pass as all_of_list}
 use Rattle.plan_model.specs.declared.node.Node.TheVariants.{Session}
 use Rattle.plan_model.specs.Nodes.{node_in}
 use Rattle.plan_laws.specs.Held.{may_hold}
-use Rattle.node_laws.specs.Keeping.{plain_cells}
+use Rattle.plan_laws.specs.Keeping.{plain_cells}
 use Rattle.synopsis.specs.Held.{key_of, is_of_key}
 use Rattle.synopsis.proofs.Keyed.{ones}
 use Rattle.sweep_sides.specs.Waiting.{queued}
 use Rattle.sweep_laws.specs.Saving.{starts_of, rows_of, is_row_start, may_wait, are_row_starts, may_all_wait}
-use Rattle.operator.specs.Standing.{Standing, IsStoredAs, AreStoredAs}
+use Rattle.edge_stream.specs.Standing.{Standing, IsStoredAs, AreStoredAs}
 use Rattle.sweep_sides.proofs.KeptSides.{row_cells, waiting_cells, open_few, starts_few}
 use Rattle.sweep_laws.proofs.Stored.{rows_of_starts}
 use Rattle.session_window.specs.Kept.{is_for, is_for_at, keeps_to, waits_from, is_placed_at, HasOne}
 use Rattle.session_window.specs.Windows.{windows}
 use Rattle.session_window.specs.Holding.{SessionHeld, SessionKeeps}
 use Rattle.sweep_sides.specs.Waiting.{AreTimed}
-use Rattle.sweep_operator.specs.Sweeping.{told_events}
+use Rattle.sweep_sides.specs.Sweeping.{told_events}
 use Rattle.session_window.specs.declared.side.SessionSide.{SessionSide}
 use Rattle.session_window.specs.Sides.{SideKeeps, SideFits, IsEmpty}
 use Rattle.session_window.specs.States.{SessionSound}

@@ -4,7 +4,7 @@ use Rattle.std.specs.List.{list_all}
 use Rattle.tw_rows.specs.declared.kind.CellKind.{CellKind}
 use Rattle.edge_history.specs.Opens.{is_start}
 use Rattle.edge_stream.specs.declared.saved.SavedEntry.{SavedEntry}
-use Rattle.carried_edges.specs.Entries.{part_of, are_of_parts}
+use Rattle.edge_stream.specs.Entries.{part_of, are_of_parts}
 use Rattle.sweep_laws.specs.Saving.{are_row_starts, may_all_wait}
 
 -- the entries are of two parts: 0, rows that began before x, as their starts, and 1, starts that wait from it on. Up to 7, a

@@ -1,15 +1,15 @@
 // A Session: the `Swept` of its side, and one that keeps nothing yet.
 ghost use Rattle.std.specs.Prelude.{◌≡◌, ◌≤◌, length, [], IfOk};
 ghost use Rattle.plan_model.specs.declared.node.Node.TheVariants.{Session as SessionNode};
-ghost use Rattle.sweep_operator.specs.Operating.{standing, IsNew};
-ghost use Rattle.sweep_operator.specs.Sweepers.{new_standing};
+ghost use Rattle.sweep_sides.specs.Operating.{standing, IsNew};
+ghost use Rattle.sweep_sides.specs.Sweepers.{new_standing};
 
 use crate::open_rows::OpenRows;
 use crate::sessions::Sessions;
 use crate::side::SessionSide;
 use end_queue::EndQueue;
 use std::alloc::Global;
-use sweep_operator::Swept;
+use sweep_sides::Swept;
 use tw_rows::{Kind, Memory};
 
 /// A Session: the rows of its child, each from its start to the end of the session of its key. What is kept is the rows of

@@ -5,8 +5,7 @@ use crate::saving::{is_sound, load_side, save_open};
 use crate::sessions::Sessions;
 use edge_stream::{EdgeList, LoadFault, PartRow, Saved};
 use end_queue::EndQueue;
-use sweep_operator::Sweep;
-use sweep_sides::{put_starts, save_waiting, take_due};
+use sweep_sides::{Sweep, put_starts, save_waiting, take_due};
 use tw_rows::{Edge, Kind, Memory, Time};
 
 /// The sessions that go on, and the pending starts.

@@ -16,7 +16,7 @@ use Rattle.edge_stream.specs.Listing.{EdgeListView, cells_of}
 use Rattle.edge_stream.specs.Shards.{key_cells, shard_of, shard_by, edges_in_shard}
 use Rattle.edge_stream.specs.declared.saved.StepFault.{StepFault}
 use Rattle.edge_stream.specs.declared.saved.StepFault.TheVariants.{Overflow, Memory}
-use Rattle.operator.specs.Standing.{Standing, Keeping}
+use Rattle.edge_stream.specs.Standing.{Standing, Keeping}
 use Rattle.shard_apply.specs.Stepping.{CanTake, CanStep, HasStepped, edges_answered, is_fine_before, IsLeastOverflow}
 use Rattle.shard_apply.specs.Shards.{Answer}
 use Rattle.shard_apply.specs.Whole.{Whole, side_by_side, first_of, standing_in, AreInStep, IsWhole, ShardsKeep}

@@ -10,8 +10,8 @@ use Rattle.edge_history.specs.Order.{failing, is_below}
 use Rattle.edge_stream.specs.Shards.{edges_in_shard}
 use Rattle.edge_stream.specs.declared.saved.PartRow.{PartRow}
 use Rattle.edge_stream.specs.declared.saved.SavedEntry.{SavedEntry}
-use Rattle.node_laws.specs.Shards.{is_keyed, left_key_of, right_key_of}
-use Rattle.operator.specs.Standing.{Standing, Keeping, IsLike, Implies, closing}
+use Rattle.plan_laws.specs.Shards.{is_keyed, left_key_of, right_key_of}
+use Rattle.edge_stream.specs.Standing.{Standing, Keeping, IsLike, Implies, closing}
 use Rattle.shard_apply.specs.Whole.{side_by_side, first_of, standing_in, AreInStep, ShardsKeep}
 use Rattle.shard_apply.specs.Saving.{AreRowsOf, AreSound, AreOwn, ShardsResume, HasLoaded}
 use Rattle.shard_apply.proofs.Saves.{of_operators}

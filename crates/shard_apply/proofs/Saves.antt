@@ -8,7 +8,7 @@ use Rattle.std.proofs.Math.Seq.{get_or-append_seam}
 use Rattle.tw_rows.specs.Bag.{total}
 use Rattle.tw_rows.proofs.Bags.{total-append}
 use Rattle.edge_stream.specs.declared.saved.SavedEntry.{SavedEntry}
-use Rattle.operator.specs.Standing.{Standing, Keeping, Implies}
+use Rattle.edge_stream.specs.Standing.{Standing, Keeping, Implies}
 use Rattle.shard_apply.specs.Whole.{Whole, standing_in, ShardsKeep}
 use Rattle.shard_apply.specs.Saving.{ShardsResume}
 

@@ -4,7 +4,7 @@ use Rattle.std.proofs.Common.{subst}
 use Rattle.tw_rows.specs.declared.edge.Edge.{Edge}
 use Rattle.edge_stream.specs.Listing.{EdgeListView}
 use Rattle.edge_stream.specs.declared.saved.StepFault.{StepFault}
-use Rattle.operator.specs.Standing.{Standing, Keeping}
+use Rattle.edge_stream.specs.Standing.{Standing, Keeping}
 use Rattle.shard_apply.specs.Stepping.{HasStepped}
 
 pub works_where_ok : {A E : Type 0} (r : Result A E) (failed : Bool) → failed ≡ is_err r → OnOk r (failed ≡ false)

@@ -10,19 +10,19 @@ use Rattle.tw_rows.specs.declared.edge.Edge.{Edge}
 use Rattle.tw_rows.proofs.Bags.{SameBag-refl, total-append}
 use Rattle.key_nodes.specs.Shards.{over_shards}
 use Rattle.edge_stream.specs.Shards.{shard_of, edges_in_shard}
-use Rattle.node_laws.proofs.Keys.{over_none}
+use Rattle.plan_laws.proofs.Keys.{over_none}
 use Rattle.plan_model.specs.Meaning.{node_events}
 use Rattle.plan_model.specs.declared.node.Node.{Node}
 use Rattle.plan_model.specs.declared.node.Node.TheVariants.{Top, Follow}
-use Rattle.node_laws.specs.Places.{AreDistinct, read_of, EdgesArePlaced}
-use Rattle.node_laws.specs.Shards.{is_keyed}
-use Rattle.node_laws.specs.Standing.{StandsRead}
-use Rattle.node_laws.proofs.Standing.{no_history, placed_longer}
-use Rattle.operator.specs.Standing.{Standing, Keeping, IsFresh, StandsFor, closing, may_keep, most_entries}
-use Rattle.shard_laws.specs.Parts.{left_part, right_part, sum_of_shards, may_keep_of}
-use Rattle.shard_laws.proofs.Histories.{placed_bag}
-use Rattle.shard_laws.proofs.Sums.{shards_stand}
-use Rattle.shard_laws.proofs.Held.{held_together}
+use Rattle.plan_laws.specs.Places.{AreDistinct, read_of, EdgesArePlaced}
+use Rattle.plan_laws.specs.Shards.{is_keyed}
+use Rattle.plan_laws.specs.Standing.{StandsRead}
+use Rattle.plan_laws.proofs.Standing.{no_history, placed_longer}
+use Rattle.edge_stream.specs.Standing.{Standing, Keeping, IsFresh, StandsFor, closing, may_keep, most_entries}
+use Rattle.plan_laws.specs.Parts.{left_part, right_part, sum_of_shards, may_keep_of}
+use Rattle.plan_laws.proofs.Histories.{placed_bag}
+use Rattle.plan_laws.proofs.Sums.{shards_stand}
+use Rattle.plan_laws.proofs.Held.{held_together}
 use Rattle.shard_apply.specs.Whole.{Whole, first_of, standing_in, entries_in, AreInStep, AreNew, ShardsKeep}
 use Rattle.shard_apply.proofs.Faults.{with_item}
 use Rattle.shard_apply.proofs.WholeSteps.{shard_low, stands_as, first_as}

@@ -24,14 +24,14 @@ use Rattle.plan_model.specs.declared.node.Node.{Node}
 use Rattle.plan_model.specs.declared.node.Node.TheVariants.{Session, Clip, Group, Join, Anti}
 use Rattle.plan_laws.specs.Undefined.{is_group, undefined_over, first_below}
 use Rattle.plan_laws.proofs.Undefinedness.{first_below_same, first_below_some, first_below_none}
-use Rattle.node_laws.specs.Places.{AreDistinct, read_of, EdgesArePlaced}
-use Rattle.node_laws.specs.Shards.{is_keyed, left_key_of, right_key_of, any_shard}
-use Rattle.node_laws.proofs.ShardSteps.{none_fail}
-use Rattle.operator.specs.Standing.{Standing, Keeping, IsLike, closing}
-use Rattle.operator.specs.Steps.{MayCome, ComeBetween, AnswersBetween, StaysKept, IsFirstUndefined}
-use Rattle.shard_laws.specs.Parts.{left_part}
-use Rattle.shard_laws.proofs.Histories.{history_where, answers_add, rises_on}
-use Rattle.shard_laws.proofs.Sums.{undefined_by_shards, least_of_shards, none_of_shards}
+use Rattle.plan_laws.specs.Places.{AreDistinct, read_of, EdgesArePlaced}
+use Rattle.plan_laws.specs.Shards.{is_keyed, left_key_of, right_key_of, any_shard}
+use Rattle.plan_laws.proofs.ShardSteps.{none_fail}
+use Rattle.edge_stream.specs.Standing.{Standing, Keeping, IsLike, closing}
+use Rattle.edge_stream.specs.Steps.{MayCome, ComeBetween, AnswersBetween, StaysKept, IsFirstUndefined}
+use Rattle.plan_laws.specs.Parts.{left_part}
+use Rattle.plan_laws.proofs.Histories.{history_where, answers_add, rises_on}
+use Rattle.plan_laws.proofs.Sums.{undefined_by_shards, least_of_shards, none_of_shards}
 use Rattle.shard_apply.specs.Stepping.{HasStepped, edges_answered, is_fine_before, IsLeastOverflow}
 use Rattle.shard_apply.specs.Whole.{Whole, first_of, standing_in, AreInStep, ShardsKeep}
 

@@ -11,8 +11,8 @@ use Rattle.edge_stream.specs.declared.saved.PartRow.{PartRow}
 use Rattle.edge_stream.specs.declared.saved.PartRow.TheVariants.{Left, Right, Own, KeyFirst}
 use Rattle.edge_stream.specs.declared.saved.SavedEntry.{SavedEntry}
 use Rattle.plan_model.specs.Meaning.{node_closes}
-use Rattle.node_laws.specs.Places.{EdgesArePlaced}
-use Rattle.operator.specs.Standing.{Standing, Keeping, Implies}
+use Rattle.plan_laws.specs.Places.{EdgesArePlaced}
+use Rattle.edge_stream.specs.Standing.{Standing, Keeping, Implies}
 use Rattle.shard_apply.specs.Whole.{Whole, standing_in}
 
 -- the columns of the key in such a row, where `first` are the first columns, as many as the left key has

@@ -3,7 +3,7 @@ use Rattle.std.specs.Prelude.{◌≡◌, ℕ, ◌<◌, List, Result, map, length
 use Rattle.edge_stream.specs.Listing.{EdgeListView}
 use Rattle.edge_stream.specs.Shards.{edges_in_shard}
 use Rattle.edge_stream.specs.declared.saved.StepFault.{StepFault}
-use Rattle.operator.specs.Standing.{Standing, Keeping}
+use Rattle.edge_stream.specs.Standing.{Standing, Keeping}
 use Rattle.shard_apply.specs.Stepping.{CanStep, HasStepped}
 use Rattle.shard_apply.specs.declared.shard.Cut.{Cut}
 use Rattle.shard_apply.specs.declared.shard.News.{News}

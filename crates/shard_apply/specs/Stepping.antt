@@ -5,8 +5,8 @@ use Rattle.edge_stream.specs.Listing.{EdgeListView, cells_of}
 use Rattle.edge_stream.specs.declared.saved.StepFault.{StepFault}
 use Rattle.edge_stream.specs.declared.saved.StepFault.TheVariants.{Overflow, Memory}
 use Rattle.plan_laws.specs.Undefined.{is_group}
-use Rattle.operator.specs.Standing.{Standing, Keeping, IsLike}
-use Rattle.operator.specs.Steps.{AnswersBetween, StaysKept, IsFirstUndefined}
+use Rattle.edge_stream.specs.Standing.{Standing, Keeping, IsLike}
+use Rattle.edge_stream.specs.Steps.{AnswersBetween, StaysKept, IsFirstUndefined}
 
 -- what a step of an operator that stands so asks: it works, its sides are not closed beyond u and v, the columns of the
 -- lists are stored as it reads them, and lists and pools have its room

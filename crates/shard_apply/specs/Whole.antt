@@ -7,9 +7,9 @@ use Rattle.key_nodes.specs.Shards.{over_shards}
 use Rattle.edge_history.specs.Order.{failing, is_below, Rises, IsHistory}
 use Rattle.edge_stream.specs.Shards.{edges_in_shard}
 use Rattle.plan_model.specs.declared.node.Node.TheVariants.{Source}
-use Rattle.node_laws.specs.Places.{EdgesArePlaced}
-use Rattle.node_laws.specs.Shards.{is_keyed, left_key_of, right_key_of}
-use Rattle.operator.specs.Standing.{Standing, Keeping, closing}
+use Rattle.plan_laws.specs.Places.{EdgesArePlaced}
+use Rattle.plan_laws.specs.Shards.{is_keyed, left_key_of, right_key_of}
+use Rattle.edge_stream.specs.Standing.{Standing, Keeping, closing}
 
 -- the operators in the order of their shards, the columns of the keys of both sides, and whether a step failed
 pub record Whole (O : Type 0) : Type 0 where

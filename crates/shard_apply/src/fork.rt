@@ -4,7 +4,7 @@ ghost use Rattle.shard_apply.specs.Shards.{CanTakeNews, TakesNews, EachTakesNews
 
 use crate::gate::Gate;
 use crate::shard::{Cut, News, Shard};
-use operator::Operator;
+use edge_stream::Operator;
 use std::thread;
 use std::thread::Threads;
 

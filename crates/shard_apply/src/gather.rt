@@ -11,8 +11,7 @@ ghost use Rattle.shard_apply.specs.Shards.{operators_of, rooms_of};
 
 use crate::shard::Shard;
 use batch::Pools;
-use edge_stream::{EdgeList, StepFault};
-use operator::Operator;
+use edge_stream::{EdgeList, Operator, StepFault};
 use std::alloc::Global;
 use tw_rows::{Memory, Time};
 

@@ -2,12 +2,12 @@
 ghost use Rattle.std.specs.Prelude.{ℕ, ◌≤◌, [], List};
 ghost use Rattle.tw_rows.specs.Texts.{BeginsWith};
 ghost use Rattle.tw_rows.specs.declared.edge.Edge.{Edge};
-ghost use Rattle.node_laws.specs.Places.{AreDistinct};
-ghost use Rattle.operator.specs.Standing.{IsFresh, StandsFor, most_entries};
+ghost use Rattle.plan_laws.specs.Places.{AreDistinct};
+ghost use Rattle.edge_stream.specs.Standing.{IsFresh, StandsFor, most_entries};
 ghost use Rattle.shard_apply.specs.Whole.{Whole, standing_in, entries_in, AreNew, ShardsKeep};
 
 use crate::sharded::Sharded;
-use operator::Operator;
+use edge_stream::Operator;
 
 impl<O: Operator> Sharded<O> {
     /// What holds of every operator holds of the whole. As it is made it keeps nothing, of no edges, and works. What it answered

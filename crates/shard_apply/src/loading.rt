@@ -3,15 +3,14 @@ ghost use Rattle.std.specs.Prelude.{◌≡◌, ◌↔◌, ◌≤◌, ◌<◌, �
 ghost use Rattle.std.specs.Prelude.{All, IsTrue, IfOk, IfErr, OnOk};
 ghost use Rattle.std.specs.List.{range_with_len};
 ghost use Rattle.edge_stream.specs.declared.saved.SavedEntry.{SavedEntry};
-ghost use Rattle.operator.specs.Standing.{IsLike, Implies};
+ghost use Rattle.edge_stream.specs.Standing.{IsLike, Implies};
 ghost use Rattle.shard_apply.specs.Saving.{is_row_of, AreRowsOf, AreSound, AreOwn, ShardsResume, HasLoaded};
 ghost use Rattle.shard_apply.specs.Whole.{standing_in, AreInStep, AreNew, ShardsKeep};
 ghost use Rattle.shard_apply.specs.Shards.{rooms_of};
 
 use crate::shard::Shard;
 use crate::sharded::Sharded;
-use edge_stream::{LoadFault, PartRow, Saved, SavedEntry, shard_of_row};
-use operator::Operator;
+use edge_stream::{LoadFault, Operator, PartRow, Saved, SavedEntry, shard_of_row};
 use std::alloc::Global;
 use tw_rows::{Memory, Time};
 

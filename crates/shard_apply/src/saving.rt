@@ -1,13 +1,12 @@
 // What the shards of a node save.
 ghost use Rattle.std.specs.Prelude.{◌≡◌, ◌≤◌, false, length, IfOk};
 ghost use Rattle.tw_rows.specs.Bag.{total};
-ghost use Rattle.operator.specs.Standing.{Implies};
+ghost use Rattle.edge_stream.specs.Standing.{Implies};
 ghost use Rattle.shard_apply.specs.Saving.{AreSound, ShardsResume};
 ghost use Rattle.shard_apply.specs.Whole.{standing_in, entries_in, ShardsKeep};
 
 use crate::sharded::Sharded;
-use edge_stream::Saved;
-use operator::Operator;
+use edge_stream::{Operator, Saved};
 use tw_rows::Memory;
 
 impl<O: Operator> Sharded<O> {

@@ -5,8 +5,7 @@ ghost use Rattle.edge_stream.specs.Shards.{edges_in_shard};
 ghost use Rattle.shard_apply.specs.Stepping.{fault_of};
 
 use batch::Pools;
-use edge_stream::{EdgeList, StepFault};
-use operator::Operator;
+use edge_stream::{EdgeList, Operator, StepFault};
 use tw_rows::{Memory, Time};
 
 /// An operator with pools of its own, and what it answered at its last step.

@@ -6,8 +6,7 @@ ghost use Rattle.shard_apply.specs.Shards.{operators_of};
 
 use crate::shard::Shard;
 use batch::Pools;
-use edge_stream::StepFault;
-use operator::Operator;
+use edge_stream::{Operator, StepFault};
 use std::alloc::Global;
 use std::marker::Model;
 use tw_rows::Memory;

@@ -18,7 +18,7 @@ use Rattle.tw_rows.proofs.Bags.{total_same, total_zero}
 use Rattle.edge_history.specs.Order.{failing, is_real, is_from, is_below, Rises}
 use Rattle.edge_history.proofs.Sums.{sum_eq}
 use Rattle.key_nodes.specs.Groups.{distinct}
-use Rattle.node_laws.specs.Keeping.{plain_cells}
+use Rattle.plan_laws.specs.Keeping.{plain_cells}
 use Rattle.plan_model.specs.declared.agg.Agg.{Agg}
 use Rattle.plan_model.specs.IsPlan.{key_kinds}
 use Rattle.plan_model.specs.RowOps.{agg_in, group_row_in, rows_of_key_in}

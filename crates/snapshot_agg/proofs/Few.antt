@@ -19,7 +19,7 @@ use Rattle.edge_history.specs.Opens.{open_of, opens, bare}
 use Rattle.edge_history.proofs.Sums.{sum_le}
 use Rattle.key_nodes.specs.Groups.{has_key}
 use Rattle.key_nodes.proofs.Bags.{total_le}
-use Rattle.node_laws.specs.Keeping.{plain_cells}
+use Rattle.plan_laws.specs.Keeping.{plain_cells}
 use Rattle.plan_laws.proofs.Holding.{length_total}
 use Rattle.plan_laws.specs.Held.{reaching, may_hold}
 use Rattle.plan_model.specs.declared.agg.Agg.{Agg}

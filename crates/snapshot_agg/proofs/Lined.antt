@@ -14,7 +14,7 @@ use Rattle.edge_history.specs.Order.{many}
 use Rattle.edge_history.specs.Opens.{is_held}
 use Rattle.plan_laws.proofs.Holding.{length_total}
 use Rattle.edge_stream.specs.declared.saved.SavedEntry.{SavedEntry}
-use Rattle.carried_edges.specs.Entries.{entry_of, entries_of}
+use Rattle.edge_stream.specs.Entries.{entry_of, entries_of}
 
 equal_of : (a b : ℕ) → nat_eq a b ≡ true → a ≡ b
 equal_of a b h = grind (arith, nat_tests)

@@ -21,15 +21,15 @@ use Rattle.edge_history.specs.Opens.{bare}
 use Rattle.end_queue.specs.Pending.{Pending}
 use Rattle.edge_stream.specs.declared.saved.SavedEntry.{SavedEntry}
 use Rattle.key_nodes.specs.Groups.{has_key}
-use Rattle.node_laws.specs.Keeping.{plain_cells}
+use Rattle.plan_laws.specs.Keeping.{plain_cells}
 use Rattle.plan_model.specs.declared.agg.Agg.{Agg}
 use Rattle.plan_model.specs.RowOps.{group_row_in, agg_in}
 use Rattle.sweep_laws.specs.Running.{Run}
 use Rattle.edge_history.specs.History.{CellEvent}
 use Rattle.sweep_laws.specs.Grouping.{GroupKeeps, row_of_run, GroupSweeping}
 use Rattle.sweep_laws.proofs.GroupSweeps.{told_by_bag}
-use Rattle.carried_edges.specs.Entries.{entries_of, part_of, are_of_parts}
-use Rattle.carried_edges.proofs.Parts.{part_of_own, part_of_other, part_of_append, parts_own, parts_append, parts_pass}
+use Rattle.edge_stream.specs.Entries.{entries_of, part_of, are_of_parts}
+use Rattle.edge_stream.proofs.CarriedParts.{part_of_own, part_of_other, part_of_append, parts_own, parts_append, parts_pass}
 use Rattle.snapshot_agg.specs.Words.{key_data, tell, bad}
 use Rattle.snapshot_agg.specs.Keeping.{KeepsGroup, KeepsGrouped}
 use Rattle.snapshot_agg.specs.KeptRows.{RowsAndEnds}
@@ -37,7 +37,7 @@ use Rattle.snapshot_agg.specs.Waiting.{all_pending}
 use Rattle.sweep_sides.specs.Waiting.{queued}
 use Rattle.snapshot_agg.specs.Totaled.{run_from, run_of}
 use Rattle.snapshot_agg.specs.Answering.{is_stored, IsRunOf, AreRunsOf}
-use Rattle.operator.specs.Standing.{Standing, IsStoredAs, AreStoredAs}
+use Rattle.edge_stream.specs.Standing.{Standing, IsStoredAs, AreStoredAs}
 use Rattle.sweep_laws.specs.Moves.{start_of}
 use Rattle.sweep_laws.specs.Saving.{starts_of, rows_of, is_row_start, may_wait, are_row_starts, may_all_wait}
 use Rattle.sweep_laws.proofs.Stored.{rows_of_starts}

@@ -16,7 +16,7 @@ use Rattle.tw_rows.proofs.Bags.{total-append}
 use Rattle.edge_history.specs.Order.{failing, is_real, is_from, is_below, Rises, KeepsOrder, IsHistory}
 use Rattle.edge_history.proofs.Agreeing.{same_order}
 use Rattle.edge_history.proofs.Sums.{weaker}
-use Rattle.operator.specs.Steps.{ComeBetween}
+use Rattle.edge_stream.specs.Steps.{ComeBetween}
 use Rattle.snapshot_agg.specs.Answering.{group_kinds, is_stored, is_answered, AreRunsOf, IsSoFar}
 use Rattle.sweep_laws.specs.Saving.{may_wait}
 use Rattle.sweep_laws.proofs.Stored.{stored_kinds, new_wait, wait_parts}
@@ -25,7 +25,7 @@ use Rattle.edge_history.specs.History.{CellEvent, of}
 use Rattle.edge_history.specs.Opens.{singles}
 use Rattle.edge_history.proofs.Telling.{told_nothing}
 use Rattle.key_nodes.specs.Groups.{grouped}
-use Rattle.node_laws.specs.Keeping.{plain_cells}
+use Rattle.plan_laws.specs.Keeping.{plain_cells}
 use Rattle.plan_laws.specs.Undefined.{first_below}
 use Rattle.plan_model.specs.declared.agg.Agg.{Agg}
 use Rattle.plan_model.specs.RowOps.{is_undefined_in}

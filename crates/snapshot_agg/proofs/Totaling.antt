@@ -11,7 +11,7 @@ use Rattle.tw_rows.proofs.Bags.{total-map, SameBag-filter, SameBag-map, SameBag-
 use Rattle.edge_history.specs.Opens.{bare}
 use Rattle.key_nodes.specs.Runs.{Tells as KeyTells}
 use Rattle.key_nodes.specs.Groups.{has_key, IsGroupRow}
-use Rattle.node_laws.specs.Keeping.{plain_cells}
+use Rattle.plan_laws.specs.Keeping.{plain_cells}
 use Rattle.plan_model.specs.declared.agg.Agg.{Agg}
 use Rattle.plan_model.specs.declared.agg.Agg.TheVariants.{Count, Sum, Least, Greatest}
 use Rattle.plan_model.specs.Amounts.{most_rows}

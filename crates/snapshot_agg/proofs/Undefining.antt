@@ -5,7 +5,7 @@ use Rattle.std.proofs.Common.{inl, inr, sym, ◌∙◌, ap, arith}
 use Rattle.std.proofs.lemmas.Bool.{cases_lt}
 use Rattle.tw_rows.specs.SameCells.{same_cells, cells_are_same}
 use Rattle.tw_rows.specs.declared.cells.Datum.{Datum}
-use Rattle.node_laws.specs.Keeping.{plain_cells}
+use Rattle.plan_laws.specs.Keeping.{plain_cells}
 use Rattle.plan_laws.specs.Undefined.{first_below, or_next}
 use Rattle.plan_model.specs.declared.agg.Agg.{Agg}
 use Rattle.plan_model.specs.RowOps.{rows_of_key_in, is_undefined_group_in, is_undefined_in}

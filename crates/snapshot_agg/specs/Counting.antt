@@ -12,7 +12,7 @@ use Rattle.edge_history.specs.Order.{failing, is_from, IsHistory}
 use Rattle.edge_history.specs.Opens.{bare}
 use Rattle.end_queue.specs.Pending.{Pending}
 use Rattle.key_nodes.specs.Groups.{grouped}
-use Rattle.node_laws.specs.Keeping.{plain_cells}
+use Rattle.plan_laws.specs.Keeping.{plain_cells}
 use Rattle.plan_laws.specs.Undefined.{first_below}
 use Rattle.plan_model.specs.RowOps.{is_undefined_in}
 use Rattle.sweep_laws.specs.Grouping.{GroupSweeping, IsDefined, IsFirstUndefined}

@@ -10,7 +10,7 @@ use Rattle.tw_rows.specs.declared.edge.HeldRow.{HeldRow}
 use Rattle.tw_rows.specs.declared.kind.CellKind.{CellKind}
 use Rattle.edge_history.specs.Order.{IsHistory}
 use Rattle.end_queue.specs.Pending.{Pending}
-use Rattle.node_laws.specs.Places.{EdgesArePlaced}
+use Rattle.plan_laws.specs.Places.{EdgesArePlaced}
 use Rattle.plan_model.specs.declared.agg.Agg.{Agg}
 use Rattle.sweep_laws.specs.Grouping.{GroupKeeps}
 use Rattle.snapshot_agg.specs.declared.totals.Totals.{Totals}

@@ -7,7 +7,7 @@ use Rattle.edge_stream.specs.Listing.{EdgeListView, cells_of}
 use Rattle.edge_stream.specs.declared.saved.PartRow.{PartRow}
 use Rattle.edge_stream.specs.declared.saved.PartRow.TheVariants.{Left, KeyFirst}
 use Rattle.edge_stream.specs.Taking.{batches_taken, batches_given}
-use Rattle.operator.specs.Standing.{Standing}
+use Rattle.edge_stream.specs.Standing.{Standing}
 use Rattle.plan_model.specs.declared.node.Node.TheVariants.{Group}
 use Rattle.snapshot_agg.specs.declared.grouped.Grouped.{Grouped}
 use Rattle.snapshot_agg.specs.Counting.{pending_of}

@@ -8,12 +8,12 @@ use Rattle.tw_rows.specs.declared.edge.Edge.{Edge}
 use Rattle.tw_rows.specs.declared.kind.CellKind.{CellKind}
 use Rattle.edge_history.specs.Order.{IsHistory}
 use Rattle.edge_stream.specs.declared.saved.SavedEntry.{SavedEntry}
-use Rattle.node_laws.specs.Places.{EdgesArePlaced}
+use Rattle.plan_laws.specs.Places.{EdgesArePlaced}
 use Rattle.plan_model.specs.declared.agg.Agg.{Agg}
 use Rattle.sweep_laws.specs.Running.{Run}
 use Rattle.sweep_laws.specs.Grouping.{GroupKeeps}
 use Rattle.sweep_laws.specs.Saving.{rows_of, are_row_starts, may_all_wait}
-use Rattle.carried_edges.specs.Entries.{part_of, are_of_parts}
+use Rattle.edge_stream.specs.Entries.{part_of, are_of_parts}
 use Rattle.snapshot_agg.specs.Words.{key_data, tell, bad}
 
 -- the later of two runs, if there is one

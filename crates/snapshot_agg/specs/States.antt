@@ -1,7 +1,7 @@
 -- What is kept of the rows of one key.
 use Rattle.std.specs.Prelude.{◌≡◌, ℕ, ◌≤◌, ◌^◌, ℤ, pos, Option, None, Some, cond, List, [], ◌∷◌, map, length}
 use Rattle.tw_rows.specs.declared.cells.Datum.{Datum}
-use Rattle.node_laws.specs.Keeping.{plain_cells}
+use Rattle.plan_laws.specs.Keeping.{plain_cells}
 use Rattle.plan_model.specs.declared.agg.Agg.{Agg}
 use Rattle.plan_model.specs.declared.agg.Agg.TheVariants.{Count, Sum, Least, Greatest}
 use Rattle.plan_model.specs.RowOps.{int_in, agg_in, group_row_in, is_undefined_group_in, has_large_sum_in}

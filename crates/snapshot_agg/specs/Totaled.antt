@@ -5,7 +5,7 @@ use Rattle.tw_rows.specs.SameCells.{same_cells}
 use Rattle.tw_rows.specs.declared.cells.Datum.{Datum}
 use Rattle.tw_rows.specs.declared.edge.HeldRow.{HeldRow}
 use Rattle.edge_history.specs.Opens.{bare}
-use Rattle.node_laws.specs.Keeping.{plain_cells}
+use Rattle.plan_laws.specs.Keeping.{plain_cells}
 use Rattle.plan_model.specs.declared.agg.Agg.{Agg}
 use Rattle.plan_model.specs.RowOps.{rows_of_key_in}
 use Rattle.sweep_laws.specs.Running.{Run}

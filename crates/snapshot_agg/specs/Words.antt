@@ -1,7 +1,7 @@
 -- The rows that a group tells.
 use Rattle.std.specs.Prelude.{ℕ, Bool, Option, List}
 use Rattle.tw_rows.specs.declared.cells.Datum.{Datum}
-use Rattle.node_laws.specs.Keeping.{plain_cells}
+use Rattle.plan_laws.specs.Keeping.{plain_cells}
 use Rattle.plan_model.specs.declared.agg.Agg.{Agg}
 use Rattle.plan_model.specs.RowOps.{key_in, rows_of_key_in, row_of_group_in, is_undefined_group_in}
 

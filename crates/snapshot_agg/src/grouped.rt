@@ -3,7 +3,7 @@ ghost use Rattle.std.specs.Prelude.{◌≡◌, ◌≤◌, ℕ, false, None, Some
 ghost use Rattle.tw_rows.specs.Kinds.{cell_kind_of};
 ghost use Rattle.edge_stream.specs.Listing.{cells_of};
 ghost use Rattle.sweep_sides.specs.Sides.{IsSide};
-ghost use Rattle.operator.specs.Steps.{ComeBetween, StaysKept, IsFirstUndefined};
+ghost use Rattle.edge_stream.specs.Steps.{ComeBetween, StaysKept, IsFirstUndefined};
 ghost use Rattle.snapshot_agg.specs.Answering.{group_kinds, AreRunsOf};
 ghost use Rattle.snapshot_agg.specs.Counting.{IsCounted, kinds_over, pending_of};
 ghost use Rattle.snapshot_agg.specs.Keeping.{IsOpening, HasFewKeys};

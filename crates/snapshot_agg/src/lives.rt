@@ -6,7 +6,7 @@ ghost use Rattle.tw_rows.specs.declared.edge.Edge.{Edge};
 ghost use Rattle.tw_rows.specs.declared.edge.HeldRow.{HeldRow};
 ghost use Rattle.edge_history.specs.Order.{many, failing, is_end, is_from};
 ghost use Rattle.edge_history.specs.Opens.{is_held};
-ghost use Rattle.carried_edges.specs.Entries.{entries_of};
+ghost use Rattle.edge_stream.specs.Entries.{entries_of};
 ghost use Rattle.sweep_laws.specs.Saving.{starts_of};
 ghost use Rattle.sweep_laws.specs.Sweeps.{IsPast, StartsAt, SyncsRise};
 ghost use Rattle.sweep_sides.specs.Waiting.{queued, AreTimed};

@@ -3,7 +3,7 @@ ghost use Rattle.std.specs.Prelude.{◌≡◌, ◌↔◌, IsTrue, List, [], leng
 ghost use Rattle.tw_rows.specs.Bag.{SameBag};
 ghost use Rattle.tw_rows.specs.Kinds.{cell_kind_of};
 ghost use Rattle.tw_rows.specs.declared.cells.Datum.{Datum};
-ghost use Rattle.carried_edges.specs.Entries.{part_of};
+ghost use Rattle.edge_stream.specs.Entries.{part_of};
 ghost use Rattle.sweep_laws.specs.Saving.{rows_of};
 ghost use Rattle.sweep_sides.specs.Sides.{IsSide};
 ghost use Rattle.sweep_sides.specs.Waiting.{queued};
@@ -14,8 +14,7 @@ ghost use Rattle.snapshot_agg.specs.Counting.{IsCounted};
 use crate::groups::Groups;
 use crate::passes::{Running, put_run};
 use crate::queue::Queue;
-use carried_edges::{are_of_parts, edges_of_part};
-use edge_stream::{LoadFault, Saved};
+use edge_stream::{LoadFault, Saved, are_of_parts, edges_of_part};
 use indexmap::IndexMap;
 use plan_model::Agg;
 use std::alloc::Global;

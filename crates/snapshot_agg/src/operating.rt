@@ -4,8 +4,7 @@ use crate::grouped::Grouped;
 use crate::loading::load_parts;
 use crate::saving::save_runs;
 use batch::Pools;
-use edge_stream::{EdgeList, LoadFault, PartRow, Saved, StepFault};
-use operator::Operator;
+use edge_stream::{EdgeList, LoadFault, Operator, PartRow, Saved, StepFault};
 use tw_rows::{Memory, Time};
 
 impl Operator for Grouped {

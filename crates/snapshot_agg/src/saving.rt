@@ -1,6 +1,6 @@
 // What a Group keeps, as saved entries.
 ghost use Rattle.std.specs.Prelude.{◌≡◌, ◌∷◌, ◌++◌, [], map, OnOk};
-ghost use Rattle.carried_edges.specs.Entries.{entry_of, entries_of};
+ghost use Rattle.edge_stream.specs.Entries.{entry_of, entries_of};
 ghost use Rattle.sweep_laws.specs.Moves.{start_of};
 ghost use Rattle.sweep_laws.specs.Saving.{starts_of};
 ghost use Rattle.snapshot_agg.specs.Changing.{row_since};

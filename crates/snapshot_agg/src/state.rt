@@ -3,7 +3,7 @@
 ghost use Rattle.std.specs.Prelude.{◌≡◌, ℕ, ◌<◌, ◌≤◌, ◌^◌, List, [], ◌∷◌, length, OnOk};
 ghost use Rattle.tw_rows.specs.Bag.{SameBag};
 ghost use Rattle.tw_rows.specs.declared.cells.Datum.{Datum};
-ghost use Rattle.node_laws.specs.Keeping.{plain_cells};
+ghost use Rattle.plan_laws.specs.Keeping.{plain_cells};
 ghost use Rattle.plan_model.specs.declared.agg.Agg.{Agg};
 ghost use Rattle.plan_model.specs.RowOps.{int_in};
 ghost use Rattle.snapshot_agg.specs.States.{IsStateOf, told_of};

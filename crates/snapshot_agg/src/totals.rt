@@ -2,7 +2,7 @@
 ghost use Rattle.std.specs.Prelude.{◌≡◌, ℕ, ◌<◌, ◌≤◌, ◌^◌, List, [], ◌∷◌, length, IfOk, OnOk};
 ghost use Rattle.tw_rows.specs.Bag.{SameBag};
 ghost use Rattle.tw_rows.specs.declared.cells.Datum.{Datum};
-ghost use Rattle.node_laws.specs.Keeping.{plain_cells};
+ghost use Rattle.plan_laws.specs.Keeping.{plain_cells};
 ghost use Rattle.plan_model.specs.declared.agg.Agg.{Agg};
 ghost use Rattle.snapshot_agg.specs.States.{AreStatesOf, IsTotals, told_row};
 ghost use Rattle.snapshot_agg.specs.Touching.{Touches, TellsTouched};

@@ -5,7 +5,7 @@ use Rattle.batch.specs.PoolsView.{PoolsView}
 use Rattle.edge_stream.specs.Listing.{EdgeListView, cells_of}
 use Rattle.edge_stream.specs.Taking.{batches_given}
 use Rattle.edge_stream.proofs.Filling.{batches_given-capacity}
-use Rattle.carried_edges.proofs.Pools.{batches_given-limit}
+use Rattle.edge_stream.proofs.Pools.{batches_given-limit}
 
 module _ (l r : EdgeListView) (p p1 p2 : PoolsView) (one : p1 ≡ batches_given l.batches p (cells_of l)) (two : p2 ≡ batches_given r.batches p1 (cells_of r)) where
   pub both_given-capacity : p2.capacity ≡ p.capacity

@@ -23,8 +23,8 @@ use Rattle.edge_history.specs.Opens.{singles, open_of, opens, is_start, started_
 use Rattle.edge_history.proofs.Waiting.{side_bound}
 use Rattle.edge_history.proofs.Sums.{failing-same, failing-All}
 use Rattle.edge_stream.specs.declared.saved.SavedEntry.{SavedEntry}
-use Rattle.carried_edges.specs.Entries.{entries_of, saved_edge, part_of}
-use Rattle.carried_edges.proofs.Parts.{saved_length, none_fails}
+use Rattle.edge_stream.specs.Entries.{entries_of, saved_edge, part_of}
+use Rattle.edge_stream.proofs.CarriedParts.{saved_length, none_fails}
 use Rattle.end_queue.specs.Pending.{Pending}
 use Rattle.synopsis.proofs.Keyed.{ones}
 use Rattle.sweep_sides.specs.Waiting.{queued, AreTimed}

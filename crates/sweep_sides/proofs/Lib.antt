@@ -10,3 +10,5 @@ pub mod DueStarts
 pub mod StoredRows
 pub mod GivenBack
 pub mod Overwriting
+pub mod Stepped
+pub mod Kept

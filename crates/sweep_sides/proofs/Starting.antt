@@ -14,7 +14,7 @@ use Rattle.tw_rows.proofs.Bags.{total-append, total-flat_map, total-filter}
 use Rattle.edge_history.specs.Order.{failing, is_end, is_below, is_from, IsReal}
 use Rattle.edge_history.specs.Opens.{singles, singles_of, is_start, started_rows}
 use Rattle.edge_history.proofs.Sums.{failing-same}
-use Rattle.carried_edges.proofs.Parts.{none_fails}
+use Rattle.edge_stream.proofs.CarriedParts.{none_fails}
 use Rattle.end_queue.specs.Pending.{Pending}
 use Rattle.sweep_sides.specs.Waiting.{queued, AreTimed}
 use Rattle.sweep_sides.specs.Sides.{IsSide}

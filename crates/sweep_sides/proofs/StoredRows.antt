@@ -9,7 +9,7 @@ use Rattle.tw_rows.specs.declared.kind.CellKind.{CellKind}
 use Rattle.edge_history.specs.History.{CellEvent, of}
 use Rattle.edge_history.specs.Order.{failing}
 use Rattle.edge_history.proofs.Sums.{failing-All}
-use Rattle.node_laws.proofs.Standing.{all_of}
+use Rattle.plan_laws.proofs.Standing.{all_of}
 use Rattle.plan_laws.proofs.RowsOf.{Rows}
 use Rattle.sweep_laws.specs.Saving.{store_all}
 use Rattle.sweep_laws.proofs.Stored.{kinds_stored}

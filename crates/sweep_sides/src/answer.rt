@@ -7,9 +7,8 @@ ghost use Rattle.edge_stream.specs.Taking.{batches_taken};
 ghost use Rattle.sweep_sides.specs.Answers.{is_between, FitsList};
 
 use batch::Pools;
-use carried_edges::is_stored_as;
 use edge_history::keeps_order;
-use edge_stream::EdgeList;
+use edge_stream::{EdgeList, is_stored_as};
 use std::alloc::Global;
 use tw_rows::{Edge, Kind, Memory, Time};
 

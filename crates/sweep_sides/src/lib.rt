@@ -1,13 +1,16 @@
 //! What every sweep over edges does with its sides: new edges are pending until they are due, those that are due are cut at the
-//! instants, and what is emitted becomes a list.
+//! instants, and what is emitted becomes a list. `Swept` is the operator of any `Sweep`: what those that sweep have in common.
 #![tactic(auto)]
 
 mod answer;
 mod endings;
 mod instants;
+mod operating;
 mod pairs;
 mod saving;
 mod starts;
+mod sweep;
+mod swept;
 mod taking;
 mod waiting;
 
@@ -19,5 +22,7 @@ pub use saving::{
     save_waiting,
 };
 pub use starts::put_starts;
+pub use sweep::Sweep;
+pub use swept::Swept;
 pub use taking::{let_go, take_in, take_into};
 pub use waiting::{put_all, take_due};

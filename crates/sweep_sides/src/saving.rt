@@ -6,13 +6,12 @@ ghost use Rattle.tw_rows.specs.Instant.{inf};
 ghost use Rattle.tw_rows.specs.Kinds.{cell_kind_of};
 ghost use Rattle.edge_history.specs.Order.{is_end as ends, is_real};
 ghost use Rattle.edge_history.specs.Opens.{is_start};
-ghost use Rattle.carried_edges.specs.Entries.{entries_of, part_of, saved_edge};
+ghost use Rattle.edge_stream.specs.Entries.{entries_of, part_of, saved_edge};
 ghost use Rattle.sweep_laws.specs.Saving.{store_all, starts_of, rows_of, is_row_start, may_wait, are_row_starts, may_all_wait};
 ghost use Rattle.sweep_sides.specs.Waiting.{queued, AreTimed};
 
 use crate::waiting::put;
-use carried_edges::{edges_of_part, is_stored_as, save_edges};
-use edge_stream::{Saved, SavedEntry};
+use edge_stream::{Saved, SavedEntry, edges_of_part, is_stored_as, save_edges};
 use end_queue::EndQueue;
 use std::alloc::Global;
 use synopsis::Synopsis;

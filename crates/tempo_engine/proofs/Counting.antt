@@ -18,10 +18,10 @@ use Rattle.plan_model.proofs.Kept.{IsPlan-ordered}
 use Rattle.plan_model.proofs.Levels.{IsPlan-levelled}
 use Rattle.plan_model.proofs.PlanLaws.{events_agree}
 use Rattle.plan_laws.specs.Held.{node_may_hold}
-use Rattle.node_laws.specs.Places.{AreDistinct, read_of}
-use Rattle.node_laws.specs.Standing.{StandsRead, AllStandRead}
-use Rattle.node_laws.proofs.Standing.{rows_standing}
-use Rattle.row_stage.specs.Stages.{is_of_rows}
+use Rattle.plan_laws.specs.Places.{AreDistinct, read_of}
+use Rattle.plan_laws.specs.Standing.{StandsRead, AllStandRead}
+use Rattle.plan_laws.proofs.Standing.{rows_standing}
+use Rattle.where_select.specs.Stages.{is_of_rows}
 use Rattle.admission.specs.declared.policy.Policy.{Policy}
 use Rattle.admission.specs.Admission.{rows}
 use Rattle.admission.specs.Entries.{Told}
@@ -33,7 +33,7 @@ use Rattle.dataflow.specs.Saving.{SavesAll}
 use Rattle.dataflow.specs.Stages.{IsReady, entries_in}
 use Rattle.frozen_state.specs.declared.owner.Owner.TheVariants as owners
 use Rattle.frozen_state.specs.declared.frozen.FrozenPart.{FrozenPart}
-use Rattle.frozen_parts.specs.Kept.{KeptView, shard_row, node_row, parts_of}
+use Rattle.tempo_engine.specs.Kept.{KeptView, shard_row, node_row, parts_of}
 use Rattle.tempo_engine.specs.Entries.{entries_of, node_may_keep, nodes_may_keep, last_rows, may_freeze}
 use Rattle.tempo_engine.specs.Fed.{FedBy, WhateverTook}
 use Rattle.tempo_engine.specs.Freezing.{WhateverWent, kept_at_most}

@@ -17,7 +17,7 @@ use Rattle.tw_rows.proofs.TextTables.{BeginsWith-refl, BeginsWith-trans, BeginsW
 use Rattle.plan_model.specs.declared.expr.ExprNode.{ExprNode}
 use Rattle.plan_model.specs.declared.expr.ExprNode.TheVariants as nodes
 use Rattle.plan_model.specs.IsPlan.{PlanParts}
-use Rattle.node_laws.specs.Places.{AreDistinct}
+use Rattle.plan_laws.specs.Places.{AreDistinct}
 use Rattle.lane_expr.specs.Steps.{with_node, with_texts}
 use Rattle.admission.specs.declared.policy.Policy.{Policy}
 use Rattle.admission.specs.Entries.{Told}
@@ -28,12 +28,12 @@ use Rattle.egress.specs.Saving.{EntriesArePlaced, IsSound as IsSoundOutput}
 use Rattle.frozen_state.specs.Frozen.{FrozenView}
 use Rattle.frozen_state.specs.Forms.{part_forms}
 use Rattle.frozen_state.specs.Formed.{ArePartsOf, IsOneLine}
-use Rattle.frozen_parts.specs.Kept.{KeptView, node_counts, parts_of, frozen_of, kept_of}
-use Rattle.frozen_parts.specs.Named.{PartsArePlaced}
-use Rattle.frozen_parts.proofs.InOrder.{never_falls, parts_in_order}
-use Rattle.frozen_parts.proofs.Matching.{stored_named}
-use Rattle.frozen_parts.proofs.Rows.{kept_back}
-use Rattle.frozen_parts.proofs.Sharing.{first_all}
+use Rattle.tempo_engine.specs.Kept.{KeptView, node_counts, parts_of, frozen_of, kept_of}
+use Rattle.tempo_engine.specs.Named.{PartsArePlaced}
+use Rattle.tempo_engine.proofs.InOrder.{never_falls, parts_in_order}
+use Rattle.tempo_engine.proofs.Matching.{stored_named}
+use Rattle.tempo_engine.proofs.Rows.{kept_back}
+use Rattle.tempo_engine.proofs.Sharing.{first_all}
 use Rattle.dataflow.specs.Held.{nodes_in_all}
 use Rattle.dataflow.specs.Saving.{AreStates}
 use Rattle.tempo_engine.specs.Fed.{FedBy}

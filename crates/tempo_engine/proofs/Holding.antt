@@ -10,8 +10,8 @@ use Rattle.plan_model.specs.Meaning.{Sources}
 use Rattle.plan_model.proofs.Kept.{IsPlan-ordered}
 use Rattle.plan_model.proofs.Levels.{IsPlan-levelled}
 use Rattle.plan_laws.specs.Held.{node_may_hold}
-use Rattle.node_laws.specs.Places.{AreDistinct}
-use Rattle.node_laws.specs.Standing.{StandsRead, SourcesStandRead}
+use Rattle.plan_laws.specs.Places.{AreDistinct}
+use Rattle.plan_laws.specs.Standing.{StandsRead, SourcesStandRead}
 use Rattle.admission.specs.declared.policy.Policy.{Policy}
 use Rattle.admission.specs.Admission.{Admission, rows}
 use Rattle.admission.specs.Entries.{Told, AreRead}

@@ -14,3 +14,10 @@ pub mod Fitting
 pub mod Counting
 mod FrozenExamples
 mod BlockExamples
+pub mod Matching
+pub mod Rows
+pub mod Sharing
+pub mod Falling
+pub mod InOrder
+pub mod PartCounting
+pub mod Naming

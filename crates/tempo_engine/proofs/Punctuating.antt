@@ -16,9 +16,9 @@ use Rattle.plan_model.specs.Meaning.{closes, events}
 use Rattle.plan_model.proofs.Closings.{closes_rise, closes_low}
 use Rattle.plan_model.proofs.Kept.{IsPlan-ordered}
 use Rattle.plan_laws.specs.Undefined.{overflow}
-use Rattle.node_laws.specs.Standing.{StandsRead}
-use Rattle.node_laws.specs.Places.{EdgesArePlaced}
-use Rattle.node_laws.proofs.Standing.{placed_longer}
+use Rattle.plan_laws.specs.Standing.{StandsRead}
+use Rattle.plan_laws.specs.Places.{EdgesArePlaced}
+use Rattle.plan_laws.proofs.Standing.{placed_longer}
 use Rattle.admission.specs.declared.policy.Policy.{Policy}
 use Rattle.admission.specs.Admission.{Admission, rows}
 use Rattle.admission.specs.Keeping.{IsGoing}

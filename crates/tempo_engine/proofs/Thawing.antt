@@ -9,8 +9,8 @@ use Rattle.tw_rows.specs.Texts.{BeginsWith}
 use Rattle.tw_rows.specs.declared.edge.Edge.{Edge}
 use Rattle.edge_history.specs.Order.{is_below, failing}
 use Rattle.plan_model.specs.IsPlan.{PlanParts, IsPlan}
-use Rattle.node_laws.specs.Places.{AreDistinct}
-use Rattle.node_laws.proofs.Standing.{placed_longer}
+use Rattle.plan_laws.specs.Places.{AreDistinct}
+use Rattle.plan_laws.proofs.Standing.{placed_longer}
 use Rattle.admission.specs.declared.policy.Policy.{Policy}
 use Rattle.admission.specs.Admission.{Admission}
 use Rattle.admission.specs.Keeping.{IsGoing}
@@ -29,7 +29,7 @@ use Rattle.egress.proofs.Taking.{holds_longer}
 use Rattle.dataflow.specs.Flows.{CanStep, Flows}
 use Rattle.dataflow.specs.Saving.{AreStates, FlowsResume}
 use Rattle.tempo_engine.specs.Output.{result_kinds}
-use Rattle.frozen_parts.specs.Kept.{KeptView}
+use Rattle.tempo_engine.specs.Kept.{KeptView}
 use Rattle.tempo_engine.specs.Frozen.{FitsProgress, time_at, closed_at}
 use Rattle.tempo_engine.specs.Went.{Went}
 use Rattle.tempo_engine.specs.declared.parts.Parts.{Parts}

@@ -7,7 +7,7 @@ use Rattle.plan_model.specs.IsPlan.{PlanParts}
 use Rattle.plan_model.specs.Meaning.{Sources, snapshots}
 use Rattle.plan_model.specs.Opens.{before}
 use Rattle.plan_laws.specs.Held.{node_may_hold}
-use Rattle.row_stage.specs.Stages.{is_of_rows}
+use Rattle.where_select.specs.Stages.{is_of_rows}
 use Rattle.admission.specs.declared.policy.Policy.{Policy}
 use Rattle.admission.specs.Admission.{rows}
 use Rattle.admission.specs.Entries.{Told}

@@ -5,7 +5,7 @@ use Rattle.tw_rows.specs.Event.{alive}
 use Rattle.tw_rows.specs.declared.edge.Edge.{Edge}
 use Rattle.plan_model.specs.IsPlan.{PlanParts, IsPlan}
 use Rattle.plan_model.specs.Opens.{before}
-use Rattle.node_laws.specs.Places.{read_of}
+use Rattle.plan_laws.specs.Places.{read_of}
 use Rattle.admission.specs.declared.policy.Policy.{Policy}
 use Rattle.admission.specs.Keeping.{IsGoing}
 use Rattle.admission.specs.Progress.{Progress}
@@ -14,8 +14,8 @@ use Rattle.dataflow.specs.Stages.{entries_in}
 use Rattle.frozen_state.specs.Frozen.{FrozenView}
 use Rattle.frozen_state.specs.Forms.{PartFormView}
 use Rattle.frozen_state.specs.Formed.{IsFormed, ArePartsOf, IsOneLine}
-use Rattle.frozen_parts.specs.Kept.{KeptView, kept_of}
-use Rattle.frozen_parts.specs.Named.{PartsArePlaced}
+use Rattle.tempo_engine.specs.Kept.{KeptView, kept_of}
+use Rattle.tempo_engine.specs.Named.{PartsArePlaced}
 use Rattle.tempo_engine.specs.Frozen.{FitsProgress}
 use Rattle.tempo_engine.specs.Went.{Went}
 use Rattle.tempo_engine.specs.declared.parts.Parts.{Parts}

@@ -6,7 +6,7 @@ use Rattle.tw_rows.specs.declared.edge.Edge.{Edge}
 use Rattle.edge_history.specs.Order.{is_below, failing}
 use Rattle.plan_model.specs.IsPlan.{PlanParts, IsPlan}
 use Rattle.plan_model.specs.Meaning.{closes}
-use Rattle.node_laws.specs.Places.{AreDistinct, EdgesArePlaced}
+use Rattle.plan_laws.specs.Places.{AreDistinct, EdgesArePlaced}
 use Rattle.row_reader.specs.Printed.{IsEnd}
 use Rattle.admission.specs.declared.policy.Policy.{Policy}
 use Rattle.admission.specs.Entries.{Told, AreRead}
@@ -18,8 +18,8 @@ use Rattle.egress.specs.Saving.{EntriesArePlaced, Resumes as ShownResumes, IsSou
 use Rattle.frozen_state.specs.Frozen.{FrozenView}
 use Rattle.frozen_state.specs.Forms.{part_forms}
 use Rattle.frozen_state.specs.Formed.{IsFormed}
-use Rattle.frozen_parts.specs.Kept.{KeptView, kept_of}
-use Rattle.frozen_parts.specs.Named.{AreNamed, PartsArePlaced}
+use Rattle.tempo_engine.specs.Kept.{KeptView, kept_of}
+use Rattle.tempo_engine.specs.Named.{AreNamed, PartsArePlaced}
 use Rattle.dataflow.specs.Stages.{reached}
 use Rattle.dataflow.specs.Saving.{AreStates, FlowsResume}
 use Rattle.tempo_engine.specs.Output.{result_kinds}

@@ -1,5 +1,5 @@
 -- Callers read Output, Texts, Faults, Fed, Block, Held, Frozen and Entries. Of Went they read what `Fed` says of the parts of an engine;
--- Working, Underway, Freezing, and the other words of Went and Faults, are cited by private contracts alone.
+-- Working, Underway, Freezing, Kept, Named, and the other words of Went and Faults, are cited by private contracts alone.
 pub mod Output
 pub mod Texts
 pub mod Faults
@@ -12,3 +12,5 @@ pub mod Frozen
 pub mod Entries
 pub mod Freezing
 pub mod Block
+pub mod Kept
+pub mod Named

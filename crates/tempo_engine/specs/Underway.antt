@@ -7,8 +7,8 @@ use Rattle.edge_history.specs.Order.{is_below, failing}
 use Rattle.plan_model.specs.IsPlan.{PlanParts, IsPlan, most_columns}
 use Rattle.plan_model.specs.Meaning.{closes, events}
 use Rattle.plan_laws.specs.Undefined.{overflow}
-use Rattle.node_laws.specs.Places.{EdgesArePlaced}
-use Rattle.node_laws.specs.Standing.{StandsRead}
+use Rattle.plan_laws.specs.Places.{EdgesArePlaced}
+use Rattle.plan_laws.specs.Standing.{StandsRead}
 use Rattle.admission.specs.declared.policy.Policy.{Policy}
 use Rattle.admission.specs.Admission.{Admission, rows}
 use Rattle.admission.specs.Progress.{Progress}

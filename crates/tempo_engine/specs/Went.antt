@@ -7,7 +7,7 @@ use Rattle.tw_rows.specs.Texts.{BeginsWith}
 use Rattle.tw_rows.specs.declared.edge.Edge.{Edge}
 use Rattle.edge_history.specs.Order.{is_below, failing}
 use Rattle.plan_model.specs.IsPlan.{PlanParts, IsPlan, most_columns}
-use Rattle.node_laws.specs.Places.{EdgesArePlaced}
+use Rattle.plan_laws.specs.Places.{EdgesArePlaced}
 use Rattle.admission.specs.declared.policy.Policy.{Policy}
 use Rattle.admission.specs.Entries.{Told, AreRead}
 use Rattle.admission.specs.Progress.{Progress, progress, fault}

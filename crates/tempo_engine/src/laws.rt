@@ -2,8 +2,8 @@
 ghost use Rattle.std.specs.Prelude.{ℕ, false, List, length};
 ghost use Rattle.tw_rows.specs.declared.edge.Edge.{Edge};
 ghost use Rattle.plan_model.specs.IsPlan.{PlanParts};
-ghost use Rattle.node_laws.specs.Places.{AreDistinct};
-ghost use Rattle.node_laws.specs.Standing.{AllStandRead};
+ghost use Rattle.plan_laws.specs.Places.{AreDistinct};
+ghost use Rattle.plan_laws.specs.Standing.{AllStandRead};
 ghost use Rattle.admission.specs.declared.policy.Policy.{Policy};
 ghost use Rattle.admission.specs.Admission.{rows};
 ghost use Rattle.admission.specs.Entries.{Told};

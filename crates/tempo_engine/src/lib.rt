@@ -7,8 +7,12 @@ mod epoch;
 mod fault;
 mod freezing;
 mod frozen_engine;
+mod kept;
 mod laws;
+mod named;
 mod parts;
+mod stored;
+mod table;
 
 pub use block::FedBlock;
 pub use engine::{Engine, Options};

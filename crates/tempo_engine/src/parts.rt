@@ -3,7 +3,7 @@ ghost use Rattle.std.specs.Prelude.{◌≡◌, ◌≢◌, ◌<◌, ◌≤◌, �
 ghost use Rattle.std.specs.Prelude.{false, Some, None, length, map, nat_lt, cond, All};
 ghost use Rattle.std.specs.Prelude.{IfOk, IfErr, OnOk};
 ghost use Rattle.tw_rows.specs.Instant.{inf};
-ghost use Rattle.node_laws.specs.Places.{AreDistinct};
+ghost use Rattle.plan_laws.specs.Places.{AreDistinct};
 ghost use Rattle.admission.specs.declared.policy.Policy.{Policy as Admitting};
 ghost use Rattle.admission.specs.Entries.{Told};
 ghost use Rattle.admission.specs.Progress.{Progress, judged, start, progress, fault as fault_of};
@@ -18,11 +18,11 @@ use egress::Egress;
 use ingress::{Ingress, event_times_stay};
 use plan_model::{MOST_COLUMNS, Plan};
 use row_reader::read_cells;
-use row_stage::column_kinds;
 use shard_apply::Gate;
 use std::alloc::Global;
 use std::thread::Threads;
 use tw_rows::{Datum, Kind, Memory, TextTable, Time};
+use where_select::column_kinds;
 
 /// The parts of an engine: lines come in at the ingress, their edges go through the dataflow of the plan, and the egress shows
 /// what the root changes. `closed` is how far the text goes, and `row` has the values of the last event that was read.

@@ -15,7 +15,7 @@ use Rattle.plan_model.specs.Keys.{outside_from, outside_key, paired_row}
 use Rattle.sweep_laws.specs.Saving.{store_all}
 use Rattle.sweep_laws.proofs.Stored.{kinds_stored, stored_kinds}
 use Rattle.sweep_sides.proofs.StoredRows.{row_stored}
-use Rattle.sweep_operator.specs.Sweeping.{AreStored}
+use Rattle.sweep_sides.specs.Sweeping.{AreStored}
 use Rattle.temporal_join.specs.Joined.{join_meets, joins}
 
 -- a function of each column commutes with pairing

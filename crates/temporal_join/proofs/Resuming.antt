@@ -12,14 +12,14 @@ use Rattle.edge_history.specs.History.{CellEvent}
 use Rattle.edge_history.specs.Order.{failing, many}
 use Rattle.edge_history.specs.Side.{reaches}
 use Rattle.edge_stream.specs.declared.saved.SavedEntry.{SavedEntry}
-use Rattle.carried_edges.specs.Entries.{entries_of, part_of, are_of_parts}
-use Rattle.carried_edges.proofs.Parts.{parts_pass, part_of_own, part_of_other, part_of_append, parts_own, parts_append, all_pass}
+use Rattle.edge_stream.specs.Entries.{entries_of, part_of, are_of_parts}
+use Rattle.edge_stream.proofs.CarriedParts.{parts_pass, part_of_own, part_of_other, part_of_append, parts_own, parts_append, all_pass}
 use Rattle.plan_model.specs.declared.node.Node.TheVariants.{Join}
 use Rattle.plan_laws.specs.Held.{may_hold}
-use Rattle.node_laws.specs.Keeping.{plain_cells}
-use Rattle.node_laws.proofs.Standing.{no_history}
-use Rattle.node_laws.proofs.Steps.{keeps_first}
-use Rattle.operator.specs.Standing.{Standing, IsStoredAs, AreStoredAs}
+use Rattle.plan_laws.specs.Keeping.{plain_cells}
+use Rattle.plan_laws.proofs.Standing.{no_history}
+use Rattle.plan_laws.proofs.Steps.{keeps_first}
+use Rattle.edge_stream.specs.Standing.{Standing, IsStoredAs, AreStoredAs}
 use Rattle.sweep_sides.specs.Waiting.{queued}
 use Rattle.sweep_sides.proofs.KeptSides.{row_cells, waiting_cells, none_side}
 use Rattle.sweep_laws.specs.Saving.{starts_of, rows_of, is_row_start, may_wait, are_row_starts, may_all_wait}

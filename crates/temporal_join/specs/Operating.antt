@@ -4,7 +4,7 @@ use Rattle.tw_rows.specs.declared.edge.Edge.{Edge}
 use Rattle.edge_stream.specs.declared.saved.PartRow.{PartRow}
 use Rattle.edge_stream.specs.declared.saved.PartRow.TheVariants.{Left, Right}
 use Rattle.edge_stream.specs.declared.saved.SavedEntry.{SavedEntry}
-use Rattle.carried_edges.specs.Entries.{part_of}
+use Rattle.edge_stream.specs.Entries.{part_of}
 use Rattle.plan_model.specs.declared.node.Node.{Node}
 use Rattle.plan_model.specs.declared.node.Node.TheVariants.{Join as JoinNode}
 use Rattle.plan_model.specs.Keys.{paired_row}

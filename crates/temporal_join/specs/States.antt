@@ -9,7 +9,7 @@ use Rattle.edge_history.specs.Opens.{singles, started_rows}
 use Rattle.edge_history.specs.Order.{failing, is_below, is_from}
 use Rattle.end_queue.specs.Pending.{Pending}
 use Rattle.edge_stream.specs.declared.saved.SavedEntry.{SavedEntry}
-use Rattle.carried_edges.specs.Entries.{part_of, are_of_parts}
+use Rattle.edge_stream.specs.Entries.{part_of, are_of_parts}
 use Rattle.plan_model.specs.Keys.{paired_row}
 use Rattle.sweep_laws.specs.Changes.{TakeAtMost}
 use Rattle.sweep_laws.specs.Joining.{JoinKeeps}

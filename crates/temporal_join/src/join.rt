@@ -2,8 +2,8 @@
 ghost use Rattle.std.specs.Prelude.{◌≡◌, ◌≤◌, length, [], IfOk};
 ghost use Rattle.plan_model.specs.Keys.{paired_row};
 ghost use Rattle.plan_model.specs.declared.node.Node.TheVariants.{Join as JoinNode};
-ghost use Rattle.sweep_operator.specs.Operating.{standing, IsNew};
-ghost use Rattle.sweep_operator.specs.Sweepers.{new_standing};
+ghost use Rattle.sweep_sides.specs.Operating.{standing, IsNew};
+ghost use Rattle.sweep_sides.specs.Sweepers.{new_standing};
 
 use crate::few::JoinLives;
 use crate::lives::Lives;
@@ -11,8 +11,7 @@ use crate::sides::JoinSides;
 use crate::sweep::JoinRows;
 use end_queue::EndQueue;
 use std::alloc::Global;
-use sweep_operator::Swept;
-use sweep_sides::pair_kinds;
+use sweep_sides::{Swept, pair_kinds};
 use synopsis::Synopsis;
 use tw_rows::{Kind, Memory};
 

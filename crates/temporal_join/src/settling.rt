@@ -7,15 +7,14 @@ ghost use Rattle.tw_rows.specs.declared.edge.Edge.{Edge};
 ghost use Rattle.tw_rows.specs.declared.edge.HeldRow.{HeldRow};
 ghost use Rattle.edge_history.specs.Balance.{is_single as single};
 ghost use Rattle.edge_history.specs.Opens.{singles, singles_of};
-ghost use Rattle.carried_edges.specs.Entries.{entries_of};
+ghost use Rattle.edge_stream.specs.Entries.{entries_of};
 ghost use Rattle.sweep_laws.specs.Changes.{TakeIn};
 ghost use Rattle.sweep_laws.specs.Saving.{starts_of};
 ghost use Rattle.sweep_sides.specs.Waiting.{queued, AreTimed};
 ghost use Rattle.temporal_join.specs.Lives.{end_of, end_weight, row_of, life_rows, life_waits, wait_of};
 
 use crate::lives::{Life, Lives};
-use carried_edges::save_edges;
-use edge_stream::{Cursor, Saved};
+use edge_stream::{Cursor, Saved, save_edges};
 use end_queue::EndQueue;
 use std::alloc::Global;
 use sweep_sides::{save_block, save_rows, save_waiting};

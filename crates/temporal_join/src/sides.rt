@@ -11,7 +11,7 @@ ghost use Rattle.edge_history.specs.History.{of};
 ghost use Rattle.edge_history.specs.Balance.{news};
 ghost use Rattle.edge_stream.specs.Listing.{cells_of};
 ghost use Rattle.temporal_join.specs.Joined.{joins};
-ghost use Rattle.carried_edges.specs.Entries.{part_of};
+ghost use Rattle.edge_stream.specs.Entries.{part_of};
 ghost use Rattle.sweep_sides.specs.Waiting.{queued};
 ghost use Rattle.sweep_laws.specs.Saving.{rows_of};
 ghost use Rattle.temporal_join.specs.Kept.{SameKeys, AreByKey};
@@ -22,11 +22,9 @@ use crate::few::JoinLives;
 use crate::lives::Lives;
 use crate::settling::{count_ends, save_side_rows, save_side_waiting};
 use crate::sweep::JoinRows;
-use carried_edges::are_of_parts;
-use edge_stream::{EdgeList, LoadFault, PartRow, Saved};
+use edge_stream::{EdgeList, LoadFault, PartRow, Saved, are_of_parts};
 use end_queue::EndQueue;
-use sweep_operator::Sweep;
-use sweep_sides::{are_rows, can_wait, kept_count, load_rows, load_waiting};
+use sweep_sides::{Sweep, are_rows, can_wait, kept_count, load_rows, load_waiting};
 use tw_rows::{Edge, Kind, Memory, Time};
 
 /// The rows of both sides that are alive, and the pending edges of both sides.

@@ -1,6 +1,6 @@
 use Rattle.std.proofs.Common.{◌++◌, ◌∷◌, [], List, ℕ, map, take, ◌∙◌, sym, ap, subst}
 use Rattle.std.proofs.lemmas.List.{map-append}
-use Rattle.checkpoint_lines.specs.Lines.{query_line}
+use Rattle.checkpoint.specs.Lines.{query_line}
 use Rattle.checkpoint.specs.Form.{most_of_query, query_lines}
 use Rattle.checkpoint.proofs.Pieces.{IsCut, cut_more, cut_all, cut_rest, is_nothing, is_something}
 use Rattle.checkpoint.proofs.form.push_query.Goals as goal

@@ -1,7 +1,7 @@
 use Rattle.std.proofs.Common.{◌+◌, Bool, cond, Some, drop, sym, ◌∙◌, ap}
 use Rattle.std.specs.List.{position_from}
 use Rattle.frozen_state.specs.Forms.{is_form_of}
-use Rattle.checkpoint.proofs.Places.{place_more}
+use Rattle.checkpoint.proofs.PartPlaces.{place_more}
 use Rattle.checkpoint.proofs.reading.place.Goals as goal
 
 pub returns-then-is_of : goal.returns-then-is_of

@@ -1,6 +1,6 @@
 use Rattle.std.proofs.Common.{◌+◌}
-use Rattle.checkpoint_lines.specs.Lines.{entry_line}
-use Rattle.checkpoint_lines.proofs.Filling.{on_err}
+use Rattle.checkpoint.specs.Lines.{entry_line}
+use Rattle.checkpoint.proofs.Filling.{on_err}
 use Rattle.checkpoint.specs.Writing.{ends_left, LacksRoomFor}
 use Rattle.checkpoint.proofs.Left.{entry_is_next}
 use Rattle.checkpoint.proofs.writing.push_entry.Goals as goal

@@ -1,6 +1,6 @@
 use Rattle.std.proofs.Common.{◌+◌, ◌++◌, ◌∷◌, List, ℕ, ap, arith}
-use Rattle.checkpoint_lines.proofs.Filling.{on_err}
-use Rattle.checkpoint_lines.specs.Lines.{time_line}
+use Rattle.checkpoint.proofs.Filling.{on_err}
+use Rattle.checkpoint.specs.Lines.{time_line}
 use Rattle.checkpoint.specs.declared.writing.Place.TheVariants.{Head}
 use Rattle.checkpoint.specs.Writing.{bounds_left, lines_left, LacksRoomFor}
 use Rattle.checkpoint.proofs.Left.{dropped_more}

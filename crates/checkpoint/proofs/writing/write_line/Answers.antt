@@ -1,4 +1,4 @@
-use Rattle.checkpoint_lines.proofs.Filling.{on_err}
+use Rattle.checkpoint.proofs.Filling.{on_err}
 use Rattle.checkpoint.proofs.Left.{fed, lacks_feed, lacks_last}
 use Rattle.checkpoint.proofs.writing.write_line.Goals as goal
 

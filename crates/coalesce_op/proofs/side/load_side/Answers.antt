@@ -1,4 +1,4 @@
-use Rattle.carried_edges.specs.Entries.{part_of}
+use Rattle.edge_stream.specs.Entries.{part_of}
 use Rattle.sweep_laws.specs.Saving.{rows_of}
 use Rattle.row_queues.proofs.OpenRows.{same_rows}
 use Rattle.sweep_sides.proofs.KeptSides.{side_loaded}

@@ -3,7 +3,7 @@ use Rattle.tw_rows.specs.Instant.{inf}
 use Rattle.plan_model.specs.Meaning.{closes}
 use Rattle.plan_model.proofs.Kept.{node_at, left_at}
 use Rattle.plan_model.proofs.Plans.{left_of_below}
-use Rattle.row_stage.proofs.Nodes.{one_node}
+use Rattle.where_select.proofs.Nodes.{one_node}
 use Rattle.dataflow.specs.Stages.{left_closing}
 use Rattle.dataflow.proofs.closings.left_closing.Goals as goal
 

@@ -3,7 +3,7 @@ use Rattle.tw_rows.specs.Instant.{inf}
 use Rattle.plan_model.specs.Meaning.{closes, right_child}
 use Rattle.plan_model.proofs.Kept.{node_at, right_at}
 use Rattle.plan_model.proofs.Plans.{at_child_below}
-use Rattle.row_stage.proofs.Nodes.{one_node}
+use Rattle.where_select.proofs.Nodes.{one_node}
 use Rattle.dataflow.specs.Stages.{right_closing}
 use Rattle.dataflow.proofs.closings.right_closing.Goals as goal
 

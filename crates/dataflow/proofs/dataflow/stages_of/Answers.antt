@@ -5,8 +5,8 @@ use Rattle.plan_model.specs.declared.expr.ExprNode.{ExprNode}
 use Rattle.dataflow.specs.declared.stage.Stage.{Stage}
 use Rattle.lane_expr.specs.Steps.{with_texts}
 use Rattle.lane_expr.proofs.Typing.{BeginsWith-trans}
-use Rattle.row_stage.specs.Texts.{nodes_of_items, nodes_in, HasFirstTexts}
-use Rattle.row_stage.proofs.Tables.{texts_next, first_next, all_first, items_push, items_parts, on_err}
+use Rattle.where_select.specs.Texts.{nodes_of_items, nodes_in, HasFirstTexts}
+use Rattle.where_select.proofs.Tables.{texts_next, first_next, all_first, items_push, items_parts, on_err}
 use Rattle.dataflow.proofs.Opening.{AreFreshTo, fresh_next, fresh_all, made_at, items_next}
 use Rattle.dataflow.proofs.Stepping.{node_there}
 use Rattle.dataflow.proofs.Running.{one_runs}

@@ -2,7 +2,7 @@
 use Rattle.std.proofs.Common.{◌≡◌, length, map, take}
 use Rattle.tw_rows.specs.Texts.{BeginsWith}
 use Rattle.lane_expr.specs.Steps.{with_texts}
-use Rattle.row_stage.specs.Texts.{nodes_of_items, nodes_in}
+use Rattle.where_select.specs.Texts.{nodes_of_items, nodes_in}
 use Rattle.dataflow.specs.Shards.{RunAll}
 use Rattle.dataflow.proofs.Opening.{AreFreshTo}
 use Rattle.dataflow.proofs.dataflow.stages_of.Given as goal

@@ -2,7 +2,7 @@ use Rattle.std.proofs.Common.{◌<◌, ◌∙◌, [], length, map, ap, arith}
 use Rattle.std.proofs.lemmas.List.{get_or_default}
 use Rattle.plan_model.specs.IsPlan.{kinds_of_schema, kinds_at}
 use Rattle.tw_rows.specs.Kinds.{cell_kind_of}
-use Rattle.row_stage.proofs.Nodes.{stored_kinds}
+use Rattle.where_select.proofs.Nodes.{stored_kinds}
 use Rattle.dataflow.proofs.Starting.{told_narrow}
 use Rattle.dataflow.proofs.making.kinds_told.Goals as goal
 

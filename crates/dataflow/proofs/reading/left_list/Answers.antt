@@ -6,7 +6,7 @@ use Rattle.edge_stream.specs.Listing.{EdgeListView}
 use Rattle.plan_model.specs.declared.node.Node.{Node}
 use Rattle.plan_model.specs.Shape.{HasLower, left_of}
 use Rattle.plan_model.proofs.Kept.{node_at}
-use Rattle.row_stage.proofs.Nodes.{stream_there}
+use Rattle.where_select.proofs.Nodes.{stream_there}
 use Rattle.dataflow.specs.Stages.{left_kinds}
 use Rattle.dataflow.specs.Held.{HeldBefore, HeldBetween, IsListWith}
 use Rattle.dataflow.proofs.HeldLists.{IfOk-three, left_stream_taken, left_node_taken, stream_list, left_child_list}

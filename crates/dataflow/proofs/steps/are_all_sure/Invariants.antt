@@ -1,7 +1,7 @@
 -- The lists before this one are sure.
 use Rattle.std.proofs.Common.{◌≡◌, ◌<◌, ℕ, true, get_or}
 use Rattle.edge_stream.specs.Listing.{EdgeListView}
-use Rattle.node_laws.specs.Places.{EdgesArePlaced}
+use Rattle.plan_laws.specs.Places.{EdgesArePlaced}
 use Rattle.dataflow.proofs.steps.are_all_sure.Given as goal
 
 abbrev pub invariant-loop-i : goal.invariant-loop-i

@@ -1,7 +1,7 @@
 use Rattle.std.proofs.Common.{◌≡◌, ◌<◌, ◌∙◌, [], length, refl, ap, sym, subst, arith, inl}
 use Rattle.std.specs.Prelude.{◌+◌, Some, slice_set}
 use Rattle.std.proofs.lemmas.List.{length_push, get_or-set_other, length-set}
-use Rattle.node_laws.specs.Places.{EdgesArePlaced}
+use Rattle.plan_laws.specs.Places.{EdgesArePlaced}
 use Rattle.edge_stream.specs.Lists.{edges_at}
 use Rattle.dataflow.specs.Flows.{parts_of}
 use Rattle.dataflow.specs.Below.{StopsUnder}

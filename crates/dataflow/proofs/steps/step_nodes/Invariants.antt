@@ -4,8 +4,8 @@ use Rattle.std.specs.Prelude.{Some, get_or, slice_get}
 use Rattle.tw_rows.specs.declared.edge.Edge.{Edge}
 use Rattle.plan_model.specs.declared.node.Node.{Node}
 use Rattle.plan_model.specs.Meaning.{Sources}
-use Rattle.node_laws.specs.Places.{AreDistinct}
-use Rattle.node_laws.specs.Standing.{SourcesStandRead}
+use Rattle.plan_laws.specs.Places.{AreDistinct}
+use Rattle.plan_laws.specs.Standing.{SourcesStandRead}
 use Rattle.dataflow.specs.declared.stage.Stage.{Stage}
 use Rattle.edge_stream.specs.Lists.{edges_at, longer}
 use Rattle.dataflow.specs.Lists.{AreFrom}

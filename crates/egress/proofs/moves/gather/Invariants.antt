@@ -4,7 +4,7 @@ use Rattle.tw_rows.specs.Cells.{read_cells}
 use Rattle.tw_rows.specs.Rows.{Row}
 use Rattle.tw_rows.specs.declared.cells.Datum.{Datum}
 use Rattle.edge_history.specs.Order.{failing}
-use Rattle.node_laws.specs.Places.{AreDistinct, EdgesArePlaced}
+use Rattle.plan_laws.specs.Places.{AreDistinct, EdgesArePlaced}
 use Rattle.egress.specs.Kept.{ends_in, starts_in, rows_of, KeepCells}
 use Rattle.egress.proofs.Gathered.{same}
 use Rattle.egress.proofs.Tallied.{ended_often, started_often}

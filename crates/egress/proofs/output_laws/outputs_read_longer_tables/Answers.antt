@@ -1,4 +1,4 @@
-use Rattle.node_laws.proofs.Standing.{placed_longer}
+use Rattle.plan_laws.proofs.Standing.{placed_longer}
 use Rattle.egress.specs.Waiting.{edges_if, waiting_in}
 use Rattle.egress.proofs.Taking.{holds_longer}
 use Rattle.egress.proofs.output_laws.outputs_read_longer_tables.Goals as goal

@@ -4,7 +4,7 @@ use Rattle.tw_rows.specs.declared.edge.Edge.{Edge}
 use Rattle.tw_rows.specs.declared.edge.HeldRow.{HeldRow}
 use Rattle.tw_rows.proofs.Bags.{SameBag-from_IsPermutation, SameBag-map, SameBag-sym}
 use Rattle.std.proofs.lemmas.List.Sorted.{IsNonDecreasingBy-from_sort_by_key}
-use Rattle.carried_edges.specs.Entries.{part_of}
+use Rattle.edge_stream.specs.Entries.{part_of}
 use Rattle.sweep_laws.specs.Saving.{rows_of}
 use Rattle.sweep_sides.proofs.TakenIn.{syncs_sorted}
 use Rattle.follow_op.specs.Waits.{StartsRise}

@@ -1,7 +1,7 @@
 use Rattle.std.specs.Prelude.{length, ◌<◌, ◌++◌, ◌∷◌, []}
 use Rattle.std.proofs.Common.{◌∙◌, ap, sym, subst, take, arith}
 use Rattle.std.proofs.lemmas.List.{take_more, take_all}
-use Rattle.carried_edges.proofs.Parts.{All-there}
+use Rattle.edge_stream.proofs.CarriedParts.{All-there}
 use Rattle.ingress.specs.OpenKeys.{starts_in}
 use Rattle.ingress.specs.Saving.{stream_of, IsSoundEntry}
 use Rattle.ingress.specs.Loaded.{Loads}

@@ -1,6 +1,6 @@
 use Rattle.std.proofs.Common.{◌≡◌, ◌∙◌, ◌++◌, ◌∷◌, [], length, ap, sym, arith, append_assoc, append-nil}
 use Rattle.std.specs.Option.{is_some, option_to_list}
-use Rattle.carried_edges.specs.Entries.{entries_of, entry_of}
+use Rattle.edge_stream.specs.Entries.{entries_of, entry_of}
 use Rattle.ingress.proofs.saving.save_queue.Goals as goal
 
 pub edges-init : goal.edges-init

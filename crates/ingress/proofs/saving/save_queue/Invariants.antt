@@ -1,6 +1,6 @@
 -- The entries so far, and those of the edges that are still to come, are those of the list.
 use Rattle.std.proofs.Common.{◌≡◌, ◌++◌, length}
-use Rattle.carried_edges.specs.Entries.{entries_of}
+use Rattle.edge_stream.specs.Entries.{entries_of}
 use Rattle.ingress.proofs.saving.save_queue.Given as goal
 
 abbrev pub invariant-edges : goal.invariant-edges

@@ -1,7 +1,7 @@
 use Rattle.std.proofs.Common.{◌∷◌}
 use Rattle.wire_lines.specs.Lines.{whole}
 use Rattle.checkpoint.specs.Text.{checkpoint_lines}
-use Rattle.checkpoint_lines.specs.Lines.{output_line}
+use Rattle.checkpoint.specs.Lines.{output_line}
 use Rattle.kept_run.proofs.ReadBack.{input_read, output_read, none_read, some_read, state_begins}
 use Rattle.kept_run.proofs.reading.read_state.Goals as goal
 

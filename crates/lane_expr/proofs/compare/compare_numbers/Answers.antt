@@ -1,6 +1,6 @@
 use Rattle.std.proofs.Common.{◌∙◌, not, ap, sym}
 use Rattle.std.specs.Ordering.{int_cmp}
-use Rattle.lanes.specs.Lanes.{number}
+use Rattle.lane_expr.specs.Lanes.{number}
 use Rattle.occupancy.proofs.Test.{test-flip}
 use Rattle.lane_expr.proofs.Comparing.{ne_is, le_by, ge_by}
 use Rattle.lane_expr.proofs.compare.compare_numbers.Goals as goal

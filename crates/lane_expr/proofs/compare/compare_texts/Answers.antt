@@ -2,7 +2,7 @@ use Rattle.std.proofs.Common.{◌∙◌, [], not, ap, sym, get_or}
 use Rattle.std.specs.Ordering.{nat_cmp}
 use Rattle.std.specs.Cmp.Lexicographic.{slice_cmp}
 use Rattle.occupancy.proofs.Test.{test-flip}
-use Rattle.lanes.specs.Lanes.{place}
+use Rattle.lane_expr.specs.Lanes.{place}
 use Rattle.lane_expr.proofs.Comparing.{ne_is}
 use Rattle.lane_expr.proofs.compare.compare_texts.Goals as goal
 

@@ -4,7 +4,7 @@ use Rattle.std.specs.Prelude.{slice_index_or}
 use Rattle.std.specs.Ordering.{nat_cmp}
 use Rattle.std.specs.Cmp.Lexicographic.{slice_cmp}
 use Rattle.occupancy.specs.Bits.{test}
-use Rattle.lanes.specs.Lanes.{place}
+use Rattle.lane_expr.specs.Lanes.{place}
 use Rattle.plan_model.specs.Expr.{is_met}
 use Rattle.lane_expr.proofs.compare.order_texts.Given as goal
 

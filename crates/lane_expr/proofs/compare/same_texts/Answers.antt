@@ -1,5 +1,5 @@
 use Rattle.std.proofs.Common.{◌∙◌}
-use Rattle.lanes.specs.Lanes.{place}
+use Rattle.lane_expr.specs.Lanes.{place}
 use Rattle.lane_expr.proofs.Comparing.{text_equal}
 use Rattle.lane_expr.proofs.compare.same_texts.Goals as goal
 

@@ -2,7 +2,7 @@ use Rattle.std.proofs.Common.{◌≡◌, ◌∙◌, ap, map}
 use Rattle.std.proofs.lemmas.Result.{IfOk-weaker}
 use Rattle.tw_rows.specs.Kinds.{cell_kind_of}
 use Rattle.edge_stream.specs.Listing.{cells_of}
-use Rattle.life_laws.specs.Answers.{answered}
+use Rattle.plan_laws.specs.Answers.{answered}
 use Rattle.lifetime_ops.specs.Nodes.{node_of, answer_kinds}
 use Rattle.lifetime_ops.specs.Times.{retimed}
 use Rattle.edge_stream.specs.Listing.{SameShape}

@@ -6,8 +6,8 @@ use Rattle.tw_rows.specs.Kinds.{cell_kind_of}
 use Rattle.tw_rows.specs.declared.edge.Edge.{Edge}
 use Rattle.edge_stream.specs.Listing.{cells_of}
 use Rattle.edge_stream.proofs.Filling.{appended-kinds, appended-capacity, room_taken-capacity}
-use Rattle.carried_edges.proofs.Pools.{part-capacity, part-limit, room_taken-limit}
-use Rattle.life_laws.specs.Extending.{extended_starts, extended_ends}
+use Rattle.edge_stream.proofs.Pools.{part-capacity, part-limit, room_taken-limit}
+use Rattle.plan_laws.specs.Extending.{extended_starts, extended_ends}
 use Rattle.lifetime_ops.specs.Waiting.{edges_of_pending}
 use Rattle.lifetime_ops.proofs.Waiting.{end_true, end_false, next_is, rest_in_order, start_passed, start_next, start_in_order, ends_next, ends_skip}
 use Rattle.lifetime_ops.proofs.extend.part_due.Goals as goal

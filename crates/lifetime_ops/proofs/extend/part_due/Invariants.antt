@@ -5,7 +5,7 @@ use Rattle.tw_rows.specs.Bag.{total}
 use Rattle.tw_rows.specs.declared.edge.Edge.{Edge}
 use Rattle.edge_history.specs.Order.{KeepsOrder}
 use Rattle.edge_stream.specs.Listing.{cells_of}
-use Rattle.life_laws.specs.Extending.{extended_starts, extended_ends}
+use Rattle.plan_laws.specs.Extending.{extended_starts, extended_ends}
 use Rattle.lifetime_ops.specs.Waiting.{edges_of_pending, IsWaitingEnd}
 use Rattle.lifetime_ops.proofs.extend.part_due.Given as goal
 

@@ -1,7 +1,7 @@
 use Rattle.std.proofs.Common.{◌∙◌, ◌++◌, ap}
 use Rattle.edge_stream.specs.Listing.{cells_of}
 use Rattle.edge_stream.proofs.Filling.{appended-kinds, appended-capacity, room_taken-capacity}
-use Rattle.carried_edges.proofs.Pools.{part-capacity, part-limit, room_taken-limit}
+use Rattle.edge_stream.proofs.Pools.{part-capacity, part-limit, room_taken-limit}
 use Rattle.lifetime_ops.specs.Waiting.{edges_of_pending}
 use Rattle.lifetime_ops.proofs.Waiting.{ends_in_order, next_in_order, taken_next, taken_low, rest_waits}
 use Rattle.lifetime_ops.proofs.extend.take_due.Goals as goal

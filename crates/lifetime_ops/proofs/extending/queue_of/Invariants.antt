@@ -4,7 +4,7 @@ use Rattle.std.specs.Prelude.{All}
 use Rattle.tw_rows.specs.Bag.{total}
 use Rattle.tw_rows.specs.declared.edge.Edge.{Edge}
 use Rattle.tw_rows.specs.declared.kind.CellKind.{CellKind}
-use Rattle.carried_edges.specs.Entries.{IsEdgePart}
+use Rattle.edge_stream.specs.Entries.{IsEdgePart}
 use Rattle.lifetime_ops.specs.Waiting.{edges_of_pending, IsWaitingEnd}
 use Rattle.lifetime_ops.proofs.extending.queue_of.Given as goal
 

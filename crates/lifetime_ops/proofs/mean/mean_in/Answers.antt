@@ -1,5 +1,5 @@
 use Rattle.std.proofs.Common.{◌∙◌, Bool, sym, ap, cond}
-use Rattle.node_laws.specs.Keeping.{plain_cells}
+use Rattle.plan_laws.specs.Keeping.{plain_cells}
 use Rattle.plan_model.specs.CellOps.{datum_int}
 use Rattle.plan_model.specs.Means.{mean_of as mean_of_int}
 use Rattle.tw_rows.specs.declared.cells.Datum.{Datum}

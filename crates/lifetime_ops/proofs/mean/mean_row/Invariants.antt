@@ -1,6 +1,6 @@
 -- The columns before this one are there.
 use Rattle.std.proofs.Common.{◌≡◌, take}
-use Rattle.node_laws.specs.Keeping.{plain_cells}
+use Rattle.plan_laws.specs.Keeping.{plain_cells}
 use Rattle.plan_model.specs.Means.{mean_row as row_of_means}
 use Rattle.lifetime_ops.proofs.mean.mean_row.Given as goal
 

@@ -5,9 +5,9 @@ use Rattle.tw_rows.specs.Kinds.{cell_kind_of}
 use Rattle.tw_rows.specs.declared.edge.Edge.{Edge}
 use Rattle.edge_stream.specs.Listing.{cells_of}
 use Rattle.edge_stream.proofs.Filling.{appended-kinds, appended-capacity, room_taken-capacity, batches_given-capacity}
-use Rattle.carried_edges.proofs.Pools.{part-capacity, part-limit, room_taken-limit, batches_given-limit}
-use Rattle.life_laws.specs.Answers.{answered}
-use Rattle.node_laws.specs.Keeping.{plain_cells}
+use Rattle.edge_stream.proofs.Pools.{part-capacity, part-limit, room_taken-limit, batches_given-limit}
+use Rattle.plan_laws.specs.Answers.{answered}
+use Rattle.plan_laws.specs.Keeping.{plain_cells}
 use Rattle.plan_model.specs.Means.{mean_row}
 use Rattle.lifetime_ops.specs.declared.change.Change.TheVariants.{Mean}
 use Rattle.lifetime_ops.specs.Nodes.{node_of}

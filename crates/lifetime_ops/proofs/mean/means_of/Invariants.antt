@@ -1,7 +1,7 @@
 -- What is answered, and what is still to be answered, are all answers.
 use Rattle.std.proofs.Common.{◌≡◌, ◌++◌, length}
 use Rattle.edge_stream.specs.Listing.{cells_of}
-use Rattle.life_laws.specs.Answers.{answered}
+use Rattle.plan_laws.specs.Answers.{answered}
 use Rattle.lifetime_ops.specs.declared.change.Change.TheVariants.{Mean}
 use Rattle.lifetime_ops.specs.Nodes.{node_of, answer_kinds}
 use Rattle.lifetime_ops.proofs.mean.means_of.Given as goal

@@ -1,5 +1,5 @@
 use Rattle.std.proofs.Common.{length, ◌-◌, ◌≡◌, ◌≤◌, ◌++◌, ◌+◌, drop}
-use Rattle.query_grammar.specs.Token.{unquoted}
+use Rattle.query_text.specs.Token.{unquoted}
 use Rattle.query_text.proofs.cursor.unquoted.Given as goal
 
 abbrev pub invariant-bytes : goal.invariant-bytes

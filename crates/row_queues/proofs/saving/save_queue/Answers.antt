@@ -1,6 +1,6 @@
 use Rattle.std.proofs.Common.{◌∙◌, ◌++◌, refl, ap, arith}
 use Rattle.std.proofs.lemmas.List.{take_all}
-use Rattle.carried_edges.specs.Entries.{entries_of}
+use Rattle.edge_stream.specs.Entries.{entries_of}
 use Rattle.sweep_laws.specs.Queues.{held_with}
 use Rattle.sweep_laws.specs.Saving.{starts_of}
 use Rattle.row_queues.proofs.Saved.{start_saved}

@@ -1,6 +1,6 @@
 -- The entries so far, and those of the rows that are left, are all entries.
 use Rattle.std.proofs.Common.{◌≡◌, ◌++◌}
-use Rattle.carried_edges.specs.Entries.{entries_of}
+use Rattle.edge_stream.specs.Entries.{entries_of}
 use Rattle.sweep_laws.specs.Saving.{starts_of}
 use Rattle.row_queues.specs.Kept.{rows_in}
 use Rattle.row_queues.proofs.saving.save_starts.Given as goal

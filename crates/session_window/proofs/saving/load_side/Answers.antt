@@ -1,5 +1,5 @@
 use Rattle.std.proofs.Common.{◌∙◌, subst, List, ℕ}
-use Rattle.carried_edges.specs.Entries.{part_of}
+use Rattle.edge_stream.specs.Entries.{part_of}
 use Rattle.sweep_sides.proofs.KeptSides.{side_loaded}
 use Rattle.sweep_sides.proofs.Starting.{starts_loaded}
 use Rattle.tw_rows.proofs.Bags.{SameBag-trans}

@@ -5,7 +5,7 @@ use Rattle.batch.specs.PoolsView.{PoolsView}
 use Rattle.edge_stream.specs.Listing.{EdgeListView, cells_of}
 use Rattle.edge_stream.specs.Taking.{batches_taken, AreBatchesTaken}
 use Rattle.edge_stream.proofs.Filling.{batches_taken-capacity}
-use Rattle.carried_edges.proofs.Pools.{some-capacity, some-limit, batches_taken-limit}
+use Rattle.edge_stream.proofs.Pools.{some-capacity, some-limit, batches_taken-limit}
 use Rattle.shard_apply.proofs.gather.merged.Goals as goal
 
 capacity_of : {E : Type 0} (r : Result EdgeListView E) (kinds : List CellKind) (old new : PoolsView) →

@@ -2,7 +2,7 @@ use Rattle.std.proofs.Common.{◌<◌, ◌∙◌, ℕ, List, length, get_or, ap,
 use Rattle.std.specs.List.{range_with_len}
 use Rattle.std.proofs.lemmas.List.{get_or-set_other}
 use Rattle.std.proofs.Math.Seq.{map-set_same}
-use Rattle.operator.specs.Standing.{IsLike}
+use Rattle.edge_stream.specs.Standing.{IsLike}
 use Rattle.edge_stream.specs.declared.saved.SavedEntry.{SavedEntry}
 use Rattle.shard_apply.specs.Saving.{AreRowsOf, HasLoaded}
 use Rattle.shard_apply.specs.declared.shard.Shard.{Shard}

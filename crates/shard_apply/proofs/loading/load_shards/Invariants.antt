@@ -2,7 +2,7 @@
 use Rattle.std.proofs.Common.{◌≡◌, ◌≤◌, ◌<◌, ℕ, List, map, length, get_or}
 use Rattle.std.specs.List.{range_with_len}
 use Rattle.edge_stream.specs.declared.saved.SavedEntry.{SavedEntry}
-use Rattle.operator.specs.Standing.{IsLike}
+use Rattle.edge_stream.specs.Standing.{IsLike}
 use Rattle.shard_apply.specs.declared.shard.Shard.{Shard}
 use Rattle.shard_apply.specs.Saving.{AreRowsOf, HasLoaded}
 use Rattle.shard_apply.proofs.loading.load_shards.Given as goal

@@ -4,7 +4,7 @@ use Rattle.batch.specs.PoolsView.{PoolsView}
 use Rattle.edge_stream.specs.Listing.{EdgeListView, cells_of}
 use Rattle.edge_stream.specs.Taking.{batches_taken, AreBatchesTaken}
 use Rattle.edge_stream.proofs.Filling.{batches_taken-capacity}
-use Rattle.carried_edges.proofs.Pools.{some-capacity}
+use Rattle.edge_stream.proofs.Pools.{some-capacity}
 use Rattle.shard_apply.proofs.shard.part_of.Goals as goal
 
 either : {E : Type 0} (r : Result EdgeListView E) (l : EdgeListView) (old new : PoolsView) →

@@ -1,7 +1,7 @@
 use Rattle.std.proofs.Common.{◌∙◌, ap}
 use Rattle.edge_stream.specs.Listing.{cells_of}
 use Rattle.edge_stream.proofs.Filling.{batches_given-capacity}
-use Rattle.carried_edges.proofs.Pools.{batches_given-limit}
+use Rattle.edge_stream.proofs.Pools.{batches_given-limit}
 use Rattle.shard_apply.proofs.step.give_back_both.Goals as goal
 
 pub give_back-requires-2 : goal.give_back-requires-2

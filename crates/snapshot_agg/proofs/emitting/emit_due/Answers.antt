@@ -9,7 +9,7 @@ use Rattle.edge_history.specs.History.{of}
 use Rattle.edge_history.specs.Opens.{singles}
 use Rattle.edge_history.specs.Order.{is_from, Rises}
 use Rattle.edge_stream.specs.Listing.{cells_of}
-use Rattle.node_laws.specs.Keeping.{plain_cells}
+use Rattle.plan_laws.specs.Keeping.{plain_cells}
 use Rattle.plan_model.specs.RowOps.{is_undefined_in}
 use Rattle.sweep_sides.specs.Waiting.{queued}
 use Rattle.sweep_sides.proofs.TakenIn.{side_taken}

@@ -5,8 +5,8 @@ use Rattle.tw_rows.specs.Cells.{ArePlaced}
 use Rattle.tw_rows.specs.declared.edge.Edge.{Edge}
 use Rattle.plan_laws.specs.Undefined.{first_below, or_next}
 use Rattle.plan_model.specs.declared.node.Node.TheVariants.{Group}
-use Rattle.node_laws.proofs.Standing.{undefined_of_edges}
-use Rattle.node_laws.proofs.Steps.{keeps_read}
+use Rattle.plan_laws.proofs.Standing.{undefined_of_edges}
+use Rattle.plan_laws.proofs.Steps.{keeps_read}
 use Rattle.snapshot_agg.proofs.laws.groups_stand_for_their_node.Goals as goal
 
 first_same : (p q : ℕ → Bool) (c : ℕ) → ((t : ℕ) → p t ≡ q t) → first_below p c ≡ first_below q c

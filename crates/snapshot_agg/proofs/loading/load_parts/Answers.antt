@@ -1,7 +1,7 @@
 use Rattle.std.proofs.Common.{◌∙◌, sym, length, ap, map, subst}
 use Rattle.tw_rows.specs.Bag.{SameBag}
 use Rattle.tw_rows.specs.Kinds.{cell_kind_of}
-use Rattle.carried_edges.specs.Entries.{part_of}
+use Rattle.edge_stream.specs.Entries.{part_of}
 use Rattle.sweep_laws.specs.Saving.{rows_of}
 use Rattle.sweep_sides.specs.Sides.{IsSide}
 use Rattle.sweep_sides.proofs.KeptSides.{side_loaded}

@@ -1,7 +1,7 @@
 use Rattle.std.specs.Prelude.{◌++◌}
 use Rattle.std.proofs.Common.{◌∙◌, ap, arith}
 use Rattle.std.proofs.lemmas.List.{take_all}
-use Rattle.carried_edges.specs.Entries.{entry_of, entries_of}
+use Rattle.edge_stream.specs.Entries.{entry_of, entries_of}
 use Rattle.snapshot_agg.proofs.Lined.{saved_more}
 use Rattle.snapshot_agg.proofs.saving.save_edge_line.Goals as goal
 

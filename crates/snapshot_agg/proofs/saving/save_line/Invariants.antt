@@ -1,6 +1,6 @@
 -- The entries so far are those that were there, and those of the rows before this one.
 use Rattle.std.proofs.Common.{◌≡◌, ◌++◌, map, take}
-use Rattle.carried_edges.specs.Entries.{entry_of}
+use Rattle.edge_stream.specs.Entries.{entry_of}
 use Rattle.sweep_laws.specs.Moves.{start_of}
 use Rattle.snapshot_agg.proofs.saving.save_line.Given as goal
 

@@ -2,7 +2,7 @@ use Rattle.std.specs.Prelude.{◌++◌, map}
 use Rattle.std.proofs.Common.{◌∙◌, ap, arith, sym}
 use Rattle.std.proofs.lemmas.List.{take_all}
 use Rattle.std.proofs.lemmas.Simd.{map-map}
-use Rattle.carried_edges.specs.Entries.{entry_of}
+use Rattle.edge_stream.specs.Entries.{entry_of}
 use Rattle.sweep_laws.specs.Moves.{start_of}
 use Rattle.snapshot_agg.specs.KeptRows.{row_ended}
 use Rattle.snapshot_agg.proofs.Lined.{saved_more}

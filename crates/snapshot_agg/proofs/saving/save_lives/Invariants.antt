@@ -1,5 +1,5 @@
 use Rattle.std.proofs.Common.{◌≡◌, ◌++◌, map, take}
-use Rattle.carried_edges.specs.Entries.{entry_of}
+use Rattle.edge_stream.specs.Entries.{entry_of}
 use Rattle.sweep_laws.specs.Moves.{start_of}
 use Rattle.snapshot_agg.specs.KeptRows.{row_ended}
 use Rattle.snapshot_agg.proofs.saving.save_lives.Given as goal

@@ -1,6 +1,6 @@
 -- The entries so far, and those of the runs that are still to come, are all.
 use Rattle.std.proofs.Common.{◌≡◌, ◌++◌, map}
-use Rattle.carried_edges.specs.Entries.{entries_of}
+use Rattle.edge_stream.specs.Entries.{entries_of}
 use Rattle.sweep_laws.specs.Moves.{start_of}
 use Rattle.snapshot_agg.proofs.saving.save_runs.Given as goal
 

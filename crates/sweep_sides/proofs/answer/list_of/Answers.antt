@@ -5,9 +5,9 @@ use Rattle.tw_rows.specs.Kinds.{cell_kind_of}
 use Rattle.tw_rows.specs.declared.edge.Edge.{Edge}
 use Rattle.edge_history.proofs.Keeping.{KeepsOrder-next}
 use Rattle.edge_stream.proofs.Filling.{appended-kinds, appended-capacity, room_taken-capacity, taken_next}
-use Rattle.carried_edges.proofs.Pools.{part-capacity, part-limit, room_taken-limit}
+use Rattle.edge_stream.proofs.Pools.{part-capacity, part-limit, room_taken-limit}
 use Rattle.edge_history.specs.Order.{failing}
-use Rattle.carried_edges.proofs.Parts.{none_fails, all_pass}
+use Rattle.edge_stream.proofs.CarriedParts.{none_fails, all_pass}
 use Rattle.sweep_sides.specs.Answers.{is_between}
 use Rattle.sweep_sides.proofs.Telling.{between_part}
 use Rattle.sweep_sides.proofs.answer.list_of.Goals as goal

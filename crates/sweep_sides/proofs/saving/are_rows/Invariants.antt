@@ -1,7 +1,7 @@
 -- The entries before this one pass.
 use Rattle.std.proofs.Common.{◌≡◌, true, map, take}
 use Rattle.tw_rows.specs.Kinds.{cell_kind_of}
-use Rattle.carried_edges.specs.Entries.{part_of}
+use Rattle.edge_stream.specs.Entries.{part_of}
 use Rattle.sweep_laws.specs.Saving.{are_row_starts}
 use Rattle.sweep_sides.proofs.saving.are_rows.Given as goal
 

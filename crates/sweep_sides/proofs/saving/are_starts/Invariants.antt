@@ -2,7 +2,7 @@
 use Rattle.std.proofs.Common.{◌≡◌, true, take}
 use Rattle.std.specs.List.{list_all}
 use Rattle.edge_history.specs.Opens.{is_start}
-use Rattle.carried_edges.specs.Entries.{part_of}
+use Rattle.edge_stream.specs.Entries.{part_of}
 use Rattle.sweep_sides.proofs.saving.are_starts.Given as goal
 
 abbrev pub invariant-loop-entry : goal.invariant-loop-entry

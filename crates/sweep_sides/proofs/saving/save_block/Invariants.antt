@@ -1,6 +1,6 @@
 -- The entries so far are those that were there, and the starts of the rows before this one.
 use Rattle.std.proofs.Common.{◌≡◌, ◌++◌, take}
-use Rattle.carried_edges.specs.Entries.{entries_of}
+use Rattle.edge_stream.specs.Entries.{entries_of}
 use Rattle.sweep_laws.specs.Saving.{starts_of}
 use Rattle.sweep_sides.proofs.saving.save_block.Given as goal
 

@@ -2,7 +2,7 @@ use Rattle.std.specs.Prelude.{◌≡◌, IsTrue, All}
 use Rattle.std.proofs.Common.{◌∙◌, sym, subst}
 use Rattle.frozen_state.specs.Forms.{part_forms}
 use Rattle.frozen_state.specs.Formed.{ArePartsOf, IsOneLine}
-use Rattle.frozen_parts.specs.Named.{PartsArePlaced}
+use Rattle.tempo_engine.specs.Named.{PartsArePlaced}
 use Rattle.tempo_engine.proofs.freezing.has_form.Goals.{then-are_stored, else-are_stored, then-are_placed, else-are_placed}
 use Rattle.tempo_engine.proofs.freezing.has_form.Goals as goal
 

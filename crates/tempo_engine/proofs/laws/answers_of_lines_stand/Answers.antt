@@ -1,6 +1,6 @@
 use Rattle.std.proofs.Common.{false, length, sym, subst}
 use Rattle.plan_model.specs.IsPlan.{IsPlan}
-use Rattle.node_laws.specs.Standing.{SourcesStandRead, AllStandRead}
+use Rattle.plan_laws.specs.Standing.{SourcesStandRead, AllStandRead}
 use Rattle.admission.specs.Admission.{rows}
 use Rattle.admission.specs.Progress.{progress}
 use Rattle.ingress.proofs.Reading.{follows_stand}

@@ -1,7 +1,7 @@
 use Rattle.std.proofs.Common.{◌≡◌, ◌∙◌, sym, subst, List, ℕ}
 use Rattle.edge_stream.specs.declared.saved.LoadFault.TheVariants.{NotState}
-use Rattle.carried_edges.specs.Entries.{part_of}
-use Rattle.carried_edges.proofs.Parts.{none_fails}
+use Rattle.edge_stream.specs.Entries.{part_of}
+use Rattle.edge_stream.proofs.CarriedParts.{none_fails}
 use Rattle.sweep_laws.specs.Saving.{is_row_start}
 use Rattle.sweep_laws.proofs.Stored.{rows_started}
 use Rattle.sweep_sides.proofs.KeptSides.{side_loaded}

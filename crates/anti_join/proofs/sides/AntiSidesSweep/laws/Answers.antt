@@ -1,7 +1,7 @@
 use Rattle.std.proofs.Common.{◌+◌, length, min, arith, refl}
 use Rattle.edge_history.specs.History.{of}
 use Rattle.plan_model.specs.Nodes.{node_in}
-use Rattle.node_laws.specs.Keeping.{plain_cells}
+use Rattle.plan_laws.specs.Keeping.{plain_cells}
 use Rattle.sweep_sides.proofs.KeptSides.{side_bounded, open_few}
 use Rattle.anti_join.specs.Operating.{anti_node}
 use Rattle.anti_join.proofs.Answering.{antis_stored}

@@ -2,7 +2,7 @@ use Rattle.std.proofs.Common.{rules, ◌≡◌, ◌≤◌, ◌∙◌, ℕ, List,
 use Rattle.tw_rows.specs.Kinds.{cell_kind_of}
 use Rattle.edge_history.specs.Order.{many}
 use Rattle.edge_stream.specs.declared.saved.LoadFault.TheVariants.{NotState, Memory}
-use Rattle.carried_edges.specs.Entries.{part_of}
+use Rattle.edge_stream.specs.Entries.{part_of}
 use Rattle.synopsis.specs.Held.{is_of_key}
 use Rattle.sweep_laws.specs.Saving.{rows_of}
 use Rattle.sweep_sides.specs.Waiting.{queued}

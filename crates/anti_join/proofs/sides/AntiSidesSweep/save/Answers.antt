@@ -3,7 +3,7 @@ use Rattle.std.proofs.Math.Logic.{∥∥₁_elim}
 use Rattle.std.proofs.Props.{props}
 use Rattle.edge_history.specs.Order.{many}
 use Rattle.synopsis.specs.Held.{is_of_key}
-use Rattle.carried_edges.specs.Entries.{entries_of}
+use Rattle.edge_stream.specs.Entries.{entries_of}
 use Rattle.sweep_laws.specs.Saving.{starts_of}
 use Rattle.sweep_sides.specs.Waiting.{queued}
 use Rattle.sweep_sides.proofs.KeptSides.{rows_added, waiting_added}

@@ -1,6 +1,6 @@
 use Rattle.std.proofs.Common.{◌≡◌, ◌∙◌, ℕ, ap, sym, subst}
 use Rattle.std.specs.Prelude.{IfOk, IfErr, OnOk}
-use Rattle.node_laws.specs.Places.{EdgesArePlaced}
+use Rattle.plan_laws.specs.Places.{EdgesArePlaced}
 use Rattle.dataflow.specs.declared.fault.PlanFault.TheVariants.{Overflow}
 use Rattle.edge_stream.specs.Lists.{edges_at}
 use Rattle.dataflow.specs.Lists.{AreOfStreams}

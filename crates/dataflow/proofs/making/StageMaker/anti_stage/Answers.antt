@@ -4,10 +4,10 @@ use Rattle.std.proofs.lemmas.Option.{slice_get-get_or}
 use Rattle.tw_rows.specs.Kinds.{cell_kind_of}
 use Rattle.plan_model.specs.IsPlan.{IsKey}
 use Rattle.plan_model.specs.declared.node.Node.TheVariants.{Source, Anti as AntiNode}
-use Rattle.sweep_operator.specs.Sweepers.{new_standing}
+use Rattle.sweep_sides.specs.Sweepers.{new_standing}
 use Rattle.anti_join.proofs.Resuming.{anti_opens}
-use Rattle.sweep_operator.specs.Operating.{standing as swept_standing, IsNew as IsSweptNew, IsKept as IsSweptKept}
-use Rattle.sweep_operator.proofs.Kept.{kept_first}
+use Rattle.sweep_sides.specs.Operating.{standing as swept_standing, IsNew as IsSweptNew, IsKept as IsSweptKept}
+use Rattle.sweep_sides.proofs.Kept.{kept_first}
 use Rattle.dataflow.specs.declared.stage.Stage.TheVariants.{Anti}
 use Rattle.dataflow.specs.Shards.{RunsNode}
 use Rattle.dataflow.specs.Stages.{left_kinds, StartsFor}

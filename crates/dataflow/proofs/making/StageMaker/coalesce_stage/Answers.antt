@@ -3,7 +3,7 @@ use Rattle.std.proofs.Common.{sym, ap, subst, ◌∙◌, arith, refl}
 use Rattle.tw_rows.specs.Kinds.{cell_kind_of}
 use Rattle.plan_model.specs.declared.node.Node.TheVariants.{Coalesce as CoalesceNode}
 use Rattle.coalesce_op.proofs.Resuming.{coalesce_opens}
-use Rattle.sweep_operator.proofs.Kept.{kept_first}
+use Rattle.sweep_sides.proofs.Kept.{kept_first}
 use Rattle.dataflow.specs.declared.stage.Stage.TheVariants.{Coalesce}
 use Rattle.dataflow.specs.Shards.{RunsNode}
 use Rattle.dataflow.specs.Stages.{left_kinds, StartsFor}

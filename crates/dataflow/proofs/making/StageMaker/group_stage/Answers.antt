@@ -5,7 +5,7 @@ use Rattle.std.proofs.lemmas.Option.{slice_get-get_or}
 use Rattle.tw_rows.specs.Kinds.{cell_kind_of}
 use Rattle.plan_model.specs.IsPlan.{IsKey}
 use Rattle.plan_model.specs.declared.node.Node.TheVariants.{Source, Group as GroupNode}
-use Rattle.sweep_operator.specs.Sweepers.{new_standing}
+use Rattle.sweep_sides.specs.Sweepers.{new_standing}
 use Rattle.snapshot_agg.proofs.Standing.{group_opening}
 use Rattle.snapshot_agg.specs.Operating.{standing as group_standing, IsKept as IsGroupKept}
 use Rattle.dataflow.specs.Stages.{IsNewGroup}

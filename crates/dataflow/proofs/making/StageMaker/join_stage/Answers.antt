@@ -5,11 +5,11 @@ use Rattle.std.proofs.lemmas.Option.{slice_get-get_or}
 use Rattle.tw_rows.specs.Kinds.{cell_kind_of}
 use Rattle.plan_model.specs.IsPlan.{IsKey}
 use Rattle.plan_model.specs.declared.node.Node.TheVariants.{Source, Join as JoinNode}
-use Rattle.sweep_operator.specs.Sweepers.{new_standing}
+use Rattle.sweep_sides.specs.Sweepers.{new_standing}
 use Rattle.temporal_join.proofs.Resuming.{join_opens}
 use Rattle.plan_model.specs.Keys.{paired_row}
-use Rattle.sweep_operator.specs.Operating.{standing as swept_standing, IsNew as IsSweptNew, IsKept as IsSweptKept}
-use Rattle.sweep_operator.proofs.Kept.{kept_first}
+use Rattle.sweep_sides.specs.Operating.{standing as swept_standing, IsNew as IsSweptNew, IsKept as IsSweptKept}
+use Rattle.sweep_sides.proofs.Kept.{kept_first}
 use Rattle.dataflow.specs.declared.stage.Stage.TheVariants.{Join}
 use Rattle.dataflow.specs.Shards.{RunsNode}
 use Rattle.dataflow.specs.Stages.{left_kinds, StartsFor}

@@ -1,6 +1,6 @@
 use Rattle.std.proofs.Common.{◌≡◌, true, subst}
 use Rattle.plan_model.proofs.Kept.{node_at}
-use Rattle.row_stage.proofs.Nodes.{one_node}
+use Rattle.where_select.proofs.Nodes.{one_node}
 use Rattle.dataflow.specs.Held.{has_two}
 use Rattle.dataflow.proofs.RowNodes.{two_left}
 use Rattle.dataflow.proofs.making.StageMaker.operator_stage.Goals as goal

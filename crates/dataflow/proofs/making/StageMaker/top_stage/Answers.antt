@@ -4,7 +4,7 @@ use Rattle.std.proofs.lemmas.Option.{slice_get-get_or}
 use Rattle.tw_rows.specs.Kinds.{cell_kind_of}
 use Rattle.plan_model.specs.declared.node.Node.TheVariants.{Source, Top as TopNode}
 use Rattle.outer_top.proofs.Resuming.{top_opens}
-use Rattle.sweep_operator.proofs.Kept.{kept_first}
+use Rattle.sweep_sides.proofs.Kept.{kept_first}
 use Rattle.dataflow.specs.declared.stage.Stage.TheVariants.{Top}
 use Rattle.dataflow.specs.Shards.{RunsNode}
 use Rattle.dataflow.specs.Stages.{left_kinds, StartsFor}

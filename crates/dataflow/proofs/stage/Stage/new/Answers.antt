@@ -2,9 +2,9 @@ use Rattle.std.proofs.Common.{◌≡◌, ◌∙◌, true, false, refl, ap, sym, 
 use Rattle.std.proofs.lemmas.Result.{IfOk-weaker}
 use Rattle.plan_model.proofs.Kept.{node_at}
 use Rattle.lane_expr.specs.Steps.{with_texts}
-use Rattle.row_stage.specs.Stages.{is_of_rows}
-use Rattle.row_stage.proofs.Nodes.{one_node}
-use Rattle.row_stage.proofs.Tables.{on_err}
+use Rattle.where_select.specs.Stages.{is_of_rows}
+use Rattle.where_select.proofs.Nodes.{one_node}
+use Rattle.where_select.proofs.Tables.{on_err}
 use Rattle.dataflow.proofs.RowNodes.{no_nodes_in, on_ok}
 use Rattle.dataflow.proofs.stage.Stage.new.Goals as goal
 

@@ -1,10 +1,10 @@
 use Rattle.std.proofs.Common.{refl, sym, ◌∙◌, ap, arith}
 use Rattle.edge_history.specs.Order.{failing}
 use Rattle.row_queues.specs.Kept.{times_if}
-use Rattle.node_laws.specs.RowCells.{cells_of}
+use Rattle.plan_laws.specs.RowCells.{cells_of}
 use Rattle.egress.specs.Kept.{since_in}
 use Rattle.egress.specs.Waiting.{edges_if, waiting_in}
-use Rattle.node_laws.proofs.Standing.{no_history}
+use Rattle.plan_laws.proofs.Standing.{no_history}
 use Rattle.egress.proofs.Taking.{swept_none}
 use Rattle.egress.proofs.egress.Egress.new.Goals as goal
 

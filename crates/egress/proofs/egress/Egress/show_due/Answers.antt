@@ -1,7 +1,7 @@
 use Rattle.std.specs.Prelude.{◌≡◌, ◌<◌, ℕ, None, IfSome, IfNone}
 use Rattle.std.proofs.Common.{refl, sym, ◌∙◌, ap, subst}
 use Rattle.edge_history.specs.Order.{failing}
-use Rattle.node_laws.specs.Places.{EdgesArePlaced}
+use Rattle.plan_laws.specs.Places.{EdgesArePlaced}
 use Rattle.egress.specs.Kept.{since_in}
 use Rattle.egress.specs.Waiting.{Waiting, edges_if, waiting_in, Swept, ArePopped, WaitingArePlaced}
 use Rattle.egress.proofs.Sweeps.{Going, going_next, going_last}

@@ -1,7 +1,7 @@
 use Rattle.std.proofs.Common.{◌∙◌, ap}
 use Rattle.edge_stream.specs.Listing.{cells_of}
 use Rattle.edge_stream.proofs.Filling.{batches_given-capacity}
-use Rattle.carried_edges.proofs.Pools.{batches_given-limit}
+use Rattle.edge_stream.proofs.Pools.{batches_given-limit}
 use Rattle.egress.proofs.egress.Egress.take.Goals as goal
 
 -- whether it failed is no part of what it holds

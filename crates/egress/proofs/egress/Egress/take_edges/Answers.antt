@@ -5,8 +5,8 @@ use Rattle.std.proofs.lemmas.List.Elements.{All-head, All-tail}
 use Rattle.tw_rows.specs.Cells.{ArePlaced}
 use Rattle.tw_rows.specs.declared.edge.Edge.{Edge}
 use Rattle.edge_history.specs.History.{of}
-use Rattle.node_laws.specs.Places.{EdgesArePlaced}
-use Rattle.node_laws.proofs.Standing.{of_valid}
+use Rattle.plan_laws.specs.Places.{EdgesArePlaced}
+use Rattle.plan_laws.proofs.Standing.{of_valid}
 use Rattle.egress.proofs.TakingOne.{Takes, takes_first, takes_next, takes_last}
 use Rattle.egress.proofs.egress.Egress.take_edges.Goals as goal
 

@@ -1,7 +1,7 @@
 use Rattle.std.proofs.Common.{◌≡◌, ◌++◌, ◌≤◌, ℕ, List, length}
 use Rattle.tw_rows.specs.declared.edge.Edge.{Edge}
 use Rattle.edge_history.specs.Order.{failing, is_from, IsHistory}
-use Rattle.node_laws.specs.Places.{EdgesArePlaced}
+use Rattle.plan_laws.specs.Places.{EdgesArePlaced}
 use Rattle.egress.specs.Output.{Holds, IsPlacedIn}
 use Rattle.egress.proofs.TakingOne.{Takes}
 use Rattle.egress.proofs.egress.Egress.take_edges.Given as goal

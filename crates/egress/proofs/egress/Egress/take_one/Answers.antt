@@ -4,7 +4,7 @@ use Rattle.tw_rows.specs.Cells.{ArePlaced}
 use Rattle.tw_rows.specs.declared.edge.Edge.{Edge}
 use Rattle.edge_history.specs.History.{of}
 use Rattle.edge_history.proofs.Sums.{failing-parts}
-use Rattle.node_laws.proofs.Standing.{of_valid}
+use Rattle.plan_laws.proofs.Standing.{of_valid}
 use Rattle.egress.specs.Kept.{since_in}
 use Rattle.egress.specs.Waiting.{waiting_in}
 use Rattle.egress.proofs.Placing.{put_placed}

@@ -8,7 +8,7 @@ use Rattle.tw_rows.specs.Cells.{ArePlaced, read_cells}
 use Rattle.tw_rows.specs.Rows.{row_cmp}
 use Rattle.tw_rows.specs.declared.edge.Edge.{Edge}
 use Rattle.edge_history.specs.Order.{failing}
-use Rattle.node_laws.specs.Places.{read_events, EdgesArePlaced}
+use Rattle.plan_laws.specs.Places.{read_events, EdgesArePlaced}
 use Rattle.egress.specs.declared.moves.Moves.{Moves}
 use Rattle.egress.specs.Instants.{AreMoves}
 use Rattle.egress.specs.Kept.{are_placed, ends_in, starts_in, moves_of, rows_of, KeepCells}

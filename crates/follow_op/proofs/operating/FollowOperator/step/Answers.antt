@@ -17,9 +17,9 @@ use Rattle.sweep_sides.proofs.Paired.{pair_mapped}
 use Rattle.follow_op.proofs.KeyRules.{held_back, kept_by}
 use Rattle.follow_op.proofs.Resuming.{follow_stepped}
 use Rattle.tw_rows.specs.Event.{alive}
-use Rattle.node_laws.specs.Places.{read_of}
+use Rattle.plan_laws.specs.Places.{read_of}
 use Rattle.plan_model.specs.declared.node.Node.TheVariants.{Follow as FollowNode}
-use Rattle.life_laws.proofs.Undefined.{never_undefined}
+use Rattle.plan_laws.proofs.Undefined.{never_undefined}
 use Rattle.follow_op.proofs.operating.FollowOperator.step.Goals as goal
 
 pub returns-clause-kept : goal.returns-clause-kept

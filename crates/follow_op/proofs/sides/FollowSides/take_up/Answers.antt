@@ -1,4 +1,4 @@
-use Rattle.carried_edges.specs.Entries.{part_of}
+use Rattle.edge_stream.specs.Entries.{part_of}
 use Rattle.sweep_sides.proofs.KeptSides.{side_loaded, waiting_loaded}
 use Rattle.sweep_sides.proofs.Starting.{starts_loaded}
 use Rattle.follow_op.proofs.sides.FollowSides.take_up.Goals as goal

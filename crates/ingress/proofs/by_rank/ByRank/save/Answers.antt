@@ -1,7 +1,7 @@
 use Rattle.std.specs.Prelude.{◌++◌}
 use Rattle.std.proofs.Common.{◌∙◌, ap, sym}
 use Rattle.std.proofs.lemmas.List.{append_assoc, map-append}
-use Rattle.carried_edges.specs.Entries.{entry_of, entries_of}
+use Rattle.edge_stream.specs.Entries.{entry_of, entries_of}
 use Rattle.ingress.specs.Ranks.{edges_at}
 use Rattle.ingress.proofs.by_rank.ByRank.save.Goals as goal
 

@@ -1,5 +1,5 @@
 use Rattle.std.proofs.Common.{◌≡◌, ◌++◌}
-use Rattle.carried_edges.specs.Entries.{entries_of}
+use Rattle.edge_stream.specs.Entries.{entries_of}
 use Rattle.ingress.specs.Ranks.{edges_at}
 use Rattle.ingress.proofs.by_rank.ByRank.save.Given as goal
 

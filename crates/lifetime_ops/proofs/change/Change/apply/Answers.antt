@@ -1,7 +1,7 @@
 use Rattle.std.proofs.Common.{◌∙◌, ap, map}
 use Rattle.batch.specs.Rows.{edges_of, kept}
 use Rattle.edge_stream.proofs.Rows.{edges-kept}
-use Rattle.life_laws.specs.Answers.{is_answered}
+use Rattle.plan_laws.specs.Answers.{is_answered}
 use Rattle.lifetime_ops.specs.Nodes.{node_of}
 use Rattle.lifetime_ops.specs.Times.{retimed_edge}
 use Rattle.lifetime_ops.proofs.Rows.{edges_changed}

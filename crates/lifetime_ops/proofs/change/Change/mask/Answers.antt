@@ -2,7 +2,7 @@ use Rattle.std.proofs.Common.{◌<◌, ◌∙◌, ap, arith, length, get_or}
 use Rattle.batch.specs.Rows.{edge_of}
 use Rattle.batch.proofs.Keeping.{no_row}
 use Rattle.edge_stream.proofs.Rows.{sync_is, other_is, bits_next}
-use Rattle.life_laws.specs.Answers.{is_answered}
+use Rattle.plan_laws.specs.Answers.{is_answered}
 use Rattle.lifetime_ops.specs.Nodes.{node_of}
 use Rattle.lifetime_ops.proofs.change.Change.mask.Goals as goal
 

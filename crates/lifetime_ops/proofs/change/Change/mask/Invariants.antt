@@ -1,7 +1,7 @@
 -- The bits of the rows before this one are there.
 use Rattle.std.proofs.Common.{◌≡◌, map, take, length}
 use Rattle.batch.specs.Rows.{edge_of}
-use Rattle.life_laws.specs.Answers.{is_answered}
+use Rattle.plan_laws.specs.Answers.{is_answered}
 use Rattle.lifetime_ops.specs.Nodes.{node_of}
 use Rattle.lifetime_ops.proofs.change.Change.mask.Given as goal
 

@@ -1,7 +1,7 @@
 use Rattle.std.proofs.Common.{rules, ◌≡◌, ◌∙◌}
 use Rattle.std.specs.List.{list_all}
 use Rattle.edge_history.specs.Order.{is_end}
-use Rattle.carried_edges.specs.Entries.{part_of}
+use Rattle.edge_stream.specs.Entries.{part_of}
 use Rattle.lifetime_ops.proofs.Loading.{ends_of_part}
 use Rattle.lifetime_ops.proofs.extend.ExtendLifetime.is_state.Goals as goal
 

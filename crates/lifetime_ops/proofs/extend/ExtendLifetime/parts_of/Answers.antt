@@ -1,6 +1,6 @@
 use Rattle.std.proofs.Common.{◌∙◌, sym, subst}
 use Rattle.edge_stream.specs.Listing.{cells_of}
-use Rattle.carried_edges.specs.Entries.{IsEdgePart}
+use Rattle.edge_stream.specs.Entries.{IsEdgePart}
 use Rattle.lifetime_ops.proofs.extend.ExtendLifetime.parts_of.Goals as goal
 
 pub returns-clause-waiting : goal.returns-clause-waiting

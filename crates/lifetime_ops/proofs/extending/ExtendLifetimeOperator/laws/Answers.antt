@@ -1,5 +1,5 @@
 use Rattle.std.proofs.Common.{ap}
-use Rattle.life_laws.proofs.Extending.{extended_opening, extended_rows, extended_longer}
+use Rattle.plan_laws.proofs.Extending.{extended_opening, extended_rows, extended_longer}
 use Rattle.edge_stream.specs.Listing.{cells_of}
 use Rattle.lifetime_ops.specs.Waiting.{edges_of_pending}
 use Rattle.lifetime_ops.proofs.Loading.{extended_held, extend_stored}

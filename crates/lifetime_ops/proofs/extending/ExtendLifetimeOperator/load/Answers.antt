@@ -1,4 +1,4 @@
-use Rattle.carried_edges.specs.Entries.{part_of}
+use Rattle.edge_stream.specs.Entries.{part_of}
 use Rattle.lifetime_ops.specs.Waiting.{edges_of_pending}
 use Rattle.lifetime_ops.proofs.Loading.{extended_same}
 use Rattle.lifetime_ops.proofs.extending.ExtendLifetimeOperator.load.Goals as goal

@@ -1,6 +1,6 @@
 use Rattle.std.proofs.Common.{◌++◌, ◌∙◌, ap}
 use Rattle.edge_stream.specs.Listing.{cells_of}
-use Rattle.carried_edges.specs.Entries.{entries_of}
+use Rattle.edge_stream.specs.Entries.{entries_of}
 use Rattle.lifetime_ops.proofs.Loading.{extend_few, extend_saved, extend_resumed}
 use Rattle.lifetime_ops.proofs.extending.ExtendLifetimeOperator.save.Goals as goal
 

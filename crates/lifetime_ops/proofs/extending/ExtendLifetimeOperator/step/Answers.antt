@@ -5,12 +5,12 @@ use Rattle.edge_history.proofs.Sums.{failing-kept}
 use Rattle.edge_stream.specs.Listing.{cells_of}
 use Rattle.edge_stream.specs.Taking.{batches_taken}
 use Rattle.edge_stream.proofs.Filling.{batches_given-capacity, batches_taken-capacity}
-use Rattle.carried_edges.proofs.Pools.{some-capacity, some-limit, batches_given-limit, batches_taken-limit}
+use Rattle.edge_stream.proofs.Pools.{some-capacity, some-limit, batches_given-limit, batches_taken-limit}
 use Rattle.lifetime_ops.proofs.Waiting.{extended_advance, extended_between}
 use Rattle.tw_rows.specs.Event.{alive}
-use Rattle.node_laws.specs.Places.{read_of}
+use Rattle.plan_laws.specs.Places.{read_of}
 use Rattle.plan_model.specs.declared.node.Node.TheVariants.{Extend}
-use Rattle.life_laws.proofs.Undefined.{never_undefined}
+use Rattle.plan_laws.proofs.Undefined.{never_undefined}
 use Rattle.lifetime_ops.proofs.extending.ExtendLifetimeOperator.step.Goals as goal
 
 pub take_below-requires-clause-pools : goal.take_below-requires-clause-pools

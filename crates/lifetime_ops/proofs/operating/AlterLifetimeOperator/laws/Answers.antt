@@ -1,4 +1,4 @@
-use Rattle.life_laws.proofs.Lives.{lives_opening, lives_rows, lives_longer}
+use Rattle.plan_laws.proofs.Lives.{lives_opening, lives_rows, lives_longer}
 use Rattle.lifetime_ops.specs.Nodes.{node_of, known}
 use Rattle.lifetime_ops.proofs.Holding.{held_within}
 use Rattle.lifetime_ops.proofs.Saving.{life_stored}

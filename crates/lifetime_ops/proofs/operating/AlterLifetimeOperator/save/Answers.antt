@@ -1,7 +1,7 @@
 use Rattle.std.proofs.Common.{◌++◌, ◌∙◌, ap, length, arith}
 use Rattle.edge_stream.specs.Listing.{cells_of}
-use Rattle.carried_edges.specs.Entries.{entries_of}
-use Rattle.carried_edges.proofs.Parts.{saved_length}
+use Rattle.edge_stream.specs.Entries.{entries_of}
+use Rattle.edge_stream.proofs.CarriedParts.{saved_length}
 use Rattle.lifetime_ops.specs.Nodes.{node_of}
 use Rattle.lifetime_ops.proofs.Saving.{life_saved, life_resumed}
 use Rattle.lifetime_ops.proofs.operating.AlterLifetimeOperator.save.Goals as goal

@@ -3,13 +3,13 @@ use Rattle.edge_history.specs.Order.{failing, is_from}
 use Rattle.edge_history.proofs.Sums.{failing-kept}
 use Rattle.edge_stream.specs.Listing.{cells_of}
 use Rattle.edge_stream.proofs.Filling.{batches_given-capacity}
-use Rattle.carried_edges.proofs.Pools.{batches_given-limit}
+use Rattle.edge_stream.proofs.Pools.{batches_given-limit}
 use Rattle.lifetime_ops.specs.Nodes.{divides_ints, node_of}
 use Rattle.lifetime_ops.proofs.Answering.{advanced, between}
 use Rattle.tw_rows.specs.Event.{alive}
-use Rattle.node_laws.specs.Places.{read_of}
+use Rattle.plan_laws.specs.Places.{read_of}
 use Rattle.plan_model.specs.Meaning.{node_closes}
-use Rattle.life_laws.proofs.Undefined.{never_undefined}
+use Rattle.plan_laws.proofs.Undefined.{never_undefined}
 use Rattle.lifetime_ops.proofs.Holding.{no_group}
 use Rattle.lifetime_ops.proofs.operating.AlterLifetimeOperator.step.Goals as goal
 

@@ -1,7 +1,7 @@
 use Rattle.std.specs.Prelude.{◌≡◌, ok_or, Ok}
 use Rattle.std.proofs.Common.{rules}
 use Rattle.plan_model.specs.declared.fault.QueryFault.TheVariants as F
-use Rattle.query_columns.specs.Names.{key_of, aggs_of}
+use Rattle.query_plan.specs.Names.{key_of, aggs_of}
 use Rattle.query_plan.proofs.StepLemmas.{group_found}
 use Rattle.query_plan.proofs.steps.StepContext.group_step.Goals as goal
 

@@ -1,6 +1,6 @@
 use Rattle.std.proofs.Common.{◌+◌, ◌∷◌, sym, ap, ◌∙◌, subst, map, drop, IsUtf8}
 use Rattle.plan_model.specs.IsExpr.{IsOneLine}
-use Rattle.query_grammar.specs.Token.{str, token_of}
+use Rattle.query_text.specs.Token.{str, token_of}
 use Rattle.query_text.proofs.Cursors as P
 use Rattle.query_text.proofs.cursor.Cursor.takes_text.Goals as goal
 

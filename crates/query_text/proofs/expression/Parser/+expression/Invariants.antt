@@ -1,6 +1,6 @@
 use Rattle.std.proofs.Common.{◌<◌, ◌≤◌, ◌+◌, ◌*◌, length}
-use Rattle.query_grammar.specs.Grammar.{expr_then, ors_then, conj_then, ands_then, sum_then, terms_then, prod_then, factors_then}
-use Rattle.query_grammar.specs.Machine.{rank}
+use Rattle.query_text.specs.Grammar.{expr_then, ors_then, conj_then, ands_then, sum_then, terms_then, prod_then, factors_then}
+use Rattle.query_text.specs.Machine.{rank}
 use Rattle.query_text.specs.Spelling.{expr_onto, ors_onto, conj_onto, ands_onto, sum_onto, terms_onto, prod_onto, factors_onto}
 use Rattle.query_text.specs.Reading.{Going}
 use Rattle.query_text.proofs.expression.Parser.+expression.Given as goal

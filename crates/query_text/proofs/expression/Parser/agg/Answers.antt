@@ -1,4 +1,4 @@
-use Rattle.query_grammar.specs.Grammar as G
+use Rattle.query_text.specs.Grammar as G
 use Rattle.query_text.proofs.Pipes as Q
 use Rattle.query_text.proofs.expression.Parser.agg.Goals as goal
 

@@ -1,7 +1,7 @@
 use Rattle.std.proofs.Common.{◌∷◌, map, refl}
-use Rattle.query_words.specs.declared.word.Sign.TheVariants as S
-use Rattle.query_grammar.specs.Token.{fixed}
-use Rattle.query_grammar.specs.Grammar as G
+use Rattle.query_text.specs.declared.word.Sign.TheVariants as S
+use Rattle.query_text.specs.Token.{fixed}
+use Rattle.query_text.specs.Grammar as G
 use Rattle.query_text.specs.Spelling as M
 use Rattle.query_text.specs.Reading as R
 use Rattle.query_text.specs.Reading.{Lacks, Any, ends_step, ends_item, ends_pipe}

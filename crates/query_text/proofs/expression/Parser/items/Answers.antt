@@ -1,11 +1,11 @@
 use Rattle.std.proofs.Common.{◌≡◌, ◌∷◌, ◌++◌, [], true, map, refl, ap, ◌∙◌}
-use Rattle.query_words.specs.declared.word.Sign.TheVariants as S
-use Rattle.query_grammar.specs.Grammar as G
+use Rattle.query_text.specs.declared.word.Sign.TheVariants as S
+use Rattle.query_text.specs.Grammar as G
 use Rattle.query_text.specs.Spelling as M
 use Rattle.query_text.specs.Reading as R
 use Rattle.query_text.specs.Reading.{Lacks, Any, ends_step, ends_item, ends_pipe}
 use Rattle.query_text.proofs.Steps as P
-use Rattle.query_grammar.proofs.Queries.{ends_items}
+use Rattle.query_text.proofs.Queries.{ends_items}
 use Rattle.query_text.proofs.Pipes as Q
 use Rattle.query_text.proofs.expression.Parser.items.Goals as goal
 

@@ -1,7 +1,7 @@
 use Rattle.std.proofs.Common.{◌≡◌, ◌≤◌, ◌∷◌, true, map, length}
 use Rattle.query_text.specs.Reading as R
 use Rattle.query_text.specs.Reading.{Lacks}
-use Rattle.query_grammar.specs.Grammar as G
+use Rattle.query_text.specs.Grammar as G
 use Rattle.query_text.specs.Spelling as M
 use Rattle.query_text.specs.Reading.{Listing}
 use Rattle.query_text.proofs.expression.Parser.items.Given as goal

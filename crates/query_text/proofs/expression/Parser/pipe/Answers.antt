@@ -1,6 +1,6 @@
 use Rattle.std.proofs.Common.{◌≡◌, true, map, refl}
-use Rattle.query_words.specs.declared.word.Sign.TheVariants as S
-use Rattle.query_grammar.specs.Grammar as G
+use Rattle.query_text.specs.declared.word.Sign.TheVariants as S
+use Rattle.query_text.specs.Grammar as G
 use Rattle.query_text.specs.Spelling as M
 use Rattle.query_text.specs.Reading.{ends_step, ends_pipe}
 use Rattle.query_text.proofs.Steps as P

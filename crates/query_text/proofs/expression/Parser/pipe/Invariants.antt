@@ -1,5 +1,5 @@
 use Rattle.std.proofs.Common.{◌≡◌, ◌≤◌, true, map, length}
-use Rattle.query_grammar.specs.Grammar as G
+use Rattle.query_text.specs.Grammar as G
 use Rattle.query_text.specs.Spelling as M
 use Rattle.query_text.specs.Reading.{ends_pipe, Listing}
 use Rattle.query_text.proofs.expression.Parser.pipe.Given as goal

@@ -1,9 +1,9 @@
 use Rattle.std.proofs.Common.{◌≤◌, ◌∷◌, map, length}
-use Rattle.query_words.specs.declared.word.Sign.TheVariants as S
-use Rattle.query_grammar.specs.Token.{fixed}
+use Rattle.query_text.specs.declared.word.Sign.TheVariants as S
+use Rattle.query_text.specs.Token.{fixed}
 use Rattle.query_text.specs.Reading as R
 use Rattle.query_text.specs.Reading.{Lacks}
-use Rattle.query_grammar.specs.Grammar as G
+use Rattle.query_text.specs.Grammar as G
 use Rattle.query_text.specs.Spelling as M
 use Rattle.query_text.specs.Reading.{Listing}
 use Rattle.query_text.proofs.expression.Parser.streams.Given as goal

@@ -4,7 +4,7 @@ use Rattle.std.specs.List.{range_with_len}
 use Rattle.std.proofs.lemmas.Result.{IfErr-weaker}
 use Rattle.edge_stream.specs.declared.saved.SavedEntry.{SavedEntry}
 use Rattle.edge_stream.specs.declared.saved.LoadFault.TheVariants.{NotState}
-use Rattle.operator.specs.Standing.{IsLike, Implies}
+use Rattle.edge_stream.specs.Standing.{IsLike, Implies}
 use Rattle.shard_apply.specs.Whole.{Whole, side_by_side, first_of, standing_in, AreInStep, ShardsKeep}
 use Rattle.shard_apply.specs.Saving.{AreRowsOf, AreSound, AreOwn, ShardsResume}
 use Rattle.shard_apply.proofs.Apart.{whole_goes_on, written_back}

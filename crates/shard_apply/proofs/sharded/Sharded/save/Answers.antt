@@ -3,7 +3,7 @@ use Rattle.std.proofs.lemmas.List.{length-map, take_all}
 use Rattle.tw_rows.specs.Bag.{total}
 use Rattle.tw_rows.proofs.Bags.{total-append}
 use Rattle.edge_stream.specs.declared.saved.SavedEntry.{SavedEntry}
-use Rattle.operator.specs.Standing.{Standing, Implies}
+use Rattle.edge_stream.specs.Standing.{Standing, Implies}
 use Rattle.shard_apply.specs.declared.shard.Shard.{Shard}
 use Rattle.shard_apply.specs.Whole.{first_of, standing_in, ShardsKeep}
 use Rattle.shard_apply.specs.Saving.{AreSound, ShardsResume}

@@ -3,7 +3,7 @@ use Rattle.std.proofs.Common.{◌≡◌, ◌≤◌, ◌<◌, ℕ, List, map, tak
 use Rattle.std.specs.Prelude.{vec_len, vec_capacity}
 use Rattle.tw_rows.specs.Bag.{total}
 use Rattle.edge_stream.specs.declared.saved.SavedEntry.{SavedEntry}
-use Rattle.operator.specs.Standing.{Implies}
+use Rattle.edge_stream.specs.Standing.{Implies}
 use Rattle.shard_apply.specs.declared.shard.Shard.{Shard}
 use Rattle.shard_apply.proofs.sharded.Sharded.save.Given as goal
 

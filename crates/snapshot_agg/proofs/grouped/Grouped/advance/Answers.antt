@@ -6,10 +6,10 @@ use Rattle.tw_rows.specs.Kinds.{cell_kind_of}
 use Rattle.edge_history.specs.Order.{KeepsOrder}
 use Rattle.edge_stream.specs.Listing.{cells_of}
 use Rattle.edge_stream.proofs.Filling.{batches_given-capacity, batches_taken-capacity}
-use Rattle.carried_edges.proofs.Pools.{some-capacity, some-limit, batches_taken-limit}
+use Rattle.edge_stream.proofs.Pools.{some-capacity, some-limit, batches_taken-limit}
 use Rattle.tw_rows.specs.declared.edge.Edge.{Edge}
 use Rattle.edge_stream.specs.declared.saved.StepFault.TheVariants.{Overflow}
-use Rattle.operator.specs.Steps.{ComeBetween, IsFirstUndefined}
+use Rattle.edge_stream.specs.Steps.{ComeBetween, IsFirstUndefined}
 use Rattle.sweep_sides.specs.Sides.{IsSide}
 use Rattle.snapshot_agg.specs.Answering.{group_kinds}
 use Rattle.snapshot_agg.specs.Counting.{AreKept, pending_of}

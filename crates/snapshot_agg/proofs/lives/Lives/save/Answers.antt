@@ -2,7 +2,7 @@ use Rattle.std.specs.Prelude.{◌++◌, map}
 use Rattle.std.proofs.Common.{sym, ◌∙◌, ap}
 use Rattle.std.proofs.lemmas.List.{map-append}
 use Rattle.std.proofs.lemmas.Simd.{map-map}
-use Rattle.carried_edges.specs.Entries.{entries_of}
+use Rattle.edge_stream.specs.Entries.{entries_of}
 use Rattle.sweep_laws.specs.Moves.{start_of}
 use Rattle.snapshot_agg.specs.KeptRows.{row_ended}
 use Rattle.snapshot_agg.proofs.Lined.{saved_both}

@@ -1,7 +1,7 @@
 use Rattle.std.specs.Prelude.{length, map}
 use Rattle.std.proofs.Common.{◌∙◌, sym, subst}
 use Rattle.tw_rows.specs.Kinds.{cell_kind_of}
-use Rattle.carried_edges.specs.Entries.{part_of}
+use Rattle.edge_stream.specs.Entries.{part_of}
 use Rattle.sweep_sides.specs.Sides.{IsSide}
 use Rattle.snapshot_agg.specs.Saving.{run_among, GroupSound}
 use Rattle.snapshot_agg.specs.Keeping.{KeepsGrouped}

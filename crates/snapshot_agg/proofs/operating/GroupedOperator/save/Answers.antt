@@ -1,8 +1,8 @@
 use Rattle.std.specs.Prelude.{◌++◌, length, map, refl}
 use Rattle.std.proofs.Common.{◌∙◌, ap, sym, arith}
 use Rattle.tw_rows.specs.Kinds.{cell_kind_of}
-use Rattle.carried_edges.specs.Entries.{entries_of}
-use Rattle.carried_edges.proofs.Parts.{saved_length}
+use Rattle.edge_stream.specs.Entries.{entries_of}
+use Rattle.edge_stream.proofs.CarriedParts.{saved_length}
 use Rattle.sweep_laws.specs.Moves.{start_of}
 use Rattle.sweep_laws.specs.Saving.{starts_of}
 use Rattle.sweep_sides.specs.Waiting.{queued}

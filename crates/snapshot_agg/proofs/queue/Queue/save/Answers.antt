@@ -1,6 +1,6 @@
 use Rattle.std.specs.Prelude.{◌++◌}
 use Rattle.std.proofs.Common.{sym, ap, ◌∙◌}
-use Rattle.carried_edges.specs.Entries.{entries_of}
+use Rattle.edge_stream.specs.Entries.{entries_of}
 use Rattle.sweep_sides.specs.Waiting.{queued}
 use Rattle.snapshot_agg.proofs.Lined.{saved_both}
 use Rattle.snapshot_agg.proofs.Queueing.{edges_both}

@@ -1,7 +1,7 @@
 use Rattle.std.specs.Prelude.{◌≡◌, pos, refl}
 use Rattle.std.proofs.Common.{subst, ◌∙◌, rules}
 use Rattle.std.proofs.lemmas.Int.{to_z-of_z}
-use Rattle.node_laws.specs.Keeping.{plain_cells}
+use Rattle.plan_laws.specs.Keeping.{plain_cells}
 use Rattle.plan_model.specs.RowOps.{int_in}
 use Rattle.snapshot_agg.specs.declared.state.State.TheVariants.{Counted, Summed, Lowest, Highest}
 use Rattle.snapshot_agg.specs.States.{IsStateOf}

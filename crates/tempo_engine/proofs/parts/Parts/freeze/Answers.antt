@@ -3,9 +3,9 @@ use Rattle.plan_model.specs.IsPlan.{PlanParts}
 use Rattle.frozen_state.specs.Frozen.{FrozenView}
 use Rattle.frozen_state.specs.Forms.{part_forms}
 use Rattle.frozen_state.specs.Formed.{ArePartsOf}
-use Rattle.frozen_parts.specs.Kept.{node_counts, frozen_of}
-use Rattle.frozen_parts.specs.Named.{AreNamed}
-use Rattle.frozen_parts.proofs.Naming.{parts_named}
+use Rattle.tempo_engine.specs.Kept.{node_counts, frozen_of}
+use Rattle.tempo_engine.specs.Named.{AreNamed}
+use Rattle.tempo_engine.proofs.Naming.{parts_named}
 use Rattle.tempo_engine.specs.Entries.{entries_of}
 use Rattle.tempo_engine.specs.Freezing.{kept_at_most}
 use Rattle.tempo_engine.proofs.Fitting.{fits_parts}

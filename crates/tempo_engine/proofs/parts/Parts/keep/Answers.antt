@@ -1,8 +1,8 @@
 use Rattle.std.specs.Prelude.{◌≡◌, ◌<◌, length, map}
 use Rattle.std.proofs.Common.{sym, ap, ◌∙◌, subst}
 use Rattle.frozen_state.specs.Forms.{shards_of}
-use Rattle.frozen_parts.specs.Kept.{KeptView}
-use Rattle.frozen_parts.proofs.Counting.{counts_same}
+use Rattle.tempo_engine.specs.Kept.{KeptView}
+use Rattle.tempo_engine.proofs.PartCounting.{counts_same}
 use Rattle.tempo_engine.proofs.Counting.{kept_few}
 use Rattle.tempo_engine.proofs.Thawing.{freeze_fits, shown_stands}
 use Rattle.tempo_engine.proofs.parts.Parts.keep.Goals as goal

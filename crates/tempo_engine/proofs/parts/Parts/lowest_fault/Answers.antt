@@ -2,7 +2,7 @@ use Rattle.std.proofs.Common.{◌≡◌, ◌≤◌, Some, ◌∙◌, ap, sym, su
 use Rattle.plan_model.specs.IsPlan.{most_columns}
 use Rattle.plan_model.proofs.Kept.{IsPlan-ordered}
 use Rattle.plan_laws.specs.Undefined.{overflow}
-use Rattle.node_laws.specs.Standing.{SourcesStandRead}
+use Rattle.plan_laws.specs.Standing.{SourcesStandRead}
 use Rattle.admission.specs.Admission.{rows}
 use Rattle.edge_stream.specs.Lists.{edges_at, longer}
 use Rattle.dataflow.specs.Below.{FlowsBelow}

@@ -3,12 +3,12 @@ use Rattle.std.proofs.Common.{◌∙◌, ap, sym, subst, arith}
 use Rattle.tw_rows.specs.declared.edge.Edge.{Edge}
 use Rattle.plan_model.specs.IsPlan.{PlanParts, IsPlan}
 use Rattle.plan_model.specs.Meaning.{closes}
-use Rattle.node_laws.proofs.Standing.{placed_longer}
+use Rattle.plan_laws.proofs.Standing.{placed_longer}
 use Rattle.ingress.specs.Admits.{IsFor}
 use Rattle.egress.specs.Output.{Holds}
 use Rattle.egress.specs.Saving.{EntriesArePlaced, Resumes as ShownResumes, IsSound as IsSoundOutput}
 use Rattle.egress.specs.Waiting.{edges_if, waiting_in}
-use Rattle.frozen_parts.specs.Kept.{KeptView}
+use Rattle.tempo_engine.specs.Kept.{KeptView}
 use Rattle.dataflow.specs.Flows.{CanStep}
 use Rattle.dataflow.specs.Stages.{reached}
 use Rattle.tempo_engine.specs.Output.{result_kinds}

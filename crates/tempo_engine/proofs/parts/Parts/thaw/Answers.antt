@@ -2,7 +2,7 @@ use Rattle.std.specs.Prelude.{◌≡◌, length}
 use Rattle.std.proofs.Common.{◌∙◌, ap, sym, subst}
 use Rattle.lane_expr.specs.Steps.{with_texts}
 use Rattle.egress.specs.Saving.{EntriesArePlaced}
-use Rattle.frozen_parts.specs.Kept.{KeptView, kept_of}
+use Rattle.tempo_engine.specs.Kept.{KeptView, kept_of}
 use Rattle.dataflow.specs.Held.{nodes_in_all}
 use Rattle.tempo_engine.specs.Freezing.{GoesOnFrom}
 use Rattle.tempo_engine.specs.Frozen.{IsSoundKept}

@@ -5,10 +5,10 @@ use Rattle.tw_rows.specs.Instant.{inf}
 use Rattle.tw_rows.specs.Kinds.{cell_kind_of}
 use Rattle.edge_stream.specs.Listing.{cells_of}
 use Rattle.plan_model.specs.IsPlan.{kinds_at, most_columns}
-use Rattle.row_stage.proofs.Nodes.{stored_kinds}
+use Rattle.where_select.proofs.Nodes.{stored_kinds}
 use Rattle.plan_laws.specs.Undefined.{overflow}
 use Rattle.plan_model.specs.Meaning.{closes}
-use Rattle.node_laws.specs.Standing.{SourcesStandRead}
+use Rattle.plan_laws.specs.Standing.{SourcesStandRead}
 use Rattle.admission.specs.Admission.{rows}
 use Rattle.dataflow.specs.declared.fault.PlanFault.{PlanFault}
 use Rattle.dataflow.specs.declared.fault.PlanFault.TheVariants.{Overflow, Memory}

@@ -2,7 +2,7 @@ use Rattle.std.proofs.Common.{◌+◌, length, min, refl}
 use Rattle.edge_history.specs.History.{of}
 use Rattle.plan_model.specs.Keys.{paired_row}
 use Rattle.plan_model.specs.Nodes.{node_in}
-use Rattle.node_laws.specs.Keeping.{plain_cells}
+use Rattle.plan_laws.specs.Keeping.{plain_cells}
 use Rattle.sweep_sides.proofs.KeptSides.{side_bounded}
 use Rattle.temporal_join.specs.Operating.{join_node}
 use Rattle.temporal_join.specs.States.{left_rows, right_rows, left_pending, right_pending}

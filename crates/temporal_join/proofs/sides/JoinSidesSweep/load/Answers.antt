@@ -1,6 +1,6 @@
 use Rattle.std.proofs.Common.{rules, map, ap}
 use Rattle.tw_rows.specs.Kinds.{cell_kind_of}
-use Rattle.carried_edges.specs.Entries.{part_of}
+use Rattle.edge_stream.specs.Entries.{part_of}
 use Rattle.sweep_laws.specs.Saving.{rows_of}
 use Rattle.sweep_sides.specs.Waiting.{queued}
 use Rattle.temporal_join.specs.States.{JoinSound, left_rows, right_rows, left_pending, right_pending}

@@ -1,7 +1,0 @@
--- The entries before this one are of the parts.
-use Rattle.std.proofs.Common.{◌≡◌, true, take}
-use Rattle.carried_edges.specs.Entries.{are_of_parts}
-use Rattle.carried_edges.proofs.entries.are_of_parts.Given as goal
-
-abbrev pub invariant-loop-entry : goal.invariant-loop-entry
-invariant-loop-entry l = are_of_parts l.count (take l.entry-index l.entries) ≡ true

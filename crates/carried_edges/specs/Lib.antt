@@ -1,4 +1,0 @@
--- Callers read Entries; Few and Together are cited by private contracts alone.
-pub mod Entries
-pub mod Few
-pub mod Together

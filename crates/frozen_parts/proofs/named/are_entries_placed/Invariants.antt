@@ -1,7 +1,0 @@
--- The entries before this one are placed.
-use Rattle.std.proofs.Common.{All, take}
-use Rattle.tw_rows.specs.Cells.{ArePlaced}
-use Rattle.frozen_parts.proofs.named.are_entries_placed.Given as goal
-
-abbrev pub invariant-loop-entry : goal.invariant-loop-entry
-invariant-loop-entry l = All (λ e. ArePlaced l.texts e.cells) (take l.entry-index l.entries)

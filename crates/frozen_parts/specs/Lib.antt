@@ -1,3 +1,0 @@
--- Callers read both.
-pub mod Kept
-pub mod Named

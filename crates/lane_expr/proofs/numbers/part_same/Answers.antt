@@ -1,0 +1,11 @@
+use Rattle.lane_expr.proofs.Parts.{few_numbers, part_same}
+use Rattle.lane_expr.proofs.numbers.part_same.Goals as goal
+
+pub returns : goal.returns
+returns c =
+    let a = c.args.left.now in
+    let b = c.args.right.now in
+    record {
+      few = few_numbers _ a.lanes b.lanes 16 c.args.at c.requires a.long b.long;
+      marks = part_same a.lanes b.lanes 16 c.args.at c.requires a.long b.long a.whole b.whole;
+    }

@@ -1,4 +1,0 @@
-pub mod Signed
-pub mod Parts
-mod Loads
-pub mod Dividing

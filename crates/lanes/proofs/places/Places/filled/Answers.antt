@@ -1,5 +1,0 @@
-use Rattle.std.proofs.lemmas.Simd.{get_or-replicate}
-use Rattle.lanes.proofs.places.Places.filled.Goals as goal
-
-pub returns : goal.returns
-returns c k lt = get_or-replicate 64 k c.args.value 0 lt

@@ -1,3 +1,0 @@
--- Callers read Lanes.
-pub mod Lanes
-pub mod Reciprocals

@@ -1,5 +1,0 @@
-use Rattle.node_laws.proofs.Standing.{stands_by}
-use Rattle.node_laws.proofs.standing_laws.standing_edges_stand_read.Goals as goal
-
-pub returns : goal.returns
-returns c = stands_by

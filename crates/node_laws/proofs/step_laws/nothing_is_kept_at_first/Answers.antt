@@ -1,5 +1,0 @@
-use Rattle.node_laws.proofs.Steps.{keeps_first}
-use Rattle.node_laws.proofs.step_laws.nothing_is_kept_at_first.Goals as goal
-
-pub returns : goal.returns
-returns c = keeps_first

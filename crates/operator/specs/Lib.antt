@@ -1,3 +1,0 @@
--- Callers read all of these.
-pub mod Standing
-pub mod Steps

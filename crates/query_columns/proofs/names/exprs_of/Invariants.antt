@@ -1,6 +1,0 @@
-use Rattle.query_columns.proofs.Trees.{item_expr}
-use Rattle.query_columns.proofs.SoFar.{IsSoFar}
-use Rattle.query_columns.proofs.names.exprs_of.Given as goal
-
-abbrev pub invariant-loop-item : goal.invariant-loop-item
-invariant-loop-item l = IsSoFar (item_expr l.schema) l.items l.item-index l.exprs.items

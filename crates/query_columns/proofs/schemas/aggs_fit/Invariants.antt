@@ -1,7 +1,0 @@
-use Rattle.std.specs.List.{list_all}
-use Rattle.query_columns.specs.Schemas.{agg_fits}
-use Rattle.query_columns.proofs.Fits.{IsLeft}
-use Rattle.query_columns.proofs.schemas.aggs_fit.Given as goal
-
-abbrev pub invariant-loop-agg : goal.invariant-loop-agg
-invariant-loop-agg l = IsLeft (list_all (agg_fits l.schema)) l.aggs l.agg-index

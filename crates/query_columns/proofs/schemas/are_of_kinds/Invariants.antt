@@ -1,5 +1,0 @@
-use Rattle.query_columns.proofs.Fits.{KindsLeft}
-use Rattle.query_columns.proofs.schemas.are_of_kinds.Given as goal
-
-abbrev pub invariant-loop-i : goal.invariant-loop-i
-invariant-loop-i l = KindsLeft l.columns l.wanted l.i

@@ -1,5 +1,0 @@
-use Rattle.query_grammar.proofs.Stops.{no_fault}
-use Rattle.query_grammar.proofs.laws.queries_have_no_fault.Goals as goal
-
-pub returns : goal.returns
-returns c = λ tokens rest q. no_fault tokens rest q

@@ -1,8 +1,0 @@
-use Rattle.query_words.proofs.Spots.{spots, spots_cut}
-use Rattle.query_words.proofs.laws.spots_keep_their_form.Goals as goal
-
-pub returns-clause-form : goal.returns-clause-form
-returns-clause-form c = spots
-
-pub returns-clause-cut : goal.returns-clause-cut
-returns-clause-cut c = spots_cut

@@ -1,4 +1,0 @@
-pub mod MadeEdges
-pub mod Batches
-pub mod Nodes
-pub mod Tables

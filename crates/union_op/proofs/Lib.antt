@@ -1,2 +1,0 @@
-pub mod Uniting
-pub mod Saving

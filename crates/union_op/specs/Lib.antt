@@ -1,3 +1,0 @@
--- Callers read all of these.
-pub mod Saving
-pub mod Operating
