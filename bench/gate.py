@@ -6,6 +6,8 @@ usage: bench/gate.py                    runs `rt ci`, the whole gate, prints the
        bench/gate.py --edits NAME ..    the same for `rt must-fail NAME`, crate by crate
        bench/gate.py --tests NAME ..    the same for `rt test` in each of these crates
        bench/gate.py --table            writes docs/gate.md from the figures that are kept, and measures nothing
+       bench/gate.py --pace COMMIT      compares the figures that are kept with those that were kept at COMMIT, by the crates
+                                        whose text is the same, and measures nothing
 
 Every second it asks Linux for the processor time of each process of the run: those of the prover, the compiler and the tests.
 A process counts for the crate that its words name by --crate-name, as those that it starts do, and for `other` where none is
@@ -197,7 +199,7 @@ def reasons(found):
     most = DEAR * found.get("pace", 1)
     dear = sorted((name for name, row in found["crates"].items() if whole(row) > most), key=lambda it: -whole(found["crates"][it]))
     lines = [f"- `{name}`: {found.get('why', {}).get(name, 'nobody has said why yet.')}" for name in dear]
-    return f"\n## Why a crate takes more than {most:.0f} minutes\n\n" + "\n".join(lines) + "\n" if lines else ""
+    return f"\n## Why a crate takes more than {most:.3g} minutes\n\n" + "\n".join(lines) + "\n" if lines else ""
 
 
 def goal(pace):
@@ -223,10 +225,41 @@ def write_table():
         + "".join(f"\nNot measured by now, {part}: {', '.join(names)}.\n" for part, names in lacking.items() if names))
 
 
+def text_of(name, part, at):
+    """What git has of the files of a crate that a part of the gate reads, at a commit."""
+    folders = ["src", "specs", "proofs"] + ["must-fail"] * (part == "edits")
+    paths = [f"crates/{name}/{folder}" for folder in folders]
+    told = subprocess.run(["git", "ls-tree", at, *paths], cwd=ROOT, capture_output=True, text=True, check=True)
+    return told.stdout
+
+
+def compare(at):
+    """Says how many times as long the same text takes as by the figures that were kept at a commit, and what all takes by that."""
+    told = subprocess.run(["git", "show", f"{at}:bench/gate.json"], cwd=ROOT, capture_output=True, text=True, check=True)
+    old, new = json.loads(told.stdout)["crates"], kept()["crates"]
+    sums, ratios = {}, []
+    for part in PARTS:
+        same = [name for name, row in new.items() if part in row and part in old.get(name, {})
+                and text_of(name, part, at) == text_of(name, part, "HEAD")]
+        sums[part] = [sum(rows[name][part] for name in same) for rows in (old, new)]
+        ratios += [(new[name][part] / old[name][part], name, part) for name in same if old[name][part] >= 0.3]
+        if same:
+            print(f"{part}: {sums[part][0]:.1f} minutes then, {sums[part][1]:.1f} now: {', '.join(same)}")
+    before, now = (sum(pair[k] for pair in sums.values()) for k in (0, 1))
+    whole_now = sum(map(whole, new.values()))
+    print(f"together: {before:.1f} minutes then, {now:.1f} now: {now / before:.2f} times")
+    for ratio, name, part in (min(ratios), max(ratios)):
+        print(f"  {ratio:.2f} times: {name}, {part}")
+    print(f"all crates: {whole_now:.1f} minutes now, {whole_now * before / now:.1f} at the pace of then")
+
+
 def main():
     words = sys.argv[1:]
     if words == ["--table"]:
         write_table()
+        return 0
+    if words[:1] == ["--pace"] and len(words) == 2:
+        compare(words[1])
         return 0
     began, status = time.monotonic(), 0
     if words[:1] == ["--watch"]:
