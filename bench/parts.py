@@ -3,12 +3,12 @@
 
 usage: bench/parts.py [COUNT] [--program PATH]
 
-Runs the program and the yardstick under valgrind over COUNT lines (20,000 if not given) and over none, and takes the difference:
-for the filter, the windows with a group, the join, the anti-join, the sessions, the greatest, what follows and the averages of
-the other scripts, as far as the program computes them, and for open starts whose ends come in opposite order, which the
-yardstick does not have. An instruction counts for the part whose function it is in; one in a library, or in a crate that several
-parts call (rows, columns, edges, printing), counts for those that called it. Functions that the compiler put into their callers
-count with these: a part of reading, admission and release is in `engine and program`.
+Runs the program and the yardstick under valgrind over COUNT lines (20,000 if not given) and over none, and takes the
+difference: for the filter, the windows with a group, the join, the anti-join, the sessions, the greatest, what follows and the
+averages of the other scripts, as far as the program that is given computes them, and for open starts whose ends come in
+opposite order, which the yardstick does not have. An instruction counts for the part whose function it is in; one in a
+library, or in a crate that several parts call (rows, columns, edges, printing), counts for those that called it. Functions
+that the compiler put into their callers count with these: a part of reading, admission and release is in `engine and program`.
 Instructions do not depend on what else the machine does.
 """
 import re
