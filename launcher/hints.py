@@ -23,7 +23,8 @@ import query
 ROOT = Path(__file__).resolve().parent.parent
 ENTER = 0.3
 VALUES = {"int": "7", "bool": "true", "text": "a"}
-TIME = re.compile(rb"0|[1-9]\d{0,18}|inf")
+# Which field of a line may be `inf`, by the kind of line.
+MAY_BE_INF = {b"interval": 3, b"start": 3, b"punct": 2}
 SHOWN = 300
 
 
@@ -169,6 +170,13 @@ def fields_of(line):
     return [*found, (first, len(line))]
 
 
+def is_time(field, may_be_inf):
+    """Whether a field is a time of a line."""
+    if field == b"inf":
+        return may_be_inf
+    return re.fullmatch(rb"0|[1-9]\d{0,18}", field) is not None and int(field) < 1 << 60
+
+
 def of_checkpoint(fields):
     """What to say of the fields of a line at which a checkpoint is refused."""
     if fields[:1] == [b"#query"]:
@@ -198,7 +206,10 @@ def of_line(note, line, text, width):
         told = [f"{texts[0].decode()} has the columns {query.listed(columns)}: {len(columns) + 4} fields with the first four, "
                 f"and here are {len(fields)}"]
     elif cause == "bad time":
-        at = [i for i in (2, 3) if i < len(texts) and not TIME.fullmatch(texts[i]) or i == 2 and texts[2:3] == [b"inf"]] or [2, 3]
+        kind = texts[1] if len(texts) > 1 else b""
+        at = [i for i in (2, 3) if i < len(texts) and not is_time(texts[i], i == MAY_BE_INF.get(kind))] or [2, 3]
+        if kind == b"start" and at == [2, 3]:
+            at, told = [3], ["the fourth field of a start line is inf; where the end is known, the line is an interval"]
     elif cause == "bad life":
         at = [2, 3]
     elif cause.startswith("bad value in column "):

@@ -123,6 +123,15 @@ s has the columns k text, v int: 6 fields with the first four, and here are 5
 s,interval,01,2,a,1
            ^^
 """),
+    (S_WORDS, b"s,start,1,5,a,1\n", "line 1: bad time", """
+s,start,1,5,a,1
+          ^
+the fourth field of a start line is inf; where the end is known, the line is an interval
+"""),
+    (S_WORDS, b"s,end,5,inf,a,1\n", "line 1: bad time", """
+s,end,5,inf,a,1
+        ^^^
+"""),
     (S_WORDS, b"s,interval,2,2,a,1\n", "line 1: bad life", """
 s,interval,2,2,a,1
            ^ ^
