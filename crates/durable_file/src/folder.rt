@@ -1,6 +1,7 @@
 // A medium over the files of the system.
 ghost use Rattle.std.specs.Prelude.{◌≡◌, ◌++◌, IfOk, codes, string_bytes};
 ghost use Rattle.durable_file.specs.Calls.{HasReadCause};
+ghost use Rattle.durable_file.specs.Folder.{folder_in};
 
 use crate::{Medium, MediumFailed, Name, ReadFault, counted};
 use std::alloc::{AllocError, Global};
@@ -27,8 +28,10 @@ pub struct FolderMedium<'a, R: Files> {
     faults: u64,
 }
 
-/// The folder that the file of this path lies in.
-pub fn folder_of(path: &str) -> &str {
+/// The folder that the file of this path lies in, `.` for a name alone: what is synced for the name of a file to be on the disk.
+pub fn folder_of(path: &str) -> &str
+    ensures { result.now ≡ folder_in path.now }
+{
     match Path::new(path).parent() {
         Some(folder) if !folder.as_str().is_empty() => folder.as_str(),
         _ => ".",
@@ -63,6 +66,7 @@ impl<'a, R: Files> FolderMedium<'a, R> {
     pub fn new(alloc: Global, rt: &'a R, path: &str) -> Result<FolderMedium<'a, R>, AllocError>
         ensures file { IfOk result (λ m. string_bytes m.file ≡ path.now) }
         ensures next { IfOk result (λ m. string_bytes m.next ≡ path.now ++ codes ".new") }
+        ensures folder { IfOk result (λ m. string_bytes m.folder ≡ folder_in path.now) }
         ensures unfailed { IfOk result (λ m. m.faults ≡ 0) }
     {
         let mut next = String::from_str(alloc, path)?;

@@ -1,5 +1,5 @@
--- Callers read Answers, Told, Table, Resumed, Freezing, Restoring, Summing, Jobs, Holding and Status. Only private contracts cite Feeding,
--- Working, Sampled, Restored and Halting.
+-- Callers read Answers, Told, Table, Resumed, Freezing, Restoring, Summing, Jobs, Holding and Status, and of Feeding and Halting what a
+-- run that keeps its state says too. Only private contracts cite Working, Sampled and Restored.
 pub mod Answers
 pub mod Told
 pub mod Table

@@ -170,7 +170,8 @@ fn tell_refusal<N: Wire>(notes: &mut N, text: &Option<String>)
     }
 }
 
-/// The whole of what the program does.
+/// What the program does where `--checkpoint` is not among the words. Where it is, `main` calls `run_kept` of `kept_run`; this call
+/// would run as without it.
 ///
 /// `words` are the words of the command line, the program's name first. Bytes come in and go out over `wire`, and what is
 /// told of a run that did not end Done goes to `notes`, whose faults change nothing. The clauses on bytes hold where the
