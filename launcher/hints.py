@@ -172,6 +172,7 @@ def fields_of(line):
 
 def is_time(field, may_be_inf):
     """Whether a field is a time of a line."""
+    field = field.strip(b'"')
     if field == b"inf":
         return may_be_inf
     return re.fullmatch(rb"0|[1-9]\d{0,18}", field) is not None and int(field) < 1 << 60
@@ -206,9 +207,9 @@ def of_line(note, line, text, width):
         told = [f"{texts[0].decode()} has the columns {query.listed(columns)}: {len(columns) + 4} fields with the first four, "
                 f"and here are {len(fields)}"]
     elif cause == "bad time":
-        kind = texts[1] if len(texts) > 1 else b""
-        at = [i for i in (2, 3) if i < len(texts) and not is_time(texts[i], i == MAY_BE_INF.get(kind))] or [2, 3]
-        if kind == b"start" and at == [2, 3]:
+        kind = texts[1].strip(b'"') if len(texts) > 1 else b""
+        at = [i for i in (2, 3) if i < len(texts) and not is_time(texts[i], i == MAY_BE_INF.get(kind))]
+        if kind == b"start" and not at:
             at, told = [3], ["the fourth field of a start line is inf; where the end is known, the line is an interval"]
     elif cause == "bad life":
         at = [2, 3]
