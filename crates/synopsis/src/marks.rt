@@ -2,7 +2,7 @@
 ghost use Rattle.std.specs.Prelude.{◌≡◌, ◌+◌, ◌≤◌, true, IfSome};
 ghost use Rattle.synopsis.specs.Marks.{Fits};
 
-use indexmap::{IndexMap, IndexSet};
+use indexmap::IndexMap;
 use std::alloc::Global;
 use std::marker::Model;
 use tw_rows::Memory;
@@ -11,7 +11,7 @@ use tw_rows::Memory;
 /// looks at the row itself.
 pub struct Marks {
     // As many as the list has rows. Of a removal the last one moves into the gap, as the last row does.
-    marks: IndexSet<(u64, u64)>,
+    marks: IndexMap<(u64, u64), ()>,
     // How many rows have a hash.
     counts: IndexMap<u64, u64>,
 }
@@ -28,13 +28,12 @@ impl Drop for Marks {
 
 impl Model for Marks {
     ghost use Rattle.indexmap.specs.IndexMap.{index_map_len};
-    ghost use Rattle.indexmap.specs.IndexSet.{index_set_len};
     ghost use Rattle.synopsis.specs.Marks.{MarkCount};
 
     ghost Value = { MarkCount };
 
     ghost view = { λ m. record {
-      places = index_set_len m.marks;
+      places = index_map_len m.marks;
       hashes = index_map_len m.counts;
     } };
 }
@@ -45,7 +44,7 @@ impl Marks {
         ensures { Fits 0 result }
     {
         Marks {
-            marks: IndexSet::new(alloc),
+            marks: IndexMap::new(alloc),
             counts: IndexMap::new(alloc),
         }
     }
@@ -70,7 +69,7 @@ impl Marks {
     /// Marks the next place.
     pub fn push(&mut self, hash: u64) -> Result<(), Memory> {
         let number = self.count(hash);
-        self.marks.insert((hash, number))?;
+        self.marks.insert((hash, number), ())?;
         if self.counts.insert(hash, number.saturating_add(1)).is_err() {
             self.marks.pop();
             return Err(Memory);

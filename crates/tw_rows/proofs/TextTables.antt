@@ -1,11 +1,12 @@
 -- Tables of texts: what their keys say of their texts.
-use Rattle.std.specs.Prelude.{◌≡◌, ◌≢◌, ℕ, zero, suc, ◌<◌, Bool, true, false, ◌||◌, if◌then◌else◌, List, [], ◌∷◌, ◌++◌, map, length, slice_get, position, Some, Contains, AllPairs, refl}
+use Rattle.std.specs.Prelude.{◌≡◌, ◌≢◌, ℕ, zero, suc, ◌<◌, Bool, true, false, ◌||◌, if◌then◌else◌, List, [], ◌∷◌, ◌++◌, map, length, slice_get, position, None, Some, not, ◌+◌, ◌≤◌, cond, Contains, AllPairs, refl}
 use Rattle.std.proofs.Common.{sym, ◌∙◌, ap, subst, arith, true≢false, get_or, append-nil, append_assoc}
+use Rattle.std.proofs.lemmas.Grind.{common_steps}
 use Rattle.std.specs.Option.{option_map}
 use Rattle.std.proofs.lemmas.Map.Keys.{IsDistinct-head, IsDistinct-tail, IsDistinct-cons}
-use Rattle.std.proofs.lemmas.List.{map-append}
-use Rattle.indexmap.specs.IndexSet.{insert_key}
-use Rattle.std.specs.List.{list_any, IsDistinct, AllByRecursion}
+use Rattle.indexmap.specs.IndexMap.{insert_entry}
+use Rattle.std.specs.List.{list_any, position_or_len, IsDistinct, AllByRecursion}
+use Rattle.std.specs.Map.{keys_of}
 use Rattle.std.specs.Str.{bytes_eq}
 use Rattle.std.specs.Cmp.Lexicographic.{nat_list_eq_equiv}
 use Rattle.std.proofs.lemmas.Slice.Eq.{bytes_eq-Decides}
@@ -63,16 +64,36 @@ module _ {K : Type 0} (bytes : K → List ℕ) where
   pub distinct_texts : (ks : List K) → IsDistinct (λ x y. bytes_eq (bytes x) (bytes y)) ks → AllPairs (λ x y. x ≢ y) (map bytes ks)
   distinct_texts ks h = AllPairs-from_IsDistinct bytes_eq-Decides (map bytes ks) (distinct_keys ks h)
 
-  -- a key whose text is new goes last, and stands at the place of its test
-  pub added_text : (t : List ℕ) (k : K) (ks : List K) → t ≡ bytes k → ¬ (Contains (map bytes ks) t) → map bytes (insert_key (λ x y. bytes_eq (bytes x) (bytes y)) ks k) ≡ map bytes ks ++ t ∷ []
-  added_text t k ks is none =
-      let new : list_any (λ y. bytes_eq (bytes k) (bytes y)) ks ≡ false = sym (list_any-texts (bytes_eq (bytes k)) ks) ∙ text_absent (map bytes ks) (bytes k) (subst (λ x. ¬ (Contains (map bytes ks) x)) is none) in
-      ap (λ b. map bytes (if b then ks else ks ++ k ∷ [])) new ∙ map-append bytes ks (k ∷ []) ∙ ap (λ x. map bytes ks ++ x ∷ []) (sym is)
+  -- a key whose text is new goes last
+  pub added_text : {V : Type 0} (t : List ℕ) (k : K) (v : V) (es : List (K × V)) → t ≡ bytes k → ¬ (Contains (map bytes (keys_of es)) t)
+      → map bytes (keys_of (insert_entry (λ x y. bytes_eq (bytes x) (bytes y)) es k v)) ≡ map bytes (keys_of es) ++ t ∷ []
+  added_text t k v es is none = by es (sym (list_any-texts (bytes_eq (bytes k)) (keys_of es)) ∙ text_absent (map bytes (keys_of es)) (bytes k) (subst (λ x. ¬ (Contains (map bytes (keys_of es)) x)) is none))
+    where
+      by : (fs : List _) → list_any (λ y. bytes_eq (bytes k) (bytes y)) (keys_of fs) ≡ false
+          → map bytes (keys_of (insert_entry (λ x y. bytes_eq (bytes x) (bytes y)) fs k v)) ≡ map bytes (keys_of fs) ++ t ∷ []
+      by [] h = ap (λ x. x ∷ []) (sym is)
+      by (f ∷ fs) h = go (bytes_eq (bytes k) (bytes f.0)) h (by fs)
+        where
+          go : (b : Bool) → (b || list_any (λ y. bytes_eq (bytes k) (bytes y)) (keys_of fs)) ≡ false
+              → (list_any (λ y. bytes_eq (bytes k) (bytes y)) (keys_of fs) ≡ false → map bytes (keys_of (insert_entry (λ x y. bytes_eq (bytes x) (bytes y)) fs k v)) ≡ map bytes (keys_of fs) ++ t ∷ [])
+              → map bytes (keys_of (if b then (f.0, v) ∷ fs else f ∷ insert_entry (λ x y. bytes_eq (bytes x) (bytes y)) fs k v)) ≡ bytes f.0 ∷ map bytes (keys_of fs) ++ t ∷ []
+          go true h rest = absurd (true≢false h)
+          go false h rest = ap (λ l. bytes f.0 ∷ l) (rest h)
 
-  -- what an insert stores stands at the text's place
-  pub stored_text : (t : List ℕ) (k : K) (ks : List K) (i : ℕ) → t ≡ bytes k → (y : K) × (slice_get ks i ≡ Some y) × (bytes_eq (bytes k) (bytes y) ≡ true) → slice_get (map bytes ks) i ≡ Some t
-  stored_text t k ks i is h =
-      slice_get-map bytes ks i ∙ ap (option_map bytes) h.1 ∙ ap (λ b. Some b) (sym (is ∙ (bytes_eq-Decides (bytes k) (bytes h.0)).0 h.2))
+  -- a text that its test finds nowhere is not there
+  pub missing_text : (t : List ℕ) (ks : List K) → position (λ k. bytes_eq t (bytes k)) ks ≡ None → list_any (λ k. bytes_eq t (bytes k)) ks ≡ false
+  missing_text t ks none = past ks (grind (arith, common_steps, none))
+    where
+      p : K → Bool
+      p k = bytes_eq t (bytes k)
+
+      past : (xs : List K) → length xs ≤ position_or_len p xs → list_any p xs ≡ false
+      past [] h = refl
+      past (x ∷ xs) h = by (p x) h (past xs)
+        where
+          by : (b : Bool) → suc (length xs) ≤ cond (not b) (1 + position_or_len p xs) 0 → (length xs ≤ position_or_len p xs → list_any p xs ≡ false) → (b || list_any p xs) ≡ false
+          by true h rest = absurd (omega (arith, h))
+          by false h rest = rest (omega (arith, h))
 
 -- a table after a text that it has, and after one that it has not
 pub interned-known : (texts : List (List ℕ)) (t : List ℕ) → Contains texts t → interned texts t ≡ texts
@@ -104,6 +125,11 @@ BeginsWith-interned texts t = by (list_any (bytes_eq t) texts)
     by : (b : Bool) → BeginsWith (if b then texts else texts ++ t ∷ []) texts
     by true = BeginsWith-refl texts
     by false = (t ∷ [], refl)
+
+-- an item that is added last stands where the list ended
+pub slice_get-last : {X : Type 0} (xs : List X) (x : X) → slice_get (xs ++ x ∷ []) (length xs) ≡ Some x
+slice_get-last [] x = refl
+slice_get-last (y ∷ ys) x = slice_get-last ys x
 
 -- an item keeps its place
 pub slice_get-append : {X : Type 0} (xs more : List X) (i : ℕ) (x : X) → slice_get xs i ≡ Some x → slice_get (xs ++ more) i ≡ Some x

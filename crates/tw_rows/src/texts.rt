@@ -5,7 +5,7 @@ ghost use Rattle.std.specs.Prelude.{Contains};
 ghost use Rattle.tw_rows.specs.Texts.{interned, BeginsWith};
 
 use crate::memory::Memory;
-use indexmap::IndexSet;
+use indexmap::IndexMap;
 use std::alloc::Global;
 use std::marker::Model;
 
@@ -15,17 +15,19 @@ use std::marker::Model;
 /// The texts are hashed with a seed that is the same in each run, since a new table takes nothing from the outside.
 #[derive(Drop)]
 pub struct TextTable {
-    texts: IndexSet<String>,
+    // A map to nothing and no set: each crate that names this table tells its type again, and that of a set is twice as long.
+    texts: IndexMap<String, ()>,
 }
 
 impl Model for TextTable {
     ghost use Rattle.std.specs.Prelude.{List, ℕ, ◌≢◌, map, string_bytes, AllPairs};
+    ghost use Rattle.indexmap.specs.IndexMap.{keys};
 
     ghost Value = { List (List ℕ) };
 
-    ghost view = { λ t. map string_bytes t.texts.keys };
+    ghost view = { λ t. map string_bytes (keys t.texts) };
 
-    ghost invariant = { λ t. AllPairs (λ a b. a ≢ b) (map string_bytes t.texts.keys) };
+    ghost invariant = { λ t. AllPairs (λ a b. a ≢ b) (map string_bytes (keys t.texts)) };
 }
 
 impl TextTable {
@@ -34,7 +36,7 @@ impl TextTable {
         ensures { result ≡ [] }
     {
         TextTable {
-            texts: IndexSet::new(alloc),
+            texts: IndexMap::new(alloc),
         }
     }
 
@@ -62,8 +64,9 @@ impl TextTable {
         ensures distinct { AllPairs (λ a b. a ≢ b) self.new }
     {
         let alloc = *self.texts.allocator();
-        let (place, _) = self.texts.insert_full(text.to_string(alloc)?)?;
-        Ok(place as u64)
+        let place = self.texts.len() as u64;
+        self.texts.insert(text.to_string(alloc)?, ())?;
+        Ok(place)
     }
 
     /// The place of the text, if the table has it.
@@ -83,7 +86,7 @@ impl TextTable {
         requires { id < length self.now }
         ensures { slice_get self.now id ≡ Some result.now }
     {
-        self.texts.as_slice()[id as usize].as_str()
+        self.texts.keys().as_slice()[id as usize].as_str()
     }
 
     /// How many texts there are.
